@@ -1,0 +1,119 @@
+-- A search that halves an interval: what its steps keep, and what its end says.
+--     Narrowed ord l low high      what is known of the places below low and from high on
+--     Narrowed-whole, -less, -greater      at the start, and after an answer at the place m;  Finds-here, Finds-nowhere      at the two ends
+--     takes, next      from `Shape`: the closure may be asked for a key of the list, and what it answers
+use Rattle.std.proofs.Common.{◌≡◌, ◌≢◌, ℕ, zero, suc, ◌+◌, ◌<◌, ◌≤◌, Bool, true, false, cond, List, [], ◌∷◌, length, Some, Ok, Err, slice_get, slice_index_or, Bor, refl, sym, ap, ◌∙◌, subst, arith, inl, inr, ◌⊎◌}
+use denote.Param.Members.{Mut}
+use Rattle.std.specs.Fn.{Called, CalledAt, TakesAt}
+use Rattle.std.specs.declared.cmp.Ordering.{Ordering}
+use Rattle.std.specs.declared.cmp.Ordering.TheVariants.{Less, Equal, Greater}
+use Rattle.std.specs.Ordering.{is_lt, ordering_index}
+use Rattle.std.specs.List.{All, AllPairs, AllWithin, Any, HoldsAt, filter}
+use Rattle.std.proofs.lemmas.Option.{get_or_from_slice_get, slice_get_within}
+use Rattle.litemap_store.specs.Search.{Answers, AnswersEach, Ascends, Finds, Shape, less}
+
+top : (o : Ordering) → 2 ≤ ordering_index o → o ≡ Greater
+top Less h = absurd (omega arith)
+top Equal h = absurd (omega arith)
+top Greater h = refl
+
+bottom : (o : Ordering) → ordering_index o ≤ 0 → o ≡ Less
+bottom Less h = refl
+bottom Equal h = absurd (omega arith)
+bottom Greater h = absurd (omega arith)
+
+order : (k n : ℕ) → (k < n) ⊎ (n ≤ k)
+order k zero = inr (omega arith)
+order zero (suc n) = inl (omega arith)
+order (suc k) (suc n) = elim (order k n) [ inl h ↦ inl (omega arith) | inr h ↦ inr (omega arith) ]
+
+-- what passes a test stands at the first n places
+counted : {X : Type 0} (p : X → Bool) (xs : List X) (n : ℕ) → n ≤ length xs
+    → ((k : ℕ) (d : X) → k < n → p (slice_index_or xs k d) ≡ true) → ((k : ℕ) (d : X) → n ≤ k → k < length xs → p (slice_index_or xs k d) ≡ false)
+    → n ≡ length (filter p xs)
+counted p [] zero h passes fails = refl
+counted p [] (suc n) h passes fails = absurd (omega arith)
+counted p (x ∷ xs) zero h passes fails =
+    let e : p x ≡ false = fails 0 x (omega arith) (omega arith) in
+    let r : 0 ≡ length (filter p xs) = counted p xs 0 (omega arith) (λ k d l. absurd (omega arith)) (λ k d a b. fails (suc k) d (omega arith) (omega arith)) in
+    rw e r
+counted p (x ∷ xs) (suc n) h passes fails =
+    let e : p x ≡ true = passes 0 x (omega arith) in
+    let r : n ≡ length (filter p xs) = counted p xs n (omega arith) (λ k d l. passes (suc k) d (omega arith)) (λ k d a b. fails (suc k) d (omega arith) (omega arith)) in
+    rw e (ap suc r)
+
+Less-not_Equal : (o : Ordering) → o ≡ Less → o ≢ Equal
+Less-not_Equal o h e = cc
+
+Greater-not_Equal : (o : Ordering) → o ≡ Greater → o ≢ Equal
+Greater-not_Equal o h e = cc
+
+module _ {K V : Type 0} (ord : K → Ordering) (l : List (K × V)) where
+  -- Less below low, and Greater from high on
+  pub record Narrowed (low high : ℕ) : Type 0 where
+    pub front : AllWithin (λ p. ord p.0 ≡ Less) l 0 low
+    pub back : AllWithin (λ p. ord p.0 ≡ Greater) l high (length l)
+
+  pub Narrowed-whole : (n : ℕ) → length l ≤ n → Narrowed 0 n
+  Narrowed-whole n h = record { front = λ k d a b. absurd (omega arith); back = λ k d a b. absurd (omega arith) }
+
+  module _ (ascends : Ascends ord l) (low high m : ℕ) (k : K) (v : V) (e : slice_get l m ≡ Some (k, v)) (n : Narrowed low high) where
+    read : (d : K × V) → slice_index_or l m d ≡ (k, v)
+    read d = get_or_from_slice_get l m (k, v) d e
+
+    within : m < length l
+    within = slice_get_within l m (k, v) e
+
+    pub Narrowed-less : ord k ≡ Less → Narrowed (m + 1) high
+    Narrowed-less is = record {
+      front = λ i d a b. elim (order i m) as (λ _. ord (slice_index_or l i d).0 ≡ Less) [
+        | inl h ↦
+            let j : ordering_index (ord (slice_index_or l i d).0) ≤ ordering_index (ord (slice_index_or l m d).0) = ascends i m d h within in
+            let u : ord (slice_index_or l m d).0 ≡ Less = ap (λ p. ord p.0) (read d) ∙ is in
+            bottom _ (rw u at j)
+        | inr h ↦
+            let u : ord (slice_index_or l m d).0 ≡ Less = ap (λ p. ord p.0) (read d) ∙ is in
+            subst (λ (j : ℕ). ord (slice_index_or l j d).0 ≡ Less) {x = m} {y = i} (omega arith) u
+      ];
+      back = n.back;
+    }
+
+    pub Narrowed-greater : ord k ≡ Greater → Narrowed low m
+    Narrowed-greater is = record {
+      front = n.front;
+      back = λ i d a b. elim (order m i) as (λ _. ord (slice_index_or l i d).0 ≡ Greater) [
+        | inl h ↦
+            let j : ordering_index (ord (slice_index_or l m d).0) ≤ ordering_index (ord (slice_index_or l i d).0) = ascends m i d h b in
+            let u : ord (slice_index_or l m d).0 ≡ Greater = ap (λ p. ord p.0) (read d) ∙ is in
+            top _ (rw u at j)
+        | inr h ↦
+            let u : ord (slice_index_or l m d).0 ≡ Greater = ap (λ p. ord p.0) (read d) ∙ is in
+            subst (λ (j : ℕ). ord (slice_index_or l j d).0 ≡ Greater) {x = m} {y = i} (omega arith) u
+      ];
+    }
+
+  pub Finds-here : (m : ℕ) (k : K) (v : V) → slice_get l m ≡ Some (k, v) → ord k ≡ Equal → Finds ord l (Ok m)
+  Finds-here m k v e is = (slice_get_within l m (k, v) e, λ d. ap (λ p. ord p.0) (get_or_from_slice_get l m (k, v) d e) ∙ is)
+
+  pub Finds-nowhere : (low high : ℕ) → high ≤ low → low ≤ length l → Narrowed low high → Finds ord l (Err low)
+  Finds-nowhere low high u h n = (
+    λ k d b. elim (order k low) as (λ _. ord (slice_index_or l k d).0 ≢ Equal) [
+      | inl a ↦ Less-not_Equal _ (n.front k d (omega arith) a)
+      | inr a ↦ Greater-not_Equal _ (n.back k d (omega arith) b)
+    ],
+    counted (λ p. is_lt (ord p.0)) l low h (λ k d a. ap is_lt (n.front k d (omega arith) a)) (λ k d a b. ap is_lt (n.back k d (omega arith) b)),
+  )
+
+pub known : {K V : Type 0} (l : List (K × V)) (m : ℕ) (k : K) (v : V) → slice_get l m ≡ Some (k, v) → Any (λ q. q.0 ≡ k) l
+known l m k v e = (m, (k, v), slice_get_within l m (k, v) e, get_or_from_slice_get l m (k, v) (k, v) e, refl)
+
+module _ {F K V : Type 0} (g : Mut F (Bor K × Unit {0}) Ordering) (l : List (K × V)) (ord : K → Ordering) where
+  pub takes : (f : F) (k : K) → Shape g l ord f → Any (λ q. q.0 ≡ k) l → TakesAt g f k
+  takes f k s a p e = (s.answers.at (p ∷ []) (subst (λ (x : K). Any (λ q. q.0 ≡ x) l) (sym e) a)).0
+
+  pub next : (f : F) (k : K) (r : Ordering) (f' : F) → Shape g l ord f → Any (λ q. q.0 ≡ k) l → CalledAt g f k r f' → (ord k ≡ r) × Shape g l ord f'
+  next f k r f' s a c =
+      let b : Any (λ q. q.0 ≡ c.shown.now) l = subst (λ (x : K). Any (λ q. q.0 ≡ x) l) (sym c.shows) a in (
+        sym (((s.answers.at (c.shown ∷ []) b).1 r f' c.called).0 ∙ ap ord c.shows),
+        record { answers = record { at = λ ps. ((s.answers.at (c.shown ∷ ps) b).1 r f' c.called).1 }; ascends = s.ascends },
+      )

@@ -1,0 +1,5 @@
+-- Lemmas of the proofs.
+pub mod Halving
+pub mod Places
+pub mod Seams
+pub mod Splitting

@@ -1,0 +1,11 @@
+//! Stores of pairs for the sorted map of the crate `litemap`: the traits of a store, a vector as a store, and the count
+//! of comparisons.
+#![tactic(auto)]
+
+pub mod count;
+pub mod laws;
+mod no_room;
+pub mod store;
+mod vec_impl;
+
+pub use no_room::NoRoom;

@@ -1,0 +1,83 @@
+//! A vector of pairs as a store. Its room is its capacity less its length.
+ghost use Rattle.litemap_store.specs.VecStore.{vec_room, vec_with_value, vec_writes, vec_keeps_room};
+
+use crate::NoRoom;
+use crate::store::{Store, StoreConstEmpty, StoreMut};
+use std::alloc::{AllocError, Global};
+use std::mem;
+
+impl<K, V> Store<K, V> for Vec<(K, V)> {
+    ghost pairs = { λ v. v.items };
+
+    ghost room = { vec_room };
+
+    fn lm_len(&self) -> usize {
+        self.len()
+    }
+
+    fn lm_get(&self, index: usize) -> Option<(&K, &V)> {
+        let (key, value) = self.as_slice().get(index)?;
+        Some((key, value))
+    }
+}
+
+impl<K, V> StoreConstEmpty<K, V> for Vec<(K, V)> {
+    fn lm_empty(alloc: Global) -> Self {
+        Vec::new(alloc)
+    }
+}
+
+impl<K, V> StoreMut<K, V> for Vec<(K, V)> {
+    ghost with_value = { vec_with_value };
+
+    fn lm_with_capacity(alloc: Global, capacity: usize) -> Result<Self, AllocError> {
+        Vec::with_capacity(alloc, capacity)
+    }
+
+    fn lm_reserve(&mut self, additional: usize) -> Result<(), AllocError> {
+        self.reserve(additional)
+    }
+
+    fn lm_pair_mut(&mut self, index: usize) -> (&K, &mut V) {
+        let pair = &mut self[index];
+        (&pair.0, &mut pair.1)
+    }
+
+    fn lm_replace(&mut self, index: usize, key: K, value: V) -> (K, V) {
+        mem::replace(&mut self[index], (key, value))
+    }
+
+    fn lm_push(&mut self, key: K, value: V) -> Result<(), NoRoom<(K, V)>> {
+        match self.push((key, value)) {
+            Ok(()) => Ok(()),
+            Err(refused) => Err(NoRoom {
+                back: refused.value,
+            }),
+        }
+    }
+
+    fn lm_insert(&mut self, index: usize, key: K, value: V) -> Result<(), NoRoom<(K, V)>> {
+        match self.insert(index, (key, value)) {
+            Ok(()) => Ok(()),
+            Err(refused) => Err(NoRoom {
+                back: refused.value,
+            }),
+        }
+    }
+
+    fn lm_remove(&mut self, index: usize) -> (K, V) {
+        self.remove(index)
+    }
+
+    fn lm_clear(&mut self)
+    where
+        K: Drop,
+        V: Drop,
+    {
+        self.clear();
+    }
+
+    ghost writes = { vec_writes };
+
+    ghost keeps_room = { vec_keeps_room };
+}
