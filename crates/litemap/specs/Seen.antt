@@ -1,0 +1,7 @@
+-- What a contract sees of a map: its pairs, in the order of their keys, and how many further pairs it takes without
+-- refusal.
+use Rattle.std.specs.Prelude.{ℕ, List}
+
+pub record Seen (K V : Type 0) : Type 0 where
+  pub pairs : List (K × V)
+  pub room : ℕ
