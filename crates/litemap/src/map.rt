@@ -1,18 +1,12 @@
-//! The map.
-ghost use Rattle.std.specs.Prelude.{◌≡◌, ◌+◌, ◌≤◌, ◌<◌, [], length, slice_get, None, Some, IsNone, IsSome, IfOk, IfErr, OnOk, OnErr, IfSome};
-ghost use Rattle.std.specs.Map.Iter.{deref_pair};
-ghost use Rattle.std.specs.Option.{option_map};
-ghost use Rattle.litemap_store.specs.Counts.{RisesByAtMost};
-ghost use Rattle.litemap_store.specs.Digits.{digits};
-ghost use Rattle.litemap_store.specs.Pairs.{at, index_of, put, set_value, value_at};
-ghost use Rattle.litemap_store.specs.Splits.{Splits, IsMissingAt};
+//! The map: its type, and how one is made.
+ghost use Rattle.std.specs.Prelude.{◌≡◌, []};
 
-use litemap_store::NoRoom;
-use litemap_store::count::Count;
-use litemap_store::store::{Store, StoreConstEmpty, StoreMut};
+mod change;
+mod look;
+
+use litemap_store::store::Store;
 use std::alloc::Global;
 use std::marker::{Model, PhantomData};
-use std::mem;
 
 /// A map whose keys rise strictly, over a store.
 ///
@@ -44,121 +38,5 @@ impl<K: Ord, V> LiteMap<K, V, Vec<(K, V)>> {
             store: Vec::new(alloc),
             marker: PhantomData,
         }
-    }
-}
-
-impl<K: Ord, V, S: Store<K, V>> LiteMap<K, V, S> {
-    /// The number of pairs.
-    pub fn len(&self) -> usize
-        ensures { result ≡ length self.now.pairs }
-    {
-        self.store.lm_len()
-    }
-
-    /// The pair at a place, `None` from the length on.
-    pub fn get_indexed(&self, index: usize) -> Option<(&K, &V)>
-        ensures { option_map deref_pair result ≡ slice_get self.now.pairs index }
-    {
-        self.store.lm_get(index)
-    }
-
-    /// `Ok` of the key's place where an equal key is there, else `Err` of the place where it would go: the number of
-    /// smaller keys.
-    ///
-    /// It compares at most once for each binary digit of the length.
-    pub fn find_index(&self, key: &K) -> Result<usize, usize>
-        ensures { result ≡ index_of K.cmp self.now.pairs key.now }
-    {
-        self.find_index_counted(key, &mut Count::new())
-    }
-
-    /// `find_index`, with its comparisons counted.
-    pub fn find_index_counted(&self, key: &K, count: &mut Count) -> Result<usize, usize>
-        ensures place { result ≡ index_of K.cmp self.now.pairs key.now }
-        ensures cost { RisesByAtMost (digits (length self.now.pairs)) count.old count.new }
-    {
-        self.search(key, count)
-    }
-
-    // The one search of all calls by key: the place where the key splits the pairs.
-    fn search(&self, key: &K, count: &mut Count) -> Result<usize, usize>
-        ensures splits { Splits K.cmp self.now.pairs key.now result }
-        ensures cost { RisesByAtMost (digits (length self.now.pairs)) count.old count.new }
-    {
-        self.store.lm_binary_search_by(|k| k.cmp(key), count)
-    }
-}
-
-impl<K: Ord, V, S: StoreMut<K, V>> LiteMap<K, V, S> {
-    /// Puts a value at a key. Where an equal key is there, that key stays, the new one is given up, and the old value is
-    /// answered; no memory is taken. Else the pair is placed.
-    ///
-    /// It is refused only where the key is absent and there is no room: then the pair comes back and nothing is changed.
-    /// It compares at most once for each binary digit of the length, and moves the pairs with greater keys up by one
-    /// where the key is absent.
-    pub fn insert(&mut self, key: K, value: V) -> Result<Option<V>, NoRoom<(K, V)>>
-    where
-        K: Drop,
-        ensures put { OnOk result (self.new.pairs ≡ put K.cmp self.old.pairs key value) }
-        ensures old { IfOk result (λ old. old ≡ value_at K.cmp self.old.pairs key) }
-        ensures unchanged { OnErr result (self.new.pairs ≡ self.old.pairs) }
-        ensures absent { OnErr result (at K.cmp self.old.pairs key ≡ None) }
-        ensures full { OnErr result (self.old.room ≡ 0) }
-        ensures back { IfErr result (λ refused. refused.back ≡ (key, value)) }
-        ensures room_kept { IsSome (at K.cmp self.old.pairs key) → self.new.room ≡ self.old.room }
-        ensures room { self.old.room ≤ self.new.room + 1 }
-    {
-        self.insert_counted(key, value, &mut Count::new())
-    }
-
-    /// `insert`, with its comparisons counted.
-    pub fn insert_counted(
-        &mut self,
-        key: K,
-        value: V,
-        count: &mut Count,
-    ) -> Result<Option<V>, NoRoom<(K, V)>>
-    where
-        K: Drop,
-        ensures put { OnOk result (self.new.pairs ≡ put K.cmp self.old.pairs key value) }
-        ensures old { IfOk result (λ old. old ≡ value_at K.cmp self.old.pairs key) }
-        ensures unchanged { OnErr result (self.new.pairs ≡ self.old.pairs) }
-        ensures absent { OnErr result (at K.cmp self.old.pairs key ≡ None) }
-        ensures full { OnErr result (self.old.room ≡ 0) }
-        ensures back { IfErr result (λ refused. refused.back ≡ (key, value)) }
-        ensures room_kept { IsSome (at K.cmp self.old.pairs key) → self.new.room ≡ self.old.room }
-        ensures room { self.old.room ≤ self.new.room + 1 }
-        ensures cost { RisesByAtMost (digits (length self.old.pairs)) count.old count.new }
-    {
-        match self.search(&key, count) {
-            Ok(index) => Ok(Some(self.replace_value(index, value))),
-            Err(index) => {
-                self.place(index, key, value)?;
-                Ok(None)
-            }
-        }
-    }
-
-    // Replaces the value at a place, and answers the old one.
-    fn replace_value(&mut self, index: usize, value: V) -> V
-        requires { index < length self.old.pairs }
-        ensures old { option_map (λ p. p.1) (slice_get self.old.pairs index) ≡ Some result }
-        ensures pairs { self.new.pairs ≡ set_value self.old.pairs index value }
-        ensures room { self.new.room ≡ self.old.room }
-    {
-        let (_, slot) = self.store.lm_pair_mut(index);
-        mem::replace(slot, value)
-    }
-
-    // Puts a pair in at the place of its key, which is absent.
-    fn place(&mut self, index: usize, key: K, value: V) -> Result<(), NoRoom<(K, V)>>
-        requires { IsMissingAt K.cmp self.old.pairs key index }
-        ensures put { OnOk result (self.new.pairs ≡ put K.cmp self.old.pairs key value) }
-        ensures unchanged { OnErr result (self.new.pairs ≡ self.old.pairs) }
-        ensures full { OnErr result (self.old.room ≡ 0) }
-        ensures back { IfErr result (λ refused. refused.back ≡ (key, value)) }
-        ensures room { self.old.room ≤ self.new.room + 1 }
-    {
-        self.store.lm_insert(index, key, value)
     }
 }

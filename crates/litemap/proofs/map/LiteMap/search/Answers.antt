@@ -13,5 +13,5 @@ pub returns-clause-splits : goal.returns-clause-splits
 returns-clause-splits g c =
     let ascends = Ascends-by_key g.met.K.Ord.total _ c.args.key.now c.self.invariant in
     rw (← c.self.view_is)
-      (Splits-from_Finds g.met.K.Ord.total _ c.args.key.now c.self.invariant _
-        (c.lm_binary_search_by.ensures.found.at (λ x. g.K.Ord.cmp x c.args.key.now) (shape_steady _ _ _ _ (λ p a. tt) (λ p r f' k. search rules) ascends)))
+    (Splits-from_Finds g.met.K.Ord.total _ c.args.key.now c.self.invariant _
+    (c.lm_binary_search_by.ensures.found.at (λ x. g.K.Ord.cmp x c.args.key.now) (shape_steady _ _ _ _ (λ p a. tt) (λ p r f' k. search rules) ascends)))

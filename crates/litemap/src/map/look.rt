@@ -1,0 +1,54 @@
+//! Calls that look at a map. None takes memory.
+ghost use Rattle.std.specs.Prelude.{◌≡◌, length, slice_get};
+ghost use Rattle.std.specs.Map.Iter.{deref_pair};
+ghost use Rattle.std.specs.Option.{option_map};
+ghost use Rattle.litemap_store.specs.Counts.{RisesByAtMost};
+ghost use Rattle.litemap_store.specs.Digits.{digits};
+ghost use Rattle.litemap_store.specs.Pairs.{index_of};
+ghost use Rattle.litemap_store.specs.Splits.{Splits};
+
+use crate::LiteMap;
+use litemap_store::count::Count;
+use litemap_store::store::Store;
+
+impl<K: Ord, V, S: Store<K, V>> LiteMap<K, V, S> {
+    /// The number of pairs.
+    pub fn len(&self) -> usize
+        ensures { result ≡ length self.now.pairs }
+    {
+        self.store.lm_len()
+    }
+
+    /// The pair at a place, `None` from the length on.
+    pub fn get_indexed(&self, index: usize) -> Option<(&K, &V)>
+        ensures { option_map deref_pair result ≡ slice_get self.now.pairs index }
+    {
+        self.store.lm_get(index)
+    }
+
+    /// `Ok` of the key's place where an equal key is there, else `Err` of the place where it would go: the number of
+    /// smaller keys.
+    ///
+    /// It compares at most once for each binary digit of the length.
+    pub fn find_index(&self, key: &K) -> Result<usize, usize>
+        ensures { result ≡ index_of K.cmp self.now.pairs key.now }
+    {
+        self.find_index_counted(key, &mut Count::new())
+    }
+
+    /// `find_index`, with its comparisons counted.
+    pub fn find_index_counted(&self, key: &K, count: &mut Count) -> Result<usize, usize>
+        ensures place { result ≡ index_of K.cmp self.now.pairs key.now }
+        ensures cost { RisesByAtMost (digits (length self.now.pairs)) count.old count.new }
+    {
+        self.search(key, count)
+    }
+
+    // The one search of all calls by key: the place where the key splits the pairs.
+    pub(super) fn search(&self, key: &K, count: &mut Count) -> Result<usize, usize>
+        ensures splits { Splits K.cmp self.now.pairs key.now result }
+        ensures cost { RisesByAtMost (digits (length self.now.pairs)) count.old count.new }
+    {
+        self.store.lm_binary_search_by(|k| k.cmp(key), count)
+    }
+}
