@@ -1,5 +1,8 @@
 -- From what a call says of each outcome.
-use Rattle.std.proofs.Common.{◌≡◌, Result, Ok, Err, OnOk, OnErr, sym, subst}
+use Rattle.std.proofs.Common.{◌≡◌, ℕ, true, false, List, is_some, Result, Ok, Err, OnOk, OnErr, IsSome, sym, subst}
+use Rattle.std.specs.declared.cmp.Ordering.{Ordering}
+use Rattle.litemap_store.specs.Pairs.{at}
+use Rattle.litemap_store.specs.Splits.{IsMissingAt}
 
 -- what holds of the value that either outcome leaves holds of the value that is left
 pub either_way : {A E X : Type 0} (P : X → Type 0) (r : Result A E) (x a b : X) → OnOk r (x ≡ a) → OnErr r (x ≡ b) → P a → P b → P x
@@ -9,3 +12,7 @@ either_way P (Err y) x a b h t p q = subst P (sym t) q
 pub on_ok : {A E P Q : Type 0} (r : Result A E) → (P → Q) → OnOk r P → OnOk r Q
 on_ok (Ok y) f h = f h
 on_ok (Err y) f h = h
+
+-- a key that is there is not missing
+pub not_missing : {K V : Type 0} (cmp : K → K → Ordering) (L : List (K × V)) (k : K) {i : ℕ} → IsSome (at cmp L k) → IsMissingAt cmp L k i → ⊥
+not_missing cmp L k h m = let none : false ≡ true = subst (λ a. is_some a ≡ true) m.missing h in cc

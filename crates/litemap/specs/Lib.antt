@@ -1,3 +1,4 @@
 -- The definitions that the contracts cite. Those of the sorted list are in `Pairs` of the crate `litemap_store`.
 pub mod Seen
 pub mod Steps
+pub mod Lends

@@ -3,6 +3,7 @@ ghost use Rattle.std.specs.Prelude.{◌≡◌, []};
 
 mod change;
 mod look;
+mod write;
 
 use litemap_store::store::Store;
 use std::alloc::Global;

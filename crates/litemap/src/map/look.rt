@@ -5,11 +5,13 @@ ghost use Rattle.std.specs.Option.{option_map};
 ghost use Rattle.litemap_store.specs.Counts.{RisesByAtMost};
 ghost use Rattle.litemap_store.specs.Digits.{digits};
 ghost use Rattle.litemap_store.specs.Pairs.{index_of};
+ghost use Rattle.litemap_store.specs.Search.{Found, Shaped};
 ghost use Rattle.litemap_store.specs.Splits.{Splits};
 
 use crate::LiteMap;
 use litemap_store::count::Count;
 use litemap_store::store::Store;
+use std::cmp::Ordering;
 
 impl<K: Ord, V, S: Store<K, V>> LiteMap<K, V, S> {
     /// The number of pairs.
@@ -42,6 +44,19 @@ impl<K: Ord, V, S: Store<K, V>> LiteMap<K, V, S> {
         ensures cost { RisesByAtMost (digits (length self.now.pairs)) count.old count.new }
     {
         self.search(key, count)
+    }
+
+    /// `Ok` of a place where `f` answers `Equal`, or `Err` of the number of keys that answer `Less` where it answers
+    /// `Equal` for none.
+    ///
+    /// Over the keys `f` has to answer `Less`, then `Equal`, then `Greater`. Where several keys answer `Equal` any of
+    /// them may be the one found. It asks at most once for each binary digit of the length. The Rust crate looks up by
+    /// `Borrow` in its place.
+    pub fn find_index_by<F: FnMut(&K) -> Ordering>(&self, f: F) -> Result<usize, usize>
+        requires { Shaped F.FnMut self.now.pairs f }
+        ensures { Found F.FnMut self.now.pairs f result }
+    {
+        self.store.lm_binary_search_by(f, &mut Count::new())
     }
 
     // The one search of all calls by key: the place where the key splits the pairs.

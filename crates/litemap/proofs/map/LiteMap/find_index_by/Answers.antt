@@ -1,0 +1,7 @@
+use Rattle.litemap.proofs.map.LiteMap.find_index_by.Goals as goal
+
+pub lm_binary_search_by-requires : goal.lm_binary_search_by-requires
+lm_binary_search_by-requires g c = rw (← c.self.view_is) at c.requires
+
+pub returns : goal.returns
+returns g c = rw (← c.self.view_is) c.lm_binary_search_by.ensures.found

@@ -1,0 +1,85 @@
+//! Calls that lend a value of a map, to be written. None takes memory, and each keeps the room.
+//!
+//! A reference that is lent starts at the value there, and the map ends with that one value replaced by what the
+//! reference holds at its end.
+ghost use Rattle.std.specs.Prelude.{◌≡◌, ◌<◌, length, slice_get, ℕ, Ok, Err, Some, IfNone, IfSome, IsSome};
+ghost use Rattle.std.specs.Borrow.{sem};
+ghost use Rattle.std.specs.Option.{option_map, option_copied_mut};
+ghost use Rattle.litemap_store.specs.Pairs.{at, value_at};
+ghost use Rattle.litemap_store.specs.Search.{Found, Shaped};
+ghost use Rattle.litemap.specs.Lends.{LendsAt, LendsFound, LendsKey, LendsPlace, LendsValue};
+
+use crate::LiteMap;
+use litemap_store::count::Count;
+use litemap_store::store::StoreMut;
+use std::cmp::Ordering;
+
+impl<K: Ord, V, S: StoreMut<K, V>> LiteMap<K, V, S> {
+    /// The value of a key, to be written; `None` where no equal key is there.
+    ///
+    /// It compares at most once for each binary digit of the length.
+    pub fn get_mut(&mut self, key: &K) -> Option<&mut V>
+        ensures* writes_back { sem 𝓛 (LendsValue K.row V.row S.row K.Ord S.pairs S.room self.entry key.now result) }
+        ensures value { option_copied_mut result ≡ value_at K.cmp self.old.pairs key.now }
+    {
+        match self.search(key, &mut Count::new()) {
+            Ok(index) => Some(self.value_at_mut(index)),
+            Err(_) => None,
+        }
+    }
+
+    /// The value at a place where `f` answers `Equal`, to be written; `None` where it answers `Equal` for no key.
+    ///
+    /// Over the keys `f` has to answer `Less`, then `Equal`, then `Greater`. Where several keys answer `Equal` any of
+    /// them may be the one found. It asks at most once for each binary digit of the length. The Rust crate looks up by
+    /// `Borrow` in its place.
+    pub fn get_mut_by<F: FnMut(&K) -> Ordering>(&mut self, f: F) -> Option<&mut V>
+        requires { Shaped F.FnMut self.old.pairs f }
+        ensures* writes_back { sem 𝓛 (LendsFound K.row V.row S.row K.Ord S.pairs S.room self.entry (λ i. Found F.FnMut self.old.pairs f (Ok i)) result) }
+        ensures found { IfSome result (λ v. (i : ℕ) × Found F.FnMut self.old.pairs f (Ok i) × (option_map (λ p. p.1) (slice_get self.old.pairs i) ≡ Some v.now)) }
+        ensures none { IfNone result ((i : ℕ) × Found F.FnMut self.old.pairs f (Err i)) }
+    {
+        match self.find_index_by(f) {
+            Ok(index) => Some(self.value_at_mut(index)),
+            Err(_) => None,
+        }
+    }
+
+    /// The value of a key that is there, to be written.
+    ///
+    /// It compares at most once for each binary digit of the length. The Rust crate has the operator `IndexMut` here,
+    /// which panics where the key isn't there.
+    pub fn index_mut(&mut self, key: &K) -> &mut V
+        requires { IsSome (at K.cmp self.old.pairs key.now) }
+        ensures* writes_back { sem 𝓛 (LendsKey K.row V.row S.row K.Ord S.pairs S.room self.entry key.now result) }
+        ensures value { Some result.now ≡ value_at K.cmp self.old.pairs key.now }
+    {
+        match self.search(key, &mut Count::new()) {
+            Ok(index) => self.value_at_mut(index),
+            Err(_) => unreachable!(),
+        }
+    }
+
+    /// The value at a place, to be written; `None` from the length on.
+    ///
+    /// It stands in place of the Rust crate's `iter_mut`.
+    pub fn get_indexed_mut(&mut self, index: usize) -> Option<&mut V>
+        ensures* writes_back { sem 𝓛 (LendsPlace K.row V.row S.row K.Ord S.pairs S.room self.entry index result) }
+        ensures value { option_copied_mut result ≡ option_map (λ p. p.1) (slice_get self.old.pairs index) }
+    {
+        if index < self.len() {
+            Some(self.value_at_mut(index))
+        } else {
+            None
+        }
+    }
+
+    // The value at a place, to be written.
+    fn value_at_mut(&mut self, index: usize) -> &mut V
+        requires { index < length self.old.pairs }
+        ensures* writes_back { sem 𝓛 (LendsAt K.row V.row S.row K.Ord S.pairs S.room self.entry index result) }
+        ensures value { option_map (λ p. p.1) (slice_get self.old.pairs index) ≡ Some result.now }
+    {
+        self.store.lm_pair_mut(index).1
+    }
+}
