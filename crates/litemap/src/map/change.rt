@@ -1,9 +1,9 @@
 //! Calls that change a map.
-ghost use Rattle.std.specs.Prelude.{◌≡◌, ◌+◌, ◌≤◌, ◌<◌, length, slice_get, None, Some, IsSome, IfOk, IfErr, OnOk, OnErr};
+ghost use Rattle.std.specs.Prelude.{◌≡◌, ◌+◌, ◌≤◌, ◌<◌, length, slice_get, None, Some, IsNone, IsSome, remove, IfOk, IfErr, OnOk, OnErr};
 ghost use Rattle.std.specs.Option.{option_map};
 ghost use Rattle.litemap_store.specs.Counts.{RisesByAtMost};
 ghost use Rattle.litemap_store.specs.Digits.{digits};
-ghost use Rattle.litemap_store.specs.Pairs.{at, put, set_value, value_at};
+ghost use Rattle.litemap_store.specs.Pairs.{at, cut, put, set_value, value_at};
 ghost use Rattle.litemap_store.specs.Splits.{IsMissingAt};
 
 use crate::LiteMap;
@@ -60,6 +60,48 @@ impl<K: Ord, V, S: StoreMut<K, V>> LiteMap<K, V, S> {
                 Ok(None)
             }
         }
+    }
+
+    /// Takes out the pair with an equal key, and answers its value. Its key is given up.
+    ///
+    /// It takes no memory. It compares at most once for each binary digit of the length, and moves the pairs with greater
+    /// keys down by one. Where there is no such pair nothing is changed, and the room is kept; else nothing is promised
+    /// of the room.
+    pub fn remove(&mut self, key: &K) -> Option<V>
+    where
+        K: Drop,
+        ensures value { result ≡ value_at K.cmp self.old.pairs key.now }
+        ensures cut { self.new.pairs ≡ cut K.cmp self.old.pairs key.now }
+        ensures unchanged { IsNone (at K.cmp self.old.pairs key.now) → self.new ≡ self.old }
+    {
+        self.remove_counted(key, &mut Count::new())
+    }
+
+    /// `remove`, with its comparisons counted. The Rust crate has no such call.
+    pub fn remove_counted(&mut self, key: &K, count: &mut Count) -> Option<V>
+    where
+        K: Drop,
+        ensures value { result ≡ value_at K.cmp self.old.pairs key.now }
+        ensures cut { self.new.pairs ≡ cut K.cmp self.old.pairs key.now }
+        ensures unchanged { IsNone (at K.cmp self.old.pairs key.now) → self.new ≡ self.old }
+        ensures cost { RisesByAtMost (digits (length self.old.pairs)) count.old count.new }
+    {
+        match self.search(key, count) {
+            Ok(index) => Some(self.remove_at(index)),
+            Err(_) => None,
+        }
+    }
+
+    // Takes out the pair at a place, and answers its value.
+    fn remove_at(&mut self, index: usize) -> V
+    where
+        K: Drop,
+        requires { index < length self.old.pairs }
+        ensures old { option_map (λ p. p.1) (slice_get self.old.pairs index) ≡ Some result }
+        ensures pairs { self.new.pairs ≡ remove self.old.pairs index }
+    {
+        let (_, value) = self.store.lm_remove(index);
+        value
     }
 
     // Replaces the value at a place, and answers the old one.

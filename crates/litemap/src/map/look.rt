@@ -1,10 +1,10 @@
 //! Calls that look at a map. None takes memory.
 ghost use Rattle.std.specs.Prelude.{◌≡◌, length, slice_get};
 ghost use Rattle.std.specs.Map.Iter.{deref_pair};
-ghost use Rattle.std.specs.Option.{option_map};
+ghost use Rattle.std.specs.Option.{option_copied, option_map};
 ghost use Rattle.litemap_store.specs.Counts.{RisesByAtMost};
 ghost use Rattle.litemap_store.specs.Digits.{digits};
-ghost use Rattle.litemap_store.specs.Pairs.{index_of};
+ghost use Rattle.litemap_store.specs.Pairs.{index_of, value_at};
 ghost use Rattle.litemap_store.specs.Search.{Found, Shaped};
 ghost use Rattle.litemap_store.specs.Splits.{Splits};
 
@@ -26,6 +26,26 @@ impl<K: Ord, V, S: Store<K, V>> LiteMap<K, V, S> {
         ensures { option_map deref_pair result ≡ slice_get self.now.pairs index }
     {
         self.store.lm_get(index)
+    }
+
+    /// The value of the pair with an equal key, if there is one.
+    ///
+    /// It compares at most once for each binary digit of the length.
+    pub fn get(&self, key: &K) -> Option<&V>
+        ensures { option_copied result ≡ value_at K.cmp self.now.pairs key.now }
+    {
+        self.get_counted(key, &mut Count::new())
+    }
+
+    /// `get`, with its comparisons counted. The Rust crate has no such call.
+    pub fn get_counted(&self, key: &K, count: &mut Count) -> Option<&V>
+        ensures value { option_copied result ≡ value_at K.cmp self.now.pairs key.now }
+        ensures cost { RisesByAtMost (digits (length self.now.pairs)) count.old count.new }
+    {
+        match self.search(key, count) {
+            Ok(index) => self.value_of(index),
+            Err(_) => None,
+        }
     }
 
     /// `Ok` of the key's place where an equal key is there, else `Err` of the place where it would go: the number of
@@ -57,6 +77,14 @@ impl<K: Ord, V, S: Store<K, V>> LiteMap<K, V, S> {
         ensures { Found F.FnMut self.now.pairs f result }
     {
         self.store.lm_binary_search_by(f, &mut Count::new())
+    }
+
+    // The value at a place, `None` from the length on.
+    fn value_of(&self, index: usize) -> Option<&V>
+        ensures { option_copied result ≡ option_map (λ p. p.1) (slice_get self.now.pairs index) }
+    {
+        let (_, value) = self.store.lm_get(index)?;
+        Some(value)
     }
 
     // The one search of all calls by key: the place where the key splits the pairs.
