@@ -37,8 +37,8 @@ module _ {K V : Type 0} (cmp : K → K → Ordering) (L : List (K × V)) (k : K)
   pub found_get : slice_get L i ≡ Some f.pair
   found_get =
       ap (λ M. slice_get M i) f.is
-        ∙ ap (λ j. slice_get (below cmp L k ++ f.pair ∷ above cmp L k) j) f.place
-        ∙ slice_get-seam (below cmp L k) f.pair (above cmp L k)
+      ∙ ap (λ j. slice_get (below cmp L k ++ f.pair ∷ above cmp L k) j) f.place
+      ∙ slice_get-seam (below cmp L k) f.pair (above cmp L k)
 
   pub found_within : i < length L
   found_within = slice_get_within L i f.pair found_get
@@ -51,17 +51,17 @@ module _ {K V : Type 0} (cmp : K → K → Ordering) (L : List (K × V)) (k : K)
   pub found_set_value : (v : V) → set_value L i v ≡ put cmp L k v
   found_set_value v =
       ap (λ o. option_map_or (λ p. slice_set L i (p.0, v)) o L) found_get
-        ∙ ap (λ M. slice_set M i (f.pair.0, v)) f.is
-        ∙ ap (λ j. slice_set (below cmp L k ++ f.pair ∷ above cmp L k) j (f.pair.0, v)) f.place
-        ∙ set-append_seam (below cmp L k) f.pair (above cmp L k) (f.pair.0, v)
-        ∙ ap (λ a. below cmp L k ++ (key_or a k, v) ∷ above cmp L k) (sym f.found)
+      ∙ ap (λ M. slice_set M i (f.pair.0, v)) f.is
+      ∙ ap (λ j. slice_set (below cmp L k ++ f.pair ∷ above cmp L k) j (f.pair.0, v)) f.place
+      ∙ set-append_seam (below cmp L k) f.pair (above cmp L k) (f.pair.0, v)
+      ∙ ap (λ a. below cmp L k ++ (key_or a k, v) ∷ above cmp L k) (sym f.found)
 
   -- and without it the key is cut
   pub found_remove : remove L i ≡ cut cmp L k
   found_remove =
       ap (λ M. remove M i) f.is
-        ∙ ap (λ j. remove (below cmp L k ++ f.pair ∷ above cmp L k) j) f.place
-        ∙ remove-seam (below cmp L k) f.pair (above cmp L k)
+      ∙ ap (λ j. remove (below cmp L k ++ f.pair ∷ above cmp L k) j) f.place
+      ∙ remove-seam (below cmp L k) f.pair (above cmp L k)
 
 -- ---- where it is not
 module _ {K V : Type 0} (cmp : K → K → Ordering) (L : List (K × V)) (k : K) (i : ℕ) (m : IsMissingAt cmp L k i) where
@@ -75,10 +75,10 @@ module _ {K V : Type 0} (cmp : K → K → Ordering) (L : List (K × V)) (k : K)
   pub missing_insert : (v : V) → insert L i (k, v) ≡ put cmp L k v
   missing_insert v =
       ap (λ M. insert M i (k, v)) m.is
-        ∙ ap (λ j. insert (below cmp L k ++ above cmp L k) j (k, v)) m.place
-        ∙ ap (λ M. M ++ (k, v) ∷ drop (length (below cmp L k)) (below cmp L k ++ above cmp L k)) (take-append_seam (below cmp L k) (above cmp L k))
-        ∙ ap (λ M. below cmp L k ++ (k, v) ∷ M) (drop-append_seam (below cmp L k) (above cmp L k))
-        ∙ ap (λ a. below cmp L k ++ (key_or a k, v) ∷ above cmp L k) (sym m.missing)
+      ∙ ap (λ j. insert (below cmp L k ++ above cmp L k) j (k, v)) m.place
+      ∙ ap (λ M. M ++ (k, v) ∷ drop (length (below cmp L k)) (below cmp L k ++ above cmp L k)) (take-append_seam (below cmp L k) (above cmp L k))
+      ∙ ap (λ M. below cmp L k ++ (k, v) ∷ M) (drop-append_seam (below cmp L k) (above cmp L k))
+      ∙ ap (λ a. below cmp L k ++ (key_or a k, v) ∷ above cmp L k) (sym m.missing)
 
   -- the list without it is the list
   pub missing_cut : cut cmp L k ≡ L

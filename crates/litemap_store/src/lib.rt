@@ -2,6 +2,7 @@
 //! of comparisons.
 #![tactic(auto)]
 
+pub mod by_scan;
 pub mod count;
 pub mod laws;
 mod no_room;
