@@ -10,3 +10,6 @@ pub mod store;
 mod vec_impl;
 
 pub use no_room::NoRoom;
+
+#[cfg(test)]
+mod tests;
