@@ -1,6 +1,11 @@
+ghost use Rattle.std.specs.Prelude.{◌≤◌, IfOk};
+ghost use Rattle.std.specs.Ordering.{nat_cmp};
+ghost use Rattle.litemap_store.specs.Pairs.{Rising};
+
 use crate::count::Count;
 use crate::store::{Store, StoreConstEmpty, StoreMut};
 use crate::{NoRoom, by_scan, laws};
+use std::alloc::{AllocError, Global};
 use std::cmp::Ordering;
 use std::test::Fail;
 
@@ -142,5 +147,58 @@ fn scans(rt: HostRuntime) -> Result<(), Fail> {
         by_scan::cut(rt.alloc(), &pairs, &4)?.as_slice(),
         pairs.as_slice()
     );
+    Ok(())
+}
+
+// Pairs with the keys 1, 3, 5 and so on.
+fn odd_keys(alloc: Global, len: u32) -> Result<Pairs, AllocError>
+    requires { len ≤ 1000 }
+    ensures { IfOk result (λ v. Rising nat_cmp v.items) }
+{
+    let mut pairs = Vec::new(alloc);
+    for i in 0..len {
+        pairs.push((2 * i + 1, i))?;
+    }
+    Ok(pairs)
+}
+
+// What the search for a key answers, and how many calls its closure counts itself.
+fn calls_of(pairs: &Pairs, key: u32) -> (Result<usize, usize>, u32)
+    requires { Rising nat_cmp pairs.now.items }
+{
+    let mut calls = 0u32;
+    let found = pairs.lm_binary_search_by(
+        |k| {
+            calls = calls.wrapping_add(1);
+            k.cmp(&key)
+        },
+        &mut Count::new(),
+    );
+    (found, calls)
+}
+
+// Every key that is there, and every gap.
+#[test]
+fn search_asks_few_keys(rt: HostRuntime) -> Result<(), Fail> {
+    for (len, most) in [
+        (0u32, 0u32),
+        (1, 1),
+        (3, 2),
+        (4, 3),
+        (7, 3),
+        (8, 4),
+        (1000, 10),
+    ] {
+        let pairs = odd_keys(rt.alloc(), len)?;
+        for key in 0..2 * len + 1 {
+            let (found, calls) = calls_of(&pairs, key);
+            assert_eq!(rt;
+                found,
+                by_scan::index_of(&pairs, &key),
+                "key {key} of {len}"
+            );
+            assert!(rt; calls <= most, "{calls} calls for key {key} of {len}");
+        }
+    }
     Ok(())
 }
