@@ -2,6 +2,7 @@
 //! of comparisons.
 #![tactic(auto)]
 
+pub mod by_scan;
 pub mod count;
 pub mod laws;
 mod no_room;
@@ -9,3 +10,6 @@ pub mod store;
 mod vec_impl;
 
 pub use no_room::NoRoom;
+
+#[cfg(test)]
+mod tests;
