@@ -40,7 +40,7 @@ impl<K: Ord, V, S: StoreMut<K, V>> LiteMap<K, V, S> {
         ensures none { IfNone result ((i : ℕ) × Found F.FnMut self.old.pairs f (Err i)) }
     {
         match self.find_index_by(f) {
-            Ok(index) => Some(self.value_at_mut(index)),
+            Ok(place) => Some(self.value_at_mut(place)),
             Err(_) => None,
         }
     }

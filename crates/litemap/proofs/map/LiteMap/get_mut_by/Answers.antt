@@ -6,10 +6,10 @@ value_at_mut-requires g c = (c.in-Ok.ensures.at c.requires.ord c.requires.shape)
 
 pub returns-in-Ok : goal.returns-in-Ok
 returns-in-Ok g c = (
-  (refl, λ w. (c.in-Ok.index, c.in-Ok.ensures, c.value_at_mut.ensures.value, refl), tt),
+  (refl, λ w. (c.in-Ok.place, c.in-Ok.ensures, c.value_at_mut.ensures.value, refl), tt),
   record {
     writes_back = tt;
-    found = (c.in-Ok.index, c.in-Ok.ensures, c.value_at_mut.ensures.value);
+    found = (c.in-Ok.place, c.in-Ok.ensures, c.value_at_mut.ensures.value);
     none = tt;
   },
 )
