@@ -9,6 +9,7 @@ ghost use Rattle.std.specs.Option.{option_map};
 ghost use Rattle.litemap_store.specs.Pairs.{set_value};
 ghost use Rattle.litemap_store.specs.Counts.{RisesByAtMost};
 ghost use Rattle.litemap_store.specs.Digits.{digits};
+ghost use Rattle.litemap_store.specs.Retain.{Kept};
 ghost use Rattle.litemap_store.specs.Search.{Shaped, Found};
 
 use crate::NoRoom;
@@ -169,4 +170,14 @@ pub trait StoreMut<K, V>: Store<K, V> {
     ghost writes: { (s : Self) (i : ℕ) (v : V) → Self.pairs (with_value s i v) ≡ set_value (Self.pairs s) i v };
 
     ghost keeps_room: { (s : Self) (i : ℕ) (v : V) → Self.room (with_value s i v) ≡ Self.room s };
+}
+
+/// A store whose pairs can be changed many at once.
+pub trait StoreBulkMut<K: Ord + Drop, V: Drop>: StoreMut<K, V> {
+    /// Keeps the pairs of which `f` answers yes, in their order.
+    ///
+    /// `f` is asked once of each pair, in order. It takes no memory. Nothing is said of the room after it.
+    fn lm_retain<F: FnMut(&K, &V) -> bool>(&mut self, f: F)
+        requires { F.IsAlwaysCallable f }
+        ensures { Kept F.FnMut f (Self.pairs self.old) (Self.pairs self.new) };
 }

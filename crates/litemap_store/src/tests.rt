@@ -3,7 +3,7 @@ ghost use Rattle.std.specs.Ordering.{nat_cmp};
 ghost use Rattle.litemap_store.specs.Pairs.{Rising};
 
 use crate::count::Count;
-use crate::store::{Store, StoreConstEmpty, StoreMut};
+use crate::store::{Store, StoreBulkMut, StoreConstEmpty, StoreMut};
 use crate::{NoRoom, by_scan, laws};
 use std::alloc::{AllocError, Global};
 use std::cmp::Ordering;
@@ -90,6 +90,28 @@ fn grows_and_shrinks(rt: HostRuntime) -> Result<(), Fail> {
     );
     assert_eq!(rt; store.lm_remove(1), (3, 30));
     assert_eq!(rt; store.as_slice(), [(1, 10), (2, 20), (4, 40)].as_slice());
+    Ok(())
+}
+
+// Each pair is asked of once, also behind one that goes.
+#[test]
+fn retains(rt: HostRuntime) -> Result<(), Fail> {
+    let mut store = vec![in rt.alloc(); (1u32, 10u32), (2, 20), (3, 30)]?;
+    let mut questions = 0u32;
+    store.lm_retain(|key, _| {
+        questions = questions.wrapping_add(1);
+        key % 2 == 1
+    });
+    assert_eq!(rt; store.as_slice(), [(1, 10), (3, 30)].as_slice());
+    assert_eq!(rt; questions, 3);
+    let mut store = vec![in rt.alloc(); (1u32, 10u32), (2, 20), (3, 30), (4, 40)]?;
+    let mut questions = 0u32;
+    store.lm_retain(|_, _| {
+        questions = questions.wrapping_add(1);
+        false
+    });
+    assert_eq!(rt; store.lm_len(), 0);
+    assert_eq!(rt; questions, 4);
     Ok(())
 }
 

@@ -1,8 +1,9 @@
 //! A vector of pairs as a store. Its room is its capacity less its length.
+ghost use Rattle.litemap_store.specs.Retain.{CalledOnPair};
 ghost use Rattle.litemap_store.specs.VecStore.{vec_room, vec_with_value, vec_writes, vec_keeps_room};
 
 use crate::NoRoom;
-use crate::store::{Store, StoreConstEmpty, StoreMut};
+use crate::store::{Store, StoreBulkMut, StoreConstEmpty, StoreMut};
 use std::alloc::{AllocError, Global};
 use std::mem;
 
@@ -80,4 +81,15 @@ impl<K, V> StoreMut<K, V> for Vec<(K, V)> {
     ghost writes = { vec_writes };
 
     ghost keeps_room = { vec_keeps_room };
+}
+
+impl<K: Ord + Drop, V: Drop> StoreBulkMut<K, V> for Vec<(K, V)> {
+    fn lm_retain<F: FnMut(&K, &V) -> bool>(&mut self, mut f: F) {
+        self.retain(
+            |pair|
+                requires { F.IsAlwaysCallable f }
+                ensures asked { CalledOnPair F.FnMut f.entry pair.now result f.exit }
+            { f(&pair.0, &pair.1) },
+        );
+    }
 }
