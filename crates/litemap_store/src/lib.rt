@@ -1,11 +1,12 @@
-//! Stores of pairs for the sorted map of the crate `litemap`: the traits of a store, a vector as a store, and the count
-//! of comparisons.
+//! Stores of pairs for the sorted map of the crate `litemap`: the traits of a store, a vector and a borrowed slice as
+//! stores, and the count of comparisons.
 #![tactic(auto)]
 
 pub mod by_scan;
 pub mod count;
 pub mod laws;
 mod no_room;
+pub mod slice_impl;
 pub mod store;
 mod vec_impl;
 

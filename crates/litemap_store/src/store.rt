@@ -6,7 +6,7 @@ ghost use Rattle.std.specs.Prelude.{◌≡◌, ◌+◌, ◌-◌, ◌<◌, ◌≤
 ghost use Rattle.std.specs.Borrow.{sem, follows};
 ghost use Rattle.std.specs.Map.Iter.{deref_pair, deref_pair_mut};
 ghost use Rattle.std.specs.Option.{option_map};
-ghost use Rattle.litemap_store.specs.Pairs.{set_value};
+ghost use Rattle.litemap_store.specs.Pairs.{set_value, sub};
 ghost use Rattle.litemap_store.specs.Counts.{RisesByAtMost};
 ghost use Rattle.litemap_store.specs.Digits.{digits};
 ghost use Rattle.litemap_store.specs.Retain.{Kept};
@@ -16,6 +16,7 @@ use crate::NoRoom;
 use crate::count::Count;
 use std::alloc::{AllocError, Global};
 use std::cmp::Ordering;
+use std::ops::Range;
 
 /// Pairs at places, which can be looked at and searched.
 pub trait Store<K, V> {
@@ -90,6 +91,13 @@ pub trait StoreConstEmpty<K, V>: Store<K, V> {
     /// The Rust crate has the constant `EMPTY` here.
     fn lm_empty(alloc: Global) -> Self
         ensures { Self.pairs result ≡ [] };
+}
+
+/// A store whose pairs lie side by side in memory.
+pub trait StoreSlice<K, V>: Store<K, V> {
+    /// The pairs from a place to before another, `None` where the start lies past the end or the end past the length.
+    fn lm_get_range(&self, range: Range<usize>) -> Option<&[(K, V)]>
+        ensures { option_map (λ part. part.now) result ≡ sub (Self.pairs self.now) range.start range.end };
 }
 
 /// A store that can be changed.
