@@ -1,0 +1,74 @@
+-- Lemmas on the calls of the map, by the bytes of its strings.
+use Rattle.std.proofs.Common.{◌≡◌, ◌+◌, ◌<◌, ◌≤◌, ◌++◌, ◌∷◌, ℕ, List, [], length, map, take, Option, Some, Result, IsSome, IfSome, IfOk, option_map, slice_get, inl, inr, refl, sym, ap, ◌∙◌, subst, arith, add-one, append-nil}
+use Rattle.std.specs.Prelude.{flat_map, string_bytes, string_cmp}
+use Rattle.std.proofs.Math.Seq.{take-suc}
+use Rattle.std.proofs.lemmas.Grind.{flat_map-append}
+use Rattle.std.proofs.lemmas.Option.{slice_get_cases}
+use Rattle.std.proofs.lemmas.Result.{IfOk-weaker}
+use Rattle.std.specs.Ordering.{nat_cmp}
+use Rattle.std.specs.Cmp.Lexicographic.{slice_cmp}
+use Rattle.std.specs.declared.alloc.Global.{Global}
+use Rattle.std.specs.declared.string.String.{String}
+use Rattle.litemap_store.specs.Pairs.{at, index_of, put, value_at}
+use Rattle.litemap.specs.Seen.{Seen}
+use Rattle.litemap.specs.Steps.{Find, Insert, Place, Value}
+use Rattle.names.specs.Told.{Answers, Calls, Does, Names, ShowsAll, answer_text}
+use Rattle.names.specs.Command.{DoesCommand, Says}
+use Rattle.names.specs.declared.lines.Command.{Command}
+use Rattle.names.specs.declared.lines.Command.TheVariants as said
+use Rattle.names.specs.Texts.{names_of, pair_bytes}
+use Rattle.names.proofs.Views.{index_of-view, put-view, there-from_view, value_at-view}
+
+keeps : (a b : String Global) → slice_cmp nat_cmp (string_bytes a) (string_bytes b) ≡ string_cmp a b
+keeps a b = refl
+
+module _ (old : Seen (String Global) (String Global)) (key : String Global) (k : List ℕ) (spelled : string_bytes key ≡ k) {E : Type 0} (r : Result (String Global) E) where
+  -- a search for the key is a step
+  pub find_answers : (place : Result ℕ ℕ) → place ≡ index_of string_cmp old.pairs key
+      → IfOk r (λ text. (k : List ℕ) → answer_text (Find k) (Place place) ≡ Some (string_bytes text))
+      → IfOk r (λ text. Answers (names_of old) (Find k) (string_bytes text) (names_of old))
+  find_answers place e said =
+      IfOk-weaker r (λ text. (k : List ℕ) → answer_text (Find k) (Place place) ≡ Some (string_bytes text)) (λ text. Answers (names_of old) (Find k) (string_bytes text) (names_of old))
+      (λ text says. subst (λ (k : List ℕ). Answers (names_of old) (Find k) (string_bytes text) (names_of old)) spelled
+      (Place place, (e ∙ sym (index_of-view string_cmp (slice_cmp nat_cmp) string_bytes string_bytes keeps old.pairs key), refl), says (string_bytes key)))
+      said
+
+  -- putting a value at the key is a step
+  pub insert_answers : (value : String Global) (v : List ℕ) → string_bytes value ≡ v → (before : Option (String Global)) (new : Seen (String Global) (String Global))
+      → before ≡ value_at string_cmp old.pairs key → new.pairs ≡ put string_cmp old.pairs key value
+      → (IsSome (at string_cmp old.pairs key) → new.room ≡ old.room) → old.room ≤ new.room + 1
+      → IfOk r (λ text. (k v : List ℕ) → answer_text (Insert k v) (Value (option_map string_bytes before)) ≡ Some (string_bytes text))
+      → IfOk r (λ text. Answers (names_of old) (Insert k v) (string_bytes text) (names_of new))
+  insert_answers value v valued before new was puts kept room said =
+      let was_bytes : option_map string_bytes before ≡ value_at (slice_cmp nat_cmp) (names_of old).pairs (string_bytes key) =
+      ap (option_map string_bytes) was ∙ sym (value_at-view string_cmp (slice_cmp nat_cmp) string_bytes string_bytes keeps old.pairs key) in
+      let puts_bytes : (names_of new).pairs ≡ put (slice_cmp nat_cmp) (names_of old).pairs (string_bytes key) (string_bytes value) =
+      ap (map pair_bytes) puts ∙ sym (put-view string_cmp (slice_cmp nat_cmp) string_bytes string_bytes keeps old.pairs key value) in
+      IfOk-weaker r (λ text. (k v : List ℕ) → answer_text (Insert k v) (Value (option_map string_bytes before)) ≡ Some (string_bytes text)) (λ text. Answers (names_of old) (Insert k v) (string_bytes text) (names_of new))
+      (λ text says. subst (λ (k : List ℕ). Answers (names_of old) (Insert k v) (string_bytes text) (names_of new)) spelled
+      (subst (λ (v : List ℕ). Answers (names_of old) (Insert (string_bytes key) v) (string_bytes text) (names_of new)) valued
+      (Value (option_map string_bytes before), (was_bytes, puts_bytes, λ there. kept (there-from_view string_cmp (slice_cmp nat_cmp) string_bytes string_bytes keeps old.pairs key there), room), says (string_bytes key) (string_bytes value))))
+      said
+
+-- a line that says a command does what the command does
+pub does_command : (old next : Names) (line text : List ℕ) (command : Command) → Says line command → DoesCommand old command text next → Does old line text next
+does_command old next line text (said.Put key value) says does = Calls (Insert key.now value.now) says does
+does_command old next line text (said.Find key) says does = Calls (Find key.now) says does
+does_command old next line text said.All says does = ShowsAll says does.0 does.1
+
+-- the text of one more element
+pub flat_map-one_more : {A : Type 0} (f : A → List ℕ) (xs : List A) (i : ℕ) (old new : List ℕ) → i < length xs
+    → old ≡ flat_map f (take i xs) → IfSome (slice_get xs i) (λ x. new ≡ old ++ f x) → new ≡ flat_map f (take (i + 1) xs)
+flat_map-one_more f xs i old new low so_far more =
+    elim (slice_get_cases xs i).1 [
+      | inl (x, h, is, got) ↦
+          (rw is at more) ∙ ap (λ t. t ++ f x) so_far
+          ∙ sym (ap (flat_map f) (ap (λ n. take n xs) (add-one i) ∙ take-suc xs i x low ∙ ap (λ y. take i xs ++ (y ∷ [])) got)
+          ∙ flat_map-append f (take i xs) (x ∷ []) ∙ ap (λ l. flat_map f (take i xs) ++ l) (append-nil (f x)))
+      | inr (past, none) ↦ absurd (omega arith)
+    ]
+
+-- the text of each pair, over strings and over their bytes
+pub flat_map-map : {A B C : Type 0} (f : B → List C) (g : A → B) (xs : List A) → flat_map f (map g xs) ≡ flat_map (λ x. f (g x)) xs
+flat_map-map f g [] = refl
+flat_map-map f g (x ∷ xs) = ap (λ l. f (g x) ++ l) (flat_map-map f g xs)

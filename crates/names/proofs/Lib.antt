@@ -1,0 +1,5 @@
+-- Lemmas of the crate.
+pub mod Calls
+pub mod Cuts
+pub mod Tolds
+pub mod Views

@@ -1,0 +1,29 @@
+use Rattle.std.proofs.Common.{◌+◌, ◌≤◌, ◌++◌, ◌∷◌, [], sym, ◌∙◌, subst, arith, length-append}
+use Rattle.std.proofs.KnownBytes.{Appends-trans}
+use Rattle.names.specs.Texts.{names_of}
+use Rattle.names.specs.Told.{Does}
+use Rattle.names.specs.Rest.{bytes_left}
+use Rattle.names.proofs.Tolds.{does_more, line_over, fewer_left}
+use Rattle.names.proofs.program.answer_lines.Goals as goal
+
+pub loop-rest-preserved : goal.loop-rest-preserved
+loop-rest-preserved g c =
+    let (before, text, e, n, appended, start, empty, each) = c.loop-rest.invariant.passed in
+    let line = c.first_line.result.0.now in
+    let more = c.as_bytes.result.now in
+    let did = rw c.in-Ok-Some.field-0-is at c.in-Ok-Some.ensures in
+    let fewer : bytes_left c.first_line.result.1 + 1 ≤ bytes_left c.loop-rest.rest = fewer_left c.loop-rest.rest c.first_line.result.1 c.in-Some.bytes c.in-Some.is c.first_line.ensures.shorter in
+    record {
+      passed = (
+        before ++ (line ∷ []),
+        text ++ more,
+        line_over _ before c.loop-rest.rest c.first_line.result.1 c.in-Some.bytes line e c.in-Some.is c.first_line.ensures.cut,
+        omega (arith, length-append before (line ∷ [])),
+        Appends-trans _ _ _ text more appended c.in_ok-write_all-in-Ok-Some.ensures.bytes,
+        start,
+        empty,
+        does_more start _ _ before line text more each (subst (λ t. Does (names_of c.loop-rest.names) line t (names_of c.reply.new.names)) (sym c.as_bytes.ensures.value) did),
+      );
+      counted = omega (arith, fewer, c.loop-rest.invariant.counted);
+      unfailed = c.in_ok-write_all-in-Ok-Some.ensures.ok ∙ c.loop-rest.invariant.unfailed;
+    }

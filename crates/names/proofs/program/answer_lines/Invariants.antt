@@ -1,0 +1,21 @@
+-- the lines so far are done, and those that are left follow them
+use Rattle.std.proofs.Common.{◌≡◌, ◌≤◌, ◌+◌, ◌++◌, ℕ, List, [], length}
+use Rattle.std.specs.Io.KnownBytes.{Appends}
+use Rattle.names.specs.Line.{lines_of}
+use Rattle.names.specs.Told.{DoesEach, Names}
+use Rattle.names.specs.Texts.{names_of}
+use Rattle.names.specs.Rest.{lines_left, bytes_left}
+use Rattle.names.proofs.program.answer_lines.Given as goal
+
+abbrev pub invariant-loop-rest : goal.invariant-loop-rest
+invariant-loop-rest g l =
+    record {
+      passed : (before : List (List ℕ)) × (text : List ℕ) × (lines_of l.fn.input ≡ before ++ lines_left l.rest) × (l.done ≡ length before)
+          × Appends (g.W.Write.contents l.fn.writer.inner) (g.W.Write.contents l.writer.inner) text
+          × (start : Names) × (start.pairs ≡ []) × DoesEach start before text (names_of l.names);
+      counted : l.done + bytes_left l.rest ≤ length l.fn.input + 1;
+      unfailed : l.writer.failed ≡ l.fn.writer.failed;
+    }
+
+abbrev pub decreases-loop-rest : goal.decreases-loop-rest
+decreases-loop-rest g l = bytes_left l.rest

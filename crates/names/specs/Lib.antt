@@ -1,0 +1,10 @@
+-- The definitions that the contracts cite. `Told` is the page to read first.
+pub mod Told
+pub mod Line
+pub mod Command
+pub mod Texts
+pub mod Watched
+pub mod Fault
+pub mod Ended
+pub mod LinesEnd
+pub mod Rest

@@ -1,0 +1,12 @@
+-- A map of strings, by their bytes.
+use Rattle.std.specs.Prelude.{ℕ, List, map, string_bytes}
+use Rattle.std.specs.declared.alloc.Global.{Global}
+use Rattle.std.specs.declared.string.String.{String}
+use Rattle.litemap.specs.Seen.{Seen}
+use Rattle.names.specs.Told.{Names}
+
+abbrev pub pair_bytes : String Global × String Global → List ℕ × List ℕ
+pair_bytes pair = (string_bytes pair.0, string_bytes pair.1)
+
+abbrev pub names_of : Seen (String Global) (String Global) → Names
+names_of seen = record { pairs = map pair_bytes seen.pairs; room = seen.room }

@@ -1,0 +1,112 @@
+//! A run of the program: it reads the lines, and writes what answers them.
+ghost use Rattle.std.specs.Prelude.{◌≡◌, ◌≢◌, ◌≤◌, ◌⊎◌, ◌||◌, ◌↔◌, ◌++◌, ℕ, List, false, true, length, IfOk, OnErr};
+ghost use Rattle.std.specs.Io.KnownBytes.{Appends, Consumes, IsAtEnd};
+ghost use Rattle.names.specs.Line.{lines_of};
+ghost use Rattle.names.specs.LinesEnd.{LinesEnded};
+ghost use Rattle.names.specs.Told.{Told, read_fault};
+
+use crate::input::{Ending, MOST_BYTES, read_input};
+use crate::lines::first_line;
+use crate::session::{Names, reply};
+use crate::watch::Watch;
+use std::alloc::Global;
+use std::io;
+use std::io::{Read, Write};
+
+/// How the lines ended.
+pub enum LinesEnd {
+    /// All are done.
+    Done,
+    /// The line of this number, from 1, is bad.
+    BadLine(usize),
+    /// Memory was refused.
+    NoMemory,
+}
+
+/// Reads all input, at most one byte more than 1,048,576, then does its lines in order, writes the answer of each as the
+/// line is done, and gives the exit status.
+///
+/// The status is 0 where all lines are done. It is 2 where a line is bad, after `bad line N`, and where the input is too
+/// long, after `input too long` alone. It is 3 where memory is refused, after `no memory`. It is 4 where a read met a
+/// fault, after `read fault` alone, and where a write met one.
+pub fn run<R: Read, W: Write>(alloc: Global, reader: &mut Watch<R>, writer: &mut Watch<W>) -> u8
+    // The status is 4 exactly where a call met a fault.
+    ensures faults { reader.old.failed ≡ false → writer.old.failed ≡ false
+        → (result ≡ 4) ↔ ((reader.new.failed || writer.new.failed) ≡ true) }
+    // Where a read met a fault and no write did, that is all that is written.
+    ensures read_fault { reader.new.failed ≡ true → reader.old.failed ≡ false → writer.new.failed ≡ false
+        → Appends (⟦<Watch<W> as Write>⟧.contents writer.old) (⟦<Watch<W> as Write>⟧.contents writer.new) read_fault }
+    // Where no call met a fault, what is written and the status are those of the bytes that were read.
+    ensures told { reader.new.failed ≡ false → writer.new.failed ≡ false
+        → (bytes : List ℕ) × (out : List ℕ)
+        × Consumes (⟦<Watch<R> as Read>⟧.remaining reader.old) (⟦<Watch<R> as Read>⟧.remaining reader.new) bytes
+        × Appends (⟦<Watch<W> as Write>⟧.contents writer.old) (⟦<Watch<W> as Write>⟧.contents writer.new) out
+        × Told bytes out result
+        × (result ≢ 3 → length bytes ≤ MOST_BYTES → IsAtEnd (⟦<Watch<R> as Read>⟧.remaining reader.new)) }
+{
+    let mut input = Vec::new(alloc);
+    match read_input(reader, &mut input) {
+        Ending::Whole => run_lines(alloc, &input, writer),
+        Ending::TooLong => finish(writer, b"input too long\n", 2),
+        Ending::NoMemory => finish(writer, b"no memory\n", 3),
+        Ending::Fault => finish(writer, b"read fault\n", 4),
+    }
+}
+
+// Does the lines of the input, writes the last line, and gives the status.
+fn run_lines<W: Write>(alloc: Global, input: &[u8], writer: &mut Watch<W>) -> u8
+    requires { length input.now ≤ MOST_BYTES }
+    ensures told { writer.new.failed ≡ false → (out : List ℕ)
+        × Appends (W.contents writer.old.inner) (W.contents writer.new.inner) out × Told input.now out result }
+    ensures failed { writer.old.failed ≡ false → (result ≡ 4) ↔ (writer.new.failed ≡ true) }
+{
+    match answer_lines(alloc, input, writer) {
+        Ok(LinesEnd::Done) => 0,
+        Ok(LinesEnd::BadLine(n)) => match format!(in alloc; "bad line {n}\n") {
+            Ok(text) => finish(writer, text.as_bytes(), 2),
+            Err(_) => finish(writer, b"no memory\n", 3),
+        },
+        Ok(LinesEnd::NoMemory) => finish(writer, b"no memory\n", 3),
+        Err(_) => 4,
+    }
+}
+
+// Does the lines in order and writes their answers, until one is bad or memory is refused.
+fn answer_lines<W: Write>(
+    alloc: Global,
+    input: &[u8],
+    writer: &mut Watch<W>,
+) -> io::Result<LinesEnd>
+    requires { length input.now ≤ MOST_BYTES }
+    ensures ended { IfOk result (λ end. (text : List ℕ)
+        × Appends (W.contents writer.old.inner) (W.contents writer.new.inner) text × LinesEnded end (lines_of input.now) text) }
+    ensures ok { IfOk result (λ _. writer.new.failed ≡ writer.old.failed) }
+    ensures err { OnErr result (writer.new.failed ≡ true) }
+{
+    let mut names = Names::new_vec(alloc);
+    let mut rest = Some(input);
+    let mut done = 0;
+    while let Some(bytes) = rest {
+        let (line, more) = first_line(bytes);
+        match reply(alloc, &mut names, line) {
+            Ok(Some(text)) => writer.write_all(text.as_bytes())?,
+            Ok(None) => return Ok(LinesEnd::BadLine(done + 1)),
+            Err(_) => return Ok(LinesEnd::NoMemory),
+        }
+        done += 1;
+        rest = more;
+    }
+    Ok(LinesEnd::Done)
+}
+
+// Writes the last line, and gives the status, or that of a fault.
+fn finish<W: Write>(writer: &mut Watch<W>, text: &[u8], status: u8) -> u8
+    ensures { ((writer.new.failed ≡ true) × (result ≡ 4))
+        ⊎ ((writer.new.failed ≡ writer.old.failed) × (result ≡ status)
+        × Appends (W.contents writer.old.inner) (W.contents writer.new.inner) text.now) }
+{
+    match writer.write_all(text) {
+        Ok(()) => status,
+        Err(_) => 4,
+    }
+}

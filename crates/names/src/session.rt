@@ -1,0 +1,98 @@
+//! What answers each line.
+ghost use Rattle.std.specs.Prelude.{◌≡◌, ◌++◌, ℕ, List, Some, IfOk, IfSome, OnOk, MatchOption, flat_map, option_map, slice_get, string_bytes};
+ghost use Rattle.litemap.specs.Steps.{Find, Insert, Place, Value};
+ghost use Rattle.names.specs.Line.{IsBad};
+ghost use Rattle.names.specs.Told.{Answers, Does, answer_text, pair_text};
+ghost use Rattle.names.specs.Command.{DoesCommand};
+ghost use Rattle.names.specs.Texts.{names_of, pair_bytes};
+
+use crate::lines::{Command, parse};
+use litemap::LiteMap;
+use std::alloc::{AllocError, Global};
+
+/// The names and their values.
+pub type Names = LiteMap<String, String, Vec<(String, String)>>;
+
+/// Does a line, and gives the text that answers it, or nothing if the line is bad.
+pub fn reply(alloc: Global, names: &mut Names, line: &[u8]) -> Result<Option<String>, AllocError>
+    ensures { IfOk result (λ reply. MatchOption reply (IsBad line.now)
+        (λ text. Does (names_of names.old) line.now (string_bytes text) (names_of names.new))) }
+{
+    if line.is_empty() {
+        return Ok(Some(String::new(alloc)));
+    }
+    let Some(command) = parse(line) else {
+        return Ok(None);
+    };
+    Ok(Some(answer(alloc, names, command)?))
+}
+
+// Does a command, and gives the text that answers it.
+fn answer(alloc: Global, names: &mut Names, command: Command<'_>) -> Result<String, AllocError>
+    ensures { IfOk result (λ text. DoesCommand (names_of names.old) command.entry (string_bytes text) (names_of names.new)) }
+{
+    match command {
+        Command::Put(key, value) => put(alloc, names, key, value),
+        Command::Find(key) => find(alloc, names, key),
+        Command::All => show(alloc, names),
+    }
+}
+
+fn put(alloc: Global, names: &mut Names, key: &str, value: &str) -> Result<String, AllocError>
+    ensures { IfOk result (λ text. Answers (names_of names.old) (Insert key.now value.now) (string_bytes text) (names_of names.new)) }
+{
+    let key = String::from_str(alloc, key)?;
+    let value = String::from_str(alloc, value)?;
+    match names.insert(key, value) {
+        Ok(old) => put_text(alloc, old),
+        Err(_) => Err(AllocError),
+    }
+}
+
+fn put_text(alloc: Global, old: Option<String>) -> Result<String, AllocError>
+    ensures { IfOk result (λ text. (key value : List ℕ) → answer_text (Insert key value) (Value (option_map string_bytes old)) ≡ Some (string_bytes text)) }
+{
+    match old {
+        None => String::from_str(alloc, "new\n"),
+        Some(old) => format!(in alloc; "old {old}\n"),
+    }
+}
+
+fn find(alloc: Global, names: &Names, key: &str) -> Result<String, AllocError>
+    ensures { IfOk result (λ text. Answers (names_of names.now) (Find key.now) (string_bytes text) (names_of names.now)) }
+{
+    let key = String::from_str(alloc, key)?;
+    find_text(alloc, names.find_index(&key))
+}
+
+fn find_text(alloc: Global, place: Result<usize, usize>) -> Result<String, AllocError>
+    ensures { IfOk result (λ text. (key : List ℕ) → answer_text (Find key) (Place place) ≡ Some (string_bytes text)) }
+{
+    match place {
+        Ok(index) => format!(in alloc; "ok {index}\n"),
+        Err(index) => format!(in alloc; "err {index}\n"),
+    }
+}
+
+fn show(alloc: Global, names: &Names) -> Result<String, AllocError>
+    ensures { IfOk result (λ text. string_bytes text ≡ flat_map pair_text (names_of names.now).pairs) }
+{
+    let mut text = String::new(alloc);
+    for index in 0..names.len() {
+        push_pair(&mut text, names, index)?;
+    }
+    Ok(text)
+}
+
+// Puts the pair at a place behind the text.
+fn push_pair(text: &mut String, names: &Names, index: usize) -> Result<(), AllocError>
+    ensures { OnOk result (IfSome (slice_get names.now.pairs index) (λ pair. string_bytes text.new ≡ string_bytes text.old ++ pair_text (pair_bytes pair))) }
+{
+    let Some((key, value)) = names.get_indexed(index) else {
+        return Ok(());
+    };
+    text.push_str(key.as_str())?;
+    text.push_str(" ")?;
+    text.push_str(value.as_str())?;
+    text.push_str("\n")
+}
