@@ -2,3 +2,5 @@
 #![tactic(auto)]
 
 pub mod fixed_room;
+#[cfg(test)]
+mod tests;
