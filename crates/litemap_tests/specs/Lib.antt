@@ -1,0 +1,2 @@
+-- The definitions that the contracts cite. Those of the sorted list are in `Pairs` of the crate `litemap_store`.
+pub mod Contents

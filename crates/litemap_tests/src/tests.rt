@@ -1,0 +1,8 @@
+//! Tests that call a map as a user would, over each store.
+//!
+//! `keys` has the key types that they need, and `lists` compares a map with a list.
+mod comparisons;
+mod insertions;
+mod keys;
+mod lists;
+mod lookups;
