@@ -1,5 +1,5 @@
 -- Lemmas on the calls of the map, by the bytes of its strings.
-use Rattle.std.proofs.Common.{◌≡◌, ◌+◌, ◌<◌, ◌≤◌, ◌++◌, ◌∷◌, ℕ, List, [], length, map, take, Option, Some, Result, IsSome, IfSome, IfOk, option_map, slice_get, inl, inr, refl, sym, ap, ◌∙◌, subst, arith, add-one, append-nil}
+use Rattle.std.proofs.Common.{◌≡◌, ◌+◌, ◌<◌, ◌≤◌, ◌++◌, ◌∷◌, ℕ, List, [], length, map, take, Option, Some, Result, IsNone, IsSome, IfSome, IfOk, option_map, slice_get, inl, inr, refl, sym, ap, ◌∙◌, subst, arith, add-one, append-nil}
 use Rattle.std.specs.Prelude.{flat_map, string_bytes, string_cmp}
 use Rattle.std.proofs.Math.Seq.{take-suc}
 use Rattle.std.proofs.lemmas.Grind.{flat_map-append}
@@ -9,20 +9,24 @@ use Rattle.std.specs.Ordering.{nat_cmp}
 use Rattle.std.specs.Cmp.Lexicographic.{slice_cmp}
 use Rattle.std.specs.declared.alloc.Global.{Global}
 use Rattle.std.specs.declared.string.String.{String}
-use Rattle.litemap_store.specs.Pairs.{at, index_of, put, value_at}
+use Rattle.litemap_store.specs.Pairs.{at, cut, index_of, put, value_at}
 use Rattle.litemap.specs.Seen.{Seen}
-use Rattle.litemap.specs.Steps.{Find, Insert, Place, Value}
-use Rattle.names.specs.Told.{Answers, Calls, Does, Names, ShowsAll, answer_text}
+use Rattle.litemap.specs.Steps.{Find, Get, Insert, Place, Remove, Value}
+use Rattle.names.specs.Told.{Answers, Calls, Does, Names, ShowsAll, answer_text, value_text}
 use Rattle.names.specs.Command.{DoesCommand, Says}
 use Rattle.names.specs.declared.lines.Command.{Command}
 use Rattle.names.specs.declared.lines.Command.TheVariants as said
 use Rattle.names.specs.Texts.{names_of, pair_bytes}
-use Rattle.names.proofs.Views.{index_of-view, put-view, there-from_view, value_at-view}
+use Rattle.names.proofs.Views.{absent-from_view, cut-view, index_of-view, put-view, there-from_view, value_at-view}
 
 keeps : (a b : String Global) → slice_cmp nat_cmp (string_bytes a) (string_bytes b) ≡ string_cmp a b
 keeps a b = refl
 
 module _ (old : Seen (String Global) (String Global)) (key : String Global) (k : List ℕ) (spelled : string_bytes key ≡ k) {E : Type 0} (r : Result (String Global) E) where
+  value_bytes : (value : Option (String Global)) → value ≡ value_at string_cmp old.pairs key
+      → option_map string_bytes value ≡ value_at (slice_cmp nat_cmp) (names_of old).pairs (string_bytes key)
+  value_bytes value e = ap (option_map string_bytes) e ∙ sym (value_at-view string_cmp (slice_cmp nat_cmp) string_bytes string_bytes keeps old.pairs key)
+
   -- a search for the key is a step
   pub find_answers : (place : Result ℕ ℕ) → place ≡ index_of string_cmp old.pairs key
       → IfOk r (λ text. (k : List ℕ) → answer_text (Find k) (Place place) ≡ Some (string_bytes text))
@@ -33,6 +37,32 @@ module _ (old : Seen (String Global) (String Global)) (key : String Global) (k :
       (Place place, (e ∙ sym (index_of-view string_cmp (slice_cmp nat_cmp) string_bytes string_bytes keeps old.pairs key), refl), says (string_bytes key)))
       said
 
+  -- looking at the value of the key is a step
+  pub get_answers : (value : Option (String Global)) → value ≡ value_at string_cmp old.pairs key
+      → IfOk r (λ text. string_bytes text ≡ value_text (option_map string_bytes value))
+      → IfOk r (λ text. Answers (names_of old) (Get k) (string_bytes text) (names_of old))
+  get_answers value e said =
+      IfOk-weaker r (λ text. string_bytes text ≡ value_text (option_map string_bytes value)) (λ text. Answers (names_of old) (Get k) (string_bytes text) (names_of old))
+      (λ text says. subst (λ (k : List ℕ). Answers (names_of old) (Get k) (string_bytes text) (names_of old)) spelled
+      (Value (option_map string_bytes value), (value_bytes value e, refl), ap Some (sym says)))
+      said
+
+  -- removing the key is a step
+  pub remove_answers : (value : Option (String Global)) (new : Seen (String Global) (String Global)) → value ≡ value_at string_cmp old.pairs key
+      → new.pairs ≡ cut string_cmp old.pairs key → (IsNone (at string_cmp old.pairs key) → new ≡ old)
+      → IfOk r (λ text. string_bytes text ≡ value_text (option_map string_bytes value))
+      → IfOk r (λ text. Answers (names_of old) (Remove k) (string_bytes text) (names_of new))
+  remove_answers value new e cuts unchanged said =
+      let cuts_bytes : (names_of new).pairs ≡ cut (slice_cmp nat_cmp) (names_of old).pairs (string_bytes key) =
+      ap (map pair_bytes) cuts ∙ sym (cut-view string_cmp (slice_cmp nat_cmp) string_bytes string_bytes keeps old.pairs key) in
+      IfOk-weaker r (λ text. string_bytes text ≡ value_text (option_map string_bytes value)) (λ text. Answers (names_of old) (Remove k) (string_bytes text) (names_of new))
+      (λ text says. subst (λ (k : List ℕ). Answers (names_of old) (Remove k) (string_bytes text) (names_of new)) spelled (
+        Value (option_map string_bytes value),
+        (value_bytes value e, cuts_bytes, λ absent. ap (λ (s : Seen (String Global) (String Global)). s.room) (unchanged (absent-from_view string_cmp (slice_cmp nat_cmp) string_bytes string_bytes keeps old.pairs key absent))),
+        ap Some (sym says),
+      ))
+      said
+
   -- putting a value at the key is a step
   pub insert_answers : (value : String Global) (v : List ℕ) → string_bytes value ≡ v → (before : Option (String Global)) (new : Seen (String Global) (String Global))
       → before ≡ value_at string_cmp old.pairs key → new.pairs ≡ put string_cmp old.pairs key value
@@ -40,19 +70,19 @@ module _ (old : Seen (String Global) (String Global)) (key : String Global) (k :
       → IfOk r (λ text. (k v : List ℕ) → answer_text (Insert k v) (Value (option_map string_bytes before)) ≡ Some (string_bytes text))
       → IfOk r (λ text. Answers (names_of old) (Insert k v) (string_bytes text) (names_of new))
   insert_answers value v valued before new was puts kept room said =
-      let was_bytes : option_map string_bytes before ≡ value_at (slice_cmp nat_cmp) (names_of old).pairs (string_bytes key) =
-      ap (option_map string_bytes) was ∙ sym (value_at-view string_cmp (slice_cmp nat_cmp) string_bytes string_bytes keeps old.pairs key) in
       let puts_bytes : (names_of new).pairs ≡ put (slice_cmp nat_cmp) (names_of old).pairs (string_bytes key) (string_bytes value) =
       ap (map pair_bytes) puts ∙ sym (put-view string_cmp (slice_cmp nat_cmp) string_bytes string_bytes keeps old.pairs key value) in
       IfOk-weaker r (λ text. (k v : List ℕ) → answer_text (Insert k v) (Value (option_map string_bytes before)) ≡ Some (string_bytes text)) (λ text. Answers (names_of old) (Insert k v) (string_bytes text) (names_of new))
       (λ text says. subst (λ (k : List ℕ). Answers (names_of old) (Insert k v) (string_bytes text) (names_of new)) spelled
       (subst (λ (v : List ℕ). Answers (names_of old) (Insert (string_bytes key) v) (string_bytes text) (names_of new)) valued
-      (Value (option_map string_bytes before), (was_bytes, puts_bytes, λ there. kept (there-from_view string_cmp (slice_cmp nat_cmp) string_bytes string_bytes keeps old.pairs key there), room), says (string_bytes key) (string_bytes value))))
+      (Value (option_map string_bytes before), (value_bytes before was, puts_bytes, λ there. kept (there-from_view string_cmp (slice_cmp nat_cmp) string_bytes string_bytes keeps old.pairs key there), room), says (string_bytes key) (string_bytes value))))
       said
 
 -- a line that says a command does what the command does
 pub does_command : (old next : Names) (line text : List ℕ) (command : Command) → Says line command → DoesCommand old command text next → Does old line text next
 does_command old next line text (said.Put key value) says does = Calls (Insert key.now value.now) says does
+does_command old next line text (said.Get key) says does = Calls (Get key.now) says does
+does_command old next line text (said.Del key) says does = Calls (Remove key.now) says does
 does_command old next line text (said.Find key) says does = Calls (Find key.now) says does
 does_command old next line text said.All says does = ShowsAll says does.0 does.1
 

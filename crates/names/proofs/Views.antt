@@ -1,6 +1,6 @@
 -- The sorted list under views of its keys and values: where the view of the keys keeps their order, each word of
 -- `Pairs` gives the view of what it gave.
-use Rattle.std.proofs.Common.{◌≡◌, ◌++◌, ◌∷◌, Bool, true, false, List, [], length, map, Option, Some, None, IsSome, cond, filter, find, is_some, option_map, refl, sym, ap, ◌∙◌}
+use Rattle.std.proofs.Common.{◌≡◌, ◌++◌, ◌∷◌, Bool, true, false, List, [], length, map, Option, Some, None, IsNone, IsSome, cond, filter, find, is_some, option_map, refl, sym, ap, ◌∙◌}
 use Rattle.std.proofs.lemmas.List.{length-map, map-append}
 use Rattle.std.specs.declared.cmp.Ordering.{Ordering}
 use Rattle.std.specs.Ordering.{is_lt, is_eq, is_gt}
@@ -9,6 +9,10 @@ use Rattle.litemap_store.specs.Pairs.{above, at, below, cut, index_of, key_or, p
 IsSome-from_map : {A B : Type 0} (v : A → B) (o : Option A) → IsSome (option_map v o) → IsSome o
 IsSome-from_map v None h = h
 IsSome-from_map v (Some x) h = h
+
+IsNone-from_map : {A B : Type 0} (v : A → B) (o : Option A) → IsNone (option_map v o) → IsNone o
+IsNone-from_map v None h = h
+IsNone-from_map v (Some x) h = h
 
 module _ {A B : Type 0} (v : A → B) (p : A → Bool) (q : B → Bool) (same : (a : A) → q (v a) ≡ p a) where
   filter-map : (xs : List A) → filter q (map v xs) ≡ map v (filter p xs)
@@ -48,6 +52,10 @@ module _ {K V K' V' : Type 0} (cmp : K → K → Ordering) (cmp' : K' → K' →
   -- a key that is there under the views is there
   pub there-from_view : (L : List (K × V)) (k : K) → IsSome (at cmp' (view L) (f k)) → IsSome (at cmp L k)
   there-from_view L k there = IsSome-from_map (pair_view f h) (at cmp L k) (rw (at-view L k) at there)
+
+  -- a key that is not there under the views is not there
+  pub absent-from_view : (L : List (K × V)) (k : K) → IsNone (at cmp' (view L) (f k)) → IsNone (at cmp L k)
+  absent-from_view L k absent = IsNone-from_map (pair_view f h) (at cmp L k) (rw (at-view L k) at absent)
 
   pub index_of-view : (L : List (K × V)) (k : K) → index_of cmp' (view L) (f k) ≡ index_of cmp L k
   index_of-view L k = rw (is_some_at-view L k, place-view L k) refl

@@ -1,7 +1,7 @@
 -- The lines of the input, and what a line says. A text is the list of its bytes.
 use Rattle.std.specs.Prelude.{◌≡◌, ◌≢◌, ◌<◌, ◌≤◌, ◌++◌, ◌==◌, ℕ, List, [], ◌∷◌, length, All, codes}
 use Rattle.std.specs.List.{slice_split}
-use Rattle.litemap.specs.Steps.{Call, Find, Insert}
+use Rattle.litemap.specs.Steps.{Call, Find, Get, Insert, Remove}
 
 -- what stands between line feeds; behind a last line feed stands an empty line, which does nothing
 abbrev pub lines_of : List ℕ → List (List ℕ)
@@ -18,6 +18,8 @@ IsWord word = (0 < length word) × All IsGraphic word
 -- the line spells the call: its name and its words, parted by single spaces
 abbrev pub Spells : List ℕ → Call (List ℕ) (List ℕ) → Type 0
 Spells line (Insert key value) = (line ≡ codes "put " ++ (key ++ (32 ∷ value))) × IsWord key × IsWord value
+Spells line (Get key) = (line ≡ codes "get " ++ key) × IsWord key
+Spells line (Remove key) = (line ≡ codes "del " ++ key) × IsWord key
 Spells line (Find key) = (line ≡ codes "find " ++ key) × IsWord key
 
 -- the line asks for all pairs

@@ -4,7 +4,7 @@ use Rattle.std.specs.Ordering.{nat_cmp}
 use Rattle.std.specs.Cmp.Lexicographic.{slice_cmp}
 use Rattle.std.specs.Fmt.{decimal}
 use Rattle.litemap.specs.Seen.{Seen}
-use Rattle.litemap.specs.Steps.{Answer, Call, Find, Insert, Place, Step, Value}
+use Rattle.litemap.specs.Steps.{Answer, Call, Find, Get, Insert, Place, Remove, Step, Value}
 use Rattle.names.specs.Line.{IsBad, Spells, SpellsAll, lines_of}
 use Rattle.names.specs.declared.input.TheConstants.{MOST_BYTES}
 
@@ -15,10 +15,16 @@ Names = Seen (List ℕ) (List ℕ)
 abbrev pub line : List ℕ → List ℕ
 line text = text ++ (10 ∷ [])
 
+abbrev pub value_text : Option (List ℕ) → List ℕ
+value_text None = line (codes "none")
+value_text (Some value) = line (codes "= " ++ value)
+
 -- what is written where the call has that answer, if it is one of those that are written
 abbrev pub answer_text : Call (List ℕ) (List ℕ) → Answer (List ℕ) (List ℕ) → Option (List ℕ)
 answer_text (Insert key value) (Value None) = Some (line (codes "new"))
 answer_text (Insert key value) (Value (Some old)) = Some (line (codes "old " ++ old))
+answer_text (Get key) (Value value) = Some (value_text value)
+answer_text (Remove key) (Value value) = Some (value_text value)
 answer_text (Find key) (Place (Ok i)) = Some (line (codes "ok " ++ decimal i))
 answer_text (Find key) (Place (Err i)) = Some (line (codes "err " ++ decimal i))
 answer_text call answer = None

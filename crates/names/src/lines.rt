@@ -12,6 +12,10 @@ use std::str;
 pub enum Command<'a> {
     /// To put a value at a key.
     Put(&'a str, &'a str),
+    /// The value of a key.
+    Get(&'a str),
+    /// To remove a key, with its value.
+    Del(&'a str),
     /// The place of a key.
     Find(&'a str),
     /// All pairs.
@@ -49,6 +53,12 @@ pub fn parse(line: &[u8]) -> Option<Command<'_>>
     if let Some(rest) = behind(line, b"put ") {
         let (key, value) = two_words(rest)?;
         return Some(Command::Put(key, value));
+    }
+    if let Some(rest) = behind(line, b"get ") {
+        return Some(Command::Get(word(rest)?));
+    }
+    if let Some(rest) = behind(line, b"del ") {
+        return Some(Command::Del(word(rest)?));
     }
     let rest = behind(line, b"find ")?;
     Some(Command::Find(word(rest)?))

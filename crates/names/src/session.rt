@@ -1,8 +1,8 @@
 //! What answers each line.
-ghost use Rattle.std.specs.Prelude.{◌≡◌, ◌++◌, ℕ, List, Some, IfOk, IfSome, OnOk, MatchOption, flat_map, option_map, slice_get, string_bytes};
-ghost use Rattle.litemap.specs.Steps.{Find, Insert, Place, Value};
+ghost use Rattle.std.specs.Prelude.{◌≡◌, ◌++◌, ℕ, List, Some, IfOk, IfSome, OnOk, MatchOption, flat_map, option_copied, option_map, slice_get, string_bytes};
+ghost use Rattle.litemap.specs.Steps.{Find, Get, Insert, Place, Remove, Value};
 ghost use Rattle.names.specs.Line.{IsBad};
-ghost use Rattle.names.specs.Told.{Answers, Does, answer_text, pair_text};
+ghost use Rattle.names.specs.Told.{Answers, Does, answer_text, pair_text, value_text};
 ghost use Rattle.names.specs.Command.{DoesCommand};
 ghost use Rattle.names.specs.Texts.{names_of, pair_bytes};
 
@@ -32,24 +32,26 @@ fn answer(alloc: Global, names: &mut Names, command: Command<'_>) -> Result<Stri
     ensures { IfOk result (λ text. DoesCommand (names_of names.old) command.entry (string_bytes text) (names_of names.new)) }
 {
     match command {
-        Command::Put(key, value) => put(alloc, names, key, value),
+        Command::Put(key, value) => insert(alloc, names, key, value),
+        Command::Get(key) => get(alloc, names, key),
+        Command::Del(key) => remove(alloc, names, key),
         Command::Find(key) => find(alloc, names, key),
         Command::All => show(alloc, names),
     }
 }
 
-fn put(alloc: Global, names: &mut Names, key: &str, value: &str) -> Result<String, AllocError>
+fn insert(alloc: Global, names: &mut Names, key: &str, value: &str) -> Result<String, AllocError>
     ensures { IfOk result (λ text. Answers (names_of names.old) (Insert key.now value.now) (string_bytes text) (names_of names.new)) }
 {
     let key = String::from_str(alloc, key)?;
     let value = String::from_str(alloc, value)?;
     match names.insert(key, value) {
-        Ok(old) => put_text(alloc, old),
+        Ok(old) => insert_reply(alloc, old),
         Err(_) => Err(AllocError),
     }
 }
 
-fn put_text(alloc: Global, old: Option<String>) -> Result<String, AllocError>
+fn insert_reply(alloc: Global, old: Option<String>) -> Result<String, AllocError>
     ensures { IfOk result (λ text. (key value : List ℕ) → answer_text (Insert key value) (Value (option_map string_bytes old)) ≡ Some (string_bytes text)) }
 {
     match old {
@@ -58,14 +60,38 @@ fn put_text(alloc: Global, old: Option<String>) -> Result<String, AllocError>
     }
 }
 
+fn get(alloc: Global, names: &Names, key: &str) -> Result<String, AllocError>
+    ensures { IfOk result (λ text. Answers (names_of names.now) (Get key.now) (string_bytes text) (names_of names.now)) }
+{
+    let key = String::from_str(alloc, key)?;
+    value_reply(alloc, names.get(&key))
+}
+
+fn remove(alloc: Global, names: &mut Names, key: &str) -> Result<String, AllocError>
+    ensures { IfOk result (λ text. Answers (names_of names.old) (Remove key.now) (string_bytes text) (names_of names.new)) }
+{
+    let key = String::from_str(alloc, key)?;
+    let removed = names.remove(&key);
+    value_reply(alloc, removed.as_ref())
+}
+
+fn value_reply(alloc: Global, value: Option<&String>) -> Result<String, AllocError>
+    ensures { IfOk result (λ text. string_bytes text ≡ value_text (option_map string_bytes (option_copied value.entry))) }
+{
+    match value {
+        Some(value) => format!(in alloc; "= {value}\n"),
+        None => String::from_str(alloc, "none\n"),
+    }
+}
+
 fn find(alloc: Global, names: &Names, key: &str) -> Result<String, AllocError>
     ensures { IfOk result (λ text. Answers (names_of names.now) (Find key.now) (string_bytes text) (names_of names.now)) }
 {
     let key = String::from_str(alloc, key)?;
-    find_text(alloc, names.find_index(&key))
+    place_reply(alloc, names.find_index(&key))
 }
 
-fn find_text(alloc: Global, place: Result<usize, usize>) -> Result<String, AllocError>
+fn place_reply(alloc: Global, place: Result<usize, usize>) -> Result<String, AllocError>
     ensures { IfOk result (λ text. (key : List ℕ) → answer_text (Find key) (Place place) ≡ Some (string_bytes text)) }
 {
     match place {

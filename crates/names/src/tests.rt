@@ -76,9 +76,19 @@ fn status_and_out(alloc: Global, input: &[u8]) -> (u8, Vec<u8>) {
 
 #[test]
 fn lines_and_their_answers(rt: HostRuntime) -> Result<(), Fail> {
-    let runs: [(&[u8], u8, &[u8]); 8] = [
+    let runs: [(&[u8], u8, &[u8]); 10] = [
         (LINES, 0, b"new\nnew\nold 2\nerr 2\na 1\nb 3\n"),
         (b"put a 1\n\nput a\nall\n", 2, b"new\nbad line 3\n"),
+        (
+            b"put a 1\nget a\ndel a\nget a\n",
+            0,
+            b"new\n= 1\n= 1\nnone\n",
+        ),
+        (
+            b"put b 2\nput c 3\nput a 1\ndel b\ndel b\nfind c\nget c\nall",
+            0,
+            b"new\nnew\nnew\n= 2\nnone\nok 1\n= 3\na 1\nc 3\n",
+        ),
         (b"", 0, b""),
         (b"all", 0, b""),
         (b"\n\n\nall", 0, b""),
@@ -108,7 +118,7 @@ fn lines_and_their_answers(rt: HostRuntime) -> Result<(), Fail> {
 
 #[test]
 fn bad_lines(rt: HostRuntime) -> Result<(), Fail> {
-    let lines: [&[u8]; 24] = [
+    let lines: [&[u8]; 28] = [
         b" ",
         b"put",
         b"put ",
@@ -129,6 +139,10 @@ fn bad_lines(rt: HostRuntime) -> Result<(), Fail> {
         b"find a ",
         b"find  a",
         b"find a b",
+        b"get",
+        b"get a b",
+        b"del a ",
+        b"del\ta",
         b" all",
         b"all ",
         b"all x",
