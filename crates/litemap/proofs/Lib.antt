@@ -1,2 +1,3 @@
 -- Lemmas of the proofs.
+pub mod Borrowed
 pub mod Outcomes

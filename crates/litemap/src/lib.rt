@@ -1,6 +1,7 @@
 //! A key-value map kept as one flat list of pairs whose keys rise strictly, over stores that a user may plug in.
 #![tactic(auto)]
 
+mod const_family;
 mod map;
 
 pub use litemap_store::store;

@@ -1,8 +1,10 @@
 //! The map: its type, and how one is made.
-ghost use Rattle.std.specs.Prelude.{◌≡◌, []};
+ghost use Rattle.std.specs.Prelude.{◌≡◌, ◌↔◌, [], IsTrue};
+ghost use Rattle.litemap_store.specs.Pairs.{Rising};
 
 mod change;
 mod look;
+mod slice;
 mod write;
 
 use litemap_store::store::Store;
@@ -39,5 +41,50 @@ impl<K: Ord, V> LiteMap<K, V, Vec<(K, V)>> {
             store: Vec::new(alloc),
             marker: PhantomData,
         }
+    }
+
+    /// The pairs as a vector. Their keys rise strictly.
+    pub fn into_tuple_vec(self) -> Vec<(K, V)>
+        ensures pairs { result.items ≡ self.pairs }
+        ensures rising { Rising K.cmp result.items }
+    {
+        let LiteMap { store, marker: _ } = self;
+        store
+    }
+}
+
+impl<K: Ord, V, S: Store<K, V>> LiteMap<K, V, S> {
+    /// The map over a store whose keys rise strictly, which `is_sorted_store` tests. It takes no memory.
+    ///
+    /// The Rust crate trusts its caller here, as the call's name says. Here the caller's proof shows it.
+    pub fn from_sorted_store_unchecked(store: S) -> Self
+        requires { Rising K.cmp (S.pairs store) }
+        ensures pairs { result.pairs ≡ S.pairs store }
+        ensures room { result.room ≡ S.room store }
+    {
+        LiteMap {
+            store,
+            marker: PhantomData,
+        }
+    }
+
+    /// Whether the keys of a store rise strictly.
+    ///
+    /// It compares each key with the one before it, until one doesn't rise. The Rust crate has no such call.
+    pub fn is_sorted_store(store: &S) -> bool
+        ensures { IsTrue result ↔ Rising K.cmp (S.pairs store.now) }
+    {
+        for place in 1..store.lm_len() {
+            let Some((before, _)) = store.lm_get(place - 1) else {
+                unreachable!()
+            };
+            let Some((key, _)) = store.lm_get(place) else {
+                unreachable!()
+            };
+            if !before.cmp(key).is_lt() {
+                return false;
+            }
+        }
+        true
     }
 }

@@ -5,7 +5,7 @@
 ghost use Rattle.std.specs.Prelude.{◌≡◌, ◌+◌, ◌-◌, ◌<◌, ◌≤◌, ◌==◌, ℕ, List, [], ◌∷◌, ◌++◌, length, slice_get, slice_set, IfOk, IfErr, OnOk, OnErr, insert, remove, Some};
 ghost use Rattle.std.specs.Borrow.{sem, follows};
 ghost use Rattle.std.specs.Map.Iter.{deref_pair, deref_pair_mut};
-ghost use Rattle.std.specs.Option.{option_map};
+ghost use Rattle.std.specs.Option.{option_copied, option_map};
 ghost use Rattle.litemap_store.specs.Pairs.{set_value, sub};
 ghost use Rattle.litemap_store.specs.Counts.{RisesByAtMost};
 ghost use Rattle.litemap_store.specs.Digits.{digits};
@@ -97,7 +97,7 @@ pub trait StoreConstEmpty<K, V>: Store<K, V> {
 pub trait StoreSlice<K, V>: Store<K, V> {
     /// The pairs from a place to before another, `None` where the start lies past the end or the end past the length.
     fn lm_get_range(&self, range: Range<usize>) -> Option<&[(K, V)]>
-        ensures { option_map (λ part. part.now) result ≡ sub (Self.pairs self.now) range.start range.end };
+        ensures { option_copied result ≡ sub (Self.pairs self.now) range.start range.end };
 }
 
 /// A store that can be changed.

@@ -88,7 +88,7 @@ impl<K: Ord, V, S: Store<K, V>> LiteMap<K, V, S> {
     }
 
     // The one search of all calls by key: the place where the key splits the pairs.
-    pub(super) fn search(&self, key: &K, count: &mut Count) -> Result<usize, usize>
+    pub(crate) fn search(&self, key: &K, count: &mut Count) -> Result<usize, usize>
         ensures splits { Splits K.cmp self.now.pairs key.now result }
         ensures cost { RisesByAtMost (digits (length self.now.pairs)) count.old count.new }
     {

@@ -1,0 +1,28 @@
+use Rattle.std.proofs.Common.{rules, ◌≡◌, true, false, sym, ap, ◌∙◌, arith}
+use Rattle.std.specs.Ordering.{is_lt}
+use Rattle.std.specs.declared.cmp.Ordering.TheVariants.{Less}
+use Rattle.litemap_store.specs.Pairs.{Rising}
+use Rattle.litemap_store.proofs.Parts.{RisesTo-one, RisesTo-more, Rising-from_RisesTo, Less-from_Rising, Less-from_is_lt}
+use Rattle.litemap.proofs.map.LiteMap.is_sorted_store.Goals as goal
+
+pub loop-place-init : goal.loop-place-init
+loop-place-init g c = record { positive = omega arith; so_far = RisesTo-one g.K.Ord.cmp (g.S.Store.pairs c.args.store.now) }
+
+pub returns-then-not-is_lt : goal.returns-then-not-is_lt
+returns-then-not-is_lt g c = (
+  λ (t : false ≡ true). cc,
+  λ (r : Rising g.K.Ord.cmp (g.S.Store.pairs c.args.store.now)).
+      let less : c.cmp.result ≡ Less = c.cmp.ensures ∙ Less-from_Rising g.K.Ord.cmp _ _ _ _ c.loop-place.invariant.positive r (sym c.in-Some.ensures) (sym c.in-Some-lm_get.ensures) in
+      c.if-not-is_lt.ensures ∙ ap is_lt less,
+)
+
+pub loop-place-preserved : goal.loop-place-preserved
+loop-place-preserved g c =
+    let less = sym c.cmp.ensures ∙ Less-from_is_lt c.cmp.result c.if-not-is_lt.ensures in
+    record {
+      positive = omega arith;
+      so_far = RisesTo-more g.K.Ord.cmp g.met.K.Ord.total _ _ _ _ c.loop-place.invariant.positive c.loop-place.invariant.so_far (sym c.in-Some.ensures) (sym c.in-Some-lm_get.ensures) less;
+    }
+
+pub returns : goal.returns
+returns g c = (λ t. Rising-from_RisesTo g.K.Ord.cmp _ c.loop-place.place (omega arith) c.loop-place.invariant.so_far, λ r. search rules)

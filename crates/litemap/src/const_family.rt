@@ -1,0 +1,218 @@
+//! Calls on a map over a borrowed slice, whose answers live as long as the slice, and its lookups by texts, bytes and numbers.
+//!
+//! In the Rust crate they are evaluated in constants, and have `const` in their names for that. Here they are plain calls.
+//! None takes memory.
+ghost use Rattle.std.specs.Prelude.{◌≡◌, ◌<◌, ◌==◌, length, slice_get, Some, Ok, IfSome};
+ghost use Rattle.std.specs.Cmp.Lexicographic.{slice_cmp};
+ghost use Rattle.std.specs.Option.{option_and_then, option_map};
+ghost use Rattle.std.specs.Ordering.{int_cmp, nat_cmp};
+ghost use Rattle.std.specs.Result.{result_ok};
+ghost use Rattle.litemap_store.specs.Pairs.{place, value_at};
+ghost use Rattle.litemap.specs.ByBytes.{by_bytes};
+
+use crate::LiteMap;
+use litemap_store::count::Count;
+use litemap_store::slice_impl::SliceStore;
+use std::cmp::Ordering;
+
+// Compares by bytes. A proper prefix is less.
+fn const_cmp_bytes(a: &[u8], b: &[u8]) -> Ordering
+    ensures { result ≡ slice_cmp nat_cmp a.now b.now }
+{
+    a.cmp(b)
+}
+
+// The place that a search found, and the value there.
+fn const_found<'a, K, V>(pairs: &'a [(K, V)], index: Result<usize, usize>) -> Option<(usize, &'a V)>
+    ensures value { option_map (λ found. found.1.now) result ≡ option_and_then (λ i. option_map (λ pair. pair.1) (slice_get pairs.now i)) (result_ok index) }
+    ensures place { IfSome result (λ found. index ≡ Ok found.0) }
+{
+    let index = index.ok()?;
+    let (_, value) = pairs.get(index)?;
+    Some((index, value))
+}
+
+impl<'a, K: Ord, V> LiteMap<K, V, SliceStore<'a, K, V>> {
+    /// The number of pairs.
+    pub fn const_len(&self) -> usize
+        ensures { result ≡ length self.now.pairs }
+    {
+        self.borrowed().len()
+    }
+
+    /// Whether there is no pair.
+    pub fn const_is_empty(&self) -> bool
+        ensures { result ≡ (length self.now.pairs == 0) }
+    {
+        self.borrowed().is_empty()
+    }
+
+    /// The pair at a place.
+    ///
+    /// There has to be a pair at the place: the Rust crate panics there, and its name says so.
+    pub fn const_get_indexed_or_panic(&self, index: usize) -> &'a (K, V)
+        requires { index < length self.now.pairs }
+        ensures { slice_get self.now.pairs index ≡ Some result.now }
+    {
+        &self.borrowed()[index]
+    }
+
+    // The place and the value of an equal key.
+    fn const_find(&self, key: &K) -> Option<(usize, &'a V)>
+        ensures value { option_map (λ found. found.1.now) result ≡ value_at K.cmp self.now.pairs key.now }
+        ensures place { IfSome result (λ found. found.0 ≡ place K.cmp self.now.pairs key.now) }
+    {
+        const_found(self.borrowed(), self.search(key, &mut Count::new()))
+    }
+}
+
+impl<'a, 'k, V> LiteMap<&'k str, V, SliceStore<'a, &'k str, V>> {
+    /// The place and the value of an equal key, if there is one. Texts compare by their bytes.
+    ///
+    /// It compares at most once for each binary digit of the length. The key that is looked up may live shorter than those
+    /// of the map.
+    pub fn const_get_with_index(&self, key: &str) -> Option<(usize, &'a V)>
+        ensures value { option_map (λ found. found.1.now) result ≡ value_at by_bytes self.now.pairs key.entry }
+        ensures place { IfSome result (λ found. found.0 ≡ place by_bytes self.now.pairs key.entry) }
+    {
+        let pairs = self.borrowed();
+        const_found(
+            pairs,
+            self.find_index_by(|k| const_cmp_bytes(k.as_bytes(), key.as_bytes())),
+        )
+    }
+}
+
+impl<'a, 'k, V> LiteMap<&'k [u8], V, SliceStore<'a, &'k [u8], V>> {
+    /// The place and the value of an equal key, if there is one. A proper prefix is less.
+    ///
+    /// It compares at most once for each binary digit of the length. The key that is looked up may live shorter than those
+    /// of the map.
+    pub fn const_get_with_index(&self, key: &[u8]) -> Option<(usize, &'a V)>
+        ensures value { option_map (λ found. found.1.now) result ≡ value_at by_bytes self.now.pairs key.entry }
+        ensures place { IfSome result (λ found. found.0 ≡ place by_bytes self.now.pairs key.entry) }
+    {
+        let pairs = self.borrowed();
+        const_found(pairs, self.find_index_by(|k| const_cmp_bytes(k, key)))
+    }
+}
+
+impl<'a, V> LiteMap<u8, V, SliceStore<'a, u8, V>> {
+    /// The place and the value of the key, if it is there. It compares at most once for each binary digit of the length.
+    pub fn const_get_with_index(&self, key: u8) -> Option<(usize, &'a V)>
+        ensures value { option_map (λ found. found.1.now) result ≡ value_at nat_cmp self.now.pairs key }
+        ensures place { IfSome result (λ found. found.0 ≡ place nat_cmp self.now.pairs key) }
+    {
+        self.const_find(&key)
+    }
+}
+
+impl<'a, V> LiteMap<u16, V, SliceStore<'a, u16, V>> {
+    /// The place and the value of the key, if it is there. It compares at most once for each binary digit of the length.
+    pub fn const_get_with_index(&self, key: u16) -> Option<(usize, &'a V)>
+        ensures value { option_map (λ found. found.1.now) result ≡ value_at nat_cmp self.now.pairs key }
+        ensures place { IfSome result (λ found. found.0 ≡ place nat_cmp self.now.pairs key) }
+    {
+        self.const_find(&key)
+    }
+}
+
+impl<'a, V> LiteMap<u32, V, SliceStore<'a, u32, V>> {
+    /// The place and the value of the key, if it is there. It compares at most once for each binary digit of the length.
+    pub fn const_get_with_index(&self, key: u32) -> Option<(usize, &'a V)>
+        ensures value { option_map (λ found. found.1.now) result ≡ value_at nat_cmp self.now.pairs key }
+        ensures place { IfSome result (λ found. found.0 ≡ place nat_cmp self.now.pairs key) }
+    {
+        self.const_find(&key)
+    }
+}
+
+impl<'a, V> LiteMap<u64, V, SliceStore<'a, u64, V>> {
+    /// The place and the value of the key, if it is there. It compares at most once for each binary digit of the length.
+    pub fn const_get_with_index(&self, key: u64) -> Option<(usize, &'a V)>
+        ensures value { option_map (λ found. found.1.now) result ≡ value_at nat_cmp self.now.pairs key }
+        ensures place { IfSome result (λ found. found.0 ≡ place nat_cmp self.now.pairs key) }
+    {
+        self.const_find(&key)
+    }
+}
+
+impl<'a, V> LiteMap<u128, V, SliceStore<'a, u128, V>> {
+    /// The place and the value of the key, if it is there. It compares at most once for each binary digit of the length.
+    pub fn const_get_with_index(&self, key: u128) -> Option<(usize, &'a V)>
+        ensures value { option_map (λ found. found.1.now) result ≡ value_at nat_cmp self.now.pairs key }
+        ensures place { IfSome result (λ found. found.0 ≡ place nat_cmp self.now.pairs key) }
+    {
+        self.const_find(&key)
+    }
+}
+
+impl<'a, V> LiteMap<usize, V, SliceStore<'a, usize, V>> {
+    /// The place and the value of the key, if it is there. It compares at most once for each binary digit of the length.
+    pub fn const_get_with_index(&self, key: usize) -> Option<(usize, &'a V)>
+        ensures value { option_map (λ found. found.1.now) result ≡ value_at nat_cmp self.now.pairs key }
+        ensures place { IfSome result (λ found. found.0 ≡ place nat_cmp self.now.pairs key) }
+    {
+        self.const_find(&key)
+    }
+}
+
+impl<'a, V> LiteMap<i8, V, SliceStore<'a, i8, V>> {
+    /// The place and the value of the key, if it is there. It compares at most once for each binary digit of the length.
+    pub fn const_get_with_index(&self, key: i8) -> Option<(usize, &'a V)>
+        ensures value { option_map (λ found. found.1.now) result ≡ value_at int_cmp self.now.pairs key }
+        ensures place { IfSome result (λ found. found.0 ≡ place int_cmp self.now.pairs key) }
+    {
+        self.const_find(&key)
+    }
+}
+
+impl<'a, V> LiteMap<i16, V, SliceStore<'a, i16, V>> {
+    /// The place and the value of the key, if it is there. It compares at most once for each binary digit of the length.
+    pub fn const_get_with_index(&self, key: i16) -> Option<(usize, &'a V)>
+        ensures value { option_map (λ found. found.1.now) result ≡ value_at int_cmp self.now.pairs key }
+        ensures place { IfSome result (λ found. found.0 ≡ place int_cmp self.now.pairs key) }
+    {
+        self.const_find(&key)
+    }
+}
+
+impl<'a, V> LiteMap<i32, V, SliceStore<'a, i32, V>> {
+    /// The place and the value of the key, if it is there. It compares at most once for each binary digit of the length.
+    pub fn const_get_with_index(&self, key: i32) -> Option<(usize, &'a V)>
+        ensures value { option_map (λ found. found.1.now) result ≡ value_at int_cmp self.now.pairs key }
+        ensures place { IfSome result (λ found. found.0 ≡ place int_cmp self.now.pairs key) }
+    {
+        self.const_find(&key)
+    }
+}
+
+impl<'a, V> LiteMap<i64, V, SliceStore<'a, i64, V>> {
+    /// The place and the value of the key, if it is there. It compares at most once for each binary digit of the length.
+    pub fn const_get_with_index(&self, key: i64) -> Option<(usize, &'a V)>
+        ensures value { option_map (λ found. found.1.now) result ≡ value_at int_cmp self.now.pairs key }
+        ensures place { IfSome result (λ found. found.0 ≡ place int_cmp self.now.pairs key) }
+    {
+        self.const_find(&key)
+    }
+}
+
+impl<'a, V> LiteMap<i128, V, SliceStore<'a, i128, V>> {
+    /// The place and the value of the key, if it is there. It compares at most once for each binary digit of the length.
+    pub fn const_get_with_index(&self, key: i128) -> Option<(usize, &'a V)>
+        ensures value { option_map (λ found. found.1.now) result ≡ value_at int_cmp self.now.pairs key }
+        ensures place { IfSome result (λ found. found.0 ≡ place int_cmp self.now.pairs key) }
+    {
+        self.const_find(&key)
+    }
+}
+
+impl<'a, V> LiteMap<isize, V, SliceStore<'a, isize, V>> {
+    /// The place and the value of the key, if it is there. It compares at most once for each binary digit of the length.
+    pub fn const_get_with_index(&self, key: isize) -> Option<(usize, &'a V)>
+        ensures value { option_map (λ found. found.1.now) result ≡ value_at int_cmp self.now.pairs key }
+        ensures place { IfSome result (λ found. found.0 ≡ place int_cmp self.now.pairs key) }
+    {
+        self.const_find(&key)
+    }
+}

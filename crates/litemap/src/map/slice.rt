@@ -1,0 +1,52 @@
+//! Calls that lend the pairs of a map, or a part of them. None takes memory, and the map cannot be changed while what they
+//! lend is in use.
+ghost use Rattle.std.specs.Prelude.{◌≡◌};
+ghost use Rattle.std.specs.Option.{option_map};
+ghost use Rattle.litemap_store.specs.Pairs.{Rising, sub};
+
+use crate::LiteMap;
+use litemap_store::slice_impl::SliceStore;
+use litemap_store::store::StoreSlice;
+use std::ops::Range;
+
+impl<K: Ord, V, S: StoreSlice<K, V>> LiteMap<K, V, S> {
+    /// The pairs from a place to before another as a map of their own, `None` where the start lies past the end or the end
+    /// past the length. Places count from the part's start there.
+    pub fn get_indexed_range(
+        &self,
+        range: Range<usize>,
+    ) -> Option<LiteMap<K, V, SliceStore<'_, K, V>>>
+        ensures { option_map (λ part. part.pairs) result ≡ sub self.now.pairs range.start range.end }
+    {
+        let pairs = self.store.lm_get_range(range)?;
+        Some(LiteMap::from_sorted_store_unchecked(SliceStore::new(pairs)))
+    }
+
+    /// All the pairs as a map that borrows them.
+    pub fn as_sliced(&self) -> LiteMap<K, V, SliceStore<'_, K, V>>
+        ensures { result.pairs ≡ self.now.pairs }
+    {
+        LiteMap::from_sorted_store_unchecked(SliceStore::new(self.as_slice()))
+    }
+
+    /// All the pairs as a slice. Their keys rise strictly.
+    pub fn as_slice(&self) -> &[(K, V)]
+        ensures pairs { result.now ≡ self.now.pairs }
+        ensures rising { Rising K.cmp result.now }
+    {
+        let Some(pairs) = self.store.lm_get_range(0..self.store.lm_len()) else {
+            unreachable!()
+        };
+        pairs
+    }
+}
+
+impl<'a, K: Ord, V> LiteMap<K, V, SliceStore<'a, K, V>> {
+    // The slice that the map borrows, for as long as the slice lives.
+    pub(crate) fn borrowed(&self) -> &'a [(K, V)]
+        ensures pairs { result.now ≡ self.now.pairs }
+        ensures rising { Rising K.cmp result.now }
+    {
+        self.store.pairs
+    }
+}
