@@ -5,15 +5,17 @@
 //! 1. What a contract sees of it, by an `impl Model`: here the list of its pairs and its room. So no contract and no
 //!    proof above names its fields.
 //! 2. Its traits: `pairs` and `room` read that value, and each call has the trait's contract. `StoreConstEmpty` and
-//!    `StoreMut` are all that the keyed calls of a map ask for.
+//!    `StoreMut` are all that the keyed calls of a map ask for, and `StoreBulkMut` is there
+//!    for `retain`.
 //! 3. `with_value`, what it is with another value at a place, and the two laws on it.
 //!
 //! The calls of `LiteMap` are then proved over it, with no proof of theirs to be written.
 ghost use Rattle.std.specs.Prelude.{refl};
+ghost use Rattle.litemap_store.specs.Retain.{CalledOnPair};
 ghost use Rattle.litemap_tests.specs.Contents.{with_value};
 
 use litemap_store::NoRoom;
-use litemap_store::store::{Store, StoreConstEmpty, StoreMut};
+use litemap_store::store::{Store, StoreBulkMut, StoreConstEmpty, StoreMut};
 use std::alloc::{AllocError, Global};
 use std::marker::Model;
 use std::mem;
@@ -122,4 +124,15 @@ impl<K, V> StoreMut<K, V> for FixedRoom<K, V> {
     ghost writes = { λ s i v. refl };
 
     ghost keeps_room = { λ s i v. refl };
+}
+
+impl<K: Ord + Drop, V: Drop> StoreBulkMut<K, V> for FixedRoom<K, V> {
+    fn lm_retain<F: FnMut(&K, &V) -> bool>(&mut self, mut f: F) {
+        self.items.retain(
+            |pair|
+                requires { F.IsAlwaysCallable f }
+                ensures asked { CalledOnPair F.FnMut f.entry pair.now result f.exit }
+            { f(&pair.0, &pair.1) },
+        );
+    }
 }
