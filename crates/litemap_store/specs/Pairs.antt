@@ -1,6 +1,6 @@
 -- A map as the list of its pairs, by an order on the keys. A key k is equal to a key of the list where the order
 -- answers Equal: two equal keys may be two values.
-use Rattle.std.specs.Prelude.{◌≡◌, ◌⊎◌, ℕ, List, [], ◌++◌, ◌∷◌, length, Option, Some, None, Result, Ok, Err, cond, filter, find, is_some, option_map, slice_get, slice_set, ⊤}
+use Rattle.std.specs.Prelude.{◌≡◌, ◌⊎◌, ℕ, ◌≤◌, List, [], ◌++◌, ◌∷◌, length, Option, Some, None, Result, Ok, Err, cond, filter, find, is_some, option_map, slice_get, slice_set, ⊤}
 use Rattle.std.specs.declared.cmp.Ordering.{Ordering}
 use Rattle.std.specs.declared.cmp.Ordering.TheVariants.{Less}
 use Rattle.std.specs.Ordering.{is_lt, is_eq, is_gt}
@@ -15,6 +15,10 @@ key_or (Some p) k = p.0
 -- the list with another value at place i, where there is a pair
 abbrev pub set_value : {K V : Type 0} → List (K × V) → ℕ → V → List (K × V)
 set_value L i v = option_map_or (λ p. slice_set L i (p.0, v)) (slice_get L i) L
+
+-- the places from a on and below b are there: a ≤ b, and b is at most the length
+abbrev pub HasRange : {X : Type 0} → List X → ℕ → ℕ → Type 0
+HasRange L a b = (a ≤ b) × (b ≤ length L)
 
 module _ {K V : Type 0} (cmp : K → K → Ordering) where
   -- the key k is below every key of the list

@@ -1,15 +1,17 @@
-//! Stores of pairs for the sorted map of the crate `litemap`: the traits of a store, a vector as a store, and the count
-//! of comparisons.
+//! Stores of pairs for the sorted map of the crate `litemap`: the traits of a store, a vector and a slice as stores, and
+//! the count of comparisons.
 #![tactic(auto)]
 
 pub mod by_scan;
 pub mod count;
 pub mod laws;
 mod no_room;
+mod slice_impl;
 pub mod store;
 mod vec_impl;
 
 pub use no_room::NoRoom;
+pub use slice_impl::SliceStore;
 
 #[cfg(test)]
 mod tests;

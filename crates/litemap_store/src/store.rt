@@ -2,11 +2,11 @@
 //!
 //! A contract sees a store as the list of its pairs and, where it can grow, its room: how many further pairs it takes
 //! without refusal.
-ghost use Rattle.std.specs.Prelude.{◌≡◌, ◌+◌, ◌-◌, ◌<◌, ◌≤◌, ◌==◌, ℕ, List, [], ◌∷◌, ◌++◌, length, slice_get, slice_set, IfOk, IfErr, OnOk, OnErr, insert, remove, Some};
+ghost use Rattle.std.specs.Prelude.{◌≡◌, ◌+◌, ◌-◌, ◌<◌, ◌≤◌, ◌==◌, ℕ, List, [], ◌∷◌, ◌++◌, length, slice_get, slice_set, IfOk, IfErr, OnOk, OnErr, IsSome, IfSome, ◌↔◌, insert, remove, slice_range, Some};
 ghost use Rattle.std.specs.Borrow.{sem, follows};
 ghost use Rattle.std.specs.Map.Iter.{deref_pair, deref_pair_mut};
 ghost use Rattle.std.specs.Option.{option_map};
-ghost use Rattle.litemap_store.specs.Pairs.{set_value};
+ghost use Rattle.litemap_store.specs.Pairs.{HasRange, set_value};
 ghost use Rattle.litemap_store.specs.Counts.{RisesByAtMost};
 ghost use Rattle.litemap_store.specs.Digits.{digits};
 ghost use Rattle.litemap_store.specs.Retain.{Kept};
@@ -16,6 +16,7 @@ use crate::NoRoom;
 use crate::count::Count;
 use std::alloc::{AllocError, Global};
 use std::cmp::Ordering;
+use std::ops::Range;
 
 /// Pairs at places, which can be looked at and searched.
 pub trait Store<K, V> {
@@ -81,6 +82,16 @@ pub trait Store<K, V> {
         }
         Err(low)
     }
+}
+
+/// A store whose pairs lie in one slice.
+pub trait StoreSlice<K, V>: Store<K, V> {
+    /// The pairs at the places of a range, which the store lends as a slice.
+    ///
+    /// `None` where the range ends before it starts, or past the length.
+    fn lm_get_range(&self, range: Range<usize>) -> Option<&[(K, V)]>
+        ensures within { IsSome result ↔ HasRange (Self.pairs self.now) range.start range.end }
+        ensures pairs { IfSome result (λ r. r.now ≡ slice_range (Self.pairs self.now) range.start range.end) };
 }
 
 /// A store that can be made with no memory.

@@ -3,9 +3,10 @@ ghost use Rattle.litemap_store.specs.Retain.{CalledOnPair};
 ghost use Rattle.litemap_store.specs.VecStore.{vec_room, vec_with_value, vec_writes, vec_keeps_room};
 
 use crate::NoRoom;
-use crate::store::{Store, StoreBulkMut, StoreConstEmpty, StoreMut};
+use crate::store::{Store, StoreBulkMut, StoreConstEmpty, StoreMut, StoreSlice};
 use std::alloc::{AllocError, Global};
 use std::mem;
+use std::ops::Range;
 
 impl<K, V> Store<K, V> for Vec<(K, V)> {
     ghost pairs = { λ v. v.items };
@@ -19,6 +20,12 @@ impl<K, V> Store<K, V> for Vec<(K, V)> {
     fn lm_get(&self, index: usize) -> Option<(&K, &V)> {
         let (key, value) = self.as_slice().get(index)?;
         Some((key, value))
+    }
+}
+
+impl<K, V> StoreSlice<K, V> for Vec<(K, V)> {
+    fn lm_get_range(&self, range: Range<usize>) -> Option<&[(K, V)]> {
+        self.as_slice().get(range)
     }
 }
 
