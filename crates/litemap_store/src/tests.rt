@@ -3,10 +3,12 @@ ghost use Rattle.std.specs.Ordering.{nat_cmp};
 ghost use Rattle.litemap_store.specs.Pairs.{Rising};
 
 use crate::count::Count;
-use crate::store::{Store, StoreBulkMut, StoreConstEmpty, StoreMut};
+use crate::store::{Store, StoreBulkMut, StoreConstEmpty, StoreMut, StoreSlice};
+use crate::slice_impl::SliceStore;
 use crate::{NoRoom, by_scan, laws};
 use std::alloc::{AllocError, Global};
 use std::cmp::Ordering;
+use std::process::Abort;
 use std::test::Fail;
 
 type Pairs = Vec<(u32, u32)>;
@@ -42,20 +44,56 @@ fn no_room_shows_and_compares(rt: HostRuntime) -> Result<(), Fail> {
     Ok(())
 }
 
-#[test]
-fn looks(rt: HostRuntime) -> Result<(), Fail> {
-    let empty: Pairs = Pairs::lm_empty(rt.alloc());
-    assert_eq!(rt; empty.lm_len(), 0);
-    assert!(rt; empty.lm_is_empty());
-    assert_eq!(rt; empty.lm_get(0), None);
-    assert_eq!(rt; empty.lm_last(), None);
-    let store = vec![in rt.alloc(); (1u32, 10u32), (3, 30)]?;
+// Looks at a store of no pairs.
+fn looks_at_none<S: Store<u32, u32>>(rt: &impl Abort, store: &S) {
+    assert_eq!(rt; store.lm_len(), 0);
+    assert!(rt; store.lm_is_empty());
+    assert_eq!(rt; store.lm_get(0), None);
+    assert_eq!(rt; store.lm_last(), None);
+}
+
+// Looks at a store of the pairs (1, 10) and (3, 30).
+fn looks_at_two<S: Store<u32, u32>>(rt: &impl Abort, store: &S) {
     assert_eq!(rt; store.lm_len(), 2);
     assert!(rt; !store.lm_is_empty());
     assert_eq!(rt; store.lm_get(0), Some((&1, &10)));
     assert_eq!(rt; store.lm_get(1), Some((&3, &30)));
     assert_eq!(rt; store.lm_get(2), None);
     assert_eq!(rt; store.lm_last(), Some((&3, &30)));
+}
+
+#[test]
+fn looks(rt: HostRuntime) -> Result<(), Fail> {
+    looks_at_none(&rt, &Pairs::lm_empty(rt.alloc()));
+    looks_at_none(&rt, &SliceStore::<u32, u32>::lm_empty(rt.alloc()));
+    let pairs = [(1u32, 10u32), (3, 30)];
+    looks_at_two(&rt, &SliceStore::new(&pairs));
+    looks_at_two(&rt, &vec![in rt.alloc(); (1u32, 10u32), (3, 30)]?);
+    Ok(())
+}
+
+// Ranges of a store of the pairs (1, 10), (2, 20) and (3, 30).
+fn lends_ranges_of_three<S: StoreSlice<u32, u32>>(rt: &impl Abort, store: &S) {
+    let all = [(1u32, 10u32), (2, 20), (3, 30)];
+    assert_eq!(rt; store.lm_get_range(0..3), Some(all.as_slice()));
+    assert_eq!(rt;
+        store.lm_get_range(1..3),
+        Some([(2, 20), (3, 30)].as_slice())
+    );
+    assert_eq!(rt; store.lm_get_range(1..2), Some([(2, 20)].as_slice()));
+    assert_eq!(rt; store.lm_get_range(0..0), Some([].as_slice()));
+    assert_eq!(rt; store.lm_get_range(3..3), Some([].as_slice()));
+    for (start, end) in [(2usize, 1usize), (0, 4), (4, 4), (4, 3)] {
+        assert_eq!(rt; store.lm_get_range(start..end), None, "{start}..{end}");
+    }
+}
+
+#[test]
+fn lends_ranges(rt: HostRuntime) -> Result<(), Fail> {
+    let pairs = [(1u32, 10u32), (2, 20), (3, 30)];
+    lends_ranges_of_three(&rt, &SliceStore::new(&pairs));
+    let store = vec![in rt.alloc(); (1u32, 10u32), (2, 20), (3, 30)]?;
+    lends_ranges_of_three(&rt, &store);
     Ok(())
 }
 
