@@ -1,3 +1,5 @@
 -- Lemmas of the proofs.
 pub mod Borrowed
+pub mod Clones
 pub mod Outcomes
+pub mod Tries

@@ -1,5 +1,8 @@
 -- The definitions that the contracts cite. Those of the sorted list are in `Pairs` of the crate `litemap_store`.
+pub mod ByBytes
+pub mod Clones
+pub mod FoundBy
+pub mod Lends
 pub mod Seen
 pub mod Steps
-pub mod Lends
-pub mod ByBytes
+pub mod TryFault

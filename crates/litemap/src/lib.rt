@@ -3,6 +3,8 @@
 
 mod const_family;
 mod map;
+mod try_fault;
 
 pub use litemap_store::store;
 pub use map::LiteMap;
+pub use try_fault::TryFault;

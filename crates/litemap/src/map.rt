@@ -1,14 +1,16 @@
 //! The map: its type, and how one is made.
-ghost use Rattle.std.specs.Prelude.{◌≡◌, ◌↔◌, [], IsTrue};
+ghost use Rattle.std.specs.Prelude.{◌≡◌, ◌↔◌, ◌≤◌, [], IfOk, IsTrue};
 ghost use Rattle.litemap_store.specs.Pairs.{Rising};
+ghost use Rattle.litemap.specs.Clones.{ClonesAreSame, ClonesCompareEqual, PairsAreClones};
 
 mod change;
 mod look;
 mod slice;
 mod write;
 
-use litemap_store::store::Store;
-use std::alloc::Global;
+use litemap_store::store::{Store, StoreConstEmpty, StoreMut};
+use std::alloc::{AllocError, Global};
+use std::fmt::{self, Debug, Formatter, Write};
 use std::marker::{Model, PhantomData};
 
 /// A map whose keys rise strictly, over a store.
@@ -86,5 +88,74 @@ impl<K: Ord, V, S: Store<K, V>> LiteMap<K, V, S> {
             }
         }
         true
+    }
+}
+
+impl<K: Ord, V, S: StoreConstEmpty<K, V>> LiteMap<K, V, S> {
+    /// The empty map. It takes no memory.
+    pub fn new(alloc: Global) -> Self
+        ensures { result.pairs ≡ [] }
+    {
+        LiteMap {
+            store: S::lm_empty(alloc),
+            marker: PhantomData,
+        }
+    }
+}
+
+impl<K: Ord, V, S: StoreMut<K, V>> LiteMap<K, V, S> {
+    /// An empty map with this much room at least, or a refusal for want of memory.
+    pub fn with_capacity(alloc: Global, capacity: usize) -> Result<Self, AllocError>
+        ensures empty { IfOk result (λ m. m.pairs ≡ []) }
+        ensures room { IfOk result (λ m. capacity ≤ m.room) }
+    {
+        Ok(LiteMap {
+            store: S::lm_with_capacity(alloc, capacity)?,
+            marker: PhantomData,
+        })
+    }
+
+    /// A map of clones of the keys and values, in the same order, or a refusal for want of memory.
+    ///
+    /// A clone of a key has to compare `Equal` to its original. No keys are compared. The Rust crate has the trait `Clone`
+    /// here.
+    pub fn try_clone(&self, alloc: Global) -> Result<Self, AllocError>
+    where
+        K: Clone,
+        V: Clone,
+        S: Drop,
+        requires { ClonesCompareEqual K.cmp K.is_clone }
+        ensures clones { IfOk result (λ m. PairsAreClones K.is_clone V.is_clone self.now.pairs m.pairs) }
+        ensures same { IfOk result
+            (λ m. ClonesAreSame K.is_clone → ClonesAreSame V.is_clone → m.pairs ≡ self.now.pairs) }
+    {
+        let len = self.store.lm_len();
+        let mut store = S::lm_with_capacity(alloc, len)?;
+        for index in 0..len {
+            let Some((key, value)) = self.store.lm_get(index) else {
+                unreachable!()
+            };
+            match store.lm_push(key.clone()?, value.clone()?) {
+                Ok(()) => {}
+                Err(_) => unreachable!(),
+            }
+        }
+        Ok(LiteMap {
+            store,
+            marker: PhantomData,
+        })
+    }
+}
+
+/// Printed as a map. No text is promised.
+impl<K: Ord + Debug, V: Debug, S: Store<K, V>> Debug for LiteMap<K, V, S> {
+    fn fmt<W: Write>(&self, f: &mut Formatter<W>) -> fmt::Result {
+        let mut out = f.debug_map();
+        for index in 0..self.len() {
+            if let Some((key, value)) = self.get_indexed(index) {
+                out.entry(key, value);
+            }
+        }
+        out.finish()
     }
 }

@@ -32,6 +32,10 @@ length-set_value [] i v = refl
 length-set_value (p ∷ L) zero v = refl
 length-set_value (p ∷ L) (suc i) v = ap length (set_value-suc p L i v) ∙ ap suc (length-set_value L i v)
 
+-- the value that is put stands at the key's place
+pub put_value : {K V : Type 0} (cmp : K → K → Ordering) (L : List (K × V)) (k : K) (v : V) → option_map (λ p. p.1) (slice_get (put cmp L k v) (place cmp L k)) ≡ Some v
+put_value cmp L k v = ap (option_map (λ p. p.1)) (slice_get-seam (below cmp L k) (key_or (at cmp L k) k, v) (above cmp L k))
+
 -- ---- where the key is there
 module _ {K V : Type 0} (cmp : K → K → Ordering) (L : List (K × V)) (k : K) (i : ℕ) (f : IsFoundAt cmp L k i) where
   pub found_get : slice_get L i ≡ Some f.pair

@@ -1,15 +1,22 @@
 //! Calls that change a map.
-ghost use Rattle.std.specs.Prelude.{◌≡◌, ◌+◌, ◌≤◌, ◌<◌, length, slice_get, None, Some, IsNone, IsSome, remove, IfOk, IfErr, OnOk, OnErr};
+ghost use Rattle.std.specs.Prelude.{◌≡◌, ◌↔◌, ◌+◌, ◌≤◌, ◌<◌, [], ◌∷◌, ◌++◌, length, slice_get, None, Some, IsNone, IsSome, IfSome, IsTrue, remove, IsOk, Ok, Err, IfOk, IfErr, OnOk, OnErr};
+ghost use Rattle.std.specs.Fn.{FnOnceReturnsAt, FnOnceTakesAt};
 ghost use Rattle.std.specs.Option.{option_map};
 ghost use Rattle.litemap_store.specs.Counts.{RisesByAtMost};
 ghost use Rattle.litemap_store.specs.Digits.{digits};
-ghost use Rattle.litemap_store.specs.Pairs.{at, cut, put, set_value, value_at};
+ghost use Rattle.litemap_store.specs.Pairs.{AllBelow, at, cut, place, put, set_value, value_at};
+ghost use Rattle.litemap_store.specs.Retain.{Kept};
+ghost use Rattle.litemap_store.specs.Search.{Shaped};
 ghost use Rattle.litemap_store.specs.Splits.{IsMissingAt};
+ghost use Rattle.litemap.specs.FoundBy.{RemovesFound};
+ghost use Rattle.litemap.specs.TryFault.{IfClosure, IfNoRoom};
 
-use crate::LiteMap;
+use crate::{LiteMap, TryFault};
 use litemap_store::NoRoom;
 use litemap_store::count::Count;
-use litemap_store::store::StoreMut;
+use litemap_store::store::{StoreBulkMut, StoreMut};
+use std::alloc::AllocError;
+use std::cmp::Ordering;
 use std::mem;
 
 impl<K: Ord, V, S: StoreMut<K, V>> LiteMap<K, V, S> {
@@ -34,7 +41,7 @@ impl<K: Ord, V, S: StoreMut<K, V>> LiteMap<K, V, S> {
         self.insert_counted(key, value, &mut Count::new())
     }
 
-    /// `insert`, with its comparisons counted.
+    /// `insert`, with its comparisons counted. The Rust crate has no such call.
     pub fn insert_counted(
         &mut self,
         key: K,
@@ -58,6 +65,126 @@ impl<K: Ord, V, S: StoreMut<K, V>> LiteMap<K, V, S> {
             Err(index) => {
                 self.place(index, key, value)?;
                 Ok(None)
+            }
+        }
+    }
+
+    /// Places a pair whose key is absent. Where an equal key is there, the pair comes back and nothing is changed.
+    ///
+    /// It is refused only where the key is absent and there is no room: then the pair comes back and the list stays. It
+    /// compares at most once for each binary digit of the length, and moves the pairs with greater keys up by one where
+    /// the key is absent.
+    pub fn try_insert(&mut self, key: K, value: V) -> Result<Option<(K, V)>, NoRoom<(K, V)>>
+        ensures added { IfOk result (λ back. IsNone back ↔ IsNone (at K.cmp self.old.pairs key)) }
+        ensures put { IfOk result (λ back. IsNone back → self.new.pairs ≡ put K.cmp self.old.pairs key value) }
+        ensures present { IfOk result (λ back. IfSome back (λ pair. pair ≡ (key, value))) }
+        ensures unchanged { IfOk result (λ back. IsSome back → self.new ≡ self.old) }
+        ensures refused { OnErr result (self.new.pairs ≡ self.old.pairs) }
+        ensures absent { OnErr result (at K.cmp self.old.pairs key ≡ None) }
+        ensures full { OnErr result (self.old.room ≡ 0) }
+        ensures back { IfErr result (λ refused. refused.back ≡ (key, value)) }
+        ensures room { self.old.room ≤ self.new.room + 1 }
+    {
+        match self.search(&key, &mut Count::new()) {
+            Ok(_) => Ok(Some((key, value))),
+            Err(index) => {
+                self.place(index, key, value)?;
+                Ok(None)
+            }
+        }
+    }
+
+    /// Puts a pair whose key is above all others behind them. Where some key is not below it, the pair comes back and
+    /// nothing is changed.
+    ///
+    /// It is refused only where the key is above all others and there is no room: then the pair comes back and the list
+    /// stays. It compares at most once, with the last key, and moves no pair.
+    pub fn try_append(&mut self, key: K, value: V) -> Result<Option<(K, V)>, NoRoom<(K, V)>>
+        ensures added { IfOk result (λ back. IsNone back ↔ AllBelow K.cmp self.old.pairs key) }
+        ensures appended { IfOk result (λ back. IsNone back → self.new.pairs ≡ self.old.pairs ++ (key, value) ∷ []) }
+        ensures not_above { IfOk result (λ back. IfSome back (λ pair. pair ≡ (key, value))) }
+        ensures unchanged { IfOk result (λ back. IsSome back → self.new ≡ self.old) }
+        ensures refused { OnErr result (self.new.pairs ≡ self.old.pairs) }
+        ensures above { OnErr result (AllBelow K.cmp self.old.pairs key) }
+        ensures full { OnErr result (self.old.room ≡ 0) }
+        ensures back { IfErr result (λ refused. refused.back ≡ (key, value)) }
+        ensures room { self.old.room ≤ self.new.room + 1 }
+    {
+        if !self.is_above_all(&key) {
+            return Ok(Some((key, value)));
+        }
+        self.append(key, value)?;
+        Ok(None)
+    }
+
+    /// The place and the value of a key. Where the key is absent, its value is what `f` answers for it, and is placed.
+    ///
+    /// It is `try_find_or_insert` with the value there. What it leaves of the map is promised there and not here: a
+    /// contract can't yet say what a map is once a borrow like the one in this answer ends, since a key or a fault beside
+    /// it may hold a borrow too.
+    pub fn try_get_or_insert<E, F: FnOnce(&K) -> Result<V, E>>(
+        &mut self,
+        key: K,
+        f: F,
+    ) -> Result<(usize, &V), TryFault<K, V, E>>
+    where
+        K: Drop,
+        F: Drop,
+        requires { IsNone (at K.cmp self.old.pairs key) → FnOnceTakesAt F.FnOnce f key }
+        ensures place { IfOk result (λ there. there.0 ≡ place K.cmp self.old.pairs key) }
+        ensures present { IsSome (at K.cmp self.old.pairs key) → IsOk result }
+        ensures value { IsSome (at K.cmp self.old.pairs key) → IfOk result (λ there. Some there.1.now ≡ value_at K.cmp self.old.pairs key) }
+        ensures answered { IsNone (at K.cmp self.old.pairs key) → IfOk result (λ there. FnOnceReturnsAt F.FnOnce f key (Ok there.1.now)) }
+        ensures closure { IfClosure result (λ fault. FnOnceReturnsAt F.FnOnce f key (Err fault)) }
+        ensures full { IfNoRoom result (λ _ _. self.old.room ≡ 0) }
+        ensures back { IfNoRoom result (λ k v. (k ≡ key) × FnOnceReturnsAt F.FnOnce f key (Ok v)) }
+    {
+        let index = self.try_find_or_insert(key, f)?;
+        Ok((index, self.value_there(index)))
+    }
+
+    /// The place of a key. Where the key is absent, its value is what `f` answers for it, and is placed.
+    ///
+    /// Where an equal key is there, `f` is not called and the key is given up. Where `f` answers a fault, that is the
+    /// answer, the key is given up, and nothing is changed. It is refused only where the key is absent and there is no
+    /// room: then the key and what `f` answered come back and the list stays. It compares at most once for each binary
+    /// digit of the length, and moves the pairs with greater keys up by one where a pair is placed. The Rust crate has
+    /// `try_get_or_insert` alone.
+    pub fn try_find_or_insert<E, F: FnOnce(&K) -> Result<V, E>>(
+        &mut self,
+        key: K,
+        f: F,
+    ) -> Result<usize, TryFault<K, V, E>>
+    where
+        K: Drop,
+        F: Drop,
+        requires { IsNone (at K.cmp self.old.pairs key) → FnOnceTakesAt F.FnOnce f key }
+        ensures place { IfOk result (λ index. index ≡ place K.cmp self.old.pairs key) }
+        ensures present { IsSome (at K.cmp self.old.pairs key) → IsOk result }
+        ensures unchanged { IsSome (at K.cmp self.old.pairs key) → self.new ≡ self.old }
+        ensures value { IsSome (at K.cmp self.old.pairs key) → IfOk result
+            (λ index. option_map (λ p. p.1) (slice_get self.old.pairs index) ≡ value_at K.cmp self.old.pairs key) }
+        ensures put { IsNone (at K.cmp self.old.pairs key) → OnOk result
+            ((v : V) × FnOnceReturnsAt F.FnOnce f key (Ok v) × (self.new.pairs ≡ put K.cmp self.old.pairs key v)) }
+        ensures closure { IfClosure result (λ fault. FnOnceReturnsAt F.FnOnce f key (Err fault) × (self.new ≡ self.old)) }
+        ensures full { IfNoRoom result (λ _ _. self.old.room ≡ 0) }
+        ensures back { IfNoRoom result (λ k v. (k ≡ key) × FnOnceReturnsAt F.FnOnce f key (Ok v)) }
+        ensures refused { IfNoRoom result (λ _ _. self.new.pairs ≡ self.old.pairs) }
+        ensures room { self.old.room ≤ self.new.room + 1 }
+    {
+        let index = match self.search(&key, &mut Count::new()) {
+            Ok(index) => return Ok(index),
+            Err(index) => index,
+        };
+        let value = match f(&key) {
+            Ok(value) => value,
+            Err(fault) => return Err(TryFault::Closure(fault)),
+        };
+        match self.place(index, key, value) {
+            Ok(()) => Ok(index),
+            Err(refused) => {
+                let (key, value) = refused.back;
+                Err(TryFault::NoRoom { key, value })
             }
         }
     }
@@ -90,6 +217,66 @@ impl<K: Ord, V, S: StoreMut<K, V>> LiteMap<K, V, S> {
             Ok(index) => Some(self.remove_at(index)),
             Err(_) => None,
         }
+    }
+
+    /// Takes out a pair for whose key `f` answers `Equal`, and answers its value. Its key is given up.
+    ///
+    /// Over the keys `f` has to answer `Less`, then `Equal`, then `Greater`. Where several keys answer `Equal` any of them
+    /// may be the one found. It takes no memory, and asks `f` at most once for each binary digit of the length. Where
+    /// `f` answers `Equal` nowhere nothing is changed, and the room is kept; else nothing is promised of the room. The
+    /// Rust crate has no such call.
+    pub fn remove_by<F: FnMut(&K) -> Ordering>(&mut self, f: F) -> Option<V>
+    where
+        K: Drop,
+        requires { Shaped F.FnMut self.old.pairs f }
+        ensures found { RemovesFound F.FnMut self.old.pairs f result self.new.pairs }
+        ensures unchanged { IsNone result → self.new ≡ self.old }
+    {
+        match self.find_index_by(f) {
+            Ok(index) => Some(self.remove_at(index)),
+            Err(_) => None,
+        }
+    }
+
+    /// Gives up all pairs. Nothing is promised of the room.
+    pub fn clear(&mut self)
+    where
+        K: Drop,
+        V: Drop,
+        ensures { self.new.pairs ≡ [] }
+    {
+        self.store.lm_clear();
+    }
+
+    /// Takes this much room at least, or is refused for want of memory. The room is not lowered.
+    pub fn reserve(&mut self, additional: usize) -> Result<(), AllocError>
+        ensures pairs { self.new.pairs ≡ self.old.pairs }
+        ensures room { OnOk result (additional ≤ self.new.room) }
+        ensures room_not_lowered { self.old.room ≤ self.new.room }
+    {
+        self.store.lm_reserve(additional)
+    }
+
+    // Whether the key is above all others. It compares with the last one.
+    fn is_above_all(&self, key: &K) -> bool
+        ensures { IsTrue result ↔ AllBelow K.cmp self.now.pairs key.now }
+    {
+        match self.store.lm_last() {
+            None => true,
+            Some((last, _)) => last.cmp(key).is_lt(),
+        }
+    }
+
+    // Puts a pair whose key is above all others behind them.
+    fn append(&mut self, key: K, value: V) -> Result<(), NoRoom<(K, V)>>
+        requires { AllBelow K.cmp self.old.pairs key }
+        ensures appended { OnOk result (self.new.pairs ≡ self.old.pairs ++ (key, value) ∷ []) }
+        ensures unchanged { OnErr result (self.new.pairs ≡ self.old.pairs) }
+        ensures full { OnErr result (self.old.room ≡ 0) }
+        ensures back { IfErr result (λ refused. refused.back ≡ (key, value)) }
+        ensures room { self.old.room ≤ self.new.room + 1 }
+    {
+        self.store.lm_push(key, value)
     }
 
     // Takes out the pair at a place, and answers its value.
@@ -125,5 +312,18 @@ impl<K: Ord, V, S: StoreMut<K, V>> LiteMap<K, V, S> {
         ensures room { self.old.room ≤ self.new.room + 1 }
     {
         self.store.lm_insert(index, key, value)
+    }
+}
+
+impl<K: Ord + Drop, V: Drop, S: StoreBulkMut<K, V>> LiteMap<K, V, S> {
+    /// Keeps the pairs of which `f` answers yes, in their order, and gives up the others.
+    ///
+    /// `f` is asked once of each pair, in order. It takes no memory, and compares no keys. Nothing is promised of the
+    /// room.
+    pub fn retain<F: FnMut(&K, &V) -> bool>(&mut self, f: F)
+        requires { F.IsAlwaysCallable f }
+        ensures { Kept F.FnMut f self.old.pairs self.new.pairs }
+    {
+        self.store.lm_retain(f);
     }
 }

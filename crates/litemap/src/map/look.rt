@@ -1,12 +1,13 @@
 //! Calls that look at a map. None takes memory.
-ghost use Rattle.std.specs.Prelude.{◌≡◌, length, slice_get};
+ghost use Rattle.std.specs.Prelude.{◌≡◌, ◌==◌, ◌-◌, ◌<◌, IsSome, Some, is_some, length, slice_get};
 ghost use Rattle.std.specs.Map.Iter.{deref_pair};
 ghost use Rattle.std.specs.Option.{option_copied, option_map};
 ghost use Rattle.litemap_store.specs.Counts.{RisesByAtMost};
 ghost use Rattle.litemap_store.specs.Digits.{digits};
-ghost use Rattle.litemap_store.specs.Pairs.{index_of, value_at};
+ghost use Rattle.litemap_store.specs.Pairs.{at, index_of, value_at};
 ghost use Rattle.litemap_store.specs.Search.{Found, Shaped};
 ghost use Rattle.litemap_store.specs.Splits.{Splits};
+ghost use Rattle.litemap.specs.FoundBy.{GetsFound};
 
 use crate::LiteMap;
 use litemap_store::count::Count;
@@ -21,11 +22,32 @@ impl<K: Ord, V, S: Store<K, V>> LiteMap<K, V, S> {
         self.store.lm_len()
     }
 
+    /// Whether there is no pair.
+    pub fn is_empty(&self) -> bool
+        ensures { result ≡ (length self.now.pairs == 0) }
+    {
+        self.store.lm_is_empty()
+    }
+
     /// The pair at a place, `None` from the length on.
     pub fn get_indexed(&self, index: usize) -> Option<(&K, &V)>
         ensures { option_map deref_pair result ≡ slice_get self.now.pairs index }
     {
         self.store.lm_get(index)
+    }
+
+    /// The pair with the smallest key, `None` where there is no pair.
+    pub fn first(&self) -> Option<(&K, &V)>
+        ensures { option_map deref_pair result ≡ slice_get self.now.pairs 0 }
+    {
+        self.store.lm_get(0)
+    }
+
+    /// The pair with the greatest key, `None` where there is no pair.
+    pub fn last(&self) -> Option<(&K, &V)>
+        ensures { option_map deref_pair result ≡ slice_get self.now.pairs (length self.now.pairs - 1) }
+    {
+        self.store.lm_last()
     }
 
     /// The value of the pair with an equal key, if there is one.
@@ -48,6 +70,43 @@ impl<K: Ord, V, S: Store<K, V>> LiteMap<K, V, S> {
         }
     }
 
+    /// The value at a place that `f` answers `Equal` for, `None` where it answers `Equal` nowhere.
+    ///
+    /// Over the keys `f` has to answer `Less`, then `Equal`, then `Greater`. Where several keys answer `Equal` any of them
+    /// may be the one found. It asks `f` at most once for each binary digit of the length.
+    pub fn get_by<F: FnMut(&K) -> Ordering>(&self, f: F) -> Option<&V>
+        requires { Shaped F.FnMut self.now.pairs f }
+        ensures { GetsFound F.FnMut self.now.pairs f (option_copied result) }
+    {
+        match self.find_index_by(f) {
+            Ok(index) => self.value_of(index),
+            Err(_) => None,
+        }
+    }
+
+    /// Whether there is a pair with an equal key.
+    ///
+    /// It compares at most once for each binary digit of the length.
+    pub fn contains_key(&self, key: &K) -> bool
+        ensures { result ≡ is_some (at K.cmp self.now.pairs key.now) }
+    {
+        self.search(key, &mut Count::new()).is_ok()
+    }
+
+    /// The value of the pair with an equal key, which has to be there.
+    ///
+    /// It compares at most once for each binary digit of the length. The Rust crate has this as the operator `[]`, which
+    /// panics where there is no such pair.
+    pub fn index(&self, key: &K) -> &V
+        requires { IsSome (at K.cmp self.now.pairs key.now) }
+        ensures { Some result.now ≡ value_at K.cmp self.now.pairs key.now }
+    {
+        match self.get(key) {
+            Some(value) => value,
+            None => unreachable!(),
+        }
+    }
+
     /// `Ok` of the key's place where an equal key is there, else `Err` of the place where it would go: the number of
     /// smaller keys.
     ///
@@ -58,7 +117,7 @@ impl<K: Ord, V, S: Store<K, V>> LiteMap<K, V, S> {
         self.find_index_counted(key, &mut Count::new())
     }
 
-    /// `find_index`, with its comparisons counted.
+    /// `find_index`, with its comparisons counted. The Rust crate has no such call.
     pub fn find_index_counted(&self, key: &K, count: &mut Count) -> Result<usize, usize>
         ensures place { result ≡ index_of K.cmp self.now.pairs key.now }
         ensures cost { RisesByAtMost (digits (length self.now.pairs)) count.old count.new }
@@ -85,6 +144,17 @@ impl<K: Ord, V, S: Store<K, V>> LiteMap<K, V, S> {
     {
         let (_, value) = self.store.lm_get(index)?;
         Some(value)
+    }
+
+    // The value at a place where a pair stands.
+    pub(super) fn value_there(&self, index: usize) -> &V
+        requires { index < length self.now.pairs }
+        ensures { option_map (λ p. p.1) (slice_get self.now.pairs index) ≡ Some result.now }
+    {
+        match self.value_of(index) {
+            Some(value) => value,
+            None => unreachable!(),
+        }
     }
 
     // The one search of all calls by key: the place where the key splits the pairs.

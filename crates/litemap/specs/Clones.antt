@@ -1,0 +1,18 @@
+-- Clones of keys, values and pairs. A clone need not be the same value as its original: a text's clone has bytes of its
+-- own.
+use Rattle.std.specs.Prelude.{◌≡◌, List}
+use Rattle.std.specs.List.{AllZip}
+use Rattle.std.specs.declared.cmp.Ordering.{Ordering}
+use Rattle.std.specs.declared.cmp.Ordering.TheVariants.{Equal}
+
+-- a clone of a key compares Equal to its original
+abbrev pub ClonesCompareEqual : {K : Type 0} → (K → K → Ordering) → (K → K → Type 0) → Type 0
+ClonesCompareEqual {K} cmp is_clone = (x y : K) → is_clone x y → cmp x y ≡ Equal
+
+-- a clone is the same value as its original
+abbrev pub ClonesAreSame : {X : Type 0} → (X → X → Type 0) → Type 0
+ClonesAreSame {X} is_clone = (x y : X) → is_clone x y → y ≡ x
+
+-- the second list has, pair by pair, a clone of the first one's key and a clone of its value
+abbrev pub PairsAreClones : {K V : Type 0} → (K → K → Type 0) → (V → V → Type 0) → List (K × V) → List (K × V) → Type 0
+PairsAreClones key_clone value_clone L M = AllZip (λ p q. key_clone p.0 q.0 × value_clone p.1 q.1) L M
