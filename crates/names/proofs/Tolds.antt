@@ -3,7 +3,7 @@ use Rattle.std.proofs.Common.{◌≡◌, ◌≤◌, ◌+◌, ◌++◌, ◌∷◌
 use Rattle.std.specs.Io.KnownBytes.{Appends}
 use Rattle.std.proofs.KnownBytes.{Appends-trans}
 use Rattle.names.specs.Line.{lines_of}
-use Rattle.names.specs.Told.{Does, DoesEach, Names, Told, BadLine, NoMemory, no_memory, bad_line}
+use Rattle.names.specs.Told.{Does, DoesEach, Names, Told, BadLine, NoMemory, no_memory, bad_line, most_bytes}
 use Rattle.names.specs.Rest.{lines_left, bytes_left}
 use Rattle.names.specs.LinesEnd.{LinesEnded}
 use Rattle.names.specs.declared.program.LinesEnd.TheVariants as end
@@ -12,10 +12,10 @@ abbrev no_names : Names
 no_names = record { pairs = []; room = 0 }
 
 -- memory was refused before any line was done
-pub none_done : (bytes : List ℕ) (status : ℕ) → length bytes ≤ 1048576 → status ≡ 3 → Told bytes no_memory status
+pub none_done : (bytes : List ℕ) (status : ℕ) → length bytes ≤ most_bytes → status ≡ 3 → Told bytes no_memory status
 none_done bytes status h s = NoMemory [] (lines_of bytes) [] h refl (no_names, no_names, refl, (refl, refl)) refl s
 
-module _ (a b c : Option (List ℕ)) (bytes last : List ℕ) (status : ℕ) (fits : length bytes ≤ 1048576) (second : Appends b c last) where
+module _ (a b c : Option (List ℕ)) (bytes last : List ℕ) (status : ℕ) (fits : length bytes ≤ most_bytes) (second : Appends b c last) where
   pub told_bad_line : (n : ℕ) → (text : List ℕ) × Appends a b text × LinesEnded (end.BadLine n) (lines_of bytes) text → last ≡ bad_line n → status ≡ 2
       → (out : List ℕ) × Appends a c out × Told bytes out status
   told_bad_line n (text, first, (before, bad, later, e, w, b, en)) l s =

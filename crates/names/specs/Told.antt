@@ -6,7 +6,10 @@ use Rattle.std.specs.Fmt.{decimal}
 use Rattle.litemap.specs.Seen.{Seen}
 use Rattle.litemap.specs.Steps.{Answer, Call, Find, Get, Insert, Place, Remove, Step, Value}
 use Rattle.names.specs.Line.{IsBad, Spells, SpellsAll, lines_of}
-use Rattle.names.specs.declared.input.TheConstants.{MOST_BYTES}
+
+-- the most bytes that a run takes
+abbrev pub most_bytes : ℕ
+most_bytes = 1048576
 
 -- a map from texts to texts, which are ordered by their bytes
 abbrev pub Names : Type 0
@@ -67,9 +70,9 @@ read_fault = line (codes "read fault")
 
 -- what a run wrote for the bytes that it read, and its status, where no read and no write met a fault
 pub data Told (bytes out : List ℕ) (status : ℕ) : Type 0 where
-  AllDone : length bytes ≤ MOST_BYTES → Writes (lines_of bytes) out → status ≡ 0 → Told bytes out status
-  BadLine : (before later : List (List ℕ)) (bad text : List ℕ) → length bytes ≤ MOST_BYTES → lines_of bytes ≡ before ++ (bad ∷ later)
+  AllDone : length bytes ≤ most_bytes → Writes (lines_of bytes) out → status ≡ 0 → Told bytes out status
+  BadLine : (before later : List (List ℕ)) (bad text : List ℕ) → length bytes ≤ most_bytes → lines_of bytes ≡ before ++ (bad ∷ later)
       → Writes before text → IsBad bad → out ≡ text ++ bad_line (length before + 1) → status ≡ 2 → Told bytes out status
-  TooLong : length bytes ≡ MOST_BYTES + 1 → out ≡ too_long → status ≡ 2 → Told bytes out status
-  NoMemory : (before later : List (List ℕ)) (text : List ℕ) → length bytes ≤ MOST_BYTES → lines_of bytes ≡ before ++ later
+  TooLong : length bytes ≡ most_bytes + 1 → out ≡ too_long → status ≡ 2 → Told bytes out status
+  NoMemory : (before later : List (List ℕ)) (text : List ℕ) → length bytes ≤ most_bytes → lines_of bytes ≡ before ++ later
       → Writes before text → out ≡ text ++ no_memory → status ≡ 3 → Told bytes out status

@@ -3,9 +3,9 @@ ghost use Rattle.std.specs.Prelude.{◌≡◌, ◌≢◌, ◌≤◌, ◌⊎◌, 
 ghost use Rattle.std.specs.Io.KnownBytes.{Appends, Consumes, IsAtEnd};
 ghost use Rattle.names.specs.Line.{lines_of};
 ghost use Rattle.names.specs.LinesEnd.{LinesEnded};
-ghost use Rattle.names.specs.Told.{Told, read_fault};
+ghost use Rattle.names.specs.Told.{Told, most_bytes, read_fault};
 
-use crate::input::{Ending, MOST_BYTES, read_input};
+use crate::input::{Ending, read_input};
 use crate::lines::first_line;
 use crate::session::{Names, reply};
 use crate::watch::Watch;
@@ -42,7 +42,7 @@ pub fn run<R: Read, W: Write>(alloc: Global, reader: &mut Watch<R>, writer: &mut
         × Consumes (⟦<Watch<R> as Read>⟧.remaining reader.old) (⟦<Watch<R> as Read>⟧.remaining reader.new) bytes
         × Appends (⟦<Watch<W> as Write>⟧.contents writer.old) (⟦<Watch<W> as Write>⟧.contents writer.new) out
         × Told bytes out result
-        × (result ≢ 3 → length bytes ≤ MOST_BYTES → IsAtEnd (⟦<Watch<R> as Read>⟧.remaining reader.new)) }
+        × (result ≢ 3 → length bytes ≤ most_bytes → IsAtEnd (⟦<Watch<R> as Read>⟧.remaining reader.new)) }
 {
     let mut input = Vec::new(alloc);
     match read_input(reader, &mut input) {
@@ -55,7 +55,7 @@ pub fn run<R: Read, W: Write>(alloc: Global, reader: &mut Watch<R>, writer: &mut
 
 // Does the lines of the input, writes the last line, and gives the status.
 fn run_lines<W: Write>(alloc: Global, input: &[u8], writer: &mut Watch<W>) -> u8
-    requires { length input.now ≤ MOST_BYTES }
+    requires { length input.now ≤ most_bytes }
     ensures told { writer.new.failed ≡ false → (out : List ℕ)
         × Appends (W.contents writer.old.inner) (W.contents writer.new.inner) out × Told input.now out result }
     ensures failed { writer.old.failed ≡ false → (result ≡ 4) ↔ (writer.new.failed ≡ true) }
@@ -77,7 +77,7 @@ fn answer_lines<W: Write>(
     input: &[u8],
     writer: &mut Watch<W>,
 ) -> io::Result<LinesEnd>
-    requires { length input.now ≤ MOST_BYTES }
+    requires { length input.now ≤ most_bytes }
     ensures ended { IfOk result (λ end. (text : List ℕ)
         × Appends (W.contents writer.old.inner) (W.contents writer.new.inner) text × LinesEnded end (lines_of input.now) text) }
     ensures ok { IfOk result (λ _. writer.new.failed ≡ writer.old.failed) }

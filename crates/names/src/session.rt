@@ -40,6 +40,7 @@ fn answer(alloc: Global, names: &mut Names, command: Command<'_>) -> Result<Stri
     }
 }
 
+// Puts a value at a key.
 fn insert(alloc: Global, names: &mut Names, key: &str, value: &str) -> Result<String, AllocError>
     ensures { IfOk result (λ text. Answers (names_of names.old) (Insert key.now value.now) (string_bytes text) (names_of names.new)) }
 {
@@ -51,6 +52,7 @@ fn insert(alloc: Global, names: &mut Names, key: &str, value: &str) -> Result<St
     }
 }
 
+// What answers `put`, by the value before.
 fn insert_reply(alloc: Global, old: Option<String>) -> Result<String, AllocError>
     ensures { IfOk result (λ text. (key value : List ℕ) → answer_text (Insert key value) (Value (option_map string_bytes old)) ≡ Some (string_bytes text)) }
 {
@@ -60,6 +62,7 @@ fn insert_reply(alloc: Global, old: Option<String>) -> Result<String, AllocError
     }
 }
 
+// Looks at the value of a key.
 fn get(alloc: Global, names: &Names, key: &str) -> Result<String, AllocError>
     ensures { IfOk result (λ text. Answers (names_of names.now) (Get key.now) (string_bytes text) (names_of names.now)) }
 {
@@ -67,6 +70,7 @@ fn get(alloc: Global, names: &Names, key: &str) -> Result<String, AllocError>
     value_reply(alloc, names.get(&key))
 }
 
+// Removes a key.
 fn remove(alloc: Global, names: &mut Names, key: &str) -> Result<String, AllocError>
     ensures { IfOk result (λ text. Answers (names_of names.old) (Remove key.now) (string_bytes text) (names_of names.new)) }
 {
@@ -75,6 +79,7 @@ fn remove(alloc: Global, names: &mut Names, key: &str) -> Result<String, AllocEr
     value_reply(alloc, removed.as_ref())
 }
 
+// What answers `get` and `del`, by the value.
 fn value_reply(alloc: Global, value: Option<&String>) -> Result<String, AllocError>
     ensures { IfOk result (λ text. string_bytes text ≡ value_text (option_map string_bytes (option_copied value.entry))) }
 {
@@ -84,6 +89,7 @@ fn value_reply(alloc: Global, value: Option<&String>) -> Result<String, AllocErr
     }
 }
 
+// Finds the place of a key.
 fn find(alloc: Global, names: &Names, key: &str) -> Result<String, AllocError>
     ensures { IfOk result (λ text. Answers (names_of names.now) (Find key.now) (string_bytes text) (names_of names.now)) }
 {
@@ -91,6 +97,7 @@ fn find(alloc: Global, names: &Names, key: &str) -> Result<String, AllocError>
     place_reply(alloc, names.find_index(&key))
 }
 
+// What answers `find`, by the place.
 fn place_reply(alloc: Global, place: Result<usize, usize>) -> Result<String, AllocError>
     ensures { IfOk result (λ text. (key : List ℕ) → answer_text (Find key) (Place place) ≡ Some (string_bytes text)) }
 {
@@ -100,6 +107,7 @@ fn place_reply(alloc: Global, place: Result<usize, usize>) -> Result<String, All
     }
 }
 
+// The text of all pairs, in order.
 fn show(alloc: Global, names: &Names) -> Result<String, AllocError>
     ensures { IfOk result (λ text. string_bytes text ≡ flat_map pair_text (names_of names.now).pairs) }
 {
@@ -110,7 +118,7 @@ fn show(alloc: Global, names: &Names) -> Result<String, AllocError>
     Ok(text)
 }
 
-// Puts the pair at a place behind the text.
+// Adds the pair at a place to the text.
 fn push_pair(text: &mut String, names: &Names, index: usize) -> Result<(), AllocError>
     ensures { OnOk result (IfSome (slice_get names.now.pairs index) (λ pair. string_bytes text.new ≡ string_bytes text.old ++ pair_text (pair_bytes pair))) }
 {
