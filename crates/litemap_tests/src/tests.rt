@@ -2,7 +2,9 @@
 //!
 //! `keys` has the key types that they need, and `lists` compares a map with a list.
 mod comparisons;
+mod const_lookups;
 mod insertions;
 mod keys;
 mod lists;
 mod lookups;
+mod views;
