@@ -3,8 +3,8 @@ ghost use Rattle.std.specs.Ordering.{nat_cmp};
 ghost use Rattle.litemap_store.specs.Pairs.{Rising};
 
 use crate::count::Count;
-use crate::store::{Store, StoreBulkMut, StoreConstEmpty, StoreMut, StoreSlice};
 use crate::slice_impl::SliceStore;
+use crate::store::{Store, StoreBulkMut, StoreConstEmpty, StoreMut, StoreSlice};
 use crate::{NoRoom, by_scan, laws};
 use std::alloc::{AllocError, Global};
 use std::cmp::Ordering;
