@@ -2,15 +2,15 @@
 --     Narrowed ord l low high      what is known of the places below low and from high on
 --     Narrowed-whole, -less, -greater      at the start, and after an answer at the place m;  Finds-here, Finds-nowhere      at the two ends
 --     takes, next      from `Shape`: the closure may be asked for a key of the list, and what it answers
-use Rattle.std.proofs.Common.{◌≡◌, ◌≢◌, ℕ, zero, suc, ◌+◌, ◌<◌, ◌≤◌, Bool, true, false, cond, List, [], ◌∷◌, length, Some, Ok, Err, slice_get, slice_index_or, Bor, refl, sym, ap, ◌∙◌, subst, arith, inl, inr, ◌⊎◌}
+use Rattle.std.proofs.Common.{◌≡◌, ◌≢◌, ℕ, zero, suc, ◌+◌, ◌<◌, ◌≤◌, Bool, true, false, List, [], ◌∷◌, length, Some, Ok, Err, slice_get, slice_index_or, Bor, refl, sym, ap, ◌∙◌, subst, arith, inl, inr, ◌⊎◌}
 use denote.Param.Members.{Mut}
-use Rattle.std.specs.Fn.{Called, CalledAt, TakesAt}
+use Rattle.std.specs.Fn.{CalledAt, TakesAt}
 use Rattle.std.specs.declared.cmp.Ordering.{Ordering}
 use Rattle.std.specs.declared.cmp.Ordering.TheVariants.{Less, Equal, Greater}
 use Rattle.std.specs.Ordering.{is_lt, ordering_index}
-use Rattle.std.specs.List.{All, AllPairs, AllWithin, Any, HoldsAt, filter}
+use Rattle.std.specs.List.{AllWithin, Any, filter}
 use Rattle.std.proofs.lemmas.Option.{get_or_from_slice_get, slice_get_within}
-use Rattle.litemap_store.specs.Search.{Answers, AnswersEach, Ascends, Finds, Shape, less}
+use Rattle.litemap_store.specs.Search.{Ascends, Finds, Shape}
 
 top : (o : Ordering) → 2 ≤ ordering_index o → o ≡ Greater
 top Less h = absurd (omega arith)
