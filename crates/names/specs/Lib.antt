@@ -1,6 +1,7 @@
 -- The definitions that the contracts cite. `Told` is the page to read first.
 pub mod Told
 pub mod Line
+pub mod Laws
 pub mod Command
 pub mod Texts
 pub mod Watched

@@ -15,9 +15,11 @@ most_bytes = 1048576
 abbrev pub Names : Type 0
 Names = Seen (List ℕ) (List ℕ)
 
+-- the text as a line: a line feed ends it
 abbrev pub line : List ℕ → List ℕ
 line text = text ++ (10 ∷ [])
 
+-- a value, or none
 abbrev pub value_text : Option (List ℕ) → List ℕ
 value_text None = line (codes "none")
 value_text (Some value) = line (codes "= " ++ value)
@@ -32,6 +34,7 @@ answer_text (Find key) (Place (Ok i)) = Some (line (codes "ok " ++ decimal i))
 answer_text (Find key) (Place (Err i)) = Some (line (codes "err " ++ decimal i))
 answer_text call answer = None
 
+-- a key and its value
 abbrev pub pair_text : List ℕ × List ℕ → List ℕ
 pair_text pair = line (pair.0 ++ (32 ∷ pair.1))
 
@@ -56,15 +59,19 @@ DoesEach old (said ∷ more) text end =
 abbrev pub Writes : List (List ℕ) → List ℕ → Type 0
 Writes said text = (start : Names) × (end : Names) × (start.pairs ≡ []) × DoesEach start said text end
 
+-- the last line where line n is bad
 abbrev pub bad_line : ℕ → List ℕ
 bad_line n = line (codes "bad line " ++ decimal n)
 
+-- the last line where the input is too long
 abbrev pub too_long : List ℕ
 too_long = line (codes "input too long")
 
+-- the last line where memory was refused
 abbrev pub no_memory : List ℕ
 no_memory = line (codes "no memory")
 
+-- the last line where a read met a fault
 abbrev pub read_fault : List ℕ
 read_fault = line (codes "read fault")
 

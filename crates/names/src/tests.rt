@@ -54,6 +54,20 @@ impl<W: Write> Write for FailAt<W> {
     }
 }
 
+// Takes every text, and refuses each flush.
+#[derive(Drop)]
+struct RefusesFlush;
+
+impl Write for RefusesFlush {
+    fn write(&mut self, buf: &[u8]) -> io::Result<usize> {
+        Ok(buf.len())
+    }
+
+    fn flush(&mut self) -> io::Result<()> {
+        Err(io::Error::from(ErrorKind::Other))
+    }
+}
+
 const LINES: &[u8] = b"put b 2\nput a 1\nput b 3\nfind c\nall\n";
 
 // What has been written once none of `LINES` is done, once the first is, and so on.
@@ -250,6 +264,9 @@ fn a_watch_notes_faults_alone(rt: HostRuntime) -> Result<(), Fail> {
     assert!(rt; !writer.failed);
     assert_eq!(rt; writer.write(b"a")?, 0);
     assert!(rt; writer.failed);
+    let mut writer = Watch::new(RefusesFlush);
+    assert!(rt; writer.flush().is_err());
+    assert!(rt; !writer.failed);
     let mut bytes = [0u8; 4];
     let mut reader = Watch::new(FailAt::new(b"ab".as_slice(), 2, ErrorKind::Interrupted));
     assert_eq!(rt; reader.read(&mut bytes)?, 2);
