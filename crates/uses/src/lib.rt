@@ -1,0 +1,4 @@
+//! Callers of a map, as a user would write them. Each states its answer by the sorted list.
+#![tactic(auto)]
+
+pub mod names;

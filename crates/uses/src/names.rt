@@ -1,0 +1,53 @@
+//! Names looked up in tables of which a map borrows the pairs.
+ghost use Rattle.std.specs.Prelude.{◌≡◌, IfSome};
+ghost use Rattle.std.specs.Option.{option_map};
+ghost use Rattle.litemap_store.specs.Pairs.{Rising, place, value_at};
+ghost use Rattle.litemap.specs.ByBytes.{by_bytes};
+
+use litemap::LiteMap;
+use litemap_store::slice_impl::SliceStore;
+
+/// The place and the value of a name in a table whose names rise strictly by their bytes.
+///
+/// The value is lent by the table: it outlives the map that is made here for the lookup. That a constant table rises is
+/// shown by computing it, so its user tests nothing.
+pub fn find_in_table<'a, 'k, V>(table: &'a [(&'k str, V)], name: &str) -> Option<(usize, &'a V)>
+    requires { Rising by_bytes table.now }
+    ensures value { option_map (λ found. found.1.now) result ≡ value_at by_bytes table.now name.entry }
+    ensures place { IfSome result (λ found. found.0 ≡ place by_bytes table.now name.entry) }
+{
+    let map = LiteMap::from_sorted_store_unchecked(SliceStore::new(table));
+    map.const_get_with_index(name)
+}
+
+/// The place and the value of a name in a map over a vector.
+pub fn find_in_map<'a, 'k, V>(
+    map: &'a LiteMap<&'k str, V, Vec<(&'k str, V)>>,
+    name: &str,
+) -> Option<(usize, &'a V)>
+    ensures value { option_map (λ found. found.1.now) result ≡ value_at by_bytes map.now.pairs name.entry }
+    ensures place { IfSome result (λ found. found.0 ≡ place by_bytes map.now.pairs name.entry) }
+{
+    map.as_sliced().const_get_with_index(name)
+}
+
+#[cfg(test)]
+mod tests {
+    use super::*;
+    use std::test::Fail;
+
+    const DAYS: &[(&str, u32)] = &[("April", 30), ("February", 28), ("January", 31)];
+
+    #[test]
+    fn names_are_found_in_a_table_and_in_a_map(rt: HostRuntime) -> Result<(), Fail> {
+        assert_eq!(rt; find_in_table(DAYS, "February"), Some((1, &28)));
+        assert_eq!(rt; find_in_table(DAYS, "Febru"), None);
+        let mut map = LiteMap::new_vec(rt.alloc());
+        for (name, days) in DAYS {
+            map.insert(*name, *days)?;
+        }
+        assert_eq!(rt; find_in_map(&map, "January"), Some((2, &31)));
+        assert_eq!(rt; find_in_map(&map, "March"), None);
+        Ok(())
+    }
+}
