@@ -1,4 +1,5 @@
 //! Callers of a map, as a user would write them. Each states its answer by the sorted list.
 #![tactic(auto)]
 
+pub mod made;
 pub mod names;

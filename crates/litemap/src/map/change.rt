@@ -119,9 +119,10 @@ impl<K: Ord, V, S: StoreMut<K, V>> LiteMap<K, V, S> {
 
     /// The place and the value of a key. Where the key is absent, its value is what `f` answers for it, and is placed.
     ///
-    /// It is `try_find_or_insert` with the value there. What it leaves of the map is promised there and not here: a
-    /// contract can't yet say what a map is once a borrow like the one in this answer ends, since a key or a fault beside
-    /// it may hold a borrow too.
+    /// It is `try_find_or_insert` with the value there, and leaves of the map what that call says. Callers can't learn it
+    /// from a contract here: what a lender ends as is told by an answer that holds shared references and plain data alone,
+    /// and here a key, a value or a fault may stand beside the reference. Who goes on to use the map calls
+    /// `try_find_or_insert` and looks at the place: there is no second search.
     pub fn try_get_or_insert<E, F: FnOnce(&K) -> Result<V, E>>(
         &mut self,
         key: K,

@@ -1,0 +1,56 @@
+//! Values that are made where their key is absent.
+ghost use Rattle.std.specs.Prelude.{◌≡◌, Ok, Err, Some, IsNone, IsSome, IsOk, IfOk, OnErr};
+ghost use Rattle.std.specs.Fn.{FnOnceReturnsAt, FnOnceTakesAt};
+ghost use Rattle.litemap_store.specs.Pairs.{at, put, value_at};
+ghost use Rattle.litemap.specs.TryFault.{IfClosure, IfNoRoom};
+
+use litemap::{LiteMap, TryFault};
+use litemap_store::store::StoreMut;
+
+/// The value of a key. Where the key is absent, it is what `f` answers for it, and the map has it from then on.
+///
+/// This is how a caller gets both from one search: what `try_get_or_insert` shows, and what the map is after.
+pub fn value_or_made<K: Ord, V: Copy, S: StoreMut<K, V>, E, F: FnOnce(&K) -> Result<V, E>>(
+    map: &mut LiteMap<K, V, S>,
+    key: K,
+    f: F,
+) -> Result<V, TryFault<K, V, E>>
+where
+    K: Drop,
+    F: Drop,
+    requires { IsNone (at K.cmp map.old.pairs key) → FnOnceTakesAt F.FnOnce f key }
+    ensures found { IsSome (at K.cmp map.old.pairs key) → IsOk result }
+    ensures value { IsSome (at K.cmp map.old.pairs key) → IfOk result (λ v. Some v ≡ value_at K.cmp map.old.pairs key) }
+    ensures unchanged { IsSome (at K.cmp map.old.pairs key) → map.new ≡ map.old }
+    ensures made { IsNone (at K.cmp map.old.pairs key) → IfOk result (λ v. FnOnceReturnsAt F.FnOnce f key (Ok v)) }
+    ensures put { IsNone (at K.cmp map.old.pairs key) → IfOk result (λ v. map.new.pairs ≡ put K.cmp map.old.pairs key v) }
+    ensures refused { OnErr result (map.new.pairs ≡ map.old.pairs) }
+    ensures closure { IfClosure result (λ fault. FnOnceReturnsAt F.FnOnce f key (Err fault)) }
+    ensures full { IfNoRoom result (λ _ _. map.old.room ≡ 0) }
+{
+    let index = map.try_find_or_insert(key, f)?;
+    match map.get_indexed(index) {
+        Some((_, value)) => Ok(*value),
+        None => unreachable!(),
+    }
+}
+
+#[cfg(test)]
+mod tests {
+    use super::*;
+    use std::test::Fail;
+
+    #[test]
+    fn a_value_is_made_once(rt: HostRuntime) -> Result<(), Fail> {
+        let mut map: LiteMap<u32, u32, Vec<(u32, u32)>> = LiteMap::new_vec(rt.alloc());
+        map.insert(3, 30)?;
+        let made: Result<u32, TryFault<u32, u32, u8>> = value_or_made(&mut map, 1, |_| Ok(10));
+        assert_eq!(rt; made, Ok(10));
+        let kept: Result<u32, TryFault<u32, u32, u8>> = value_or_made(&mut map, 1, |_| Err(7));
+        assert_eq!(rt; kept, Ok(10));
+        let refused: Result<u32, TryFault<u32, u32, u8>> = value_or_made(&mut map, 2, |_| Err(7));
+        assert_eq!(rt; refused, Err(TryFault::Closure(7)));
+        assert_eq!(rt; map.as_slice(), [(1, 10), (3, 30)].as_slice());
+        Ok(())
+    }
+}
