@@ -1,6 +1,6 @@
 use Rattle.std.proofs.Common.{◌∙◌}
-use Rattle.litemap_store.specs.Pairs.{Rising, put}
-use Rattle.litemap_store.proofs.Seams.{missing_insert, missing_within}
+use Rattle.litemap_store.specs.Pairs.{Rising}
+use Rattle.litemap_store.proofs.Seams.{missing_insert}
 use Rattle.litemap_store.proofs.Splitting.{Rising-put}
 use Rattle.litemap.proofs.Outcomes.{either_way, on_ok}
 use Rattle.litemap.proofs.map.LiteMap.place.Goals as goal

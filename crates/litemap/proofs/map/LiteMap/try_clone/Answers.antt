@@ -1,7 +1,5 @@
-use Rattle.std.proofs.Common.{◌≡◌, ◌≤◌, Some, length, slice_get, take, arith, rules, sym, subst}
+use Rattle.std.proofs.Common.{◌≡◌, length, arith, sym}
 use Rattle.std.proofs.Math.Seq.{take-length}
-use Rattle.std.proofs.lemmas.Map.Entries.{entries_from_clone}
-use Rattle.litemap.specs.Clones.{PairsAreClones}
 use Rattle.litemap.proofs.Clones.{PairsAreClones-more, Rising-clones}
 use Rattle.litemap.proofs.map.LiteMap.try_clone.Goals as goal
 

@@ -1,4 +1,4 @@
-use Rattle.std.proofs.Common.{◌≡◌, Ok, Some, refl, ap, sym, subst, ◌∙◌}
+use Rattle.std.proofs.Common.{◌≡◌, Ok, Some, ap, sym, subst, ◌∙◌}
 use Rattle.std.specs.Fn.{FnOnceReturnsAt}
 use Rattle.litemap_store.specs.Pairs.{at}
 use Rattle.litemap_store.proofs.Seams.{put_value}
