@@ -12,6 +12,7 @@ mod insertions;
 mod keys;
 mod lists;
 mod lookups;
+mod refusals;
 mod removals;
 mod rooms;
 mod scans;
