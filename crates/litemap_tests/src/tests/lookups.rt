@@ -1,29 +1,71 @@
 //! Calls that look.
+use super::lists::map_with_room;
+use crate::fixed_room::FixedRoom;
 use litemap::LiteMap;
-use litemap::store::StoreMut;
+use litemap::store::{Store, StoreMut};
+use std::alloc::Global;
 use std::process::Abort;
 use std::test::Fail;
 
-fn find_places<S: StoreMut<u32, u32> + Drop>(
-    rt: &impl Abort,
-    mut map: LiteMap<u32, u32, S>,
-) -> Result<(), Fail> {
+fn look_at_none<S: Store<u32, u8>>(rt: &impl Abort, map: &LiteMap<u32, u8, S>) {
     assert_eq!(rt; map.find_index(&5), Err(0));
-    for key in [20, 10, 30] {
-        map.insert(key, key)?;
-    }
+    assert_eq!(rt; map.len(), 0);
+    assert!(rt; map.is_empty());
+    assert!(rt; map.first().is_none());
+    assert!(rt; map.last().is_none());
+    assert!(rt; map.get_indexed(0).is_none());
+    assert!(rt; map.get(&5).is_none());
+    assert!(rt; !map.contains_key(&5));
+}
+
+fn look<S: StoreMut<u32, u8> + Drop>(rt: &impl Abort, alloc: Global) -> Result<(), Fail> {
+    let list = [(20, b'b'), (10, b'a'), (30, b'c')];
+    let map: LiteMap<u32, u8, S> = map_with_room(alloc, &list, 3)?;
     for (key, place) in [(5, Err(0)), (20, Ok(1)), (35, Err(3))] {
         assert_eq!(rt; map.find_index(&key), place, "of {key}");
+        assert_eq!(rt; map.get(&key).is_some(), place.is_ok(), "of {key}");
+        assert_eq!(rt; map.contains_key(&key), place.is_ok(), "of {key}");
     }
+    assert_eq!(rt; map.len(), 3);
+    assert!(rt; !map.is_empty());
+    assert_eq!(rt; map.get(&30), Some(&b'c'));
+    assert_eq!(rt; map.first(), Some((&10, &b'a')));
+    assert_eq!(rt; map.last(), Some((&30, &b'c')));
+    assert_eq!(rt; map.get_indexed(1), Some((&20, &b'b')));
+    assert_eq!(rt; map.get_indexed(3), None);
     Ok(())
 }
 
 #[test]
-fn a_key_has_a_place_and_an_absent_one_has_the_place_where_it_would_go(
+fn a_key_has_a_place_and_an_absent_one_the_place_where_it_would_go(
     rt: HostRuntime,
 ) -> Result<(), Fail> {
-    find_places(
+    look_at_none(
         &rt,
-        LiteMap::<u32, u32, Vec<(u32, u32)>>::new_vec(rt.alloc()),
-    )
+        &LiteMap::<u32, u8, Vec<(u32, u8)>>::new_vec(rt.alloc()),
+    );
+    look_at_none(&rt, &LiteMap::<u32, u8, Vec<(u32, u8)>>::new(rt.alloc()));
+    look_at_none(
+        &rt,
+        &LiteMap::<u32, u8, FixedRoom<u32, u8>>::new(rt.alloc()),
+    );
+    look::<Vec<(u32, u8)>>(&rt, rt.alloc())?;
+    look::<FixedRoom<u32, u8>>(&rt, rt.alloc())
+}
+
+#[test]
+fn texts_are_keys(rt: HostRuntime) -> Result<(), Fail> {
+    let alloc = rt.alloc();
+    let mut map = LiteMap::new_vec(alloc);
+    for (key, value) in [("one", "uno"), ("two", "dos"), ("three", "tres")] {
+        map.insert(key.to_string(alloc)?, value.to_string(alloc)?)?;
+    }
+    assert_eq!(rt; map.find_index(&"three".to_string(alloc)?), Ok(1));
+    assert_eq!(rt; map.find_index(&"four".to_string(alloc)?), Err(0));
+    assert!(rt; map.contains_key(&"two".to_string(alloc)?));
+    match map.get(&"two".to_string(alloc)?) {
+        Some(value) => assert_eq!(rt; value.as_str(), "dos"),
+        None => assert!(rt; false, "two is there"),
+    }
+    Ok(())
 }

@@ -1,4 +1,4 @@
-use Rattle.std.proofs.Common.{rules, ◌≡◌, refl, subst}
+use Rattle.std.proofs.Common.{rules, refl, subst}
 use denote.Param.Always.{always_mut, mut_by, mut_next}
 use Rattle.litemap_store.specs.Retain.{CalledOnPair}
 use Rattle.litemap_store.proofs.Retaining.{IsFiltered-by_view}
