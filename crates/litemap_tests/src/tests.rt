@@ -16,5 +16,6 @@ mod refusals;
 mod removals;
 mod rooms;
 mod scans;
+mod stores;
 mod views;
 mod writes;

@@ -2,7 +2,7 @@
 use super::lists::map_with_room;
 use crate::fixed_room::FixedRoom;
 use litemap::LiteMap;
-use litemap::store::{Store, StoreMut};
+use litemap::store::{Store, StoreBulkMut, StoreMut};
 use std::alloc::Global;
 use std::process::Abort;
 use std::test::Fail;
@@ -53,19 +53,40 @@ fn a_key_has_a_place_and_an_absent_one_the_place_where_it_would_go(
     look::<FixedRoom<u32, u8>>(&rt, rt.alloc())
 }
 
-#[test]
-fn texts_are_keys(rt: HostRuntime) -> Result<(), Fail> {
-    let alloc = rt.alloc();
-    let mut map = LiteMap::new_vec(alloc);
-    for (key, value) in [("one", "uno"), ("two", "dos"), ("three", "tres")] {
-        map.insert(key.to_string(alloc)?, value.to_string(alloc)?)?;
-    }
+// The value of a text's key, as a number.
+fn text_value<S: Store<String, u32>>(
+    alloc: Global,
+    map: &LiteMap<String, u32, S>,
+    key: &str,
+) -> Result<Option<u32>, Fail> {
+    let key = key.to_string(alloc)?;
+    Ok(map.get(&key).copied())
+}
+
+fn keep_texts<S: StoreBulkMut<String, u32> + Drop>(
+    rt: &impl Abort,
+    alloc: Global,
+) -> Result<(), Fail> {
+    let mut map: LiteMap<String, u32, S> = LiteMap::with_capacity(alloc, 4)?;
+    assert_eq!(rt; map.insert("one".to_string(alloc)?, 1)?, None);
+    assert!(rt; map.try_append("two".to_string(alloc)?, 2)?.is_none());
+    assert!(rt; map.try_insert("three".to_string(alloc)?, 3)?.is_none());
     assert_eq!(rt; map.find_index(&"three".to_string(alloc)?), Ok(1));
     assert_eq!(rt; map.find_index(&"four".to_string(alloc)?), Err(0));
     assert!(rt; map.contains_key(&"two".to_string(alloc)?));
-    match map.get(&"two".to_string(alloc)?) {
-        Some(value) => assert_eq!(rt; value.as_str(), "dos"),
-        None => assert!(rt; false, "two is there"),
-    }
+    let (place, value) = map.try_get_or_insert::<u32, _>("four".to_string(alloc)?, |_| Ok(4))?;
+    assert_eq!(rt; (place, *value), (0, 4));
+    assert_eq!(rt; text_value(alloc, &map, "two")?, Some(2));
+    assert_eq!(rt; map.remove(&"two".to_string(alloc)?), Some(2));
+    assert_eq!(rt; text_value(alloc, &map, "two")?, None);
+    map.retain(|key, _| key.as_str() == "three");
+    assert_eq!(rt; map.len(), 1);
+    assert_eq!(rt; text_value(alloc, &map, "three")?, Some(3));
     Ok(())
+}
+
+#[test]
+fn texts_are_keys(rt: HostRuntime) -> Result<(), Fail> {
+    keep_texts::<Vec<(String, u32)>>(&rt, rt.alloc())?;
+    keep_texts::<FixedRoom<String, u32>>(&rt, rt.alloc())
 }
