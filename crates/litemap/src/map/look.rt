@@ -4,7 +4,7 @@ ghost use Rattle.std.specs.Map.Iter.{deref_pair};
 ghost use Rattle.std.specs.Option.{option_copied, option_map};
 ghost use Rattle.litemap_store.specs.Counts.{RisesByAtMost};
 ghost use Rattle.litemap_store.specs.Digits.{digits};
-ghost use Rattle.litemap_store.specs.Pairs.{at, index_of, value_at};
+ghost use Rattle.litemap_store.specs.Pairs.{Rising, at, index_of, value_at};
 ghost use Rattle.litemap_store.specs.Search.{Found, Shaped};
 ghost use Rattle.litemap_store.specs.Splits.{Splits};
 ghost use Rattle.litemap.specs.FoundBy.{GetsFound};
@@ -15,9 +15,10 @@ use litemap_store::store::Store;
 use std::cmp::Ordering;
 
 impl<K: Ord, V, S: Store<K, V>> LiteMap<K, V, S> {
-    /// The number of pairs.
+    /// The number of pairs. A caller who needs it learns here that the keys rise strictly, as those of every map do.
     pub fn len(&self) -> usize
-        ensures { result ≡ length self.now.pairs }
+        ensures len { result ≡ length self.now.pairs }
+        ensures rising { Rising K.cmp self.now.pairs }
     {
         self.store.lm_len()
     }
