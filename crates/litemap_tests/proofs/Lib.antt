@@ -1,3 +1,0 @@
--- Lemmas of the proofs.
-pub mod Closures
-pub mod Lengths

@@ -1,0 +1,106 @@
+//! Key types: one whose equal keys can be told apart, and one that counts its comparisons.
+ghost use Rattle.std.specs.Prelude.{◌==◌};
+ghost use Rattle.std.specs.Char.{to_ascii_lowercase};
+ghost use Rattle.std.proofs.Common.{rules};
+ghost use Rattle.std.specs.Ordering.{nat_cmp, on, as_partial_cmp};
+ghost use Rattle.std.specs.Cmp.Rules.{comparing};
+ghost use Rattle.std.specs.Cmp.{partial_order_from_own_ties};
+
+use std::cell::Cell;
+use std::cmp::Ordering;
+
+/// A letter, whose order and equality ignore ASCII case.
+#[derive(Clone, Copy, Debug)]
+pub struct Letter {
+    /// The code of the letter.
+    pub code: u8,
+}
+
+impl PartialEq for Letter {
+    ghost eq = { λ a b. to_ascii_lowercase a.code == to_ascii_lowercase b.code };
+
+    ghost laws = { Prim.search (comparing, rules) };
+
+    fn eq(&self, other: &Self) -> bool {
+        self.code.to_ascii_lowercase() == other.code.to_ascii_lowercase()
+    }
+}
+
+impl Eq for Letter {
+    ghost laws = { Prim.search (comparing, rules) };
+}
+
+impl PartialOrd for Letter {
+    ghost partial_cmp = { as_partial_cmp (on (λ a. to_ascii_lowercase a.code) nat_cmp) };
+
+    ghost laws = { partial_order_from_own_ties (Prim.search (comparing, rules)) (Prim.search (comparing, rules)) };
+
+    fn partial_cmp(&self, other: &Self) -> Option<Ordering> {
+        Some(self.cmp(other))
+    }
+}
+
+impl Ord for Letter {
+    ghost cmp = { on (λ a. to_ascii_lowercase a.code) nat_cmp };
+
+    ghost total = { Prim.search (comparing, rules) };
+
+    ghost matches_partial_cmp = { Prim.search (comparing, rules) };
+
+    ghost matches_eq = { Prim.search (comparing, rules) };
+
+    fn cmp(&self, other: &Self) -> Ordering {
+        self.code
+            .to_ascii_lowercase()
+            .cmp(&other.code.to_ascii_lowercase())
+    }
+}
+
+/// A number, whose order and equality add one to a shared cell for each comparison.
+#[derive(Clone, Copy, Debug)]
+pub struct Counted<'a> {
+    /// The number.
+    pub number: u32,
+    /// How many comparisons were made.
+    pub made: &'a Cell<u32>,
+}
+
+impl PartialEq for Counted<'_> {
+    ghost eq = { λ a b. a.number == b.number };
+
+    ghost laws = { Prim.search (comparing, rules) };
+
+    fn eq(&self, other: &Self) -> bool {
+        self.made.set(self.made.get().wrapping_add(1));
+        self.number == other.number
+    }
+}
+
+impl Eq for Counted<'_> {
+    ghost laws = { Prim.search (comparing, rules) };
+}
+
+impl PartialOrd for Counted<'_> {
+    ghost partial_cmp = { as_partial_cmp (on (λ a. a.number) nat_cmp) };
+
+    ghost laws = { partial_order_from_own_ties (Prim.search (comparing, rules)) (Prim.search (comparing, rules)) };
+
+    fn partial_cmp(&self, other: &Self) -> Option<Ordering> {
+        Some(self.cmp(other))
+    }
+}
+
+impl Ord for Counted<'_> {
+    ghost cmp = { on (λ a. a.number) nat_cmp };
+
+    ghost total = { Prim.search (comparing, rules) };
+
+    ghost matches_partial_cmp = { Prim.search (comparing, rules) };
+
+    ghost matches_eq = { Prim.search (comparing, rules) };
+
+    fn cmp(&self, other: &Self) -> Ordering {
+        self.made.set(self.made.get().wrapping_add(1));
+        self.number.cmp(&other.number)
+    }
+}
