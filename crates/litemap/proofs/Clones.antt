@@ -1,10 +1,8 @@
 -- What clones of the pairs of a rising list are.
-use Rattle.std.proofs.Common.{◌≡◌, ℕ, ◌+◌, List, [], ◌∷◌, ◌++◌, Some, String, slice_get, take, sym, ◌∙◌}
+use Rattle.std.proofs.Common.{◌≡◌, ℕ, ◌+◌, List, [], ◌∷◌, ◌++◌, Some, slice_get, take, sym, ◌∙◌}
 use Rattle.std.proofs.lemmas.List.Elements.{all_zip_more}
 use Rattle.std.proofs.lemmas.Option.{slice_get_within, get_or_from_slice_get}
-use Rattle.std.proofs.lemmas.Cmp.{tied_itself}
 use Rattle.std.specs.Cmp.{IsTotalOrder, alike_right}
-use Rattle.std.specs.String.{string_bytes, string_cmp, string_cmp_total}
 use Rattle.std.specs.declared.cmp.Ordering.{Ordering}
 use Rattle.std.specs.declared.cmp.Ordering.TheVariants.{Equal}
 use Rattle.litemap_store.specs.Pairs.{BelowAll, Rising}
@@ -30,7 +28,3 @@ module _ {K V : Type 0} (C : K → K → Type 0) (D : V → V → Type 0) where
     Rising-clones [] (q ∷ M) c r = absurd c
     Rising-clones (p ∷ L) [] c r = absurd c
     Rising-clones (p ∷ L) (q ∷ M) c r = (BelowAll-clones p.0 q.0 L M (equal _ _ c.0.0) c.1 r.0, Rising-clones L M c.1 r.1)
-
--- a clone of a text has its bytes
-pub text_clones_equal : {Z : Type 0} → ClonesCompareEqual {K = String Z} string_cmp (λ x y. string_bytes y ≡ string_bytes x)
-text_clones_equal x y e = rw e (tied_itself string_cmp_total x)

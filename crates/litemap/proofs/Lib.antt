@@ -2,4 +2,5 @@
 pub mod Borrowed
 pub mod Clones
 pub mod Outcomes
+pub mod Texts
 pub mod Tries

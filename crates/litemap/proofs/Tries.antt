@@ -2,11 +2,9 @@
 use Rattle.std.proofs.Common.{◌≡◌, ℕ, ◌<◌, List, length, Option, None, Some, IsSome, IsNone, slice_get, refl, ap, ◌∙◌}
 use Rattle.std.specs.Option.{option_map}
 use Rattle.std.proofs.lemmas.Option.{slice_get_within}
+use Rattle.litemap_store.specs.Pairs.{value_in}
 
 module _ {K V : Type 0} where
-  abbrev pub value_in : List (K × V) → ℕ → Option V
-  value_in L i = option_map (λ p. p.1) (slice_get L i)
-
   value_within : (L : List (K × V)) (i : ℕ) (v : V) (o : Option (K × V)) → slice_get L i ≡ o → option_map (λ p. p.1) o ≡ Some v → i < length L
   value_within L i v None e h = absurd (cc)
   value_within L i v (Some p) e h = slice_get_within L i p e

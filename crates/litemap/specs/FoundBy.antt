@@ -1,7 +1,8 @@
 -- What a call does with the place that a search by a closure found.
-use Rattle.std.specs.Prelude.{◌≡◌, ℕ, List, Option, None, Result, Ok, Err, option_map, slice_get}
+use Rattle.std.specs.Prelude.{◌≡◌, ℕ, List, Option, None, Result, Ok, Err}
 use Rattle.std.specs.declared.cmp.Ordering.{Ordering}
 use Rattle.std.specs.List.{remove}
+use Rattle.litemap_store.specs.Pairs.{value_in}
 use Rattle.litemap_store.specs.Search.{Found}
 use denote.Param.Members.{Mut}
 use denote.Ref.{Bor}
@@ -9,7 +10,7 @@ use denote.Ref.{Bor}
 module _ {K V : Type 0} where
   -- the value at the place that was found
   abbrev pub value_found : List (K × V) → Result ℕ ℕ → Option V
-  value_found L (Ok i) = option_map (λ p. p.1) (slice_get L i)
+  value_found L (Ok i) = value_in L i
   value_found L (Err i) = None
 
   -- the list without the pair that was found

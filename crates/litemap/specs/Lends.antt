@@ -1,10 +1,10 @@
 -- What a map ends as, once a reference to one of its values has ended. A contract hands these words what `K.row`,
 -- `S.pairs` and the like are, since a map's type takes them in the logic.
-use Rattle.std.specs.Prelude.{◌≡◌, ℕ, List, Option, OnSome, IfNone, option_map, slice_get}
+use Rattle.std.specs.Prelude.{◌≡◌, ℕ, List, Option, OnSome, IfNone}
 use Rattle.std.specs.Borrow.{Fml, RattleType, MutBor, Lends, LendsIf, LendsSo}
 use Rattle.std.specs.Option.{option_copied_mut}
 use Rattle.std.specs.BTreeMap.Lent.{OrdMembers}
-use Rattle.litemap_store.specs.Pairs.{put, set_value}
+use Rattle.litemap_store.specs.Pairs.{put, set_value, value_in}
 use Rattle.litemap.specs.Seen.{Seen, with_pairs}
 use Rattle.litemap.specs.contracts.map.LiteMap.{the_row}
 
@@ -26,12 +26,12 @@ module _ (K V S : RattleType) (key : OrdMembers K.Denot) (pairs : S.Denot → Li
     abbrev pub LendsFound : (ℕ → Type 0) → Option (MutBor V.Denot) → Fml
     LendsFound IsFound r =
         LendsSo map_row V m r
-        (λ n v. OnSome r ((i : ℕ) × IsFound i × (option_map (λ p. p.1) (slice_get m.now.pairs i) ≡ option_copied_mut r) × (n ≡ with_pairs m.now (set_value m.now.pairs i v))))
+        (λ n v. OnSome r ((i : ℕ) × IsFound i × (value_in m.now.pairs i ≡ option_copied_mut r) × (n ≡ with_pairs m.now (set_value m.now.pairs i v))))
         (λ n. IfNone r (n ≡ m.now))
 
     -- the same of the value at place i, which is there
-    abbrev pub LendsAt : ℕ → MutBor V.Denot → Fml
-    LendsAt i r = Lends map_row V m r (λ v. with_pairs m.now (set_value m.now.pairs i v))
+    abbrev pub LendsThere : ℕ → MutBor V.Denot → Fml
+    LendsThere i r = Lends map_row V m r (λ v. with_pairs m.now (set_value m.now.pairs i v))
 
     -- the same of the value of the key k, which is there
     abbrev pub LendsKey : K.Denot → MutBor V.Denot → Fml

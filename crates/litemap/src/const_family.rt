@@ -7,12 +7,11 @@ ghost use Rattle.std.specs.Cmp.Lexicographic.{slice_cmp};
 ghost use Rattle.std.specs.Option.{option_and_then, option_map};
 ghost use Rattle.std.specs.Ordering.{int_cmp, nat_cmp};
 ghost use Rattle.std.specs.Result.{result_ok};
-ghost use Rattle.litemap_store.specs.Pairs.{place, value_at};
+ghost use Rattle.litemap_store.specs.Pairs.{place, value_at, value_in};
 ghost use Rattle.litemap.specs.ByBytes.{by_bytes};
 
 use crate::LiteMap;
-use litemap_store::count::Count;
-use litemap_store::slice_impl::SliceStore;
+use litemap_store::store::{Count, SliceStore};
 use std::cmp::Ordering;
 
 // Compares by bytes. A proper prefix is less.
@@ -24,8 +23,10 @@ fn const_cmp_bytes(a: &[u8], b: &[u8]) -> Ordering
 
 // The place that a search found, and the value there.
 fn const_found<'a, K, V>(pairs: &'a [(K, V)], index: Result<usize, usize>) -> Option<(usize, &'a V)>
-    ensures value { option_map (λ found. found.1.now) result ≡ option_and_then (λ i. option_map (λ pair. pair.1) (slice_get pairs.now i)) (result_ok index) }
+    ensures value { option_map (λ found. found.1.now) result ≡ option_and_then (value_in pairs.now) (result_ok index) }
     ensures place { IfSome result (λ found. index ≡ Ok found.0) }
+    ensures within { IfSome result (λ found. found.0 < length pairs.now) }
+    ensures there { IfSome result (λ found. value_in pairs.now found.0 ≡ Some found.1.now) }
 {
     let index = index.ok()?;
     let (_, value) = pairs.get(index)?;
@@ -61,6 +62,8 @@ impl<'a, K: Ord, V> LiteMap<K, V, SliceStore<'a, K, V>> {
     fn const_find(&self, key: &K) -> Option<(usize, &'a V)>
         ensures value { option_map (λ found. found.1.now) result ≡ value_at K.cmp self.now.pairs key.now }
         ensures place { IfSome result (λ found. found.0 ≡ place K.cmp self.now.pairs key.now) }
+        ensures within { IfSome result (λ found. found.0 < length self.now.pairs) }
+        ensures there { IfSome result (λ found. value_in self.now.pairs found.0 ≡ Some found.1.now) }
     {
         const_found(self.borrowed(), self.search(key, &mut Count::new()))
     }
@@ -74,6 +77,8 @@ impl<'a, 'k, V> LiteMap<&'k str, V, SliceStore<'a, &'k str, V>> {
     pub fn const_get_with_index(&self, key: &str) -> Option<(usize, &'a V)>
         ensures value { option_map (λ found. found.1.now) result ≡ value_at by_bytes self.now.pairs key.entry }
         ensures place { IfSome result (λ found. found.0 ≡ place by_bytes self.now.pairs key.entry) }
+        ensures within { IfSome result (λ found. found.0 < length self.now.pairs) }
+        ensures there { IfSome result (λ found. value_in self.now.pairs found.0 ≡ Some found.1.now) }
     {
         let pairs = self.borrowed();
         const_found(
@@ -91,6 +96,8 @@ impl<'a, 'k, V> LiteMap<&'k [u8], V, SliceStore<'a, &'k [u8], V>> {
     pub fn const_get_with_index(&self, key: &[u8]) -> Option<(usize, &'a V)>
         ensures value { option_map (λ found. found.1.now) result ≡ value_at by_bytes self.now.pairs key.entry }
         ensures place { IfSome result (λ found. found.0 ≡ place by_bytes self.now.pairs key.entry) }
+        ensures within { IfSome result (λ found. found.0 < length self.now.pairs) }
+        ensures there { IfSome result (λ found. value_in self.now.pairs found.0 ≡ Some found.1.now) }
     {
         let pairs = self.borrowed();
         const_found(pairs, self.find_index_by(|k| const_cmp_bytes(k, key)))
@@ -102,6 +109,8 @@ impl<'a, V> LiteMap<u8, V, SliceStore<'a, u8, V>> {
     pub fn const_get_with_index(&self, key: u8) -> Option<(usize, &'a V)>
         ensures value { option_map (λ found. found.1.now) result ≡ value_at nat_cmp self.now.pairs key }
         ensures place { IfSome result (λ found. found.0 ≡ place nat_cmp self.now.pairs key) }
+        ensures within { IfSome result (λ found. found.0 < length self.now.pairs) }
+        ensures there { IfSome result (λ found. value_in self.now.pairs found.0 ≡ Some found.1.now) }
     {
         self.const_find(&key)
     }
@@ -112,6 +121,8 @@ impl<'a, V> LiteMap<u16, V, SliceStore<'a, u16, V>> {
     pub fn const_get_with_index(&self, key: u16) -> Option<(usize, &'a V)>
         ensures value { option_map (λ found. found.1.now) result ≡ value_at nat_cmp self.now.pairs key }
         ensures place { IfSome result (λ found. found.0 ≡ place nat_cmp self.now.pairs key) }
+        ensures within { IfSome result (λ found. found.0 < length self.now.pairs) }
+        ensures there { IfSome result (λ found. value_in self.now.pairs found.0 ≡ Some found.1.now) }
     {
         self.const_find(&key)
     }
@@ -122,6 +133,8 @@ impl<'a, V> LiteMap<u32, V, SliceStore<'a, u32, V>> {
     pub fn const_get_with_index(&self, key: u32) -> Option<(usize, &'a V)>
         ensures value { option_map (λ found. found.1.now) result ≡ value_at nat_cmp self.now.pairs key }
         ensures place { IfSome result (λ found. found.0 ≡ place nat_cmp self.now.pairs key) }
+        ensures within { IfSome result (λ found. found.0 < length self.now.pairs) }
+        ensures there { IfSome result (λ found. value_in self.now.pairs found.0 ≡ Some found.1.now) }
     {
         self.const_find(&key)
     }
@@ -132,6 +145,8 @@ impl<'a, V> LiteMap<u64, V, SliceStore<'a, u64, V>> {
     pub fn const_get_with_index(&self, key: u64) -> Option<(usize, &'a V)>
         ensures value { option_map (λ found. found.1.now) result ≡ value_at nat_cmp self.now.pairs key }
         ensures place { IfSome result (λ found. found.0 ≡ place nat_cmp self.now.pairs key) }
+        ensures within { IfSome result (λ found. found.0 < length self.now.pairs) }
+        ensures there { IfSome result (λ found. value_in self.now.pairs found.0 ≡ Some found.1.now) }
     {
         self.const_find(&key)
     }
@@ -142,6 +157,8 @@ impl<'a, V> LiteMap<u128, V, SliceStore<'a, u128, V>> {
     pub fn const_get_with_index(&self, key: u128) -> Option<(usize, &'a V)>
         ensures value { option_map (λ found. found.1.now) result ≡ value_at nat_cmp self.now.pairs key }
         ensures place { IfSome result (λ found. found.0 ≡ place nat_cmp self.now.pairs key) }
+        ensures within { IfSome result (λ found. found.0 < length self.now.pairs) }
+        ensures there { IfSome result (λ found. value_in self.now.pairs found.0 ≡ Some found.1.now) }
     {
         self.const_find(&key)
     }
@@ -152,6 +169,8 @@ impl<'a, V> LiteMap<usize, V, SliceStore<'a, usize, V>> {
     pub fn const_get_with_index(&self, key: usize) -> Option<(usize, &'a V)>
         ensures value { option_map (λ found. found.1.now) result ≡ value_at nat_cmp self.now.pairs key }
         ensures place { IfSome result (λ found. found.0 ≡ place nat_cmp self.now.pairs key) }
+        ensures within { IfSome result (λ found. found.0 < length self.now.pairs) }
+        ensures there { IfSome result (λ found. value_in self.now.pairs found.0 ≡ Some found.1.now) }
     {
         self.const_find(&key)
     }
@@ -162,6 +181,8 @@ impl<'a, V> LiteMap<i8, V, SliceStore<'a, i8, V>> {
     pub fn const_get_with_index(&self, key: i8) -> Option<(usize, &'a V)>
         ensures value { option_map (λ found. found.1.now) result ≡ value_at int_cmp self.now.pairs key }
         ensures place { IfSome result (λ found. found.0 ≡ place int_cmp self.now.pairs key) }
+        ensures within { IfSome result (λ found. found.0 < length self.now.pairs) }
+        ensures there { IfSome result (λ found. value_in self.now.pairs found.0 ≡ Some found.1.now) }
     {
         self.const_find(&key)
     }
@@ -172,6 +193,8 @@ impl<'a, V> LiteMap<i16, V, SliceStore<'a, i16, V>> {
     pub fn const_get_with_index(&self, key: i16) -> Option<(usize, &'a V)>
         ensures value { option_map (λ found. found.1.now) result ≡ value_at int_cmp self.now.pairs key }
         ensures place { IfSome result (λ found. found.0 ≡ place int_cmp self.now.pairs key) }
+        ensures within { IfSome result (λ found. found.0 < length self.now.pairs) }
+        ensures there { IfSome result (λ found. value_in self.now.pairs found.0 ≡ Some found.1.now) }
     {
         self.const_find(&key)
     }
@@ -182,6 +205,8 @@ impl<'a, V> LiteMap<i32, V, SliceStore<'a, i32, V>> {
     pub fn const_get_with_index(&self, key: i32) -> Option<(usize, &'a V)>
         ensures value { option_map (λ found. found.1.now) result ≡ value_at int_cmp self.now.pairs key }
         ensures place { IfSome result (λ found. found.0 ≡ place int_cmp self.now.pairs key) }
+        ensures within { IfSome result (λ found. found.0 < length self.now.pairs) }
+        ensures there { IfSome result (λ found. value_in self.now.pairs found.0 ≡ Some found.1.now) }
     {
         self.const_find(&key)
     }
@@ -192,6 +217,8 @@ impl<'a, V> LiteMap<i64, V, SliceStore<'a, i64, V>> {
     pub fn const_get_with_index(&self, key: i64) -> Option<(usize, &'a V)>
         ensures value { option_map (λ found. found.1.now) result ≡ value_at int_cmp self.now.pairs key }
         ensures place { IfSome result (λ found. found.0 ≡ place int_cmp self.now.pairs key) }
+        ensures within { IfSome result (λ found. found.0 < length self.now.pairs) }
+        ensures there { IfSome result (λ found. value_in self.now.pairs found.0 ≡ Some found.1.now) }
     {
         self.const_find(&key)
     }
@@ -202,6 +229,8 @@ impl<'a, V> LiteMap<i128, V, SliceStore<'a, i128, V>> {
     pub fn const_get_with_index(&self, key: i128) -> Option<(usize, &'a V)>
         ensures value { option_map (λ found. found.1.now) result ≡ value_at int_cmp self.now.pairs key }
         ensures place { IfSome result (λ found. found.0 ≡ place int_cmp self.now.pairs key) }
+        ensures within { IfSome result (λ found. found.0 < length self.now.pairs) }
+        ensures there { IfSome result (λ found. value_in self.now.pairs found.0 ≡ Some found.1.now) }
     {
         self.const_find(&key)
     }
@@ -212,6 +241,8 @@ impl<'a, V> LiteMap<isize, V, SliceStore<'a, isize, V>> {
     pub fn const_get_with_index(&self, key: isize) -> Option<(usize, &'a V)>
         ensures value { option_map (λ found. found.1.now) result ≡ value_at int_cmp self.now.pairs key }
         ensures place { IfSome result (λ found. found.0 ≡ place int_cmp self.now.pairs key) }
+        ensures within { IfSome result (λ found. found.0 < length self.now.pairs) }
+        ensures there { IfSome result (λ found. value_in self.now.pairs found.0 ≡ Some found.1.now) }
     {
         self.const_find(&key)
     }

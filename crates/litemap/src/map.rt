@@ -1,5 +1,5 @@
 //! The map: its type, and how one is made.
-ghost use Rattle.std.specs.Prelude.{◌≡◌, ◌↔◌, ◌≤◌, [], IfOk, IsTrue};
+ghost use Rattle.std.specs.Prelude.{◌≡◌, ◌↔◌, ◌≤◌, [], IfOk, IsOk, IsTrue};
 ghost use Rattle.litemap_store.specs.Pairs.{Rising};
 ghost use Rattle.litemap.specs.Clones.{ClonesAreSame, ClonesCompareEqual, PairsAreClones};
 
@@ -37,7 +37,8 @@ impl<K: Ord, V, S: Store<K, V>> Model for LiteMap<K, V, S> {
 impl<K: Ord, V> LiteMap<K, V, Vec<(K, V)>> {
     /// The empty map over a vector. It takes no memory.
     pub fn new_vec(alloc: Global) -> Self
-        ensures { result.pairs ≡ [] }
+        ensures pairs { result.pairs ≡ [] }
+        ensures room { result.room ≡ 0 }
     {
         LiteMap {
             store: Vec::new(alloc),
@@ -104,10 +105,11 @@ impl<K: Ord, V, S: StoreConstEmpty<K, V>> LiteMap<K, V, S> {
 }
 
 impl<K: Ord, V, S: StoreMut<K, V>> LiteMap<K, V, S> {
-    /// An empty map with this much room at least, or a refusal for want of memory.
+    /// An empty map with this much room at least, or a refusal for want of memory. No room is never refused.
     pub fn with_capacity(alloc: Global, capacity: usize) -> Result<Self, AllocError>
         ensures empty { IfOk result (λ m. m.pairs ≡ []) }
         ensures room { IfOk result (λ m. capacity ≤ m.room) }
+        ensures succeeds { capacity ≡ 0 → IsOk result }
     {
         Ok(LiteMap {
             store: S::lm_with_capacity(alloc, capacity)?,

@@ -1,7 +1,7 @@
 -- A search that halves an interval: what its steps keep, and what its end says.
 --     Narrowed ord l low high      what is known of the places below low and from high on
 --     Narrowed-whole, -less, -greater      at the start, and after an answer at the place m;  Finds-here, Finds-nowhere      at the two ends
---     takes, next      from `Shape`: the closure may be asked for a key of the list, and what it answers
+--     takes, next      from `Shape`: the closure may be asked for a key of the list, and what it answers; each answer uses up a question
 use Rattle.std.proofs.Common.{◌≡◌, ◌≢◌, ℕ, zero, suc, ◌+◌, ◌<◌, ◌≤◌, Bool, true, false, List, [], ◌∷◌, length, Some, Ok, Err, slice_get, slice_index_or, Bor, refl, sym, ap, ◌∙◌, subst, arith, inl, inr, ◌⊎◌}
 use denote.Param.Members.{Mut}
 use Rattle.std.specs.Fn.{CalledAt, TakesAt}
@@ -108,12 +108,13 @@ pub known : {K V : Type 0} (l : List (K × V)) (m : ℕ) (k : K) (v : V) → sli
 known l m k v e = (m, (k, v), slice_get_within l m (k, v) e, get_or_from_slice_get l m (k, v) (k, v) e, refl)
 
 module _ {F K V : Type 0} (g : Mut F (Bor K × Unit {0}) Ordering) (l : List (K × V)) (ord : K → Ordering) where
-  pub takes : (f : F) (k : K) → Shape g l ord f → Any (λ q. q.0 ≡ k) l → TakesAt g f k
-  takes f k s a p e = (s.answers.at (p ∷ []) (subst (λ (x : K). Any (λ q. q.0 ≡ x) l) (sym e) a)).0
+  pub takes : (n : ℕ) (f : F) (k : K) → 1 ≤ n → Shape g l ord n f → Any (λ q. q.0 ≡ k) l → TakesAt g f k
+  takes n f k h s a p e = (s.answers.at (p ∷ []) (omega arith) (subst (λ (x : K). Any (λ q. q.0 ≡ x) l) (sym e) a)).0
 
-  pub next : (f : F) (k : K) (r : Ordering) (f' : F) → Shape g l ord f → Any (λ q. q.0 ≡ k) l → CalledAt g f k r f' → (ord k ≡ r) × Shape g l ord f'
-  next f k r f' s a c =
+  -- one question less may be asked after an answer
+  pub next : (m n : ℕ) (f : F) (k : K) (r : Ordering) (f' : F) → m + 1 ≤ n → Shape g l ord n f → Any (λ q. q.0 ≡ k) l → CalledAt g f k r f' → (ord k ≡ r) × Shape g l ord m f'
+  next m n f k r f' h s a c =
       let b : Any (λ q. q.0 ≡ c.shown.now) l = subst (λ (x : K). Any (λ q. q.0 ≡ x) l) (sym c.shows) a in (
-        sym (((s.answers.at (c.shown ∷ []) b).1 r f' c.called).0 ∙ ap ord c.shows),
-        record { answers = record { at = λ ps. ((s.answers.at (c.shown ∷ ps) b).1 r f' c.called).1 }; ascends = s.ascends },
+        sym (((s.answers.at (c.shown ∷ []) (omega arith) b).1 r f' c.called).0 ∙ ap ord c.shows),
+        record { answers = record { at = λ ps few. ((s.answers.at (c.shown ∷ ps) (omega arith) b).1 r f' c.called).1 }; ascends = s.ascends },
       )

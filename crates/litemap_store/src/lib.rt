@@ -3,14 +3,9 @@
 #![tactic(auto)]
 
 pub mod by_scan;
-pub mod count;
+mod count;
 pub mod laws;
 mod no_room;
-pub mod slice_impl;
+mod slice_impl;
 pub mod store;
 mod vec_impl;
-
-pub use no_room::NoRoom;
-
-#[cfg(test)]
-mod tests;

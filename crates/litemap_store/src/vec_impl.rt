@@ -1,9 +1,9 @@
 //! A vector of pairs as a store. Its room is its capacity less its length.
-ghost use Rattle.litemap_store.specs.Retain.{CalledOnPair};
+ghost use Rattle.std.specs.Prelude.{◌≡◌, []};
+ghost use Rattle.litemap_store.specs.Retain.{CalledOnPair, TakesPair};
 ghost use Rattle.litemap_store.specs.VecStore.{vec_room, vec_with_value, vec_writes, vec_keeps_room};
 
-use crate::NoRoom;
-use crate::store::{Store, StoreBulkMut, StoreConstEmpty, StoreMut, StoreSlice};
+use crate::store::{NoRoom, Store, StoreBulkMut, StoreConstEmpty, StoreMut, StoreSlice};
 use std::alloc::{AllocError, Global};
 use std::mem;
 use std::ops::Range;
@@ -24,7 +24,10 @@ impl<K, V> Store<K, V> for Vec<(K, V)> {
 }
 
 impl<K, V> StoreConstEmpty<K, V> for Vec<(K, V)> {
-    fn lm_empty(alloc: Global) -> Self {
+    fn lm_empty(alloc: Global) -> Self
+        ensures pairs { result.items ≡ [] }
+        ensures room { vec_room result ≡ 0 }
+    {
         Vec::new(alloc)
     }
 }
@@ -92,11 +95,22 @@ impl<K, V> StoreMut<K, V> for Vec<(K, V)> {
 
 impl<K: Ord + Drop, V: Drop> StoreBulkMut<K, V> for Vec<(K, V)> {
     fn lm_retain<F: FnMut(&K, &V) -> bool>(&mut self, mut f: F) {
-        self.retain(
-            |pair|
-                requires { F.IsAlwaysCallable f }
-                ensures asked { CalledOnPair F.FnMut f.entry pair.now result f.exit }
-            { f(&pair.0, &pair.1) },
-        );
+        let mut kept = 0;
+        for index in 0..self.len() {
+            if !is_kept(&mut f, &self[index]) {
+                continue;
+            }
+            self.swap(kept, index);
+            kept += 1;
+        }
+        self.truncate(kept);
     }
+}
+
+// What a closure answers of a pair.
+fn is_kept<K, V, F: FnMut(&K, &V) -> bool>(f: &mut F, pair: &(K, V)) -> bool
+    requires { TakesPair F.FnMut f.old pair.now }
+    ensures { CalledOnPair F.FnMut f.old pair.now result f.new }
+{
+    f(&pair.0, &pair.1)
 }

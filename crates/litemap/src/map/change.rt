@@ -1,20 +1,17 @@
 //! Calls that change a map.
 ghost use Rattle.std.specs.Prelude.{◌≡◌, ◌↔◌, ◌+◌, ◌≤◌, ◌<◌, [], ◌∷◌, ◌++◌, length, slice_get, None, Some, IsNone, IsSome, IfSome, IsTrue, remove, IsOk, Ok, Err, IfOk, IfErr, OnOk, OnErr};
 ghost use Rattle.std.specs.Fn.{FnOnceReturnsAt, FnOnceTakesAt};
-ghost use Rattle.std.specs.Option.{option_map};
 ghost use Rattle.litemap_store.specs.Counts.{RisesByAtMost};
 ghost use Rattle.litemap_store.specs.Digits.{digits};
-ghost use Rattle.litemap_store.specs.Pairs.{AllBelow, at, cut, place, put, set_value, value_at};
-ghost use Rattle.litemap_store.specs.Retain.{Kept};
+ghost use Rattle.litemap_store.specs.Pairs.{AllBelow, at, cut, place, put, set_value, value_at, value_in};
+ghost use Rattle.litemap_store.specs.Retain.{CallableOnEach, Kept};
 ghost use Rattle.litemap_store.specs.Search.{Shaped};
 ghost use Rattle.litemap_store.specs.Splits.{IsMissingAt};
 ghost use Rattle.litemap.specs.FoundBy.{RemovesFound};
 ghost use Rattle.litemap.specs.TryFault.{IfClosure, IfNoRoom};
 
 use crate::{LiteMap, TryFault};
-use litemap_store::NoRoom;
-use litemap_store::count::Count;
-use litemap_store::store::{StoreBulkMut, StoreMut};
+use litemap_store::store::{Count, NoRoom, StoreBulkMut, StoreMut};
 use std::alloc::AllocError;
 use std::cmp::Ordering;
 use std::mem;
@@ -63,7 +60,7 @@ impl<K: Ord, V, S: StoreMut<K, V>> LiteMap<K, V, S> {
         match self.search(&key, count) {
             Ok(index) => Ok(Some(self.replace_value(index, value))),
             Err(index) => {
-                self.place(index, key, value)?;
+                self.insert_at(index, key, value)?;
                 Ok(None)
             }
         }
@@ -88,7 +85,7 @@ impl<K: Ord, V, S: StoreMut<K, V>> LiteMap<K, V, S> {
         match self.search(&key, &mut Count::new()) {
             Ok(_) => Ok(Some((key, value))),
             Err(index) => {
-                self.place(index, key, value)?;
+                self.insert_at(index, key, value)?;
                 Ok(None)
             }
         }
@@ -134,6 +131,7 @@ impl<K: Ord, V, S: StoreMut<K, V>> LiteMap<K, V, S> {
         requires { IsNone (at K.cmp self.old.pairs key) → FnOnceTakesAt F.FnOnce f key }
         ensures place { IfOk result (λ there. there.0 ≡ place K.cmp self.old.pairs key) }
         ensures present { IsSome (at K.cmp self.old.pairs key) → IsOk result }
+        ensures within { IsSome (at K.cmp self.old.pairs key) → IfOk result (λ there. there.0 < length self.old.pairs) }
         ensures value { IsSome (at K.cmp self.old.pairs key) → IfOk result (λ there. Some there.1.now ≡ value_at K.cmp self.old.pairs key) }
         ensures answered { IsNone (at K.cmp self.old.pairs key) → IfOk result (λ there. FnOnceReturnsAt F.FnOnce f key (Ok there.1.now)) }
         ensures closure { IfClosure result (λ fault. FnOnceReturnsAt F.FnOnce f key (Err fault)) }
@@ -164,7 +162,9 @@ impl<K: Ord, V, S: StoreMut<K, V>> LiteMap<K, V, S> {
         ensures present { IsSome (at K.cmp self.old.pairs key) → IsOk result }
         ensures unchanged { IsSome (at K.cmp self.old.pairs key) → self.new ≡ self.old }
         ensures value { IsSome (at K.cmp self.old.pairs key) → IfOk result
-            (λ index. option_map (λ p. p.1) (slice_get self.old.pairs index) ≡ value_at K.cmp self.old.pairs key) }
+            (λ index. value_in self.old.pairs index ≡ value_at K.cmp self.old.pairs key) }
+        ensures within { IfOk result (λ index. index < length self.new.pairs) }
+        ensures there { IfOk result (λ index. slice_get self.new.pairs index ≡ at K.cmp self.new.pairs key) }
         ensures put { IsNone (at K.cmp self.old.pairs key) → OnOk result
             ((v : V) × FnOnceReturnsAt F.FnOnce f key (Ok v) × (self.new.pairs ≡ put K.cmp self.old.pairs key v)) }
         ensures closure { IfClosure result (λ fault. FnOnceReturnsAt F.FnOnce f key (Err fault) × (self.new ≡ self.old)) }
@@ -181,7 +181,7 @@ impl<K: Ord, V, S: StoreMut<K, V>> LiteMap<K, V, S> {
             Ok(value) => value,
             Err(fault) => return Err(TryFault::Closure(fault)),
         };
-        match self.place(index, key, value) {
+        match self.insert_at(index, key, value) {
             Ok(()) => Ok(index),
             Err(refused) => {
                 let (key, value) = refused.back;
@@ -250,10 +250,13 @@ impl<K: Ord, V, S: StoreMut<K, V>> LiteMap<K, V, S> {
     }
 
     /// Takes this much room at least, or is refused for want of memory. The room is not lowered.
+    ///
+    /// It is refused only where there was less room.
     pub fn reserve(&mut self, additional: usize) -> Result<(), AllocError>
         ensures pairs { self.new.pairs ≡ self.old.pairs }
         ensures room { OnOk result (additional ≤ self.new.room) }
         ensures room_not_lowered { self.old.room ≤ self.new.room }
+        ensures full { OnErr result (self.old.room < additional) }
     {
         self.store.lm_reserve(additional)
     }
@@ -285,7 +288,7 @@ impl<K: Ord, V, S: StoreMut<K, V>> LiteMap<K, V, S> {
     where
         K: Drop,
         requires { index < length self.old.pairs }
-        ensures old { option_map (λ p. p.1) (slice_get self.old.pairs index) ≡ Some result }
+        ensures old { value_in self.old.pairs index ≡ Some result }
         ensures pairs { self.new.pairs ≡ remove self.old.pairs index }
     {
         let (_, value) = self.store.lm_remove(index);
@@ -295,7 +298,7 @@ impl<K: Ord, V, S: StoreMut<K, V>> LiteMap<K, V, S> {
     // Replaces the value at a place, and answers the old one.
     fn replace_value(&mut self, index: usize, value: V) -> V
         requires { index < length self.old.pairs }
-        ensures old { option_map (λ p. p.1) (slice_get self.old.pairs index) ≡ Some result }
+        ensures old { value_in self.old.pairs index ≡ Some result }
         ensures pairs { self.new.pairs ≡ set_value self.old.pairs index value }
         ensures room { self.new.room ≡ self.old.room }
     {
@@ -304,7 +307,7 @@ impl<K: Ord, V, S: StoreMut<K, V>> LiteMap<K, V, S> {
     }
 
     // Puts a pair in at the place of its key, which is absent.
-    fn place(&mut self, index: usize, key: K, value: V) -> Result<(), NoRoom<(K, V)>>
+    fn insert_at(&mut self, index: usize, key: K, value: V) -> Result<(), NoRoom<(K, V)>>
         requires { IsMissingAt K.cmp self.old.pairs key index }
         ensures put { OnOk result (self.new.pairs ≡ put K.cmp self.old.pairs key value) }
         ensures unchanged { OnErr result (self.new.pairs ≡ self.old.pairs) }
@@ -319,10 +322,10 @@ impl<K: Ord, V, S: StoreMut<K, V>> LiteMap<K, V, S> {
 impl<K: Ord + Drop, V: Drop, S: StoreBulkMut<K, V>> LiteMap<K, V, S> {
     /// Keeps the pairs of which `f` answers yes, in their order, and gives up the others.
     ///
-    /// `f` is asked once of each pair, in order. It takes no memory, and compares no keys. Nothing is promised of the
-    /// room.
+    /// `f` is asked once of each pair, in order, and has to take each as its earlier answers left it. It takes no memory,
+    /// and compares no keys. Nothing is promised of the room.
     pub fn retain<F: FnMut(&K, &V) -> bool>(&mut self, f: F)
-        requires { F.IsAlwaysCallable f }
+        requires { CallableOnEach F.FnMut f self.old.pairs }
         ensures { Kept F.FnMut f self.old.pairs self.new.pairs }
     {
         self.store.lm_retain(f);

@@ -1,17 +1,16 @@
 //! Calls that look at a map. None takes memory.
-ghost use Rattle.std.specs.Prelude.{◌≡◌, ◌==◌, ◌-◌, ◌<◌, IsSome, Some, is_some, length, slice_get};
+ghost use Rattle.std.specs.Prelude.{◌≡◌, ◌==◌, ◌-◌, ◌<◌, IfOk, IsSome, Some, is_some, length, slice_get};
 ghost use Rattle.std.specs.Map.Iter.{deref_pair};
 ghost use Rattle.std.specs.Option.{option_copied, option_map};
 ghost use Rattle.litemap_store.specs.Counts.{RisesByAtMost};
 ghost use Rattle.litemap_store.specs.Digits.{digits};
-ghost use Rattle.litemap_store.specs.Pairs.{Rising, at, index_of, value_at};
+ghost use Rattle.litemap_store.specs.Pairs.{Rising, at, index_of, value_at, value_in};
 ghost use Rattle.litemap_store.specs.Search.{Found, Shaped};
 ghost use Rattle.litemap_store.specs.Splits.{Splits};
 ghost use Rattle.litemap.specs.FoundBy.{GetsFound};
 
 use crate::LiteMap;
-use litemap_store::count::Count;
-use litemap_store::store::Store;
+use litemap_store::store::{Count, Store};
 use std::cmp::Ordering;
 
 impl<K: Ord, V, S: Store<K, V>> LiteMap<K, V, S> {
@@ -66,7 +65,7 @@ impl<K: Ord, V, S: Store<K, V>> LiteMap<K, V, S> {
         ensures cost { RisesByAtMost (digits (length self.now.pairs)) count.old count.new }
     {
         match self.search(key, count) {
-            Ok(index) => self.value_of(index),
+            Ok(index) => self.value_in(index),
             Err(_) => None,
         }
     }
@@ -80,7 +79,7 @@ impl<K: Ord, V, S: Store<K, V>> LiteMap<K, V, S> {
         ensures { GetsFound F.FnMut self.now.pairs f (option_copied result) }
     {
         match self.find_index_by(f) {
-            Ok(index) => self.value_of(index),
+            Ok(index) => self.value_in(index),
             Err(_) => None,
         }
     }
@@ -113,7 +112,9 @@ impl<K: Ord, V, S: Store<K, V>> LiteMap<K, V, S> {
     ///
     /// It compares at most once for each binary digit of the length.
     pub fn find_index(&self, key: &K) -> Result<usize, usize>
-        ensures { result ≡ index_of K.cmp self.now.pairs key.now }
+        ensures place { result ≡ index_of K.cmp self.now.pairs key.now }
+        ensures within { IfOk result (λ index. index < length self.now.pairs) }
+        ensures there { IfOk result (λ index. slice_get self.now.pairs index ≡ at K.cmp self.now.pairs key.now) }
     {
         self.find_index_counted(key, &mut Count::new())
     }
@@ -121,6 +122,8 @@ impl<K: Ord, V, S: Store<K, V>> LiteMap<K, V, S> {
     /// `find_index`, with its comparisons counted. The Rust crate has no such call.
     pub fn find_index_counted(&self, key: &K, count: &mut Count) -> Result<usize, usize>
         ensures place { result ≡ index_of K.cmp self.now.pairs key.now }
+        ensures within { IfOk result (λ index. index < length self.now.pairs) }
+        ensures there { IfOk result (λ index. slice_get self.now.pairs index ≡ at K.cmp self.now.pairs key.now) }
         ensures cost { RisesByAtMost (digits (length self.now.pairs)) count.old count.new }
     {
         self.search(key, count)
@@ -134,14 +137,15 @@ impl<K: Ord, V, S: Store<K, V>> LiteMap<K, V, S> {
     /// `Borrow` in its place.
     pub fn find_index_by<F: FnMut(&K) -> Ordering>(&self, f: F) -> Result<usize, usize>
         requires { Shaped F.FnMut self.now.pairs f }
-        ensures { Found F.FnMut self.now.pairs f result }
+        ensures found { Found F.FnMut self.now.pairs f result }
+        ensures within { IfOk result (λ index. index < length self.now.pairs) }
     {
         self.store.lm_binary_search_by(f, &mut Count::new())
     }
 
     // The value at a place, `None` from the length on.
-    fn value_of(&self, index: usize) -> Option<&V>
-        ensures { option_copied result ≡ option_map (λ p. p.1) (slice_get self.now.pairs index) }
+    fn value_in(&self, index: usize) -> Option<&V>
+        ensures { option_copied result ≡ value_in self.now.pairs index }
     {
         let (_, value) = self.store.lm_get(index)?;
         Some(value)
@@ -150,9 +154,9 @@ impl<K: Ord, V, S: Store<K, V>> LiteMap<K, V, S> {
     // The value at a place where a pair stands.
     pub(super) fn value_there(&self, index: usize) -> &V
         requires { index < length self.now.pairs }
-        ensures { option_map (λ p. p.1) (slice_get self.now.pairs index) ≡ Some result.now }
+        ensures { value_in self.now.pairs index ≡ Some result.now }
     {
-        match self.value_of(index) {
+        match self.value_in(index) {
             Some(value) => value,
             None => unreachable!(),
         }

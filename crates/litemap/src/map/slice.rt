@@ -5,8 +5,7 @@ ghost use Rattle.std.specs.Option.{option_map};
 ghost use Rattle.litemap_store.specs.Pairs.{Rising, sub};
 
 use crate::LiteMap;
-use litemap_store::slice_impl::SliceStore;
-use litemap_store::store::StoreSlice;
+use litemap_store::store::{SliceStore, StoreSlice};
 use std::ops::Range;
 
 impl<K: Ord, V, S: StoreSlice<K, V>> LiteMap<K, V, S> {

@@ -5,13 +5,12 @@
 ghost use Rattle.std.specs.Prelude.{◌≡◌, ◌<◌, length, slice_get, ℕ, Ok, Err, Some, IfNone, IfSome, IsSome};
 ghost use Rattle.std.specs.Borrow.{sem};
 ghost use Rattle.std.specs.Option.{option_map, option_copied_mut};
-ghost use Rattle.litemap_store.specs.Pairs.{at, value_at};
+ghost use Rattle.litemap_store.specs.Pairs.{at, value_at, value_in};
 ghost use Rattle.litemap_store.specs.Search.{Found, Shaped};
-ghost use Rattle.litemap.specs.Lends.{LendsAt, LendsFound, LendsKey, LendsPlace, LendsValue};
+ghost use Rattle.litemap.specs.Lends.{LendsThere, LendsFound, LendsKey, LendsPlace, LendsValue};
 
 use crate::LiteMap;
-use litemap_store::count::Count;
-use litemap_store::store::StoreMut;
+use litemap_store::store::{Count, StoreMut};
 use std::cmp::Ordering;
 
 impl<K: Ord, V, S: StoreMut<K, V>> LiteMap<K, V, S> {
@@ -23,7 +22,7 @@ impl<K: Ord, V, S: StoreMut<K, V>> LiteMap<K, V, S> {
         ensures value { option_copied_mut result ≡ value_at K.cmp self.old.pairs key.now }
     {
         match self.search(key, &mut Count::new()) {
-            Ok(index) => Some(self.value_at_mut(index)),
+            Ok(index) => Some(self.value_in_mut(index)),
             Err(_) => None,
         }
     }
@@ -36,11 +35,11 @@ impl<K: Ord, V, S: StoreMut<K, V>> LiteMap<K, V, S> {
     pub fn get_mut_by<F: FnMut(&K) -> Ordering>(&mut self, f: F) -> Option<&mut V>
         requires { Shaped F.FnMut self.old.pairs f }
         ensures* writes_back { sem 𝓛 (LendsFound K.row V.row S.row K.Ord S.pairs S.room self.entry (λ i. Found F.FnMut self.old.pairs f (Ok i)) result) }
-        ensures found { IfSome result (λ v. (i : ℕ) × Found F.FnMut self.old.pairs f (Ok i) × (option_map (λ p. p.1) (slice_get self.old.pairs i) ≡ Some v.now)) }
+        ensures found { IfSome result (λ v. (i : ℕ) × Found F.FnMut self.old.pairs f (Ok i) × (value_in self.old.pairs i ≡ Some v.now)) }
         ensures none { IfNone result ((i : ℕ) × Found F.FnMut self.old.pairs f (Err i)) }
     {
         match self.find_index_by(f) {
-            Ok(place) => Some(self.value_at_mut(place)),
+            Ok(place) => Some(self.value_in_mut(place)),
             Err(_) => None,
         }
     }
@@ -55,7 +54,7 @@ impl<K: Ord, V, S: StoreMut<K, V>> LiteMap<K, V, S> {
         ensures value { Some result.now ≡ value_at K.cmp self.old.pairs key.now }
     {
         match self.search(key, &mut Count::new()) {
-            Ok(index) => self.value_at_mut(index),
+            Ok(index) => self.value_in_mut(index),
             Err(_) => unreachable!(),
         }
     }
@@ -65,20 +64,20 @@ impl<K: Ord, V, S: StoreMut<K, V>> LiteMap<K, V, S> {
     /// It stands in place of the Rust crate's `iter_mut`.
     pub fn get_indexed_mut(&mut self, index: usize) -> Option<&mut V>
         ensures* writes_back { sem 𝓛 (LendsPlace K.row V.row S.row K.Ord S.pairs S.room self.entry index result) }
-        ensures value { option_copied_mut result ≡ option_map (λ p. p.1) (slice_get self.old.pairs index) }
+        ensures value { option_copied_mut result ≡ value_in self.old.pairs index }
     {
         if index < self.len() {
-            Some(self.value_at_mut(index))
+            Some(self.value_in_mut(index))
         } else {
             None
         }
     }
 
     // The value at a place, to be written.
-    fn value_at_mut(&mut self, index: usize) -> &mut V
+    fn value_in_mut(&mut self, index: usize) -> &mut V
         requires { index < length self.old.pairs }
-        ensures* writes_back { sem 𝓛 (LendsAt K.row V.row S.row K.Ord S.pairs S.room self.entry index result) }
-        ensures value { option_map (λ p. p.1) (slice_get self.old.pairs index) ≡ Some result.now }
+        ensures* writes_back { sem 𝓛 (LendsThere K.row V.row S.row K.Ord S.pairs S.room self.entry index result) }
+        ensures value { value_in self.old.pairs index ≡ Some result.now }
     {
         self.store.lm_pair_mut(index).1
     }

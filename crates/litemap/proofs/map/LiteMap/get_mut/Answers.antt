@@ -6,9 +6,9 @@ use Rattle.litemap.proofs.map.LiteMap.get_mut.Goals as goal
 pub returns-in-Ok : goal.returns-in-Ok
 returns-in-Ok g c =
     let f = c.in-Ok.ensures.splits in (
-      λ i. inl (c.value_at_mut.result.ghost_name, λ w. with_pairs c.args.self.now (found_set_value g.K.Ord.cmp c.args.self.now.pairs c.args.key.now c.in-Ok.index f w i)),
+      λ i. inl (c.value_in_mut.result.ghost_name, λ w. with_pairs c.args.self.now (found_set_value g.K.Ord.cmp c.args.self.now.pairs c.args.key.now c.in-Ok.index f w i)),
       record {
         writes_back = tt;
-        value = sym c.value_at_mut.ensures.value ∙ found_value g.K.Ord.cmp c.args.self.now.pairs c.args.key.now c.in-Ok.index f;
+        value = sym c.value_in_mut.ensures.value ∙ found_value g.K.Ord.cmp c.args.self.now.pairs c.args.key.now c.in-Ok.index f;
       },
     )

@@ -1,18 +1,18 @@
 use Rattle.std.proofs.Common.{refl}
 use Rattle.litemap.proofs.map.LiteMap.get_mut_by.Goals as goal
 
-pub value_at_mut-requires : goal.value_at_mut-requires
-value_at_mut-requires g c = (c.in-Ok.ensures.at c.requires.ord c.requires.shape).0
+pub value_in_mut-requires : goal.value_in_mut-requires
+value_in_mut-requires g c = (c.in-Ok.ensures.found.at c.requires.ord c.requires.shape).0
 
 pub returns-in-Ok : goal.returns-in-Ok
 returns-in-Ok g c = (
-  (refl, λ w. (c.in-Ok.place, c.in-Ok.ensures, c.value_at_mut.ensures.value, refl), tt),
+  (refl, λ w. (c.in-Ok.place, c.in-Ok.ensures.found, c.value_in_mut.ensures.value, refl), tt),
   record {
     writes_back = tt;
-    found = (c.in-Ok.place, c.in-Ok.ensures, c.value_at_mut.ensures.value);
+    found = (c.in-Ok.place, c.in-Ok.ensures.found, c.value_in_mut.ensures.value);
     none = tt;
   },
 )
 
 pub returns-in-Err : goal.returns-in-Err
-returns-in-Err g c = ((refl, λ w. tt, refl), record { writes_back = tt; found = tt; none = (c.in-Err.field-0, c.in-Err.ensures) })
+returns-in-Err g c = ((refl, λ w. tt, refl), record { writes_back = tt; found = tt; none = (c.in-Err.field-0, c.in-Err.ensures.found) })

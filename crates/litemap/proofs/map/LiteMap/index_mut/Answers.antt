@@ -13,6 +13,6 @@ returns g c =
       (refl, λ w. ap (with_pairs c.args.self.now) (found_set_value g.K.Ord.cmp c.args.self.now.pairs c.args.key.now c.in-Ok.index f w)),
       record {
         writes_back = tt;
-        value = sym c.value_at_mut.ensures.value ∙ found_value g.K.Ord.cmp c.args.self.now.pairs c.args.key.now c.in-Ok.index f;
+        value = sym c.value_in_mut.ensures.value ∙ found_value g.K.Ord.cmp c.args.self.now.pairs c.args.key.now c.in-Ok.index f;
       },
     )

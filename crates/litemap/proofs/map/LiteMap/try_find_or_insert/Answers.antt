@@ -1,5 +1,16 @@
-use Rattle.std.proofs.Common.{refl}
+use Rattle.std.proofs.Common.{◌≡◌, refl, slice_get, subst, sym, ap, ◌∙◌}
+use Rattle.litemap_store.specs.Pairs.{at, put}
+use Rattle.litemap_store.proofs.Lookups.{at-put}
+use Rattle.litemap_store.proofs.Seams.{put_get}
 use Rattle.litemap.proofs.map.LiteMap.try_find_or_insert.Goals as goal
 
-pub returns-in-Err-place-clause-back : goal.returns-in-Err-place-clause-back
-returns-in-Err-place-clause-back g c = rw c.in-Err-place.ensures.back (refl, (_, c.in-Ok-f.ensures, refl))
+pub returns-in-Ok-insert_at-clause-there : goal.returns-in-Ok-insert_at-clause-there
+returns-in-Ok-insert_at-clause-there g c =
+    let old = c.args.self.now.pairs in
+    let key = c.args.key in
+    let value = c.in-Ok-f.value in
+    subst (λ M. slice_get M c.in-Err.index ≡ at g.K.Ord.cmp M key) (sym c.in-Ok-insert_at.ensures.put)
+    (ap (slice_get (put g.K.Ord.cmp old key value)) c.in-Err.ensures.splits.place ∙ put_get g.K.Ord.cmp old key value ∙ sym (at-put g.met.K.Ord.total key old value))
+
+pub returns-in-Err-insert_at-clause-back : goal.returns-in-Err-insert_at-clause-back
+returns-in-Err-insert_at-clause-back g c = rw c.in-Err-insert_at.ensures.back (refl, (_, c.in-Ok-f.ensures, refl))

@@ -1,8 +1,8 @@
 use Rattle.std.proofs.Common.{◌≡◌, Ok, Some, ap, sym, subst, ◌∙◌}
 use Rattle.std.specs.Fn.{FnOnceReturnsAt}
-use Rattle.litemap_store.specs.Pairs.{at}
+use Rattle.litemap_store.specs.Pairs.{at, value_in}
 use Rattle.litemap_store.proofs.Seams.{put_value}
-use Rattle.litemap.proofs.Tries.{Value, value_by, value_in}
+use Rattle.litemap.proofs.Tries.{Value, value_by}
 use Rattle.litemap.proofs.map.LiteMap.try_get_or_insert.Goals as goal
 
 -- the value that stands at the place

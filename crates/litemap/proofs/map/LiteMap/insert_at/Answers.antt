@@ -3,7 +3,7 @@ use Rattle.litemap_store.specs.Pairs.{Rising}
 use Rattle.litemap_store.proofs.Seams.{missing_insert}
 use Rattle.litemap_store.proofs.Splitting.{Rising-put}
 use Rattle.litemap.proofs.Outcomes.{either_way, on_ok}
-use Rattle.litemap.proofs.map.LiteMap.place.Goals as goal
+use Rattle.litemap.proofs.map.LiteMap.insert_at.Goals as goal
 
 pub invariant_of-self : goal.invariant_of-self
 invariant_of-self g c =

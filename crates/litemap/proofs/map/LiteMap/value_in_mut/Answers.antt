@@ -1,5 +1,5 @@
 use Rattle.litemap_store.proofs.Splitting.{Rising-set_value}
-use Rattle.litemap.proofs.map.LiteMap.value_at_mut.Goals as goal
+use Rattle.litemap.proofs.map.LiteMap.value_in_mut.Goals as goal
 
 pub invariant_of-self-lent : goal.invariant_of-self-lent
 invariant_of-self-lent g c =

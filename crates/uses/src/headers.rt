@@ -1,0 +1,72 @@
+//! A header list: values by their names, in the order of the names' bytes.
+//!
+//! What look-ups find after a change follows from the lemmas that the attributes name; there is no proof file.
+ghost use Rattle.std.specs.Prelude.{◌≡◌, ◌≢◌, None, Some, OnOk, OnErr};
+ghost use Rattle.std.specs.Option.{option_copied};
+ghost use Rattle.std.specs.String.{string_cmp};
+ghost use Rattle.std.specs.declared.cmp.Ordering.TheVariants.{Equal};
+ghost use Rattle.litemap_store.specs.Pairs.{value_at};
+ghost use Rattle.litemap.specs.ByBytes.{by_bytes};
+
+use litemap::LiteMap;
+use std::alloc::AllocError;
+
+/// Headers that own their texts.
+pub type Headers = LiteMap<String, String, Vec<(String, String)>>;
+
+/// Headers whose texts are borrowed.
+pub type Borrowed<'k> = LiteMap<&'k str, &'k str, Vec<(&'k str, &'k str)>>;
+
+/// Sets a header. All others stay.
+#[tactic(auto, using(litemap::proofs::Texts::string_keys))]
+pub fn set(headers: &mut Headers, name: String, value: String) -> Result<(), AllocError>
+    ensures set { OnOk result (value_at string_cmp headers.new.pairs name ≡ Some value) }
+    ensures others { OnOk result ((other : String) → string_cmp other name ≢ Equal
+        → value_at string_cmp headers.new.pairs other ≡ value_at string_cmp headers.old.pairs other) }
+    ensures refused { OnErr result (headers.new.pairs ≡ headers.old.pairs) }
+{
+    headers.insert(name, value)?;
+    Ok(())
+}
+
+/// Looks a header up.
+pub fn get<'a>(headers: &'a Headers, name: &String) -> Option<&'a String>
+    ensures { option_copied result ≡ value_at string_cmp headers.entry.now.pairs name.now }
+{
+    headers.get(name)
+}
+
+/// Removes a header. All others stay.
+#[tactic(auto, using(litemap::proofs::Texts::string_keys))]
+pub fn remove(headers: &mut Headers, name: &String) -> Option<String>
+    ensures value { result ≡ value_at string_cmp headers.old.pairs name.now }
+    ensures gone { value_at string_cmp headers.new.pairs name.now ≡ None }
+    ensures others { (other : String) → string_cmp other name.now ≢ Equal
+        → value_at string_cmp headers.new.pairs other ≡ value_at string_cmp headers.old.pairs other }
+{
+    headers.remove(name)
+}
+
+/// Sets a header whose texts are borrowed.
+#[tactic(auto, using(litemap::proofs::Texts::str_keys))]
+pub fn set_borrowed<'k>(headers: &mut Borrowed<'k>, name: &'k str, value: &'k str) -> Result<(), AllocError>
+    ensures set { OnOk result (value_at by_bytes headers.new.pairs name.entry ≡ Some value.entry) }
+    ensures refused { OnErr result (headers.new.pairs ≡ headers.old.pairs) }
+{
+    headers.insert(name, value)?;
+    Ok(())
+}
+
+/// Looks a header whose text is borrowed up, by its place.
+pub fn place_of<'k>(headers: &Borrowed<'k>, name: &'k str) -> Option<(&'k str, &'k str)> {
+    let place = headers.find_index(&name).ok()?;
+    Some(headers.as_slice()[place])
+}
+
+/// Removes a header whose text is borrowed.
+#[tactic(auto, using(litemap::proofs::Texts::str_keys))]
+pub fn remove_borrowed<'k>(headers: &mut Borrowed<'k>, name: &'k str) -> Option<&'k str>
+    ensures gone { value_at by_bytes headers.new.pairs name.entry ≡ None }
+{
+    headers.remove(&name)
+}
