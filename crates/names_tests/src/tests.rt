@@ -1,6 +1,5 @@
 //! Runs of the program over readers and writers in memory.
-use crate::program::run;
-use crate::watch::Watch;
+use names::{Watch, run};
 use std::alloc::Global;
 use std::io;
 use std::io::{ErrorKind, Read, Write};
