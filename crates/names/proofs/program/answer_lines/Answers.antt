@@ -4,6 +4,7 @@ use Rattle.names.specs.Texts.{names_of}
 use Rattle.names.specs.Told.{Does}
 use Rattle.names.specs.Rest.{bytes_left}
 use Rattle.names.proofs.Tolds.{does_more, line_over, fewer_left}
+use Rattle.names.proofs.Notes.{then_nothing_after}
 use Rattle.names.proofs.program.answer_lines.Goals as goal
 
 pub loop-rest-preserved : goal.loop-rest-preserved
@@ -26,4 +27,6 @@ loop-rest-preserved g c =
       );
       counted = omega (arith, fewer, c.loop-rest.invariant.counted);
       unfailed = c.in_ok-write_all-in-Ok-Some.ensures.ok ∙ c.loop-rest.invariant.unfailed;
+      unmet = c.in_ok-write_all-in-Ok-Some.ensures.unmet ∙ c.loop-rest.invariant.unmet;
+      nothing_after = then_nothing_after c.args.writer.now c.loop-rest.writer c.write_all.new.self c.loop-rest.invariant.unmet c.loop-rest.invariant.nothing_after c.write_all.ensures.nothing_after;
     }
