@@ -2,4 +2,10 @@
 #![tactic(auto)]
 
 #[cfg(test)]
-mod tests;
+mod answers;
+#[cfg(test)]
+mod fakes;
+#[cfg(test)]
+mod faults;
+#[cfg(test)]
+mod watch;
