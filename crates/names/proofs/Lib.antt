@@ -1,5 +1,6 @@
 -- Lemmas of the crate.
 pub mod Calls
 pub mod Cuts
+pub mod Notes
 pub mod Tolds
 pub mod Views

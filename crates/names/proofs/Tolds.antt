@@ -4,6 +4,8 @@ use Rattle.std.specs.Io.KnownBytes.{Appends}
 use Rattle.std.proofs.KnownBytes.{Appends-trans}
 use Rattle.names.specs.Line.{lines_of}
 use Rattle.names.specs.Told.{Does, DoesEach, Names, Told, BadLine, NoMemory, no_memory, bad_line, most_bytes}
+use Rattle.names.specs.Cut.{LinesCut, ToldFront}
+use Rattle.names.specs.Fault.{AppendsFront}
 use Rattle.names.specs.Rest.{lines_left, bytes_left}
 use Rattle.names.specs.LinesEnd.{LinesEnded}
 use Rattle.names.specs.declared.program.LinesEnd.TheVariants as end
@@ -48,3 +50,43 @@ line_over all before rest more bytes said e is cut =
 pub fewer_left : (rest more : Option (Bor (List ℕ))) (bytes : Bor (List ℕ)) → rest ≡ Some bytes → IfSome more (λ x. length x.now < length bytes.now) → bytes_left more + 1 ≤ bytes_left rest
 fewer_left rest None bytes is h = rw is (omega arith)
 fewer_left rest (Some x) bytes is h = rw is (omega arith)
+
+-- what stands behind the front goes on behind the text before it
+pub joined : (text front rest last : List ℕ) → last ≡ front ++ rest → text ++ last ≡ (text ++ front) ++ rest
+joined text front rest last e = ap (λ l. text ++ l) e ∙ sym (append_assoc text front rest)
+
+nil_before : (xs ys : List ℕ) → xs ++ ys ≡ [] → xs ≡ []
+nil_before [] ys e = refl
+nil_before (x ∷ xs) ys e = cc
+
+-- lines that were cut short are told by want of memory behind them
+pub told_lines_cut : (bytes front : List ℕ) → length bytes ≤ most_bytes → LinesCut (lines_of bytes) front → ToldFront bytes front
+told_lines_cut bytes front fits (before, later, rest, e, w, some) =
+    (rest ++ no_memory, 3, λ none. some (nil_before rest no_memory none), NoMemory before later (front ++ rest) fits e w (sym (append_assoc front rest no_memory)) refl)
+
+-- the last line was cut short
+module _ (a b c : Option (List ℕ)) (bytes last : List ℕ) (status : ℕ) (fits : length bytes ≤ most_bytes) (second : AppendsFront b c last) where
+  cut_behind : (text : List ℕ) → Appends a b text → Told bytes (text ++ last) status → (front : List ℕ) × Appends a c front × ToldFront bytes front
+  cut_behind text first told =
+      let (front, rest, split, some, appended) = second in
+      (text ++ front, Appends-trans _ _ _ text front first appended, (rest, status, some, subst (λ out. Told bytes out status) (joined text front rest last split) told))
+
+  pub cut_bad_line : (n : ℕ) → (text : List ℕ) × Appends a b text × LinesEnded (end.BadLine n) (lines_of bytes) text → last ≡ bad_line n → status ≡ 2
+      → (front : List ℕ) × Appends a c front × ToldFront bytes front
+  cut_bad_line n (text, first, (before, bad, later, e, w, b, en)) l s =
+      cut_behind text first (BadLine before later bad text fits e w b (ap (λ t. text ++ t) (l ∙ ap bad_line en)) s)
+
+  pub cut_refused_line : (n : ℕ) → (text : List ℕ) × Appends a b text × LinesEnded (end.BadLine n) (lines_of bytes) text → last ≡ no_memory → status ≡ 3
+      → (front : List ℕ) × Appends a c front × ToldFront bytes front
+  cut_refused_line n (text, first, (before, bad, later, e, w, b, en)) l s =
+      cut_behind text first (NoMemory before (bad ∷ later) text fits e w (ap (λ t. text ++ t) l) s)
+
+  pub cut_no_memory : (text : List ℕ) × Appends a b text × LinesEnded end.NoMemory (lines_of bytes) text → last ≡ no_memory → status ≡ 3
+      → (front : List ℕ) × Appends a c front × ToldFront bytes front
+  cut_no_memory (text, first, (before, later, e, w)) l s =
+      cut_behind text first (NoMemory before later text fits e w (ap (λ t. text ++ t) l) s)
+
+-- a last line that is all that a run writes was cut short
+pub cut_alone : (a b : Option (List ℕ)) (bytes last : List ℕ) (status : ℕ) → Told bytes last status → AppendsFront a b last → (front : List ℕ) × Appends a b front × ToldFront bytes front
+cut_alone a b bytes last status told (front, rest, split, some, appended) =
+    (front, appended, (rest, status, some, subst (λ out. Told bytes out status) split told))

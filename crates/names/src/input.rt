@@ -2,6 +2,7 @@
 ghost use Rattle.std.specs.Prelude.{◌≡◌, ◌+◌, ◌++◌, ◌<◌, ◌≤◌, List, ℕ, [], vec_len, IfSome, IfNone};
 ghost use Rattle.std.specs.Io.KnownBytes.{Consumes};
 ghost use Rattle.names.specs.Ended.{Ended};
+ghost use Rattle.names.specs.Watched.{NoCallAfterFault, met_fault};
 
 use crate::watch::Watch;
 use std::io::Read;
@@ -32,6 +33,7 @@ pub fn read_input<R: Read>(reader: &mut Watch<R>, input: &mut Vec<u8>) -> Ending
     ensures consumed { Consumes (R.remaining reader.old.inner) (R.remaining reader.new.inner) input.new.items }
     ensures bounded { vec_len input.new ≤ MOST_BYTES + 1 }
     ensures ended { Ended result reader.old.failed reader.new.failed (R.remaining reader.new.inner) input.new.items }
+    ensures nothing_after { NoCallAfterFault reader.old reader.new }
 {
     while input.len() <= MOST_BYTES {
         if let Some(ending) = read_some(reader, input) {
@@ -48,6 +50,8 @@ fn read_some<R: Read>(reader: &mut Watch<R>, input: &mut Vec<u8>) -> Option<Endi
     ensures bounded { vec_len input.new ≤ MOST_BYTES + 1 }
     ensures ended { IfSome result (λ ending. Ended ending reader.old.failed reader.new.failed (R.remaining reader.new.inner) input.new.items) }
     ensures more { IfNone result ((vec_len input.old < vec_len input.new) × (reader.new.failed ≡ reader.old.failed)) }
+    ensures unmet { IfNone result (met_fault reader.new ≡ met_fault reader.old) }
+    ensures nothing_after { NoCallAfterFault reader.old reader.new }
 {
     let mut chunk = [0u8; CHUNK];
     let most = CHUNK.min(MOST_BYTES + 1 - input.len());

@@ -1,9 +1,12 @@
 //! A run of the program: it reads the lines, and writes what answers them.
 ghost use Rattle.std.specs.Prelude.{◌≡◌, ◌≢◌, ◌≤◌, ◌⊎◌, ◌||◌, ◌↔◌, ◌++◌, ℕ, List, false, true, length, IfOk, OnErr};
 ghost use Rattle.std.specs.Io.KnownBytes.{Appends, Consumes, IsAtEnd};
+ghost use Rattle.names.specs.Cut.{LinesCut, ToldFront};
+ghost use Rattle.names.specs.Fault.{AppendsFront};
 ghost use Rattle.names.specs.Line.{lines_of};
 ghost use Rattle.names.specs.LinesEnd.{LinesEnded};
 ghost use Rattle.names.specs.Told.{Told, most_bytes, read_fault};
+ghost use Rattle.names.specs.Watched.{NoCallAfterFault, is_unsettled, met_fault};
 
 use crate::input::{Ending, read_input};
 use crate::lines::first_line;
@@ -43,9 +46,24 @@ pub fn run<R: Read, W: Write>(alloc: Global, reader: &mut Watch<R>, writer: &mut
         × Appends (⟦<Watch<W> as Write>⟧.contents writer.old) (⟦<Watch<W> as Write>⟧.contents writer.new) out
         × Told bytes out result
         × (result ≢ 3 → length bytes ≤ most_bytes → IsAtEnd (⟦<Watch<R> as Read>⟧.remaining reader.new)) }
+    // Where a write met a fault, what is written is the front of what a run writes for the bytes that were read.
+    ensures cut { reader.new.failed ≡ false → writer.old.failed ≡ false → writer.new.failed ≡ true
+        → (bytes : List ℕ) × (front : List ℕ)
+        × Consumes (⟦<Watch<R> as Read>⟧.remaining reader.old) (⟦<Watch<R> as Read>⟧.remaining reader.new) bytes
+        × Appends (⟦<Watch<W> as Write>⟧.contents writer.old) (⟦<Watch<W> as Write>⟧.contents writer.new) front
+        × ToldFront bytes front }
+    // Where a read and a write met one, it is the front of `read fault`.
+    ensures both_faults { reader.old.failed ≡ false → reader.new.failed ≡ true
+        → writer.old.failed ≡ false → writer.new.failed ≡ true
+        → AppendsFront (⟦<Watch<W> as Write>⟧.contents writer.old) (⟦<Watch<W> as Write>⟧.contents writer.new) read_fault }
+    // No call is made through either after a fault of its own, and none through the reader after a fault of either.
+    ensures nothing_after { met_fault reader.old ≡ false → met_fault writer.old ≡ false
+        → NoCallAfterFault reader.old reader.new × NoCallAfterFault writer.old writer.new × (is_unsettled reader.new ≡ false) }
 {
     let mut input = Vec::new(alloc);
-    match read_input(reader, &mut input) {
+    let ending = read_input(reader, &mut input);
+    reader.settle_before(writer);
+    match ending {
         Ending::Whole => run_lines(alloc, &input, writer),
         Ending::TooLong => finish(writer, b"input too long\n", 2),
         Ending::NoMemory => finish(writer, b"no memory\n", 3),
@@ -59,6 +77,9 @@ fn run_lines<W: Write>(alloc: Global, input: &[u8], writer: &mut Watch<W>) -> u8
     ensures told { writer.new.failed ≡ false → (out : List ℕ)
         × Appends (W.contents writer.old.inner) (W.contents writer.new.inner) out × Told input.now out result }
     ensures failed { writer.old.failed ≡ false → (result ≡ 4) ↔ (writer.new.failed ≡ true) }
+    ensures cut { writer.old.failed ≡ false → writer.new.failed ≡ true → (front : List ℕ)
+        × Appends (W.contents writer.old.inner) (W.contents writer.new.inner) front × ToldFront input.now front }
+    ensures nothing_after { NoCallAfterFault writer.old writer.new }
 {
     match answer_lines(alloc, input, writer) {
         Ok(LinesEnd::Done) => 0,
@@ -82,6 +103,10 @@ fn answer_lines<W: Write>(
         × Appends (W.contents writer.old.inner) (W.contents writer.new.inner) text × LinesEnded end (lines_of input.now) text) }
     ensures ok { IfOk result (λ _. writer.new.failed ≡ writer.old.failed) }
     ensures err { OnErr result (writer.new.failed ≡ true) }
+    ensures cut { OnErr result ((front : List ℕ)
+        × Appends (W.contents writer.old.inner) (W.contents writer.new.inner) front × LinesCut (lines_of input.now) front) }
+    ensures unmet { IfOk result (λ _. met_fault writer.new ≡ met_fault writer.old) }
+    ensures nothing_after { NoCallAfterFault writer.old writer.new }
 {
     let mut names = Names::new_vec(alloc);
     let mut rest = Some(input);
@@ -101,9 +126,12 @@ fn answer_lines<W: Write>(
 
 // Writes the last line, and gives the status, or that of a fault.
 fn finish<W: Write>(writer: &mut Watch<W>, text: &[u8], status: u8) -> u8
-    ensures { ((writer.new.failed ≡ true) × (result ≡ 4))
+    ensures ended { ((writer.new.failed ≡ true) × (result ≡ 4))
         ⊎ ((writer.new.failed ≡ writer.old.failed) × (result ≡ status)
         × Appends (W.contents writer.old.inner) (W.contents writer.new.inner) text.now) }
+    ensures cut { writer.old.failed ≡ false → writer.new.failed ≡ true
+        → AppendsFront (W.contents writer.old.inner) (W.contents writer.new.inner) text.now }
+    ensures nothing_after { NoCallAfterFault writer.old writer.new }
 {
     match writer.write_all(text) {
         Ok(()) => status,

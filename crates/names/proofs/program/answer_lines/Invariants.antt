@@ -5,6 +5,7 @@ use Rattle.names.specs.Line.{lines_of}
 use Rattle.names.specs.Told.{DoesEach, Names}
 use Rattle.names.specs.Texts.{names_of}
 use Rattle.names.specs.Rest.{lines_left, bytes_left}
+use Rattle.names.specs.Watched.{NoCallAfterFault, met_fault}
 use Rattle.names.proofs.program.answer_lines.Given as goal
 
 abbrev pub invariant-loop-rest : goal.invariant-loop-rest
@@ -15,6 +16,8 @@ invariant-loop-rest g l =
           × (start : Names) × (start.pairs ≡ []) × DoesEach start before text (names_of l.names);
       counted : l.done + bytes_left l.rest ≤ length l.fn.input + 1;
       unfailed : l.writer.failed ≡ l.fn.writer.failed;
+      unmet : met_fault l.writer ≡ met_fault l.fn.writer;
+      nothing_after : NoCallAfterFault l.fn.writer l.writer;
     }
 
 abbrev pub decreases-loop-rest : goal.decreases-loop-rest

@@ -1,18 +1,8 @@
-//! Keeps names and their values, as the lines of standard input say, and answers each line on standard output.
+//! The program: `names::run` from standard input to standard output.
 #![tactic(auto)]
 
-mod input;
-mod laws;
-mod lines;
-mod program;
-mod session;
-#[cfg(test)]
-mod tests;
-mod watch;
-
-pub use program::run;
+use names::{Watch, run};
 use std::process::ExitCode;
-pub use watch::Watch;
 
 fn main(rt: HostRuntime) -> ExitCode {
     let mut reader = Watch::new(rt.stdin());

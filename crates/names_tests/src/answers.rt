@@ -1,0 +1,157 @@
+//! What answers each line, and the exit status.
+use crate::fakes::{LINES, WRITTEN};
+use names::{Watch, run};
+use std::alloc::Global;
+use std::test::Fail;
+
+fn status_and_out(alloc: Global, input: &[u8]) -> (u8, Vec<u8>) {
+    let mut out = Vec::new(alloc);
+    let mut reader = Watch::new(input);
+    let mut writer = Watch::new(&mut out);
+    let status = run(alloc, &mut reader, &mut writer);
+    (status, out)
+}
+
+#[test]
+fn lines_and_their_answers(rt: HostRuntime) -> Result<(), Fail> {
+    let runs: [(&[u8], u8, &[u8]); 10] = [
+        (LINES, 0, b"new\nnew\nold 2\nerr 2\na 1\nb 3\n"),
+        (b"put a 1\n\nput a\nall\n", 2, b"new\nbad line 3\n"),
+        (
+            b"put a 1\nget a\ndel a\nget a\n",
+            0,
+            b"new\n= 1\n= 1\nnone\n",
+        ),
+        (
+            b"put b 2\nput c 3\nput a 1\ndel b\ndel b\nfind c\nget c\nall",
+            0,
+            b"new\nnew\nnew\n= 2\nnone\nok 1\n= 3\na 1\nc 3\n",
+        ),
+        (b"", 0, b""),
+        (b"all", 0, b""),
+        (b"\n\n\nall", 0, b""),
+        (
+            b"put a 1\nfind a\nfind 0\nfind b",
+            0,
+            b"new\nok 0\nerr 0\nerr 1\n",
+        ),
+        (
+            b"put ! ~\nput B b\nput a A\nall",
+            0,
+            b"new\nnew\nnew\n! ~\nB b\na A\n",
+        ),
+        (
+            b"put a 1\nput a 2\nput a 2\nall",
+            0,
+            b"new\nold 1\nold 2\na 2\n",
+        ),
+    ];
+    for (input, status, out) in runs {
+        let (found, text) = status_and_out(rt.alloc(), input);
+        assert_eq!(rt; found, status);
+        assert_eq!(rt; text.as_slice(), out);
+    }
+    Ok(())
+}
+
+#[test]
+fn bad_lines(rt: HostRuntime) -> Result<(), Fail> {
+    let lines: [&[u8]; 28] = [
+        b" ",
+        b"put",
+        b"put ",
+        b"put a",
+        b"put a ",
+        b"put  a 1",
+        b"put a  1",
+        b"put a 1 ",
+        b"put a 1 2",
+        b" put a 1",
+        b"put a\t1",
+        b"put a \xc3\xa9",
+        b"put a \x7f",
+        b"PUT a 1",
+        b"putt a 1",
+        b"find",
+        b"find ",
+        b"find a ",
+        b"find  a",
+        b"find a b",
+        b"get",
+        b"get a b",
+        b"del a ",
+        b"del\ta",
+        b" all",
+        b"all ",
+        b"all x",
+        b"all\r",
+    ];
+    for line in lines {
+        let (status, text) = status_and_out(rt.alloc(), line);
+        assert_eq!(rt; status, 2);
+        assert_eq!(rt; text.as_slice(), b"bad line 1\n".as_slice());
+    }
+    Ok(())
+}
+
+#[test]
+fn input_of_the_greatest_length(rt: HostRuntime) -> Result<(), Fail> {
+    let input = vec![in rt.alloc(); b'\n'; 1_048_577]?;
+    let (status, text) = status_and_out(rt.alloc(), &input);
+    assert_eq!(rt; status, 2);
+    assert_eq!(rt; text.as_slice(), b"input too long\n".as_slice());
+    let (status, text) = status_and_out(rt.alloc(), &input[1..]);
+    assert_eq!(rt; status, 0);
+    assert_eq!(rt; text.as_slice(), b"".as_slice());
+    Ok(())
+}
+
+// A line that puts a key of three digits.
+fn push_put(alloc: Global, input: &mut Vec<u8>, key: usize) -> Result<(), Fail> {
+    let text = format!(in alloc; "put {key:03} 1\n")?;
+    input.extend_from_slice(text.as_bytes())?;
+    Ok(())
+}
+
+#[test]
+fn many_names_are_new(rt: HostRuntime) -> Result<(), Fail> {
+    let mut input = Vec::new(rt.alloc());
+    for key in 0..201 {
+        push_put(rt.alloc(), &mut input, key)?;
+    }
+    let (status, text) = status_and_out(rt.alloc(), &input);
+    assert_eq!(rt; status, 0);
+    assert_eq!(rt; text.len(), 4 * 201);
+    assert!(rt; text.chunks(4).all(|line| line == b"new\n".as_slice()));
+    Ok(())
+}
+
+// Whether the space holds the text, then the last line, then nothing.
+fn holds(space: &[u8], text: &[u8], last: &[u8]) -> bool {
+    let Some(rest) = space.strip_prefix(text) else {
+        return false;
+    };
+    let Some(rest) = rest.strip_prefix(last) else {
+        return false;
+    };
+    rest.iter().all(|b| *b == 0)
+}
+
+// Where `rt try --test --fail-alloc N` refuses a request for memory, the answers of the lines before it stand.
+#[test]
+fn memory_is_there_or_refused(rt: HostRuntime) -> Result<(), Fail> {
+    let mut space = [0u8; 64];
+    let mut reader = Watch::new(LINES);
+    let mut writer = Watch::new(space.as_mut_slice());
+    let status = run(rt.alloc(), &mut reader, &mut writer);
+    assert!(rt; !reader.failed && !writer.failed);
+    let is_told = match status {
+        0 => holds(&space, WRITTEN[5], b""),
+        3 => WRITTEN
+            .iter()
+            .any(|text| holds(&space, text, b"no memory\n")),
+        _ => false,
+    };
+    assert!(rt; is_told);
+    Ok(())
+}

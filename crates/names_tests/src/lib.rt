@@ -1,0 +1,11 @@
+//! Tests of the program, over readers and writers in memory.
+#![tactic(auto)]
+
+#[cfg(test)]
+mod answers;
+#[cfg(test)]
+mod fakes;
+#[cfg(test)]
+mod faults;
+#[cfg(test)]
+mod watch;
