@@ -1,0 +1,41 @@
+//! The calls, by name.
+use crate::outcome::Outcome;
+use crate::{maps, session, stores};
+use std::alloc::Global;
+
+/// The names of the calls.
+pub const CALLS: [&str; 13] = [
+    "insert",
+    "try_insert",
+    "try_append",
+    "try_get_or_insert",
+    "try_find_or_insert",
+    "with_capacity",
+    "reserve",
+    "try_clone",
+    "lm_push",
+    "lm_insert",
+    "lm_with_capacity",
+    "lm_reserve",
+    "names",
+];
+
+/// Runs the scenario of a call, if there is one of this name.
+pub fn run_call(alloc: Global, name: &str) -> Option<Outcome> {
+    match name {
+        "insert" => Some(maps::grow(alloc, maps::Put::Insert)),
+        "try_insert" => Some(maps::grow(alloc, maps::Put::TryInsert)),
+        "try_append" => Some(maps::grow(alloc, maps::Put::TryAppend)),
+        "try_get_or_insert" => Some(maps::grow(alloc, maps::Put::TryGetOrInsert)),
+        "try_find_or_insert" => Some(maps::grow(alloc, maps::Put::TryFindOrInsert)),
+        "with_capacity" => Some(maps::with_capacity(alloc)),
+        "reserve" => Some(maps::reserve(alloc)),
+        "try_clone" => Some(maps::try_clone(alloc)),
+        "lm_push" => Some(stores::grow(alloc, stores::Put::Push)),
+        "lm_insert" => Some(stores::grow(alloc, stores::Put::Insert)),
+        "lm_with_capacity" => Some(stores::lm_with_capacity(alloc)),
+        "lm_reserve" => Some(stores::lm_reserve(alloc)),
+        "names" => Some(session::run_lines(alloc)),
+        _ => None,
+    }
+}

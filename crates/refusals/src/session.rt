@@ -1,0 +1,51 @@
+//! A run of the program `names` over a reader and a writer in memory.
+use crate::outcome::Outcome;
+use names::{Watch, run};
+use std::alloc::Global;
+
+const LINES: &[u8] = b"put b 2\nput a 1\nput b 3\nfind c\nall\n";
+
+// What has been written once none of the lines is done, once the first is, and so on.
+const WRITTEN: [&[u8]; 6] = [
+    b"",
+    b"new\n",
+    b"new\nnew\n",
+    b"new\nnew\nold 2\n",
+    b"new\nnew\nold 2\nerr 2\n",
+    b"new\nnew\nold 2\nerr 2\na 1\nb 3\n",
+];
+
+/// The answers of all lines, or those of the lines done and then `no memory`.
+pub fn run_lines(alloc: Global) -> Outcome {
+    let mut space = [0u8; 64];
+    let mut reader = Watch::new(LINES);
+    let mut writer = Watch::new(space.as_mut_slice());
+    let status = run(alloc, &mut reader, &mut writer);
+    if reader.failed || writer.failed {
+        return Outcome::Wrong("a fault of the reader or the writer");
+    }
+    match status {
+        0 => Outcome::answered(holds(&space, WRITTEN[5], b"")),
+        3 if holds_some(&space) => Outcome::Refused,
+        3 => Outcome::Wrong("other answers before the refusal"),
+        _ => Outcome::Wrong("another status"),
+    }
+}
+
+// Whether the space holds the answers of some of the lines, but not of all, and then the refusal.
+fn holds_some(space: &[u8]) -> bool {
+    WRITTEN[..5]
+        .iter()
+        .any(|text| holds(space, text, b"no memory\n"))
+}
+
+// Whether the space holds the text, then the last line, then nothing.
+fn holds(space: &[u8], text: &[u8], last: &[u8]) -> bool {
+    let Some(rest) = space.strip_prefix(text) else {
+        return false;
+    };
+    let Some(rest) = rest.strip_prefix(last) else {
+        return false;
+    };
+    rest.iter().all(|b| *b == 0)
+}
