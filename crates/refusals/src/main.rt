@@ -1,9 +1,11 @@
 //! Shows what each call answers where one of its requests for memory is refused.
 //!
-//! Each line of standard input is `CALL`, which runs the scenario of that call, `CALL PLACE`, or `all`, which runs all of
-//! them. What each line writes is told at `Outcome`. With a PLACE, from 1 on, so many small requests go before the scenario
-//! that its request number PLACE is request number `LEAD` of the program. `rt try --fail-alloc` refuses that one
-//! (`bin/refusals`). Nothing but `LEAD` and the scenario takes memory here.
+//! A line of standard input is `CALL`, `CALL PLACE` or `all`. It runs the scenario of that call, or of each call in turn,
+//! and writes a line for each: `CALL: answered`, `CALL: refused` or `CALL: WRONG: ..`, by `Outcome`.
+//!
+//! Where there is a PLACE, from 1 on, small requests for memory go before the scenario, so many that its request number
+//! PLACE is request number `LEAD` of the program. `rt try --fail-alloc` refuses that one: see `bin/refusals`. Nothing
+//! else here takes memory.
 #![tactic(auto)]
 
 ghost use Rattle.std.specs.Prelude.{◌≤◌, IfOk, length};
@@ -15,6 +17,7 @@ mod session;
 mod stores;
 
 use calls::{CALLS, run_call};
+use outcome::Outcome;
 use std::alloc::Global;
 use std::io::{self, Read};
 use std::str;
@@ -79,7 +82,9 @@ fn lead_to(alloc: Global, place: usize) {
 // Runs the scenario of a call, and writes how it ended.
 fn report(rt: &(impl Print + AllocGlobal), name: &str) -> io::Result<()> {
     match run_call(rt.alloc(), name) {
-        Some(outcome) => println!(rt; "{name}: {outcome}"),
+        Some(Outcome::Answered) => println!(rt; "{name}: answered"),
+        Some(Outcome::Refused) => println!(rt; "{name}: refused"),
+        Some(Outcome::Wrong(what)) => println!(rt; "{name}: WRONG: {what}"),
         None => println!(rt; "{name}: unknown"),
     }
 }

@@ -1,5 +1,4 @@
-//! How a scenario ended.
-use std::fmt::{self, Display, Formatter, Write};
+//! How a scenario ended, told by what came back and what is left.
 
 /// How a scenario ended.
 #[derive(Clone, Copy)]
@@ -10,16 +9,6 @@ pub enum Outcome {
     Refused,
     /// Otherwise, and what was wrong.
     Wrong(&'static str),
-}
-
-impl Display for Outcome {
-    fn fmt<W: Write>(&self, f: &mut Formatter<W>) -> fmt::Result {
-        match self {
-            Outcome::Answered => f.write_str("answered"),
-            Outcome::Refused => f.write_str("refused"),
-            Outcome::Wrong(what) => write!(f, "WRONG: {what}"),
-        }
-    }
 }
 
 impl Outcome {
