@@ -1,6 +1,6 @@
 //! A vector of pairs as a store. Its room is its capacity less its length.
-ghost use Rattle.std.specs.Prelude.{◌≡◌, []};
-ghost use Rattle.litemap_store.specs.Retain.{CalledOnPair, TakesPair};
+ghost use Rattle.std.specs.Prelude.{◌≡◌, ◌≤◌, [], vec_capacity, vec_len};
+ghost use Rattle.litemap_store.specs.Retain.{CallableOnEach, CalledOnPair, Kept, TakesPair};
 ghost use Rattle.litemap_store.specs.VecStore.{vec_room, vec_with_value, vec_writes, vec_keeps_room};
 
 use crate::store::{NoRoom, Store, StoreBulkMut, StoreConstEmpty, StoreMut, StoreSlice};
@@ -94,7 +94,12 @@ impl<K, V> StoreMut<K, V> for Vec<(K, V)> {
 }
 
 impl<K: Ord + Drop, V: Drop> StoreBulkMut<K, V> for Vec<(K, V)> {
-    fn lm_retain<F: FnMut(&K, &V) -> bool>(&mut self, mut f: F) {
+    fn lm_retain<F: FnMut(&K, &V) -> bool>(&mut self, mut f: F)
+        requires { CallableOnEach F.FnMut f self.old.items }
+        ensures kept { Kept F.FnMut f self.old.items self.new.items }
+        ensures shorter { vec_len self.new ≤ vec_len self.old }
+        ensures capacity { vec_capacity self.new ≡ vec_capacity self.old }
+    {
         let mut kept = 0;
         for index in 0..self.len() {
             if !is_kept(&mut f, &self[index]) {

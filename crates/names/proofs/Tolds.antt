@@ -7,7 +7,7 @@ use Rattle.names.specs.Told.{Does, DoesEach, Names, Told, BadLine, NoMemory, no_
 use Rattle.names.specs.Cut.{LinesCut, ToldFront}
 use Rattle.names.specs.Fault.{AppendsFront}
 use Rattle.names.specs.Rest.{lines_left, bytes_left}
-use Rattle.names.specs.LinesEnd.{LinesEnded}
+use Rattle.names.specs.WritesUntil.{WritesUntil}
 use Rattle.names.specs.declared.program.LinesEnd.TheVariants as end
 
 abbrev no_names : Names
@@ -18,17 +18,17 @@ pub none_done : (bytes : List ℕ) (status : ℕ) → length bytes ≤ most_byte
 none_done bytes status h s = NoMemory [] (lines_of bytes) [] h refl (no_names, no_names, refl, (refl, refl)) refl s
 
 module _ (a b c : Option (List ℕ)) (bytes last : List ℕ) (status : ℕ) (fits : length bytes ≤ most_bytes) (second : Appends b c last) where
-  pub told_bad_line : (n : ℕ) → (text : List ℕ) × Appends a b text × LinesEnded (end.BadLine n) (lines_of bytes) text → last ≡ bad_line n → status ≡ 2
+  pub told_bad_line : (n : ℕ) → (text : List ℕ) × Appends a b text × WritesUntil (end.BadLine n) (lines_of bytes) text → last ≡ bad_line n → status ≡ 2
       → (out : List ℕ) × Appends a c out × Told bytes out status
   told_bad_line n (text, first, (before, bad, later, e, w, b, en)) l s =
       (text ++ last, Appends-trans _ _ _ text last first second, BadLine before later bad text fits e w b (ap (λ t. text ++ t) (l ∙ ap bad_line en)) s)
 
-  pub told_refused_line : (n : ℕ) → (text : List ℕ) × Appends a b text × LinesEnded (end.BadLine n) (lines_of bytes) text → last ≡ no_memory → status ≡ 3
+  pub told_refused_line : (n : ℕ) → (text : List ℕ) × Appends a b text × WritesUntil (end.BadLine n) (lines_of bytes) text → last ≡ no_memory → status ≡ 3
       → (out : List ℕ) × Appends a c out × Told bytes out status
   told_refused_line n (text, first, (before, bad, later, e, w, b, en)) l s =
       (text ++ last, Appends-trans _ _ _ text last first second, NoMemory before (bad ∷ later) text fits e w (ap (λ t. text ++ t) l) s)
 
-  pub told_no_memory : (text : List ℕ) × Appends a b text × LinesEnded end.NoMemory (lines_of bytes) text → last ≡ no_memory → status ≡ 3
+  pub told_no_memory : (text : List ℕ) × Appends a b text × WritesUntil end.NoMemory (lines_of bytes) text → last ≡ no_memory → status ≡ 3
       → (out : List ℕ) × Appends a c out × Told bytes out status
   told_no_memory (text, first, (before, later, e, w)) l s =
       (text ++ last, Appends-trans _ _ _ text last first second, NoMemory before later text fits e w (ap (λ t. text ++ t) l) s)
@@ -71,17 +71,17 @@ module _ (a b c : Option (List ℕ)) (bytes last : List ℕ) (status : ℕ) (fit
       let (front, rest, split, some, appended) = second in
       (text ++ front, Appends-trans _ _ _ text front first appended, (rest, status, some, subst (λ out. Told bytes out status) (joined text front rest last split) told))
 
-  pub cut_bad_line : (n : ℕ) → (text : List ℕ) × Appends a b text × LinesEnded (end.BadLine n) (lines_of bytes) text → last ≡ bad_line n → status ≡ 2
+  pub cut_bad_line : (n : ℕ) → (text : List ℕ) × Appends a b text × WritesUntil (end.BadLine n) (lines_of bytes) text → last ≡ bad_line n → status ≡ 2
       → (front : List ℕ) × Appends a c front × ToldFront bytes front
   cut_bad_line n (text, first, (before, bad, later, e, w, b, en)) l s =
       cut_behind text first (BadLine before later bad text fits e w b (ap (λ t. text ++ t) (l ∙ ap bad_line en)) s)
 
-  pub cut_refused_line : (n : ℕ) → (text : List ℕ) × Appends a b text × LinesEnded (end.BadLine n) (lines_of bytes) text → last ≡ no_memory → status ≡ 3
+  pub cut_refused_line : (n : ℕ) → (text : List ℕ) × Appends a b text × WritesUntil (end.BadLine n) (lines_of bytes) text → last ≡ no_memory → status ≡ 3
       → (front : List ℕ) × Appends a c front × ToldFront bytes front
   cut_refused_line n (text, first, (before, bad, later, e, w, b, en)) l s =
       cut_behind text first (NoMemory before (bad ∷ later) text fits e w (ap (λ t. text ++ t) l) s)
 
-  pub cut_no_memory : (text : List ℕ) × Appends a b text × LinesEnded end.NoMemory (lines_of bytes) text → last ≡ no_memory → status ≡ 3
+  pub cut_no_memory : (text : List ℕ) × Appends a b text × WritesUntil end.NoMemory (lines_of bytes) text → last ≡ no_memory → status ≡ 3
       → (front : List ℕ) × Appends a c front × ToldFront bytes front
   cut_no_memory (text, first, (before, later, e, w)) l s =
       cut_behind text first (NoMemory before later text fits e w (ap (λ t. text ++ t) l) s)

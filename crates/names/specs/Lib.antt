@@ -7,6 +7,6 @@ pub mod Command
 pub mod Texts
 pub mod Watched
 pub mod Fault
-pub mod Ended
-pub mod LinesEnd
+pub mod ReadsUntil
+pub mod WritesUntil
 pub mod Rest

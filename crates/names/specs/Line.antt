@@ -21,7 +21,6 @@ Spells line (Insert key value) = (line ≡ codes "put " ++ (key ++ (32 ∷ value
 Spells line (Get key) = (line ≡ codes "get " ++ key) × IsWord key
 Spells line (Remove key) = (line ≡ codes "del " ++ key) × IsWord key
 Spells line (Find key) = (line ≡ codes "find " ++ key) × IsWord key
-Spells line call = ⊥
 
 -- the line asks for all pairs
 abbrev pub SpellsAll : List ℕ → Type 0

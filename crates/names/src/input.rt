@@ -1,7 +1,7 @@
 //! Reads the whole input, up to one byte more than a run takes.
 ghost use Rattle.std.specs.Prelude.{◌≡◌, ◌+◌, ◌++◌, ◌<◌, ◌≤◌, List, ℕ, [], vec_len, IfSome, IfNone};
 ghost use Rattle.std.specs.Io.KnownBytes.{Consumes};
-ghost use Rattle.names.specs.Ended.{Ended};
+ghost use Rattle.names.specs.ReadsUntil.{ReadsUntil};
 ghost use Rattle.names.specs.Watched.{NoCallAfterFault, met_fault};
 
 use crate::watch::Watch;
@@ -15,7 +15,7 @@ const CHUNK: usize = 4096;
 
 /// How reading ended.
 #[derive(Clone, Copy, Debug, PartialEq, Eq)]
-pub enum Ending {
+pub enum InputEnd {
     /// The reader has nothing left.
     Whole,
     /// There is more than a run takes.
@@ -28,11 +28,11 @@ pub enum Ending {
 
 /// Reads to the end of the input, or until there is more than a run takes. Room is made before each read, so that no byte
 /// is lost.
-pub fn read_input<R: Read>(reader: &mut Watch<R>, input: &mut Vec<u8>) -> Ending
+pub fn read_input<R: Read>(reader: &mut Watch<R>, input: &mut Vec<u8>) -> InputEnd
     requires { input.old.items ≡ [] }
     ensures consumed { Consumes (R.remaining reader.old.inner) (R.remaining reader.new.inner) input.new.items }
     ensures bounded { vec_len input.new ≤ MOST_BYTES + 1 }
-    ensures ended { Ended result reader.old.failed reader.new.failed (R.remaining reader.new.inner) input.new.items }
+    ensures ended { ReadsUntil result reader.old.failed reader.new.failed (R.remaining reader.new.inner) input.new.items }
     ensures nothing_after { NoCallAfterFault reader.old reader.new }
 {
     while input.len() <= MOST_BYTES {
@@ -40,15 +40,15 @@ pub fn read_input<R: Read>(reader: &mut Watch<R>, input: &mut Vec<u8>) -> Ending
             return ending;
         }
     }
-    Ending::TooLong
+    InputEnd::TooLong
 }
 
 // One read, onto the end of the input.
-fn read_some<R: Read>(reader: &mut Watch<R>, input: &mut Vec<u8>) -> Option<Ending>
+fn read_some<R: Read>(reader: &mut Watch<R>, input: &mut Vec<u8>) -> Option<InputEnd>
     requires { vec_len input.old ≤ MOST_BYTES }
     ensures consumed { (more : List ℕ) × (input.new.items ≡ input.old.items ++ more) × Consumes (R.remaining reader.old.inner) (R.remaining reader.new.inner) more }
     ensures bounded { vec_len input.new ≤ MOST_BYTES + 1 }
-    ensures ended { IfSome result (λ ending. Ended ending reader.old.failed reader.new.failed (R.remaining reader.new.inner) input.new.items) }
+    ensures ended { IfSome result (λ ending. ReadsUntil ending reader.old.failed reader.new.failed (R.remaining reader.new.inner) input.new.items) }
     ensures more { IfNone result ((vec_len input.old < vec_len input.new) × (reader.new.failed ≡ reader.old.failed)) }
     ensures unmet { IfNone result (met_fault reader.new ≡ met_fault reader.old) }
     ensures nothing_after { NoCallAfterFault reader.old reader.new }
@@ -56,14 +56,14 @@ fn read_some<R: Read>(reader: &mut Watch<R>, input: &mut Vec<u8>) -> Option<Endi
     let mut chunk = [0u8; CHUNK];
     let most = CHUNK.min(MOST_BYTES + 1 - input.len());
     if input.reserve(most).is_err() {
-        return Some(Ending::NoMemory);
+        return Some(InputEnd::NoMemory);
     }
     match reader.read(&mut chunk[..most]) {
-        Ok(0) => Some(Ending::Whole),
+        Ok(0) => Some(InputEnd::Whole),
         Ok(n) => {
             input.extend_from_slice(&chunk[..n]).unwrap();
             None
         }
-        Err(_) => Some(Ending::Fault),
+        Err(_) => Some(InputEnd::Fault),
     }
 }

@@ -4,11 +4,11 @@ ghost use Rattle.std.specs.Io.KnownBytes.{Appends, Consumes, IsAtEnd};
 ghost use Rattle.names.specs.Cut.{LinesCut, ToldFront};
 ghost use Rattle.names.specs.Fault.{AppendsFront};
 ghost use Rattle.names.specs.Line.{lines_of};
-ghost use Rattle.names.specs.LinesEnd.{LinesEnded};
+ghost use Rattle.names.specs.WritesUntil.{WritesUntil};
 ghost use Rattle.names.specs.Told.{Told, most_bytes, read_fault};
 ghost use Rattle.names.specs.Watched.{NoCallAfterFault, is_unsettled, met_fault};
 
-use crate::input::{Ending, read_input};
+use crate::input::{InputEnd, read_input};
 use crate::lines::first_line;
 use crate::session::{Names, reply};
 use crate::watch::Watch;
@@ -64,10 +64,10 @@ pub fn run<R: Read, W: Write>(alloc: Global, reader: &mut Watch<R>, writer: &mut
     let ending = read_input(reader, &mut input);
     reader.settle_before(writer);
     match ending {
-        Ending::Whole => run_lines(alloc, &input, writer),
-        Ending::TooLong => finish(writer, b"input too long\n", 2),
-        Ending::NoMemory => finish(writer, b"no memory\n", 3),
-        Ending::Fault => finish(writer, b"read fault\n", 4),
+        InputEnd::Whole => run_lines(alloc, &input, writer),
+        InputEnd::TooLong => finish(writer, b"input too long\n", 2),
+        InputEnd::NoMemory => finish(writer, b"no memory\n", 3),
+        InputEnd::Fault => finish(writer, b"read fault\n", 4),
     }
 }
 
@@ -100,7 +100,7 @@ fn answer_lines<W: Write>(
 ) -> io::Result<LinesEnd>
     requires { length input.now ≤ most_bytes }
     ensures ended { IfOk result (λ end. (text : List ℕ)
-        × Appends (W.contents writer.old.inner) (W.contents writer.new.inner) text × LinesEnded end (lines_of input.now) text) }
+        × Appends (W.contents writer.old.inner) (W.contents writer.new.inner) text × WritesUntil end (lines_of input.now) text) }
     ensures ok { IfOk result (λ _. writer.new.failed ≡ writer.old.failed) }
     ensures err { OnErr result (writer.new.failed ≡ true) }
     ensures cut { OnErr result ((front : List ℕ)

@@ -11,11 +11,9 @@
 //!
 //! The calls of `LiteMap` are then proved over it, with no proof of theirs to be written.
 ghost use Rattle.std.specs.Prelude.{refl};
-ghost use Rattle.litemap_store.specs.Retain.{CalledOnPair};
 ghost use Rattle.test_support.specs.Contents.{with_value};
 
-use litemap_store::NoRoom;
-use litemap_store::store::{Store, StoreBulkMut, StoreConstEmpty, StoreMut};
+use litemap::store::{NoRoom, Store, StoreBulkMut, StoreConstEmpty, StoreMut};
 use std::alloc::{AllocError, Global};
 use std::marker::Model;
 use std::mem;
@@ -127,12 +125,7 @@ impl<K, V> StoreMut<K, V> for FixedRoom<K, V> {
 }
 
 impl<K: Ord + Drop, V: Drop> StoreBulkMut<K, V> for FixedRoom<K, V> {
-    fn lm_retain<F: FnMut(&K, &V) -> bool>(&mut self, mut f: F) {
-        self.items.retain(
-            |pair|
-                requires { F.IsAlwaysCallable f }
-                ensures asked { CalledOnPair F.FnMut f.entry pair.now result f.exit }
-            { f(&pair.0, &pair.1) },
-        );
+    fn lm_retain<F: FnMut(&K, &V) -> bool>(&mut self, f: F) {
+        self.items.lm_retain(f);
     }
 }

@@ -16,9 +16,7 @@ pub fn map_of<K: Ord + Copy, V: Copy, S: StoreMut<K, V> + Drop>(
 {
     let mut map = LiteMap::with_capacity(alloc, room)?;
     for (key, value) in list {
-        if map.insert(*key, *value).is_err() {
-            return Err(AllocError);
-        }
+        map.insert(*key, *value)?;
     }
     let _rises = map.len();
     Ok(map)
