@@ -14,7 +14,8 @@ met_fault watch = watch.has_met_fault
 abbrev pub called_after_fault : {T : Type 0} → Watch T → Bool
 called_after_fault watch = watch.has_late_call
 
--- whether a call was made through it that may have followed a fault of the watch beside it
+-- whether a call was made through it that may have followed a fault of the watch beside it: the calls so far are settled
+-- where that watch is seen to have met no fault until then
 abbrev pub is_unsettled : {T : Type 0} → Watch T → Bool
 is_unsettled watch = watch.has_open_call
 
