@@ -1,0 +1,33 @@
+//! Replays calls of maps: reads lines of standard input, a call each, and writes what answers each.
+//!
+//! A line is `STORE KEYS CALL ARGS`, words parted by one space. An empty line, or one that begins with `#`,
+//! is passed over and not answered; a line that says no call is answered `bad line`. For each store and each
+//! type of keys there is one map at a time, at first empty. The calls stand in `calls`, what answers them in
+//! `answers`.
+//!
+//! The stores `vec` and `fixed` are maps. The stores `scan` and `scan_fixed` stand in their places: lists
+//! that are changed by slow scans alone, whose contracts are the definitions of the sorted list. So the same
+//! lines with these names tell what the maps have to answer.
+#![tactic(auto)]
+
+mod answers;
+mod calls;
+mod keys;
+mod maps;
+mod scans;
+mod table;
+mod tables;
+mod words;
+
+use std::io;
+use tables::Tables;
+
+fn main(rt: HostRuntime) -> io::Result<()> {
+    let input = io::read_to_string(rt.alloc(), rt.stdin())?;
+    let mut tables = Tables::new(rt.alloc());
+    let mut output = String::new(rt.alloc());
+    for line in input.as_str().lines() {
+        tables.answer_line(line, &mut output)?;
+    }
+    rt.print(output.as_str())
+}
