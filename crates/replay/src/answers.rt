@@ -6,7 +6,7 @@ use std::alloc::AllocError;
 use std::fmt::{self, Display, Formatter, Write};
 
 /// What a call answers that puts a pair: the pair comes back where there is no room.
-pub type Put<K, T> = Result<T, NoRoom<(K, u32)>>;
+pub type Placed<K, T> = Result<T, NoRoom<(K, u32)>>;
 
 /// What a call answers that asks a closure for the value of an absent key.
 pub type Tried<K, T> = Result<T, TryFault<K, u32, u32>>;
@@ -40,9 +40,9 @@ pub enum Answer<K> {
     /// The place of a key, `ok I`, or where it would go, `err I`.
     Place(Result<usize, usize>),
     /// `none` where the pair was placed, `old V` of a key that was there, or `no room K V`.
-    Old(Put<K, Option<u32>>),
+    Old(Placed<K, Option<u32>>),
     /// `none` where the pair was placed, `back K V` where it was not, or `no room K V`.
-    Back(Put<K, Option<(K, u32)>>),
+    Back(Placed<K, Option<(K, u32)>>),
     /// The place and the value `I V`, `closure E` or `no room K V`, and then `asked N`.
     Found(Asked<Tried<K, (usize, u32)>>),
     /// The place `I`, `closure E` or `no room K V`, and then `asked N`.
@@ -95,7 +95,7 @@ fn write_place<W: Write>(f: &mut Formatter<W>, place: &Result<usize, usize>) -> 
     }
 }
 
-fn write_old<K: Key, W: Write>(f: &mut Formatter<W>, old: &Put<K, Option<u32>>) -> fmt::Result {
+fn write_old<K: Key, W: Write>(f: &mut Formatter<W>, old: &Placed<K, Option<u32>>) -> fmt::Result {
     match old {
         Ok(Some(old)) => write!(f, "old {old}"),
         Ok(None) => f.write_str("none"),
@@ -105,7 +105,7 @@ fn write_old<K: Key, W: Write>(f: &mut Formatter<W>, old: &Put<K, Option<u32>>) 
 
 fn write_back<K: Key, W: Write>(
     f: &mut Formatter<W>,
-    back: &Put<K, Option<(K, u32)>>,
+    back: &Placed<K, Option<(K, u32)>>,
 ) -> fmt::Result {
     match back {
         Ok(Some((key, value))) => write!(f, "back {} {value}", key.shown()),

@@ -2,14 +2,21 @@
 use crate::words::FromWord;
 
 /// A call of a map, with its arguments. Values are numbers.
-#[derive(Clone, Copy)]
+#[derive(Drop)]
 pub enum Call<K> {
-    /// A fresh map.
-    New,
-    /// A fresh map with room.
-    WithCapacity(usize),
-    /// To take room.
-    Reserve(usize),
+    /// One that changes nothing.
+    Look(Look<K>),
+    /// One that may place a pair.
+    Put(Put, K, u32),
+    /// One that writes values or takes out pairs.
+    Change(Change<K>),
+    /// One that makes a fresh map or takes room.
+    Make(Make),
+}
+
+/// A call that changes nothing.
+#[derive(Drop)]
+pub enum Look<K> {
     /// The number of pairs.
     Len,
     /// Whether there is no pair.
@@ -28,16 +35,32 @@ pub enum Call<K> {
     FindIndex(K),
     /// The value of a key that is there.
     Index(K),
-    /// To put a value at a key.
-    Insert(K, u32),
-    /// To put a pair whose key is absent.
-    TryInsert(K, u32),
-    /// To put a pair behind the last one.
-    TryAppend(K, u32),
-    /// The place and the value of a key; where the key is absent, a closure makes the value or fails.
-    TryGetOrInsert(K, Result<u32, u32>),
-    /// The place of a key; where the key is absent, a closure makes the value or fails.
-    TryFindOrInsert(K, Result<u32, u32>),
+    /// All pairs.
+    List,
+}
+
+/// A call that may place a pair of a key and a value.
+#[derive(Drop)]
+pub enum Put {
+    /// At its place, also where the key is there.
+    Insert,
+    /// At its place where the key is absent.
+    TryInsert,
+    /// Behind the last one.
+    TryAppend,
+    /// Where the key is absent a closure answers the value; the place and the value are answered.
+    TryGetOrInsert,
+    /// Where the key is absent a closure fails, with the value as its fault.
+    TryGetOrFail,
+    /// Where the key is absent a closure answers the value; the place is answered.
+    TryFindOrInsert,
+    /// Where the key is absent a closure fails, with the value as its fault.
+    TryFindOrFail,
+}
+
+/// A call that writes values or takes out pairs.
+#[derive(Drop)]
+pub enum Change<K> {
     /// To write the value of a key.
     GetMut(K, u32),
     /// To write the value of a key that is there.
@@ -46,8 +69,6 @@ pub enum Call<K> {
     GetIndexedMut(usize, u32),
     /// To take out a key.
     Remove(K),
-    /// To take out all pairs.
-    Clear,
     /// To keep the pairs whose values leave a rest by a divisor.
     Retain {
         /// The divisor, which is not 0.
@@ -55,8 +76,19 @@ pub enum Call<K> {
         /// The rest.
         rest: u32,
     },
-    /// All pairs.
-    List,
+    /// To take out all pairs.
+    Clear,
+}
+
+/// A call that makes a fresh map or takes room.
+#[derive(Drop)]
+pub enum Make {
+    /// A fresh map.
+    New,
+    /// A fresh map with room.
+    WithCapacity(usize),
+    /// Room.
+    Reserve(usize),
 }
 
 /// The call that the words spell, if they spell one.
@@ -64,7 +96,7 @@ pub(crate) fn parse<'a, K: FromWord<'a>>(words: &[&'a str]) -> Option<Call<K>> {
     match words {
         [name] => plain(name),
         [name, key] => by_key(name, key).or(by_number(name, key)),
-        [name, key, value] => put(name, key, value).or(by_numbers(name, key, value)),
+        [name, key, value] => by_key_and_value(name, key, value).or(by_numbers(name, key, value)),
         _ => None,
     }
 }
@@ -72,13 +104,13 @@ pub(crate) fn parse<'a, K: FromWord<'a>>(words: &[&'a str]) -> Option<Call<K>> {
 // A call with no argument.
 fn plain<K>(name: &str) -> Option<Call<K>> {
     Some(match name {
-        "new" => Call::New,
-        "len" => Call::Len,
-        "is_empty" => Call::IsEmpty,
-        "first" => Call::First,
-        "last" => Call::Last,
-        "clear" => Call::Clear,
-        "list" => Call::List,
+        "new" => Call::Make(Make::New),
+        "len" => Call::Look(Look::Len),
+        "is_empty" => Call::Look(Look::IsEmpty),
+        "first" => Call::Look(Look::First),
+        "last" => Call::Look(Look::Last),
+        "clear" => Call::Change(Change::Clear),
+        "list" => Call::Look(Look::List),
         _ => return None,
     })
 }
@@ -87,11 +119,11 @@ fn plain<K>(name: &str) -> Option<Call<K>> {
 fn by_key<'a, K: FromWord<'a>>(name: &str, key: &'a str) -> Option<Call<K>> {
     let key = K::from_word(key)?;
     Some(match name {
-        "get" => Call::Get(key),
-        "contains_key" => Call::ContainsKey(key),
-        "find_index" => Call::FindIndex(key),
-        "index" => Call::Index(key),
-        "remove" => Call::Remove(key),
+        "get" => Call::Look(Look::Get(key)),
+        "contains_key" => Call::Look(Look::ContainsKey(key)),
+        "find_index" => Call::Look(Look::FindIndex(key)),
+        "index" => Call::Look(Look::Index(key)),
+        "remove" => Call::Change(Change::Remove(key)),
         _ => return None,
     })
 }
@@ -100,27 +132,34 @@ fn by_key<'a, K: FromWord<'a>>(name: &str, key: &'a str) -> Option<Call<K>> {
 fn by_number<K>(name: &str, number: &str) -> Option<Call<K>> {
     let number = usize::from_word(number)?;
     Some(match name {
-        "with_capacity" => Call::WithCapacity(number),
-        "reserve" => Call::Reserve(number),
-        "get_indexed" => Call::GetIndexed(number),
+        "with_capacity" => Call::Make(Make::WithCapacity(number)),
+        "reserve" => Call::Make(Make::Reserve(number)),
+        "get_indexed" => Call::Look(Look::GetIndexed(number)),
         _ => return None,
     })
 }
 
 // A call by a key and a value.
-fn put<'a, K: FromWord<'a>>(name: &str, key: &'a str, value: &str) -> Option<Call<K>> {
+fn by_key_and_value<'a, K: FromWord<'a>>(name: &str, key: &'a str, value: &str) -> Option<Call<K>> {
     let key = K::from_word(key)?;
     let value = u32::from_word(value)?;
+    match name {
+        "get_mut" => Some(Call::Change(Change::GetMut(key, value))),
+        "index_mut" => Some(Call::Change(Change::IndexMut(key, value))),
+        _ => Some(Call::Put(put_of(name)?, key, value)),
+    }
+}
+
+// A call that may place a pair.
+fn put_of(name: &str) -> Option<Put> {
     Some(match name {
-        "insert" => Call::Insert(key, value),
-        "try_insert" => Call::TryInsert(key, value),
-        "try_append" => Call::TryAppend(key, value),
-        "try_get_or_insert" => Call::TryGetOrInsert(key, Ok(value)),
-        "try_get_or_fail" => Call::TryGetOrInsert(key, Err(value)),
-        "try_find_or_insert" => Call::TryFindOrInsert(key, Ok(value)),
-        "try_find_or_fail" => Call::TryFindOrInsert(key, Err(value)),
-        "get_mut" => Call::GetMut(key, value),
-        "index_mut" => Call::IndexMut(key, value),
+        "insert" => Put::Insert,
+        "try_insert" => Put::TryInsert,
+        "try_append" => Put::TryAppend,
+        "try_get_or_insert" => Put::TryGetOrInsert,
+        "try_get_or_fail" => Put::TryGetOrFail,
+        "try_find_or_insert" => Put::TryFindOrInsert,
+        "try_find_or_fail" => Put::TryFindOrFail,
         _ => return None,
     })
 }
@@ -128,15 +167,18 @@ fn put<'a, K: FromWord<'a>>(name: &str, key: &'a str, value: &str) -> Option<Cal
 // A call by two numbers.
 fn by_numbers<K>(name: &str, first: &str, second: &str) -> Option<Call<K>> {
     let second = u32::from_word(second)?;
-    match name {
-        "get_indexed_mut" => Some(Call::GetIndexedMut(usize::from_word(first)?, second)),
-        "retain" => match u32::from_word(first)? {
-            0 => None,
-            divisor => Some(Call::Retain {
-                divisor,
-                rest: second,
-            }),
-        },
-        _ => None,
+    Some(Call::Change(match name {
+        "get_indexed_mut" => Change::GetIndexedMut(usize::from_word(first)?, second),
+        "retain" => retain(u32::from_word(first)?, second)?,
+        _ => return None,
+    }))
+}
+
+// A call that keeps what leaves the rest by the divisor, which must not be 0.
+fn retain<K>(divisor: u32, rest: u32) -> Option<Change<K>> {
+    if divisor == 0 {
+        None
+    } else {
+        Some(Change::Retain { divisor, rest })
     }
 }

@@ -1,5 +1,5 @@
 //! A map over any store, called as it is.
-use crate::answers::{Asked, Put, Tried};
+use crate::answers::{Asked, Placed, Tried};
 use crate::table::Table;
 use litemap::LiteMap;
 use litemap::store::{StoreBulkMut, StoreConstEmpty};
@@ -76,15 +76,23 @@ where
         }
     }
 
-    fn insert(&mut self, key: K, value: u32) -> Result<Put<K, Option<u32>>, AllocError> {
+    fn insert(&mut self, key: K, value: u32) -> Result<Placed<K, Option<u32>>, AllocError> {
         Ok(LiteMap::insert(self, key, value))
     }
 
-    fn try_insert(&mut self, key: K, value: u32) -> Result<Put<K, Option<(K, u32)>>, AllocError> {
+    fn try_insert(
+        &mut self,
+        key: K,
+        value: u32,
+    ) -> Result<Placed<K, Option<(K, u32)>>, AllocError> {
         Ok(LiteMap::try_insert(self, key, value))
     }
 
-    fn try_append(&mut self, key: K, value: u32) -> Result<Put<K, Option<(K, u32)>>, AllocError> {
+    fn try_append(
+        &mut self,
+        key: K,
+        value: u32,
+    ) -> Result<Placed<K, Option<(K, u32)>>, AllocError> {
         Ok(LiteMap::try_append(self, key, value))
     }
 

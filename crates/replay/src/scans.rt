@@ -1,5 +1,5 @@
 //! A list that stands in the place of a map, and is changed by slow scans alone.
-use crate::answers::{Asked, Put, Tried};
+use crate::answers::{Asked, Placed, Tried};
 use crate::table::Table;
 use litemap::TryFault;
 use litemap::store::NoRoom;
@@ -59,7 +59,7 @@ impl<K: Ord + Copy> Scans<K> {
     }
 
     // Places a pair whose key is absent, or hands it back where there is no room.
-    fn place(&mut self, key: K, value: u32) -> Result<Put<K, ()>, AllocError> {
+    fn place(&mut self, key: K, value: u32) -> Result<Placed<K, ()>, AllocError> {
         if !self.has_room(1) {
             return Ok(Err(NoRoom { back: (key, value) }));
         }
@@ -134,21 +134,29 @@ impl<K: Ord + Copy> Table<K> for Scans<K> {
         self.value(key)
     }
 
-    fn insert(&mut self, key: K, value: u32) -> Result<Put<K, Option<u32>>, AllocError> {
+    fn insert(&mut self, key: K, value: u32) -> Result<Placed<K, Option<u32>>, AllocError> {
         match self.write(key, value)? {
             Some(old) => Ok(Ok(Some(old))),
             None => Ok(self.place(key, value)?.map(|()| None)),
         }
     }
 
-    fn try_insert(&mut self, key: K, value: u32) -> Result<Put<K, Option<(K, u32)>>, AllocError> {
+    fn try_insert(
+        &mut self,
+        key: K,
+        value: u32,
+    ) -> Result<Placed<K, Option<(K, u32)>>, AllocError> {
         match self.value(key) {
             Some(_) => Ok(Ok(Some((key, value)))),
             None => Ok(self.place(key, value)?.map(|()| None)),
         }
     }
 
-    fn try_append(&mut self, key: K, value: u32) -> Result<Put<K, Option<(K, u32)>>, AllocError> {
+    fn try_append(
+        &mut self,
+        key: K,
+        value: u32,
+    ) -> Result<Placed<K, Option<(K, u32)>>, AllocError> {
         if by_scan::place(&self.pairs, &key) == self.pairs.len() {
             Ok(self.place(key, value)?.map(|()| None))
         } else {

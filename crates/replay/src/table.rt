@@ -1,6 +1,6 @@
 //! What can be called as a map, and what answers each call.
-use crate::answers::{Answer, Asked, Put, Tried};
-use crate::calls::Call;
+use crate::answers::{Answer, Asked, Placed, Tried};
+use crate::calls::{Call, Change, Look, Make, Put};
 use std::alloc::{AllocError, Global};
 
 /// What can be called as a map: each call is the map's of that name.
@@ -44,13 +44,13 @@ pub trait Table<K: Copy> {
     fn index(&self, key: K) -> Option<u32>;
 
     /// `insert`.
-    fn insert(&mut self, key: K, value: u32) -> Result<Put<K, Option<u32>>, AllocError>;
+    fn insert(&mut self, key: K, value: u32) -> Result<Placed<K, Option<u32>>, AllocError>;
 
     /// `try_insert`.
-    fn try_insert(&mut self, key: K, value: u32) -> Result<Put<K, Option<(K, u32)>>, AllocError>;
+    fn try_insert(&mut self, key: K, value: u32) -> Result<Placed<K, Option<(K, u32)>>, AllocError>;
 
     /// `try_append`.
-    fn try_append(&mut self, key: K, value: u32) -> Result<Put<K, Option<(K, u32)>>, AllocError>;
+    fn try_append(&mut self, key: K, value: u32) -> Result<Placed<K, Option<(K, u32)>>, AllocError>;
 
     /// `try_get_or_insert`, where the closure answers `made`.
     fn try_get_or_insert(
@@ -96,38 +96,74 @@ pub(crate) fn answer<K: Copy, T: Table<K>>(
     table: &mut T,
     call: Call<K>,
 ) -> Result<Answer<K>, AllocError> {
-    Ok(match call {
-        Call::New => {
-            table.renew(alloc);
-            Answer::Done
-        }
-        Call::WithCapacity(capacity) => Answer::Room(table.renew_with_capacity(alloc, capacity)),
-        Call::Reserve(additional) => Answer::Room(table.reserve(additional)),
-        Call::Len => Answer::Number(table.len()),
-        Call::IsEmpty => Answer::Truth(table.is_empty()),
-        Call::First => Answer::Pair(table.first()),
-        Call::Last => Answer::Pair(table.last()),
-        Call::GetIndexed(index) => Answer::Pair(table.get_indexed(index)),
-        Call::Get(key) => Answer::Value(table.get(key)),
-        Call::ContainsKey(key) => Answer::Truth(table.contains_key(key)),
-        Call::FindIndex(key) => Answer::Place(table.find_index(key)),
-        Call::Index(key) => Answer::There(table.index(key)),
-        Call::Insert(key, value) => Answer::Old(table.insert(key, value)?),
-        Call::TryInsert(key, value) => Answer::Back(table.try_insert(key, value)?),
-        Call::TryAppend(key, value) => Answer::Back(table.try_append(key, value)?),
-        Call::TryGetOrInsert(key, made) => Answer::Found(table.try_get_or_insert(key, made)?),
-        Call::TryFindOrInsert(key, made) => Answer::FoundPlace(table.try_find_or_insert(
-            key, made,
-        )?),
-        Call::GetMut(key, value) => Answer::Value(table.get_mut(key, value)?),
-        Call::IndexMut(key, value) => Answer::There(table.index_mut(key, value)?),
-        Call::GetIndexedMut(index, value) => Answer::Value(table.get_indexed_mut(index, value)?),
-        Call::Remove(key) => Answer::Value(table.remove(key)?),
-        Call::Clear => {
+    match call {
+        Call::Look(look) => answer_look(alloc, table, look),
+        Call::Put(put, key, value) => answer_put(table, put, key, value),
+        Call::Change(change) => answer_change(table, change),
+        Call::Make(make) => Ok(answer_make(alloc, table, make)),
+    }
+}
+
+fn answer_look<K: Copy, T: Table<K>>(
+    alloc: Global,
+    table: &T,
+    look: Look<K>,
+) -> Result<Answer<K>, AllocError> {
+    Ok(match look {
+        Look::Len => Answer::Number(table.len()),
+        Look::IsEmpty => Answer::Truth(table.is_empty()),
+        Look::First => Answer::Pair(table.first()),
+        Look::Last => Answer::Pair(table.last()),
+        Look::GetIndexed(index) => Answer::Pair(table.get_indexed(index)),
+        Look::Get(key) => Answer::Value(table.get(key)),
+        Look::ContainsKey(key) => Answer::Truth(table.contains_key(key)),
+        Look::FindIndex(key) => Answer::Place(table.find_index(key)),
+        Look::Index(key) => Answer::There(table.index(key)),
+        Look::List => Answer::List(table.list(alloc)?),
+    })
+}
+
+fn answer_put<K: Copy, T: Table<K>>(
+    table: &mut T,
+    put: Put,
+    key: K,
+    value: u32,
+) -> Result<Answer<K>, AllocError> {
+    Ok(match put {
+        Put::Insert => Answer::Old(table.insert(key, value)?),
+        Put::TryInsert => Answer::Back(table.try_insert(key, value)?),
+        Put::TryAppend => Answer::Back(table.try_append(key, value)?),
+        Put::TryGetOrInsert => Answer::Found(table.try_get_or_insert(key, Ok(value))?),
+        Put::TryGetOrFail => Answer::Found(table.try_get_or_insert(key, Err(value))?),
+        Put::TryFindOrInsert => Answer::FoundPlace(table.try_find_or_insert(key, Ok(value))?),
+        Put::TryFindOrFail => Answer::FoundPlace(table.try_find_or_insert(key, Err(value))?),
+    })
+}
+
+fn answer_change<K: Copy, T: Table<K>>(
+    table: &mut T,
+    change: Change<K>,
+) -> Result<Answer<K>, AllocError> {
+    Ok(match change {
+        Change::GetMut(key, value) => Answer::Value(table.get_mut(key, value)?),
+        Change::IndexMut(key, value) => Answer::There(table.index_mut(key, value)?),
+        Change::GetIndexedMut(index, value) => Answer::Value(table.get_indexed_mut(index, value)?),
+        Change::Remove(key) => Answer::Value(table.remove(key)?),
+        Change::Retain { divisor, rest } => Answer::Times(table.retain(divisor, rest)?),
+        Change::Clear => {
             table.clear();
             Answer::Done
         }
-        Call::Retain { divisor, rest } => Answer::Times(table.retain(divisor, rest)?),
-        Call::List => Answer::List(table.list(alloc)?),
     })
+}
+
+fn answer_make<K: Copy, T: Table<K>>(alloc: Global, table: &mut T, make: Make) -> Answer<K> {
+    match make {
+        Make::New => {
+            table.renew(alloc);
+            Answer::Done
+        }
+        Make::WithCapacity(capacity) => Answer::Room(table.renew_with_capacity(alloc, capacity)),
+        Make::Reserve(additional) => Answer::Room(table.reserve(additional)),
+    }
 }

@@ -1,5 +1,6 @@
 //! A map for each store and each type of keys, and the lines that call them.
-use crate::calls::parse;
+use crate::answers::Answer;
+use crate::calls::{Call, parse};
 use crate::keys::Key;
 use crate::scans::Scans;
 use crate::table::answer;
@@ -37,6 +38,22 @@ impl<K: Key> Stores<K> {
         }
     }
 
+    // Does a call of the map of a store, and gives what answers it, if there is such a store.
+    fn answer_of(
+        &mut self,
+        alloc: Global,
+        store: &str,
+        call: Call<K>,
+    ) -> Option<Result<Answer<K>, AllocError>> {
+        match store {
+            "vec" => Some(answer(alloc, &mut self.vec, call)),
+            "fixed" => Some(answer(alloc, &mut self.fixed, call)),
+            "scan" => Some(answer(alloc, &mut self.scan, call)),
+            "scan_fixed" => Some(answer(alloc, &mut self.scan_fixed, call)),
+            _ => None,
+        }
+    }
+
     // Does the call that the words spell, of the map of a store, and writes what answers it. It answers
     // whether they spell one.
     fn call<'a>(
@@ -52,13 +69,10 @@ impl<K: Key> Stores<K> {
         let Some(call) = parse::<K>(words) else {
             return Ok(false);
         };
-        let answer = match store {
-            "vec" => answer(alloc, &mut self.vec, call)?,
-            "fixed" => answer(alloc, &mut self.fixed, call)?,
-            "scan" => answer(alloc, &mut self.scan, call)?,
-            "scan_fixed" => answer(alloc, &mut self.scan_fixed, call)?,
-            _ => return Ok(false),
+        let Some(answered) = self.answer_of(alloc, store, call) else {
+            return Ok(false);
         };
+        let answer = answered?;
         writeln!(output, "{answer}")?;
         Ok(true)
     }
