@@ -11,6 +11,3 @@ pub mod store;
 mod vec_impl;
 
 pub use no_room::NoRoom;
-
-#[cfg(test)]
-mod tests;
