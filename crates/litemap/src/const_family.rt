@@ -247,22 +247,3 @@ impl<'a, V> LiteMap<isize, V, SliceStore<'a, isize, V>> {
         self.const_find(&key)
     }
 }
-
-#[cfg(test)]
-mod tests {
-    use super::const_cmp_bytes;
-
-    #[test]
-    fn test_const_cmp_bytes(rt: HostRuntime) {
-        let rising = ["a", "aa", "abc", "abde", "bcd", "bcde"];
-        for (i, a) in rising.iter().enumerate() {
-            for (j, b) in rising.iter().enumerate() {
-                assert_eq!(rt;
-                    const_cmp_bytes(a.as_bytes(), b.as_bytes()),
-                    i.cmp(&j),
-                    "{a} and {b}"
-                );
-            }
-        }
-    }
-}

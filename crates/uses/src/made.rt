@@ -34,23 +34,3 @@ where
         None => unreachable!(),
     }
 }
-
-#[cfg(test)]
-mod tests {
-    use super::*;
-    use std::test::Fail;
-
-    #[test]
-    fn a_value_is_made_once(rt: HostRuntime) -> Result<(), Fail> {
-        let mut map: LiteMap<u32, u32, Vec<(u32, u32)>> = LiteMap::new_vec(rt.alloc());
-        map.insert(3, 30)?;
-        let made: Result<u32, TryFault<u32, u32, u8>> = value_or_made(&mut map, 1, |_| Ok(10));
-        assert_eq!(rt; made, Ok(10));
-        let kept: Result<u32, TryFault<u32, u32, u8>> = value_or_made(&mut map, 1, |_| Err(7));
-        assert_eq!(rt; kept, Ok(10));
-        let refused: Result<u32, TryFault<u32, u32, u8>> = value_or_made(&mut map, 2, |_| Err(7));
-        assert_eq!(rt; refused, Err(TryFault::Closure(7)));
-        assert_eq!(rt; map.as_slice(), [(1, 10), (3, 30)].as_slice());
-        Ok(())
-    }
-}

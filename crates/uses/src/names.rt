@@ -30,24 +30,3 @@ pub fn find_in_map<'a, 'k, V>(
 {
     map.as_sliced().const_get_with_index(name)
 }
-
-#[cfg(test)]
-mod tests {
-    use super::*;
-    use std::test::Fail;
-
-    const DAYS: &[(&str, u32)] = &[("April", 30), ("February", 28), ("January", 31)];
-
-    #[test]
-    fn names_are_found_in_a_table_and_in_a_map(rt: HostRuntime) -> Result<(), Fail> {
-        assert_eq!(rt; find_in_table(DAYS, "February"), Some((1, &28)));
-        assert_eq!(rt; find_in_table(DAYS, "Febru"), None);
-        let mut map = LiteMap::new_vec(rt.alloc());
-        for (name, days) in DAYS {
-            map.insert(*name, *days)?;
-        }
-        assert_eq!(rt; find_in_map(&map, "January"), Some((2, &31)));
-        assert_eq!(rt; find_in_map(&map, "March"), None);
-        Ok(())
-    }
-}

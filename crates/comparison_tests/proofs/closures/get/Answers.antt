@@ -1,0 +1,12 @@
+use Rattle.std.proofs.Common.{◌≡◌, refl, rules}
+use Rattle.std.specs.Ordering.{nat_cmp}
+use Rattle.std.specs.Cmp.{nat_cmp_total}
+use Rattle.litemap_store.specs.Search.{shape_kept}
+use Rattle.litemap_store.proofs.Splitting.{Ascends-by_key}
+use Rattle.comparison_tests.proofs.closures.get.Goals as goal
+
+pub get_by-found-requires : goal.get_by-found-requires
+get_by-found-requires g c = record {
+  ord = λ k. nat_cmp k c.args.key;
+  shape = shape_kept _ _ _ (λ s. s.1.now ≡ c.args.key) (λ s p a i. (tt, λ r f' k. (search rules, search rules))) _ refl (Ascends-by_key nat_cmp_total _ c.args.key c.len-rises.ensures.rising);
+}

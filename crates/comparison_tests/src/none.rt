@@ -1,0 +1,132 @@
+//! Calls that compare no keys.
+use crate::lengths::{LENGTHS, odd_keys};
+use litemap::LiteMap;
+use litemap::store::{StoreBulkMut, StoreSlice};
+use std::alloc::Global;
+use std::cell::Cell;
+use std::process::Abort;
+use std::test::Fail;
+use test_support::fixed_room::FixedRoom;
+use test_support::keys::Counted;
+
+#[derive(Clone, Copy, Debug)]
+enum Call {
+    Len,
+    IsEmpty,
+    First,
+    Last,
+    GetIndexed,
+    GetIndexedMut,
+    TryClone,
+    Reserve,
+    Retain,
+    Clear,
+}
+
+// `Clear` stands last.
+const CALLS: [Call; 10] = [
+    Call::Len,
+    Call::IsEmpty,
+    Call::First,
+    Call::Last,
+    Call::GetIndexed,
+    Call::GetIndexedMut,
+    Call::TryClone,
+    Call::Reserve,
+    Call::Retain,
+    Call::Clear,
+];
+
+// Whether the call answered as one on a map of this length should.
+fn answers<'a, S: StoreBulkMut<Counted<'a>, u32> + Drop>(
+    map: &mut LiteMap<Counted<'a>, u32, S>,
+    alloc: Global,
+    len: usize,
+    call: Call,
+) -> Result<bool, Fail> {
+    match call {
+        Call::Len => Ok(map.len() == len),
+        Call::IsEmpty => Ok(map.is_empty() == (len == 0)),
+        Call::First => Ok(map.first().is_some() == (len > 0)),
+        Call::Last => Ok(map.last().is_some() == (len > 0)),
+        Call::GetIndexed => Ok(map.get_indexed(len / 2).is_some() == (len > 0)),
+        Call::GetIndexedMut => Ok(map.get_indexed_mut(len / 2).is_some() == (len > 0)),
+        Call::TryClone => {
+            let clone = map.try_clone(alloc)?;
+            Ok(clone.len() == len)
+        }
+        Call::Reserve => {
+            map.reserve(1)?;
+            Ok(true)
+        }
+        Call::Retain => {
+            map.retain(|_, _| true);
+            Ok(map.len() == len)
+        }
+        Call::Clear => {
+            map.clear();
+            Ok(map.is_empty())
+        }
+    }
+}
+
+fn make_each_call<'a, S: StoreBulkMut<Counted<'a>, u32> + Drop>(
+    rt: &impl Abort,
+    alloc: Global,
+    made: &'a Cell<u32>,
+    len: u32,
+) -> Result<(), Fail> {
+    let mut map: LiteMap<Counted<'a>, u32, S> = odd_keys(alloc, made, len)?;
+    for call in CALLS {
+        made.set(0);
+        let is_right = answers(&mut map, alloc, len as usize, call)?;
+        let compared = made.get();
+        assert!(rt;
+            is_right && compared == 0,
+            "{call:?} on {len}: {compared} comparisons"
+        );
+    }
+    Ok(())
+}
+
+// How many pairs the views of a map have in all.
+fn view<'a, S: StoreSlice<Counted<'a>, u32>>(map: &LiteMap<Counted<'a>, u32, S>) -> usize {
+    let part = match map.get_indexed_range(0..map.len()) {
+        Some(part) => part.len(),
+        None => 0,
+    };
+    let borrowed = map.as_sliced();
+    part.wrapping_add(map.as_slice().len())
+        .wrapping_add(borrowed.const_len())
+}
+
+#[test]
+fn a_call_by_no_key_compares_nothing(rt: HostRuntime) -> Result<(), Fail> {
+    let made = Cell::new(0u32);
+    for len in LENGTHS {
+        make_each_call::<Vec<(Counted<'_>, u32)>>(&rt, rt.alloc(), &made, len)?;
+        make_each_call::<FixedRoom<Counted<'_>, u32>>(&rt, rt.alloc(), &made, len)?;
+    }
+    Ok(())
+}
+
+#[test]
+fn a_view_compares_nothing(rt: HostRuntime) -> Result<(), Fail> {
+    let made = Cell::new(0u32);
+    for len in LENGTHS {
+        let map: LiteMap<Counted<'_>, u32, Vec<(Counted<'_>, u32)>> = odd_keys(
+            rt.alloc(),
+            &made,
+            len,
+        )?;
+        made.set(0);
+        let pairs = view(&map);
+        let taken = map.into_tuple_vec();
+        assert_eq!(rt;
+            (pairs, taken.len(), made.get()),
+            ((len as usize).wrapping_mul(3), len as usize, 0),
+            "on {len}"
+        );
+    }
+    Ok(())
+}

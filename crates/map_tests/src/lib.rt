@@ -1,0 +1,22 @@
+//! Tests that call a map as a user would, of what no contract says: over a vector, over a store with a
+//! fixed room, and over a borrowed slice.
+#![tactic(auto)]
+
+#[cfg(test)]
+mod ample;
+#[cfg(test)]
+mod callers;
+#[cfg(test)]
+mod clones;
+#[cfg(test)]
+mod closures;
+#[cfg(test)]
+mod counts;
+#[cfg(test)]
+mod made;
+#[cfg(test)]
+mod printing;
+#[cfg(test)]
+mod stored_keys;
+#[cfg(test)]
+mod views;

@@ -1,0 +1,84 @@
+//! Looks at the pairs of a store, and at its parts.
+use litemap::store::{SliceStore, Store, StoreConstEmpty, StoreMut, StoreSlice};
+use std::alloc::Global;
+use std::process::Abort;
+use std::test::Fail;
+use test_support::fixed_room::FixedRoom;
+
+const PAIRS: [(u32, u32); 4] = [(1, 10), (3, 30), (2, 20), (4, 40)];
+
+// The pair at a place.
+fn pair_at<S: Store<u32, u32>>(store: &S, place: usize) -> Option<(u32, u32)> {
+    let (key, value) = store.lm_get(place)?;
+    Some((*key, *value))
+}
+
+// Asserts that the store has these pairs, at their places and at no other.
+pub fn assert_pairs<S: Store<u32, u32>>(rt: &impl Abort, store: &S, pairs: &[(u32, u32)]) {
+    assert_eq!(rt;
+        store.lm_len(),
+        pairs.len(),
+        "where there should be {pairs:?}"
+    );
+    assert_eq!(rt; store.lm_is_empty(), pairs.is_empty(), "with {pairs:?}");
+    assert_eq!(rt;
+        store.lm_last(),
+        pairs.last().map(|(key, value)| (key, value)),
+        "with {pairs:?}"
+    );
+    for place in 0..9 {
+        assert_eq!(rt;
+            pair_at(store, place),
+            pairs.get(place).copied(),
+            "at {place} of {pairs:?}"
+        );
+    }
+}
+
+fn look_when_pushed<S: StoreConstEmpty<u32, u32> + StoreMut<u32, u32> + Drop>(
+    rt: &impl Abort,
+    alloc: Global,
+) -> Result<(), Fail> {
+    assert_pairs(rt, &S::lm_empty(alloc), &[]);
+    let mut store = S::lm_with_capacity(alloc, 4)?;
+    for (place, (key, value)) in PAIRS.iter().enumerate() {
+        assert_pairs(rt, &store, &PAIRS[..place]);
+        store.lm_push(*key, *value)?;
+    }
+    assert_pairs(rt, &store, &PAIRS);
+    Ok(())
+}
+
+#[test]
+fn a_store_has_its_pairs_at_their_places(rt: HostRuntime) -> Result<(), Fail> {
+    look_when_pushed::<Vec<(u32, u32)>>(&rt, rt.alloc())?;
+    look_when_pushed::<FixedRoom<u32, u32>>(&rt, rt.alloc())?;
+    assert_pairs(&rt, &SliceStore::<u32, u32>::lm_empty(rt.alloc()), &[]);
+    for len in 0..5 {
+        let store = SliceStore::new(&PAIRS[..len]);
+        let copy = store;
+        assert_pairs(&rt, &copy, &PAIRS[..len]);
+    }
+    Ok(())
+}
+
+// Every range of places of three pairs, within and past the end, and those that run backwards.
+fn assert_parts<S: StoreSlice<u32, u32>>(rt: &impl Abort, store: &S) {
+    for start in 0..6 {
+        for end in 0..6 {
+            assert_eq!(rt;
+                store.lm_get_range(start..end),
+                PAIRS.get(start..end),
+                "{start}..{end}"
+            );
+        }
+    }
+}
+
+#[test]
+fn a_vector_and_a_slice_give_their_parts(rt: HostRuntime) -> Result<(), Fail> {
+    let pairs = PAIRS.to_vec(rt.alloc())?;
+    assert_parts(&rt, &pairs);
+    assert_parts(&rt, &SliceStore::new(&pairs));
+    Ok(())
+}
