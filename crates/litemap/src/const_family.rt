@@ -23,7 +23,8 @@ fn const_cmp_bytes(a: &[u8], b: &[u8]) -> Ordering
 
 // The place that a search found, and the value there.
 fn const_found<'a, K, V>(pairs: &'a [(K, V)], index: Result<usize, usize>) -> Option<(usize, &'a V)>
-    ensures value { option_map (λ found. found.1.now) result ≡ option_and_then (value_in pairs.now) (result_ok index) }
+    ensures value { option_map
+        (λ found. found.1.now) result ≡ option_and_then (value_in pairs.now) (result_ok index) }
     ensures place { IfSome result (λ found. index ≡ Ok found.0) }
     ensures within { IfSome result (λ found. found.0 < length pairs.now) }
     ensures there { IfSome result (λ found. value_in pairs.now found.0 ≡ Some found.1.now) }
@@ -75,7 +76,8 @@ impl<'a, 'k, V> LiteMap<&'k str, V, SliceStore<'a, &'k str, V>> {
     /// It compares at most once for each binary digit of the length. The key that is looked up may live shorter than those
     /// of the map.
     pub fn const_get_with_index(&self, key: &str) -> Option<(usize, &'a V)>
-        ensures value { option_map (λ found. found.1.now) result ≡ value_at by_bytes self.now.pairs key.entry }
+        ensures value { option_map
+            (λ found. found.1.now) result ≡ value_at by_bytes self.now.pairs key.entry }
         ensures place { IfSome result (λ found. found.0 ≡ place by_bytes self.now.pairs key.entry) }
         ensures within { IfSome result (λ found. found.0 < length self.now.pairs) }
         ensures there { IfSome result (λ found. value_in self.now.pairs found.0 ≡ Some found.1.now) }
@@ -94,7 +96,8 @@ impl<'a, 'k, V> LiteMap<&'k [u8], V, SliceStore<'a, &'k [u8], V>> {
     /// It compares at most once for each binary digit of the length. The key that is looked up may live shorter than those
     /// of the map.
     pub fn const_get_with_index(&self, key: &[u8]) -> Option<(usize, &'a V)>
-        ensures value { option_map (λ found. found.1.now) result ≡ value_at by_bytes self.now.pairs key.entry }
+        ensures value { option_map
+            (λ found. found.1.now) result ≡ value_at by_bytes self.now.pairs key.entry }
         ensures place { IfSome result (λ found. found.0 ≡ place by_bytes self.now.pairs key.entry) }
         ensures within { IfSome result (λ found. found.0 < length self.now.pairs) }
         ensures there { IfSome result (λ found. value_in self.now.pairs found.0 ≡ Some found.1.now) }

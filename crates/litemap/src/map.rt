@@ -119,8 +119,8 @@ impl<K: Ord, V, S: StoreMut<K, V>> LiteMap<K, V, S> {
 
     /// A map of clones of the keys and values, in the same order, or a refusal for want of memory.
     ///
-    /// A clone of a key has to compare `Equal` to its original. No keys are compared. The Rust crate has the trait `Clone`
-    /// here.
+    /// A clone of a key has to compare `Equal` to its original. Of texts that is `text_clones_equal` in the crate's
+    /// `proofs/Texts.antt`. No keys are compared. The Rust crate has the trait `Clone` here.
     pub fn try_clone(&self, alloc: Global) -> Result<Self, AllocError>
     where
         K: Clone,

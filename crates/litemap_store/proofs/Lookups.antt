@@ -168,9 +168,11 @@ module _ {K V : Type 0} {cmp : K → K → Ordering} (o : IsTotalOrder cmp) wher
   found (p' ∷ L) k p r e = (elim (is_eq (cmp p'.0 k)) as (λ c. is_eq (cmp p'.0 k) ≡ c → (i : ℕ) × IsFoundAt cmp (p' ∷ L) k i) [
     | true ↦ λ c. (0, found_at o (p' ∷ L) k 0 r (omega arith) (λ d. is_equal (cmp p'.0 k) c))
     | false ↦ λ c.
-        let rest : (i : ℕ) × IsFoundAt cmp L k i = found L k p r.1 (rw c at e) in
-        (suc rest.0, found_at o (p' ∷ L) k (suc rest.0) r (let w = found_within cmp L k rest.0 rest.1 in omega arith)
-        (λ d. ap (λ (x : K × V). cmp x.0 k) (get_or_from_slice_get L rest.0 rest.1.pair d (found_get cmp L k rest.0 rest.1)) ∙ rest.1.equal))
+        let rest : (i : ℕ) × IsFoundAt cmp L k i = found L k p r.1 (rw c at e) in (
+          suc rest.0,
+          found_at o (p' ∷ L) k (suc rest.0) r (let w = found_within cmp L k rest.0 rest.1 in omega arith)
+              (λ d. ap (λ (x : K × V). cmp x.0 k) (get_or_from_slice_get L rest.0 rest.1.pair d (found_get cmp L k rest.0 rest.1)) ∙ rest.1.equal),
+        )
   ]) refl
 
   none_equal : (L : List (K × V)) (k : K) → at cmp L k ≡ None → AllByRecursion (λ p. cmp p.0 k ≢ Equal) L

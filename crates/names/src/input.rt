@@ -46,10 +46,13 @@ pub fn read_input<R: Read>(reader: &mut Watch<R>, input: &mut Vec<u8>) -> InputE
 // One read, onto the end of the input.
 fn read_some<R: Read>(reader: &mut Watch<R>, input: &mut Vec<u8>) -> Option<InputEnd>
     requires { vec_len input.old ≤ MOST_BYTES }
-    ensures consumed { (more : List ℕ) × (input.new.items ≡ input.old.items ++ more) × Consumes (R.remaining reader.old.inner) (R.remaining reader.new.inner) more }
+    ensures consumed { (more : List ℕ) × (input.new.items ≡ input.old.items ++ more)
+        × Consumes (R.remaining reader.old.inner) (R.remaining reader.new.inner) more }
     ensures bounded { vec_len input.new ≤ MOST_BYTES + 1 }
-    ensures ended { IfSome result (λ ending. ReadsUntil ending reader.old.failed reader.new.failed (R.remaining reader.new.inner) input.new.items) }
-    ensures more { IfNone result ((vec_len input.old < vec_len input.new) × (reader.new.failed ≡ reader.old.failed)) }
+    ensures ended { IfSome result
+        (λ ending. ReadsUntil ending reader.old.failed reader.new.failed (R.remaining reader.new.inner) input.new.items) }
+    ensures more { IfNone result ((vec_len input.old < vec_len input.new)
+        × (reader.new.failed ≡ reader.old.failed)) }
     ensures unmet { IfNone result (met_fault reader.new ≡ met_fault reader.old) }
     ensures nothing_after { NoCallAfterFault reader.old reader.new }
 {

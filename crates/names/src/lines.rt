@@ -1,5 +1,6 @@
 //! The lines of the input, and what each says.
-ghost use Rattle.std.specs.Prelude.{◌≡◌, ◌<◌, ◌≤◌, ◌+◌, ◌++◌, ◌∷◌, ◌↔◌, ℕ, List, [], length, IsTrue, MatchOption, All, false, IfSome, IfNone, ◌==◌};
+ghost use Rattle.std.specs.Prelude.{◌≡◌, ◌<◌, ◌≤◌, ◌+◌, ◌++◌, ◌∷◌, ◌↔◌, ℕ, List, [], length, IsTrue};
+ghost use Rattle.std.specs.Prelude.{MatchOption, All, false, IfSome, IfNone, ◌==◌};
 ghost use Rattle.litemap.specs.Steps.{Call};
 ghost use Rattle.names.specs.Line.{IsWord, Spells, SpellsAll, lines_of};
 ghost use Rattle.names.specs.Command.{Says};
@@ -35,7 +36,8 @@ pub fn first_line(bytes: &[u8]) -> (&[u8], Option<&[u8]>)
 
 // What stands before the first such byte, and what follows it.
 fn cut_at(bytes: &[u8], byte: u8) -> Option<(&[u8], &[u8])>
-    ensures found { IfSome result (λ parts. (bytes.now ≡ parts.0.now ++ (byte ∷ parts.1.now)) × All (λ b. (b == byte) ≡ false) parts.0.now) }
+    ensures found { IfSome result (λ parts. (bytes.now ≡ parts.0.now ++ (byte ∷ parts.1.now))
+        × All (λ b. (b == byte) ≡ false) parts.0.now) }
     ensures none { IfNone result (All (λ b. (b == byte) ≡ false) bytes.now) }
 {
     let at = bytes.iter().position(|b| *b == byte)?;
@@ -45,7 +47,8 @@ fn cut_at(bytes: &[u8], byte: u8) -> Option<(&[u8], &[u8])>
 /// The command that a line says, if it says one.
 pub fn parse(line: &[u8]) -> Option<Command<'_>>
     ensures spelled { IfSome result (λ command. Says line.now command) }
-    ensures none { IfNone result ((SpellsAll line.now → ⊥) × ((call : Call (List ℕ) (List ℕ)) → Spells line.now call → ⊥)) }
+    ensures none { IfNone result ((SpellsAll line.now → ⊥)
+        × ((call : Call (List ℕ) (List ℕ)) → Spells line.now call → ⊥)) }
 {
     if line == b"all".as_slice() {
         return Some(Command::All);
@@ -66,7 +69,8 @@ pub fn parse(line: &[u8]) -> Option<Command<'_>>
 
 // What follows the name in the line.
 fn behind<'a>(line: &'a [u8], name: &[u8]) -> Option<&'a [u8]>
-    ensures { MatchOption result ((rest : List ℕ) → line.now ≡ name.now ++ rest → ⊥) (λ rest. line.now ≡ name.now ++ rest.now) }
+    ensures { MatchOption result ((rest : List ℕ) → line.now ≡ name.now ++ rest → ⊥)
+        (λ rest. line.now ≡ name.now ++ rest.now) }
 {
     line.strip_prefix(name)
 }
@@ -89,8 +93,10 @@ fn is_word(bytes: &[u8]) -> bool
 
 // The bytes as two words parted by one space.
 fn two_words(bytes: &[u8]) -> Option<(&str, &str)>
-    ensures found { IfSome result (λ pair. (bytes.now ≡ pair.0.now ++ (32 ∷ pair.1.now)) × IsWord pair.0.now × IsWord pair.1.now) }
-    ensures none { IfNone result ((key value : List ℕ) → bytes.now ≡ key ++ (32 ∷ value) → IsWord key → IsWord value → ⊥) }
+    ensures found { IfSome result
+        (λ pair. (bytes.now ≡ pair.0.now ++ (32 ∷ pair.1.now)) × IsWord pair.0.now × IsWord pair.1.now) }
+    ensures none { IfNone result ((key value : List ℕ)
+        → bytes.now ≡ key ++ (32 ∷ value) → IsWord key → IsWord value → ⊥) }
 {
     let (key, value) = cut_at(bytes, b' ')?;
     Some((word(key)?, word(value)?))

@@ -1,5 +1,6 @@
 //! A run of the program: it reads the lines, and writes what answers them.
-ghost use Rattle.std.specs.Prelude.{◌≡◌, ◌≢◌, ◌≤◌, ◌⊎◌, ◌||◌, ◌↔◌, ◌++◌, ℕ, List, false, true, length, IfOk, OnErr};
+ghost use Rattle.std.specs.Prelude.{◌≡◌, ◌≢◌, ◌≤◌, ◌⊎◌, ◌||◌, ◌↔◌, ◌++◌, ℕ, List, false, true, length, IfOk};
+ghost use Rattle.std.specs.Prelude.{OnErr};
 ghost use Rattle.std.specs.Io.KnownBytes.{Appends, Consumes, IsAtEnd};
 ghost use Rattle.names.specs.Cut.{LinesCut, ToldFront};
 ghost use Rattle.names.specs.Fault.{AppendsFront};

@@ -1,5 +1,6 @@
 //! What answers each line.
-ghost use Rattle.std.specs.Prelude.{◌≡◌, ◌++◌, ℕ, List, Some, IfOk, IfSome, OnOk, MatchOption, flat_map, option_copied, option_map, slice_get, string_bytes};
+ghost use Rattle.std.specs.Prelude.{◌≡◌, ◌++◌, ℕ, List, Some, IfOk, IfSome, OnOk, MatchOption, flat_map};
+ghost use Rattle.std.specs.Prelude.{option_copied, option_map, slice_get, string_bytes};
 ghost use Rattle.litemap.specs.Steps.{Find, Get, Insert, Place, Remove, Value};
 ghost use Rattle.names.specs.Line.{IsBad};
 ghost use Rattle.names.specs.Told.{Answers, Does, answer_text, pair_text, value_text};
@@ -29,7 +30,8 @@ pub fn reply(alloc: Global, names: &mut Names, line: &[u8]) -> Result<Option<Str
 
 // Does a command, and gives the text that answers it.
 fn answer(alloc: Global, names: &mut Names, command: Command<'_>) -> Result<String, AllocError>
-    ensures { IfOk result (λ text. DoesCommand (names_of names.old) command.entry (string_bytes text) (names_of names.new)) }
+    ensures { IfOk result
+        (λ text. DoesCommand (names_of names.old) command.entry (string_bytes text) (names_of names.new)) }
 {
     match command {
         Command::Put(key, value) => insert(alloc, names, key, value),
@@ -42,7 +44,8 @@ fn answer(alloc: Global, names: &mut Names, command: Command<'_>) -> Result<Stri
 
 // Puts a value at a key.
 fn insert(alloc: Global, names: &mut Names, key: &str, value: &str) -> Result<String, AllocError>
-    ensures { IfOk result (λ text. Answers (names_of names.old) (Insert key.now value.now) (string_bytes text) (names_of names.new)) }
+    ensures { IfOk result
+        (λ text. Answers (names_of names.old) (Insert key.now value.now) (string_bytes text) (names_of names.new)) }
 {
     let key = String::from_str(alloc, key)?;
     let value = String::from_str(alloc, value)?;
@@ -54,7 +57,8 @@ fn insert(alloc: Global, names: &mut Names, key: &str, value: &str) -> Result<St
 
 // What answers `put`, by the value before.
 fn insert_reply(alloc: Global, old: Option<String>) -> Result<String, AllocError>
-    ensures { IfOk result (λ text. (key value : List ℕ) → answer_text (Insert key value) (Value (option_map string_bytes old)) ≡ Some (string_bytes text)) }
+    ensures { IfOk result (λ text. (key value : List ℕ)
+        → answer_text (Insert key value) (Value (option_map string_bytes old)) ≡ Some (string_bytes text)) }
 {
     match old {
         None => String::from_str(alloc, "new\n"),
@@ -64,7 +68,8 @@ fn insert_reply(alloc: Global, old: Option<String>) -> Result<String, AllocError
 
 // Looks at the value of a key.
 fn get(alloc: Global, names: &Names, key: &str) -> Result<String, AllocError>
-    ensures { IfOk result (λ text. Answers (names_of names.now) (Get key.now) (string_bytes text) (names_of names.now)) }
+    ensures { IfOk result
+        (λ text. Answers (names_of names.now) (Get key.now) (string_bytes text) (names_of names.now)) }
 {
     let key = String::from_str(alloc, key)?;
     value_reply(alloc, names.get(&key))
@@ -72,7 +77,8 @@ fn get(alloc: Global, names: &Names, key: &str) -> Result<String, AllocError>
 
 // Removes a key.
 fn remove(alloc: Global, names: &mut Names, key: &str) -> Result<String, AllocError>
-    ensures { IfOk result (λ text. Answers (names_of names.old) (Remove key.now) (string_bytes text) (names_of names.new)) }
+    ensures { IfOk result
+        (λ text. Answers (names_of names.old) (Remove key.now) (string_bytes text) (names_of names.new)) }
 {
     let key = String::from_str(alloc, key)?;
     let removed = names.remove(&key);
@@ -81,7 +87,8 @@ fn remove(alloc: Global, names: &mut Names, key: &str) -> Result<String, AllocEr
 
 // What answers `get` and `del`, by the value.
 fn value_reply(alloc: Global, value: Option<&String>) -> Result<String, AllocError>
-    ensures { IfOk result (λ text. string_bytes text ≡ value_text (option_map string_bytes (option_copied value.entry))) }
+    ensures { IfOk result
+        (λ text. string_bytes text ≡ value_text (option_map string_bytes (option_copied value.entry))) }
 {
     match value {
         Some(value) => format!(in alloc; "= {value}\n"),
@@ -91,7 +98,8 @@ fn value_reply(alloc: Global, value: Option<&String>) -> Result<String, AllocErr
 
 // Finds the place of a key.
 fn find(alloc: Global, names: &Names, key: &str) -> Result<String, AllocError>
-    ensures { IfOk result (λ text. Answers (names_of names.now) (Find key.now) (string_bytes text) (names_of names.now)) }
+    ensures { IfOk result
+        (λ text. Answers (names_of names.now) (Find key.now) (string_bytes text) (names_of names.now)) }
 {
     let key = String::from_str(alloc, key)?;
     place_reply(alloc, names.find_index(&key))
@@ -99,7 +107,8 @@ fn find(alloc: Global, names: &Names, key: &str) -> Result<String, AllocError>
 
 // What answers `find`, by the place.
 fn place_reply(alloc: Global, place: Result<usize, usize>) -> Result<String, AllocError>
-    ensures { IfOk result (λ text. (key : List ℕ) → answer_text (Find key) (Place place) ≡ Some (string_bytes text)) }
+    ensures { IfOk result
+        (λ text. (key : List ℕ) → answer_text (Find key) (Place place) ≡ Some (string_bytes text)) }
 {
     match place {
         Ok(index) => format!(in alloc; "ok {index}\n"),
@@ -120,7 +129,8 @@ fn show(alloc: Global, names: &Names) -> Result<String, AllocError>
 
 // Adds the pair at a place to the text.
 fn push_pair(text: &mut String, names: &Names, index: usize) -> Result<(), AllocError>
-    ensures { OnOk result (IfSome (slice_get names.now.pairs index) (λ pair. string_bytes text.new ≡ string_bytes text.old ++ pair_text (pair_bytes pair))) }
+    ensures { OnOk result (IfSome (slice_get names.now.pairs index)
+        (λ pair. string_bytes text.new ≡ string_bytes text.old ++ pair_text (pair_bytes pair))) }
 {
     let Some((key, value)) = names.get_indexed(index) else {
         return Ok(());

@@ -1,5 +1,6 @@
 //! A reader or a writer that notes whether a call through it met a fault, and whether one was made after.
-ghost use Rattle.std.specs.Prelude.{◌≡◌, ◌≢◌, ◌||◌, true, false, ◌==◌, ◌&&◌, not, ◌+◌, ◌<◌, ◌≤◌, length, take, IfOk, OnOk, OnErr, IsOk, is_err};
+ghost use Rattle.std.specs.Prelude.{◌≡◌, ◌≢◌, ◌||◌, true, false, ◌==◌, ◌&&◌, not, ◌+◌, ◌<◌, ◌≤◌, length};
+ghost use Rattle.std.specs.Prelude.{take, IfOk, OnOk, OnErr, IsOk, is_err};
 ghost use Rattle.std.specs.Io.{ReadsAtMost, WritesAtMost};
 ghost use Rattle.std.specs.Io.KnownBytes.{Appends, Keeps, ReadConsumes, WriteAppends};
 ghost use Rattle.names.specs.Fault.{AppendsFront, is_write_fault};
@@ -93,7 +94,8 @@ impl<R: Read> Read for Watch<R> {
 }
 
 impl<W: Write> Write for Watch<W> {
-    ghost use Rattle.names.specs.Watched.{NoCallAfterFault, NotesCall, called_after_fault, met_fault, watched};
+    ghost use Rattle.names.specs.Watched.{NoCallAfterFault, NotesCall, called_after_fault, met_fault};
+    ghost use Rattle.names.specs.Watched.{watched};
 
     ghost contents = { λ w. W.contents w.inner };
 

@@ -49,7 +49,11 @@ pub fn remove(headers: &mut Headers, name: &String) -> Option<String>
 
 /// Sets a header whose texts are borrowed.
 #[tactic(auto, using(litemap::proofs::Texts::str_keys))]
-pub fn set_borrowed<'k>(headers: &mut Borrowed<'k>, name: &'k str, value: &'k str) -> Result<(), AllocError>
+pub fn set_borrowed<'k>(
+    headers: &mut Borrowed<'k>,
+    name: &'k str,
+    value: &'k str,
+) -> Result<(), AllocError>
     ensures set { OnOk result (value_at by_bytes headers.new.pairs name.entry ≡ Some value.entry) }
     ensures refused { OnErr result (headers.new.pairs ≡ headers.old.pairs) }
 {

@@ -1,5 +1,7 @@
 //! Calls that change a map.
-ghost use Rattle.std.specs.Prelude.{◌≡◌, ◌↔◌, ◌+◌, ◌≤◌, ◌<◌, [], ◌∷◌, ◌++◌, length, slice_get, None, Some, IsNone, IsSome, IfSome, IsTrue, remove, IsOk, Ok, Err, IfOk, IfErr, OnOk, OnErr};
+ghost use Rattle.std.specs.Prelude.{◌≡◌, ◌↔◌, ◌+◌, ◌≤◌, ◌<◌, [], ◌∷◌, ◌++◌, length, slice_get, None, Some};
+ghost use Rattle.std.specs.Prelude.{IsNone, IsSome, IfSome, IsTrue, remove, IsOk, Ok, Err, IfOk, IfErr, OnOk};
+ghost use Rattle.std.specs.Prelude.{OnErr};
 ghost use Rattle.std.specs.Fn.{FnOnceReturnsAt, FnOnceTakesAt};
 ghost use Rattle.litemap_store.specs.Counts.{RisesByAtMost};
 ghost use Rattle.litemap_store.specs.Digits.{digits};
@@ -26,12 +28,17 @@ impl<K: Ord, V, S: StoreMut<K, V>> LiteMap<K, V, S> {
     pub fn insert(&mut self, key: K, value: V) -> Result<Option<V>, NoRoom<(K, V)>>
     where
         K: Drop,
+        // The list after, and the value before.
         ensures put { OnOk result (self.new.pairs ≡ put K.cmp self.old.pairs key value) }
         ensures old { IfOk result (λ old. old ≡ value_at K.cmp self.old.pairs key) }
+
+        // Refused only where a pair has to be added and there is no room. The pair comes back.
         ensures unchanged { OnErr result (self.new.pairs ≡ self.old.pairs) }
         ensures absent { OnErr result (at K.cmp self.old.pairs key ≡ None) }
         ensures full { OnErr result (self.old.room ≡ 0) }
         ensures back { IfErr result (λ refused. refused.back ≡ (key, value)) }
+
+        // The room: kept where no pair is added.
         ensures room_kept { IsSome (at K.cmp self.old.pairs key) → self.new.room ≡ self.old.room }
         ensures room { self.old.room ≤ self.new.room + 1 }
     {
@@ -47,12 +54,17 @@ impl<K: Ord, V, S: StoreMut<K, V>> LiteMap<K, V, S> {
     ) -> Result<Option<V>, NoRoom<(K, V)>>
     where
         K: Drop,
+        // The list after, and the value before.
         ensures put { OnOk result (self.new.pairs ≡ put K.cmp self.old.pairs key value) }
         ensures old { IfOk result (λ old. old ≡ value_at K.cmp self.old.pairs key) }
+
+        // Refused only where a pair has to be added and there is no room. The pair comes back.
         ensures unchanged { OnErr result (self.new.pairs ≡ self.old.pairs) }
         ensures absent { OnErr result (at K.cmp self.old.pairs key ≡ None) }
         ensures full { OnErr result (self.old.room ≡ 0) }
         ensures back { IfErr result (λ refused. refused.back ≡ (key, value)) }
+
+        // The room: kept where no pair is added.
         ensures room_kept { IsSome (at K.cmp self.old.pairs key) → self.new.room ≡ self.old.room }
         ensures room { self.old.room ≤ self.new.room + 1 }
         ensures cost { RisesByAtMost (digits (length self.old.pairs)) count.old count.new }
@@ -72,10 +84,14 @@ impl<K: Ord, V, S: StoreMut<K, V>> LiteMap<K, V, S> {
     /// compares at most once for each binary digit of the length, and moves the pairs with greater keys up by one where
     /// the key is absent.
     pub fn try_insert(&mut self, key: K, value: V) -> Result<Option<(K, V)>, NoRoom<(K, V)>>
+        // Placed exactly where the key is absent. Else the pair comes back.
         ensures added { IfOk result (λ back. IsNone back ↔ IsNone (at K.cmp self.old.pairs key)) }
-        ensures put { IfOk result (λ back. IsNone back → self.new.pairs ≡ put K.cmp self.old.pairs key value) }
+        ensures put { IfOk result
+            (λ back. IsNone back → self.new.pairs ≡ put K.cmp self.old.pairs key value) }
         ensures present { IfOk result (λ back. IfSome back (λ pair. pair ≡ (key, value))) }
         ensures unchanged { IfOk result (λ back. IsSome back → self.new ≡ self.old) }
+
+        // Refused only where the key is absent and there is no room. The pair comes back.
         ensures refused { OnErr result (self.new.pairs ≡ self.old.pairs) }
         ensures absent { OnErr result (at K.cmp self.old.pairs key ≡ None) }
         ensures full { OnErr result (self.old.room ≡ 0) }
@@ -97,10 +113,14 @@ impl<K: Ord, V, S: StoreMut<K, V>> LiteMap<K, V, S> {
     /// It is refused only where the key is above all others and there is no room: then the pair comes back and the list
     /// stays. It compares at most once, with the last key, and moves no pair.
     pub fn try_append(&mut self, key: K, value: V) -> Result<Option<(K, V)>, NoRoom<(K, V)>>
+        // Put behind exactly where every key is below. Else the pair comes back.
         ensures added { IfOk result (λ back. IsNone back ↔ AllBelow K.cmp self.old.pairs key) }
-        ensures appended { IfOk result (λ back. IsNone back → self.new.pairs ≡ self.old.pairs ++ (key, value) ∷ []) }
+        ensures appended { IfOk result
+            (λ back. IsNone back → self.new.pairs ≡ self.old.pairs ++ (key, value) ∷ []) }
         ensures not_above { IfOk result (λ back. IfSome back (λ pair. pair ≡ (key, value))) }
         ensures unchanged { IfOk result (λ back. IsSome back → self.new ≡ self.old) }
+
+        // Refused only where every key is below and there is no room. The pair comes back.
         ensures refused { OnErr result (self.new.pairs ≡ self.old.pairs) }
         ensures above { OnErr result (AllBelow K.cmp self.old.pairs key) }
         ensures full { OnErr result (self.old.room ≡ 0) }
@@ -129,11 +149,17 @@ impl<K: Ord, V, S: StoreMut<K, V>> LiteMap<K, V, S> {
         K: Drop,
         F: Drop,
         requires { IsNone (at K.cmp self.old.pairs key) → FnOnceTakesAt F.FnOnce f key }
+        // The place and the value: found, or what the closure answered.
         ensures place { IfOk result (λ there. there.0 ≡ place K.cmp self.old.pairs key) }
         ensures present { IsSome (at K.cmp self.old.pairs key) → IsOk result }
-        ensures within { IsSome (at K.cmp self.old.pairs key) → IfOk result (λ there. there.0 < length self.old.pairs) }
-        ensures value { IsSome (at K.cmp self.old.pairs key) → IfOk result (λ there. Some there.1.now ≡ value_at K.cmp self.old.pairs key) }
-        ensures answered { IsNone (at K.cmp self.old.pairs key) → IfOk result (λ there. FnOnceReturnsAt F.FnOnce f key (Ok there.1.now)) }
+        ensures within { IsSome (at K.cmp self.old.pairs key)
+            → IfOk result (λ there. there.0 < length self.old.pairs) }
+        ensures value { IsSome (at K.cmp self.old.pairs key)
+            → IfOk result (λ there. Some there.1.now ≡ value_at K.cmp self.old.pairs key) }
+        ensures answered { IsNone (at K.cmp self.old.pairs key)
+            → IfOk result (λ there. FnOnceReturnsAt F.FnOnce f key (Ok there.1.now)) }
+
+        // The closure's fault, or no room: the key and what the closure answered come back.
         ensures closure { IfClosure result (λ fault. FnOnceReturnsAt F.FnOnce f key (Err fault)) }
         ensures full { IfNoRoom result (λ _ _. self.old.room ≡ 0) }
         ensures back { IfNoRoom result (λ k v. (k ≡ key) × FnOnceReturnsAt F.FnOnce f key (Ok v)) }
@@ -158,19 +184,26 @@ impl<K: Ord, V, S: StoreMut<K, V>> LiteMap<K, V, S> {
         K: Drop,
         F: Drop,
         requires { IsNone (at K.cmp self.old.pairs key) → FnOnceTakesAt F.FnOnce f key }
+        // The place, and the pair that stands there after the call.
         ensures place { IfOk result (λ index. index ≡ place K.cmp self.old.pairs key) }
         ensures present { IsSome (at K.cmp self.old.pairs key) → IsOk result }
+        ensures within { IfOk result (λ index. index < length self.new.pairs) }
+        ensures there { IfOk result (λ index. slice_get self.new.pairs index ≡ at K.cmp self.new.pairs key) }
+
+        // What is left of the map: as it was, or with what the closure answered.
         ensures unchanged { IsSome (at K.cmp self.old.pairs key) → self.new ≡ self.old }
         ensures value { IsSome (at K.cmp self.old.pairs key) → IfOk result
             (λ index. value_in self.old.pairs index ≡ value_at K.cmp self.old.pairs key) }
-        ensures within { IfOk result (λ index. index < length self.new.pairs) }
-        ensures there { IfOk result (λ index. slice_get self.new.pairs index ≡ at K.cmp self.new.pairs key) }
         ensures put { IsNone (at K.cmp self.old.pairs key) → OnOk result
             ((v : V) × FnOnceReturnsAt F.FnOnce f key (Ok v) × (self.new.pairs ≡ put K.cmp self.old.pairs key v)) }
-        ensures closure { IfClosure result (λ fault. FnOnceReturnsAt F.FnOnce f key (Err fault) × (self.new ≡ self.old)) }
+
+        // The closure's fault, or no room: the key and what the closure answered come back, and the list stays.
+        ensures closure { IfClosure result
+            (λ fault. FnOnceReturnsAt F.FnOnce f key (Err fault) × (self.new ≡ self.old)) }
         ensures full { IfNoRoom result (λ _ _. self.old.room ≡ 0) }
         ensures back { IfNoRoom result (λ k v. (k ≡ key) × FnOnceReturnsAt F.FnOnce f key (Ok v)) }
         ensures refused { IfNoRoom result (λ _ _. self.new.pairs ≡ self.old.pairs) }
+
         ensures room { self.old.room ≤ self.new.room + 1 }
     {
         let index = match self.search(&key, &mut Count::new()) {

@@ -114,7 +114,8 @@ impl<K: Ord, V, S: Store<K, V>> LiteMap<K, V, S> {
     pub fn find_index(&self, key: &K) -> Result<usize, usize>
         ensures place { result ≡ index_of K.cmp self.now.pairs key.now }
         ensures within { IfOk result (λ index. index < length self.now.pairs) }
-        ensures there { IfOk result (λ index. slice_get self.now.pairs index ≡ at K.cmp self.now.pairs key.now) }
+        ensures there { IfOk result
+            (λ index. slice_get self.now.pairs index ≡ at K.cmp self.now.pairs key.now) }
     {
         self.find_index_counted(key, &mut Count::new())
     }
@@ -123,7 +124,8 @@ impl<K: Ord, V, S: Store<K, V>> LiteMap<K, V, S> {
     pub fn find_index_counted(&self, key: &K, count: &mut Count) -> Result<usize, usize>
         ensures place { result ≡ index_of K.cmp self.now.pairs key.now }
         ensures within { IfOk result (λ index. index < length self.now.pairs) }
-        ensures there { IfOk result (λ index. slice_get self.now.pairs index ≡ at K.cmp self.now.pairs key.now) }
+        ensures there { IfOk result
+            (λ index. slice_get self.now.pairs index ≡ at K.cmp self.now.pairs key.now) }
         ensures cost { RisesByAtMost (digits (length self.now.pairs)) count.old count.new }
     {
         self.search(key, count)

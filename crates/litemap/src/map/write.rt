@@ -18,7 +18,8 @@ impl<K: Ord, V, S: StoreMut<K, V>> LiteMap<K, V, S> {
     ///
     /// It compares at most once for each binary digit of the length.
     pub fn get_mut(&mut self, key: &K) -> Option<&mut V>
-        ensures* writes_back { sem 𝓛 (LendsValue K.row V.row S.row K.Ord S.pairs S.room self.entry key.now result) }
+        ensures* writes_back { sem 𝓛
+            (LendsValue K.row V.row S.row K.Ord S.pairs S.room self.entry key.now result) }
         ensures value { option_copied_mut result ≡ value_at K.cmp self.old.pairs key.now }
     {
         match self.search(key, &mut Count::new()) {
@@ -34,8 +35,11 @@ impl<K: Ord, V, S: StoreMut<K, V>> LiteMap<K, V, S> {
     /// `Borrow` in its place.
     pub fn get_mut_by<F: FnMut(&K) -> Ordering>(&mut self, f: F) -> Option<&mut V>
         requires { Shaped F.FnMut self.old.pairs f }
-        ensures* writes_back { sem 𝓛 (LendsFound K.row V.row S.row K.Ord S.pairs S.room self.entry (λ i. Found F.FnMut self.old.pairs f (Ok i)) result) }
-        ensures found { IfSome result (λ v. (i : ℕ) × Found F.FnMut self.old.pairs f (Ok i) × (value_in self.old.pairs i ≡ Some v.now)) }
+        ensures* writes_back { sem 𝓛
+            (LendsFound K.row V.row S.row K.Ord S.pairs S.room self.entry
+            (λ i. Found F.FnMut self.old.pairs f (Ok i)) result) }
+        ensures found { IfSome result (λ v. (i : ℕ)
+            × Found F.FnMut self.old.pairs f (Ok i) × (value_in self.old.pairs i ≡ Some v.now)) }
         ensures none { IfNone result ((i : ℕ) × Found F.FnMut self.old.pairs f (Err i)) }
     {
         match self.find_index_by(f) {
@@ -50,7 +54,8 @@ impl<K: Ord, V, S: StoreMut<K, V>> LiteMap<K, V, S> {
     /// which panics where the key isn't there.
     pub fn index_mut(&mut self, key: &K) -> &mut V
         requires { IsSome (at K.cmp self.old.pairs key.now) }
-        ensures* writes_back { sem 𝓛 (LendsKey K.row V.row S.row K.Ord S.pairs S.room self.entry key.now result) }
+        ensures* writes_back { sem 𝓛
+            (LendsKey K.row V.row S.row K.Ord S.pairs S.room self.entry key.now result) }
         ensures value { Some result.now ≡ value_at K.cmp self.old.pairs key.now }
     {
         match self.search(key, &mut Count::new()) {
@@ -63,7 +68,8 @@ impl<K: Ord, V, S: StoreMut<K, V>> LiteMap<K, V, S> {
     ///
     /// It stands in place of the Rust crate's `iter_mut`.
     pub fn get_indexed_mut(&mut self, index: usize) -> Option<&mut V>
-        ensures* writes_back { sem 𝓛 (LendsPlace K.row V.row S.row K.Ord S.pairs S.room self.entry index result) }
+        ensures* writes_back { sem 𝓛
+            (LendsPlace K.row V.row S.row K.Ord S.pairs S.room self.entry index result) }
         ensures value { option_copied_mut result ≡ value_in self.old.pairs index }
     {
         if index < self.len() {
@@ -76,7 +82,8 @@ impl<K: Ord, V, S: StoreMut<K, V>> LiteMap<K, V, S> {
     // The value at a place, to be written.
     fn value_in_mut(&mut self, index: usize) -> &mut V
         requires { index < length self.old.pairs }
-        ensures* writes_back { sem 𝓛 (LendsThere K.row V.row S.row K.Ord S.pairs S.room self.entry index result) }
+        ensures* writes_back { sem 𝓛
+            (LendsThere K.row V.row S.row K.Ord S.pairs S.room self.entry index result) }
         ensures value { value_in self.old.pairs index ≡ Some result.now }
     {
         self.store.lm_pair_mut(index).1
