@@ -1,11 +1,12 @@
 //! Shows what each call answers where one of its requests for memory is refused.
 //!
-//! A line of standard input is `CALL`, `CALL PLACE` or `all`. It runs the scenario of that call, or of each call in turn,
-//! and writes a line for each: `CALL: answered`, `CALL: refused` or `CALL: WRONG: ..`, by `Outcome`.
+//! A line of standard input is `CALL`, `CALL PLACE` or `all`. It runs the scenario of that call, or of each
+//! call in turn, and writes a line for each: `CALL: answered`, `CALL: refused` or `CALL: WRONG: ..`, by
+//! `Outcome`.
 //!
-//! Where there is a PLACE, from 1 on, small requests for memory go before the scenario, so many that its request number
-//! PLACE is request number `LEAD` of the program. `rt try --fail-alloc` refuses that one: see `bin/refusals`. Nothing
-//! else here takes memory.
+//! Where there is a PLACE, from 1 on, small requests for memory go before the scenario, so many that its
+//! request number PLACE is request number `LEAD` of the program. `rt try --fail-alloc` refuses that one: see
+//! `bin/refusals`. Nothing else here takes memory.
 #![tactic(auto)]
 
 ghost use Rattle.std.specs.Prelude.{◌≤◌, IfOk, length};
@@ -72,7 +73,8 @@ fn do_line(rt: &(impl Print + AllocGlobal), line: &str) -> io::Result<()> {
     }
 }
 
-// Makes and frees so many small requests for memory that the request number `place` from here on is number `LEAD`.
+// Makes and frees so many small requests for memory that the request number `place` from here on is number
+// `LEAD`.
 fn lead_to(alloc: Global, place: usize) {
     for _ in place..LEAD {
         let _ = Vec::<u8>::with_capacity(alloc, 1);

@@ -5,7 +5,8 @@
 pub enum Outcome {
     /// With the answers that it has where memory is there.
     Answered,
-    /// With the refusal that the contract names: what was handed in came back, and the list was as before the call.
+    /// With the refusal that the contract names: what was handed in came back, and the list was as before
+    /// the call.
     Refused,
     /// Otherwise, and what was wrong.
     Wrong(&'static str),
