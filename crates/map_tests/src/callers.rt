@@ -2,6 +2,7 @@
 use litemap::{LiteMap, TryFault};
 use std::test::Fail;
 use test_support::lists::map_of;
+use uses::headers;
 use uses::made::value_or_made;
 use uses::names::{find_in_map, find_in_table};
 
@@ -35,5 +36,28 @@ fn names_are_found_in_a_table_and_in_a_map(rt: HostRuntime) -> Result<(), Fail> 
         let in_map = find_in_map(&map, name).map(|(place, days)| (place, *days));
         assert_eq!(rt; (in_table, in_map), (found, found), "of {name}");
     }
+    Ok(())
+}
+
+#[test]
+fn headers_are_set_looked_up_and_removed(rt: HostRuntime) -> Result<(), Fail> {
+    let alloc = rt.alloc();
+    let mut owned = LiteMap::new_vec(alloc);
+    let mut borrowed = LiteMap::new_vec(alloc);
+    for (name, value, len) in [("host", "a", 1), ("accept", "b", 2), ("host", "c", 2)] {
+        headers::set(&mut owned, name.to_string(alloc)?, value.to_string(alloc)?)?;
+        headers::set_borrowed(&mut borrowed, name, value)?;
+        assert_eq!(rt; (owned.len(), borrowed.len()), (len, len), "{name}");
+    }
+    for (name, value) in [("accept", Some("b")), ("host", Some("c")), ("via", None)] {
+        let name_text = name.to_string(alloc)?;
+        let found = headers::get(&owned, &name_text).map(|value| value.as_str());
+        let pair = headers::pair_of(&borrowed, name).map(|pair| pair.1);
+        assert_eq!(rt; (found, pair), (value, value), "{name}");
+        let removed = headers::remove(&mut owned, &name_text);
+        let taken = headers::remove_borrowed(&mut borrowed, name);
+        assert_eq!(rt; (removed.is_some(), taken), (value.is_some(), value), "{name}");
+    }
+    assert!(rt; owned.is_empty() && borrowed.is_empty());
     Ok(())
 }

@@ -5,7 +5,7 @@ ghost use Rattle.std.specs.Prelude.{◌≡◌, ◌≢◌, None, Some, OnOk, OnEr
 ghost use Rattle.std.specs.Option.{option_copied};
 ghost use Rattle.std.specs.String.{string_cmp};
 ghost use Rattle.std.specs.declared.cmp.Ordering.TheVariants.{Equal};
-ghost use Rattle.litemap_store.specs.Pairs.{value_at};
+ghost use Rattle.litemap_store.specs.Pairs.{at, value_at};
 ghost use Rattle.litemap.specs.ByBytes.{by_bytes};
 
 use litemap::LiteMap;
@@ -21,7 +21,7 @@ pub type Borrowed<'k> = LiteMap<&'k str, &'k str, Vec<(&'k str, &'k str)>>;
 #[tactic(auto, using(litemap::proofs::Texts::string_keys))]
 pub fn set(headers: &mut Headers, name: String, value: String) -> Result<(), AllocError>
     ensures set { OnOk result (value_at string_cmp headers.new.pairs name ≡ Some value) }
-    ensures others { OnOk result ((other : String) → string_cmp other name ≢ Equal
+    ensures others { OnOk result ((other : _) → string_cmp other name ≢ Equal
         → value_at string_cmp headers.new.pairs other ≡ value_at string_cmp headers.old.pairs other) }
     ensures refused { OnErr result (headers.new.pairs ≡ headers.old.pairs) }
 {
@@ -41,7 +41,7 @@ pub fn get<'a>(headers: &'a Headers, name: &String) -> Option<&'a String>
 pub fn remove(headers: &mut Headers, name: &String) -> Option<String>
     ensures value { result ≡ value_at string_cmp headers.old.pairs name.now }
     ensures gone { value_at string_cmp headers.new.pairs name.now ≡ None }
-    ensures others { (other : String) → string_cmp other name.now ≢ Equal
+    ensures others { (other : _) → string_cmp other name.now ≢ Equal
         → value_at string_cmp headers.new.pairs other ≡ value_at string_cmp headers.old.pairs other }
 {
     headers.remove(name)
@@ -61,8 +61,10 @@ pub fn set_borrowed<'k>(
     Ok(())
 }
 
-/// Looks a header whose text is borrowed up, by its place.
-pub fn place_of<'k>(headers: &Borrowed<'k>, name: &'k str) -> Option<(&'k str, &'k str)> {
+/// A header whose texts are borrowed, by its place: a place that is found is one of the list's.
+pub fn pair_of<'k>(headers: &Borrowed<'k>, name: &'k str) -> Option<(&'k str, &'k str)>
+    ensures { result ≡ at by_bytes headers.now.pairs name.entry }
+{
     let place = headers.find_index(&name).ok()?;
     Some(headers.as_slice()[place])
 }

@@ -5,7 +5,7 @@ ghost use Rattle.litemap_store.specs.Pairs.{at, put, value_at};
 ghost use Rattle.litemap.specs.TryFault.{IfClosure, IfNoRoom};
 
 use litemap::{LiteMap, TryFault};
-use litemap_store::store::StoreMut;
+use litemap::store::StoreMut;
 
 /// The value of a key. Where the key is absent, it is what `f` answers for it, and the map has it from then on.
 ///

@@ -5,7 +5,7 @@ ghost use Rattle.litemap_store.specs.Pairs.{Rising, place, value_at};
 ghost use Rattle.litemap.specs.ByBytes.{by_bytes};
 
 use litemap::LiteMap;
-use litemap_store::slice_impl::SliceStore;
+use litemap::store::SliceStore;
 
 /// The place and the value of a name in a table whose names rise strictly by their bytes.
 ///
