@@ -1,7 +1,7 @@
 //! A header list: values by their names, in the order of the names' bytes.
 //!
 //! What look-ups find after a change follows from the lemmas that the attributes name; there is no proof file.
-ghost use Rattle.std.specs.Prelude.{◌≡◌, ◌≢◌, None, Some, OnOk, OnErr};
+ghost use Rattle.std.specs.Prelude.{◌≡◌, ◌≢◌, None, Some, IfOk, OnOk, OnErr};
 ghost use Rattle.std.specs.Option.{option_copied};
 ghost use Rattle.std.specs.String.{string_cmp};
 ghost use Rattle.std.specs.declared.cmp.Ordering.TheVariants.{Equal};
@@ -17,16 +17,16 @@ pub type Headers = LiteMap<String, String, Vec<(String, String)>>;
 /// Headers whose texts are borrowed.
 pub type Borrowed<'k> = LiteMap<&'k str, &'k str, Vec<(&'k str, &'k str)>>;
 
-/// Sets a header. All others stay.
+/// Sets a header, and answers the value before. All others stay.
 #[tactic(auto, using(litemap::proofs::Texts::string_keys))]
-pub fn set(headers: &mut Headers, name: String, value: String) -> Result<(), AllocError>
+pub fn set(headers: &mut Headers, name: String, value: String) -> Result<Option<String>, AllocError>
+    ensures old { IfOk result (λ old. old ≡ value_at string_cmp headers.old.pairs name) }
     ensures set { OnOk result (value_at string_cmp headers.new.pairs name ≡ Some value) }
     ensures others { OnOk result ((other : _) → string_cmp other name ≢ Equal
         → value_at string_cmp headers.new.pairs other ≡ value_at string_cmp headers.old.pairs other) }
     ensures refused { OnErr result (headers.new.pairs ≡ headers.old.pairs) }
 {
-    headers.insert(name, value)?;
-    Ok(())
+    Ok(headers.insert(name, value)?)
 }
 
 /// Looks a header up.

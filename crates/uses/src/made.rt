@@ -4,8 +4,8 @@ ghost use Rattle.std.specs.Fn.{FnOnceReturnsAt, FnOnceTakesAt};
 ghost use Rattle.litemap_store.specs.Pairs.{at, put, value_at};
 ghost use Rattle.litemap.specs.TryFault.{IfClosure, IfNoRoom};
 
-use litemap::{LiteMap, TryFault};
 use litemap::store::StoreMut;
+use litemap::{LiteMap, TryFault};
 
 /// The value of a key. Where the key is absent, it is what `f` answers for it, and the map has it from then on.
 ///
