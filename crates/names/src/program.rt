@@ -57,9 +57,10 @@ pub fn run<R: Read, W: Write>(alloc: Global, reader: &mut Watch<R>, writer: &mut
     ensures both_faults { reader.old.failed ≡ false → reader.new.failed ≡ true
         → writer.old.failed ≡ false → writer.new.failed ≡ true
         → AppendsFront (⟦<Watch<W> as Write>⟧.contents writer.old) (⟦<Watch<W> as Write>⟧.contents writer.new) read_fault }
-    // No call is made through either after a fault of its own, and none through the reader after a fault of either.
-    ensures nothing_after { met_fault reader.old ≡ false → met_fault writer.old ≡ false
-        → NoCallAfterFault reader.old reader.new × NoCallAfterFault writer.old writer.new × (is_unsettled reader.new ≡ false) }
+    // No call is made through either after a fault of its own, and none through the reader after a fault of the writer.
+    ensures reader_stops { NoCallAfterFault reader.old reader.new }
+    ensures writer_stops { NoCallAfterFault writer.old writer.new }
+    ensures reads_come_first { met_fault writer.old ≡ false → is_unsettled reader.new ≡ false }
 {
     let mut input = Vec::new(alloc);
     let ending = read_input(reader, &mut input);
