@@ -20,31 +20,41 @@ impl Write for RefusesFlush {
 }
 
 #[test]
-fn a_watch_notes_faults_alone(rt: HostRuntime) -> Result<(), Fail> {
+fn a_write_into_no_room(rt: HostRuntime) -> Result<(), Fail> {
     let mut full: [u8; 0] = [];
     let mut writer = Watch::new(full.as_mut_slice());
-    assert!(rt; !writer.failed);
     writer.flush()?;
     writer.write_all(b"")?;
-    assert_eq!(rt; writer.write(b"")?, 0);
-    assert!(rt; !writer.failed);
-    assert_eq!(rt; writer.write(b"a")?, 0);
-    assert!(rt; writer.failed);
+    let writes: [(&[u8], bool); 3] = [(b"", false), (b"a", true), (b"", true)];
+    for (text, has_failed) in writes {
+        assert_eq!(rt; writer.write(text)?, 0);
+        assert_eq!(rt; writer.failed, has_failed);
+    }
+    Ok(())
+}
+
+#[test]
+fn a_refused_flush(rt: HostRuntime) -> Result<(), Fail> {
     let mut writer = Watch::new(RefusesFlush);
     assert!(rt; writer.flush().is_err());
     assert!(rt; !writer.failed);
+    Ok(())
+}
+
+#[test]
+fn reads_up_to_a_fault_and_after(rt: HostRuntime) -> Result<(), Fail> {
     let mut bytes = [0u8; 4];
-    let mut reader = Watch::new(FailAt::new(
-        b"ab".as_slice(),
-        2,
-        Fault::Answers(ErrorKind::Interrupted),
-    ));
-    assert_eq!(rt; reader.read(&mut bytes)?, 2);
-    assert_eq!(rt; reader.read(&mut bytes)?, 0);
-    assert!(rt; !reader.failed);
-    assert!(rt; reader.read(&mut bytes).is_err());
-    assert!(rt; reader.failed);
-    assert_eq!(rt; reader.read(&mut bytes)?, 0);
-    assert!(rt; reader.failed);
+    let fault = Fault::Answers(ErrorKind::Interrupted);
+    let mut reader = Watch::new(FailAt::new(b"ab".as_slice(), 2, fault));
+    let reads = [
+        (Some(2), false),
+        (Some(0), false),
+        (None, true),
+        (Some(0), true),
+    ];
+    for (count, has_failed) in reads {
+        assert_eq!(rt; reader.read(&mut bytes).ok(), count);
+        assert_eq!(rt; reader.failed, has_failed);
+    }
     Ok(())
 }
