@@ -3,8 +3,6 @@
 #![tactic(auto)]
 
 #[cfg(test)]
-mod ample;
-#[cfg(test)]
 mod callers;
 #[cfg(test)]
 mod clones;
@@ -12,8 +10,6 @@ mod clones;
 mod closures;
 #[cfg(test)]
 mod counts;
-#[cfg(test)]
-mod made;
 #[cfg(test)]
 mod printing;
 #[cfg(test)]
