@@ -2,7 +2,7 @@
 -- an attribute, as `#[tactic(auto, using(litemap::proofs::Texts::string_keys))]`.
 --     string_keys      where keys are `String`;  str_keys      where they are `&str` or `&[u8]`
 --     text_clones_equal      the condition of `try_clone` where keys are `String`
-use Rattle.std.proofs.Common.{◌≡◌, ◌≢◌, List, Option, Some, None, String, Bor, ℕ}
+use Rattle.std.proofs.Common.{◌≡◌, ◌≢◌, List, Some, None, String, Bor, ℕ}
 use Rattle.std.proofs.lemmas.Cmp.{tied_itself}
 use Rattle.std.specs.String.{string_bytes, string_cmp, string_cmp_total}
 use Rattle.std.specs.declared.cmp.Ordering.TheVariants.{Equal}

@@ -3,7 +3,7 @@
 -- or from std, as `nat_cmp_total` and `string_cmp_total`.
 --     at-put, value_at-put, value_at-put_other, place-put, index_of-put      after a put;  value_at-cut, value_at-cut_other      after a cut
 --     length-put_present, length-put_absent, length-cut_present, length-cut_absent, Rising-cut      what both leave of a rising list
-use Rattle.std.proofs.Common.{◌≡◌, ◌≢◌, ℕ, zero, suc, ◌+◌, Bool, true, false, List, [], ◌∷◌, ◌++◌, length, filter, find, Option, Some, None, IsSome, Ok, option_map, refl, sym, ap, ◌∙◌, subst, arith}
+use Rattle.std.proofs.Common.{◌≡◌, ◌≢◌, ℕ, suc, ◌+◌, Bool, true, false, List, [], ◌∷◌, ◌++◌, length, filter, Option, Some, None, IsSome, Ok, option_map, refl, sym, ap, ◌∙◌, subst, arith}
 use Rattle.std.specs.Ordering.{is_lt, is_eq, is_gt, ordering_reverse}
 use Rattle.std.specs.Option.{option_or}
 use Rattle.std.specs.Cmp.{IsTotalOrder, tied_itself}
