@@ -1,4 +1,4 @@
-use Rattle.litemap.proofs.Clones.{text_clones_equal}
+use Rattle.litemap.proofs.Texts.{text_clones_equal}
 use Rattle.refusals.proofs.maps.try_clone.Goals as goal
 
 pub try_clone-requires : goal.try_clone-requires
