@@ -11,10 +11,13 @@ use Rattle.litemap.specs.contracts.map.LiteMap.{the_row}
 module _ (K V S : RattleType) (key : OrdMembers K.Denot) (pairs : S.Denot → List (K.Denot × V.Denot)) (room : S.Denot → ℕ) where
   -- the map's type, as the logic holds it
   abbrev pub map_row : RattleType
-  map_row = the_row K V S (record { cmp = key.cmp }) (record { eq = key.eq }) (record { partial_cmp = key.partial_cmp }) (record { pairs = pairs; room = room })
+  map_row =
+      the_row K V S (record { cmp = key.cmp }) (record { eq = key.eq }) (record { partial_cmp = key.partial_cmp })
+      (record { pairs = pairs; room = room })
 
   module _ (m : MutBor (Seen K.Denot V.Denot)) where
-    -- once the reference in r ends, the map has the last value written through it at the key k. Where there is none the map stays
+    -- once the reference in r ends, the map has the last value written through it at the key k. Where there is none the
+    -- map stays
     abbrev pub LendsValue : K.Denot → Option (MutBor V.Denot) → Fml
     LendsValue k r = LendsIf map_row V m r (λ v. with_pairs m.now (put key.cmp m.now.pairs k v)) m.now
 
@@ -26,7 +29,8 @@ module _ (K V S : RattleType) (key : OrdMembers K.Denot) (pairs : S.Denot → Li
     abbrev pub LendsFound : (ℕ → Type 0) → Option (MutBor V.Denot) → Fml
     LendsFound IsFound r =
         LendsSo map_row V m r
-        (λ n v. OnSome r ((i : ℕ) × IsFound i × (value_in m.now.pairs i ≡ option_copied_mut r) × (n ≡ with_pairs m.now (set_value m.now.pairs i v))))
+        (λ n v. OnSome r ((i : ℕ) × IsFound i × (value_in m.now.pairs i ≡ option_copied_mut r)
+        × (n ≡ with_pairs m.now (set_value m.now.pairs i v))))
         (λ n. IfNone r (n ≡ m.now))
 
     -- the same of the value at place i, which is there

@@ -24,11 +24,13 @@ module _ {K V : Type 0} (cmp : K → K → Ordering) where
       (before ≡ value_at cmp old.pairs k) × (new.pairs ≡ put cmp old.pairs k v)
       × (IsSome (at cmp old.pairs k) → new.room ≡ old.room) × (old.room ≤ new.room + 1)
   Step old (Remove k) (Value v) new =
-      (v ≡ value_at cmp old.pairs k) × (new.pairs ≡ cut cmp old.pairs k) × (IsNone (at cmp old.pairs k) → new.room ≡ old.room)
+      (v ≡ value_at cmp old.pairs k) × (new.pairs ≡ cut cmp old.pairs k)
+      × (IsNone (at cmp old.pairs k) → new.room ≡ old.room)
   Step old call answer new = ⊥
 
   -- as many answers as calls, and a chain of steps, one for each call with the answer at its place
   abbrev pub Run : Seen K V → List (Call K V) → List (Answer K V) → Seen K V → Type 0
   Run start [] [] end = end ≡ start
-  Run start (call ∷ calls) (answer ∷ answers) end = (next : Seen K V) × Step start call answer next × Run next calls answers end
+  Run start (call ∷ calls) (answer ∷ answers) end =
+      (next : Seen K V) × Step start call answer next × Run next calls answers end
   Run start calls answers end = ⊥

@@ -49,6 +49,7 @@ fn headers_are_set_looked_up_and_removed(rt: HostRuntime) -> Result<(), Fail> {
         headers::set_borrowed(&mut borrowed, name, value)?;
         assert_eq!(rt; (owned.len(), borrowed.len()), (len, len), "{name}");
     }
+    let copy = headers::copy_of(alloc, &owned)?;
     for (name, value) in [("accept", Some("b")), ("host", Some("c")), ("via", None)] {
         let name_text = name.to_string(alloc)?;
         let found = headers::get(&owned, &name_text).map(|value| value.as_str());
@@ -58,6 +59,6 @@ fn headers_are_set_looked_up_and_removed(rt: HostRuntime) -> Result<(), Fail> {
         let taken = headers::remove_borrowed(&mut borrowed, name);
         assert_eq!(rt; (removed.is_some(), taken), (value.is_some(), value), "{name}");
     }
-    assert!(rt; owned.is_empty() && borrowed.is_empty());
+    assert_eq!(rt; (owned.len(), borrowed.len(), copy.len()), (0, 0, 2));
     Ok(())
 }

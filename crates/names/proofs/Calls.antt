@@ -12,7 +12,7 @@ use Rattle.std.specs.declared.string.String.{String}
 use Rattle.litemap_store.specs.Pairs.{at, cut, index_of, put, value_at}
 use Rattle.litemap.specs.Seen.{Seen}
 use Rattle.litemap.specs.Steps.{Find, Get, Insert, Place, Remove, Value}
-use Rattle.names.specs.Told.{Answers, Calls, Does, Names, ShowsAll, answer_text, value_text}
+use Rattle.names.specs.Told.{Answers, Calls, Does, TextMap, ShowsAll, answer_text, value_text}
 use Rattle.names.specs.Command.{DoesCommand, Says}
 use Rattle.names.specs.declared.lines.Command.{Command}
 use Rattle.names.specs.declared.lines.Command.TheVariants as said
@@ -79,7 +79,7 @@ module _ (old : Seen (String Global) (String Global)) (key : String Global) (k :
       said
 
 -- a line that says a command does what the command does
-pub does_command : (old next : Names) (line text : List ℕ) (command : Command) → Says line command → DoesCommand old command text next → Does old line text next
+pub does_command : (old next : TextMap) (line text : List ℕ) (command : Command) → Says line command → DoesCommand old command text next → Does old line text next
 does_command old next line text (said.Put key value) says does = Calls (Insert key.now value.now) says does
 does_command old next line text (said.Get key) says does = Calls (Get key.now) says does
 does_command old next line text (said.Del key) says does = Calls (Remove key.now) says does

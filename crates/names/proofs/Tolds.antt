@@ -3,14 +3,14 @@ use Rattle.std.proofs.Common.{◌≡◌, ◌≤◌, ◌+◌, ◌++◌, ◌∷◌
 use Rattle.std.specs.Io.KnownBytes.{Appends}
 use Rattle.std.proofs.KnownBytes.{Appends-trans}
 use Rattle.names.specs.Line.{lines_of}
-use Rattle.names.specs.Told.{Does, DoesEach, Names, Told, BadLine, NoMemory, no_memory, bad_line, most_bytes}
+use Rattle.names.specs.Told.{Does, DoesEach, TextMap, Told, BadLine, NoMemory, no_memory, bad_line, most_bytes}
 use Rattle.names.specs.Cut.{LinesCut, ToldFront}
 use Rattle.names.specs.Fault.{AppendsFront}
 use Rattle.names.specs.Rest.{lines_left, bytes_left}
 use Rattle.names.specs.WritesUntil.{WritesUntil}
 use Rattle.names.specs.declared.program.LinesEnd.TheVariants as end
 
-abbrev no_names : Names
+abbrev no_names : TextMap
 no_names = record { pairs = []; room = 0 }
 
 -- memory was refused before any line was done
@@ -34,7 +34,7 @@ module _ (a b c : Option (List ℕ)) (bytes last : List ℕ) (status : ℕ) (fit
       (text ++ last, Appends-trans _ _ _ text last first second, NoMemory before later text fits e w (ap (λ t. text ++ t) l) s)
 
 -- one more line is done
-pub does_more : (old mid next : Names) (before : List (List ℕ)) (said text more : List ℕ)
+pub does_more : (old mid next : TextMap) (before : List (List ℕ)) (said text more : List ℕ)
     → DoesEach old before text mid → Does mid said more next → DoesEach old (before ++ (said ∷ [])) (text ++ more) next
 does_more old mid next [] said text more (t, m) d =
     (more, [], next, subst (λ m. Does m said more next) m d, (refl, refl), ap (λ l. l ++ more) t ∙ sym (append-nil more))

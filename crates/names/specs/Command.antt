@@ -2,7 +2,7 @@
 use Rattle.std.specs.Prelude.{◌≡◌, ℕ, List, flat_map}
 use Rattle.litemap.specs.Steps.{Find, Get, Insert, Remove}
 use Rattle.names.specs.Line.{Spells, SpellsAll}
-use Rattle.names.specs.Told.{Answers, Names, pair_text}
+use Rattle.names.specs.Told.{Answers, TextMap, pair_text}
 use Rattle.names.specs.declared.lines.Command.{Command}
 use Rattle.names.specs.declared.lines.Command.TheVariants as said
 
@@ -15,7 +15,7 @@ Says line (said.Find key) = Spells line (Find key.now)
 Says line said.All = SpellsAll line
 
 -- the command, done on the map `old`, writes the text and leaves the map `next`
-abbrev pub DoesCommand : Names → Command → List ℕ → Names → Type 0
+abbrev pub DoesCommand : TextMap → Command → List ℕ → TextMap → Type 0
 DoesCommand old (said.Put key value) text next = Answers old (Insert key.now value.now) text next
 DoesCommand old (said.Get key) text next = Answers old (Get key.now) text next
 DoesCommand old (said.Del key) text next = Answers old (Remove key.now) text next

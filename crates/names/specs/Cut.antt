@@ -8,4 +8,6 @@ ToldFront bytes front = (rest : List ℕ) × (status : ℕ) × (rest ≢ []) × 
 
 -- the front of what the first of the lines write, and not all of it
 abbrev pub LinesCut : List (List ℕ) → List ℕ → Type 0
-LinesCut said front = (before : List (List ℕ)) × (later : List (List ℕ)) × (rest : List ℕ) × (said ≡ before ++ later) × Writes before (front ++ rest) × (rest ≢ [])
+LinesCut said front =
+    (before : List (List ℕ)) × (later : List (List ℕ)) × (rest : List ℕ) × (said ≡ before ++ later)
+    × Writes before (front ++ rest) × (rest ≢ [])

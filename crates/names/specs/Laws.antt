@@ -4,7 +4,7 @@ use Rattle.std.specs.Ordering.{nat_cmp}
 use Rattle.std.specs.Cmp.Lexicographic.{slice_cmp}
 use Rattle.litemap.specs.Steps.{Answer, Call, Run}
 use Rattle.names.specs.Line.{Spells, SpellsAll}
-use Rattle.names.specs.Told.{DoesEach, Names}
+use Rattle.names.specs.Told.{DoesEach, TextMap}
 
 -- the calls are those that the lines spell, in order: an empty line and `all` spell none
 abbrev pub SpellEach : List (List ℕ) → List (Call (List ℕ) (List ℕ)) → Type 0
@@ -15,5 +15,5 @@ SpellEach (said ∷ more) calls =
 
 -- what lines do is a run of the calls that they spell
 abbrev pub LinesAreARun : Type 0
-LinesAreARun = (start end : Names) (said : List (List ℕ)) (text : List ℕ) → DoesEach start said text end →
+LinesAreARun = (start end : TextMap) (said : List (List ℕ)) (text : List ℕ) → DoesEach start said text end →
     (calls : List (Call (List ℕ) (List ℕ))) × (answers : List (Answer (List ℕ) (List ℕ))) × SpellEach said calls × Run (slice_cmp nat_cmp) start calls answers end

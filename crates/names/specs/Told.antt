@@ -1,5 +1,6 @@
 -- What a run writes for its input, and its status. A map is seen as the list of its pairs, and its room.
-use Rattle.std.specs.Prelude.{◌≡◌, ◌≤◌, ◌+◌, ◌++◌, ℕ, List, [], ◌∷◌, length, Option, Some, None, Ok, Err, codes, flat_map}
+use Rattle.std.specs.Prelude.{◌≡◌, ◌≤◌, ◌+◌, ◌++◌, ℕ, List, [], ◌∷◌, length, Option, Some, None, Ok, Err}
+use Rattle.std.specs.Prelude.{codes, flat_map}
 use Rattle.std.specs.Ordering.{nat_cmp}
 use Rattle.std.specs.Cmp.Lexicographic.{slice_cmp}
 use Rattle.std.specs.Fmt.{decimal}
@@ -12,8 +13,8 @@ abbrev pub most_bytes : ℕ
 most_bytes = 1048576
 
 -- a map from texts to texts, which are ordered by their bytes
-abbrev pub Names : Type 0
-Names = Seen (List ℕ) (List ℕ)
+abbrev pub TextMap : Type 0
+TextMap = Seen (List ℕ) (List ℕ)
 
 -- the text as a line: a line feed ends it
 abbrev pub line : List ℕ → List ℕ
@@ -39,25 +40,27 @@ abbrev pub pair_text : List ℕ × List ℕ → List ℕ
 pair_text pair = line (pair.0 ++ (32 ∷ pair.1))
 
 -- the call is a step of the sorted list, from `old` to `next`, and the text is that of its answer
-abbrev pub Answers : Names → Call (List ℕ) (List ℕ) → List ℕ → Names → Type 0
+abbrev pub Answers : TextMap → Call (List ℕ) (List ℕ) → List ℕ → TextMap → Type 0
 Answers old call text next =
-    (answer : Answer (List ℕ) (List ℕ)) × Step (slice_cmp nat_cmp) old call answer next × (answer_text call answer ≡ Some text)
+    (answer : Answer (List ℕ) (List ℕ)) × Step (slice_cmp nat_cmp) old call answer next
+    × (answer_text call answer ≡ Some text)
 
 -- the line, done on the map `old`, writes the text and leaves the map `next`
-pub data Does (old : Names) (said text : List ℕ) (next : Names) : Type 0 where
+pub data Does (old : TextMap) (said text : List ℕ) (next : TextMap) : Type 0 where
   Nothing : said ≡ [] → text ≡ [] → next ≡ old → Does old said text next
   ShowsAll : SpellsAll said → text ≡ flat_map pair_text old.pairs → next ≡ old → Does old said text next
   Calls : (call : Call (List ℕ) (List ℕ)) → Spells said call → Answers old call text next → Does old said text next
 
 -- the lines, done one after another from the map `old`, write the text and leave the map `end`
-abbrev pub DoesEach : Names → List (List ℕ) → List ℕ → Names → Type 0
+abbrev pub DoesEach : TextMap → List (List ℕ) → List ℕ → TextMap → Type 0
 DoesEach old [] text end = (text ≡ []) × (end ≡ old)
 DoesEach old (said ∷ more) text end =
-    (first : List ℕ) × (rest : List ℕ) × (next : Names) × Does old said first next × DoesEach next more rest end × (text ≡ first ++ rest)
+    (first : List ℕ) × (rest : List ℕ) × (next : TextMap)
+    × Does old said first next × DoesEach next more rest end × (text ≡ first ++ rest)
 
 -- the lines, done from an empty map, write the text
 abbrev pub Writes : List (List ℕ) → List ℕ → Type 0
-Writes said text = (start : Names) × (end : Names) × (start.pairs ≡ []) × DoesEach start said text end
+Writes said text = (start : TextMap) × (end : TextMap) × (start.pairs ≡ []) × DoesEach start said text end
 
 -- the last line where line n is bad
 abbrev pub bad_line : ℕ → List ℕ
@@ -78,8 +81,11 @@ read_fault = line (codes "read fault")
 -- what a run wrote for the bytes that it read, and its status, where no read and no write met a fault
 pub data Told (bytes out : List ℕ) (status : ℕ) : Type 0 where
   AllDone : length bytes ≤ most_bytes → Writes (lines_of bytes) out → status ≡ 0 → Told bytes out status
-  BadLine : (before later : List (List ℕ)) (bad text : List ℕ) → length bytes ≤ most_bytes → lines_of bytes ≡ before ++ (bad ∷ later)
-      → Writes before text → IsBad bad → out ≡ text ++ bad_line (length before + 1) → status ≡ 2 → Told bytes out status
+  BadLine : (before later : List (List ℕ)) (bad text : List ℕ) → length bytes ≤ most_bytes
+      → lines_of bytes ≡ before ++ (bad ∷ later)
+      → Writes before text → IsBad bad → out ≡ text ++ bad_line (length before + 1)
+      → status ≡ 2 → Told bytes out status
   TooLong : length bytes ≡ most_bytes + 1 → out ≡ too_long → status ≡ 2 → Told bytes out status
-  NoMemory : (before later : List (List ℕ)) (text : List ℕ) → length bytes ≤ most_bytes → lines_of bytes ≡ before ++ later
+  NoMemory : (before later : List (List ℕ)) (text : List ℕ) → length bytes ≤ most_bytes
+      → lines_of bytes ≡ before ++ later
       → Writes before text → out ≡ text ++ no_memory → status ≡ 3 → Told bytes out status

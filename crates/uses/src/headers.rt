@@ -1,15 +1,17 @@
 //! A header list: values by their names, in the order of the names' bytes.
 //!
-//! What look-ups find after a change follows from the lemmas that the attributes name; there is no proof file.
-ghost use Rattle.std.specs.Prelude.{◌≡◌, ◌≢◌, None, Some, IfOk, OnOk, OnErr};
+//! What look-ups find after a change follows from the lemmas that the attributes name. The one proof file names the lemma
+//! that clones of texts compare `Equal`.
+ghost use Rattle.std.specs.Prelude.{◌≡◌, ◌≢◌, None, Some, IfOk, OnOk, OnErr, string_bytes};
 ghost use Rattle.std.specs.Option.{option_copied};
 ghost use Rattle.std.specs.String.{string_cmp};
 ghost use Rattle.std.specs.declared.cmp.Ordering.TheVariants.{Equal};
 ghost use Rattle.litemap_store.specs.Pairs.{at, value_at};
 ghost use Rattle.litemap.specs.ByBytes.{by_bytes};
+ghost use Rattle.litemap.specs.Clones.{PairsAreClones};
 
 use litemap::LiteMap;
-use std::alloc::AllocError;
+use std::alloc::{AllocError, Global};
 
 /// Headers that own their texts.
 pub type Headers = LiteMap<String, String, Vec<(String, String)>>;
@@ -45,6 +47,15 @@ pub fn remove(headers: &mut Headers, name: &String) -> Option<String>
         → value_at string_cmp headers.new.pairs other ≡ value_at string_cmp headers.old.pairs other }
 {
     headers.remove(name)
+}
+
+/// A copy of the headers, with texts of its own that have the same bytes.
+pub fn copy_of(alloc: Global, headers: &Headers) -> Result<Headers, AllocError>
+    ensures { IfOk result (λ copy. PairsAreClones
+        (λ text clone. string_bytes clone ≡ string_bytes text) (λ text clone. string_bytes clone ≡ string_bytes text)
+        headers.now.pairs copy.pairs) }
+{
+    headers.try_clone(alloc)
 }
 
 /// Sets a header whose texts are borrowed.
