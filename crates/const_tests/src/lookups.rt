@@ -49,85 +49,97 @@ fn value_of<'a, 'k>(pairs: &'a [(&'k str, u32)], key: &str) -> Option<&'a u32>
     Some(value)
 }
 
-// Asserts what a map with the two ends of a type of number answers.
-macro_rules! assert_ends_found {
-    ($rt:expr; $number:ty) => {
+// What is found at five keys: a place and a value each.
+type Found = [Option<(usize, u8)>; 5];
+
+// What a map with 7 and the two ends of a type of number finds at the ends, at 7, and on both sides of it.
+macro_rules! found_at_ends {
+    ($number:ty) => {{
         let pairs: [($number, u8); 3] = [(<$number>::MIN, 1), (7, 2), (<$number>::MAX, 3)];
         let map = slice_map(&pairs);
-        for (key, found) in [
-            (<$number>::MIN, Some((0, &1))),
-            (6, None),
-            (7, Some((1, &2))),
-            (8, None),
-            (<$number>::MAX, Some((2, &3))),
-        ] {
-            assert_eq!($rt; map.const_get_with_index(key), found, "of {key}");
-        }
-    };
+        [
+            copied(map.const_get_with_index(<$number>::MIN)),
+            copied(map.const_get_with_index(6)),
+            copied(map.const_get_with_index(7)),
+            copied(map.const_get_with_index(8)),
+            copied(map.const_get_with_index(<$number>::MAX)),
+        ]
+    }};
 }
 
-fn u8_ends(rt: &impl Abort) {
-    assert_ends_found!(rt; u8);
+fn copied(found: Option<(usize, &u8)>) -> Option<(usize, u8)> {
+    let (place, value) = found?;
+    Some((place, *value))
 }
 
-fn u16_ends(rt: &impl Abort) {
-    assert_ends_found!(rt; u16);
+fn u8_ends() -> Found {
+    found_at_ends!(u8)
 }
 
-fn u32_ends(rt: &impl Abort) {
-    assert_ends_found!(rt; u32);
+fn u16_ends() -> Found {
+    found_at_ends!(u16)
 }
 
-fn u64_ends(rt: &impl Abort) {
-    assert_ends_found!(rt; u64);
+fn u32_ends() -> Found {
+    found_at_ends!(u32)
 }
 
-fn u128_ends(rt: &impl Abort) {
-    assert_ends_found!(rt; u128);
+fn u64_ends() -> Found {
+    found_at_ends!(u64)
 }
 
-fn usize_ends(rt: &impl Abort) {
-    assert_ends_found!(rt; usize);
+fn u128_ends() -> Found {
+    found_at_ends!(u128)
 }
 
-fn i8_ends(rt: &impl Abort) {
-    assert_ends_found!(rt; i8);
+fn usize_ends() -> Found {
+    found_at_ends!(usize)
 }
 
-fn i16_ends(rt: &impl Abort) {
-    assert_ends_found!(rt; i16);
+fn i8_ends() -> Found {
+    found_at_ends!(i8)
 }
 
-fn i32_ends(rt: &impl Abort) {
-    assert_ends_found!(rt; i32);
+fn i16_ends() -> Found {
+    found_at_ends!(i16)
 }
 
-fn i64_ends(rt: &impl Abort) {
-    assert_ends_found!(rt; i64);
+fn i32_ends() -> Found {
+    found_at_ends!(i32)
 }
 
-fn i128_ends(rt: &impl Abort) {
-    assert_ends_found!(rt; i128);
+fn i64_ends() -> Found {
+    found_at_ends!(i64)
 }
 
-fn isize_ends(rt: &impl Abort) {
-    assert_ends_found!(rt; isize);
+fn i128_ends() -> Found {
+    found_at_ends!(i128)
+}
+
+fn isize_ends() -> Found {
+    found_at_ends!(isize)
 }
 
 #[test]
 fn numbers_are_found_up_to_both_ends_of_their_type(rt: HostRuntime) {
-    u8_ends(&rt);
-    u16_ends(&rt);
-    u32_ends(&rt);
-    u64_ends(&rt);
-    u128_ends(&rt);
-    usize_ends(&rt);
-    i8_ends(&rt);
-    i16_ends(&rt);
-    i32_ends(&rt);
-    i64_ends(&rt);
-    i128_ends(&rt);
-    isize_ends(&rt);
+    let wanted: Found = [Some((0, 1)), None, Some((1, 2)), None, Some((2, 3))];
+    let found = [
+        u8_ends(),
+        u16_ends(),
+        u32_ends(),
+        u64_ends(),
+        u128_ends(),
+        usize_ends(),
+        i8_ends(),
+        i16_ends(),
+        i32_ends(),
+        i64_ends(),
+        i128_ends(),
+        isize_ends(),
+    ];
+    for (number, found) in found.iter().enumerate() {
+        assert_eq!(rt; *found, wanted, "of type {number}");
+    }
 }
 
 #[test]
