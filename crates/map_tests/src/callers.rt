@@ -57,7 +57,11 @@ fn headers_are_set_looked_up_and_removed(rt: HostRuntime) -> Result<(), Fail> {
         assert_eq!(rt; (found, pair), (value, value), "{name}");
         let removed = headers::remove(&mut owned, &name_text);
         let taken = headers::remove_borrowed(&mut borrowed, name);
-        assert_eq!(rt; (removed.is_some(), taken), (value.is_some(), value), "{name}");
+        assert_eq!(rt;
+            (removed.is_some(), taken),
+            (value.is_some(), value),
+            "{name}"
+        );
     }
     assert_eq!(rt; (owned.len(), borrowed.len(), copy.len()), (0, 0, 2));
     Ok(())
