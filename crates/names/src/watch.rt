@@ -14,7 +14,7 @@ use std::io::{ErrorKind, Read, Write};
 /// interrupted call is a fault like any other, and isn't tried again.
 #[derive(Drop)]
 pub struct Watch<T> {
-    /// Whether a call met a fault. It is false at first, and nothing but a fault sets it.
+    /// Whether a call met a fault. It is false at first, and no call sets it but one that meets a fault.
     pub failed: bool,
     inner: T,
     // Whether a call met a fault. Nothing sets it back.
