@@ -1,15 +1,17 @@
 -- A search that halves an interval: what its steps keep, and what its end says.
 --     Narrowed ord l low high      what is known of the places below low and from high on
 --     Narrowed-whole, -less, -greater      at the start, and after an answer at the place m;  Finds-here, Finds-nowhere      at the two ends
+--     Seen ord l hit low left, Seen-next, left_next      the same for the search that notes a hit and the number of places left
 --     takes, next      from `Shape`: the closure may be asked for a key of the list, and what it answers; each answer uses up a question
-use Rattle.std.proofs.Common.{◌≡◌, ◌≢◌, ℕ, zero, suc, ◌+◌, ◌<◌, ◌≤◌, Bool, true, false, List, [], ◌∷◌, length, Some, Ok, Err, slice_get, slice_index_or, Bor, refl, sym, ap, ◌∙◌, subst, arith, inl, inr, ◌⊎◌}
+use Rattle.std.proofs.Common.{◌≡◌, ◌≢◌, ℕ, zero, suc, ◌+◌, ◌-◌, ◌/◌, ◌<◌, ◌≤◌, Bool, true, false, cond, List, [], ◌∷◌, length, Some, Ok, Err, slice_get, slice_index_or, Bor, refl, sym, ap, ◌∙◌, subst, arith, inl, inr, ◌⊎◌}
 use denote.Param.Members.{Mut}
 use Rattle.std.specs.Fn.{CalledAt, TakesAt}
 use Rattle.std.specs.declared.cmp.Ordering.{Ordering}
 use Rattle.std.specs.declared.cmp.Ordering.TheVariants.{Less, Equal, Greater}
-use Rattle.std.specs.Ordering.{is_lt, ordering_index}
+use Rattle.std.specs.Ordering.{is_eq, is_lt, ordering_index}
 use Rattle.std.specs.List.{AllWithin, Any, filter}
 use Rattle.std.proofs.lemmas.Option.{get_or_from_slice_get, slice_get_within}
+use Rattle.litemap_store.specs.Digits.{digits, digits-halved}
 use Rattle.litemap_store.specs.Search.{Ascends, Finds, Shape}
 
 top : (o : Ordering) → 2 ≤ ordering_index o → o ≡ Greater
@@ -47,6 +49,11 @@ Less-not_Equal o h e = cc
 
 Greater-not_Equal : (o : Ordering) → o ≡ Greater → o ≢ Equal
 Greater-not_Equal o h e = cc
+
+-- how many places are left of some after an answer at the middle
+abbrev pub left_after : Bool → Ordering → ℕ → ℕ
+left_after is_small answer left =
+    cond (is_lt answer) (left / 2) (cond (is_eq answer) (cond is_small (left / 2) 0) (cond is_small (left / 2) (left - left / 2 - 1)))
 
 module _ {K V : Type 0} (ord : K → Ordering) (l : List (K × V)) where
   -- Less below low, and Greater from high on
@@ -103,6 +110,58 @@ module _ {K V : Type 0} (ord : K → Ordering) (l : List (K × V)) where
     ],
     counted (λ p. is_lt (ord p.0)) l low h (λ k d a. ap is_lt (n.front k d (omega arith) a)) (λ k d a b. ap is_lt (n.back k d (omega arith) b)),
   )
+
+  -- less may be known than is
+  Narrowed-wider : (low high a b : ℕ) → a ≤ low → high ≤ b → Narrowed low high → Narrowed a b
+  Narrowed-wider low high a b h j n = record { front = λ k d c e. n.front k d c (omega arith); back = λ k d c e. n.back k d (omega arith) e }
+
+  -- ord is Equal at the place before hit, or, where hit is 0, it is known of all but the places from low on that are left
+  pub record Seen (hit low left : ℕ) : Type 0 where
+    pub open_ : hit ≡ 0 → Narrowed low (low + left)
+    pub closed : 0 < hit → Finds ord l (Ok (hit - 1))
+
+  pub Seen-whole : (n : ℕ) → length l ≤ n → Seen 0 0 n
+  Seen-whole n h = record { open_ = λ u. Narrowed-whole (0 + n) (omega arith); closed = λ u. absurd (omega arith) }
+
+  -- after an answer at the middle
+  pub Seen-next : Ascends ord l → (is_small : Bool) (hit low left : ℕ) (k : K) (v : V) (answer : Ordering) → 0 < left
+      → slice_get l (low + (left - left / 2) - 1) ≡ Some (k, v) → Seen hit low left → ord k ≡ answer
+      → Seen (cond (is_eq answer) (low + (left - left / 2)) hit) (cond (is_lt answer) (low + (left - left / 2)) low)
+      (left_after is_small answer left)
+  Seen-next ascends is_small hit low left k v Less h e seen is = record {
+    open_ = λ u. Narrowed-wider (low + (left - left / 2) - 1 + 1) (low + left) _ _ (omega arith) (omega arith)
+        (Narrowed-less ascends low (low + left) (low + (left - left / 2) - 1) k v e (seen.open_ u) is);
+    closed = seen.closed;
+  }
+  Seen-next ascends is_small hit low left k v Equal h e seen is = record {
+    open_ = λ u. absurd (omega arith);
+    closed = λ u. Finds-here (low + (left - left / 2) - 1) k v e is;
+  }
+  Seen-next ascends true hit low left k v Greater h e seen is = record {
+    open_ = λ u. Narrowed-wider low (low + (left - left / 2) - 1) _ _ (omega arith) (omega arith)
+        (Narrowed-greater ascends low (low + left) (low + (left - left / 2) - 1) k v e (seen.open_ u) is);
+    closed = seen.closed;
+  }
+  Seen-next ascends false hit low left k v Greater h e seen is = record {
+    open_ = λ u. Narrowed-wider low (low + (left - left / 2) - 1) _ _ (omega arith) (omega arith)
+        (Narrowed-greater ascends low (low + left) (low + (left - left / 2) - 1) k v e (seen.open_ u) is);
+    closed = seen.closed;
+  }
+
+pub slice_get-at : {X : Type 0} (L : List X) (m : ℕ) (d : X) → m < length L → slice_get L m ≡ Some (slice_index_or L m d)
+slice_get-at [] m d h = absurd (omega arith)
+slice_get-at (x ∷ L) zero d h = refl
+slice_get-at (x ∷ L) (suc m) d h = slice_get-at L m d (omega arith)
+
+-- what is left after an answer lies within the list, and has a digit less
+pub left_next : (is_small : Bool) (answer : Ordering) (low left n : ℕ) → low + left ≤ n → 0 < left
+    → (cond (is_lt answer) (low + (left - left / 2)) low + left_after is_small answer left ≤ n)
+    × (digits (left_after is_small answer left) + 1 ≤ digits left)
+left_next is_small Less low left n w p = (omega arith, digits-halved _ _ p (omega arith))
+left_next true Equal low left n w p = (omega arith, digits-halved _ _ p (omega arith))
+left_next false Equal low left n w p = (omega arith, digits-halved _ _ p (omega arith))
+left_next true Greater low left n w p = (omega arith, digits-halved _ _ p (omega arith))
+left_next false Greater low left n w p = (omega arith, digits-halved _ _ p (omega arith))
 
 pub known : {K V : Type 0} (l : List (K × V)) (m : ℕ) (k : K) (v : V) → slice_get l m ≡ Some (k, v) → Any (λ q. q.0 ≡ k) l
 known l m k v e = (m, (k, v), slice_get_within l m (k, v) e, get_or_from_slice_get l m (k, v) (k, v) e, refl)

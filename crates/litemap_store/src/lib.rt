@@ -7,5 +7,6 @@ mod count;
 pub mod laws;
 mod no_room;
 mod slice_impl;
+mod slice_search;
 pub mod store;
 mod vec_impl;

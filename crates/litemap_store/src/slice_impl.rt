@@ -1,8 +1,10 @@
 //! A borrowed slice of pairs as a store.
 ghost use Rattle.std.specs.Prelude.{◌≡◌, ⊤};
 
-use crate::store::{Store, StoreConstEmpty, StoreSlice};
+use crate::slice_search;
+use crate::store::{Count, Store, StoreConstEmpty, StoreSlice};
 use std::alloc::{AllocError, Global};
+use std::cmp::Ordering;
 use std::ops::Range;
 
 /// The pairs of a slice that someone else keeps. It cannot grow.
@@ -44,6 +46,14 @@ impl<'a, K, V> Store<K, V> for SliceStore<'a, K, V> {
     fn lm_get(&self, index: usize) -> Option<(&K, &V)> {
         let (key, value) = self.pairs.get(index)?;
         Some((key, value))
+    }
+
+    fn lm_binary_search_by<F: FnMut(&K) -> Ordering>(
+        &self,
+        f: F,
+        count: &mut Count,
+    ) -> Result<usize, usize> {
+        slice_search::find(self.pairs, f, count)
     }
 }
 

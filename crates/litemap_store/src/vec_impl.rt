@@ -3,8 +3,10 @@ ghost use Rattle.std.specs.Prelude.{◌≡◌, ◌≤◌, [], vec_capacity, vec_
 ghost use Rattle.litemap_store.specs.Retain.{CallableOnEach, CalledOnPair, Kept, TakesPair};
 ghost use Rattle.litemap_store.specs.VecStore.{vec_room, vec_with_value, vec_writes, vec_keeps_room};
 
-use crate::store::{NoRoom, Store, StoreBulkMut, StoreConstEmpty, StoreMut, StoreSlice};
+use crate::slice_search;
+use crate::store::{Count, NoRoom, Store, StoreBulkMut, StoreConstEmpty, StoreMut, StoreSlice};
 use std::alloc::{AllocError, Global};
+use std::cmp::Ordering;
 use std::mem;
 use std::ops::Range;
 
@@ -20,6 +22,14 @@ impl<K, V> Store<K, V> for Vec<(K, V)> {
     fn lm_get(&self, index: usize) -> Option<(&K, &V)> {
         let (key, value) = self.as_slice().get(index)?;
         Some((key, value))
+    }
+
+    fn lm_binary_search_by<F: FnMut(&K) -> Ordering>(
+        &self,
+        f: F,
+        count: &mut Count,
+    ) -> Result<usize, usize> {
+        slice_search::find(self.as_slice(), f, count)
     }
 }
 
@@ -68,12 +78,10 @@ impl<K, V> StoreMut<K, V> for Vec<(K, V)> {
     }
 
     fn lm_insert(&mut self, index: usize, key: K, value: V) -> Result<(), NoRoom<(K, V)>> {
-        match self.insert(index, (key, value)) {
-            Ok(()) => Ok(()),
-            Err(refused) => Err(NoRoom {
-                back: refused.value,
-            }),
-        }
+        // One move of all later pairs: `Vec::insert` is compiled to a loop over them.
+        self.lm_push(key, value)?;
+        self[index..].rotate_right(1);
+        Ok(())
     }
 
     fn lm_remove(&mut self, index: usize) -> (K, V) {
