@@ -60,7 +60,11 @@ const CALLS: [Call; 20] = [
 ];
 
 // A call that looks the key up: whether it is there.
-fn look<K: Ord, V, S: StoreMut<K, V>>(map: &mut LiteMap<K, V, S>, key: &K, call: Call) -> bool {
+fn look<K: Ord + Copy, S: StoreMut<K, u32>>(
+    map: &mut LiteMap<K, u32, S>,
+    key: &K,
+    call: Call,
+) -> bool {
     match call {
         Call::FindIndex => map.find_index(key).is_ok(),
         Call::FindIndexCounted => map.find_index_counted(key, &mut Count::new()).is_ok(),
@@ -71,9 +75,32 @@ fn look<K: Ord, V, S: StoreMut<K, V>>(map: &mut LiteMap<K, V, S>, key: &K, call:
     }
 }
 
+// A call of the value of a key, which is tested for first: whether it is there. The comparisons of the test
+// are not counted.
+fn index<K: Ord + Copy, S: StoreMut<K, u32>>(
+    map: &mut LiteMap<K, u32, S>,
+    key: &K,
+    made: &Cell<u32>,
+    call: Call,
+) -> bool {
+    let is_there = map.contains_key(key);
+    made.set(0);
+    if is_there {
+        match call {
+            Call::Index => {
+                map.index(key);
+            }
+            _ => {
+                map.index_mut(key);
+            }
+        }
+    }
+    is_there
+}
+
 // A call by a closure: whether it finds a key.
-fn call_by<K: Ord + Drop, V: Drop, S: StoreMut<K, V>, F: FnMut(&K) -> Ordering>(
-    map: &mut LiteMap<K, V, S>,
+fn call_by<K: Ord + Copy, S: StoreMut<K, u32>, F: FnMut(&K) -> Ordering>(
+    map: &mut LiteMap<K, u32, S>,
     f: F,
     call: Call,
 ) -> bool
@@ -88,8 +115,8 @@ fn call_by<K: Ord + Drop, V: Drop, S: StoreMut<K, V>, F: FnMut(&K) -> Ordering>(
 }
 
 // A call by a closure that compares with the key: whether it is there.
-fn call_by_key<K: Ord + Drop, V: Drop, S: StoreMut<K, V>>(
-    map: &mut LiteMap<K, V, S>,
+fn call_by_key<K: Ord + Copy, S: StoreMut<K, u32>>(
+    map: &mut LiteMap<K, u32, S>,
     key: &K,
     call: Call,
 ) -> bool {
@@ -97,89 +124,77 @@ fn call_by_key<K: Ord + Drop, V: Drop, S: StoreMut<K, V>>(
     call_by(map, |k| k.cmp(key), call)
 }
 
-// A call of the value of a key, which is tested for first: whether it is there. The comparisons of the test
-// are not counted.
-fn index<'a, S: StoreMut<Counted<'a>, u32>>(
-    map: &mut LiteMap<Counted<'a>, u32, S>,
-    key: &Counted<'a>,
+// A call that takes the key out, or puts a value at it: whether it was there, and for `try_append` whether
+// the pair came back. `None` is a refusal.
+fn write<K: Ord + Copy, S: StoreMut<K, u32>>(
+    map: &mut LiteMap<K, u32, S>,
+    key: K,
+    value: u32,
     call: Call,
-) -> bool {
-    let is_there = map.contains_key(key);
-    key.made.set(0);
-    if is_there {
-        match call {
-            Call::Index => {
-                map.index(key);
-            }
-            _ => {
-                map.index_mut(key);
-            }
-        }
-    }
-    is_there
-}
-
-// A call that takes the key out, or puts its number at it: whether it was there.
-fn write<'a, S: StoreMut<Counted<'a>, u32>>(
-    map: &mut LiteMap<Counted<'a>, u32, S>,
-    key: Counted<'a>,
-    call: Call,
-) -> Result<bool, Fail> {
+) -> Option<bool> {
     match call {
-        Call::Remove => Ok(map.remove(&key).is_some()),
-        Call::RemoveCounted => Ok(map.remove_counted(&key, &mut Count::new()).is_some()),
-        Call::Insert => Ok(map.insert(key, key.number)?.is_some()),
+        Call::Remove => Some(map.remove(&key).is_some()),
+        Call::RemoveCounted => Some(map.remove_counted(&key, &mut Count::new()).is_some()),
+        Call::Insert => Some(map.insert(key, value).ok()?.is_some()),
         Call::InsertCounted => {
-            let old = map.insert_counted(key, key.number, &mut Count::new())?;
-            Ok(old.is_some())
+            let old = map.insert_counted(key, value, &mut Count::new()).ok()?;
+            Some(old.is_some())
         }
-        Call::TryInsert => Ok(map.try_insert(key, key.number)?.is_some()),
-        _ => Ok(map.try_append(key, key.number)?.is_some()),
+        Call::TryInsert => Some(map.try_insert(key, value).ok()?.is_some()),
+        _ => Some(map.try_append(key, value).ok()?.is_some()),
     }
 }
 
-// A call that makes the value of an absent key: whether the key was there, and nothing was made.
-fn find_or_make<'a, S: StoreMut<Counted<'a>, u32>>(
-    map: &mut LiteMap<Counted<'a>, u32, S>,
-    key: Counted<'a>,
+// A call that makes the value of an absent key: whether the key was there, and nothing was made. `None` is a
+// refusal.
+fn find_or_make<K: Ord + Copy, S: StoreMut<K, u32>>(
+    map: &mut LiteMap<K, u32, S>,
+    key: K,
+    value: u32,
     call: Call,
-) -> Result<bool, Fail> {
+) -> Option<bool> {
     let mut calls = 0u32;
-    let make = |_: &Counted| -> Result<u32, u8> {
+    let make = |_: &K| -> Result<u32, u8> {
         calls = calls.wrapping_add(1);
-        Ok(key.number)
+        Ok(value)
     };
-    match call {
-        Call::TryGetOrInsert => {
-            map.try_get_or_insert(key, make)?;
-        }
-        _ => {
-            map.try_find_or_insert(key, make)?;
-        }
-    }
-    Ok(calls == 0)
+    let is_done = match call {
+        Call::TryGetOrInsert => map.try_get_or_insert(key, make).is_ok(),
+        _ => map.try_find_or_insert(key, make).is_ok(),
+    };
+    if is_done { Some(calls == 0) } else { None }
 }
 
-// Whether the key was there; of `try_append`, whether the pair came back.
-fn make_call<'a, S: StoreMut<Counted<'a>, u32>>(
-    map: &mut LiteMap<Counted<'a>, u32, S>,
-    key: Counted<'a>,
+fn make_call<K: Ord + Copy, S: StoreMut<K, u32>>(
+    map: &mut LiteMap<K, u32, S>,
+    (key, value): (K, u32),
+    made: &Cell<u32>,
     call: Call,
-) -> Result<bool, Fail> {
+) -> Option<bool> {
     match call {
         Call::FindIndexBy | Call::GetBy | Call::GetMutBy | Call::RemoveBy => {
-            Ok(call_by_key(map, &key, call))
+            Some(call_by_key(map, &key, call))
         }
-        Call::Index | Call::IndexMut => Ok(index(map, &key, call)),
-        Call::TryGetOrInsert | Call::TryFindOrInsert => find_or_make(map, key, call),
+        Call::Index | Call::IndexMut => Some(index(map, &key, made, call)),
+        Call::TryGetOrInsert | Call::TryFindOrInsert => find_or_make(map, key, value, call),
         Call::Remove
         | Call::RemoveCounted
         | Call::Insert
         | Call::InsertCounted
         | Call::TryInsert
-        | Call::TryAppend => write(map, key, call),
-        _ => Ok(look(map, &key, call)),
+        | Call::TryAppend => write(map, key, value, call),
+        _ => Some(look(map, &key, call)),
     }
+}
+
+// Puts a key with an odd number back, and takes one with an even number out.
+fn restore<K: Ord + Copy, S: StoreMut<K, u32>>(map: &mut LiteMap<K, u32, S>, key: K, number: u32) {
+    let call = if number % 2 == 1 {
+        Call::Insert
+    } else {
+        Call::Remove
+    };
+    let _there = write(map, key, number, call);
 }
 
 // What a call has to answer for a number against a map of this length, and how often it may compare: a pair
@@ -191,19 +206,6 @@ fn wanted(call: Call, number: u32, len: u32) -> (bool, u32) {
     }
 }
 
-// Puts an odd key back, and takes an even one out.
-fn restore<'a, S: StoreMut<Counted<'a>, u32>>(
-    map: &mut LiteMap<Counted<'a>, u32, S>,
-    key: Counted<'a>,
-) -> Result<(), Fail> {
-    if key.number % 2 == 1 {
-        map.insert(key, key.number)?;
-    } else {
-        map.remove(&key);
-    }
-    Ok(())
-}
-
 // A call at each key and each gap.
 fn call_at_each<'a, S: StoreMut<Counted<'a>, u32>>(
     rt: &impl Abort,
@@ -211,20 +213,19 @@ fn call_at_each<'a, S: StoreMut<Counted<'a>, u32>>(
     made: &'a Cell<u32>,
     len: u32,
     call: Call,
-) -> Result<(), Fail> {
+) {
     for number in 0..end_of(len) {
         let key = Counted { number, made };
         made.set(0);
-        let was_there = make_call(map, key, call)?;
+        let was_there = make_call(map, (key, number), made, call);
         let compared = made.get();
         let (is_there, most) = wanted(call, number, len);
         assert!(rt;
-            was_there == is_there && compared <= most,
+            was_there == Some(is_there) && compared <= most,
             "{call:?} of {number} among {len}: {compared} comparisons"
         );
-        restore(map, key)?;
+        restore(map, key, number);
     }
-    Ok(())
 }
 
 fn make_each_call<'a, S: StoreMut<Counted<'a>, u32> + Drop>(
@@ -235,7 +236,7 @@ fn make_each_call<'a, S: StoreMut<Counted<'a>, u32> + Drop>(
 ) -> Result<(), Fail> {
     let mut map: LiteMap<Counted<'a>, u32, S> = odd_keys(alloc, made, len)?;
     for call in CALLS {
-        call_at_each(rt, &mut map, made, len, call)?;
+        call_at_each(rt, &mut map, made, len, call);
     }
     Ok(())
 }
