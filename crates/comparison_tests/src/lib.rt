@@ -6,15 +6,9 @@
 #![tactic(auto)]
 
 #[cfg(test)]
-mod appends;
-#[cfg(test)]
-mod changes;
-#[cfg(test)]
-mod closures;
+mod keyed;
 #[cfg(test)]
 mod lengths;
-#[cfg(test)]
-mod looks;
 #[cfg(test)]
 mod none;
 #[cfg(test)]

@@ -157,13 +157,12 @@ fn assert_texts_found(rt: &impl Abort, pairs: &[(&str, u32)], absent: &str)
 {
     let map = slice_map(pairs);
     for (place, (text, value)) in pairs.iter().enumerate() {
-        assert_eq!(rt;
-            map.const_get_with_index(text),
-            Some((place, value)),
+        assert!(rt;
+            map.const_get_with_index(text) == Some((place, value)),
             "of {text}"
         );
     }
-    assert_eq!(rt; map.const_get_with_index(absent), None);
+    assert!(rt; map.const_get_with_index(absent).is_none(), "of {absent}");
 }
 
 #[test]
@@ -185,13 +184,12 @@ fn assert_bytes_found(rt: &impl Abort, pairs: &[(&[u8], u32)], absent: &[u8])
 {
     let map = slice_map(pairs);
     for (place, (bytes, value)) in pairs.iter().enumerate() {
-        assert_eq!(rt;
-            map.const_get_with_index(bytes),
-            Some((place, value)),
+        assert!(rt;
+            map.const_get_with_index(bytes) == Some((place, value)),
             "of {bytes:?}"
         );
     }
-    assert_eq!(rt; map.const_get_with_index(absent), None);
+    assert!(rt; map.const_get_with_index(absent).is_none(), "of {absent:?}");
 }
 
 #[test]
@@ -206,9 +204,8 @@ fn assert_found_in_order(rt: &impl Abort, pairs: &[(&[u8], usize)]) {
     assert!(rt; LiteMap::is_sorted_store(&store), "{pairs:?}");
     let map = LiteMap::from_sorted_store_unchecked(store);
     for (bytes, place) in pairs {
-        assert_eq!(rt;
-            map.const_get_with_index(bytes),
-            Some((*place, place)),
+        assert!(rt;
+            map.const_get_with_index(bytes) == Some((*place, place)),
             "of {bytes:?}"
         );
     }
@@ -230,11 +227,10 @@ fn test_const_cmp_bytes(rt: HostRuntime) {
 #[test]
 fn a_slice_map_has_a_length_and_its_pairs_have_places(rt: HostRuntime) {
     let map = slice_map(LETTERS);
-    assert_eq!(rt; map.const_len(), 2);
-    assert!(rt; !map.const_is_empty());
+    assert!(rt; map.const_len() == 2 && !map.const_is_empty());
     for (place, pair) in LETTERS.iter().enumerate() {
         if place < map.const_len() {
-            assert_eq!(rt; map.const_get_indexed_or_panic(place), pair);
+            assert!(rt; map.const_get_indexed_or_panic(place) == pair, "at {place}");
         }
     }
 }
@@ -242,7 +238,6 @@ fn a_slice_map_has_a_length_and_its_pairs_have_places(rt: HostRuntime) {
 #[test]
 fn an_empty_slice_map_has_nothing(rt: HostRuntime) {
     let map: SliceMap<u8, u8> = slice_map(&[]);
-    assert_eq!(rt; map.const_len(), 0);
-    assert!(rt; map.const_is_empty());
-    assert_eq!(rt; map.const_get_with_index(0), None);
+    assert!(rt; map.const_len() == 0 && map.const_is_empty());
+    assert!(rt; map.const_get_with_index(0).is_none());
 }

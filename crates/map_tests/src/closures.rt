@@ -3,9 +3,13 @@
 //!
 //! Over the keys of a map such a closure has to answer `Less`, then `Equal`, then `Greater`. That is
 //! proved here of each function that makes one, from the keys' rising.
+ghost use Rattle.litemap_store.specs.Search.{Shaped};
+
 use litemap::LiteMap;
-use litemap::store::{Store, StoreMut};
+use litemap::store::StoreMut;
 use std::alloc::Global;
+use std::cmp::Ordering;
+use std::mem;
 use std::process::Abort;
 use std::test::Fail;
 use test_support::fixed_room::FixedRoom;
@@ -15,28 +19,154 @@ type Numbered<S> = LiteMap<u32, u8, S>;
 
 type Texts = LiteMap<String, u8, Vec<(String, u8)>>;
 
-fn find_half<S: Store<u32, u8>>(map: &Numbered<S>, half: u32) -> Result<usize, usize> {
-    let _rises = map.len();
-    map.find_index_by(|key| (*key / 2).cmp(&half))
+#[derive(Clone, Copy, Debug)]
+enum Call {
+    Find,
+    Get,
+    Remove,
+    // Through `get_mut_by`. It answers the old value.
+    Write(u8),
 }
 
-fn get_half<S: Store<u32, u8>>(map: &Numbered<S>, half: u32) -> Option<u8> {
-    let _rises = map.len();
-    map.get_by(|key| (*key / 2).cmp(&half)).copied()
+#[derive(Clone, Copy, Debug, PartialEq)]
+enum Answer {
+    Place(Result<usize, usize>),
+    Value(Option<u8>),
 }
 
-fn remove_half<S: StoreMut<u32, u8>>(map: &mut Numbered<S>, half: u32) -> Option<u8> {
-    let _rises = map.len();
-    map.remove_by(|key| (*key / 2).cmp(&half))
+fn write<S: StoreMut<u32, u8>, F: FnMut(&u32) -> Ordering>(
+    map: &mut Numbered<S>,
+    f: F,
+    value: u8,
+) -> Option<u8>
+    requires { Shaped F.FnMut map.old.pairs f }
+{
+    Some(mem::replace(map.get_mut_by(f)?, value))
 }
 
-// Writes a value, and answers the old one.
-fn write_half<S: StoreMut<u32, u8>>(map: &mut Numbered<S>, half: u32, value: u8) -> Option<u8> {
+fn call_by<S: StoreMut<u32, u8>, F: FnMut(&u32) -> Ordering>(
+    map: &mut Numbered<S>,
+    f: F,
+    call: Call,
+) -> Answer
+    requires { Shaped F.FnMut map.old.pairs f }
+{
+    match call {
+        Call::Find => Answer::Place(map.find_index_by(f)),
+        Call::Get => Answer::Value(map.get_by(f).copied()),
+        Call::Remove => Answer::Value(map.remove_by(f)),
+        Call::Write(value) => Answer::Value(write(map, f, value)),
+    }
+}
+
+// A call by a closure that compares with half of a key.
+fn call_by_half<S: StoreMut<u32, u8>>(map: &mut Numbered<S>, half: u32, call: Call) -> Answer {
     let _rises = map.len();
-    let slot = map.get_mut_by(|key| (*key / 2).cmp(&half))?;
-    let old = *slot;
-    *slot = value;
-    Some(old)
+    call_by(map, |key| (*key / 2).cmp(&half), call)
+}
+
+const THREE: &[(u32, u8)] = &[(1, b'a'), (4, b'd'), (6, b'f')];
+
+const FOUR: &[(u32, u8)] = &[(1, b'a'), (2, b'b'), (3, b'c'), (4, b'd')];
+
+// The pairs of a map, a call with the half that it looks for, the two answers that it may give, and the pairs
+// after it.
+type Row = (
+    &'static [(u32, u8)],
+    Call,
+    u32,
+    [Answer; 2],
+    &'static [(u32, u8)],
+);
+
+// One of the two keys of four whose half is 1 is found.
+const ROWS: &[Row] = &[
+    (FOUR, Call::Find, 0, [Answer::Place(Ok(0)); 2], FOUR),
+    (
+        FOUR,
+        Call::Find,
+        1,
+        [Answer::Place(Ok(1)), Answer::Place(Ok(2))],
+        FOUR,
+    ),
+    (FOUR, Call::Find, 2, [Answer::Place(Ok(3)); 2], FOUR),
+    (FOUR, Call::Find, 3, [Answer::Place(Err(4)); 2], FOUR),
+    (FOUR, Call::Get, 0, [Answer::Value(Some(b'a')); 2], FOUR),
+    (
+        FOUR,
+        Call::Get,
+        1,
+        [Answer::Value(Some(b'b')), Answer::Value(Some(b'c'))],
+        FOUR,
+    ),
+    (FOUR, Call::Get, 2, [Answer::Value(Some(b'd')); 2], FOUR),
+    (FOUR, Call::Get, 3, [Answer::Value(None); 2], FOUR),
+    (
+        THREE,
+        Call::Remove,
+        0,
+        [Answer::Value(Some(b'a')); 2],
+        &[(4, b'd'), (6, b'f')],
+    ),
+    (THREE, Call::Remove, 1, [Answer::Value(None); 2], THREE),
+    (
+        THREE,
+        Call::Remove,
+        2,
+        [Answer::Value(Some(b'd')); 2],
+        &[(1, b'a'), (6, b'f')],
+    ),
+    (
+        THREE,
+        Call::Remove,
+        3,
+        [Answer::Value(Some(b'f')); 2],
+        &[(1, b'a'), (4, b'd')],
+    ),
+    (THREE, Call::Remove, 4, [Answer::Value(None); 2], THREE),
+    (
+        THREE,
+        Call::Write(b'W'),
+        0,
+        [Answer::Value(Some(b'a')); 2],
+        &[(1, b'W'), (4, b'd'), (6, b'f')],
+    ),
+    (THREE, Call::Write(b'W'), 1, [Answer::Value(None); 2], THREE),
+    (
+        THREE,
+        Call::Write(b'W'),
+        2,
+        [Answer::Value(Some(b'd')); 2],
+        &[(1, b'a'), (4, b'W'), (6, b'f')],
+    ),
+    (
+        THREE,
+        Call::Write(b'W'),
+        3,
+        [Answer::Value(Some(b'f')); 2],
+        &[(1, b'a'), (4, b'd'), (6, b'W')],
+    ),
+    (THREE, Call::Write(b'W'), 4, [Answer::Value(None); 2], THREE),
+];
+
+// Each row on a map of its own.
+fn make_each_call<S: StoreMut<u32, u8> + Drop>(rt: &impl Abort, alloc: Global) -> Result<(), Fail> {
+    for (list, call, half, answers, left) in ROWS {
+        let mut map: Numbered<S> = map_of(alloc, list, list.len())?;
+        let answer = call_by_half(&mut map, *half, *call);
+        let now = list_of(alloc, &map)?;
+        assert!(rt;
+            answers.contains(&answer) && now.as_slice() == *left,
+            "{call:?} of {half}: {answer:?}, and {now:?} is left"
+        );
+    }
+    Ok(())
+}
+
+#[test]
+fn a_closure_finds_one_of_the_keys_that_it_calls_equal(rt: HostRuntime) -> Result<(), Fail> {
+    make_each_call::<Vec<(u32, u8)>>(&rt, rt.alloc())?;
+    make_each_call::<FixedRoom<u32, u8>>(&rt, rt.alloc())
 }
 
 fn find_text(map: &Texts, text: &str) -> Result<usize, usize> {
@@ -65,75 +195,4 @@ fn a_text_is_found_among_owned_texts(rt: HostRuntime) -> Result<(), Fail> {
         assert_eq!(rt; find_text(&map, text), found, "of {text}");
     }
     Ok(())
-}
-
-// One of the two keys whose half is 1 is found.
-fn any_of_the_equal_ones<S: StoreMut<u32, u8> + Drop>(
-    rt: &impl Abort,
-    alloc: Global,
-) -> Result<(), Fail> {
-    let list = [(1, b'a'), (2, b'b'), (3, b'c'), (4, b'd')];
-    let map: Numbered<S> = map_of(alloc, &list, 4)?;
-    for (half, found, other, value, other_value) in [
-        (0, Ok(0), Ok(0), Some(b'a'), Some(b'a')),
-        (1, Ok(1), Ok(2), Some(b'b'), Some(b'c')),
-        (2, Ok(3), Ok(3), Some(b'd'), Some(b'd')),
-        (3, Err(4), Err(4), None, None),
-    ] {
-        let place = find_half(&map, half);
-        assert!(rt; place == found || place == other, "of {half}");
-        let got = get_half(&map, half);
-        assert!(rt; got == value || got == other_value, "of {half}");
-    }
-    Ok(())
-}
-
-type Row = (u32, Option<u8>, &'static [(u32, u8)]);
-
-const REMOVED: &[Row] = &[
-    (0, Some(b'a'), &[(4, b'd'), (6, b'f')]),
-    (1, None, &[(1, b'a'), (4, b'd'), (6, b'f')]),
-    (2, Some(b'd'), &[(1, b'a'), (6, b'f')]),
-    (3, Some(b'f'), &[(1, b'a'), (4, b'd')]),
-    (4, None, &[(1, b'a'), (4, b'd'), (6, b'f')]),
-];
-
-const WRITTEN: &[Row] = &[
-    (0, Some(b'a'), &[(1, b'W'), (4, b'd'), (6, b'f')]),
-    (1, None, &[(1, b'a'), (4, b'd'), (6, b'f')]),
-    (2, Some(b'd'), &[(1, b'a'), (4, b'W'), (6, b'f')]),
-    (3, Some(b'f'), &[(1, b'a'), (4, b'd'), (6, b'W')]),
-    (4, None, &[(1, b'a'), (4, b'd'), (6, b'f')]),
-];
-
-// Each row on a map of its own: what goes, or is written, and what the map is then.
-fn change_by_half<S: StoreMut<u32, u8> + Drop>(
-    rt: &impl Abort,
-    alloc: Global,
-    rows: &[Row],
-    removes: bool,
-) -> Result<(), Fail> {
-    for (half, old, list) in rows {
-        let mut map: Numbered<S> = map_of(alloc, &[(1, b'a'), (4, b'd'), (6, b'f')], 3)?;
-        let answer = if removes {
-            remove_half(&mut map, *half)
-        } else {
-            write_half(&mut map, *half, b'W')
-        };
-        let left = list_of(alloc, &map)?;
-        assert_eq!(rt; (answer, left.as_slice()), (*old, *list), "of {half}");
-    }
-    Ok(())
-}
-
-fn call_by_half<S: StoreMut<u32, u8> + Drop>(rt: &impl Abort, alloc: Global) -> Result<(), Fail> {
-    any_of_the_equal_ones::<S>(rt, alloc)?;
-    change_by_half::<S>(rt, alloc, REMOVED, true)?;
-    change_by_half::<S>(rt, alloc, WRITTEN, false)
-}
-
-#[test]
-fn a_closure_finds_one_of_the_keys_that_it_calls_equal(rt: HostRuntime) -> Result<(), Fail> {
-    call_by_half::<Vec<(u32, u8)>>(&rt, rt.alloc())?;
-    call_by_half::<FixedRoom<u32, u8>>(&rt, rt.alloc())
 }

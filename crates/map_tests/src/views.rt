@@ -4,6 +4,7 @@ use litemap::store::SliceStore;
 use std::alloc::Global;
 use std::process::Abort;
 use std::test::Fail;
+use test_support::lists::map_of;
 
 type Names = LiteMap<u32, &'static str, Vec<(u32, &'static str)>>;
 
@@ -11,20 +12,22 @@ type Part<'a> = LiteMap<u32, &'static str, SliceStore<'a, u32, &'static str>>;
 
 const NAMES: [(u32, &str); 3] = [(1, "one"), (2, "two"), (3, "three")];
 
+const FROM_THE_LAST_ON: [(u32, &str); 3] = [(3, "three"), (2, "two"), (1, "one")];
+
 // The map of the first names, which are put in from the last on.
 fn names(alloc: Global, count: usize) -> Result<Names, Fail> {
-    let mut map = LiteMap::new_vec(alloc);
-    for (number, name) in NAMES.iter().take(count).rev() {
-        map.insert(*number, *name)?;
-    }
-    Ok(map)
+    Ok(map_of(
+        alloc,
+        &FROM_THE_LAST_ON[3_usize.saturating_sub(count)..],
+        count,
+    )?)
 }
 
-// Asserts that a part has these names, or that there is no part.
-fn assert_part(rt: &impl Abort, part: Option<Part<'_>>, names: Option<&[(u32, &str)]>) {
+// Whether a part has these names, or there is neither.
+fn is_part(part: Option<Part<'_>>, names: Option<&[(u32, &str)]>) -> bool {
     match part {
-        Some(part) => assert_eq!(rt; Some(part.as_slice()), names),
-        None => assert!(rt; names.is_none(), "there should be {names:?}"),
+        Some(part) => Some(part.as_slice()) == names,
+        None => names.is_none(),
     }
 }
 
@@ -32,17 +35,29 @@ fn assert_part(rt: &impl Abort, part: Option<Part<'_>>, names: Option<&[(u32, &s
 fn assert_parts(rt: &impl Abort, map: &Part<'_>, names: &[(u32, &str)]) {
     for start in 0..5 {
         for end in 0..5 {
-            assert_part(rt, map.get_indexed_range(start..end), names.get(start..end));
+            assert!(rt;
+                is_part(map.get_indexed_range(start..end), names.get(start..end)),
+                "{start}..{end} of {names:?}"
+            );
         }
     }
 }
 
+// A range within a map is a map, and one that runs backwards or past the end is none.
 #[test]
 fn a_range_of_places_is_a_map(rt: HostRuntime) -> Result<(), Fail> {
     let map = names(rt.alloc(), 3)?;
-    for (start, end) in [(0, 0), (0, 3), (1, 2), (1, 3), (3, 3)] {
-        let part = map.get_indexed_range(start..end).ok_or("within")?;
-        assert_parts(&rt, &part, &NAMES[start..end]);
+    for start in 0..6 {
+        for end in 0..6 {
+            let names = NAMES.get(start..end);
+            assert!(rt;
+                is_part(map.get_indexed_range(start..end), names),
+                "{start}..{end}"
+            );
+            if let (Some(part), Some(names)) = (map.get_indexed_range(start..end), names) {
+                assert_parts(&rt, &part, names);
+            }
+        }
     }
     Ok(())
 }
@@ -54,23 +69,14 @@ fn a_part_is_searched_in_its_own_places(rt: HostRuntime) -> Result<(), Fail> {
     for (key, place, name) in [
         (0, Err(0), None),
         (1, Err(0), None),
-        (2, Ok(0), Some("two")),
-        (3, Ok(1), Some("three")),
+        (2, Ok(0), Some(&"two")),
+        (3, Ok(1), Some(&"three")),
         (4, Err(2), None),
     ] {
-        assert_eq!(rt; part.find_index(&key), place, "of {key}");
-        assert_eq!(rt; part.get(&key).copied(), name, "of {key}");
-    }
-    Ok(())
-}
-
-#[test]
-fn a_range_that_runs_backwards_or_past_the_end_is_none(rt: HostRuntime) -> Result<(), Fail> {
-    let map = names(rt.alloc(), 3)?;
-    for (start, end) in [(5, 5), (2, 1), (0, 4), (4, 3), (4, 4), (3, 4)] {
-        assert!(rt;
-            map.get_indexed_range(start..end).is_none(),
-            "{start}..{end}"
+        assert_eq!(rt;
+            (part.find_index(&key), part.get(&key)),
+            (place, name),
+            "of {key}"
         );
     }
     Ok(())
@@ -80,12 +86,11 @@ fn a_range_that_runs_backwards_or_past_the_end_is_none(rt: HostRuntime) -> Resul
 fn all_pairs_are_lent_as_a_map_and_as_a_slice(rt: HostRuntime) -> Result<(), Fail> {
     for count in 0..4 {
         let map = names(rt.alloc(), count)?;
+        let names = &NAMES[..count];
         let borrowed = map.as_sliced();
-        assert_eq!(rt; borrowed.len(), count);
-        assert_eq!(rt; borrowed.as_slice(), &NAMES[..count]);
-        assert_eq!(rt; map.as_slice(), &NAMES[..count]);
-        let pairs = map.into_tuple_vec();
-        assert_eq!(rt; pairs.as_slice(), &NAMES[..count]);
+        let is_lent = borrowed.as_slice() == names && map.as_slice() == names;
+        assert!(rt; is_lent && borrowed.len() == count, "{count}");
+        assert!(rt; map.into_tuple_vec().as_slice() == names, "{count}");
     }
     Ok(())
 }
@@ -109,12 +114,10 @@ fn a_store_is_sorted_where_its_keys_rise_strictly(rt: HostRuntime) {
 
 #[test]
 fn a_map_over_a_sorted_vector_can_grow(rt: HostRuntime) -> Result<(), Fail> {
-    let pairs = vec![in rt.alloc(); (1u32, "one"), (3, "three")]?;
-    if LiteMap::is_sorted_store(&pairs) {
-        let mut map: Names = LiteMap::from_sorted_store_unchecked(pairs);
-        assert_eq!(rt; map.insert(2, "two")?, None);
-        assert_eq!(rt; map.as_slice(), NAMES.as_slice());
-        return Ok(());
-    }
-    Err("the keys rise")?
+    let pairs = [(1, "one"), (3, "three")].to_vec(rt.alloc())?;
+    assert!(rt; LiteMap::is_sorted_store(&pairs));
+    let mut map: Names = LiteMap::from_sorted_store_unchecked(pairs);
+    let is_placed = matches!(map.insert(2, "two"), Ok(None));
+    assert!(rt; is_placed && map.as_slice() == NAMES.as_slice());
+    Ok(())
 }

@@ -1,5 +1,5 @@
 //! What answers each line, and the exit status.
-use crate::fakes::{LINES, WRITTEN};
+use crate::fakes::LINES;
 use names::{Watch, run};
 use std::alloc::Global;
 use std::test::Fail;
@@ -48,8 +48,10 @@ fn lines_and_their_answers(rt: HostRuntime) -> Result<(), Fail> {
     ];
     for (input, status, out) in runs {
         let (found, text) = status_and_out(rt.alloc(), input);
-        assert_eq!(rt; found, status);
-        assert_eq!(rt; text.as_slice(), out);
+        assert!(rt;
+            found == status && text.as_slice() == out,
+            "{input:?} ends with {found}"
+        );
     }
     Ok(())
 }
@@ -88,8 +90,8 @@ fn bad_lines(rt: HostRuntime) -> Result<(), Fail> {
     ];
     for line in lines {
         let (status, text) = status_and_out(rt.alloc(), line);
-        assert_eq!(rt; status, 2);
-        assert_eq!(rt; text.as_slice(), b"bad line 1\n".as_slice());
+        let is_bad = status == 2 && text.as_slice() == b"bad line 1\n".as_slice();
+        assert!(rt; is_bad, "{line:?} ends with {status}");
     }
     Ok(())
 }
@@ -98,11 +100,9 @@ fn bad_lines(rt: HostRuntime) -> Result<(), Fail> {
 fn input_of_the_greatest_length(rt: HostRuntime) -> Result<(), Fail> {
     let input = vec![in rt.alloc(); b'\n'; 1_048_577]?;
     let (status, text) = status_and_out(rt.alloc(), &input);
-    assert_eq!(rt; status, 2);
-    assert_eq!(rt; text.as_slice(), b"input too long\n".as_slice());
+    assert!(rt; status == 2 && text.as_slice() == b"input too long\n".as_slice());
     let (status, text) = status_and_out(rt.alloc(), &input[1..]);
-    assert_eq!(rt; status, 0);
-    assert_eq!(rt; text.as_slice(), b"".as_slice());
+    assert!(rt; status == 0 && text.is_empty());
     Ok(())
 }
 
@@ -120,38 +120,7 @@ fn many_names_are_new(rt: HostRuntime) -> Result<(), Fail> {
         push_put(rt.alloc(), &mut input, key)?;
     }
     let (status, text) = status_and_out(rt.alloc(), &input);
-    assert_eq!(rt; status, 0);
-    assert_eq!(rt; text.len(), 4 * 201);
+    assert!(rt; status == 0 && text.len() == 4 * 201);
     assert!(rt; text.chunks(4).all(|line| line == b"new\n".as_slice()));
-    Ok(())
-}
-
-// Whether the space holds the text, then the last line, then nothing.
-fn holds(space: &[u8], text: &[u8], last: &[u8]) -> bool {
-    let Some(rest) = space.strip_prefix(text) else {
-        return false;
-    };
-    let Some(rest) = rest.strip_prefix(last) else {
-        return false;
-    };
-    rest.iter().all(|b| *b == 0)
-}
-
-// Where `rt try --test --fail-alloc N` refuses a request for memory, the answers of the lines before it stand.
-#[test]
-fn memory_is_there_or_refused(rt: HostRuntime) -> Result<(), Fail> {
-    let mut space = [0u8; 64];
-    let mut reader = Watch::new(LINES);
-    let mut writer = Watch::new(space.as_mut_slice());
-    let status = run(rt.alloc(), &mut reader, &mut writer);
-    assert!(rt; !reader.failed && !writer.failed);
-    let is_told = match status {
-        0 => holds(&space, WRITTEN[5], b""),
-        3 => WRITTEN
-            .iter()
-            .any(|text| holds(&space, text, b"no memory\n")),
-        _ => false,
-    };
-    assert!(rt; is_told);
     Ok(())
 }

@@ -18,9 +18,11 @@ fn each_read_fails(rt: HostRuntime) -> Result<(), Fail> {
                 reads: if fails { at + 1 } else { 4 },
                 writes: if fails { 1 } else { 0 },
             };
-            assert_eq!(rt; ran, wanted);
             let text: &[u8] = if fails { b"read fault\n" } else { b"" };
-            assert_eq!(rt; out.as_slice(), text);
+            assert!(rt;
+                ran == wanted && out.as_slice() == text,
+                "read {at}: {ran:?}"
+            );
         }
     }
     Ok(())
@@ -41,8 +43,10 @@ fn each_write_fails(rt: HostRuntime) -> Result<(), Fail> {
                 reads: 2,
                 writes: if fails { at + 1 } else { 5 },
             };
-            assert_eq!(rt; ran, wanted);
-            assert_eq!(rt; out.as_slice(), text);
+            assert!(rt;
+                ran == wanted && out.as_slice() == text,
+                "write {at}: {ran:?}"
+            );
         }
     }
     Ok(())
@@ -61,9 +65,8 @@ fn each_byte_fails(rt: HostRuntime) -> Result<(), Fail> {
                 reads: 2,
                 writes: if fails { at + 1 } else { 28 },
             };
-            assert_eq!(rt; ran, wanted);
-            assert_eq!(rt; out.len() as u64, at.min(28));
-            assert!(rt; WRITTEN[5].starts_with(&out));
+            let is_front = out.len() as u64 == at.min(28) && WRITTEN[5].starts_with(&out);
+            assert!(rt; ran == wanted && is_front, "byte {at}: {ran:?}");
         }
     }
     Ok(())
@@ -88,8 +91,10 @@ fn last_lines_fail(rt: HostRuntime) -> Result<(), Fail> {
                 reads,
                 writes: 1,
             };
-            assert_eq!(rt; ran, wanted);
-            assert!(rt; out.is_empty());
+            assert!(rt;
+                ran == wanted && out.is_empty(),
+                "read {at} and write 0: {ran:?}"
+            );
         }
     }
     Ok(())
@@ -100,8 +105,8 @@ fn a_writer_takes_nothing(rt: HostRuntime) -> Result<(), Fail> {
     let mut full = [0u8; 2];
     let mut reader = Watch::new(LINES);
     let mut writer = Watch::new(full.as_mut_slice());
-    assert_eq!(rt; run(rt.alloc(), &mut reader, &mut writer), 4);
-    assert!(rt; writer.failed && !reader.failed);
-    assert_eq!(rt; full, *b"ne");
+    let status = run(rt.alloc(), &mut reader, &mut writer);
+    assert!(rt; status == 4 && writer.failed && !reader.failed);
+    assert!(rt; full == *b"ne");
     Ok(())
 }

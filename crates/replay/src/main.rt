@@ -15,7 +15,6 @@ mod calls;
 mod keys;
 mod maps;
 mod scans;
-mod table;
 mod tables;
 mod words;
 

@@ -1,11 +1,29 @@
 //! A map over any store, called as it is.
-use crate::answers::{Asked, Placed, Tried};
-use crate::table::Table;
+use crate::answers::{Answer, Asked, Tried};
+use crate::calls::{Call, Change, Look, Make, Put};
 use litemap::LiteMap;
-use litemap::store::{StoreBulkMut, StoreConstEmpty};
+use litemap::store::{Store, StoreBulkMut, StoreConstEmpty, StoreMut};
 use std::alloc::{AllocError, Global};
 use std::mem;
 use test_support::lists::list_of;
+
+/// Does a call of a map, and gives what answers it.
+pub(crate) fn answer<K, S>(
+    alloc: Global,
+    map: &mut LiteMap<K, u32, S>,
+    call: Call<K>,
+) -> Result<Answer<K>, AllocError>
+where
+    K: Ord + Copy,
+    S: StoreConstEmpty<K, u32> + StoreBulkMut<K, u32> + Drop,
+{
+    match call {
+        Call::Look(look) => answer_look(alloc, map, look),
+        Call::Put(put, key, value) => Ok(answer_put(map, put, key, value)),
+        Call::Change(change) => Ok(answer_change(map, change)),
+        Call::Make(make) => Ok(answer_make(alloc, map, make)),
+    }
+}
 
 // The pair that a map lends.
 fn copied<K: Copy>(pair: Option<(&K, &u32)>) -> Option<(K, u32)> {
@@ -13,152 +31,154 @@ fn copied<K: Copy>(pair: Option<(&K, &u32)>) -> Option<(K, u32)> {
     Some((*key, *value))
 }
 
+fn answer_look<K: Ord + Copy, S: Store<K, u32>>(
+    alloc: Global,
+    map: &LiteMap<K, u32, S>,
+    look: Look<K>,
+) -> Result<Answer<K>, AllocError> {
+    Ok(match look {
+        Look::Len => Answer::Number(map.len()),
+        Look::IsEmpty => Answer::Truth(map.is_empty()),
+        Look::First => Answer::Pair(copied(map.first())),
+        Look::Last => Answer::Pair(copied(map.last())),
+        Look::GetIndexed(index) => Answer::Pair(copied(map.get_indexed(index))),
+        Look::Get(key) => Answer::Value(map.get(&key).copied()),
+        Look::ContainsKey(key) => Answer::Truth(map.contains_key(&key)),
+        Look::FindIndex(key) => Answer::Place(map.find_index(&key)),
+        Look::Index(key) => Answer::There(index(map, key)),
+        Look::List => Answer::List(list_of(alloc, map)?),
+    })
+}
+
+// The value of a key that is there, by `index`.
+fn index<K: Ord + Copy, S: Store<K, u32>>(map: &LiteMap<K, u32, S>, key: K) -> Option<u32> {
+    if map.contains_key(&key) {
+        Some(*map.index(&key))
+    } else {
+        None
+    }
+}
+
+fn answer_put<K: Ord + Copy, S: StoreMut<K, u32>>(
+    map: &mut LiteMap<K, u32, S>,
+    put: Put,
+    key: K,
+    value: u32,
+) -> Answer<K> {
+    match put {
+        Put::Insert => Answer::Old(map.insert(key, value)),
+        Put::TryInsert => Answer::Back(map.try_insert(key, value)),
+        Put::TryAppend => Answer::Back(map.try_append(key, value)),
+        Put::TryGetOrInsert => Answer::Found(try_get_or_insert(map, key, Ok(value))),
+        Put::TryGetOrFail => Answer::Found(try_get_or_insert(map, key, Err(value))),
+        Put::TryFindOrInsert => Answer::FoundPlace(try_find_or_insert(map, key, Ok(value))),
+        Put::TryFindOrFail => Answer::FoundPlace(try_find_or_insert(map, key, Err(value))),
+    }
+}
+
+// `try_get_or_insert`, where the closure answers `made`.
+fn try_get_or_insert<K: Ord + Copy, S: StoreMut<K, u32>>(
+    map: &mut LiteMap<K, u32, S>,
+    key: K,
+    made: Result<u32, u32>,
+) -> Asked<Tried<K, (usize, u32)>> {
+    let mut times = 0u32;
+    let found = map.try_get_or_insert(key, |_| {
+        times = times.wrapping_add(1);
+        made
+    });
+    let outcome = match found {
+        Ok((place, value)) => Ok((place, *value)),
+        Err(fault) => Err(fault),
+    };
+    Asked { outcome, times }
+}
+
+// `try_find_or_insert`, where the closure answers `made`.
+fn try_find_or_insert<K: Ord + Copy, S: StoreMut<K, u32>>(
+    map: &mut LiteMap<K, u32, S>,
+    key: K,
+    made: Result<u32, u32>,
+) -> Asked<Tried<K, usize>> {
+    let mut times = 0u32;
+    let outcome = map.try_find_or_insert(key, |_| {
+        times = times.wrapping_add(1);
+        made
+    });
+    Asked { outcome, times }
+}
+
 // Writes the value that a map lends, and answers the old one.
 fn written(slot: Option<&mut u32>, value: u32) -> Option<u32> {
     Some(mem::replace(slot?, value))
 }
 
-impl<K, S> Table<K> for LiteMap<K, u32, S>
+fn answer_change<K: Ord + Copy, S: StoreBulkMut<K, u32>>(
+    map: &mut LiteMap<K, u32, S>,
+    change: Change<K>,
+) -> Answer<K> {
+    match change {
+        Change::GetMut(key, value) => Answer::Value(written(map.get_mut(&key), value)),
+        Change::IndexMut(key, value) => Answer::There(index_mut(map, key, value)),
+        Change::GetIndexedMut(index, value) => {
+            Answer::Value(written(map.get_indexed_mut(index), value))
+        }
+        Change::Remove(key) => Answer::Value(map.remove(&key)),
+        Change::Retain { divisor, rest } => Answer::Times(retain(map, divisor, rest)),
+        Change::Clear => {
+            map.clear();
+            Answer::Done
+        }
+    }
+}
+
+// Writes the value of a key that is there, by `index_mut`, and answers the old one.
+fn index_mut<K: Ord + Copy, S: StoreMut<K, u32>>(
+    map: &mut LiteMap<K, u32, S>,
+    key: K,
+    value: u32,
+) -> Option<u32> {
+    if !map.contains_key(&key) {
+        return None;
+    }
+    Some(mem::replace(map.index_mut(&key), value))
+}
+
+// Keeps the pairs whose values leave this rest by this divisor, and answers how often the closure was asked.
+fn retain<K: Ord + Copy, S: StoreBulkMut<K, u32>>(
+    map: &mut LiteMap<K, u32, S>,
+    divisor: u32,
+    rest: u32,
+) -> u32 {
+    let mut times = 0u32;
+    map.retain(|_, value| {
+        times = times.wrapping_add(1);
+        value.checked_rem(divisor) == Some(rest)
+    });
+    times
+}
+
+fn answer_make<K, S>(alloc: Global, map: &mut LiteMap<K, u32, S>, make: Make) -> Answer<K>
 where
     K: Ord + Copy,
-    S: StoreConstEmpty<K, u32> + StoreBulkMut<K, u32> + Drop,
+    S: StoreConstEmpty<K, u32> + StoreMut<K, u32> + Drop,
 {
-    fn renew(&mut self, alloc: Global) {
-        *self = LiteMap::new(alloc);
-    }
-
-    fn renew_with_capacity(&mut self, alloc: Global, capacity: usize) -> Result<(), AllocError> {
-        *self = LiteMap::with_capacity(alloc, capacity)?;
-        Ok(())
-    }
-
-    fn reserve(&mut self, additional: usize) -> Result<(), AllocError> {
-        LiteMap::reserve(self, additional)
-    }
-
-    fn len(&self) -> usize {
-        LiteMap::len(self)
-    }
-
-    fn is_empty(&self) -> bool {
-        LiteMap::is_empty(self)
-    }
-
-    fn first(&self) -> Option<(K, u32)> {
-        copied(LiteMap::first(self))
-    }
-
-    fn last(&self) -> Option<(K, u32)> {
-        copied(LiteMap::last(self))
-    }
-
-    fn get_indexed(&self, index: usize) -> Option<(K, u32)> {
-        copied(LiteMap::get_indexed(self, index))
-    }
-
-    fn get(&self, key: K) -> Option<u32> {
-        LiteMap::get(self, &key).copied()
-    }
-
-    fn contains_key(&self, key: K) -> bool {
-        LiteMap::contains_key(self, &key)
-    }
-
-    fn find_index(&self, key: K) -> Result<usize, usize> {
-        LiteMap::find_index(self, &key)
-    }
-
-    fn index(&self, key: K) -> Option<u32> {
-        if LiteMap::contains_key(self, &key) {
-            Some(*LiteMap::index(self, &key))
-        } else {
-            None
+    match make {
+        Make::New => {
+            *map = LiteMap::new(alloc);
+            Answer::Done
         }
+        Make::WithCapacity(capacity) => Answer::Room(renew_with_capacity(alloc, map, capacity)),
+        Make::Reserve(additional) => Answer::Room(map.reserve(additional)),
     }
+}
 
-    fn insert(&mut self, key: K, value: u32) -> Result<Placed<K, Option<u32>>, AllocError> {
-        Ok(LiteMap::insert(self, key, value))
-    }
-
-    fn try_insert(
-        &mut self,
-        key: K,
-        value: u32,
-    ) -> Result<Placed<K, Option<(K, u32)>>, AllocError> {
-        Ok(LiteMap::try_insert(self, key, value))
-    }
-
-    fn try_append(
-        &mut self,
-        key: K,
-        value: u32,
-    ) -> Result<Placed<K, Option<(K, u32)>>, AllocError> {
-        Ok(LiteMap::try_append(self, key, value))
-    }
-
-    fn try_get_or_insert(
-        &mut self,
-        key: K,
-        made: Result<u32, u32>,
-    ) -> Result<Asked<Tried<K, (usize, u32)>>, AllocError> {
-        let mut times = 0u32;
-        let found = LiteMap::try_get_or_insert(self, key, |_| {
-            times = times.wrapping_add(1);
-            made
-        });
-        let outcome = match found {
-            Ok((place, value)) => Ok((place, *value)),
-            Err(fault) => Err(fault),
-        };
-        Ok(Asked { outcome, times })
-    }
-
-    fn try_find_or_insert(
-        &mut self,
-        key: K,
-        made: Result<u32, u32>,
-    ) -> Result<Asked<Tried<K, usize>>, AllocError> {
-        let mut times = 0u32;
-        let outcome = LiteMap::try_find_or_insert(self, key, |_| {
-            times = times.wrapping_add(1);
-            made
-        });
-        Ok(Asked { outcome, times })
-    }
-
-    fn get_mut(&mut self, key: K, value: u32) -> Result<Option<u32>, AllocError> {
-        Ok(written(LiteMap::get_mut(self, &key), value))
-    }
-
-    fn index_mut(&mut self, key: K, value: u32) -> Result<Option<u32>, AllocError> {
-        if !LiteMap::contains_key(self, &key) {
-            return Ok(None);
-        }
-        Ok(written(Some(LiteMap::index_mut(self, &key)), value))
-    }
-
-    fn get_indexed_mut(&mut self, index: usize, value: u32) -> Result<Option<u32>, AllocError> {
-        Ok(written(LiteMap::get_indexed_mut(self, index), value))
-    }
-
-    fn remove(&mut self, key: K) -> Result<Option<u32>, AllocError> {
-        Ok(LiteMap::remove(self, &key))
-    }
-
-    fn clear(&mut self) {
-        LiteMap::clear(self);
-    }
-
-    fn retain(&mut self, divisor: u32, rest: u32) -> Result<u32, AllocError> {
-        let mut times = 0u32;
-        LiteMap::retain(self, |_, value| {
-            times = times.wrapping_add(1);
-            value.checked_rem(divisor) == Some(rest)
-        });
-        Ok(times)
-    }
-
-    fn list(&self, alloc: Global) -> Result<Vec<(K, u32)>, AllocError> {
-        list_of(alloc, self)
-    }
+// It becomes a fresh one with this much room, or is refused.
+fn renew_with_capacity<K: Ord + Copy, S: StoreMut<K, u32> + Drop>(
+    alloc: Global,
+    map: &mut LiteMap<K, u32, S>,
+    capacity: usize,
+) -> Result<(), AllocError> {
+    *map = LiteMap::with_capacity(alloc, capacity)?;
+    Ok(())
 }

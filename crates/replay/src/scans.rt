@@ -1,6 +1,6 @@
 //! A list that stands in the place of a map, and is changed by slow scans alone.
-use crate::answers::{Asked, Placed, Tried};
-use crate::table::Table;
+use crate::answers::{Answer, Asked, Placed, Tried};
+use crate::calls::{Call, Change, Look, Make, Put};
 use litemap::TryFault;
 use litemap::store::NoRoom;
 use litemap_store::by_scan;
@@ -30,6 +30,105 @@ impl<K: Ord + Copy> Scans<K> {
             alloc,
             pairs: Vec::new(alloc),
             limit: Some(0),
+        }
+    }
+
+    /// Does a call, and gives what answers it.
+    pub(crate) fn answer(&mut self, call: Call<K>) -> Result<Answer<K>, AllocError> {
+        match call {
+            Call::Look(look) => self.answer_look(look),
+            Call::Put(put, key, value) => self.answer_put(put, key, value),
+            Call::Change(change) => self.answer_change(change),
+            Call::Make(make) => Ok(self.answer_make(make)),
+        }
+    }
+
+    fn answer_look(&self, look: Look<K>) -> Result<Answer<K>, AllocError> {
+        Ok(match look {
+            Look::Len => Answer::Number(self.pairs.len()),
+            Look::IsEmpty => Answer::Truth(self.pairs.is_empty()),
+            Look::First => Answer::Pair(self.pairs.first().copied()),
+            Look::Last => Answer::Pair(self.pairs.last().copied()),
+            Look::GetIndexed(index) => Answer::Pair(self.pairs.get(index).copied()),
+            Look::Get(key) => Answer::Value(self.value(key)),
+            Look::ContainsKey(key) => Answer::Truth(self.value(key).is_some()),
+            Look::FindIndex(key) => Answer::Place(by_scan::index_of(&self.pairs, &key)),
+            Look::Index(key) => Answer::There(self.value(key)),
+            Look::List => Answer::List(self.pairs.as_slice().to_vec(self.alloc)?),
+        })
+    }
+
+    fn answer_put(&mut self, put: Put, key: K, value: u32) -> Result<Answer<K>, AllocError> {
+        Ok(match put {
+            Put::Insert => Answer::Old(self.insert(key, value)?),
+            Put::TryInsert => {
+                let is_free = self.value(key).is_none();
+                Answer::Back(self.place_where(is_free, key, value)?)
+            }
+            Put::TryAppend => {
+                let is_above = by_scan::place(&self.pairs, &key) == self.pairs.len();
+                Answer::Back(self.place_where(is_above, key, value)?)
+            }
+            Put::TryGetOrInsert => Answer::Found(self.try_get_or_insert(key, Ok(value))?),
+            Put::TryGetOrFail => Answer::Found(self.try_get_or_insert(key, Err(value))?),
+            Put::TryFindOrInsert => Answer::FoundPlace(self.try_find_or_insert(key, Ok(value))?),
+            Put::TryFindOrFail => Answer::FoundPlace(self.try_find_or_insert(key, Err(value))?),
+        })
+    }
+
+    fn answer_change(&mut self, change: Change<K>) -> Result<Answer<K>, AllocError> {
+        Ok(match change {
+            Change::GetMut(key, value) => Answer::Value(self.write(key, value)?),
+            Change::IndexMut(key, value) => Answer::There(self.write(key, value)?),
+            Change::GetIndexedMut(index, value) => match self.pairs.get(index).copied() {
+                Some((key, _)) => Answer::Value(self.write(key, value)?),
+                None => Answer::Value(None),
+            },
+            Change::Remove(key) => {
+                let old = self.value(key);
+                self.cut(key)?;
+                Answer::Value(old)
+            }
+            Change::Retain { divisor, rest } => Answer::Times(self.retain(divisor, rest)?),
+            Change::Clear => {
+                self.pairs = Vec::new(self.alloc);
+                Answer::Done
+            }
+        })
+    }
+
+    fn answer_make(&mut self, make: Make) -> Answer<K> {
+        match make {
+            Make::New => {
+                self.pairs = Vec::new(self.alloc);
+                self.set_limit(0);
+                Answer::Done
+            }
+            Make::WithCapacity(capacity) => Answer::Room(self.renew_with_capacity(capacity)),
+            Make::Reserve(additional) => Answer::Room(self.reserve(additional)),
+        }
+    }
+
+    // It becomes a fresh one with this much room, or is refused.
+    fn renew_with_capacity(&mut self, capacity: usize) -> Result<(), AllocError> {
+        self.pairs = Vec::with_capacity(self.alloc, capacity)?;
+        self.set_limit(capacity);
+        Ok(())
+    }
+
+    // Sets the limit, where there is one.
+    fn set_limit(&mut self, limit: usize) {
+        if self.limit.is_some() {
+            self.limit = Some(limit);
+        }
+    }
+
+    fn reserve(&mut self, additional: usize) -> Result<(), AllocError> {
+        self.pairs.reserve(additional)?;
+        if self.has_room(additional) {
+            Ok(())
+        } else {
+            Err(AllocError)
         }
     }
 
@@ -75,64 +174,6 @@ impl<K: Ord + Copy> Scans<K> {
         }
         Ok(old)
     }
-}
-
-impl<K: Ord + Copy> Table<K> for Scans<K> {
-    fn renew(&mut self, alloc: Global) {
-        self.pairs = Vec::new(alloc);
-        self.limit = self.limit.map(|_| 0);
-    }
-
-    fn renew_with_capacity(&mut self, alloc: Global, capacity: usize) -> Result<(), AllocError> {
-        self.pairs = Vec::with_capacity(alloc, capacity)?;
-        self.limit = self.limit.map(|_| capacity);
-        Ok(())
-    }
-
-    fn reserve(&mut self, additional: usize) -> Result<(), AllocError> {
-        self.pairs.reserve(additional)?;
-        if self.has_room(additional) {
-            Ok(())
-        } else {
-            Err(AllocError)
-        }
-    }
-
-    fn len(&self) -> usize {
-        self.pairs.len()
-    }
-
-    fn is_empty(&self) -> bool {
-        self.pairs.is_empty()
-    }
-
-    fn first(&self) -> Option<(K, u32)> {
-        self.pairs.first().copied()
-    }
-
-    fn last(&self) -> Option<(K, u32)> {
-        self.pairs.last().copied()
-    }
-
-    fn get_indexed(&self, index: usize) -> Option<(K, u32)> {
-        self.pairs.get(index).copied()
-    }
-
-    fn get(&self, key: K) -> Option<u32> {
-        self.value(key)
-    }
-
-    fn contains_key(&self, key: K) -> bool {
-        self.value(key).is_some()
-    }
-
-    fn find_index(&self, key: K) -> Result<usize, usize> {
-        by_scan::index_of(&self.pairs, &key)
-    }
-
-    fn index(&self, key: K) -> Option<u32> {
-        self.value(key)
-    }
 
     fn insert(&mut self, key: K, value: u32) -> Result<Placed<K, Option<u32>>, AllocError> {
         match self.write(key, value)? {
@@ -141,29 +182,21 @@ impl<K: Ord + Copy> Table<K> for Scans<K> {
         }
     }
 
-    fn try_insert(
+    // Places a pair whose key is absent, where this says so, else hands it back.
+    fn place_where(
         &mut self,
+        is_placed: bool,
         key: K,
         value: u32,
     ) -> Result<Placed<K, Option<(K, u32)>>, AllocError> {
-        match self.value(key) {
-            Some(_) => Ok(Ok(Some((key, value)))),
-            None => Ok(self.place(key, value)?.map(|()| None)),
-        }
-    }
-
-    fn try_append(
-        &mut self,
-        key: K,
-        value: u32,
-    ) -> Result<Placed<K, Option<(K, u32)>>, AllocError> {
-        if by_scan::place(&self.pairs, &key) == self.pairs.len() {
+        if is_placed {
             Ok(self.place(key, value)?.map(|()| None))
         } else {
             Ok(Ok(Some((key, value))))
         }
     }
 
+    // `try_get_or_insert`, where the closure answers `made`.
     fn try_get_or_insert(
         &mut self,
         key: K,
@@ -184,6 +217,7 @@ impl<K: Ord + Copy> Table<K> for Scans<K> {
         Ok(Asked { outcome, times: 1 })
     }
 
+    // `try_find_or_insert`, where the closure answers `made`.
     fn try_find_or_insert(
         &mut self,
         key: K,
@@ -194,43 +228,15 @@ impl<K: Ord + Copy> Table<K> for Scans<K> {
         Ok(Asked { outcome, times })
     }
 
-    fn get_mut(&mut self, key: K, value: u32) -> Result<Option<u32>, AllocError> {
-        self.write(key, value)
-    }
-
-    fn index_mut(&mut self, key: K, value: u32) -> Result<Option<u32>, AllocError> {
-        self.write(key, value)
-    }
-
-    fn get_indexed_mut(&mut self, index: usize, value: u32) -> Result<Option<u32>, AllocError> {
-        match self.pairs.get(index).copied() {
-            Some((key, _)) => self.write(key, value),
-            None => Ok(None),
-        }
-    }
-
-    fn remove(&mut self, key: K) -> Result<Option<u32>, AllocError> {
-        let old = self.value(key);
-        self.cut(key)?;
-        Ok(old)
-    }
-
-    fn clear(&mut self) {
-        self.pairs = Vec::new(self.alloc);
-    }
-
+    // Keeps the pairs whose values leave this rest by this divisor, and answers how many there were.
     fn retain(&mut self, divisor: u32, rest: u32) -> Result<u32, AllocError> {
         let mut times = 0u32;
-        for (key, value) in self.list(self.alloc)? {
+        for (key, value) in self.pairs.as_slice().to_vec(self.alloc)? {
             times = times.wrapping_add(1);
             if value.checked_rem(divisor) != Some(rest) {
                 self.cut(key)?;
             }
         }
         Ok(times)
-    }
-
-    fn list(&self, alloc: Global) -> Result<Vec<(K, u32)>, AllocError> {
-        self.pairs.as_slice().to_vec(alloc)
     }
 }

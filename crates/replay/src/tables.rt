@@ -2,8 +2,8 @@
 use crate::answers::Answer;
 use crate::calls::{Call, parse};
 use crate::keys::Key;
+use crate::maps;
 use crate::scans::Scans;
-use crate::table::answer;
 use crate::words::FromWord;
 use litemap::LiteMap;
 use std::alloc::{AllocError, Global};
@@ -46,10 +46,10 @@ impl<K: Key> Stores<K> {
         call: Call<K>,
     ) -> Option<Result<Answer<K>, AllocError>> {
         match store {
-            "vec" => Some(answer(alloc, &mut self.vec, call)),
-            "fixed" => Some(answer(alloc, &mut self.fixed, call)),
-            "scan" => Some(answer(alloc, &mut self.scan, call)),
-            "scan_fixed" => Some(answer(alloc, &mut self.scan_fixed, call)),
+            "vec" => Some(maps::answer(alloc, &mut self.vec, call)),
+            "fixed" => Some(maps::answer(alloc, &mut self.fixed, call)),
+            "scan" => Some(self.scan.answer(call)),
+            "scan_fixed" => Some(self.scan_fixed.answer(call)),
             _ => None,
         }
     }

@@ -43,9 +43,8 @@ fn a_map_over_a_full_vector_takes_more_room(rt: HostRuntime) -> Result<(), Fail>
         let mut map = LiteMap::from_sorted_store_unchecked(pairs);
         map.reserve(room)?;
         let pairs = map.into_tuple_vec();
-        assert_eq!(rt; pairs.len(), capacity);
         assert!(rt;
-            pairs.capacity() - pairs.len() >= room,
+            pairs.len() == capacity && pairs.capacity() - pairs.len() >= room,
             "{room} more than {len}"
         );
     }

@@ -68,15 +68,14 @@ fn try_one<S: StoreMut<u32, u32> + Drop>(
 ) -> Result<(LiteMap<u32, u32, S>, usize), Fail> {
     let mut map: LiteMap<u32, u32, S> = map_of(alloc, list, list.len().wrapping_add(case.spare))?;
     let end = end_of(list, case, grows);
-    assert_eq!(rt;
-        call(&mut map, case),
-        end,
-        "{case:?} on {} pairs",
-        list.len()
-    );
+    let found = call(&mut map, case);
     let left = list_of(alloc, &map)?;
     let expected = list_at_end(alloc, list, case, end)?;
-    assert_eq!(rt; left.as_slice(), expected.as_slice(), "{case:?}");
+    assert!(rt;
+        found == end && left.as_slice() == expected.as_slice(),
+        "{case:?} on {} pairs: {found:?}",
+        list.len()
+    );
     Ok((map, expected.len()))
 }
 

@@ -1,5 +1,5 @@
 //! The calls that change a store, one after the other from tables.
-use crate::looks::assert_pairs;
+use crate::looks::has_pairs;
 use litemap::store::{Store, StoreBulkMut, StoreConstEmpty, StoreMut};
 use std::alloc::Global;
 use std::process::Abort;
@@ -112,8 +112,11 @@ fn make_call<S: StoreBulkMut<u32, u32>>(store: &mut S, call: Call) -> Answer {
 // Each call of a table, with its answer and the pairs after it.
 fn call_each<S: StoreBulkMut<u32, u32>>(rt: &impl Abort, store: &mut S, rows: Rows) {
     for (row, (step, answer, pairs)) in rows.iter().enumerate() {
-        assert_eq!(rt; make_call(store, *step), *answer, "row {row}: {step:?}");
-        assert_pairs(rt, store, pairs);
+        let answered = make_call(store, *step);
+        assert!(rt;
+            answered == *answer && has_pairs(store, pairs),
+            "row {row}, {step:?}: {answered:?}"
+        );
     }
 }
 

@@ -13,39 +13,33 @@ fn pair_at<S: Store<u32, u32>>(store: &S, place: usize) -> Option<(u32, u32)> {
     Some((*key, *value))
 }
 
-// Asserts that the store has these pairs, at their places and at no other.
-pub fn assert_pairs<S: Store<u32, u32>>(rt: &impl Abort, store: &S, pairs: &[(u32, u32)]) {
-    assert_eq!(rt;
-        store.lm_len(),
-        pairs.len(),
-        "where there should be {pairs:?}"
-    );
-    assert_eq!(rt; store.lm_is_empty(), pairs.is_empty(), "with {pairs:?}");
-    assert_eq!(rt;
-        store.lm_last(),
-        pairs.last().map(|(key, value)| (key, value)),
-        "with {pairs:?}"
-    );
+// Whether the store has these pairs, at their places and at no other.
+pub fn has_pairs<S: Store<u32, u32>>(store: &S, pairs: &[(u32, u32)]) -> bool {
     for place in 0..9 {
-        assert_eq!(rt;
-            pair_at(store, place),
-            pairs.get(place).copied(),
-            "at {place} of {pairs:?}"
-        );
+        if pair_at(store, place) != pairs.get(place).copied() {
+            return false;
+        }
     }
+    let last = match store.lm_last() {
+        Some((key, value)) => Some((*key, *value)),
+        None => None,
+    };
+    store.lm_len() == pairs.len()
+        && store.lm_is_empty() == pairs.is_empty()
+        && last == pairs.last().copied()
 }
 
 fn look_when_pushed<S: StoreConstEmpty<u32, u32> + StoreMut<u32, u32> + Drop>(
     rt: &impl Abort,
     alloc: Global,
 ) -> Result<(), Fail> {
-    assert_pairs(rt, &S::lm_empty(alloc), &[]);
+    assert!(rt; has_pairs(&S::lm_empty(alloc), &[]));
     let mut store = S::lm_with_capacity(alloc, 4)?;
     for (place, (key, value)) in PAIRS.iter().enumerate() {
-        assert_pairs(rt, &store, &PAIRS[..place]);
+        assert!(rt; has_pairs(&store, &PAIRS[..place]), "{place} pairs");
         store.lm_push(*key, *value)?;
     }
-    assert_pairs(rt, &store, &PAIRS);
+    assert!(rt; has_pairs(&store, &PAIRS));
     Ok(())
 }
 
@@ -53,11 +47,11 @@ fn look_when_pushed<S: StoreConstEmpty<u32, u32> + StoreMut<u32, u32> + Drop>(
 fn a_store_has_its_pairs_at_their_places(rt: HostRuntime) -> Result<(), Fail> {
     look_when_pushed::<Vec<(u32, u32)>>(&rt, rt.alloc())?;
     look_when_pushed::<FixedRoom<u32, u32>>(&rt, rt.alloc())?;
-    assert_pairs(&rt, &SliceStore::<u32, u32>::lm_empty(rt.alloc()), &[]);
+    assert!(rt; has_pairs(&SliceStore::<u32, u32>::lm_empty(rt.alloc()), &[]));
     for len in 0..5 {
         let store = SliceStore::new(&PAIRS[..len]);
         let copy = store;
-        assert_pairs(&rt, &copy, &PAIRS[..len]);
+        assert!(rt; has_pairs(&copy, &PAIRS[..len]), "{len} pairs");
     }
     Ok(())
 }
@@ -66,9 +60,8 @@ fn a_store_has_its_pairs_at_their_places(rt: HostRuntime) -> Result<(), Fail> {
 fn assert_parts<S: StoreSlice<u32, u32>>(rt: &impl Abort, store: &S) {
     for start in 0..6 {
         for end in 0..6 {
-            assert_eq!(rt;
-                store.lm_get_range(start..end),
-                PAIRS.get(start..end),
+            assert!(rt;
+                store.lm_get_range(start..end) == PAIRS.get(start..end),
                 "{start}..{end}"
             );
         }

@@ -15,15 +15,14 @@ fn scans_tell_where_a_key_stands(rt: HostRuntime) {
         (5, 2, Some(50)),
         (6, 3, None),
     ] {
-        let index = match at {
-            Some(_) => Ok(place),
-            None => Err(place),
+        let (index, pair) = match at {
+            Some(value) => (Ok(place), Some((key, value))),
+            None => (Err(place), None),
         };
-        assert_eq!(rt; by_scan::place(&PAIRS, &key), place, "of {key}");
-        assert_eq!(rt; by_scan::index_of(&PAIRS, &key), index, "of {key}");
-        assert_eq!(rt;
-            by_scan::at(&PAIRS, &key).copied(),
-            at.map(|value| (key, value)),
+        assert!(rt;
+            by_scan::place(&PAIRS, &key) == place
+                && by_scan::index_of(&PAIRS, &key) == index
+                && by_scan::at(&PAIRS, &key).copied() == pair,
             "of {key}"
         );
     }
@@ -73,14 +72,11 @@ const PARTS: &[Row] = &[
 fn scans_part_and_change_a_list(rt: HostRuntime) -> Result<(), Fail> {
     let alloc = rt.alloc();
     for (key, below, above, put, cut) in PARTS {
-        for (list, pairs) in [
-            (by_scan::below(alloc, &PAIRS, key)?, *below),
-            (by_scan::above(alloc, &PAIRS, key)?, *above),
-            (by_scan::put(alloc, &PAIRS, *key, 99)?, *put),
-            (by_scan::cut(alloc, &PAIRS, key)?, *cut),
-        ] {
-            assert_eq!(rt; list.as_slice(), pairs, "of {key}");
-        }
+        let is_parted = by_scan::below(alloc, &PAIRS, key)?.as_slice() == *below
+            && by_scan::above(alloc, &PAIRS, key)?.as_slice() == *above;
+        let is_changed = by_scan::put(alloc, &PAIRS, *key, 99)?.as_slice() == *put
+            && by_scan::cut(alloc, &PAIRS, key)?.as_slice() == *cut;
+        assert!(rt; is_parted && is_changed, "of {key}");
     }
     Ok(())
 }

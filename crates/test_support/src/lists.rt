@@ -1,24 +1,22 @@
 //! A map of a list of pairs, and the list of a map.
-ghost use Rattle.std.specs.Prelude.{◌≡◌, IfOk};
-ghost use Rattle.litemap_store.specs.Pairs.{Rising};
+ghost use Rattle.std.specs.Prelude.{◌≡◌, ◌≤◌, ◌+◌, IfOk, length};
 
 use litemap::LiteMap;
 use litemap::store::{Store, StoreMut};
 use std::alloc::{AllocError, Global};
 
-/// The map of a list of pairs, put in one by one, with room for this many pairs in all.
+/// The map of a list of pairs, put in one by one, made with this much room.
 pub fn map_of<K: Ord + Copy, V: Copy, S: StoreMut<K, V> + Drop>(
     alloc: Global,
     list: &[(K, V)],
     room: usize,
 ) -> Result<LiteMap<K, V, S>, AllocError>
-    ensures { IfOk result (λ m. Rising K.cmp m.pairs) }
+    ensures { IfOk result (λ m. room ≤ m.room + length list.now) }
 {
     let mut map = LiteMap::with_capacity(alloc, room)?;
     for (key, value) in list {
         map.insert(*key, *value)?;
     }
-    let _rises = map.len();
     Ok(map)
 }
 
