@@ -18,7 +18,11 @@ fn pairs<'a>(
     len: u32,
 ) -> Result<Vec<(Counted<'a>, u32)>, Fail> {
     let numbers = (0..len).map(|place| first.wrapping_add(step.wrapping_mul(place)));
-    Ok(numbers.map(|number| (Counted { number, made }, number)).collect(alloc)?)
+    Ok(
+        numbers
+            .map(|number| (Counted { number, made }, number))
+            .collect(alloc)?,
+    )
 }
 
 // Extends a map of the keys 0, 2, 4 and so on, and gives how often keys were compared.
@@ -29,7 +33,11 @@ fn compared<'a, S: StoreBulkMut<Counted<'a>, u32>>(
     new: Vec<(Counted<'a>, u32)>,
 ) -> Result<u32, Fail> {
     let room = (old as usize).wrapping_add(new.len());
-    let mut map: LiteMap<Counted<'a>, u32, S> = map_of(alloc, &pairs(alloc, made, 0, 2, old)?, room)?;
+    let mut map: LiteMap<Counted<'a>, u32, S> = map_of(
+        alloc,
+        &pairs(alloc, made, 0, 2, old)?,
+        room,
+    )?;
     made.set(0);
     map.extend(alloc, new)?;
     Ok(made.get())
@@ -64,7 +72,7 @@ fn extend_each<'a, S: StoreBulkMut<Counted<'a>, u32>>(
         let behind = compared::<S>(alloc, made, *old, pairs(alloc, made, end, 1, *new)?)?;
         assert!(rt; behind <= *new, "{new} behind {old}: {behind}");
         let most = old.wrapping_add(new.wrapping_mul(2));
-        for (first, step) in [(0, 1), (0, 2), (1, 2), (end.wrapping_sub(1), 1)] {
+        for (first, step) in [(0, 1), (0, 2), (1, 2), (end.saturating_sub(1), 1)] {
             let between = compared::<S>(alloc, made, *old, pairs(alloc, made, first, step, *new)?)?;
             assert!(rt; between <= most, "{new} from {first} into {old}: {between}");
         }
@@ -79,7 +87,7 @@ fn rising_pairs_are_put_in_by_as_many_comparisons_as_promised(rt: HostRuntime) -
     extend_each::<FixedRoom<Counted<'_>, u32>>(&rt, rt.alloc(), &made)
 }
 
-fn make_each<'a, S: StoreFromIterable<Counted<'a>, u32>>(
+fn make_each<'a, S: StoreFromIterable<Counted<'a>, u32> + Drop>(
     rt: &impl Abort,
     alloc: Global,
     made: &'a Cell<u32>,

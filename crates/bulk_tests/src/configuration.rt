@@ -19,7 +19,11 @@ fn texts(alloc: Global, pairs: &[(&str, &str)]) -> Result<Vec<(String, String)>,
 fn a_users_setting_wins_and_no_default_is_lost(rt: HostRuntime) -> Result<(), Fail> {
     let alloc = rt.alloc();
     let mut settings = configured(alloc, texts(alloc, DEFAULTS)?, texts(alloc, USER)?)?;
-    override_with(&mut settings, alloc, texts(alloc, &[("log", "on"), ("a", "b")])?)?;
+    override_with(
+        &mut settings,
+        alloc,
+        texts(alloc, &[("log", "on"), ("a", "b")])?,
+    )?;
     for (name, value) in [
         ("a", Some("b")),
         ("host", Some("here")),
@@ -28,7 +32,9 @@ fn a_users_setting_wins_and_no_default_is_lost(rt: HostRuntime) -> Result<(), Fa
         ("user", Some("me")),
         ("none", None),
     ] {
-        let found = settings.get(&name.to_string(alloc)?).map(|value| value.as_str());
+        let found = settings
+            .get(&name.to_string(alloc)?)
+            .map(|value| value.as_str());
         assert_eq!(rt; found, value, "{name}");
     }
     assert_eq!(rt; settings.len(), 5);

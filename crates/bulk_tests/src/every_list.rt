@@ -43,7 +43,11 @@ fn new_pairs(alloc: Global, number: u32) -> Result<Pairs, AllocError> {
         }
         left -= 1;
         let code = CODES[(left % 3) as usize];
-        let code = if place % 2 == 0 { code.to_ascii_uppercase() } else { code };
+        let code = if place % 2 == 0 {
+            code.to_ascii_uppercase()
+        } else {
+            code
+        };
         pairs.push((Letter { code }, place))?;
         left /= 3;
     }
@@ -53,7 +57,10 @@ fn new_pairs(alloc: Global, number: u32) -> Result<Pairs, AllocError> {
 // Whether these are the same pairs, the case of the letters too.
 fn are_same(one: &[(Letter, u32)], other: &[(Letter, u32)]) -> bool {
     one.len() == other.len()
-        && one.iter().zip(other.iter()).all(|(a, b)| a.0.code == b.0.code && a.1 == b.1)
+        && one
+            .iter()
+            .zip(other.iter())
+            .all(|(a, b)| a.0.code == b.0.code && a.1 == b.1)
 }
 
 fn extend_each<S: StoreBulkMut<Letter, u32>>(rt: &impl Abort, alloc: Global) -> Result<(), Fail> {
@@ -65,7 +72,11 @@ fn extend_each<S: StoreBulkMut<Letter, u32>>(rt: &impl Abort, alloc: Global) -> 
         let mut map: LiteMap<Letter, u32, S> = map_of(alloc, &old, 7)?;
         map.extend(alloc, new)?;
         let last = by_scan::last(alloc, &all)?;
-        assert!(rt; are_same(&list_of(alloc, &map)?, &last), "{all:?}, of which {} old", old.len());
+        assert!(rt;
+            are_same(&list_of(alloc, &map)?, &last),
+            "{all:?}, of which {} old",
+            old.len()
+        );
     }
     Ok(())
 }
@@ -76,7 +87,10 @@ fn a_map_is_extended_as_by_the_scan(rt: HostRuntime) -> Result<(), Fail> {
     extend_each::<FixedRoom<Letter, u32>>(&rt, rt.alloc())
 }
 
-fn make_each<S: StoreFromIterable<Letter, u32>>(rt: &impl Abort, alloc: Global) -> Result<(), Fail> {
+fn make_each<S: StoreFromIterable<Letter, u32> + Drop>(
+    rt: &impl Abort,
+    alloc: Global,
+) -> Result<(), Fail> {
     for number in 0..LISTS {
         let new = new_pairs(alloc, number)?;
         let last = by_scan::last(alloc, &new)?;

@@ -43,9 +43,16 @@ fn what_an_iterator_promises_changes_nothing(rt: HostRuntime) -> Result<(), Fail
         let iter = Promises { given: 0, promised };
         let made: LiteMap<u32, u32, Vec<(u32, u32)>> = LiteMap::from_iter(rt.alloc(), iter)?;
         assert_eq!(rt; made.as_slice(), left, "{promised}");
-        let mut map: LiteMap<u32, u32, FixedRoom<u32, u32>> = LiteMap::with_capacity(rt.alloc(), 0)?;
+        let mut map: LiteMap<u32, u32, FixedRoom<u32, u32>> = LiteMap::with_capacity(
+            rt.alloc(),
+            0,
+        )?;
         let is_extended = map.extend(rt.alloc(), iter).is_ok();
-        assert_eq!(rt; (is_extended, map.len()), (left.is_empty(), 0), "{promised}");
+        assert_eq!(rt;
+            (is_extended, map.len()),
+            (left.is_empty(), 0),
+            "{promised}"
+        );
     }
     Ok(())
 }

@@ -6,6 +6,8 @@ mod comparisons;
 #[cfg(test)]
 mod configuration;
 #[cfg(test)]
+mod counts;
+#[cfg(test)]
 mod every_list;
 #[cfg(test)]
 mod hints;

@@ -22,7 +22,11 @@ fn a_refused_extension_leaves_the_map(rt: HostRuntime) -> Result<(), Fail> {
         let extended = map.extend(rt.alloc(), new.iter().copied()).is_ok();
         assert_eq!(rt; extended, is_extended, "{new:?}");
         let left = list_of(rt.alloc(), &map)?;
-        assert_eq!(rt; left.as_slice() == OLD.as_slice(), !is_extended || new.is_empty(), "{new:?}");
+        assert_eq!(rt;
+            left.as_slice() == OLD.as_slice(),
+            !is_extended || new.is_empty(),
+            "{new:?}"
+        );
     }
     Ok(())
 }

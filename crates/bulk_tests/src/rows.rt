@@ -9,37 +9,47 @@ use test_support::fixed_room::FixedRoom;
 use test_support::keys::Letter;
 use test_support::lists::{list_of, map_of};
 
-type Pairs = &'static [(u32, &'static str)];
+type Pairs = &'static [(u32, u8)];
 
 // Old pairs, new pairs, and the pairs that are left.
 const ROWS: &[(Pairs, Pairs, Pairs)] = &[
     (
-        &[(1, "original-one")],
-        &[
-            (2, "original-two"),
-            (4, "original-four"),
-            (4, "updated-four"),
-            (1, "updated-one"),
-            (3, "original-three"),
-        ],
-        &[(1, "updated-one"), (2, "original-two"), (3, "original-three"), (4, "updated-four")],
+        &[(1, b'o')],
+        &[(2, b't'), (4, b'f'), (4, b'F'), (1, b'O'), (3, b'r')],
+        &[(1, b'O'), (2, b't'), (3, b'r'), (4, b'F')],
     ),
-    (&[(1, "a"), (2, "b")], &[], &[(1, "a"), (2, "b")]),
-    (&[(5, "e")], &[(5, "x"), (5, "y")], &[(5, "y")]),
+    (&[(1, b'a'), (2, b'b')], &[], &[(1, b'a'), (2, b'b')]),
+    (&[(5, b'e')], &[(5, b'x'), (5, b'y')], &[(5, b'y')]),
     (
-        &[(1, "a"), (3, "c"), (5, "e")],
-        &[(2, "B"), (3, "C"), (6, "F")],
-        &[(1, "a"), (2, "B"), (3, "C"), (5, "e"), (6, "F")],
+        &[(1, b'a'), (3, b'c'), (5, b'e')],
+        &[(2, b'B'), (3, b'C'), (6, b'F')],
+        &[(1, b'a'), (2, b'B'), (3, b'C'), (5, b'e'), (6, b'F')],
     ),
-    (&[(5, "e")], &[(1, "a"), (2, "b")], &[(1, "a"), (2, "b"), (5, "e")]),
-    (&[(5, "e")], &[(5, "E"), (7, "g")], &[(5, "E"), (7, "g")]),
-    (&[(1, "a"), (2, "b")], &[(3, "c"), (4, "d")], &[(1, "a"), (2, "b"), (3, "c"), (4, "d")]),
-    (&[], &[(2, "b"), (1, "a"), (2, "c")], &[(1, "a"), (2, "c")]),
+    (
+        &[(5, b'e')],
+        &[(1, b'a'), (2, b'b')],
+        &[(1, b'a'), (2, b'b'), (5, b'e')],
+    ),
+    (
+        &[(5, b'e')],
+        &[(5, b'E'), (7, b'g')],
+        &[(5, b'E'), (7, b'g')],
+    ),
+    (
+        &[(1, b'a'), (2, b'b')],
+        &[(3, b'c'), (4, b'd')],
+        &[(1, b'a'), (2, b'b'), (3, b'c'), (4, b'd')],
+    ),
+    (
+        &[],
+        &[(2, b'b'), (1, b'a'), (2, b'c')],
+        &[(1, b'a'), (2, b'c')],
+    ),
 ];
 
-fn extend_each<S: StoreBulkMut<u32, &'static str>>(rt: &impl Abort, alloc: Global) -> Result<(), Fail> {
+fn extend_each<S: StoreBulkMut<u32, u8>>(rt: &impl Abort, alloc: Global) -> Result<(), Fail> {
     for (old, new, left) in ROWS {
-        let mut map: LiteMap<u32, &str, S> = map_of(alloc, old, 9)?;
+        let mut map: LiteMap<u32, u8, S> = map_of(alloc, old, 9)?;
         map.extend(alloc, new.iter().copied())?;
         assert_eq!(rt; list_of(alloc, &map)?.as_slice(), *left);
     }
@@ -48,31 +58,53 @@ fn extend_each<S: StoreBulkMut<u32, &'static str>>(rt: &impl Abort, alloc: Globa
 
 #[test]
 fn the_last_pair_of_each_key_stays(rt: HostRuntime) -> Result<(), Fail> {
-    extend_each::<Vec<(u32, &'static str)>>(&rt, rt.alloc())?;
-    extend_each::<FixedRoom<u32, &'static str>>(&rt, rt.alloc())
+    extend_each::<Vec<(u32, u8)>>(&rt, rt.alloc())?;
+    extend_each::<FixedRoom<u32, u8>>(&rt, rt.alloc())
 }
 
 // Pairs of letters without case, of which one or the other case is kept.
 const LETTERS: &[(&[(u8, u32)], &[(u8, u32)], &[(u8, u32)])] = &[
-    (&[(b'A', 1)], &[(b'a', 2), (b'b', 3)], &[(b'a', 2), (b'b', 3)]),
+    (
+        &[(b'A', 1)],
+        &[(b'a', 2), (b'b', 3)],
+        &[(b'a', 2), (b'b', 3)],
+    ),
     (&[(b'q', 2)], &[(b'q', 3)], &[(b'q', 3)]),
-    (&[(b'A', 1), (b'B', 2)], &[(b'b', 3), (b'a', 4), (b'B', 5)], &[(b'a', 4), (b'B', 5)]),
+    (
+        &[(b'A', 1), (b'B', 2)],
+        &[(b'b', 3), (b'a', 4), (b'B', 5)],
+        &[(b'a', 4), (b'B', 5)],
+    ),
 ];
 
 // The pairs with their letters in place of their codes, or the other way round.
 fn letters(alloc: Global, pairs: &[(u8, u32)]) -> Result<Vec<(Letter, u32)>, Fail> {
-    Ok(pairs.iter().map(|(code, value)| (Letter { code: *code }, *value)).collect(alloc)?)
+    Ok(
+        pairs
+            .iter()
+            .map(|(code, value)| (Letter { code: *code }, *value))
+            .collect(alloc)?,
+    )
 }
 
 fn codes(alloc: Global, pairs: &[(Letter, u32)]) -> Result<Vec<(u8, u32)>, Fail> {
-    Ok(pairs.iter().map(|(letter, value)| (letter.code, *value)).collect(alloc)?)
+    Ok(
+        pairs
+            .iter()
+            .map(|(letter, value)| (letter.code, *value))
+            .collect(alloc)?,
+    )
 }
 
 #[test]
 fn the_key_of_the_last_pair_stays(rt: HostRuntime) -> Result<(), Fail> {
     let alloc = rt.alloc();
     for (old, new, left) in LETTERS {
-        let mut map: LiteMap<Letter, u32, Vec<(Letter, u32)>> = map_of(alloc, &letters(alloc, old)?, 4)?;
+        let mut map: LiteMap<Letter, u32, Vec<(Letter, u32)>> = map_of(
+            alloc,
+            &letters(alloc, old)?,
+            4,
+        )?;
         map.extend(alloc, letters(alloc, new)?)?;
         assert_eq!(rt; codes(alloc, map.as_slice())?.as_slice(), *left);
     }
@@ -81,29 +113,35 @@ fn the_key_of_the_last_pair_stays(rt: HostRuntime) -> Result<(), Fail> {
 
 // Lists that are put in one after the other, and the pairs that are then left.
 const IN_TURN: &[(Pairs, Pairs)] = &[
-    (&[(1, "one"), (3, "three")], &[(1, "one"), (3, "three")]),
-    (&[(2, "TWO"), (4, "FOUR")], &[(1, "one"), (2, "TWO"), (3, "three"), (4, "FOUR")]),
-    (&[(2, "TWO"), (4, "FOUR")], &[(1, "one"), (2, "TWO"), (3, "three"), (4, "FOUR")]),
+    (&[(1, b'o'), (3, b'r')], &[(1, b'o'), (3, b'r')]),
     (
-        &[(4, "four"), (6, "six")],
-        &[(1, "one"), (2, "TWO"), (3, "three"), (4, "four"), (6, "six")],
+        &[(2, b'T'), (4, b'F')],
+        &[(1, b'o'), (2, b'T'), (3, b'r'), (4, b'F')],
     ),
     (
-        &[(1, "one"), (3, "three")],
-        &[(1, "one"), (2, "TWO"), (3, "three"), (4, "four"), (6, "six")],
+        &[(2, b'T'), (4, b'F')],
+        &[(1, b'o'), (2, b'T'), (3, b'r'), (4, b'F')],
     ),
     (
-        &[(4, "four"), (6, "six")],
-        &[(1, "one"), (2, "TWO"), (3, "three"), (4, "four"), (6, "six")],
+        &[(4, b'f'), (6, b's')],
+        &[(1, b'o'), (2, b'T'), (3, b'r'), (4, b'f'), (6, b's')],
     ),
-    (&[], &[(1, "one"), (2, "TWO"), (3, "three"), (4, "four"), (6, "six")]),
+    (
+        &[(1, b'o'), (3, b'r')],
+        &[(1, b'o'), (2, b'T'), (3, b'r'), (4, b'f'), (6, b's')],
+    ),
+    (
+        &[(4, b'f'), (6, b's')],
+        &[(1, b'o'), (2, b'T'), (3, b'r'), (4, b'f'), (6, b's')],
+    ),
+    (
+        &[],
+        &[(1, b'o'), (2, b'T'), (3, b'r'), (4, b'f'), (6, b's')],
+    ),
 ];
 
-fn extend_in_turn<S: StoreBulkMut<u32, &'static str>>(
-    rt: &impl Abort,
-    alloc: Global,
-) -> Result<(), Fail> {
-    let mut map: LiteMap<u32, &str, S> = LiteMap::with_capacity(alloc, 2)?;
+fn extend_in_turn<S: StoreBulkMut<u32, u8>>(rt: &impl Abort, alloc: Global) -> Result<(), Fail> {
+    let mut map: LiteMap<u32, u8, S> = LiteMap::with_capacity(alloc, 2)?;
     for (new, left) in IN_TURN {
         map.extend(alloc, new.iter().copied())?;
         assert_eq!(rt; list_of(alloc, &map)?.as_slice(), *left);
@@ -113,8 +151,8 @@ fn extend_in_turn<S: StoreBulkMut<u32, &'static str>>(
 
 #[test]
 fn a_map_is_extended_again_and_again(rt: HostRuntime) -> Result<(), Fail> {
-    extend_in_turn::<Vec<(u32, &'static str)>>(&rt, rt.alloc())?;
-    extend_in_turn::<FixedRoom<u32, &'static str>>(&rt, rt.alloc())
+    extend_in_turn::<Vec<(u32, u8)>>(&rt, rt.alloc())?;
+    extend_in_turn::<FixedRoom<u32, u8>>(&rt, rt.alloc())
 }
 
 // The pairs of a store.
@@ -128,7 +166,10 @@ fn pairs_of<S: Store<u32, u32>>(alloc: Global, store: &S) -> Result<Vec<(u32, u3
     Ok(pairs)
 }
 
-fn keep_in_order<S: StoreFromIterator<u32, u32>>(rt: &impl Abort, alloc: Global) -> Result<(), Fail> {
+fn keep_in_order<S: StoreFromIterator<u32, u32> + Drop>(
+    rt: &impl Abort,
+    alloc: Global,
+) -> Result<(), Fail> {
     for pairs in [&[(2, 20), (1, 10), (2, 30)], &[(1, 10), (1, 10), (1, 11)]] {
         let store = S::lm_from_pairs(alloc, pairs.iter().copied())?;
         assert_eq!(rt; pairs_of(alloc, &store)?.as_slice(), pairs.as_slice());
@@ -148,7 +189,11 @@ const LENGTHS: [u32; 6] = [19, 20, 21, 40, 41, 1000];
 
 // Keys that come in no order, each three times at least, where there are pairs enough; a value tells the place.
 fn scattered(alloc: Global, len: u32) -> Result<Vec<(u32, u32)>, Fail> {
-    Ok((0..len).map(|place| (place.wrapping_mul(7919) % (len / 3 + 1), place)).collect(alloc)?)
+    Ok(
+        (0..len)
+            .map(|place| (place.wrapping_mul(7919) % (len / 3 + 1), place))
+            .collect(alloc)?,
+    )
 }
 
 fn make_long<S: StoreFromIterable<u32, u32> + StoreBulkMut<u32, u32>>(

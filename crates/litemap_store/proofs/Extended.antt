@@ -1,16 +1,18 @@
 -- What a look-up finds after an extension by a vector of pairs: lemmas for the proofs of callers.
 --     given_by_vec      what a vector gives;  value_at-extended, new_wins, old_stays      what is found after `extend`
---     value_at-collected      what is found after `from_iter`
+--     value_at-collected      what is found after `from_iter`;  cost_behind, cost_rising      how far a count rises
 -- An answer shows `holds` by `λ v it h. h.0`.
-use Rattle.std.proofs.Common.{◌≡◌, List, [], ◌++◌, Option, Some, None, option_map, reverse, ap, ◌∙◌, subst, Vec}
+use Rattle.std.proofs.Common.{◌≡◌, ◌+◌, ◌*◌, List, [], ◌++◌, length, Option, Some, None, option_map, reverse, ap, ◌∙◌, subst, Vec}
 use Rattle.std.proofs.IntoIterSteps.{All-taken}
 use Rattle.std.specs.Cmp.{IsTotalOrder}
 use Rattle.std.specs.Option.{option_or}
 use Rattle.std.specs.Vec.Iter.{into_iter_items, into_iter_steps}
 use Rattle.std.specs.declared.vec.IntoIter.{IntoIter}
 use Rattle.std.specs.declared.cmp.Ordering.{Ordering}
-use Rattle.litemap_store.specs.Bulk.{Gives, IsExtended}
-use Rattle.litemap_store.specs.Last.{Last}
+use Rattle.litemap_store.specs.Bulk.{Gives, IsExtended, IsExtendedCounted}
+use Rattle.litemap_store.specs.Counts.{RisesByAtMost}
+use Rattle.litemap_store.specs.declared.count.Count.{Count}
+use Rattle.litemap_store.specs.Last.{Last, Rises}
 use Rattle.litemap_store.specs.Pairs.{Rising, value_at}
 use Rattle.litemap_store.proofs.LastLookups.{at-Last, value_at-Last_of_more}
 
@@ -37,3 +39,14 @@ module _ {K V Z : Type 0} {cmp : K → K → Ordering} (o : IsTotalOrder cmp) (b
   -- a key finds its last value
   pub value_at-collected : (v : Vec (K × V) Z) (new : List (K × V)) → IsExtended cmp becomes into_iter_steps v [] new → (k : K) → value_at cmp new k ≡ value_at cmp (reverse v.items) k
   value_at-collected v new e k = ap (option_map (λ p. p.1)) (at-Last o v.items new (Last-extended v [] new e) k)
+
+  -- ---- how far the count rises
+  module _ (v : Vec (K × V) Z) (old new : List (K × V)) (before after : Count) (e : IsExtendedCounted cmp becomes into_iter_steps v old new before after) where
+    same : e.extended.given ≡ v.items
+    same = given_by_vec becomes holds v e.extended.given e.extended.gives
+
+    pub cost_behind : Rises cmp old v.items → RisesByAtMost (length v.items) before after
+    cost_behind r = subst (λ J. Rises cmp old J → RisesByAtMost (length J) before after) same e.behind r
+
+    pub cost_rising : Rising cmp v.items → RisesByAtMost (length old + 2 * length v.items) before after
+    cost_rising r = subst (λ J. Rising cmp J → RisesByAtMost (length old + 2 * length J) before after) same e.rising r

@@ -1,5 +1,5 @@
 -- What bulk input leaves: the last pairs of the old ones followed by what an iterator gave.
-use Rattle.std.specs.Prelude.{ℕ, ◌+◌, ◌*◌, List, ◌++◌, Option, length}
+use Rattle.std.specs.Prelude.{◌+◌, ◌*◌, List, ◌++◌, Option, length}
 use Rattle.std.specs.declared.cmp.Ordering.{Ordering}
 use Rattle.std.specs.Iterator.{Drains}
 use Rattle.litemap_store.specs.declared.count.Count.{Count}
@@ -18,11 +18,9 @@ module _ {U T K V : Type 0} (cmp : K → K → Ordering) (becomes : U → T → 
     pub gives : Gives becomes steps iter given
     pub last : Last cmp (old ++ given) new
 
-  -- the same, by that many counted comparisons
+  -- the same, by so many counted comparisons
   pub record IsExtendedCounted (iter : U) (old new : List (K × V)) (before after : Count) : Type 0 where
     pub extended : IsExtended iter old new
-    -- it is the same count, not lowered
-    pub counted : (n : ℕ) × RisesByAtMost n before after
     -- where the new pairs rise past the last old key: one for each new pair
     pub behind : Rises cmp old extended.given → RisesByAtMost (length extended.given) before after
     -- where the new pairs rise, wherever they fall: one for each old and two for each new pair

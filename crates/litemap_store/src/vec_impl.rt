@@ -122,7 +122,8 @@ impl<K: Ord + Drop, V: Drop> StoreFromIterable<K, V> for Vec<(K, V)> {
         iter: I,
         count: &mut Count,
     ) -> Result<Self, AllocError> {
-        last_of(gather(alloc, iter)?, count)
+        let pairs = gather(alloc, iter)?;
+        last_of(pairs, count)
     }
 }
 

@@ -2,6 +2,7 @@
 ghost use Rattle.std.specs.Prelude.{◌≡◌, [], IfOk, OnOk, OnErr};
 ghost use Rattle.std.specs.Iterator.{IsFiniteIterable};
 ghost use Rattle.litemap_store.specs.Bulk.{IsExtended, IsExtendedCounted};
+ghost use Rattle.litemap_store.specs.Counts.{GoesOn};
 
 use crate::LiteMap;
 use litemap_store::store::{Count, StoreBulkMut, StoreFromIterable};
@@ -30,8 +31,9 @@ impl<K: Ord + Drop, V: Drop, S: StoreFromIterable<K, V>> LiteMap<K, V, S> {
         count: &mut Count,
     ) -> Result<Self, AllocError>
         requires { IsFiniteIterable I.into_iter_gives I.IntoIter.can_next I.IntoIter.remaining iter }
-        ensures { IfOk result (λ m. IsExtendedCounted K.cmp I.into_iter_gives I.IntoIter.next_gives
+        ensures made { IfOk result (λ m. IsExtendedCounted K.cmp I.into_iter_gives I.IntoIter.next_gives
             iter [] m.pairs count.old count.new) }
+        ensures counted { GoesOn count.old count.new }
     {
         Ok(LiteMap {
             store: S::lm_sort_from_iter(alloc, iter, count)?,
@@ -70,6 +72,7 @@ impl<K: Ord + Drop, V: Drop, S: StoreBulkMut<K, V>> LiteMap<K, V, S> {
         ensures extended { OnOk result (IsExtendedCounted K.cmp I.into_iter_gives I.IntoIter.next_gives
             iter self.old.pairs self.new.pairs count.old count.new) }
         ensures refused { OnErr result (self.new.pairs ≡ self.old.pairs) }
+        ensures counted { GoesOn count.old count.new }
     {
         self.store.lm_extend(alloc, iter, count)
     }

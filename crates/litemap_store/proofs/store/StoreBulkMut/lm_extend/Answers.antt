@@ -6,7 +6,6 @@ returns-clause-extended g c =
     let put = c.put_pairs.ensures in
     on_ok_weaker c.put_pairs.result (λ last. record {
       extended = record { given = c.in_ok-pairs.pairs.items; gives = c.in_ok-pairs.ensures; last = last };
-      counted = (_, put.cost);
       behind = put.behind;
       rising = λ _. put.cost;
     }) put.last
