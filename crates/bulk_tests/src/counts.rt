@@ -55,8 +55,21 @@ fn counted_calls_answer_as_the_plain_ones(rt: HostRuntime) -> Result<(), Fail> {
     let alloc = rt.alloc();
     let mut count = Count::new();
     let mut map = make_in_a_thousand(alloc, vec![in alloc; (1, 10)]?, &mut count)?;
-    extend_in_two(&mut map, alloc, vec![in alloc; (3, 30), (5, 50)]?, &mut count)?;
-    extend_in_nine(&mut map, alloc, vec![in alloc; (2, 21), (3, 31), (6, 61)]?, &mut count)?;
-    assert_eq!(rt; map.as_slice(), [(1, 10), (2, 21), (3, 31), (5, 50), (6, 61)].as_slice());
+    extend_in_two(
+        &mut map,
+        alloc,
+        vec![in alloc; (3, 30), (5, 50)]?,
+        &mut count,
+    )?;
+    extend_in_nine(
+        &mut map,
+        alloc,
+        vec![in alloc; (2, 21), (3, 31), (6, 61)]?,
+        &mut count,
+    )?;
+    assert_eq!(rt;
+        map.as_slice(),
+        [(1, 10), (2, 21), (3, 31), (5, 50), (6, 61)].as_slice()
+    );
     Ok(())
 }

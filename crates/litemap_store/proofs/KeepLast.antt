@@ -36,9 +36,9 @@ In-take (suc i) (y ∷ L) x (inr h) = let r = In-take i L x h in (suc r.0, (let 
 pub last_cases : {X : Type 0} (L : List X) → (L ≡ []) ⊎ ((N : List X) × (q : X) × (L ≡ N ++ q ∷ []))
 last_cases [] = inl refl
 last_cases (x ∷ L) = inr (elim (last_cases L) [
-    | inl e ↦ ([], x, ap (λ M. x ∷ M) e)
-    | inr h ↦ (x ∷ h.0, h.1, ap (λ M. x ∷ M) h.2)
-  ])
+  | inl e ↦ ([], x, ap (λ M. x ∷ M) e)
+  | inr h ↦ (x ∷ h.0, h.1, ap (λ M. x ∷ M) h.2)
+])
 
 -- ---- a swap that brings the element at i down to k
 pub take-swap : {X : Type 0} (xs : List X) (k i : ℕ) (d : X) → k ≤ i → i < length xs → take (k + 1) (swap xs k i) ≡ take k xs ++ get_or xs i d ∷ []
@@ -98,9 +98,10 @@ module _ {K : Type 0} (cmp : K → K → Ordering) (o : IsTotalOrder cmp) where
   pub last_by_stable : {V : Type 0} (J S : List (K × V)) → IsStableBy (λ (x y : K × V). is_lt (cmp x.0 y.0)) J S → (p : K × V) → StandsLast cmp p S ↔ StandsLast cmp p J
   last_by_stable {V} J S stable p =
       let t : K × V → Bool = ties (λ (x y : K × V). is_lt (cmp x.0 y.0)) p in
-      let e : filter t S ≡ filter t J = stable p in
-      (λ h. StandsLast-from_filter t p J (tie p) (subst (StandsLast cmp p) e (StandsLast-filter t p S (tie p) h)),
-        λ h. StandsLast-from_filter t p S (tie p) (subst (StandsLast cmp p) (sym e) (StandsLast-filter t p J (tie p) h)))
+      let e : filter t S ≡ filter t J = stable p in (
+        λ h. StandsLast-from_filter t p J (tie p) (subst (StandsLast cmp p) e (StandsLast-filter t p S (tie p) h)),
+        λ h. StandsLast-from_filter t p S (tie p) (subst (StandsLast cmp p) (sym e) (StandsLast-filter t p J (tie p) h)),
+      )
 
   less_of : (a b : K) (r : Ordering) → cmp a b ≡ r → r ≢ Equal → is_lt (cmp b a) ≡ false → cmp a b ≡ Less
   less_of a b Less e n l = e
@@ -121,10 +122,10 @@ module _ {K : Type 0} (cmp : K → K → Ordering) (o : IsTotalOrder cmp) where
         let less : (x : K × V) → In x N → cmp x.0 p.0 ≡ Less = λ x i. sym (alike_right o q.0 p.0 x.0 same) ∙ rising_across cmp N (q ∷ []) r x q i (inl refl) in
         let a : below cmp (N ++ q ∷ []) p.0 ≡ N = filter-append (λ (x : K × V). is_lt (cmp x.0 p.0)) N (q ∷ []) ∙ rw (filter_all (λ (x : K × V). is_lt (cmp x.0 p.0)) N (λ x i. ap is_lt (less x i)), same) (append-nil N) in
         let b : above cmp (N ++ q ∷ []) p.0 ≡ [] = filter_none (λ (x : K × V). is_gt (cmp x.0 p.0)) (N ++ q ∷ []) (λ x i. elim (In-cases N (q ∷ []) x i) [
-            | inl j ↦ ap is_gt (less x j)
-            | inr (inl f) ↦ ap is_gt (subst (λ (y : K × V). cmp y.0 p.0 ≡ Equal) f same)
-            | inr (inr j) ↦ absurd j
-          ]) in
+          | inl j ↦ ap is_gt (less x j)
+          | inr (inl f) ↦ ap is_gt (subst (λ (y : K × V). cmp y.0 p.0 ≡ Equal) f same)
+          | inr (inr j) ↦ absurd j
+        ]) in
         rw (e, a, b) at (Last-put cmp o J M last p)
 
   -- ---- the pass
@@ -165,10 +166,10 @@ module _ {K : Type 0} (cmp : K → K → Ordering) (o : IsTotalOrder cmp) where
         let first : cmp q.0 p.0 ≡ Less = less_of q.0 p.0 (cmp q.0 p.0) refl differ not_less in
         let r : Rising cmp (take k xs ++ q ∷ []) = subst (Rising cmp) t kept.last.rising in
         let all : (x : K × V) → In x (take (k + 1) xs) → cmp x.0 p.0 ≡ Less = λ x i. elim (In-cases (take k xs) (q ∷ []) x (subst (In x) t i)) [
-            | inl j ↦ o.trans x.0 q.0 p.0 (rising_across cmp (take k xs) (q ∷ []) r x q j (inl refl)) first
-            | inr (inl e) ↦ subst (λ (y : K × V). cmp y.0 p.0 ≡ Less) e first
-            | inr (inr j) ↦ absurd j
-          ] in
+          | inl j ↦ o.trans x.0 q.0 p.0 (rising_across cmp (take k xs) (q ∷ []) r x q j (inl refl)) first
+          | inr (inl e) ↦ subst (λ (y : K × V). cmp y.0 p.0 ≡ Less) e first
+          | inr (inr j) ↦ absurd j
+        ] in
         let h = Last-push (take i S) (take (k + 1) xs) kept.last p all in
         let f : take (i + 1) S ≡ take i S ++ p ∷ [] = take_more S i d within ∙ ap (λ (x : K × V). take i S ++ x ∷ []) (sym next_same.0) in
         record {

@@ -160,13 +160,16 @@ module _ {K : Type 0} (cmp : K → K → Ordering) (o : IsTotalOrder cmp) where
   Last-join {V} J₁ J₂ M₁ M a b = Last-same (M₁ ++ J₂) (J₁ ++ J₂) M same b
     where
       same : (p : K × V) → StandsLast cmp p (M₁ ++ J₂) ↔ StandsLast cmp p (J₁ ++ J₂)
-      same p = (λ i. elim (StandsLast-cases cmp p M₁ J₂ i) [
+      same p = (
+        λ i. elim (StandsLast-cases cmp p M₁ J₂ i) [
           | inl h ↦ StandsLast-left cmp p J₁ J₂ ((a.exactly p).0 (In-from_last cmp p M₁ h.0)) h.1
           | inr h ↦ StandsLast-right cmp p J₁ J₂ h
-        ], λ i. elim (StandsLast-cases cmp p J₁ J₂ i) [
+        ],
+        λ i. elim (StandsLast-cases cmp p J₁ J₂ i) [
           | inl h ↦ StandsLast-left cmp p M₁ J₂ (last_in_rising cmp p M₁ a.rising ((a.exactly p).1 h.0)) h.1
           | inr h ↦ StandsLast-right cmp p M₁ J₂ h
-        ])
+        ],
+      )
 
   NoneEqual-like : {V : Type 0} (j k : K) (L : List (K × V)) → cmp j k ≡ Equal → NoneEqual cmp j L → NoneEqual cmp k L
   NoneEqual-like {V} j k L e n = from_each (λ (q : K × V). cmp k q.0 ≢ Equal) L (λ x i same. each (λ (q : K × V). cmp j q.0 ≢ Equal) L n x i (o.congr j k x.0 e ∙ same))
@@ -205,11 +208,13 @@ module _ {K : Type 0} (cmp : K → K → Ordering) (o : IsTotalOrder cmp) where
       none_back k n = from_each (λ (q : K × V). cmp k q.0 ≢ Equal) D (λ x i. each (λ (q : K × V). cmp k q.0 ≢ Equal) J₂ n x (In-from_last cmp x J₂ ((a.exactly x).0 i)))
 
       same : (p : K × V) → StandsLast cmp p (J₁ ++ D) ↔ StandsLast cmp p (J₁ ++ J₂)
-      same p = (λ i. elim (StandsLast-cases cmp p J₁ D i) [
+      same p = (
+        λ i. elim (StandsLast-cases cmp p J₁ D i) [
           | inl h ↦ StandsLast-left cmp p J₁ J₂ h.0 (none p.0 h.1)
           | inr h ↦ StandsLast-right cmp p J₁ J₂ ((a.exactly p).0 (In-from_last cmp p D h))
-        ], λ i. elim (StandsLast-cases cmp p J₁ J₂ i) [
+        ],
+        λ i. elim (StandsLast-cases cmp p J₁ J₂ i) [
           | inl h ↦ StandsLast-left cmp p J₁ D h.0 (none_back p.0 h.1)
           | inr h ↦ StandsLast-right cmp p J₁ D (last_in_rising cmp p D a.rising ((a.exactly p).1 h))
-        ])
-
+        ],
+      )

@@ -62,10 +62,13 @@ module _ {K V : Type 0} {cmp : K → K → Ordering} (o : IsTotalOrder cmp) wher
         ],
         λ h. elim (StandsLast-cases cmp x B (p ∷ Y) h) [
           | inl j ↦ inr (StandsLast-left cmp x B Y j.0 j.1.1)
-          | inr (inl j) ↦ inl (j.0, from_each (λ (q : K × V). cmp x.0 q.0 ≢ Equal) (B ++ Y) (λ y i. elim (In-cases B Y y i) [
-            | inl k ↦ each (λ (q : K × V). cmp x.0 q.0 ≢ Equal) B (subst (λ (z : K × V). NoneEqual cmp z.0 B) j.0 none) y k
-            | inr k ↦ each (λ (q : K × V). cmp x.0 q.0 ≢ Equal) Y j.1 y k
-          ]))
+          | inr (inl j) ↦ inl (
+            j.0,
+            from_each (λ (q : K × V). cmp x.0 q.0 ≢ Equal) (B ++ Y) (λ y i. elim (In-cases B Y y i) [
+              | inl k ↦ each (λ (q : K × V). cmp x.0 q.0 ≢ Equal) B (subst (λ (z : K × V). NoneEqual cmp z.0 B) j.0 none) y k
+              | inr k ↦ each (λ (q : K × V). cmp x.0 q.0 ≢ Equal) Y j.1 y k
+            ]),
+          )
           | inr (inr j) ↦ inr (StandsLast-right cmp x B Y j)
         ],
       );
@@ -90,10 +93,10 @@ module _ {K V : Type 0} {cmp : K → K → Ordering} (o : IsTotalOrder cmp) wher
       (last_behind A (p ∷ (B ++ J)) (B ++ p ∷ J) (passed p B J none) x).0 rest
   sifted_last (p ∷ J) A B A' B' (inr s) aside x h =
       let kept : Aside A (B ++ p ∷ []) = from_each (λ (b : K × V). ¬ (AllBelow cmp A b.0)) (B ++ p ∷ []) (λ b i. elim (In-cases B (p ∷ []) b i) [
-          | inl j ↦ each (λ (q : K × V). ¬ (AllBelow cmp A q.0)) B aside b j
-          | inr (inl e) ↦ subst (λ (q : K × V). ¬ (AllBelow cmp A q.0)) e s.0
-          | inr (inr j) ↦ absurd j
-        ]) in
+        | inl j ↦ each (λ (q : K × V). ¬ (AllBelow cmp A q.0)) B aside b j
+        | inr (inl e) ↦ subst (λ (q : K × V). ¬ (AllBelow cmp A q.0)) e s.0
+        | inr (inr j) ↦ absurd j
+      ]) in
       rw append_assoc at (sifted_last J A (B ++ p ∷ []) A' B' s.1 kept x h)
 
   last_sifted : (J A B A' B' : List (K × V)) → Sifted cmp V A B J A' B' → Aside A B → (x : K × V) → StandsLast cmp x (A ++ (B ++ J)) → StandsLast cmp x (A' ++ B')
@@ -105,10 +108,10 @@ module _ {K V : Type 0} {cmp : K → K → Ordering} (o : IsTotalOrder cmp) wher
       last_sifted J (A ++ p ∷ []) B A' B' s.1 kept x (rw append_assoc rest)
   last_sifted (p ∷ J) A B A' B' (inr s) aside x h =
       let kept : Aside A (B ++ p ∷ []) = from_each (λ (b : K × V). ¬ (AllBelow cmp A b.0)) (B ++ p ∷ []) (λ b i. elim (In-cases B (p ∷ []) b i) [
-          | inl j ↦ each (λ (q : K × V). ¬ (AllBelow cmp A q.0)) B aside b j
-          | inr (inl e) ↦ subst (λ (q : K × V). ¬ (AllBelow cmp A q.0)) e s.0
-          | inr (inr j) ↦ absurd j
-        ]) in
+        | inl j ↦ each (λ (q : K × V). ¬ (AllBelow cmp A q.0)) B aside b j
+        | inr (inl e) ↦ subst (λ (q : K × V). ¬ (AllBelow cmp A q.0)) e s.0
+        | inr (inr j) ↦ absurd j
+      ]) in
       last_sifted J A (B ++ p ∷ []) A' B' s.1 kept x (rw append_assoc h)
 
   pub Last-sifted : (J A B M : List (K × V)) → Sifted cmp V [] [] J A B → Last cmp (A ++ B) M → Last cmp J M

@@ -35,20 +35,23 @@ module _ {K V : Type 0} (cmp : K → K → Ordering) (o : IsTotalOrder cmp) wher
   -- ---- from the first list
   module _ (A₀ : List (K × V)) (a : K × V) (B : List (K × V)) (r : Rising cmp (A₀ ++ a ∷ [])) (top : AllBelow cmp B a.0) where
     old_same : (p : K × V) → StandsLast cmp p ((A₀ ++ B) ++ a ∷ []) ↔ StandsLast cmp p ((A₀ ++ a ∷ []) ++ B)
-    old_same p = (λ h. elim (StandsLast-cases cmp p (A₀ ++ B) (a ∷ []) h) [
+    old_same p = (
+      λ h. elim (StandsLast-cases cmp p (A₀ ++ B) (a ∷ []) h) [
         | inl j ↦ elim (StandsLast-cases cmp p A₀ B j.0) [
           | inl k ↦ StandsLast-left cmp p (A₀ ++ a ∷ []) B (StandsLast-left cmp p A₀ (a ∷ []) k.0 j.1) k.1
           | inr k ↦ StandsLast-right cmp p (A₀ ++ a ∷ []) B k
         ]
         | inr (inl j) ↦ StandsLast-left cmp p (A₀ ++ a ∷ []) B (StandsLast-right cmp p A₀ (a ∷ []) (inl j)) (from_each (λ (q : K × V). cmp p.0 q.0 ≢ Equal) B (λ x i. not_equal_back cmp o p.0 x.0 (subst (λ (y : K × V). cmp x.0 y.0 ≡ Less) j.0 (each (λ (q : K × V). cmp q.0 a.0 ≡ Less) B top x i))))
         | inr (inr j) ↦ absurd j
-      ], λ h. elim (StandsLast-cases cmp p (A₀ ++ a ∷ []) B h) [
+      ],
+      λ h. elim (StandsLast-cases cmp p (A₀ ++ a ∷ []) B h) [
         | inl j ↦ elim (StandsLast-cases cmp p A₀ (a ∷ []) j.0) [
           | inl k ↦ StandsLast-left cmp p (A₀ ++ B) (a ∷ []) (StandsLast-left cmp p A₀ B k.0 j.1) k.1
           | inr k ↦ StandsLast-right cmp p (A₀ ++ B) (a ∷ []) k
         ]
         | inr j ↦ StandsLast-left cmp p (A₀ ++ B) (a ∷ []) (StandsLast-right cmp p A₀ B j) (not_equal cmp p.0 a.0 (each (λ (q : K × V). cmp q.0 a.0 ≡ Less) B top p (In-from_last cmp p B j)), tt)
-      ])
+      ],
+    )
 
     old_below : (M : List (K × V)) → Last cmp (A₀ ++ B) M → (x : K × V) → In x M → cmp x.0 a.0 ≡ Less
     old_below M h x i = elim (In-cases A₀ B x (In-from_last cmp x (A₀ ++ B) ((h.exactly x).0 i))) [
@@ -70,9 +73,9 @@ module _ {K V : Type 0} (cmp : K → K → Ordering) (o : IsTotalOrder cmp) wher
     old_rises = r;
     new_rise = Rising-left cmp B₀ (b ∷ []) s;
     goes_behind = λ M h. rw append_assoc at (Last-push cmp o (A ++ B₀) M h b (λ x i. elim (In-cases A B₀ x (In-from_last cmp x (A ++ B₀) ((h.exactly x).0 i))) [
-        | inl j ↦ each (λ (q : K × V). cmp q.0 b.0 ≡ Less) A top x j
-        | inr j ↦ below_end B₀ b s x j
-      ]));
+      | inl j ↦ each (λ (q : K × V). cmp q.0 b.0 ≡ Less) A top x j
+      | inr j ↦ below_end B₀ b s x j
+    ]));
     fewer = omega (arith, length-append B₀ (b ∷ []));
   }
 
@@ -82,27 +85,29 @@ module _ {K V : Type 0} (cmp : K → K → Ordering) (o : IsTotalOrder cmp) wher
     covered : (p : K × V) → StandsLast cmp p (A₀ ++ (B₀ ++ b ∷ [])) ↔ StandsLast cmp p ((A₀ ++ a ∷ []) ++ (B₀ ++ b ∷ []))
     covered p =
         let C = B₀ ++ b ∷ [] in
-        let there : In b C = In-right B₀ (b ∷ []) b (inl refl) in
-        (λ h. elim (StandsLast-cases cmp p A₀ C h) [
-          | inl j ↦ StandsLast-left cmp p (A₀ ++ a ∷ []) C (StandsLast-left cmp p A₀ (a ∷ []) j.0 ((λ e. each (λ (q : K × V). cmp p.0 q.0 ≢ Equal) C j.1 b there (sym (alike_right o a.0 b.0 p.0 same) ∙ e)), tt)) j.1
-          | inr j ↦ StandsLast-right cmp p (A₀ ++ a ∷ []) C j
-        ], λ h. elim (StandsLast-cases cmp p (A₀ ++ a ∷ []) C h) [
-          | inl j ↦ elim (StandsLast-cases cmp p A₀ (a ∷ []) j.0) [
-            | inl k ↦ StandsLast-left cmp p A₀ C k.0 j.1
-            | inr (inl k) ↦ absurd (each (λ (q : K × V). cmp p.0 q.0 ≢ Equal) C j.1 b there (subst (λ (q : K × V). cmp q.0 b.0 ≡ Equal) k.0 same))
-            | inr (inr k) ↦ absurd k
-          ]
-          | inr j ↦ StandsLast-right cmp p A₀ C j
-        ])
+        let there : In b C = In-right B₀ (b ∷ []) b (inl refl) in (
+          λ h. elim (StandsLast-cases cmp p A₀ C h) [
+            | inl j ↦ StandsLast-left cmp p (A₀ ++ a ∷ []) C (StandsLast-left cmp p A₀ (a ∷ []) j.0 ((λ e. each (λ (q : K × V). cmp p.0 q.0 ≢ Equal) C j.1 b there (sym (alike_right o a.0 b.0 p.0 same) ∙ e)), tt)) j.1
+            | inr j ↦ StandsLast-right cmp p (A₀ ++ a ∷ []) C j
+          ],
+          λ h. elim (StandsLast-cases cmp p (A₀ ++ a ∷ []) C h) [
+            | inl j ↦ elim (StandsLast-cases cmp p A₀ (a ∷ []) j.0) [
+              | inl k ↦ StandsLast-left cmp p A₀ C k.0 j.1
+              | inr (inl k) ↦ absurd (each (λ (q : K × V). cmp p.0 q.0 ≢ Equal) C j.1 b there (subst (λ (q : K × V). cmp q.0 b.0 ≡ Equal) k.0 same))
+              | inr (inr k) ↦ absurd k
+            ]
+            | inr j ↦ StandsLast-right cmp p A₀ C j
+          ],
+        )
 
     pub taken_both : IsTaken cmp (A₀ ++ a ∷ []) (B₀ ++ b ∷ []) A₀ B₀ b
     taken_both = record {
       old_rises = Rising-left cmp A₀ (a ∷ []) r;
       new_rise = Rising-left cmp B₀ (b ∷ []) s;
       goes_behind = λ M h. Last-same cmp o (A₀ ++ (B₀ ++ b ∷ [])) ((A₀ ++ a ∷ []) ++ (B₀ ++ b ∷ [])) (M ++ b ∷ []) covered (rw append_assoc at (Last-push cmp o (A₀ ++ B₀) M h b (λ x i. elim (In-cases A₀ B₀ x (In-from_last cmp x (A₀ ++ B₀) ((h.exactly x).0 i))) [
-          | inl j ↦ sym (alike_right o a.0 b.0 x.0 same) ∙ below_end A₀ a r x j
-          | inr j ↦ below_end B₀ b s x j
-        ])));
+        | inl j ↦ sym (alike_right o a.0 b.0 x.0 same) ∙ below_end A₀ a r x j
+        | inr j ↦ below_end B₀ b s x j
+      ])));
       fewer = omega (arith, length-append A₀ (a ∷ []), length-append B₀ (b ∷ []));
     }
 
@@ -127,10 +132,10 @@ end_from_cmp {K} {V} cmp o A B a b r s t last_a last_b asked = by r asked
 
     up_to : (L N : List (K × V)) (l : K × V) (k : K) → Rising cmp L → L ≡ N ++ l ∷ [] → cmp l.0 k ≡ Less → AllBelow cmp L k
     up_to L N l k r e less = from_each (λ (q : K × V). cmp q.0 k ≡ Less) L (λ x i. elim (In-cases N (l ∷ []) x (subst (In x) e i)) [
-        | inl j ↦ o.trans x.0 l.0 k (rising_across cmp N (l ∷ []) (subst (Rising cmp) e r) x l j (inl refl)) less
-        | inr (inl f) ↦ subst (λ (q : K × V). cmp q.0 k ≡ Less) f less
-        | inr (inr j) ↦ absurd j
-      ])
+      | inl j ↦ o.trans x.0 l.0 k (rising_across cmp N (l ∷ []) (subst (Rising cmp) e r) x l j (inl refl)) less
+      | inr (inl f) ↦ subst (λ (q : K × V). cmp q.0 k ≡ Less) f less
+      | inr (inr j) ↦ absurd j
+    ])
 
     by : (r : Ordering) → r ≡ cmp a.0 b.0 → IsGreaterEnd cmp A B (Some r)
     by Less e = (split_b.0, b, split_b.1, up_to A split_a.0 a b.0 s split_a.1 (sym e))

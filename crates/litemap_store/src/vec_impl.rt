@@ -5,8 +5,8 @@ ghost use Rattle.litemap_store.specs.VecStore.{vec_room, vec_with_value, vec_wri
 
 use crate::extend::{gather, last_of};
 use crate::store::{
-    Count, NoRoom, Store, StoreBulkMut, StoreConstEmpty, StoreFromIterable, StoreFromIterator, StoreMut,
-    StoreSlice,
+    Count, NoRoom, Store, StoreBulkMut, StoreConstEmpty, StoreFromIterable, StoreFromIterator,
+    StoreMut, StoreSlice,
 };
 use std::alloc::{AllocError, Global};
 use std::mem;
@@ -128,7 +128,10 @@ impl<K: Ord + Drop, V: Drop> StoreFromIterable<K, V> for Vec<(K, V)> {
 }
 
 impl<K: Drop, V: Drop> StoreFromIterator<K, V> for Vec<(K, V)> {
-    fn lm_from_pairs<I: IntoIterator<Item = (K, V)>>(alloc: Global, iter: I) -> Result<Self, AllocError> {
+    fn lm_from_pairs<I: IntoIterator<Item = (K, V)>>(
+        alloc: Global,
+        iter: I,
+    ) -> Result<Self, AllocError> {
         gather(alloc, iter)
     }
 }

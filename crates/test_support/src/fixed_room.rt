@@ -14,7 +14,8 @@ ghost use Rattle.std.specs.Prelude.{refl};
 ghost use Rattle.test_support.specs.Contents.{with_value};
 
 use litemap::store::{
-    Count, NoRoom, Store, StoreBulkMut, StoreConstEmpty, StoreFromIterable, StoreFromIterator, StoreMut,
+    Count, NoRoom, Store, StoreBulkMut, StoreConstEmpty, StoreFromIterable, StoreFromIterator,
+    StoreMut,
 };
 use std::alloc::{AllocError, Global};
 use std::marker::Model;
@@ -145,7 +146,10 @@ impl<K: Ord + Drop, V: Drop> StoreFromIterable<K, V> for FixedRoom<K, V> {
 }
 
 impl<K: Drop, V: Drop> StoreFromIterator<K, V> for FixedRoom<K, V> {
-    fn lm_from_pairs<I: IntoIterator<Item = (K, V)>>(alloc: Global, iter: I) -> Result<Self, AllocError> {
+    fn lm_from_pairs<I: IntoIterator<Item = (K, V)>>(
+        alloc: Global,
+        iter: I,
+    ) -> Result<Self, AllocError> {
         let items = Vec::lm_from_pairs(alloc, iter)?;
         let limit = items.len();
         Ok(FixedRoom { items, limit })

@@ -52,7 +52,11 @@ fn greater_end<K: Ord, V, S: Store<K, V>>(
     ensures none { length (S.pairs store.now) + length pairs.now ≡ 0 → RisesByAtMost 0 count.old count.new }
 {
     let Some((old, _)) = store.lm_last() else {
-        return if pairs.is_empty() { None } else { Some(Ordering::Less) };
+        return if pairs.is_empty() {
+            None
+        } else {
+            Some(Ordering::Less)
+        };
     };
     let Some((new, _)) = pairs.last() else {
         return Some(Ordering::Greater);
