@@ -67,7 +67,7 @@ pub fn put_pairs<K: Ord + Drop, V: Drop, S: StoreMut<K, V> + Drop>(
     put_rising(alloc, store, pairs, count)
 }
 
-/// Puts pairs that rise in: behind the last one, or by one merge.
+// Puts pairs that rise in: behind the last one, or by one merge.
 fn put_rising<K: Ord + Drop, V: Drop, S: StoreMut<K, V> + Drop>(
     alloc: Global,
     store: &mut S,
@@ -93,7 +93,7 @@ fn put_rising<K: Ord + Drop, V: Drop, S: StoreMut<K, V> + Drop>(
     merge(alloc, store, pairs, count)
 }
 
-/// Whether the keys rise strictly. It compares each with the one before it, until one doesn't rise.
+// Whether the keys rise strictly. It compares each with the one before it, until one doesn't rise.
 fn is_rising<K: Ord, V>(pairs: &[(K, V)], count: &mut Count) -> bool
     ensures rising { IsTrue result ↔ Rising K.cmp pairs.now }
     ensures cost { RisesByAtMost (length pairs.now - 1) count.old count.new }
@@ -106,7 +106,7 @@ fn is_rising<K: Ord, V>(pairs: &[(K, V)], count: &mut Count) -> bool
     true
 }
 
-/// Whether pairs that rise lie above those of the store. It compares the first with the last one.
+// Whether pairs that rise lie above those of the store. It compares the first with the last one.
 fn goes_behind<K: Ord, V, S: Store<K, V>>(store: &S, pairs: &[(K, V)], count: &mut Count) -> bool
     requires store { Rising K.cmp (S.pairs store.now) }
     requires pairs { Rising K.cmp pairs.now }
@@ -122,7 +122,7 @@ fn goes_behind<K: Ord, V, S: Store<K, V>>(store: &S, pairs: &[(K, V)], count: &m
     count.cmp(last, first).is_lt()
 }
 
-/// Puts pairs behind those of the store, which has room for them.
+// Puts pairs behind those of the store, which has room for them.
 fn append<K: Drop, V: Drop, S: StoreMut<K, V>>(store: &mut S, pairs: Vec<(K, V)>)
     requires { length pairs.items ≤ S.room store.old }
     ensures { S.pairs store.new ≡ S.pairs store.old ++ pairs.items }

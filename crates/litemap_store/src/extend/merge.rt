@@ -39,7 +39,7 @@ pub fn merge<K: Ord + Drop, V: Drop, S: StoreMut<K, V> + Drop>(
     Ok(())
 }
 
-/// How the greatest key of the store stands to that of the pairs.
+// How the greatest key of the store stands to that of the pairs.
 fn greater_end<K: Ord, V, S: Store<K, V>>(
     store: &S,
     pairs: &[(K, V)],
@@ -64,7 +64,7 @@ fn greater_end<K: Ord, V, S: Store<K, V>>(
     Some(count.cmp(old, new))
 }
 
-/// Takes all pairs from the two ends, the greater key first; of equal keys the store's pair is given up.
+// Takes all pairs from the two ends, the greater key first; of equal keys the store's pair is given up.
 fn take_down<K: Ord + Drop, V: Drop, S: StoreMut<K, V>>(
     store: &mut S,
     mut pairs: Vec<(K, V)>,
@@ -86,7 +86,7 @@ fn take_down<K: Ord + Drop, V: Drop, S: StoreMut<K, V>>(
     }
 }
 
-/// The pair of the greatest key, which leaves the store or the pairs; of equal keys the store's pair is given up.
+// The pair of the greatest key, which leaves the store or the pairs; of equal keys the store's pair is given up.
 fn take_greatest<K: Ord + Drop, V: Drop, S: StoreMut<K, V>>(
     store: &mut S,
     pairs: &mut Vec<(K, V)>,
@@ -107,7 +107,7 @@ fn take_greatest<K: Ord + Drop, V: Drop, S: StoreMut<K, V>>(
     }
 }
 
-/// The last pair, which leaves the vector.
+// The last pair, which leaves the vector.
 fn take_last_pair<T>(items: &mut Vec<T>) -> T
     requires { 0 < length items.old.items }
     ensures { items.old.items ≡ items.new.items ++ result ∷ [] }
@@ -115,7 +115,7 @@ fn take_last_pair<T>(items: &mut Vec<T>) -> T
     items.pop().unwrap()
 }
 
-/// The last pair, which leaves the store.
+// The last pair, which leaves the store.
 fn take_last<K, V, S: StoreMut<K, V>>(store: &mut S) -> (K, V)
     requires { 0 < length (S.pairs store.old) }
     ensures { S.pairs store.old ≡ S.pairs store.new ++ result ∷ [] }
@@ -124,7 +124,7 @@ fn take_last<K, V, S: StoreMut<K, V>>(store: &mut S) -> (K, V)
     store.lm_remove(last)
 }
 
-/// Puts pairs behind those of the store, from the last on. The store has room for them.
+// Puts pairs behind those of the store, from the last on. The store has room for them.
 fn put_up<K: Drop, V: Drop, S: StoreMut<K, V>>(store: &mut S, mut pairs: Vec<(K, V)>)
     requires { length pairs.items ≤ S.room store.old }
     ensures { S.pairs store.new ≡ S.pairs store.old ++ reverse pairs.items }

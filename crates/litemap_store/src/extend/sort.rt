@@ -15,7 +15,7 @@ pub fn sort_last<K: Ord + Drop, V: Drop>(pairs: &mut Vec<(K, V)>) -> Result<(), 
     Ok(())
 }
 
-/// Keeps the last of each run of equal keys. It compares each key but the first once, and takes no memory.
+// Keeps the last of each run of equal keys. It compares each key but the first once, and takes no memory.
 fn keep_last<K: Ord + Drop, V: Drop>(pairs: &mut Vec<(K, V)>)
     requires { IsSortedByKey (λ (p : K × V). p.0) K.cmp pairs.old.items }
     ensures last { Last K.cmp pairs.old.items pairs.new.items }
