@@ -3,6 +3,7 @@ ghost use Rattle.std.specs.Prelude.{◌≡◌, ◌↔◌, ◌≤◌, [], IfOk, I
 ghost use Rattle.litemap_store.specs.Pairs.{Rising};
 ghost use Rattle.litemap.specs.Clones.{ClonesAreSame, ClonesCompareEqual, PairsAreClones};
 
+mod bulk;
 mod change;
 mod look;
 mod slice;

@@ -4,6 +4,7 @@
 
 pub mod by_scan;
 mod count;
+mod extend;
 pub mod laws;
 mod no_room;
 mod slice_impl;

@@ -3,8 +3,12 @@ ghost use Rattle.std.specs.Prelude.{◌≡◌, ◌≤◌, [], vec_capacity, vec_
 ghost use Rattle.litemap_store.specs.Retain.{CallableOnEach, CalledOnPair, Kept, TakesPair};
 ghost use Rattle.litemap_store.specs.VecStore.{vec_room, vec_with_value, vec_writes, vec_keeps_room};
 
+use crate::extend::{gather, last_of};
 use crate::slice_search;
-use crate::store::{Count, NoRoom, Store, StoreBulkMut, StoreConstEmpty, StoreMut, StoreSlice};
+use crate::store::{
+    Count, NoRoom, Store, StoreBulkMut, StoreConstEmpty, StoreFromIterable, StoreFromIterator,
+    StoreMut, StoreSlice,
+};
 use std::alloc::{AllocError, Global};
 use std::cmp::Ordering;
 use std::mem;
@@ -117,6 +121,26 @@ impl<K: Ord + Drop, V: Drop> StoreBulkMut<K, V> for Vec<(K, V)> {
             kept += 1;
         }
         self.truncate(kept);
+    }
+}
+
+impl<K: Ord + Drop, V: Drop> StoreFromIterable<K, V> for Vec<(K, V)> {
+    fn lm_sort_from_iter<I: IntoIterator<Item = (K, V)>>(
+        alloc: Global,
+        iter: I,
+        count: &mut Count,
+    ) -> Result<Self, AllocError> {
+        let pairs = gather(alloc, iter)?;
+        last_of(pairs, count)
+    }
+}
+
+impl<K: Drop, V: Drop> StoreFromIterator<K, V> for Vec<(K, V)> {
+    fn lm_from_pairs<I: IntoIterator<Item = (K, V)>>(
+        alloc: Global,
+        iter: I,
+    ) -> Result<Self, AllocError> {
+        gather(alloc, iter)
     }
 }
 

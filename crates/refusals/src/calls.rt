@@ -1,10 +1,10 @@
 //! The calls, by name.
 use crate::outcome::Outcome;
-use crate::{maps, session, stores};
+use crate::{bulk, maps, session, stores};
 use std::alloc::Global;
 
 /// The names of the calls.
-pub const CALLS: [&str; 13] = [
+pub const CALLS: [&str; 19] = [
     "insert",
     "try_insert",
     "try_append",
@@ -17,6 +17,12 @@ pub const CALLS: [&str; 13] = [
     "lm_insert",
     "lm_with_capacity",
     "lm_reserve",
+    "from_iter",
+    "extend",
+    "extend_behind",
+    "lm_extend",
+    "lm_sort_from_iter",
+    "lm_from_pairs",
     "names",
 ];
 
@@ -35,6 +41,12 @@ pub fn run_call(alloc: Global, name: &str) -> Option<Outcome> {
         "lm_insert" => Some(stores::grow(alloc, stores::Put::Insert)),
         "lm_with_capacity" => Some(stores::lm_with_capacity(alloc)),
         "lm_reserve" => Some(stores::lm_reserve(alloc)),
+        "from_iter" => Some(bulk::from_iter(alloc)),
+        "extend" => Some(bulk::extend(alloc)),
+        "extend_behind" => Some(bulk::extend_behind(alloc)),
+        "lm_extend" => Some(bulk::lm_extend(alloc)),
+        "lm_sort_from_iter" => Some(bulk::lm_sort_from_iter(alloc)),
+        "lm_from_pairs" => Some(bulk::lm_from_pairs(alloc)),
         "names" => Some(session::run_lines(alloc)),
         _ => None,
     }

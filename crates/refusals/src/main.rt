@@ -11,6 +11,7 @@
 
 ghost use Rattle.std.specs.Prelude.{◌≤◌, IfOk, length};
 
+mod bulk;
 mod calls;
 mod maps;
 mod outcome;

@@ -12,8 +12,8 @@ type Texts = LiteMap<String, String, Vec<(String, String)>>;
 /// What is put in, in this order.
 pub const PAIRS: [(u32, u32); 5] = [(1, 10), (2, 20), (3, 30), (4, 40), (5, 50)];
 
-// Whether the map has these pairs, in this order, and no others.
-fn has<S: Store<u32, u32>>(map: &LiteMap<u32, u32, S>, pairs: &[(u32, u32)]) -> bool {
+/// Whether the map has these pairs, in this order, and no others.
+pub fn has<S: Store<u32, u32>>(map: &LiteMap<u32, u32, S>, pairs: &[(u32, u32)]) -> bool {
     map.len() == pairs.len()
         && pairs.iter().enumerate().all(|(place, (key, value))| map.get_indexed(place)
             == Some((key, value)))

@@ -5,15 +5,18 @@
 //! 1. What a contract sees of it, by an `impl Model`: here the list of its pairs and its room. So no contract and no
 //!    proof above names its fields.
 //! 2. Its traits: `pairs` and `room` read that value, and each call has the trait's contract. `StoreConstEmpty` and
-//!    `StoreMut` are all that the keyed calls of a map ask for, and `StoreBulkMut` is there
-//!    for `retain`.
+//!    `StoreMut` are all that the keyed calls of a map ask for; `StoreBulkMut` is there for `retain` and `extend`,
+//!    `StoreFromIterable` for `from_iter`.
 //! 3. `with_value`, what it is with another value at a place, and the two laws on it.
 //!
 //! The calls of `LiteMap` are then proved over it, with no proof of theirs to be written.
 ghost use Rattle.std.specs.Prelude.{refl};
 ghost use Rattle.test_support.specs.Contents.{with_value};
 
-use litemap::store::{NoRoom, Store, StoreBulkMut, StoreConstEmpty, StoreMut};
+use litemap::store::{
+    Count, NoRoom, Store, StoreBulkMut, StoreConstEmpty, StoreFromIterable, StoreFromIterator,
+    StoreMut,
+};
 use std::alloc::{AllocError, Global};
 use std::marker::Model;
 use std::mem;
@@ -127,5 +130,28 @@ impl<K, V> StoreMut<K, V> for FixedRoom<K, V> {
 impl<K: Ord + Drop, V: Drop> StoreBulkMut<K, V> for FixedRoom<K, V> {
     fn lm_retain<F: FnMut(&K, &V) -> bool>(&mut self, f: F) {
         self.items.lm_retain(f);
+    }
+}
+
+impl<K: Ord + Drop, V: Drop> StoreFromIterable<K, V> for FixedRoom<K, V> {
+    fn lm_sort_from_iter<I: IntoIterator<Item = (K, V)>>(
+        alloc: Global,
+        iter: I,
+        count: &mut Count,
+    ) -> Result<Self, AllocError> {
+        let items = Vec::lm_sort_from_iter(alloc, iter, count)?;
+        let limit = items.len();
+        Ok(FixedRoom { items, limit })
+    }
+}
+
+impl<K: Drop, V: Drop> StoreFromIterator<K, V> for FixedRoom<K, V> {
+    fn lm_from_pairs<I: IntoIterator<Item = (K, V)>>(
+        alloc: Global,
+        iter: I,
+    ) -> Result<Self, AllocError> {
+        let items = Vec::lm_from_pairs(alloc, iter)?;
+        let limit = items.len();
+        Ok(FixedRoom { items, limit })
     }
 }

@@ -1,6 +1,7 @@
 //! Callers of a map, as a user would write them. Each states its answer by the sorted list.
 #![tactic(auto)]
 
+pub mod config;
 pub mod headers;
 pub mod made;
 pub mod names;

@@ -1,0 +1,87 @@
+//! Calls that take many pairs at once. Of each key the last pair stays.
+ghost use Rattle.std.specs.Prelude.{◌≡◌, [], IfOk, OnOk, OnErr};
+ghost use Rattle.std.specs.Iterator.{IsFiniteIterable};
+ghost use Rattle.litemap_store.specs.Bulk.{IsExtended, IsExtendedCounted};
+ghost use Rattle.litemap_store.specs.Counts.{GoesOn};
+
+use crate::LiteMap;
+use litemap_store::store::{Count, StoreBulkMut, StoreFromIterable};
+use std::alloc::{AllocError, Global};
+use std::marker::PhantomData;
+
+impl<K: Ord + Drop, V: Drop, S: StoreFromIterable<K, V>> LiteMap<K, V, S> {
+    /// The map of the pairs that an iterator gives, or a refusal for want of memory. Of each key the last pair stays,
+    /// whole: its key is the last one's too.
+    ///
+    /// It is the empty map extended. Where the pairs rise it compares each key with the one before it, and makes no
+    /// sort; else it sorts. The iterator's size hint isn't used. The Rust crate has the trait `FromIterator` here.
+    pub fn from_iter<I: IntoIterator<Item = (K, V)>>(
+        alloc: Global,
+        iter: I,
+    ) -> Result<Self, AllocError>
+        requires { IsFiniteIterable I.into_iter_gives I.IntoIter.can_next I.IntoIter.remaining iter }
+        ensures { IfOk result
+            (λ m. IsExtended K.cmp I.into_iter_gives I.IntoIter.next_gives iter [] m.pairs) }
+    {
+        Self::from_iter_counted(alloc, iter, &mut Count::new())
+    }
+
+    /// `from_iter`, with its comparisons counted: at most one for each pair where the pairs rise. The Rust crate has no
+    /// such call.
+    pub fn from_iter_counted<I: IntoIterator<Item = (K, V)>>(
+        alloc: Global,
+        iter: I,
+        count: &mut Count,
+    ) -> Result<Self, AllocError>
+        requires { IsFiniteIterable I.into_iter_gives I.IntoIter.can_next I.IntoIter.remaining iter }
+        ensures made { IfOk result (λ m. IsExtendedCounted K.cmp I.into_iter_gives I.IntoIter.next_gives
+            iter [] m.pairs count.old count.new) }
+        ensures counted { GoesOn count.old count.new }
+    {
+        Ok(LiteMap {
+            store: S::lm_sort_from_iter(alloc, iter, count)?,
+            marker: PhantomData,
+        })
+    }
+}
+
+impl<K: Ord + Drop, V: Drop, S: StoreBulkMut<K, V>> LiteMap<K, V, S> {
+    /// Puts the pairs that an iterator gives in, or is refused for want of memory. Of each key the last pair stays,
+    /// whole, where an old pair counts as earlier than all new ones: a new key takes the place of an equal old one.
+    ///
+    /// The new pairs are gathered before the map changes. So a refusal leaves the list, and the pairs taken from the
+    /// iterator are given up. The iterator's size hint isn't used, and nothing is promised of the room.
+    ///
+    /// Where the new pairs rise past the last key they are put behind it, by at most one comparison for each. Where
+    /// they rise, wherever they belong, they are merged, by at most one comparison for each old and two for each new
+    /// pair, and each pair moves a constant number of times. Else they are sorted before that, by comparisons that
+    /// aren't counted. The Rust crate has the trait `Extend` here.
+    pub fn extend<I: IntoIterator<Item = (K, V)>>(
+        &mut self,
+        alloc: Global,
+        iter: I,
+    ) -> Result<(), AllocError>
+        requires { IsFiniteIterable I.into_iter_gives I.IntoIter.can_next I.IntoIter.remaining iter }
+        ensures extended { OnOk result
+            (IsExtended K.cmp I.into_iter_gives I.IntoIter.next_gives iter self.old.pairs self.new.pairs) }
+        ensures refused { OnErr result (self.new.pairs ≡ self.old.pairs) }
+    {
+        self.extend_counted(alloc, iter, &mut Count::new())
+    }
+
+    /// `extend`, with its comparisons counted, but for those of the sort. The Rust crate has no such call.
+    pub fn extend_counted<I: IntoIterator<Item = (K, V)>>(
+        &mut self,
+        alloc: Global,
+        iter: I,
+        count: &mut Count,
+    ) -> Result<(), AllocError>
+        requires { IsFiniteIterable I.into_iter_gives I.IntoIter.can_next I.IntoIter.remaining iter }
+        ensures extended { OnOk result (IsExtendedCounted K.cmp I.into_iter_gives I.IntoIter.next_gives
+            iter self.old.pairs self.new.pairs count.old count.new) }
+        ensures refused { OnErr result (self.new.pairs ≡ self.old.pairs) }
+        ensures counted { GoesOn count.old count.new }
+    {
+        self.store.lm_extend(alloc, iter, count)
+    }
+}

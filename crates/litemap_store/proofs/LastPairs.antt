@@ -1,0 +1,220 @@
+-- The last pair of each key: there is one such list and no other, and what adds to it.
+--     last_of, Last-unique      there is one, and only one;  Last-rising      a rising list is its own;  Last-put      one more pair
+--     Last-join, Last-join_right      the last pairs of a part in place of the part;  Last-same      the same pairs stand last
+--     Rising-append, Rising-filter      lists that rise;  StandsLast-left, StandsLast-right, StandsLast-cases      where a pair of a joined list stands last
+use Rattle.std.proofs.Common.{◌≡◌, ◌⊎◌, ◌≢◌, ◌↔◌, Bool, true, false, cond, List, [], ◌∷◌, ◌++◌, filter, refl, sym, ap, ◌∙◌, subst, inl, inr, append-nil, append_assoc, Ordering, Less, Equal, Greater, is_lt, is_gt, is_eq}
+use Rattle.std.specs.List.{AllByRecursion}
+use Rattle.std.specs.Cmp.{IsTotalOrder}
+use Rattle.std.proofs.lemmas.Cmp.{tied_itself, tied_back, alike_right}
+use mathlib.Core.Bool.{true≢false}
+use Rattle.litemap_store.specs.Last.{In, Last, NoneEqual, StandsLast}
+use Rattle.litemap_store.specs.Pairs.{BelowAll, Rising, above, below}
+use Rattle.litemap_store.proofs.Membership.{In-left, In-right, In-cases, In-filter, In-from_filter, each, from_each}
+use Rattle.litemap_store.proofs.Splitting.{greater_back, less_back}
+
+pub less_from_is_lt : (r : Ordering) → is_lt r ≡ true → r ≡ Less
+less_from_is_lt Less h = refl
+less_from_is_lt Equal h = absurd (true≢false (sym h))
+less_from_is_lt Greater h = absurd (true≢false (sym h))
+
+pub greater_from_is_gt : (r : Ordering) → is_gt r ≡ true → r ≡ Greater
+greater_from_is_gt Less h = absurd (true≢false (sym h))
+greater_from_is_gt Equal h = absurd (true≢false (sym h))
+greater_from_is_gt Greater h = refl
+
+-- ---- a joined list, and a filtered one, rise
+pub Rising-append : {K V : Type 0} (cmp : K → K → Ordering) (A B : List (K × V)) → Rising cmp A → Rising cmp B → ((a b : K × V) → In a A → In b B → cmp a.0 b.0 ≡ Less) → Rising cmp (A ++ B)
+Rising-append cmp [] B r s f = s
+Rising-append {K} {V} cmp (a ∷ A) B r s f = (from_each (λ (q : K × V). cmp a.0 q.0 ≡ Less) (A ++ B) (λ x i. elim (In-cases A B x i) [ inl h ↦ each (λ (q : K × V). cmp a.0 q.0 ≡ Less) A r.0 x h | inr h ↦ f a x (inl refl) h ]), Rising-append cmp A B r.1 s (λ x y i j. f x y (inr i) j))
+
+Rising-cond : {K V : Type 0} (cmp : K → K → Ordering) (b : Bool) (p : K × V) (L : List (K × V)) → BelowAll cmp p.0 L → Rising cmp L → Rising cmp (cond b (p ∷ L) L)
+Rising-cond cmp true p L h r = (h, r)
+Rising-cond cmp false p L h r = r
+
+pub Rising-filter : {K V : Type 0} (cmp : K → K → Ordering) (t : K × V → Bool) (L : List (K × V)) → Rising cmp L → Rising cmp (filter t L)
+Rising-filter cmp t [] r = r
+Rising-filter {K} {V} cmp t (p ∷ L) r = Rising-cond cmp (t p) p (filter t L) (from_each (λ (q : K × V). cmp p.0 q.0 ≡ Less) (filter t L) (λ x i. each (λ (q : K × V). cmp p.0 q.0 ≡ Less) L r.0 x (In-from_filter t L x i).0)) (Rising-filter cmp t L r.1)
+
+-- ---- where a pair of a joined list stands last
+pub StandsLast-left : {K V : Type 0} (cmp : K → K → Ordering) (p : K × V) (A B : List (K × V)) → StandsLast cmp p A → NoneEqual cmp p.0 B → StandsLast cmp p (A ++ B)
+StandsLast-left cmp p [] B h n = absurd h
+StandsLast-left {K} {V} cmp p (a ∷ A) B (inl h) n = inl (h.0, from_each (λ (q : K × V). cmp p.0 q.0 ≢ Equal) (A ++ B) (λ x i. elim (In-cases A B x i) [ inl j ↦ each (λ (q : K × V). cmp p.0 q.0 ≢ Equal) A h.1 x j | inr j ↦ each (λ (q : K × V). cmp p.0 q.0 ≢ Equal) B n x j ]))
+StandsLast-left cmp p (a ∷ A) B (inr h) n = inr (StandsLast-left cmp p A B h n)
+
+pub StandsLast-right : {K V : Type 0} (cmp : K → K → Ordering) (p : K × V) (A B : List (K × V)) → StandsLast cmp p B → StandsLast cmp p (A ++ B)
+StandsLast-right cmp p [] B h = h
+StandsLast-right cmp p (a ∷ A) B h = inr (StandsLast-right cmp p A B h)
+
+pub StandsLast-cases : {K V : Type 0} (cmp : K → K → Ordering) (p : K × V) (A B : List (K × V)) → StandsLast cmp p (A ++ B) → (StandsLast cmp p A × NoneEqual cmp p.0 B) ⊎ StandsLast cmp p B
+StandsLast-cases cmp p [] B h = inr h
+StandsLast-cases {K} {V} cmp p (a ∷ A) B (inl h) = inl (inl (h.0, from_each (λ (q : K × V). cmp p.0 q.0 ≢ Equal) A (λ x i. each (λ (q : K × V). cmp p.0 q.0 ≢ Equal) (A ++ B) h.1 x (In-left A B x i))), from_each (λ (q : K × V). cmp p.0 q.0 ≢ Equal) B (λ x i. each (λ (q : K × V). cmp p.0 q.0 ≢ Equal) (A ++ B) h.1 x (In-right A B x i)))
+StandsLast-cases cmp p (a ∷ A) B (inr h) = elim (StandsLast-cases cmp p A B h) [ inl j ↦ inl (inr j.0, j.1) | inr j ↦ inr j ]
+
+-- what stands last stands there
+pub In-from_last : {K V : Type 0} (cmp : K → K → Ordering) (p : K × V) (J : List (K × V)) → StandsLast cmp p J → In p J
+In-from_last cmp p [] h = h
+In-from_last cmp p (q ∷ J) (inl h) = inl h.0
+In-from_last cmp p (q ∷ J) (inr h) = inr (In-from_last cmp p J h)
+
+-- in a list that rises each pair stands last
+pub last_in_rising : {K V : Type 0} (cmp : K → K → Ordering) (p : K × V) (L : List (K × V)) → Rising cmp L → In p L → StandsLast cmp p L
+last_in_rising cmp p [] r h = h
+last_in_rising {K} {V} cmp p (q ∷ L) r (inl e) = inl (e, from_each (λ (x : K × V). cmp p.0 x.0 ≢ Equal) L (λ x i same. let less : cmp q.0 x.0 ≡ Less = each (λ (y : K × V). cmp q.0 y.0 ≡ Less) L r.0 x i in let here : cmp p.0 x.0 ≡ Less = subst (λ (y : K × V). cmp y.0 x.0 ≡ Less) e less in cc))
+last_in_rising cmp p (q ∷ L) r (inr h) = inr (last_in_rising cmp p L r.1 h)
+
+pub Last-rising : {K V : Type 0} (cmp : K → K → Ordering) (L : List (K × V)) → Rising cmp L → Last cmp L L
+Last-rising cmp L r = record { rising = r; exactly = λ p. (last_in_rising cmp p L r, In-from_last cmp p L) }
+
+module _ {K : Type 0} (cmp : K → K → Ordering) (o : IsTotalOrder cmp) where
+  -- ---- only one list
+  -- a pair that two rising lists both begin with, and their tails
+  pub same_head : {V : Type 0} (m n : K × V) (M N : List (K × V)) → Rising cmp (m ∷ M) → Rising cmp (n ∷ N) → In m (n ∷ N) → In n (m ∷ M) → m ≡ n
+  same_head m n M N r s (inl e) j = sym e
+  same_head m n M N r s (inr i) (inl e) = e
+  same_head {V} m n M N r s (inr i) (inr j) =
+      let a : cmp n.0 m.0 ≡ Less = each (λ (q : K × V). cmp n.0 q.0 ≡ Less) N s.0 m i in
+      let b : cmp m.0 n.0 ≡ Less = each (λ (q : K × V). cmp m.0 q.0 ≡ Less) M r.0 n j in
+      let c = less_back o m.0 n.0 b in
+      cc
+
+  tail_in : {V : Type 0} (m n x : K × V) (M N : List (K × V)) → Rising cmp (m ∷ M) → m ≡ n → In x M → In x (n ∷ N) → In x N
+  tail_in m n x M N r e i (inr j) = j
+  tail_in {V} m n x M N r e i (inl f) =
+      let a : cmp m.0 x.0 ≡ Less = each (λ (q : K × V). cmp m.0 q.0 ≡ Less) M r.0 x i in
+      let b = tied_itself o m.0 in
+      let c : cmp m.0 m.0 ≡ Less = subst (λ (q : K × V). cmp m.0 q.0 ≡ Less) (sym (e ∙ f)) a in
+      cc
+
+  pub same_rising : {V : Type 0} (M N : List (K × V)) → Rising cmp M → Rising cmp N → ((x : K × V) → In x M ↔ In x N) → M ≡ N
+  same_rising [] [] r s f = refl
+  same_rising [] (n ∷ N) r s f = absurd ((f n).1 (inl refl))
+  same_rising (m ∷ M) [] r s f = absurd ((f m).0 (inl refl))
+  same_rising (m ∷ M) (n ∷ N) r s f =
+      let e : m ≡ n = same_head m n M N r s ((f m).0 (inl refl)) ((f n).1 (inl refl)) in
+      let t : M ≡ N = same_rising M N r.1 s.1 (λ x. (λ i. tail_in m n x M N r e i ((f x).0 (inr i)), λ i. tail_in n m x N M s (sym e) i ((f x).1 (inr i)))) in
+      cc
+
+  pub Last-unique : {V : Type 0} (J M N : List (K × V)) → Last cmp J M → Last cmp J N → M ≡ N
+  Last-unique J M N a b = same_rising M N a.rising b.rising (λ x. (λ i. (b.exactly x).1 ((a.exactly x).0 i), λ i. (a.exactly x).1 ((b.exactly x).0 i)))
+
+  -- ---- one more pair
+  module _ {V : Type 0} (J M : List (K × V)) (last : Last cmp J M) (p : K × V) where
+    kept_below : (x : K × V) → In x (below cmp M p.0) → In x M × (cmp x.0 p.0 ≡ Less)
+    kept_below x i = let h = In-from_filter (λ (q : K × V). is_lt (cmp q.0 p.0)) M x i in (h.0, less_from_is_lt _ h.1)
+
+    kept_above : (x : K × V) → In x (above cmp M p.0) → In x M × (cmp x.0 p.0 ≡ Greater)
+    kept_above x i = let h = In-from_filter (λ (q : K × V). is_gt (cmp q.0 p.0)) M x i in (h.0, greater_from_is_gt _ h.1)
+
+    Rising-put : Rising cmp (below cmp M p.0 ++ p ∷ above cmp M p.0)
+    Rising-put = Rising-append cmp (below cmp M p.0) (p ∷ above cmp M p.0) (Rising-filter cmp _ M last.rising)
+        (from_each (λ (q : K × V). cmp p.0 q.0 ≡ Less) (above cmp M p.0) (λ x i. greater_back o x.0 p.0 (kept_above x i).1), Rising-filter cmp _ M last.rising)
+        (λ a b i j. elim j [ inl e ↦ subst (λ (q : K × V). cmp a.0 q.0 ≡ Less) e (kept_below a i).1 | inr k ↦ o.trans a.0 p.0 b.0 (kept_below a i).1 (greater_back o b.0 p.0 (kept_above b k).1) ])
+
+    other : (x : K × V) → In x M → cmp x.0 p.0 ≢ Equal → StandsLast cmp x (J ++ p ∷ [])
+    other x i n = StandsLast-left cmp x J (p ∷ []) ((last.exactly x).0 i) (n, tt)
+
+    to_last : (x : K × V) → In x (below cmp M p.0 ++ p ∷ above cmp M p.0) → StandsLast cmp x (J ++ p ∷ [])
+    to_last x i = elim (In-cases (below cmp M p.0) (p ∷ above cmp M p.0) x i) [
+      | inl j ↦ other x (kept_below x j).0 (λ e. let h = (kept_below x j).1 in cc)
+      | inr (inl e) ↦ StandsLast-right cmp x J (p ∷ []) (inl (e, tt))
+      | inr (inr j) ↦ other x (kept_above x j).0 (λ e. let h = (kept_above x j).1 in cc)
+    ]
+
+    by_order : (x : K × V) (r : Ordering) → cmp x.0 p.0 ≡ r → r ≢ Equal → In x M → In x (below cmp M p.0 ++ p ∷ above cmp M p.0)
+    by_order x Less h n i = In-left (below cmp M p.0) (p ∷ above cmp M p.0) x (In-filter (λ (q : K × V). is_lt (cmp q.0 p.0)) M x i (ap is_lt h))
+    by_order x Equal h n i = absurd (n refl)
+    by_order x Greater h n i = In-right (below cmp M p.0) (p ∷ above cmp M p.0) x (inr (In-filter (λ (q : K × V). is_gt (cmp q.0 p.0)) M x i (ap is_gt h)))
+
+    from_last : (x : K × V) → StandsLast cmp x (J ++ p ∷ []) → In x (below cmp M p.0 ++ p ∷ above cmp M p.0)
+    from_last x h = elim (StandsLast-cases cmp x J (p ∷ []) h) [
+      | inl j ↦ by_order x (cmp x.0 p.0) refl j.1.0 ((last.exactly x).1 j.0)
+      | inr (inl j) ↦ In-right (below cmp M p.0) (p ∷ above cmp M p.0) x (inl j.0)
+      | inr (inr j) ↦ absurd j
+    ]
+
+    pub Last-put : Last cmp (J ++ p ∷ []) (below cmp M p.0 ++ p ∷ above cmp M p.0)
+    Last-put = record { rising = Rising-put; exactly = λ x. (to_last x, from_last x) }
+
+  -- ---- there is one
+  abbrev pub put_all : {V : Type 0} → List (K × V) → List (K × V) → List (K × V)
+  put_all M [] = M
+  put_all M (p ∷ J) = put_all (below cmp M p.0 ++ p ∷ above cmp M p.0) J
+
+  pub Last-put_all : {V : Type 0} (J₀ M J : List (K × V)) → Last cmp J₀ M → Last cmp (J₀ ++ J) (put_all M J)
+  Last-put_all J₀ M [] h = rw append-nil h
+  Last-put_all J₀ M (p ∷ J) h = rw append_assoc at (Last-put_all (J₀ ++ p ∷ []) (below cmp M p.0 ++ p ∷ above cmp M p.0) J (Last-put J₀ M h p))
+
+  Last-nil : (V : Type 0) → Last {V = V} cmp [] []
+  Last-nil V = record { rising = tt; exactly = λ p. (λ h. h, λ h. h) }
+
+  pub last_of : {V : Type 0} (J : List (K × V)) → (M : List (K × V)) × Last cmp J M × ((N : List (K × V)) → Last cmp J N → N ≡ M)
+  last_of {V} J = let h = Last-put_all [] [] J (Last-nil V) in (put_all [] J, h, λ N k. Last-unique J N (put_all [] J) k h)
+
+  -- ---- lists in the place of one another
+  -- where the same pairs stand last
+  pub Last-same : {V : Type 0} (J J' M : List (K × V)) → ((p : K × V) → StandsLast cmp p J ↔ StandsLast cmp p J') → Last cmp J M → Last cmp J' M
+  Last-same J J' M f h = record { rising = h.rising; exactly = λ p. (λ i. (f p).0 ((h.exactly p).0 i), λ i. (h.exactly p).1 ((f p).1 i)) }
+
+  -- the last of the last and more is the last of all
+  pub Last-join : {V : Type 0} (J₁ J₂ M₁ M : List (K × V)) → Last cmp J₁ M₁ → Last cmp (M₁ ++ J₂) M → Last cmp (J₁ ++ J₂) M
+  Last-join {V} J₁ J₂ M₁ M a b = Last-same (M₁ ++ J₂) (J₁ ++ J₂) M same b
+    where
+      same : (p : K × V) → StandsLast cmp p (M₁ ++ J₂) ↔ StandsLast cmp p (J₁ ++ J₂)
+      same p = (
+        λ i. elim (StandsLast-cases cmp p M₁ J₂ i) [
+          | inl h ↦ StandsLast-left cmp p J₁ J₂ ((a.exactly p).0 (In-from_last cmp p M₁ h.0)) h.1
+          | inr h ↦ StandsLast-right cmp p J₁ J₂ h
+        ],
+        λ i. elim (StandsLast-cases cmp p J₁ J₂ i) [
+          | inl h ↦ StandsLast-left cmp p M₁ J₂ (last_in_rising cmp p M₁ a.rising ((a.exactly p).1 h.0)) h.1
+          | inr h ↦ StandsLast-right cmp p M₁ J₂ h
+        ],
+      )
+
+  NoneEqual-like : {V : Type 0} (j k : K) (L : List (K × V)) → cmp j k ≡ Equal → NoneEqual cmp j L → NoneEqual cmp k L
+  NoneEqual-like {V} j k L e n = from_each (λ (q : K × V). cmp k q.0 ≢ Equal) L (λ x i same. each (λ (q : K × V). cmp j q.0 ≢ Equal) L n x i (o.congr j k x.0 e ∙ same))
+
+  pub some_equal : {V : Type 0} (k : K) (J : List (K × V)) → ((q : K × V) × In q J × (cmp k q.0 ≡ Equal)) ⊎ NoneEqual cmp k J
+  some_equal k [] = inr tt
+  some_equal {V} k (x ∷ J) = elim (some_equal k J) [
+    | inl h ↦ inl (h.0, inr h.1, h.2)
+    | inr n ↦ by (cmp k x.0) refl n
+  ]
+    where
+      by : (r : Ordering) → cmp k x.0 ≡ r → NoneEqual cmp k J → ((q : K × V) × In q (x ∷ J) × (cmp k q.0 ≡ Equal)) ⊎ NoneEqual cmp k (x ∷ J)
+      by Less e n = inr ((λ f. cc), n)
+      by Equal e n = inl (x, inl refl, e)
+      by Greater e n = inr ((λ f. cc), n)
+
+  -- each key has a pair that stands last
+  pub has_last : {V : Type 0} (J : List (K × V)) (p : K × V) → In p J → (q : K × V) × (cmp p.0 q.0 ≡ Equal) × StandsLast cmp q J
+  has_last [] p i = absurd i
+  has_last {V} (x ∷ J) p i = elim (some_equal p.0 J) [
+    | inl h ↦ let r = has_last J h.0 h.1 in (r.0, sym (alike_right o h.0.0 r.0.0 p.0 r.1) ∙ h.2, inr r.2)
+    | inr n ↦ elim i [
+      | inl e ↦ (x, subst (λ (q : K × V). cmp p.0 q.0 ≡ Equal) (sym e) (tied_itself o p.0), inl (refl, subst (λ (q : K × V). NoneEqual cmp q.0 J) (sym e) n))
+      | inr j ↦ absurd (each (λ (q : K × V). cmp p.0 q.0 ≢ Equal) J n p j (tied_itself o p.0))
+    ]
+  ]
+
+  -- the same with the last of what is added
+  pub Last-join_right : {V : Type 0} (J₁ J₂ D M : List (K × V)) → Last cmp J₂ D → Last cmp (J₁ ++ D) M → Last cmp (J₁ ++ J₂) M
+  Last-join_right {V} J₁ J₂ D M a b = Last-same (J₁ ++ D) (J₁ ++ J₂) M same b
+    where
+      none : (k : K) → NoneEqual cmp k D → NoneEqual cmp k J₂
+      none k n = from_each (λ (q : K × V). cmp k q.0 ≢ Equal) J₂ (λ x i e. let r = has_last J₂ x i in each (λ (q : K × V). cmp k q.0 ≢ Equal) D n r.0 ((a.exactly r.0).1 r.2) (sym (alike_right o x.0 r.0.0 k r.1) ∙ e))
+
+      none_back : (k : K) → NoneEqual cmp k J₂ → NoneEqual cmp k D
+      none_back k n = from_each (λ (q : K × V). cmp k q.0 ≢ Equal) D (λ x i. each (λ (q : K × V). cmp k q.0 ≢ Equal) J₂ n x (In-from_last cmp x J₂ ((a.exactly x).0 i)))
+
+      same : (p : K × V) → StandsLast cmp p (J₁ ++ D) ↔ StandsLast cmp p (J₁ ++ J₂)
+      same p = (
+        λ i. elim (StandsLast-cases cmp p J₁ D i) [
+          | inl h ↦ StandsLast-left cmp p J₁ J₂ h.0 (none p.0 h.1)
+          | inr h ↦ StandsLast-right cmp p J₁ J₂ ((a.exactly p).0 (In-from_last cmp p D h))
+        ],
+        λ i. elim (StandsLast-cases cmp p J₁ J₂ i) [
+          | inl h ↦ StandsLast-left cmp p J₁ D h.0 (none_back p.0 h.1)
+          | inr h ↦ StandsLast-right cmp p J₁ D (last_in_rising cmp p D a.rising ((a.exactly p).1 h))
+        ],
+      )

@@ -1,0 +1,23 @@
+use Rattle.std.proofs.Common.{◌+◌, arith, ap, ◌∙◌, swap, sym}
+use Rattle.litemap_store.proofs.KeepLast.{passed_over, passed_more}
+use Rattle.litemap_store.proofs.extend.sort.keep_last.Goals as goal
+use Rattle.litemap_store.proofs.extend.sort.keep_last.Goals.{then-not-is_eq, else-not-is_eq}
+
+pub loop-i-preserved : goal.loop-i-preserved
+loop-i-preserved g c =
+    let o = g.met.K.Ord.total in
+    let inv = c.loop-i.invariant in
+    let q = c.index.result.now in
+    let p = c.index-in-loop-i.result.now in
+    elim c.if-not-is_eq.branch [
+      | then-not-is_eq w ↦ record {
+        before = (let e = w.last-is in let b = inv.before in omega arith);
+        within = (let e = w.last-is in let b = inv.before in omega arith);
+        kept = passed_more g.K.Ord.cmp o _ _ _ _ _ _ q p c.cmp.result inv.kept inv.before (omega arith) c.index.ensures c.index-in-loop-i.ensures c.cmp.ensures c.requires (sym c.is_eq.ensures ∙ w.if-not-is_eq.true) (c.swap.ensures.items ∙ ap (λ n. swap c.loop-i.pairs.items n c.loop-i.i) w.last-is) w.last-is;
+      }
+      | else-not-is_eq w ↦ record {
+        before = (let e = w.last-is in let b = inv.before in omega arith);
+        within = (let e = w.last-is in let b = inv.within in omega arith);
+        kept = passed_over g.K.Ord.cmp o _ _ _ _ _ _ q p c.cmp.result inv.kept inv.before (omega arith) c.index.ensures c.index-in-loop-i.ensures c.cmp.ensures (sym c.is_eq.ensures ∙ w.if-not-is_eq.false) (c.swap.ensures.items ∙ ap (λ n. swap c.loop-i.pairs.items n c.loop-i.i) w.last-is) w.last-is;
+      }
+    ]

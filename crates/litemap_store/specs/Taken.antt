@@ -1,0 +1,22 @@
+-- Which of two rising lists has the greatest key, and what is left where its pair is taken.
+use Rattle.std.specs.Prelude.{◌≡◌, ◌+◌, ◌<◌, List, [], ◌∷◌, ◌++◌, Option, Some, None, length}
+use Rattle.std.specs.declared.cmp.Ordering.{Ordering}
+use Rattle.std.specs.declared.cmp.Ordering.TheVariants.{Less, Equal, Greater}
+use Rattle.litemap_store.specs.Last.{Last}
+use Rattle.litemap_store.specs.Pairs.{AllBelow, Rising}
+
+module _ {K V : Type 0} (cmp : K → K → Ordering) where
+  -- none where both lists are empty, else how the last key of A stands to that of B; an empty list's is below all
+  abbrev pub IsGreaterEnd : List (K × V) → List (K × V) → Option Ordering → Type 0
+  IsGreaterEnd A B None = (A ≡ []) × (B ≡ [])
+  IsGreaterEnd A B (Some Greater) = (A₀ : List (K × V)) × (a : K × V) × (A ≡ A₀ ++ a ∷ []) × AllBelow cmp B a.0
+  IsGreaterEnd A B (Some Less) = (B₀ : List (K × V)) × (b : K × V) × (B ≡ B₀ ++ b ∷ []) × AllBelow cmp A b.0
+  IsGreaterEnd A B (Some Equal) = (A₀ : List (K × V)) × (a : K × V) × (B₀ : List (K × V)) × (b : K × V)
+      × (A ≡ A₀ ++ a ∷ []) × (B ≡ B₀ ++ b ∷ []) × (cmp a.0 b.0 ≡ Equal)
+
+  -- p was taken from the end of A or of B, which are A' and B' then: it goes behind the last pairs of what is left
+  pub record IsTaken (A B A' B' : List (K × V)) (p : K × V) : Type 0 where
+    pub old_rises : Rising cmp A'
+    pub new_rise : Rising cmp B'
+    pub goes_behind : (M : List (K × V)) → Last cmp (A' ++ B') M → Last cmp (A ++ B) (M ++ p ∷ [])
+    pub fewer : length A' + length B' < length A + length B

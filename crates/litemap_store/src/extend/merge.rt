@@ -1,0 +1,137 @@
+//! One linear merge of pairs that rise into a store.
+ghost use Rattle.std.specs.Prelude.{◌≡◌, ◌+◌, ◌<◌, ◌≤◌, ◌++◌, ◌∷◌, [], reverse, OnOk, OnErr, length, Some};
+ghost use Rattle.std.specs.Prelude.{vec_capacity};
+ghost use Rattle.litemap_store.specs.Counts.{RisesByAtMost};
+ghost use Rattle.litemap_store.specs.Last.{Last};
+ghost use Rattle.litemap_store.specs.Pairs.{Rising};
+ghost use Rattle.litemap_store.specs.Taken.{IsGreaterEnd, IsTaken};
+
+use crate::count::Count;
+use crate::store::{Store, StoreMut};
+use std::alloc::{AllocError, Global};
+use std::cmp::Ordering;
+
+/// Puts pairs in, by at most one comparison for each pair of both.
+///
+/// All room is taken first: a side vector and a fresh store, each for all pairs. Each pair then moves into the side
+/// vector and from there into the fresh store, which becomes the store. So at its peak it holds each pair once, in room
+/// for three times as many.
+pub fn merge<K: Ord + Drop, V: Drop, S: StoreMut<K, V> + Drop>(
+    alloc: Global,
+    store: &mut S,
+    pairs: Vec<(K, V)>,
+    count: &mut Count,
+) -> Result<(), AllocError>
+    requires store { Rising K.cmp (S.pairs store.old) }
+    requires pairs { Rising K.cmp pairs.items }
+    ensures last { OnOk result (Last K.cmp (S.pairs store.old ++ pairs.items) (S.pairs store.new)) }
+    ensures refused { OnErr result (S.pairs store.new ≡ S.pairs store.old) }
+    ensures cost { RisesByAtMost (length (S.pairs store.old) + length pairs.items) count.old count.new }
+{
+    let Some(total) = store.lm_len().checked_add(pairs.len()) else {
+        return Err(AllocError);
+    };
+    let mut side = Vec::with_capacity(alloc, total)?;
+    let mut fresh = S::lm_with_capacity(alloc, total)?;
+    take_down(store, pairs, &mut side, count);
+    put_up(&mut fresh, side);
+    *store = fresh;
+    Ok(())
+}
+
+// How the greatest key of the store stands to that of the pairs.
+fn greater_end<K: Ord, V, S: Store<K, V>>(
+    store: &S,
+    pairs: &[(K, V)],
+    count: &mut Count,
+) -> Option<Ordering>
+    requires store { Rising K.cmp (S.pairs store.now) }
+    requires pairs { Rising K.cmp pairs.now }
+    ensures end { IsGreaterEnd K.cmp (S.pairs store.now) pairs.now result }
+    ensures cost { RisesByAtMost 1 count.old count.new }
+    ensures none { length (S.pairs store.now) + length pairs.now ≡ 0 → RisesByAtMost 0 count.old count.new }
+{
+    let Some((old, _)) = store.lm_last() else {
+        return if pairs.is_empty() {
+            None
+        } else {
+            Some(Ordering::Less)
+        };
+    };
+    let Some((new, _)) = pairs.last() else {
+        return Some(Ordering::Greater);
+    };
+    Some(count.cmp(old, new))
+}
+
+// Takes all pairs from the two ends, the greater key first; of equal keys the store's pair is given up.
+fn take_down<K: Ord + Drop, V: Drop, S: StoreMut<K, V>>(
+    store: &mut S,
+    mut pairs: Vec<(K, V)>,
+    side: &mut Vec<(K, V)>,
+    count: &mut Count,
+)
+    requires store { Rising K.cmp (S.pairs store.old) }
+    requires pairs { Rising K.cmp pairs.items }
+    requires empty { side.old.items ≡ [] }
+    requires room { length (S.pairs store.old) + length pairs.items ≤ vec_capacity side.old }
+    ensures last { Last K.cmp (S.pairs store.old ++ pairs.items) (reverse side.new.items) }
+    ensures len { length side.new.items ≤ length (S.pairs store.old) + length pairs.items }
+    ensures cost { RisesByAtMost (length (S.pairs store.old) + length pairs.items) count.old count.new }
+{
+    while let Some(end) = greater_end(store, &pairs, count) {
+        let Ok(()) = side.push(take_greatest(store, &mut pairs, end)) else {
+            unreachable!()
+        };
+    }
+}
+
+// The pair of the greatest key, which leaves the store or the pairs; of equal keys the store's pair is given up.
+fn take_greatest<K: Ord + Drop, V: Drop, S: StoreMut<K, V>>(
+    store: &mut S,
+    pairs: &mut Vec<(K, V)>,
+    end: Ordering,
+) -> (K, V)
+    requires store { Rising K.cmp (S.pairs store.old) }
+    requires pairs { Rising K.cmp pairs.old.items }
+    requires end { IsGreaterEnd K.cmp (S.pairs store.old) pairs.old.items (Some end) }
+    ensures { IsTaken K.cmp (S.pairs store.old) pairs.old.items (S.pairs store.new) pairs.new.items result }
+{
+    match end {
+        Ordering::Greater => take_last(store),
+        Ordering::Less => take_last_pair(pairs),
+        Ordering::Equal => {
+            let _ = take_last(store);
+            take_last_pair(pairs)
+        }
+    }
+}
+
+// The last pair, which leaves the vector.
+fn take_last_pair<T>(items: &mut Vec<T>) -> T
+    requires { 0 < length items.old.items }
+    ensures { items.old.items ≡ items.new.items ++ result ∷ [] }
+{
+    items.pop().unwrap()
+}
+
+// The last pair, which leaves the store.
+fn take_last<K, V, S: StoreMut<K, V>>(store: &mut S) -> (K, V)
+    requires { 0 < length (S.pairs store.old) }
+    ensures { S.pairs store.old ≡ S.pairs store.new ++ result ∷ [] }
+{
+    let last = store.lm_len() - 1;
+    store.lm_remove(last)
+}
+
+// Puts pairs behind those of the store, from the last on. The store has room for them.
+fn put_up<K: Drop, V: Drop, S: StoreMut<K, V>>(store: &mut S, mut pairs: Vec<(K, V)>)
+    requires { length pairs.items ≤ S.room store.old }
+    ensures { S.pairs store.new ≡ S.pairs store.old ++ reverse pairs.items }
+{
+    while let Some((key, value)) = pairs.pop() {
+        let Ok(()) = store.lm_push(key, value) else {
+            unreachable!()
+        };
+    }
+}
