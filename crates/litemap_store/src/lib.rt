@@ -6,6 +6,9 @@ pub mod by_scan;
 mod count;
 pub mod laws;
 mod no_room;
+mod query;
 mod slice_impl;
 pub mod store;
 mod vec_impl;
+
+pub use query::Query;

@@ -1,7 +1,7 @@
 use Rattle.std.proofs.Common.{◌≡◌, refl, rules}
 use Rattle.std.specs.Ordering.{nat_cmp}
 use Rattle.std.specs.Cmp.{nat_cmp_total}
-use Rattle.litemap_store.specs.Search.{shape_kept}
+use Rattle.litemap_store.proofs.Shapes.{shape_kept}
 use Rattle.litemap_store.proofs.Splitting.{Ascends-by_key}
 use Rattle.comparison_tests.proofs.closures.get.Goals as goal
 
