@@ -4,3 +4,5 @@
 pub mod headers;
 pub mod made;
 pub mod names;
+pub mod people;
+pub mod texts;
