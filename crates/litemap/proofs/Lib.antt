@@ -1,5 +1,4 @@
 -- Lemmas of the proofs.
-pub mod Borrowed
 pub mod Clones
 pub mod Outcomes
 pub mod Texts

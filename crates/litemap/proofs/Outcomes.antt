@@ -14,5 +14,5 @@ on_ok (Ok y) f h = f h
 on_ok (Err y) f h = h
 
 -- a key that is there is not missing
-pub not_missing : {K V : Type 0} (cmp : K → K → Ordering) (L : List (K × V)) (k : K) {i : ℕ} → IsSome (at cmp L k) → IsMissingAt cmp L k i → ⊥
-not_missing cmp L k h m = let none : false ≡ true = subst (λ a. is_some a ≡ true) m.missing h in cc
+pub not_missing : {K Q V : Type 0} (order : K → Q → Ordering) (L : List (K × V)) (q : Q) {i : ℕ} → IsSome (at order L q) → IsMissingAt order L q i → ⊥
+not_missing order L q h m = let none : false ≡ true = subst (λ a. is_some a ≡ true) m.missing h in cc

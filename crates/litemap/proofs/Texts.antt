@@ -1,18 +1,55 @@
--- Texts as keys: what look-ups find after a put and a cut, and what clones of texts are. A caller's function takes these by
--- an attribute, as `#[tactic(auto, using(litemap::proofs::Texts::string_keys))]`.
---     string_keys      where keys are `String`;  str_keys      where they are `&str` or `&[u8]`
+-- Texts and bytes as keys: what look-ups find after a put, a write and a cut, and what clones of texts are. A caller's
+-- function takes these by an attribute, as `#[tactic(auto, using(litemap::proofs::Texts::string_keys))]`.
+--     string_keys      where keys are `String`, asked by keys;  text_keys      the same, asked by texts
+--     byte_keys      where keys are `Vec<u8>`, asked by bytes;  str_keys      where keys are `&str` or `&[u8]`
 --     text_clones_equal      the condition of `try_clone` where keys are `String`
-use Rattle.std.proofs.Common.{◌≡◌, ◌≢◌, List, Some, None, String, Bor, ℕ}
+use Rattle.std.proofs.Common.{◌≡◌, ◌≢◌, List, Some, None, IsSome, String, Vec, Bor, ℕ}
 use Rattle.std.proofs.lemmas.Cmp.{tied_itself}
+use Rattle.std.proofs.lemmas.Map.Lookups.{exact_bytes}
+use Rattle.std.specs.Cmp.{IsTotalOrder}
+use Rattle.std.specs.Cmp.Lexicographic.{slice_cmp, nat_list_cmp_total, on_texts}
+use Rattle.std.specs.Ordering.{nat_cmp}
 use Rattle.std.specs.String.{string_bytes, string_cmp, string_cmp_total}
+use Rattle.std.specs.declared.cmp.Ordering.{Ordering}
 use Rattle.std.specs.declared.cmp.Ordering.TheVariants.{Equal}
-use Rattle.litemap_store.specs.Pairs.{cut, put, value_at}
-use Rattle.litemap_store.proofs.Lookups.{value_at-cut, value_at-cut_other, value_at-put, value_at-put_other}
+use Rattle.litemap_store.specs.Pairs.{at, cut, key_or, put, value_at, write}
+use Rattle.litemap_store.specs.Queries.{by_slice, by_text}
+use Rattle.litemap_store.proofs.Lookups.{value_at-cut, value_at-cut_other, value_at-put, value_at-put_other, value_at-write}
+use Rattle.litemap_store.proofs.Lookups.{key_or_equal, value_at-between_apart, value_at-cut_apart, value_at-write_apart}
 use Rattle.litemap.specs.ByBytes.{by_bytes}
 use Rattle.litemap.specs.Clones.{ClonesCompareEqual}
-use Rattle.litemap.proofs.Borrowed.{by_bytes_total}
+
+by_bytes_total : IsTotalOrder by_bytes
+by_bytes_total = on_texts (λ (a : Bor (List ℕ)). a.now)
+
+differs : (t u : List ℕ) → u ≢ t → slice_cmp nat_cmp u t ≢ Equal
+differs t u n e = n (exact_bytes u t e)
+
+-- ---- keys that are seen as bytes, asked by bytes
+module _ {K : Type 0} (bytes : K → List ℕ) where
+  abbrev cmp : K → K → Ordering
+  cmp a b = slice_cmp nat_cmp (bytes a) (bytes b)
+
+  abbrev by : K → List ℕ → Ordering
+  by key text = slice_cmp nat_cmp (bytes key) text
+
+  turned : (t u : List ℕ) (x : K) → by x u ≡ Equal → by x t ≡ slice_cmp nat_cmp u t
+  turned t u x e = nat_list_cmp_total.congr (bytes x) u t e
+
+  put_others : {V : Type 0} (L : List (K × V)) (k : K) (u : List ℕ) (v : V) → u ≢ bytes k → value_at by (put cmp L k v) u ≡ value_at by L u
+  put_others L k u v n =
+      value_at-between_apart cmp k by u (slice_cmp nat_cmp u (bytes k)) (differs (bytes k) u n) (turned (bytes k) u) L (key_or (at cmp L k) k, v)
+      (key_or_equal (on_texts bytes) k L)
+
+  write_others : {V : Type 0} (L : List (K × V)) (t u : List ℕ) (v : V) → u ≢ t → value_at by (write by L t v) u ≡ value_at by L u
+  write_others L t u v n = value_at-write_apart by t by u (slice_cmp nat_cmp u t) (differs t u n) (turned t u) L v
+
+  cut_others : {V : Type 0} (L : List (K × V)) (t u : List ℕ) → u ≢ t → value_at by (cut by L t) u ≡ value_at by L u
+  cut_others L t u n = value_at-cut_apart by t by u (slice_cmp nat_cmp u t) (differs t u n) (turned t u) L
 
 module _ {V Z : Type 0} where
+  -- ---- `String`, asked by keys
+
   pub string_put_found : (L : List (String Z × V)) (k : String Z) (v : V) → value_at string_cmp (put string_cmp L k v) k ≡ Some v
   string_put_found L k v = value_at-put string_cmp_total k L v
 
@@ -20,10 +57,44 @@ module _ {V Z : Type 0} where
   string_put_others L k q v differs = value_at-put_other string_cmp_total L k q differs v
 
   pub string_cut_gone : (L : List (String Z × V)) (k : String Z) → value_at string_cmp (cut string_cmp L k) k ≡ None
-  string_cut_gone L k = value_at-cut string_cmp_total k L
+  string_cut_gone L k = value_at-cut string_cmp k L
 
   pub string_cut_others : (L : List (String Z × V)) (k q : String Z) → string_cmp q k ≢ Equal → value_at string_cmp (cut string_cmp L k) q ≡ value_at string_cmp L q
   string_cut_others L k q differs = value_at-cut_other string_cmp_total L k q differs
+
+  -- ---- the same, asked by texts
+
+  pub text_put_found : (L : List (String Z × V)) (k : String Z) (v : V) → value_at by_text (put string_cmp L k v) (string_bytes k) ≡ Some v
+  text_put_found L k v = value_at-put string_cmp_total k L v
+
+  pub text_put_others : (L : List (String Z × V)) (k : String Z) (u : List ℕ) (v : V) → u ≢ string_bytes k → value_at by_text (put string_cmp L k v) u ≡ value_at by_text L u
+  text_put_others L k u v n = put_others (λ k. string_bytes k) L k u v n
+
+  pub text_write_found : (L : List (String Z × V)) (t : List ℕ) (v : V) → IsSome (at by_text L t) → value_at by_text (write by_text L t v) t ≡ Some v
+  text_write_found L t v there = value_at-write by_text t L v there
+
+  pub text_write_others : (L : List (String Z × V)) (t u : List ℕ) (v : V) → u ≢ t → value_at by_text (write by_text L t v) u ≡ value_at by_text L u
+  text_write_others L t u v n = write_others (λ k. string_bytes k) L t u v n
+
+  pub text_cut_gone : (L : List (String Z × V)) (t : List ℕ) → value_at by_text (cut by_text L t) t ≡ None
+  text_cut_gone L t = value_at-cut by_text t L
+
+  pub text_cut_others : (L : List (String Z × V)) (t u : List ℕ) → u ≢ t → value_at by_text (cut by_text L t) u ≡ value_at by_text L u
+  text_cut_others L t u n = cut_others (λ k. string_bytes k) L t u n
+
+  -- ---- `Vec<u8>`, asked by bytes
+
+  pub byte_write_found : (L : List (Vec ℕ Z × V)) (t : List ℕ) (v : V) → IsSome (at (by_slice nat_cmp) L t) → value_at (by_slice nat_cmp) (write (by_slice nat_cmp) L t v) t ≡ Some v
+  byte_write_found L t v there = value_at-write (by_slice nat_cmp) t L v there
+
+  pub byte_write_others : (L : List (Vec ℕ Z × V)) (t u : List ℕ) (v : V) → u ≢ t → value_at (by_slice nat_cmp) (write (by_slice nat_cmp) L t v) u ≡ value_at (by_slice nat_cmp) L u
+  byte_write_others L t u v n = write_others (λ k. k.items) L t u v n
+
+  pub byte_cut_gone : (L : List (Vec ℕ Z × V)) (t : List ℕ) → value_at (by_slice nat_cmp) (cut (by_slice nat_cmp) L t) t ≡ None
+  byte_cut_gone L t = value_at-cut (by_slice nat_cmp) t L
+
+  pub byte_cut_others : (L : List (Vec ℕ Z × V)) (t u : List ℕ) → u ≢ t → value_at (by_slice nat_cmp) (cut (by_slice nat_cmp) L t) u ≡ value_at (by_slice nat_cmp) L u
+  byte_cut_others L t u n = cut_others (λ k. k.items) L t u n
 
 module _ {V : Type 0} where
   pub str_put_found : (L : List (Bor (List ℕ) × V)) (k : Bor (List ℕ)) (v : V) → value_at by_bytes (put by_bytes L k v) k ≡ Some v
@@ -33,12 +104,23 @@ module _ {V : Type 0} where
   str_put_others L k q v differs = value_at-put_other by_bytes_total L k q differs v
 
   pub str_cut_gone : (L : List (Bor (List ℕ) × V)) (k : Bor (List ℕ)) → value_at by_bytes (cut by_bytes L k) k ≡ None
-  str_cut_gone L k = value_at-cut by_bytes_total k L
+  str_cut_gone L k = value_at-cut by_bytes k L
 
   pub str_cut_others : (L : List (Bor (List ℕ) × V)) (k q : Bor (List ℕ)) → by_bytes q k ≢ Equal → value_at by_bytes (cut by_bytes L k) q ≡ value_at by_bytes L q
   str_cut_others L k q differs = value_at-cut_other by_bytes_total L k q differs
 
 pub ruleset string_keys = (string_put_found, string_put_others, string_cut_gone, string_cut_others)
+
+pub ruleset text_keys = (
+  text_put_found,
+  text_put_others,
+  text_write_found,
+  text_write_others,
+  text_cut_gone,
+  text_cut_others,
+)
+
+pub ruleset byte_keys = (byte_write_found, byte_write_others, byte_cut_gone, byte_cut_others)
 
 pub ruleset str_keys = (str_put_found, str_put_others, str_cut_gone, str_cut_others)
 

@@ -4,7 +4,8 @@ use Rattle.std.specs.Prelude.{◌≡◌, ℕ, List, Option, OnSome, IfNone}
 use Rattle.std.specs.Borrow.{Fml, RattleType, MutBor, Lends, LendsIf, LendsSo}
 use Rattle.std.specs.Option.{option_copied_mut}
 use Rattle.std.specs.BTreeMap.Lent.{OrdMembers}
-use Rattle.litemap_store.specs.Pairs.{put, set_value, value_in}
+use Rattle.std.specs.declared.cmp.Ordering.{Ordering}
+use Rattle.litemap_store.specs.Pairs.{set_value, value_in, write}
 use Rattle.litemap.specs.Seen.{Seen, with_pairs}
 use Rattle.litemap.specs.contracts.map.LiteMap.{the_row}
 
@@ -16,10 +17,10 @@ module _ (K V S : RattleType) (key : OrdMembers K.Denot) (pairs : S.Denot → Li
       (record { pairs = pairs; room = room })
 
   module _ (m : MutBor (Seen K.Denot V.Denot)) where
-    -- once the reference in r ends, the map has the last value written through it at the key k. Where there is none the
-    -- map stays
-    abbrev pub LendsValue : K.Denot → Option (MutBor V.Denot) → Fml
-    LendsValue k r = LendsIf map_row V m r (λ v. with_pairs m.now (put key.cmp m.now.pairs k v)) m.now
+    -- once the reference in r ends, the map has the last value written through it at the key that is equal to q. Where
+    -- there is none the map stays
+    abbrev pub LendsValue : {Q : Type 0} → (K.Denot → Q → Ordering) → Q → Option (MutBor V.Denot) → Fml
+    LendsValue order q r = LendsIf map_row V m r (λ v. with_pairs m.now (write order m.now.pairs q v)) m.now
 
     -- the same of the value at place i
     abbrev pub LendsPlace : ℕ → Option (MutBor V.Denot) → Fml
@@ -37,6 +38,6 @@ module _ (K V S : RattleType) (key : OrdMembers K.Denot) (pairs : S.Denot → Li
     abbrev pub LendsThere : ℕ → MutBor V.Denot → Fml
     LendsThere i r = Lends map_row V m r (λ v. with_pairs m.now (set_value m.now.pairs i v))
 
-    -- the same of the value of the key k, which is there
-    abbrev pub LendsKey : K.Denot → MutBor V.Denot → Fml
-    LendsKey k r = Lends map_row V m r (λ v. with_pairs m.now (put key.cmp m.now.pairs k v))
+    -- the same of the value of the key that is equal to q, which is there
+    abbrev pub LendsKey : {Q : Type 0} → (K.Denot → Q → Ordering) → Q → MutBor V.Denot → Fml
+    LendsKey order q r = Lends map_row V m r (λ v. with_pairs m.now (write order m.now.pairs q v))

@@ -3,7 +3,6 @@
 //! In the Rust crate they are evaluated in constants, and have `const` in their names for that. Here they are plain calls.
 //! None takes memory.
 ghost use Rattle.std.specs.Prelude.{◌≡◌, ◌<◌, ◌==◌, length, slice_get, Some, Ok, IfSome};
-ghost use Rattle.std.specs.Cmp.Lexicographic.{slice_cmp};
 ghost use Rattle.std.specs.Option.{option_and_then, option_map};
 ghost use Rattle.std.specs.Ordering.{int_cmp, nat_cmp};
 ghost use Rattle.std.specs.Result.{result_ok};
@@ -11,15 +10,8 @@ ghost use Rattle.litemap_store.specs.Pairs.{place, value_at, value_in};
 ghost use Rattle.litemap.specs.ByBytes.{by_bytes};
 
 use crate::LiteMap;
+use litemap_store::Query;
 use litemap_store::store::{Count, SliceStore};
-use std::cmp::Ordering;
-
-// Compares by bytes. A proper prefix is less.
-fn const_cmp_bytes(a: &[u8], b: &[u8]) -> Ordering
-    ensures { result ≡ slice_cmp nat_cmp a.now b.now }
-{
-    a.cmp(b)
-}
 
 // The place that a search found, and the value there.
 fn const_found<'a, K, V>(pairs: &'a [(K, V)], index: Result<usize, usize>) -> Option<(usize, &'a V)>
@@ -59,10 +51,11 @@ impl<'a, K: Ord, V> LiteMap<K, V, SliceStore<'a, K, V>> {
         &self.borrowed()[index]
     }
 
-    // The place and the value of an equal key.
-    fn const_find(&self, key: &K) -> Option<(usize, &'a V)>
-        ensures value { option_map (λ found. found.1.now) result ≡ value_at K.cmp self.now.pairs key.now }
-        ensures place { IfSome result (λ found. found.0 ≡ place K.cmp self.now.pairs key.now) }
+    // The place and the value of the equal key.
+    fn const_find<Q: Query<K>>(&self, key: Q) -> Option<(usize, &'a V)>
+        ensures value { option_map
+            (λ found. found.1.now) result ≡ value_at Q.order self.now.pairs (Q.sought key) }
+        ensures place { IfSome result (λ found. found.0 ≡ place Q.order self.now.pairs (Q.sought key)) }
         ensures within { IfSome result (λ found. found.0 < length self.now.pairs) }
         ensures there { IfSome result (λ found. value_in self.now.pairs found.0 ≡ Some found.1.now) }
     {
@@ -82,11 +75,7 @@ impl<'a, 'k, V> LiteMap<&'k str, V, SliceStore<'a, &'k str, V>> {
         ensures within { IfSome result (λ found. found.0 < length self.now.pairs) }
         ensures there { IfSome result (λ found. value_in self.now.pairs found.0 ≡ Some found.1.now) }
     {
-        let pairs = self.borrowed();
-        const_found(
-            pairs,
-            self.find_index_by(|k| const_cmp_bytes(k.as_bytes(), key.as_bytes())),
-        )
+        self.const_find::<&str>(key)
     }
 }
 
@@ -102,8 +91,7 @@ impl<'a, 'k, V> LiteMap<&'k [u8], V, SliceStore<'a, &'k [u8], V>> {
         ensures within { IfSome result (λ found. found.0 < length self.now.pairs) }
         ensures there { IfSome result (λ found. value_in self.now.pairs found.0 ≡ Some found.1.now) }
     {
-        let pairs = self.borrowed();
-        const_found(pairs, self.find_index_by(|k| const_cmp_bytes(k, key)))
+        self.const_find::<&[u8]>(key)
     }
 }
 

@@ -5,6 +5,6 @@ mod const_family;
 mod map;
 mod try_fault;
 
-pub use litemap_store::store;
+pub use litemap_store::{Query, store};
 pub use map::LiteMap;
 pub use try_fault::TryFault;

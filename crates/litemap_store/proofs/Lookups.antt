@@ -1,11 +1,13 @@
 -- What a look-up finds in a list after a put and after a cut: lemmas for the proofs of callers. The functions of the
 -- module `laws` have them as their contracts. An answer takes the order's laws from its bound, as `g.met.K.Ord.total`,
 -- or from std, as `nat_cmp_total` and `string_cmp_total`.
---     at-put, value_at-put, value_at-put_other, place-put, index_of-put      after a put;  value_at-cut, value_at-cut_other      after a cut
+--     at-put, value_at-put, value_at-put_other, place-put, index_of-put      after a put
+--     value_at-cut, value_at-cut_other, value_at-cut_apart      after a cut, by the query, by another key, and by another query
+--     value_at-write, value_at-write_apart      the same after a write
 --     length-put_present, length-put_absent, length-cut_present, length-cut_absent, Rising-cut      what both leave of a rising list
 use Rattle.std.proofs.Common.{◌≡◌, ◌≢◌, ℕ, suc, ◌+◌, Bool, true, false, List, [], ◌∷◌, ◌++◌, length, filter, Option, Some, None, IsSome, Ok, option_map, refl, sym, ap, ◌∙◌, subst, arith}
-use Rattle.std.specs.Ordering.{is_lt, is_eq, is_gt, ordering_reverse}
-use Rattle.std.specs.Option.{option_or}
+use Rattle.std.specs.Ordering.{is_lt, is_eq, is_gt}
+use Rattle.std.specs.Option.{option_map_or, option_or}
 use Rattle.std.specs.Cmp.{IsTotalOrder, tied_itself}
 use Rattle.std.specs.List.{AllByRecursion}
 use Rattle.std.proofs.lemmas.List.{append-nil, length-append}
@@ -13,7 +15,8 @@ use Rattle.std.proofs.lemmas.List.Folds.{find-append}
 use Rattle.std.proofs.lemmas.Option.{get_or_from_slice_get}
 use Rattle.std.specs.declared.cmp.Ordering.{Ordering}
 use Rattle.std.specs.declared.cmp.Ordering.TheVariants.{Less, Equal, Greater}
-use Rattle.litemap_store.specs.Pairs.{Rising, above, at, below, cut, index_of, key_or, place, put, value_at}
+use Rattle.litemap_store.specs.Pairs.{Rising, above, at, below, cut, index_of, key_or, place, put, value_at, write}
+use Rattle.litemap_store.specs.Queries.{key_one_side}
 use Rattle.litemap_store.specs.Splits.{IsFoundAt}
 use Rattle.litemap_store.proofs.Seams.{found_get, found_remove, found_within}
 use Rattle.litemap_store.proofs.Splitting.{Rising-remove, found_at, missing_splits}
@@ -28,41 +31,114 @@ not_both Less h = absurd (cc)
 not_both Equal h = refl
 not_both Greater h = refl
 
-not_equal : (c d : Ordering) → c ≡ ordering_reverse d → d ≢ Equal → is_eq c ≡ false
-not_equal c Less e n = ap is_eq e
-not_equal c Equal e n = absurd (n refl)
-not_equal c Greater e n = ap is_eq e
-
 or_none : {X : Type 0} (o : Option X) → option_or o None ≡ o
 or_none None = refl
 or_none (Some x) = refl
 
+-- ---- a filter of keys, and a look-up behind it
+module _ {K Q V : Type 0} (order : K → Q → Ordering) (q : Q) (keep : K → Bool) where
+  at-filter_kept : ((x : K) → order x q ≡ Equal → keep x ≡ true) → (L : List (K × V)) → at order (filter (λ p. keep p.0) L) q ≡ at order L q
+  at-filter_kept same [] = refl
+  at-filter_kept same (p ∷ L) = (elim (is_eq (order p.0 q)) as (λ c. is_eq (order p.0 q) ≡ c → at order (filter (λ p. keep p.0) (p ∷ L)) q ≡ at order (p ∷ L) q) [
+    | true ↦ λ e. rw (same p.0 (is_equal (order p.0 q) e)) (rw e refl)
+    | false ↦ λ e. (elim (keep p.0) as (λ b. keep p.0 ≡ b → at order (filter (λ p. keep p.0) (p ∷ L)) q ≡ at order (p ∷ L) q) [
+      | true ↦ λ k. rw k (rw e (at-filter_kept same L))
+      | false ↦ λ k. rw k (rw e (at-filter_kept same L))
+    ]) refl
+  ]) refl
+
+  at-filter_gone : ((x : K) → order x q ≡ Equal → keep x ≡ false) → (L : List (K × V)) → at order (filter (λ p. keep p.0) L) q ≡ None
+  at-filter_gone same [] = refl
+  at-filter_gone same (p ∷ L) = (elim (keep p.0) as (λ b. keep p.0 ≡ b → at order (filter (λ p. keep p.0) (p ∷ L)) q ≡ None) [
+    | true ↦ λ k. (elim (is_eq (order p.0 q)) as (λ c. is_eq (order p.0 q) ≡ c → at order (filter (λ p. keep p.0) (p ∷ L)) q ≡ None) [
+      | true ↦ λ e. absurd (let g : keep p.0 ≡ false = same p.0 (is_equal (order p.0 q) e) in cc)
+      | false ↦ λ e. rw k (rw e (at-filter_gone same L))
+    ]) refl
+    | false ↦ λ k. rw k (at-filter_gone same L)
+  ]) refl
+
+-- ---- the query itself
+module _ {K Q V : Type 0} (order : K → Q → Ordering) (q : Q) where
+  at-below : (L : List (K × V)) → at order (below order L q) q ≡ None
+  at-below = at-filter_gone order q (λ x. is_lt (order x q)) (λ x e. ap is_lt e)
+
+  at-above : (L : List (K × V)) → at order (above order L q) q ≡ None
+  at-above = at-filter_gone order q (λ x. is_gt (order x q)) (λ x e. ap is_gt e)
+
+  -- a pair with an equal key between the two parts is found
+  at-between : (L : List (K × V)) (p : K × V) → order p.0 q ≡ Equal → at order (below order L q ++ p ∷ above order L q) q ≡ Some p
+  at-between L p e =
+      find-append (λ p. is_eq (order p.0 q)) (below order L q) (p ∷ above order L q)
+      ∙ ap (λ r. option_or r (at order (p ∷ above order L q) q)) (at-below L)
+      ∙ rw e refl
+
+  -- a key that was cut is not found
+  at-cut : (L : List (K × V)) → at order (cut order L q) q ≡ None
+  at-cut L =
+      find-append (λ p. is_eq (order p.0 q)) (below order L q) (above order L q)
+      ∙ ap (λ r. option_or r (at order (above order L q) q)) (at-below L)
+      ∙ at-above L
+
+  pub value_at-cut : (L : List (K × V)) → value_at order (cut order L q) q ≡ None
+  value_at-cut L = ap (option_map (λ p. p.1)) (at-cut L)
+
+  at-is_equal : (L : List (K × V)) (p : K × V) → at order L q ≡ Some p → order p.0 q ≡ Equal
+  at-is_equal [] p e = absurd (cc)
+  at-is_equal (x ∷ L) p e = (elim (is_eq (order x.0 q)) as (λ c. is_eq (order x.0 q) ≡ c → order p.0 q ≡ Equal) [
+    | true ↦ λ c. let s : x ≡ p = (let h : Some x ≡ Some p = rw c at e in cc) in subst (λ (y : K × V). order y.0 q ≡ Equal) s (is_equal (order x.0 q) c)
+    | false ↦ λ c. at-is_equal L p (rw c at e)
+  ]) refl
+
+  -- the value that was written is found
+  pub value_at-write : (L : List (K × V)) (v : V) → IsSome (at order L q) → value_at order (write order L q v) q ≡ Some v
+  value_at-write L v there = (elim (at order L q) as (λ a. at order L q ≡ a → IsSome a → value_at order (option_map_or (λ p. below order L q ++ (p.0, v) ∷ above order L q) a L) q ≡ Some v) [
+    | None ↦ λ e h. absurd (cc)
+    | Some p ↦ λ e h. ap (option_map (λ p. p.1)) (at-between L (p.0, v) (at-is_equal L p e))
+  ]) refl there
+
+-- ---- another query q', where each key that it finds stands alike to q, and not as Equal
+module _ {K Q Q' V : Type 0} (order : K → Q → Ordering) (q : Q) (order' : K → Q' → Ordering) (q' : Q')
+    (c : Ordering) (differs : c ≢ Equal) (turned : (x : K) → order' x q' ≡ Equal → order x q ≡ c) where
+  -- the parts below and above q together find what the list finds
+  others : (L : List (K × V)) → option_or (at order' (below order L q) q') (at order' (above order L q) q') ≡ at order' L q'
+  others L = (elim c as (λ d. c ≡ d → option_or (at order' (below order L q) q') (at order' (above order L q) q') ≡ at order' L q') [
+    | Less ↦ λ e.
+        let gone : at order' (above order L q) q' ≡ None = at-filter_gone order' q' (λ y. is_gt (order y q)) (λ y f. ap is_gt (turned y f ∙ e)) L in
+        let kept : at order' (below order L q) q' ≡ at order' L q' = at-filter_kept order' q' (λ y. is_lt (order y q)) (λ y f. ap is_lt (turned y f ∙ e)) L in
+        rw (gone, kept) (or_none (at order' L q'))
+    | Equal ↦ λ e. absurd (differs e)
+    | Greater ↦ λ e.
+        let gone : at order' (below order L q) q' ≡ None = at-filter_gone order' q' (λ y. is_lt (order y q)) (λ y f. ap is_lt (turned y f ∙ e)) L in
+        let kept : at order' (above order L q) q' ≡ at order' L q' = at-filter_kept order' q' (λ y. is_gt (order y q)) (λ y f. ap is_gt (turned y f ∙ e)) L in
+        rw (gone, kept) refl
+  ]) refl
+
+  -- after a cut it finds what it found before
+  pub value_at-cut_apart : (L : List (K × V)) → value_at order' (cut order L q) q' ≡ value_at order' L q'
+  value_at-cut_apart L = ap (option_map (λ p. p.1)) (find-append (λ p. is_eq (order' p.0 q')) (below order L q) (above order L q) ∙ others L)
+
+  -- and with a pair with an equal key between the two parts
+  pub value_at-between_apart : (L : List (K × V)) (p : K × V) → order p.0 q ≡ Equal → value_at order' (below order L q ++ p ∷ above order L q) q' ≡ value_at order' L q'
+  value_at-between_apart L p e =
+      let miss : is_eq (order' p.0 q') ≡ false = (elim (is_eq (order' p.0 q')) as (λ b. is_eq (order' p.0 q') ≡ b → is_eq (order' p.0 q') ≡ false) [
+        | true ↦ λ h. absurd (differs (sym (turned p.0 (is_equal (order' p.0 q') h)) ∙ e))
+        | false ↦ λ h. h
+      ]) refl in
+      let same : at order' (p ∷ above order L q) q' ≡ at order' (above order L q) q' = rw miss refl in
+      ap (option_map (λ p. p.1))
+      (find-append (λ p. is_eq (order' p.0 q')) (below order L q) (p ∷ above order L q) ∙ ap (λ r. option_or (at order' (below order L q) q') r) same ∙ others L)
+
+  -- after a write it finds what it found before
+  pub value_at-write_apart : (L : List (K × V)) (v : V) → value_at order' (write order L q v) q' ≡ value_at order' L q'
+  value_at-write_apart L v = (elim (at order L q) as (λ a. at order L q ≡ a → value_at order' (option_map_or (λ p. below order L q ++ (p.0, v) ∷ above order L q) a L) q' ≡ value_at order' L q') [
+    | None ↦ λ e. refl
+    | Some p ↦ λ e. value_at-between_apart L (p.0, v) (at-is_equal order q L p e)
+  ]) refl
+
 module _ {K V : Type 0} {cmp : K → K → Ordering} (o : IsTotalOrder cmp) where
-  -- ---- a filter of keys, and a look-up behind it
-  module _ (q : K) (keep : K → Bool) where
-    at-filter_kept : ((x : K) → cmp x q ≡ Equal → keep x ≡ true) → (L : List (K × V)) → at cmp (filter (λ p. keep p.0) L) q ≡ at cmp L q
-    at-filter_kept same [] = refl
-    at-filter_kept same (p ∷ L) = (elim (is_eq (cmp p.0 q)) as (λ c. is_eq (cmp p.0 q) ≡ c → at cmp (filter (λ p. keep p.0) (p ∷ L)) q ≡ at cmp (p ∷ L) q) [
-      | true ↦ λ e. rw (same p.0 (is_equal (cmp p.0 q) e)) (rw e refl)
-      | false ↦ λ e. (elim (keep p.0) as (λ b. keep p.0 ≡ b → at cmp (filter (λ p. keep p.0) (p ∷ L)) q ≡ at cmp (p ∷ L) q) [
-        | true ↦ λ k. rw k (rw e (at-filter_kept same L))
-        | false ↦ λ k. rw k (rw e (at-filter_kept same L))
-      ]) refl
-    ]) refl
-
-    at-filter_gone : ((x : K) → cmp x q ≡ Equal → keep x ≡ false) → (L : List (K × V)) → at cmp (filter (λ p. keep p.0) L) q ≡ None
-    at-filter_gone same [] = refl
-    at-filter_gone same (p ∷ L) = (elim (keep p.0) as (λ b. keep p.0 ≡ b → at cmp (filter (λ p. keep p.0) (p ∷ L)) q ≡ None) [
-      | true ↦ λ k. (elim (is_eq (cmp p.0 q)) as (λ c. is_eq (cmp p.0 q) ≡ c → at cmp (filter (λ p. keep p.0) (p ∷ L)) q ≡ None) [
-        | true ↦ λ e. absurd (let g : keep p.0 ≡ false = same p.0 (is_equal (cmp p.0 q) e) in cc)
-        | false ↦ λ e. rw k (rw e (at-filter_gone same L))
-      ]) refl
-      | false ↦ λ k. rw k (at-filter_gone same L)
-    ]) refl
-
   -- ---- the key itself
   module _ (k : K) where
-    key_or_equal : (L : List (K × V)) → cmp (key_or (at cmp L k) k) k ≡ Equal
+    pub key_or_equal : (L : List (K × V)) → cmp (key_or (at cmp L k) k) k ≡ Equal
     key_or_equal [] = tied_itself o k
     key_or_equal (p ∷ L) = (elim (cmp p.0 k) as (λ c. cmp p.0 k ≡ c → cmp (key_or (at cmp (p ∷ L) k) k) k ≡ Equal) [
       | Less ↦ λ e. rw e (key_or_equal L)
@@ -70,32 +146,13 @@ module _ {K V : Type 0} {cmp : K → K → Ordering} (o : IsTotalOrder cmp) wher
       | Greater ↦ λ e. rw e (key_or_equal L)
     ]) refl
 
-    at-below : (L : List (K × V)) → at cmp (below cmp L k) k ≡ None
-    at-below = at-filter_gone k (λ x. is_lt (cmp x k)) (λ x e. ap is_lt e)
-
-    at-above : (L : List (K × V)) → at cmp (above cmp L k) k ≡ None
-    at-above = at-filter_gone k (λ x. is_gt (cmp x k)) (λ x e. ap is_gt e)
-
     -- the pair that a put leaves is found
     pub at-put : (L : List (K × V)) (v : V) → at cmp (put cmp L k v) k ≡ Some (key_or (at cmp L k) k, v)
-    at-put L v =
-        find-append (λ p. is_eq (cmp p.0 k)) (below cmp L k) ((key_or (at cmp L k) k, v) ∷ above cmp L k)
-        ∙ ap (λ r. option_or r (at cmp ((key_or (at cmp L k) k, v) ∷ above cmp L k) k)) (at-below L)
-        ∙ rw (key_or_equal L) refl
+    at-put L v = at-between cmp k L (key_or (at cmp L k) k, v) (key_or_equal L)
 
     -- the value that was put is found
     pub value_at-put : (L : List (K × V)) (v : V) → value_at cmp (put cmp L k v) k ≡ Some v
     value_at-put L v = ap (option_map (λ p. p.1)) (at-put L v)
-
-    at-cut : (L : List (K × V)) → at cmp (cut cmp L k) k ≡ None
-    at-cut L =
-        find-append (λ p. is_eq (cmp p.0 k)) (below cmp L k) (above cmp L k)
-        ∙ ap (λ r. option_or r (at cmp (above cmp L k) k)) (at-below L)
-        ∙ at-above L
-
-    -- a key that was cut is not found
-    pub value_at-cut : (L : List (K × V)) → value_at cmp (cut cmp L k) k ≡ None
-    value_at-cut L = ap (option_map (λ p. p.1)) (at-cut L)
 
     below-below : (L : List (K × V)) → below cmp (below cmp L k) k ≡ below cmp L k
     below-below [] = refl
@@ -132,45 +189,24 @@ module _ {K V : Type 0} {cmp : K → K → Ordering} (o : IsTotalOrder cmp) wher
 
   -- ---- every other key
   module _ (L : List (K × V)) (k q : K) (differs : cmp q k ≢ Equal) where
-    turned : (y : K) → cmp y q ≡ Equal → cmp y k ≡ cmp q k
-    turned y e = o.congr y q k e
-
-    -- the parts below and above k, asked for q, together find what the list finds
-    others : (at_k : Option (K × V)) → at_k ≡ None → option_or (at cmp (below cmp L k) q) (option_or at_k (at cmp (above cmp L k) q)) ≡ at cmp L q
-    others at_k none = rw none ((elim (cmp q k) as (λ c. cmp q k ≡ c → option_or (at cmp (below cmp L k) q) (at cmp (above cmp L k) q) ≡ at cmp L q) [
-      | Less ↦ λ e.
-          let gone : at cmp (above cmp L k) q ≡ None = at-filter_gone q (λ y. is_gt (cmp y k)) (λ y f. ap is_gt (turned y f ∙ e)) L in
-          let kept : at cmp (below cmp L k) q ≡ at cmp L q = at-filter_kept q (λ y. is_lt (cmp y k)) (λ y f. ap is_lt (turned y f ∙ e)) L in
-          rw (gone, kept) (or_none (at cmp L q))
-      | Equal ↦ λ e. absurd (differs e)
-      | Greater ↦ λ e.
-          let gone : at cmp (below cmp L k) q ≡ None = at-filter_gone q (λ y. is_lt (cmp y k)) (λ y f. ap is_lt (turned y f ∙ e)) L in
-          let kept : at cmp (above cmp L k) q ≡ at cmp L q = at-filter_kept q (λ y. is_gt (cmp y k)) (λ y f. ap is_gt (turned y f ∙ e)) L in
-          rw (gone, kept) refl
-    ]) refl)
-
     -- it finds after a put what it found before
     pub value_at-put_other : (v : V) → value_at cmp (put cmp L k v) q ≡ value_at cmp L q
     value_at-put_other v =
-        let x : K × V = (key_or (at cmp L k) k, v) in
-        let here : cmp x.0 q ≡ ordering_reverse (cmp q k) = o.congr x.0 k q (key_or_equal k L) ∙ o.antisymm k q in
-        let miss : at cmp (x ∷ above cmp L k) q ≡ at cmp (above cmp L k) q = rw (not_equal (cmp x.0 q) (cmp q k) here differs) refl in
-        ap (option_map (λ p. p.1))
-        (find-append (λ p. is_eq (cmp p.0 q)) (below cmp L k) (x ∷ above cmp L k) ∙ ap (λ r. option_or (at cmp (below cmp L k) q) r) miss ∙ others None refl)
+        value_at-between_apart cmp k cmp q (cmp q k) differs (λ x e. o.congr x q k e) L (key_or (at cmp L k) k, v) (key_or_equal k L)
 
     -- and after a cut
     pub value_at-cut_other : value_at cmp (cut cmp L k) q ≡ value_at cmp L q
-    value_at-cut_other = ap (option_map (λ p. p.1)) (find-append (λ p. is_eq (cmp p.0 q)) (below cmp L k) (above cmp L k) ∙ others None refl)
+    value_at-cut_other = value_at-cut_apart cmp k cmp q (cmp q k) differs (λ x e. o.congr x q k e) L
 
   -- ---- what both leave of a rising list
   found : (L : List (K × V)) (k : K) (p : K × V) → Rising cmp L → at cmp L k ≡ Some p → (i : ℕ) × IsFoundAt cmp L k i
   found [] k p r e = absurd (cc)
   found (p' ∷ L) k p r e = (elim (is_eq (cmp p'.0 k)) as (λ c. is_eq (cmp p'.0 k) ≡ c → (i : ℕ) × IsFoundAt cmp (p' ∷ L) k i) [
-    | true ↦ λ c. (0, found_at o (p' ∷ L) k 0 r (omega arith) (λ d. is_equal (cmp p'.0 k) c))
+    | true ↦ λ c. (0, found_at (key_one_side o) (p' ∷ L) k 0 r (omega arith) (λ d. is_equal (cmp p'.0 k) c))
     | false ↦ λ c.
         let rest : (i : ℕ) × IsFoundAt cmp L k i = found L k p r.1 (rw c at e) in (
           suc rest.0,
-          found_at o (p' ∷ L) k (suc rest.0) r (let w = found_within cmp L k rest.0 rest.1 in omega arith)
+          found_at (key_one_side o) (p' ∷ L) k (suc rest.0) r (let w = found_within cmp L k rest.0 rest.1 in omega arith)
               (λ d. ap (λ (x : K × V). cmp x.0 k) (get_or_from_slice_get L rest.0 rest.1.pair d (found_get cmp L k rest.0 rest.1)) ∙ rest.1.equal),
         )
   ]) refl
@@ -201,7 +237,7 @@ module _ {K V : Type 0} {cmp : K → K → Ordering} (o : IsTotalOrder cmp) wher
     -- where it is not, a put adds one, and a cut leaves the list
     module _ (missing : at cmp L k ≡ None) where
       parts : L ≡ below cmp L k ++ above cmp L k
-      parts = missing_splits o L k r (none_equal L k missing)
+      parts = missing_splits (key_one_side o) L k r (none_equal L k missing)
 
       pub length-put_absent : (v : V) → length (put cmp L k v) ≡ length L + 1
       length-put_absent v =

@@ -7,7 +7,10 @@ mod count;
 mod extend;
 pub mod laws;
 mod no_room;
+mod query;
 mod slice_impl;
 mod slice_search;
 pub mod store;
 mod vec_impl;
+
+pub use query::Query;

@@ -10,6 +10,7 @@ use Rattle.std.specs.Cmp.Lexicographic.{slice_cmp}
 use Rattle.std.specs.declared.alloc.Global.{Global}
 use Rattle.std.specs.declared.string.String.{String}
 use Rattle.litemap_store.specs.Pairs.{at, cut, index_of, put, value_at}
+use Rattle.litemap_store.specs.Queries.{by_text}
 use Rattle.litemap.specs.Seen.{Seen}
 use Rattle.litemap.specs.Steps.{Find, Get, Insert, Place, Remove, Value}
 use Rattle.names.specs.Told.{Answers, Calls, Does, TextMap, ShowsAll, answer_text, value_text}
@@ -17,66 +18,72 @@ use Rattle.names.specs.Command.{DoesCommand, Says}
 use Rattle.names.specs.declared.lines.Command.{Command}
 use Rattle.names.specs.declared.lines.Command.TheVariants as said
 use Rattle.names.specs.Texts.{names_of, pair_bytes}
-use Rattle.names.proofs.Views.{absent-from_view, cut-view, index_of-view, put-view, there-from_view, value_at-view}
+use Rattle.names.proofs.Views.{absent-from_view, cut-view, index-view, put-view, there-from_view, value-view}
 
-keeps : (a b : String Global) → slice_cmp nat_cmp (string_bytes a) (string_bytes b) ≡ string_cmp a b
-keeps a b = refl
+keeps : (a : String Global) (k : List ℕ) → slice_cmp nat_cmp (string_bytes a) k ≡ by_text a k
+keeps a k = refl
 
-module _ (old : Seen (String Global) (String Global)) (key : String Global) (k : List ℕ) (spelled : string_bytes key ≡ k) {E : Type 0} (r : Result (String Global) E) where
-  value_bytes : (value : Option (String Global)) → value ≡ value_at string_cmp old.pairs key
-      → option_map string_bytes value ≡ value_at (slice_cmp nat_cmp) (names_of old).pairs (string_bytes key)
-  value_bytes value e = ap (option_map string_bytes) e ∙ sym (value_at-view string_cmp (slice_cmp nat_cmp) string_bytes string_bytes keeps old.pairs key)
+-- the texts of a map, and their bytes
+abbrev TextPairs : Type 0
+TextPairs = List (String Global × String Global)
 
+value-bytes : (L : TextPairs) (k : List ℕ) (value : Option (String Global)) → value ≡ value_at by_text L k
+    → option_map string_bytes value ≡ value_at (slice_cmp nat_cmp) (map pair_bytes L) k
+value-bytes L k value e =
+    ap (option_map string_bytes) e ∙ sym (value-view by_text (slice_cmp nat_cmp) (λ k. k) string_bytes string_bytes keeps L k)
+
+module _ (old : Seen (String Global) (String Global)) (k : List ℕ) {E : Type 0} (r : Result (String Global) E) where
   -- a search for the key is a step
-  pub find_answers : (place : Result ℕ ℕ) → place ≡ index_of string_cmp old.pairs key
+  pub find_answers : (place : Result ℕ ℕ) → place ≡ index_of by_text old.pairs k
       → IfOk r (λ text. (k : List ℕ) → answer_text (Find k) (Place place) ≡ Some (string_bytes text))
       → IfOk r (λ text. Answers (names_of old) (Find k) (string_bytes text) (names_of old))
   find_answers place e said =
       IfOk-weaker r (λ text. (k : List ℕ) → answer_text (Find k) (Place place) ≡ Some (string_bytes text)) (λ text. Answers (names_of old) (Find k) (string_bytes text) (names_of old))
-      (λ text says. subst (λ (k : List ℕ). Answers (names_of old) (Find k) (string_bytes text) (names_of old)) spelled
-      (Place place, (e ∙ sym (index_of-view string_cmp (slice_cmp nat_cmp) string_bytes string_bytes keeps old.pairs key), refl), says (string_bytes key)))
+      (λ text says. (Place place, (e ∙ sym (index-view by_text (slice_cmp nat_cmp) (λ k. k) string_bytes string_bytes keeps old.pairs k), refl), says k))
       said
 
   -- looking at the value of the key is a step
-  pub get_answers : (value : Option (String Global)) → value ≡ value_at string_cmp old.pairs key
+  pub get_answers : (value : Option (String Global)) → value ≡ value_at by_text old.pairs k
       → IfOk r (λ text. string_bytes text ≡ value_text (option_map string_bytes value))
       → IfOk r (λ text. Answers (names_of old) (Get k) (string_bytes text) (names_of old))
   get_answers value e said =
       IfOk-weaker r (λ text. string_bytes text ≡ value_text (option_map string_bytes value)) (λ text. Answers (names_of old) (Get k) (string_bytes text) (names_of old))
-      (λ text says. subst (λ (k : List ℕ). Answers (names_of old) (Get k) (string_bytes text) (names_of old)) spelled
-      (Value (option_map string_bytes value), (value_bytes value e, refl), ap Some (sym says)))
+      (λ text says. (Value (option_map string_bytes value), (value-bytes old.pairs k value e, refl), ap Some (sym says)))
       said
 
   -- removing the key is a step
-  pub remove_answers : (value : Option (String Global)) (new : Seen (String Global) (String Global)) → value ≡ value_at string_cmp old.pairs key
-      → new.pairs ≡ cut string_cmp old.pairs key → (IsNone (at string_cmp old.pairs key) → new ≡ old)
+  pub remove_answers : (value : Option (String Global)) (new : Seen (String Global) (String Global)) → value ≡ value_at by_text old.pairs k
+      → new.pairs ≡ cut by_text old.pairs k → (IsNone (at by_text old.pairs k) → new ≡ old)
       → IfOk r (λ text. string_bytes text ≡ value_text (option_map string_bytes value))
       → IfOk r (λ text. Answers (names_of old) (Remove k) (string_bytes text) (names_of new))
   remove_answers value new e cuts unchanged said =
-      let cuts_bytes : (names_of new).pairs ≡ cut (slice_cmp nat_cmp) (names_of old).pairs (string_bytes key) =
-      ap (map pair_bytes) cuts ∙ sym (cut-view string_cmp (slice_cmp nat_cmp) string_bytes string_bytes keeps old.pairs key) in
+      let cuts_bytes : (names_of new).pairs ≡ cut (slice_cmp nat_cmp) (names_of old).pairs k =
+      ap (map pair_bytes) cuts ∙ sym (cut-view by_text (slice_cmp nat_cmp) (λ k. k) string_bytes string_bytes keeps old.pairs k) in
       IfOk-weaker r (λ text. string_bytes text ≡ value_text (option_map string_bytes value)) (λ text. Answers (names_of old) (Remove k) (string_bytes text) (names_of new))
-      (λ text says. subst (λ (k : List ℕ). Answers (names_of old) (Remove k) (string_bytes text) (names_of new)) spelled (
+      (λ text says. (
         Value (option_map string_bytes value),
-        (value_bytes value e, cuts_bytes, λ absent. ap (λ (s : Seen (String Global) (String Global)). s.room) (unchanged (absent-from_view string_cmp (slice_cmp nat_cmp) string_bytes string_bytes keeps old.pairs key absent))),
+        (value-bytes old.pairs k value e, cuts_bytes, λ absent. ap (λ (s : Seen (String Global) (String Global)). s.room) (unchanged (absent-from_view by_text (slice_cmp nat_cmp) (λ k. k) string_bytes string_bytes keeps old.pairs k absent))),
         ap Some (sym says),
       ))
       said
 
-  -- putting a value at the key is a step
-  pub insert_answers : (value : String Global) (v : List ℕ) → string_bytes value ≡ v → (before : Option (String Global)) (new : Seen (String Global) (String Global))
-      → before ≡ value_at string_cmp old.pairs key → new.pairs ≡ put string_cmp old.pairs key value
-      → (IsSome (at string_cmp old.pairs key) → new.room ≡ old.room) → old.room ≤ new.room + 1
-      → IfOk r (λ text. (k v : List ℕ) → answer_text (Insert k v) (Value (option_map string_bytes before)) ≡ Some (string_bytes text))
-      → IfOk r (λ text. Answers (names_of old) (Insert k v) (string_bytes text) (names_of new))
-  insert_answers value v valued before new was puts kept room said =
-      let puts_bytes : (names_of new).pairs ≡ put (slice_cmp nat_cmp) (names_of old).pairs (string_bytes key) (string_bytes value) =
-      ap (map pair_bytes) puts ∙ sym (put-view string_cmp (slice_cmp nat_cmp) string_bytes string_bytes keeps old.pairs key value) in
-      IfOk-weaker r (λ text. (k v : List ℕ) → answer_text (Insert k v) (Value (option_map string_bytes before)) ≡ Some (string_bytes text)) (λ text. Answers (names_of old) (Insert k v) (string_bytes text) (names_of new))
-      (λ text says. subst (λ (k : List ℕ). Answers (names_of old) (Insert k v) (string_bytes text) (names_of new)) spelled
-      (subst (λ (v : List ℕ). Answers (names_of old) (Insert (string_bytes key) v) (string_bytes text) (names_of new)) valued
-      (Value (option_map string_bytes before), (value_bytes before was, puts_bytes, λ there. kept (there-from_view string_cmp (slice_cmp nat_cmp) string_bytes string_bytes keeps old.pairs key there), room), says (string_bytes key) (string_bytes value))))
-      said
+-- putting a value at the key is a step
+pub insert_answers : (old : Seen (String Global) (String Global)) (key : String Global) (k : List ℕ) → string_bytes key ≡ k
+    → {E : Type 0} (r : Result (String Global) E) (value : String Global) (v : List ℕ) → string_bytes value ≡ v
+    → (before : Option (String Global)) (new : Seen (String Global) (String Global))
+    → before ≡ value_at string_cmp old.pairs key → new.pairs ≡ put string_cmp old.pairs key value
+    → (IsSome (at string_cmp old.pairs key) → new.room ≡ old.room) → old.room ≤ new.room + 1
+    → IfOk r (λ text. (k v : List ℕ) → answer_text (Insert k v) (Value (option_map string_bytes before)) ≡ Some (string_bytes text))
+    → IfOk r (λ text. Answers (names_of old) (Insert k v) (string_bytes text) (names_of new))
+insert_answers old key k spelled r value v valued before new was puts kept room said =
+    let puts_bytes : (names_of new).pairs ≡ put (slice_cmp nat_cmp) (names_of old).pairs (string_bytes key) (string_bytes value) =
+    ap (map pair_bytes) puts ∙ sym (put-view string_cmp (slice_cmp nat_cmp) string_bytes string_bytes (λ k a. refl) old.pairs key value) in
+    let there = there-from_view by_text (slice_cmp nat_cmp) (λ k. k) string_bytes string_bytes keeps old.pairs (string_bytes key) in
+    IfOk-weaker r (λ text. (k v : List ℕ) → answer_text (Insert k v) (Value (option_map string_bytes before)) ≡ Some (string_bytes text)) (λ text. Answers (names_of old) (Insert k v) (string_bytes text) (names_of new))
+    (λ text says. subst (λ (k : List ℕ). Answers (names_of old) (Insert k v) (string_bytes text) (names_of new)) spelled
+    (subst (λ (v : List ℕ). Answers (names_of old) (Insert (string_bytes key) v) (string_bytes text) (names_of new)) valued
+    (Value (option_map string_bytes before), (value-bytes old.pairs (string_bytes key) before was, puts_bytes, λ h. kept (there h), room), says (string_bytes key) (string_bytes value))))
+    said
 
 -- a line that says a command does what the command does
 pub does_command : (old next : TextMap) (line text : List ℕ) (command : Command) → Says line command → DoesCommand old command text next → Does old line text next

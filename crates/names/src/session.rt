@@ -71,8 +71,7 @@ fn get(alloc: Global, names: &Names, key: &str) -> Result<String, AllocError>
     ensures { IfOk result
         (λ text. Answers (names_of names.now) (Get key.now) (string_bytes text) (names_of names.now)) }
 {
-    let key = String::from_str(alloc, key)?;
-    value_reply(alloc, names.get(&key))
+    value_reply(alloc, names.get(key))
 }
 
 // Removes a key.
@@ -80,8 +79,7 @@ fn remove(alloc: Global, names: &mut Names, key: &str) -> Result<String, AllocEr
     ensures { IfOk result
         (λ text. Answers (names_of names.old) (Remove key.now) (string_bytes text) (names_of names.new)) }
 {
-    let key = String::from_str(alloc, key)?;
-    let removed = names.remove(&key);
+    let removed = names.remove(key);
     value_reply(alloc, removed.as_ref())
 }
 
@@ -101,8 +99,7 @@ fn find(alloc: Global, names: &Names, key: &str) -> Result<String, AllocError>
     ensures { IfOk result
         (λ text. Answers (names_of names.now) (Find key.now) (string_bytes text) (names_of names.now)) }
 {
-    let key = String::from_str(alloc, key)?;
-    place_reply(alloc, names.find_index(&key))
+    place_reply(alloc, names.find_index(key))
 }
 
 // What answers `find`, by the place.

@@ -5,3 +5,5 @@ pub mod config;
 pub mod headers;
 pub mod made;
 pub mod names;
+pub mod people;
+pub mod texts;

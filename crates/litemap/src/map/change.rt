@@ -13,6 +13,7 @@ ghost use Rattle.litemap.specs.FoundBy.{RemovesFound};
 ghost use Rattle.litemap.specs.TryFault.{IfClosure, IfNoRoom};
 
 use crate::{LiteMap, TryFault};
+use litemap_store::Query;
 use litemap_store::store::{Count, NoRoom, StoreBulkMut, StoreMut};
 use std::alloc::AllocError;
 use std::cmp::Ordering;
@@ -228,23 +229,23 @@ impl<K: Ord, V, S: StoreMut<K, V>> LiteMap<K, V, S> {
     /// It takes no memory. It compares at most once for each binary digit of the length, and moves the pairs with greater
     /// keys down by one. Where there is no such pair nothing is changed, and the room is kept; else nothing is promised
     /// of the room.
-    pub fn remove(&mut self, key: &K) -> Option<V>
+    pub fn remove<Q: Query<K>>(&mut self, key: Q) -> Option<V>
     where
         K: Drop,
-        ensures value { result ≡ value_at K.cmp self.old.pairs key.now }
-        ensures cut { self.new.pairs ≡ cut K.cmp self.old.pairs key.now }
-        ensures unchanged { IsNone (at K.cmp self.old.pairs key.now) → self.new ≡ self.old }
+        ensures value { result ≡ value_at Q.order self.old.pairs (Q.sought key) }
+        ensures cut { self.new.pairs ≡ cut Q.order self.old.pairs (Q.sought key) }
+        ensures unchanged { IsNone (at Q.order self.old.pairs (Q.sought key)) → self.new ≡ self.old }
     {
         self.remove_counted(key, &mut Count::new())
     }
 
     /// `remove`, with its comparisons counted. The Rust crate has no such call.
-    pub fn remove_counted(&mut self, key: &K, count: &mut Count) -> Option<V>
+    pub fn remove_counted<Q: Query<K>>(&mut self, key: Q, count: &mut Count) -> Option<V>
     where
         K: Drop,
-        ensures value { result ≡ value_at K.cmp self.old.pairs key.now }
-        ensures cut { self.new.pairs ≡ cut K.cmp self.old.pairs key.now }
-        ensures unchanged { IsNone (at K.cmp self.old.pairs key.now) → self.new ≡ self.old }
+        ensures value { result ≡ value_at Q.order self.old.pairs (Q.sought key) }
+        ensures cut { self.new.pairs ≡ cut Q.order self.old.pairs (Q.sought key) }
+        ensures unchanged { IsNone (at Q.order self.old.pairs (Q.sought key)) → self.new ≡ self.old }
         ensures cost { RisesByAtMost (digits (length self.old.pairs)) count.old count.new }
     {
         match self.search(key, count) {

@@ -10,6 +10,7 @@ ghost use Rattle.litemap_store.specs.Splits.{Splits};
 ghost use Rattle.litemap.specs.FoundBy.{GetsFound};
 
 use crate::LiteMap;
+use litemap_store::Query;
 use litemap_store::store::{Count, Store};
 use std::cmp::Ordering;
 
@@ -53,15 +54,15 @@ impl<K: Ord, V, S: Store<K, V>> LiteMap<K, V, S> {
     /// The value of the pair with an equal key, if there is one.
     ///
     /// It compares at most once for each binary digit of the length.
-    pub fn get(&self, key: &K) -> Option<&V>
-        ensures { option_copied result ≡ value_at K.cmp self.now.pairs key.now }
+    pub fn get<Q: Query<K>>(&self, key: Q) -> Option<&V>
+        ensures { option_copied result ≡ value_at Q.order self.now.pairs (Q.sought key) }
     {
         self.get_counted(key, &mut Count::new())
     }
 
     /// `get`, with its comparisons counted. The Rust crate has no such call.
-    pub fn get_counted(&self, key: &K, count: &mut Count) -> Option<&V>
-        ensures value { option_copied result ≡ value_at K.cmp self.now.pairs key.now }
+    pub fn get_counted<Q: Query<K>>(&self, key: Q, count: &mut Count) -> Option<&V>
+        ensures value { option_copied result ≡ value_at Q.order self.now.pairs (Q.sought key) }
         ensures cost { RisesByAtMost (digits (length self.now.pairs)) count.old count.new }
     {
         match self.search(key, count) {
@@ -87,8 +88,8 @@ impl<K: Ord, V, S: Store<K, V>> LiteMap<K, V, S> {
     /// Whether there is a pair with an equal key.
     ///
     /// It compares at most once for each binary digit of the length.
-    pub fn contains_key(&self, key: &K) -> bool
-        ensures { result ≡ is_some (at K.cmp self.now.pairs key.now) }
+    pub fn contains_key<Q: Query<K>>(&self, key: Q) -> bool
+        ensures { result ≡ is_some (at Q.order self.now.pairs (Q.sought key)) }
     {
         self.search(key, &mut Count::new()).is_ok()
     }
@@ -97,9 +98,9 @@ impl<K: Ord, V, S: Store<K, V>> LiteMap<K, V, S> {
     ///
     /// It compares at most once for each binary digit of the length. The Rust crate has this as the operator `[]`, which
     /// panics where there is no such pair.
-    pub fn index(&self, key: &K) -> &V
-        requires { IsSome (at K.cmp self.now.pairs key.now) }
-        ensures { Some result.now ≡ value_at K.cmp self.now.pairs key.now }
+    pub fn index<Q: Query<K>>(&self, key: Q) -> &V
+        requires { IsSome (at Q.order self.now.pairs (Q.sought key)) }
+        ensures { Some result.now ≡ value_at Q.order self.now.pairs (Q.sought key) }
     {
         match self.get(key) {
             Some(value) => value,
@@ -111,21 +112,21 @@ impl<K: Ord, V, S: Store<K, V>> LiteMap<K, V, S> {
     /// smaller keys.
     ///
     /// It compares at most once for each binary digit of the length.
-    pub fn find_index(&self, key: &K) -> Result<usize, usize>
-        ensures place { result ≡ index_of K.cmp self.now.pairs key.now }
+    pub fn find_index<Q: Query<K>>(&self, key: Q) -> Result<usize, usize>
+        ensures place { result ≡ index_of Q.order self.now.pairs (Q.sought key) }
         ensures within { IfOk result (λ index. index < length self.now.pairs) }
         ensures there { IfOk result
-            (λ index. slice_get self.now.pairs index ≡ at K.cmp self.now.pairs key.now) }
+            (λ index. slice_get self.now.pairs index ≡ at Q.order self.now.pairs (Q.sought key)) }
     {
         self.find_index_counted(key, &mut Count::new())
     }
 
     /// `find_index`, with its comparisons counted. The Rust crate has no such call.
-    pub fn find_index_counted(&self, key: &K, count: &mut Count) -> Result<usize, usize>
-        ensures place { result ≡ index_of K.cmp self.now.pairs key.now }
+    pub fn find_index_counted<Q: Query<K>>(&self, key: Q, count: &mut Count) -> Result<usize, usize>
+        ensures place { result ≡ index_of Q.order self.now.pairs (Q.sought key) }
         ensures within { IfOk result (λ index. index < length self.now.pairs) }
         ensures there { IfOk result
-            (λ index. slice_get self.now.pairs index ≡ at K.cmp self.now.pairs key.now) }
+            (λ index. slice_get self.now.pairs index ≡ at Q.order self.now.pairs (Q.sought key)) }
         ensures cost { RisesByAtMost (digits (length self.now.pairs)) count.old count.new }
     {
         self.search(key, count)
@@ -164,11 +165,12 @@ impl<K: Ord, V, S: Store<K, V>> LiteMap<K, V, S> {
         }
     }
 
-    // The one search of all calls by key: the place where the key splits the pairs.
-    pub(crate) fn search(&self, key: &K, count: &mut Count) -> Result<usize, usize>
-        ensures splits { Splits K.cmp self.now.pairs key.now result }
+    // The one search of all calls by key: the place where the query splits the pairs.
+    pub(crate) fn search<Q: Query<K>>(&self, key: Q, count: &mut Count) -> Result<usize, usize>
+        ensures splits { Splits Q.order self.now.pairs (Q.sought key) result }
         ensures cost { RisesByAtMost (digits (length self.now.pairs)) count.old count.new }
     {
-        self.store.lm_binary_search_by(|k| k.cmp(key), count)
+        self.store
+            .lm_binary_search_by(|k| key.compare_key(k), count)
     }
 }

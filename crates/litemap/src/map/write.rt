@@ -10,6 +10,7 @@ ghost use Rattle.litemap_store.specs.Search.{Found, Shaped};
 ghost use Rattle.litemap.specs.Lends.{LendsThere, LendsFound, LendsKey, LendsPlace, LendsValue};
 
 use crate::LiteMap;
+use litemap_store::Query;
 use litemap_store::store::{Count, StoreMut};
 use std::cmp::Ordering;
 
@@ -17,10 +18,10 @@ impl<K: Ord, V, S: StoreMut<K, V>> LiteMap<K, V, S> {
     /// The value of a key, to be written; `None` where no equal key is there.
     ///
     /// It compares at most once for each binary digit of the length.
-    pub fn get_mut(&mut self, key: &K) -> Option<&mut V>
+    pub fn get_mut<Q: Query<K>>(&mut self, key: Q) -> Option<&mut V>
         ensures* writes_back { sem 𝓛
-            (LendsValue K.row V.row S.row K.Ord S.pairs S.room self.entry key.now result) }
-        ensures value { option_copied_mut result ≡ value_at K.cmp self.old.pairs key.now }
+            (LendsValue K.row V.row S.row K.Ord S.pairs S.room self.entry Q.order (Q.sought key) result) }
+        ensures value { option_copied_mut result ≡ value_at Q.order self.old.pairs (Q.sought key) }
     {
         match self.search(key, &mut Count::new()) {
             Ok(index) => Some(self.value_in_mut(index)),
@@ -52,11 +53,11 @@ impl<K: Ord, V, S: StoreMut<K, V>> LiteMap<K, V, S> {
     ///
     /// It compares at most once for each binary digit of the length. The Rust crate has the operator `IndexMut` here,
     /// which panics where the key isn't there.
-    pub fn index_mut(&mut self, key: &K) -> &mut V
-        requires { IsSome (at K.cmp self.old.pairs key.now) }
+    pub fn index_mut<Q: Query<K>>(&mut self, key: Q) -> &mut V
+        requires { IsSome (at Q.order self.old.pairs (Q.sought key)) }
         ensures* writes_back { sem 𝓛
-            (LendsKey K.row V.row S.row K.Ord S.pairs S.room self.entry key.now result) }
-        ensures value { Some result.now ≡ value_at K.cmp self.old.pairs key.now }
+            (LendsKey K.row V.row S.row K.Ord S.pairs S.room self.entry Q.order (Q.sought key) result) }
+        ensures value { Some result.now ≡ value_at Q.order self.old.pairs (Q.sought key) }
     {
         match self.search(key, &mut Count::new()) {
             Ok(index) => self.value_in_mut(index),

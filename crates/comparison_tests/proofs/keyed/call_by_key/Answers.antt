@@ -1,5 +1,5 @@
 use Rattle.std.proofs.Common.{rules}
-use Rattle.litemap_store.specs.Search.{shape_steady}
+use Rattle.litemap_store.proofs.Shapes.{shape_steady}
 use Rattle.litemap_store.proofs.Splitting.{Ascends-by_key}
 use Rattle.comparison_tests.proofs.keyed.call_by_key.Goals as goal
 

@@ -1,6 +1,6 @@
 use Rattle.std.proofs.Common.{◌/◌, rules}
 use Rattle.std.specs.Ordering.{nat_cmp}
-use Rattle.litemap_store.specs.Search.{shape_steady}
+use Rattle.litemap_store.proofs.Shapes.{shape_steady}
 use Rattle.map_tests.proofs.Shapes.{Ascends-by_half}
 use Rattle.map_tests.proofs.closures.call_by_half.Goals as goal
 

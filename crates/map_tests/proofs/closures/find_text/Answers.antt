@@ -2,7 +2,7 @@ use Rattle.std.proofs.Common.{rules, nat_cmp}
 use Rattle.std.specs.Cmp.Lexicographic.{slice_cmp}
 use Rattle.std.specs.String.{string_bytes}
 use Rattle.std.proofs.lemmas.Cmp.{nat_list_cmp_total}
-use Rattle.litemap_store.specs.Search.{shape_steady}
+use Rattle.litemap_store.proofs.Shapes.{shape_steady}
 use Rattle.map_tests.proofs.Shapes.{Ascends-by_view}
 use Rattle.map_tests.proofs.closures.find_text.Goals as goal
 

@@ -6,5 +6,5 @@ use Rattle.names.proofs.session.remove.Goals as goal
 pub returns : goal.returns
 returns c =
     let done = c.remove-removed.ensures in
-    remove_answers c.args.names.now c.in_ok-key.key c.args.key.now c.in_ok-key.ensures.ok c.value_reply.result (option_copied c.as_ref.result) c.remove-removed.new.self
+    remove_answers c.args.names.now c.args.key.now c.value_reply.result (option_copied c.as_ref.result) c.remove-removed.new.self
     (c.as_ref.ensures.value ∙ done.value) done.cut done.unchanged c.value_reply.ensures

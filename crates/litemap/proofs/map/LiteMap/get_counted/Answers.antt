@@ -4,4 +4,4 @@ use Rattle.litemap.proofs.map.LiteMap.get_counted.Goals as goal
 
 pub returns-in-Ok-clause-value : goal.returns-in-Ok-clause-value
 returns-in-Ok-clause-value g c =
-    c.value_in.ensures ∙ found_value g.K.Ord.cmp c.args.self.now.pairs c.args.key.now c.in-Ok.index c.in-Ok.ensures.splits
+    c.value_in.ensures ∙ found_value g.Q.Query.order c.args.self.now.pairs (g.Q.Query.sought c.args.key) c.in-Ok.index c.in-Ok.ensures.splits

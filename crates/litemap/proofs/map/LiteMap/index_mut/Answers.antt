@@ -1,18 +1,18 @@
 use Rattle.std.proofs.Common.{◌∙◌, ap, refl, sym}
 use Rattle.litemap.specs.Seen.{with_pairs}
-use Rattle.litemap_store.proofs.Seams.{found_set_value, found_value}
+use Rattle.litemap_store.proofs.Seams.{found_value, found_write}
 use Rattle.litemap.proofs.Outcomes.{not_missing}
 use Rattle.litemap.proofs.map.LiteMap.index_mut.Goals as goal
 
 pub unreachable-requires : goal.unreachable-requires
-unreachable-requires g c = not_missing g.K.Ord.cmp c.args.self.now.pairs c.args.key.now c.requires c.in-Err.ensures.splits
+unreachable-requires g c = not_missing g.Q.Query.order c.args.self.now.pairs (g.Q.Query.sought c.args.key) c.requires c.in-Err.ensures.splits
 
 pub returns : goal.returns
 returns g c =
     let f = c.in-Ok.ensures.splits in (
-      (refl, λ w. ap (with_pairs c.args.self.now) (found_set_value g.K.Ord.cmp c.args.self.now.pairs c.args.key.now c.in-Ok.index f w)),
+      (refl, λ w. ap (with_pairs c.args.self.now) (found_write g.Q.Query.order c.args.self.now.pairs (g.Q.Query.sought c.args.key) c.in-Ok.index f w)),
       record {
         writes_back = tt;
-        value = sym c.value_in_mut.ensures.value ∙ found_value g.K.Ord.cmp c.args.self.now.pairs c.args.key.now c.in-Ok.index f;
+        value = sym c.value_in_mut.ensures.value ∙ found_value g.Q.Query.order c.args.self.now.pairs (g.Q.Query.sought c.args.key) c.in-Ok.index f;
       },
     )

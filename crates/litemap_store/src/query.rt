@@ -1,0 +1,204 @@
+//! What can stand for a key in a lookup.
+ghost use Rattle.std.specs.Prelude.{◌≡◌, ℕ, List};
+ghost use Rattle.std.specs.Arc.{arc_str_bytes};
+ghost use Rattle.std.specs.Box.{boxed_slice_items, boxed_str_bytes};
+ghost use Rattle.std.specs.Cmp.Lexicographic.{slice_cmp, lists_total, nat_list_cmp_total};
+ghost use Rattle.std.specs.Cow.{cow_str_bytes};
+ghost use Rattle.std.specs.Ordering.{nat_cmp};
+ghost use Rattle.std.specs.Rc.{rc_str_bytes};
+ghost use Rattle.std.specs.String.{string_bytes};
+ghost use Rattle.std.specs.declared.cmp.Ordering.{Ordering};
+ghost use Rattle.litemap_store.specs.Queries.{OneSide, by_slice, by_text, key_one_side};
+
+use std::borrow::CowStr;
+use std::boxed::{BoxedSlice, BoxedStr};
+use std::cmp::Ordering;
+use std::rc::RcStr;
+use std::sync::ArcStr;
+
+/// A query into keys of the type `K`: a reference to a key, a text for keys that are texts, a slice for keys that are lists,
+/// or a type of a user's own.
+///
+/// The Rust crate has `K: Borrow<Q>` with `Q: Ord` here.
+pub trait Query<K: Ord>: Copy {
+    /// What it looks for: a key, or what keys are compared with.
+    ghost Sought: { Type 0 };
+
+    /// What this query looks for.
+    ghost sought: { Self → Sought };
+
+    /// How a key stands to what is looked for: `Less` where it is below it.
+    ghost order: { K → Sought → Ordering };
+
+    /// How the key stands to the query: `Less` where it is below it.
+    fn compare_key(&self, key: &K) -> Ordering
+        ensures { result ≡ order key.now (sought self.now) };
+
+    /// Of two keys that rise, the lower one is below the query or the higher one above it.
+    ghost one_side: { OneSide K.cmp order };
+}
+
+/// A key, by the keys' own order.
+impl<K: Ord> Query<K> for &K {
+    ghost Sought = { K };
+
+    ghost sought = { λ q. q.now };
+
+    ghost order = { K.cmp };
+
+    ghost one_side = { key_one_side K.total };
+
+    fn compare_key(&self, key: &K) -> Ordering {
+        key.cmp(*self)
+    }
+}
+
+// By the bytes, both texts at one lifetime.
+fn compare_texts<'x>(left: &'x str, right: &'x str) -> Ordering
+    ensures { result ≡ slice_cmp nat_cmp left.now right.now }
+{
+    left.as_bytes().cmp(right.as_bytes())
+}
+
+// Item by item, both slices at one lifetime.
+fn compare_slices<'x, T: Ord>(left: &'x [T], right: &'x [T]) -> Ordering
+    ensures { result ≡ slice_cmp T.cmp left.now right.now }
+{
+    left.cmp(right)
+}
+
+/// A text, by the bytes.
+impl Query<String> for &str {
+    ghost Sought = { List ℕ };
+
+    ghost sought = { λ q. q.now };
+
+    ghost order = { by_text };
+
+    ghost one_side = { λ text x y. key_one_side nat_list_cmp_total text (string_bytes x) (string_bytes y) };
+
+    fn compare_key(&self, key: &String) -> Ordering {
+        compare_texts(key.as_str(), *self)
+    }
+}
+
+/// A text, by the bytes. It may live shorter than the keys.
+impl<'k> Query<&'k str> for &str {
+    ghost Sought = { Self };
+
+    ghost sought = { λ q. q };
+
+    ghost order = { λ key text. slice_cmp nat_cmp key.now text.now };
+
+    ghost one_side = { λ text x y. key_one_side nat_list_cmp_total text.now x.now y.now };
+
+    fn compare_key(&self, key: &&'k str) -> Ordering {
+        compare_texts(*key, *self)
+    }
+}
+
+/// A text, by the bytes.
+impl Query<BoxedStr> for &str {
+    ghost Sought = { List ℕ };
+
+    ghost sought = { λ q. q.now };
+
+    ghost order = { λ key text. slice_cmp nat_cmp (boxed_str_bytes key) text };
+
+    ghost one_side = { λ text x y. key_one_side nat_list_cmp_total text (boxed_str_bytes x) (boxed_str_bytes y) };
+
+    fn compare_key(&self, key: &BoxedStr) -> Ordering {
+        compare_texts(key.as_str(), *self)
+    }
+}
+
+/// A text, by the bytes.
+impl Query<RcStr> for &str {
+    ghost Sought = { List ℕ };
+
+    ghost sought = { λ q. q.now };
+
+    ghost order = { λ key text. slice_cmp nat_cmp (rc_str_bytes key) text };
+
+    ghost one_side = { λ text x y. key_one_side nat_list_cmp_total text (rc_str_bytes x) (rc_str_bytes y) };
+
+    fn compare_key(&self, key: &RcStr) -> Ordering {
+        compare_texts(key.as_str(), *self)
+    }
+}
+
+/// A text, by the bytes.
+impl Query<ArcStr> for &str {
+    ghost Sought = { List ℕ };
+
+    ghost sought = { λ q. q.now };
+
+    ghost order = { λ key text. slice_cmp nat_cmp (arc_str_bytes key) text };
+
+    ghost one_side = { λ text x y. key_one_side nat_list_cmp_total text (arc_str_bytes x) (arc_str_bytes y) };
+
+    fn compare_key(&self, key: &ArcStr) -> Ordering {
+        compare_texts(key.as_str(), *self)
+    }
+}
+
+/// A text, by the bytes.
+impl<'k> Query<CowStr<'k>> for &str {
+    ghost Sought = { List ℕ };
+
+    ghost sought = { λ q. q.now };
+
+    ghost order = { λ key text. slice_cmp nat_cmp (cow_str_bytes key) text };
+
+    ghost one_side = { λ text x y. key_one_side nat_list_cmp_total text (cow_str_bytes x) (cow_str_bytes y) };
+
+    fn compare_key(&self, key: &CowStr<'k>) -> Ordering {
+        compare_texts(key.as_str(), *self)
+    }
+}
+
+/// A slice, item by item: a proper prefix is less.
+impl<T: Ord> Query<Vec<T>> for &[T] {
+    ghost Sought = { List T };
+
+    ghost sought = { λ q. q.now };
+
+    ghost order = { by_slice T.cmp };
+
+    ghost one_side = { λ slice x y. key_one_side (lists_total T.total) slice x.items y.items };
+
+    fn compare_key(&self, key: &Vec<T>) -> Ordering {
+        compare_slices(key.as_slice(), *self)
+    }
+}
+
+/// A slice, item by item: a proper prefix is less. It may live shorter than the keys.
+impl<'k, T: Ord> Query<&'k [T]> for &[T] {
+    ghost Sought = { Self };
+
+    ghost sought = { λ q. q };
+
+    ghost order = { λ key slice. slice_cmp T.cmp key.now slice.now };
+
+    ghost one_side = { λ slice x y. key_one_side (lists_total T.total) slice.now x.now y.now };
+
+    fn compare_key(&self, key: &&'k [T]) -> Ordering {
+        compare_slices(*key, *self)
+    }
+}
+
+/// A slice, item by item: a proper prefix is less.
+impl<T: Ord> Query<BoxedSlice<T>> for &[T] {
+    ghost Sought = { List T };
+
+    ghost sought = { λ q. q.now };
+
+    ghost order = { λ key slice. slice_cmp T.cmp (boxed_slice_items key) slice };
+
+    ghost one_side = { λ slice x y. key_one_side
+        (lists_total T.total) slice (boxed_slice_items x) (boxed_slice_items y) };
+
+    fn compare_key(&self, key: &BoxedSlice<T>) -> Ordering {
+        compare_slices(key.as_slice(), *self)
+    }
+}

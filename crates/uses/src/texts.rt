@@ -1,0 +1,186 @@
+//! Maps asked by what can stand for a key: texts and bytes that are borrowed, and keys.
+ghost use Rattle.std.specs.Prelude.{◌≡◌, ◌≢◌, None, Some, [], ◌∷◌, IsSome, IsTrue, OnOk, is_some, string_bytes};
+ghost use Rattle.std.specs.Cmp.Lexicographic.{slice_cmp};
+ghost use Rattle.std.specs.Ordering.{int_cmp, nat_cmp};
+ghost use Rattle.litemap_store.specs.Pairs.{at, cut, index_of, put, value_at, write};
+ghost use Rattle.litemap_store.specs.Queries.{by_slice, by_text};
+ghost use Rattle.litemap.specs.ByBytes.{by_bytes};
+
+use litemap::store::Store;
+use litemap::{LiteMap, Query};
+use std::alloc::AllocError;
+
+/// Numbers at texts that the map owns.
+pub type Numbers = LiteMap<String, u32, Vec<(String, u32)>>;
+
+/// Numbers at bytes that the map owns.
+pub type ByteNumbers = LiteMap<Vec<u8>, u32, Vec<(Vec<u8>, u32)>>;
+
+/// Puts a number at a name. What is found at each name afterwards.
+#[tactic(auto, using(litemap::proofs::Texts::text_keys))]
+pub fn put_number(map: &mut Numbers, name: String, number: u32) -> Result<(), AllocError>
+    ensures there { OnOk result (value_at by_text map.new.pairs (string_bytes name) ≡ Some number) }
+    ensures others { OnOk result ((other : _) → other ≢ string_bytes name
+        → value_at by_text map.new.pairs other ≡ value_at by_text map.old.pairs other) }
+{
+    map.insert(name, number)?;
+    Ok(())
+}
+
+/// The number at a name.
+pub fn number_of(map: &Numbers, name: &str) -> Option<u32>
+    ensures { result ≡ value_at by_text map.now.pairs name.now }
+{
+    map.get(name).copied()
+}
+
+/// The place of a name, or the place where it would go.
+pub fn place_of(map: &Numbers, name: &str) -> Result<usize, usize>
+    ensures { result ≡ index_of by_text map.now.pairs name.now }
+{
+    map.find_index(name)
+}
+
+/// Whether a name is there.
+pub fn has_name(map: &Numbers, name: &str) -> bool
+    ensures { result ≡ is_some (at by_text map.now.pairs name.now) }
+{
+    map.contains_key(name)
+}
+
+/// The number at a name that is there.
+pub fn number_there(map: &Numbers, name: &str) -> u32
+    requires { IsSome (at by_text map.now.pairs name.now) }
+    ensures { Some result ≡ value_at by_text map.now.pairs name.now }
+{
+    *map.index(name)
+}
+
+/// Writes the number at a name that is there.
+pub fn set_there(map: &mut Numbers, name: &str, number: u32)
+    requires { IsSome (at by_text map.old.pairs name.now) }
+    ensures { map.new.pairs ≡ write by_text map.old.pairs name.now number }
+{
+    *map.index_mut(name) = number;
+}
+
+/// Takes a name out. All others stay.
+#[tactic(auto, using(litemap::proofs::Texts::text_keys))]
+pub fn take_number(map: &mut Numbers, name: &str) -> Option<u32>
+    ensures value { result ≡ value_at by_text map.old.pairs name.now }
+    ensures cut { map.new.pairs ≡ cut by_text map.old.pairs name.now }
+    ensures gone { value_at by_text map.new.pairs name.now ≡ None }
+    ensures others { (other : _) → other ≢ name.now
+        → value_at by_text map.new.pairs other ≡ value_at by_text map.old.pairs other }
+{
+    map.remove(name)
+}
+
+/// Writes the number at a name, where the name is there.
+#[tactic(auto, using(litemap::proofs::Texts::text_keys))]
+pub fn set_number(map: &mut Numbers, name: &str, number: u32) -> bool
+    ensures there { result ≡ is_some (at by_text map.old.pairs name.now) }
+    ensures written { map.new.pairs ≡ write by_text map.old.pairs name.now number }
+    ensures set { IsTrue result → value_at by_text map.new.pairs name.now ≡ Some number }
+{
+    match map.get_mut(name) {
+        Some(slot) => {
+            *slot = number;
+            true
+        }
+        None => false,
+    }
+}
+
+/// The number at bytes.
+pub fn number_of_bytes(map: &ByteNumbers, bytes: &[u8]) -> Option<u32>
+    ensures { result ≡ value_at (by_slice nat_cmp) map.now.pairs bytes.now }
+{
+    map.get(bytes).copied()
+}
+
+/// The place of bytes, or the place where they would go.
+pub fn place_of_bytes(map: &ByteNumbers, bytes: &[u8]) -> Result<usize, usize>
+    ensures { result ≡ index_of (by_slice nat_cmp) map.now.pairs bytes.now }
+{
+    map.find_index(bytes)
+}
+
+/// Takes bytes out. All others stay.
+#[tactic(auto, using(litemap::proofs::Texts::byte_keys))]
+pub fn take_bytes(map: &mut ByteNumbers, bytes: &[u8]) -> Option<u32>
+    ensures value { result ≡ value_at (by_slice nat_cmp) map.old.pairs bytes.now }
+    ensures cut { map.new.pairs ≡ cut (by_slice nat_cmp) map.old.pairs bytes.now }
+    ensures gone { value_at (by_slice nat_cmp) map.new.pairs bytes.now ≡ None }
+    ensures others { (other : _) → other ≢ bytes.now
+        → value_at (by_slice nat_cmp) map.new.pairs other ≡ value_at (by_slice nat_cmp) map.old.pairs other }
+{
+    map.remove(bytes)
+}
+
+/// Writes the number at bytes, where they are there.
+#[tactic(auto, using(litemap::proofs::Texts::byte_keys))]
+pub fn set_bytes(map: &mut ByteNumbers, bytes: &[u8], number: u32) -> bool
+    ensures there { result ≡ is_some (at (by_slice nat_cmp) map.old.pairs bytes.now) }
+    ensures written { map.new.pairs ≡ write (by_slice nat_cmp) map.old.pairs bytes.now number }
+    ensures set { IsTrue result → value_at (by_slice nat_cmp) map.new.pairs bytes.now ≡ Some number }
+{
+    match map.get_mut(bytes) {
+        Some(slot) => {
+            *slot = number;
+            true
+        }
+        None => false,
+    }
+}
+
+/// A greeting, where the languages are texts of the program and `en` is asked for.
+pub fn greeting(map: &LiteMap<&'static str, u32, Vec<(&'static str, u32)>>) -> Option<u32>
+    ensures { result ≡ value_at (λ key text. slice_cmp nat_cmp key.now text) map.now.pairs (101 ∷ 110 ∷ []) }
+{
+    map.get("en").copied()
+}
+
+/// The number at a borrowed text, asked by a text that may live shorter.
+pub fn number_of_borrowed<'k>(
+    map: &LiteMap<&'k str, u32, Vec<(&'k str, u32)>>,
+    name: &str,
+) -> Option<u32>
+    ensures { result ≡ value_at by_bytes map.now.pairs name.entry }
+{
+    map.get(name).copied()
+}
+
+/// The number at a signed key that is passed by value.
+pub fn number_of_signed(map: &LiteMap<i32, u32, Vec<(i32, u32)>>, key: i32) -> Option<u32>
+    ensures { result ≡ value_at int_cmp map.now.pairs key }
+{
+    map.get(&key).copied()
+}
+
+/// Writes the value at a key that is there, as a put of it.
+pub fn set_at(map: &mut LiteMap<u32, u8, Vec<(u32, u8)>>, key: u32, value: u8) -> bool
+    ensures { IsTrue result → map.new.pairs ≡ put nat_cmp map.old.pairs key value }
+{
+    match map.get_mut(&key) {
+        Some(slot) => {
+            *slot = value;
+            true
+        }
+        None => false,
+    }
+}
+
+/// The value at a key, over every map.
+pub fn copied_at<K: Ord, V: Copy, S: Store<K, V>>(map: &LiteMap<K, V, S>, key: &K) -> Option<V>
+    ensures { result ≡ value_at K.cmp map.now.pairs key.now }
+{
+    map.get(key).copied()
+}
+
+/// Whether a query finds a pair, over every map and by any query.
+pub fn has<K: Ord, V, S: Store<K, V>, Q: Query<K>>(map: &LiteMap<K, V, S>, query: Q) -> bool
+    ensures { result ≡ is_some (at Q.order map.now.pairs (Q.sought query)) }
+{
+    map.contains_key(query)
+}
