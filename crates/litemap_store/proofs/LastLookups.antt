@@ -60,7 +60,7 @@ module _ {K V : Type 0} {cmp : K → K → Ordering} (o : IsTotalOrder cmp) wher
   pub at-Last : (J M : List (K × V)) → Last cmp J M → (k : K) → at cmp M k ≡ at cmp (reverse J) k
   at-Last J M last k = elim (last_backwards J k) [
     | inl h ↦ at-Rising M k h.0 last.rising ((last.exactly h.0).1 h.1) h.2 ∙ sym h.3
-    | inr h ↦ at_none o M k (from_each (λ (q : K × V). cmp q.0 k ≢ Equal) M (λ q i. each (λ (y : K × V). cmp y.0 k ≢ Equal) J h.0 q (In-from_last cmp q J ((last.exactly q).0 i)))) ∙ sym h.1
+    | inr h ↦ at_none cmp M k (from_each (λ (q : K × V). cmp q.0 k ≢ Equal) M (λ q i. each (λ (y : K × V). cmp y.0 k ≢ Equal) J h.0 q (In-from_last cmp q J ((last.exactly q).0 i)))) ∙ sym h.1
   ]
 
   -- after more pairs it finds the last new one of its key, or what it found before
