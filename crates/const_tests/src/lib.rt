@@ -1,5 +1,8 @@
-//! Tests of the lookups in maps over a borrowed slice, whose names begin with `const_`.
+//! Tests of maps over a borrowed slice: the parts of a map that are lent as maps, and the lookups whose names
+//! begin with `const_`.
 #![tactic(auto)]
 
 #[cfg(test)]
 mod lookups;
+#[cfg(test)]
+mod views;

@@ -157,12 +157,13 @@ fn assert_texts_found(rt: &impl Abort, pairs: &[(&str, u32)], absent: &str)
 {
     let map = slice_map(pairs);
     for (place, (text, value)) in pairs.iter().enumerate() {
-        assert!(rt;
-            map.const_get_with_index(text) == Some((place, value)),
+        assert_eq!(rt;
+            map.const_get_with_index(text),
+            Some((place, value)),
             "of {text}"
         );
     }
-    assert!(rt; map.const_get_with_index(absent).is_none(), "of {absent}");
+    assert_eq!(rt; map.const_get_with_index(absent), None);
 }
 
 #[test]
@@ -184,12 +185,13 @@ fn assert_bytes_found(rt: &impl Abort, pairs: &[(&[u8], u32)], absent: &[u8])
 {
     let map = slice_map(pairs);
     for (place, (bytes, value)) in pairs.iter().enumerate() {
-        assert!(rt;
-            map.const_get_with_index(bytes) == Some((place, value)),
+        assert_eq!(rt;
+            map.const_get_with_index(bytes),
+            Some((place, value)),
             "of {bytes:?}"
         );
     }
-    assert!(rt; map.const_get_with_index(absent).is_none(), "of {absent:?}");
+    assert_eq!(rt; map.const_get_with_index(absent), None);
 }
 
 #[test]
@@ -204,8 +206,9 @@ fn assert_found_in_order(rt: &impl Abort, pairs: &[(&[u8], usize)]) {
     assert!(rt; LiteMap::is_sorted_store(&store), "{pairs:?}");
     let map = LiteMap::from_sorted_store_unchecked(store);
     for (bytes, place) in pairs {
-        assert!(rt;
-            map.const_get_with_index(bytes) == Some((*place, place)),
+        assert_eq!(rt;
+            map.const_get_with_index(bytes),
+            Some((*place, place)),
             "of {bytes:?}"
         );
     }
@@ -227,10 +230,11 @@ fn test_const_cmp_bytes(rt: HostRuntime) {
 #[test]
 fn a_slice_map_has_a_length_and_its_pairs_have_places(rt: HostRuntime) {
     let map = slice_map(LETTERS);
-    assert!(rt; map.const_len() == 2 && !map.const_is_empty());
+    assert_eq!(rt; map.const_len(), 2);
+    assert!(rt; !map.const_is_empty());
     for (place, pair) in LETTERS.iter().enumerate() {
         if place < map.const_len() {
-            assert!(rt; map.const_get_indexed_or_panic(place) == pair, "at {place}");
+            assert_eq!(rt; map.const_get_indexed_or_panic(place), pair);
         }
     }
 }
@@ -238,6 +242,7 @@ fn a_slice_map_has_a_length_and_its_pairs_have_places(rt: HostRuntime) {
 #[test]
 fn an_empty_slice_map_has_nothing(rt: HostRuntime) {
     let map: SliceMap<u8, u8> = slice_map(&[]);
-    assert!(rt; map.const_len() == 0 && map.const_is_empty());
-    assert!(rt; map.const_get_with_index(0).is_none());
+    assert_eq!(rt; map.const_len(), 0);
+    assert!(rt; map.const_is_empty());
+    assert_eq!(rt; map.const_get_with_index(0), None);
 }

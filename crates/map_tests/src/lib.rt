@@ -1,5 +1,5 @@
-//! Tests that call a map as a user would, of what no contract says: over a vector, over a store with a
-//! fixed room, and over a borrowed slice.
+//! Tests that call a map as a user would, of what no contract says: over a vector, and over a store with a
+//! fixed room.
 #![tactic(auto)]
 
 #[cfg(test)]
@@ -14,5 +14,3 @@ mod counts;
 mod printing;
 #[cfg(test)]
 mod stored_keys;
-#[cfg(test)]
-mod views;

@@ -48,10 +48,8 @@ fn lines_and_their_answers(rt: HostRuntime) -> Result<(), Fail> {
     ];
     for (input, status, out) in runs {
         let (found, text) = status_and_out(rt.alloc(), input);
-        assert!(rt;
-            found == status && text.as_slice() == out,
-            "{input:?} ends with {found}"
-        );
+        assert_eq!(rt; found, status);
+        assert_eq!(rt; text.as_slice(), out);
     }
     Ok(())
 }
@@ -90,8 +88,8 @@ fn bad_lines(rt: HostRuntime) -> Result<(), Fail> {
     ];
     for line in lines {
         let (status, text) = status_and_out(rt.alloc(), line);
-        let is_bad = status == 2 && text.as_slice() == b"bad line 1\n".as_slice();
-        assert!(rt; is_bad, "{line:?} ends with {status}");
+        assert_eq!(rt; status, 2);
+        assert_eq!(rt; text.as_slice(), b"bad line 1\n".as_slice());
     }
     Ok(())
 }
@@ -100,9 +98,11 @@ fn bad_lines(rt: HostRuntime) -> Result<(), Fail> {
 fn input_of_the_greatest_length(rt: HostRuntime) -> Result<(), Fail> {
     let input = vec![in rt.alloc(); b'\n'; 1_048_577]?;
     let (status, text) = status_and_out(rt.alloc(), &input);
-    assert!(rt; status == 2 && text.as_slice() == b"input too long\n".as_slice());
+    assert_eq!(rt; status, 2);
+    assert_eq!(rt; text.as_slice(), b"input too long\n".as_slice());
     let (status, text) = status_and_out(rt.alloc(), &input[1..]);
-    assert!(rt; status == 0 && text.is_empty());
+    assert_eq!(rt; status, 0);
+    assert_eq!(rt; text.as_slice(), b"".as_slice());
     Ok(())
 }
 
@@ -120,7 +120,8 @@ fn many_names_are_new(rt: HostRuntime) -> Result<(), Fail> {
         push_put(rt.alloc(), &mut input, key)?;
     }
     let (status, text) = status_and_out(rt.alloc(), &input);
-    assert!(rt; status == 0 && text.len() == 4 * 201);
+    assert_eq!(rt; status, 0);
+    assert_eq!(rt; text.len(), 4 * 201);
     assert!(rt; text.chunks(4).all(|line| line == b"new\n".as_slice()));
     Ok(())
 }

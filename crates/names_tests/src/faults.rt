@@ -18,11 +18,9 @@ fn each_read_fails(rt: HostRuntime) -> Result<(), Fail> {
                 reads: if fails { at + 1 } else { 4 },
                 writes: if fails { 1 } else { 0 },
             };
+            assert_eq!(rt; ran, wanted);
             let text: &[u8] = if fails { b"read fault\n" } else { b"" };
-            assert!(rt;
-                ran == wanted && out.as_slice() == text,
-                "read {at}: {ran:?}"
-            );
+            assert_eq!(rt; out.as_slice(), text);
         }
     }
     Ok(())
@@ -43,10 +41,8 @@ fn each_write_fails(rt: HostRuntime) -> Result<(), Fail> {
                 reads: 2,
                 writes: if fails { at + 1 } else { 5 },
             };
-            assert!(rt;
-                ran == wanted && out.as_slice() == text,
-                "write {at}: {ran:?}"
-            );
+            assert_eq!(rt; ran, wanted);
+            assert_eq!(rt; out.as_slice(), text);
         }
     }
     Ok(())
@@ -65,8 +61,9 @@ fn each_byte_fails(rt: HostRuntime) -> Result<(), Fail> {
                 reads: 2,
                 writes: if fails { at + 1 } else { 28 },
             };
-            let is_front = out.len() as u64 == at.min(28) && WRITTEN[5].starts_with(&out);
-            assert!(rt; ran == wanted && is_front, "byte {at}: {ran:?}");
+            assert_eq!(rt; ran, wanted);
+            assert_eq!(rt; out.len() as u64, at.min(28));
+            assert!(rt; WRITTEN[5].starts_with(&out));
         }
     }
     Ok(())
@@ -91,10 +88,8 @@ fn last_lines_fail(rt: HostRuntime) -> Result<(), Fail> {
                 reads,
                 writes: 1,
             };
-            assert!(rt;
-                ran == wanted && out.is_empty(),
-                "read {at} and write 0: {ran:?}"
-            );
+            assert_eq!(rt; ran, wanted);
+            assert!(rt; out.is_empty());
         }
     }
     Ok(())
@@ -105,8 +100,8 @@ fn a_writer_takes_nothing(rt: HostRuntime) -> Result<(), Fail> {
     let mut full = [0u8; 2];
     let mut reader = Watch::new(LINES);
     let mut writer = Watch::new(full.as_mut_slice());
-    let status = run(rt.alloc(), &mut reader, &mut writer);
-    assert!(rt; status == 4 && writer.failed && !reader.failed);
-    assert!(rt; full == *b"ne");
+    assert_eq!(rt; run(rt.alloc(), &mut reader, &mut writer), 4);
+    assert!(rt; writer.failed && !reader.failed);
+    assert_eq!(rt; full, *b"ne");
     Ok(())
 }

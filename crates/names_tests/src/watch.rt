@@ -27,8 +27,8 @@ fn a_write_into_no_room(rt: HostRuntime) -> Result<(), Fail> {
     writer.write_all(b"")?;
     let writes: [(&[u8], bool); 3] = [(b"", false), (b"a", true), (b"", true)];
     for (text, has_failed) in writes {
-        let taken = writer.write(text)?;
-        assert!(rt; taken == 0 && writer.failed == has_failed, "of {text:?}");
+        assert_eq!(rt; writer.write(text)?, 0);
+        assert_eq!(rt; writer.failed, has_failed);
     }
     Ok(())
 }
@@ -36,7 +36,8 @@ fn a_write_into_no_room(rt: HostRuntime) -> Result<(), Fail> {
 #[test]
 fn a_refused_flush(rt: HostRuntime) -> Result<(), Fail> {
     let mut writer = Watch::new(RefusesFlush);
-    assert!(rt; writer.flush().is_err() && !writer.failed);
+    assert!(rt; writer.flush().is_err());
+    assert!(rt; !writer.failed);
     Ok(())
 }
 
@@ -52,8 +53,8 @@ fn reads_up_to_a_fault_and_after(rt: HostRuntime) -> Result<(), Fail> {
         (Some(0), true),
     ];
     for (count, has_failed) in reads {
-        let read = reader.read(&mut bytes).ok();
-        assert!(rt; read == count && reader.failed == has_failed, "{read:?}");
+        assert_eq!(rt; reader.read(&mut bytes).ok(), count);
+        assert_eq!(rt; reader.failed, has_failed);
     }
     Ok(())
 }
