@@ -2,7 +2,7 @@
 --     given_by_vec      what a vector gives;  value_at-extended, new_wins, old_stays      what is found after `extend`
 --     value_at-collected      what is found after `from_iter`;  cost_behind, cost_rising      how far a count rises
 -- An answer shows `holds` by `λ v it h. h.0`.
-use Rattle.std.proofs.Common.{◌≡◌, ◌+◌, ◌*◌, List, [], ◌++◌, length, Option, Some, None, option_map, reverse, ap, ◌∙◌, subst, Vec}
+use Rattle.std.proofs.Common.{◌≡◌, ◌+◌, ◌*◌, List, [], ◌++◌, length, Some, None, option_map, reverse, ap, ◌∙◌, subst, Vec}
 use Rattle.std.proofs.IntoIterSteps.{All-taken}
 use Rattle.std.specs.Cmp.{IsTotalOrder}
 use Rattle.std.specs.Option.{option_or}

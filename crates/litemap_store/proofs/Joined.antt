@@ -1,8 +1,8 @@
 -- Lists that rise, by their neighbours and joined.
 --     adjacent_from_Rising, Rising-from_adjacent      of two neighbours the later one has the greater key
 --     Rising-behind      where the last key of one lies below the first of the other;  Rising-from_Rises      where all of one lie below the other
---     empty_from_last, empty_from_first      an empty list
-use Rattle.std.proofs.Common.{ℕ, zero, suc, ◌<◌, ◌+◌, ◌-◌, length, get_or, arith, ◌≡◌, ◌⊎◌, ◌↔◌, List, [], ◌∷◌, ◌++◌, refl, sym, ap, ◌∙◌, subst, inl, inr, Ordering, Less, slice_get, Some, None, sub-one, suc-add}
+--     empty_from_last      an empty list
+use Rattle.std.proofs.Common.{ℕ, zero, suc, ◌-◌, length, get_or, arith, ◌≡◌, ◌⊎◌, ◌↔◌, List, [], ◌∷◌, ◌++◌, refl, sym, subst, inl, inr, Ordering, Less, slice_get, Some, None, sub-one, suc-add}
 use Rattle.std.specs.List.{AllAdjacentBelow, AllByRecursion}
 use Rattle.std.specs.Cmp.{IsTotalOrder}
 use Rattle.litemap_store.specs.Last.{In, Rises}
@@ -39,10 +39,6 @@ empty_from_last (y ∷ (z ∷ L)) e =
     let none = empty_from_last (z ∷ L) down in
     absurd (cc)
 
-pub empty_from_first : {X : Type 0} (L : List X) → slice_get L 0 ≡ None → L ≡ []
-empty_from_first [] e = refl
-empty_from_first (y ∷ L) e = absurd (cc)
-
 -- what is not the last of a rising list is below it
 below_last : {K V : Type 0} (cmp : K → K → Ordering) (A : List (K × V)) (a x : K × V) → Rising cmp A → slice_get A (length A - 1) ≡ Some a → In x A → (x ≡ a) ⊎ (cmp x.0 a.0 ≡ Less)
 below_last cmp [] a x r e i = absurd i
@@ -72,10 +68,6 @@ module _ {K V : Type 0} (cmp : K → K → Ordering) (o : IsTotalOrder cmp) (A B
 
   pub Rising-behind : Rising cmp A → Rising cmp B → (cmp a.0 b.0 ≡ Less) ↔ Rising cmp (A ++ B)
   Rising-behind r s = (λ l. Rising-append cmp A B r s (λ x y i j. from_b x y (up_to_last l x (below_last cmp A a x r is_last i)) (from_first B is_first s y j)), λ t. rising_across cmp A B t a b (In-slice_get A _ a is_last) (In-slice_get B 0 b is_first))
-
-pub Rising-right : {K V : Type 0} (cmp : K → K → Ordering) (A B : List (K × V)) → Rising cmp (A ++ B) → Rising cmp B
-Rising-right cmp [] B r = r
-Rising-right cmp (a ∷ A) B r = Rising-right cmp A B r.1
 
 pub Rising-from_Rises : {K V : Type 0} (cmp : K → K → Ordering) (A B : List (K × V)) → Rising cmp A → Rises cmp A B → Rising cmp (A ++ B)
 Rising-from_Rises {K} {V} cmp A B r h = Rising-append cmp A B r h.rising (λ a b i j. each (λ (q : K × V). cmp a.0 q.0 ≡ Less) B (each (λ (p : K × V). AllByRecursion (λ (q : K × V). cmp p.0 q.0 ≡ Less) B) A h.below a i) b j)

@@ -1,21 +1,20 @@
 -- What a stable sort keeps, and a pass that keeps the last of each run of equal keys.
 --     last_by_stable      the same pairs stand last after it;  KeptLast, passed_over, passed_more      what the pass has kept so far, and after one more pair
 --     Last-push      a pair above all goes behind the last pairs;  filter_all, filter_none, last_cases      lists
-use Rattle.std.proofs.Common.{ℕ, zero, suc, ◌<◌, ◌≤◌, ◌+◌, ◌-◌, length, get_or, arith, ◌≡◌, ◌⊎◌, ◌≢◌, ◌↔◌, Bool, true, false, cond, not, ◌&&◌, List, [], ◌∷◌, ◌++◌, filter, take, drop, set, swap, refl, sym, ap, ◌∙◌, subst, subst₂, inl, inr, append-nil, Ordering, Less, Equal, Greater, is_lt, is_gt, is_eq, add-one}
-use Rattle.std.specs.List.{AllByRecursion}
-use Rattle.std.specs.List.Sorted.{IsStableBy, ties, IsSortedByKey, IsSortedBy}
+use Rattle.std.proofs.Common.{ℕ, zero, suc, ◌<◌, ◌≤◌, ◌+◌, length, get_or, arith, ◌≡◌, ◌⊎◌, ◌≢◌, ◌↔◌, Bool, true, false, cond, List, [], ◌∷◌, ◌++◌, filter, take, drop, set, swap, refl, sym, ap, ◌∙◌, subst, subst₂, inl, inr, append-nil, Ordering, Less, Equal, Greater, is_lt, is_gt, is_eq}
+use Rattle.std.specs.List.Sorted.{IsStableBy, ties, IsSortedByKey}
 use Rattle.std.specs.Cmp.{IsTotalOrder}
 use Rattle.std.proofs.lemmas.Cmp.{tied_itself, tied_back, alike_right}
-use Rattle.std.proofs.lemmas.List.{get_or_default, take_more, take_more_set, take-set-le, set-set, drop-set-lt, drop_more, length-set}
+use Rattle.std.proofs.lemmas.List.{get_or_default, take_more, take_more_set, take-set-le, set-set, drop-set-lt, drop_more}
 use Rattle.std.proofs.lemmas.List.Edits.{swap_is, length-swap}
 use Rattle.std.proofs.lemmas.List.Elements.{filter-append}
 use Rattle.std.proofs.lemmas.List.Sorted.{sorted_far, ranks_by}
-use Rattle.std.proofs.lemmas.Bool.{cases_lt, cases_eq}
+use Rattle.std.proofs.lemmas.Bool.{cases_lt}
 use mathlib.Core.Bool.{true≢false}
-use Rattle.litemap_store.specs.Last.{In, Last, NoneEqual, StandsLast}
+use Rattle.litemap_store.specs.Last.{In, Last, StandsLast}
 use Rattle.litemap_store.specs.Pairs.{Rising, above, below}
-use Rattle.litemap_store.proofs.Membership.{In-left, In-right, In-cases, In-filter, In-from_filter, each, from_each, In-get_or}
-use Rattle.litemap_store.proofs.LastPairs.{In-from_last, Last-put, Last-rising}
+use Rattle.litemap_store.proofs.Membership.{In-right, In-cases, In-filter, In-from_filter, each, from_each}
+use Rattle.litemap_store.proofs.LastPairs.{In-from_last, Last-put}
 use Rattle.litemap_store.proofs.Splitting.{greater_back}
 
 -- ---- filters that keep all or none
@@ -64,11 +63,6 @@ pub record KeptLast {K V : Type 0} (cmp : K → K → Ordering) (S xs : List (K 
   pub long : length xs ≡ length S
   pub last : Last cmp (take i S) (take k xs)
   pub rest : drop i xs ≡ drop i S
-
--- one pair is passed, and kept
-pub kept_first : {K V : Type 0} (cmp : K → K → Ordering) (S : List (K × V)) → 0 < length S → KeptLast cmp S S 1 1
-kept_first cmp [] h = absurd (omega arith)
-kept_first cmp (x ∷ S) h = record { long = refl; last = Last-rising cmp (x ∷ []) (tt, tt); rest = refl }
 
 module _ {K : Type 0} (cmp : K → K → Ordering) (o : IsTotalOrder cmp) where
   -- ---- what a filter that passes equal keys keeps

@@ -1,8 +1,8 @@
 -- What a look-up finds among the last pairs of a list: lemmas for the proofs of callers. `laws::last_is_found` has them as
 -- its contract. An answer takes the order's laws as those of `Lookups` do.
 --     at-Last      what it finds in the list read backwards;  value_at-Last_of_more      what it finds after more pairs
-use Rattle.std.proofs.Common.{◌≡◌, ◌≢◌, ◌⊎◌, List, [], ◌∷◌, ◌++◌, Option, Some, None, find, option_map, reverse, refl, sym, ap, ◌∙◌, subst, inl, inr}
-use Rattle.std.proofs.lemmas.Cmp.{alike_right, tied_back}
+use Rattle.std.proofs.Common.{◌≡◌, ◌≢◌, ◌⊎◌, List, [], ◌∷◌, ◌++◌, Option, Some, None, option_map, reverse, refl, sym, ap, ◌∙◌, subst, inl, inr}
+use Rattle.std.proofs.lemmas.Cmp.{alike_right}
 use Rattle.std.proofs.lemmas.List.{reverse-append}
 use Rattle.std.proofs.lemmas.List.Folds.{find-append}
 use Rattle.std.specs.Cmp.{IsTotalOrder}

@@ -2,10 +2,9 @@
 --     last_of, Last-unique      there is one, and only one;  Last-rising      a rising list is its own;  Last-put      one more pair
 --     Last-join, Last-join_right      the last pairs of a part in place of the part;  Last-same      the same pairs stand last
 --     Rising-append, Rising-filter      lists that rise;  StandsLast-left, StandsLast-right, StandsLast-cases      where a pair of a joined list stands last
-use Rattle.std.proofs.Common.{◌≡◌, ◌⊎◌, ◌≢◌, ◌↔◌, Bool, true, false, cond, List, [], ◌∷◌, ◌++◌, filter, refl, sym, ap, ◌∙◌, subst, inl, inr, append-nil, append_assoc, Ordering, Less, Equal, Greater, is_lt, is_gt, is_eq}
-use Rattle.std.specs.List.{AllByRecursion}
+use Rattle.std.proofs.Common.{◌≡◌, ◌⊎◌, ◌≢◌, ◌↔◌, Bool, true, false, cond, List, [], ◌∷◌, ◌++◌, filter, refl, sym, ap, ◌∙◌, subst, inl, inr, append-nil, append_assoc, Ordering, Less, Equal, Greater, is_lt, is_gt}
 use Rattle.std.specs.Cmp.{IsTotalOrder}
-use Rattle.std.proofs.lemmas.Cmp.{tied_itself, tied_back, alike_right}
+use Rattle.std.proofs.lemmas.Cmp.{tied_itself, alike_right}
 use mathlib.Core.Bool.{true≢false}
 use Rattle.litemap_store.specs.Last.{In, Last, NoneEqual, StandsLast}
 use Rattle.litemap_store.specs.Pairs.{BelowAll, Rising, above, below}
@@ -170,9 +169,6 @@ module _ {K : Type 0} (cmp : K → K → Ordering) (o : IsTotalOrder cmp) where
           | inr h ↦ StandsLast-right cmp p M₁ J₂ h
         ],
       )
-
-  NoneEqual-like : {V : Type 0} (j k : K) (L : List (K × V)) → cmp j k ≡ Equal → NoneEqual cmp j L → NoneEqual cmp k L
-  NoneEqual-like {V} j k L e n = from_each (λ (q : K × V). cmp k q.0 ≢ Equal) L (λ x i same. each (λ (q : K × V). cmp j q.0 ≢ Equal) L n x i (o.congr j k x.0 e ∙ same))
 
   pub some_equal : {V : Type 0} (k : K) (J : List (K × V)) → ((q : K × V) × In q J × (cmp k q.0 ≡ Equal)) ⊎ NoneEqual cmp k J
   some_equal k [] = inr tt

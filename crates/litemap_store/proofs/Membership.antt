@@ -1,9 +1,8 @@
 -- What stands in a list, and what holds of each element.
 --     In-left, In-right, In-cases      where a joined list has an element;  In-filter, In-from_filter      what a filter keeps
 --     each, from_each      what holds of each element;  In-get_or      what stands at a place
-use Rattle.std.proofs.Common.{ℕ, zero, suc, ◌<◌, ◌+◌, length, get_or, arith, ◌≡◌, ◌⊎◌, ◌≢◌, Bool, true, false, cond, List, [], ◌∷◌, ◌++◌, filter, refl, sym, ap, ◌∙◌, subst, inl, inr}
+use Rattle.std.proofs.Common.{ℕ, zero, suc, ◌<◌, length, get_or, arith, ◌≡◌, ◌⊎◌, Bool, true, false, cond, List, [], ◌∷◌, ◌++◌, filter, refl, sym, ap, ◌∙◌, subst, inl, inr}
 use Rattle.std.specs.List.{AllByRecursion}
-use mathlib.Core.Bool.{true≢false}
 use Rattle.litemap_store.specs.Last.{In}
 
 -- ---- where a joined list has an element

@@ -1,6 +1,6 @@
 -- A list that is read by appending what rises and putting the rest aside.
 --     Last-sifted      its last pairs are those of what was appended, extended by what was put aside
-use Rattle.std.proofs.Common.{◌≡◌, ◌≢◌, ◌⊎◌, ◌↔◌, List, [], ◌∷◌, ◌++◌, append-nil, append_assoc, refl, sym, ap, ◌∙◌, subst, inl, inr}
+use Rattle.std.proofs.Common.{◌≡◌, ◌≢◌, ◌↔◌, List, [], ◌∷◌, ◌++◌, append-nil, append_assoc, sym, ◌∙◌, subst, inl, inr}
 use Rattle.std.proofs.lemmas.Cmp.{alike_right, tied_back}
 use Rattle.std.specs.Cmp.{IsTotalOrder}
 use Rattle.std.specs.List.{AllByRecursion}

@@ -1,15 +1,15 @@
 -- Taking the greatest pair of two rising lists from their ends.
 --     end_none, end_new, end_old, end_from_cmp      which list has it;  take_old, take_new, take_both      what is left where its pair is taken
---     old_is_there, new_is_there      a list that has it is not empty;  taken_last      a list without its last element
+--     taken_last      a list without its last element
 --     reverse_behind, Last-of_none      the side vector
-use Rattle.std.proofs.Common.{ℕ, zero, suc, ◌<◌, ◌≤◌, ◌+◌, ◌-◌, length, arith, ◌≡◌, ◌⊎◌, ◌≢◌, ◌↔◌, List, [], ◌∷◌, ◌++◌, refl, sym, ap, ◌∙◌, subst, subst₂, inl, inr, append_assoc, length-append, Ordering, Less, Equal, Greater, slice_get, Some, None, Option, sub-one, ◌==◌, eqb-true, reverse, Bool, true, false}
-use Rattle.std.specs.List.{AllByRecursion, remove}
+use Rattle.std.proofs.Common.{ℕ, zero, suc, ◌-◌, length, arith, ◌≡◌, ◌≢◌, ◌↔◌, List, [], ◌∷◌, ◌++◌, refl, sym, ap, ◌∙◌, subst, subst₂, inl, inr, append_assoc, length-append, Ordering, Less, Equal, Greater, slice_get, Some, None, sub-one, ◌==◌, eqb-true, reverse, true, false}
+use Rattle.std.specs.List.{remove}
 use Rattle.std.specs.Cmp.{IsTotalOrder}
-use Rattle.std.proofs.lemmas.Cmp.{tied_itself, tied_back, alike_right}
+use Rattle.std.proofs.lemmas.Cmp.{alike_right}
 use Rattle.std.proofs.lemmas.List.{same_from_push, nil_from_length, reverse-append}
 use mathlib.Core.Bool.{true≢false}
 use Rattle.litemap_store.proofs.Joined.{empty_from_last}
-use Rattle.litemap_store.specs.Last.{In, Last, NoneEqual, StandsLast}
+use Rattle.litemap_store.specs.Last.{In, Last, StandsLast}
 use Rattle.litemap_store.specs.Pairs.{AllBelow, Rising}
 use Rattle.litemap_store.specs.Taken.{IsGreaterEnd, IsTaken}
 use Rattle.litemap_store.proofs.Membership.{In-left, In-right, In-cases, each, from_each}
@@ -175,17 +175,6 @@ take_both {K} {V} cmp o A B A' B' q p r s end e f =
     let same_a = same_split A end.0 A' end.1 q end.4 e in
     let same_b = same_split B end.2 B' end.3 p end.5 f in
     rw (e, f) (taken_both cmp o A' q B' p (subst (Rising cmp) e r) (subst (Rising cmp) f s) (subst₂ (λ (x y : K × V). cmp x.0 y.0 ≡ Equal) same_a.1 same_b.1 end.6))
-
--- a list that ends in a pair is not empty
-pub old_is_there : {K V : Type 0} (cmp : K → K → Ordering) (A B : List (K × V)) (r : Ordering) → r ≢ Less → IsGreaterEnd cmp A B (Some r) → 0 < length A
-old_is_there cmp A B Less n end = absurd (n refl)
-old_is_there cmp A B Equal n end = rw end.4 (omega (arith, length-append end.0 (end.1 ∷ [])))
-old_is_there cmp A B Greater n end = rw end.2 (omega (arith, length-append end.0 (end.1 ∷ [])))
-
-pub new_is_there : {K V : Type 0} (cmp : K → K → Ordering) (A B : List (K × V)) (r : Ordering) → r ≢ Greater → IsGreaterEnd cmp A B (Some r) → 0 < length B
-new_is_there cmp A B Less n end = rw end.2 (omega (arith, length-append end.0 (end.1 ∷ [])))
-new_is_there cmp A B Equal n end = rw end.5 (omega (arith, length-append end.2 (end.3 ∷ [])))
-new_is_there cmp A B Greater n end = absurd (n refl)
 
 -- a list without its last element
 pub taken_last : {X : Type 0} (L : List X) (i : ℕ) (x : X) → suc i ≡ length L → slice_get L i ≡ Some x → L ≡ remove L i ++ x ∷ []

@@ -1,8 +1,6 @@
-use Rattle.std.proofs.Common.{rules, arith, ◌≡◌, sym, ap, ◌∙◌, is_lt, Less, append-nil, subst, refl}
-use Rattle.std.proofs.lemmas.Grind.{common_steps}
-use Rattle.litemap_store.specs.Pairs.{Rising}
+use Rattle.std.proofs.Common.{◌≡◌, sym, ap, ◌∙◌, is_lt, refl}
 use Rattle.litemap_store.proofs.LastPairs.{less_from_is_lt}
-use Rattle.litemap_store.proofs.Joined.{Rising-behind, empty_from_last, empty_from_first}
+use Rattle.litemap_store.proofs.Joined.{Rising-behind, empty_from_last}
 use Rattle.litemap_store.proofs.extend.goes_behind.Goals as goal
 
 pub returns-clause-behind : goal.returns-clause-behind

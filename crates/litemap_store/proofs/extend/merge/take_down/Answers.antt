@@ -1,6 +1,5 @@
-use Rattle.std.proofs.Common.{arith, subst, ap, sym, ◌∙◌, Some, length, ◌++◌, ◌∷◌, [], ◌≡◌, ◌+◌}
+use Rattle.std.proofs.Common.{arith, subst, ap, sym, ◌∙◌, Some, length, [], ◌≡◌, ◌+◌}
 use Rattle.std.proofs.lemmas.List.{length_push}
-use Rattle.litemap_store.specs.Last.{Last}
 use Rattle.litemap_store.specs.Taken.{IsGreaterEnd}
 use Rattle.litemap_store.proofs.Taken.{reverse_behind, Last-of_none}
 use Rattle.litemap_store.proofs.extend.merge.take_down.Goals as goal

@@ -1,4 +1,4 @@
-use Rattle.std.proofs.Common.{◌<◌, ◌+◌, ◌≤◌, length}
+use Rattle.std.proofs.Common.{◌<◌, ◌+◌, length}
 use Rattle.litemap_store.proofs.KeepLast.{KeptLast}
 use Rattle.litemap_store.proofs.extend.sort.keep_last.Given as goal
 
