@@ -38,12 +38,23 @@ fn value_there<K: Ord, S: Store<K, u32>>(map: &LiteMap<K, u32, S>, key: &K) -> u
     *map.index(key)
 }
 
+// Whether the key is found, by another way than `index`.
+fn finds_key<K: Ord, S: Store<K, u32>>(map: &LiteMap<K, u32, S>, key: &K, way: Look) -> bool {
+    match way {
+        Look::FindIndex => map.find_index(key).is_ok(),
+        Look::FindIndexCounted => map.find_index_counted(key, &mut Count::new()).is_ok(),
+        Look::Get => map.get(key).is_some(),
+        Look::GetCounted => map.get_counted(key, &mut Count::new()).is_some(),
+        Look::ContainsKey | Look::Index => map.contains_key(key),
+    }
+}
+
 // The value of a key, which is tested for first. The comparisons of the test are not counted.
 fn index<'a, S: Store<Counted<'a>, u32>>(
     map: &LiteMap<Counted<'a>, u32, S>,
     key: &Counted<'a>,
 ) -> Option<u32> {
-    let is_there = map.contains_key(key);
+    let is_there = finds_key(map, key, Look::ContainsKey);
     key.made.set(0);
     if is_there {
         Some(value_there(map, key))
@@ -59,12 +70,8 @@ fn finds<'a, S: Store<Counted<'a>, u32>>(
     way: Look,
 ) -> bool {
     match way {
-        Look::FindIndex => map.find_index(key).is_ok(),
-        Look::FindIndexCounted => map.find_index_counted(key, &mut Count::new()).is_ok(),
-        Look::Get => map.get(key).is_some(),
-        Look::GetCounted => map.get_counted(key, &mut Count::new()).is_some(),
-        Look::ContainsKey => map.contains_key(key),
         Look::Index => index(map, key).is_some(),
+        _ => finds_key(map, key, way),
     }
 }
 
