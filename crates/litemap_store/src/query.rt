@@ -16,8 +16,8 @@ use std::cmp::Ordering;
 use std::rc::RcStr;
 use std::sync::ArcStr;
 
-/// A query into keys of the type `K`: a reference to a key, a text for keys that are texts, a slice for keys that are lists,
-/// or a type of a user's own.
+/// A query into keys of the type `K`: a reference to a key, a text for keys that are texts, a slice for keys that are
+/// lists, or a type of a user's own.
 ///
 /// The Rust crate has `K: Borrow<Q>` with `Q: Ord` here.
 pub trait Query<K: Ord>: Copy {

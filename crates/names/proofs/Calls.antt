@@ -32,6 +32,12 @@ value-bytes : (L : TextPairs) (k : List ℕ) (value : Option (String Global)) �
 value-bytes L k value e =
     ap (option_map string_bytes) e ∙ sym (value-view by_text (slice_cmp nat_cmp) (λ k. k) string_bytes string_bytes keeps L k)
 
+-- what is left without the key
+pub cut-bytes : (old new : Seen (String Global) (String Global)) (k : List ℕ) → new.pairs ≡ cut by_text old.pairs k
+    → (names_of new).pairs ≡ cut (slice_cmp nat_cmp) (names_of old).pairs k
+cut-bytes old new k e =
+    ap (map pair_bytes) e ∙ sym (cut-view by_text (slice_cmp nat_cmp) (λ k. k) string_bytes string_bytes keeps old.pairs k)
+
 module _ (old : Seen (String Global) (String Global)) (k : List ℕ) {E : Type 0} (r : Result (String Global) E) where
   -- a search for the key is a step
   pub find_answers : (place : Result ℕ ℕ) → place ≡ index_of by_text old.pairs k
@@ -57,12 +63,10 @@ module _ (old : Seen (String Global) (String Global)) (k : List ℕ) {E : Type 0
       → IfOk r (λ text. string_bytes text ≡ value_text (option_map string_bytes value))
       → IfOk r (λ text. Answers (names_of old) (Remove k) (string_bytes text) (names_of new))
   remove_answers value new e cuts unchanged said =
-      let cuts_bytes : (names_of new).pairs ≡ cut (slice_cmp nat_cmp) (names_of old).pairs k =
-      ap (map pair_bytes) cuts ∙ sym (cut-view by_text (slice_cmp nat_cmp) (λ k. k) string_bytes string_bytes keeps old.pairs k) in
       IfOk-weaker r (λ text. string_bytes text ≡ value_text (option_map string_bytes value)) (λ text. Answers (names_of old) (Remove k) (string_bytes text) (names_of new))
       (λ text says. (
         Value (option_map string_bytes value),
-        (value-bytes old.pairs k value e, cuts_bytes, λ absent. ap (λ (s : Seen (String Global) (String Global)). s.room) (unchanged (absent-from_view by_text (slice_cmp nat_cmp) (λ k. k) string_bytes string_bytes keeps old.pairs k absent))),
+        (value-bytes old.pairs k value e, cut-bytes old new k cuts, λ absent. ap (λ (s : Seen (String Global) (String Global)). s.room) (unchanged (absent-from_view by_text (slice_cmp nat_cmp) (λ k. k) string_bytes string_bytes keeps old.pairs k absent))),
         ap Some (sym says),
       ))
       said

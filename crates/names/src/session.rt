@@ -1,6 +1,9 @@
 //! What answers each line.
 ghost use Rattle.std.specs.Prelude.{◌≡◌, ◌++◌, ℕ, List, Some, IfOk, IfSome, OnOk, MatchOption, flat_map};
 ghost use Rattle.std.specs.Prelude.{option_copied, option_map, slice_get, string_bytes};
+ghost use Rattle.std.specs.Cmp.Lexicographic.{slice_cmp};
+ghost use Rattle.std.specs.Ordering.{nat_cmp};
+ghost use Rattle.litemap_store.specs.Pairs.{cut};
 ghost use Rattle.litemap.specs.Steps.{Find, Get, Insert, Place, Remove, Value};
 ghost use Rattle.names.specs.Line.{IsBad};
 ghost use Rattle.names.specs.Told.{Answers, Does, answer_text, pair_text, value_text};
@@ -66,7 +69,7 @@ fn insert_reply(alloc: Global, old: Option<String>) -> Result<String, AllocError
     }
 }
 
-// Looks at the value of a key.
+// Looks at the value of a key. It takes memory for its answer alone.
 fn get(alloc: Global, names: &Names, key: &str) -> Result<String, AllocError>
     ensures { IfOk result
         (λ text. Answers (names_of names.now) (Get key.now) (string_bytes text) (names_of names.now)) }
@@ -74,10 +77,11 @@ fn get(alloc: Global, names: &Names, key: &str) -> Result<String, AllocError>
     value_reply(alloc, names.get(key))
 }
 
-// Removes a key.
+// Removes a key. It takes memory for its answer alone: also where that is refused, the key is gone.
 fn remove(alloc: Global, names: &mut Names, key: &str) -> Result<String, AllocError>
-    ensures { IfOk result
+    ensures answers { IfOk result
         (λ text. Answers (names_of names.old) (Remove key.now) (string_bytes text) (names_of names.new)) }
+    ensures left { (names_of names.new).pairs ≡ cut (slice_cmp nat_cmp) (names_of names.old).pairs key.now }
 {
     let removed = names.remove(key);
     value_reply(alloc, removed.as_ref())
@@ -94,7 +98,7 @@ fn value_reply(alloc: Global, value: Option<&String>) -> Result<String, AllocErr
     }
 }
 
-// Finds the place of a key.
+// Finds the place of a key. It takes memory for its answer alone.
 fn find(alloc: Global, names: &Names, key: &str) -> Result<String, AllocError>
     ensures { IfOk result
         (λ text. Answers (names_of names.now) (Find key.now) (string_bytes text) (names_of names.now)) }

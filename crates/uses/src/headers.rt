@@ -1,12 +1,11 @@
 //! A header list: values by their names, in the order of the names' bytes.
 //!
-//! What look-ups find after a change follows from the lemmas that the attributes name. The one proof file names the lemma
-//! that clones of texts compare `Equal`.
+//! What look-ups find after a change follows from the lemmas that the attributes name. The one proof file names the
+//! lemma that clones of texts compare `Equal`.
 ghost use Rattle.std.specs.Prelude.{◌≡◌, ◌≢◌, None, Some, IfOk, OnOk, OnErr, string_bytes};
 ghost use Rattle.std.specs.Option.{option_copied};
-ghost use Rattle.std.specs.String.{string_cmp};
-ghost use Rattle.std.specs.declared.cmp.Ordering.TheVariants.{Equal};
 ghost use Rattle.litemap_store.specs.Pairs.{at, value_at};
+ghost use Rattle.litemap_store.specs.Queries.{by_text};
 ghost use Rattle.litemap.specs.ByBytes.{by_bytes};
 ghost use Rattle.litemap.specs.Clones.{PairsAreClones};
 
@@ -20,31 +19,31 @@ pub type Headers = LiteMap<String, String, Vec<(String, String)>>;
 pub type Borrowed<'k> = LiteMap<&'k str, &'k str, Vec<(&'k str, &'k str)>>;
 
 /// Sets a header, and answers the value before. All others stay.
-#[tactic(auto, using(litemap::proofs::Texts::string_keys))]
+#[tactic(auto, using(litemap::proofs::Texts::text_keys))]
 pub fn set(headers: &mut Headers, name: String, value: String) -> Result<Option<String>, AllocError>
-    ensures old { IfOk result (λ old. old ≡ value_at string_cmp headers.old.pairs name) }
-    ensures set { OnOk result (value_at string_cmp headers.new.pairs name ≡ Some value) }
-    ensures others { OnOk result ((other : _) → string_cmp other name ≢ Equal
-        → value_at string_cmp headers.new.pairs other ≡ value_at string_cmp headers.old.pairs other) }
+    ensures old { IfOk result (λ old. old ≡ value_at by_text headers.old.pairs (string_bytes name)) }
+    ensures set { OnOk result (value_at by_text headers.new.pairs (string_bytes name) ≡ Some value) }
+    ensures others { OnOk result ((other : _) → other ≢ string_bytes name
+        → value_at by_text headers.new.pairs other ≡ value_at by_text headers.old.pairs other) }
     ensures refused { OnErr result (headers.new.pairs ≡ headers.old.pairs) }
 {
     Ok(headers.insert(name, value)?)
 }
 
 /// Looks a header up.
-pub fn get<'a>(headers: &'a Headers, name: &String) -> Option<&'a String>
-    ensures { option_copied result ≡ value_at string_cmp headers.entry.now.pairs name.now }
+pub fn get<'a>(headers: &'a Headers, name: &str) -> Option<&'a String>
+    ensures { option_copied result ≡ value_at by_text headers.entry.now.pairs name.now }
 {
     headers.get(name)
 }
 
 /// Removes a header. All others stay.
-#[tactic(auto, using(litemap::proofs::Texts::string_keys))]
-pub fn remove(headers: &mut Headers, name: &String) -> Option<String>
-    ensures value { result ≡ value_at string_cmp headers.old.pairs name.now }
-    ensures gone { value_at string_cmp headers.new.pairs name.now ≡ None }
-    ensures others { (other : _) → string_cmp other name.now ≢ Equal
-        → value_at string_cmp headers.new.pairs other ≡ value_at string_cmp headers.old.pairs other }
+#[tactic(auto, using(litemap::proofs::Texts::text_keys))]
+pub fn remove(headers: &mut Headers, name: &str) -> Option<String>
+    ensures value { result ≡ value_at by_text headers.old.pairs name.now }
+    ensures gone { value_at by_text headers.new.pairs name.now ≡ None }
+    ensures others { (other : _) → other ≢ name.now
+        → value_at by_text headers.new.pairs other ≡ value_at by_text headers.old.pairs other }
 {
     headers.remove(name)
 }

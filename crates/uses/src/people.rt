@@ -79,7 +79,8 @@ impl Query<Person> for Number {
 
 /// What is kept for the person with a number.
 pub fn kept_for<'a, V>(map: &'a LiteMap<Person, V, Vec<(Person, V)>>, number: u32) -> Option<&'a V>
-    ensures { option_copied result ≡ value_at (λ person number. nat_cmp person.number number) map.entry.now.pairs number }
+    ensures { option_copied result
+        ≡ value_at (λ person number. nat_cmp person.number number) map.entry.now.pairs number }
 {
     map.get(Number(number))
 }

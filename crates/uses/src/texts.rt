@@ -1,7 +1,10 @@
 //! Maps asked by what can stand for a key: texts and bytes that are borrowed, and keys.
-ghost use Rattle.std.specs.Prelude.{◌≡◌, ◌≢◌, None, Some, [], ◌∷◌, IsSome, IsTrue, OnOk, is_some, string_bytes};
+ghost use Rattle.std.specs.Prelude.{◌≡◌, ◌≢◌, [], ◌∷◌, IsSome, IsTrue, None, OnOk, Some};
+ghost use Rattle.std.specs.Prelude.{is_some, string_bytes};
 ghost use Rattle.std.specs.Cmp.Lexicographic.{slice_cmp};
 ghost use Rattle.std.specs.Ordering.{int_cmp, nat_cmp};
+ghost use Rattle.std.specs.String.{string_cmp};
+ghost use Rattle.std.specs.declared.cmp.Ordering.TheVariants.{Equal};
 ghost use Rattle.litemap_store.specs.Pairs.{at, cut, index_of, put, value_at, write};
 ghost use Rattle.litemap_store.specs.Queries.{by_slice, by_text};
 ghost use Rattle.litemap.specs.ByBytes.{by_bytes};
@@ -76,6 +79,16 @@ pub fn take_number(map: &mut Numbers, name: &str) -> Option<u32>
     map.remove(name)
 }
 
+/// Takes a key out that is a text of its own. All others stay.
+#[tactic(auto, using(litemap::proofs::Texts::string_keys))]
+pub fn take_key(map: &mut Numbers, key: &String) -> Option<u32>
+    ensures gone { value_at string_cmp map.new.pairs key.now ≡ None }
+    ensures others { (other : _) → string_cmp other key.now ≢ Equal
+        → value_at string_cmp map.new.pairs other ≡ value_at string_cmp map.old.pairs other }
+{
+    map.remove(key)
+}
+
 /// Writes the number at a name, where the name is there.
 #[tactic(auto, using(litemap::proofs::Texts::text_keys))]
 pub fn set_number(map: &mut Numbers, name: &str, number: u32) -> bool
@@ -144,11 +157,11 @@ pub fn greeting(map: &LiteMap<&'static str, u32, Vec<(&'static str, u32)>>) -> O
 /// The number at a borrowed text, asked by a text that may live shorter.
 pub fn number_of_borrowed<'k>(
     map: &LiteMap<&'k str, u32, Vec<(&'k str, u32)>>,
-    name: &str,
+    text: &str,
 ) -> Option<u32>
-    ensures { result ≡ value_at by_bytes map.now.pairs name.entry }
+    ensures { result ≡ value_at by_bytes map.now.pairs text.entry }
 {
-    map.get(name).copied()
+    map.get(text).copied()
 }
 
 /// The number at a signed key that is passed by value.

@@ -226,9 +226,9 @@ impl<K: Ord, V, S: StoreMut<K, V>> LiteMap<K, V, S> {
 
     /// Takes out the pair with an equal key, and answers its value. Its key is given up.
     ///
-    /// It takes no memory. It compares at most once for each binary digit of the length, and moves the pairs with greater
-    /// keys down by one. Where there is no such pair nothing is changed, and the room is kept; else nothing is promised
-    /// of the room.
+    /// It is asked as `get` is. It takes no memory. It compares at most once for each binary digit of the length, and
+    /// moves the pairs with greater keys down by one. Where there is no such pair nothing is changed, and the room is
+    /// kept; else nothing is promised of the room.
     pub fn remove<Q: Query<K>>(&mut self, key: Q) -> Option<V>
     where
         K: Drop,
@@ -256,10 +256,10 @@ impl<K: Ord, V, S: StoreMut<K, V>> LiteMap<K, V, S> {
 
     /// Takes out a pair for whose key `f` answers `Equal`, and answers its value. Its key is given up.
     ///
-    /// Over the keys `f` has to answer `Less`, then `Equal`, then `Greater`. Where several keys answer `Equal` any of them
-    /// may be the one found. It takes no memory, and asks `f` at most once for each binary digit of the length. Where
-    /// `f` answers `Equal` nowhere nothing is changed, and the room is kept; else nothing is promised of the room. The
-    /// Rust crate has no such call.
+    /// It is for what no `Query` says, as `get_by` is. Over the keys `f` has to answer `Less`, then `Equal`, then
+    /// `Greater`. Where several keys answer `Equal` any of them may be the one found. It takes no memory, and asks `f`
+    /// at most once for each binary digit of the length. Where `f` answers `Equal` nowhere nothing is changed, and the
+    /// room is kept; else nothing is promised of the room. The Rust crate has no such call.
     pub fn remove_by<F: FnMut(&K) -> Ordering>(&mut self, f: F) -> Option<V>
     where
         K: Drop,

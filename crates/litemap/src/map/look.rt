@@ -53,7 +53,8 @@ impl<K: Ord, V, S: Store<K, V>> LiteMap<K, V, S> {
 
     /// The value of the pair with an equal key, if there is one.
     ///
-    /// It compares at most once for each binary digit of the length.
+    /// What is asked for is a `Query`: a key behind a `&`, a text where keys are texts, a slice where they are lists,
+    /// or a type of the caller's own. It compares at most once for each binary digit of the length.
     pub fn get<Q: Query<K>>(&self, key: Q) -> Option<&V>
         ensures { option_copied result ≡ value_at Q.order self.now.pairs (Q.sought key) }
     {
@@ -73,8 +74,9 @@ impl<K: Ord, V, S: Store<K, V>> LiteMap<K, V, S> {
 
     /// The value at a place that `f` answers `Equal` for, `None` where it answers `Equal` nowhere.
     ///
-    /// Over the keys `f` has to answer `Less`, then `Equal`, then `Greater`. Where several keys answer `Equal` any of them
-    /// may be the one found. It asks `f` at most once for each binary digit of the length.
+    /// It is for what no `Query` says: a closure that finds several keys, or that keeps a state. Else `get` asks no
+    /// proof of its caller. Over the keys `f` has to answer `Less`, then `Equal`, then `Greater`. Where several keys
+    /// answer `Equal` any of them may be the one found. It asks `f` at most once for each binary digit of the length.
     pub fn get_by<F: FnMut(&K) -> Ordering>(&self, f: F) -> Option<&V>
         requires { Shaped F.FnMut self.now.pairs f }
         ensures { GetsFound F.FnMut self.now.pairs f (option_copied result) }
@@ -87,7 +89,7 @@ impl<K: Ord, V, S: Store<K, V>> LiteMap<K, V, S> {
 
     /// Whether there is a pair with an equal key.
     ///
-    /// It compares at most once for each binary digit of the length.
+    /// It is asked as `get` is. It compares at most once for each binary digit of the length.
     pub fn contains_key<Q: Query<K>>(&self, key: Q) -> bool
         ensures { result ≡ is_some (at Q.order self.now.pairs (Q.sought key)) }
     {
@@ -96,8 +98,8 @@ impl<K: Ord, V, S: Store<K, V>> LiteMap<K, V, S> {
 
     /// The value of the pair with an equal key, which has to be there.
     ///
-    /// It compares at most once for each binary digit of the length. The Rust crate has this as the operator `[]`, which
-    /// panics where there is no such pair.
+    /// It is asked as `get` is. It compares at most once for each binary digit of the length. The Rust crate has this
+    /// as the operator `[]`, which panics where there is no such pair.
     pub fn index<Q: Query<K>>(&self, key: Q) -> &V
         requires { IsSome (at Q.order self.now.pairs (Q.sought key)) }
         ensures { Some result.now ≡ value_at Q.order self.now.pairs (Q.sought key) }
@@ -111,7 +113,7 @@ impl<K: Ord, V, S: Store<K, V>> LiteMap<K, V, S> {
     /// `Ok` of the key's place where an equal key is there, else `Err` of the place where it would go: the number of
     /// smaller keys.
     ///
-    /// It compares at most once for each binary digit of the length.
+    /// It is asked as `get` is. It compares at most once for each binary digit of the length.
     pub fn find_index<Q: Query<K>>(&self, key: Q) -> Result<usize, usize>
         ensures place { result ≡ index_of Q.order self.now.pairs (Q.sought key) }
         ensures within { IfOk result (λ index. index < length self.now.pairs) }
@@ -135,9 +137,9 @@ impl<K: Ord, V, S: Store<K, V>> LiteMap<K, V, S> {
     /// `Ok` of a place where `f` answers `Equal`, or `Err` of the number of keys that answer `Less` where it answers
     /// `Equal` for none.
     ///
-    /// Over the keys `f` has to answer `Less`, then `Equal`, then `Greater`. Where several keys answer `Equal` any of
-    /// them may be the one found. It asks at most once for each binary digit of the length. The Rust crate looks up by
-    /// `Borrow` in its place.
+    /// It is for what no `Query` says, as `get_by` is. Over the keys `f` has to answer `Less`, then `Equal`, then
+    /// `Greater`. Where several keys answer `Equal` any of them may be the one found. It asks at most once for each
+    /// binary digit of the length. The Rust crate has no such call.
     pub fn find_index_by<F: FnMut(&K) -> Ordering>(&self, f: F) -> Result<usize, usize>
         requires { Shaped F.FnMut self.now.pairs f }
         ensures found { Found F.FnMut self.now.pairs f result }

@@ -17,7 +17,7 @@ use std::cmp::Ordering;
 impl<K: Ord, V, S: StoreMut<K, V>> LiteMap<K, V, S> {
     /// The value of a key, to be written; `None` where no equal key is there.
     ///
-    /// It compares at most once for each binary digit of the length.
+    /// It is asked as `get` is. It compares at most once for each binary digit of the length.
     pub fn get_mut<Q: Query<K>>(&mut self, key: Q) -> Option<&mut V>
         ensures* writes_back { sem 𝓛
             (LendsValue K.row V.row S.row K.Ord S.pairs S.room self.entry Q.order (Q.sought key) result) }
@@ -31,9 +31,9 @@ impl<K: Ord, V, S: StoreMut<K, V>> LiteMap<K, V, S> {
 
     /// The value at a place where `f` answers `Equal`, to be written; `None` where it answers `Equal` for no key.
     ///
-    /// Over the keys `f` has to answer `Less`, then `Equal`, then `Greater`. Where several keys answer `Equal` any of
-    /// them may be the one found. It asks at most once for each binary digit of the length. The Rust crate looks up by
-    /// `Borrow` in its place.
+    /// It is for what no `Query` says, as `get_by` is. Over the keys `f` has to answer `Less`, then `Equal`, then
+    /// `Greater`. Where several keys answer `Equal` any of them may be the one found. It asks at most once for each
+    /// binary digit of the length. The Rust crate has no such call.
     pub fn get_mut_by<F: FnMut(&K) -> Ordering>(&mut self, f: F) -> Option<&mut V>
         requires { Shaped F.FnMut self.old.pairs f }
         ensures* writes_back { sem 𝓛
@@ -51,8 +51,8 @@ impl<K: Ord, V, S: StoreMut<K, V>> LiteMap<K, V, S> {
 
     /// The value of a key that is there, to be written.
     ///
-    /// It compares at most once for each binary digit of the length. The Rust crate has the operator `IndexMut` here,
-    /// which panics where the key isn't there.
+    /// It is asked as `get` is. It compares at most once for each binary digit of the length. The Rust crate has the
+    /// operator `IndexMut` here, which panics where the key isn't there.
     pub fn index_mut<Q: Query<K>>(&mut self, key: Q) -> &mut V
         requires { IsSome (at Q.order self.old.pairs (Q.sought key)) }
         ensures* writes_back { sem 𝓛
