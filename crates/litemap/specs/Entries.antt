@@ -1,5 +1,6 @@
 -- What an entry of a map shows: the map that it borrows, its key, its value, and what the calls on it make of the pairs.
-use Rattle.std.specs.Prelude.{◌≡◌, ℕ, ◌+◌, ◌<◌, ◌≤◌, List, [], Option, Some, None, IsSome, Result, OnOk, OnErr, length, slice_get}
+use Rattle.std.specs.Prelude.{◌≡◌, ℕ, ◌+◌, ◌<◌, ◌≤◌, List, [], Option, Some, None, IsSome, Result, OnOk, OnErr}
+use Rattle.std.specs.Prelude.{length, slice_get}
 use Rattle.std.proofs.Common.{subst, sym}
 use Rattle.std.specs.declared.cmp.Ord as ord
 use Rattle.std.specs.declared.cmp.PartialEq as eq
@@ -90,7 +91,9 @@ module _ (K V S : RattleType) {g : ord.Ghosts K.Denot} {g' : eq.Ghosts K.Denot} 
   -- once the reference r ends, the entry has the last value written through it. (The entry's lifetime is the second of
   -- the signature)
   abbrev pub OccupiedLends : MutBor (OccupiedEntry K.Denot V.Denot S.Denot g g' g'' s) → MutBor V.Denot → Fml
-  OccupiedLends o r = follows (occupied.the_row (record { mir = named 1; lft = [] }) K V S g g' g'' s) V o.ghost_name r.ghost_name (with_entry_value o.now)
+  OccupiedLends o r =
+      follows (occupied.the_row (record { mir = named 1; lft = [] }) K V S g g' g'' s) V o.ghost_name r.ghost_name
+      (with_entry_value o.now)
 
   -- once the reference in r ends, the map has the last value written through it at the entry's key. At Err the pairs stay
   abbrev pub EntryLends : {E : Type 0} → Entry K.Denot V.Denot S.Denot g g' g'' s → Result (MutBor V.Denot) E → Fml

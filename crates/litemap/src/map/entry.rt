@@ -40,12 +40,13 @@ pub struct VacantEntry<'a, K: Ord, V, S: Store<K, V>> {
 impl<K: Ord, V, S: StoreMut<K, V>> LiteMap<K, V, S> {
     ghost use Rattle.std.specs.Prelude.{◌≡◌, IsNone, IsSome, Some};
     ghost use Rattle.litemap_store.specs.Pairs.{at, cut, key_or, put, value_at};
-    ghost use Rattle.litemap.specs.Entries.{MatchEntry, entry_key, entry_map, entry_value, pairs_with, pairs_without};
+    ghost use Rattle.litemap.specs.Entries.{MatchEntry, entry_key, entry_map, entry_value, pairs_with};
+    ghost use Rattle.litemap.specs.Entries.{pairs_without};
 
     /// The entry of a key. Where an equal key is there, that key stays, and the new one is given up.
     ///
-    /// It takes no memory, and changes nothing. It compares at most once for each binary digit of the length; what is then
-    /// done through the entry compares no keys.
+    /// It takes no memory, and changes nothing. It compares at most once for each binary digit of the length; what is
+    /// then done through the entry compares no keys.
     pub fn entry(&mut self, key: K) -> Entry<'_, K, V, S>
     where
         K: Drop,
@@ -79,11 +80,13 @@ impl<'a, K: Ord, V, S: StoreMut<K, V>> Entry<'a, K, V, S> {
     ghost use Rattle.std.specs.Borrow.{sem, MutBor};
     ghost use Rattle.std.specs.Map.Calls.{ModifiesValue};
     ghost use Rattle.std.specs.Option.{UnwrapsOrElse};
-    ghost use Rattle.litemap.specs.Entries.{EntryLends, entry_key, entry_map, entry_value, pairs_with, pairs_without};
+    ghost use Rattle.litemap.specs.Entries.{EntryLends, entry_key, entry_map, entry_value, pairs_with};
+    ghost use Rattle.litemap.specs.Entries.{pairs_without};
 
     /// The value, to be written. Where the key is not there, `default` is placed first; else `default` is given up.
     ///
-    /// It is refused only where the key is not there and there is no room: then key and value come back and the list stays.
+    /// It is refused only where the key is not there and there is no room: then key and value come back and the list
+    /// stays.
     pub fn or_insert(self, default: V) -> Result<&'a mut V, NoRoom<(K, V)>>
     where
         V: Drop,
@@ -104,8 +107,8 @@ impl<'a, K: Ord, V, S: StoreMut<K, V>> Entry<'a, K, V, S> {
 
     /// The value, to be written. Where the key is not there, `V::default()` is placed first.
     ///
-    /// The default is made where the key is there, too. It is refused only where the key is not there and there is no room:
-    /// then key and value come back and the list stays.
+    /// The default is made where the key is there, too. It is refused only where the key is not there and there is no
+    /// room: then key and value come back and the list stays.
     pub fn or_default(self) -> Result<&'a mut V, NoRoom<(K, V)>>
     where
         V: Default + Drop,
@@ -121,13 +124,16 @@ impl<'a, K: Ord, V, S: StoreMut<K, V>> Entry<'a, K, V, S> {
         self.or_insert(V::default())
     }
 
-    /// The value, to be written. Where the key is not there, what `default` answers is placed first; else it is not called.
+    /// The value, to be written. Where the key is not there, what `default` answers is placed first; else it is not
+    /// called.
     ///
-    /// It is refused only where the key is not there and there is no room: then key and value come back and the list stays.
+    /// It is refused only where the key is not there and there is no room: then key and value come back and the list
+    /// stays.
     pub fn or_insert_with<F: FnOnce() -> V>(self, default: F) -> Result<&'a mut V, NoRoom<(K, V)>>
         requires { entry_value self ≡ None → F.pre default }
         ensures* writes_back { sem 𝓛 (EntryLends K.row V.row S.row self.entry result) }
-        ensures value { IfOk result (λ slot. UnwrapsOrElse (entry_value self.entry) (F.post default) slot.now) }
+        ensures value { IfOk result
+            (λ slot. UnwrapsOrElse (entry_value self.entry) (F.post default) slot.now) }
 
         // Refused only where the key is not there and there is no room. Key and value come back.
         ensures absent { OnErr result (entry_value self.entry ≡ None) }
@@ -136,8 +142,8 @@ impl<'a, K: Ord, V, S: StoreMut<K, V>> Entry<'a, K, V, S> {
             (λ refused. (entry_key self.entry ≡ Some refused.back.0) × F.post default refused.back.1) }
     {
         match self {
-            Entry::Occupied(entry) => Ok(entry.into_mut()),
-            Entry::Vacant(entry) => entry.insert(default()),
+            Entry::Occupied(occupied) => Ok(occupied.into_mut()),
+            Entry::Vacant(vacant) => vacant.insert(default()),
         }
     }
 

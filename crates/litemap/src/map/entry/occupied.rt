@@ -1,8 +1,8 @@
 //! The calls on the entry of a key that is there. None takes memory, compares keys, or can be refused.
 ghost use Rattle.std.specs.Prelude.{◌≡◌, Some};
 ghost use Rattle.std.specs.Borrow.{sem};
-ghost use Rattle.litemap.specs.Entries.{IntoLends, IsWritten, Occupied, OccupiedLends, entry_key, entry_value};
-ghost use Rattle.litemap.specs.Entries.{pairs_without, with_entry_value};
+ghost use Rattle.litemap.specs.Entries.{IntoLends, IsWritten, Occupied, OccupiedLends, entry_key};
+ghost use Rattle.litemap.specs.Entries.{entry_value, pairs_without, with_entry_value};
 
 use super::OccupiedEntry;
 use litemap_store::store::StoreMut;
