@@ -2,8 +2,8 @@
 ghost use Rattle.litemap_store.specs.Search.{Shaped};
 
 use crate::lengths::{LENGTHS, digits, end_of, odd_keys};
-use litemap::LiteMap;
 use litemap::store::{Count, StoreMut};
+use litemap::{Entry, LiteMap};
 use std::alloc::Global;
 use std::cell::Cell;
 use std::cmp::Ordering;
@@ -34,9 +34,12 @@ enum Call {
     TryAppend,
     TryGetOrInsert,
     TryFindOrInsert,
+    Entry,
+    EntryInsert,
+    EntryOrInsert,
 }
 
-const CALLS: [Call; 20] = [
+const CALLS: [Call; 23] = [
     Call::FindIndex,
     Call::FindIndexCounted,
     Call::Get,
@@ -57,6 +60,9 @@ const CALLS: [Call; 20] = [
     Call::TryAppend,
     Call::TryGetOrInsert,
     Call::TryFindOrInsert,
+    Call::Entry,
+    Call::EntryInsert,
+    Call::EntryOrInsert,
 ];
 
 // A call that looks the key up: whether it is there.
@@ -165,6 +171,37 @@ fn find_or_make<K: Ord + Copy, S: StoreMut<K, u32>>(
     if is_done { Some(calls == 0) } else { None }
 }
 
+// A call through an entry: whether the key was there. `None` is a refusal.
+fn through_entry<K: Ord + Copy, S: StoreMut<K, u32>>(
+    map: &mut LiteMap<K, u32, S>,
+    key: K,
+    value: u32,
+    call: Call,
+) -> Option<bool> {
+    let mut was_there = false;
+    let entry = map.entry(key);
+    match call {
+        Call::EntryOrInsert => {
+            entry
+                .and_modify(|_| was_there = true)
+                .or_insert(value)
+                .ok()?;
+            Some(was_there)
+        }
+        Call::EntryInsert => match entry {
+            Entry::Occupied(mut entry) => {
+                entry.insert(value);
+                Some(true)
+            }
+            Entry::Vacant(entry) => {
+                entry.insert(value).ok()?;
+                Some(false)
+            }
+        },
+        _ => Some(matches!(entry, Entry::Occupied(_))),
+    }
+}
+
 fn make_call<K: Ord + Copy, S: StoreMut<K, u32>>(
     map: &mut LiteMap<K, u32, S>,
     (key, value): (K, u32),
@@ -177,6 +214,9 @@ fn make_call<K: Ord + Copy, S: StoreMut<K, u32>>(
         }
         Call::Index | Call::IndexMut => Some(index(map, &key, made, call)),
         Call::TryGetOrInsert | Call::TryFindOrInsert => find_or_make(map, key, value, call),
+        Call::Entry | Call::EntryInsert | Call::EntryOrInsert => {
+            through_entry(map, key, value, call)
+        }
         Call::Remove
         | Call::RemoveCounted
         | Call::Insert

@@ -5,10 +5,12 @@ ghost use Rattle.litemap.specs.Clones.{ClonesAreSame, ClonesCompareEqual, PairsA
 
 mod bulk;
 mod change;
+mod entry;
 mod look;
 mod slice;
 mod write;
 
+pub use entry::{Entry, OccupiedEntry, VacantEntry};
 use litemap_store::store::{Store, StoreConstEmpty, StoreMut};
 use std::alloc::{AllocError, Global};
 use std::fmt::{self, Debug, Formatter, Write};

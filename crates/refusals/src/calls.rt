@@ -4,12 +4,16 @@ use crate::{bulk, maps, session, stores};
 use std::alloc::Global;
 
 /// The names of the calls.
-pub const CALLS: [&str; 19] = [
+pub const CALLS: [&str; 23] = [
     "insert",
     "try_insert",
     "try_append",
     "try_get_or_insert",
     "try_find_or_insert",
+    "or_insert",
+    "or_default",
+    "or_insert_with",
+    "vacant_insert",
     "with_capacity",
     "reserve",
     "try_clone",
@@ -34,6 +38,10 @@ pub fn run_call(alloc: Global, name: &str) -> Option<Outcome> {
         "try_append" => Some(maps::grow(alloc, maps::Put::TryAppend)),
         "try_get_or_insert" => Some(maps::grow(alloc, maps::Put::TryGetOrInsert)),
         "try_find_or_insert" => Some(maps::grow(alloc, maps::Put::TryFindOrInsert)),
+        "or_insert" => Some(maps::grow(alloc, maps::Put::OrInsert)),
+        "or_default" => Some(maps::grow(alloc, maps::Put::OrDefault)),
+        "or_insert_with" => Some(maps::grow(alloc, maps::Put::OrInsertWith)),
+        "vacant_insert" => Some(maps::grow(alloc, maps::Put::VacantInsert)),
         "with_capacity" => Some(maps::with_capacity(alloc)),
         "reserve" => Some(maps::reserve(alloc)),
         "try_clone" => Some(maps::try_clone(alloc)),

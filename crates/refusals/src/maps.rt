@@ -1,7 +1,7 @@
 //! The calls of a map that take memory.
 use crate::outcome::Outcome;
 use litemap::store::{NoRoom, Store};
-use litemap::{LiteMap, TryFault};
+use litemap::{Entry, LiteMap, TryFault};
 use std::alloc::Global;
 
 /// A map over a vector.
@@ -32,6 +32,14 @@ pub enum Put {
     TryGetOrInsert,
     /// `try_find_or_insert`.
     TryFindOrInsert,
+    /// `or_insert` of an entry.
+    OrInsert,
+    /// `or_default` of an entry.
+    OrDefault,
+    /// `or_insert_with` of an entry.
+    OrInsertWith,
+    /// `insert` of the entry of an absent key.
+    VacantInsert,
 }
 
 /// Puts pairs into an empty map, one by one.
@@ -70,6 +78,27 @@ fn put_pair(
             Ok(place) => Ok(place == len),
             Err(fault) => refused(fault),
         },
+        Put::OrInsert => Ok(*map.entry(key).or_insert(value)? == value),
+        Put::OrDefault => put_default(map, key, value),
+        Put::OrInsertWith => Ok(*map.entry(key).or_insert_with(|| value)? == value),
+        Put::VacantInsert => match map.entry(key) {
+            Entry::Vacant(entry) => Ok(*entry.insert(value)? == value),
+            Entry::Occupied(_) => Ok(false),
+        },
+    }
+}
+
+// Puts in the default, and writes the value through the reference. Where it is refused the default has to
+// come back.
+fn put_default(map: &mut Numbers, key: u32, value: u32) -> Result<bool, NoRoom<(u32, u32)>> {
+    match map.entry(key).or_default() {
+        Ok(slot) => {
+            let is_default = *slot == 0;
+            *slot = value;
+            Ok(is_default)
+        }
+        Err(refused) if refused.back == (key, 0) => Err(NoRoom { back: (key, value) }),
+        Err(_) => Ok(false),
     }
 }
 

@@ -2,6 +2,7 @@
 #![tactic(auto)]
 
 pub mod config;
+pub mod counting;
 pub mod headers;
 pub mod made;
 pub mod names;

@@ -318,7 +318,7 @@ impl<K: Ord, V, S: StoreMut<K, V>> LiteMap<K, V, S> {
     }
 
     // Takes out the pair at a place, and answers its value.
-    fn remove_at(&mut self, index: usize) -> V
+    pub(super) fn remove_at(&mut self, index: usize) -> V
     where
         K: Drop,
         requires { index < length self.old.pairs }
@@ -341,7 +341,7 @@ impl<K: Ord, V, S: StoreMut<K, V>> LiteMap<K, V, S> {
     }
 
     // Puts a pair in at the place of its key, which is absent.
-    fn insert_at(&mut self, index: usize, key: K, value: V) -> Result<(), NoRoom<(K, V)>>
+    pub(super) fn insert_at(&mut self, index: usize, key: K, value: V) -> Result<(), NoRoom<(K, V)>>
         requires { IsMissingAt K.cmp self.old.pairs key index }
         ensures put { OnOk result (self.new.pairs ≡ put K.cmp self.old.pairs key value) }
         ensures unchanged { OnErr result (self.new.pairs ≡ self.old.pairs) }

@@ -81,7 +81,7 @@ impl<K: Ord, V, S: StoreMut<K, V>> LiteMap<K, V, S> {
     }
 
     // The value at a place, to be written.
-    fn value_in_mut(&mut self, index: usize) -> &mut V
+    pub(super) fn value_in_mut(&mut self, index: usize) -> &mut V
         requires { index < length self.old.pairs }
         ensures* writes_back { sem 𝓛
             (LendsThere K.row V.row S.row K.Ord S.pairs S.room self.entry index result) }

@@ -1,0 +1,12 @@
+//! Tests of the entries of a map: each call on each kind of entry, over a vector and over a store with a
+//! fixed room, and the proved caller that counts words.
+#![tactic(auto)]
+
+#[cfg(test)]
+mod calls;
+#[cfg(test)]
+mod counting;
+#[cfg(test)]
+mod kinds;
+#[cfg(test)]
+mod texts;

@@ -1,0 +1,74 @@
+-- From what stands at the place of an entry to what its calls say.
+use Rattle.std.proofs.Common.{◌≡◌, ℕ, zero, suc, ◌+◌, ◌<◌, ◌≤◌, List, [], ◌∷◌, ◌++◌, length, Some, None, slice_get, slice_set, true, false, refl, sym, ap, ◌∙◌, subst, arith}
+use Rattle.std.proofs.Math.Seq.{set-append_seam}
+use Rattle.std.proofs.lemmas.Option.{slice_get_within}
+use Rattle.std.specs.Coded.{le_prop}
+use Rattle.std.specs.List.{remove}
+use Rattle.std.specs.Option.{option_map, option_map_or}
+use Rattle.std.specs.declared.cmp.Ord as ord
+use Rattle.std.specs.declared.cmp.PartialEq as eq
+use Rattle.std.specs.declared.cmp.PartialOrd as partial
+use Rattle.std.specs.declared.cmp.Ordering.{Ordering}
+use Rattle.litemap_store.specs.declared.store.Store as store
+use Rattle.litemap_store.specs.Pairs.{above, at, below, key_or, place, put, set_value, value_in}
+use Rattle.litemap_store.proofs.Seams.{put_get, set_value-suc}
+use Rattle.litemap.specs.declared.map.entry.OccupiedEntry.{OccupiedEntry}
+use Rattle.litemap.specs.Entries.{IsWritten, Occupied, map_with_value, still_within, with_entry_value}
+
+-- a write at the place of a key that was just put
+pub set_value-put : {K V : Type 0} (cmp : K → K → Ordering) (L : List (K × V)) (k : K) (v w : V) (i : ℕ) → i ≡ place cmp L k → set_value (put cmp L k v) i w ≡ put cmp L k w
+set_value-put cmp L k v w i p =
+    ap (λ j. set_value (put cmp L k v) j w) p
+    ∙ ap (λ o. option_map_or (λ q. slice_set (put cmp L k v) (place cmp L k) (q.0, w)) o (put cmp L k v)) (put_get cmp L k v)
+    ∙ set-append_seam (below cmp L k) (key_or (at cmp L k) k, v) (above cmp L k) (key_or (at cmp L k) k, w)
+
+-- which is a place of the list
+pub within-put : {K V : Type 0} (cmp : K → K → Ordering) (L : List (K × V)) (k : K) (v : V) (i : ℕ) → i ≡ place cmp L k → i < length (put cmp L k v)
+within-put cmp L k v i p = slice_get_within (put cmp L k v) i _ (ap (slice_get (put cmp L k v)) p ∙ put_get cmp L k v)
+
+-- of two writes at a place the last one stays
+pub set_value-set_value : {K V : Type 0} (L : List (K × V)) (i : ℕ) (v w : V) → set_value (set_value L i v) i w ≡ set_value L i w
+set_value-set_value [] i v w = refl
+set_value-set_value (p ∷ L) zero v w = refl
+set_value-set_value (p ∷ L) (suc i) v w =
+    ap (λ M. set_value M (suc i) w) (set_value-suc p L i v) ∙ set_value-suc p (set_value L i v) i w
+    ∙ ap (λ M. p ∷ M) (set_value-set_value L i v w) ∙ sym (set_value-suc p L i w)
+
+-- a write at a place leaves the others
+pub remove-set_value : {K V : Type 0} (L : List (K × V)) (i : ℕ) (v : V) → remove (set_value L i v) i ≡ remove L i
+remove-set_value [] i v = refl
+remove-set_value (p ∷ L) zero v = refl
+remove-set_value (p ∷ L) (suc i) v = ap (λ M. remove M (suc i)) (set_value-suc p L i v) ∙ ap (λ M. p ∷ M) (remove-set_value L i v)
+
+-- and the key there
+pub key-set_value : {K V : Type 0} (L : List (K × V)) (i : ℕ) (v : V) → option_map (λ p. p.0) (slice_get (set_value L i v) i) ≡ option_map (λ p. p.0) (slice_get L i)
+key-set_value [] i v = refl
+key-set_value (p ∷ L) zero v = refl
+key-set_value (p ∷ L) (suc i) v = ap (λ M. option_map (λ q. q.0) (slice_get M (suc i))) (set_value-suc p L i v) ∙ key-set_value L i v
+
+-- the value that was written is there
+pub value_in-set_value : {K V : Type 0} (L : List (K × V)) (i : ℕ) (v : V) → i < length L → value_in (set_value L i v) i ≡ Some v
+value_in-set_value [] i v h = absurd (omega arith)
+value_in-set_value (p ∷ L) zero v h = refl
+value_in-set_value (p ∷ L) (suc i) v h = ap (λ M. value_in M (suc i)) (set_value-suc p L i v) ∙ value_in-set_value L i v (omega arith)
+
+-- where a test that fails is said to succeed, anything holds
+pub from_false : {P : Type 0} → false ≡ true → P
+from_false h = absurd (cc)
+
+module _ {K V S : Type 0} {g : ord.Ghosts K} {g' : eq.Ghosts K} {g'' : partial.Ghosts K} {s : store.Ghosts S K V} where
+  -- two entries that differ in a proof alone are one
+  pub same_entry : (o : OccupiedEntry K V S g g' g'' s) (v : V) (h : o.index < length (set_value o.map.now.pairs o.index v))
+      → record { map = record o.map { now = map_with_value o v }; index = o.index; within = h } ≡ with_entry_value o v
+  same_entry o v h =
+      ap (λ (x : o.index < length (set_value o.map.now.pairs o.index v)). let e : OccupiedEntry K V S g g' g'' s = record { map = record o.map { now = map_with_value o v }; index = o.index; within = x } in e) (le_prop h (still_within o v))
+
+  pub written : (o : OccupiedEntry K V S g g' g'' s) (v : V) → IsWritten (Occupied o) v (Occupied (with_entry_value o v))
+  written o v = record {
+    value = value_in-set_value o.map.now.pairs o.index v o.within;
+    same_key = key-set_value o.map.now.pairs o.index v;
+    same_writes = λ w. set_value-set_value o.map.now.pairs o.index v w;
+    same_removal = remove-set_value o.map.now.pairs o.index v;
+    same_map = refl;
+    same_room = refl;
+  }

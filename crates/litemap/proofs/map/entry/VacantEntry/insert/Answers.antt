@@ -1,0 +1,26 @@
+use Rattle.std.proofs.Common.{◌≡◌, Some, refl, sym, ap, ◌∙◌}
+use Rattle.std.specs.Option.{unwrap_or}
+use Rattle.litemap_store.specs.Pairs.{set_value, value_in}
+use Rattle.litemap_store.proofs.Seams.{put_value}
+use Rattle.litemap.proofs.Entries.{from_false, set_value-put}
+use Rattle.litemap.proofs.map.entry.VacantEntry.insert.Goals as goal
+
+pub returns : goal.returns
+returns g c =
+    let e = c.args.self in
+    let cmp = g.K.Ord.cmp in
+    let L = e.map.now.pairs in
+    let put = c.in_ok-insert_at.ensures.put in
+    let shown : Some c.value_in_mut.result.now ≡ Some c.args.value =
+    sym c.value_in_mut.ensures.value ∙ ap (λ M. value_in M e.index) put ∙ ap (value_in _) e.missing.place ∙ put_value cmp L e.key c.args.value in (
+      (
+        refl,
+        λ w. record {
+          pairs = ap (λ M. set_value M e.index w) put ∙ set_value-put cmp L e.key c.args.value w e.index e.missing.place;
+          room = c.in_ok-insert_at.ensures.room;
+          room_kept = from_false;
+        },
+        tt,
+      ),
+      record { writes_back = tt; value = ap (λ o. unwrap_or o c.args.value) shown; full = tt; back = tt },
+    )

@@ -1,0 +1,102 @@
+-- What an entry of a map shows: the map that it borrows, its key, its value, and what the calls on it make of the pairs.
+use Rattle.std.specs.Prelude.{◌≡◌, ℕ, ◌+◌, ◌<◌, ◌≤◌, List, [], Option, Some, None, IsSome, Result, OnOk, OnErr}
+use Rattle.std.specs.Prelude.{length, slice_get}
+use Rattle.std.proofs.Common.{subst, sym}
+use Rattle.std.specs.declared.cmp.Ord as ord
+use Rattle.std.specs.declared.cmp.PartialEq as eq
+use Rattle.std.specs.declared.cmp.PartialOrd as partial
+use Rattle.std.specs.Borrow.{Fml, RattleType, MutBor, follows, follows_so, name_if_ok}
+use Rattle.std.specs.List.{remove}
+use Rattle.std.specs.Option.{option_map}
+use mir.Syntax.{named}
+use Rattle.litemap_store.specs.declared.store.Store as store
+use Rattle.litemap_store.specs.Pairs.{put, set_value, value_in}
+use Rattle.litemap_store.proofs.Seams.{length-set_value}
+use Rattle.litemap.specs.Seen.{Seen, with_pairs}
+use Rattle.litemap.specs.declared.map.entry.OccupiedEntry.{OccupiedEntry}
+use Rattle.litemap.specs.declared.map.entry.VacantEntry.{VacantEntry}
+use Rattle.litemap.specs.declared.map.entry.Entry.{Entry}
+use Rattle.litemap.specs.declared.map.entry.Entry.TheVariants as variants
+use Rattle.litemap.specs.contracts.map.LiteMap.{the_row}
+use Rattle.litemap.specs.contracts.map.entry.OccupiedEntry as occupied
+
+module _ {K V S : Type 0} {g : ord.Ghosts K} {g' : eq.Ghosts K} {g'' : partial.Ghosts K} {s : store.Ghosts S K V} where
+  abbrev pub Occupied : OccupiedEntry K V S g g' g'' s → Entry K V S g g' g'' s
+  Occupied o = variants.Occupied o
+
+  abbrev pub Vacant : VacantEntry K V S g g' g'' s → Entry K V S g g' g'' s
+  Vacant e = variants.Vacant e
+
+  -- P if the entry is occupied, and Q if it is vacant
+  abbrev pub MatchEntry : Entry K V S g g' g'' s → Type 0 → Type 0 → Type 0
+  MatchEntry (variants.Occupied o) P Q = P
+  MatchEntry (variants.Vacant e) P Q = Q
+
+  -- the reference to the map
+  abbrev pub entry_map : Entry K V S g g' g'' s → MutBor (Seen K V)
+  entry_map (variants.Occupied o) = o.map
+  entry_map (variants.Vacant e) = e.map
+
+  -- the key that is there, or else the key that was asked for
+  abbrev pub entry_key : Entry K V S g g' g'' s → Option K
+  entry_key (variants.Occupied o) = option_map (λ p. p.0) (slice_get o.map.now.pairs o.index)
+  entry_key (variants.Vacant e) = Some e.key
+
+  -- the value at the key, if it is there
+  abbrev pub entry_value : Entry K V S g g' g'' s → Option V
+  entry_value (variants.Occupied o) = value_in o.map.now.pairs o.index
+  entry_value (variants.Vacant e) = None
+
+  -- the pairs with v at the key
+  abbrev pub pairs_with : Entry K V S g g' g'' s → V → List (K × V)
+  pairs_with (variants.Occupied o) v = set_value o.map.now.pairs o.index v
+  pairs_with (variants.Vacant e) v = put g.cmp e.map.now.pairs e.key v
+
+  -- the pairs without the key
+  abbrev pub pairs_without : Entry K V S g g' g'' s → List (K × V)
+  pairs_without (variants.Occupied o) = remove o.map.now.pairs o.index
+  pairs_without (variants.Vacant e) = e.map.now.pairs
+
+  -- the map with v at the key of an occupied entry
+  abbrev pub map_with_value : OccupiedEntry K V S g g' g'' s → V → Seen K V
+  map_with_value o v = with_pairs o.map.now (set_value o.map.now.pairs o.index v)
+
+  pub still_within : (o : OccupiedEntry K V S g g' g'' s) (v : V) → o.index < length (set_value o.map.now.pairs o.index v)
+  still_within o v = subst (λ n. o.index < n) (sym (length-set_value o.map.now.pairs o.index v)) o.within
+
+  -- an occupied entry, once v is its value
+  abbrev pub with_entry_value : OccupiedEntry K V S g g' g'' s → V → OccupiedEntry K V S g g' g'' s
+  with_entry_value o v = record { map = record o.map { now = map_with_value o v }; index = o.index; within = still_within o v }
+
+  -- the second entry is the first one with the value v: what calls on it make of the pairs is the same
+  pub record IsWritten (old : Entry K V S g g' g'' s) (v : V) (new : Entry K V S g g' g'' s) : Type 0 where
+    pub value : entry_value new ≡ Some v
+    pub same_key : entry_key new ≡ entry_key old
+    pub same_writes : (w : V) → pairs_with new w ≡ pairs_with old w
+    pub same_removal : pairs_without new ≡ pairs_without old
+    pub same_map : (entry_map new).ghost_name ≡ (entry_map old).ghost_name
+    pub same_room : (entry_map new).now.room ≡ (entry_map old).now.room
+
+  -- the map n has v at the entry's key. The room is kept where the key was there, and else lowered by at most one
+  pub record Leaves (e : Entry K V S g g' g'' s) (n : Seen K V) (v : V) : Type 0 where
+    pub pairs : n.pairs ≡ pairs_with e v
+    pub room : (entry_map e).now.room ≤ n.room + 1
+    pub room_kept : IsSome (entry_value e) → n.room ≡ (entry_map e).now.room
+
+module _ (K V S : RattleType) {g : ord.Ghosts K.Denot} {g' : eq.Ghosts K.Denot} {g'' : partial.Ghosts K.Denot} {s : store.Ghosts S.Denot K.Denot V.Denot} where
+  -- once the reference r ends, the map has the last value written through it at the key of the occupied entry
+  abbrev pub IntoLends : OccupiedEntry K.Denot V.Denot S.Denot g g' g'' s → MutBor V.Denot → Fml
+  IntoLends o r = follows (the_row K V S g g' g'' s) V o.map.ghost_name r.ghost_name (map_with_value o)
+
+  -- once the reference r ends, the entry has the last value written through it. (The entry's lifetime is the second of
+  -- the signature)
+  abbrev pub OccupiedLends : MutBor (OccupiedEntry K.Denot V.Denot S.Denot g g' g'' s) → MutBor V.Denot → Fml
+  OccupiedLends o r =
+      follows (occupied.the_row (record { mir = named 1; lft = [] }) K V S g g' g'' s) V o.ghost_name r.ghost_name
+      (with_entry_value o.now)
+
+  -- once the reference in r ends, the map has the last value written through it at the entry's key. At Err the pairs stay
+  abbrev pub EntryLends : {E : Type 0} → Entry K.Denot V.Denot S.Denot g g' g'' s → Result (MutBor V.Denot) E → Fml
+  EntryLends e r =
+      follows_so (the_row K V S g g' g'' s) V (entry_map e).ghost_name (name_if_ok (λ x. x.ghost_name) r)
+      (λ v n. OnOk r (Leaves e n v)) (λ n. OnErr r (n.pairs ≡ (entry_map e).now.pairs))

@@ -1,0 +1,178 @@
+//! The place of a key in a map, whether the key is there or not.
+//!
+//! An entry borrows its map: the call that takes the entry, or the reference that this call answers, ends the borrow.
+ghost use Rattle.std.specs.Prelude.{◌<◌, length};
+ghost use Rattle.litemap_store.specs.Splits.{IsMissingAt};
+
+mod occupied;
+mod vacant;
+
+use crate::LiteMap;
+use litemap_store::store::{Count, NoRoom, Store, StoreMut};
+use std::fmt::{self, Debug, Formatter, Write};
+
+/// The entry of a key.
+#[derive(Drop)]
+pub enum Entry<'a, K: Ord, V, S: Store<K, V>> {
+    /// An equal key is there.
+    Occupied(OccupiedEntry<'a, K, V, S>),
+    /// No equal key is there.
+    Vacant(VacantEntry<'a, K, V, S>),
+}
+
+/// The entry of a key that is there.
+#[derive(Drop)]
+pub struct OccupiedEntry<'a, K: Ord, V, S: Store<K, V>> {
+    map: &'a mut LiteMap<K, V, S>,
+    index: usize,
+    ghost within: { index < length map.now.pairs },
+}
+
+/// The entry of a key that is not there.
+#[derive(Drop)]
+pub struct VacantEntry<'a, K: Ord, V, S: Store<K, V>> {
+    map: &'a mut LiteMap<K, V, S>,
+    key: K,
+    index: usize,
+    ghost missing: { IsMissingAt K.cmp map.now.pairs key index },
+}
+
+impl<K: Ord, V, S: StoreMut<K, V>> LiteMap<K, V, S> {
+    ghost use Rattle.std.specs.Prelude.{◌≡◌, IsNone, IsSome, Some};
+    ghost use Rattle.litemap_store.specs.Pairs.{at, cut, key_or, put, value_at};
+    ghost use Rattle.litemap.specs.Entries.{MatchEntry, entry_key, entry_map, entry_value, pairs_with};
+    ghost use Rattle.litemap.specs.Entries.{pairs_without};
+
+    /// The entry of a key. Where an equal key is there, that key stays, and the new one is given up.
+    ///
+    /// It takes no memory, and changes nothing. It compares at most once for each binary digit of the length; what is
+    /// then done through the entry compares no keys.
+    pub fn entry(&mut self, key: K) -> Entry<'_, K, V, S>
+    where
+        K: Drop,
+        // The map that it borrows, as it is.
+        ensures same_map { (entry_map result).ghost_name ≡ self.entry.ghost_name }
+        ensures unchanged { (entry_map result).now ≡ self.old }
+
+        // Occupied exactly where an equal key is there.
+        ensures found { MatchEntry result
+            (IsSome (at K.cmp self.old.pairs key)) (IsNone (at K.cmp self.old.pairs key)) }
+        ensures key { entry_key result ≡ Some (key_or (at K.cmp self.old.pairs key) key) }
+        ensures value { entry_value result ≡ value_at K.cmp self.old.pairs key }
+
+        // What a write through it makes of the pairs, and what a removal does.
+        ensures writes { (v : V) → pairs_with result v ≡ put K.cmp self.old.pairs key v }
+        ensures removes { pairs_without result ≡ cut K.cmp self.old.pairs key }
+    {
+        match self.search(&key, &mut Count::new()) {
+            Ok(index) => Entry::Occupied(OccupiedEntry { map: self, index }),
+            Err(index) => Entry::Vacant(VacantEntry {
+                map: self,
+                key,
+                index,
+            }),
+        }
+    }
+}
+
+impl<'a, K: Ord, V, S: StoreMut<K, V>> Entry<'a, K, V, S> {
+    ghost use Rattle.std.specs.Prelude.{◌≡◌, IfErr, IfOk, None, OnErr, Some, unwrap_or};
+    ghost use Rattle.std.specs.Borrow.{sem, MutBor};
+    ghost use Rattle.std.specs.Map.Calls.{ModifiesValue};
+    ghost use Rattle.std.specs.Option.{UnwrapsOrElse};
+    ghost use Rattle.litemap.specs.Entries.{EntryLends, entry_key, entry_map, entry_value, pairs_with};
+    ghost use Rattle.litemap.specs.Entries.{pairs_without};
+
+    /// The value, to be written. Where the key is not there, `default` is placed first; else `default` is given up.
+    ///
+    /// It is refused only where the key is not there and there is no room: then key and value come back and the list
+    /// stays.
+    pub fn or_insert(self, default: V) -> Result<&'a mut V, NoRoom<(K, V)>>
+    where
+        V: Drop,
+        ensures* writes_back { sem 𝓛 (EntryLends K.row V.row S.row self.entry result) }
+        ensures value { IfOk result (λ slot. slot.now ≡ unwrap_or (entry_value self.entry) default) }
+
+        // Refused only where the key is not there and there is no room. Key and value come back.
+        ensures absent { OnErr result (entry_value self.entry ≡ None) }
+        ensures full { OnErr result ((entry_map self.entry).now.room ≡ 0) }
+        ensures back { IfErr result
+            (λ refused. (entry_key self.entry ≡ Some refused.back.0) × (refused.back.1 ≡ default)) }
+    {
+        match self {
+            Entry::Occupied(entry) => Ok(entry.into_mut()),
+            Entry::Vacant(entry) => entry.insert(default),
+        }
+    }
+
+    /// The value, to be written. Where the key is not there, `V::default()` is placed first.
+    ///
+    /// The default is made where the key is there, too. It is refused only where the key is not there and there is no
+    /// room: then key and value come back and the list stays.
+    pub fn or_default(self) -> Result<&'a mut V, NoRoom<(K, V)>>
+    where
+        V: Default + Drop,
+        ensures* writes_back { sem 𝓛 (EntryLends K.row V.row S.row self.entry result) }
+        ensures value { IfOk result (λ slot. UnwrapsOrElse (entry_value self.entry) V.is_default slot.now) }
+
+        // Refused only where the key is not there and there is no room. Key and value come back.
+        ensures absent { OnErr result (entry_value self.entry ≡ None) }
+        ensures full { OnErr result ((entry_map self.entry).now.room ≡ 0) }
+        ensures back { IfErr result
+            (λ refused. (entry_key self.entry ≡ Some refused.back.0) × V.is_default refused.back.1) }
+    {
+        self.or_insert(V::default())
+    }
+
+    /// The value, to be written. Where the key is not there, what `default` answers is placed first; else it is not
+    /// called.
+    ///
+    /// It is refused only where the key is not there and there is no room: then key and value come back and the list
+    /// stays.
+    pub fn or_insert_with<F: FnOnce() -> V>(self, default: F) -> Result<&'a mut V, NoRoom<(K, V)>>
+        requires { entry_value self ≡ None → F.pre default }
+        ensures* writes_back { sem 𝓛 (EntryLends K.row V.row S.row self.entry result) }
+        ensures value { IfOk result
+            (λ slot. UnwrapsOrElse (entry_value self.entry) (F.post default) slot.now) }
+
+        // Refused only where the key is not there and there is no room. Key and value come back.
+        ensures absent { OnErr result (entry_value self.entry ≡ None) }
+        ensures full { OnErr result ((entry_map self.entry).now.room ≡ 0) }
+        ensures back { IfErr result
+            (λ refused. (entry_key self.entry ≡ Some refused.back.0) × F.post default refused.back.1) }
+    {
+        match self {
+            Entry::Occupied(occupied) => Ok(occupied.into_mut()),
+            Entry::Vacant(vacant) => vacant.insert(default()),
+        }
+    }
+
+    /// Changes the value by `f`. Where the key is not there, `f` is not called.
+    pub fn and_modify<F: FnOnce(&mut V)>(self, f: F) -> Entry<'a, K, V, S>
+        requires { (v : MutBor V) → entry_value self ≡ Some v.now → F.pre f v }
+        ensures same_map { (entry_map result).ghost_name ≡ (entry_map self.entry).ghost_name }
+        ensures same_room { (entry_map result).now.room ≡ (entry_map self.entry).now.room }
+        ensures same_key { entry_key result ≡ entry_key self.entry }
+        ensures same_writes { (v : V) → pairs_with result v ≡ pairs_with self.entry v }
+        ensures same_removal { pairs_without result ≡ pairs_without self.entry }
+        ensures update { ModifiesValue F.FnOnce f (entry_value self.entry) (entry_value result) }
+    {
+        match self {
+            Entry::Occupied(mut entry) => {
+                f(entry.get_mut());
+                Entry::Occupied(entry)
+            }
+            Entry::Vacant(entry) => Entry::Vacant(entry),
+        }
+    }
+}
+
+/// Printed with its key and its value. No text is promised.
+impl<K: Ord + Debug, V: Debug, S: StoreMut<K, V>> Debug for Entry<'_, K, V, S> {
+    fn fmt<W: Write>(&self, f: &mut Formatter<W>) -> fmt::Result {
+        match self {
+            Entry::Occupied(entry) => entry.fmt(f),
+            Entry::Vacant(entry) => entry.fmt(f),
+        }
+    }
+}

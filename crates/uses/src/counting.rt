@@ -1,0 +1,38 @@
+//! How often each word stands in a list.
+ghost use Rattle.std.specs.Prelude.{◌≡◌, ◌+◌, ◌<◌, IfOk, OnOk, OnErr, unwrap_or};
+ghost use Rattle.std.specs.List.{count_by};
+ghost use Rattle.std.specs.Ordering.{is_eq};
+ghost use Rattle.litemap_store.specs.Pairs.{put, value_at};
+
+use litemap::LiteMap;
+use litemap::store::{NoRoom, StoreMut};
+use std::alloc::{AllocError, Global};
+
+/// Counts a word once more. A word that is not there yet counts one.
+pub fn count_word<K: Ord + Drop, S: StoreMut<K, usize>>(
+    counts: &mut LiteMap<K, usize, S>,
+    word: K,
+) -> Result<(), NoRoom<(K, usize)>>
+    requires { unwrap_or (value_at K.cmp counts.old.pairs word) 0 < usize.MAX }
+    ensures counted { OnOk result (counts.new.pairs
+        ≡ put K.cmp counts.old.pairs word (unwrap_or (value_at K.cmp counts.old.pairs word) 0 + 1)) }
+    ensures refused { OnErr result (counts.new.pairs ≡ counts.old.pairs) }
+{
+    counts.entry(word).and_modify(|n| *n += 1).or_insert(1)?;
+    Ok(())
+}
+
+/// How often each word stands in a list: the number of its words that are equal to it.
+pub fn count_words<K: Ord + Copy>(
+    alloc: Global,
+    words: &[K],
+) -> Result<LiteMap<K, usize, Vec<(K, usize)>>, AllocError>
+    ensures { IfOk result (λ counts. (word : K) → unwrap_or (value_at K.cmp counts.pairs word) 0
+        ≡ count_by (λ w. is_eq (K.cmp w word)) words.now) }
+{
+    let mut counts = LiteMap::new_vec(alloc);
+    for word in words {
+        count_word(&mut counts, *word)?;
+    }
+    Ok(counts)
+}
