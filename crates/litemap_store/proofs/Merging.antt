@@ -5,10 +5,11 @@ use Rattle.std.proofs.Common.{◌≡◌, ◌⊎◌, ◌≢◌, ◌↔◌, Bool, 
 use Rattle.std.specs.List.{AllByRecursion, cons_option}
 use Rattle.std.specs.Cmp.{IsTotalOrder}
 use Rattle.std.proofs.lemmas.Cmp.{tied_back, tied_itself, alike_right}
+use Rattle.std.proofs.lemmas.List.Elements.{filter_map-append}
 use Rattle.litemap_store.specs.Last.{In, NoneEqual}
 use Rattle.litemap_store.specs.Laws.{HasKey}
 use Rattle.litemap_store.specs.Merge.{IsMerged, Merge, left}
-use Rattle.litemap_store.specs.Pairs.{Rising, above, at, below, key_or, put}
+use Rattle.litemap_store.specs.Pairs.{BelowAll, Rising, above, at, below, key_or, put}
 use Rattle.litemap_store.proofs.LastLookups.{at-Rising}
 use Rattle.litemap_store.proofs.LastPairs.{Rising-append, Rising-filter, some_equal, same_rising, less_from_is_lt, greater_from_is_gt}
 use Rattle.litemap_store.proofs.Membership.{In-left, In-right, In-cases, In-filter, In-from_filter, each, from_each}
@@ -44,6 +45,19 @@ module _ {K : Type 0} (cmp : K → K → Ordering) (o : IsTotalOrder cmp) where
       by : (r : Option (K × V)) → at cmp A b.0 ≡ r → (left cmp A B ≡ [] → AllByRecursion (λ (b : K × V). NoneEqual cmp b.0 A) B) → cons_option (option_map (λ (a : K × V). (b.0, a.1)) r) (left cmp A B) ≡ [] → AllByRecursion (λ (b : K × V). NoneEqual cmp b.0 A) (b ∷ B)
       by None f rest e = (none_from_at A b.0 f, rest e)
       by (Some a) f rest e = absurd (cc)
+
+  -- what is left over rises as B does
+  BelowAll-left : {V : Type 0} (A : List (K × V)) (k : K) (B : List (K × V)) → BelowAll cmp k B → BelowAll cmp k (left cmp A B)
+  BelowAll-left A k [] h = tt
+  BelowAll-left {V} A k (b ∷ B) h =
+      let rest : BelowAll cmp k (left cmp A B) = BelowAll-left A k B h.1 in
+      elim (at cmp A b.0) as (λ r. BelowAll cmp k (cons_option (option_map (λ (a : K × V). let p : K × V = (b.0, a.1) in p) r) (left cmp A B))) [ None ↦ rest | Some a ↦ (h.0, rest) ]
+
+  pub Rising-left : {V : Type 0} (A B : List (K × V)) → Rising cmp B → Rising cmp (left cmp A B)
+  Rising-left A [] r = tt
+  Rising-left {V} A (b ∷ B) r =
+      let rest : Rising cmp (left cmp A B) = Rising-left A B r.1 in
+      elim (at cmp A b.0) as (λ s. Rising cmp (cons_option (option_map (λ (a : K × V). let p : K × V = (b.0, a.1) in p) s) (left cmp A B))) [ None ↦ rest | Some a ↦ (BelowAll-left A b.0 B r.0, rest) ]
 
   -- ---- what a put leaves
   pub at_in : {V : Type 0} (M : List (K × V)) (k : K) (q : K × V) → at cmp M k ≡ Some q → In q M × (cmp q.0 k ≡ Equal)
@@ -145,6 +159,25 @@ module _ {K : Type 0} (cmp : K → K → Ordering) (o : IsTotalOrder cmp) where
 
     pub Merge-put : Merge cmp A (B ++ b ∷ []) (put cmp M b.0 b.1)
     Merge-put = record { rising = Rising-put o M b.0 b.1 merge.rising; exactly = λ p. (to_merged p, from_merged p) }
+
+    -- its key finds among the merged pairs what it finds in A
+    pub at-merged : at cmp M b.0 ≡ at cmp A b.0
+    at-merged = by (at cmp A b.0) refl
+      where
+        by : (r : Option (K × V)) → at cmp A b.0 ≡ r → at cmp M b.0 ≡ at cmp A b.0
+        by None e =
+            let n = none_from_at A b.0 e in
+            at_none M b.0 (from_each (λ (q : K × V). cmp b.0 q.0 ≢ Equal) M (λ x i. elim (whose x i) [
+              | inl w ↦ each (λ (q : K × V). cmp b.0 q.0 ≢ Equal) A n (x.0, w.0) w.1
+              | inr j ↦ each (λ (q : K × V). cmp b.0 q.0 ≢ Equal) B new x j
+            ])) ∙ sym e
+        by (Some q) e =
+            let h = at_in A b.0 q e in
+            at-Rising o M b.0 q merge.rising ((merge.exactly q).1 (inl (h.0, from_each (λ (x : K × V). cmp q.0 x.0 ≢ Equal) B (λ x i f. each (λ (y : K × V). cmp b.0 y.0 ≢ Equal) B new x i (sym (o.congr q.0 b.0 x.0 h.1) ∙ f))))) h.1 ∙ sym e
+
+    -- and what is left over is the value that it finds there
+    pub left-put : left cmp A (B ++ b ∷ []) ≡ left cmp A B ++ cons_option (option_map (λ (a : K × V). let p : K × V = (b.0, a.1) in p) (at cmp M b.0)) []
+    left-put = filter_map-append (λ (x : K × V). option_map (λ (a : K × V). let p : K × V = (x.0, a.1) in p) (at cmp A x.0)) B (b ∷ []) ∙ ap (λ r. left cmp A B ++ cons_option (option_map (λ (a : K × V). let p : K × V = (b.0, a.1) in p) r) []) (sym at-merged)
 
   pub keys_of_merge : {V : Type 0} (A B M : List (K × V)) → Merge cmp A B M → (k : K) → HasKey cmp V k M ↔ (HasKey cmp V k A ⊎ (HasKey cmp V k B × NoneEqual cmp k A))
   keys_of_merge {V} A B M merge k = (there, back)
