@@ -6,6 +6,7 @@ ghost use Rattle.litemap.specs.Clones.{ClonesAreSame, ClonesCompareEqual, PairsA
 mod bulk;
 mod change;
 mod look;
+mod merge;
 mod slice;
 mod write;
 

@@ -59,10 +59,10 @@ module _ {K V : Type 0} (cmp : K → K → Ordering) (o : IsTotalOrder cmp) wher
         left_over = l ∙ ap (λ W. W ++ cons_option (option_map (λ (p : K × V). let q : K × V = (b.0, p.1) in q) (at cmp M b.0)) []) h.left_over ∙ sym (left-put cmp o A Y M h.merged b new);
         long = (let k = length-put M b.0 b.1 h.merged.rising in let e : length M' ≡ length (put cmp M b.0 b.1) = ap length m in omega arith);
         cost = (
-          let low : digits (length M) ≤ d = digits-mono (length M) (length A + length B) (omega arith) in
-          let one : suc (length Y) * d ≡ length Y * d + d = suc-mul (length Y) d in
-          let next : length (Y ++ b ∷ []) ≡ suc (length Y) = omega arith in
-          let two : length (Y ++ b ∷ []) * d ≡ suc (length Y) * d = ap (λ n. n * d) next in
-          in_turn (length Y * d) (digits (length M)) (length (Y ++ b ∷ []) * d) (omega arith) h.cost c
-        );
+            let low : digits (length M) ≤ d = digits-mono (length M) (length A + length B) (omega arith) in
+            let one : suc (length Y) * d ≡ length Y * d + d = suc-mul (length Y) d in
+            let next : length (Y ++ b ∷ []) ≡ suc (length Y) = omega arith in
+            let two : length (Y ++ b ∷ []) * d ≡ suc (length Y) * d = ap (λ n. n * d) next in
+            in_turn (length Y * d) (digits (length M)) (length (Y ++ b ∷ []) * d) (omega arith) h.cost c
+            );
       }

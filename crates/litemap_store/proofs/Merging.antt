@@ -108,10 +108,10 @@ module _ {K : Type 0} (cmp : K → K → Ordering) (o : IsTotalOrder cmp) where
 
     none_with : (k : K) → NoneEqual cmp k B → cmp k b.0 ≢ Equal → NoneEqual cmp k (B ++ b ∷ [])
     none_with k n d = from_each (λ (q : K × V). cmp k q.0 ≢ Equal) (B ++ b ∷ []) (λ x i. elim (In-cases B (b ∷ []) x i) [
-        | inl j ↦ each (λ (q : K × V). cmp k q.0 ≢ Equal) B n x j
-        | inr (inl e) ↦ subst (λ (q : K × V). cmp k q.0 ≢ Equal) e d
-        | inr (inr j) ↦ absurd j
-      ])
+      | inl j ↦ each (λ (q : K × V). cmp k q.0 ≢ Equal) B n x j
+      | inr (inl e) ↦ subst (λ (q : K × V). cmp k q.0 ≢ Equal) e d
+      | inr (inr j) ↦ absurd j
+    ])
 
     new_pair : (r : Option (K × V)) → at cmp M b.0 ≡ r → IsMerged cmp A (B ++ b ∷ []) (key_or r b.0, b.1)
     new_pair None e = inr (inl (there, from_each (λ (q : K × V). cmp b.0 q.0 ≢ Equal) A (λ x i. let h = old_key x i in each (λ (q : K × V). cmp b.0 q.0 ≢ Equal) M (none_from_at M b.0 e) (x.0, h.0) h.1)))
@@ -143,9 +143,9 @@ module _ {K : Type 0} (cmp : K → K → Ordering) (o : IsTotalOrder cmp) where
       | inl i ↦ kept p (inr (inl (i, h.1))) (apart p i)
       | inr (inl e) ↦ placed p (let n : NoneEqual cmp b.0 A = subst (λ (q : K × V). NoneEqual cmp q.0 A) (sym e) h.1 in
           let none : at cmp M b.0 ≡ None = at_none M b.0 (from_each (λ (q : K × V). cmp b.0 q.0 ≢ Equal) M (λ x i. elim (whose x i) [
-              | inl w ↦ each (λ (q : K × V). cmp b.0 q.0 ≢ Equal) A n (x.0, w.0) w.1
-              | inr j ↦ each (λ (q : K × V). cmp b.0 q.0 ≢ Equal) B new x j
-            ])) in rw none e)
+            | inl w ↦ each (λ (q : K × V). cmp b.0 q.0 ≢ Equal) A n (x.0, w.0) w.1
+            | inr j ↦ each (λ (q : K × V). cmp b.0 q.0 ≢ Equal) B new x j
+          ])) in rw none e)
       | inr (inr j) ↦ absurd j
     ]
     from_merged p (inr (inr h)) = elim (In-cases B (b ∷ []) (h.1.0, p.1) h.1.2) [
