@@ -7,6 +7,7 @@ mod bulk;
 mod change;
 mod entry;
 mod look;
+mod merge;
 mod slice;
 mod write;
 

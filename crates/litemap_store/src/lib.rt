@@ -5,6 +5,8 @@
 pub mod by_scan;
 mod count;
 mod extend;
+pub mod extend_store;
+mod into_iter;
 pub mod laws;
 mod no_room;
 mod query;

@@ -6,7 +6,7 @@
 //!    proof above names its fields.
 //! 2. Its traits: `pairs` and `room` read that value, and each call has the trait's contract. `StoreConstEmpty` and
 //!    `StoreMut` are all that the keyed calls of a map ask for; `StoreBulkMut` is there for `retain` and `extend`,
-//!    `StoreFromIterable` for `from_iter`.
+//!    `StoreFromIterable` for `from_iter`, `StoreIntoIterator` for merges.
 //! 3. `with_value`, what it is with another value at a place, and the two laws on it.
 //!
 //! The calls of `LiteMap` are then proved over it, with no proof of theirs to be written.
@@ -15,11 +15,12 @@ ghost use Rattle.test_support.specs.Contents.{with_value};
 
 use litemap::store::{
     Count, NoRoom, Store, StoreBulkMut, StoreConstEmpty, StoreFromIterable, StoreFromIterator,
-    StoreMut,
+    StoreIntoIterator, StoreMut,
 };
 use std::alloc::{AllocError, Global};
 use std::marker::Model;
 use std::mem;
+use std::vec::IntoIter;
 
 /// A vector of pairs that takes its memory when it is made, and refuses each growth past that.
 ///
@@ -153,5 +154,13 @@ impl<K: Drop, V: Drop> StoreFromIterator<K, V> for FixedRoom<K, V> {
         let items = Vec::lm_from_pairs(alloc, iter)?;
         let limit = items.len();
         Ok(FixedRoom { items, limit })
+    }
+}
+
+impl<K: Drop, V: Drop> StoreIntoIterator<K, V> for FixedRoom<K, V> {
+    type KeyValueIntoIter = IntoIter<(K, V)>;
+
+    fn lm_into_iter(self) -> IntoIter<(K, V)> {
+        self.items.into_iter()
     }
 }

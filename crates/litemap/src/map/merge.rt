@@ -1,0 +1,85 @@
+//! Merging maps.
+ghost use Rattle.std.specs.Prelude.{◌≡◌, ◌≢◌, ◌⊎◌, ◌↔◌, ◌+◌, ◌*◌, [], length, IsOk, IsNone, IfOk, IfErr, IfSome, OnOk, OnErr};
+ghost use Rattle.litemap_store.specs.Counts.{RisesByAtMost};
+ghost use Rattle.litemap_store.specs.Digits.{digits};
+ghost use Rattle.litemap_store.specs.Merge.{Apart, Merge, left};
+
+use crate::LiteMap;
+use litemap_store::extend_store::extend_from_store;
+use litemap_store::store::{Count, NoRoom, StoreIntoIterator};
+use std::alloc::Global;
+
+impl<K: Ord + Drop, V: Drop, S: StoreIntoIterator<K, V> + Drop> LiteMap<K, V, S> {
+    /// Puts the pairs of another map in. Where an equal key is there, that key stays and takes the new value.
+    ///
+    /// The answer is a map of what was driven out: for each key of the other map that was there, that key of the other
+    /// map with the old value. It is `None` exactly where no key is common.
+    ///
+    /// Where one map is empty, no memory is taken and no keys are compared: an empty other map changes nothing, and an
+    /// empty map takes the other's store whole. Where all keys of the other map lie above those of this one, or all lie
+    /// below, its pairs are put behind or before, by at most two comparisons; each pair moves at most once. Else each pair
+    /// of the other map takes one search.
+    ///
+    /// All room, that of what is driven out included, is taken before the first change. Refused for want of memory, the
+    /// list stays as it was and the other map comes back whole. Nothing is promised of the room.
+    ///
+    /// The Rust crate asks `StoreFromIterator` too, and puts pairs before others one by one.
+    pub fn extend_from_litemap(
+        &mut self,
+        alloc: Global,
+        other: Self,
+    ) -> Result<Option<Self>, NoRoom<Self>>
+        // What is left, and what is driven out.
+        ensures merged { OnOk result (Merge K.cmp self.old.pairs other.pairs self.new.pairs) }
+        ensures none { IfOk result (λ rest. IsNone rest ↔ (left K.cmp self.old.pairs other.pairs ≡ [])) }
+        ensures left { IfOk result (λ rest. IfSome rest (λ m. m.pairs ≡ left K.cmp self.old.pairs other.pairs)) }
+
+        // Refused: the list stays, and the other map comes back whole.
+        ensures refused { OnErr result (self.new.pairs ≡ self.old.pairs) }
+        ensures back { IfErr result (λ refused. refused.back.pairs ≡ other.pairs) }
+
+        // Where a map is empty it is never refused.
+        ensures succeeds { (self.old.pairs ≡ []) ⊎ (other.pairs ≡ []) → IsOk result }
+        ensures unchanged { other.pairs ≡ [] → self.new ≡ self.old }
+        ensures taken { self.old.pairs ≡ [] → other.pairs ≢ [] → self.new ≡ other }
+    {
+        self.extend_from_litemap_counted(alloc, other, &mut Count::new())
+    }
+
+    /// `extend_from_litemap`, with its comparisons counted. The Rust crate has no such call.
+    pub fn extend_from_litemap_counted(
+        &mut self,
+        alloc: Global,
+        other: Self,
+        count: &mut Count,
+    ) -> Result<Option<Self>, NoRoom<Self>>
+        // What is left, and what is driven out.
+        ensures merged { OnOk result (Merge K.cmp self.old.pairs other.pairs self.new.pairs) }
+        ensures none { IfOk result (λ rest. IsNone rest ↔ (left K.cmp self.old.pairs other.pairs ≡ [])) }
+        ensures left { IfOk result (λ rest. IfSome rest (λ m. m.pairs ≡ left K.cmp self.old.pairs other.pairs)) }
+
+        // Refused: the list stays, and the other map comes back whole.
+        ensures refused { OnErr result (self.new.pairs ≡ self.old.pairs) }
+        ensures back { IfErr result (λ refused. refused.back.pairs ≡ other.pairs) }
+
+        // Where a map is empty it is never refused.
+        ensures succeeds { (self.old.pairs ≡ []) ⊎ (other.pairs ≡ []) → IsOk result }
+        ensures unchanged { other.pairs ≡ [] → self.new ≡ self.old }
+        ensures taken { self.old.pairs ≡ [] → other.pairs ≢ [] → self.new ≡ other }
+
+        // The comparisons: none where a map is empty, and two where they lie apart.
+        ensures uncounted { (self.old.pairs ≡ []) ⊎ (other.pairs ≡ []) → RisesByAtMost 0 count.old count.new }
+        ensures apart { Apart K.cmp self.old.pairs other.pairs → RisesByAtMost 2 count.old count.new }
+        ensures cost { RisesByAtMost
+            (2 + length other.pairs * digits (length self.old.pairs + length other.pairs)) count.old count.new }
+    {
+        let LiteMap { store, marker: _ } = other;
+        match extend_from_store(alloc, &mut self.store, store, count) {
+            Ok(None) => Ok(None),
+            Ok(Some(rest)) => Ok(Some(LiteMap::from_sorted_store_unchecked(rest))),
+            Err(refused) => Err(NoRoom {
+                back: LiteMap::from_sorted_store_unchecked(refused.back),
+            }),
+        }
+    }
+}

@@ -1,0 +1,35 @@
+use Rattle.std.proofs.Common.{◌≡◌, ◌++◌, [], false, length, sym, ap, ◌∙◌, refl, eqb-true}
+use Rattle.std.proofs.lemmas.List.{nil_from_length}
+use mathlib.Core.Bool.{true≢false}
+use Rattle.litemap_store.specs.Merge.{left}
+use Rattle.litemap_store.proofs.MergeJoins.{Merge-before, Merge-behind, left-before, left-behind, left-nil, not_apart}
+use Rattle.litemap_store.proofs.extend_store.extend_from_store.Goals as goal
+
+pub returns-then-lm_is_empty-2-clause-none : goal.returns-then-lm_is_empty-2-clause-none
+returns-then-lm_is_empty-2-clause-none g c =
+    let empty : g.S.Store.pairs c.args.store.now ≡ [] = nil_from_length _ (eqb-true _ 0 (sym c.lm_is_empty-2.ensures ∙ c.if-lm_is_empty-2.true)) in
+    (λ e. rw empty (left-nil g.K.Ord.cmp g.met.K.Ord.total (g.S.Store.pairs c.args.other)), λ e. refl)
+
+pub returns-then-lies_below-clause-merged : goal.returns-then-lies_below-clause-merged
+returns-then-lies_below-clause-merged g c =
+    rw c.in_ok-lm_extend_end.ensures.ok
+    (Merge-behind g.K.Ord.cmp g.met.K.Ord.total _ _ c.requires.store c.requires.other (c.lies_below.ensures.below.0 c.if-lies_below.true))
+
+pub returns-then-lies_below-clause-none : goal.returns-then-lies_below-clause-none
+returns-then-lies_below-clause-none g c =
+    (λ e. left-behind g.K.Ord.cmp g.met.K.Ord.total _ _ c.requires.store c.requires.other (c.lies_below.ensures.below.0 c.if-lies_below.true), λ e. refl)
+
+pub returns-then-lies_below-2-clause-merged : goal.returns-then-lies_below-2-clause-merged
+returns-then-lies_below-2-clause-merged g c =
+    rw c.in_ok-lm_extend_start.ensures.ok
+    (Merge-before g.K.Ord.cmp g.met.K.Ord.total _ _ c.requires.store c.requires.other (c.lies_below-2.ensures.below.0 c.if-lies_below-2.true))
+
+pub returns-then-lies_below-2-clause-none : goal.returns-then-lies_below-2-clause-none
+returns-then-lies_below-2-clause-none g c =
+    (λ e. left-before g.K.Ord.cmp g.met.K.Ord.total _ _ c.requires.store c.requires.other (c.lies_below-2.ensures.below.0 c.if-lies_below-2.true), λ e. refl)
+
+pub returns-clause-apart : goal.returns-clause-apart
+returns-clause-apart g c = λ apart.
+    absurd (not_apart g.K.Ord.cmp g.met.K.Ord.total _ _ c.requires.store c.requires.other (sym c.lm_is_empty-2.ensures ∙ c.if-lm_is_empty-2.false) (sym c.lm_is_empty.ensures ∙ c.if-lm_is_empty.false)
+    (λ r. true≢false (sym (c.lies_below.ensures.below.1 r) ∙ c.if-lies_below.false))
+    (λ r. true≢false (sym (c.lies_below-2.ensures.below.1 r) ∙ c.if-lies_below-2.false)) apart)

@@ -1,0 +1,79 @@
+//! The body behind `extend_from_litemap`: one store's pairs are merged into another's.
+ghost use Rattle.std.specs.Prelude.{◌≡◌, ◌≢◌, ◌⊎◌, ◌↔◌, ◌+◌, ◌*◌, ◌++◌, [], length, IsTrue, IsOk, IsNone, IfOk, IfErr};
+ghost use Rattle.std.specs.Prelude.{IfSome, OnOk, OnErr};
+ghost use Rattle.litemap_store.specs.Counts.{RisesByAtMost};
+ghost use Rattle.litemap_store.specs.Digits.{digits};
+ghost use Rattle.litemap_store.specs.Merge.{Apart, Merge, left};
+ghost use Rattle.litemap_store.specs.Pairs.{Rising};
+
+mod one_by_one;
+
+use crate::extend_store::one_by_one::merge_each;
+use crate::store::{Count, NoRoom, Store, StoreIntoIterator};
+use std::alloc::Global;
+
+/// Merges a store's pairs into another's. Where an equal key is there, that key stays and takes the new value; the old
+/// values are answered, each with its new key, in order, or `None` where there are none.
+///
+/// Where one store is empty, it takes no memory and compares no keys: an empty other changes nothing, and an empty store
+/// takes the other one whole. Where the keys of one lie above all of the other, its pairs are put behind, or before, by
+/// at most two comparisons. Else each pair of other takes one search.
+///
+/// All room, that of the old values included, is taken before the first change. Refused for want of memory, the list stays
+/// as it was and the other store comes back whole.
+pub fn extend_from_store<K: Ord + Drop, V: Drop, S: StoreIntoIterator<K, V> + Drop>(
+    alloc: Global,
+    store: &mut S,
+    other: S,
+    count: &mut Count,
+) -> Result<Option<S>, NoRoom<S>>
+    requires store { Rising K.cmp (S.pairs store.old) }
+    requires other { Rising K.cmp (S.pairs other) }
+    ensures merged { OnOk result (Merge K.cmp (S.pairs store.old) (S.pairs other) (S.pairs store.new)) }
+    ensures none { IfOk result (λ rest. IsNone rest ↔ (left K.cmp (S.pairs store.old) (S.pairs other) ≡ [])) }
+    ensures left { IfOk result
+        (λ rest. IfSome rest (λ s. S.pairs s ≡ left K.cmp (S.pairs store.old) (S.pairs other))) }
+    ensures refused { OnErr result (S.pairs store.new ≡ S.pairs store.old) }
+    ensures back { IfErr result (λ refused. S.pairs refused.back ≡ S.pairs other) }
+    ensures succeeds { (S.pairs store.old ≡ []) ⊎ (S.pairs other ≡ []) → IsOk result }
+    ensures unchanged { S.pairs other ≡ [] → store.new ≡ store.old }
+    ensures taken { S.pairs store.old ≡ [] → S.pairs other ≢ [] → store.new ≡ other }
+    ensures uncounted { (S.pairs store.old ≡ []) ⊎ (S.pairs other ≡ []) → RisesByAtMost 0 count.old count.new }
+    ensures apart { Apart K.cmp (S.pairs store.old) (S.pairs other) → RisesByAtMost 2 count.old count.new }
+    ensures cost { RisesByAtMost
+        (2 + length (S.pairs other) * digits (length (S.pairs store.old) + length (S.pairs other)))
+        count.old count.new }
+{
+    if other.lm_is_empty() {
+        return Ok(None);
+    }
+    if store.lm_is_empty() {
+        *store = other;
+        return Ok(None);
+    }
+    if lies_below(store, &other, count) {
+        store.lm_extend_end(other)?;
+        return Ok(None);
+    }
+    if lies_below(&other, store, count) {
+        store.lm_extend_start(other)?;
+        return Ok(None);
+    }
+    merge_each(alloc, store, other, count)
+}
+
+// Whether all keys of one store lie below those of another. It compares the last of the one with the first of the other.
+fn lies_below<K: Ord, V, S: Store<K, V>>(low: &S, high: &S, count: &mut Count) -> bool
+    requires low { Rising K.cmp (S.pairs low.now) }
+    requires high { Rising K.cmp (S.pairs high.now) }
+    ensures below { IsTrue result ↔ Rising K.cmp (S.pairs low.now ++ S.pairs high.now) }
+    ensures cost { RisesByAtMost 1 count.old count.new }
+{
+    let Some((last, _)) = low.lm_last() else {
+        return true;
+    };
+    let Some((first, _)) = high.lm_get(0) else {
+        return true;
+    };
+    count.cmp(last, first).is_lt()
+}

@@ -1,0 +1,122 @@
+//! A merge that puts the pairs in one by one, each by one search.
+ghost use Rattle.std.specs.Prelude.{◌≡◌, ◌↔◌, ◌+◌, ◌*◌, ◌<◌, ◌≤◌, [], length, IsNone, IfOk, IfErr, IfSome, OnOk, OnErr};
+ghost use Rattle.std.specs.Prelude.{◌++◌, option_map};
+ghost use Rattle.std.specs.List.{cons_option};
+ghost use Rattle.litemap_store.specs.Counts.{RisesByAtMost};
+ghost use Rattle.litemap_store.specs.Digits.{digits};
+ghost use Rattle.litemap_store.specs.Merge.{Merge, left};
+ghost use Rattle.litemap_store.specs.Pairs.{Rising, at, put};
+ghost use Rattle.litemap_store.specs.Splits.{Splits};
+
+use crate::store::{Count, NoRoom, Store, StoreIntoIterator, StoreMut};
+use std::alloc::Global;
+use std::mem;
+
+/// Merges a store's pairs into another's, each by one search. All room is taken first.
+pub fn merge_each<K: Ord + Drop, V: Drop, S: StoreIntoIterator<K, V> + Drop>(
+    alloc: Global,
+    store: &mut S,
+    other: S,
+    count: &mut Count,
+) -> Result<Option<S>, NoRoom<S>>
+    requires store { Rising K.cmp (S.pairs store.old) }
+    requires other { Rising K.cmp (S.pairs other) }
+    ensures merged { OnOk result (Merge K.cmp (S.pairs store.old) (S.pairs other) (S.pairs store.new)) }
+    ensures none { IfOk result (λ rest. IsNone rest ↔ (left K.cmp (S.pairs store.old) (S.pairs other) ≡ [])) }
+    ensures left { IfOk result
+        (λ rest. IfSome rest (λ s. S.pairs s ≡ left K.cmp (S.pairs store.old) (S.pairs other))) }
+    ensures refused { OnErr result (S.pairs store.new ≡ S.pairs store.old) }
+    ensures back { IfErr result (λ refused. S.pairs refused.back ≡ S.pairs other) }
+    ensures cost { RisesByAtMost
+        (length (S.pairs other) * digits (length (S.pairs store.old) + length (S.pairs other)))
+        count.old count.new }
+{
+    let len = other.lm_len();
+    let Ok(()) = store.lm_reserve(len) else {
+        return Err(NoRoom { back: other });
+    };
+    let Ok(mut rest) = S::lm_with_capacity(alloc, len) else {
+        return Err(NoRoom { back: other });
+    };
+    put_each(store, other, &mut rest, count);
+    if rest.lm_is_empty() {
+        Ok(None)
+    } else {
+        Ok(Some(rest))
+    }
+}
+
+// Puts each pair in, and what it drives out behind the rest. Both stores have room for all.
+fn put_each<K: Ord + Drop, V: Drop, S: StoreIntoIterator<K, V>>(
+    store: &mut S,
+    other: S,
+    rest: &mut S,
+    count: &mut Count,
+)
+    requires store { Rising K.cmp (S.pairs store.old) }
+    requires other { Rising K.cmp (S.pairs other) }
+    requires empty { S.pairs rest.old ≡ [] }
+    requires room { length (S.pairs other) ≤ S.room store.old }
+    requires rest_room { length (S.pairs other) ≤ S.room rest.old }
+    ensures merged { Merge K.cmp (S.pairs store.old) (S.pairs other) (S.pairs store.new) }
+    ensures left { S.pairs rest.new ≡ left K.cmp (S.pairs store.old) (S.pairs other) }
+    ensures cost { RisesByAtMost
+        (length (S.pairs other) * digits (length (S.pairs store.old) + length (S.pairs other)))
+        count.old count.new }
+{
+    for (key, value) in other.lm_into_iter() {
+        let driven_out = put_in(store, key, value, count);
+        push_some(rest, driven_out);
+    }
+}
+
+// Puts a pair in by one search, and answers its key with the value that it drives out. The store has room for it.
+fn put_in<K: Ord + Drop, V: Drop, S: StoreMut<K, V>>(
+    store: &mut S,
+    key: K,
+    value: V,
+    count: &mut Count,
+) -> Option<(K, V)>
+    requires store { Rising K.cmp (S.pairs store.old) }
+    requires room { 0 < S.room store.old }
+    ensures put { S.pairs store.new ≡ put K.cmp (S.pairs store.old) key value }
+    ensures old { result ≡ option_map (λ p. (key, p.1)) (at K.cmp (S.pairs store.old) key) }
+    ensures room { S.room store.old ≤ S.room store.new + 1 }
+    ensures cost { RisesByAtMost (digits (length (S.pairs store.old))) count.old count.new }
+{
+    match search(store, &key, count) {
+        Ok(index) => {
+            let (_, slot) = store.lm_pair_mut(index);
+            Some((key, mem::replace(slot, value)))
+        }
+        Err(index) => {
+            let Ok(()) = store.lm_insert(index, key, value) else {
+                unreachable!()
+            };
+            None
+        }
+    }
+}
+
+// Puts a pair behind those of the store, if there is one. The store has room for it.
+fn push_some<K: Drop, V: Drop, S: StoreMut<K, V>>(store: &mut S, pair: Option<(K, V)>)
+    requires { 0 < S.room store.old }
+    ensures pairs { S.pairs store.new ≡ S.pairs store.old ++ cons_option pair [] }
+    ensures room { S.room store.old ≤ S.room store.new + 1 }
+{
+    let Some((key, value)) = pair else {
+        return;
+    };
+    let Ok(()) = store.lm_push(key, value) else {
+        unreachable!()
+    };
+}
+
+// The place where a key splits the pairs.
+fn search<K: Ord, V, S: Store<K, V>>(store: &S, key: &K, count: &mut Count) -> Result<usize, usize>
+    requires { Rising K.cmp (S.pairs store.now) }
+    ensures splits { Splits K.cmp (S.pairs store.now) key.now result }
+    ensures cost { RisesByAtMost (digits (length (S.pairs store.now))) count.old count.new }
+{
+    store.lm_binary_search_by(|k| k.cmp(key), count)
+}

@@ -1,0 +1,105 @@
+//! Stores that hand over their pairs, and are joined with others of their type.
+ghost use Rattle.std.specs.Prelude.{◌≡◌, ◌<◌, ◌≤◌, ◌++◌, List, length, IfErr, OnErr, OnOk};
+ghost use Rattle.std.specs.Iterator.{YieldsFirst, at_most};
+ghost use Rattle.std.specs.Vec.Iter.{into_iter_items};
+ghost use Rattle.litemap_store.specs.IntoIter.{count_is, first_is};
+
+use crate::no_room::NoRoom;
+use crate::store::{Store, StoreMut};
+use std::mem;
+use std::vec::IntoIter;
+
+/// An iterator that hands over the pairs of a store: a contract sees it as the list of those that are left.
+pub trait PairIntoIter<K, V>: Iterator<Item = (K, V)> + Drop {
+    /// The pairs that are left, in their order.
+    ghost owned: { Self → List (K × V) };
+
+    ghost can: { (it : Self) → Self.can_next it };
+
+    ghost first: { (it : Self) (item : _) (rest : Self) → Self.next_gives it item rest → YieldsFirst owned it item rest };
+
+    ghost count: { (it : Self) → Self.remaining it ≡ at_most (length (owned it)) };
+}
+
+/// A store that hands over its pairs, and is joined with others of its type.
+pub trait StoreIntoIterator<K: Drop, V: Drop>: StoreMut<K, V> + Sized {
+    /// The iterator over the pairs.
+    type KeyValueIntoIter: PairIntoIter<K, V>;
+
+    /// All pairs once, in order.
+    fn lm_into_iter(self) -> Self::KeyValueIntoIter
+        ensures { Self.KeyValueIntoIter.owned result ≡ Self.pairs self };
+
+    /// Puts the pairs of another store behind the own ones.
+    ///
+    /// It takes its room first. Refused for want of memory, the list stays as it was and the other store comes back
+    /// whole; that is only where there was less room than it has pairs. Nothing is said of the room after it.
+    fn lm_extend_end(&mut self, other: Self) -> Result<(), NoRoom<Self>>
+        ensures ok { OnOk result (Self.pairs self.new ≡ Self.pairs self.old ++ Self.pairs other) }
+        ensures refused { OnErr result (Self.pairs self.new ≡ Self.pairs self.old) }
+        ensures back { IfErr result (λ refused. Self.pairs refused.back ≡ Self.pairs other) }
+        ensures full { OnErr result (Self.room self.old < length (Self.pairs other)) }
+    {
+        match self.lm_reserve(other.lm_len()) {
+            Ok(()) => {
+                append_each(self, other.lm_into_iter());
+                Ok(())
+            }
+            Err(_) => Err(NoRoom { back: other }),
+        }
+    }
+
+    /// Puts the pairs of another store before the own ones, which are put behind those of the other store. So each own
+    /// pair moves once, and none of the other's.
+    ///
+    /// The other store takes its room first. Refused for want of memory, the list stays as it was and the other store
+    /// comes back whole; that is only where the other store had less room than there are own pairs. Nothing is said of
+    /// the room after it.
+    ///
+    /// The Rust crate puts the pairs in at the front one by one, each of which moves all others.
+    fn lm_extend_start(&mut self, mut other: Self) -> Result<(), NoRoom<Self>>
+        ensures ok { OnOk result (Self.pairs self.new ≡ Self.pairs other ++ Self.pairs self.old) }
+        ensures refused { OnErr result (Self.pairs self.new ≡ Self.pairs self.old) }
+        ensures back { IfErr result (λ refused. Self.pairs refused.back ≡ Self.pairs other) }
+        ensures full { OnErr result (Self.room other < length (Self.pairs self.old)) }
+    {
+        match other.lm_reserve(self.lm_len()) {
+            Ok(()) => {
+                mem::swap(self, &mut other);
+                append_each(self, other.lm_into_iter());
+                Ok(())
+            }
+            Err(_) => Err(NoRoom { back: other }),
+        }
+    }
+}
+
+impl<K: Drop, V: Drop> PairIntoIter<K, V> for IntoIter<(K, V)> {
+    ghost owned = { into_iter_items };
+
+    ghost can = { λ _. tt };
+
+    ghost first = { first_is };
+
+    ghost count = { count_is };
+}
+
+impl<K: Drop, V: Drop> StoreIntoIterator<K, V> for Vec<(K, V)> {
+    type KeyValueIntoIter = IntoIter<(K, V)>;
+
+    fn lm_into_iter(self) -> IntoIter<(K, V)> {
+        self.into_iter()
+    }
+}
+
+// Puts the pairs that an iterator hands over behind those of the store, which has room for them.
+fn append_each<K: Drop, V: Drop, S: StoreMut<K, V>, I: PairIntoIter<K, V>>(store: &mut S, pairs: I)
+    requires { length (I.owned pairs) ≤ S.room store.old }
+    ensures { S.pairs store.new ≡ S.pairs store.old ++ I.owned pairs }
+{
+    for (key, value) in pairs {
+        let Ok(()) = store.lm_push(key, value) else {
+            unreachable!()
+        };
+    }
+}
