@@ -1,7 +1,11 @@
 -- How far a count rises over several calls.
-use Rattle.std.proofs.Common.{ℕ, ◌+◌, ◌≤◌, ◌∙◌, arith}
+use Rattle.std.proofs.Common.{ℕ, ◌+◌, ◌≤◌, refl, ◌∙◌, arith}
 use Rattle.litemap_store.specs.declared.count.Count.{Count}
 use Rattle.litemap_store.specs.Counts.{RisesByAtMost}
+
+-- a count that nothing was asked through
+pub not_asked : (c : Count) → RisesByAtMost 0 c c
+not_asked c = record { same = refl; not_lowered = omega arith; most = omega arith }
 
 pub at_most : {c d : Count} (a n : ℕ) → a ≤ n → RisesByAtMost a c d → RisesByAtMost n c d
 at_most a n h r = let m = r.most in record { same = r.same; not_lowered = r.not_lowered; most = omega arith }

@@ -1,7 +1,7 @@
 -- Lists that rise, by their neighbours and joined.
 --     adjacent_from_Rising, Rising-from_adjacent      of two neighbours the later one has the greater key
 --     Rising-behind      where the last key of one lies below the first of the other;  Rising-from_Rises      where all of one lie below the other
---     empty_from_last      an empty list
+--     empty_from_last, empty_from_first      an empty list
 use Rattle.std.proofs.Common.{ℕ, zero, suc, ◌-◌, length, get_or, arith, ◌≡◌, ◌⊎◌, ◌↔◌, List, [], ◌∷◌, ◌++◌, refl, sym, subst, inl, inr, Ordering, Less, slice_get, Some, None, sub-one, suc-add}
 use Rattle.std.specs.List.{AllAdjacentBelow, AllByRecursion}
 use Rattle.std.specs.Cmp.{IsTotalOrder}
@@ -38,6 +38,10 @@ empty_from_last (y ∷ (z ∷ L)) e =
     let down : slice_get (z ∷ L) (length (z ∷ L) - 1) ≡ None = rw sub-one (rw sub-one at e) in
     let none = empty_from_last (z ∷ L) down in
     absurd (cc)
+
+pub empty_from_first : {X : Type 0} (L : List X) → slice_get L 0 ≡ None → L ≡ []
+empty_from_first [] e = refl
+empty_from_first (y ∷ L) e = absurd (cc)
 
 -- what is not the last of a rising list is below it
 below_last : {K V : Type 0} (cmp : K → K → Ordering) (A : List (K × V)) (a x : K × V) → Rising cmp A → slice_get A (length A - 1) ≡ Some a → In x A → (x ≡ a) ⊎ (cmp x.0 a.0 ≡ Less)
