@@ -1,10 +1,10 @@
 //! The calls, by name.
 use crate::outcome::Outcome;
-use crate::{bulk, maps, session, stores};
+use crate::{bulk, maps, merge, session, stores};
 use std::alloc::Global;
 
 /// The names of the calls.
-pub const CALLS: [&str; 23] = [
+pub const CALLS: [&str; 26] = [
     "insert",
     "try_insert",
     "try_append",
@@ -27,6 +27,9 @@ pub const CALLS: [&str; 23] = [
     "lm_extend",
     "lm_sort_from_iter",
     "lm_from_pairs",
+    "extend_from_litemap",
+    "lm_extend_end",
+    "lm_extend_start",
     "names",
 ];
 
@@ -55,6 +58,9 @@ pub fn run_call(alloc: Global, name: &str) -> Option<Outcome> {
         "lm_extend" => Some(bulk::lm_extend(alloc)),
         "lm_sort_from_iter" => Some(bulk::lm_sort_from_iter(alloc)),
         "lm_from_pairs" => Some(bulk::lm_from_pairs(alloc)),
+        "extend_from_litemap" => Some(merge::extend_from_litemap(alloc)),
+        "lm_extend_end" => Some(merge::lm_extend_end(alloc)),
+        "lm_extend_start" => Some(merge::lm_extend_start(alloc)),
         "names" => Some(session::run_lines(alloc)),
         _ => None,
     }
