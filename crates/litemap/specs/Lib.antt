@@ -1,6 +1,7 @@
 -- The definitions that the contracts cite. Those of the sorted list are in `Pairs` of the crate `litemap_store`.
 pub mod ByBytes
 pub mod Clones
+pub mod Comparisons
 pub mod FoundBy
 pub mod Lends
 pub mod Seen

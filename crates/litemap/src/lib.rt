@@ -6,5 +6,5 @@ mod map;
 mod try_fault;
 
 pub use litemap_store::{Query, store};
-pub use map::LiteMap;
+pub use map::{KeysIterWrap, LiteMap, ValuesIterWrap};
 pub use try_fault::TryFault;

@@ -5,10 +5,14 @@ ghost use Rattle.litemap.specs.Clones.{ClonesAreSame, ClonesCompareEqual, PairsA
 
 mod bulk;
 mod change;
+mod comparisons;
+mod iter;
 mod look;
+mod places;
 mod slice;
 mod write;
 
+pub use iter::{KeysIterWrap, ValuesIterWrap};
 use litemap_store::store::{Store, StoreConstEmpty, StoreMut};
 use std::alloc::{AllocError, Global};
 use std::fmt::{self, Debug, Formatter, Write};

@@ -6,7 +6,7 @@
 //!    proof above names its fields.
 //! 2. Its traits: `pairs` and `room` read that value, and each call has the trait's contract. `StoreConstEmpty` and
 //!    `StoreMut` are all that the keyed calls of a map ask for; `StoreBulkMut` is there for `retain` and `extend`,
-//!    `StoreFromIterable` for `from_iter`.
+//!    `StoreFromIterable` for `from_iter`, `StoreIterable` for `iter`.
 //! 3. `with_value`, what it is with another value at a place, and the two laws on it.
 //!
 //! The calls of `LiteMap` are then proved over it, with no proof of theirs to be written.
@@ -14,8 +14,8 @@ ghost use Rattle.std.specs.Prelude.{refl};
 ghost use Rattle.test_support.specs.Contents.{with_value};
 
 use litemap::store::{
-    Count, NoRoom, Store, StoreBulkMut, StoreConstEmpty, StoreFromIterable, StoreFromIterator,
-    StoreMut,
+    Count, NoRoom, SliceIter, Store, StoreBulkMut, StoreConstEmpty, StoreFromIterable,
+    StoreFromIterator, StoreIterable, StoreMut,
 };
 use std::alloc::{AllocError, Global};
 use std::marker::Model;
@@ -130,6 +130,14 @@ impl<K, V> StoreMut<K, V> for FixedRoom<K, V> {
 impl<K: Ord + Drop, V: Drop> StoreBulkMut<K, V> for FixedRoom<K, V> {
     fn lm_retain<F: FnMut(&K, &V) -> bool>(&mut self, f: F) {
         self.items.lm_retain(f);
+    }
+}
+
+impl<'a, K: 'a, V: 'a> StoreIterable<'a, K, V> for FixedRoom<K, V> {
+    type KeyValueIter = SliceIter<'a, K, V>;
+
+    fn lm_iter(&'a self) -> SliceIter<'a, K, V> {
+        self.items.lm_iter()
     }
 }
 

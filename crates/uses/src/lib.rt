@@ -7,3 +7,4 @@ pub mod made;
 pub mod names;
 pub mod people;
 pub mod texts;
+pub mod totals;
