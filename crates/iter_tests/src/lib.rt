@@ -4,4 +4,6 @@
 #[cfg(test)]
 mod comparisons;
 #[cfg(test)]
+mod conversions;
+#[cfg(test)]
 mod walks;

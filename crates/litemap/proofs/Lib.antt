@@ -1,5 +1,6 @@
 -- Lemmas of the proofs.
 pub mod Clones
+pub mod Conversions
 pub mod Outcomes
 pub mod Places
 pub mod Texts

@@ -2,6 +2,7 @@
 pub mod ByBytes
 pub mod Clones
 pub mod Comparisons
+pub mod Conversions
 pub mod FoundBy
 pub mod Lends
 pub mod Seen

@@ -3,9 +3,11 @@ ghost use Rattle.std.specs.Prelude.{◌≡◌, ◌↔◌, ◌≤◌, [], IfOk, I
 ghost use Rattle.litemap_store.specs.Pairs.{Rising};
 ghost use Rattle.litemap.specs.Clones.{ClonesAreSame, ClonesCompareEqual, PairsAreClones};
 
+mod becomes;
 mod bulk;
 mod change;
 mod comparisons;
+mod conversions;
 mod iter;
 mod look;
 mod places;

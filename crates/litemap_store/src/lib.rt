@@ -5,6 +5,7 @@
 pub mod by_scan;
 mod count;
 mod extend;
+mod into_iter;
 pub mod laws;
 mod no_room;
 mod query;

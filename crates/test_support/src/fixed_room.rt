@@ -6,7 +6,8 @@
 //!    proof above names its fields.
 //! 2. Its traits: `pairs` and `room` read that value, and each call has the trait's contract. `StoreConstEmpty` and
 //!    `StoreMut` are all that the keyed calls of a map ask for; `StoreBulkMut` is there for `retain` and `extend`,
-//!    `StoreFromIterable` for `from_iter`, `StoreIterable` for `iter`.
+//!    `StoreFromIterable` for `from_iter`, `StoreIterable` for `iter`,
+//!    `StoreIntoIterator` for `into_iter`.
 //! 3. `with_value`, what it is with another value at a place, and the two laws on it.
 //!
 //! The calls of `LiteMap` are then proved over it, with no proof of theirs to be written.
@@ -15,11 +16,12 @@ ghost use Rattle.test_support.specs.Contents.{with_value};
 
 use litemap::store::{
     Count, NoRoom, SliceIter, Store, StoreBulkMut, StoreConstEmpty, StoreFromIterable,
-    StoreFromIterator, StoreIterable, StoreMut,
+    StoreFromIterator, StoreIntoIterator, StoreIterable, StoreMut,
 };
 use std::alloc::{AllocError, Global};
 use std::marker::Model;
 use std::mem;
+use std::vec::IntoIter;
 
 /// A vector of pairs that takes its memory when it is made, and refuses each growth past that.
 ///
@@ -150,6 +152,15 @@ impl<K: Ord + Drop, V: Drop> StoreFromIterable<K, V> for FixedRoom<K, V> {
         let items = Vec::lm_sort_from_iter(alloc, iter, count)?;
         let limit = items.len();
         Ok(FixedRoom { items, limit })
+    }
+}
+
+impl<K: Drop, V: Drop> StoreIntoIterator<K, V> for FixedRoom<K, V> {
+    type KeyValueIntoIter = IntoIter<(K, V)>;
+
+    fn lm_into_iter(self) -> IntoIter<(K, V)> {
+        let FixedRoom { items, limit: _ } = self;
+        items.lm_into_iter()
     }
 }
 
