@@ -1,6 +1,8 @@
 -- Lemmas of the proofs.
 pub mod Clones
+pub mod Conversions
 pub mod Entries
 pub mod Outcomes
+pub mod Places
 pub mod Texts
 pub mod Tries

@@ -1,6 +1,8 @@
 -- The definitions that the contracts cite. Those of the sorted list are in `Pairs` of the crate `litemap_store`.
 pub mod ByBytes
 pub mod Clones
+pub mod Comparisons
+pub mod Conversions
 pub mod Entries
 pub mod FoundBy
 pub mod Lends

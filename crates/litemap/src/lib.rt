@@ -6,5 +6,5 @@ mod map;
 mod try_fault;
 
 pub use litemap_store::{Query, store};
-pub use map::{Entry, LiteMap, OccupiedEntry, VacantEntry};
+pub use map::{Entry, KeysIterWrap, LiteMap, OccupiedEntry, VacantEntry, ValuesIterWrap};
 pub use try_fault::TryFault;

@@ -3,15 +3,21 @@ ghost use Rattle.std.specs.Prelude.{◌≡◌, ◌↔◌, ◌≤◌, [], IfOk, I
 ghost use Rattle.litemap_store.specs.Pairs.{Rising};
 ghost use Rattle.litemap.specs.Clones.{ClonesAreSame, ClonesCompareEqual, PairsAreClones};
 
+mod becomes;
 mod bulk;
 mod change;
+mod comparisons;
+mod conversions;
 mod entry;
+mod iter;
 mod look;
 mod merge;
+mod places;
 mod slice;
 mod write;
 
 pub use entry::{Entry, OccupiedEntry, VacantEntry};
+pub use iter::{KeysIterWrap, ValuesIterWrap};
 use litemap_store::store::{Store, StoreConstEmpty, StoreMut};
 use std::alloc::{AllocError, Global};
 use std::fmt::{self, Debug, Formatter, Write};

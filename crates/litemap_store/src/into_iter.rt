@@ -16,7 +16,8 @@ pub trait PairIntoIter<K, V>: Iterator<Item = (K, V)> + Drop {
 
     ghost can: { (it : Self) → Self.can_next it };
 
-    ghost first: { (it : Self) (item : _) (rest : Self) → Self.next_gives it item rest → YieldsFirst owned it item rest };
+    ghost first: { (it : Self) (item : _) (rest : Self)
+        → Self.next_gives it item rest → YieldsFirst owned it item rest };
 
     ghost count: { (it : Self) → Self.remaining it ≡ at_most (length (owned it)) };
 }

@@ -11,6 +11,7 @@ pub mod laws;
 mod no_room;
 mod query;
 mod slice_impl;
+mod slice_iter;
 mod slice_search;
 pub mod store;
 mod vec_impl;

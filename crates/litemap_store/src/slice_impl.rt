@@ -2,7 +2,7 @@
 ghost use Rattle.std.specs.Prelude.{◌≡◌, ⊤};
 
 use crate::slice_search;
-use crate::store::{Count, Store, StoreConstEmpty, StoreSlice};
+use crate::store::{Count, SliceIter, Store, StoreConstEmpty, StoreIterable, StoreSlice};
 use std::alloc::{AllocError, Global};
 use std::cmp::Ordering;
 use std::ops::Range;
@@ -66,5 +66,13 @@ impl<'a, K, V> StoreConstEmpty<K, V> for SliceStore<'a, K, V> {
 impl<'a, K, V> StoreSlice<K, V> for SliceStore<'a, K, V> {
     fn lm_get_range(&self, range: Range<usize>) -> Option<&[(K, V)]> {
         self.pairs.get(range)
+    }
+}
+
+impl<'s, 'a, K: 'a, V: 'a> StoreIterable<'a, K, V> for SliceStore<'s, K, V> {
+    type KeyValueIter = SliceIter<'a, K, V>;
+
+    fn lm_iter(&'a self) -> SliceIter<'a, K, V> {
+        SliceIter::new(self.pairs)
     }
 }

@@ -6,8 +6,8 @@ ghost use Rattle.litemap_store.specs.VecStore.{vec_room, vec_with_value, vec_wri
 use crate::extend::{gather, last_of};
 use crate::slice_search;
 use crate::store::{
-    Count, NoRoom, Store, StoreBulkMut, StoreConstEmpty, StoreFromIterable, StoreFromIterator,
-    StoreMut, StoreSlice,
+    Count, NoRoom, SliceIter, Store, StoreBulkMut, StoreConstEmpty, StoreFromIterable,
+    StoreFromIterator, StoreIterable, StoreMut, StoreSlice,
 };
 use std::alloc::{AllocError, Global};
 use std::cmp::Ordering;
@@ -121,6 +121,14 @@ impl<K: Ord + Drop, V: Drop> StoreBulkMut<K, V> for Vec<(K, V)> {
             kept += 1;
         }
         self.truncate(kept);
+    }
+}
+
+impl<'a, K: 'a, V: 'a> StoreIterable<'a, K, V> for Vec<(K, V)> {
+    type KeyValueIter = SliceIter<'a, K, V>;
+
+    fn lm_iter(&'a self) -> SliceIter<'a, K, V> {
+        SliceIter::new(self.as_slice())
     }
 }
 

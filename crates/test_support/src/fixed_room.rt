@@ -6,7 +6,7 @@
 //!    proof above names its fields.
 //! 2. Its traits: `pairs` and `room` read that value, and each call has the trait's contract. `StoreConstEmpty` and
 //!    `StoreMut` are all that the keyed calls of a map ask for; `StoreBulkMut` is there for `retain` and `extend`,
-//!    `StoreFromIterable` for `from_iter`, `StoreIntoIterator` for merges.
+//!    `StoreFromIterable` for `from_iter`, `StoreIterable` for `iter`, `StoreIntoIterator` for `into_iter` and merges.
 //! 3. `with_value`, what it is with another value at a place, and the two laws on it.
 //!
 //! The calls of `LiteMap` are then proved over it, with no proof of theirs to be written.
@@ -14,8 +14,8 @@ ghost use Rattle.std.specs.Prelude.{refl};
 ghost use Rattle.test_support.specs.Contents.{with_value};
 
 use litemap::store::{
-    Count, NoRoom, Store, StoreBulkMut, StoreConstEmpty, StoreFromIterable, StoreFromIterator,
-    StoreIntoIterator, StoreMut,
+    Count, NoRoom, SliceIter, Store, StoreBulkMut, StoreConstEmpty, StoreFromIterable,
+    StoreFromIterator, StoreIntoIterator, StoreIterable, StoreMut,
 };
 use std::alloc::{AllocError, Global};
 use std::marker::Model;
@@ -134,6 +134,14 @@ impl<K: Ord + Drop, V: Drop> StoreBulkMut<K, V> for FixedRoom<K, V> {
     }
 }
 
+impl<'a, K: 'a, V: 'a> StoreIterable<'a, K, V> for FixedRoom<K, V> {
+    type KeyValueIter = SliceIter<'a, K, V>;
+
+    fn lm_iter(&'a self) -> SliceIter<'a, K, V> {
+        self.items.lm_iter()
+    }
+}
+
 impl<K: Ord + Drop, V: Drop> StoreFromIterable<K, V> for FixedRoom<K, V> {
     fn lm_sort_from_iter<I: IntoIterator<Item = (K, V)>>(
         alloc: Global,
@@ -143,6 +151,15 @@ impl<K: Ord + Drop, V: Drop> StoreFromIterable<K, V> for FixedRoom<K, V> {
         let items = Vec::lm_sort_from_iter(alloc, iter, count)?;
         let limit = items.len();
         Ok(FixedRoom { items, limit })
+    }
+}
+
+impl<K: Drop, V: Drop> StoreIntoIterator<K, V> for FixedRoom<K, V> {
+    type KeyValueIntoIter = IntoIter<(K, V)>;
+
+    fn lm_into_iter(self) -> IntoIter<(K, V)> {
+        let FixedRoom { items, limit: _ } = self;
+        items.lm_into_iter()
     }
 }
 

@@ -8,3 +8,4 @@ pub mod made;
 pub mod names;
 pub mod people;
 pub mod texts;
+pub mod totals;

@@ -1,0 +1,9 @@
+//! Tests of what goes through maps and of what compares them, over a vector, a slice and a store with a fixed room.
+#![tactic(auto)]
+
+#[cfg(test)]
+mod comparisons;
+#[cfg(test)]
+mod conversions;
+#[cfg(test)]
+mod walks;

@@ -1,0 +1,21 @@
+use Rattle.std.proofs.Common.{◌≡◌, length, arith, refl, sym}
+use Rattle.std.proofs.Math.Seq.{take-length}
+use Rattle.litemap.proofs.Conversions.{PairsBecame-more, Rising-became, lent-keep-order}
+use denote.Ref.{Bor}
+use Rattle.litemap.proofs.map.LiteMap.to_borrowed_keys_values.Goals as goal
+
+pub loop-index-preserved : goal.loop-index-preserved
+loop-index-preserved g c = record {
+  became = rw c.in-Ok.ensures.ok
+      (PairsBecame-more (λ (k : g.row.K.Denot) (r : Bor g.row.K.Denot). r.now ≡ k) (λ (v : g.row.V.Denot) (r : Bor g.row.V.Denot). r.now ≡ v) (g.S.Store.pairs c.self.inside.store) (g.B.Store.pairs c.loop-index.store) c.loop-index.index
+      (c.in-Some.key.now, c.in-Some.value.now) c.in-Some.key c.in-Some.value (sym c.in-Some.ensures) refl refl
+      c.loop-index.invariant.became);
+  room = omega (arith, c.in-Ok.ensures.room);
+}
+
+pub invariant_of-result : goal.invariant_of-result
+invariant_of-result g c =
+    let pairs = g.S.Store.pairs c.self.inside.store in
+    let end : c.loop-index.index ≡ length pairs = omega arith in
+    let became = rw (end, take-length) at c.loop-index.invariant.became in
+    Rising-became g.K.Ord.cmp (λ a b. g.K.Ord.cmp a.now b.now) (λ (k : g.row.K.Denot) (r : Bor g.row.K.Denot). r.now ≡ k) (λ (v : g.row.V.Denot) (r : Bor g.row.V.Denot). r.now ≡ v) pairs _ (lent-keep-order g.K.Ord.cmp pairs) became c.self.invariant

@@ -1,0 +1,33 @@
+use Rattle.std.proofs.Common.{◌≡◌, length, arith, sym}
+use Rattle.std.proofs.Math.Seq.{take-length}
+use Rattle.litemap.proofs.Conversions.{In-at, PairsBecame-more, Rising-became}
+use Rattle.litemap.proofs.map.conversions.converted.Goals as goal
+
+pub made_of-requires : goal.made_of-requires
+made_of-requires g c =
+    c.requires.keys (c.in-Some.key.now, c.in-Some.value.now) (In-at _ c.loop-index.index _ (sym c.in-Some.ensures))
+
+pub made_of-requires-in-loop-index : goal.made_of-requires-in-loop-index
+made_of-requires-in-loop-index g c =
+    c.requires.values (c.in-Some.key.now, c.in-Some.value.now) (In-at _ c.loop-index.index _ (sym c.in-Some.ensures))
+
+pub loop-index-preserved : goal.loop-index-preserved
+loop-index-preserved g c = record {
+  became = rw c.in-Ok.ensures.ok
+      (PairsBecame-more (g.X.Becomes.became c.args.keys.now) (g.Y.Becomes.became c.args.values.now) (g.S.Store.pairs c.args.store.now) (g.B.Store.pairs c.loop-index.made) c.loop-index.index
+      (c.in-Some.key.now, c.in-Some.value.now) c.in_ok-made_of.field-0 c.in_ok-made_of-2.field-0 (sym c.in-Some.ensures) c.in_ok-made_of.ensures c.in_ok-made_of-2.ensures
+      c.loop-index.invariant.became);
+  room = omega (arith, c.in-Ok.ensures.room);
+}
+
+pub invariant_of-result : goal.invariant_of-result
+invariant_of-result g c =
+    let pairs = g.S.Store.pairs c.args.store.now in
+    let end : c.loop-index.index ≡ length pairs = omega arith in
+    let became = rw (end, take-length) at c.loop-index.invariant.became in
+    Rising-became g.K.Ord.cmp g.L.Ord.cmp (g.X.Becomes.became c.args.keys.now) (g.Y.Becomes.became c.args.values.now) pairs _ c.requires.rising became c.requires.rises
+
+pub returns : goal.returns
+returns g c =
+    let end : c.loop-index.index ≡ length (g.S.Store.pairs c.args.store.now) = omega arith in
+    rw (end, take-length) at c.loop-index.invariant.became

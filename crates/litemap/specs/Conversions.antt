@@ -1,0 +1,24 @@
+-- What keys and values become where a map is made of another.
+use Rattle.std.specs.Prelude.{◌≡◌, List}
+use Rattle.std.specs.List.{AllZip}
+use Rattle.std.specs.declared.cmp.Ordering.{Ordering}
+use Rattle.std.specs.declared.cmp.Ordering.TheVariants.{Less}
+use Rattle.litemap_store.specs.Last.{In}
+use denote.Param.Members.{Shared}
+use denote.Ref.{Bor}
+
+module _ {K L V W : Type 0} where
+  -- the second list has, pair by pair, what the first one's key and what its value became
+  abbrev pub PairsBecame : (K → L → Type 0) → (V → W → Type 0) → List (K × V) → List (L × W) → Type 0
+  PairsBecame key_became value_became before after = AllZip (λ p q. key_became p.0 q.0 × value_became p.1 q.1) before after
+
+module _ {K L V : Type 0} where
+  -- of two keys of the list, the lesser one becomes the lesser one
+  abbrev pub KeysKeepOrder : (K → K → Ordering) → (L → L → Ordering) → (K → L → Type 0) → List (K × V) → Type 0
+  KeysKeepOrder cmp new_cmp became list =
+      (p q : K × V) (a b : L) → In p list → In q list → became p.0 a → became q.0 b → cmp p.0 q.0 ≡ Less → new_cmp a b ≡ Less
+
+module _ {F K L V : Type 0} (g : Shared F (Bor K × Unit {0}) L) where
+  -- f may be called on each key of the list
+  abbrev pub TakesKeys : F → List (K × V) → Type 0
+  TakesKeys f list = (p : K × V) → In p list → (k : Bor K) → k.now ≡ p.0 → g.pre f (k, tt)

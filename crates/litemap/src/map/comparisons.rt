@@ -1,0 +1,184 @@
+//! Compares and hashes maps pair by pair, over every store.
+ghost use Rattle.std.specs.Prelude.{◌≡◌, ◌&&◌, fold};
+ghost use Rattle.std.specs.Cmp.Lexicographic.{lists_equiv, lists_agrees, lists_total, lists_ties, lists_per, lists_po};
+ghost use Rattle.std.specs.Ordering.{ordering_then, partial_ordering_then};
+ghost use Rattle.std.specs.Cmp.{on_equiv, and_equiv, then_agrees, on_total, then_total, both_tied};
+ghost use Rattle.std.specs.Cmp.{on_per, and_per, on_po, then_po};
+ghost use Rattle.std.specs.Hash.{on_Alike, and-Alike, items_Alike};
+ghost use Rattle.litemap.specs.Comparisons.{equal_pairs, pairs_cmp, pairs_partial_cmp, pairs_hashed};
+
+use super::places::Places;
+use crate::LiteMap;
+use litemap_store::store::Store;
+use std::cmp::Ordering;
+use std::hash::{Hash, Hasher};
+
+/// Maps are equal where they have as many pairs, and equal keys and equal values at each place.
+impl<K: Ord, V: PartialEq, S: Store<K, V>> PartialEq for LiteMap<K, V, S> {
+    ghost eq = { λ m n. equal_pairs K.eq V.eq m.pairs n.pairs };
+
+    ghost laws = { on_per (λ m. m.pairs) (lists_per (and_per (on_per (λ p. p.0) K.PartialEq.laws)
+        (on_per (λ p. p.1) V.laws))) };
+
+    fn eq(&self, other: &Self) -> bool {
+        are_equal(Places::new(&self.store), Places::new(&other.store))
+    }
+}
+
+impl<K: Ord, V: Eq, S: Store<K, V>> Eq for LiteMap<K, V, S> {
+    ghost laws = { on_equiv (λ m. m.pairs) (lists_equiv (and_equiv (on_equiv (λ p. p.0) K.Eq.laws)
+        (on_equiv (λ p. p.1) V.Eq.laws))) };
+}
+
+/// The first place where maps differ decides, its keys before its values; a map is less than one that it begins.
+impl<K: Ord, V: PartialOrd, S: Store<K, V>> PartialOrd for LiteMap<K, V, S> {
+    ghost partial_cmp = { λ m n. pairs_partial_cmp K.partial_cmp V.partial_cmp m.pairs n.pairs };
+
+    ghost laws = { on_po (λ m. m.pairs) (lists_po (then_po (on_po (λ p. p.0) K.PartialOrd.laws)
+        (on_po (λ p. p.1) V.PartialOrd.laws))) };
+
+    fn partial_cmp(&self, other: &Self) -> Option<Ordering> {
+        partial_order(Places::new(&self.store), Places::new(&other.store))
+    }
+}
+
+impl<K: Ord, V: Ord, S: Store<K, V>> Ord for LiteMap<K, V, S> {
+    ghost cmp = { λ m n. pairs_cmp K.cmp V.cmp m.pairs n.pairs };
+
+    ghost total = { on_total (λ m. m.pairs) (lists_total (then_total (on_total (λ p. p.0) K.total)
+        (on_total (λ p. p.1) V.total))) };
+
+    ghost matches_partial_cmp = { λ m n. lists_agrees (then_agrees (λ p q. K.matches_partial_cmp p.0 q.0)
+        (λ p q. V.matches_partial_cmp p.1 q.1)) m.pairs n.pairs };
+
+    ghost matches_eq = { λ m n.
+        let by_key = K.cmp in
+        let by_value = V.cmp in
+        lists_ties (λ p q. ordering_then (by_key p.0 q.0) (by_value p.1 q.1))
+        (λ p q. both_tied _ _ (by_key p.0 q.0) (by_value p.1 q.1) (K.matches_eq p.0 q.0) (V.matches_eq p.1 q.1))
+        m.pairs n.pairs };
+
+    fn cmp(&self, other: &Self) -> Ordering {
+        order(Places::new(&self.store), Places::new(&other.store))
+    }
+}
+
+/// The length, then each key and its value in turn: so equal maps hash alike.
+impl<K: Ord + Hash, V: Hash, S: Store<K, V>> Hash for LiteMap<K, V, S> {
+    ghost hash_input = { λ m. pairs_hashed K.hash_input V.hash_input m.pairs };
+
+    ghost respects_eq = { (on_Alike (λ m. m.pairs) (items_Alike (and-Alike
+        (on_Alike (λ p. p.0) (record { fed = K.respects_eq }))
+        (on_Alike (λ p. p.1) (record { fed = V.respects_eq }))))).fed };
+
+    fn hash<H: Hasher>(&self, state: &mut H) {
+        feed(Places::new(&self.store), state);
+    }
+}
+
+fn is_equal_pair<K: PartialEq, V: PartialEq>(a: &K, x: &V, b: &K, y: &V) -> bool
+    ensures { result ≡ (K.eq a.now b.now && V.eq x.now y.now) }
+{
+    a.eq(b) && x.eq(y)
+}
+
+fn are_equal<'a, 'b, K: PartialEq + 'a + 'b, V: PartialEq + 'a + 'b, S: Store<K, V>>(
+    mut left: Places<'a, K, V, S>,
+    mut right: Places<'b, K, V, S>,
+) -> bool
+    ensures { result ≡ equal_pairs K.eq V.eq left.entry right.entry }
+{
+    if left.len() != right.len() {
+        return false;
+    }
+    while let Some((a, x)) = left.next() {
+        let (b, y) = right.next().unwrap();
+        if !is_equal_pair(a, x, b, y) {
+            return false;
+        }
+    }
+    true
+}
+
+fn pair_order<K: Ord, V: Ord>(a: &K, x: &V, b: &K, y: &V) -> Ordering
+    ensures { result ≡ ordering_then (K.cmp a.now b.now) (V.cmp x.now y.now) }
+{
+    match a.cmp(b) {
+        Ordering::Equal => x.cmp(y),
+        Ordering::Less => Ordering::Less,
+        Ordering::Greater => Ordering::Greater,
+    }
+}
+
+fn order<'a, 'b, K: Ord + 'a + 'b, V: Ord + 'a + 'b, S: Store<K, V>>(
+    mut left: Places<'a, K, V, S>,
+    mut right: Places<'b, K, V, S>,
+) -> Ordering
+    ensures { result ≡ pairs_cmp K.cmp V.cmp left.entry right.entry }
+{
+    while let Some((a, x)) = left.next() {
+        let Some((b, y)) = right.next() else {
+            return Ordering::Greater;
+        };
+        match pair_order(a, x, b, y) {
+            Ordering::Equal => {}
+            Ordering::Less => return Ordering::Less,
+            Ordering::Greater => return Ordering::Greater,
+        }
+    }
+    match right.next() {
+        Some(_) => Ordering::Less,
+        None => Ordering::Equal,
+    }
+}
+
+fn partial_pair_order<K: PartialOrd, V: PartialOrd>(a: &K, x: &V, b: &K, y: &V) -> Option<Ordering>
+    ensures { result ≡ partial_ordering_then (K.partial_cmp a.now b.now) (V.partial_cmp x.now y.now) }
+{
+    match a.partial_cmp(b) {
+        Some(found) => match found {
+            Ordering::Equal => x.partial_cmp(y),
+            Ordering::Less => Some(Ordering::Less),
+            Ordering::Greater => Some(Ordering::Greater),
+        },
+        None => None,
+    }
+}
+
+fn partial_order<'a, 'b, K: PartialOrd + 'a + 'b, V: PartialOrd + 'a + 'b, S: Store<K, V>>(
+    mut left: Places<'a, K, V, S>,
+    mut right: Places<'b, K, V, S>,
+) -> Option<Ordering>
+    ensures { result ≡ pairs_partial_cmp K.partial_cmp V.partial_cmp left.entry right.entry }
+{
+    while let Some((a, x)) = left.next() {
+        let Some((b, y)) = right.next() else {
+            return Some(Ordering::Greater);
+        };
+        match partial_pair_order(a, x, b, y) {
+            Some(found) => match found {
+                Ordering::Equal => {}
+                Ordering::Less => return Some(Ordering::Less),
+                Ordering::Greater => return Some(Ordering::Greater),
+            },
+            None => return None,
+        }
+    }
+    match right.next() {
+        Some(_) => Some(Ordering::Less),
+        None => Some(Ordering::Equal),
+    }
+}
+
+fn feed<'a, K: Hash + 'a, V: Hash + 'a, S: Store<K, V>, H: Hasher>(
+    mut rest: Places<'a, K, V, S>,
+    state: &mut H,
+)
+    ensures { state.new ≡ fold H.write state.old (pairs_hashed K.hash_input V.hash_input rest.entry) }
+{
+    rest.len().hash(state);
+    while let Some((key, value)) = rest.next() {
+        key.hash(state);
+        value.hash(state);
+    }
+}

@@ -1,0 +1,215 @@
+//! Maps made of the pairs of another, in the same order, over any store that grows. All room is taken first.
+ghost use Rattle.std.specs.Prelude.{◌≡◌, IfOk};
+ghost use Rattle.std.specs.Fn.{FnReturnsAt};
+ghost use Rattle.litemap_store.specs.Last.{In};
+ghost use Rattle.litemap_store.specs.Pairs.{Rising};
+ghost use Rattle.litemap.specs.Clones.{ClonesCompareEqual};
+ghost use Rattle.litemap.specs.Conversions.{KeysKeepOrder, PairsBecame, TakesKeys};
+
+use super::becomes::{Answered, Becomes, Boxed, Cloned};
+use crate::LiteMap;
+use litemap_store::store::{Store, StoreMut};
+use std::alloc::{AllocError, Global};
+use std::marker::PhantomData;
+
+impl<K: Ord, V, S: Store<K, V>> LiteMap<K, V, S> {
+    /// A map of boxes of clones of the keys and values, or a refusal for want of memory.
+    ///
+    /// A clone of a key has to compare `Equal` to its original. No keys are compared.
+    /// The Rust crate boxes any type that keys and values borrow as.
+    pub fn to_boxed_keys_values<B: StoreMut<Box<K>, Box<V>> + Drop>(
+        &self,
+        alloc: Global,
+    ) -> Result<LiteMap<Box<K>, Box<V>, B>, AllocError>
+    where
+        K: Clone,
+        V: Clone,
+        requires { ClonesCompareEqual K.cmp K.is_clone }
+        ensures { IfOk result (λ m. PairsBecame (λ k b. K.is_clone k b.value) (λ v b. V.is_clone v b.value)
+            self.now.pairs m.pairs) }
+    {
+        converted(&self.store, alloc, &Boxed, &Boxed)
+    }
+
+    /// A map of boxes of clones of the keys, and clones of the values, or a refusal for want of memory.
+    ///
+    /// A clone of a key has to compare `Equal` to its original. No keys are compared.
+    /// The Rust crate boxes any type that keys borrow as.
+    pub fn to_boxed_keys<B: StoreMut<Box<K>, V> + Drop>(
+        &self,
+        alloc: Global,
+    ) -> Result<LiteMap<Box<K>, V, B>, AllocError>
+    where
+        K: Clone,
+        V: Clone,
+        requires { ClonesCompareEqual K.cmp K.is_clone }
+        ensures { IfOk result (λ m. PairsBecame (λ k b. K.is_clone k b.value) V.is_clone
+            self.now.pairs m.pairs) }
+    {
+        converted(&self.store, alloc, &Boxed, &Cloned)
+    }
+
+    /// A map of clones of the keys, and boxes of clones of the values, or a refusal for want of memory.
+    ///
+    /// A clone of a key has to compare `Equal` to its original. No keys are compared.
+    /// The Rust crate boxes any type that values borrow as.
+    pub fn to_boxed_values<B: StoreMut<K, Box<V>> + Drop>(
+        &self,
+        alloc: Global,
+    ) -> Result<LiteMap<K, Box<V>, B>, AllocError>
+    where
+        K: Clone,
+        V: Clone,
+        requires { ClonesCompareEqual K.cmp K.is_clone }
+        ensures { IfOk result (λ m. PairsBecame K.is_clone (λ v b. V.is_clone v b.value)
+            self.now.pairs m.pairs) }
+    {
+        converted(&self.store, alloc, &Cloned, &Boxed)
+    }
+
+    /// A map with the keys that `f` answers and clones of the values, or a refusal for want of memory.
+    ///
+    /// The answers have to rise as the keys do. `f` is called once for each key. No keys are compared. The Rust crate has
+    /// no such call: its conversions go by what keys borrow as.
+    pub fn to_keys_by<L: Ord + Drop, B: StoreMut<L, V> + Drop, F: Fn(&K) -> L + Drop>(
+        &self,
+        alloc: Global,
+        f: F,
+    ) -> Result<LiteMap<L, V, B>, AllocError>
+    where
+        V: Clone,
+        requires callable { TakesKeys F.Fn f self.now.pairs }
+        requires rising { KeysKeepOrder K.cmp L.cmp (FnReturnsAt F.Fn f) self.now.pairs }
+        ensures { IfOk result (λ m. PairsBecame (FnReturnsAt F.Fn f) V.is_clone self.now.pairs m.pairs) }
+    {
+        converted(&self.store, alloc, &Answered { f }, &Cloned)
+    }
+}
+
+impl<'a, K: Ord + 'a, V: 'a, S: Store<K, V>> LiteMap<K, V, S> {
+    /// A map of references to the keys and values, or a refusal for want of memory.
+    ///
+    /// No keys are compared.
+    /// The Rust crate lends any type that keys and values borrow as.
+    pub fn to_borrowed_keys_values<B: StoreMut<&'a K, &'a V> + Drop>(
+        &'a self,
+        alloc: Global,
+    ) -> Result<LiteMap<&'a K, &'a V, B>, AllocError>
+        ensures { IfOk result (λ m. PairsBecame (λ k r. r.now ≡ k) (λ v r. r.now ≡ v)
+            self.now.pairs m.pairs) }
+    {
+        let len = self.store.lm_len();
+        let mut store = B::lm_with_capacity(alloc, len)?;
+        for index in 0..len {
+            let Some((key, value)) = self.store.lm_get(index) else {
+                unreachable!()
+            };
+            match store.lm_push(key, value) {
+                Ok(()) => {}
+                Err(_) => unreachable!(),
+            }
+        }
+        Ok(LiteMap {
+            store,
+            marker: PhantomData,
+        })
+    }
+
+    /// A map of references to the keys, and clones of the values, or a refusal for want of memory.
+    ///
+    /// No keys are compared.
+    /// The Rust crate lends any type that keys borrow as.
+    pub fn to_borrowed_keys<B: StoreMut<&'a K, V> + Drop>(
+        &'a self,
+        alloc: Global,
+    ) -> Result<LiteMap<&'a K, V, B>, AllocError>
+    where
+        V: Clone,
+        ensures { IfOk result (λ m. PairsBecame (λ k r. r.now ≡ k) V.is_clone
+            self.now.pairs m.pairs) }
+    {
+        let len = self.store.lm_len();
+        let mut store = B::lm_with_capacity(alloc, len)?;
+        for index in 0..len {
+            let Some((key, value)) = self.store.lm_get(index) else {
+                unreachable!()
+            };
+            match store.lm_push(key, value.clone()?) {
+                Ok(()) => {}
+                Err(_) => unreachable!(),
+            }
+        }
+        Ok(LiteMap {
+            store,
+            marker: PhantomData,
+        })
+    }
+
+    /// A map of clones of the keys, and references to the values, or a refusal for want of memory.
+    ///
+    /// A clone of a key has to compare `Equal` to its original. No keys are compared.
+    /// The Rust crate lends any type that values borrow as.
+    pub fn to_borrowed_values<B: StoreMut<K, &'a V> + Drop>(
+        &'a self,
+        alloc: Global,
+    ) -> Result<LiteMap<K, &'a V, B>, AllocError>
+    where
+        K: Clone,
+        requires { ClonesCompareEqual K.cmp K.is_clone }
+        ensures { IfOk result (λ m. PairsBecame K.is_clone (λ v r. r.now ≡ v)
+            self.now.pairs m.pairs) }
+    {
+        let len = self.store.lm_len();
+        let mut store = B::lm_with_capacity(alloc, len)?;
+        for index in 0..len {
+            let Some((key, value)) = self.store.lm_get(index) else {
+                unreachable!()
+            };
+            match store.lm_push(key.clone()?, value) {
+                Ok(()) => {}
+                Err(_) => unreachable!(),
+            }
+        }
+        Ok(LiteMap {
+            store,
+            marker: PhantomData,
+        })
+    }
+}
+
+// The map of what the pairs of a store become.
+fn converted<K, V, S, L, W, B, X, Y>(
+    store: &S,
+    alloc: Global,
+    keys: &X,
+    values: &Y,
+) -> Result<LiteMap<L, W, B>, AllocError>
+where
+    K: Ord,
+    S: Store<K, V>,
+    L: Ord + Drop,
+    B: StoreMut<L, W> + Drop,
+    X: Becomes<K, L>,
+    Y: Becomes<V, W>,
+    requires rises { Rising K.cmp (S.pairs store.now) }
+    requires keys { (p : _) → In p (S.pairs store.now) → X.takes keys.now p.0 }
+    requires values { (p : _) → In p (S.pairs store.now) → Y.takes values.now p.1 }
+    requires rising { KeysKeepOrder K.cmp L.cmp (X.became keys.now) (S.pairs store.now) }
+    ensures { IfOk result (λ m. PairsBecame (X.became keys.now) (Y.became values.now) (S.pairs store.now) m.pairs) }
+{
+    let len = store.lm_len();
+    let mut made = B::lm_with_capacity(alloc, len)?;
+    for index in 0..len {
+        let Some((key, value)) = store.lm_get(index) else {
+            unreachable!()
+        };
+        match made.lm_push(keys.made_of(alloc, key)?, values.made_of(alloc, value)?) {
+            Ok(()) => {}
+            Err(_) => unreachable!(),
+        }
+    }
+    Ok(LiteMap {
+        store: made,
+        marker: PhantomData,
+    })
+}

@@ -1,0 +1,74 @@
+//! What goes through the pairs, the keys or the values of a map. None of it takes memory.
+ghost use Rattle.std.specs.Prelude.{◌≡◌};
+
+mod keys;
+mod values;
+
+use crate::LiteMap;
+pub use keys::KeysIterWrap;
+use litemap_store::store::{StoreIntoIterator, StoreIterable};
+pub use values::ValuesIterWrap;
+
+impl<'a, K: Ord + 'a, V: 'a, S: StoreIterable<'a, K, V>> LiteMap<K, V, S> {
+    /// All pairs once, in the order of their keys, from both ends, then `None` for good.
+    pub fn iter(&'a self) -> S::KeyValueIter
+        ensures { S.KeyValueIter.rest result ≡ self.now.pairs }
+    {
+        self.store.lm_iter()
+    }
+
+    /// All keys once, in their order, from both ends, then `None` for good.
+    #[deprecated = "use keys() instead"]
+    pub fn iter_keys(&'a self) -> KeysIterWrap<'a, K, V, S::KeyValueIter>
+        ensures { S.KeyValueIter.rest result ≡ self.now.pairs }
+    {
+        self.keys()
+    }
+
+    /// All values once, in the order of their keys, from both ends, then `None` for good.
+    #[deprecated = "use values() instead"]
+    pub fn iter_values(&'a self) -> ValuesIterWrap<'a, K, V, S::KeyValueIter>
+        ensures { S.KeyValueIter.rest result ≡ self.now.pairs }
+    {
+        self.values()
+    }
+
+    /// All keys once, in their order, from both ends, then `None` for good.
+    pub fn keys(&'a self) -> KeysIterWrap<'a, K, V, S::KeyValueIter>
+        ensures { S.KeyValueIter.rest result ≡ self.now.pairs }
+    {
+        KeysIterWrap::over(self.iter())
+    }
+
+    /// All values once, in the order of their keys, from both ends, then `None` for good.
+    pub fn values(&'a self) -> ValuesIterWrap<'a, K, V, S::KeyValueIter>
+        ensures { S.KeyValueIter.rest result ≡ self.now.pairs }
+    {
+        ValuesIterWrap::over(self.iter())
+    }
+}
+
+impl<'a, K: Ord + 'a, V: 'a, S: StoreIterable<'a, K, V>> IntoIterator for &'a LiteMap<K, V, S> {
+    type Item = (&'a K, &'a V);
+
+    type IntoIter = S::KeyValueIter;
+
+    ghost into_iter_gives = { λ m r. S.KeyValueIter.rest r ≡ m.now.pairs };
+
+    fn into_iter(self) -> S::KeyValueIter {
+        self.iter()
+    }
+}
+
+impl<K: Ord + Drop, V: Drop, S: StoreIntoIterator<K, V>> IntoIterator for LiteMap<K, V, S> {
+    type Item = (K, V);
+
+    type IntoIter = S::KeyValueIntoIter;
+
+    ghost into_iter_gives = { λ m r. S.KeyValueIntoIter.owned r ≡ m.pairs };
+
+    fn into_iter(self) -> S::KeyValueIntoIter {
+        let LiteMap { store, marker: _ } = self;
+        store.lm_into_iter()
+    }
+}

@@ -1,0 +1,75 @@
+//! The values of a map, from both ends.
+ghost use Rattle.std.specs.Prelude.{◌≡◌, length, Some, IfSome};
+ghost use Rattle.std.specs.Iterator.{at_most, UpTo};
+ghost use Rattle.std.specs.Iterator.SizeHint.{IsWithinCount};
+ghost use Rattle.std.specs.Map.{values_of};
+ghost use Rattle.std.specs.Map.Iter.{TakesFirst, TakesLast, deref};
+
+use litemap_store::store::PairIter;
+use std::marker::{Model, PhantomData};
+
+/// The values of the pairs that are still to come. A contract sees the iterator over these pairs.
+#[derive(Drop)]
+pub struct ValuesIterWrap<'a, K, V, I> {
+    iter: I,
+    marker: PhantomData<(&'a K, &'a V)>,
+}
+
+impl<'a, K, V, I> Model for ValuesIterWrap<'a, K, V, I> {
+    ghost Value = { I };
+
+    ghost view = { λ w. w.iter };
+}
+
+impl<'a, K, V, I> ValuesIterWrap<'a, K, V, I> {
+    // The values of the pairs that an iterator gives.
+    pub(super) fn over(iter: I) -> Self
+        ensures { result ≡ iter }
+    {
+        ValuesIterWrap {
+            iter,
+            marker: PhantomData,
+        }
+    }
+}
+
+impl<'a, K: 'a, V: 'a, I: PairIter<'a, K, V>> Iterator for ValuesIterWrap<'a, K, V, I> {
+    type Item = &'a V;
+
+    ghost next_gives = { λ s r t. TakesFirst deref (values_of (I.rest s)) r (values_of (I.rest t)) };
+
+    ghost remaining = { λ s. at_most (length (I.rest s)) };
+
+    /// The first value still to come.
+    fn next(&mut self) -> Option<&'a V> {
+        let (_, value) = self.iter.next()?;
+        Some(value)
+    }
+
+    /// The number of values still to come, twice.
+    fn size_hint(&self) -> (usize, Option<usize>)
+        ensures lower { IsWithinCount result.0 (at_most (length (I.rest self.now))) }
+        ensures upper { IfSome result.1 (UpTo (at_most (length (I.rest self.now)))) }
+        ensures exact { (result.0 ≡ length (I.rest self.now)) × (result.1 ≡ Some (length (I.rest self.now))) }
+    {
+        let len = self.len();
+        (len, Some(len))
+    }
+}
+
+impl<'a, K: 'a, V: 'a, I: PairIter<'a, K, V>> DoubleEndedIterator for ValuesIterWrap<'a, K, V, I> {
+    ghost next_back_gives = { λ s r t. TakesLast deref (values_of (I.rest s)) r (values_of (I.rest t)) };
+
+    /// The last value still to come.
+    fn next_back(&mut self) -> Option<&'a V> {
+        let (_, value) = self.iter.next_back()?;
+        Some(value)
+    }
+}
+
+impl<'a, K: 'a, V: 'a, I: PairIter<'a, K, V>> ExactSizeIterator for ValuesIterWrap<'a, K, V, I> {
+    /// The number of values still to come.
+    fn len(&self) -> usize {
+        self.iter.len()
+    }
+}

@@ -1,0 +1,86 @@
+//! The iterator over the pairs of a slice.
+ghost use Rattle.std.specs.Prelude.{◌≡◌, length, Some, IfSome, refl};
+ghost use Rattle.std.specs.Iterator.{at_most, UpTo};
+ghost use Rattle.std.specs.Iterator.SizeHint.{IsWithinCount};
+ghost use Rattle.std.specs.Map.Iter.{TakesFirst, TakesLast, deref_pair};
+
+use crate::store::PairIter;
+use std::marker::Model;
+
+/// The pairs of a slice that are still to come. A contract sees their list.
+///
+/// The Rust crate has std's `Map` over a slice's iterator here.
+#[derive(Drop)]
+pub struct SliceIter<'a, K, V> {
+    rest: &'a [(K, V)],
+}
+
+impl<'a, K, V> Model for SliceIter<'a, K, V> {
+    ghost use Rattle.std.specs.Prelude.{List};
+
+    ghost Value = { List (K × V) };
+
+    ghost view = { λ a. a.rest.now };
+}
+
+impl<'a, K, V> SliceIter<'a, K, V> {
+    /// The iterator over all pairs of a slice.
+    pub fn new(pairs: &'a [(K, V)]) -> Self
+        ensures { result ≡ pairs.now }
+    {
+        SliceIter { rest: pairs }
+    }
+}
+
+impl<'a, K, V> Iterator for SliceIter<'a, K, V> {
+    type Item = (&'a K, &'a V);
+
+    ghost next_gives = { TakesFirst deref_pair };
+
+    ghost remaining = { λ s. at_most (length s) };
+
+    fn next(&mut self) -> Option<(&'a K, &'a V)> {
+        let (first, others) = self.rest.split_first()?;
+        self.rest = others;
+        Some((&first.0, &first.1))
+    }
+
+    fn size_hint(&self) -> (usize, Option<usize>)
+        ensures lower { IsWithinCount result.0 (at_most (length self.now)) }
+        ensures upper { IfSome result.1 (UpTo (at_most (length self.now))) }
+        ensures exact { (result.0 ≡ length self.now) × (result.1 ≡ Some (length self.now)) }
+    {
+        let len = self.len();
+        (len, Some(len))
+    }
+}
+
+impl<'a, K, V> DoubleEndedIterator for SliceIter<'a, K, V> {
+    ghost next_back_gives = { TakesLast deref_pair };
+
+    fn next_back(&mut self) -> Option<(&'a K, &'a V)> {
+        let (last, others) = self.rest.split_last()?;
+        self.rest = others;
+        Some((&last.0, &last.1))
+    }
+}
+
+impl<'a, K, V> ExactSizeIterator for SliceIter<'a, K, V> {
+    fn len(&self) -> usize {
+        self.rest.len()
+    }
+}
+
+impl<'a, K: 'a, V: 'a> PairIter<'a, K, V> for SliceIter<'a, K, V> {
+    ghost rest = { λ s. s };
+
+    ghost goes_on = { λ _. tt };
+
+    ghost goes_back = { λ _. tt };
+
+    ghost first = { λ _ _ _ h. h };
+
+    ghost last = { λ _ _ _ h. h };
+
+    ghost count = { λ _. refl };
+}
