@@ -1,0 +1,76 @@
+//! How often a merge compares, the comparisons of the counts and all others together.
+use litemap::LiteMap;
+use litemap::store::StoreIntoIterator;
+use std::alloc::{AllocError, Global};
+use std::cell::Cell;
+use std::process::Abort;
+use std::test::Fail;
+use test_support::fixed_room::FixedRoom;
+use test_support::keys::Counted;
+use test_support::lists::map_of;
+
+// The map of as many keys, from the first on and so far apart.
+fn map_from<'a, S: StoreIntoIterator<Counted<'a>, u32> + Drop>(
+    alloc: Global,
+    made: &'a Cell<u32>,
+    first: u32,
+    step: u32,
+    len: u32,
+) -> Result<LiteMap<Counted<'a>, u32, S>, AllocError> {
+    let numbers = (0..len).map(|place| first.wrapping_add(step.wrapping_mul(place)));
+    let pairs: Vec<(Counted<'a>, u32)> = numbers
+        .map(|number| (Counted { number, made }, number))
+        .collect(alloc)?;
+    map_of(alloc, &pairs, 4000)
+}
+
+// How many pairs of the keys 1000, 1002, 1004 and so on; how many from which other key on and how far apart; and how many
+// comparisons their merge may take.
+const MERGES: &[(u32, u32, u32, u32, u32)] = &[
+    // One map is empty.
+    (0, 0, 1, 0, 0),
+    (0, 4, 1, 3, 0),
+    (3, 4, 1, 0, 0),
+    // Apart: behind, and before.
+    (2, 1004, 1, 2, 2),
+    (1000, 3000, 1, 1000, 2),
+    (2, 1, 2, 2, 2),
+    (1000, 0, 1, 1000, 2),
+    // Else two, and for each pair one for each binary digit of both lengths.
+    (2, 1001, 1, 1, 4),
+    (2, 1002, 2, 2, 8),
+    (1000, 1001, 2, 1000, 11002),
+    (1000, 1000, 2, 1000, 11002),
+    (1000, 1500, 1, 1, 12),
+    (1, 1, 2, 1000, 10002),
+    (7, 1001, 1, 1000, 10002),
+    (20, 1010, 5, 20, 122),
+];
+
+fn merge_each<'a, S: StoreIntoIterator<Counted<'a>, u32> + Drop>(
+    rt: &impl Abort,
+    alloc: Global,
+    made: &'a Cell<u32>,
+) -> Result<(), Fail> {
+    for (old, first, step, new, most) in MERGES {
+        let mut map: LiteMap<Counted<'a>, u32, S> = map_from(alloc, made, 1000, 2, *old)?;
+        let other: LiteMap<Counted<'a>, u32, S> = map_from(alloc, made, *first, *step, *new)?;
+        made.set(0);
+        if map.extend_from_litemap(alloc, other).is_err() {
+            return Err(AllocError.into());
+        }
+        assert!(rt;
+            made.get() <= *most,
+            "{new} from {first} into {old}: {}",
+            made.get()
+        );
+    }
+    Ok(())
+}
+
+#[test]
+fn merges_compare_as_often_as_promised(rt: HostRuntime) -> Result<(), Fail> {
+    let made = Cell::new(0u32);
+    merge_each::<Vec<(Counted<'_>, u32)>>(&rt, rt.alloc(), &made)?;
+    merge_each::<FixedRoom<Counted<'_>, u32>>(&rt, rt.alloc(), &made)
+}

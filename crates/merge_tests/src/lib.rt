@@ -1,0 +1,17 @@
+//! Tests of merging maps, over a vector and over a store with a fixed room.
+#![tactic(auto)]
+
+#[cfg(test)]
+mod comparisons;
+#[cfg(test)]
+mod counts;
+#[cfg(test)]
+mod every_two;
+#[cfg(test)]
+mod joined;
+#[cfg(test)]
+mod refused;
+#[cfg(test)]
+mod rows;
+#[cfg(test)]
+mod store_data;
