@@ -154,15 +154,6 @@ impl<K: Ord + Drop, V: Drop> StoreFromIterable<K, V> for FixedRoom<K, V> {
     }
 }
 
-impl<K: Drop, V: Drop> StoreIntoIterator<K, V> for FixedRoom<K, V> {
-    type KeyValueIntoIter = IntoIter<(K, V)>;
-
-    fn lm_into_iter(self) -> IntoIter<(K, V)> {
-        let FixedRoom { items, limit: _ } = self;
-        items.lm_into_iter()
-    }
-}
-
 impl<K: Drop, V: Drop> StoreFromIterator<K, V> for FixedRoom<K, V> {
     fn lm_from_pairs<I: IntoIterator<Item = (K, V)>>(
         alloc: Global,
