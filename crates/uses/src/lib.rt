@@ -7,5 +7,6 @@ pub mod headers;
 pub mod made;
 pub mod names;
 pub mod people;
+pub mod scores;
 pub mod texts;
 pub mod totals;

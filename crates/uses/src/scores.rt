@@ -1,0 +1,48 @@
+//! Scores by name: the first calls that a user makes.
+ghost use Rattle.std.specs.Prelude.{◌≡◌, ◌++◌, Some, OnOk, OnErr, string_bytes};
+ghost use Rattle.std.specs.String.{string_cmp};
+ghost use Rattle.litemap_store.specs.Last.{Last};
+ghost use Rattle.litemap_store.specs.Pairs.{index_of, value_at};
+ghost use Rattle.litemap_store.specs.Queries.{by_text};
+
+use litemap::LiteMap;
+use std::alloc::{AllocError, Global};
+
+/// A map from names to scores, over a vector.
+pub type Scores = LiteMap<String, u32, Vec<(String, u32)>>;
+
+/// Sets a score, which is then found at the name. A refusal leaves the map.
+#[tactic(auto, using(litemap::proofs::Texts::text_keys))]
+pub fn set(scores: &mut Scores, name: String, score: u32) -> Result<(), AllocError>
+    ensures there { OnOk result (value_at by_text scores.new.pairs (string_bytes name) ≡ Some score) }
+    ensures refused { OnErr result (scores.new.pairs ≡ scores.old.pairs) }
+{
+    scores.insert(name, score)?;
+    Ok(())
+}
+
+/// The score at a name.
+pub fn score_of(scores: &Scores, name: &str) -> Option<u32>
+    ensures { result ≡ value_at by_text scores.now.pairs name.now }
+{
+    scores.get(name).copied()
+}
+
+/// Where a name stands among the sorted names: `Ok` of its place, or `Err` of the place where it would go.
+pub fn place_of(scores: &Scores, name: &str) -> Result<usize, usize>
+    ensures { result ≡ index_of by_text scores.now.pairs name.now }
+{
+    scores.find_index(name)
+}
+
+/// Sets many scores. Of each name the last one stays.
+pub fn set_all(
+    scores: &mut Scores,
+    alloc: Global,
+    more: Vec<(String, u32)>,
+) -> Result<(), AllocError>
+    ensures last { OnOk result (Last string_cmp (scores.old.pairs ++ more.items) scores.new.pairs) }
+    ensures refused { OnErr result (scores.new.pairs ≡ scores.old.pairs) }
+{
+    scores.extend(alloc, more)
+}
