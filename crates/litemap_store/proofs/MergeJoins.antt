@@ -1,8 +1,7 @@
 -- Merges of lists that lie apart, and merges that are joined.
 --     Merge-none, Merge-all      one list is empty;  Merge-behind, Merge-before      one lies above the other
 --     left-behind, left-before      and nothing is left over;  Merge-join      merges of which one lies above the other are joined
-use Rattle.std.proofs.Common.{◌≡◌, ◌⊎◌, ◌≢◌, ◌↔◌, List, [], ◌∷◌, ◌++◌, refl, sym, ap, ◌∙◌, subst₂, inl, inr, append-nil, length, ◌==◌, false, true, Ordering, Less, Equal, Greater}
-use Rattle.std.specs.List.{AllByRecursion}
+use Rattle.std.proofs.Common.{◌≡◌, ◌≢◌, List, [], ◌++◌, refl, sym, ap, ◌∙◌, subst₂, inl, inr, append-nil, length, ◌==◌, false, Ordering, Less, Equal, Greater}
 use Rattle.std.specs.Cmp.{IsTotalOrder}
 use Rattle.litemap_store.specs.Last.{In, NoneEqual}
 use mathlib.Core.Bool.{true≢false}

@@ -1,6 +1,6 @@
 -- One pair after the other is merged.
 --     MergedUpTo, MergedUpTo-none, MergedUpTo-more      what is merged of B
-use Rattle.std.proofs.Common.{◌≡◌, ◌≢◌, ℕ, suc, ◌+◌, ◌*◌, ◌≤◌, arith, List, [], ◌∷◌, ◌++◌, length, Option, Some, None, option_map, inl, refl, sym, ap, ◌∙◌, subst, append_assoc, length-append, Ordering, Less, Equal, Greater}
+use Rattle.std.proofs.Common.{◌≡◌, suc, ◌+◌, ◌*◌, ◌≤◌, arith, List, [], ◌∷◌, ◌++◌, length, Option, Some, None, option_map, inl, refl, sym, ap, ◌∙◌, subst, append_assoc, length-append, Ordering}
 use Rattle.std.proofs.Math.Nat.{suc-mul, zero-mul}
 use Rattle.std.specs.Cmp.{IsTotalOrder}
 use Rattle.std.specs.List.{cons_option}
@@ -13,7 +13,6 @@ use Rattle.litemap_store.specs.Pairs.{Rising, at, put}
 use Rattle.litemap_store.proofs.Counting.{in_turn, not_asked}
 use Rattle.litemap_store.proofs.KeepLast.{rising_across}
 use Rattle.litemap_store.proofs.Lookups.{length-put_absent, length-put_present}
-use Rattle.litemap_store.proofs.Membership.{from_each}
 use Rattle.litemap_store.proofs.MergeJoins.{Merge-none, none_below}
 use Rattle.litemap_store.proofs.Merging.{Merge-put, left-put}
 

@@ -1,17 +1,17 @@
 -- What a merge has, what is left over, and how merges are joined.
 --     left_none, none_from_left      nothing is left over where no key is common;  keys_of_merge, Merge-unique      what a merge has
 --     Merge-put, left-put      one more pair of B;  at-merged      what a look-up finds among the merged pairs
-use Rattle.std.proofs.Common.{◌≡◌, ◌⊎◌, ◌≢◌, ◌↔◌, Bool, true, false, cond, List, [], ◌∷◌, ◌++◌, Option, Some, None, refl, sym, ap, ◌∙◌, subst, inl, inr, Ordering, Less, Equal, Greater, is_eq, is_lt, is_gt, option_map}
+use Rattle.std.proofs.Common.{◌≡◌, ◌⊎◌, ◌≢◌, ◌↔◌, false, cond, List, [], ◌∷◌, ◌++◌, Option, Some, None, refl, sym, ap, ◌∙◌, subst, inl, inr, Ordering, Less, Equal, Greater, is_eq, is_lt, is_gt, option_map}
 use Rattle.std.specs.List.{AllByRecursion, cons_option}
 use Rattle.std.specs.Cmp.{IsTotalOrder}
-use Rattle.std.proofs.lemmas.Cmp.{tied_back, tied_itself, alike_right}
+use Rattle.std.proofs.lemmas.Cmp.{tied_back}
 use Rattle.std.proofs.lemmas.List.Elements.{filter_map-append}
 use Rattle.litemap_store.specs.Last.{In, NoneEqual}
 use Rattle.litemap_store.specs.Laws.{HasKey}
 use Rattle.litemap_store.specs.Merge.{IsMerged, Merge, left}
 use Rattle.litemap_store.specs.Pairs.{BelowAll, Rising, above, at, below, key_or, put}
 use Rattle.litemap_store.proofs.LastLookups.{at-Rising}
-use Rattle.litemap_store.proofs.LastPairs.{Rising-append, Rising-filter, some_equal, same_rising, less_from_is_lt, greater_from_is_gt}
+use Rattle.litemap_store.proofs.LastPairs.{some_equal, same_rising, less_from_is_lt, greater_from_is_gt}
 use Rattle.litemap_store.proofs.Membership.{In-left, In-right, In-cases, In-filter, In-from_filter, each, from_each}
 use Rattle.litemap_store.proofs.Splitting.{Rising-put}
 

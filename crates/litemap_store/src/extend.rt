@@ -8,7 +8,7 @@ ghost use Rattle.litemap_store.specs.Counts.{RisesByAtMost};
 ghost use Rattle.litemap_store.specs.Last.{Last, Rises};
 ghost use Rattle.litemap_store.specs.Pairs.{Rising};
 
-mod merge;
+pub mod merge;
 mod sort;
 
 use crate::count::Count;

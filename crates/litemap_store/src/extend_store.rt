@@ -5,19 +5,26 @@ ghost use Rattle.litemap_store.specs.Counts.{RisesByAtMost};
 ghost use Rattle.litemap_store.specs.Digits.{digits};
 ghost use Rattle.litemap_store.specs.Merge.{Apart, Merge, left};
 ghost use Rattle.litemap_store.specs.Pairs.{Rising};
+ghost use Rattle.litemap_store.specs.Splits.{Splits};
 
+mod in_one_pass;
 mod one_by_one;
 
+use crate::extend_store::in_one_pass::merge_in_one_pass;
 use crate::extend_store::one_by_one::merge_each;
 use crate::store::{Count, NoRoom, Store, StoreIntoIterator};
 use std::alloc::Global;
+
+// Of how many pairs at most a merge puts each in by itself.
+const FEW: usize = 8;
 
 /// Merges a store's pairs into another's. Where an equal key is there, that key stays and takes the new value; the old
 /// values are answered, each with its new key, in order, or `None` where there are none.
 ///
 /// Where one store is empty, it takes no memory and compares no keys: an empty other changes nothing, and an empty store
 /// takes the other one whole. Where the keys of one lie above all of the other, its pairs are put behind, or before, by
-/// at most two comparisons. Else each pair of other takes one search.
+/// at most two comparisons. Else each pair of other takes one search, and each pair of both moves a constant number of
+/// times.
 ///
 /// All room, that of the old values included, is taken before the first change. Refused for want of memory, the list stays
 /// as it was and the other store comes back whole.
@@ -59,7 +66,45 @@ pub fn extend_from_store<K: Ord + Drop, V: Drop, S: StoreIntoIterator<K, V> + Dr
         store.lm_extend_start(other)?;
         return Ok(None);
     }
-    merge_each(alloc, store, other, count)
+    merge_mixed(alloc, store, other, count)
+}
+
+// Merges stores whose pairs lie mixed: pair by pair where the other one has few, else in one pass.
+fn merge_mixed<K: Ord + Drop, V: Drop, S: StoreIntoIterator<K, V> + Drop>(
+    alloc: Global,
+    store: &mut S,
+    other: S,
+    count: &mut Count,
+) -> Result<Option<S>, NoRoom<S>>
+    requires store { Rising K.cmp (S.pairs store.old) }
+    requires other { Rising K.cmp (S.pairs other) }
+    ensures merged { OnOk result (Merge K.cmp (S.pairs store.old) (S.pairs other) (S.pairs store.new)) }
+    ensures none { IfOk result (λ rest. IsNone rest ↔ (left K.cmp (S.pairs store.old) (S.pairs other) ≡ [])) }
+    ensures left { IfOk result
+        (λ rest. IfSome rest (λ s. S.pairs s ≡ left K.cmp (S.pairs store.old) (S.pairs other))) }
+    ensures refused { OnErr result (S.pairs store.new ≡ S.pairs store.old) }
+    ensures back { IfErr result (λ refused. S.pairs refused.back ≡ S.pairs other) }
+    ensures cost { RisesByAtMost
+        (length (S.pairs other) * digits (length (S.pairs store.old) + length (S.pairs other)))
+        count.old count.new }
+{
+    if other.lm_len() <= FEW {
+        Ok(unless_empty(merge_each(alloc, store, other, count)?))
+    } else {
+        Ok(unless_empty(merge_in_one_pass(alloc, store, other, count)?))
+    }
+}
+
+// The store if it has pairs.
+fn unless_empty<K, V, S: Store<K, V> + Drop>(store: S) -> Option<S>
+    ensures none { IsNone result ↔ (S.pairs store ≡ []) }
+    ensures some { IfSome result (λ s. S.pairs s ≡ S.pairs store) }
+{
+    if store.lm_is_empty() {
+        None
+    } else {
+        Some(store)
+    }
 }
 
 // Whether all keys of one store lie below those of another. It compares the last of the one with the first of the other.
@@ -76,4 +121,13 @@ fn lies_below<K: Ord, V, S: Store<K, V>>(low: &S, high: &S, count: &mut Count) -
         return true;
     };
     count.cmp(last, first).is_lt()
+}
+
+// The place where a key splits the pairs.
+fn search<K: Ord, V, S: Store<K, V>>(store: &S, key: &K, count: &mut Count) -> Result<usize, usize>
+    requires { Rising K.cmp (S.pairs store.now) }
+    ensures splits { Splits K.cmp (S.pairs store.now) key.now result }
+    ensures cost { RisesByAtMost (digits (length (S.pairs store.now))) count.old count.new }
+{
+    store.lm_binary_search_by(|k| k.cmp(key), count)
 }

@@ -115,8 +115,8 @@ fn take_last_pair<T>(items: &mut Vec<T>) -> T
     items.pop().unwrap()
 }
 
-// The last pair, which leaves the store.
-fn take_last<K, V, S: StoreMut<K, V>>(store: &mut S) -> (K, V)
+/// The last pair, which leaves the store.
+pub fn take_last<K, V, S: StoreMut<K, V>>(store: &mut S) -> (K, V)
     requires { 0 < length (S.pairs store.old) }
     ensures { S.pairs store.old ≡ S.pairs store.new ++ result ∷ [] }
 {
@@ -124,8 +124,8 @@ fn take_last<K, V, S: StoreMut<K, V>>(store: &mut S) -> (K, V)
     store.lm_remove(last)
 }
 
-// Puts pairs behind those of the store, from the last on. The store has room for them.
-fn put_up<K: Drop, V: Drop, S: StoreMut<K, V>>(store: &mut S, mut pairs: Vec<(K, V)>)
+/// Puts pairs behind those of the store, from the last on. The store has room for them.
+pub fn put_up<K: Drop, V: Drop, S: StoreMut<K, V>>(store: &mut S, mut pairs: Vec<(K, V)>)
     requires { length pairs.items ≤ S.room store.old }
     ensures { S.pairs store.new ≡ S.pairs store.old ++ reverse pairs.items }
 {

@@ -1,30 +1,30 @@
 //! A merge that puts the pairs in one by one, each by one search.
-ghost use Rattle.std.specs.Prelude.{◌≡◌, ◌↔◌, ◌+◌, ◌*◌, ◌<◌, ◌≤◌, [], length, IsNone, IfOk, IfErr, IfSome, OnOk, OnErr};
-ghost use Rattle.std.specs.Prelude.{◌++◌, option_map};
+ghost use Rattle.std.specs.Prelude.{◌≡◌, ◌+◌, ◌*◌, ◌<◌, ◌≤◌, ◌++◌, [], length, IfOk, IfErr, OnOk, OnErr};
+ghost use Rattle.std.specs.Prelude.{option_map};
 ghost use Rattle.std.specs.List.{cons_option};
 ghost use Rattle.litemap_store.specs.Counts.{RisesByAtMost};
 ghost use Rattle.litemap_store.specs.Digits.{digits};
 ghost use Rattle.litemap_store.specs.Merge.{Merge, left};
 ghost use Rattle.litemap_store.specs.Pairs.{Rising, at, put};
-ghost use Rattle.litemap_store.specs.Splits.{Splits};
 
+use crate::extend_store::search;
 use crate::store::{Count, NoRoom, Store, StoreIntoIterator, StoreMut};
 use std::alloc::Global;
 use std::mem;
 
-/// Merges a store's pairs into another's, each by one search. All room is taken first.
+/// Merges a store's pairs into another's, each by one search, and answers what is left over. All room is taken first.
+///
+/// A pair that falls between others moves those behind it, so the moves are up to the product of the two lengths.
 pub fn merge_each<K: Ord + Drop, V: Drop, S: StoreIntoIterator<K, V> + Drop>(
     alloc: Global,
     store: &mut S,
     other: S,
     count: &mut Count,
-) -> Result<Option<S>, NoRoom<S>>
+) -> Result<S, NoRoom<S>>
     requires store { Rising K.cmp (S.pairs store.old) }
     requires other { Rising K.cmp (S.pairs other) }
     ensures merged { OnOk result (Merge K.cmp (S.pairs store.old) (S.pairs other) (S.pairs store.new)) }
-    ensures none { IfOk result (λ rest. IsNone rest ↔ (left K.cmp (S.pairs store.old) (S.pairs other) ≡ [])) }
-    ensures left { IfOk result
-        (λ rest. IfSome rest (λ s. S.pairs s ≡ left K.cmp (S.pairs store.old) (S.pairs other))) }
+    ensures left { IfOk result (λ rest. S.pairs rest ≡ left K.cmp (S.pairs store.old) (S.pairs other)) }
     ensures refused { OnErr result (S.pairs store.new ≡ S.pairs store.old) }
     ensures back { IfErr result (λ refused. S.pairs refused.back ≡ S.pairs other) }
     ensures cost { RisesByAtMost
@@ -39,11 +39,7 @@ pub fn merge_each<K: Ord + Drop, V: Drop, S: StoreIntoIterator<K, V> + Drop>(
         return Err(NoRoom { back: other });
     };
     put_each(store, other, &mut rest, count);
-    if rest.lm_is_empty() {
-        Ok(None)
-    } else {
-        Ok(Some(rest))
-    }
+    Ok(rest)
 }
 
 // Puts each pair in, and what it drives out behind the rest. Both stores have room for all.
@@ -110,13 +106,4 @@ fn push_some<K: Drop, V: Drop, S: StoreMut<K, V>>(store: &mut S, pair: Option<(K
     let Ok(()) = store.lm_push(key, value) else {
         unreachable!()
     };
-}
-
-// The place where a key splits the pairs.
-fn search<K: Ord, V, S: Store<K, V>>(store: &S, key: &K, count: &mut Count) -> Result<usize, usize>
-    requires { Rising K.cmp (S.pairs store.now) }
-    ensures splits { Splits K.cmp (S.pairs store.now) key.now result }
-    ensures cost { RisesByAtMost (digits (length (S.pairs store.now))) count.old count.new }
-{
-    store.lm_binary_search_by(|k| k.cmp(key), count)
 }

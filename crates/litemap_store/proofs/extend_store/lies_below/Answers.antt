@@ -1,5 +1,4 @@
-use Rattle.std.proofs.Common.{◌≡◌, ◌++◌, append-nil, subst, sym, ap, ◌∙◌, is_lt, refl}
-use Rattle.litemap_store.specs.Pairs.{Rising}
+use Rattle.std.proofs.Common.{◌≡◌, append-nil, sym, ap, ◌∙◌, is_lt, refl}
 use Rattle.litemap_store.proofs.LastPairs.{less_from_is_lt}
 use Rattle.litemap_store.proofs.Joined.{Rising-behind, empty_from_last, empty_from_first}
 use Rattle.litemap_store.proofs.extend_store.lies_below.Goals as goal

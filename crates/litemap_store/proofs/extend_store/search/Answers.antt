@@ -2,7 +2,7 @@ use Rattle.std.proofs.Common.{rules}
 use Rattle.litemap_store.specs.Queries.{key_one_side}
 use Rattle.litemap_store.proofs.Shapes.{shape_steady}
 use Rattle.litemap_store.proofs.Splitting.{Ascends-by_query, Splits-from_Finds}
-use Rattle.litemap_store.proofs.extend_store.one_by_one.search.Goals as goal
+use Rattle.litemap_store.proofs.extend_store.search.Goals as goal
 
 pub lm_binary_search_by-requires : goal.lm_binary_search_by-requires
 lm_binary_search_by-requires g c =
