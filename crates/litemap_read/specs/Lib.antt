@@ -1,0 +1,3 @@
+-- The definitions that the contracts cite. Those of the sorted list are in `Pairs` of the crate `litemap_store`.
+pub mod Source
+pub mod ReadFault

@@ -1,0 +1,8 @@
+//! Reading maps from sources of pairs, and runs of calls of a map.
+#![tactic(auto)]
+
+mod source;
+mod vec_source;
+
+pub use source::{PairSource, ReadFault};
+pub use vec_source::{NoFault, VecSource};
