@@ -1,8 +1,10 @@
 //! Reading maps from sources of pairs, and runs of calls of a map.
 #![tactic(auto)]
 
+mod read;
 mod source;
 mod vec_source;
 
+pub use read::read_pairs;
 pub use source::{PairSource, ReadFault};
 pub use vec_source::{NoFault, VecSource};
