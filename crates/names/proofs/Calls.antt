@@ -12,7 +12,8 @@ use Rattle.std.specs.declared.string.String.{String}
 use Rattle.litemap_store.specs.Pairs.{at, cut, index_of, put, value_at}
 use Rattle.litemap_store.specs.Queries.{by_text}
 use Rattle.litemap.specs.Seen.{Seen}
-use Rattle.litemap.specs.Steps.{Find, Get, Insert, Place, Remove, Value}
+use Rattle.litemap_read.specs.declared.calls.Answer.TheVariants.{Place, Value}
+use Rattle.litemap_read.specs.declared.calls.Call.TheVariants.{Find, Get, Insert, Remove}
 use Rattle.names.specs.Told.{Answers, Calls, Does, TextMap, ShowsAll, answer_text, value_text}
 use Rattle.names.specs.Command.{DoesCommand, Says}
 use Rattle.names.specs.declared.lines.Command.{Command}
@@ -45,7 +46,7 @@ module _ (old : Seen (String Global) (String Global)) (k : List ℕ) {E : Type 0
       → IfOk r (λ text. Answers (names_of old) (Find k) (string_bytes text) (names_of old))
   find_answers place e said =
       IfOk-weaker r (λ text. (k : List ℕ) → answer_text (Find k) (Place place) ≡ Some (string_bytes text)) (λ text. Answers (names_of old) (Find k) (string_bytes text) (names_of old))
-      (λ text says. (Place place, (e ∙ sym (index-view by_text (slice_cmp nat_cmp) (λ k. k) string_bytes string_bytes keeps old.pairs k), refl), says k))
+      (λ text says. (Place place, inl (ap Place (e ∙ sym (index-view by_text (slice_cmp nat_cmp) (λ k. k) string_bytes string_bytes keeps old.pairs k)), refl), says k))
       said
 
   -- looking at the value of the key is a step
@@ -54,7 +55,7 @@ module _ (old : Seen (String Global) (String Global)) (k : List ℕ) {E : Type 0
       → IfOk r (λ text. Answers (names_of old) (Get k) (string_bytes text) (names_of old))
   get_answers value e said =
       IfOk-weaker r (λ text. string_bytes text ≡ value_text (option_map string_bytes value)) (λ text. Answers (names_of old) (Get k) (string_bytes text) (names_of old))
-      (λ text says. (Value (option_map string_bytes value), (value-bytes old.pairs k value e, refl), ap Some (sym says)))
+      (λ text says. (Value (option_map string_bytes value), inl (ap Value (value-bytes old.pairs k value e), refl), ap Some (sym says)))
       said
 
   -- removing the key is a step
@@ -66,7 +67,7 @@ module _ (old : Seen (String Global) (String Global)) (k : List ℕ) {E : Type 0
       IfOk-weaker r (λ text. string_bytes text ≡ value_text (option_map string_bytes value)) (λ text. Answers (names_of old) (Remove k) (string_bytes text) (names_of new))
       (λ text says. (
         Value (option_map string_bytes value),
-        (value-bytes old.pairs k value e, cut-bytes old new k cuts, λ absent. ap (λ (s : Seen (String Global) (String Global)). s.room) (unchanged (absent-from_view by_text (slice_cmp nat_cmp) (λ k. k) string_bytes string_bytes keeps old.pairs k absent))),
+        inl (ap Value (value-bytes old.pairs k value e), cut-bytes old new k cuts, λ absent. ap (λ (s : Seen (String Global) (String Global)). s.room) (unchanged (absent-from_view by_text (slice_cmp nat_cmp) (λ k. k) string_bytes string_bytes keeps old.pairs k absent))),
         ap Some (sym says),
       ))
       said
@@ -86,7 +87,7 @@ insert_answers old key k spelled r value v valued before new was puts kept room 
     IfOk-weaker r (λ text. (k v : List ℕ) → answer_text (Insert k v) (Value (option_map string_bytes before)) ≡ Some (string_bytes text)) (λ text. Answers (names_of old) (Insert k v) (string_bytes text) (names_of new))
     (λ text says. subst (λ (k : List ℕ). Answers (names_of old) (Insert k v) (string_bytes text) (names_of new)) spelled
     (subst (λ (v : List ℕ). Answers (names_of old) (Insert (string_bytes key) v) (string_bytes text) (names_of new)) valued
-    (Value (option_map string_bytes before), (value-bytes old.pairs (string_bytes key) before was, puts_bytes, λ h. kept (there h), room), says (string_bytes key) (string_bytes value))))
+    (Value (option_map string_bytes before), inl (ap Value (value-bytes old.pairs (string_bytes key) before was), (puts_bytes, room), λ h. kept (there h)), says (string_bytes key) (string_bytes value))))
     said
 
 -- a line that says a command does what the command does

@@ -1,6 +1,6 @@
 -- A command of the program: the line that spells it, and what it does.
 use Rattle.std.specs.Prelude.{◌≡◌, ℕ, List, flat_map}
-use Rattle.litemap.specs.Steps.{Find, Get, Insert, Remove}
+use Rattle.litemap_read.specs.declared.calls.Call.TheVariants.{Find, Get, Insert, Remove}
 use Rattle.names.specs.Line.{Spells, SpellsAll}
 use Rattle.names.specs.Told.{Answers, TextMap, pair_text}
 use Rattle.names.specs.declared.lines.Command.{Command}

@@ -2,7 +2,9 @@
 use Rattle.std.specs.Prelude.{◌≡◌, ◌⊎◌, ℕ, List, [], ◌∷◌}
 use Rattle.std.specs.Ordering.{nat_cmp}
 use Rattle.std.specs.Cmp.Lexicographic.{slice_cmp}
-use Rattle.litemap.specs.Steps.{Answer, Call, Run}
+use Rattle.litemap_read.specs.Steps.{Run}
+use Rattle.litemap_read.specs.declared.calls.Answer.{Answer}
+use Rattle.litemap_read.specs.declared.calls.Call.{Call}
 use Rattle.names.specs.Line.{Spells, SpellsAll}
 use Rattle.names.specs.Told.{DoesEach, TextMap}
 

@@ -5,7 +5,11 @@ use Rattle.std.specs.Ordering.{nat_cmp}
 use Rattle.std.specs.Cmp.Lexicographic.{slice_cmp}
 use Rattle.std.specs.Fmt.{decimal}
 use Rattle.litemap.specs.Seen.{Seen}
-use Rattle.litemap.specs.Steps.{Answer, Call, Find, Get, Insert, Place, Remove, Step, Value}
+use Rattle.litemap_read.specs.Steps.{Step}
+use Rattle.litemap_read.specs.declared.calls.Answer.{Answer}
+use Rattle.litemap_read.specs.declared.calls.Answer.TheVariants.{Place, Value}
+use Rattle.litemap_read.specs.declared.calls.Call.{Call}
+use Rattle.litemap_read.specs.declared.calls.Call.TheVariants.{Find, Get, Insert, Remove}
 use Rattle.names.specs.Line.{IsBad, Spells, SpellsAll, lines_of}
 
 -- the most bytes that a run takes

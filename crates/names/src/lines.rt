@@ -1,7 +1,7 @@
 //! The lines of the input, and what each says.
 ghost use Rattle.std.specs.Prelude.{◌≡◌, ◌<◌, ◌≤◌, ◌+◌, ◌++◌, ◌∷◌, ◌↔◌, ℕ, List, [], length, IsTrue};
 ghost use Rattle.std.specs.Prelude.{MatchOption, All, false, IfSome, IfNone, ◌==◌};
-ghost use Rattle.litemap.specs.Steps.{Call};
+ghost use Rattle.litemap_read.specs.declared.calls.Call.{Call};
 ghost use Rattle.names.specs.Line.{IsWord, Spells, SpellsAll, lines_of};
 ghost use Rattle.names.specs.Command.{Says};
 ghost use Rattle.names.specs.Rest.{lines_left};

@@ -4,7 +4,8 @@ ghost use Rattle.std.specs.Prelude.{option_copied, option_map, slice_get, string
 ghost use Rattle.std.specs.Cmp.Lexicographic.{slice_cmp};
 ghost use Rattle.std.specs.Ordering.{nat_cmp};
 ghost use Rattle.litemap_store.specs.Pairs.{cut};
-ghost use Rattle.litemap.specs.Steps.{Find, Get, Insert, Place, Remove, Value};
+ghost use Rattle.litemap_read.specs.declared.calls.Answer.TheVariants.{Place, Value};
+ghost use Rattle.litemap_read.specs.declared.calls.Call.TheVariants.{Find, Get, Insert, Remove};
 ghost use Rattle.names.specs.Line.{IsBad};
 ghost use Rattle.names.specs.Told.{Answers, Does, answer_text, pair_text, value_text};
 ghost use Rattle.names.specs.Command.{DoesCommand};

@@ -1,0 +1,45 @@
+use Rattle.std.proofs.Common.{[], ◌∷◌, ◌++◌, append-nil, append_assoc}
+use Rattle.litemap_store.proofs.Extended.{Last-extended}
+use Rattle.litemap_store.proofs.Sifting.{Last-sifted}
+use Rattle.litemap_read.proofs.Sifted.{Sifted-joins, always_on_err}
+use Rattle.litemap_read.proofs.read.read_pairs.Goals as goal
+
+pub loop-key-preserved : goal.loop-key-preserved
+loop-key-preserved g c =
+    let before = c.loop-key.invariant in
+    let seen = before.seen.0 in
+    let pair : g.row.K.Denot × g.row.V.Denot = (c.in-Ok-Some.key, c.in-Ok-Some.value) in
+    let next = rw c.in-Ok-Some.field-0-is at c.in-Ok-Some.ensures.next in
+    let step = c.next_pair.ensures in
+    record {
+      seen = (
+        seen ++ pair ∷ [],
+        λ rest h. rw append_assoc (before.seen.1 (pair ∷ rest) (next.0 rest h)),
+        Sifted-joins g.K.Ord.cmp seen (pair ∷ []) [] [] c.loop-key.map.pairs c.loop-key.aside.items c.sift.new.map.pairs c.sift.new.aside.items before.seen.2 c.in_ok-sift-in-Ok-Some.ensures,
+      );
+      faults = λ e. ((λ h. (before.faults e).0 ((step.keeps_faults e).0 h)), (λ h. (step.keeps_faults e).1 ((before.faults e).1 h)));
+      end = ((λ h. before.end.0 (step.keeps_end.0 h)), (λ h. step.keeps_end.1 (before.end.1 h)));
+      led = g.met.P.PairSource.leads_on _ _ _ before.led step.leads;
+    }
+
+-- the pair that found no room stood before what is left
+pub returns-in_err-sift-in-Ok-Some-clause-rest : goal.returns-in_err-sift-in-Ok-Some-clause-rest
+returns-in_err-sift-in-Ok-Some-clause-rest g c =
+    let before = c.loop-key.invariant in
+    let pair : g.row.K.Denot × g.row.V.Denot = (c.in-Ok-Some.key, c.in-Ok-Some.value) in
+    let next = rw c.in-Ok-Some.field-0-is at c.in-Ok-Some.ensures.next in
+    always_on_err c.from_residual-in_err-sift-in-Ok-Some.result
+    (before.seen.0 ++ pair ∷ [], λ rest h. rw append_assoc (before.seen.1 (pair ∷ rest) (next.0 rest h)))
+
+pub returns-clause-read : goal.returns-clause-read
+returns-clause-read g c =
+    let before = c.loop-key.invariant in
+    let seen = before.seen.0 in
+    let next = rw c.in-Ok-None.field-0-is at c.in-Ok-None.ensures.next in
+    let o = g.met.K.Ord.total in
+    record {
+      given = seen;
+      gives_it = rw append-nil at (before.seen.1 [] ((next.1.0 []).0 next.2));
+      last = Last-sifted o seen c.loop-key.map.pairs c.loop-key.aside.items c.extend.new.self.pairs before.seen.2
+          (Last-extended o _ (λ v it h. h.0) c.loop-key.aside c.loop-key.map.pairs c.extend.new.self.pairs c.in_ok-extend.ensures.extended);
+    }

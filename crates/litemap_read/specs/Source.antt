@@ -1,0 +1,28 @@
+-- What a source of pairs gives. A source s may be able to give several lists, `gives s`: where a contract tells values
+-- apart that the source doesn't. Where it gives one, read `gives s L` as 'L is the list of s'.
+use Rattle.std.specs.Prelude.{◌≡◌, ◌↔◌, ℕ, ◌+◌, List, [], ◌∷◌, ◌++◌, Result, Ok, Err, Option, Some, None}
+use Rattle.std.specs.declared.cmp.Ordering.{Ordering}
+use Rattle.litemap_store.specs.Last.{Last}
+
+module _ {S P : Type 0} (gives : S → List P → Type 0) where
+  -- what t can give, s can give behind some pairs
+  abbrev pub IsBehind : S → S → Type 0
+  IsBehind s t = (front : List P) × ((rest : List P) → gives t rest → gives s (front ++ rest))
+
+-- s gives a list, and M is its last pairs
+pub record IsRead {S K V : Type 0} (cmp : K → K → Ordering) (gives : S → List (K × V) → Type 0) (s : S) (M : List (K × V)) : Type 0 where
+  pub given : List (K × V)
+  pub gives_it : gives s given
+  pub last : Last cmp given M
+
+module _ {S P : Type 0} (gives : S → List P → Type 0) (left : S → ℕ) where
+  -- t has the list of s
+  abbrev pub SameList : S → S → Type 0
+  SameList s t = ((L : List P) → gives t L ↔ gives s L) × (left t ≡ left s)
+
+  -- s answered so and became t: the first pair of its list, and t has the rest; or `None`, where s may end and the list is
+  -- empty; or a fault that it allows, and t has the list of s
+  abbrev pub GivesNext : {E : Type 0} → (S → E → Type 0) → (S → Type 0) → S → Result (Option P) E → S → Type 0
+  GivesNext allows ends s (Ok (Some p)) t = ((rest : List P) → gives t rest → gives s (p ∷ rest)) × (left s ≡ left t + 1)
+  GivesNext allows ends s (Ok None) t = ends s × SameList s t × gives t [] × (left t ≡ 0)
+  GivesNext allows ends s (Err e) t = allows s e × SameList s t

@@ -1,0 +1,137 @@
+//! Lists of calls of a map, and what holds of each run of them.
+ghost use Rattle.std.specs.Prelude.{◌≡◌, IfOk, IfErr, OnErr};
+ghost use Rattle.litemap_read.specs.Laws.{SameAnswers};
+ghost use Rattle.litemap_read.specs.Steps.{Run, Step};
+ghost use Rattle.litemap_read.specs.declared.calls.Call.TheVariants.{Clear, Extend, Insert, Reserve, TryAppend, TryInsert};
+
+pub use crate::calls::{Answer, Call};
+use litemap::LiteMap;
+use litemap::store::{NoRoom, StoreBulkMut, StoreMut};
+use std::alloc::Global;
+
+/// Makes the calls of a list one after another, and answers what each of them answered.
+///
+/// A call that is refused for want of memory is answered `NoRoom`: it leaves the list of the map, and the run goes on.
+///
+/// The room for the answers is taken before the first call. Where it is refused no call was made, and the calls come
+/// back. The Rust crate has no such call.
+pub fn run_calls<K: Ord + Drop, V: Copy, S: StoreBulkMut<K, V>>(
+    alloc: Global,
+    map: &mut LiteMap<K, V, S>,
+    calls: Vec<Call<K, V>>,
+) -> Result<Vec<Answer<K, V>>, NoRoom<Vec<Call<K, V>>>>
+    ensures run { IfOk result (λ answers. Run K.cmp map.old calls.items answers.items map.new) }
+    ensures back { IfErr result (λ refused. refused.back ≡ calls) }
+    ensures unmoved { OnErr result (map.new ≡ map.old) }
+{
+    let Ok(mut answers) = Vec::with_capacity(alloc, calls.len()) else {
+        return Err(NoRoom { back: calls });
+    };
+    for call in calls {
+        let Ok(()) = answers.push(answer(alloc, map, call)) else {
+            unreachable!()
+        };
+    }
+    Ok(answers)
+}
+
+/// Maps with the same list answer the same calls alike and end with the same list, whatever their stores, where no call
+/// is refused for want of memory.
+pub fn same_answers<K: Ord, V>()
+    ensures { SameAnswers K.cmp V }
+{}
+
+// Makes a call.
+fn answer<K: Ord + Drop, V: Copy, S: StoreBulkMut<K, V>>(
+    alloc: Global,
+    map: &mut LiteMap<K, V, S>,
+    call: Call<K, V>,
+) -> Answer<K, V>
+    ensures { Step K.cmp map.old call result map.new }
+{
+    match call {
+        Call::Get(key) => Answer::Value(map.get(&key).copied()),
+        Call::ValueAt(index) => Answer::Value(map.get_indexed(index).map(|(_, value)| *value)),
+        Call::Contains(key) => Answer::Flag(map.contains_key(&key)),
+        Call::Find(key) => Answer::Place(map.find_index(&key)),
+        Call::Len => Answer::Number(map.len()),
+        Call::Insert(key, value) => insert(map, key, value),
+        Call::TryInsert(key, value) => try_insert(map, key, value),
+        Call::TryAppend(key, value) => try_append(map, key, value),
+        Call::Remove(key) => Answer::Value(map.remove(&key)),
+        Call::Extend(pairs) => extend(alloc, map, pairs),
+        Call::Reserve(additional) => reserve(map, additional),
+        Call::Clear => clear(map),
+    }
+}
+
+fn insert<K: Ord + Drop, V: Copy, S: StoreMut<K, V>>(
+    map: &mut LiteMap<K, V, S>,
+    key: K,
+    value: V,
+) -> Answer<K, V>
+    ensures { Step K.cmp map.old (Insert key value) result map.new }
+{
+    match map.insert(key, value) {
+        Ok(old) => Answer::Value(old),
+        Err(refused) => Answer::NoRoom(Some(refused.back)),
+    }
+}
+
+fn try_insert<K: Ord, V: Copy, S: StoreMut<K, V>>(
+    map: &mut LiteMap<K, V, S>,
+    key: K,
+    value: V,
+) -> Answer<K, V>
+    ensures { Step K.cmp map.old (TryInsert key value) result map.new }
+{
+    match map.try_insert(key, value) {
+        Ok(back) => Answer::Back(back),
+        Err(refused) => Answer::NoRoom(Some(refused.back)),
+    }
+}
+
+fn try_append<K: Ord, V: Copy, S: StoreMut<K, V>>(
+    map: &mut LiteMap<K, V, S>,
+    key: K,
+    value: V,
+) -> Answer<K, V>
+    ensures { Step K.cmp map.old (TryAppend key value) result map.new }
+{
+    match map.try_append(key, value) {
+        Ok(back) => Answer::Back(back),
+        Err(refused) => Answer::NoRoom(Some(refused.back)),
+    }
+}
+
+fn extend<K: Ord + Drop, V: Copy, S: StoreBulkMut<K, V>>(
+    alloc: Global,
+    map: &mut LiteMap<K, V, S>,
+    pairs: Vec<(K, V)>,
+) -> Answer<K, V>
+    ensures { Step K.cmp map.old (Extend pairs) result map.new }
+{
+    match map.extend(alloc, pairs) {
+        Ok(()) => Answer::Done,
+        Err(_) => Answer::NoRoom(None),
+    }
+}
+
+fn reserve<K: Ord, V: Copy, S: StoreMut<K, V>>(
+    map: &mut LiteMap<K, V, S>,
+    additional: usize,
+) -> Answer<K, V>
+    ensures { Step K.cmp map.old (Reserve additional) result map.new }
+{
+    match map.reserve(additional) {
+        Ok(()) => Answer::Done,
+        Err(_) => Answer::NoRoom(None),
+    }
+}
+
+fn clear<K: Ord + Drop, V: Copy, S: StoreMut<K, V>>(map: &mut LiteMap<K, V, S>) -> Answer<K, V>
+    ensures { Step K.cmp map.old Clear result map.new }
+{
+    map.clear();
+    Answer::Done
+}

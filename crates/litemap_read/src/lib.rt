@@ -1,0 +1,12 @@
+//! Reading maps from sources of pairs, and runs of calls of a map.
+#![tactic(auto)]
+
+mod calls;
+pub mod laws;
+mod read;
+mod source;
+mod vec_source;
+
+pub use read::read_pairs;
+pub use source::{PairSource, ReadFault};
+pub use vec_source::{NoFault, VecSource};

@@ -1,0 +1,67 @@
+//! A vector as a source.
+ghost use Rattle.std.specs.Prelude.{◌≡◌, Some, length, ⊤};
+
+use crate::PairSource;
+use std::marker::Model;
+use std::vec::IntoIter;
+
+/// The fault of a source that answers none.
+#[derive(Debug, PartialEq, Drop)]
+pub struct NoFault;
+
+/// The pairs of a vector, in their order. It comes to its end, and answers no fault.
+///
+/// A contract sees it as the list of the pairs that are left.
+#[derive(Drop)]
+pub struct VecSource<K, V> {
+    rest: IntoIter<(K, V)>,
+}
+
+impl<K, V> Model for VecSource<K, V> {
+    ghost use Rattle.std.specs.Prelude.{List};
+    ghost use Rattle.std.specs.Vec.Iter.{into_iter_items};
+
+    ghost Value = { List (K × V) };
+
+    ghost view = { λ s. into_iter_items s.rest };
+}
+
+impl<K, V> VecSource<K, V> {
+    /// The source of a vector's pairs. It takes no memory.
+    pub fn new(pairs: Vec<(K, V)>) -> Self
+        ensures { result ≡ pairs.items }
+    {
+        VecSource {
+            rest: pairs.into_iter(),
+        }
+    }
+}
+
+impl<K: Drop, V: Drop> PairSource<K, V> for VecSource<K, V> {
+    type Fault = NoFault;
+
+    ghost gives = { λ s pairs. pairs ≡ s };
+
+    ghost left = { length };
+
+    ghost allows = { λ _ _. ⊥ };
+
+    ghost ends = { λ _. ⊤ };
+
+    ghost leads = { λ _ _. ⊤ };
+
+    /// The number of pairs left.
+    fn hint(&self) -> Option<usize>
+        ensures { result ≡ Some (length self.now) }
+    {
+        Some(self.rest.len())
+    }
+
+    fn next_pair(&mut self) -> Result<Option<(K, V)>, NoFault> {
+        Ok(self.rest.next())
+    }
+
+    ghost leads_itself = { λ _. tt };
+
+    ghost leads_on = { λ _ _ _ _ _. tt };
+}
