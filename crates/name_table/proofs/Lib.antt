@@ -1,0 +1,5 @@
+pub mod FaultLemmas
+pub mod NumberLemmas
+pub mod PartLemmas
+pub mod Remains
+pub mod Unique
