@@ -3,3 +3,4 @@ pub mod NumberLemmas
 pub mod PartLemmas
 pub mod Remains
 pub mod Unique
+pub mod WholeTables

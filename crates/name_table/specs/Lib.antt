@@ -4,3 +4,4 @@ pub mod Numbers
 pub mod Faults
 pub mod Remaining
 pub mod ReadOn
+pub mod Reads

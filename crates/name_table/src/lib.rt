@@ -5,7 +5,9 @@
 mod fault;
 mod name_bytes;
 mod number;
+mod read;
 mod text;
 
 pub use fault::NameFault;
 pub use name_bytes::NameBytes;
+pub use read::{NameMap, find_name, read_names};
