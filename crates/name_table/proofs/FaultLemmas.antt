@@ -1,0 +1,77 @@
+-- Faults of the parts in front, and of those behind what was read.
+use Rattle.std.proofs.Common.{◌≡◌, ℕ, ◌+◌, List, [], ◌∷◌, ◌++◌, length, refl, sym, ap, ◌∙◌, subst, arith, append_assoc, length-append}
+use Rattle.std.proofs.Math.ListN.{replicate}
+use Rattle.std.proofs.lemmas.List.{length-replicate}
+use Rattle.name_table.specs.Faults.{NumberFault, TextFault, PartFault, Fault, AreOfText}
+use Rattle.name_table.specs.Parts.{Part, Number, Text, Begins}
+use Rattle.name_table.specs.declared.fault.NameFault.{NameFault}
+use Rattle.name_table.specs.ReadOn.{AreParts-append}
+
+module _ {Allowed : List Part → Type 0} (bytes : List ℕ) (place : ℕ) (fault : NameFault) where
+  -- the first part can't be read
+  pub fault_first : (due : Part) (more : List Part) → Allowed (due ∷ more) → PartFault due bytes place fault → Fault Allowed bytes place fault
+  fault_first due more a w =
+      let P : ℕ → Type 0 = λ n. PartFault due bytes n fault in
+      let e : place ≡ place + 0 = omega arith in
+      record { done = []; due = due; more = more; allowed = a; front = []; rest = bytes; split = refl; spelled = refl; why = subst P e w }
+
+  -- one of those behind what was read can't be read
+  pub fault_behind : (xs : List Part) (middle : List ℕ) (b : Begins bytes xs middle) (next : ℕ) → next ≡ place + length b.front → Fault (λ ys. Allowed (xs ++ ys)) middle next fault → Fault Allowed bytes place fault
+  fault_behind xs middle b next n w =
+      let P : ℕ → Type 0 = λ i. PartFault w.due w.rest i fault in
+      let e : next + length w.front ≡ place + length (b.front ++ w.front) = simp length-append (omega (arith, n)) in
+      let A : List Part → Type 0 = Allowed in
+      record {
+        done = xs ++ w.done;
+        due = w.due;
+        more = w.more;
+        allowed = subst A (sym (append_assoc xs w.done (w.due ∷ w.more))) w.allowed;
+        front = b.front ++ w.front;
+        rest = w.rest;
+        split = b.split ∙ ap (λ c. b.front ++ c) w.split ∙ sym (append_assoc b.front w.front w.rest);
+        spelled = AreParts-append b.front w.front xs w.done b.spelled w.spelled;
+        why = subst P e w.why;
+      }
+
+-- where each list of parts that is allowed begins one that is allowed there too
+pub fault_wider : {A B : List Part → Type 0} (bytes : List ℕ) (place : ℕ) (fault : NameFault) → ((xs : List Part) → A xs → (ys : List Part) × B (xs ++ ys)) → Fault A bytes place fault → Fault B bytes place fault
+fault_wider {A} {B} bytes place fault wider w =
+    let b = wider (w.done ++ w.due ∷ w.more) w.allowed in
+    record {
+      done = w.done;
+      due = w.due;
+      more = w.more ++ b.0;
+      allowed = subst B (append_assoc w.done (w.due ∷ w.more) b.0) b.1;
+      front = w.front;
+      rest = w.rest;
+      split = w.split;
+      spelled = w.spelled;
+      why = w.why;
+    }
+
+pub fault_where : {A B : List Part → Type 0} (bytes : List ℕ) (place : ℕ) (fault : NameFault) → ((xs : List Part) → A xs → B xs) → Fault A bytes place fault → Fault B bytes place fault
+fault_where {A} {B} bytes place fault wider w = record {
+  done = w.done;
+  due = w.due;
+  more = w.more;
+  allowed = wider (w.done ++ w.due ∷ w.more) w.allowed;
+  front = w.front;
+  rest = w.rest;
+  split = w.split;
+  spelled = w.spelled;
+  why = w.why;
+}
+
+-- ---- a text behind its length
+
+pub length_fault : (bytes : List ℕ) (place : ℕ) (fault : NameFault) → NumberFault bytes place fault → Fault AreOfText bytes place fault
+length_fault bytes place fault w = fault_first bytes place fault (Number 0) (Text [] ∷ []) ([], refl) w
+
+-- the text itself: some text is as long
+pub text_fault : (bytes tail : List ℕ) (place next size : ℕ) (fault : NameFault) → (b : Begins bytes (Number size ∷ []) tail) → next ≡ place + length b.front → TextFault size tail next fault → Fault AreOfText bytes place fault
+text_fault bytes tail place next size fault b n w =
+    let P : ℕ → Type 0 = λ i. TextFault i tail next fault in
+    let text : List ℕ = replicate size 0 in
+    let l : length text ≡ size = length-replicate size 0 in
+    fault_behind bytes place fault (Number size ∷ []) tail b next n
+    (fault_first tail next fault (Text text) [] (text, ap (λ i. Number i ∷ Text text ∷ []) (sym l)) (subst P (sym l) w))

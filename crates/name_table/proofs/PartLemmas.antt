@@ -1,0 +1,69 @@
+-- Parts, one behind another.
+use Rattle.std.proofs.Common.{◌≡◌, ℕ, List, [], ◌∷◌, ◌++◌, length, refl, sym, ap, ◌∙◌, subst, append_assoc, append-nil}
+use Rattle.std.specs.Prelude.{IsUtf8}
+use Rattle.name_table.specs.ReadOn.{AreParts-append, pair_parts-append}
+use Rattle.name_table.specs.Parts.{Part, Number, Text, IsPart, AreParts, Begins, text_parts, pair_parts}
+
+pub AreParts-one : (bytes : List ℕ) (x : Part) → IsPart bytes x → AreParts bytes (x ∷ [])
+AreParts-one bytes x p = (bytes, [], sym (append-nil bytes), p, refl)
+
+-- what spells two lists of parts is a spelling of the first with one of the second behind it
+pub record Split (bytes : List ℕ) (xs ys : List Part) : Type 0 where
+  pub first : List ℕ
+  pub second : List ℕ
+  pub joined : bytes ≡ first ++ second
+  pub of_first : AreParts first xs
+  pub of_second : AreParts second ys
+
+pub AreParts-split : (bytes : List ℕ) (xs ys : List Part) → AreParts bytes (xs ++ ys) → Split bytes xs ys
+AreParts-split bytes [] ys p = record { first = []; second = bytes; joined = refl; of_first = refl; of_second = p }
+AreParts-split bytes (x ∷ xs) ys p =
+    let s = AreParts-split p.1 xs ys p.4 in
+    record {
+      first = p.0 ++ s.first;
+      second = s.second;
+      joined = p.2 ∙ ap (λ c. p.0 ++ c) s.joined ∙ sym (append_assoc p.0 s.first s.second);
+      of_first = (p.0, s.first, refl, p.3, s.of_first);
+      of_second = s.of_second;
+    }
+
+pub begins_then : (bytes middle rest : List ℕ) (xs ys : List Part) → Begins bytes xs middle → Begins middle ys rest → Begins bytes (xs ++ ys) rest
+begins_then bytes middle rest xs ys p q = record {
+  front = p.front ++ q.front;
+  split = p.split ∙ ap (λ c. p.front ++ c) q.split ∙ sym (append_assoc p.front q.front rest);
+  spelled = AreParts-append p.front q.front xs ys p.spelled q.spelled;
+}
+
+-- a text of so many bytes behind their number
+pub begins_text : (bytes tail rest text : List ℕ) (size : ℕ) → Begins bytes (Number size ∷ []) tail → tail ≡ text ++ rest → length text ≡ size → IsUtf8 text → Begins bytes (text_parts text) rest
+begins_text bytes tail rest text size p e l u =
+    let P : ℕ → Type 0 = λ n. Begins bytes (Number n ∷ []) tail in
+    begins_then bytes tail rest (Number (length text) ∷ []) (Text text ∷ []) (subst P (sym l) p)
+    (record { front = text; split = e; spelled = AreParts-one text (Text text) (refl, u) })
+
+-- one pair, its key and its value
+pub begins_pair : (bytes middle rest : List ℕ) (pair : List ℕ × List ℕ) → Begins bytes (text_parts pair.0) middle → Begins middle (text_parts pair.1) rest → Begins bytes (pair_parts (pair ∷ [])) rest
+begins_pair bytes middle rest pair p q = begins_then bytes middle rest (text_parts pair.0) (text_parts pair.1) p q
+
+-- more pairs behind pairs
+pub begins_pairs : (bytes middle rest : List ℕ) (J K : List (List ℕ × List ℕ)) → Begins bytes (pair_parts J) middle → Begins middle (pair_parts K) rest → Begins bytes (pair_parts (J ++ K)) rest
+begins_pairs bytes middle rest J K p q =
+    let r = begins_then bytes middle rest (pair_parts J) (pair_parts K) p q in
+    record {
+      front = r.front;
+      split = r.split;
+      spelled = let P : List Part → Type 0 = λ xs. AreParts r.front xs in subst P (sym (pair_parts-append J K)) r.spelled;
+    }
+
+-- no parts
+pub begins_none : (bytes : List ℕ) → Begins bytes [] bytes
+begins_none bytes = record { front = []; split = refl; spelled = refl }
+
+-- what follows some parts begins where these end
+pub begins_split : (bytes rest : List ℕ) (xs ys : List Part) → Begins bytes (xs ++ ys) rest → (middle : List ℕ) × Begins bytes xs middle × Begins middle ys rest
+begins_split bytes rest xs ys p =
+    let s = AreParts-split p.front xs ys p.spelled in (
+      s.second ++ rest,
+      record { front = s.first; split = p.split ∙ ap (λ c. c ++ rest) s.joined ∙ append_assoc s.first s.second rest; spelled = s.of_first },
+      record { front = s.second; split = refl; spelled = s.of_second },
+    )

@@ -1,0 +1,119 @@
+-- What is left of a table, from pair to pair.
+use Rattle.std.proofs.Common.{◌≡◌, ◌≢◌, ℕ, ◌+◌, ◌-◌, List, [], ◌∷◌, ◌++◌, length, map, refl, sym, ap, ◌∙◌, subst, arith, inl, length-append, Bor}
+use Rattle.std.proofs.Math.ListN.{replicate}
+use Rattle.std.proofs.lemmas.List.{length-replicate}
+use Rattle.name_table.specs.Faults.{Fault, PartFault, AreOfPairs, AreOfText}
+use Rattle.name_table.specs.Parts.{Part, Begins, text_parts, pair_parts}
+use Rattle.name_table.specs.ReadOn.{IsReadOn}
+use Rattle.name_table.specs.Remaining.{Remaining, shown, CanBeRead, AllCanBeRead}
+use Rattle.name_table.specs.declared.fault.NameFault.{NameFault}
+use Rattle.name_table.proofs.FaultLemmas.{fault_behind, fault_where, fault_wider}
+use Rattle.name_table.proofs.PartLemmas.{begins_none, begins_pair, begins_pairs, begins_split}
+use Rattle.name_table.proofs.Unique.{Agree, agree_pairs, fault_past, parts_unique, same_rest}
+
+-- ---- none is due
+
+pub none_can_be_read : (s : Remaining) → s.left ≡ 0 → CanBeRead s []
+none_can_be_read s e = record { behind = s.rest; spelled = begins_none s.rest; due = 0; count = omega (arith, e); stops = inl refl }
+
+pub all_none_can_be_read : (s : Remaining) → s.left ≡ 0 → AllCanBeRead s
+all_none_can_be_read s e = record { pairs = []; behind = s.rest; spelled = begins_none s.rest; count = sym e }
+
+-- ---- the next one can't be read
+
+pub key_fault : (s : Remaining) (f : NameFault) → s.left ≢ 0 → Fault AreOfText s.rest s.place f → Fault (AreOfPairs s.left) s.rest s.place f
+key_fault s f h w =
+    let more : List (List ℕ × List ℕ) = replicate (s.left - 1) ([], []) in
+    let l : length more ≡ s.left - 1 = length-replicate (s.left - 1) ([], []) in
+    fault_wider s.rest s.place f
+    (λ xs a. (text_parts [] ++ pair_parts more, ((a.0, []) ∷ more, omega (arith, l, h), ap (λ ys. ys ++ (text_parts [] ++ pair_parts more)) a.1))) w
+
+pub value_fault : (s : Remaining) (middle key : List ℕ) (place : ℕ) (f : NameFault) → s.left ≢ 0 → (b : Begins s.rest (text_parts key) middle) → place ≡ s.place + length b.front → Fault AreOfText middle place f → Fault (AreOfPairs s.left) s.rest s.place f
+value_fault s middle key place f h b e w =
+    let more : List (List ℕ × List ℕ) = replicate (s.left - 1) ([], []) in
+    let l : length more ≡ s.left - 1 = length-replicate (s.left - 1) ([], []) in
+    fault_behind s.rest s.place f (text_parts key) middle b place e
+    (fault_wider middle place f
+    (λ xs a. (pair_parts more, ((key, a.0) ∷ more, omega (arith, l, h), ap (λ ys. text_parts key ++ (ys ++ pair_parts more)) a.1))) w)
+
+-- ---- t is s once the next pair p is read
+
+pub record IsNext (s t : Remaining) (p : List ℕ × List ℕ) : Type 0 where
+  pub spelled : Begins s.rest (pair_parts (p ∷ [])) t.rest
+  pub place : t.place ≡ s.place + length spelled.front
+  pub count : s.left ≡ t.left + 1
+
+-- from the texts of its key and its value
+pub is_next : (s : Remaining) (key value middle rest : List ℕ) → Begins s.rest (text_parts key) middle → Begins middle (text_parts value) rest → s.left ≢ 0 → IsNext s (record { rest = rest; place = s.place + (length s.rest - length middle) + (length middle - length rest); left = s.left - 1 }) (key, value)
+is_next s key value middle rest k v h =
+    let b = begins_pair s.rest middle rest (key, value) k v in
+    record {
+      spelled = b;
+      place = omega (arith, ap length b.split, length-append b.front rest, ap length k.split, length-append k.front middle, ap length v.split, length-append v.front rest);
+      count = omega (arith, h);
+    }
+
+module _ (s t : Remaining) (p : List ℕ × List ℕ) (n : IsNext s t p) where
+  pub read_on_one : IsReadOn s t
+  read_on_one = record { pairs = p ∷ []; front = n.spelled.front; split = n.spelled.split; spelled = n.spelled.spelled; place = n.place; count = omega (arith, n.count) }
+
+  pub gives_one_more : (q : Bor (List ℕ) × Bor (List ℕ)) (L : List (Bor (List ℕ) × Bor (List ℕ))) → shown q ≡ p → CanBeRead t L → CanBeRead s (q ∷ L)
+  gives_one_more q L e r =
+      let P : List ℕ × List ℕ → Type 0 = λ u. Begins s.rest (pair_parts (u ∷ map shown L)) r.behind in
+      record {
+        behind = r.behind;
+        spelled = subst P (sym e) (begins_pairs s.rest t.rest r.behind (p ∷ []) (map shown L) n.spelled r.spelled);
+        due = r.due;
+        count = omega (arith, n.count, r.count);
+        stops = r.stops;
+      }
+
+  pub fault_later : (f : NameFault) → Fault (AreOfPairs t.left) t.rest t.place f → Fault (AreOfPairs s.left) s.rest s.place f
+  fault_later f w =
+      fault_behind s.rest s.place f (pair_parts (p ∷ [])) t.rest n.spelled t.place n.place
+      (fault_where t.rest t.place f
+      (λ xs a. (p ∷ a.0, omega (arith, a.1, n.count), ap (λ ys. pair_parts (p ∷ []) ++ ys) a.2)) w)
+
+  earlier : (f : NameFault) (pairs : List (List ℕ × List ℕ)) (w : Fault (AreOfPairs s.left) s.rest s.place f) → length pairs ≡ s.left → w.done ++ w.due ∷ w.more ≡ pair_parts pairs → Fault (AreOfPairs t.left) t.rest t.place f
+  earlier f [] w l e = absurd (omega (arith, n.count, l))
+  earlier f (q ∷ J) w l e =
+      let A : List Part → Type 0 = λ ys. Agree (pair_parts (p ∷ J)) ys in
+      let g : Agree (pair_parts (p ∷ J)) (w.done ++ w.due ∷ w.more) = subst A (sym e) (agree_pairs (p ∷ J) (q ∷ J) refl) in
+      let i = fault_past (pair_parts (p ∷ [])) (pair_parts J) w.done w.due w.more n.spelled.front t.rest w.front w.rest (s.place + length w.front) f g n.spelled.spelled w.spelled (sym n.spelled.split ∙ w.split) w.why in
+      let h : pair_parts (p ∷ []) ++ (i.parts ++ w.due ∷ w.more) ≡ pair_parts (q ∷ J) = ap (λ c. c ++ w.due ∷ w.more) (sym i.is_done) ∙ e in
+      let k : i.parts ++ w.due ∷ w.more ≡ pair_parts J = cc in
+      let P : ℕ → Type 0 = λ n. PartFault w.due w.rest n f in
+      record {
+        done = i.parts;
+        due = w.due;
+        more = w.more;
+        allowed = (J, omega (arith, l, n.count), k);
+        front = i.bytes;
+        rest = w.rest;
+        split = i.is_rest;
+        spelled = i.spelled;
+        why = subst P (omega (arith, n.place, ap length i.is_front, length-append n.spelled.front i.bytes)) w.why;
+      }
+
+  pub fault_earlier : (f : NameFault) → Fault (AreOfPairs s.left) s.rest s.place f → Fault (AreOfPairs t.left) t.rest t.place f
+  fault_earlier f w = earlier f w.allowed.0 w w.allowed.1 w.allowed.2
+
+  pub all_later : AllCanBeRead t → AllCanBeRead s
+  all_later r = record {
+    pairs = p ∷ r.pairs;
+    behind = r.behind;
+    spelled = begins_pairs s.rest t.rest r.behind (p ∷ []) r.pairs n.spelled r.spelled;
+    count = omega (arith, r.count, n.count);
+  }
+
+  rest_of : (pairs : List (List ℕ × List ℕ)) (behind : List ℕ) → Begins s.rest (pair_parts pairs) behind → length pairs ≡ s.left → AllCanBeRead t
+  rest_of [] behind c l = absurd (omega (arith, n.count, l))
+  rest_of (q ∷ J) behind c l =
+      let d = begins_split s.rest behind (pair_parts (q ∷ [])) (pair_parts J) c in
+      let e : n.spelled.front ++ t.rest ≡ d.1.front ++ d.0 = sym n.spelled.split ∙ d.1.split in
+      let u = parts_unique (pair_parts (p ∷ [])) (pair_parts (q ∷ [])) n.spelled.front d.1.front t.rest d.0 (agree_pairs (p ∷ []) (q ∷ []) refl) n.spelled.spelled d.1.spelled e in
+      let P : List ℕ → Type 0 = λ bytes. Begins bytes (pair_parts J) behind in
+      record { pairs = J; behind = behind; spelled = subst P (sym (same_rest n.spelled.front d.1.front t.rest d.0 u.0 e)) d.2; count = omega (arith, l, n.count) }
+
+  pub all_earlier : AllCanBeRead s → AllCanBeRead t
+  all_earlier r = rest_of r.pairs r.behind r.spelled r.count

@@ -1,0 +1,88 @@
+-- A whole table: its number of pairs, and the pairs that are due by it.
+use Rattle.std.proofs.Common.{◌≡◌, ℕ, ◌+◌, ◌⊎◌, List, [], ◌∷◌, ◌++◌, length, map, refl, sym, ap, ◌∙◌, subst, arith, ⊎_elim, append_assoc, length-append, Bor}
+use Rattle.std.proofs.lemmas.List.{length-map}
+use Rattle.litemap_read.specs.ReadFault.{IfSource}
+use Rattle.litemap_read.specs.declared.source.ReadFault.{ReadFault}
+use Rattle.litemap_read.specs.declared.source.ReadFault.TheVariants.{NoRoom, Source}
+use Rattle.name_table.specs.Faults.{NumberFault, Fault, AreOfPairs, TableFault}
+use Rattle.name_table.specs.Parts.{Number, AreParts, Begins, pair_parts, table_parts}
+use Rattle.name_table.specs.ReadOn.{IsReadOn, AreParts-append}
+use Rattle.name_table.specs.Remaining.{Remaining, shown, NoPair, CanBeRead, AllCanBeRead, IsCounted}
+use Rattle.name_table.specs.declared.fault.NameFault.{NameFault}
+use Rattle.name_table.proofs.FaultLemmas.{fault_behind, fault_first, fault_where}
+use Rattle.name_table.proofs.PartLemmas.{begins_split}
+use Rattle.name_table.proofs.Unique.{agree_pairs, parts_unique, same_rest}
+
+-- ---- faults
+
+pub count_fault : (bytes : List ℕ) (fault : NameFault) → NumberFault bytes 0 fault → TableFault bytes fault
+count_fault bytes fault w = fault_first bytes 0 fault (Number 0) [] ([], refl) w
+
+pub pairs_fault : (bytes : List ℕ) (s : Remaining) (fault : NameFault) → IsCounted bytes s → Fault (AreOfPairs s.left) s.rest s.place fault → TableFault bytes fault
+pairs_fault bytes s fault c w =
+    fault_behind bytes 0 fault (Number s.left ∷ []) s.rest c.spelled s.place (omega (arith, c.place))
+    (fault_where s.rest s.place fault (λ xs a. (a.0, λ i. Number (sym a.1 i) ∷ a.2 i)) w)
+
+pub if_source_weaker : {E : Type 0} {P Q : E → Type 0} (fault : ReadFault E) → ((e : E) → P e → Q e) → IfSource fault P → IfSource fault Q
+if_source_weaker NoRoom h p = tt
+if_source_weaker (Source e) h p = h e p
+
+-- ---- none is due where all can be read and no pair begins the bytes behind
+
+begins_nothing : (bytes rest : List ℕ) → Begins bytes [] rest → bytes ≡ rest
+begins_nothing bytes rest b = b.split ∙ ap (λ c. c ++ rest) b.spelled
+
+pub none_due : (P K : List (List ℕ × List ℕ)) (bytes middle end : List ℕ) (due : ℕ) → Begins bytes (pair_parts P) middle → Begins bytes (pair_parts K) end → length K ≡ length P + due → (due ≡ 0) ⊎ NoPair middle → due ≡ 0
+none_due [] [] bytes middle end due p k l stops = omega (arith, l)
+none_due [] (q ∷ K) bytes middle end due p k l stops =
+    let d = begins_split bytes end (pair_parts (q ∷ [])) (pair_parts K) k in
+    let A : List ℕ → Type 0 = λ c. Begins c (pair_parts (q ∷ [])) d.0 in
+    ⊎_elim (λ e. e) (λ no. absurd (no q d.0 (subst A (begins_nothing bytes middle p) d.1))) stops
+none_due (p ∷ P) [] bytes middle end due b k l stops = absurd (omega (arith, l))
+none_due (p ∷ P) (q ∷ K) bytes middle end due b k l stops =
+    let d = begins_split bytes middle (pair_parts (p ∷ [])) (pair_parts P) b in
+    let e = begins_split bytes end (pair_parts (q ∷ [])) (pair_parts K) k in
+    let f : d.1.front ++ d.0 ≡ e.1.front ++ e.0 = sym d.1.split ∙ e.1.split in
+    let u = parts_unique (pair_parts (p ∷ [])) (pair_parts (q ∷ [])) d.1.front e.1.front d.0 e.0 (agree_pairs (p ∷ []) (q ∷ []) refl) d.1.spelled e.1.spelled f in
+    let A : List ℕ → Type 0 = λ c. Begins c (pair_parts P) middle in
+    none_due P K e.0 middle end due (subst A (same_rest d.1.front e.1.front d.0 e.0 u.0 f) d.2) e.2 (omega (arith, l)) stops
+
+-- ---- from the number of pairs on, all were read
+
+pub record WholeTable (bytes : List ℕ) (pairs : List (List ℕ × List ℕ)) (size : ℕ) : Type 0 where
+  pub rest : List ℕ
+  pub table : Begins bytes (table_parts pairs) rest
+  pub size_is : size ≡ length table.front
+
+module _ (bytes : List ℕ) (s t : Remaining) (given : List (Bor (List ℕ) × Bor (List ℕ))) (counted : IsCounted bytes s) (gives : CanBeRead s given) (all : AllCanBeRead s) (empty : CanBeRead t []) (on : IsReadOn s t) where
+  given_all : length given ≡ s.left
+  given_all =
+      let l : length (map shown given) ≡ length given = length-map given shown in
+      omega (arith, none_due (map shown given) all.pairs s.rest gives.behind all.behind gives.due gives.spelled all.spelled (omega (arith, gives.count, all.count, l)) gives.stops, gives.count)
+
+  on_all : length on.pairs ≡ s.left
+  on_all =
+      let A : List ℕ → Type 0 = λ c. (empty.due ≡ 0) ⊎ NoPair c in
+      let stops : (empty.due ≡ 0) ⊎ NoPair t.rest = subst A (sym (begins_nothing t.rest empty.behind empty.spelled)) empty.stops in
+      let b : Begins s.rest (pair_parts on.pairs) t.rest = record { front = on.front; split = on.split; spelled = on.spelled } in
+      let e : empty.due ≡ 0 = none_due on.pairs all.pairs s.rest t.rest all.behind empty.due b all.spelled (omega (arith, on.count, all.count, empty.count)) stops in
+      omega (arith, e, on.count, empty.count)
+
+  same_bytes : gives.spelled.front ≡ on.front
+  same_bytes =
+      let l : length (map shown given) ≡ length on.pairs = length-map given shown ∙ given_all ∙ sym on_all in
+      (parts_unique (pair_parts (map shown given)) (pair_parts on.pairs) gives.spelled.front on.front gives.behind t.rest (agree_pairs (map shown given) on.pairs l) gives.spelled.spelled on.spelled (sym gives.spelled.split ∙ on.split)).0
+
+  pub whole_table : WholeTable bytes (map shown given) t.place
+  whole_table =
+      let l : s.left ≡ length (map shown given) = sym given_all ∙ sym (length-map given shown) in
+      let A : ℕ → Type 0 = λ n. AreParts (counted.spelled.front ++ gives.spelled.front) (Number n ∷ pair_parts (map shown given)) in
+      record {
+        rest = gives.behind;
+        table = record {
+          front = counted.spelled.front ++ gives.spelled.front;
+          split = counted.spelled.split ∙ ap (λ c. counted.spelled.front ++ c) gives.spelled.split ∙ sym (append_assoc counted.spelled.front gives.spelled.front gives.behind);
+          spelled = subst A l (AreParts-append counted.spelled.front gives.spelled.front (Number s.left ∷ []) (pair_parts (map shown given)) counted.spelled.spelled gives.spelled.spelled);
+        };
+        size_is = omega (arith, on.place, counted.place, ap length same_bytes, length-append counted.spelled.front gives.spelled.front);
+      }

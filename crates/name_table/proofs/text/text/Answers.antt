@@ -1,0 +1,34 @@
+use Rattle.std.proofs.Common.{◌≡◌, ℕ, List, ◌++◌, length, sym, ap, ◌∙◌, subst, arith, refl, length-append}
+use Rattle.std.specs.Prelude.{IsUtf8}
+use Rattle.std.proofs.lemmas.List.{take-append-drop}
+use Rattle.std.proofs.lemmas.Result.{err_from_is_err_and}
+use Rattle.name_table.proofs.PartLemmas.{begins_text}
+use Rattle.name_table.proofs.FaultLemmas.{length_fault, text_fault}
+use Rattle.name_table.proofs.text.text.Goals as goal
+
+pub returns-in_err-size-clause-err : goal.returns-in_err-size-clause-err
+returns-in_err-size-clause-err c =
+    let p = err_from_is_err_and c.from_residual.result c.from_residual.ensures.1 in
+    rw (p.1, p.2) (length_fault c.args.bytes.now c.args.at c.in_err-size.field-0.0 c.in_err-size.ensures.err)
+
+pub returns-then-size-tail-clause-err : goal.returns-then-size-tail-clause-err
+returns-then-size-tail-clause-err c =
+    let b = c.in_ok-size.ensures.ok in
+    text_fault c.args.bytes.now c.in_ok-size.tail.now c.args.at _ c.in_ok-size.size _ b (omega (arith, ap length b.split, length-append b.front c.in_ok-size.tail.now)) (refl, c.if-size-tail.true)
+
+pub returns-in-Ok-clause-ok : goal.returns-in-Ok-clause-ok
+returns-in-Ok-clause-ok c =
+    let tail = c.in_ok-size.tail.now in
+    let size = c.in_ok-size.size in
+    let text = c.in-Ok.ensures.cases in
+    let e : tail ≡ c.in-Ok.text.now ++ c.split_at.result.1.now = sym (take-append-drop size tail) ∙ (λ i. (sym c.split_at.ensures.front ∙ sym text.0) i ++ sym c.split_at.ensures.back i) in
+    let P : List ℕ → Type 0 = λ t. IsUtf8 t in
+    begins_text c.args.bytes.now tail c.split_at.result.1.now c.in-Ok.text.now size c.in_ok-size.ensures.ok e (ap length text.0 ∙ c.split_at.ensures.front_len) (subst P (sym text.0) text.1)
+
+pub returns-in-Err-clause-err : goal.returns-in-Err-clause-err
+returns-in-Err-clause-err c =
+    let b = c.in_ok-size.ensures.ok in
+    let tail = c.in_ok-size.tail.now in
+    let P : List ℕ → Type 0 = λ t. IsUtf8 t in
+    text_fault c.args.bytes.now tail c.args.at _ c.in_ok-size.size _ b (omega (arith, ap length b.split, length-append b.front tail))
+    (refl, omega (arith, c.if-size-tail.false), λ u. c.in-Err.ensures.cases.0 (subst P (sym c.split_at.ensures.front) u))

@@ -1,0 +1,51 @@
+-- Which fault a table has: that of the first part that can't be read, at the place where it begins.
+use Rattle.std.specs.Prelude.{◌≡◌, ℕ, ◌+◌, ◌<◌, ◌≤◌, List, ◌∷◌, ◌++◌, length, take, IsUtf8}
+use Rattle.name_table.specs.Numbers.{IsCut, IsTooLarge}
+use Rattle.name_table.specs.Parts.{Part, Number, Text, AreParts, text_parts, pair_parts, table_parts}
+use Rattle.name_table.specs.declared.fault.NameFault.{NameFault}
+use Rattle.name_table.specs.declared.fault.NameFault.TheVariants.{Truncated, NotUtf8, NumberTooLarge}
+
+-- the bytes, which stand at the place, don't begin with a number
+abbrev pub NumberFault : List ℕ → ℕ → NameFault → Type 0
+NumberFault bytes place (Truncated at) = (at ≡ place) × IsCut bytes
+NumberFault bytes place (NotUtf8 at) = ⊥
+NumberFault bytes place (NumberTooLarge at) = (at ≡ place) × IsTooLarge bytes
+
+-- they don't begin with a text of so many bytes
+abbrev pub TextFault : ℕ → List ℕ → ℕ → NameFault → Type 0
+TextFault size bytes place (Truncated at) = (at ≡ place) × (length bytes < size)
+TextFault size bytes place (NotUtf8 at) = (at ≡ place) × (size ≤ length bytes) × (IsUtf8 (take size bytes) → ⊥)
+TextFault size bytes place (NumberTooLarge at) = ⊥
+
+-- they don't begin with a part of the kind that is due there: a number, or a text of so many bytes
+abbrev pub PartFault : Part → List ℕ → ℕ → NameFault → Type 0
+PartFault (Number n) bytes place fault = NumberFault bytes place fault
+PartFault (Text text) bytes place fault = TextFault (length text) bytes place fault
+
+-- they begin with some of the first parts of an allowed list of parts, and the part that is due behind these can't be read
+pub record Fault (Allowed : List Part → Type 0) (bytes : List ℕ) (place : ℕ) (fault : NameFault) : Type 0 where
+  pub done : List Part
+  pub due : Part
+  pub more : List Part
+  pub allowed : Allowed (done ++ due ∷ more)
+  pub front : List ℕ
+  pub rest : List ℕ
+  pub split : bytes ≡ front ++ rest
+  pub spelled : AreParts front done
+  pub why : PartFault due rest (place + length front) fault
+
+-- the parts are those of a text
+abbrev pub AreOfText : List Part → Type 0
+AreOfText parts = (text : List ℕ) × (parts ≡ text_parts text)
+
+-- the parts are those of so many pairs
+abbrev pub AreOfPairs : ℕ → List Part → Type 0
+AreOfPairs n parts = (pairs : List (List ℕ × List ℕ)) × (length pairs ≡ n) × (parts ≡ pair_parts pairs)
+
+-- the parts are those of a table
+abbrev pub AreOfTable : List Part → Type 0
+AreOfTable parts = (pairs : List (List ℕ × List ℕ)) × (parts ≡ table_parts pairs)
+
+-- no table begins the bytes: this is why
+abbrev pub TableFault : List ℕ → NameFault → Type 0
+TableFault bytes fault = Fault AreOfTable bytes 0 fault

@@ -1,0 +1,41 @@
+-- A name table is a list of parts, numbers and texts, spelled one behind another. A text is the list of its bytes.
+use Rattle.std.specs.Prelude.{◌≡◌, ℕ, List, [], ◌∷◌, ◌++◌, length, IsUtf8}
+use Rattle.name_table.specs.Numbers.{IsNumber}
+
+-- a part of a table
+pub data Part : Type 0 where
+  Number : ℕ → Part
+  Text : List ℕ → Part
+
+-- the bytes spell the part
+abbrev pub IsPart : List ℕ → Part → Type 0
+IsPart bytes (Number n) = IsNumber bytes n
+IsPart bytes (Text text) = (bytes ≡ text) × IsUtf8 text
+
+-- the bytes spell the parts, one behind another
+abbrev pub AreParts : List ℕ → List Part → Type 0
+AreParts bytes [] = bytes ≡ []
+AreParts bytes (x ∷ xs) = (first : List ℕ) × (rest : List ℕ) × (bytes ≡ first ++ rest) × IsPart first x × AreParts rest xs
+
+-- a text stands behind the number of its bytes
+abbrev pub text_parts : List ℕ → List Part
+text_parts text = Number (length text) ∷ Text text ∷ []
+
+-- each key, and its value
+abbrev pub pair_parts : List (List ℕ × List ℕ) → List Part
+pair_parts [] = []
+pair_parts (p ∷ pairs) = text_parts p.0 ++ (text_parts p.1 ++ pair_parts pairs)
+
+-- the number of pairs, and the pairs
+abbrev pub table_parts : List (List ℕ × List ℕ) → List Part
+table_parts pairs = Number (length pairs) ∷ pair_parts pairs
+
+-- the bytes are a table of the pairs
+abbrev pub IsTable : List ℕ → List (List ℕ × List ℕ) → Type 0
+IsTable bytes pairs = AreParts bytes (table_parts pairs)
+
+-- the bytes begin with the parts, and the rest stands behind them
+pub record Begins (bytes : List ℕ) (parts : List Part) (rest : List ℕ) : Type 0 where
+  pub front : List ℕ
+  pub split : bytes ≡ front ++ rest
+  pub spelled : AreParts front parts

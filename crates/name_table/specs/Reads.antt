@@ -1,0 +1,28 @@
+-- What reading a table answers, and what looking a name up in it does.
+use Rattle.std.specs.Prelude.{◌≡◌, ℕ, List, Option, IfSome, length, map, option_map}
+use Rattle.litemap.specs.ByBytes.{by_bytes}
+use Rattle.litemap_store.specs.Last.{Last}
+use Rattle.litemap_store.specs.Pairs.{place, value_at}
+use Rattle.name_table.specs.Parts.{Begins, table_parts}
+use Rattle.name_table.specs.Remaining.{shown}
+use denote.Ref.{Bor}
+
+-- a text behind a reference
+abbrev pub Text : Type 0
+Text = Bor (List ℕ)
+
+-- the bytes begin with a table of so many bytes, and M is the last pairs of those that it has
+pub record IsRead (bytes : List ℕ) (M : List (Text × Text)) (size : ℕ) : Type 0 where
+  pub pairs : List (Text × Text)
+  pub rest : List ℕ
+  pub table : Begins bytes (table_parts (map shown pairs)) rest
+  pub size_is : size ≡ length table.front
+  pub last : Last by_bytes pairs M
+
+-- the place and the value of the key in the map that is read of the bytes, if it is there
+pub record IsFound (bytes : List ℕ) (key : Text) (found : Option (ℕ × Text)) : Type 0 where
+  pub pairs : List (Text × Text)
+  pub size : ℕ
+  pub read : IsRead bytes pairs size
+  pub value : option_map (λ f. f.1) found ≡ value_at by_bytes pairs key
+  pub place_is : IfSome found (λ f. f.0 ≡ place by_bytes pairs key)

@@ -1,0 +1,38 @@
+-- What is left of a table while its pairs are read.
+use Rattle.std.specs.Prelude.{◌≡◌, ℕ, ◌+◌, ◌⊎◌, List, [], ◌∷◌, length, map}
+use Rattle.name_table.specs.Parts.{Begins, Number, pair_parts}
+use denote.Ref.{Bor}
+
+-- what stands behind the parts that were read, how many bytes these were, and how many pairs are due
+pub record Remaining : Type 0 where
+  pub rest : List ℕ
+  pub place : ℕ
+  pub left : ℕ
+
+-- what a pair of references shows
+abbrev pub shown : Bor (List ℕ) × Bor (List ℕ) → List ℕ × List ℕ
+shown pair = (pair.0.now, pair.1.now)
+
+-- no pair begins the bytes
+abbrev pub NoPair : List ℕ → Type 0
+NoPair bytes = (pair : List ℕ × List ℕ) (rest : List ℕ) → Begins bytes (pair_parts (pair ∷ [])) rest → ⊥
+
+-- the pairs are those that can still be read: all that are due, or as many as stand before one that no pair begins
+pub record CanBeRead (s : Remaining) (pairs : List (Bor (List ℕ) × Bor (List ℕ))) : Type 0 where
+  pub behind : List ℕ
+  pub spelled : Begins s.rest (pair_parts (map shown pairs)) behind
+  pub due : ℕ
+  pub count : s.left ≡ length pairs + due
+  pub stops : (due ≡ 0) ⊎ NoPair behind
+
+-- all pairs that are due can be read
+pub record AllCanBeRead (s : Remaining) : Type 0 where
+  pub pairs : List (List ℕ × List ℕ)
+  pub behind : List ℕ
+  pub spelled : Begins s.rest (pair_parts pairs) behind
+  pub count : length pairs ≡ s.left
+
+-- the bytes begin with the number of pairs, which are all due
+pub record IsCounted (bytes : List ℕ) (s : Remaining) : Type 0 where
+  pub spelled : Begins bytes (Number s.left ∷ []) s.rest
+  pub place : s.place ≡ length spelled.front

@@ -1,0 +1,13 @@
+//! Name tables: maps from texts to texts as bytes, where numbers are spelled in groups of seven bits and each text stands
+//! behind its length. `docs/NAME_TABLES.md` has the format.
+#![tactic(auto)]
+
+mod fault;
+mod name_bytes;
+mod number;
+mod read;
+mod text;
+
+pub use fault::NameFault;
+pub use name_bytes::NameBytes;
+pub use read::{NameMap, find_name, read_names};

@@ -1,0 +1,96 @@
+//! The entries of a name table as a source of pairs.
+ghost use Rattle.std.specs.Prelude.{◌≡◌, IfErr, IfOk, Some};
+ghost use Rattle.name_table.specs.Faults.{AreOfPairs, Fault, NumberFault};
+ghost use Rattle.name_table.specs.Remaining.{AllCanBeRead, CanBeRead, IsCounted};
+ghost use Rattle.name_table.specs.ReadOn.{IsReadOn, read_on_itself, read_on_further};
+
+use crate::fault::NameFault;
+use crate::number::number;
+use crate::text::text;
+use litemap_read::PairSource;
+use std::marker::Model;
+
+/// The entries of a name table that are still to be read. Their keys and values are slices of the table's bytes, and nothing
+/// is copied.
+///
+/// As a source of pairs it comes to its end, and answers no fault, exactly where all entries can be read; else it answers
+/// the fault of the first number or text that can't. After a fault it answers the same one again.
+///
+/// A contract sees it as the bytes behind those read, the number of those read, and the number of entries that are due.
+#[derive(Drop)]
+pub struct NameBytes<'a> {
+    rest: &'a [u8],
+    place: usize,
+    left: usize,
+}
+
+impl<'a> Model for NameBytes<'a> {
+    ghost use Rattle.std.specs.Prelude.{◌+◌, ◌^◌, ◌<◌, length};
+    ghost use Rattle.name_table.specs.Remaining.{Remaining};
+
+    ghost Value = { Remaining };
+
+    ghost view = { λ s. record { rest = s.rest.now; place = s.place; left = s.left } };
+
+    ghost invariant = { λ s. s.place + length s.rest.now < 2 ^ 64 };
+}
+
+impl<'a> NameBytes<'a> {
+    /// The entries of a table. Its number of entries is read here, and a fault is that number's.
+    pub fn new(bytes: &'a [u8]) -> Result<Self, NameFault>
+        ensures ok { IfOk result (λ names. IsCounted bytes.now names) }
+        ensures err { IfErr result (λ fault. NumberFault bytes.now 0 fault) }
+    {
+        let (left, rest) = number(bytes, 0)?;
+        Ok(NameBytes {
+            rest,
+            place: bytes.len() - rest.len(),
+            left,
+        })
+    }
+
+    /// How many bytes were read: those of the number of entries and of whole entries.
+    pub fn place(&self) -> usize
+        ensures { result ≡ self.now.place }
+    {
+        self.place
+    }
+}
+
+impl<'a> PairSource<&'a str, &'a str> for NameBytes<'a> {
+    type Fault = NameFault;
+
+    ghost gives = { λ s pairs. CanBeRead s pairs };
+
+    ghost left = { λ s. s.left };
+
+    ghost allows = { λ s fault. Fault (AreOfPairs s.left) s.rest s.place fault };
+
+    ghost ends = { λ s. AllCanBeRead s };
+
+    ghost leads = { λ s t. IsReadOn s t };
+
+    /// The number of entries that are due.
+    fn hint(&self) -> Option<usize>
+        ensures { result ≡ Some self.now.left }
+    {
+        Some(self.left)
+    }
+
+    fn next_pair(&mut self) -> Result<Option<(&'a str, &'a str)>, NameFault> {
+        if self.left == 0 {
+            return Ok(None);
+        }
+        let (key, middle) = text(self.rest, self.place)?;
+        let middle_place = self.place + (self.rest.len() - middle.len());
+        let (value, rest) = text(middle, middle_place)?;
+        self.place = middle_place + (middle.len() - rest.len());
+        self.rest = rest;
+        self.left -= 1;
+        Ok(Some((key, value)))
+    }
+
+    ghost leads_itself = { read_on_itself };
+
+    ghost leads_on = { read_on_further };
+}

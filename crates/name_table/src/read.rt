@@ -1,0 +1,54 @@
+//! Maps read from name tables, and names looked up in them.
+ghost use Rattle.std.specs.Prelude.{IfErr, IfOk};
+ghost use Rattle.litemap_read.specs.ReadFault.{IfSource};
+ghost use Rattle.name_table.specs.Faults.{TableFault};
+ghost use Rattle.name_table.specs.Reads.{IsFound, IsRead};
+
+use crate::fault::NameFault;
+use crate::name_bytes::NameBytes;
+use litemap::LiteMap;
+use litemap_read::{ReadFault, read_pairs};
+use std::alloc::Global;
+
+/// A map of texts that lie in the bytes of a name table.
+pub type NameMap<'a> = LiteMap<&'a str, &'a str, Vec<(&'a str, &'a str)>>;
+
+/// The map of a name table that the bytes begin with, and how many bytes the table takes. Of each key the last entry stays.
+///
+/// Keys and values are slices of the bytes. The fault is that of the first number or text that can't be read, or want of
+/// memory; bytes behind the table are left unread. A table whose keys rise costs a comparison for each entry.
+///
+/// The Rust crate reads by `postcard`'s `from_bytes` here.
+pub fn read_names<'a>(
+    alloc: Global,
+    bytes: &'a [u8],
+) -> Result<(NameMap<'a>, usize), ReadFault<NameFault>>
+    ensures read { IfOk result (λ read. IsRead bytes.now read.0.pairs read.1) }
+    ensures fault { IfErr result (λ fault. IfSource fault (TableFault bytes.now)) }
+{
+    let mut names = match NameBytes::new(bytes) {
+        Ok(names) => names,
+        Err(fault) => return Err(ReadFault::Source(fault)),
+    };
+    let map = read_pairs(alloc, &mut names)?;
+    Ok((map, names.place()))
+}
+
+/// The place and the value of a name in the map that `read_names` answers for the bytes, `None` where the name isn't there.
+///
+/// The value is a slice of the bytes. The whole table is read first; then the lookup compares at most once for each binary
+/// digit of the number of names.
+pub fn find_name<'a>(
+    alloc: Global,
+    bytes: &'a [u8],
+    key: &str,
+) -> Result<Option<(usize, &'a str)>, ReadFault<NameFault>>
+    ensures found { IfOk result (λ found. IsFound bytes.now key.entry found) }
+    ensures fault { IfErr result (λ fault. IfSource fault (TableFault bytes.now)) }
+{
+    let (map, _) = read_names(alloc, bytes)?;
+    match map.as_sliced().const_get_with_index(key) {
+        Some((place, value)) => Ok(Some((place, *value))),
+        None => Ok(None),
+    }
+}
