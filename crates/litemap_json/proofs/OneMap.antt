@@ -118,3 +118,22 @@ module _ {K V : Type 0} (cmp : K → K → Ordering) (total : IsTotalOrder cmp) 
       let both : the_ok (Sees a.spelled) ≡ the_ok (Sees b.spelled) = sym a.spells ∙ b.spells in
       let same : Sees a.spelled ≡ Sees b.spelled = cc in
       last_alike a.spelled b.spelled L M same a.last b.last
+
+-- where a tree tells its key, and another its item, the trees of a list tell the list
+module _ {K V : Type 0} (key_json : K → Data) (json : V → Data) (keys : (x y : K) → key_json x ≡ key_json y → x ≡ y) (items : (v w : V) → json v ≡ json w → v ≡ w) where
+  same_pair : (p q : K × V) → pair_seen key_json json p ≡ pair_seen key_json json q → p ≡ q
+  same_pair p q e =
+      let k = keys p.0 q.0 (ap (λ (d : Data × Data). d.0) e) in
+      let v = items p.1 q.1 (ap (λ (d : Data × Data). d.1) e) in
+      λ i. (k i, v i)
+
+  pub same_pairs : (L M : List (K × V)) → seen key_json json L ≡ seen key_json json M → L ≡ M
+  same_pairs [] [] e = refl
+  same_pairs [] (q ∷ M) e = absurd cc
+  same_pairs (p ∷ L) [] e = absurd cc
+  same_pairs (p ∷ L) (q ∷ M) e =
+      let here : pair_seen key_json json p ≡ pair_seen key_json json q = cc in
+      let rest : seen key_json json L ≡ seen key_json json M = cc in
+      let first = same_pair p q here in
+      let others = same_pairs L M rest in
+      λ i. first i ∷ others i
