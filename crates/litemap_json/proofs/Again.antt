@@ -1,0 +1,157 @@
+-- What was written reads as the same list.
+use Rattle.std.proofs.Common.{◌≡◌, ◌≢◌, ℕ, ◌+◌, List, [], ◌∷◌, ◌++◌, ◌⊎◌, inl, inr, ◌↔◌, Option, Some, Result, Ok, Ordering, Less, Equal, Greater, refl, sym, ap, subst, ◌∙◌, nat_cmp, length, get_or, take, zero, suc, ◌<◌, ◌≤◌, arith}
+use Rattle.std.proofs.lemmas.List.{take_more, take_all}
+use Rattle.std.proofs.lemmas.Map.Lookups.{exact_bytes}
+use Rattle.std.specs.Cmp.{IsTotalOrder}
+use Rattle.std.specs.Cmp.Lexicographic.{slice_cmp}
+use Rattle.std.specs.Ordering.{match_ordering, ordering_reverse}
+use Rattle.serde_json.specs.Data.{Data, array, object, Members, no_members, member, put}
+use Rattle.litemap_store.specs.Last.{In, StandsLast, Last}
+use Rattle.litemap_store.specs.Pairs.{Rising}
+use Rattle.litemap_store.proofs.LastPairs.{In-from_last, Last-rising}
+use Rattle.litemap_store.proofs.Membership.{each, from_each}
+use Rattle.litemap_json_items.specs.declared.item.ItemFault.{ItemFault}
+use Rattle.litemap_json.specs.Json.{rows, row_pairs, member_pairs}
+use Rattle.litemap_json.specs.Reading.{AllReadBack, ReadsAs, ReadsBack, seen}
+
+module _ {K V : Type 0} (cmp : K → K → Ordering) (total : IsTotalOrder cmp) (text : K → Option (List ℕ)) (key : List ℕ → Option Data)
+    (key_item json_item : Data → Result Data ItemFault) (key_json : K → Data) (json : V → Data) where
+  -- no two pairs have equal keys
+  abbrev pub Distinct : List (K × V) → Type 0
+  Distinct [] = Unit {0}
+  Distinct (p ∷ ps) = ((q : K × V) → In q ps → cmp p.0 q.0 ≢ Equal) × Distinct ps
+
+  pub rising_distinct : (L : List (K × V)) → Rising cmp L → Distinct L
+  rising_distinct [] h = tt
+  rising_distinct (p ∷ ps) h = (λ q i e. (let less : cmp p.0 q.0 ≡ Less = each (λ (x : K × V). cmp p.0 x.0 ≡ Less) ps h.0 q i in cc), rising_distinct ps h.1)
+
+  last_from : (p : K × V) (J : List (K × V)) → Distinct J → In p J → StandsLast cmp p J
+  last_from p [] d i = absurd i
+  last_from p (q ∷ qs) d (inl e) = inl (e, from_each (λ (r : K × V). cmp p.0 r.0 ≢ Equal) qs (λ r i. rw (sym e) (d.0 r i)))
+  last_from p (q ∷ qs) d (inr i) = inr (last_from p qs d.1 i)
+
+  -- a list with the same pairs and no two equal keys leaves L
+  pub leaves : (J L : List (K × V)) → Rising cmp L → Distinct J → ((p : K × V) → In p J ↔ In p L) → Last cmp J L
+  leaves J L r d same = record { rising = r; exactly = λ p. (λ i. last_from p J d ((same p).1 i), λ h. (same p).0 (In-from_last cmp p J h)) }
+
+  rows_read : (place : ℕ) (L : List (K × V)) → AllReadBack key_item json_item key_json json L → row_pairs key key_item json_item place (rows text key_json json L) ≡ Ok (seen key_json json L)
+  rows_read place [] h = refl
+  rows_read place (p ∷ ps) h = rw (h.0.0, h.0.1, rows_read (place + 1) ps h.1)
+
+  pub array_again : (L : List (K × V)) → Rising cmp L → AllReadBack key_item json_item key_json json L → ReadsAs cmp key key_item json_item key_json json (array (rows text key_json json L)) L
+  array_again L r h = record { spelled = L; spells = rows_read 0 L h; last = Last-rising cmp L r }
+
+  -- the members spell the pairs, one by one
+  abbrev pub Spells : List (K × V) → Members → Type 0
+  Spells [] no_members = Unit {0}
+  Spells [] (member s d ms) = ⊥
+  Spells (p ∷ ps) no_members = ⊥
+  Spells (p ∷ ps) (member s d ms) = (text p.0 ≡ Some s) × (key s ≡ Some (key_json p.0)) × (d ≡ json p.1) × (json_item d ≡ Ok d) × Spells ps ms
+
+  pub members_read : (place : ℕ) (J : List (K × V)) (ms : Members) → Spells J ms → member_pairs key key_item json_item place ms ≡ Ok (seen key_json json J)
+  members_read place [] no_members h = refl
+  members_read place [] (member s d ms) h = absurd h
+  members_read place (p ∷ ps) no_members h = absurd h
+  members_read place (p ∷ ps) (member s d ms) h = rw (h.1, h.3, members_read (place + 1) ps ms h.4, h.2)
+
+  -- J has x and the pairs of I, and no two equal keys
+  abbrev pub Adds : K × V → List (K × V) → Members → Type 0
+  Adds x I ms = (J : List (K × V)) × Spells J ms × ((p : K × V) → In p J ↔ ((x ≡ p) ⊎ In p I)) × Distinct J
+
+  module _ (told : (x y : K) → key_json x ≡ key_json y → cmp x y ≡ Equal) (x : K × V) (s : List ℕ) (named : text x.0 ≡ Some s) (known : key s ≡ Some (key_json x.0)) (read : json_item (json x.1) ≡ Ok (json x.1)) where
+    apart_back : (q : K × V) → cmp x.0 q.0 ≢ Equal → cmp q.0 x.0 ≢ Equal
+    apart_back q a e = a (total.antisymm x.0 q.0 ∙ ap ordering_reverse e)
+
+    adds_at : (o : Ordering) (q : K × V) (I : List (K × V)) (l : List ℕ) (e : Data) (ms : Members) → slice_cmp nat_cmp s l ≡ o → Spells (q ∷ I) (member l e ms) → Distinct (q ∷ I)
+        → ((r : K × V) → In r (q ∷ I) → cmp x.0 r.0 ≢ Equal) → Adds x I (put s (json x.1) ms)
+        → Adds x (q ∷ I) (match_ordering o (member s (json x.1) (member l e ms)) (member l (json x.1) ms) (member l e (put s (json x.1) ms)))
+    adds_at Less q I l e ms is h d a rest = (x ∷ q ∷ I, (named, known, refl, read, h), λ p. (λ i. i, λ i. i), (a, d))
+    adds_at Equal q I l e ms is h d a rest =
+        let same : s ≡ l = exact_bytes s l is in
+        let one : key s ≡ Some (key_json q.0) = rw same h.1 in
+        let tree : key_json x.0 ≡ key_json q.0 = cc in
+        absurd (a q (inl refl) (told x.0 q.0 tree))
+    adds_at Greater q I l e ms is h d a rest = (
+      q ∷ rest.0,
+      (h.0, h.1, h.2, h.3, rest.1),
+      λ p. (
+        λ i. elim i [ inl e ↦ inr (inl e) | inr j ↦ elim ((rest.2 p).0 j) [ inl e ↦ inl e | inr k ↦ inr (inr k) ] ],
+        λ i. elim i [ inl e ↦ inr ((rest.2 p).1 (inl e)) | inr j ↦ elim j [ inl e ↦ inl e | inr k ↦ inr ((rest.2 p).1 (inr k)) ] ],
+      ),
+      (λ r i. elim ((rest.2 r).0 i) [ inl e ↦ (rw (sym e) (apart_back q (a q (inl refl)))) | inr k ↦ d.0 r k ], rest.3),
+    )
+
+    pub adds : (I : List (K × V)) (ms : Members) → Spells I ms → Distinct I → ((q : K × V) → In q I → cmp x.0 q.0 ≢ Equal) → Adds x I (put s (json x.1) ms)
+    adds [] no_members h d a = (x ∷ [], (named, known, refl, read, tt), λ p. (λ i. i, λ i. i), (λ r i. absurd i, tt))
+    adds [] (member l e ms) h d a = absurd h
+    adds (q ∷ I) no_members h d a = absurd h
+    adds (q ∷ I) (member l e ms) h d a = adds_at (slice_cmp nat_cmp s l) q I l e ms refl h d a (adds I ms h.4 d.1 (λ r i. a r (inr i)))
+
+  -- the members spell the pairs of `done`, each once
+  abbrev pub Gathered : Members → List (K × V) → Type 0
+  Gathered ms done = (J : List (K × V)) × Spells J ms × ((p : K × V) → In p J ↔ In p done) × Distinct J
+
+  pub gathered_none : Gathered no_members []
+  gathered_none = ([], tt, λ p. (λ i. i, λ i. i), tt)
+
+  in_end : (x p : K × V) (done : List (K × V)) → ((x ≡ p) ⊎ In p done) ↔ In p (done ++ x ∷ [])
+  in_end x p [] = (λ i. i, λ i. i)
+  in_end x p (q ∷ done) =
+      let more = in_end x p done in (
+        λ i. elim i [ inl e ↦ inr (more.0 (inl e)) | inr j ↦ elim j [ inl e ↦ inl e | inr k ↦ inr (more.0 (inr k)) ] ],
+        λ i. elim i [ inl e ↦ inr (inl e) | inr j ↦ elim (more.1 j) [ inl e ↦ inl e | inr k ↦ inr (inr k) ] ],
+      )
+
+  pub gathered_more : (told : (x y : K) → key_json x ≡ key_json y → cmp x y ≡ Equal) (x : K × V) (s : List ℕ) → text x.0 ≡ Some s → key s ≡ Some (key_json x.0) → json_item (json x.1) ≡ Ok (json x.1)
+      → (ms : Members) (done : List (K × V)) → Gathered ms done → ((q : K × V) → In q done → cmp x.0 q.0 ≢ Equal) → Gathered (put s (json x.1) ms) (done ++ x ∷ [])
+  gathered_more told x s named known read ms done g apart =
+      let more = adds told x s named known read g.0 ms g.1 g.3 (λ q i. apart q ((g.2 q).0 i)) in (
+        more.0,
+        more.1,
+        λ p. (
+          λ i. (in_end x p done).0 (elim ((more.2 p).0 i) [ inl e ↦ inl e | inr j ↦ inr ((g.2 p).0 j) ]),
+          λ i. (more.2 p).1 (elim ((in_end x p done).1 i) [ inl e ↦ inl e | inr j ↦ inr ((g.2 p).1 j) ]),
+        ),
+        more.3,
+      )
+
+  pub object_again : (ms : Members) (L : List (K × V)) → Rising cmp L → Gathered ms L → ReadsAs cmp key key_item json_item key_json json (object ms) L
+  object_again ms L r g = record { spelled = g.0; spells = members_read 0 g.0 ms g.1; last = leaves g.0 L r g.3 g.2 }
+
+  in_get_or : (L : List (K × V)) (i : ℕ) (x : K × V) → i < length L → x ≡ get_or L i x → In x L
+  in_get_or [] i x h e = absurd (omega arith)
+  in_get_or (p ∷ ps) zero x h e = inl (sym e)
+  in_get_or (p ∷ ps) (suc i) x h e = inr (in_get_or ps i x (omega arith) e)
+
+  -- no pair before x has an equal key
+  pub apart_before : (L : List (K × V)) (i : ℕ) (x : K × V) → i < length L → x ≡ get_or L i x → Rising cmp L → (q : K × V) → In q (take i L) → cmp x.0 q.0 ≢ Equal
+  apart_before [] i x h e r q j = absurd (omega arith)
+  apart_before (p ∷ ps) zero x h e r q j = absurd j
+  apart_before (p ∷ ps) (suc i) x h e r q (inl same) =
+      let less : cmp p.0 x.0 ≡ Less = each (λ (y : K × V). cmp p.0 y.0 ≡ Less) ps r.0 x (in_get_or ps i x (omega arith) e) in
+      λ equal. (
+      let there : cmp x.0 p.0 ≡ Equal = rw same equal in
+      let back : cmp p.0 x.0 ≡ Equal = total.antisymm p.0 x.0 ∙ ap ordering_reverse there in
+      cc
+      )
+  apart_before (p ∷ ps) (suc i) x h e r q (inr j) = apart_before ps i x (omega arith) e r.1 q j
+
+  take_next : (L : List (K × V)) (i : ℕ) (x : K × V) → i < length L → x ≡ get_or L i x → take (i + 1) L ≡ take i L ++ x ∷ []
+  take_next L i x h e = take_more L i x h ∙ ap (λ y. take i L ++ y ∷ []) (sym e)
+
+  -- the steps and the ends of the two loops
+  pub object_step : (told : (x y : K) → key_json x ≡ key_json y → cmp x y ≡ Equal) (L : List (K × V)) (i : ℕ) (x : K × V) (s : List ℕ) (ms : Members) → i < length L → x ≡ get_or L i x → Rising cmp L
+      → text x.0 ≡ Some s → key s ≡ Some (key_json x.0) → json_item (json x.1) ≡ Ok (json x.1) → Gathered ms (take i L) → Gathered (put s (json x.1) ms) (take (i + 1) L)
+  object_step told L i x s ms h e r named known read g =
+      subst (λ done. Gathered (put s (json x.1) ms) done) (sym (take_next L i x h e)) (gathered_more told x s named known read ms (take i L) g (apart_before L i x h e r))
+
+  pub object_end : (L : List (K × V)) (i : ℕ) (ms : Members) (d : Data) → length L ≤ i → Rising cmp L → d ≡ object ms → Gathered ms (take i L) → ReadsAs cmp key key_item json_item key_json json d L
+  object_end L i ms d h r e g = rw e (object_again ms L r (subst (λ done. Gathered ms done) (take_all i L h) g))
+
+  readable_end : (x : K × V) (done : List (K × V)) → AllReadBack key_item json_item key_json json done → ReadsBack key_item json_item key_json json x → AllReadBack key_item json_item key_json json (done ++ x ∷ [])
+  readable_end x [] all here = (here, tt)
+  readable_end x (p ∷ done) all here = (all.0, readable_end x done all.1 here)
+
+  pub array_step : (L : List (K × V)) (i : ℕ) (x : K × V) → i < length L → x ≡ get_or L i x → AllReadBack key_item json_item key_json json (take i L) → ReadsBack key_item json_item key_json json x
+      → AllReadBack key_item json_item key_json json (take (i + 1) L)
+  array_step L i x h e all here = subst (λ done. AllReadBack key_item json_item key_json json done) (sym (take_next L i x h e)) (readable_end x (take i L) all here)

@@ -1,0 +1,23 @@
+-- A list that is read by places.
+use Rattle.std.proofs.Common.{◌≡◌, ℕ, zero, suc, ◌+◌, ◌<◌, List, [], ◌∷◌, length, get_or, drop, slice_get, Option, Some, None, Err, Result, sym, ◌∙◌, ap, arith, add-one, drop-cons}
+use Rattle.serde_json.specs.Data.{Data, Members, put}
+use Rattle.litemap_json.specs.Json.{object_with}
+use Rattle.litemap_json.specs.declared.fault.WriteFault.{WriteFault}
+use Rattle.litemap_json.specs.declared.fault.WriteFault.TheVariants.{KeyWithoutText}
+
+pub at_place : {X : Type 0} (L : List X) (i : ℕ) (x : X) → Some x ≡ slice_get L i → (i < length L) × (x ≡ get_or L i x)
+at_place [] i x e = absurd cc
+at_place (y ∷ ys) zero x e = (omega arith, cc)
+at_place (y ∷ ys) (suc i) x e = let rest = at_place ys i x e in (omega (arith, rest.0), rest.1)
+
+next : {X : Type 0} (L : List X) (i : ℕ) (x : X) → i < length L → x ≡ get_or L i x → drop i L ≡ x ∷ drop (i + 1) L
+next L i x h e = rw add-one (drop-cons L i x h ∙ ap (λ y. y ∷ drop (suc i) L) (sym e))
+
+module _ {K V : Type 0} (text : K → Option (List ℕ)) (key_json : K → Data) (json : V → Data) where
+  pub made_step : (L : List (K × V)) (i : ℕ) (x : K × V) (s : List ℕ) (ms : Members) (r : Result Data WriteFault) → i < length L → x ≡ get_or L i x → text x.0 ≡ Some s
+      → object_with text key_json json i ms (drop i L) ≡ r → object_with text key_json json (i + 1) (put s (json x.1) ms) (drop (i + 1) L) ≡ r
+  made_step L i x s ms r h e named made = (rw (next L i x h e, named) at made)
+
+  pub made_stop : (L : List (K × V)) (i : ℕ) (x : K × V) (ms : Members) (r : Result Data WriteFault) → i < length L → x ≡ get_or L i x → text x.0 ≡ None
+      → object_with text key_json json i ms (drop i L) ≡ r → r ≡ Err (KeyWithoutText i)
+  made_stop L i x ms r h e named made = sym (rw (next L i x h e, named) at made)

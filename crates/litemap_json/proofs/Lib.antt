@@ -1,0 +1,4 @@
+-- Lemmas of the crate.
+pub mod Again
+pub mod ByPlace
+pub mod OneMap

@@ -1,0 +1,34 @@
+use Rattle.std.proofs.Common.{arith, ◌≡◌, Some, None, string_bytes, option_map, sym, ap, ◌∙◌}
+use Rattle.serde_json.specs.View.{view, members_view}
+use Rattle.litemap_json.proofs.Again.{object_step, object_end}
+use Rattle.litemap_json.proofs.ByPlace.{at_place, made_step, made_stop}
+use Rattle.litemap_json.proofs.write.object_of.Goals as goal
+
+pub returns-in_default-clause-refused : goal.returns-in_default-clause-refused
+returns-in_default-clause-refused g c =
+    let L = c.args.map.now.pairs in
+    let x : g.row.K.Denot × g.row.V.Denot = (c.unwrap.result.0.now, c.unwrap.result.1.now) in
+    let found = at_place L c.loop-place.place x (rw c.unwrap.ensures at c.get_indexed.ensures) in
+    let unnamed : g.K.JsonKey.text x.0 ≡ None = sym c.in_ok-name.ensures.text ∙ ap (option_map string_bytes) c.in_default.is in
+    λ _. made_stop g.K.JsonKey.text g.K.JsonItem.json g.V.JsonItem.json L c.loop-place.place x (members_view c.loop-place.members.entries) _ found.0 found.1 unnamed c.loop-place.invariant.made
+
+pub loop-place-preserved : goal.loop-place-preserved
+loop-place-preserved g c =
+    let L = c.args.map.now.pairs in
+    let x : g.row.K.Denot × g.row.V.Denot = (c.unwrap.result.0.now, c.unwrap.result.1.now) in
+    let found = at_place L c.loop-place.place x (rw c.unwrap.ensures at c.get_indexed.ensures) in
+    let s = string_bytes c.in-Some.name in
+    let ms = members_view c.loop-place.members.entries in
+    let named : g.K.JsonKey.text x.0 ≡ Some s = sym c.in_ok-name.ensures.text ∙ ap (option_map string_bytes) c.in-Some.is in
+    let known : g.K.JsonKey.key s ≡ Some (g.K.JsonItem.json x.0) = rw named at c.in_ok-name.ensures.reads_back in
+    let step = object_step g.K.Ord.cmp g.met.K.Ord.total g.K.JsonKey.text g.K.JsonKey.key g.K.JsonItem.item g.V.JsonItem.item g.K.JsonItem.json g.V.JsonItem.json g.met.K.JsonKey.one_tree
+    L c.loop-place.place x s ms found.0 found.1 c.len-place-end.ensures.rising named known c.in_ok-item.ensures.reads_back c.loop-place.invariant.spelled in
+    let made = made_step g.K.JsonKey.text g.K.JsonItem.json g.V.JsonItem.json L c.loop-place.place x s ms _ found.0 found.1 named c.loop-place.invariant.made in
+    record {
+      made = rw (c.in_ok-put_member.ensures, c.in_ok-item.ensures.tree) made;
+      spelled = rw (c.in_ok-put_member.ensures, c.in_ok-item.ensures.tree) step;
+    }
+
+pub returns-clause-reads_back : goal.returns-clause-reads_back
+returns-clause-reads_back g c = object_end g.K.Ord.cmp g.met.K.Ord.total g.K.JsonKey.text g.K.JsonKey.key g.K.JsonItem.item g.V.JsonItem.item g.K.JsonItem.json g.V.JsonItem.json
+    c.args.map.now.pairs c.loop-place.place (members_view c.loop-place.members.entries) (view c.from.result) (omega arith) c.len-place-end.ensures.rising c.from.ensures c.loop-place.invariant.spelled

@@ -1,0 +1,80 @@
+//! Why a map was not written, or not read.
+ghost use Rattle.std.specs.Prelude.{◌≡◌};
+ghost use Rattle.litemap_json.specs.declared.fault.WriteFault.TheVariants as writing;
+ghost use Rattle.litemap_json.specs.declared.fault.JsonFault.TheVariants as reading;
+
+use litemap_json_items::ItemFault;
+use std::alloc::AllocError;
+use thiserror::Error;
+
+/// Why a map was not written as JSON.
+#[derive(Debug, PartialEq, Drop, Error)]
+pub enum WriteFault {
+    /// Memory was refused.
+    #[error("there is not enough memory")]
+    Memory,
+    /// The first key has a text, and this one, the first such, has none.
+    #[error("the key at place {place} (from 0) has no text, and the first key has one: give all keys a text, or none")]
+    KeyWithoutText {
+        /// The key's place in the map.
+        place: usize,
+    },
+}
+
+/// Why a JSON value was not read as a map.
+///
+/// A place is that of an array's element, or that of an object's member, whose members stand in the byte order of their
+/// names. The first place that spells no pair is told; at one place the pair's shape, then the key, then the item.
+#[derive(Debug, PartialEq, Drop, Error)]
+pub enum JsonFault {
+    /// Memory was refused. It may come in place of a fault at the same or a later place.
+    #[error("there is not enough memory")]
+    Memory,
+    /// The value is neither an array nor an object.
+    #[error("a map is an object or an array of [key, item] arrays, and this value is neither")]
+    NotAMap,
+    /// An array's element is not an array of exactly two.
+    #[error("the element at place {place} (from 0) is not an array of exactly a key and an item")]
+    NotAPair {
+        /// The element's place.
+        place: usize,
+    },
+    /// A member's name is no key's text.
+    #[error("the name of the member at place {place} (from 0, by the byte order of the names) is not a key's text")]
+    KeyText {
+        /// The member's place.
+        place: usize,
+    },
+    /// The first value of an array's element is no key.
+    #[error("the key at place {place} (from 0): {fault}")]
+    Key {
+        /// The element's place.
+        place: usize,
+        /// Why it is no key.
+        fault: ItemFault,
+    },
+    /// A member's value, or the second value of an array's element, is no item.
+    #[error("the item at place {place} (from 0): {fault}")]
+    Item {
+        /// The place of the element or member.
+        place: usize,
+        /// Why it is no item.
+        fault: ItemFault,
+    },
+}
+
+impl From<AllocError> for WriteFault {
+    ghost from_gives = { λ _ fault. fault ≡ writing.Memory };
+
+    fn from(_refused: AllocError) -> WriteFault {
+        WriteFault::Memory
+    }
+}
+
+impl From<AllocError> for JsonFault {
+    ghost from_gives = { λ _ fault. fault ≡ reading.Memory };
+
+    fn from(_refused: AllocError) -> JsonFault {
+        JsonFault::Memory
+    }
+}

@@ -1,0 +1,160 @@
+//! A JSON value as a map.
+ghost use Rattle.std.specs.Prelude.{◌≡◌, ◌≢◌, Err, IfErr, IfOk, OnOk, string_bytes, ◌++◌, ◌∷◌, []};
+ghost use Rattle.serde_json.specs.View.{items_view, members_view, view};
+ghost use Rattle.litemap_json_items.specs.Item.{two_of};
+ghost use Rattle.litemap_json.specs.Json.{member_at, member_pairs, pairs, row_at, row_pairs};
+ghost use Rattle.litemap_json.specs.Reading.{Reads, ReadsAs, pair_seen, seen};
+ghost use Rattle.litemap_json.specs.declared.fault.JsonFault.TheVariants as reading;
+ghost use Rattle.litemap_json_items.specs.declared.item.ItemFault.TheVariants as of_item;
+
+use crate::fault::JsonFault;
+use litemap::LiteMap;
+use litemap::store::StoreBulkMut;
+use litemap_json_items::{ItemFault, JsonItem, JsonKey, two_items};
+use serde_json::{Map, Value};
+use std::alloc::Global;
+
+/// The map that a JSON value spells. An object is read for every type of keys, and so is an array, whose elements have to be
+/// arrays of exactly a key and an item. Of equal keys the last pair stays, whole, in the order that the value holds.
+///
+/// The fault is that of the first place that spells no pair; `Memory` may come in place of a fault at the same or a later
+/// place. All pairs are gathered before a map is made, and moved into it by `extend`: where they rise that is one
+/// comparison for each, else a sort. The Rust crate has serde's `Deserialize` here.
+pub fn from_json<K: JsonKey + Drop, V: JsonItem + Drop, S: StoreBulkMut<K, V>>(
+    alloc: Global,
+    value: &Value,
+) -> Result<LiteMap<K, V, S>, JsonFault>
+    ensures read { IfOk result
+        (λ map. ReadsAs K.cmp K.key K.item V.item K.json V.json (view value.now) map.pairs) }
+    ensures refused { IfErr result
+        (λ e. e ≢ reading.Memory → pairs K.key K.item V.item (view value.now) ≡ Err e) }
+{
+    let pairs = pairs_of(alloc, value)?;
+    let mut map = LiteMap::with_capacity(alloc, 0)?;
+    map.extend(alloc, pairs)?;
+    Ok(map)
+}
+
+// The pairs that a value spells, in the order that it holds.
+fn pairs_of<K: JsonKey + Drop, V: JsonItem + Drop>(
+    alloc: Global,
+    value: &Value,
+) -> Result<Vec<(K, V)>, JsonFault>
+    ensures { Reads (λ found. seen K.json V.json found.items)
+        (pairs K.key K.item V.item (view value.now)) result }
+{
+    if let Some(list) = value.as_array() {
+        read_rows(alloc, list)
+    } else if let Some(members) = value.as_object() {
+        read_members(alloc, members)
+    } else {
+        Err(JsonFault::NotAMap)
+    }
+}
+
+// The pairs that an array's elements spell.
+fn read_rows<K: JsonKey + Drop, V: JsonItem + Drop>(
+    alloc: Global,
+    list: &Vec<Value>,
+) -> Result<Vec<(K, V)>, JsonFault>
+    ensures { Reads (λ found. seen K.json V.json found.items)
+        (row_pairs K.key K.item V.item 0 (items_view list.now.items)) result }
+{
+    let mut found = Vec::new(alloc);
+    for (place, row) in list.iter().enumerate() {
+        let pair = read_row(alloc, place, row)?;
+        push_pair(&mut found, pair)?;
+    }
+    Ok(found)
+}
+
+// The pair that an element spells.
+fn read_row<K: JsonKey + Drop, V: JsonItem + Drop>(
+    alloc: Global,
+    place: usize,
+    row: &Value,
+) -> Result<(K, V), JsonFault>
+    ensures { Reads (pair_seen K.json V.json)
+        (row_at K.key K.item V.item place (two_of (view row.now))) result }
+{
+    let Some((first, second)) = two_items(row) else {
+        return Err(JsonFault::NotAPair { place });
+    };
+    match K::from_value(alloc, first) {
+        Err(fault) => Err(key_fault(place, fault)),
+        Ok(key) => match V::from_value(alloc, second) {
+            Err(fault) => Err(item_fault(place, fault)),
+            Ok(item) => Ok((key, item)),
+        },
+    }
+}
+
+// A key's fault at a place.
+fn key_fault(place: usize, fault: ItemFault) -> JsonFault
+    ensures { result ≢ reading.Memory → (fault ≢ of_item.Memory) × (result ≡ reading.Key place fault) }
+{
+    match fault {
+        ItemFault::Memory => JsonFault::Memory,
+        fault => JsonFault::Key { place, fault },
+    }
+}
+
+// An item's fault at a place.
+fn item_fault(place: usize, fault: ItemFault) -> JsonFault
+    ensures { result ≢ reading.Memory → (fault ≢ of_item.Memory) × (result ≡ reading.Item place fault) }
+{
+    match fault {
+        ItemFault::Memory => JsonFault::Memory,
+        fault => JsonFault::Item { place, fault },
+    }
+}
+
+// The pairs that an object's members spell.
+fn read_members<K: JsonKey + Drop, V: JsonItem + Drop>(
+    alloc: Global,
+    members: &Map<String, Value>,
+) -> Result<Vec<(K, V)>, JsonFault>
+    ensures { Reads (λ found. seen K.json V.json found.items)
+        (member_pairs K.key K.item V.item 0 (members_view members.now.entries)) result }
+{
+    let mut found = Vec::new(alloc);
+    let mut place = 0usize;
+    let count = members.len();
+    for (name, member) in members.iter() {
+        let pair = read_member(alloc, place, name, member)?;
+        push_pair(&mut found, pair)?;
+        place += 1;
+    }
+    let _ = count;
+    Ok(found)
+}
+
+// The pair that a member spells.
+fn read_member<K: JsonKey + Drop, V: JsonItem + Drop>(
+    alloc: Global,
+    place: usize,
+    name: &String,
+    member: &Value,
+) -> Result<(K, V), JsonFault>
+    ensures { Reads (pair_seen K.json V.json)
+        (member_at K.key K.item V.item place (K.key (string_bytes name.now)) (view member.now)) result }
+{
+    let Some(key) = K::from_key_text(alloc, name.as_str())? else {
+        return Err(JsonFault::KeyText { place });
+    };
+    match V::from_value(alloc, member) {
+        Err(fault) => Err(item_fault(place, fault)),
+        Ok(item) => Ok((key, item)),
+    }
+}
+
+// Puts a pair behind those found.
+fn push_pair<K: Drop, V: Drop>(found: &mut Vec<(K, V)>, pair: (K, V)) -> Result<(), JsonFault>
+    ensures pushed { OnOk result (found.new.items ≡ found.old.items ++ pair ∷ []) }
+    ensures refused { IfErr result (λ e. e ≡ reading.Memory) }
+{
+    match found.push(pair) {
+        Ok(()) => Ok(()),
+        Err(_) => Err(JsonFault::Memory),
+    }
+}

@@ -1,0 +1,100 @@
+//! A map as a JSON value.
+ghost use Rattle.std.specs.Prelude.{◌≡◌, ◌≢◌, Ok, Err, IfOk, IfErr, OnOk, string_bytes};
+ghost use Rattle.serde_json.specs.Data.{array, no_members, put};
+ghost use Rattle.serde_json.specs.View.{members_view, view};
+ghost use Rattle.litemap_store.specs.Pairs.{Rising};
+ghost use Rattle.litemap_json_items.specs.Item.{pair_json};
+ghost use Rattle.litemap_json.specs.Json.{object_with, rows, tree};
+ghost use Rattle.litemap_json.specs.Reading.{AllReadBack, ReadsAs, ReadsBack};
+ghost use Rattle.litemap_json.specs.declared.fault.WriteFault.TheVariants.{Memory};
+
+use crate::fault::WriteFault;
+use litemap::LiteMap;
+use litemap::store::Store;
+use litemap_json_items::{JsonItem, JsonKey, array_of_two};
+use serde_json::{Map, Value};
+use std::alloc::{AllocError, Global};
+
+/// The map as a JSON value. The first key decides: where it has a text, an object from the keys' texts to the items; where it
+/// has none, an array of `[key, item]` arrays in the order of the keys. The empty map is the empty array.
+///
+/// In an object a later key without a text is a fault, told with its place. An object's members stand and print in the
+/// byte order of their names: the keys 2 and 10 print as `"10"`, `"2"`. What is made is read by `from_json` as the same
+/// map. `Memory` may come in place of any answer. No keys are compared. The Rust crate has serde's `Serialize` here.
+pub fn to_json<K: JsonKey, V: JsonItem, S: Store<K, V>>(
+    alloc: Global,
+    map: &LiteMap<K, V, S>,
+) -> Result<Value, WriteFault>
+    ensures tree { IfOk result (λ value. tree K.text K.json V.json map.now.pairs ≡ Ok (view value)) }
+    ensures refused { IfErr result (λ fault. fault ≢ Memory → tree K.text K.json V.json map.now.pairs ≡ Err fault) }
+    ensures reads_back { IfOk result
+        (λ value. ReadsAs K.cmp K.key K.item V.item K.json V.json (view value) map.now.pairs) }
+{
+    if let Some((first, _)) = map.first() {
+        if first.key_text(alloc)?.is_some() {
+            return object_of(alloc, map);
+        }
+    }
+    Ok(array_of(alloc, map)?)
+}
+
+// The array of the pairs.
+fn array_of<K: JsonKey, V: JsonItem, S: Store<K, V>>(
+    alloc: Global,
+    map: &LiteMap<K, V, S>,
+) -> Result<Value, AllocError>
+    ensures tree { IfOk result (λ value. view value ≡ array (rows K.text K.json V.json map.now.pairs)) }
+    ensures reads_back { OnOk result (AllReadBack K.item V.item K.json V.json map.now.pairs) }
+    ensures rising { Rising K.cmp map.now.pairs }
+{
+    let len = map.len();
+    let mut list = Vec::with_capacity(alloc, len)?;
+    for place in 0..len {
+        let (key, item) = map.get_indexed(place).unwrap();
+        list.push(row_of(alloc, key, item)?)?;
+    }
+    Ok(Value::from(list))
+}
+
+// A pair as an array of two.
+fn row_of<K: JsonKey, V: JsonItem>(alloc: Global, key: &K, item: &V) -> Result<Value, AllocError>
+    ensures tree { IfOk result (λ value. view value ≡ pair_json (K.json key.now) (V.json item.now)) }
+    ensures reads_back { OnOk result (ReadsBack K.item V.item K.json V.json (key.now, item.now)) }
+{
+    let first = key.to_value(alloc)?;
+    let second = item.to_value(alloc)?;
+    array_of_two(alloc, first, second)
+}
+
+// The object of the pairs.
+fn object_of<K: JsonKey, V: JsonItem, S: Store<K, V>>(
+    alloc: Global,
+    map: &LiteMap<K, V, S>,
+) -> Result<Value, WriteFault>
+    ensures tree { IfOk result
+        (λ value. object_with K.text K.json V.json 0 no_members map.now.pairs ≡ Ok (view value)) }
+    ensures refused { IfErr result
+        (λ fault. fault ≢ Memory → object_with K.text K.json V.json 0 no_members map.now.pairs ≡ Err fault) }
+    ensures reads_back { IfOk result
+        (λ value. ReadsAs K.cmp K.key K.item V.item K.json V.json (view value) map.now.pairs) }
+{
+    let mut members = Map::new(alloc);
+    for place in 0..map.len() {
+        let (key, item) = map.get_indexed(place).unwrap();
+        let Some(name) = key.key_text(alloc)? else {
+            return Err(WriteFault::KeyWithoutText { place });
+        };
+        let item = item.to_value(alloc)?;
+        put_member(&mut members, name, item)?;
+    }
+    Ok(Value::from(members))
+}
+
+// Puts an item at a name.
+fn put_member(members: &mut Map<String, Value>, name: String, item: Value) -> Result<(), AllocError>
+    ensures { OnOk result (members_view members.new.entries
+        ≡ put (string_bytes name) (view item) (members_view members.old.entries)) }
+{
+    drop(members.insert(name, item)?);
+    Ok(())
+}

@@ -1,0 +1,2 @@
+pub mod ArraysOfTwo
+pub mod Printed

@@ -1,0 +1,3 @@
+-- The definitions that the contracts cite. `Item` is the page to read first.
+pub mod Item
+pub mod OneTree

@@ -1,0 +1,76 @@
+//! What a type needs to be an item or a key of a map that is written as JSON.
+ghost use Rattle.std.specs.Prelude.{◌≡◌, ℕ, List, Option, Some, Result, Ok, IfOk, IfSome, OnOk};
+ghost use Rattle.std.specs.Prelude.{option_map, string_bytes};
+ghost use Rattle.std.specs.declared.cmp.Ordering.TheVariants.{Equal};
+ghost use Rattle.serde_json.specs.Data.{Data};
+ghost use Rattle.serde_json.specs.View.{view};
+ghost use Rattle.litemap_json_items.specs.Item.{Answers};
+ghost use Rattle.litemap_json_items.specs.declared.item.ItemFault.{ItemFault};
+
+use serde_json::Value;
+use std::alloc::{AllocError, Global};
+use thiserror::Error;
+
+/// Why a JSON value is no item of a type.
+#[derive(Debug, PartialEq, Drop, Error)]
+pub enum ItemFault {
+    /// Memory was refused.
+    #[error("there is not enough memory")]
+    Memory,
+    /// It is a value of another kind.
+    #[error("it is a JSON value of another kind than the type's")]
+    Shape,
+    /// It is a whole number that the type doesn't have.
+    #[error("it is a whole number outside of the type's range")]
+    Range,
+    /// It is a number with a fraction or an exponent, or one that is held as such: `-0`, or past 64 bits.
+    #[error("it is a number with a fraction or an exponent, `-0`, or a number of more than 64 bits")]
+    Float,
+}
+
+/// A type whose values are written as JSON, and read back.
+///
+/// A contract tells a value by its tree, `json x`, and what a tree spells by the tree of that value, `item d`.
+pub trait JsonItem {
+    /// The tree of a value. Values with one tree are the same to a reader.
+    ghost json: { Self → Data };
+
+    /// The tree of the value that a tree spells, or why it spells none.
+    ghost item: { Data → Result Data ItemFault };
+
+    /// The value as JSON, or a refusal for want of memory. What is made reads as the same value.
+    fn to_value(&self, alloc: Global) -> Result<Value, AllocError>
+        ensures tree { IfOk result (λ value. view value ≡ json self.now) }
+        ensures reads_back { OnOk result (item (json self.now) ≡ Ok (json self.now)) };
+
+    /// The value that a JSON value spells. `Memory` may come in place of any answer.
+    fn from_value(alloc: Global, value: &Value) -> Result<Self, ItemFault>
+        ensures { Answers json (item (view value.now)) result };
+}
+
+/// A type whose values are written as the keys of a map: as the names of an object's members where they have texts, else
+/// as JSON values.
+///
+/// A contract tells a key's text by `text k`, and the key that a text spells by that key's tree, `key s`.
+pub trait JsonKey: JsonItem + Ord {
+    /// The text that stands for a key as a member's name, if it has one.
+    ghost text: { Self → Option (List ℕ) };
+
+    /// The tree of the key that has this text, if there is one.
+    ghost key: { List ℕ → Option Data };
+
+    /// The key's text, `None` where it has none, or a refusal for want of memory. What is made reads as the same key.
+    fn key_text(&self, alloc: Global) -> Result<Option<String>, AllocError>
+        ensures text { IfOk result (λ name. option_map string_bytes name ≡ text self.now) }
+        ensures reads_back { OnOk result (IfSome (text self.now)
+            (λ name. key name ≡ Some (Self.json self.now))) };
+
+    /// The key that has this text, `None` where no key has it, or a refusal for want of memory. A key has one text, so
+    /// another spelling is no key's.
+    fn from_key_text(alloc: Global, name: &str) -> Result<Option<Self>, AllocError>
+        ensures key { IfOk result (λ found. option_map Self.json found ≡ key name.now) }
+        ensures one_spelling { IfOk result (λ found. IfSome found (λ k. text k ≡ Some name.now)) };
+
+    /// Keys with one tree are equal.
+    ghost one_tree: { (x y : Self) → Self.json x ≡ Self.json y → Self.cmp x y ≡ Equal };
+}
