@@ -1,5 +1,5 @@
 -- What an entry of a map shows: the map that it borrows, its key, its value, and what the calls on it make of the pairs.
-use Rattle.std.specs.Prelude.{◌≡◌, ◌+◌, ◌<◌, ◌≤◌, List, [], Option, Some, None, IsSome, Result, OnOk, OnErr}
+use Rattle.std.specs.Prelude.{◌≡◌, ◌+◌, ◌<◌, ◌≤◌, List, [], Option, Some, None, IsSome, Result, IsOk, OnOk, OnErr}
 use Rattle.std.specs.Prelude.{length, slice_get}
 use Rattle.std.proofs.Common.{subst, sym}
 use Rattle.std.specs.declared.cmp.Ord as ord
@@ -99,4 +99,4 @@ module _ (K V S : RattleType) {g : ord.Ghosts K.Denot} {g' : eq.Ghosts K.Denot} 
   abbrev pub EntryLends : {E : Type 0} → Entry K.Denot V.Denot S.Denot g g' g'' s → Result (MutBor V.Denot) E → Fml
   EntryLends e r =
       follows_so (the_row K V S g g' g'' s) V (entry_map e).ghost_name (name_if_ok (λ x. x.ghost_name) r)
-      (λ v n. OnOk r (Leaves e n v)) (λ n. OnErr r (n.pairs ≡ (entry_map e).now.pairs))
+      (λ v n. IsOk r → Leaves e n v) (λ n. OnErr r (n.pairs ≡ (entry_map e).now.pairs))

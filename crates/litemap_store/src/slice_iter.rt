@@ -6,6 +6,8 @@ ghost use Rattle.std.specs.Map.Iter.{TakesFirst, TakesLast, deref_pair};
 
 use crate::slice_search::Keys;
 use crate::store::PairIter;
+use std::fmt::{self, Debug, Formatter, Write};
+use std::iter::FusedIterator;
 use std::marker::Model;
 
 /// The pairs of a slice that are still to come. A contract sees their list.
@@ -72,6 +74,8 @@ impl<'a, K, V> ExactSizeIterator for SliceIter<'a, K, V> {
     }
 }
 
+impl<'a, K, V> FusedIterator for SliceIter<'a, K, V> {}
+
 impl<'a, K: 'a, V: 'a> PairIter<'a, K, V> for SliceIter<'a, K, V> {
     ghost rest = { λ s. s };
 
@@ -98,5 +102,12 @@ impl<'a, K, V> Keys<K, V> for SliceIter<'a, K, V> {
         let pairs = self.rest;
         let pair = &pairs[index];
         &pair.0
+    }
+}
+
+/// Printed with the pairs still to come. No text is promised.
+impl<K: Debug, V: Debug> Debug for SliceIter<'_, K, V> {
+    fn fmt<W: Write>(&self, f: &mut Formatter<W>) -> fmt::Result {
+        f.debug_tuple("SliceIter").field(&self.rest).finish()
     }
 }

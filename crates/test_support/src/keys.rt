@@ -1,15 +1,17 @@
 //! Key types: one whose equal keys can be told apart, and one that counts its comparisons.
 ghost use Rattle.std.specs.Prelude.{◌==◌};
 ghost use Rattle.std.specs.Char.{to_ascii_lowercase};
+ghost use Rattle.std.specs.Hash as fed;
 ghost use Rattle.std.proofs.Common.{rules};
 ghost use Rattle.std.specs.Ordering.{nat_cmp, on, as_partial_cmp};
-ghost use Rattle.std.specs.Cmp.Rules.{comparing};
+ghost use Rattle.std.specs.Cmp.Rules.{comparing, hashing};
 ghost use Rattle.std.specs.Cmp.{partial_order_from_own_ties};
 
 use std::cell::Cell;
 use std::cmp::Ordering;
+use std::hash::{Hash, Hasher};
 
-/// A letter, whose order and equality ignore ASCII case.
+/// A letter, whose order, equality and hash ignore ASCII case.
 #[derive(Clone, Copy, Debug)]
 pub struct Letter {
     /// The code of the letter.
@@ -53,6 +55,16 @@ impl Ord for Letter {
         self.code
             .to_ascii_lowercase()
             .cmp(&other.code.to_ascii_lowercase())
+    }
+}
+
+impl Hash for Letter {
+    ghost hash_input = { λ a. fed.u8 (to_ascii_lowercase a.code) };
+
+    ghost respects_eq = { Prim.search (hashing, rules) };
+
+    fn hash<H: Hasher>(&self, state: &mut H) {
+        self.code.to_ascii_lowercase().hash(state);
     }
 }
 

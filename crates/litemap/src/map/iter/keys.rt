@@ -6,6 +6,8 @@ ghost use Rattle.std.specs.Map.{keys_of};
 ghost use Rattle.std.specs.Map.Iter.{TakesFirst, TakesLast, deref};
 
 use litemap_store::store::PairIter;
+use std::fmt::{self, Debug, Formatter, Write};
+use std::iter::FusedIterator;
 use std::marker::{Model, PhantomData};
 
 /// The keys of the pairs that are still to come. A contract sees the iterator over these pairs.
@@ -71,5 +73,14 @@ impl<'a, K: 'a, V: 'a, I: PairIter<'a, K, V>> ExactSizeIterator for KeysIterWrap
     /// The number of keys still to come.
     fn len(&self) -> usize {
         self.iter.len()
+    }
+}
+
+impl<'a, K: 'a, V: 'a, I: PairIter<'a, K, V>> FusedIterator for KeysIterWrap<'a, K, V, I> {}
+
+/// Printed with the iterator over the pairs. No text is promised.
+impl<K, V, I: Debug> Debug for KeysIterWrap<'_, K, V, I> {
+    fn fmt<W: Write>(&self, f: &mut Formatter<W>) -> fmt::Result {
+        f.debug_tuple("KeysIterWrap").field(&self.iter).finish()
     }
 }

@@ -15,7 +15,7 @@ returns g c =
     sym c.value_in_mut.ensures.value ∙ ap (λ M. value_in M e.index) put ∙ ap (value_in _) e.missing.place ∙ put_value cmp L e.key c.args.value in (
       (
         refl,
-        λ w. record {
+        λ w ok. record {
           pairs = ap (λ M. set_value M e.index w) put ∙ set_value-put cmp L e.key c.args.value w e.index e.missing.place;
           room = c.in_ok-insert_at.ensures.room;
           room_kept = from_false;
