@@ -2,21 +2,17 @@
 //!
 //! A line is `STORE KEYS CALL ARGS`, words parted by one space. An empty line, or one that begins with `#`,
 //! is passed over and not answered; a line that says no call is answered `bad line`. For each store and each
-//! type of keys there is one map at a time, at first empty. The calls stand in `calls`, what answers them in
-//! `answers`.
+//! type of keys there is one map at a time, at first empty. The calls and what answers them stand in the library
+//! `replay_lines`.
 //!
 //! The stores `vec` and `fixed` are maps. The stores `scan` and `scan_fixed` stand in their places: lists
 //! that are changed by slow scans alone, whose contracts are the definitions of the sorted list. So the same
 //! lines with these names tell what the maps have to answer.
 #![tactic(auto)]
 
-mod answers;
-mod calls;
-mod keys;
 mod maps;
 mod scans;
 mod tables;
-mod words;
 
 use std::io;
 use tables::Tables;

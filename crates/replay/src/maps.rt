@@ -1,8 +1,8 @@
 //! A map over any store, called as it is.
-use crate::answers::{Answer, Asked, Tried};
-use crate::calls::{Call, Change, Look, Make, Put};
 use litemap::LiteMap;
-use litemap::store::{Store, StoreBulkMut, StoreConstEmpty, StoreMut};
+use litemap::store::{Store, StoreBulkMut, StoreConstEmpty, StoreFromIterable, StoreMut};
+use replay_lines::answers::{Answer, Asked, Tried};
+use replay_lines::calls::{Bulk, Call, Change, Look, Make, Put};
 use std::alloc::{AllocError, Global};
 use std::mem;
 use test_support::lists::list_of;
@@ -15,13 +15,15 @@ pub(crate) fn answer<K, S>(
 ) -> Result<Answer<K>, AllocError>
 where
     K: Ord + Copy,
-    S: StoreConstEmpty<K, u32> + StoreBulkMut<K, u32> + Drop,
+    S: StoreConstEmpty<K, u32> + StoreFromIterable<K, u32> + StoreBulkMut<K, u32> + Drop,
 {
     match call {
         Call::Look(look) => answer_look(alloc, map, look),
         Call::Put(put, key, value) => Ok(answer_put(map, put, key, value)),
         Call::Change(change) => Ok(answer_change(map, change)),
         Call::Make(make) => Ok(answer_make(alloc, map, make)),
+        Call::Bulk(Bulk::Extend, pairs) => Ok(Answer::Room(map.extend(alloc, pairs))),
+        Call::Bulk(Bulk::FromIter, pairs) => Ok(Answer::Room(renew_with(alloc, map, pairs))),
     }
 }
 
@@ -180,5 +182,15 @@ fn renew_with_capacity<K: Ord + Copy, S: StoreMut<K, u32> + Drop>(
     capacity: usize,
 ) -> Result<(), AllocError> {
     *map = LiteMap::with_capacity(alloc, capacity)?;
+    Ok(())
+}
+
+// It becomes a fresh one of these pairs, or is refused.
+fn renew_with<K: Ord + Copy, S: StoreFromIterable<K, u32> + Drop>(
+    alloc: Global,
+    map: &mut LiteMap<K, u32, S>,
+    pairs: Vec<(K, u32)>,
+) -> Result<(), AllocError> {
+    *map = LiteMap::from_iter(alloc, pairs)?;
     Ok(())
 }

@@ -1,9 +1,9 @@
 //! A list that stands in the place of a map, and is changed by slow scans alone.
-use crate::answers::{Answer, Asked, Placed, Tried};
-use crate::calls::{Call, Change, Look, Make, Put};
 use litemap::TryFault;
 use litemap::store::NoRoom;
 use litemap_store::by_scan;
+use replay_lines::answers::{Answer, Asked, Placed, Tried};
+use replay_lines::calls::{Bulk, Call, Change, Look, Make, Put};
 use std::alloc::{AllocError, Global};
 
 /// A list of pairs whose contents the slow scans make, with a limit or none.
@@ -40,6 +40,11 @@ impl<K: Ord + Copy> Scans<K> {
             Call::Put(put, key, value) => self.answer_put(put, key, value),
             Call::Change(change) => self.answer_change(change),
             Call::Make(make) => Ok(self.answer_make(make)),
+            Call::Bulk(Bulk::Extend, pairs) => Ok(Answer::Room(self.extend(&pairs)?)),
+            Call::Bulk(Bulk::FromIter, pairs) => {
+                self.pairs = by_scan::last(self.alloc, &pairs)?;
+                Ok(Answer::Room(Ok(())))
+            }
         }
     }
 
@@ -238,5 +243,29 @@ impl<K: Ord + Copy> Scans<K> {
             }
         }
         Ok(times)
+    }
+
+    // Puts the pairs in, of each key the last one, or is refused where they belong behind all others and have no
+    // room there. Where they don't, a map is made anew, and no answer tells its room.
+    fn extend(&mut self, pairs: &[(K, u32)]) -> Result<Result<(), AllocError>, AllocError> {
+        let mut all = self.pairs.as_slice().to_vec(self.alloc)?;
+        all.extend_from_slice(pairs)?;
+        let last = by_scan::last(self.alloc, &all)?;
+        let more = last.len().saturating_sub(self.pairs.len());
+        if self.are_above(pairs) && !self.has_room(more) {
+            return Ok(Err(AllocError));
+        }
+        self.pairs = last;
+        Ok(Ok(()))
+    }
+
+    // Whether the keys of the pairs lie above all keys.
+    fn are_above(&self, pairs: &[(K, u32)]) -> bool {
+        for (key, _) in pairs {
+            if by_scan::place(&self.pairs, key) != self.pairs.len() {
+                return false;
+            }
+        }
+        true
     }
 }

@@ -1,11 +1,11 @@
 //! A map for each store and each type of keys, and the lines that call them.
-use crate::answers::Answer;
-use crate::calls::{Call, parse};
-use crate::keys::Key;
 use crate::maps;
 use crate::scans::Scans;
-use crate::words::FromWord;
 use litemap::LiteMap;
+use replay_lines::answers::Answer;
+use replay_lines::calls::{Call, parse};
+use replay_lines::keys::Key;
+use replay_lines::words::FromWord;
 use std::alloc::{AllocError, Global};
 use test_support::fixed_room::FixedRoom;
 use test_support::keys::Letter;
@@ -66,7 +66,7 @@ impl<K: Key> Stores<K> {
     where
         K: FromWord<'a>,
     {
-        let Some(call) = parse::<K>(words) else {
+        let Some(call) = parse::<K>(alloc, words)? else {
             return Ok(false);
         };
         let Some(answered) = self.answer_of(alloc, store, call) else {

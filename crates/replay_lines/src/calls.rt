@@ -1,5 +1,6 @@
 //! The calls, and the words that spell them.
 use crate::words::FromWord;
+use std::alloc::{AllocError, Global};
 
 /// A call of a map, with its arguments. Values are numbers.
 #[derive(Drop)]
@@ -12,6 +13,8 @@ pub enum Call<K> {
     Change(Change<K>),
     /// One that makes a fresh map or takes room.
     Make(Make),
+    /// One that takes many pairs at once.
+    Bulk(Bulk, Vec<(K, u32)>),
 }
 
 /// A call that changes nothing.
@@ -91,14 +94,65 @@ pub enum Make {
     Reserve(usize),
 }
 
+/// A call that takes many pairs at once.
+#[derive(Drop)]
+pub enum Bulk {
+    /// To put them in.
+    Extend,
+    /// To make a fresh map of them.
+    FromIter,
+}
+
 /// The call that the words spell, if they spell one.
-pub(crate) fn parse<'a, K: FromWord<'a>>(words: &[&'a str]) -> Option<Call<K>> {
-    match words {
-        [name] => plain(name),
-        [name, key] => by_key(name, key).or(by_number(name, key)),
-        [name, key, value] => by_key_and_value(name, key, value).or(by_numbers(name, key, value)),
-        _ => None,
+pub fn parse<'a, K: FromWord<'a>>(
+    alloc: Global,
+    words: &[&'a str],
+) -> Result<Option<Call<K>>, AllocError> {
+    let [name, words @ ..] = words else {
+        return Ok(None);
+    };
+    if let Some(bulk) = bulk_of(name) {
+        return with_pairs(alloc, bulk, words);
     }
+    Ok(match words {
+        [] => plain(name),
+        [key] => by_key(name, key).or(by_number(name, key)),
+        [key, value] => by_key_and_value(name, key, value).or(by_numbers(name, key, value)),
+        _ => None,
+    })
+}
+
+// A call that takes many pairs at once.
+fn bulk_of(name: &str) -> Option<Bulk> {
+    Some(match name {
+        "extend" => Bulk::Extend,
+        "from_iter" => Bulk::FromIter,
+        _ => return None,
+    })
+}
+
+// The call with the pairs that the words spell, a key and a value for each.
+fn with_pairs<'a, K: FromWord<'a>>(
+    alloc: Global,
+    bulk: Bulk,
+    words: &[&'a str],
+) -> Result<Option<Call<K>>, AllocError> {
+    let mut pairs = Vec::new(alloc);
+    for words in words.chunks(2) {
+        let Some(pair) = pair_of(words) else {
+            return Ok(None);
+        };
+        pairs.push(pair)?;
+    }
+    Ok(Some(Call::Bulk(bulk, pairs)))
+}
+
+// The pair that two words spell.
+fn pair_of<'a, K: FromWord<'a>>(words: &[&'a str]) -> Option<(K, u32)> {
+    let [key, value] = words else {
+        return None;
+    };
+    Some((K::from_word(key)?, u32::from_word(value)?))
 }
 
 // A call with no argument.
