@@ -1,0 +1,101 @@
+"""The tables of bench/run, as text and as Markdown."""
+import typing
+
+# What the lines of the programs call the calls. A measure that is added has a line here.
+TITLES = {
+    "get": "`get` of keys that are there",
+    "get_missing": "`get` of keys that are not",
+    "iterate": "`iter`",
+    "insert": "`insert`, in no order",
+    "append": "`try_append`",
+    "remove": "`remove`, in no order",
+    "retain": "`retain` of about half",
+    "from_iter_rising": "`from_iter` of rising pairs",
+    "from_iter": "`from_iter`, in no order",
+    "extend_rising": "`extend` by rising pairs between the others",
+    "extend": "`extend`, in no order",
+    "merge_apart": "`extend_from_litemap`, all keys above",
+    "merge_interleaved": "`extend_from_litemap`, keys between the others",
+}
+KEYS = {"number": "numbers (`u64`)", "text": "texts (`String`)"}
+STORES = {"vec": "`Vec`", "column": "`ColumnStore`"}
+
+
+class Measure(typing.NamedTuple):
+    """What is measured."""
+
+    call: str
+    keys: str
+    store: str
+    size: int
+
+    def over(self, store):
+        """The same over another store."""
+        return self._replace(store=store)
+
+
+def distinct(items):
+    """The items, each once, in the order of their first places."""
+    return list(dict.fromkeys(items))
+
+
+def shown(picos):
+    """Nanoseconds, with about two digits that count."""
+    nanos = picos / 1000
+    if nanos < 1:
+        return f"{nanos:.2f}"
+    return f"{nanos:.1f}" if nanos < 10 else f"{nanos:,.0f}"
+
+
+def ratio(ours, theirs, measure):
+    """How many times as long it takes here as in the Rust crate, which has one store."""
+    return ours[measure][0] / max(theirs[measure.over("vec")][0], 1)
+
+
+def cell(ours, theirs, measure):
+    """The times of a measure, here and there, and their ratio."""
+    if measure not in ours:
+        return ""
+    here = shown(ours[measure][0])
+    if theirs is None:
+        return here
+    return f"{here} : {shown(theirs[measure.over('vec')][0])} ({ratio(ours, theirs, measure):.2f})"
+
+
+def parts(ours, theirs):
+    """A part for each type of keys and each store: its title, its sizes, and its rows."""
+    for keys, store in distinct((measure.keys, measure.store) for measure in ours):
+        of_part = [measure for measure in ours if (measure.keys, measure.store) == (keys, store)]
+        sizes = distinct(measure.size for measure in of_part)
+        rows = []
+        for call in distinct(measure.call for measure in of_part):
+            cells = [cell(ours, theirs, Measure(call, keys, store, size)) for size in sizes]
+            rows.append([TITLES.get(call, call), *cells])
+        yield f"{KEYS.get(keys, keys)} over {STORES.get(store, store)}", sizes, rows
+
+
+def head(sizes):
+    return [f"{size:,}" for size in sizes]
+
+
+def plain(ours, theirs):
+    """The tables as text."""
+    lines = []
+    for title, sizes, rows in parts(ours, theirs):
+        rows = [[f"{title}, pairs", *head(sizes)], *rows]
+        widths = [max(len(row[column]) for row in rows) for column in range(len(sizes) + 1)]
+        for name, *cells in rows:
+            aligned = [text.rjust(width) for text, width in zip(cells, widths[1:])]
+            lines.append("  ".join([name.ljust(widths[0]), *aligned]).replace("`", ""))
+        lines.append("")
+    return "\n".join(lines)
+
+
+def markdown(ours, theirs):
+    """The tables as Markdown."""
+    lines = []
+    for title, sizes, rows in parts(ours, theirs):
+        lines += ["", "| " + " | ".join([f"{title[0].upper()}{title[1:]}, pairs", *head(sizes)]) + " |"]
+        lines.append("|---|" + "---:|" * len(sizes))
+        lines += ["| " + " | ".join(row) + " |" for row in rows]
+    return "\n".join([*lines, "", ""])
