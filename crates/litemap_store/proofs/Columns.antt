@@ -2,7 +2,7 @@
 --     length-zip_same, within-zip      as many pairs as keys;  zip-read, get_or-zip_same, zip-key, zip-none      the pair at a place, and past the end
 --     zip-append, zip-insert, zip-remove, zip-set, zip-set_value, zip-take      after a change of both, or of the values
 --     zip-swapped      after a swap in both
-use Rattle.std.proofs.Common.{◌≡◌, ℕ, zero, suc, ◌+◌, ◌<◌, ◌≤◌, List, [], ◌∷◌, ◌++◌, length, take, drop, slice_get, slice_set, get_or, Some, None, Vec, vec_len, refl, sym, ap, ◌∙◌, arith}
+use Rattle.std.proofs.Common.{◌≡◌, ℕ, zero, suc, ◌<◌, ◌≤◌, List, [], ◌∷◌, ◌++◌, length, take, slice_get, slice_set, get_or, Some, None, Vec, vec_len, refl, sym, ap, ◌∙◌, arith}
 use Rattle.std.specs.Option.{option_map_or}
 use Rattle.std.specs.List.{insert, remove, zip}
 use Rattle.std.proofs.lemmas.Slice.Zip.{get_or-zip}

@@ -1,5 +1,4 @@
-use Rattle.std.proofs.Common.{◌≡◌, length, arith}
-use Rattle.std.specs.List.{zip}
+use Rattle.std.proofs.Common.{arith}
 use Rattle.std.specs.Vec.Iter.{into_iter_items}
 use Rattle.litemap_store.specs.IntoIter.{len_is}
 use Rattle.litemap_store.proofs.Columns.{length-zip_same}

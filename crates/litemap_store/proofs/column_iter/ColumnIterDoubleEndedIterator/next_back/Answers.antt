@@ -1,4 +1,4 @@
-use Rattle.std.proofs.Common.{◌≡◌, ◌+◌, ◌<◌, ◌++◌, ◌∷◌, [], length, length-append, ap, ◌∙◌, arith}
+use Rattle.std.proofs.Common.{◌≡◌, ◌++◌, ◌∷◌, [], length, length-append, ap, ◌∙◌, arith}
 use Rattle.std.specs.List.{zip}
 use Rattle.litemap_store.proofs.Columns.{zip-append}
 use Rattle.litemap_store.proofs.column_iter.ColumnIterDoubleEndedIterator.next_back.Goals as goal
