@@ -1,8 +1,10 @@
-//! Stores of pairs for the sorted map of the crate `litemap`: the traits of a store, a vector and a borrowed slice as
-//! stores, and the count of comparisons.
+//! Stores of pairs for the sorted map of the crate `litemap`: the traits of a store, a vector, two columns and a
+//! borrowed slice as stores, and the count of comparisons.
 #![tactic(auto)]
 
 pub mod by_scan;
+mod column_impl;
+mod column_iter;
 mod count;
 mod extend;
 pub mod extend_store;
@@ -10,6 +12,7 @@ mod into_iter;
 pub mod laws;
 mod no_room;
 mod query;
+mod retain;
 mod slice_impl;
 mod slice_iter;
 mod slice_search;

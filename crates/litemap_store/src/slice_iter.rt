@@ -4,6 +4,7 @@ ghost use Rattle.std.specs.Iterator.{at_most, UpTo};
 ghost use Rattle.std.specs.Iterator.SizeHint.{IsWithinCount};
 ghost use Rattle.std.specs.Map.Iter.{TakesFirst, TakesLast, deref_pair};
 
+use crate::slice_search::Keys;
 use crate::store::PairIter;
 use std::marker::Model;
 
@@ -83,4 +84,19 @@ impl<'a, K: 'a, V: 'a> PairIter<'a, K, V> for SliceIter<'a, K, V> {
     ghost last = { λ _ _ _ h. h };
 
     ghost count = { λ _. refl };
+}
+
+impl<'a, K, V> Keys<K, V> for SliceIter<'a, K, V> {
+    ghost pairs = { λ s. s };
+
+    fn key_count(&self) -> usize {
+        self.len()
+    }
+
+    #[inline(always)]
+    fn key_at(&self, index: usize) -> &K {
+        let pairs = self.rest;
+        let pair = &pairs[index];
+        &pair.0
+    }
 }

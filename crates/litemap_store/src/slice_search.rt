@@ -1,5 +1,5 @@
-//! The search of the stores whose pairs lie side by side in memory, with no jump that hangs on an answer.
-ghost use Rattle.std.specs.Prelude.{◌≡◌, ◌≤◌, length, if◌then◌else◌};
+//! The search of the stores whose keys lie in slices, with no jump that hangs on an answer.
+ghost use Rattle.std.specs.Prelude.{◌≡◌, ◌<◌, ◌≤◌, List, Some, length, slice_get, if◌then◌else◌};
 ghost use Rattle.litemap_store.specs.Counts.{RisesByAtMost};
 ghost use Rattle.litemap_store.specs.Digits.{digits};
 ghost use Rattle.litemap_store.specs.Search.{Shaped, Found};
@@ -7,6 +7,21 @@ ghost use Rattle.litemap_store.specs.Search.{Shaped, Found};
 use crate::count::Count;
 use std::cmp::Ordering;
 use std::mem;
+
+/// The keys of pairs, which can be read at any place with no check of it.
+pub trait Keys<K, V> {
+    /// The pairs.
+    ghost pairs: { Self → List (K × V) };
+
+    /// The number of pairs.
+    fn key_count(&self) -> usize
+        ensures { result ≡ length (pairs self.now) };
+
+    /// The key at a place.
+    fn key_at(&self, index: usize) -> &K
+        requires { index < length (pairs self.now) }
+        ensures { (value : V) × (slice_get (pairs self.now) index ≡ Some (result.now, value)) };
+}
 
 // A key of at most as many bytes is a number, or as cheap to compare as one.
 const SMALL: usize = 8;
@@ -23,24 +38,24 @@ fn choose(is_first: bool, first: usize, second: usize) -> usize
 // The middle is asked once, and what is left is at most half. Small keys cost less than a jump that is guessed wrongly:
 // there what is left is half whatever the answer, so that the number of steps hangs on the length alone. Among larger
 // ones each key is asked once at most, and `Equal` ends the search. All choices become conditional moves.
-pub(crate) fn find<K, V, F: FnMut(&K) -> Ordering>(
-    pairs: &[(K, V)],
+pub fn find<K, V, S: Keys<K, V>, F: FnMut(&K) -> Ordering>(
+    keys: &S,
     f: F,
     count: &mut Count,
 ) -> Result<usize, usize>
-    requires { Shaped F.FnMut pairs.now f }
-    ensures found { Found F.FnMut pairs.now f result }
-    ensures cost { RisesByAtMost (digits (length pairs.now)) count.old count.new }
+    requires { Shaped F.FnMut (S.pairs keys.now) f }
+    ensures found { Found F.FnMut (S.pairs keys.now) f result }
+    ensures cost { RisesByAtMost (digits (length (S.pairs keys.now))) count.old count.new }
 {
     let mut f = f;
     let mut low = 0;
-    let mut left = pairs.len();
+    let mut left = keys.key_count();
     // The place behind the one found, or 0.
     let mut hit = 0;
     while 0 < left {
         let half = left / 2;
         let next = low + (left - half);
-        let key = &pairs[next - 1].0;
+        let key = keys.key_at(next - 1);
         let is_small = mem::size_of_val(key) <= SMALL;
         let before = choose(is_small, half, left - half - 1);
         let rest = choose(is_small, half, 0);

@@ -1,9 +1,10 @@
 //! A vector of pairs as a store. Its room is its capacity less its length.
 ghost use Rattle.std.specs.Prelude.{◌≡◌, ◌≤◌, [], vec_capacity, vec_len};
-ghost use Rattle.litemap_store.specs.Retain.{CallableOnEach, CalledOnPair, Kept, TakesPair};
+ghost use Rattle.litemap_store.specs.Retain.{CallableOnEach, Kept};
 ghost use Rattle.litemap_store.specs.VecStore.{vec_room, vec_with_value, vec_writes, vec_keeps_room};
 
 use crate::extend::{gather, last_of};
+use crate::retain::is_kept;
 use crate::slice_search;
 use crate::store::{
     Count, NoRoom, SliceIter, Store, StoreBulkMut, StoreConstEmpty, StoreFromIterable,
@@ -33,7 +34,7 @@ impl<K, V> Store<K, V> for Vec<(K, V)> {
         f: F,
         count: &mut Count,
     ) -> Result<usize, usize> {
-        slice_search::find(self.as_slice(), f, count)
+        slice_search::find(&SliceIter::new(self.as_slice()), f, count)
     }
 }
 
@@ -114,7 +115,8 @@ impl<K: Ord + Drop, V: Drop> StoreBulkMut<K, V> for Vec<(K, V)> {
     {
         let mut kept = 0;
         for index in 0..self.len() {
-            if !is_kept(&mut f, &self[index]) {
+            let pair = &self[index];
+            if !is_kept(&mut f, &pair.0, &pair.1) {
                 continue;
             }
             self.swap(kept, index);
@@ -150,12 +152,4 @@ impl<K: Drop, V: Drop> StoreFromIterator<K, V> for Vec<(K, V)> {
     ) -> Result<Self, AllocError> {
         gather(alloc, iter)
     }
-}
-
-// What a closure answers of a pair.
-fn is_kept<K, V, F: FnMut(&K, &V) -> bool>(f: &mut F, pair: &(K, V)) -> bool
-    requires { TakesPair F.FnMut f.old pair.now }
-    ensures { CalledOnPair F.FnMut f.old pair.now result f.new }
-{
-    f(&pair.0, &pair.1)
 }

@@ -8,5 +8,5 @@ mod program;
 mod session;
 mod watch;
 
-pub use program::run;
+pub use program::{run, run_with};
 pub use watch::Watch;

@@ -13,6 +13,7 @@ use crate::input::{InputEnd, read_input};
 use crate::lines::first_line;
 use crate::session::{Names, reply};
 use crate::watch::Watch;
+use litemap::store::{StoreConstEmpty, StoreMut};
 use std::alloc::Global;
 use std::io;
 use std::io::{Read, Write};
@@ -33,6 +34,8 @@ pub enum LinesEnd {
 /// The status is 0 where all lines are done. It is 2 where a line is bad, after `bad line N`, and where the input is too
 /// long, after `input too long` alone. It is 3 where memory is refused, after `no memory`. It is 4 where a read met a
 /// fault, after `read fault` alone, and where a write met one.
+///
+/// The names are kept in a vector.
 pub fn run<R: Read, W: Write>(alloc: Global, reader: &mut Watch<R>, writer: &mut Watch<W>) -> u8
     // The status is 4 exactly where a call met a fault.
     ensures faults { reader.old.failed ≡ false → writer.old.failed ≡ false
@@ -62,11 +65,44 @@ pub fn run<R: Read, W: Write>(alloc: Global, reader: &mut Watch<R>, writer: &mut
     ensures writer_stops { NoCallAfterFault writer.old writer.new }
     ensures reads_come_first { met_fault writer.old ≡ false → is_unsettled reader.new ≡ false }
 {
+    run_with::<Vec<(String, String)>, R, W>(alloc, reader, writer)
+}
+
+/// Does what `run` does, with the names kept in a store of another type.
+pub fn run_with<S, R: Read, W: Write>(
+    alloc: Global,
+    reader: &mut Watch<R>,
+    writer: &mut Watch<W>,
+) -> u8
+where
+    S: StoreConstEmpty<String, String> + StoreMut<String, String> + Drop,
+    ensures faults { reader.old.failed ≡ false → writer.old.failed ≡ false
+        → (result ≡ 4) ↔ ((reader.new.failed || writer.new.failed) ≡ true) }
+    ensures read_fault { reader.new.failed ≡ true → reader.old.failed ≡ false → writer.new.failed ≡ false
+        → Appends (⟦<Watch<W> as Write>⟧.contents writer.old) (⟦<Watch<W> as Write>⟧.contents writer.new) read_fault }
+    ensures told { reader.new.failed ≡ false → writer.new.failed ≡ false
+        → (bytes : List ℕ) × (out : List ℕ)
+        × Consumes (⟦<Watch<R> as Read>⟧.remaining reader.old) (⟦<Watch<R> as Read>⟧.remaining reader.new) bytes
+        × Appends (⟦<Watch<W> as Write>⟧.contents writer.old) (⟦<Watch<W> as Write>⟧.contents writer.new) out
+        × Told bytes out result
+        × (result ≢ 3 → length bytes ≤ most_bytes → IsAtEnd (⟦<Watch<R> as Read>⟧.remaining reader.new)) }
+    ensures cut { reader.new.failed ≡ false → writer.old.failed ≡ false → writer.new.failed ≡ true
+        → (bytes : List ℕ) × (front : List ℕ)
+        × Consumes (⟦<Watch<R> as Read>⟧.remaining reader.old) (⟦<Watch<R> as Read>⟧.remaining reader.new) bytes
+        × Appends (⟦<Watch<W> as Write>⟧.contents writer.old) (⟦<Watch<W> as Write>⟧.contents writer.new) front
+        × ToldFront bytes front }
+    ensures both_faults { reader.old.failed ≡ false → reader.new.failed ≡ true
+        → writer.old.failed ≡ false → writer.new.failed ≡ true
+        → AppendsFront (⟦<Watch<W> as Write>⟧.contents writer.old) (⟦<Watch<W> as Write>⟧.contents writer.new) read_fault }
+    ensures reader_stops { NoCallAfterFault reader.old reader.new }
+    ensures writer_stops { NoCallAfterFault writer.old writer.new }
+    ensures reads_come_first { met_fault writer.old ≡ false → is_unsettled reader.new ≡ false }
+{
     let mut input = Vec::new(alloc);
     let ending = read_input(reader, &mut input);
     reader.settle_before(writer);
     match ending {
-        InputEnd::Whole => run_lines(alloc, &input, writer),
+        InputEnd::Whole => run_lines::<S, W>(alloc, &input, writer),
         InputEnd::TooLong => finish(writer, b"input too long\n", 2),
         InputEnd::NoMemory => finish(writer, b"no memory\n", 3),
         InputEnd::Fault => finish(writer, b"read fault\n", 4),
@@ -74,7 +110,9 @@ pub fn run<R: Read, W: Write>(alloc: Global, reader: &mut Watch<R>, writer: &mut
 }
 
 // Does the lines of the input, writes the last line, and gives the status.
-fn run_lines<W: Write>(alloc: Global, input: &[u8], writer: &mut Watch<W>) -> u8
+fn run_lines<S, W: Write>(alloc: Global, input: &[u8], writer: &mut Watch<W>) -> u8
+where
+    S: StoreConstEmpty<String, String> + StoreMut<String, String> + Drop,
     requires { length input.now ≤ most_bytes }
     ensures told { writer.new.failed ≡ false → (out : List ℕ)
         × Appends (W.contents writer.old.inner) (W.contents writer.new.inner) out × Told input.now out result }
@@ -83,7 +121,7 @@ fn run_lines<W: Write>(alloc: Global, input: &[u8], writer: &mut Watch<W>) -> u8
         × Appends (W.contents writer.old.inner) (W.contents writer.new.inner) front × ToldFront input.now front }
     ensures nothing_after { NoCallAfterFault writer.old writer.new }
 {
-    match answer_lines(alloc, input, writer) {
+    match answer_lines::<S, W>(alloc, input, writer) {
         Ok(LinesEnd::Done) => 0,
         Ok(LinesEnd::BadLine(n)) => match format!(in alloc; "bad line {n}\n") {
             Ok(text) => finish(writer, text.as_bytes(), 2),
@@ -95,11 +133,13 @@ fn run_lines<W: Write>(alloc: Global, input: &[u8], writer: &mut Watch<W>) -> u8
 }
 
 // Does the lines in order and writes their answers, until one is bad or memory is refused.
-fn answer_lines<W: Write>(
+fn answer_lines<S, W: Write>(
     alloc: Global,
     input: &[u8],
     writer: &mut Watch<W>,
 ) -> io::Result<LinesEnd>
+where
+    S: StoreConstEmpty<String, String> + StoreMut<String, String> + Drop,
     requires { length input.now ≤ most_bytes }
     ensures ended { IfOk result (λ end. (text : List ℕ)
         × Appends (W.contents writer.old.inner) (W.contents writer.new.inner) text × WritesUntil end (lines_of input.now) text) }
@@ -110,7 +150,7 @@ fn answer_lines<W: Write>(
     ensures unmet { IfOk result (λ _. met_fault writer.new ≡ met_fault writer.old) }
     ensures nothing_after { NoCallAfterFault writer.old writer.new }
 {
-    let mut names = Names::new_vec(alloc);
+    let mut names = Names::<S>::new(alloc);
     let mut rest = Some(input);
     let mut done = 0;
     while let Some(bytes) = rest {

@@ -12,13 +12,18 @@ ghost use Rattle.names.specs.Texts.{names_of, pair_bytes};
 
 use crate::lines::{Command, parse};
 use litemap::LiteMap;
+use litemap::store::{Store, StoreMut};
 use std::alloc::{AllocError, Global};
 
-/// The names and their values.
-pub type Names = LiteMap<String, String, Vec<(String, String)>>;
+/// The names and their values, kept in a store.
+pub type Names<S> = LiteMap<String, String, S>;
 
 /// Does a line, and gives the text that answers it, or nothing if the line is bad.
-pub fn reply(alloc: Global, names: &mut Names, line: &[u8]) -> Result<Option<String>, AllocError>
+pub fn reply<S: StoreMut<String, String>>(
+    alloc: Global,
+    names: &mut Names<S>,
+    line: &[u8],
+) -> Result<Option<String>, AllocError>
     ensures { IfOk result (λ reply. MatchOption reply (IsBad line.now)
         (λ text. Does (names_of names.old) line.now (string_bytes text) (names_of names.new))) }
 {
@@ -32,7 +37,11 @@ pub fn reply(alloc: Global, names: &mut Names, line: &[u8]) -> Result<Option<Str
 }
 
 // Does a command, and gives the text that answers it.
-fn answer(alloc: Global, names: &mut Names, command: Command<'_>) -> Result<String, AllocError>
+fn answer<S: StoreMut<String, String>>(
+    alloc: Global,
+    names: &mut Names<S>,
+    command: Command<'_>,
+) -> Result<String, AllocError>
     ensures { IfOk result
         (λ text. DoesCommand (names_of names.old) command.entry (string_bytes text) (names_of names.new)) }
 {
@@ -46,7 +55,12 @@ fn answer(alloc: Global, names: &mut Names, command: Command<'_>) -> Result<Stri
 }
 
 // Puts a value at a key.
-fn insert(alloc: Global, names: &mut Names, key: &str, value: &str) -> Result<String, AllocError>
+fn insert<S: StoreMut<String, String>>(
+    alloc: Global,
+    names: &mut Names<S>,
+    key: &str,
+    value: &str,
+) -> Result<String, AllocError>
     ensures { IfOk result
         (λ text. Answers (names_of names.old) (Insert key.now value.now) (string_bytes text) (names_of names.new)) }
 {
@@ -70,7 +84,11 @@ fn insert_reply(alloc: Global, old: Option<String>) -> Result<String, AllocError
 }
 
 // Looks at the value of a key. It takes memory for its answer alone.
-fn get(alloc: Global, names: &Names, key: &str) -> Result<String, AllocError>
+fn get<S: Store<String, String>>(
+    alloc: Global,
+    names: &Names<S>,
+    key: &str,
+) -> Result<String, AllocError>
     ensures { IfOk result
         (λ text. Answers (names_of names.now) (Get key.now) (string_bytes text) (names_of names.now)) }
 {
@@ -78,7 +96,11 @@ fn get(alloc: Global, names: &Names, key: &str) -> Result<String, AllocError>
 }
 
 // Removes a key. It takes memory for its answer alone: also where that is refused, the key is gone.
-fn remove(alloc: Global, names: &mut Names, key: &str) -> Result<String, AllocError>
+fn remove<S: StoreMut<String, String>>(
+    alloc: Global,
+    names: &mut Names<S>,
+    key: &str,
+) -> Result<String, AllocError>
     ensures answers { IfOk result
         (λ text. Answers (names_of names.old) (Remove key.now) (string_bytes text) (names_of names.new)) }
     ensures left { (names_of names.new).pairs ≡ cut (slice_cmp nat_cmp) (names_of names.old).pairs key.now }
@@ -99,7 +121,11 @@ fn value_reply(alloc: Global, value: Option<&String>) -> Result<String, AllocErr
 }
 
 // Finds the place of a key. It takes memory for its answer alone.
-fn find(alloc: Global, names: &Names, key: &str) -> Result<String, AllocError>
+fn find<S: Store<String, String>>(
+    alloc: Global,
+    names: &Names<S>,
+    key: &str,
+) -> Result<String, AllocError>
     ensures { IfOk result
         (λ text. Answers (names_of names.now) (Find key.now) (string_bytes text) (names_of names.now)) }
 {
@@ -118,7 +144,7 @@ fn place_reply(alloc: Global, place: Result<usize, usize>) -> Result<String, All
 }
 
 // The text of all pairs, in order.
-fn show(alloc: Global, names: &Names) -> Result<String, AllocError>
+fn show<S: Store<String, String>>(alloc: Global, names: &Names<S>) -> Result<String, AllocError>
     ensures { IfOk result (λ text. string_bytes text ≡ flat_map pair_text (names_of names.now).pairs) }
 {
     let mut text = String::new(alloc);
@@ -129,7 +155,11 @@ fn show(alloc: Global, names: &Names) -> Result<String, AllocError>
 }
 
 // Adds the pair at a place to the text.
-fn push_pair(text: &mut String, names: &Names, index: usize) -> Result<(), AllocError>
+fn push_pair<S: Store<String, String>>(
+    text: &mut String,
+    names: &Names<S>,
+    index: usize,
+) -> Result<(), AllocError>
     ensures { OnOk result (IfSome (slice_get names.now.pairs index)
         (λ pair. string_bytes text.new ≡ string_bytes text.old ++ pair_text (pair_bytes pair))) }
 {

@@ -1,42 +1,47 @@
-use Rattle.std.proofs.Common.{◌≡◌, ◌+◌, ◌≤◌, length, ◌-◌, ◌/◌, arith, refl, ◌∙◌, ap, cond, Some, nat_le, slice_get, slice_index_or}
+use Rattle.std.proofs.Common.{◌≡◌, ◌+◌, ◌≤◌, length, ◌-◌, ◌/◌, arith, refl, sym, ◌∙◌, ap, subst, cond, nat_le}
 use Rattle.std.specs.List.{Any}
 use Rattle.std.specs.Ordering.{is_eq, is_lt}
 use Rattle.litemap_store.specs.Digits.{digits, digits-halved}
-use Rattle.litemap_store.proofs.Halving.{Seen-whole, Seen-next, Finds-nowhere, known, takes, next, left_next, left_after, slice_get-at}
+use Rattle.litemap_store.specs.Search.{Shape}
+use Rattle.litemap_store.proofs.Halving.{Seen-whole, Seen-next, Finds-nowhere, known, takes, next, left_next, left_after}
 use Rattle.litemap_store.proofs.slice_search.find.Goals as goal
 
 pub loop-left-init : goal.loop-left-init
-loop-left-init g c = record {
-  within = omega arith;
-  shaped = (c.requires.ord, c.requires.shape);
-  seen = λ ord s. (s, Seen-whole ord c.args.pairs.now _ (omega arith));
-  same = refl;
-  not_lowered = omega arith;
-  cost = omega arith;
-}
+loop-left-init g c =
+    let list = g.S.Keys.pairs c.args.keys.now in
+    let all : length list ≡ c.key_count-left.result = sym c.key_count-left.ensures in
+    record {
+      within = omega arith;
+      shaped = (c.requires.ord, subst (λ n. Shape g.F.FnMut list c.requires.ord (digits n) c.args.f) all c.requires.shape);
+      seen = λ ord s. (subst (λ n. Shape g.F.FnMut list ord (digits n) c.args.f) all s, Seen-whole ord list _ (omega arith));
+      same = refl;
+      not_lowered = omega arith;
+      cost = rw (← all) (omega arith);
+    }
 
 pub ask-answer-requires : goal.ask-answer-requires
 ask-answer-requires g c =
-    let list = c.args.pairs.now in
+    let list = g.S.Keys.pairs c.args.keys.now in
     let m = c.loop-left.low + (c.loop-left.left - c.loop-left.left / 2) - 1 in
-    let p = slice_index_or list m c.index-pairs-next.result in
-    let a : Any (λ q. q.0 ≡ p.0) list = known list m p.0 p.1 (slice_get-at list m _ (omega arith)) in
+    let key = c.key_at-key.result.now in
+    let (value, e) = c.key_at-key.ensures in
+    let a : Any (λ q. q.0 ≡ key) list = known list m key value e in
     let d : digits 0 + 1 ≤ digits c.loop-left.left = digits-halved 0 _ (omega arith) (omega arith) in
     let s = c.loop-left.invariant.shaped in
-    takes g.F.FnMut list s.0 _ c.loop-left.f p.0 (omega arith) s.1 a
+    takes g.F.FnMut list s.0 _ c.loop-left.f key (omega arith) s.1 a
 
 pub loop-left-preserved : goal.loop-left-preserved
 loop-left-preserved g c =
-    let list = c.args.pairs.now in
+    let list = g.S.Keys.pairs c.args.keys.now in
     let low = c.loop-left.low in
     let left = c.loop-left.left in
     let m = low + (left - left / 2) - 1 in
-    let p = slice_index_or list m c.index-pairs-next.result in
+    let key = c.key_at-key.result.now in
     let small = nat_le c.size_of_val-is_small.result 8 in
     let answer = c.ask-answer.result in
     let inv = c.loop-left.invariant in
-    let e : slice_get list m ≡ Some p = slice_get-at list m c.index-pairs-next.result (omega arith) in
-    let a : Any (λ q. q.0 ≡ p.0) list = known list m p.0 p.1 e in
+    let (value, e) = c.key_at-key.ensures in
+    let a : Any (λ q. q.0 ≡ key) list = known list m key value e in
     let called = c.ask-answer.ensures.called in
     let t = left_next small answer low left (length list) inv.within (omega arith) in
     let is_low : c.choose-low.result ≡ cond (is_lt answer) (low + (left - left / 2)) low =
@@ -50,9 +55,9 @@ loop-left-preserved g c =
     let s = inv.shaped in
     record {
       within = rw (is_low, is_left) t.0;
-      shaped = (s.0, (next g.F.FnMut list s.0 _ _ _ p.0 _ _ d s.1 a called).1);
-      seen = λ ord sh. let old = inv.seen ord sh in let n = next g.F.FnMut list ord _ _ _ p.0 _ _ d old.0 a called in
-          (n.1, rw (is_hit, is_low, is_left) (Seen-next ord list old.0.ascends small c.loop-left.hit low left p.0 p.1 answer (omega arith) e old.1 n.0));
+      shaped = (s.0, (next g.F.FnMut list s.0 _ _ _ key _ _ d s.1 a called).1);
+      seen = λ ord sh. let old = inv.seen ord sh in let n = next g.F.FnMut list ord _ _ _ key _ _ d old.0 a called in
+          (n.1, rw (is_hit, is_low, is_left) (Seen-next ord list old.0.ascends small c.loop-left.hit low left key value answer (omega arith) e old.1 n.0));
       same = c.ask-answer.ensures.same ∙ inv.same;
       not_lowered = omega arith;
       cost = omega arith;
@@ -61,4 +66,4 @@ loop-left-preserved g c =
 pub returns-clause-found : goal.returns-clause-found
 returns-clause-found g c =
     let inv = c.loop-left.invariant in
-    record { at = λ ord sh. Finds-nowhere ord c.args.pairs.now c.loop-left.low (c.loop-left.low + c.loop-left.left) (omega arith) (omega arith) ((inv.seen ord sh).1.open_ (omega arith)) }
+    record { at = λ ord sh. Finds-nowhere ord (g.S.Keys.pairs c.args.keys.now) c.loop-left.low (c.loop-left.low + c.loop-left.left) (omega arith) (omega arith) ((inv.seen ord sh).1.open_ (omega arith)) }

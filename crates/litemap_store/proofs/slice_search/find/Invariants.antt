@@ -6,7 +6,7 @@ use Rattle.litemap_store.proofs.Halving.{Seen}
 use Rattle.litemap_store.proofs.slice_search.find.Given as goal
 
 abbrev pub invariant-loop-left : goal.invariant-loop-left
-invariant-loop-left g l = let list = l.pairs in record {
+invariant-loop-left g l = let list = g.S.Keys.pairs l.keys in record {
   within : l.low + l.left ≤ length list;
   shaped : (ord : g.row.K.Denot → Ordering) × Shape g.F.FnMut list ord (digits l.left) l.f;
   seen : (ord : g.row.K.Denot → Ordering) → Shape g.F.FnMut list ord (digits (length list)) l.fn.f

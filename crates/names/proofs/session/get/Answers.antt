@@ -3,4 +3,4 @@ use Rattle.names.proofs.Calls.{get_answers}
 use Rattle.names.proofs.session.get.Goals as goal
 
 pub returns : goal.returns
-returns c = get_answers c.args.names.now c.args.key.now c.value_reply.result (option_copied c.get.result) c.get.ensures c.value_reply.ensures
+returns g c = get_answers c.args.names.now c.args.key.now c.value_reply.result (option_copied c.get.result) c.get.ensures c.value_reply.ensures

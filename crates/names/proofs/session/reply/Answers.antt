@@ -3,4 +3,4 @@ use Rattle.names.proofs.Calls.{does_command}
 use Rattle.names.proofs.session.reply.Goals as goal
 
 pub returns : goal.returns
-returns c = does_command (names_of c.args.names.now) (names_of c.answer.new.names) c.args.line.now _ c.in-Some.command c.in-Some.ensures.spelled c.in_ok-answer.ensures
+returns g c = does_command (names_of c.args.names.now) (names_of c.answer.new.names) c.args.line.now _ c.in-Some.command c.in-Some.ensures.spelled c.in_ok-answer.ensures

@@ -6,4 +6,4 @@ use Rattle.names.specs.Texts.{pair_bytes}
 use Rattle.names.proofs.session.show.Given as goal
 
 abbrev pub invariant-loop-index : goal.invariant-loop-index
-invariant-loop-index l = string_bytes l.text ≡ flat_map (λ pair. pair_text (pair_bytes pair)) (take l.index l.names.pairs)
+invariant-loop-index g l = string_bytes l.text ≡ flat_map (λ pair. pair_text (pair_bytes pair)) (take l.index l.names.pairs)

@@ -1,0 +1,103 @@
+-- Two lists of one length, one of keys and one of values: what is done to both is done to the pairs.
+--     length-zip_same, within-zip      as many pairs as keys;  zip-read, get_or-zip_same, zip-key, zip-none      the pair at a place, and past the end
+--     zip-append, zip-insert, zip-remove, zip-set, zip-set_value, zip-take      after a change of both, or of the values
+--     zip-swapped      after a swap in both
+use Rattle.std.proofs.Common.{◌≡◌, ℕ, zero, suc, ◌<◌, ◌≤◌, List, [], ◌∷◌, ◌++◌, length, take, slice_get, slice_set, get_or, Some, None, Vec, vec_len, refl, sym, ap, ◌∙◌, arith}
+use Rattle.std.specs.Option.{option_map_or}
+use Rattle.std.specs.List.{insert, remove, zip}
+use Rattle.std.proofs.lemmas.Slice.Zip.{get_or-zip}
+use Rattle.litemap_store.specs.Pairs.{set_value}
+
+pub same_length : {K V Y Z : Type 0} (keys : Vec K Y) (values : Vec V Z) → vec_len keys ≡ vec_len values → length keys.items ≡ length values.items
+same_length keys values h = omega (arith, keys.ok.0, values.ok.0)
+
+module _ {K V : Type 0} where
+  set_value-cons : (p : K × V) (L : List (K × V)) (i : ℕ) (v : V) → p ∷ set_value L i v ≡ set_value (p ∷ L) (suc i) v
+  set_value-cons p L i v =
+      elim (slice_get L i) as (λ o. p ∷ option_map_or (λ q. slice_set L i (q.0, v)) o L ≡ option_map_or (λ q. p ∷ slice_set L i (q.0, v)) o (p ∷ L)) [ None ↦ refl | Some q ↦ refl ]
+
+  pub length-zip_same : (ks : List K) (vs : List V) → length ks ≡ length vs → length (zip ks vs) ≡ length ks
+  length-zip_same [] vs h = refl
+  length-zip_same (k ∷ ks) [] h = absurd (omega arith)
+  length-zip_same (k ∷ ks) (v ∷ vs) h = ap suc (length-zip_same ks vs (omega arith))
+
+  pub within-zip : (ks : List K) (vs : List V) (i : ℕ) → length ks ≡ length vs → i < length (zip ks vs) → i < length ks
+  within-zip ks vs i h u = let e : length (zip ks vs) ≡ length ks = length-zip_same ks vs h in omega arith
+
+  -- the pair at a place is the key and the value there
+  pub zip-read : (ks : List K) (vs : List V) (i : ℕ) (k : K) (v : V) → length ks ≡ length vs → i < length ks → k ≡ get_or ks i k → v ≡ get_or vs i v → slice_get (zip ks vs) i ≡ Some (k, v)
+  zip-read [] vs i k v h u a b = absurd (omega arith)
+  zip-read (j ∷ ks) [] i k v h u a b = absurd (omega arith)
+  zip-read (j ∷ ks) (w ∷ vs) zero k v h u a b = cc
+  zip-read (j ∷ ks) (w ∷ vs) (suc i) k v h u a b = zip-read ks vs i k v (omega arith) (omega arith) a b
+
+  -- the same in the form of `get_or`
+  pub get_or-zip_same : (ks : List K) (vs : List V) (i : ℕ) (k : K) (v : V) → length ks ≡ length vs → i < length ks → k ≡ get_or ks i k → v ≡ get_or vs i v → (k, v) ≡ get_or (zip ks vs) i (k, v)
+  get_or-zip_same ks vs i k v h u a b =
+      let e : get_or (zip ks vs) i (k, v) ≡ (get_or ks i k, get_or vs i v) = get_or-zip ks vs i (k, v) u (omega arith) in
+      ap (λ (j : K). (j, v)) a ∙ ap (λ (w : V). (get_or ks i k, w)) b ∙ sym e
+
+  -- there is a value beside the key at a place
+  pub zip-key : (ks : List K) (vs : List V) (i : ℕ) (d : K) → length ks ≡ length vs → i < length ks → (v : V) × (slice_get (zip ks vs) i ≡ Some (get_or ks i d, v))
+  zip-key [] vs i d h u = absurd (omega arith)
+  zip-key (j ∷ ks) [] i d h u = absurd (omega arith)
+  zip-key (j ∷ ks) (w ∷ vs) zero d h u = (w, refl)
+  zip-key (j ∷ ks) (w ∷ vs) (suc i) d h u = zip-key ks vs i d (omega arith) (omega arith)
+
+  pub zip-none : (ks : List K) (vs : List V) (i : ℕ) → length ks ≤ i → slice_get (zip ks vs) i ≡ None
+  zip-none [] vs i h = refl
+  zip-none (j ∷ ks) [] i h = refl
+  zip-none (j ∷ ks) (w ∷ vs) zero h = absurd (omega arith)
+  zip-none (j ∷ ks) (w ∷ vs) (suc i) h = zip-none ks vs i (omega arith)
+
+  pub zip-append : (ks : List K) (vs : List V) (k : K) (v : V) → length ks ≡ length vs → zip (ks ++ k ∷ []) (vs ++ v ∷ []) ≡ zip ks vs ++ (k, v) ∷ []
+  zip-append [] [] k v h = refl
+  zip-append [] (w ∷ vs) k v h = absurd (omega arith)
+  zip-append (j ∷ ks) [] k v h = absurd (omega arith)
+  zip-append (j ∷ ks) (w ∷ vs) k v h = ap (λ L. (j, w) ∷ L) (zip-append ks vs k v (omega arith))
+
+  pub zip-insert : (ks : List K) (vs : List V) (i : ℕ) (k : K) (v : V) → i ≤ length ks → length ks ≡ length vs → zip (insert ks i k) (insert vs i v) ≡ insert (zip ks vs) i (k, v)
+  zip-insert [] [] zero k v u h = refl
+  zip-insert [] [] (suc i) k v u h = absurd (omega arith)
+  zip-insert [] (w ∷ vs) i k v u h = absurd (omega arith)
+  zip-insert (j ∷ ks) [] i k v u h = absurd (omega arith)
+  zip-insert (j ∷ ks) (w ∷ vs) zero k v u h = refl
+  zip-insert (j ∷ ks) (w ∷ vs) (suc i) k v u h = ap (λ L. (j, w) ∷ L) (zip-insert ks vs i k v (omega arith) (omega arith))
+
+  pub zip-remove : (ks : List K) (vs : List V) (i : ℕ) → length ks ≡ length vs → zip (remove ks i) (remove vs i) ≡ remove (zip ks vs) i
+  zip-remove [] [] zero h = refl
+  zip-remove [] [] (suc i) h = refl
+  zip-remove [] (w ∷ vs) i h = absurd (omega arith)
+  zip-remove (j ∷ ks) [] i h = absurd (omega arith)
+  zip-remove (j ∷ ks) (w ∷ vs) zero h = refl
+  zip-remove (j ∷ ks) (w ∷ vs) (suc i) h = ap (λ L. (j, w) ∷ L) (zip-remove ks vs i (omega arith))
+
+  pub zip-set : (ks : List K) (vs : List V) (i : ℕ) (k : K) (v : V) → zip (slice_set ks i k) (slice_set vs i v) ≡ slice_set (zip ks vs) i (k, v)
+  zip-set [] vs i k v = refl
+  zip-set (j ∷ ks) [] zero k v = refl
+  zip-set (j ∷ ks) [] (suc i) k v = refl
+  zip-set (j ∷ ks) (w ∷ vs) zero k v = refl
+  zip-set (j ∷ ks) (w ∷ vs) (suc i) k v = ap (λ L. (j, w) ∷ L) (zip-set ks vs i k v)
+
+  -- another value at a place where there is a key
+  pub zip-set_value : (ks : List K) (vs : List V) (i : ℕ) (v : V) → zip ks (slice_set vs i v) ≡ set_value (zip ks vs) i v
+  zip-set_value [] vs i v = refl
+  zip-set_value (j ∷ ks) [] i v = refl
+  zip-set_value (j ∷ ks) (w ∷ vs) zero v = refl
+  zip-set_value (j ∷ ks) (w ∷ vs) (suc i) v = ap (λ L. (j, w) ∷ L) (zip-set_value ks vs i v) ∙ set_value-cons (j, w) (zip ks vs) i v
+
+  pub zip-take : (ks : List K) (vs : List V) (n : ℕ) → zip (take n ks) (take n vs) ≡ take n (zip ks vs)
+  zip-take ks vs zero = refl
+  zip-take [] vs (suc n) = refl
+  zip-take (j ∷ ks) [] (suc n) = refl
+  zip-take (j ∷ ks) (w ∷ vs) (suc n) = ap (λ L. (j, w) ∷ L) (zip-take ks vs n)
+
+  -- two keys and their values in each other's place
+  pub zip-swapped : (ks ks' : List K) (vs vs' : List V) (k i : ℕ) (d : K × V) → length ks ≡ length vs → k < length ks → i < length ks
+      → ks' ≡ slice_set (slice_set ks k (get_or ks i d.0)) i (get_or ks k d.0) → vs' ≡ slice_set (slice_set vs k (get_or vs i d.1)) i (get_or vs k d.1)
+      → zip ks' vs' ≡ slice_set (slice_set (zip ks vs) k (get_or (zip ks vs) i d)) i (get_or (zip ks vs) k d)
+  zip-swapped ks ks' vs vs' k i d h u w is_keys is_values =
+      let at : get_or (zip ks vs) i d ≡ (get_or ks i d.0, get_or vs i d.1) = get_or-zip ks vs i d w (omega arith) in
+      let front : get_or (zip ks vs) k d ≡ (get_or ks k d.0, get_or vs k d.1) = get_or-zip ks vs k d u (omega arith) in
+      let once : zip (slice_set ks k (get_or ks i d.0)) (slice_set vs k (get_or vs i d.1)) ≡ slice_set (zip ks vs) k (get_or ks i d.0, get_or vs i d.1) = zip-set ks vs k _ _ in
+      rw (is_keys, is_values, at, front, zip-set, once) refl

@@ -1,0 +1,215 @@
+//! A vector of keys and a vector of values as a store. Its room is the smaller of theirs.
+ghost use Rattle.std.specs.Prelude.{◌≡◌, ◌+◌, ◌≤◌, ◌<◌, insert, refl, vec_capacity, vec_len};
+ghost use Rattle.litemap_store.specs.Columns.{columns_with_value};
+
+use crate::column_iter::{ColumnIntoIter, ColumnIter};
+use crate::retain::is_kept;
+use crate::slice_search;
+use crate::store::{
+    Count, NoRoom, Store, StoreBulkMut, StoreConstEmpty, StoreFromIterable, StoreFromIterator,
+    StoreIntoIterator, StoreIterable, StoreMut,
+};
+use std::alloc::{AllocError, Global};
+use std::cmp::Ordering;
+use std::marker::Model;
+use std::mem;
+
+/// A vector of keys, and a vector of the values that belong to them.
+///
+/// A search touches the keys alone, which lie side by side whatever the size of the values: that is what it is for. An
+/// insertion or a removal moves the later keys and the later values.
+///
+/// The Rust crate has no such store.
+#[derive(Drop)]
+pub struct ColumnStore<K, V> {
+    keys: Vec<K>,
+    values: Vec<V>,
+}
+
+impl<K, V> Model for ColumnStore<K, V> {
+    ghost use Rattle.std.specs.Prelude.{◌≡◌, vec_len};
+    ghost use Rattle.litemap_store.specs.Columns.{Columns, columns};
+
+    ghost Value = { Columns K V };
+
+    ghost view = { λ s. columns s.keys s.values };
+
+    ghost invariant = { λ s. vec_len s.keys ≡ vec_len s.values };
+}
+
+impl<K, V> Store<K, V> for ColumnStore<K, V> {
+    ghost pairs = { λ s. s.pairs };
+
+    ghost room = { λ s. s.room };
+
+    fn lm_len(&self) -> usize {
+        self.keys.len()
+    }
+
+    fn lm_get(&self, index: usize) -> Option<(&K, &V)> {
+        if index < self.keys.len() {
+            Some((&self.keys[index], &self.values[index]))
+        } else {
+            None
+        }
+    }
+
+    fn lm_binary_search_by<F: FnMut(&K) -> Ordering>(
+        &self,
+        f: F,
+        count: &mut Count,
+    ) -> Result<usize, usize> {
+        slice_search::find(&self.lm_iter(), f, count)
+    }
+}
+
+impl<K, V> StoreConstEmpty<K, V> for ColumnStore<K, V> {
+    fn lm_empty(alloc: Global) -> Self {
+        ColumnStore {
+            keys: Vec::new(alloc),
+            values: Vec::new(alloc),
+        }
+    }
+}
+
+impl<K, V> StoreMut<K, V> for ColumnStore<K, V> {
+    ghost with_value = { columns_with_value };
+
+    fn lm_with_capacity(alloc: Global, capacity: usize) -> Result<Self, AllocError> {
+        let keys = Vec::with_capacity(alloc, capacity)?;
+        match Vec::with_capacity(alloc, capacity) {
+            Ok(values) => Ok(ColumnStore { keys, values }),
+            Err(refused) => {
+                keys.destroy_empty();
+                Err(refused)
+            }
+        }
+    }
+
+    fn lm_reserve(&mut self, additional: usize) -> Result<(), AllocError> {
+        self.keys.reserve(additional)?;
+        self.values.reserve(additional)
+    }
+
+    fn lm_pair_mut(&mut self, index: usize) -> (&K, &mut V) {
+        let key = &self.keys[index];
+        let value = &mut self.values[index];
+        (key, value)
+    }
+
+    fn lm_replace(&mut self, index: usize, key: K, value: V) -> (K, V) {
+        let old_key = mem::replace(&mut self.keys[index], key);
+        let old_value = mem::replace(&mut self.values[index], value);
+        (old_key, old_value)
+    }
+
+    fn lm_push(&mut self, key: K, value: V) -> Result<(), NoRoom<(K, V)>> {
+        if self.lm_reserve(1).is_err() {
+            return Err(NoRoom { back: (key, value) });
+        }
+        self.keys.push_reserved(key);
+        self.values.push_reserved(value);
+        Ok(())
+    }
+
+    fn lm_insert(&mut self, index: usize, key: K, value: V) -> Result<(), NoRoom<(K, V)>> {
+        if self.lm_reserve(1).is_err() {
+            return Err(NoRoom { back: (key, value) });
+        }
+        insert_reserved(&mut self.keys, index, key);
+        insert_reserved(&mut self.values, index, value);
+        Ok(())
+    }
+
+    fn lm_remove(&mut self, index: usize) -> (K, V) {
+        let key = self.keys.remove(index);
+        let value = self.values.remove(index);
+        (key, value)
+    }
+
+    fn lm_clear(&mut self)
+    where
+        K: Drop,
+        V: Drop,
+    {
+        self.keys.clear();
+        self.values.clear();
+    }
+
+    ghost writes = { λ s i v. refl };
+
+    ghost keeps_room = { λ s i v. refl };
+}
+
+impl<K: Ord + Drop, V: Drop> StoreBulkMut<K, V> for ColumnStore<K, V> {
+    fn lm_retain<F: FnMut(&K, &V) -> bool>(&mut self, mut f: F) {
+        let mut kept = 0;
+        for index in 0..self.keys.len() {
+            let key = &self.keys[index];
+            let value = &self.values[index];
+            if !is_kept(&mut f, key, value) {
+                continue;
+            }
+            self.keys.swap(kept, index);
+            self.values.swap(kept, index);
+            kept += 1;
+        }
+        self.keys.truncate(kept);
+        self.values.truncate(kept);
+    }
+}
+
+impl<'a, K: 'a, V: 'a> StoreIterable<'a, K, V> for ColumnStore<K, V> {
+    type KeyValueIter = ColumnIter<'a, K, V>;
+
+    fn lm_iter(&'a self) -> ColumnIter<'a, K, V> {
+        ColumnIter::new(self.keys.as_slice(), self.values.as_slice())
+    }
+}
+
+impl<K: Ord + Drop, V: Drop> StoreFromIterable<K, V> for ColumnStore<K, V> {
+    fn lm_sort_from_iter<I: IntoIterator<Item = (K, V)>>(
+        alloc: Global,
+        iter: I,
+        count: &mut Count,
+    ) -> Result<Self, AllocError> {
+        let mut store: ColumnStore<K, V> = ColumnStore::lm_empty(alloc);
+        store.lm_extend(alloc, iter, count)?;
+        Ok(store)
+    }
+}
+
+impl<K: Drop, V: Drop> StoreFromIterator<K, V> for ColumnStore<K, V> {
+    fn lm_from_pairs<I: IntoIterator<Item = (K, V)>>(
+        alloc: Global,
+        iter: I,
+    ) -> Result<Self, AllocError> {
+        let mut keys = Vec::new(alloc);
+        let mut values = Vec::new(alloc);
+        for (key, value) in iter {
+            keys.push(key)?;
+            values.push(value)?;
+        }
+        Ok(ColumnStore { keys, values })
+    }
+}
+
+impl<K: Drop, V: Drop> StoreIntoIterator<K, V> for ColumnStore<K, V> {
+    type KeyValueIntoIter = ColumnIntoIter<K, V>;
+
+    fn lm_into_iter(self) -> ColumnIntoIter<K, V> {
+        ColumnIntoIter::new(self.keys, self.values)
+    }
+}
+
+// Puts an item at a place, in a vector that has room, by one move of the later ones.
+fn insert_reserved<T>(items: &mut Vec<T>, index: usize, item: T)
+    requires index { index ≤ vec_len items.old }
+    requires room { vec_len items.old < vec_capacity items.old }
+    ensures items { items.new.items ≡ insert items.old.items index item }
+    ensures len { vec_len items.new ≡ vec_len items.old + 1 }
+    ensures capacity { vec_capacity items.new ≡ vec_capacity items.old }
+{
+    items.push_reserved(item);
+    items[index..].rotate_right(1);
+}
