@@ -1,0 +1,20 @@
+//! Reads JSON texts as maps, and writes the maps as JSON: each line of standard input is `TYPES TEXT`, and the line
+//! that answers it is what the map is written as, or why it was not read or not written.
+//!
+//! `TYPES` names the types of the keys and of the items: see `rows`. `bin/json-rows` makes the input and tells the
+//! answers.
+#![tactic(auto)]
+
+mod evens;
+mod rows;
+
+use std::io;
+
+fn main(rt: HostRuntime) -> io::Result<()> {
+    let input = io::read_to_string(rt.alloc(), rt.stdin())?;
+    let mut output = String::new(rt.alloc());
+    for line in input.as_str().lines() {
+        rows::answer_line(rt.alloc(), line, &mut output)?;
+    }
+    rt.print(output.as_str())
+}

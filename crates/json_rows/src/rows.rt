@@ -1,0 +1,57 @@
+//! What answers a line.
+use crate::evens::Even;
+use litemap::LiteMap;
+use litemap_json::{JsonItem, JsonKey, from_json, to_json};
+use serde_json::Value;
+use std::alloc::{AllocError, Global};
+
+type Map<K, V> = LiteMap<K, V, Vec<(K, V)>>;
+
+/// Adds the line that answers a line.
+pub fn answer_line(alloc: Global, line: &str, output: &mut String) -> Result<(), AllocError> {
+    if let Some((types, text)) = line.split_once(' ') {
+        let answer = answer(alloc, types, text)?;
+        output.push_str(answer.as_str())?;
+    }
+    output.push_str("\n")
+}
+
+// The answer of a text at the types of this name.
+fn answer(alloc: Global, types: &str, text: &str) -> Result<String, AllocError> {
+    match types {
+        "u8" => written::<u8, u8>(alloc, text),
+        "u16" => written::<u16, u16>(alloc, text),
+        "u32" => written::<u32, u32>(alloc, text),
+        "u64" => written::<u64, u64>(alloc, text),
+        "i8" => written::<i8, i8>(alloc, text),
+        "i16" => written::<i16, i16>(alloc, text),
+        "i32" => written::<i32, i32>(alloc, text),
+        "i64" => written::<i64, i64>(alloc, text),
+        "bool" => written::<bool, bool>(alloc, text),
+        "text" => written::<String, String>(alloc, text),
+        "flags" => written::<bool, u32>(alloc, text),
+        "words" => written::<u32, String>(alloc, text),
+        "evens" => written::<Even, String>(alloc, text),
+        "tongues" => written::<(u32, String), String>(alloc, text),
+        "nested" => written::<((u8, bool), String), (u32, (bool, i8))>(alloc, text),
+        _ => String::from_str(alloc, "no such types"),
+    }
+}
+
+// The map that a text is read as, written as JSON.
+fn written<K: JsonKey + Drop, V: JsonItem + Drop>(
+    alloc: Global,
+    text: &str,
+) -> Result<String, AllocError> {
+    let Ok(value) = Value::from_str(alloc, text) else {
+        return String::from_str(alloc, "no JSON");
+    };
+    let map: Map<K, V> = match from_json(alloc, &value) {
+        Ok(map) => map,
+        Err(fault) => return format!(in alloc; "{fault}"),
+    };
+    match to_json(alloc, &map) {
+        Ok(value) => value.to_string(alloc),
+        Err(fault) => format!(in alloc; "{fault}"),
+    }
+}
