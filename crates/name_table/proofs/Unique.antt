@@ -36,7 +36,7 @@ ends_unique (p ∷ r ∷ ps) (q ∷ o ∷ bs) u v s t e =
     λ l. h l ∷ i l
 
 -- bytes that end a number don't go on
-ends_goes_on : (a u : List ℕ) → EndsAtLast a → GoesOn (a ++ u) → ⊥
+pub ends_goes_on : (a u : List ℕ) → EndsAtLast a → GoesOn (a ++ u) → ⊥
 ends_goes_on [] u s g = s
 ends_goes_on (p ∷ []) u s g = omega (arith, s, g.0)
 ends_goes_on (p ∷ q ∷ ps) u s g = ends_goes_on (q ∷ ps) u s.1 g.1
@@ -57,7 +57,7 @@ IsLike (Text s) (Number m) = ⊥
 IsLike (Text s) (Text t) = length s ≡ length t
 
 -- what is spelled in two, with more behind it
-regroup : (whole a b u : List ℕ) → whole ≡ a ++ b → whole ++ u ≡ a ++ (b ++ u)
+pub regroup : (whole a b u : List ℕ) → whole ≡ a ++ b → whole ++ u ≡ a ++ (b ++ u)
 regroup whole a b u e = ap (λ c. c ++ u) e ∙ append_assoc a b u
 
 -- two lists of parts: as long as they are the same the next parts are of a kind, and both end together

@@ -5,3 +5,5 @@ pub mod Faults
 pub mod Remaining
 pub mod ReadOn
 pub mod Reads
+pub mod Writes
+pub mod Laws

@@ -1,3 +1,8 @@
+//! Why a name table can't be read, and why none is written.
+ghost use Rattle.std.specs.Prelude.{◌≡◌};
+ghost use Rattle.name_table.specs.declared.fault.NameWriteFault.TheVariants.{NoRoom};
+
+use std::alloc::AllocError;
 use thiserror::Error;
 
 /// Why a name table can't be read, and the place of the first byte of the number or text that can't.
@@ -21,4 +26,24 @@ pub enum NameFault {
         /// Where the number begins.
         at: usize,
     },
+}
+
+/// Why no name table was written.
+#[derive(Debug, PartialEq, Drop, Error)]
+pub enum NameWriteFault {
+    /// Want of memory.
+    #[error("out of memory")]
+    NoRoom,
+    /// No table has such pairs: their number, or the number of a text's bytes, isn't below 4,294,967,296.
+    #[error("a number of the name table is too large")]
+    TooLarge,
+}
+
+/// So that `?` hands want of memory on.
+impl From<AllocError> for NameWriteFault {
+    ghost from_gives = { λ _ fault. fault ≡ NoRoom };
+
+    fn from(_: AllocError) -> Self {
+        NameWriteFault::NoRoom
+    }
 }

@@ -3,11 +3,14 @@
 #![tactic(auto)]
 
 mod fault;
+pub mod laws;
 mod name_bytes;
 mod number;
 mod read;
 mod text;
+mod write;
 
-pub use fault::NameFault;
+pub use fault::{NameFault, NameWriteFault};
 pub use name_bytes::NameBytes;
 pub use read::{NameMap, find_name, read_names};
+pub use write::write_names;

@@ -1,0 +1,19 @@
+-- The laws over the definitions, which the functions of the module `laws` have as their contracts.
+use Rattle.std.specs.Prelude.{◌≡◌, ℕ, List}
+use Rattle.name_table.specs.Faults.{TableFault}
+use Rattle.name_table.specs.Parts.{Begins, table_parts}
+use Rattle.name_table.specs.declared.fault.NameFault.{NameFault}
+
+-- bytes begin with one table at most, and end it at one place
+abbrev pub TableIsOne : Type 0
+TableIsOne = (bytes : List ℕ) (J K : List (List ℕ × List ℕ)) (rest rest' : List ℕ)
+    → Begins bytes (table_parts J) rest → Begins bytes (table_parts K) rest' → (J ≡ K) × (rest ≡ rest')
+
+-- bytes that begin with a table have no fault
+abbrev pub TableHasNoFault : Type 0
+TableHasNoFault = (bytes : List ℕ) (J : List (List ℕ × List ℕ)) (rest : List ℕ) (fault : NameFault)
+    → Begins bytes (table_parts J) rest → TableFault bytes fault → ⊥
+
+-- bytes have one fault at most
+abbrev pub FaultIsOne : Type 0
+FaultIsOne = (bytes : List ℕ) (f g : NameFault) → TableFault bytes f → TableFault bytes g → f ≡ g

@@ -1,0 +1,80 @@
+//! Name tables written from maps.
+ghost use Rattle.std.specs.Prelude.{IfErr, IfOk, OnOk, ◌∷◌, [], ◌≤◌, length, map};
+ghost use Rattle.name_table.specs.Parts.{Number, pair_parts, table_parts, text_parts};
+ghost use Rattle.name_table.specs.Remaining.{shown};
+ghost use Rattle.name_table.specs.Writes.{Appends, AppendsNumber, IfTooLarge, IsReadAgain, IsShortest, NoTable};
+
+use crate::fault::NameWriteFault;
+use crate::read::NameMap;
+use std::alloc::{AllocError, Global};
+
+/// The name table of a map, in the fewest bytes that spell it.
+///
+/// `read_names` answers the same map for it, and all of its bytes.
+///
+/// The Rust crate writes by `postcard`'s `to_stdvec` here.
+pub fn write_names(alloc: Global, names: &NameMap<'_>) -> Result<Vec<u8>, NameWriteFault>
+    ensures table { IfOk result (λ bytes. IsShortest bytes.items (table_parts (map shown names.now.pairs))) }
+    ensures read_again { IfOk result (λ bytes. IsReadAgain bytes.items names.now.pairs) }
+    ensures too_large { IfErr result (λ fault. IfTooLarge fault (NoTable (map shown names.now.pairs))) }
+{
+    let bytes = write_pairs(alloc, names.as_slice())?;
+    Ok(bytes)
+}
+
+fn write_pairs(alloc: Global, pairs: &[(&str, &str)]) -> Result<Vec<u8>, NameWriteFault>
+    ensures table { IfOk result (λ bytes. IsShortest bytes.items (table_parts (map shown pairs.now))) }
+    ensures too_large { IfErr result (λ fault. IfTooLarge fault (NoTable (map shown pairs.now))) }
+{
+    let mut bytes = Vec::new(alloc);
+    put_length(&mut bytes, pairs.len())?;
+    for pair in pairs {
+        put_pair(&mut bytes, pair)?;
+    }
+    Ok(bytes)
+}
+
+// Writes a key and its value.
+fn put_pair(bytes: &mut Vec<u8>, pair: &(&str, &str)) -> Result<(), NameWriteFault>
+    ensures ok { OnOk result (Appends bytes.old.items bytes.new.items (pair_parts (shown pair.now ∷ []))) }
+    ensures too_large { IfErr result (λ fault. IfTooLarge fault (NoTable (shown pair.now ∷ []))) }
+{
+    put_text(bytes, pair.0)?;
+    put_text(bytes, pair.1)?;
+    Ok(())
+}
+
+// Writes a text behind its length.
+fn put_text(bytes: &mut Vec<u8>, text: &str) -> Result<(), NameWriteFault>
+    ensures ok { OnOk result (Appends bytes.old.items bytes.new.items (text_parts text.now)) }
+    ensures too_large { IfErr result (λ fault. IfTooLarge fault (4294967296 ≤ length text.now)) }
+{
+    put_length(bytes, text.len())?;
+    bytes.extend_from_slice(text.as_bytes())?;
+    Ok(())
+}
+
+// Writes a length.
+fn put_length(bytes: &mut Vec<u8>, size: usize) -> Result<(), NameWriteFault>
+    ensures ok { OnOk result (Appends bytes.old.items bytes.new.items (Number size ∷ [])) }
+    ensures too_large { IfErr result (λ fault. IfTooLarge fault (4294967296 ≤ size)) }
+{
+    if size >= 4_294_967_296 {
+        return Err(NameWriteFault::TooLarge);
+    }
+    put_number(bytes, size)?;
+    Ok(())
+}
+
+// Writes a number, seven bits in each byte, the lowest first.
+fn put_number(bytes: &mut Vec<u8>, number: usize) -> Result<(), AllocError>
+    ensures { OnOk result (AppendsNumber bytes.old.items bytes.new.items number) }
+{
+    if number < 128 {
+        bytes.push(number as u8)?;
+        return Ok(());
+    }
+    bytes.push((number % 128 + 128) as u8)?;
+    put_number(bytes, number / 128)?;
+    Ok(())
+}
