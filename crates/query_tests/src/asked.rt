@@ -2,7 +2,7 @@
 ghost use Rattle.std.specs.Prelude.{IsSome};
 ghost use Rattle.litemap_store.specs.Pairs.{at};
 
-use crate::kinds::Kind;
+use crate::kinds::{Asked, Kind};
 use litemap::store::Count;
 use litemap::{LiteMap, Query};
 use litemap_store::by_scan;
@@ -14,18 +14,18 @@ use std::rc::RcStr;
 use std::sync::ArcStr;
 use std::test::Fail;
 
-/// Numbers at keys.
-pub(crate) type Numbers<K> = LiteMap<K, u32, Vec<(K, u32)>>;
+// Numbers at keys.
+type Numbers<K> = LiteMap<K, u32, Vec<(K, u32)>>;
 
-/// What is found: whether a key is there, its value and its place, by the plain calls and by those that count.
-pub(crate) type Found = (
+// What is found: whether a key is there, its value and its place, by the plain calls and by those that count.
+type Found = (
     bool,
     (Option<u32>, Option<u32>, Option<u32>),
     (Result<usize, usize>, Result<usize, usize>),
 );
 
-/// What a change answers: the number before, and how many pairs are left.
-pub(crate) type Changed = (Option<u32>, usize);
+// What a change answers: the number before, and how many pairs are left.
+type Changed = (Option<u32>, usize);
 
 type Pair = (&'static str, u32);
 
@@ -50,7 +50,7 @@ fn there<K: Ord, Q: Query<K>>(map: &Numbers<K>, query: Q) -> u32
 }
 
 // What a map finds.
-pub(crate) fn found<K: Ord, Q: Query<K>>(map: &Numbers<K>, query: Q) -> Found {
+fn found<K: Ord, Q: Query<K>>(map: &Numbers<K>, query: Q) -> Found {
     let is_there = map.contains_key(query);
     let there = if is_there {
         Some(there(map, query))
@@ -80,7 +80,7 @@ fn write_there<K: Ord, Q: Query<K>>(map: &mut Numbers<K>, query: Q, number: u32)
 
 // What a write of the number answers, or a removal where there is no number. An even number is written through
 // `index_mut`, an odd one through `get_mut`.
-pub(crate) fn changed<K: Ord + Drop, Q: Query<K>>(
+fn changed<K: Ord + Drop, Q: Query<K>>(
     map: &mut Numbers<K>,
     query: Q,
     number: Option<u32>,
@@ -114,68 +114,71 @@ fn map_of<K: Kind>(alloc: Global, list: &[Pair]) -> Result<Numbers<K>, AllocErro
     Ok(map)
 }
 
-// The numbers of a map, in the order of the keys.
-fn numbers<K: Ord>(alloc: Global, map: &Numbers<K>) -> Result<Vec<u32>, AllocError> {
-    map.as_slice().iter().map(|pair| pair.1).collect(alloc)
-}
-
 // Lists are asked at each text, and at the key of each text.
-fn look<K: Kind>(rt: &impl Abort, alloc: Global) -> Result<(), Fail> {
+fn look<K: Kind, Q: Asked + Query<K>>(rt: &impl Abort, alloc: Global) -> Result<(), Fail> {
     for list in LISTS {
         let map = map_of::<K>(alloc, list)?;
         for text in TEXTS {
+            let key = K::of(alloc, text)?;
             let expected = scanned(list, text);
-            assert_eq!(rt; K::found_at(&map, text), expected, "of {text}");
             assert_eq!(rt;
-                found(&map, &K::of(alloc, text)?),
-                expected,
-                "of the key {text}"
+                (found(&map, Q::by(text)), found(&map, &key)),
+                (expected, expected),
+                "of {text}"
             );
         }
     }
     Ok(())
 }
 
-// A list in which a text is written, or from which it is removed, through the text and through its key.
-fn change<K: Kind>(
-    rt: &impl Abort,
+// The pairs of a list after a write at the text, or a removal, by the scans.
+fn left(
     alloc: Global,
     list: &[Pair],
     text: &'static str,
     number: Option<u32>,
+) -> Result<Vec<Pair>, AllocError> {
+    if by_scan::at(list, &text).is_none() {
+        return Vec::from_slice(alloc, list);
+    }
+    match number {
+        Some(number) => by_scan::put(alloc, list, text, number),
+        None => by_scan::cut(alloc, list, &text),
+    }
+}
+
+// A list in which a text is written, or from which it is removed, by what stands for its key.
+fn change<K: Kind, Q: Query<K>>(
+    rt: &impl Abort,
+    alloc: Global,
+    list: &[Pair],
+    (text, number): (&'static str, Option<u32>),
+    query: Q,
 ) -> Result<(), Fail> {
-    let there = by_scan::at(list, &text);
-    let left = match (there, number) {
-        (Some(_), Some(number)) => by_scan::put(alloc, list, text, number)?,
-        (Some(_), None) => by_scan::cut(alloc, list, &text)?,
-        (None, _) => Vec::from_slice(alloc, list)?,
-    };
-    let expected = (there.map(|pair| pair.1), left.len());
-    let left: Vec<u32> = left.iter().map(|pair| pair.1).collect(alloc)?;
+    let left = left(alloc, list, text, number)?;
+    let before = by_scan::at(list, &text).map(|pair| pair.1);
     let mut map = map_of::<K>(alloc, list)?;
-    assert_eq!(rt;
-        K::changed_at(&mut map, text, number),
-        expected,
-        "of {text}"
+    let answer = changed(&mut map, query, number);
+    let is_left = map
+        .as_slice()
+        .iter()
+        .map(|pair| pair.1)
+        .eq(left.iter().map(|pair| pair.1));
+    assert!(rt;
+        answer == (before, left.len()) && is_left,
+        "of {text}: {answer:?}"
     );
-    assert_eq!(rt; numbers(alloc, &map)?, left, "of {text}");
-    let mut map = map_of::<K>(alloc, list)?;
-    let key = K::of(alloc, text)?;
-    assert_eq!(rt;
-        changed(&mut map, &key, number),
-        expected,
-        "of the key {text}"
-    );
-    assert_eq!(rt; numbers(alloc, &map)?, left, "of the key {text}");
     Ok(())
 }
 
-fn ask<K: Kind>(rt: &impl Abort, alloc: Global) -> Result<(), Fail> {
-    look::<K>(rt, alloc)?;
+fn ask<K: Kind, Q: Asked + Query<K>>(rt: &impl Abort, alloc: Global) -> Result<(), Fail> {
+    look::<K, Q>(rt, alloc)?;
     for list in LISTS {
         for text in TEXTS {
             for number in [None, Some(100), Some(101)] {
-                change::<K>(rt, alloc, list, text, number)?;
+                let key = K::of(alloc, text)?;
+                change::<K, Q>(rt, alloc, list, (text, number), Q::by(text))?;
+                change::<K, &K>(rt, alloc, list, (text, number), &key)?;
             }
         }
     }
@@ -184,35 +187,41 @@ fn ask<K: Kind>(rt: &impl Abort, alloc: Global) -> Result<(), Fail> {
 
 #[test]
 fn keys_that_are_texts_are_asked_by_texts(rt: HostRuntime) -> Result<(), Fail> {
-    ask::<String>(&rt, rt.alloc())?;
-    ask::<&'static str>(&rt, rt.alloc())?;
-    ask::<BoxedStr>(&rt, rt.alloc())?;
-    ask::<RcStr>(&rt, rt.alloc())?;
-    ask::<ArcStr>(&rt, rt.alloc())?;
-    ask::<CowStr<'static>>(&rt, rt.alloc())
+    ask::<String, &'static str>(&rt, rt.alloc())?;
+    ask::<&'static str, &'static str>(&rt, rt.alloc())?;
+    ask::<BoxedStr, &'static str>(&rt, rt.alloc())?;
+    ask::<RcStr, &'static str>(&rt, rt.alloc())?;
+    ask::<ArcStr, &'static str>(&rt, rt.alloc())?;
+    ask::<CowStr<'static>, &'static str>(&rt, rt.alloc())
 }
 
 #[test]
 fn keys_that_are_lists_are_asked_by_slices(rt: HostRuntime) -> Result<(), Fail> {
-    ask::<Vec<u8>>(&rt, rt.alloc())?;
-    ask::<&'static [u8]>(&rt, rt.alloc())?;
-    ask::<BoxedSlice<u8>>(&rt, rt.alloc())
+    ask::<Vec<u8>, &'static [u8]>(&rt, rt.alloc())?;
+    ask::<&'static [u8], &'static [u8]>(&rt, rt.alloc())?;
+    ask::<BoxedSlice<u8>, &'static [u8]>(&rt, rt.alloc())
+}
+
+// The map of a lone pair.
+fn lone<K: Ord + Drop>(
+    alloc: Global,
+    key: K,
+    value: char,
+) -> Result<LiteMap<K, char, Vec<(K, char)>>, AllocError> {
+    let mut map = LiteMap::new_vec(alloc);
+    map.insert(key, value)?;
+    Ok(map)
 }
 
 // A literal as a key and as a query, behind a `&` and without.
 #[test]
 fn literals_are_looked_up(rt: HostRuntime) -> Result<(), Fail> {
     let alloc = rt.alloc();
-    let mut counts = LiteMap::new_vec(alloc);
-    let mut signed = LiteMap::new_vec(alloc);
-    let mut words = LiteMap::new_vec(alloc);
-    let mut owned = LiteMap::new_vec(alloc);
-    let mut bytes = LiteMap::new_vec(alloc);
-    counts.insert(1, 'a')?;
-    signed.insert(-1, 'b')?;
-    words.insert("en", 'c')?;
-    owned.insert("en".to_string(alloc)?, 'd')?;
-    bytes.insert(vec![in alloc; 1_u8, 2]?, 'e')?;
+    let counts = lone(alloc, 1, 'a')?;
+    let signed = lone(alloc, -1, 'b')?;
+    let words = lone(alloc, "en", 'c')?;
+    let owned = lone(alloc, "en".to_string(alloc)?, 'd')?;
+    let bytes = lone(alloc, Vec::from_slice(alloc, &[1_u8, 2])?, 'e')?;
     let name = "en".to_string(alloc)?;
     assert_eq!(rt;
         [
