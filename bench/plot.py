@@ -5,9 +5,9 @@ import math
 import tables
 
 COLOURS = ["#9ecae1", "#4292c6", "#08519c", "#e6550d"]
-# The scale is by powers of two, from a quarter to four times; what lies outside of it is drawn at its end.
-LOWEST, HIGHEST = -2, 2
-NAMES_WIDTH, PANEL_WIDTH, GAP, ROW, TOP, BOTTOM = 300, 250, 30, 22, 74, 34
+# The scale is by powers of two, from a quarter to eight times; what lies outside of it is an arrow at its end.
+LOWEST, HIGHEST = -2, 3
+NAMES_WIDTH, PANEL_WIDTH, GAP, ROW, TOP, BOTTOM = 320, 270, 30, 24, 74, 34
 TEXT = 'font-family="sans-serif" font-size="12" fill="#222"'
 
 
@@ -28,9 +28,9 @@ def place(ratio):
 def mark(x, y, ratio, colour):
     """A dot, or outside of the scale an arrow that points there."""
     if LOWEST <= math.log2(ratio) <= HIGHEST:
-        return f'<circle cx="{x:.1f}" cy="{y:.1f}" r="4.5" fill="{colour}" stroke="#fff" stroke-width="0.7"/>'
+        return f'<circle cx="{x:.1f}" cy="{y:.1f}" r="4" fill="{colour}" stroke="#fff" stroke-width="0.7"/>'
     step = 8 if ratio > 1 else -8
-    return f'<path d="M{x:.1f} {y - 5:.1f}l{step} 5l{-step} 5z" fill="{colour}"><title>{ratio:.2f}</title></path>'
+    return f'<path d="M{x:.1f} {y - 4:.1f}l{step} 4l{-step} 4z" fill="{colour}"><title>{ratio:.2f}</title></path>'
 
 
 def legend(sizes):
@@ -59,11 +59,12 @@ def dots(ours, theirs, left, part, calls, sizes):
     """The ratios of a type of keys and a store."""
     keys, store = part
     for row, call in enumerate(calls):
-        for size, colour in zip(sizes, COLOURS):
+        for number, (size, colour) in enumerate(zip(sizes, COLOURS)):
             measure = tables.Measure(call, keys, store, size)
             if measure in ours:
                 ratio = tables.ratio(ours, theirs, measure)
-                yield mark(left + place(ratio), TOP + ROW * row + ROW / 2, ratio, colour)
+                # Each size a little lower than the one before, so that no dot hides another.
+                yield mark(left + place(ratio), TOP + ROW * row + 6 + 4 * number, ratio, colour)
 
 
 def ratios(ours, theirs):

@@ -34,6 +34,21 @@ class Measure(typing.NamedTuple):
         return self._replace(store=store)
 
 
+class Found(typing.NamedTuple):
+    """What came of a measure: picoseconds a pair, the lowest of each pass, and a number that stands for the answers."""
+
+    times: list
+    answer: str
+
+    def lowest(self):
+        return min(self.times)
+
+    def spread(self):
+        """Noise: how far the lowest times of each second pass and of the other passes lie apart, as a ratio."""
+        halves = min(self.times[::2]), min(self.times[1::2] or self.times)
+        return max(halves) / max(min(halves), 1)
+
+
 def distinct(items):
     """The items, each once, in the order of their first places."""
     return list(dict.fromkeys(items))
@@ -49,17 +64,18 @@ def shown(picos):
 
 def ratio(ours, theirs, measure):
     """How many times as long it takes here as in the Rust crate, which has one store."""
-    return ours[measure][0] / max(theirs[measure.over("vec")][0], 1)
+    return ours[measure].lowest() / max(theirs[measure.over("vec")].lowest(), 1)
 
 
 def cell(ours, theirs, measure):
     """The times of a measure, here and there, and their ratio."""
     if measure not in ours:
         return ""
-    here = shown(ours[measure][0])
+    here = shown(ours[measure].lowest())
     if theirs is None:
         return here
-    return f"{here} : {shown(theirs[measure.over('vec')][0])} ({ratio(ours, theirs, measure):.2f})"
+    there = shown(theirs[measure.over("vec")].lowest())
+    return f"{here} : {there} ({ratio(ours, theirs, measure):.2f})"
 
 
 def parts(ours, theirs):
@@ -99,3 +115,15 @@ def markdown(ours, theirs):
         lines.append("|---|" + "---:|" * len(sizes))
         lines += ["| " + " | ".join(row) + " |" for row in rows]
     return "\n".join([*lines, "", ""])
+
+
+def noise(ours, theirs):
+    """How well the measures repeat, in words."""
+    every = [found for found in [*ours.values(), *(theirs or {}).values()]]
+    spreads = sorted(found.spread() for found in every)
+    half, most = [(spreads[len(spreads) * part // 100] - 1) * 100 for part in (50, 90)]
+    passes = len(every[0].times)
+    return (
+        f"The lowest of {passes} passes. The lowest times of each second pass and of the other passes lie within "
+        f"{half:.0f} % of one another for half of the measures, and within {most:.0f} % for nine in ten.\n"
+    )

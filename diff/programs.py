@@ -53,8 +53,9 @@ class Tried:
         with tempfile.TemporaryDirectory() as folder:
             for number, text in enumerate(inputs):
                 pathlib.Path(folder, str(number)).write_text(text)
-            cases = "\n" + self.run(["--cases", folder]).stdout.decode()
-        outputs = dict(case.split("\n", 1) for case in cases.split("\n== ")[1:])
+            cases = "\n" + self.run(["--cases", folder]).stdout.decode().removesuffix("\n")
+        # The line break in front of each head is the last one of the output before.
+        outputs = dict((case + "\n").split("\n", 1) for case in cases.split("\n== ")[1:])
         return [outputs.get(str(number)) for number in range(len(inputs))]
 
 

@@ -92,7 +92,12 @@ pub fn look<K: Key>(call: Call, keys: &[K], cases: &[Case<K>]) -> u64 {
 }
 
 /// Makes a call of each case, hands over the maps that are left, and gives the sum of what was answered.
-pub fn change<K: Key>(call: Call, keys: &[K], cases: Vec<Case<K>>, left: &mut Vec<LiteMap<K, u64>>) -> u64 {
+pub fn change<K: Key>(
+    call: Call,
+    keys: &[K],
+    cases: Vec<Case<K>>,
+    left: &mut Vec<LiteMap<K, u64>>,
+) -> u64 {
     let mut sum: u64 = 0;
     for case in cases {
         let mut map = case.map;

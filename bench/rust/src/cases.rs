@@ -22,7 +22,9 @@ struct Parts<'a> {
 
 /// The cases of a round: as many maps as make some thousands of calls.
 pub fn cases<K: Key>(data: &Data<K>, call: Call) -> Vec<Case<K>> {
-    (0..how_many(data, call)).map(|_| make_case(data, call)).collect()
+    (0..how_many(data, call))
+        .map(|_| make_case(data, call))
+        .collect()
 }
 
 /// How many maps a round calls.
@@ -39,7 +41,9 @@ pub fn how_many_pairs<K: Key>(data: &Data<K>, call: Call) -> usize {
         Call::Get | Call::GetMissing => LOOKS,
         Call::Insert => data.size - data.before_inserts(),
         Call::Remove => data.removed.len(),
-        Call::ExtendRising | Call::Extend | Call::MergeApart | Call::MergeInterleaved => data.size / 2,
+        Call::ExtendRising | Call::Extend | Call::MergeApart | Call::MergeInterleaved => {
+            data.size / 2
+        }
         _ => data.size,
     };
     each * how_many(data, call)

@@ -52,7 +52,10 @@ fn number(place: u64) -> u64 {
 
 /// The pairs of numbers: each key with its number as the value.
 pub fn pairs<K: Key>(numbers: &[u64]) -> Vec<(K, u64)> {
-    numbers.iter().map(|number| (K::of(*number), *number)).collect()
+    numbers
+        .iter()
+        .map(|number| (K::of(*number), *number))
+        .collect()
 }
 
 fn keys<K: Key>(numbers: &[u64]) -> Vec<K> {
@@ -84,7 +87,10 @@ impl<K: Key> Data<K> {
     pub fn new(size: usize) -> Self {
         let scattered: Vec<u64> = (0..size as u64).map(number).collect();
         let chances: Vec<u64> = (0..LOOKS as u64).map(number).collect();
-        let asked: Vec<u64> = chances.iter().map(|chance| number((chance >> 1) % size as u64)).collect();
+        let asked: Vec<u64> = chances
+            .iter()
+            .map(|chance| number((chance >> 1) % size as u64))
+            .collect();
         let missing: Vec<u64> = chances.iter().map(|chance| chance | 1).collect();
         let rising = rising::<K>(&scattered);
         Data {

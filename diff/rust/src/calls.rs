@@ -12,7 +12,8 @@ pub fn answer<K: Key>(map: &mut LiteMap<K, u32>, words: &[&str]) -> Option<Strin
             Err(_) => by_number(map, name, word),
         },
         [name, word, value] => match word.parse() {
-            Ok(key) => by_key_and_value(map, name, key, value.parse().ok()?).or_else(|| by_numbers(map, name, word, value)),
+            Ok(key) => by_key_and_value(map, name, key, value.parse().ok()?)
+                .or_else(|| by_numbers(map, name, word, value)),
             Err(_) => by_numbers(map, name, word, value),
         },
         _ => None,
@@ -33,7 +34,11 @@ fn plain<K: Key>(map: &mut LiteMap<K, u32>, name: &str) -> Option<String> {
         "is_empty" => map.is_empty().to_string(),
         "first" => pair(map.first()),
         "last" => pair(map.last()),
-        "list" => map.iter().map(|(key, value)| format!("{key} {value}")).collect::<Vec<_>>().join(", "),
+        "list" => map
+            .iter()
+            .map(|(key, value)| format!("{key} {value}"))
+            .collect::<Vec<_>>()
+            .join(", "),
         _ => return None,
     })
 }
@@ -68,7 +73,12 @@ fn by_number<K: Key>(map: &mut LiteMap<K, u32>, name: &str, word: &str) -> Optio
     })
 }
 
-fn by_key_and_value<K: Key>(map: &mut LiteMap<K, u32>, name: &str, key: K, new: u32) -> Option<String> {
+fn by_key_and_value<K: Key>(
+    map: &mut LiteMap<K, u32>,
+    name: &str,
+    key: K,
+    new: u32,
+) -> Option<String> {
     Some(match name {
         "insert" => match map.insert(key, new) {
             Some(old) => format!("old {old}"),
@@ -81,16 +91,27 @@ fn by_key_and_value<K: Key>(map: &mut LiteMap<K, u32>, name: &str, key: K, new: 
         // The crate has no call that answers the place alone.
         "try_find_or_insert" => found(map, key, Ok(new), false),
         "try_find_or_fail" => found(map, key, Err(new), false),
-        "get_mut" => value(map.get_mut(&key).map(|slot| mem::replace(slot, new)), "none"),
+        "get_mut" => value(
+            map.get_mut(&key).map(|slot| mem::replace(slot, new)),
+            "none",
+        ),
         "index_mut" => {
             let is_there = map.contains_key(&key);
-            value(is_there.then(|| mem::replace(&mut map[&key], new)), "absent")
+            value(
+                is_there.then(|| mem::replace(&mut map[&key], new)),
+                "absent",
+            )
         }
         _ => return None,
     })
 }
 
-fn by_numbers<K: Key>(map: &mut LiteMap<K, u32>, name: &str, first: &str, second: &str) -> Option<String> {
+fn by_numbers<K: Key>(
+    map: &mut LiteMap<K, u32>,
+    name: &str,
+    first: &str,
+    second: &str,
+) -> Option<String> {
     let second = second.parse().ok()?;
     Some(match name {
         // The crate lends no single value by place.
@@ -120,11 +141,18 @@ fn value(value: Option<u32>, none: &str) -> String {
 }
 
 fn back<K: Key>(back: Option<(K, u32)>) -> String {
-    back.map_or("none".to_string(), |(key, value)| format!("back {key} {value}"))
+    back.map_or("none".to_string(), |(key, value)| {
+        format!("back {key} {value}")
+    })
 }
 
 /// The answer of `try_get_or_insert`, where the closure answers `made`: the place, and the value too where it is wanted.
-fn found<K: Key>(map: &mut LiteMap<K, u32>, key: K, made: Result<u32, u32>, with_value: bool) -> String {
+fn found<K: Key>(
+    map: &mut LiteMap<K, u32>,
+    key: K,
+    made: Result<u32, u32>,
+    with_value: bool,
+) -> String {
     let mut asked = 0;
     let answer = map.try_get_or_insert(key, |_| {
         asked += 1;

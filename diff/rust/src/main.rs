@@ -27,8 +27,15 @@ impl<K: Key> Maps<K> {
 fn main() -> io::Result<()> {
     let mut input = String::new();
     io::stdin().read_to_string(&mut input)?;
-    let (mut numbers, mut texts, mut letters) = (Maps::<u32>::new(), Maps::<String>::new(), Maps::<Letter>::new());
-    for line in input.lines().filter(|line| !line.is_empty() && !line.starts_with('#')) {
+    let (mut numbers, mut texts, mut letters) = (
+        Maps::<u32>::new(),
+        Maps::<String>::new(),
+        Maps::<Letter>::new(),
+    );
+    for line in input
+        .lines()
+        .filter(|line| !line.is_empty() && !line.starts_with('#'))
+    {
         let words: Vec<&str> = line.split(' ').collect();
         let answer = match &words[..] {
             [store, "number", words @ ..] => numbers.answer(store, words),
