@@ -15,8 +15,9 @@ use crate::extend_store::one_by_one::merge_each;
 use crate::store::{Count, NoRoom, Store, StoreIntoIterator};
 use std::alloc::Global;
 
-// Of how many pairs at most a merge puts each in by itself.
-const FEW: usize = 8;
+// Of how many pairs at most a merge puts each in by itself. A vector of numbers is merged faster in one pass from about 4
+// pairs on into 8, 16 into 100, 30 into 1,000 and 50 into 10,000.
+const FEW: usize = 16;
 
 /// Merges a store's pairs into another's. Where an equal key is there, that key stays and takes the new value; the old
 /// values are answered, each with its new key, in order, or `None` where there are none.
@@ -95,16 +96,12 @@ fn merge_mixed<K: Ord + Drop, V: Drop, S: StoreIntoIterator<K, V> + Drop>(
     }
 }
 
-// The store if it has pairs.
-fn unless_empty<K, V, S: Store<K, V> + Drop>(store: S) -> Option<S>
-    ensures none { IsNone result ↔ (S.pairs store ≡ []) }
-    ensures some { IfSome result (λ s. S.pairs s ≡ S.pairs store) }
+// What is left over, if it has pairs.
+fn unless_empty<K, V, S: Store<K, V> + Drop>(rest: S) -> Option<S>
+    ensures none { IsNone result ↔ (S.pairs rest ≡ []) }
+    ensures some { IfSome result (λ s. S.pairs s ≡ S.pairs rest) }
 {
-    if store.lm_is_empty() {
-        None
-    } else {
-        Some(store)
-    }
+    if rest.lm_is_empty() { None } else { Some(rest) }
 }
 
 // Whether all keys of one store lie below those of another. It compares the last of the one with the first of the other.

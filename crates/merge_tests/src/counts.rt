@@ -6,20 +6,24 @@ ghost use Rattle.litemap_store.specs.Last.{Rises};
 
 use litemap::LiteMap;
 use litemap::store::{Count, NoRoom};
-use std::alloc::{AllocError, Global};
+use std::alloc::Global;
 use std::test::Fail;
+use test_support::lists::map_of;
 
 type Numbers = LiteMap<u32, u32, Vec<(u32, u32)>>;
 
-// Two pairs into two: at most eight comparisons, and at most two where the new keys lie above.
+// Two pairs into two: at most eight comparisons; one pair into two: at most four; and at most two where the new keys lie
+// above.
 fn merge_in_eight(
     map: &mut Numbers,
     alloc: Global,
     other: Numbers,
     count: &mut Count,
 ) -> Result<Option<Numbers>, NoRoom<Numbers>>
-    ensures between { length map.old.pairs ≡ 2 → length other.pairs ≡ 2
+    ensures two { length map.old.pairs ≡ 2 → length other.pairs ≡ 2
         → RisesByAtMost 8 count.old count.new }
+    ensures one { length map.old.pairs ≡ 2 → length other.pairs ≡ 1
+        → RisesByAtMost 4 count.old count.new }
     ensures behind { Rises nat_cmp map.old.pairs other.pairs → RisesByAtMost 2 count.old count.new }
 {
     map.extend_from_litemap_counted(alloc, other, count)
@@ -28,13 +32,13 @@ fn merge_in_eight(
 #[test]
 fn the_counted_merge_answers_as_the_plain_one(rt: HostRuntime) -> Result<(), Fail> {
     let alloc = rt.alloc();
-    let mut count = Count::new();
-    let mut map = Numbers::from_iter(alloc, vec![in alloc; (1, 10), (2, 20)]?)?;
-    let other = Numbers::from_iter(alloc, vec![in alloc; (2, 21), (4, 41)]?)?;
-    let Ok(Some(rest)) = merge_in_eight(&mut map, alloc, other, &mut count) else {
-        return Err(AllocError.into());
-    };
-    assert_eq!(rt; rest.as_slice(), [(2, 20)].as_slice());
-    assert_eq!(rt; map.as_slice(), [(1, 10), (2, 21), (4, 41)].as_slice());
+    let mut map: Numbers = map_of(alloc, &[(1, 10), (2, 20)], 2)?;
+    let other: Numbers = map_of(alloc, &[(2, 21), (4, 41)], 2)?;
+    let rest = merge_in_eight(&mut map, alloc, other, &mut Count::new())?;
+    assert!(rt;
+        map.as_slice() == [(1, 10), (2, 21), (4, 41)].as_slice()
+            && rest.is_some_and(|rest| rest.as_slice() == [(2, 20)].as_slice()),
+        "{map:?}"
+    );
     Ok(())
 }

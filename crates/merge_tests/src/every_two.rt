@@ -1,8 +1,8 @@
 //! Every two maps over four keys, merged, against a slow scan: each pair of the second is put in by itself.
 //!
-//! The keys are letters whose order ignores case, small in the first map and capital in the second: so a key that stays is
-//! told from an equal new one.
-use litemap::LiteMap;
+//! They are merged as they are, and between further pairs, which the other map lacks or has too: so the second map has few
+//! pairs, which are put in one by one, and many, which are merged in one pass.
+use crate::merging::{Pairs, merge, text_of};
 use litemap::store::StoreIntoIterator;
 use litemap_store::by_scan;
 use std::alloc::{AllocError, Global};
@@ -10,29 +10,53 @@ use std::process::Abort;
 use std::test::Fail;
 use test_support::fixed_room::FixedRoom;
 use test_support::keys::Letter;
-use test_support::lists::{list_of, map_of};
-
-type Pairs = Vec<(Letter, u32)>;
 
 // How many sets of four keys there are.
 const SETS: u32 = 16;
 
-// The pairs of a number below `SETS`: each of its binary digits is for a key.
-fn pairs_of(alloc: Global, number: u32, codes: &[u8; 4], value: u32) -> Result<Pairs, AllocError> {
-    codes
-        .iter()
-        .enumerate()
-        .filter(|(place, _)| number >> *place as u32 & 1 == 1)
-        .map(|(place, code)| (Letter { code: *code }, value.wrapping_add(place as u32)))
+// The letters that the first map has in any case, and those of the second. The four keys are d, h, n and t.
+const FURTHER: &[(&[u8], &[u8])] = &[
+    (b"", b""),
+    // Two around the second key.
+    (b"gi", b""),
+    (b"", b"gi"),
+    // Many in the second map: below, between and above the four.
+    (b"", b"abefgiklmpqsuvwxy"),
+    (b"cjorz", b"abefgiklmpqsuvwxy"),
+    // And the same ones in both.
+    (b"abefgiklmpqsuvwxy", b"abefgiklmpqsuvwxy"),
+];
+
+// The set of the letters of a text: the binary digit of each is 1.
+fn set_of(text: &[u8]) -> u32 {
+    text.iter().fold(
+        0,
+        |set, code| set | 1u32.wrapping_shl(code.wrapping_sub(b'a') as u32),
+    )
+}
+
+// The letters of the keys whose binary digit is 1.
+fn letters_of(keys: u32) -> u32 {
+    (keys & 1) << 3 | (keys & 2) << 6 | (keys & 4) << 11 | (keys & 8) << 16
+}
+
+// A pair for each of the letters, from `first` on, with values from `value` on.
+fn pairs_of(alloc: Global, letters: u32, first: u8, value: u8) -> Result<Pairs, AllocError> {
+    (0..26u8)
+        .filter(|place| letters >> *place & 1 == 1)
+        .map(|place| {
+            (
+                Letter {
+                    code: first.wrapping_add(place),
+                },
+                value.wrapping_add(place),
+            )
+        })
         .collect(alloc)
 }
 
 // The first list with the pairs of the second put in, one after the other.
-fn merged(
-    alloc: Global,
-    old: &[(Letter, u32)],
-    new: &[(Letter, u32)],
-) -> Result<Pairs, AllocError> {
+fn merged(alloc: Global, old: &[(Letter, u8)], new: &[(Letter, u8)]) -> Result<Pairs, AllocError> {
     let mut all = Vec::from_slice(alloc, old)?;
     for (key, value) in new {
         all = by_scan::put(alloc, &all, *key, *value)?;
@@ -43,8 +67,8 @@ fn merged(
 // Each key of the second list that the first has too, with the first one's value.
 fn left_over(
     alloc: Global,
-    old: &[(Letter, u32)],
-    new: &[(Letter, u32)],
+    old: &[(Letter, u8)],
+    new: &[(Letter, u8)],
 ) -> Result<Pairs, AllocError> {
     let mut left = Vec::new(alloc);
     for (key, _) in new {
@@ -55,43 +79,39 @@ fn left_over(
     Ok(left)
 }
 
-// Whether these are the same pairs, the case of the letters too.
-fn are_same(one: &[(Letter, u32)], other: &[(Letter, u32)]) -> bool {
-    one.len() == other.len()
-        && one
-            .iter()
-            .zip(other.iter())
-            .all(|(a, b)| a.0.code == b.0.code && a.1 == b.1)
+// Whether a map of letters and another are merged as by the scan.
+fn is_merged<S: StoreIntoIterator<Letter, u8> + Drop>(
+    alloc: Global,
+    old: u32,
+    new: u32,
+) -> Result<bool, AllocError> {
+    let old = pairs_of(alloc, old, b'a', 0)?;
+    let new = pairs_of(alloc, new, b'A', 100)?;
+    let (all, rest) = merge::<S>(alloc, &old, &new)?;
+    let left = left_over(alloc, &old, &new)?;
+    let is_left = match rest {
+        None => left.is_empty(),
+        Some(rest) => !rest.is_empty() && rest == text_of(alloc, &left)?,
+    };
+    Ok(is_left && all == text_of(alloc, &merged(alloc, &old, &new)?)?)
 }
 
-fn merge_each<S: StoreIntoIterator<Letter, u32> + Drop>(
+fn merge_each<S: StoreIntoIterator<Letter, u8> + Drop>(
     rt: &impl Abort,
     alloc: Global,
 ) -> Result<(), Fail> {
-    for number in 0..SETS * SETS {
-        let old = pairs_of(alloc, number % SETS, b"abcd", 10)?;
-        let new = pairs_of(alloc, number / SETS, b"ABCD", 20)?;
-        let mut map: LiteMap<Letter, u32, S> = map_of(alloc, &old, 8)?;
-        let other: LiteMap<Letter, u32, S> = map_of(alloc, &new, 8)?;
-        let rest = match map.extend_from_litemap(alloc, other) {
-            Ok(None) => Vec::new(alloc),
-            Ok(Some(rest)) => {
-                assert!(rt; !rest.is_empty(), "{new:?} into {old:?}");
-                list_of(alloc, &rest)?
-            }
-            Err(_) => return Err(AllocError.into()),
-        };
-        assert!(rt;
-            are_same(&list_of(alloc, &map)?, &merged(alloc, &old, &new)?)
-                && are_same(&rest, &left_over(alloc, &old, &new)?),
-            "{new:?} into {old:?}"
-        );
+    for (further_old, further_new) in FURTHER {
+        for number in 0..SETS * SETS {
+            let old = letters_of(number % SETS) | set_of(further_old);
+            let new = letters_of(number / SETS) | set_of(further_new);
+            assert!(rt; is_merged::<S>(alloc, old, new)?, "{new:b} into {old:b}");
+        }
     }
     Ok(())
 }
 
 #[test]
 fn maps_are_merged_as_by_the_scan(rt: HostRuntime) -> Result<(), Fail> {
-    merge_each::<Vec<(Letter, u32)>>(&rt, rt.alloc())?;
-    merge_each::<FixedRoom<Letter, u32>>(&rt, rt.alloc())
+    merge_each::<Vec<(Letter, u8)>>(&rt, rt.alloc())?;
+    merge_each::<FixedRoom<Letter, u8>>(&rt, rt.alloc())
 }

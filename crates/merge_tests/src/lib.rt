@@ -10,6 +10,8 @@ mod every_two;
 #[cfg(test)]
 mod joined;
 #[cfg(test)]
+mod merging;
+#[cfg(test)]
 mod refused;
 #[cfg(test)]
 mod rows;

@@ -6,6 +6,26 @@ use test_support::lists::{list_of, map_of};
 
 const OLD: [(u32, u32); 2] = [(2, 20), (4, 40)];
 
+const MANY: [(u32, u32); 17] = [
+    (1, 11),
+    (2, 21),
+    (3, 31),
+    (4, 41),
+    (5, 51),
+    (6, 61),
+    (7, 71),
+    (8, 81),
+    (9, 91),
+    (10, 101),
+    (11, 111),
+    (12, 121),
+    (13, 131),
+    (14, 141),
+    (15, 151),
+    (16, 161),
+    (17, 171),
+];
+
 #[test]
 fn a_refused_merge_leaves_both_maps(rt: HostRuntime) -> Result<(), Fail> {
     for (room, new, other_room, is_merged) in [
@@ -21,6 +41,8 @@ fn a_refused_merge_leaves_both_maps(rt: HostRuntime) -> Result<(), Fail> {
         (2, [(1, 10), (3, 30)].as_slice(), 2, false),
         (3, [(1, 10), (3, 30)].as_slice(), 2, false),
         (4, [(1, 10), (3, 30)].as_slice(), 2, true),
+        // Many between them, for which a fresh store has the room.
+        (2, MANY.as_slice(), 17, true),
     ] {
         let mut map: LiteMap<u32, u32, FixedRoom<u32, u32>> = map_of(rt.alloc(), &OLD, room)?;
         let other: LiteMap<u32, u32, FixedRoom<u32, u32>> = map_of(rt.alloc(), new, other_room)?;

@@ -1,86 +1,63 @@
 //! Maps that are merged, from a table: the pairs of both, what is left over, and the pairs of the merge.
-use litemap::LiteMap;
+use crate::merging::{merge, pairs_of};
 use litemap::store::StoreIntoIterator;
-use std::alloc::{AllocError, Global};
+use std::alloc::Global;
 use std::process::Abort;
 use std::test::Fail;
 use test_support::fixed_room::FixedRoom;
-use test_support::lists::{list_of, map_of};
+use test_support::keys::Letter;
 
-type Pairs = &'static [(u32, u8)];
+type Text = &'static [u8];
 
 // A map, the other one, what is left over, and what is left of the map.
-const ROWS: &[(Pairs, Pairs, Pairs, Pairs)] = &[
+const ROWS: &[(Text, Text, Text, Text)] = &[
     // One map is empty.
-    (&[], &[], &[], &[]),
-    (&[], &[(4, b'f'), (6, b's')], &[], &[(4, b'f'), (6, b's')]),
-    (&[(1, b'o'), (3, b'r')], &[], &[], &[(1, b'o'), (3, b'r')]),
+    (b"", b"", b"", b""),
+    (b"", b"4f6s", b"", b"4f6s"),
+    (b"4f6s", b"", b"", b"4f6s"),
     // One lies above the other.
-    (
-        &[(4, b'f'), (6, b's')],
-        &[(1, b'o'), (3, b'r')],
-        &[],
-        &[(1, b'o'), (3, b'r'), (4, b'f'), (6, b's')],
-    ),
-    (
-        &[(1, b'o'), (3, b'r')],
-        &[(4, b'f'), (6, b's')],
-        &[],
-        &[(1, b'o'), (3, b'r'), (4, b'f'), (6, b's')],
-    ),
+    (b"4f6s", b"1o3t", b"", b"1o3t4f6s"),
+    (b"1o3t", b"4f6s", b"", b"1o3t4f6s"),
     // Pairs fall between others.
-    (
-        &[(1, b'o'), (3, b'r')],
-        &[(2, b'T'), (4, b'F')],
-        &[],
-        &[(1, b'o'), (2, b'T'), (3, b'r'), (4, b'F')],
-    ),
-    (
-        &[(1, b'a'), (3, b'c')],
-        &[(2, b'b')],
-        &[],
-        &[(1, b'a'), (2, b'b'), (3, b'c')],
-    ),
+    (b"1o3t", b"2T4F", b"", b"1o2T3t4F"),
+    (b"1a3c", b"2b", b"", b"1a2b3c"),
     // Keys are common.
+    (b"1o2T3t4F", b"4f6s", b"4F", b"1o2T3t4f6s"),
+    (b"1o2t", b"2T4F", b"2t", b"1o2T4F"),
+    (b"1a3c", b"1x3z", b"1a3c", b"1x3z"),
+    // An equal key stays as it was stored, and is left over as it came.
+    (b"A1", b"a2b3", b"a1", b"A2b3"),
+    // Many pairs, of which each falls elsewhere: below, on, between and above the others.
     (
-        &[(1, b'o'), (2, b'T'), (3, b'r'), (4, b'F')],
-        &[(4, b'f'), (6, b's')],
-        &[(4, b'F')],
-        &[(1, b'o'), (2, b'T'), (3, b'r'), (4, b'f'), (6, b's')],
+        b"bBfFhHkK",
+        b"A0b1C2D3e4F5G6h7I8J9k+L-M*N:O;P,Q<R=",
+        b"bBFFhHkK",
+        b"A0b1C2D3e4f5G6h7I8J9k+L-M*N:O;P,Q<R=",
     ),
     (
-        &[(1, b'o'), (2, b't')],
-        &[(2, b'T'), (4, b'F')],
-        &[(2, b't')],
-        &[(1, b'o'), (2, b'T'), (4, b'F')],
+        b"q0",
+        b"A0B1C2D3E4F5G6H7I8J9K0L1M2N3O4P5Q6",
+        b"Q0",
+        b"A0B1C2D3E4F5G6H7I8J9K0L1M2N3O4P5q6",
     ),
     (
-        &[(1, b'a'), (3, b'c')],
-        &[(1, b'x'), (3, b'z')],
-        &[(1, b'a'), (3, b'c')],
-        &[(1, b'x'), (3, b'z')],
+        b"a9",
+        b"A0B1C2D3E4F5G6H7I8J9K0L1M2N3O4P5Q6",
+        b"A9",
+        b"a0B1C2D3E4F5G6H7I8J9K0L1M2N3O4P5Q6",
     ),
 ];
 
-fn merge_each<S: StoreIntoIterator<u32, u8> + Drop>(
+fn merge_each<S: StoreIntoIterator<Letter, u8> + Drop>(
     rt: &impl Abort,
     alloc: Global,
 ) -> Result<(), Fail> {
     for (old, new, left, merged) in ROWS {
-        let mut map: LiteMap<u32, u8, S> = map_of(alloc, old, 8)?;
-        let other: LiteMap<u32, u8, S> = map_of(alloc, new, 8)?;
-        let rest = match map.extend_from_litemap(alloc, other) {
-            Ok(None) => Vec::new(alloc),
-            Ok(Some(rest)) => list_of(alloc, &rest)?,
-            Err(_) => return Err(AllocError.into()),
-        };
+        let (all, rest) = merge::<S>(alloc, &pairs_of(alloc, old)?, &pairs_of(alloc, new)?)?;
+        let wanted = (*left != b"".as_slice()).then_some(*left);
         assert!(rt;
-            rest.as_slice() == *left,
-            "{new:?} into {old:?}: {rest:?} is left over"
-        );
-        assert!(rt;
-            list_of(alloc, &map)?.as_slice() == *merged,
-            "{new:?} into {old:?}"
+            all.as_slice() == *merged && rest.as_ref().map(Vec::as_slice) == wanted,
+            "{new:?} into {old:?}: {all:?}, {rest:?} is left over"
         );
     }
     Ok(())
@@ -88,6 +65,6 @@ fn merge_each<S: StoreIntoIterator<u32, u8> + Drop>(
 
 #[test]
 fn maps_are_merged(rt: HostRuntime) -> Result<(), Fail> {
-    merge_each::<Vec<(u32, u8)>>(&rt, rt.alloc())?;
-    merge_each::<FixedRoom<u32, u8>>(&rt, rt.alloc())
+    merge_each::<Vec<(Letter, u8)>>(&rt, rt.alloc())?;
+    merge_each::<FixedRoom<Letter, u8>>(&rt, rt.alloc())
 }

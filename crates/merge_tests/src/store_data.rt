@@ -33,24 +33,23 @@ const UNSORTED: [(u32, u64); 10] = [
     (704, 5359),
 ];
 
-// The map of the twenty pairs, put in one after the other.
+// The map of the twenty pairs, put in one after the other; none if a call answered otherwise than it has to.
 fn map_of_all<S: StoreBulkMut<u32, u64>>(
-    rt: &impl Abort,
     alloc: Global,
-) -> Result<LiteMap<u32, u64, S>, Fail> {
+) -> Result<Option<LiteMap<u32, u64, S>>, AllocError> {
     let mut map: LiteMap<u32, u64, S> = LiteMap::with_capacity(alloc, 64)?;
+    let mut is_right = true;
     for (key, value) in SORTED {
-        assert!(rt; map.try_append(key, value)?.is_none(), "{key}");
+        is_right &= map.try_append(key, value)?.is_none();
     }
     for (key, value) in UNSORTED {
-        assert!(rt; map.try_append(key, value)? == Some((key, value)), "{key}");
+        is_right &= map.try_append(key, value)? == Some((key, value));
     }
-    assert_eq!(rt; map.len(), 10);
+    is_right &= map.len() == 10;
     for (key, value) in UNSORTED {
-        assert!(rt; map.insert(key, value)?.is_none(), "{key}");
+        is_right &= map.insert(key, value)?.is_none();
     }
-    assert_eq!(rt; map.len(), 20);
-    Ok(map)
+    Ok((is_right && map.len() == 20).then_some(map))
 }
 
 // The map of a list, with room for as many pairs again.
@@ -61,48 +60,55 @@ fn again<S: StoreBulkMut<u32, u64>>(
     map_of(alloc, list, 64)
 }
 
+// Whether each step leaves what it has to: a merge with a clone, one with the twenty pairs where the odd values are gone, and
+// an extension there; then removals, and those from a fresh map.
+fn steps<S: StoreBulkMut<u32, u64> + StoreIntoIterator<u32, u64>>(
+    alloc: Global,
+    mut map: LiteMap<u32, u64, S>,
+) -> Result<[bool; 7], AllocError> {
+    let all = list_of(alloc, &map)?;
+    let clone = map.try_clone(alloc)?;
+    let rest = match map.extend_from_litemap(alloc, clone)? {
+        None => Vec::new(alloc),
+        Some(rest) => list_of(alloc, &rest)?,
+    };
+    let is_cloned = rest == all && map.len() == 20;
+    map.retain(|_, value| value % 2 == 0);
+    let is_halved = map.len() == 11;
+    let rest = map.extend_from_litemap(alloc, again(alloc, &all)?)?;
+    let is_merged = rest.is_some_and(|rest| rest.len() == 11) && map.len() == 20;
+    map.retain(|_, value| value % 2 == 0);
+    let is_halved_again = map.len() == 11;
+    map.extend(alloc, all.iter().copied())?;
+    let is_extended = list_of(alloc, &map)?.as_slice() == all.as_slice();
+    let is_removed = map.remove(&175).is_none()
+        && map.remove(&176) == Some(2101)
+        && map.len() == 19;
+    let mut fresh: LiteMap<u32, u64, S> = again(alloc, &all)?;
+    let is_fresh = fresh.remove(&175).is_none() && fresh.remove(&147) == Some(9864);
+    let is_less = fresh.len() == 19;
+    fresh.clear();
+    let is_cleared = is_fresh && is_less && fresh.is_empty();
+    Ok([
+        is_cloned,
+        is_halved,
+        is_merged,
+        is_halved_again,
+        is_extended,
+        is_removed,
+        is_cleared,
+    ])
+}
+
 fn merge_each<S: StoreBulkMut<u32, u64> + StoreIntoIterator<u32, u64>>(
     rt: &impl Abort,
     alloc: Global,
 ) -> Result<(), Fail> {
-    let mut map: LiteMap<u32, u64, S> = map_of_all(rt, alloc)?;
-    let all = list_of(alloc, &map)?;
-    let clone = map.try_clone(alloc)?;
-    let Ok(Some(rest)) = map.extend_from_litemap(alloc, clone) else {
-        return Err(AllocError.into());
+    let seen = match map_of_all::<S>(alloc)? {
+        None => [false; 7],
+        Some(map) => steps(alloc, map)?,
     };
-    assert!(rt;
-        list_of(alloc, &rest)?.as_slice() == all.as_slice() && map.len() == 20,
-        "a clone"
-    );
-    map.retain(|_, value| value % 2 == 0);
-    assert_eq!(rt; map.len(), 11);
-    let Ok(Some(rest)) = map.extend_from_litemap(alloc, again(alloc, &all)?) else {
-        return Err(AllocError.into());
-    };
-    assert!(rt; rest.len() == 11 && map.len() == 20, "the twenty pairs");
-    map.retain(|_, value| value % 2 == 0);
-    let kept = map.len();
-    map.extend(alloc, all.iter().copied())?;
-    assert!(rt;
-        kept == 11 && list_of(alloc, &map)?.as_slice() == all.as_slice(),
-        "extended"
-    );
-    let missing = map.remove(&175);
-    let removed = map.remove(&176);
-    assert!(rt;
-        missing.is_none() && removed == Some(2101) && map.len() == 19,
-        "removed"
-    );
-    let mut fresh: LiteMap<u32, u64, S> = again(alloc, &all)?;
-    let missing = fresh.remove(&175);
-    let removed = fresh.remove(&147);
-    assert!(rt;
-        missing.is_none() && removed == Some(9864) && fresh.len() == 19,
-        "a fresh map"
-    );
-    fresh.clear();
-    assert_eq!(rt; fresh.len(), 0);
+    assert!(rt; seen == [true; 7], "{seen:?}");
     Ok(())
 }
 
