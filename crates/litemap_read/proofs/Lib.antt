@@ -2,3 +2,4 @@
 pub mod Sifted
 pub mod Runs
 pub mod SameRuns
+pub mod ReadLookups

@@ -5,6 +5,7 @@ pub mod config;
 pub mod counting;
 pub mod headers;
 pub mod made;
+pub mod message;
 pub mod moved;
 pub mod names;
 pub mod people;
