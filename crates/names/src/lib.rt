@@ -8,5 +8,8 @@ mod program;
 mod session;
 mod watch;
 
+pub use name_table::{
+    NameBytes, NameFault, NameMap, NameWriteFault, find_name, read_names, write_names,
+};
 pub use program::{run, run_with};
 pub use watch::Watch;

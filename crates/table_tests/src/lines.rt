@@ -1,0 +1,63 @@
+//! The lines.
+use crate::sweeps::{self, Tally};
+use crate::texts;
+use name_table::{read_names, write_names};
+use std::alloc::{AllocError, Global};
+
+/// Does a line, and writes what answers it.
+pub fn answer_line(alloc: Global, line: &str, output: &mut String) -> Result<(), AllocError> {
+    if line.is_empty() || line.starts_with('#') {
+        return Ok(());
+    }
+    let words: Vec<&str> = line.split(' ').collect(alloc)?;
+    let Some((last, words)) = words.as_slice().split_last() else {
+        return output.push_str("bad line\n");
+    };
+    let digits = if *last == "-" { "" } else { *last };
+    let Ok(bytes) = hex::decode(alloc, digits) else {
+        return output.push_str("bad bytes\n");
+    };
+    answer(alloc, words, bytes.as_slice(), output)?;
+    output.push('\n')
+}
+
+// Writes what answers a line.
+fn answer(
+    alloc: Global,
+    words: &[&str],
+    bytes: &[u8],
+    output: &mut String,
+) -> Result<(), AllocError> {
+    match words {
+        ["read"] => texts::write_read(alloc, bytes, output),
+        ["find", key] => texts::write_found(alloc, key, bytes, output),
+        ["walk"] => texts::write_walk(bytes, output),
+        ["again"] => write_again(alloc, bytes, output),
+        [name] => sweep(alloc, name, bytes, output),
+        _ => output.push_str("bad line"),
+    }
+}
+
+// Writes what is written for the map that is read.
+fn write_again(alloc: Global, bytes: &[u8], output: &mut String) -> Result<(), AllocError> {
+    let Ok((map, _)) = read_names(alloc, bytes) else {
+        return output.push_str("no map");
+    };
+    let Ok(written) = write_names(alloc, &map) else {
+        return output.push_str("no table");
+    };
+    let digits = hex::encode(alloc, written.as_slice())?;
+    output.push_str(digits.as_str())
+}
+
+// Reads many cases, and writes what came of them.
+fn sweep(alloc: Global, name: &str, bytes: &[u8], output: &mut String) -> Result<(), AllocError> {
+    let mut tally = Tally::new();
+    match name {
+        "prefixes" => sweeps::prefixes(alloc, bytes, &mut tally)?,
+        "changes" => sweeps::changes(alloc, bytes, &mut tally)?,
+        "strings" => sweeps::strings(alloc, bytes, &mut tally)?,
+        _ => return output.push_str("bad line"),
+    }
+    tally.write(output)
+}

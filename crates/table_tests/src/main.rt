@@ -1,0 +1,32 @@
+//! Reads and writes name tables: each line of standard input asks for something of a table, and standard output has
+//! what answers it.
+//!
+//! A line is words parted by one space. Bytes are given in hexadecimal, and `-` stands for none.
+//!
+//! - `read BYTES`: what `read_names` answers.
+//! - `find KEY BYTES`: what `find_name` answers.
+//! - `walk BYTES`: the entries that `NameBytes` gives one by one, each with the place and the number due behind it, and
+//!   the answer that is no entry, twice.
+//! - `again BYTES`: what `write_names` writes for the map that is read.
+//! - `prefixes BYTES`: what is read of each proper prefix, by kinds.
+//! - `changes BYTES`: the same with each byte changed into each other one.
+//! - `strings BYTES`: the same of every string of up to four of these bytes.
+//!
+//! The last three read each case by the slow reader too, and tell how often it answered otherwise.
+#![tactic(auto)]
+
+mod lines;
+mod slow;
+mod sweeps;
+mod texts;
+
+use std::io;
+
+fn main(rt: HostRuntime) -> io::Result<()> {
+    let input = io::read_to_string(rt.alloc(), rt.stdin())?;
+    let mut output = String::new(rt.alloc());
+    for line in input.as_str().lines() {
+        lines::answer_line(rt.alloc(), line, &mut output)?;
+    }
+    rt.print(output.as_str())
+}
