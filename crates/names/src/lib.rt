@@ -1,6 +1,7 @@
 //! Keeps names and their values, as the lines of standard input say, and answers each line on standard output.
 #![tactic(auto)]
 
+mod flags;
 mod input;
 mod laws;
 mod lines;
@@ -8,5 +9,6 @@ mod program;
 mod session;
 mod watch;
 
+pub use flags::{FlagsFault, rewrite_flags};
 pub use program::{run, run_with};
 pub use watch::Watch;
