@@ -1,4 +1,5 @@
--- Lemmas of the crate.
+-- Lemmas of the crate. Callers' proofs cite `Floats`, and `OneMap` for what is read back.
 pub mod Again
 pub mod ByPlace
+pub mod Floats
 pub mod OneMap

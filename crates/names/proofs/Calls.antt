@@ -14,7 +14,7 @@ use Rattle.litemap_store.specs.Queries.{by_text}
 use Rattle.litemap.specs.Seen.{Seen}
 use Rattle.litemap_read.specs.declared.calls.Answer.TheVariants.{Place, Value}
 use Rattle.litemap_read.specs.declared.calls.Call.TheVariants.{Find, Get, Insert, Remove}
-use Rattle.names.specs.Told.{Answers, Calls, Does, TextMap, ShowsAll, answer_text, value_text}
+use Rattle.names.specs.Told.{Answers, Calls, Does, TextMap, ShowsAll, ShowsJson, answer_text, value_text}
 use Rattle.names.specs.Command.{DoesCommand, Says}
 use Rattle.names.specs.declared.lines.Command.{Command}
 use Rattle.names.specs.declared.lines.Command.TheVariants as said
@@ -97,6 +97,7 @@ does_command old next line text (said.Get key) says does = Calls (Get key.now) s
 does_command old next line text (said.Del key) says does = Calls (Remove key.now) says does
 does_command old next line text (said.Find key) says does = Calls (Find key.now) says does
 does_command old next line text said.All says does = ShowsAll says does.0 does.1
+does_command old next line text said.Json says does = ShowsJson says does.0 does.1
 
 -- the text of one more element
 pub flat_map-one_more : {A : Type 0} (f : A → List ℕ) (xs : List A) (i : ℕ) (old new : List ℕ) → i < length xs

@@ -1,8 +1,8 @@
 -- A command of the program: the line that spells it, and what it does.
 use Rattle.std.specs.Prelude.{◌≡◌, ℕ, List, flat_map}
 use Rattle.litemap_read.specs.declared.calls.Call.TheVariants.{Find, Get, Insert, Remove}
-use Rattle.names.specs.Line.{Spells, SpellsAll}
-use Rattle.names.specs.Told.{Answers, TextMap, pair_text}
+use Rattle.names.specs.Line.{Spells, SpellsAll, SpellsJson}
+use Rattle.names.specs.Told.{Answers, IsJsonLine, TextMap, pair_text}
 use Rattle.names.specs.declared.lines.Command.{Command}
 use Rattle.names.specs.declared.lines.Command.TheVariants as said
 
@@ -13,6 +13,7 @@ Says line (said.Get key) = Spells line (Get key.now)
 Says line (said.Del key) = Spells line (Remove key.now)
 Says line (said.Find key) = Spells line (Find key.now)
 Says line said.All = SpellsAll line
+Says line said.Json = SpellsJson line
 
 -- the command, done on the map `old`, writes the text and leaves the map `next`
 abbrev pub DoesCommand : TextMap → Command → List ℕ → TextMap → Type 0
@@ -21,3 +22,4 @@ DoesCommand old (said.Get key) text next = Answers old (Get key.now) text next
 DoesCommand old (said.Del key) text next = Answers old (Remove key.now) text next
 DoesCommand old (said.Find key) text next = Answers old (Find key.now) text next
 DoesCommand old said.All text next = (text ≡ flat_map pair_text old.pairs) × (next ≡ old)
+DoesCommand old said.Json text next = IsJsonLine old.pairs text × (next ≡ old)

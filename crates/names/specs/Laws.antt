@@ -5,14 +5,14 @@ use Rattle.std.specs.Cmp.Lexicographic.{slice_cmp}
 use Rattle.litemap_read.specs.Steps.{Run}
 use Rattle.litemap_read.specs.declared.calls.Answer.{Answer}
 use Rattle.litemap_read.specs.declared.calls.Call.{Call}
-use Rattle.names.specs.Line.{Spells, SpellsAll}
+use Rattle.names.specs.Line.{Spells, SpellsAll, SpellsJson}
 use Rattle.names.specs.Told.{DoesEach, TextMap}
 
--- the calls are those that the lines spell, in order: an empty line and `all` spell none
+-- the calls are those that the lines spell, in order: an empty line, `all` and `json` spell none
 abbrev pub SpellEach : List (List ℕ) → List (Call (List ℕ) (List ℕ)) → Type 0
 SpellEach [] calls = calls ≡ []
 SpellEach (said ∷ more) calls =
-    (((said ≡ []) ⊎ SpellsAll said) × SpellEach more calls) ⊎
+    (((said ≡ []) ⊎ (SpellsAll said ⊎ SpellsJson said)) × SpellEach more calls) ⊎
     ((call : Call (List ℕ) (List ℕ)) × (rest : List (Call (List ℕ) (List ℕ))) × Spells said call × (calls ≡ call ∷ rest) × SpellEach more rest)
 
 -- what lines do is a run of the calls that they spell

@@ -10,3 +10,4 @@ pub mod Fault
 pub mod ReadsUntil
 pub mod WritesUntil
 pub mod Rest
+pub mod Rewriting

@@ -28,8 +28,13 @@ Spells line call = ⊥
 abbrev pub SpellsAll : List ℕ → Type 0
 SpellsAll line = line ≡ codes "all"
 
--- the line is not empty, spells no call, and does not ask for all pairs
+-- the line asks for the map as JSON
+abbrev pub SpellsJson : List ℕ → Type 0
+SpellsJson line = line ≡ codes "json"
+
+-- the line is not empty, spells no call, and does not ask for all pairs or for the map as JSON
 pub record IsBad (line : List ℕ) : Type 0 where
   pub not_empty : line ≢ []
   pub not_all : SpellsAll line → ⊥
+  pub not_json : SpellsJson line → ⊥
   pub no_call : (call : Call (List ℕ) (List ℕ)) → Spells line call → ⊥

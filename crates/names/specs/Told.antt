@@ -10,7 +10,10 @@ use Rattle.litemap_read.specs.declared.calls.Answer.{Answer}
 use Rattle.litemap_read.specs.declared.calls.Answer.TheVariants.{Place, Value}
 use Rattle.litemap_read.specs.declared.calls.Call.{Call}
 use Rattle.litemap_read.specs.declared.calls.Call.TheVariants.{Find, Get, Insert, Remove}
-use Rattle.names.specs.Line.{IsBad, Spells, SpellsAll, lines_of}
+use Rattle.litemap_json.specs.Json.{tree}
+use Rattle.names.specs.Line.{IsBad, Spells, SpellsAll, SpellsJson, lines_of}
+use Rattle.serde_json.specs.Data.{Data, string}
+use Rattle.serde_json.specs.Written.{compact_text}
 
 -- the most bytes that a run takes
 abbrev pub most_bytes : ℕ
@@ -43,6 +46,10 @@ answer_text call answer = None
 abbrev pub pair_text : List ℕ × List ℕ → List ℕ
 pair_text pair = line (pair.0 ++ (32 ∷ pair.1))
 
+-- the text is the compact one of the pairs' JSON value, as a line
+abbrev pub IsJsonLine : List (List ℕ × List ℕ) → List ℕ → Type 0
+IsJsonLine L text = (value : Data) × (tree (λ key. Some key) string string L ≡ Ok value) × (text ≡ line (compact_text value))
+
 -- the call is a step of the sorted list, from `old` to `next`, and the text is that of its answer
 abbrev pub Answers : TextMap → Call (List ℕ) (List ℕ) → List ℕ → TextMap → Type 0
 Answers old call text next =
@@ -53,6 +60,7 @@ Answers old call text next =
 pub data Does (old : TextMap) (said text : List ℕ) (next : TextMap) : Type 0 where
   Nothing : said ≡ [] → text ≡ [] → next ≡ old → Does old said text next
   ShowsAll : SpellsAll said → text ≡ flat_map pair_text old.pairs → next ≡ old → Does old said text next
+  ShowsJson : SpellsJson said → IsJsonLine old.pairs text → next ≡ old → Does old said text next
   Calls : (call : Call (List ℕ) (List ℕ)) → Spells said call → Answers old call text next → Does old said text next
 
 -- the lines, done one after another from the map `old`, write the text and leave the map `end`

@@ -2,7 +2,7 @@
 ghost use Rattle.std.specs.Prelude.{◌≡◌, ◌<◌, ◌≤◌, ◌+◌, ◌++◌, ◌∷◌, ◌↔◌, ℕ, List, [], length, IsTrue};
 ghost use Rattle.std.specs.Prelude.{MatchOption, All, false, IfSome, IfNone, ◌==◌};
 ghost use Rattle.litemap_read.specs.declared.calls.Call.{Call};
-ghost use Rattle.names.specs.Line.{IsWord, Spells, SpellsAll, lines_of};
+ghost use Rattle.names.specs.Line.{IsWord, Spells, SpellsAll, SpellsJson, lines_of};
 ghost use Rattle.names.specs.Command.{Says};
 ghost use Rattle.names.specs.Rest.{lines_left};
 
@@ -21,6 +21,8 @@ pub enum Command<'a> {
     Find(&'a str),
     /// All pairs.
     All,
+    /// The map as JSON.
+    Json,
 }
 
 /// The first line of the bytes, and what follows its line feed.
@@ -47,11 +49,14 @@ fn cut_at(bytes: &[u8], byte: u8) -> Option<(&[u8], &[u8])>
 /// The command that a line says, if it says one.
 pub fn parse(line: &[u8]) -> Option<Command<'_>>
     ensures spelled { IfSome result (λ command. Says line.now command) }
-    ensures none { IfNone result ((SpellsAll line.now → ⊥)
+    ensures none { IfNone result ((SpellsAll line.now → ⊥) × (SpellsJson line.now → ⊥)
         × ((call : Call (List ℕ) (List ℕ)) → Spells line.now call → ⊥)) }
 {
     if line == b"all".as_slice() {
         return Some(Command::All);
+    }
+    if line == b"json".as_slice() {
+        return Some(Command::Json);
     }
     if let Some(rest) = behind(line, b"put ") {
         let (key, value) = two_words(rest)?;

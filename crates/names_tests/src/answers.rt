@@ -14,7 +14,7 @@ fn status_and_out(alloc: Global, input: &[u8]) -> (u8, Vec<u8>) {
 
 #[test]
 fn lines_and_their_answers(rt: HostRuntime) -> Result<(), Fail> {
-    let runs: [(&[u8], u8, &[u8]); 10] = [
+    let runs: [(&[u8], u8, &[u8]); 12] = [
         (LINES, 0, b"new\nnew\nold 2\nerr 2\na 1\nb 3\n"),
         (b"put a 1\n\nput a\nall\n", 2, b"new\nbad line 3\n"),
         (
@@ -45,6 +45,16 @@ fn lines_and_their_answers(rt: HostRuntime) -> Result<(), Fail> {
             0,
             b"new\nold 1\nold 2\na 2\n",
         ),
+        (
+            b"del a\njson\nput b 2\nput a 1\njson\ndel b\nget b\n",
+            0,
+            b"none\n[]\nnew\nnew\n{\"a\":\"1\",\"b\":\"2\"}\n= 2\nnone\n",
+        ),
+        (
+            b"put a \"\nput b \\\njson",
+            0,
+            b"new\nnew\n{\"a\":\"\\\"\",\"b\":\"\\\\\"}\n",
+        ),
     ];
     for (input, status, out) in runs {
         let (found, text) = status_and_out(rt.alloc(), input);
@@ -56,7 +66,7 @@ fn lines_and_their_answers(rt: HostRuntime) -> Result<(), Fail> {
 
 #[test]
 fn bad_lines(rt: HostRuntime) -> Result<(), Fail> {
-    let lines: [&[u8]; 28] = [
+    let lines: [&[u8]; 32] = [
         b" ",
         b"put",
         b"put ",
@@ -85,6 +95,10 @@ fn bad_lines(rt: HostRuntime) -> Result<(), Fail> {
         b"all ",
         b"all x",
         b"all\r",
+        b" json",
+        b"json ",
+        b"json x",
+        b"JSON",
     ];
     for line in lines {
         let (status, text) = status_and_out(rt.alloc(), line);

@@ -8,4 +8,6 @@ mod fakes;
 #[cfg(test)]
 mod faults;
 #[cfg(test)]
+mod flags;
+#[cfg(test)]
 mod watch;

@@ -2,7 +2,7 @@ use Rattle.std.proofs.Common.{[], ◌∷◌, inl, inr, refl, subst}
 use Rattle.std.specs.Ordering.{nat_cmp}
 use Rattle.std.specs.Cmp.Lexicographic.{slice_cmp}
 use Rattle.litemap_read.specs.Steps.{Run}
-use Rattle.names.specs.Told.{Nothing, ShowsAll, Calls, TextMap}
+use Rattle.names.specs.Told.{Nothing, ShowsAll, ShowsJson, Calls, TextMap}
 use Rattle.names.specs.Laws.{LinesAreARun}
 use Rattle.names.proofs.laws.lines_are_a_run.Goals as goal
 
@@ -12,7 +12,8 @@ each_step start end (said ∷ more) text (first, rest, next, does, each, joined)
     let (calls, answers, spell, run) = each_step next end more rest each in
     elim does [
       | Nothing empty wrote same ↦ (calls, answers, inl (inl empty, spell), subst (λ (m : TextMap). Run (slice_cmp nat_cmp) m calls answers end) same run)
-      | ShowsAll all wrote same ↦ (calls, answers, inl (inr all, spell), subst (λ (m : TextMap). Run (slice_cmp nat_cmp) m calls answers end) same run)
+      | ShowsAll all wrote same ↦ (calls, answers, inl (inr (inl all), spell), subst (λ (m : TextMap). Run (slice_cmp nat_cmp) m calls answers end) same run)
+      | ShowsJson json wrote same ↦ (calls, answers, inl (inr (inr json), spell), subst (λ (m : TextMap). Run (slice_cmp nat_cmp) m calls answers end) same run)
       | Calls call spells (answer, step, written) ↦ (call ∷ calls, answer ∷ answers, inr (call, calls, spells, refl, spell), (next, step, run))
     ]
 
