@@ -1,144 +1,172 @@
 //! Each call through an entry, of a key that is there and of one that is not, over stores that grow and
 //! that do not.
+use crate::steps::{Call, Step, make_calls};
+use litemap::LiteMap;
 use litemap::store::{NoRoom, StoreMut};
-use litemap::{Entry, LiteMap};
 use std::alloc::Global;
 use std::process::Abort;
 use std::test::Fail;
 use test_support::fixed_room::FixedRoom;
-use test_support::lists::{list_of, map_of};
+use test_support::lists::map_of;
 
-#[derive(Clone, Copy, Debug)]
-enum Call {
-    OrInsert,
-    OrDefault,
-    OrInsertWith,
-    AndModify,
-    Insert,
-    Match,
-}
-
-// A call at a key with a value: what the reference starts at, or the pair that came back. One is added
-// through the reference.
-fn make_call<S: StoreMut<u32, u32>>(
-    map: &mut LiteMap<u32, u32, S>,
-    call: Call,
-    key: u32,
-    value: u32,
-    made: &mut u32,
-) -> Result<u32, NoRoom<(u32, u32)>> {
-    let entry = map.entry(key);
-    let slot = match call {
-        Call::OrInsert => entry.or_insert(value)?,
-        Call::OrDefault => entry.or_default()?,
-        Call::OrInsertWith => entry.or_insert_with(|| {
-            *made = made.wrapping_add(1);
-            value
-        })?,
-        Call::AndModify => entry
-            .and_modify(|v| {
-                *made = made.wrapping_add(1);
-                *v = v.wrapping_mul(2);
-            })
-            .or_insert(value)?,
-        Call::Insert => match entry {
-            Entry::Occupied(mut entry) => {
-                entry.insert(value);
-                entry.into_mut()
-            }
-            Entry::Vacant(entry) => entry.insert(value)?,
-        },
-        Call::Match => match entry {
-            Entry::Occupied(entry) => entry.into_mut(),
-            Entry::Vacant(entry) => entry.insert(value)?,
-        },
-    };
-    let start = *slot;
-    *slot = slot.wrapping_add(1);
-    Ok(start)
-}
-
-const OLD: [(u32, u32); 2] = [(2, 20), (4, 40)];
-
-// The call, the key, what the reference starts at, which is the value that is placed where the key is not
-// there, and how often a closure is called.
-const ROWS: [(Call, u32, u32, u32); 15] = [
-    (Call::OrInsert, 2, 20, 0),
-    (Call::OrDefault, 2, 20, 0),
-    (Call::OrInsertWith, 2, 20, 0),
-    (Call::AndModify, 2, 40, 1),
-    (Call::Insert, 2, 7, 0),
-    (Call::Match, 2, 20, 0),
-    (Call::OrInsert, 4, 40, 0),
-    (Call::AndModify, 4, 80, 1),
-    (Call::Insert, 4, 7, 0),
-    (Call::OrInsert, 1, 7, 0),
-    (Call::OrDefault, 3, 0, 0),
-    (Call::OrInsertWith, 5, 7, 1),
-    (Call::AndModify, 1, 7, 0),
-    (Call::Insert, 3, 7, 0),
-    (Call::Match, 5, 7, 0),
+// From the empty map, with texts.
+const TEXTS: [Step<&str>; 14] = [
+    (Call::Get, 1, "", Ok(None), 0, &[]),
+    (Call::OrInsert, 1, "one", Ok(Some("one")), 0, &[(1, "one")]),
+    (Call::Get, 1, "", Ok(Some("one")), 0, &[(1, "one")]),
+    (Call::OrInsert, 1, "uno", Ok(Some("one")), 0, &[(1, "one")]),
+    (
+        Call::OrInsertWith,
+        1,
+        "uno",
+        Ok(Some("one")),
+        0,
+        &[(1, "one")],
+    ),
+    (Call::GetMut, 1, "uno", Ok(Some("one")), 0, &[(1, "uno")]),
+    (Call::Insert, 1, "one", Ok(Some("uno")), 0, &[(1, "one")]),
+    (Call::Insert, 1, "uno", Ok(Some("one")), 0, &[(1, "uno")]),
+    (Call::Remove, 1, "", Ok(Some("uno")), 0, &[]),
+    (
+        Call::OrInsertWith,
+        1,
+        "one",
+        Ok(Some("one")),
+        1,
+        &[(1, "one")],
+    ),
+    (Call::IntoMut, 1, "uno", Ok(Some("one")), 0, &[(1, "uno")]),
+    (Call::Remove, 1, "", Ok(Some("uno")), 0, &[]),
+    (Call::Remove, 1, "", Ok(None), 0, &[]),
+    (Call::Insert, 1, "one", Ok(Some("one")), 0, &[(1, "one")]),
 ];
 
-fn make_calls<S: StoreMut<u32, u32> + Drop>(
+// From the empty map, where five is added to a value that is there.
+const FIVE_MORE: [Step<u64>; 3] = [
+    (Call::OrInsert, 1, 10, Ok(Some(10)), 0, &[(1, 10)]),
+    (Call::AndModify, 1, 0, Ok(Some(15)), 1, &[(1, 15)]),
+    (Call::AndModify, 2, 20, Ok(Some(20)), 0, &[(1, 15), (2, 20)]),
+];
+
+// From the empty map: defaults, and writes behind both ends and between.
+const DEFAULTS: [Step<u64>; 6] = [
+    (Call::OrDefault, 1, 9, Ok(Some(0)), 0, &[(1, 0)]),
+    (Call::Change, 1, 9, Ok(Some(0)), 0, &[(1, 5)]),
+    (Call::OrDefault, 1, 9, Ok(Some(5)), 0, &[(1, 5)]),
+    (Call::Change, 3, 30, Ok(Some(30)), 0, &[(1, 5), (3, 35)]),
+    (
+        Call::Change,
+        2,
+        20,
+        Ok(Some(20)),
+        0,
+        &[(1, 5), (2, 25), (3, 35)],
+    ),
+    (
+        Call::Insert,
+        0,
+        1,
+        Ok(Some(1)),
+        0,
+        &[(0, 1), (1, 5), (2, 25), (3, 35)],
+    ),
+];
+
+const NONE: &[(u32, u64)] = &[];
+
+// From a map of one pair.
+const ONE: &[(u32, u64)] = &[(1, 10)];
+
+const OCCUPIED: [Step<u64>; 4] = [
+    (Call::OrInsertWith, 1, 0, Ok(Some(10)), 0, ONE),
+    (Call::Insert, 1, 11, Ok(Some(10)), 0, &[(1, 11)]),
+    (Call::Remove, 1, 0, Ok(Some(11)), 0, &[]),
+    (Call::Get, 1, 0, Ok(None), 0, &[]),
+];
+
+// From a map of three pairs: the pair in the middle, the last and the first are taken out.
+const OLD: &[(u32, u64)] = &[(2, 20), (4, 40), (6, 60)];
+
+const REMOVALS: [Step<u64>; 6] = [
+    (Call::Remove, 4, 0, Ok(Some(40)), 0, &[(2, 20), (6, 60)]),
+    (Call::Remove, 5, 0, Ok(None), 0, &[(2, 20), (6, 60)]),
+    (Call::Remove, 6, 0, Ok(Some(60)), 0, &[(2, 20)]),
+    (Call::Insert, 4, 40, Ok(Some(40)), 0, &[(2, 20), (4, 40)]),
+    (Call::Remove, 2, 0, Ok(Some(20)), 0, &[(4, 40)]),
+    (Call::Remove, 4, 0, Ok(Some(40)), 0, &[]),
+];
+
+const TWO: &[(u32, u64)] = &[(1, 10), (2, 20)];
+
+// From a map of one pair with room for one more: what is placed, and what is then refused.
+const FULL: [Step<u64>; 8] = [
+    (Call::OrInsert, 1, 0, Ok(Some(10)), 0, ONE),
+    (Call::OrInsert, 2, 20, Ok(Some(20)), 0, TWO),
+    (Call::OrInsert, 3, 30, Err(NoRoom { back: (3, 30) }), 0, TWO),
+    (Call::OrDefault, 0, 30, Err(NoRoom { back: (0, 0) }), 0, TWO),
+    (
+        Call::OrInsertWith,
+        3,
+        30,
+        Err(NoRoom { back: (3, 30) }),
+        1,
+        TWO,
+    ),
+    (
+        Call::AndModify,
+        3,
+        30,
+        Err(NoRoom { back: (3, 30) }),
+        0,
+        TWO,
+    ),
+    (Call::Insert, 0, 30, Err(NoRoom { back: (0, 30) }), 0, TWO),
+    (Call::AndModify, 2, 30, Ok(Some(25)), 1, &[(1, 10), (2, 25)]),
+];
+
+// The map of a list, and the calls on it.
+fn from_list<V: Copy + Default + PartialEq, S: StoreMut<u32, V> + Drop, F: Fn(V) -> V>(
     rt: &impl Abort,
     alloc: Global,
-    room: usize,
-    grows: bool,
-) -> Result<(), Fail> {
-    for (kind, key, start, calls) in ROWS {
-        let mut map: LiteMap<u32, u32, S> = map_of(alloc, &OLD, room)?;
-        let is_there = map.contains_key(&key);
-        let is_placed = is_there || grows;
-        let mut made = 0;
-        let answer = make_call(&mut map, kind, key, 7, &mut made);
-        let wanted = if is_placed {
-            Ok(start)
-        } else {
-            Err(NoRoom { back: (key, start) })
-        };
-        let wanted_value = if is_placed {
-            Some(start.wrapping_add(1))
-        } else {
-            None
-        };
-        let len = if is_placed && !is_there { 3 } else { 2 };
-        assert!(rt;
-            answer == wanted
-                && made == calls
-                && map.len() == len
-                && map.get(&key).copied() == wanted_value,
-            "{kind:?} of {key}"
-        );
+    old: &[(u32, V)],
+    modify: F,
+    steps: &[Step<V>],
+) -> Result<(), Fail>
+    requires { F.IsAlwaysCallable modify }
+{
+    let mut map: LiteMap<u32, V, S> = map_of(alloc, old, 4)?;
+    make_calls(rt, alloc, &mut map, modify, steps)
+}
+
+// The calls with numbers.
+fn with_numbers<S: StoreMut<u32, u64> + Drop>(rt: &impl Abort, alloc: Global) -> Result<(), Fail> {
+    for (old, steps) in [
+        (NONE, FIVE_MORE.as_slice()),
+        (NONE, DEFAULTS.as_slice()),
+        (ONE, OCCUPIED.as_slice()),
+        (OLD, REMOVALS.as_slice()),
+    ] {
+        from_list::<u64, S, _>(rt, alloc, old, |n| n.wrapping_add(5), steps)?;
     }
     Ok(())
 }
 
 #[test]
-fn each_call_starts_at_the_value_and_leaves_what_is_written(rt: HostRuntime) -> Result<(), Fail> {
-    make_calls::<Vec<(u32, u32)>>(&rt, rt.alloc(), 2, true)?;
-    make_calls::<FixedRoom<u32, u32>>(&rt, rt.alloc(), 3, true)?;
-    make_calls::<FixedRoom<u32, u32>>(&rt, rt.alloc(), 2, false)
+fn texts_are_placed_once_and_then_changed(rt: HostRuntime) -> Result<(), Fail> {
+    let alloc = rt.alloc();
+    from_list::<&str, Vec<(u32, &str)>, _>(&rt, alloc, &[], |text| text, &TEXTS)?;
+    from_list::<&str, FixedRoom<u32, &str>, _>(&rt, alloc, &[], |text| text, &TEXTS)
 }
 
-// Where one place was reserved, one new key is placed, and a key that is there needs none.
+#[test]
+fn numbers_are_placed_once_and_then_changed(rt: HostRuntime) -> Result<(), Fail> {
+    with_numbers::<Vec<(u32, u64)>>(&rt, rt.alloc())?;
+    with_numbers::<FixedRoom<u32, u64>>(&rt, rt.alloc())
+}
+
 #[test]
 fn reserved_room_is_there_for_one_new_key(rt: HostRuntime) -> Result<(), Fail> {
-    let mut map: LiteMap<u32, u32, FixedRoom<u32, u32>> = map_of(rt.alloc(), &[(1, 10)], 2)?;
+    let mut map: LiteMap<u32, u64, FixedRoom<u32, u64>> = map_of(rt.alloc(), ONE, 2)?;
     map.reserve(1)?;
-    for (key, value, answer) in [
-        (1, 0, Ok(10)),
-        (2, 20, Ok(20)),
-        (3, 30, Err(NoRoom { back: (3, 30) })),
-        (2, 0, Ok(20)),
-    ] {
-        let found = match map.entry(key).or_insert(value) {
-            Ok(slot) => Ok(*slot),
-            Err(refused) => Err(refused),
-        };
-        assert!(rt; found == answer, "of {key}");
-    }
-    let left = list_of(rt.alloc(), &map)?;
-    assert!(rt; left.as_slice() == [(1, 10), (2, 20)].as_slice());
-    Ok(())
+    make_calls(&rt, rt.alloc(), &mut map, |n: u64| n.wrapping_add(5), &FULL)
 }

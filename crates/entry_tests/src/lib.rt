@@ -9,4 +9,4 @@ mod counting;
 #[cfg(test)]
 mod kinds;
 #[cfg(test)]
-mod texts;
+mod steps;

@@ -1,10 +1,10 @@
 //! The calls, by name.
 use crate::outcome::Outcome;
-use crate::{bulk, maps, merge, session, stores};
+use crate::{bulk, conversions, maps, merge, session, stores};
 use std::alloc::Global;
 
 /// The names of the calls.
-pub const CALLS: [&str; 26] = [
+pub const CALLS: [&str; 33] = [
     "insert",
     "try_insert",
     "try_append",
@@ -30,6 +30,13 @@ pub const CALLS: [&str; 26] = [
     "extend_from_litemap",
     "lm_extend_end",
     "lm_extend_start",
+    "to_boxed_keys_values",
+    "to_boxed_keys",
+    "to_boxed_values",
+    "to_borrowed_keys_values",
+    "to_borrowed_keys",
+    "to_borrowed_values",
+    "to_keys_by",
     "names",
 ];
 
@@ -61,6 +68,13 @@ pub fn run_call(alloc: Global, name: &str) -> Option<Outcome> {
         "extend_from_litemap" => Some(merge::extend_from_litemap(alloc)),
         "lm_extend_end" => Some(merge::lm_extend_end(alloc)),
         "lm_extend_start" => Some(merge::lm_extend_start(alloc)),
+        "to_boxed_keys_values" => Some(conversions::to_boxed_keys_values(alloc)),
+        "to_boxed_keys" => Some(conversions::to_boxed_keys(alloc)),
+        "to_boxed_values" => Some(conversions::to_boxed_values(alloc)),
+        "to_borrowed_keys_values" => Some(conversions::to_borrowed_keys_values(alloc)),
+        "to_borrowed_keys" => Some(conversions::to_borrowed_keys(alloc)),
+        "to_borrowed_values" => Some(conversions::to_borrowed_values(alloc)),
+        "to_keys_by" => Some(conversions::to_keys_by(alloc)),
         "names" => Some(session::run_lines(alloc)),
         _ => None,
     }

@@ -7,7 +7,8 @@ use std::alloc::Global;
 /// A map over a vector.
 pub type Numbers = LiteMap<u32, u32, Vec<(u32, u32)>>;
 
-type Texts = LiteMap<String, String, Vec<(String, String)>>;
+/// A map of texts over a vector.
+pub type Texts = LiteMap<String, String, Vec<(String, String)>>;
 
 /// What is put in, in this order.
 pub const PAIRS: [(u32, u32); 5] = [(1, 10), (2, 20), (3, 30), (4, 40), (5, 50)];
@@ -141,8 +142,8 @@ pub fn reserve(alloc: Global) -> Outcome {
     }
 }
 
-// A map of one pair of texts.
-fn texts(alloc: Global) -> Option<Texts> {
+/// A map of one pair of texts, `None` where its memory was refused.
+pub fn texts(alloc: Global) -> Option<Texts> {
     let mut map = LiteMap::new_vec(alloc);
     let key = String::from_str(alloc, "key").ok()?;
     let value = String::from_str(alloc, "value").ok()?;
@@ -150,8 +151,8 @@ fn texts(alloc: Global) -> Option<Texts> {
     Some(map)
 }
 
-// Whether the map has the pair of texts alone.
-fn has_texts(map: &Texts) -> bool {
+/// Whether the map has the pair of texts alone.
+pub fn has_texts(map: &Texts) -> bool {
     match map.first() {
         Some((key, value)) => {
             map.len() == 1 && key.as_str() == "key" && value.as_str() == "value"
