@@ -1,5 +1,4 @@
 -- Lemmas of the proofs.
-pub mod Clones
 pub mod Conversions
 pub mod Entries
 pub mod Outcomes

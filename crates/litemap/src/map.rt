@@ -16,6 +16,8 @@ mod places;
 mod slice;
 mod write;
 
+use becomes::Cloned;
+use conversions::converted;
 pub use entry::{Entry, OccupiedEntry, VacantEntry};
 pub use iter::{KeysIterWrap, ValuesIterWrap};
 use litemap_store::store::{Store, StoreConstEmpty, StoreMut};
@@ -141,21 +143,7 @@ impl<K: Ord, V, S: StoreMut<K, V>> LiteMap<K, V, S> {
         ensures same { IfOk result
             (λ m. ClonesAreSame K.is_clone → ClonesAreSame V.is_clone → m.pairs ≡ self.now.pairs) }
     {
-        let len = self.store.lm_len();
-        let mut store = S::lm_with_capacity(alloc, len)?;
-        for index in 0..len {
-            let Some((key, value)) = self.store.lm_get(index) else {
-                unreachable!()
-            };
-            match store.lm_push(key.clone()?, value.clone()?) {
-                Ok(()) => {}
-                Err(_) => unreachable!(),
-            }
-        }
-        Ok(LiteMap {
-            store,
-            marker: PhantomData,
-        })
+        converted(&self.store, alloc, &Cloned, &Cloned)
     }
 }
 

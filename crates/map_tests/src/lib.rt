@@ -12,5 +12,3 @@ mod closures;
 mod counts;
 #[cfg(test)]
 mod printing;
-#[cfg(test)]
-mod stored_keys;

@@ -114,21 +114,29 @@ fn map_of<K: Kind>(alloc: Global, list: &[Pair]) -> Result<Numbers<K>, AllocErro
     Ok(map)
 }
 
-// Lists are asked at each text, and at the key of each text.
-fn look<K: Kind, Q: Asked + Query<K>>(rt: &impl Abort, alloc: Global) -> Result<(), Fail> {
-    for list in LISTS {
-        let map = map_of::<K>(alloc, list)?;
-        for text in TEXTS {
-            let key = K::of(alloc, text)?;
-            let expected = scanned(list, text);
-            assert_eq!(rt;
-                (found(&map, Q::by(text)), found(&map, &key)),
-                (expected, expected),
-                "of {text}"
-            );
+// What a map finds at a text, by what stands for its key and by the key.
+fn found_by_both<K: Kind, Q: Asked + Query<K>>(
+    alloc: Global,
+    map: &Numbers<K>,
+    text: &'static str,
+) -> Result<(Found, Found), AllocError> {
+    let key = K::of(alloc, text)?;
+    Ok((found(map, Q::by(text)), found(map, &key)))
+}
+
+// The first text at which a map of the list doesn't find what the scans do.
+fn first_missed<K: Kind, Q: Asked + Query<K>>(
+    alloc: Global,
+    list: &[Pair],
+) -> Result<Option<&'static str>, AllocError> {
+    let map = map_of::<K>(alloc, list)?;
+    for text in TEXTS {
+        let expected = scanned(list, text);
+        if found_by_both::<K, Q>(alloc, &map, text)? != (expected, expected) {
+            return Ok(Some(text));
         }
     }
-    Ok(())
+    Ok(None)
 }
 
 // The pairs of a list after a write at the text, or a removal, by the scans.
@@ -147,14 +155,14 @@ fn left(
     }
 }
 
-// A list in which a text is written, or from which it is removed, by what stands for its key.
-fn change<K: Kind, Q: Query<K>>(
-    rt: &impl Abort,
+// Whether a write in a map of the list, or a removal, by what stands for the key of the text answers and leaves what
+// the scans do.
+fn is_changed<K: Kind, Q: Query<K>>(
     alloc: Global,
     list: &[Pair],
     (text, number): (&'static str, Option<u32>),
     query: Q,
-) -> Result<(), Fail> {
+) -> Result<bool, AllocError> {
     let left = left(alloc, list, text, number)?;
     let before = by_scan::at(list, &text).map(|pair| pair.1);
     let mut map = map_of::<K>(alloc, list)?;
@@ -164,21 +172,30 @@ fn change<K: Kind, Q: Query<K>>(
         .iter()
         .map(|pair| pair.1)
         .eq(left.iter().map(|pair| pair.1));
-    assert!(rt;
-        answer == (before, left.len()) && is_left,
-        "of {text}: {answer:?}"
-    );
-    Ok(())
+    Ok(answer == (before, left.len()) && is_left)
 }
 
+// The same by what stands for the key, and by the key.
+fn is_changed_by_both<K: Kind, Q: Asked + Query<K>>(
+    alloc: Global,
+    list: &[Pair],
+    (text, number): (&'static str, Option<u32>),
+) -> Result<bool, AllocError> {
+    let key = K::of(alloc, text)?;
+    Ok(
+        is_changed::<K, Q>(alloc, list, (text, number), Q::by(text))?
+            && is_changed::<K, &K>(alloc, list, (text, number), &key)?,
+    )
+}
+
+// Lists are asked and changed at each text, and at the key of each text.
 fn ask<K: Kind, Q: Asked + Query<K>>(rt: &impl Abort, alloc: Global) -> Result<(), Fail> {
-    look::<K, Q>(rt, alloc)?;
     for list in LISTS {
+        assert_eq!(rt; first_missed::<K, Q>(alloc, list)?, None);
         for text in TEXTS {
             for number in [None, Some(100), Some(101)] {
-                let key = K::of(alloc, text)?;
-                change::<K, Q>(rt, alloc, list, (text, number), Q::by(text))?;
-                change::<K, &K>(rt, alloc, list, (text, number), &key)?;
+                let is_changed = is_changed_by_both::<K, Q>(alloc, list, (text, number))?;
+                assert!(rt; is_changed, "of {text}");
             }
         }
     }
@@ -213,39 +230,44 @@ fn lone<K: Ord + Drop>(
     Ok(map)
 }
 
+fn at_numbers(alloc: Global) -> Result<[Option<char>; 2], AllocError> {
+    let counts = lone(alloc, 1, 'a')?;
+    let signed = lone(alloc, -1, 'b')?;
+    Ok([counts.get(&1).copied(), signed.get(&-1).copied()])
+}
+
+fn at_words(alloc: Global) -> Result<[Option<char>; 3], AllocError> {
+    let words = lone(alloc, "en", 'c')?;
+    let name = "en".to_string(alloc)?;
+    Ok([
+        words.get("en").copied(),
+        words.get(&"en").copied(),
+        words.get(name.as_str()).copied(),
+    ])
+}
+
+fn at_owned_words(alloc: Global) -> Result<[Option<char>; 3], AllocError> {
+    let owned = lone(alloc, "en".to_string(alloc)?, 'd')?;
+    let name = "en".to_string(alloc)?;
+    Ok([
+        owned.get("en").copied(),
+        owned.get(name.as_str()).copied(),
+        owned.get(&name).copied(),
+    ])
+}
+
+fn at_bytes(alloc: Global) -> Result<Option<char>, AllocError> {
+    let bytes = lone(alloc, Vec::from_slice(alloc, &[1_u8, 2])?, 'e')?;
+    Ok(bytes.get([1, 2].as_slice()).copied())
+}
+
 // A literal as a key and as a query, behind a `&` and without.
 #[test]
 fn literals_are_looked_up(rt: HostRuntime) -> Result<(), Fail> {
     let alloc = rt.alloc();
-    let counts = lone(alloc, 1, 'a')?;
-    let signed = lone(alloc, -1, 'b')?;
-    let words = lone(alloc, "en", 'c')?;
-    let owned = lone(alloc, "en".to_string(alloc)?, 'd')?;
-    let bytes = lone(alloc, Vec::from_slice(alloc, &[1_u8, 2])?, 'e')?;
-    let name = "en".to_string(alloc)?;
-    assert_eq!(rt;
-        [
-            counts.get(&1),
-            signed.get(&-1),
-            words.get("en"),
-            words.get(&"en"),
-            words.get(name.as_str()),
-            owned.get("en"),
-            owned.get(name.as_str()),
-            owned.get(&name),
-            bytes.get([1, 2].as_slice()),
-        ],
-        [
-            Some(&'a'),
-            Some(&'b'),
-            Some(&'c'),
-            Some(&'c'),
-            Some(&'c'),
-            Some(&'d'),
-            Some(&'d'),
-            Some(&'d'),
-            Some(&'e'),
-        ]
-    );
+    assert!(rt; at_numbers(alloc)? == [Some('a'), Some('b')]);
+    assert!(rt; at_words(alloc)? == [Some('c'); 3]);
+    assert!(rt; at_owned_words(alloc)? == [Some('d'); 3]);
+    assert!(rt; at_bytes(alloc)? == Some('e'));
     Ok(())
 }

@@ -178,7 +178,7 @@ impl<'a, K: Ord + 'a, V: 'a, S: Store<K, V>> LiteMap<K, V, S> {
 }
 
 // The map of what the pairs of a store become.
-fn converted<K, V, S, L, W, B, X, Y>(
+pub(super) fn converted<K, V, S, L, W, B, X, Y>(
     store: &S,
     alloc: Global,
     keys: &X,

@@ -50,26 +50,22 @@ fn make_in_a_thousand(
     LiteMap::from_iter_counted(alloc, pairs, count)
 }
 
+// A map that is made and extended by the counted calls.
+fn made_and_extended(alloc: Global) -> Result<Numbers, AllocError> {
+    let mut count = Count::new();
+    let one = Vec::from_slice(alloc, &[(1, 10)])?;
+    let mut map = make_in_a_thousand(alloc, one, &mut count)?;
+    let two = Vec::from_slice(alloc, &[(3, 30), (5, 50)])?;
+    extend_in_two(&mut map, alloc, two, &mut count)?;
+    let three = Vec::from_slice(alloc, &[(2, 21), (3, 31), (6, 61)])?;
+    extend_in_nine(&mut map, alloc, three, &mut count)?;
+    Ok(map)
+}
+
 #[test]
 fn counted_calls_answer_as_the_plain_ones(rt: HostRuntime) -> Result<(), Fail> {
-    let alloc = rt.alloc();
-    let mut count = Count::new();
-    let mut map = make_in_a_thousand(alloc, vec![in alloc; (1, 10)]?, &mut count)?;
-    extend_in_two(
-        &mut map,
-        alloc,
-        vec![in alloc; (3, 30), (5, 50)]?,
-        &mut count,
-    )?;
-    extend_in_nine(
-        &mut map,
-        alloc,
-        vec![in alloc; (2, 21), (3, 31), (6, 61)]?,
-        &mut count,
-    )?;
-    assert_eq!(rt;
-        map.as_slice(),
-        [(1, 10), (2, 21), (3, 31), (5, 50), (6, 61)].as_slice()
-    );
+    let map = made_and_extended(rt.alloc())?;
+    let expected = [(1, 10), (2, 21), (3, 31), (5, 50), (6, 61)];
+    assert!(rt; map.as_slice() == expected.as_slice());
     Ok(())
 }

@@ -2,9 +2,9 @@
 ghost use Rattle.std.specs.Iterator.{at_most};
 
 use litemap::LiteMap;
+use std::alloc::{AllocError, Global};
 use std::test::Fail;
 use test_support::fixed_room::FixedRoom;
-use test_support::lists::list_of;
 
 const PAIRS: [(u32, u32); 4] = [(3, 30), (1, 10), (3, 31), (2, 20)];
 
@@ -32,6 +32,19 @@ impl Iterator for Promises {
     }
 }
 
+// Whether a map of what the iterator gives has these pairs.
+fn is_made(alloc: Global, iter: Promises, left: &[(u32, u32)]) -> Result<bool, AllocError> {
+    let made: LiteMap<u32, u32, Vec<(u32, u32)>> = LiteMap::from_iter(alloc, iter)?;
+    Ok(made.as_slice() == left)
+}
+
+// Whether a map with no room is extended by what the iterator gives, and how many pairs it has then.
+fn extended(alloc: Global, iter: Promises) -> Result<(bool, usize), AllocError> {
+    let mut map: LiteMap<u32, u32, FixedRoom<u32, u32>> = LiteMap::with_capacity(alloc, 0)?;
+    let is_extended = map.extend(alloc, iter).is_ok();
+    Ok((is_extended, map.len()))
+}
+
 #[test]
 fn what_an_iterator_promises_changes_nothing(rt: HostRuntime) -> Result<(), Fail> {
     for (promised, left) in [
@@ -41,18 +54,9 @@ fn what_an_iterator_promises_changes_nothing(rt: HostRuntime) -> Result<(), Fail
         (0, [].as_slice()),
     ] {
         let iter = Promises { given: 0, promised };
-        let made: LiteMap<u32, u32, Vec<(u32, u32)>> = LiteMap::from_iter(rt.alloc(), iter)?;
-        assert_eq!(rt; made.as_slice(), left, "{promised}");
-        let mut map: LiteMap<u32, u32, FixedRoom<u32, u32>> = LiteMap::with_capacity(
-            rt.alloc(),
-            0,
-        )?;
-        let is_extended = map.extend(rt.alloc(), iter).is_ok();
-        assert_eq!(rt;
-            (is_extended, map.len()),
-            (left.is_empty(), 0),
-            "{promised}"
-        );
+        let is_made = is_made(rt.alloc(), iter, left)?;
+        let extended = extended(rt.alloc(), iter)?;
+        assert!(rt; is_made && extended == (left.is_empty(), 0), "{promised}");
     }
     Ok(())
 }

@@ -1,7 +1,7 @@
 //! With ample memory no room is refused.
 use litemap::LiteMap;
 use litemap::store::StoreMut;
-use std::alloc::Global;
+use std::alloc::{AllocError, Global};
 use std::process::Abort;
 use std::test::Fail;
 use test_support::fixed_room::FixedRoom;
@@ -26,7 +26,7 @@ fn a_map_is_made_with_room(rt: HostRuntime) -> Result<(), Fail> {
 }
 
 // A vector that has no room for a further pair, though it may have been made for fewer.
-fn full(alloc: Global, room: usize) -> Result<Vec<(usize, usize)>, Fail> {
+fn full(alloc: Global, room: usize) -> Result<Vec<(usize, usize)>, AllocError> {
     let mut pairs = Vec::with_capacity(alloc, room)?;
     for place in 0..pairs.capacity() {
         pairs.push((place, place))?;
@@ -34,19 +34,24 @@ fn full(alloc: Global, room: usize) -> Result<Vec<(usize, usize)>, Fail> {
     Ok(pairs)
 }
 
+// Whether a map over a full vector takes so much more room, and keeps its pairs.
+fn takes_more(alloc: Global, len: usize, room: usize) -> Result<bool, AllocError> {
+    let pairs = full(alloc, len)?;
+    let capacity = pairs.capacity();
+    if !LiteMap::is_sorted_store(&pairs) {
+        return Ok(false);
+    }
+    let mut map = LiteMap::from_sorted_store_unchecked(pairs);
+    map.reserve(room)?;
+    let pairs = map.into_tuple_vec();
+    Ok(pairs.len() == capacity && pairs.capacity() - pairs.len() >= room)
+}
+
 #[test]
 fn a_map_over_a_full_vector_takes_more_room(rt: HostRuntime) -> Result<(), Fail> {
     for (len, room) in [(0, 0), (0, 1), (0, 100_000), (3, 0), (3, 1), (3, 100_000)] {
-        let pairs = full(rt.alloc(), len)?;
-        assert!(rt; LiteMap::is_sorted_store(&pairs));
-        let capacity = pairs.capacity();
-        let mut map = LiteMap::from_sorted_store_unchecked(pairs);
-        map.reserve(room)?;
-        let pairs = map.into_tuple_vec();
-        assert!(rt;
-            pairs.len() == capacity && pairs.capacity() - pairs.len() >= room,
-            "{room} more than {len}"
-        );
+        let takes = takes_more(rt.alloc(), len, room)?;
+        assert!(rt; takes, "{room} more than {len}");
     }
     Ok(())
 }

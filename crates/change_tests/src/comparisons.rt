@@ -87,17 +87,29 @@ fn rising_pairs_are_put_in_by_as_many_comparisons_as_promised(rt: HostRuntime) -
     extend_each::<FixedRoom<Counted<'_>, u32>>(&rt, rt.alloc(), &made)
 }
 
+// Makes a map of rising pairs, and gives how often keys were compared and how many pairs it has.
+fn compared_in_making<'a, S: StoreFromIterable<Counted<'a>, u32> + Drop>(
+    alloc: Global,
+    made: &'a Cell<u32>,
+    len: u32,
+) -> Result<(u32, usize), Fail> {
+    let rising = pairs(alloc, made, 5, 3, len)?;
+    made.set(0);
+    let map: LiteMap<Counted<'a>, u32, S> = LiteMap::from_iter(alloc, rising)?;
+    Ok((made.get(), map.len()))
+}
+
 fn make_each<'a, S: StoreFromIterable<Counted<'a>, u32> + Drop>(
     rt: &impl Abort,
     alloc: Global,
     made: &'a Cell<u32>,
 ) -> Result<(), Fail> {
     for len in [0, 1, 2, 3, 20, 21, 1000] {
-        let rising = pairs(alloc, made, 5, 3, len)?;
-        made.set(0);
-        let map: LiteMap<Counted<'a>, u32, S> = LiteMap::from_iter(alloc, rising)?;
-        assert!(rt; made.get() <= len, "{len}: {}", made.get());
-        assert_eq!(rt; map.len(), len as usize);
+        let (compared, pairs) = compared_in_making::<S>(alloc, made, len)?;
+        assert!(rt;
+            compared <= len && pairs == len as usize,
+            "{len}: {compared}"
+        );
     }
     Ok(())
 }

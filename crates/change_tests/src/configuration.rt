@@ -1,13 +1,18 @@
 //! The proved caller of the crate `uses` that reads a configuration.
-use std::alloc::Global;
+use litemap::LiteMap;
+use std::alloc::{AllocError, Global};
 use std::test::Fail;
 use uses::config::{configured, override_with};
+
+type Settings = LiteMap<String, String, Vec<(String, String)>>;
 
 const DEFAULTS: &[(&str, &str)] = &[("port", "80"), ("host", "here"), ("log", "off")];
 
 const USER: &[(&str, &str)] = &[("port", "81"), ("user", "me"), ("port", "82")];
 
-fn texts(alloc: Global, pairs: &[(&str, &str)]) -> Result<Vec<(String, String)>, Fail> {
+const LATER: &[(&str, &str)] = &[("log", "on"), ("a", "b")];
+
+fn texts(alloc: Global, pairs: &[(&str, &str)]) -> Result<Vec<(String, String)>, AllocError> {
     let mut texts = Vec::new(alloc);
     for (name, value) in pairs {
         texts.push((name.to_string(alloc)?, value.to_string(alloc)?))?;
@@ -15,15 +20,20 @@ fn texts(alloc: Global, pairs: &[(&str, &str)]) -> Result<Vec<(String, String)>,
     Ok(texts)
 }
 
+fn settings(alloc: Global) -> Result<Settings, AllocError> {
+    let mut settings = configured(alloc, texts(alloc, DEFAULTS)?, texts(alloc, USER)?)?;
+    override_with(&mut settings, alloc, texts(alloc, LATER)?)?;
+    Ok(settings)
+}
+
+// Whether a name has this value, or none.
+fn has_value(settings: &Settings, name: &str, value: Option<&str>) -> bool {
+    settings.get(name).map(|found| found.as_str()) == value
+}
+
 #[test]
 fn a_users_setting_wins_and_no_default_is_lost(rt: HostRuntime) -> Result<(), Fail> {
-    let alloc = rt.alloc();
-    let mut settings = configured(alloc, texts(alloc, DEFAULTS)?, texts(alloc, USER)?)?;
-    override_with(
-        &mut settings,
-        alloc,
-        texts(alloc, &[("log", "on"), ("a", "b")])?,
-    )?;
+    let settings = settings(rt.alloc())?;
     for (name, value) in [
         ("a", Some("b")),
         ("host", Some("here")),
@@ -32,10 +42,7 @@ fn a_users_setting_wins_and_no_default_is_lost(rt: HostRuntime) -> Result<(), Fa
         ("user", Some("me")),
         ("none", None),
     ] {
-        let found = settings
-            .get(&name.to_string(alloc)?)
-            .map(|value| value.as_str());
-        assert_eq!(rt; found, value, "{name}");
+        assert!(rt; has_value(&settings, name, value), "{name}");
     }
     assert_eq!(rt; settings.len(), 5);
     Ok(())
