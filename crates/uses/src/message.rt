@@ -24,11 +24,10 @@ pub struct Field<'a> {
 #[derive(Debug, PartialEq, Drop)]
 pub struct Nameless;
 
-/// The fields of a message that are still to be read.
+// The fields of a message that are still to be read, in their order.
 #[derive(Clone, Copy)]
-pub struct Fields<'a> {
-    /// Those fields, in their order.
-    pub rest: &'a [Field<'a>],
+struct Fields<'a> {
+    rest: &'a [Field<'a>],
 }
 
 impl<'a> PairSource<&'a str, &'a str> for Fields<'a> {

@@ -1,0 +1,15 @@
+//! Tests of reading from sources and of lists of calls, over a vector and over a store with a fixed room.
+#![tactic(auto)]
+
+#[cfg(test)]
+mod calls;
+#[cfg(test)]
+mod every_list;
+#[cfg(test)]
+mod every_run;
+#[cfg(test)]
+mod message;
+#[cfg(test)]
+mod runs;
+#[cfg(test)]
+mod sources;
