@@ -1,10 +1,10 @@
 //! The calls, by name.
 use crate::outcome::Outcome;
-use crate::{bulk, maps, merge, session, stores};
+use crate::{bulk, maps, merge, session, stores, tables};
 use std::alloc::Global;
 
 /// The names of the calls.
-pub const CALLS: [&str; 26] = [
+pub const CALLS: [&str; 29] = [
     "insert",
     "try_insert",
     "try_append",
@@ -31,6 +31,9 @@ pub const CALLS: [&str; 26] = [
     "lm_extend_end",
     "lm_extend_start",
     "names",
+    "read_names",
+    "find_name",
+    "write_names",
 ];
 
 /// Runs the scenario of a call, if there is one of this name.
@@ -62,6 +65,9 @@ pub fn run_call(alloc: Global, name: &str) -> Option<Outcome> {
         "lm_extend_end" => Some(merge::lm_extend_end(alloc)),
         "lm_extend_start" => Some(merge::lm_extend_start(alloc)),
         "names" => Some(session::run_lines(alloc)),
+        "read_names" => Some(tables::read_names(alloc)),
+        "find_name" => Some(tables::find_name(alloc)),
+        "write_names" => Some(tables::write_names(alloc)),
         _ => None,
     }
 }

@@ -18,6 +18,7 @@ mod merge;
 mod outcome;
 mod session;
 mod stores;
+mod tables;
 
 use calls::{CALLS, run_call};
 use outcome::Outcome;
