@@ -106,7 +106,7 @@ module _ {X : Type 0} (view : X → List ℕ × List ℕ) (pairs : List X) (i : 
       let s = AreParts-split p.1 (pair_parts (map view front)) (pair_parts (view next ∷ map view back)) (subst P f p.4) in
       let t = AreParts-split s.second (pair_parts (view next ∷ [])) (pair_parts (map view back)) s.of_second in
       let one : IsNumber (1 ∷ []) 1 = record { ends = omega arith; value = omega arith; short = omega arith; small = omega arith } in
-      none (1 ∷ t.first) (1 ∷ [], t.first, refl, one, t.of_first)
+      none ((1 ∷ []) ++ t.first) (AreParts-append (1 ∷ []) t.first (Number 1 ∷ []) (pair_parts (view next ∷ [])) (AreParts-one (1 ∷ []) (Number 1) one) t.of_first)
 
 -- too many pairs
 pub no_table_of : (pairs : List (List ℕ × List ℕ)) (n : ℕ) → length pairs ≡ n → 4294967296 ≤ n → NoTable pairs

@@ -1,10 +1,10 @@
 //! The calls, by name.
 use crate::outcome::Outcome;
-use crate::{bulk, conversions, maps, merge, session, stores};
+use crate::{bulk, conversions, maps, merge, session, stores, tables};
 use std::alloc::Global;
 
 /// The names of the calls.
-pub const CALLS: [&str; 33] = [
+pub const CALLS: [&str; 36] = [
     "insert",
     "try_insert",
     "try_append",
@@ -38,6 +38,9 @@ pub const CALLS: [&str; 33] = [
     "to_borrowed_values",
     "to_keys_by",
     "names",
+    "read_names",
+    "find_name",
+    "write_names",
 ];
 
 /// Runs the scenario of a call, if there is one of this name.
@@ -76,6 +79,9 @@ pub fn run_call(alloc: Global, name: &str) -> Option<Outcome> {
         "to_borrowed_values" => Some(conversions::to_borrowed_values(alloc)),
         "to_keys_by" => Some(conversions::to_keys_by(alloc)),
         "names" => Some(session::run_lines(alloc)),
+        "read_names" => Some(tables::read_names(alloc)),
+        "find_name" => Some(tables::find_name(alloc)),
+        "write_names" => Some(tables::write_names(alloc)),
         _ => None,
     }
 }

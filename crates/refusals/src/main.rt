@@ -19,6 +19,7 @@ mod merge;
 mod outcome;
 mod session;
 mod stores;
+mod tables;
 
 use calls::{CALLS, run_call};
 use outcome::Outcome;
