@@ -1,10 +1,10 @@
 //! The calls, by name.
 use crate::outcome::Outcome;
-use crate::{bulk, maps, merge, session, stores};
+use crate::{bulk, json, maps, merge, session, stores};
 use std::alloc::Global;
 
 /// The names of the calls.
-pub const CALLS: [&str; 26] = [
+pub const CALLS: [&str; 33] = [
     "insert",
     "try_insert",
     "try_append",
@@ -30,7 +30,14 @@ pub const CALLS: [&str; 26] = [
     "extend_from_litemap",
     "lm_extend_end",
     "lm_extend_start",
+    "to_json",
+    "from_json",
+    "json_array",
+    "text_item",
+    "text_key",
+    "rewrite_flags",
     "names",
+    "names_json",
 ];
 
 /// Runs the scenario of a call, if there is one of this name.
@@ -61,7 +68,14 @@ pub fn run_call(alloc: Global, name: &str) -> Option<Outcome> {
         "extend_from_litemap" => Some(merge::extend_from_litemap(alloc)),
         "lm_extend_end" => Some(merge::lm_extend_end(alloc)),
         "lm_extend_start" => Some(merge::lm_extend_start(alloc)),
+        "to_json" => Some(json::to_json_object(alloc)),
+        "from_json" => Some(json::from_json_object(alloc)),
+        "json_array" => Some(json::json_array(alloc)),
+        "text_item" => Some(json::text_item(alloc)),
+        "text_key" => Some(json::text_key(alloc)),
+        "rewrite_flags" => Some(json::flags(alloc)),
         "names" => Some(session::run_lines(alloc)),
+        "names_json" => Some(session::run_json(alloc)),
         _ => None,
     }
 }

@@ -13,6 +13,7 @@ ghost use Rattle.std.specs.Prelude.{◌≤◌, IfOk, length};
 
 mod bulk;
 mod calls;
+mod json;
 mod maps;
 mod merge;
 mod outcome;
