@@ -64,7 +64,8 @@ impl JsonKey for Level {
     }
 
     ghost one_tree = { elim [
-        | Low ↦ elim [ Low ↦ λ e. refl | Middle ↦ λ e. Prim.cc | High ↦ λ e. Prim.cc ]
-        | Middle ↦ elim [ Low ↦ λ e. Prim.cc | Middle ↦ λ e. refl | High ↦ λ e. Prim.cc ]
-        | High ↦ elim [ Low ↦ λ e. Prim.cc | Middle ↦ λ e. Prim.cc | High ↦ λ e. refl ] ] };
+      | Low ↦ elim [ Low ↦ λ e. refl | Middle ↦ λ e. Prim.cc | High ↦ λ e. Prim.cc ]
+      | Middle ↦ elim [ Low ↦ λ e. Prim.cc | Middle ↦ λ e. refl | High ↦ λ e. Prim.cc ]
+      | High ↦ elim [ Low ↦ λ e. Prim.cc | Middle ↦ λ e. Prim.cc | High ↦ λ e. refl ]
+    ] };
 }

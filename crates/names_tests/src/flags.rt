@@ -33,15 +33,27 @@ fn rewritten(rt: HostRuntime) -> Result<(), Fail> {
 
 #[test]
 fn refused(rt: HostRuntime) -> Result<(), Fail> {
-    let shape = |place| JsonFault::Key { place, fault: ItemFault::Shape };
+    let shape = |place| JsonFault::Key {
+        place,
+        fault: ItemFault::Shape,
+    };
     let rows: [(&[u8], FlagsFault); 10] = [
-        (b"{\"True\":1}", FlagsFault::Json(JsonFault::KeyText { place: 0 })),
+        (
+            b"{\"True\":1}",
+            FlagsFault::Json(JsonFault::KeyText { place: 0 }),
+        ),
         (b"[[0,1]]", FlagsFault::Json(shape(0))),
         (b"[[true,1],[\"true\",1]]", FlagsFault::Json(shape(1))),
-        (b"[[true,1],[true]]", FlagsFault::Json(JsonFault::NotAPair { place: 1 })),
+        (
+            b"[[true,1],[true]]",
+            FlagsFault::Json(JsonFault::NotAPair { place: 1 }),
+        ),
         (
             b"[[true,4294967296]]",
-            FlagsFault::Json(JsonFault::Item { place: 0, fault: ItemFault::Range }),
+            FlagsFault::Json(JsonFault::Item {
+                place: 0,
+                fault: ItemFault::Range,
+            }),
         ),
         (b"7", FlagsFault::Json(JsonFault::NotAMap)),
         (b"[[true,1]", FlagsFault::NotJson),

@@ -1,10 +1,10 @@
 //! The calls, by name.
 use crate::outcome::Outcome;
-use crate::{bulk, conversions, maps, merge, session, stores, tables};
+use crate::{bulk, conversions, json, maps, merge, session, stores, tables};
 use std::alloc::Global;
 
 /// The names of the calls.
-pub const CALLS: [&str; 36] = [
+pub const CALLS: [&str; 43] = [
     "insert",
     "try_insert",
     "try_append",
@@ -41,6 +41,13 @@ pub const CALLS: [&str; 36] = [
     "read_names",
     "find_name",
     "write_names",
+    "to_json",
+    "from_json",
+    "json_array",
+    "text_item",
+    "text_key",
+    "rewrite_flags",
+    "names_json",
 ];
 
 /// Runs the scenario of a call, if there is one of this name.
@@ -82,6 +89,13 @@ pub fn run_call(alloc: Global, name: &str) -> Option<Outcome> {
         "read_names" => Some(tables::read_names(alloc)),
         "find_name" => Some(tables::find_name(alloc)),
         "write_names" => Some(tables::write_names(alloc)),
+        "to_json" => Some(json::to_json_object(alloc)),
+        "from_json" => Some(json::from_json_object(alloc)),
+        "json_array" => Some(json::json_array(alloc)),
+        "text_item" => Some(json::text_item(alloc)),
+        "text_key" => Some(json::text_key(alloc)),
+        "rewrite_flags" => Some(json::flags(alloc)),
+        "names_json" => Some(session::run_json(alloc)),
         _ => None,
     }
 }

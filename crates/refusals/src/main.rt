@@ -14,6 +14,7 @@ ghost use Rattle.std.specs.Prelude.{◌≤◌, IfOk, length};
 mod bulk;
 mod calls;
 mod conversions;
+mod json;
 mod maps;
 mod merge;
 mod outcome;

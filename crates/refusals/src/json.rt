@@ -1,0 +1,122 @@
+//! The calls that write JSON and read it.
+use crate::outcome::Outcome;
+use litemap::LiteMap;
+use litemap_json::{ItemFault, JsonFault, JsonItem, JsonKey, WriteFault, from_json, to_json};
+use names::{FlagsFault, rewrite_flags};
+use serde_json::Value;
+use std::alloc::Global;
+
+type Words = LiteMap<u32, String, Vec<(u32, String)>>;
+
+type Pairs = LiteMap<(u32, bool), u32, Vec<((u32, bool), u32)>>;
+
+const OBJECT: &str = "{\"1\":\"a long word\",\"2\":\"two\",\"3\":\"three\"}";
+
+const ARRAY: &str = "[[[1,false],10],[[1,true],11],[[2,true],12]]";
+
+const WORD: &str = "a word of more bytes than a block of memory for small texts might have";
+
+// The map of words that a text spells; the value that it is read from takes the first requests.
+fn words(alloc: Global) -> Option<Words> {
+    let value = Value::from_str(alloc, OBJECT).ok()?;
+    from_json(alloc, &value).ok()
+}
+
+// Whether a value is written as this text, or where that is refused, nothing.
+fn is_text(alloc: Global, value: &Value, text: &str) -> Option<bool> {
+    let made = value.to_string(alloc).ok()?;
+    Some(made.as_str() == text)
+}
+
+// How it ended, by whether there is the right answer.
+fn ended(is_right: Option<bool>) -> Outcome {
+    match is_right {
+        Some(is_right) => Outcome::answered(is_right),
+        None => Outcome::Refused,
+    }
+}
+
+/// A map of words as an object.
+pub fn to_json_object(alloc: Global) -> Outcome {
+    let Some(map) = words(alloc) else {
+        return Outcome::Refused;
+    };
+    match to_json(alloc, &map) {
+        Ok(value) => ended(is_text(alloc, &value, OBJECT)),
+        Err(WriteFault::Memory) => Outcome::refused(true, map.len() == 3),
+        Err(_) => Outcome::Wrong("another fault"),
+    }
+}
+
+/// A map with pairs as keys, read from an array and written as one.
+pub fn json_array(alloc: Global) -> Outcome {
+    let Ok(value) = Value::from_str(alloc, ARRAY) else {
+        return Outcome::Refused;
+    };
+    let map: Pairs = match from_json(alloc, &value) {
+        Ok(map) => map,
+        Err(JsonFault::Memory) => return Outcome::Refused,
+        Err(_) => return Outcome::Wrong("another fault"),
+    };
+    match to_json(alloc, &map) {
+        Ok(value) => ended(is_text(alloc, &value, ARRAY)),
+        Err(WriteFault::Memory) => Outcome::Refused,
+        Err(_) => Outcome::Wrong("another fault"),
+    }
+}
+
+/// A map of words, read from an object.
+pub fn from_json_object(alloc: Global) -> Outcome {
+    let Ok(value) = Value::from_str(alloc, OBJECT) else {
+        return Outcome::Refused;
+    };
+    let map: Words = match from_json(alloc, &value) {
+        Ok(map) => map,
+        Err(JsonFault::Memory) => return Outcome::Refused,
+        Err(_) => return Outcome::Wrong("another fault"),
+    };
+    let last = map.get(&3).map(|word| word.as_str());
+    Outcome::answered(map.len() == 3 && last == Some("three"))
+}
+
+/// A text as a value and back.
+pub fn text_item(alloc: Global) -> Outcome {
+    let Ok(text) = String::from_str(alloc, WORD) else {
+        return Outcome::Refused;
+    };
+    let Ok(value) = text.to_value(alloc) else {
+        return Outcome::Refused;
+    };
+    match String::from_value(alloc, &value) {
+        Ok(read) => Outcome::answered(read.as_str() == WORD),
+        Err(ItemFault::Memory) => Outcome::Refused,
+        Err(_) => Outcome::Wrong("another fault"),
+    }
+}
+
+/// A text as a key's text and back.
+pub fn text_key(alloc: Global) -> Outcome {
+    let Ok(text) = String::from_str(alloc, WORD) else {
+        return Outcome::Refused;
+    };
+    let Ok(name) = text.key_text(alloc) else {
+        return Outcome::Refused;
+    };
+    let Some(name) = name else {
+        return Outcome::Wrong("no text");
+    };
+    match String::from_key_text(alloc, name.as_str()) {
+        Ok(Some(read)) => Outcome::answered(read.as_str() == WORD),
+        Ok(None) => Outcome::Wrong("no key"),
+        Err(_) => Outcome::Refused,
+    }
+}
+
+/// Flags that are brought over.
+pub fn flags(alloc: Global) -> Outcome {
+    match rewrite_flags(alloc, b"[[false,2],[true,1]]") {
+        Ok(text) => Outcome::answered(text.as_str() == "{\"false\":2,\"true\":1}"),
+        Err(FlagsFault::Memory) => Outcome::Refused,
+        Err(_) => Outcome::Wrong("another fault"),
+    }
+}
