@@ -1,6 +1,6 @@
 //! Each call through an entry, of a key that is there and of one that is not, over stores that grow and
 //! that do not.
-use crate::steps::{Call, Step, make_calls};
+use crate::steps::{Call, Changed, Step, make_calls};
 use litemap::LiteMap;
 use litemap::store::{NoRoom, StoreMut};
 use std::alloc::Global;
@@ -125,17 +125,14 @@ const FULL: [Step<u64>; 8] = [
 ];
 
 // The map of a list, and the calls on it.
-fn from_list<V: Copy + Default + PartialEq, S: StoreMut<u32, V> + Drop, F: Fn(V) -> V>(
+fn from_list<V: Copy + Default + PartialEq + Changed, S: StoreMut<u32, V> + Drop>(
     rt: &impl Abort,
     alloc: Global,
     old: &[(u32, V)],
-    modify: F,
     steps: &[Step<V>],
-) -> Result<(), Fail>
-    requires { F.IsAlwaysCallable modify }
-{
+) -> Result<(), Fail> {
     let mut map: LiteMap<u32, V, S> = map_of(alloc, old, 4)?;
-    make_calls(rt, alloc, &mut map, modify, steps)
+    make_calls(rt, alloc, &mut map, steps)
 }
 
 // The calls with numbers.
@@ -146,16 +143,15 @@ fn with_numbers<S: StoreMut<u32, u64> + Drop>(rt: &impl Abort, alloc: Global) ->
         (ONE, OCCUPIED.as_slice()),
         (OLD, REMOVALS.as_slice()),
     ] {
-        from_list::<u64, S, _>(rt, alloc, old, |n| n.wrapping_add(5), steps)?;
+        from_list::<u64, S>(rt, alloc, old, steps)?;
     }
     Ok(())
 }
 
 #[test]
 fn texts_are_placed_once_and_then_changed(rt: HostRuntime) -> Result<(), Fail> {
-    let alloc = rt.alloc();
-    from_list::<&str, Vec<(u32, &str)>, _>(&rt, alloc, &[], |text| text, &TEXTS)?;
-    from_list::<&str, FixedRoom<u32, &str>, _>(&rt, alloc, &[], |text| text, &TEXTS)
+    from_list::<&str, Vec<(u32, &str)>>(&rt, rt.alloc(), &[], &TEXTS)?;
+    from_list::<&str, FixedRoom<u32, &str>>(&rt, rt.alloc(), &[], &TEXTS)
 }
 
 #[test]
@@ -168,5 +164,5 @@ fn numbers_are_placed_once_and_then_changed(rt: HostRuntime) -> Result<(), Fail>
 fn reserved_room_is_there_for_one_new_key(rt: HostRuntime) -> Result<(), Fail> {
     let mut map: LiteMap<u32, u64, FixedRoom<u32, u64>> = map_of(rt.alloc(), ONE, 2)?;
     map.reserve(1)?;
-    make_calls(&rt, rt.alloc(), &mut map, |n: u64| n.wrapping_add(5), &FULL)
+    make_calls(&rt, rt.alloc(), &mut map, &FULL)
 }

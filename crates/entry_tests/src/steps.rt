@@ -42,17 +42,32 @@ pub type Step<V> = (
     &'static [(u32, V)],
 );
 
+/// A value that `and_modify` and a write through `or_insert` change.
+pub trait Changed {
+    /// What it is changed to.
+    fn changed(&self) -> Self;
+}
+
+impl Changed for u64 {
+    fn changed(&self) -> u64 {
+        self.wrapping_add(5)
+    }
+}
+
+impl Changed for &'static str {
+    fn changed(&self) -> &'static str {
+        *self
+    }
+}
+
 // The value that a call meets, if there is one.
-fn met<V: Copy + Default, S: StoreMut<u32, V>, F: Fn(V) -> V>(
+fn met<V: Copy + Default + Changed, S: StoreMut<u32, V>>(
     map: &mut LiteMap<u32, V, S>,
     call: Call,
     key: u32,
     value: V,
-    modify: &F,
     calls: &mut u32,
-) -> Result<Option<V>, NoRoom<(u32, V)>>
-    requires { F.IsAlwaysCallable modify.now }
-{
+) -> Result<Option<V>, NoRoom<(u32, V)>> {
     let start = match call {
         Call::OrInsert => *map.entry(key).or_insert(value)?,
         Call::OrDefault => *map.entry(key).or_default()?,
@@ -64,13 +79,13 @@ fn met<V: Copy + Default, S: StoreMut<u32, V>, F: Fn(V) -> V>(
             .entry(key)
             .and_modify(|there| {
                 *calls = calls.wrapping_add(1);
-                *there = modify(*there);
+                *there = there.changed();
             })
             .or_insert(value)?,
         Call::Change => {
             let slot = map.entry(key).or_insert(value)?;
             let start = *slot;
-            *slot = modify(start);
+            *slot = start.changed();
             start
         }
         Call::Insert | Call::GetMut | Call::IntoMut | Call::Remove | Call::Get => {
@@ -115,18 +130,15 @@ fn met_in_either<V: Copy, S: StoreMut<u32, V>>(
 }
 
 /// Makes the calls on a map, and compares what each meets and leaves.
-pub fn make_calls<V: Copy + Default + PartialEq, S: StoreMut<u32, V>, F: Fn(V) -> V>(
+pub fn make_calls<V: Copy + Default + PartialEq + Changed, S: StoreMut<u32, V>>(
     rt: &impl Abort,
     alloc: Global,
     map: &mut LiteMap<u32, V, S>,
-    modify: F,
     steps: &[Step<V>],
-) -> Result<(), Fail>
-    requires { F.IsAlwaysCallable modify }
-{
+) -> Result<(), Fail> {
     for (call, key, value, answer, times, left) in steps {
         let mut calls = 0;
-        let found = met(map, *call, *key, *value, &modify, &mut calls);
+        let found = met(map, *call, *key, *value, &mut calls);
         let list = list_of(alloc, map)?;
         assert!(rt;
             found == *answer && calls == *times && list.as_slice() == *left,

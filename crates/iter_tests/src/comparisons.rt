@@ -7,12 +7,11 @@ use std::hash::{FoldHasher, Hash, Hasher};
 use std::process::Abort;
 use std::test::Fail;
 use test_support::fixed_room::FixedRoom;
+use test_support::keys::Letter;
 use test_support::lists::map_of;
 
-type Pairs = &'static [(u8, u32)];
-
 // Lists that rise: each map is less than all behind it.
-const RISING: [Pairs; 9] = [
+const NUMBERS: [&[(u8, u32)]; 9] = [
     &[],
     &[(1, 0)],
     &[(1, 0), (2, 9)],
@@ -24,32 +23,67 @@ const RISING: [Pairs; 9] = [
     &[(2, 0), (3, 0), (4, 0)],
 ];
 
+const TEXTS: [&[(u8, &str)]; 6] = [
+    &[],
+    &[(1, "a")],
+    &[(1, "a"), (2, "b")],
+    &[(1, "b")],
+    &[(1, "z")],
+    &[(2, "a")],
+];
+
+const UPPER: Letter = Letter { code: b'A' };
+
+const LOWER: Letter = Letter { code: b'a' };
+
+const LAST: Letter = Letter { code: b'z' };
+
+// The same maps but for the case of a key.
+const UPPER_LETTERS: [&[(Letter, u8)]; 4] = [
+    &[(UPPER, 1)],
+    &[(UPPER, 1), (LAST, 0)],
+    &[(UPPER, 2)],
+    &[(LAST, 0)],
+];
+
+const LOWER_LETTERS: [&[(Letter, u8)]; 4] = [
+    &[(LOWER, 1)],
+    &[(LOWER, 1), (LAST, 0)],
+    &[(LOWER, 2)],
+    &[(LAST, 0)],
+];
+
 fn hash_of<T: Hash>(value: &T) -> u64 {
     let mut hasher = FoldHasher::default();
     value.hash(&mut hasher);
     hasher.finish()
 }
 
-// The maps of two places of `RISING` compare as the places do.
-fn compare<S: Store<u8, u32>>(
-    rt: &impl Abort,
-    a: &LiteMap<u8, u32, S>,
-    b: &LiteMap<u8, u32, S>,
+// Whether two maps compare as is expected, and hash alike exactly where they are equal.
+fn compare_as<K: Ord + Hash, V: Ord + Hash, S: Store<K, V>>(
+    a: &LiteMap<K, V, S>,
+    b: &LiteMap<K, V, S>,
     expected: Ordering,
-) {
-    assert_eq!(rt; a.cmp(b), expected);
-    assert_eq!(rt; a.partial_cmp(b), Some(expected));
-    assert_eq!(rt; a == b, expected == Ordering::Equal);
-    assert_eq!(rt; hash_of(a) == hash_of(b), expected == Ordering::Equal);
+) -> bool {
+    let is_equal = expected == Ordering::Equal;
+    a.cmp(b) == expected
+        && a.partial_cmp(b) == Some(expected)
+        && (a == b) == is_equal
+        && (hash_of(a) == hash_of(b)) == is_equal
 }
 
-fn compare_all<S: StoreMut<u8, u32> + Drop>(rt: &impl Abort, alloc: Global) -> Result<(), Fail> {
-    for (i, first) in RISING.iter().enumerate() {
-        for (j, second) in RISING.iter().enumerate() {
-            // A store with more room has the same pairs.
-            let a: LiteMap<u8, u32, S> = map_of(alloc, first, 3)?;
-            let b: LiteMap<u8, u32, S> = map_of(alloc, second, 9)?;
-            compare(rt, &a, &b, i.cmp(&j));
+// The maps of two places compare as the places do. A store with more room has the same pairs.
+fn compare_all<K: Copy + Ord + Hash, V: Copy + Ord + Hash, S: StoreMut<K, V> + Drop>(
+    rt: &impl Abort,
+    alloc: Global,
+    firsts: &[&[(K, V)]],
+    seconds: &[&[(K, V)]],
+) -> Result<(), Fail> {
+    for (i, first) in firsts.iter().enumerate() {
+        let a: LiteMap<K, V, S> = map_of(alloc, first, 3)?;
+        for (j, second) in seconds.iter().enumerate() {
+            let b: LiteMap<K, V, S> = map_of(alloc, second, 9)?;
+            assert!(rt; compare_as(&a, &b, i.cmp(&j)), "{i} and {j}");
         }
     }
     Ok(())
@@ -57,13 +91,32 @@ fn compare_all<S: StoreMut<u8, u32> + Drop>(rt: &impl Abort, alloc: Global) -> R
 
 #[test]
 fn by_the_first_difference(rt: HostRuntime) -> Result<(), Fail> {
-    compare_all::<Vec<(u8, u32)>>(&rt, rt.alloc())?;
-    compare_all::<FixedRoom<u8, u32>>(&rt, rt.alloc())?;
-    for (i, first) in RISING.iter().enumerate() {
-        for (j, second) in RISING.iter().enumerate() {
-            let a: LiteMap<u8, u32, Vec<(u8, u32)>> = map_of(rt.alloc(), first, 3)?;
+    let alloc = rt.alloc();
+    compare_all::<u8, u32, Vec<(u8, u32)>>(&rt, alloc, &NUMBERS, &NUMBERS)?;
+    compare_all::<u8, u32, FixedRoom<u8, u32>>(&rt, alloc, &NUMBERS, &NUMBERS)?;
+    compare_all::<u8, &str, Vec<(u8, &str)>>(&rt, alloc, &TEXTS, &TEXTS)?;
+    compare_all::<u8, &str, FixedRoom<u8, &str>>(&rt, alloc, &TEXTS, &TEXTS)
+}
+
+// Equal keys may be two values: the maps are equal then, too.
+#[test]
+fn by_equal_keys(rt: HostRuntime) -> Result<(), Fail> {
+    let alloc = rt.alloc();
+    compare_all::<Letter, u8, Vec<(Letter, u8)>>(&rt, alloc, &UPPER_LETTERS, &LOWER_LETTERS)?;
+    compare_all::<Letter, u8, FixedRoom<Letter, u8>>(&rt, alloc, &UPPER_LETTERS, &LOWER_LETTERS)
+}
+
+// The same of views.
+#[test]
+fn views_by_the_first_difference(rt: HostRuntime) -> Result<(), Fail> {
+    for (i, first) in NUMBERS.iter().enumerate() {
+        let a: LiteMap<u8, u32, Vec<(u8, u32)>> = map_of(rt.alloc(), first, 3)?;
+        for (j, second) in NUMBERS.iter().enumerate() {
             let b: LiteMap<u8, u32, Vec<(u8, u32)>> = map_of(rt.alloc(), second, 9)?;
-            compare(&rt, &a.as_sliced(), &b.as_sliced(), i.cmp(&j));
+            assert!(rt;
+                compare_as(&a.as_sliced(), &b.as_sliced(), i.cmp(&j)),
+                "{i} and {j}"
+            );
         }
     }
     Ok(())
@@ -78,8 +131,7 @@ fn where_values_are_undecided(rt: HostRuntime) -> Result<(), Fail> {
     ] {
         let a: LiteMap<u8, f64, Vec<(u8, f64)>> = map_of(rt.alloc(), first, 1)?;
         let b: LiteMap<u8, f64, Vec<(u8, f64)>> = map_of(rt.alloc(), second, 1)?;
-        assert_eq!(rt; a.partial_cmp(&b), expected);
-        assert!(rt; a != b);
+        assert!(rt; a.partial_cmp(&b) == expected && a != b, "{expected:?}");
     }
     Ok(())
 }

@@ -6,17 +6,19 @@ use std::process::Abort;
 use std::test::Fail;
 use test_support::fixed_room::FixedRoom;
 use test_support::lists::{list_of, map_of};
+use uses::moved::moved;
 
-type Pairs = &'static [(u8, u32)];
-
-type Numbers = LiteMap<u8, u32, Vec<(u8, u32)>>;
-
-const MAPS: [Pairs; 3] = [&[], &[(7, 70)], &[(1, 97), (2, 98), (3, 99), (5, 0)]];
+const MAPS: [&[(u8, &str)]; 4] = [
+    &[],
+    &[(1, "a"), (2, "b")],
+    &[(4, "four"), (6, "six")],
+    &[(1, "one"), (2, "two"), (3, "three"), (5, "")],
+];
 
 // Whether each pair of a map, as it is read, is the list's at its place.
-fn has<L: Ord, W, S: Store<L, W>, F: Fn(&L, &W) -> (u8, u32)>(
+fn has<L: Ord, W, V: Copy + PartialEq, S: Store<L, W>, F: Fn(&L, &W) -> (u8, V)>(
     map: &LiteMap<L, W, S>,
-    list: &[(u8, u32)],
+    list: &[(u8, V)],
     read: F,
 ) -> bool
     requires { F.IsAlwaysCallable read }
@@ -34,34 +36,50 @@ fn has<L: Ord, W, S: Store<L, W>, F: Fn(&L, &W) -> (u8, u32)>(
     map.len() == list.len()
 }
 
-#[test]
-fn boxes(rt: HostRuntime) -> Result<(), Fail> {
-    let alloc = rt.alloc();
-    for list in MAPS {
-        let map: Numbers = map_of(alloc, list, 4)?;
-        let both: LiteMap<Box<u8>, Box<u32>, Vec<(Box<u8>, Box<u32>)>> = map.to_boxed_keys_values(
-            alloc,
-        )?;
-        let keys: LiteMap<Box<u8>, u32, FixedRoom<Box<u8>, u32>> = map.to_boxed_keys(alloc)?;
-        let values: LiteMap<u8, Box<u32>, Vec<(u8, Box<u32>)>> = map.to_boxed_values(alloc)?;
-        assert!(rt; has(&both, list, |key, value| (**key, **value)));
-        assert!(rt; has(&keys, list, |key, value| (**key, *value)));
-        assert!(rt; has(&values, list, |key, value| (*key, **value)));
-    }
+// The map of a list, and maps of boxes of its pairs.
+fn box_each<V: Copy + PartialEq, S: StoreMut<u8, V> + Drop>(
+    rt: &impl Abort,
+    alloc: Global,
+    list: &[(u8, V)],
+) -> Result<(), Fail> {
+    let map: LiteMap<u8, V, S> = map_of(alloc, list, 4)?;
+    let both: LiteMap<Box<u8>, Box<V>, Vec<(Box<u8>, Box<V>)>> = map.to_boxed_keys_values(alloc)?;
+    let keys: LiteMap<Box<u8>, V, FixedRoom<Box<u8>, V>> = map.to_boxed_keys(alloc)?;
+    let values: LiteMap<u8, Box<V>, Vec<(u8, Box<V>)>> = map.to_boxed_values(alloc)?;
+    assert!(rt;
+        has(&both, list, |key, value| (**key, **value))
+            && has(&keys, list, |key, value| (**key, *value))
+            && has(&values, list, |key, value| (*key, **value))
+    );
+    Ok(())
+}
+
+// The map of a list, and maps of references to its pairs.
+fn lend_each<V: Copy + PartialEq, S: StoreMut<u8, V> + Drop>(
+    rt: &impl Abort,
+    alloc: Global,
+    list: &[(u8, V)],
+) -> Result<(), Fail> {
+    let map: LiteMap<u8, V, S> = map_of(alloc, list, 4)?;
+    let both: LiteMap<&u8, &V, Vec<(&u8, &V)>> = map.to_borrowed_keys_values(alloc)?;
+    let keys: LiteMap<&u8, V, Vec<(&u8, V)>> = map.to_borrowed_keys(alloc)?;
+    let values: LiteMap<u8, &V, FixedRoom<u8, &V>> = map.to_borrowed_values(alloc)?;
+    assert!(rt;
+        has(&both, list, |key, value| (**key, **value))
+            && has(&keys, list, |key, value| (**key, *value))
+            && has(&values, list, |key, value| (*key, **value))
+    );
     Ok(())
 }
 
 #[test]
-fn references(rt: HostRuntime) -> Result<(), Fail> {
+fn boxes_and_references(rt: HostRuntime) -> Result<(), Fail> {
     let alloc = rt.alloc();
     for list in MAPS {
-        let map: Numbers = map_of(alloc, list, 4)?;
-        let both: LiteMap<&u8, &u32, Vec<(&u8, &u32)>> = map.to_borrowed_keys_values(alloc)?;
-        let keys: LiteMap<&u8, u32, Vec<(&u8, u32)>> = map.to_borrowed_keys(alloc)?;
-        let values: LiteMap<u8, &u32, FixedRoom<u8, &u32>> = map.to_borrowed_values(alloc)?;
-        assert!(rt; has(&both, list, |key, value| (**key, **value)));
-        assert!(rt; has(&keys, list, |key, value| (**key, *value)));
-        assert!(rt; has(&values, list, |key, value| (*key, **value)));
+        box_each::<&str, Vec<(u8, &str)>>(&rt, alloc, list)?;
+        box_each::<&str, FixedRoom<u8, &str>>(&rt, alloc, list)?;
+        lend_each::<&str, Vec<(u8, &str)>>(&rt, alloc, list)?;
+        lend_each::<&str, FixedRoom<u8, &str>>(&rt, alloc, list)?;
     }
     Ok(())
 }
@@ -69,32 +87,40 @@ fn references(rt: HostRuntime) -> Result<(), Fail> {
 #[test]
 fn keys_by_a_closure(rt: HostRuntime) -> Result<(), Fail> {
     let alloc = rt.alloc();
-    let map: Numbers = map_of(alloc, &[(1, 97), (2, 98)], 2)?;
-    let tens: LiteMap<u32, u32, Vec<(u32, u32)>> = map.to_keys_by(alloc, |key| *key as u32 * 10)?;
-    assert_eq!(rt; tens.as_slice(), [(10, 97), (20, 98)].as_slice());
+    let map: LiteMap<u8, &str, Vec<(u8, &str)>> = map_of(alloc, MAPS[1], 2)?;
+    let tens: LiteMap<u32, &str, Vec<(u32, &str)>> = map.to_keys_by(alloc, |key| *key as u32 * 10)?;
+    assert!(rt; tens.as_slice() == [(10, "a"), (20, "b")].as_slice());
     Ok(())
 }
 
-fn hand_over<S>(rt: &impl Abort, alloc: Global) -> Result<(), Fail>
+// A map hands over its pairs: to a map over the same store, to one over another, and one by one.
+fn hand_over<V: Copy + PartialEq, S, T>(
+    rt: &impl Abort,
+    alloc: Global,
+    list: &[(u8, V)],
+) -> Result<(), Fail>
 where
-    S: StoreMut<u8, u32> + StoreIntoIterator<u8, u32> + StoreFromIterable<u8, u32> + Drop,
+    S: StoreMut<u8, V> + StoreIntoIterator<u8, V> + StoreFromIterable<u8, V> + Drop,
+    T: StoreIntoIterator<u8, V> + StoreFromIterable<u8, V> + Drop,
 {
-    for list in MAPS {
-        let map: LiteMap<u8, u32, S> = map_of(alloc, list, 4)?;
-        let again: LiteMap<u8, u32, S> = LiteMap::from_iter(alloc, map)?;
-        assert_eq!(rt; list_of(alloc, &again)?.as_slice(), list);
-        let mut left = list;
-        for pair in again {
-            assert_eq!(rt; Some(&pair), left.first());
-            left = left.get(1..).unwrap_or(&[]);
-        }
-        assert!(rt; left.is_empty());
+    let map: LiteMap<u8, V, S> = map_of(alloc, list, 4)?;
+    let again: LiteMap<u8, V, S> = LiteMap::from_iter(alloc, map)?;
+    let is_same = list_of(alloc, &again)?.as_slice() == list;
+    let other: LiteMap<u8, V, T> = moved(alloc, again)?;
+    let mut left = list;
+    for pair in other {
+        assert!(rt; is_same && left.first() == Some(&pair));
+        left = left.get(1..).unwrap_or(&[]);
     }
+    assert!(rt; left.is_empty());
     Ok(())
 }
 
 #[test]
 fn pairs_by_value(rt: HostRuntime) -> Result<(), Fail> {
-    hand_over::<Vec<(u8, u32)>>(&rt, rt.alloc())?;
-    hand_over::<FixedRoom<u8, u32>>(&rt, rt.alloc())
+    for list in MAPS {
+        hand_over::<&str, Vec<(u8, &str)>, FixedRoom<u8, &str>>(&rt, rt.alloc(), list)?;
+        hand_over::<&str, FixedRoom<u8, &str>, Vec<(u8, &str)>>(&rt, rt.alloc(), list)?;
+    }
+    Ok(())
 }

@@ -1,15 +1,13 @@
 //! What goes through the pairs, the keys and the values of a map, from both ends.
 use litemap::LiteMap;
-use litemap::store::StoreIterable;
+use litemap::store::{StoreIterable, StoreMut};
 use std::process::Abort;
 use std::test::Fail;
 use test_support::fixed_room::FixedRoom;
 use test_support::lists::map_of;
 use uses::totals::total;
 
-type Pairs = &'static [(u8, u32)];
-
-const MAPS: [Pairs; 4] = [
+const MAPS: [&[(u8, u32)]; 4] = [
     &[],
     &[(7, 70)],
     &[(1, 10), (2, 20)],
@@ -24,31 +22,28 @@ const STEPS: [&[bool]; 4] = [
     &[false, false, true, false, true, true, false],
 ];
 
-// Steps through the keys, the values and the pairs of a map at once, beside the list.
-fn step_through<'a, S: StoreIterable<'a, u8, u32>>(
-    rt: &impl Abort,
-    map: &'a LiteMap<u8, u32, S>,
-    list: &'a [(u8, u32)],
+// Whether the pairs, the keys and the values of a map are those of the list, at each of the steps.
+fn are_met<'a, V: PartialEq, S: StoreIterable<'a, u8, V>>(
+    map: &'a LiteMap<u8, V, S>,
+    list: &'a [(u8, V)],
     steps: &[bool],
-) {
+) -> bool {
     let mut left = list;
     let mut pairs = map.iter();
     let mut keys = map.keys();
     let mut values = map.values();
     for from_front in steps {
-        assert_eq!(rt; keys.size_hint(), (left.len(), Some(left.len())));
-        assert_eq!(rt; values.size_hint(), (left.len(), Some(left.len())));
-        assert_eq!(rt;
-            (pairs.len(), keys.len(), values.len()),
-            (left.len(), left.len(), left.len())
-        );
+        let len = left.len();
+        let is_exact = keys.size_hint() == (len, Some(len))
+            && values.size_hint() == (len, Some(len));
+        let is_counted = pairs.len() == len && keys.len() == len && values.len() == len;
         let (expected, pair, key, value) = if *from_front {
             let expected = left.first();
             left = left.get(1..).unwrap_or(&[]);
             (expected, pairs.next(), keys.next(), values.next())
         } else {
             let expected = left.last();
-            left = left.get(..left.len().saturating_sub(1)).unwrap_or(&[]);
+            left = left.get(..len.saturating_sub(1)).unwrap_or(&[]);
             (
                 expected,
                 pairs.next_back(),
@@ -56,10 +51,14 @@ fn step_through<'a, S: StoreIterable<'a, u8, u32>>(
                 values.next_back(),
             )
         };
-        assert_eq!(rt; pair, expected.map(|pair| (&pair.0, &pair.1)));
-        assert_eq!(rt; key, expected.map(|pair| &pair.0));
-        assert_eq!(rt; value, expected.map(|pair| &pair.1));
+        let is_met = pair == expected.map(|pair| (&pair.0, &pair.1))
+            && key == expected.map(|pair| &pair.0)
+            && value == expected.map(|pair| &pair.1);
+        if !is_exact || !is_counted || !is_met {
+            return false;
+        }
     }
+    true
 }
 
 #[test]
@@ -69,11 +68,39 @@ fn from_both_ends(rt: HostRuntime) -> Result<(), Fail> {
         let fixed: LiteMap<u8, u32, FixedRoom<u8, u32>> = map_of(rt.alloc(), list, 5)?;
         let sliced = map.as_sliced();
         for steps in STEPS {
-            step_through(&rt, &map, list, steps);
-            step_through(&rt, &fixed, list, steps);
-            step_through(&rt, &sliced, list, steps);
+            assert!(rt;
+                are_met(&map, list, steps)
+                    && are_met(&fixed, list, steps)
+                    && are_met(&sliced, list, steps)
+            );
         }
     }
+    Ok(())
+}
+
+// How many keys there are, some of them from both ends, and how many are then left.
+fn some_keys<'a, V: 'a, S: StoreIterable<'a, u8, V>>(
+    map: &'a LiteMap<u8, V, S>,
+) -> (usize, [Option<u8>; 5], usize) {
+    let mut keys = map.keys();
+    let len = keys.len();
+    let met = [
+        keys.next().copied(),
+        keys.next_back().copied(),
+        keys.next().copied(),
+        keys.next().copied(),
+        keys.next_back().copied(),
+    ];
+    (len, met, keys.len())
+}
+
+#[test]
+fn keys_until_there_are_none(rt: HostRuntime) -> Result<(), Fail> {
+    let list = [(1, "a"), (2, "b"), (3, "c")];
+    let met = (3, [Some(1), Some(3), Some(2), None, None], 0);
+    let map: LiteMap<u8, &str, Vec<(u8, &str)>> = map_of(rt.alloc(), &list, 3)?;
+    let fixed: LiteMap<u8, &str, FixedRoom<u8, &str>> = map_of(rt.alloc(), &list, 3)?;
+    assert!(rt; some_keys(&map) == met && some_keys(&fixed) == met);
     Ok(())
 }
 
@@ -87,9 +114,11 @@ fn totals(rt: HostRuntime) -> Result<(), Fail> {
     ] {
         let map: LiteMap<u8, u32, Vec<(u8, u32)>> = map_of(rt.alloc(), list, 5)?;
         let fixed: LiteMap<u8, u32, FixedRoom<u8, u32>> = map_of(rt.alloc(), list, 5)?;
-        assert_eq!(rt; total(&map), expected);
-        assert_eq!(rt; total(&fixed), expected);
-        assert_eq!(rt; total(&map.as_sliced()), expected);
+        assert!(rt;
+            total(&map) == expected
+                && total(&fixed) == expected
+                && total(&map.as_sliced()) == expected
+        );
     }
     Ok(())
 }
@@ -106,6 +135,6 @@ fn older_names(map: &LiteMap<u8, u32, Vec<(u8, u32)>>) -> (Option<u8>, Option<u3
 #[test]
 fn by_the_older_names(rt: HostRuntime) -> Result<(), Fail> {
     let map: LiteMap<u8, u32, Vec<(u8, u32)>> = map_of(rt.alloc(), MAPS[3], 5)?;
-    assert_eq!(rt; older_names(&map), (Some(9), Some(97), 4));
+    assert!(rt; older_names(&map) == (Some(9), Some(97), 4));
     Ok(())
 }
