@@ -4,6 +4,8 @@
 #[cfg(test)]
 mod answers;
 #[cfg(test)]
+mod columns;
+#[cfg(test)]
 mod fakes;
 #[cfg(test)]
 mod faults;

@@ -8,7 +8,7 @@ use std::alloc::Global;
 type Pairs = Vec<(u32, u32)>;
 
 /// Each key twice, in no order, and more of them than a sort takes without memory.
-const SCATTERED: [(u32, u32); 24] = [
+pub const SCATTERED: [(u32, u32); 24] = [
     (0, 0),
     (5, 1),
     (10, 2),
@@ -36,7 +36,7 @@ const SCATTERED: [(u32, u32); 24] = [
 ];
 
 /// The last pair of each of these keys, in rising order.
-const LAST: [(u32, u32); 12] = [
+pub const LAST: [(u32, u32); 12] = [
     (0, 12),
     (1, 17),
     (2, 22),
@@ -52,7 +52,7 @@ const LAST: [(u32, u32); 12] = [
 ];
 
 /// A map of pairs in no order.
-pub fn from_iter(alloc: Global) -> Outcome {
+pub(crate) fn from_iter(alloc: Global) -> Outcome {
     match Numbers::from_iter(alloc, SCATTERED.iter().copied()) {
         Ok(map) => Outcome::answered(has(&map, &LAST)),
         Err(_) => Outcome::Refused,
@@ -73,17 +73,17 @@ fn extended(alloc: Global, new: &[(u32, u32)], left: &[(u32, u32)]) -> Outcome {
 }
 
 /// Pairs in no order are sorted, and merged with a pair that is there.
-pub fn extend(alloc: Global) -> Outcome {
+pub(crate) fn extend(alloc: Global) -> Outcome {
     extended(alloc, &SCATTERED, &LAST)
 }
 
 /// Pairs that rise are put behind the one that is there.
-pub fn extend_behind(alloc: Global) -> Outcome {
+pub(crate) fn extend_behind(alloc: Global) -> Outcome {
     extended(alloc, &PAIRS[1..], &PAIRS)
 }
 
 /// The same as `extend`, of a store.
-pub fn lm_extend(alloc: Global) -> Outcome {
+pub(crate) fn lm_extend(alloc: Global) -> Outcome {
     let mut store: Pairs = Vec::new(alloc);
     match store.lm_extend(alloc, SCATTERED.iter().copied(), &mut Count::new()) {
         Ok(()) => Outcome::answered(store.as_slice() == LAST.as_slice()),
@@ -92,7 +92,7 @@ pub fn lm_extend(alloc: Global) -> Outcome {
 }
 
 /// A store of pairs in no order.
-pub fn lm_sort_from_iter(alloc: Global) -> Outcome {
+pub(crate) fn lm_sort_from_iter(alloc: Global) -> Outcome {
     match Pairs::lm_sort_from_iter(alloc, SCATTERED.iter().copied(), &mut Count::new()) {
         Ok(store) => Outcome::answered(store.as_slice() == LAST.as_slice()),
         Err(_) => Outcome::Refused,
@@ -100,7 +100,7 @@ pub fn lm_sort_from_iter(alloc: Global) -> Outcome {
 }
 
 /// A store of pairs as they come.
-pub fn lm_from_pairs(alloc: Global) -> Outcome {
+pub(crate) fn lm_from_pairs(alloc: Global) -> Outcome {
     match Pairs::lm_from_pairs(alloc, SCATTERED.iter().copied()) {
         Ok(store) => Outcome::answered(store.as_slice() == SCATTERED.as_slice()),
         Err(_) => Outcome::Refused,

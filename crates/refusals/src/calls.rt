@@ -1,10 +1,10 @@
 //! The calls, by name.
 use crate::outcome::Outcome;
-use crate::{bulk, conversions, json, maps, merge, session, stores, tables};
+use crate::{bulk, conversions, json, maps, merge, read, session, stores, tables};
 use std::alloc::Global;
 
 /// The names of the calls.
-pub const CALLS: [&str; 43] = [
+pub const CALLS: [&str; 46] = [
     "insert",
     "try_insert",
     "try_append",
@@ -37,6 +37,9 @@ pub const CALLS: [&str; 43] = [
     "to_borrowed_keys",
     "to_borrowed_values",
     "to_keys_by",
+    "read_pairs",
+    "read_pairs_hinted",
+    "run_calls",
     "names",
     "read_names",
     "find_name",
@@ -51,7 +54,7 @@ pub const CALLS: [&str; 43] = [
 ];
 
 /// Runs the scenario of a call, if there is one of this name.
-pub fn run_call(alloc: Global, name: &str) -> Option<Outcome> {
+pub(crate) fn run_call(alloc: Global, name: &str) -> Option<Outcome> {
     match name {
         "insert" => Some(maps::grow(alloc, maps::Put::Insert)),
         "try_insert" => Some(maps::grow(alloc, maps::Put::TryInsert)),
@@ -85,6 +88,9 @@ pub fn run_call(alloc: Global, name: &str) -> Option<Outcome> {
         "to_borrowed_keys" => Some(conversions::to_borrowed_keys(alloc)),
         "to_borrowed_values" => Some(conversions::to_borrowed_values(alloc)),
         "to_keys_by" => Some(conversions::to_keys_by(alloc)),
+        "read_pairs" => Some(read::read_pairs(alloc)),
+        "read_pairs_hinted" => Some(read::read_pairs_hinted(alloc)),
+        "run_calls" => Some(read::run_calls(alloc)),
         "names" => Some(session::run_lines(alloc)),
         "read_names" => Some(tables::read_names(alloc)),
         "find_name" => Some(tables::find_name(alloc)),

@@ -51,7 +51,7 @@ fn has_words(map: &Words) -> bool {
 }
 
 /// Boxes of both.
-pub fn to_boxed_keys_values(alloc: Global) -> Outcome {
+pub(crate) fn to_boxed_keys_values(alloc: Global) -> Outcome {
     let Some(map) = words(alloc) else {
         return Outcome::Refused;
     };
@@ -68,7 +68,7 @@ pub fn to_boxed_keys_values(alloc: Global) -> Outcome {
 }
 
 /// Boxes of the keys.
-pub fn to_boxed_keys(alloc: Global) -> Outcome {
+pub(crate) fn to_boxed_keys(alloc: Global) -> Outcome {
     let Some(map) = words(alloc) else {
         return Outcome::Refused;
     };
@@ -85,7 +85,7 @@ pub fn to_boxed_keys(alloc: Global) -> Outcome {
 }
 
 /// Boxes of the values, of texts whose keys take memory, too.
-pub fn to_boxed_values(alloc: Global) -> Outcome {
+pub(crate) fn to_boxed_values(alloc: Global) -> Outcome {
     let Some(map) = texts(alloc) else {
         return Outcome::Refused;
     };
@@ -103,7 +103,7 @@ pub fn to_boxed_values(alloc: Global) -> Outcome {
 }
 
 /// References to both.
-pub fn to_borrowed_keys_values(alloc: Global) -> Outcome {
+pub(crate) fn to_borrowed_keys_values(alloc: Global) -> Outcome {
     let Some(map) = words(alloc) else {
         return Outcome::Refused;
     };
@@ -117,7 +117,7 @@ pub fn to_borrowed_keys_values(alloc: Global) -> Outcome {
 }
 
 /// References to the keys.
-pub fn to_borrowed_keys(alloc: Global) -> Outcome {
+pub(crate) fn to_borrowed_keys(alloc: Global) -> Outcome {
     let Some(map) = words(alloc) else {
         return Outcome::Refused;
     };
@@ -131,7 +131,7 @@ pub fn to_borrowed_keys(alloc: Global) -> Outcome {
 }
 
 /// References to the values, of texts whose keys take memory.
-pub fn to_borrowed_values(alloc: Global) -> Outcome {
+pub(crate) fn to_borrowed_values(alloc: Global) -> Outcome {
     let Some(map) = texts(alloc) else {
         return Outcome::Refused;
     };
@@ -148,7 +148,7 @@ pub fn to_borrowed_values(alloc: Global) -> Outcome {
 }
 
 /// The keys as longer numbers.
-pub fn to_keys_by(alloc: Global) -> Outcome {
+pub(crate) fn to_keys_by(alloc: Global) -> Outcome {
     let Some(map) = words(alloc) else {
         return Outcome::Refused;
     };

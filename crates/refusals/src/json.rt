@@ -37,7 +37,7 @@ fn ended(is_right: Option<bool>) -> Outcome {
 }
 
 /// A map of words as an object.
-pub fn to_json_object(alloc: Global) -> Outcome {
+pub(crate) fn to_json_object(alloc: Global) -> Outcome {
     let Some(map) = words(alloc) else {
         return Outcome::Refused;
     };
@@ -49,7 +49,7 @@ pub fn to_json_object(alloc: Global) -> Outcome {
 }
 
 /// A map with pairs as keys, read from an array and written as one.
-pub fn json_array(alloc: Global) -> Outcome {
+pub(crate) fn json_array(alloc: Global) -> Outcome {
     let Ok(value) = Value::from_str(alloc, ARRAY) else {
         return Outcome::Refused;
     };
@@ -66,7 +66,7 @@ pub fn json_array(alloc: Global) -> Outcome {
 }
 
 /// A map of words, read from an object.
-pub fn from_json_object(alloc: Global) -> Outcome {
+pub(crate) fn from_json_object(alloc: Global) -> Outcome {
     let Ok(value) = Value::from_str(alloc, OBJECT) else {
         return Outcome::Refused;
     };
@@ -80,7 +80,7 @@ pub fn from_json_object(alloc: Global) -> Outcome {
 }
 
 /// A text as a value and back.
-pub fn text_item(alloc: Global) -> Outcome {
+pub(crate) fn text_item(alloc: Global) -> Outcome {
     let Ok(text) = String::from_str(alloc, WORD) else {
         return Outcome::Refused;
     };
@@ -95,7 +95,7 @@ pub fn text_item(alloc: Global) -> Outcome {
 }
 
 /// A text as a key's text and back.
-pub fn text_key(alloc: Global) -> Outcome {
+pub(crate) fn text_key(alloc: Global) -> Outcome {
     let Ok(text) = String::from_str(alloc, WORD) else {
         return Outcome::Refused;
     };
@@ -113,7 +113,7 @@ pub fn text_key(alloc: Global) -> Outcome {
 }
 
 /// Flags that are brought over.
-pub fn flags(alloc: Global) -> Outcome {
+pub(crate) fn flags(alloc: Global) -> Outcome {
     match rewrite_flags(alloc, b"[[false,2],[true,1]]") {
         Ok(text) => Outcome::answered(text.as_str() == "{\"false\":2,\"true\":1}"),
         Err(FlagsFault::Memory) => Outcome::Refused,

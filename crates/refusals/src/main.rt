@@ -18,6 +18,7 @@ mod json;
 mod maps;
 mod merge;
 mod outcome;
+mod read;
 mod session;
 mod stores;
 mod tables;

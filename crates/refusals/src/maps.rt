@@ -14,7 +14,7 @@ pub type Texts = LiteMap<String, String, Vec<(String, String)>>;
 pub const PAIRS: [(u32, u32); 5] = [(1, 10), (2, 20), (3, 30), (4, 40), (5, 50)];
 
 /// Whether the map has these pairs, in this order, and no others.
-pub fn has<S: Store<u32, u32>>(map: &LiteMap<u32, u32, S>, pairs: &[(u32, u32)]) -> bool {
+pub(crate) fn has<S: Store<u32, u32>>(map: &LiteMap<u32, u32, S>, pairs: &[(u32, u32)]) -> bool {
     map.len() == pairs.len()
         && pairs.iter().enumerate().all(|(place, (key, value))| map.get_indexed(place)
             == Some((key, value)))
@@ -44,7 +44,7 @@ pub enum Put {
 }
 
 /// Puts pairs into an empty map, one by one.
-pub fn grow(alloc: Global, call: Put) -> Outcome {
+pub(crate) fn grow(alloc: Global, call: Put) -> Outcome {
     let mut map: Numbers = LiteMap::new_vec(alloc);
     for place in 0..PAIRS.len() {
         let (key, value) = PAIRS[place];
@@ -122,7 +122,7 @@ fn fill(map: &mut Numbers, pairs: &[(u32, u32)]) -> Outcome {
 }
 
 /// A map with room for all pairs.
-pub fn with_capacity(alloc: Global) -> Outcome {
+pub(crate) fn with_capacity(alloc: Global) -> Outcome {
     match LiteMap::with_capacity(alloc, PAIRS.len()) {
         Ok(mut map) => fill(&mut map, &PAIRS),
         Err(_) => Outcome::Refused,
@@ -130,7 +130,7 @@ pub fn with_capacity(alloc: Global) -> Outcome {
 }
 
 /// Room for all pairs, in a map of the first one.
-pub fn reserve(alloc: Global) -> Outcome {
+pub(crate) fn reserve(alloc: Global) -> Outcome {
     let mut map: Numbers = LiteMap::new_vec(alloc);
     let [first, ..] = PAIRS;
     if let Err(refused) = map.insert(first.0, first.1) {
@@ -143,7 +143,7 @@ pub fn reserve(alloc: Global) -> Outcome {
 }
 
 /// A map of one pair of texts, `None` where its memory was refused.
-pub fn texts(alloc: Global) -> Option<Texts> {
+pub(crate) fn texts(alloc: Global) -> Option<Texts> {
     let mut map = LiteMap::new_vec(alloc);
     let key = String::from_str(alloc, "key").ok()?;
     let value = String::from_str(alloc, "value").ok()?;
@@ -152,7 +152,7 @@ pub fn texts(alloc: Global) -> Option<Texts> {
 }
 
 /// Whether the map has the pair of texts alone.
-pub fn has_texts(map: &Texts) -> bool {
+pub(crate) fn has_texts(map: &Texts) -> bool {
     match map.first() {
         Some((key, value)) => {
             map.len() == 1 && key.as_str() == "key" && value.as_str() == "value"
@@ -162,7 +162,7 @@ pub fn has_texts(map: &Texts) -> bool {
 }
 
 /// A clone of a map of texts. The map itself takes the first requests.
-pub fn try_clone(alloc: Global) -> Outcome {
+pub(crate) fn try_clone(alloc: Global) -> Outcome {
     let Some(map) = texts(alloc) else {
         return Outcome::Refused;
     };

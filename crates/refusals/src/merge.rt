@@ -17,7 +17,7 @@ fn map_of(alloc: Global, pairs: &[(u32, u32)]) -> Result<Numbers, AllocError> {
 }
 
 /// Pairs of which one falls between two others, and one has a key that is there.
-pub fn extend_from_litemap(alloc: Global) -> Outcome {
+pub(crate) fn extend_from_litemap(alloc: Global) -> Outcome {
     let old = [(1, 11), (3, 31)];
     let Ok(mut map) = map_of(alloc, &old) else {
         return Outcome::Refused;
@@ -49,7 +49,7 @@ fn halves(alloc: Global, place: usize) -> Result<(Pairs, Pairs), AllocError> {
 }
 
 /// A store is put behind another.
-pub fn lm_extend_end(alloc: Global) -> Outcome {
+pub(crate) fn lm_extend_end(alloc: Global) -> Outcome {
     let Ok((mut low, high)) = halves(alloc, 1) else {
         return Outcome::Refused;
     };
@@ -63,7 +63,7 @@ pub fn lm_extend_end(alloc: Global) -> Outcome {
 }
 
 /// A store is put before another.
-pub fn lm_extend_start(alloc: Global) -> Outcome {
+pub(crate) fn lm_extend_start(alloc: Global) -> Outcome {
     let Ok((low, mut high)) = halves(alloc, 1) else {
         return Outcome::Refused;
     };

@@ -29,12 +29,12 @@ const JSON_WRITTEN: [&[u8]; 8] = [
 ];
 
 /// The answers of all lines, or those of the lines done and then `no memory`.
-pub fn run_lines(alloc: Global) -> Outcome {
+pub(crate) fn run_lines(alloc: Global) -> Outcome {
     run_all(alloc, LINES, &WRITTEN)
 }
 
 /// The same of lines that remove a name and show the map as JSON.
-pub fn run_json(alloc: Global) -> Outcome {
+pub(crate) fn run_json(alloc: Global) -> Outcome {
     run_all(alloc, JSON_LINES, &JSON_WRITTEN)
 }
 

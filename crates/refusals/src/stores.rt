@@ -16,7 +16,7 @@ pub enum Put {
 }
 
 /// Puts pairs into an empty store, one by one.
-pub fn grow(alloc: Global, call: Put) -> Outcome {
+pub(crate) fn grow(alloc: Global, call: Put) -> Outcome {
     let mut store: Pairs = Vec::new(alloc);
     for place in 0..PAIRS.len() {
         let (key, value) = PAIRS[place];
@@ -46,7 +46,7 @@ fn fill(store: &mut Pairs, pairs: &[(u32, u32)]) -> Outcome {
 }
 
 /// A store with room for all pairs.
-pub fn lm_with_capacity(alloc: Global) -> Outcome {
+pub(crate) fn lm_with_capacity(alloc: Global) -> Outcome {
     match <Pairs as StoreMut<u32, u32>>::lm_with_capacity(alloc, PAIRS.len()) {
         Ok(mut store) => fill(&mut store, &PAIRS),
         Err(_) => Outcome::Refused,
@@ -54,7 +54,7 @@ pub fn lm_with_capacity(alloc: Global) -> Outcome {
 }
 
 /// Room for all pairs, in a store of the first one.
-pub fn lm_reserve(alloc: Global) -> Outcome {
+pub(crate) fn lm_reserve(alloc: Global) -> Outcome {
     let mut store: Pairs = Vec::new(alloc);
     let [first, ..] = PAIRS;
     if let Err(refused) = store.lm_push(first.0, first.1) {

@@ -15,7 +15,7 @@ const PAIRS: [(&str, &str); 4] = [("a", "4"), ("b", "3"), ("c", "1"), ("d", "5")
 const WRITTEN: &[u8] = b"\x04\x01a\x014\x01b\x013\x01c\x011\x01d\x015";
 
 /// `read_names`.
-pub fn read_names(alloc: Global) -> Outcome {
+pub(crate) fn read_names(alloc: Global) -> Outcome {
     match names::read_names(alloc, TABLE) {
         Ok((map, size)) => {
             Outcome::answered(size == TABLE.len() && map.as_slice() == PAIRS.as_slice())
@@ -25,7 +25,7 @@ pub fn read_names(alloc: Global) -> Outcome {
 }
 
 /// `find_name`.
-pub fn find_name(alloc: Global) -> Outcome {
+pub(crate) fn find_name(alloc: Global) -> Outcome {
     match names::find_name(alloc, TABLE, "b") {
         Ok(found) => Outcome::answered(found == Some((1, "3"))),
         Err(fault) => refused(&fault),
@@ -33,7 +33,7 @@ pub fn find_name(alloc: Global) -> Outcome {
 }
 
 /// `write_names`, of a map made by insertions.
-pub fn write_names(alloc: Global) -> Outcome {
+pub(crate) fn write_names(alloc: Global) -> Outcome {
     let mut map: NameMap = LiteMap::new_vec(alloc);
     for (key, value) in PAIRS {
         if map.insert(key, value).is_err() {
