@@ -8,7 +8,7 @@ use std::alloc::Global;
 type Pairs = Vec<(u32, u32)>;
 
 /// Each key twice, in no order, and more of them than a sort takes without memory.
-const SCATTERED: [(u32, u32); 24] = [
+pub const SCATTERED: [(u32, u32); 24] = [
     (0, 0),
     (5, 1),
     (10, 2),
@@ -36,7 +36,7 @@ const SCATTERED: [(u32, u32); 24] = [
 ];
 
 /// The last pair of each of these keys, in rising order.
-const LAST: [(u32, u32); 12] = [
+pub const LAST: [(u32, u32); 12] = [
     (0, 12),
     (1, 17),
     (2, 22),

@@ -1,10 +1,10 @@
 //! The calls, by name.
 use crate::outcome::Outcome;
-use crate::{bulk, maps, merge, session, stores};
+use crate::{bulk, maps, merge, read, session, stores};
 use std::alloc::Global;
 
 /// The names of the calls.
-pub const CALLS: [&str; 26] = [
+pub const CALLS: [&str; 29] = [
     "insert",
     "try_insert",
     "try_append",
@@ -30,6 +30,9 @@ pub const CALLS: [&str; 26] = [
     "extend_from_litemap",
     "lm_extend_end",
     "lm_extend_start",
+    "read_pairs",
+    "read_pairs_hinted",
+    "run_calls",
     "names",
 ];
 
@@ -61,6 +64,9 @@ pub fn run_call(alloc: Global, name: &str) -> Option<Outcome> {
         "extend_from_litemap" => Some(merge::extend_from_litemap(alloc)),
         "lm_extend_end" => Some(merge::lm_extend_end(alloc)),
         "lm_extend_start" => Some(merge::lm_extend_start(alloc)),
+        "read_pairs" => Some(read::read_pairs(alloc)),
+        "read_pairs_hinted" => Some(read::read_pairs_hinted(alloc)),
+        "run_calls" => Some(read::run_calls(alloc)),
         "names" => Some(session::run_lines(alloc)),
         _ => None,
     }

@@ -16,6 +16,7 @@ mod calls;
 mod maps;
 mod merge;
 mod outcome;
+mod read;
 mod session;
 mod stores;
 
