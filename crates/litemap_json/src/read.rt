@@ -119,6 +119,7 @@ fn read_members<K: JsonKey + Drop, V: JsonItem + Drop>(
 {
     let mut found = Vec::new(alloc);
     let mut place = 0usize;
+    // The places stay below the number of members: its bound is known from here on.
     let count = members.len();
     for (name, member) in members.iter() {
         let pair = read_member(alloc, place, name, member)?;
