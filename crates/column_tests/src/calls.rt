@@ -11,10 +11,15 @@ use test_support::fixed_room::FixedRoom;
 
 type Pairs = Vec<(u32, u32)>;
 
-// A number below a limit that only looks random.
-fn below(state: &mut u32, limit: usize) -> usize {
+// A number that only looks random.
+fn next(state: &mut u32) -> u32 {
     *state = state.wrapping_mul(1_664_525).wrapping_add(1_013_904_223);
-    (*state as usize >> 8).checked_rem(limit).unwrap_or(0)
+    *state >> 8
+}
+
+// One below a limit.
+fn below(state: &mut u32, limit: usize) -> usize {
+    (next(state) as usize).checked_rem(limit).unwrap_or(0)
 }
 
 // Whether the store has these pairs, at each place and past the end.
@@ -77,7 +82,7 @@ where
     let mut state = 1u32;
     for turn in 0..1200u32 {
         let place = below(&mut state, pairs.len().wrapping_add(2));
-        let pair = (below(&mut state, 1000) as u32, turn);
+        let pair = (next(&mut state) % 1000, turn);
         let way = below(&mut state, 8);
         if way < 3 {
             assert!(rt; change(&mut store, &mut pairs, place, pair, way), "{turn}");
