@@ -15,18 +15,45 @@ const MAPS: [&[(u8, &str)]; 4] = [
     &[(1, "one"), (2, "two"), (3, "three"), (5, "")],
 ];
 
-// Whether each pair of a map, as it is read, is the list's at its place.
-fn has<L: Ord, W, V: Copy + PartialEq, S: Store<L, W>, F: Fn(&L, &W) -> (u8, V)>(
+/// What shows a key or a value: itself, a box of it, or a reference to it.
+pub trait Shows<X> {
+    /// What it shows.
+    fn shown(&self) -> X;
+}
+
+impl Shows<u8> for u8 {
+    fn shown(&self) -> u8 {
+        *self
+    }
+}
+
+impl Shows<&'static str> for &'static str {
+    fn shown(&self) -> &'static str {
+        *self
+    }
+}
+
+impl<X: Copy> Shows<X> for Box<X> {
+    fn shown(&self) -> X {
+        **self
+    }
+}
+
+impl<X: Copy> Shows<X> for &X {
+    fn shown(&self) -> X {
+        **self
+    }
+}
+
+// Whether each pair of a map shows the list's at its place.
+fn has<L: Ord + Shows<u8>, W: Shows<V>, V: Copy + PartialEq, S: Store<L, W>>(
     map: &LiteMap<L, W, S>,
     list: &[(u8, V)],
-    read: F,
-) -> bool
-    requires { F.IsAlwaysCallable read }
-{
-    for (place, pair) in list.iter().enumerate() {
+) -> bool {
+    for (place, (number, text)) in list.iter().enumerate() {
         match map.get_indexed(place) {
             Some((key, value)) => {
-                if read(key, value) != *pair {
+                if key.shown() != *number || value.shown() != *text {
                     return false;
                 }
             }
@@ -37,7 +64,7 @@ fn has<L: Ord, W, V: Copy + PartialEq, S: Store<L, W>, F: Fn(&L, &W) -> (u8, V)>
 }
 
 // The map of a list, and maps of boxes of its pairs.
-fn box_each<V: Copy + PartialEq, S: StoreMut<u8, V> + Drop>(
+fn box_each<V: Copy + PartialEq + Shows<V>, S: StoreMut<u8, V> + Drop>(
     rt: &impl Abort,
     alloc: Global,
     list: &[(u8, V)],
@@ -46,16 +73,12 @@ fn box_each<V: Copy + PartialEq, S: StoreMut<u8, V> + Drop>(
     let both: LiteMap<Box<u8>, Box<V>, Vec<(Box<u8>, Box<V>)>> = map.to_boxed_keys_values(alloc)?;
     let keys: LiteMap<Box<u8>, V, FixedRoom<Box<u8>, V>> = map.to_boxed_keys(alloc)?;
     let values: LiteMap<u8, Box<V>, Vec<(u8, Box<V>)>> = map.to_boxed_values(alloc)?;
-    assert!(rt;
-        has(&both, list, |key, value| (**key, **value))
-            && has(&keys, list, |key, value| (**key, *value))
-            && has(&values, list, |key, value| (*key, **value))
-    );
+    assert!(rt; has(&both, list) && has(&keys, list) && has(&values, list));
     Ok(())
 }
 
 // The map of a list, and maps of references to its pairs.
-fn lend_each<V: Copy + PartialEq, S: StoreMut<u8, V> + Drop>(
+fn lend_each<V: Copy + PartialEq + Shows<V>, S: StoreMut<u8, V> + Drop>(
     rt: &impl Abort,
     alloc: Global,
     list: &[(u8, V)],
@@ -64,11 +87,7 @@ fn lend_each<V: Copy + PartialEq, S: StoreMut<u8, V> + Drop>(
     let both: LiteMap<&u8, &V, Vec<(&u8, &V)>> = map.to_borrowed_keys_values(alloc)?;
     let keys: LiteMap<&u8, V, Vec<(&u8, V)>> = map.to_borrowed_keys(alloc)?;
     let values: LiteMap<u8, &V, FixedRoom<u8, &V>> = map.to_borrowed_values(alloc)?;
-    assert!(rt;
-        has(&both, list, |key, value| (**key, **value))
-            && has(&keys, list, |key, value| (**key, *value))
-            && has(&values, list, |key, value| (*key, **value))
-    );
+    assert!(rt; has(&both, list) && has(&keys, list) && has(&values, list));
     Ok(())
 }
 
