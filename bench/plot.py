@@ -69,9 +69,10 @@ def dots(ours, theirs, left, part, calls, sizes):
 
 def ratios(ours, theirs):
     """The plot: a panel for each type of keys and each store, a row for each call, a dot for each size."""
-    calls = tables.distinct(measure.call for measure in ours)
-    sizes = tables.distinct(measure.size for measure in ours)
-    parts = tables.distinct((measure.keys, measure.store) for measure in ours)
+    drawn_ones = [measure for measure in ours if tables.found_there(theirs, measure) is not None]
+    calls = tables.distinct(measure.call for measure in drawn_ones)
+    sizes = tables.distinct(measure.size for measure in drawn_ones)
+    parts = tables.distinct((measure.keys, measure.store) for measure in drawn_ones)
     width = NAMES_WIDTH + (PANEL_WIDTH + GAP) * len(parts)
     bottom = TOP + ROW * len(calls)
     drawn = [f'<rect width="{width}" height="{bottom + BOTTOM}" fill="#fff"/>', *legend(sizes)]

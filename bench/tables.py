@@ -16,9 +16,21 @@ TITLES = {
     "extend": "`extend`, in no order",
     "merge_apart": "`extend_from_litemap`, all keys above",
     "merge_interleaved": "`extend_from_litemap`, keys between the others",
+    "to_json": "`to_json`, and its text",
+    "from_json": "a text read, and `from_json`",
+    "copy": "a copy of the bytes",
+    "read_names": "`read_names`",
+    "find_name": "`find_name`",
+    "write_names": "`write_names`",
 }
 KEYS = {"number": "numbers (`u64`)", "text": "texts (`String`)"}
-STORES = {"vec": "`Vec`", "column": "`ColumnStore`"}
+# Where the pairs are kept, or the format that they are written in.
+STORES = {
+    "vec": "over `Vec`",
+    "column": "over `ColumnStore`",
+    "json": "as JSON",
+    "table": "as a name table",
+}
 
 
 class Measure(typing.NamedTuple):
@@ -62,9 +74,15 @@ def shown(picos):
     return f"{nanos:.1f}" if nanos < 10 else f"{nanos:,.0f}"
 
 
+def found_there(theirs, measure):
+    """What came of the measure in the Rust crate, which has one store and none of the formats."""
+    return (theirs or {}).get(measure.over("vec"))
+
+
 def ratio(ours, theirs, measure):
-    """How many times as long it takes here as in the Rust crate, which has one store."""
-    return ours[measure].lowest() / max(theirs[measure.over("vec")].lowest(), 1)
+    """How many times as long it takes here as in the Rust crate, where that has such a measure."""
+    there = found_there(theirs, measure)
+    return None if there is None else ours[measure].lowest() / max(there.lowest(), 1)
 
 
 def cell(ours, theirs, measure):
@@ -72,10 +90,10 @@ def cell(ours, theirs, measure):
     if measure not in ours:
         return ""
     here = shown(ours[measure].lowest())
-    if theirs is None:
+    there = found_there(theirs, measure)
+    if there is None:
         return here
-    there = shown(theirs[measure.over("vec")].lowest())
-    return f"{here} : {there} ({ratio(ours, theirs, measure):.2f})"
+    return f"{here} : {shown(there.lowest())} ({ratio(ours, theirs, measure):.2f})"
 
 
 def parts(ours, theirs):
@@ -87,7 +105,7 @@ def parts(ours, theirs):
         for call in distinct(measure.call for measure in of_part):
             cells = [cell(ours, theirs, Measure(call, keys, store, size)) for size in sizes]
             rows.append([TITLES.get(call, call), *cells])
-        yield f"{KEYS.get(keys, keys)} over {STORES.get(store, store)}", sizes, rows
+        yield f"{KEYS.get(keys, keys)} {STORES.get(store, store)}", sizes, rows
 
 
 def head(sizes):

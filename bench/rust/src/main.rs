@@ -22,6 +22,4 @@ fn main() {
         measure_keys::<u64>(size);
         measure_keys::<String>(size);
     }
-    // What isn't a call of a map (JSON, name tables) is measured by a module of its own, called here: a line of the same
-    // form for each of its measures.
 }
