@@ -66,7 +66,7 @@ fn lines_and_their_answers(rt: HostRuntime) -> Result<(), Fail> {
 
 #[test]
 fn bad_lines(rt: HostRuntime) -> Result<(), Fail> {
-    let lines: [&[u8]; 32] = [
+    let lines: [&[u8]; 34] = [
         b" ",
         b"put",
         b"put ",
@@ -88,6 +88,8 @@ fn bad_lines(rt: HostRuntime) -> Result<(), Fail> {
         b"find  a",
         b"find a b",
         b"get",
+        b"get a ",
+        b" get a",
         b"get a b",
         b"del a ",
         b"del\ta",
@@ -117,6 +119,23 @@ fn input_of_the_greatest_length(rt: HostRuntime) -> Result<(), Fail> {
     let (status, text) = status_and_out(rt.alloc(), &input[1..]);
     assert_eq!(rt; status, 0);
     assert_eq!(rt; text.as_slice(), b"".as_slice());
+    Ok(())
+}
+
+#[test]
+fn the_longest_line(rt: HostRuntime) -> Result<(), Fail> {
+    // A line feed is one byte too many.
+    let mut input = Vec::from_slice(rt.alloc(), b"put ")?;
+    input.resize(1_048_574, b'k')?;
+    for (more, wanted, out) in [
+        (b" v".as_slice(), 0, b"new\n".as_slice()),
+        (b"\n".as_slice(), 2, b"input too long\n".as_slice()),
+    ] {
+        input.extend_from_slice(more)?;
+        let (status, text) = status_and_out(rt.alloc(), &input);
+        assert_eq!(rt; status, wanted);
+        assert_eq!(rt; text.as_slice(), out);
+    }
     Ok(())
 }
 

@@ -6,6 +6,10 @@ mod answers;
 #[cfg(test)]
 mod columns;
 #[cfg(test)]
+mod each_call;
+#[cfg(test)]
+mod endless;
+#[cfg(test)]
 mod fakes;
 #[cfg(test)]
 mod faults;
