@@ -1,11 +1,30 @@
-//! The calls, by name.
-use crate::outcome::Outcome;
-use crate::{bulk, conversions, json, maps, merge, read, session, stores, tables};
+//! The scenarios, by name.
+use crate::bulk::{self, Input};
+use crate::maps::{self, Put};
+use crate::merge::{self, Merge};
+use crate::stores::{self, Growing};
+use crate::texts::{self, GrowingTexts};
+use crate::{conversions, scans};
+use litemap::store::ColumnStore;
+use refusal_support::{Outcome, Scenarios};
 use std::alloc::Global;
 
-/// The names of the calls.
-pub const CALLS: [&str; 46] = [
+/// The scenarios of calls of stores and maps.
+pub struct Calls;
+
+/// The names of the scenarios.
+const NAMES: [&str; 81] = [
+    "lm_push",
+    "lm_insert",
+    "lm_with_capacity",
+    "lm_reserve",
+    "lm_extend",
+    "lm_sort_from_iter",
+    "lm_from_pairs",
+    "lm_extend_end",
+    "lm_extend_start",
     "insert",
+    "insert_counted",
     "try_insert",
     "try_append",
     "try_get_or_insert",
@@ -16,20 +35,16 @@ pub const CALLS: [&str; 46] = [
     "vacant_insert",
     "with_capacity",
     "reserve",
+    "reserved_entries",
     "try_clone",
-    "lm_push",
-    "lm_insert",
-    "lm_with_capacity",
-    "lm_reserve",
     "from_iter",
+    "from_iter_counted",
     "extend",
     "extend_behind",
-    "lm_extend",
-    "lm_sort_from_iter",
-    "lm_from_pairs",
+    "extend_counted",
     "extend_from_litemap",
-    "lm_extend_end",
-    "lm_extend_start",
+    "extend_from_litemap_counted",
+    "merge_in_one_pass",
     "to_boxed_keys_values",
     "to_boxed_keys",
     "to_boxed_values",
@@ -37,71 +52,96 @@ pub const CALLS: [&str; 46] = [
     "to_borrowed_keys",
     "to_borrowed_values",
     "to_keys_by",
-    "read_pairs",
-    "read_pairs_hinted",
-    "run_calls",
-    "names",
-    "read_names",
-    "find_name",
-    "write_names",
-    "to_json",
-    "from_json",
-    "json_array",
-    "text_item",
-    "text_key",
-    "rewrite_flags",
-    "names_json",
+    "lm_push_in_columns",
+    "lm_insert_in_columns",
+    "lm_with_capacity_in_columns",
+    "lm_reserve_in_columns",
+    "lm_extend_in_columns",
+    "lm_sort_from_iter_in_columns",
+    "lm_from_pairs_in_columns",
+    "lm_extend_end_in_columns",
+    "lm_extend_start_in_columns",
+    "insert_in_columns",
+    "insert_counted_in_columns",
+    "try_insert_in_columns",
+    "try_append_in_columns",
+    "try_get_or_insert_in_columns",
+    "try_find_or_insert_in_columns",
+    "or_insert_in_columns",
+    "or_default_in_columns",
+    "or_insert_with_in_columns",
+    "vacant_insert_in_columns",
+    "with_capacity_in_columns",
+    "reserve_in_columns",
+    "reserved_entries_in_columns",
+    "try_clone_in_columns",
+    "from_iter_in_columns",
+    "from_iter_counted_in_columns",
+    "extend_in_columns",
+    "extend_behind_in_columns",
+    "extend_counted_in_columns",
+    "extend_from_litemap_in_columns",
+    "extend_from_litemap_counted_in_columns",
+    "merge_in_one_pass_in_columns",
+    "to_boxed_keys_values_in_columns",
+    "to_boxed_keys_in_columns",
+    "to_boxed_values_in_columns",
+    "to_borrowed_keys_values_in_columns",
+    "to_borrowed_keys_in_columns",
+    "to_borrowed_values_in_columns",
+    "to_keys_by_in_columns",
+    "scan_below",
+    "scan_above",
+    "scan_put",
+    "scan_cut",
+    "scan_last",
 ];
 
-/// Runs the scenario of a call, if there is one of this name.
-pub(crate) fn run_call(alloc: Global, name: &str) -> Option<Outcome> {
+impl Scenarios for Calls {
+    fn names(&self) -> &[&'static str] {
+        &NAMES
+    }
+
+    fn run(&self, alloc: Global, name: &str) -> Option<Outcome> {
+        if let Some(outcome) = conversions::run(alloc, name) {
+            return Some(outcome);
+        }
+        match name.strip_suffix("_in_columns") {
+            Some(call) => {
+                run_over::<ColumnStore<u32, u32>, ColumnStore<String, String>>(alloc, call)
+            }
+            None => match scans::run(alloc, name) {
+                Some(outcome) => Some(outcome),
+                None => run_over::<Vec<(u32, u32)>, Vec<(String, String)>>(alloc, name),
+            },
+        }
+    }
+}
+
+// Runs the scenario of a call over a kind of store.
+fn run_over<S: Growing, T: GrowingTexts>(alloc: Global, name: &str) -> Option<Outcome> {
     match name {
-        "insert" => Some(maps::grow(alloc, maps::Put::Insert)),
-        "try_insert" => Some(maps::grow(alloc, maps::Put::TryInsert)),
-        "try_append" => Some(maps::grow(alloc, maps::Put::TryAppend)),
-        "try_get_or_insert" => Some(maps::grow(alloc, maps::Put::TryGetOrInsert)),
-        "try_find_or_insert" => Some(maps::grow(alloc, maps::Put::TryFindOrInsert)),
-        "or_insert" => Some(maps::grow(alloc, maps::Put::OrInsert)),
-        "or_default" => Some(maps::grow(alloc, maps::Put::OrDefault)),
-        "or_insert_with" => Some(maps::grow(alloc, maps::Put::OrInsertWith)),
-        "vacant_insert" => Some(maps::grow(alloc, maps::Put::VacantInsert)),
-        "with_capacity" => Some(maps::with_capacity(alloc)),
-        "reserve" => Some(maps::reserve(alloc)),
-        "try_clone" => Some(maps::try_clone(alloc)),
-        "lm_push" => Some(stores::grow(alloc, stores::Put::Push)),
-        "lm_insert" => Some(stores::grow(alloc, stores::Put::Insert)),
-        "lm_with_capacity" => Some(stores::lm_with_capacity(alloc)),
-        "lm_reserve" => Some(stores::lm_reserve(alloc)),
-        "from_iter" => Some(bulk::from_iter(alloc)),
-        "extend" => Some(bulk::extend(alloc)),
-        "extend_behind" => Some(bulk::extend_behind(alloc)),
-        "lm_extend" => Some(bulk::lm_extend(alloc)),
-        "lm_sort_from_iter" => Some(bulk::lm_sort_from_iter(alloc)),
-        "lm_from_pairs" => Some(bulk::lm_from_pairs(alloc)),
-        "extend_from_litemap" => Some(merge::extend_from_litemap(alloc)),
-        "lm_extend_end" => Some(merge::lm_extend_end(alloc)),
-        "lm_extend_start" => Some(merge::lm_extend_start(alloc)),
-        "to_boxed_keys_values" => Some(conversions::to_boxed_keys_values(alloc)),
-        "to_boxed_keys" => Some(conversions::to_boxed_keys(alloc)),
-        "to_boxed_values" => Some(conversions::to_boxed_values(alloc)),
-        "to_borrowed_keys_values" => Some(conversions::to_borrowed_keys_values(alloc)),
-        "to_borrowed_keys" => Some(conversions::to_borrowed_keys(alloc)),
-        "to_borrowed_values" => Some(conversions::to_borrowed_values(alloc)),
-        "to_keys_by" => Some(conversions::to_keys_by(alloc)),
-        "read_pairs" => Some(read::read_pairs(alloc)),
-        "read_pairs_hinted" => Some(read::read_pairs_hinted(alloc)),
-        "run_calls" => Some(read::run_calls(alloc)),
-        "names" => Some(session::run_lines(alloc)),
-        "read_names" => Some(tables::read_names(alloc)),
-        "find_name" => Some(tables::find_name(alloc)),
-        "write_names" => Some(tables::write_names(alloc)),
-        "to_json" => Some(json::to_json_object(alloc)),
-        "from_json" => Some(json::from_json_object(alloc)),
-        "json_array" => Some(json::json_array(alloc)),
-        "text_item" => Some(json::text_item(alloc)),
-        "text_key" => Some(json::text_key(alloc)),
-        "rewrite_flags" => Some(json::flags(alloc)),
-        "names_json" => Some(session::run_json(alloc)),
-        _ => None,
+        "lm_push" => Some(stores::grow::<S>(alloc, stores::Put::Push)),
+        "lm_insert" => Some(stores::grow::<S>(alloc, stores::Put::Insert)),
+        "lm_with_capacity" => Some(stores::lm_with_capacity::<S>(alloc)),
+        "lm_reserve" => Some(stores::lm_reserve::<S>(alloc)),
+        "lm_extend" => Some(bulk::lm_extend::<S>(alloc)),
+        "lm_sort_from_iter" => Some(bulk::lm_sort_from_iter::<S>(alloc)),
+        "lm_from_pairs" => Some(bulk::lm_from_pairs::<S>(alloc)),
+        "lm_extend_end" => Some(merge::lm_extend_end::<S>(alloc)),
+        "lm_extend_start" => Some(merge::lm_extend_start::<S>(alloc)),
+        "with_capacity" => Some(maps::with_capacity::<S>(alloc)),
+        "reserve" => Some(maps::reserve::<S>(alloc)),
+        "reserved_entries" => Some(maps::reserved_entries::<S>(alloc)),
+        "try_clone" => Some(texts::try_clone::<T>(alloc)),
+        "from_iter" => Some(bulk::from_iter::<S>(alloc)),
+        "from_iter_counted" => Some(bulk::from_iter_counted::<S>(alloc)),
+        "extend" => Some(bulk::extend::<S>(alloc, Input::Mixed)),
+        "extend_behind" => Some(bulk::extend::<S>(alloc, Input::Behind)),
+        "extend_counted" => Some(bulk::extend::<S>(alloc, Input::Counted)),
+        "extend_from_litemap" => Some(merge::merge_maps::<S>(alloc, Merge::Few)),
+        "extend_from_litemap_counted" => Some(merge::merge_maps::<S>(alloc, Merge::Counted)),
+        "merge_in_one_pass" => Some(merge::merge_maps::<S>(alloc, Merge::Many)),
+        _ => Some(maps::grow::<S>(alloc, Put::of_name(name)?)),
     }
 }

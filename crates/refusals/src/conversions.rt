@@ -1,16 +1,85 @@
 //! The calls that make a map of another's pairs. The map itself takes the first requests.
-use crate::maps::{Texts, has_texts, texts};
-use crate::outcome::Outcome;
+use crate::texts::{PAIR, Texts, texts};
+use crate::told::{are_words, is_pair};
 use litemap::LiteMap;
-use litemap::store::Store;
+use litemap::store::{ColumnStore, StoreMut};
+use refusal_support::Outcome;
 use std::alloc::{AllocError, Global};
 
 type Words = LiteMap<u32, String, Vec<(u32, String)>>;
 
-// A map over a vector.
-type Made<K, V> = Result<LiteMap<K, V, Vec<(K, V)>>, AllocError>;
+type Named = Texts<Vec<(String, String)>>;
 
 const WORDS: [(u32, &str); 2] = [(1, "one"), (2, "two")];
+
+/// Runs the scenario of a conversion, if there is one of this name.
+pub(crate) fn run(alloc: Global, name: &str) -> Option<Outcome> {
+    let takes_words = match name.strip_suffix("_in_columns").unwrap_or(name) {
+        "to_boxed_keys_values"
+        | "to_boxed_keys"
+        | "to_borrowed_keys_values"
+        | "to_borrowed_keys"
+        | "to_keys_by" => true,
+        "to_boxed_values" | "to_borrowed_values" => false,
+        _ => return None,
+    };
+    if takes_words {
+        return match words(alloc) {
+            Some(map) => of_words(alloc, &map, name),
+            None => Some(Outcome::Refused),
+        };
+    }
+    match texts(alloc) {
+        Some(map) => of_texts(alloc, &map, name),
+        None => Some(Outcome::Refused),
+    }
+}
+
+// Runs a scenario whose map has numbers as keys.
+fn of_words(alloc: Global, map: &Words, name: &str) -> Option<Outcome> {
+    let made = match name {
+        "to_boxed_keys_values" => boxed_both::<Vec<(Box<u32>, Box<String>)>>(alloc, map),
+        "to_boxed_keys" => boxed_keys::<Vec<(Box<u32>, String)>>(alloc, map),
+        "to_borrowed_keys_values" => lent_both::<Vec<(&u32, &String)>>(alloc, map),
+        "to_borrowed_keys" => lent_keys::<Vec<(&u32, String)>>(alloc, map),
+        "to_keys_by" => keys_by::<Vec<(u64, String)>>(alloc, map),
+        "to_boxed_keys_values_in_columns" => {
+            boxed_both::<ColumnStore<Box<u32>, Box<String>>>(alloc, map)
+        }
+        "to_boxed_keys_in_columns" => boxed_keys::<ColumnStore<Box<u32>, String>>(alloc, map),
+        "to_borrowed_keys_values_in_columns" => {
+            lent_both::<ColumnStore<&u32, &String>>(alloc, map)
+        }
+        "to_borrowed_keys_in_columns" => lent_keys::<ColumnStore<&u32, String>>(alloc, map),
+        "to_keys_by_in_columns" => keys_by::<ColumnStore<u64, String>>(alloc, map),
+        _ => return None,
+    };
+    Some(ended(made, are_words(map, &WORDS)))
+}
+
+// Runs a scenario whose map has texts as keys, which take memory too.
+fn of_texts(alloc: Global, map: &Named, name: &str) -> Option<Outcome> {
+    let made = match name {
+        "to_boxed_values" => boxed_values::<Vec<(String, Box<String>)>>(alloc, map),
+        "to_borrowed_values" => lent_values::<Vec<(String, &String)>>(alloc, map),
+        "to_boxed_values_in_columns" => {
+            boxed_values::<ColumnStore<String, Box<String>>>(alloc, map)
+        }
+        "to_borrowed_values_in_columns" => {
+            lent_values::<ColumnStore<String, &String>>(alloc, map)
+        }
+        _ => return None,
+    };
+    Some(ended(made, is_pair(map, PAIR)))
+}
+
+// How a scenario ended, by whether the map that was made is right, and whether the one that it was made of is as it was.
+fn ended(made: Result<bool, AllocError>, left: bool) -> Outcome {
+    match made {
+        Ok(is_right) => Outcome::answered(is_right && left),
+        Err(_) => Outcome::refused(true, left),
+    }
+}
 
 // The map of the words, `None` where its memory was refused.
 fn words(alloc: Global) -> Option<Words> {
@@ -22,144 +91,65 @@ fn words(alloc: Global) -> Option<Words> {
     Some(map)
 }
 
-// Whether the pairs of a map, as they are told, are those of the words.
-fn are_words<K, V, S, F>(map: &LiteMap<K, V, S>, is_pair: F) -> bool
+// Boxes of both.
+fn boxed_both<B: StoreMut<Box<u32>, Box<String>> + Drop>(
+    alloc: Global,
+    map: &Words,
+) -> Result<bool, AllocError> {
+    let boxed: LiteMap<_, _, B> = map.to_boxed_keys_values(alloc)?;
+    Ok(are_words(&boxed, &WORDS))
+}
+
+// Boxes of the keys.
+fn boxed_keys<B: StoreMut<Box<u32>, String> + Drop>(
+    alloc: Global,
+    map: &Words,
+) -> Result<bool, AllocError> {
+    let boxed: LiteMap<_, _, B> = map.to_boxed_keys(alloc)?;
+    Ok(are_words(&boxed, &WORDS))
+}
+
+// Boxes of the values.
+fn boxed_values<B: StoreMut<String, Box<String>> + Drop>(
+    alloc: Global,
+    map: &Named,
+) -> Result<bool, AllocError> {
+    let boxed: LiteMap<_, _, B> = map.to_boxed_values(alloc)?;
+    Ok(is_pair(&boxed, PAIR))
+}
+
+// References to both.
+fn lent_both<'a, B>(alloc: Global, map: &'a Words) -> Result<bool, AllocError>
 where
-    K: Ord,
-    S: Store<K, V>,
-    F: Fn(&K, &V, u32, &str) -> bool,
-    requires { F.IsAlwaysCallable is_pair }
+    B: StoreMut<&'a u32, &'a String> + Drop,
 {
-    for (place, (number, text)) in WORDS.iter().enumerate() {
-        match map.get_indexed(place) {
-            Some((key, value)) => {
-                if !is_pair(key, value, *number, text) {
-                    return false;
-                }
-            }
-            None => return false,
-        }
-    }
-    map.len() == WORDS.len()
+    let lent: LiteMap<_, _, B> = map.to_borrowed_keys_values(alloc)?;
+    Ok(are_words(&lent, &WORDS))
 }
 
-// Whether the map has the words.
-fn has_words(map: &Words) -> bool {
-    are_words(map, |key, word, number, text| {
-        *key == number && word.as_str() == text
-    })
+// References to the keys.
+fn lent_keys<'a, B>(alloc: Global, map: &'a Words) -> Result<bool, AllocError>
+where
+    B: StoreMut<&'a u32, String> + Drop,
+{
+    let lent: LiteMap<_, _, B> = map.to_borrowed_keys(alloc)?;
+    Ok(are_words(&lent, &WORDS))
 }
 
-/// Boxes of both.
-pub(crate) fn to_boxed_keys_values(alloc: Global) -> Outcome {
-    let Some(map) = words(alloc) else {
-        return Outcome::Refused;
-    };
-    let made: Made<Box<u32>, Box<String>> = map.to_boxed_keys_values(alloc);
-    match made {
-        Ok(boxed) => Outcome::answered(
-            has_words(&map)
-                && are_words(&boxed, |key, word, number, text| {
-                    **key == number && word.as_str() == text
-                }),
-        ),
-        Err(_) => Outcome::refused(true, has_words(&map)),
-    }
+// References to the values.
+fn lent_values<'a, B>(alloc: Global, map: &'a Named) -> Result<bool, AllocError>
+where
+    B: StoreMut<String, &'a String> + Drop,
+{
+    let lent: LiteMap<_, _, B> = map.to_borrowed_values(alloc)?;
+    Ok(is_pair(&lent, PAIR))
 }
 
-/// Boxes of the keys.
-pub(crate) fn to_boxed_keys(alloc: Global) -> Outcome {
-    let Some(map) = words(alloc) else {
-        return Outcome::Refused;
-    };
-    let made: Made<Box<u32>, String> = map.to_boxed_keys(alloc);
-    match made {
-        Ok(boxed) => Outcome::answered(
-            has_words(&map)
-                && are_words(&boxed, |key, word, number, text| {
-                    **key == number && word.as_str() == text
-                }),
-        ),
-        Err(_) => Outcome::refused(true, has_words(&map)),
-    }
-}
-
-/// Boxes of the values, of texts whose keys take memory, too.
-pub(crate) fn to_boxed_values(alloc: Global) -> Outcome {
-    let Some(map) = texts(alloc) else {
-        return Outcome::Refused;
-    };
-    let made: Made<String, Box<String>> = map.to_boxed_values(alloc);
-    match made {
-        Ok(boxed) => Outcome::answered(
-            has_texts(&map)
-                && boxed.len() == 1
-                && boxed
-                    .get("key")
-                    .is_some_and(|value| value.as_str() == "value"),
-        ),
-        Err(_) => Outcome::refused(true, has_texts(&map)),
-    }
-}
-
-/// References to both.
-pub(crate) fn to_borrowed_keys_values(alloc: Global) -> Outcome {
-    let Some(map) = words(alloc) else {
-        return Outcome::Refused;
-    };
-    let made: Made<&u32, &String> = map.to_borrowed_keys_values(alloc);
-    match made {
-        Ok(lent) => Outcome::answered(are_words(&lent, |key, word, number, text| {
-            **key == number && word.as_str() == text
-        })),
-        Err(_) => Outcome::refused(true, has_words(&map)),
-    }
-}
-
-/// References to the keys.
-pub(crate) fn to_borrowed_keys(alloc: Global) -> Outcome {
-    let Some(map) = words(alloc) else {
-        return Outcome::Refused;
-    };
-    let made: Made<&u32, String> = map.to_borrowed_keys(alloc);
-    match made {
-        Ok(lent) => Outcome::answered(are_words(&lent, |key, word, number, text| {
-            **key == number && word.as_str() == text
-        })),
-        Err(_) => Outcome::refused(true, has_words(&map)),
-    }
-}
-
-/// References to the values, of texts whose keys take memory.
-pub(crate) fn to_borrowed_values(alloc: Global) -> Outcome {
-    let Some(map) = texts(alloc) else {
-        return Outcome::Refused;
-    };
-    let made: Made<String, &String> = map.to_borrowed_values(alloc);
-    match made {
-        Ok(lent) => Outcome::answered(
-            lent.len() == 1
-                && lent
-                    .get("key")
-                    .is_some_and(|value| value.as_str() == "value"),
-        ),
-        Err(_) => Outcome::refused(true, has_texts(&map)),
-    }
-}
-
-/// The keys as longer numbers.
-pub(crate) fn to_keys_by(alloc: Global) -> Outcome {
-    let Some(map) = words(alloc) else {
-        return Outcome::Refused;
-    };
-    let made: Made<u64, String> = map.to_keys_by(alloc, |key| *key as u64);
-    match made {
-        Ok(longer) => Outcome::answered(
-            has_words(&map)
-                && are_words(&longer, |key, word, number, text| {
-                    *key == number as u64 && word.as_str() == text
-                }),
-        ),
-        Err(_) => Outcome::refused(true, has_words(&map)),
-    }
+// The keys as longer numbers.
+fn keys_by<B: StoreMut<u64, String> + Drop>(
+    alloc: Global,
+    map: &Words,
+) -> Result<bool, AllocError> {
+    let longer: LiteMap<_, _, B> = map.to_keys_by(alloc, |key| *key as u64)?;
+    Ok(are_words(&longer, &WORDS))
 }

@@ -1,98 +1,23 @@
-//! Shows what each call answers where one of its requests for memory is refused.
+//! Shows what each call of a store or a map answers where one of its requests for memory is refused.
 //!
-//! A line of standard input is `CALL`, `CALL PLACE` or `all`. It runs the scenario of that call, or of each
-//! call in turn, and writes a line for each: `CALL: answered`, `CALL: refused` or `CALL: WRONG: ..`, by
-//! `Outcome`.
-//!
-//! Where there is a PLACE, from 1 on, small requests for memory go before the scenario, so many that its
-//! request number PLACE is request number `LEAD` of the program. `rt try --fail-alloc` refuses that one: see
-//! `bin/refusals`. Nothing else here takes memory.
+//! Each scenario runs over a vector and, under a name that ends in `_in_columns`, over two columns. The lines that it
+//! reads are those of `refusal_support::run_lines`.
 #![tactic(auto)]
-
-ghost use Rattle.std.specs.Prelude.{◌≤◌, IfOk, length};
 
 mod bulk;
 mod calls;
 mod conversions;
-mod json;
 mod maps;
 mod merge;
-mod outcome;
-mod read;
-mod session;
+mod scans;
 mod stores;
-mod tables;
+mod texts;
+mod told;
 
-use calls::{CALLS, run_call};
-use outcome::Outcome;
-use std::alloc::Global;
-use std::io::{self, Read};
-use std::str;
-
-/// The number of the request that is refused.
-const LEAD: usize = 200;
+use calls::Calls;
+use refusal_support::run_lines;
+use std::io;
 
 fn main(rt: HostRuntime) -> io::Result<()> {
-    let mut space = [0u8; 256];
-    let len = read_input(&mut rt.stdin(), &mut space)?;
-    let Ok(text) = str::from_utf8(&space[..len]) else {
-        return println!(rt; "the input is no text");
-    };
-    for line in text.lines() {
-        do_line(&rt, line)?;
-    }
-    Ok(())
-}
-
-// Reads until the end, or until the space is full, and gives the number of bytes.
-fn read_input<R: Read>(reader: &mut R, space: &mut [u8]) -> io::Result<usize>
-    ensures { IfOk result (λ len. len ≤ length space.new) }
-{
-    let mut len = 0;
-    while len < space.len() {
-        let more = reader.read(&mut space[len..])?;
-        if more == 0 {
-            break;
-        }
-        len += more;
-    }
-    Ok(len)
-}
-
-// Does a line of the input.
-fn do_line(rt: &(impl Print + AllocGlobal), line: &str) -> io::Result<()> {
-    if line == "all" {
-        for name in CALLS {
-            report(rt, name)?;
-        }
-        return Ok(());
-    }
-    let Some((name, place)) = line.split_once(' ') else {
-        return report(rt, line);
-    };
-    match place.parse::<usize>() {
-        Ok(place) => {
-            lead_to(rt.alloc(), place);
-            report(rt, name)
-        }
-        Err(_) => println!(rt; "{line}: unknown"),
-    }
-}
-
-// Makes and frees so many small requests for memory that the request number `place` from here on is number
-// `LEAD`.
-fn lead_to(alloc: Global, place: usize) {
-    for _ in place..LEAD {
-        let _ = Vec::<u8>::with_capacity(alloc, 1);
-    }
-}
-
-// Runs the scenario of a call, and writes how it ended.
-fn report(rt: &(impl Print + AllocGlobal), name: &str) -> io::Result<()> {
-    match run_call(rt.alloc(), name) {
-        Some(Outcome::Answered) => println!(rt; "{name}: answered"),
-        Some(Outcome::Refused) => println!(rt; "{name}: refused"),
-        Some(Outcome::Wrong(what)) => println!(rt; "{name}: WRONG: {what}"),
-        None => println!(rt; "{name}: unknown"),
-    }
+    run_lines(&rt, &mut rt.stdin(), &Calls)
 }

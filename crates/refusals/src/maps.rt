@@ -1,30 +1,21 @@
-//! The calls of a map that take memory.
-use crate::outcome::Outcome;
-use litemap::store::{NoRoom, Store};
+//! The calls of a map that put pairs in one by one and take room.
+use crate::stores::Growing;
+use litemap::store::{Count, NoRoom};
 use litemap::{Entry, LiteMap, TryFault};
+use refusal_support::Outcome;
+use refusal_support::pairs::{PAIRS, has};
 use std::alloc::Global;
 
-/// A map over a vector.
-pub type Numbers = LiteMap<u32, u32, Vec<(u32, u32)>>;
-
-/// A map of texts over a vector.
-pub type Texts = LiteMap<String, String, Vec<(String, String)>>;
-
-/// What is put in, in this order.
-pub const PAIRS: [(u32, u32); 5] = [(1, 10), (2, 20), (3, 30), (4, 40), (5, 50)];
-
-/// Whether the map has these pairs, in this order, and no others.
-pub(crate) fn has<S: Store<u32, u32>>(map: &LiteMap<u32, u32, S>, pairs: &[(u32, u32)]) -> bool {
-    map.len() == pairs.len()
-        && pairs.iter().enumerate().all(|(place, (key, value))| map.get_indexed(place)
-            == Some((key, value)))
-}
+/// A map of numbers.
+pub type Numbers<S> = LiteMap<u32, u32, S>;
 
 /// A call that puts a pair with an absent key in.
 #[derive(Clone, Copy)]
 pub enum Put {
     /// `insert`.
     Insert,
+    /// `insert_counted`.
+    InsertCounted,
     /// `try_insert`.
     TryInsert,
     /// `try_append`.
@@ -43,9 +34,28 @@ pub enum Put {
     VacantInsert,
 }
 
+impl Put {
+    /// The call of a name, if there is one.
+    pub(crate) fn of_name(name: &str) -> Option<Put> {
+        match name {
+            "insert" => Some(Put::Insert),
+            "insert_counted" => Some(Put::InsertCounted),
+            "try_insert" => Some(Put::TryInsert),
+            "try_append" => Some(Put::TryAppend),
+            "try_get_or_insert" => Some(Put::TryGetOrInsert),
+            "try_find_or_insert" => Some(Put::TryFindOrInsert),
+            "or_insert" => Some(Put::OrInsert),
+            "or_default" => Some(Put::OrDefault),
+            "or_insert_with" => Some(Put::OrInsertWith),
+            "vacant_insert" => Some(Put::VacantInsert),
+            _ => None,
+        }
+    }
+}
+
 /// Puts pairs into an empty map, one by one.
-pub(crate) fn grow(alloc: Global, call: Put) -> Outcome {
-    let mut map: Numbers = LiteMap::new_vec(alloc);
+pub(crate) fn grow<S: Growing>(alloc: Global, call: Put) -> Outcome {
+    let mut map: Numbers<S> = LiteMap::new(alloc);
     for place in 0..PAIRS.len() {
         let (key, value) = PAIRS[place];
         match put_pair(&mut map, call, key, value) {
@@ -60,8 +70,8 @@ pub(crate) fn grow(alloc: Global, call: Put) -> Outcome {
 }
 
 // Puts in a pair whose key is above all others, and gives whether the answer was right.
-fn put_pair(
-    map: &mut Numbers,
+fn put_pair<S: Growing>(
+    map: &mut Numbers<S>,
     call: Put,
     key: u32,
     value: u32,
@@ -69,6 +79,7 @@ fn put_pair(
     let len = map.len();
     match call {
         Put::Insert => Ok(map.insert(key, value)?.is_none()),
+        Put::InsertCounted => Ok(map.insert_counted(key, value, &mut Count::new())?.is_none()),
         Put::TryInsert => Ok(map.try_insert(key, value)?.is_none()),
         Put::TryAppend => Ok(map.try_append(key, value)?.is_none()),
         Put::TryGetOrInsert => match map.try_get_or_insert::<u8, _>(key, |_| Ok(value)) {
@@ -91,7 +102,11 @@ fn put_pair(
 
 // Puts in the default, and writes the value through the reference. Where it is refused the default has to
 // come back.
-fn put_default(map: &mut Numbers, key: u32, value: u32) -> Result<bool, NoRoom<(u32, u32)>> {
+fn put_default<S: Growing>(
+    map: &mut Numbers<S>,
+    key: u32,
+    value: u32,
+) -> Result<bool, NoRoom<(u32, u32)>> {
     match map.entry(key).or_default() {
         Ok(slot) => {
             let is_default = *slot == 0;
@@ -112,7 +127,7 @@ fn refused(fault: TryFault<u32, u32, u8>) -> Result<bool, NoRoom<(u32, u32)>> {
 }
 
 // Puts the pairs in, where there is room for all of them.
-fn fill(map: &mut Numbers, pairs: &[(u32, u32)]) -> Outcome {
+fn fill<S: Growing>(map: &mut Numbers<S>, pairs: &[(u32, u32)]) -> Outcome {
     for (key, value) in pairs {
         if map.insert(*key, *value).is_err() {
             return Outcome::Wrong("less room than was asked for");
@@ -122,16 +137,17 @@ fn fill(map: &mut Numbers, pairs: &[(u32, u32)]) -> Outcome {
 }
 
 /// A map with room for all pairs.
-pub(crate) fn with_capacity(alloc: Global) -> Outcome {
-    match LiteMap::with_capacity(alloc, PAIRS.len()) {
+pub(crate) fn with_capacity<S: Growing>(alloc: Global) -> Outcome {
+    let made: Result<Numbers<S>, _> = LiteMap::with_capacity(alloc, PAIRS.len());
+    match made {
         Ok(mut map) => fill(&mut map, &PAIRS),
         Err(_) => Outcome::Refused,
     }
 }
 
 /// Room for all pairs, in a map of the first one.
-pub(crate) fn reserve(alloc: Global) -> Outcome {
-    let mut map: Numbers = LiteMap::new_vec(alloc);
+pub(crate) fn reserve<S: Growing>(alloc: Global) -> Outcome {
+    let mut map: Numbers<S> = LiteMap::new(alloc);
     let [first, ..] = PAIRS;
     if let Err(refused) = map.insert(first.0, first.1) {
         return Outcome::refused(refused.back == first, has(&map, &[]));
@@ -142,32 +158,26 @@ pub(crate) fn reserve(alloc: Global) -> Outcome {
     }
 }
 
-/// A map of one pair of texts, `None` where its memory was refused.
-pub(crate) fn texts(alloc: Global) -> Option<Texts> {
-    let mut map = LiteMap::new_vec(alloc);
-    let key = String::from_str(alloc, "key").ok()?;
-    let value = String::from_str(alloc, "value").ok()?;
-    map.insert(key, value).ok()?;
-    Some(map)
-}
-
-/// Whether the map has the pair of texts alone.
-pub(crate) fn has_texts(map: &Texts) -> bool {
-    match map.first() {
-        Some((key, value)) => {
-            map.len() == 1 && key.as_str() == "key" && value.as_str() == "value"
-        }
-        None => false,
-    }
-}
-
-/// A clone of a map of texts. The map itself takes the first requests.
-pub(crate) fn try_clone(alloc: Global) -> Outcome {
-    let Some(map) = texts(alloc) else {
+/// Entries of a full map that takes room for one pair more: what they lend needs no further memory.
+pub(crate) fn reserved_entries<S: Growing>(alloc: Global) -> Outcome {
+    let made: Result<Numbers<S>, _> = LiteMap::with_capacity(alloc, 1);
+    let Ok(mut map) = made else {
         return Outcome::Refused;
     };
-    match map.try_clone(alloc) {
-        Ok(clone) => Outcome::answered(has_texts(&map) && has_texts(&clone)),
-        Err(_) => Outcome::refused(true, has_texts(&map)),
+    if map.insert(1, 10).is_err() {
+        return Outcome::Wrong("less room than was asked for");
+    }
+    if map.reserve(1).is_err() {
+        return Outcome::refused(true, has(&map, &[(1, 10)]));
+    }
+    let are_lent = lends(&mut map, (1, 0), 10) && lends(&mut map, (2, 20), 20);
+    Outcome::answered(are_lent && has(&map, &[(1, 10), (2, 20)]))
+}
+
+// Whether `or_insert` of a key and a value lends this value.
+fn lends<S: Growing>(map: &mut Numbers<S>, pair: (u32, u32), wanted: u32) -> bool {
+    match map.entry(pair.0).or_insert(pair.1) {
+        Ok(slot) => *slot == wanted,
+        Err(_) => false,
     }
 }

@@ -1,77 +1,165 @@
 //! The calls that merge and join.
-use crate::maps::{Numbers, PAIRS, has};
-use crate::outcome::Outcome;
-use litemap::LiteMap;
-use litemap::store::StoreIntoIterator;
+use crate::maps::Numbers;
+use crate::stores::Growing;
+use litemap::store::{Count, Store, StoreFromIterator, StoreIntoIterator};
+use refusal_support::Outcome;
+use refusal_support::pairs::{PAIRS, has, holds};
 use std::alloc::{AllocError, Global};
+use test_support::lists::map_of;
 
-type Pairs = Vec<(u32, u32)>;
-
-// A map of some pairs.
-fn map_of(alloc: Global, pairs: &[(u32, u32)]) -> Result<Numbers, AllocError> {
-    let mut map: Numbers = LiteMap::new_vec(alloc);
-    for (key, value) in pairs {
-        map.insert(*key, *value)?;
-    }
-    Ok(map)
+/// Which maps are merged, and by which call.
+#[derive(Clone, Copy)]
+pub enum Merge {
+    /// A few pairs, which are put in one by one.
+    Few,
+    /// The same by `extend_from_litemap_counted`.
+    Counted,
+    /// So many pairs that they are merged in one pass.
+    Many,
 }
 
-/// Pairs of which one falls between two others, and one has a key that is there.
-pub(crate) fn extend_from_litemap(alloc: Global) -> Outcome {
-    let old = [(1, 11), (3, 31)];
-    let Ok(mut map) = map_of(alloc, &old) else {
+// Two maps that lie mixed and have keys in common, their merger, and what is left over.
+#[derive(Clone, Copy)]
+struct Case {
+    old: &'static [(u32, u32)],
+    new: &'static [(u32, u32)],
+    merged: &'static [(u32, u32)],
+    left: &'static [(u32, u32)],
+}
+
+const FEW: Case = Case {
+    old: &[(1, 11), (3, 31)],
+    new: &[(2, 20), (3, 30), (4, 40), (5, 50)],
+    merged: &[(1, 11), (2, 20), (3, 30), (4, 40), (5, 50)],
+    left: &[(3, 31)],
+};
+
+#[rattlefmt::skip]
+const MANY: Case = Case {
+    old: &[
+        (1, 101),
+        (4, 104),
+        (7, 107),
+        (10, 110),
+        (13, 113),
+        (16, 116),
+        (19, 119),
+        (22, 122),
+        (25, 125),
+        (28, 128),
+    ],
+    new: &[
+        (2, 202),
+        (3, 203),
+        (4, 204),
+        (5, 205),
+        (6, 206),
+        (8, 208),
+        (9, 209),
+        (10, 210),
+        (11, 211),
+        (12, 212),
+        (14, 214),
+        (15, 215),
+        (16, 216),
+        (17, 217),
+        (18, 218),
+        (20, 220),
+        (21, 221),
+        (22, 222),
+        (23, 223),
+        (24, 224),
+    ],
+    merged: &[
+        (1, 101),
+        (2, 202),
+        (3, 203),
+        (4, 204),
+        (5, 205),
+        (6, 206),
+        (7, 107),
+        (8, 208),
+        (9, 209),
+        (10, 210),
+        (11, 211),
+        (12, 212),
+        (13, 113),
+        (14, 214),
+        (15, 215),
+        (16, 216),
+        (17, 217),
+        (18, 218),
+        (19, 119),
+        (20, 220),
+        (21, 221),
+        (22, 222),
+        (23, 223),
+        (24, 224),
+        (25, 125),
+        (28, 128),
+    ],
+    left: &[(4, 104), (10, 110), (16, 116), (22, 122)],
+};
+
+/// A map merged into another. Each is made with room for its own pairs.
+pub(crate) fn merge_maps<S: Growing>(alloc: Global, merge: Merge) -> Outcome {
+    let case = match merge {
+        Merge::Few | Merge::Counted => FEW,
+        Merge::Many => MANY,
+    };
+    let Ok((mut map, other)) = two_maps::<S>(alloc, &case) else {
         return Outcome::Refused;
     };
-    let Ok(other) = map_of(alloc, &PAIRS[1..]) else {
-        return Outcome::Refused;
+    let merged = match merge {
+        Merge::Few | Merge::Many => map.extend_from_litemap(alloc, other),
+        Merge::Counted => map.extend_from_litemap_counted(alloc, other, &mut Count::new()),
     };
-    match map.extend_from_litemap(alloc, other) {
-        Ok(Some(rest)) => Outcome::answered(
-            has(&rest, &[(3, 31)]) && has(&map, &[(1, 11), (2, 20), (3, 30), (4, 40), (5, 50)]),
-        ),
+    match merged {
+        Ok(Some(rest)) => Outcome::answered(has(&rest, case.left) && has(&map, case.merged)),
         Ok(None) => Outcome::Wrong("nothing was left over"),
-        Err(refused) => Outcome::refused(has(&refused.back, &PAIRS[1..]), has(&map, &old)),
+        Err(refused) => Outcome::refused(has(&refused.back, case.new), has(&map, case.old)),
     }
 }
 
-// The pairs before a place, and those from it on.
-fn halves(alloc: Global, place: usize) -> Result<(Pairs, Pairs), AllocError> {
-    let mut low = Vec::new(alloc);
-    let mut high = Vec::new(alloc);
-    for (index, pair) in PAIRS.iter().enumerate() {
-        if index < place {
-            low.push(*pair)?;
-        } else {
-            high.push(*pair)?;
-        }
-    }
-    Ok((low, high))
+// The two maps of a case.
+fn two_maps<S: Growing>(
+    alloc: Global,
+    case: &Case,
+) -> Result<(Numbers<S>, Numbers<S>), AllocError> {
+    let map = map_of(alloc, case.old, case.old.len())?;
+    let other = map_of(alloc, case.new, case.new.len())?;
+    Ok((map, other))
 }
 
 /// A store is put behind another.
-pub(crate) fn lm_extend_end(alloc: Global) -> Outcome {
-    let Ok((mut low, high)) = halves(alloc, 1) else {
+pub(crate) fn lm_extend_end<S: Growing>(alloc: Global) -> Outcome {
+    let Ok((mut low, high)) = halves::<S>(alloc) else {
         return Outcome::Refused;
     };
     match low.lm_extend_end(high) {
-        Ok(()) => Outcome::answered(low.as_slice() == PAIRS.as_slice()),
-        Err(refused) => Outcome::refused(
-            refused.back.as_slice() == &PAIRS[1..],
-            low.as_slice() == &PAIRS[..1],
-        ),
+        Ok(()) => Outcome::answered(holds(&low, &PAIRS)),
+        Err(refused) => {
+            Outcome::refused(holds(&refused.back, &PAIRS[1..]), holds(&low, &PAIRS[..1]))
+        }
     }
 }
 
 /// A store is put before another.
-pub(crate) fn lm_extend_start(alloc: Global) -> Outcome {
-    let Ok((low, mut high)) = halves(alloc, 1) else {
+pub(crate) fn lm_extend_start<S: Growing>(alloc: Global) -> Outcome {
+    let Ok((low, mut high)) = halves::<S>(alloc) else {
         return Outcome::Refused;
     };
     match high.lm_extend_start(low) {
-        Ok(()) => Outcome::answered(high.as_slice() == PAIRS.as_slice()),
-        Err(refused) => Outcome::refused(
-            refused.back.as_slice() == &PAIRS[..1],
-            high.as_slice() == &PAIRS[1..],
-        ),
+        Ok(()) => Outcome::answered(holds(&high, &PAIRS)),
+        Err(refused) => {
+            Outcome::refused(holds(&refused.back, &PAIRS[..1]), holds(&high, &PAIRS[1..]))
+        }
     }
+}
+
+// The first pair, and the others.
+fn halves<S: Growing>(alloc: Global) -> Result<(S, S), AllocError> {
+    let low = S::lm_from_pairs(alloc, PAIRS[..1].iter().copied())?;
+    let high = S::lm_from_pairs(alloc, PAIRS[1..].iter().copied())?;
+    Ok((low, high))
 }

@@ -1,10 +1,22 @@
-//! The calls of a vector as a store that take memory.
-use crate::maps::PAIRS;
-use crate::outcome::Outcome;
-use litemap::store::{NoRoom, Store, StoreMut};
+//! The stores that grow, and their calls that put pairs in one by one and take room.
+use litemap::store::{
+    ColumnStore, NoRoom, Store, StoreBulkMut, StoreConstEmpty, StoreFromIterable,
+    StoreFromIterator, StoreIntoIterator, StoreMut,
+};
+use refusal_support::Outcome;
+use refusal_support::pairs::{PAIRS, holds};
 use std::alloc::Global;
 
-type Pairs = Vec<(u32, u32)>;
+/// A store of numbers that grows.
+pub trait Growing: StoreConstEmpty<u32, u32>
+    + StoreBulkMut<u32, u32>
+    + StoreFromIterable<u32, u32>
+    + StoreFromIterator<u32, u32>
+    + StoreIntoIterator<u32, u32> {}
+
+impl Growing for Vec<(u32, u32)> {}
+
+impl Growing for ColumnStore<u32, u32> {}
 
 /// A call that puts a pair behind the last one.
 #[derive(Clone, Copy)]
@@ -16,8 +28,8 @@ pub enum Put {
 }
 
 /// Puts pairs into an empty store, one by one.
-pub(crate) fn grow(alloc: Global, call: Put) -> Outcome {
-    let mut store: Pairs = Vec::new(alloc);
+pub(crate) fn grow<S: Growing>(alloc: Global, call: Put) -> Outcome {
+    let mut store = S::lm_empty(alloc);
     for place in 0..PAIRS.len() {
         let (key, value) = PAIRS[place];
         let outcome = match call {
@@ -28,40 +40,40 @@ pub(crate) fn grow(alloc: Global, call: Put) -> Outcome {
             }
         };
         if let Err(refused) = outcome {
-            let left = store.as_slice() == &PAIRS[..place];
+            let left = holds(&store, &PAIRS[..place]);
             return Outcome::refused(refused.back == (key, value), left);
         }
     }
-    Outcome::answered(store.as_slice() == PAIRS.as_slice())
+    Outcome::answered(holds(&store, &PAIRS))
 }
 
 // Puts the pairs in, where there is room for all of them.
-fn fill(store: &mut Pairs, pairs: &[(u32, u32)]) -> Outcome {
+fn fill<S: Growing>(store: &mut S, pairs: &[(u32, u32)]) -> Outcome {
     for (key, value) in pairs {
         if store.lm_push(*key, *value).is_err() {
             return Outcome::Wrong("less room than was asked for");
         }
     }
-    Outcome::answered(store.as_slice() == PAIRS.as_slice())
+    Outcome::answered(holds(store, &PAIRS))
 }
 
 /// A store with room for all pairs.
-pub(crate) fn lm_with_capacity(alloc: Global) -> Outcome {
-    match <Pairs as StoreMut<u32, u32>>::lm_with_capacity(alloc, PAIRS.len()) {
+pub(crate) fn lm_with_capacity<S: Growing>(alloc: Global) -> Outcome {
+    match S::lm_with_capacity(alloc, PAIRS.len()) {
         Ok(mut store) => fill(&mut store, &PAIRS),
         Err(_) => Outcome::Refused,
     }
 }
 
 /// Room for all pairs, in a store of the first one.
-pub(crate) fn lm_reserve(alloc: Global) -> Outcome {
-    let mut store: Pairs = Vec::new(alloc);
+pub(crate) fn lm_reserve<S: Growing>(alloc: Global) -> Outcome {
+    let mut store = S::lm_empty(alloc);
     let [first, ..] = PAIRS;
     if let Err(refused) = store.lm_push(first.0, first.1) {
-        return Outcome::refused(refused.back == first, store.is_empty());
+        return Outcome::refused(refused.back == first, store.lm_is_empty());
     }
     match store.lm_reserve(PAIRS.len()) {
         Ok(()) => fill(&mut store, &PAIRS[1..]),
-        Err(_) => Outcome::refused(true, store.as_slice() == &PAIRS[..1]),
+        Err(_) => Outcome::refused(true, holds(&store, &PAIRS[..1])),
     }
 }

@@ -1,12 +1,14 @@
 //! The calls that write JSON and read it.
-use crate::outcome::Outcome;
 use litemap::LiteMap;
+use litemap::store::{ColumnStore, StoreBulkMut};
 use litemap_json::{ItemFault, JsonFault, JsonItem, JsonKey, WriteFault, from_json, to_json};
+use litemap_json_items::array_of_two;
 use names::{FlagsFault, rewrite_flags};
+use refusal_support::Outcome;
 use serde_json::Value;
 use std::alloc::Global;
 
-type Words = LiteMap<u32, String, Vec<(u32, String)>>;
+type Words<S> = LiteMap<u32, String, S>;
 
 type Pairs = LiteMap<(u32, bool), u32, Vec<((u32, bool), u32)>>;
 
@@ -16,8 +18,24 @@ const ARRAY: &str = "[[[1,false],10],[[1,true],11],[[2,true],12]]";
 
 const WORD: &str = "a word of more bytes than a block of memory for small texts might have";
 
+/// Runs the scenario of a call, if there is one of this name.
+pub(crate) fn run(alloc: Global, name: &str) -> Option<Outcome> {
+    match name {
+        "to_json" => Some(to_json_object(alloc)),
+        "from_json" => Some(from_json_object::<Vec<(u32, String)>>(alloc)),
+        "from_json_in_columns" => Some(from_json_object::<ColumnStore<u32, String>>(alloc)),
+        "json_array" => Some(json_array(alloc)),
+        "array_of_two" => Some(two(alloc)),
+        "number_key" => Some(number_key(alloc)),
+        "text_item" => Some(text_item(alloc)),
+        "text_key" => Some(text_key(alloc)),
+        "rewrite_flags" => Some(flags(alloc)),
+        _ => None,
+    }
+}
+
 // The map of words that a text spells; the value that it is read from takes the first requests.
-fn words(alloc: Global) -> Option<Words> {
+fn words(alloc: Global) -> Option<Words<Vec<(u32, String)>>> {
     let value = Value::from_str(alloc, OBJECT).ok()?;
     from_json(alloc, &value).ok()
 }
@@ -36,8 +54,8 @@ fn ended(is_right: Option<bool>) -> Outcome {
     }
 }
 
-/// A map of words as an object.
-pub(crate) fn to_json_object(alloc: Global) -> Outcome {
+// A map of words as an object.
+fn to_json_object(alloc: Global) -> Outcome {
     let Some(map) = words(alloc) else {
         return Outcome::Refused;
     };
@@ -48,8 +66,8 @@ pub(crate) fn to_json_object(alloc: Global) -> Outcome {
     }
 }
 
-/// A map with pairs as keys, read from an array and written as one.
-pub(crate) fn json_array(alloc: Global) -> Outcome {
+// A map with pairs as keys, read from an array and written as one.
+fn json_array(alloc: Global) -> Outcome {
     let Ok(value) = Value::from_str(alloc, ARRAY) else {
         return Outcome::Refused;
     };
@@ -65,12 +83,12 @@ pub(crate) fn json_array(alloc: Global) -> Outcome {
     }
 }
 
-/// A map of words, read from an object.
-pub(crate) fn from_json_object(alloc: Global) -> Outcome {
+// A map of words, read from an object.
+fn from_json_object<S: StoreBulkMut<u32, String>>(alloc: Global) -> Outcome {
     let Ok(value) = Value::from_str(alloc, OBJECT) else {
         return Outcome::Refused;
     };
-    let map: Words = match from_json(alloc, &value) {
+    let map: Words<S> = match from_json(alloc, &value) {
         Ok(map) => map,
         Err(JsonFault::Memory) => return Outcome::Refused,
         Err(_) => return Outcome::Wrong("another fault"),
@@ -79,8 +97,30 @@ pub(crate) fn from_json_object(alloc: Global) -> Outcome {
     Outcome::answered(map.len() == 3 && last == Some("three"))
 }
 
-/// A text as a value and back.
-pub(crate) fn text_item(alloc: Global) -> Outcome {
+// An array of two numbers.
+fn two(alloc: Global) -> Outcome {
+    match array_of_two(alloc, Value::from(1u64), Value::from(2u64)) {
+        Ok(value) => ended(is_text(alloc, &value, "[1,2]")),
+        Err(_) => Outcome::Refused,
+    }
+}
+
+// A number as a key's text and back.
+fn number_key(alloc: Global) -> Outcome {
+    let Ok(name) = 1234u32.key_text(alloc) else {
+        return Outcome::Refused;
+    };
+    let Some(name) = name else {
+        return Outcome::Wrong("no text");
+    };
+    match u32::from_key_text(alloc, name.as_str()) {
+        Ok(read) => Outcome::answered(name.as_str() == "1234" && read == Some(1234)),
+        Err(_) => Outcome::Refused,
+    }
+}
+
+// A text as a value and back.
+fn text_item(alloc: Global) -> Outcome {
     let Ok(text) = String::from_str(alloc, WORD) else {
         return Outcome::Refused;
     };
@@ -94,8 +134,8 @@ pub(crate) fn text_item(alloc: Global) -> Outcome {
     }
 }
 
-/// A text as a key's text and back.
-pub(crate) fn text_key(alloc: Global) -> Outcome {
+// A text as a key's text and back.
+fn text_key(alloc: Global) -> Outcome {
     let Ok(text) = String::from_str(alloc, WORD) else {
         return Outcome::Refused;
     };
@@ -112,8 +152,8 @@ pub(crate) fn text_key(alloc: Global) -> Outcome {
     }
 }
 
-/// Flags that are brought over.
-pub(crate) fn flags(alloc: Global) -> Outcome {
+// Flags that are brought over.
+fn flags(alloc: Global) -> Outcome {
     match rewrite_flags(alloc, b"[[false,2],[true,1]]") {
         Ok(text) => Outcome::answered(text.as_str() == "{\"false\":2,\"true\":1}"),
         Err(FlagsFault::Memory) => Outcome::Refused,

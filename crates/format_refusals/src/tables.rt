@@ -1,8 +1,8 @@
 //! Name tables that are read and written.
-use crate::outcome::Outcome;
 use litemap::LiteMap;
 use litemap_read::ReadFault;
 use names::{NameFault, NameMap, NameWriteFault};
+use refusal_support::Outcome;
 use std::alloc::Global;
 
 /// Keys in no order, one of them twice.

@@ -1,6 +1,7 @@
 //! A run of the program `names` over a reader and a writer in memory.
-use crate::outcome::Outcome;
-use names::{Watch, run};
+use litemap::store::{StoreConstEmpty, StoreMut};
+use names::{Watch, run_with};
+use refusal_support::Outcome;
 use std::alloc::Global;
 
 const LINES: &[u8] = b"put b 2\nput a 1\nput b 3\nfind c\nall\n";
@@ -29,22 +30,28 @@ const JSON_WRITTEN: [&[u8]; 8] = [
 ];
 
 /// The answers of all lines, or those of the lines done and then `no memory`.
-pub(crate) fn run_lines(alloc: Global) -> Outcome {
-    run_all(alloc, LINES, &WRITTEN)
+pub(crate) fn run_lines<S>(alloc: Global) -> Outcome
+where
+    S: StoreConstEmpty<String, String> + StoreMut<String, String> + Drop,
+{
+    run_all::<S>(alloc, LINES, &WRITTEN)
 }
 
 /// The same of lines that remove a name and show the map as JSON.
 pub(crate) fn run_json(alloc: Global) -> Outcome {
-    run_all(alloc, JSON_LINES, &JSON_WRITTEN)
+    run_all::<Vec<(String, String)>>(alloc, JSON_LINES, &JSON_WRITTEN)
 }
 
 // The answers of all lines, or those of the lines done and then `no memory`; `written` has what was written once none of the
 // lines is done, once the first is, and so on.
-fn run_all(alloc: Global, lines: &[u8], written: &[&[u8]]) -> Outcome {
+fn run_all<S>(alloc: Global, lines: &[u8], written: &[&[u8]]) -> Outcome
+where
+    S: StoreConstEmpty<String, String> + StoreMut<String, String> + Drop,
+{
     let mut space = [0u8; 64];
     let mut reader = Watch::new(lines);
     let mut writer = Watch::new(space.as_mut_slice());
-    let status = run(alloc, &mut reader, &mut writer);
+    let status = run_with::<S, _, _>(alloc, &mut reader, &mut writer);
     if reader.failed || writer.failed {
         return Outcome::Wrong("a fault of the reader or the writer");
     }

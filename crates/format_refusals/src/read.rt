@@ -1,16 +1,23 @@
 //! Reading from a source, and a list of calls.
-use crate::bulk::{LAST, SCATTERED};
-use crate::maps::{Numbers, PAIRS, has};
-use crate::outcome::Outcome;
 use litemap::LiteMap;
+use litemap::store::{Store, StoreBulkMut};
 use litemap_read::ReadFault;
 use litemap_read::laws::{Answer, Call};
+use refusal_support::Outcome;
+use refusal_support::pairs::{LAST, PAIRS, SCATTERED, has};
 use std::alloc::{AllocError, Global};
 use test_support::sources::Script;
 
+/// A map of numbers.
+pub type Numbers<S> = LiteMap<u32, u32, S>;
+
 // What is read, and whether it has these pairs.
-fn read(alloc: Global, source: &mut Script<'_, u32, u32>, left: &[(u32, u32)]) -> Outcome {
-    let read: Result<Numbers, _> = litemap_read::read_pairs(alloc, source);
+fn read<S: StoreBulkMut<u32, u32>>(
+    alloc: Global,
+    source: &mut Script<'_, u32, u32>,
+    left: &[(u32, u32)],
+) -> Outcome {
+    let read: Result<Numbers<S>, _> = litemap_read::read_pairs(alloc, source);
     match read {
         Ok(map) => Outcome::answered(has(&map, left)),
         Err(ReadFault::NoRoom) => Outcome::Refused,
@@ -19,15 +26,15 @@ fn read(alloc: Global, source: &mut Script<'_, u32, u32>, left: &[(u32, u32)]) -
 }
 
 /// Pairs in no order, of a source that says nothing of their number.
-pub(crate) fn read_pairs(alloc: Global) -> Outcome {
-    read(alloc, &mut Script::new(&SCATTERED), &LAST)
+pub(crate) fn read_pairs<S: StoreBulkMut<u32, u32>>(alloc: Global) -> Outcome {
+    read::<S>(alloc, &mut Script::new(&SCATTERED), &LAST)
 }
 
 /// Pairs that rise, of a source that says how many they are: the room for these is done without where it is refused.
-pub(crate) fn read_pairs_hinted(alloc: Global) -> Outcome {
+pub(crate) fn read_pairs_hinted<S: StoreBulkMut<u32, u32>>(alloc: Global) -> Outcome {
     let mut source = Script::new(&PAIRS);
     source.hint = Some(PAIRS.len());
-    read(alloc, &mut source, &PAIRS)
+    read::<S>(alloc, &mut source, &PAIRS)
 }
 
 // A call for each pair, which puts it in.
@@ -39,24 +46,36 @@ fn insert_each(alloc: Global) -> Result<Vec<Call<u32, u32>>, AllocError> {
     Ok(calls)
 }
 
+// Whether these are the calls of `insert_each`.
+fn are_all(calls: &[Call<u32, u32>]) -> bool {
+    calls.len() == PAIRS.len()
+        && calls.iter().zip(PAIRS.iter()).all(|(
+            call,
+            pair,
+        )| matches!(call, Call::Insert(key, value) if (*key, *value) == *pair))
+}
+
 /// Pairs put in by a list of calls: those that are refused are left out, and the run goes on.
-pub(crate) fn run_calls(alloc: Global) -> Outcome {
+pub(crate) fn run_calls<S: StoreBulkMut<u32, u32>>(alloc: Global) -> Outcome {
     let Ok(calls) = insert_each(alloc) else {
         return Outcome::Refused;
     };
-    let mut map: Numbers = LiteMap::new_vec(alloc);
+    let made: Result<Numbers<S>, _> = LiteMap::with_capacity(alloc, 0);
+    let Ok(mut map) = made else {
+        return Outcome::Wrong("no room was refused");
+    };
     match litemap_read::laws::run_calls(alloc, &mut map, calls) {
         Ok(answers) => after_run(&map, &answers),
-        Err(refused) => Outcome::refused(refused.back.len() == PAIRS.len(), map.is_empty()),
+        Err(refused) => Outcome::refused(are_all(&refused.back), map.is_empty()),
     }
 }
 
 // What came of the calls of `insert_each`.
-fn after_run(map: &Numbers, answers: &[Answer<u32, u32>]) -> Outcome {
+fn after_run<S: Store<u32, u32>>(map: &Numbers<S>, answers: &[Answer<u32, u32>]) -> Outcome {
     let mut left = 0usize;
     for (pair, answer) in PAIRS.iter().zip(answers.iter()) {
         if *answer == Answer::Value(None) {
-            if map.as_slice().get(left) != Some(pair) {
+            if map.get_indexed(left) != Some((&pair.0, &pair.1)) {
                 return Outcome::Wrong("a pair that was put in is not there");
             }
             left = left.wrapping_add(1);

@@ -1,5 +1,5 @@
 use Rattle.std.proofs.Common.{length, ◌-◌, ◌≤◌, ◌≡◌}
-use Rattle.refusals.proofs.read_input.Given as goal
+use Rattle.refusal_support.proofs.lines.read_input.Given as goal
 
 abbrev pub invariant-loop-len : goal.invariant-loop-len
 invariant-loop-len g l = (length l.space ≡ length l.initial.space) × (l.len ≤ length l.initial.space)

@@ -14,7 +14,7 @@ pub enum Outcome {
 
 impl Outcome {
     /// A refusal, where what came back and what is left are right.
-    pub(crate) fn refused(back: bool, left: bool) -> Outcome {
+    pub fn refused(back: bool, left: bool) -> Outcome {
         if !back {
             Outcome::Wrong("something else came back")
         } else if !left {
@@ -25,7 +25,7 @@ impl Outcome {
     }
 
     /// An answer, where the list is right.
-    pub(crate) fn answered(left: bool) -> Outcome {
+    pub fn answered(left: bool) -> Outcome {
         if left {
             Outcome::Answered
         } else {

@@ -1,0 +1,10 @@
+//! What the programs share that meet calls by a refusal at one of their requests for memory: how a scenario ended, the
+//! lines that name scenarios, and pairs.
+#![tactic(auto)]
+
+mod lines;
+mod outcome;
+pub mod pairs;
+
+pub use lines::{Scenarios, run_lines};
+pub use outcome::Outcome;

@@ -1,0 +1,84 @@
+//! Keys and values as a scenario tells them, whether they are there, boxed or lent.
+use litemap::LiteMap;
+use litemap::store::Store;
+
+/// What is a number, or leads to one.
+pub(crate) trait Number {
+    /// The number.
+    fn number(&self) -> u64;
+}
+
+impl Number for u32 {
+    fn number(&self) -> u64 {
+        *self as u64
+    }
+}
+
+impl Number for u64 {
+    fn number(&self) -> u64 {
+        *self
+    }
+}
+
+impl Number for Box<u32> {
+    fn number(&self) -> u64 {
+        **self as u64
+    }
+}
+
+impl Number for &u32 {
+    fn number(&self) -> u64 {
+        **self as u64
+    }
+}
+
+/// What is a text, or leads to one.
+pub(crate) trait Text {
+    /// Whether it is this text.
+    fn is(&self, text: &str) -> bool;
+}
+
+impl Text for String {
+    fn is(&self, text: &str) -> bool {
+        self.as_str() == text
+    }
+}
+
+impl Text for Box<String> {
+    fn is(&self, text: &str) -> bool {
+        self.as_str() == text
+    }
+}
+
+impl Text for &String {
+    fn is(&self, text: &str) -> bool {
+        self.as_str() == text
+    }
+}
+
+/// Whether the map has these words, in this order, and no others.
+pub(crate) fn are_words<K: Ord + Number, V: Text, S: Store<K, V>>(
+    map: &LiteMap<K, V, S>,
+    words: &[(u32, &str)],
+) -> bool {
+    for (place, (number, text)) in words.iter().enumerate() {
+        let Some((key, value)) = map.get_indexed(place) else {
+            return false;
+        };
+        if key.number() != *number as u64 || !value.is(text) {
+            return false;
+        }
+    }
+    map.len() == words.len()
+}
+
+/// Whether the map has this pair of texts alone.
+pub(crate) fn is_pair<K: Ord + Text, V: Text, S: Store<K, V>>(
+    map: &LiteMap<K, V, S>,
+    pair: (&str, &str),
+) -> bool {
+    match map.first() {
+        Some((key, value)) => map.len() == 1 && key.is(pair.0) && value.is(pair.1),
+        None => false,
+    }
+}
