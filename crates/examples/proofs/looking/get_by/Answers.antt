@@ -1,0 +1,19 @@
+use Rattle.std.proofs.Common.{rules, nat_cmp}
+use Rattle.std.specs.Cmp.{nat_cmp_total}
+use Rattle.litemap_store.proofs.Shapes.{shape_steady}
+use Rattle.litemap_store.proofs.Splitting.{Ascends-by_key}
+use Rattle.examples.proofs.looking.get_by.Goals as goal
+
+-- the closure compares each key with one number, and the keys rise
+pub get_by-there-requires : goal.get_by-there-requires
+get_by-there-requires c = record {
+  ord = λ k. nat_cmp k 3;
+  shape = shape_steady _ _ _ _ (λ p a. tt) (λ p r f' k. search rules) (Ascends-by_key nat_cmp_total _ 3 c.len-rises.ensures.rising);
+}
+
+-- the closure compares each key with one number, and the keys rise
+pub find_index_by-place-requires : goal.find_index_by-place-requires
+find_index_by-place-requires c = record {
+  ord = λ k. nat_cmp k 4;
+  shape = shape_steady _ _ _ _ (λ p a. tt) (λ p r f' k. search rules) (Ascends-by_key nat_cmp_total _ 4 c.len-rises.ensures.rising);
+}

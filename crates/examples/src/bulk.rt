@@ -1,0 +1,55 @@
+//! Calls that take many pairs at once.
+use crate::Shown;
+use crate::days::{Days, three_days};
+use litemap::LiteMap;
+use litemap::store::Count;
+use std::alloc::{AllocError, Global};
+
+/// The examples, by the names of the calls.
+pub fn examples(alloc: Global) -> [Shown; 5] {
+    [
+        ("extend", extend(alloc)),
+        ("from_iter_counted", from_iter_counted(alloc)),
+        ("extend_from_litemap", extend_from_litemap(alloc)),
+        (
+            "extend_from_litemap_counted",
+            extend_from_litemap_counted(alloc),
+        ),
+        ("extend_from_litemap of others", extend_apart(alloc)),
+    ]
+}
+
+fn extend(alloc: Global) -> Result<bool, AllocError> {
+    let mut days = three_days(alloc)?;
+    days.extend(alloc, [(5, "Fri"), (2, "Tue"), (5, "Freitag")])?;
+    Ok(days.get(&5) == Some(&"Freitag") && days.len() == 4)
+}
+
+fn from_iter_counted(alloc: Global) -> Result<bool, AllocError> {
+    let mut count = Count::new();
+    let mut days = Days::from_iter_counted(alloc, [(1, "Mon"), (2, "Tue")], &mut count)?;
+    days.extend_counted(alloc, [(3, "Wed"), (4, "Thu")], &mut count)?;
+    Ok(days.len() == 4)
+}
+
+fn extend_from_litemap(alloc: Global) -> Result<bool, AllocError> {
+    let mut days = three_days(alloc)?;
+    let short: Days = LiteMap::from_iter(alloc, [(4, "Thu"), (5, "Fri")])?;
+    match days.extend_from_litemap(alloc, short)? {
+        Some(old) => Ok(old.as_slice() == [(5, "Friday")].as_slice() && days.len() == 4),
+        None => Ok(false),
+    }
+}
+
+fn extend_from_litemap_counted(alloc: Global) -> Result<bool, AllocError> {
+    let mut days = three_days(alloc)?;
+    let later: Days = LiteMap::from_iter(alloc, [(6, "Saturday"), (7, "Sunday")])?;
+    let none_common = days.extend_from_litemap_counted(alloc, later, &mut Count::new())?;
+    Ok(none_common.is_none() && days.len() == 5)
+}
+
+fn extend_apart(alloc: Global) -> Result<bool, AllocError> {
+    let mut days = three_days(alloc)?;
+    let none: Days = LiteMap::new_vec(alloc);
+    Ok(days.extend_from_litemap(alloc, none)?.is_none() && days.len() == 3)
+}

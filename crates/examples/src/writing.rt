@@ -1,0 +1,47 @@
+//! Calls that lend a value, to be written.
+use crate::Shown;
+use crate::days::three_days;
+use std::alloc::{AllocError, Global};
+
+/// The examples, by the names of the calls.
+pub fn examples(alloc: Global) -> [Shown; 4] {
+    [
+        ("get_mut", get_mut(alloc)),
+        ("get_mut_by", get_mut_by(alloc)),
+        ("index_mut", index_mut(alloc)),
+        ("get_indexed_mut", get_indexed_mut(alloc)),
+    ]
+}
+
+fn get_mut(alloc: Global) -> Result<bool, AllocError> {
+    let mut days = three_days(alloc)?;
+    if let Some(name) = days.get_mut(&3) {
+        *name = "Wed";
+    }
+    Ok(days.get(&3) == Some(&"Wed"))
+}
+
+fn get_mut_by(alloc: Global) -> Result<bool, AllocError> {
+    let mut days = three_days(alloc)?;
+    let _rises = days.len();
+    if let Some(name) = days.get_mut_by(|number| number.cmp(&3)) {
+        *name = "Wed";
+    }
+    Ok(days.get(&3) == Some(&"Wed"))
+}
+
+fn index_mut(alloc: Global) -> Result<bool, AllocError> {
+    let mut days = three_days(alloc)?;
+    if days.contains_key(&3) {
+        *days.index_mut(&3) = "Wed";
+    }
+    Ok(days.get(&3) == Some(&"Wed"))
+}
+
+fn get_indexed_mut(alloc: Global) -> Result<bool, AllocError> {
+    let mut days = three_days(alloc)?;
+    if let Some(name) = days.get_indexed_mut(0) {
+        *name = "Mon";
+    }
+    Ok(days.first() == Some((&1, &"Mon")))
+}

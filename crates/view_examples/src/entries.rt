@@ -1,0 +1,71 @@
+//! Calls through the place of a key, whether the key is there or not. One map goes through them, in this order.
+use examples::Shown;
+use examples::days::Days;
+use litemap::Entry;
+use std::alloc::AllocError;
+
+/// The examples, by the names of the calls.
+pub fn examples(days: &mut Days) -> [Shown; 7] {
+    [
+        ("or_insert", or_insert(days)),
+        ("or_default", or_default(days)),
+        ("or_insert_with", or_insert_with(days)),
+        ("and_modify", and_modify(days)),
+        ("VacantEntry", vacant(days)),
+        ("OccupiedEntry", Ok(occupied(days))),
+        ("get_mut of an OccupiedEntry", Ok(occupied_get_mut(days))),
+    ]
+}
+
+fn or_insert(days: &mut Days) -> Result<bool, AllocError> {
+    // days: 1 Monday, 3 Wednesday, 5 Friday
+    let name = days.entry(1).or_insert("Mon")?;
+    Ok(*name == "Monday")
+}
+
+fn or_default(days: &mut Days) -> Result<bool, AllocError> {
+    // days: 1 Monday, 3 Wednesday, 5 Friday
+    let name = days.entry(7).or_default()?;
+    Ok(*name == "")
+}
+
+fn or_insert_with(days: &mut Days) -> Result<bool, AllocError> {
+    // days: 1 Monday, 3 Wednesday, 5 Friday
+    let name = days.entry(6).or_insert_with(|| "Saturday")?;
+    Ok(*name == "Saturday")
+}
+
+fn and_modify(days: &mut Days) -> Result<bool, AllocError> {
+    // days: 1 Monday, 3 Wednesday, 5 Friday
+    let entry = days.entry(5).and_modify(|name| *name = "Fri");
+    Ok(*entry.or_insert("")? == "Fri")
+}
+
+fn vacant(days: &mut Days) -> Result<bool, AllocError> {
+    // days: 1 Monday, 3 Wednesday, 5 Friday
+    let Entry::Vacant(entry) = days.entry(4) else {
+        return Ok(false);
+    };
+    let number = *entry.key();
+    let name = entry.insert("Thursday")?;
+    Ok(number == 4 && *name == "Thursday")
+}
+
+fn occupied(days: &mut Days) -> bool {
+    // days: 1 Monday, 3 Wednesday, 5 Friday
+    let Entry::Occupied(mut entry) = days.entry(1) else {
+        return false;
+    };
+    let (number, old) = (*entry.key(), entry.insert("Mon"));
+    let now = *entry.get();
+    (number, old, now, entry.remove()) == (1, "Monday", "Mon", "Mon")
+}
+
+fn occupied_get_mut(days: &mut Days) -> bool {
+    // days: 1 Monday, 3 Wednesday, 5 Friday
+    if let Entry::Occupied(mut entry) = days.entry(3) {
+        *entry.get_mut() = "Wed";
+        *entry.into_mut() = "W";
+    }
+    days.get(&3) == Some(&"W")
+}
