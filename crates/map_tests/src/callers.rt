@@ -3,7 +3,8 @@ use litemap::{LiteMap, TryFault};
 use std::alloc::{AllocError, Global};
 use std::test::Fail;
 use test_support::lists::map_of;
-use uses::headers::{self, Borrowed, Headers};
+use uses::borrowed::{self, Borrowed};
+use uses::headers::{self, Headers};
 use uses::made::value_or_made;
 use uses::names::{find_in_map, find_in_table};
 
@@ -55,12 +56,12 @@ fn had_value<'k>(
         Some(found) => Some(found.as_str()) == value,
         None => value.is_none(),
     };
-    let is_there = match headers::pair_of(borrowed, name) {
+    let is_there = match borrowed::pair_of(borrowed, name) {
         Some((_, found)) => Some(found) == value,
         None => value.is_none(),
     };
     let is_removed = headers::remove(owned, &name_text).is_some() == value.is_some();
-    let is_taken = headers::remove_borrowed(borrowed, name) == value;
+    let is_taken = borrowed::remove_borrowed(borrowed, name) == value;
     Ok(is_found && is_there && is_removed && is_taken)
 }
 
@@ -71,7 +72,7 @@ fn headers_are_set_looked_up_and_removed(rt: HostRuntime) -> Result<(), Fail> {
     let mut borrowed = LiteMap::new_vec(alloc);
     for (name, value, len) in [("host", "a", 1), ("accept", "b", 2), ("host", "c", 2)] {
         headers::set(&mut owned, name.to_string(alloc)?, value.to_string(alloc)?)?;
-        headers::set_borrowed(&mut borrowed, name, value)?;
+        borrowed::set_borrowed(&mut borrowed, name, value)?;
         assert!(rt; owned.len() == len && borrowed.len() == len, "{name}");
     }
     let copy = headers::copy_of(alloc, &owned)?;

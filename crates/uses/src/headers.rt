@@ -1,12 +1,10 @@
 //! A header list: values by their names, in the order of the names' bytes.
-//!
 //! What look-ups find after a change follows from the lemmas that the attributes name. The one proof file names the
 //! lemma that clones of texts compare `Equal`.
 ghost use Rattle.std.specs.Prelude.{◌≡◌, ◌≢◌, None, Some, IfOk, OnOk, OnErr, string_bytes};
 ghost use Rattle.std.specs.Option.{option_copied};
-ghost use Rattle.litemap_store.specs.Pairs.{at, value_at};
+ghost use Rattle.litemap_store.specs.Pairs.{value_at};
 ghost use Rattle.litemap_store.specs.Queries.{by_text};
-ghost use Rattle.litemap.specs.ByBytes.{by_bytes};
 ghost use Rattle.litemap.specs.Clones.{PairsAreClones};
 
 use litemap::LiteMap;
@@ -14,9 +12,6 @@ use std::alloc::{AllocError, Global};
 
 /// Headers that own their texts.
 pub type Headers = LiteMap<String, String, Vec<(String, String)>>;
-
-/// Headers whose texts are borrowed.
-pub type Borrowed<'k> = LiteMap<&'k str, &'k str, Vec<(&'k str, &'k str)>>;
 
 /// Sets a header, and answers the value before. All others stay.
 #[tactic(auto, using(litemap::proofs::Texts::text_keys))]
@@ -55,34 +50,4 @@ pub fn copy_of(alloc: Global, headers: &Headers) -> Result<Headers, AllocError>
         headers.now.pairs copy.pairs) }
 {
     headers.try_clone(alloc)
-}
-
-/// Sets a header whose texts are borrowed.
-#[tactic(auto, using(litemap::proofs::Texts::str_keys))]
-pub fn set_borrowed<'k>(
-    headers: &mut Borrowed<'k>,
-    name: &'k str,
-    value: &'k str,
-) -> Result<(), AllocError>
-    ensures set { OnOk result (value_at by_bytes headers.new.pairs name.entry ≡ Some value.entry) }
-    ensures refused { OnErr result (headers.new.pairs ≡ headers.old.pairs) }
-{
-    headers.insert(name, value)?;
-    Ok(())
-}
-
-/// A header whose texts are borrowed, by its place: a place that is found is one of the list's.
-pub fn pair_of<'k>(headers: &Borrowed<'k>, name: &'k str) -> Option<(&'k str, &'k str)>
-    ensures { result ≡ at by_bytes headers.now.pairs name.entry }
-{
-    let place = headers.find_index(&name).ok()?;
-    Some(headers.as_slice()[place])
-}
-
-/// Removes a header whose text is borrowed.
-#[tactic(auto, using(litemap::proofs::Texts::str_keys))]
-pub fn remove_borrowed<'k>(headers: &mut Borrowed<'k>, name: &'k str) -> Option<&'k str>
-    ensures gone { value_at by_bytes headers.new.pairs name.entry ≡ None }
-{
-    headers.remove(&name)
 }

@@ -1,6 +1,7 @@
 //! Callers of a map, as a user would write them. Each states its answer by the sorted list.
 #![tactic(auto)]
 
+pub mod borrowed;
 pub mod config;
 pub mod counting;
 pub mod headers;
@@ -9,6 +10,7 @@ pub mod message;
 pub mod moved;
 pub mod names;
 pub mod people;
+pub mod reserved;
 pub mod scores;
 pub mod texts;
 pub mod totals;

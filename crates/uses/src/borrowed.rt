@@ -1,0 +1,42 @@
+//! A header list whose texts are borrowed, from a message or from the program.
+//! It takes memory for its pairs alone. What look-ups find after a change follows from the lemmas that the attributes
+//! name.
+ghost use Rattle.std.specs.Prelude.{◌≡◌, None, Some, OnOk, OnErr};
+ghost use Rattle.litemap_store.specs.Pairs.{at, value_at};
+ghost use Rattle.litemap.specs.ByBytes.{by_bytes};
+
+use litemap::LiteMap;
+use std::alloc::AllocError;
+
+/// Headers whose texts are borrowed.
+pub type Borrowed<'k> = LiteMap<&'k str, &'k str, Vec<(&'k str, &'k str)>>;
+
+/// Sets a header whose texts are borrowed.
+#[tactic(auto, using(litemap::proofs::Texts::str_keys))]
+pub fn set_borrowed<'k>(
+    headers: &mut Borrowed<'k>,
+    name: &'k str,
+    value: &'k str,
+) -> Result<(), AllocError>
+    ensures set { OnOk result (value_at by_bytes headers.new.pairs name.entry ≡ Some value.entry) }
+    ensures refused { OnErr result (headers.new.pairs ≡ headers.old.pairs) }
+{
+    headers.insert(name, value)?;
+    Ok(())
+}
+
+/// A header whose texts are borrowed, by its place: a place that is found is one of the list's.
+pub fn pair_of<'k>(headers: &Borrowed<'k>, name: &'k str) -> Option<(&'k str, &'k str)>
+    ensures { result ≡ at by_bytes headers.now.pairs name.entry }
+{
+    let place = headers.find_index(&name).ok()?;
+    Some(headers.as_slice()[place])
+}
+
+/// Removes a header whose text is borrowed.
+#[tactic(auto, using(litemap::proofs::Texts::str_keys))]
+pub fn remove_borrowed<'k>(headers: &mut Borrowed<'k>, name: &'k str) -> Option<&'k str>
+    ensures gone { value_at by_bytes headers.new.pairs name.entry ≡ None }
+{
+    headers.remove(&name)
+}
