@@ -28,6 +28,13 @@ fn const_found<'a, K, V>(pairs: &'a [(K, V)], index: Result<usize, usize>) -> Op
 
 impl<'a, K: Ord, V> LiteMap<K, V, SliceStore<'a, K, V>> {
     /// The number of pairs.
+    ///
+    /// ```rust
+    /// const DAYS: &[(u32, &str)] = &[(1, "Monday"), (3, "Wednesday"), (5, "Friday")];
+    /// // ...
+    /// let days = LiteMap::from_sorted_store_unchecked(SliceStore::new(DAYS));
+    /// days.const_len() == 3 && !days.const_is_empty() && days.const_get_indexed_or_panic(2).0 == 5
+    /// ```
     pub fn const_len(&self) -> usize
         ensures { result ≡ length self.now.pairs }
     {
@@ -35,6 +42,13 @@ impl<'a, K: Ord, V> LiteMap<K, V, SliceStore<'a, K, V>> {
     }
 
     /// Whether there is no pair.
+    ///
+    /// ```rust
+    /// const DAYS: &[(u32, &str)] = &[(1, "Monday"), (3, "Wednesday"), (5, "Friday")];
+    /// // ...
+    /// let days = LiteMap::from_sorted_store_unchecked(SliceStore::new(DAYS));
+    /// days.const_len() == 3 && !days.const_is_empty() && days.const_get_indexed_or_panic(2).0 == 5
+    /// ```
     pub fn const_is_empty(&self) -> bool
         ensures { result ≡ (length self.now.pairs == 0) }
     {
@@ -44,6 +58,13 @@ impl<'a, K: Ord, V> LiteMap<K, V, SliceStore<'a, K, V>> {
     /// The pair at a place.
     ///
     /// There has to be a pair at the place: the Rust crate panics there, and its name says so.
+    ///
+    /// ```rust
+    /// const DAYS: &[(u32, &str)] = &[(1, "Monday"), (3, "Wednesday"), (5, "Friday")];
+    /// // ...
+    /// let days = LiteMap::from_sorted_store_unchecked(SliceStore::new(DAYS));
+    /// days.const_len() == 3 && !days.const_is_empty() && days.const_get_indexed_or_panic(2).0 == 5
+    /// ```
     pub fn const_get_indexed_or_panic(&self, index: usize) -> &'a (K, V)
         requires { index < length self.now.pairs }
         ensures { slice_get self.now.pairs index ≡ Some result.now }
@@ -68,6 +89,13 @@ impl<'a, 'k, V> LiteMap<&'k str, V, SliceStore<'a, &'k str, V>> {
     ///
     /// It compares at most once for each binary digit of the length. The key that is looked up may live shorter than those
     /// of the map.
+    ///
+    /// ```rust
+    /// const CAPITALS: &[(&str, u32)] = &[("Lima", 51), ("Oslo", 47), ("Rome", 39)];
+    /// // ...
+    /// let capitals = LiteMap::from_sorted_store_unchecked(SliceStore::new(CAPITALS));
+    /// capitals.const_get_with_index("Oslo") == Some((1, &47))
+    /// ```
     pub fn const_get_with_index(&self, key: &str) -> Option<(usize, &'a V)>
         ensures value { option_map
             (λ found. found.1.now) result ≡ value_at by_bytes self.now.pairs key.entry }
@@ -84,6 +112,13 @@ impl<'a, 'k, V> LiteMap<&'k [u8], V, SliceStore<'a, &'k [u8], V>> {
     ///
     /// It compares at most once for each binary digit of the length. The key that is looked up may live shorter than those
     /// of the map.
+    ///
+    /// ```rust
+    /// const MARKS: &[(&[u8], char)] = &[(b"lt", '<'), (b"ne", '!')];
+    /// // ...
+    /// let marks = LiteMap::from_sorted_store_unchecked(SliceStore::new(MARKS));
+    /// marks.const_get_with_index(b"ne".as_slice()) == Some((1, &'!'))
+    /// ```
     pub fn const_get_with_index(&self, key: &[u8]) -> Option<(usize, &'a V)>
         ensures value { option_map
             (λ found. found.1.now) result ≡ value_at by_bytes self.now.pairs key.entry }
@@ -121,6 +156,13 @@ impl<'a, V> LiteMap<u16, V, SliceStore<'a, u16, V>> {
 
 impl<'a, V> LiteMap<u32, V, SliceStore<'a, u32, V>> {
     /// The place and the value of the key, if it is there. It compares at most once for each binary digit of the length.
+    ///
+    /// ```rust
+    /// const DAYS: &[(u32, &str)] = &[(1, "Monday"), (3, "Wednesday"), (5, "Friday")];
+    /// // ...
+    /// let days = LiteMap::from_sorted_store_unchecked(SliceStore::new(DAYS));
+    /// days.const_get_with_index(3) == Some((1, &"Wednesday"))
+    /// ```
     pub fn const_get_with_index(&self, key: u32) -> Option<(usize, &'a V)>
         ensures value { option_map (λ found. found.1.now) result ≡ value_at nat_cmp self.now.pairs key }
         ensures place { IfSome result (λ found. found.0 ≡ place nat_cmp self.now.pairs key) }

@@ -29,6 +29,16 @@ use std::marker::{Model, PhantomData};
 ///
 /// A contract sees the list of its pairs and, where the store can grow, its room: how many further pairs it takes
 /// without refusal.
+///
+/// The examples of the calls look at this map, `three_days`:
+///
+/// ```rust
+/// let mut days = LiteMap::new_vec(alloc);
+/// days.insert(5, "Friday")?;
+/// days.insert(1, "Monday")?;
+/// days.insert(3, "Wednesday")?;
+/// Ok(days)
+/// ```
 #[derive(Drop)]
 pub struct LiteMap<K: Ord, V, S: Store<K, V>> {
     store: S,
@@ -48,6 +58,13 @@ impl<K: Ord, V, S: Store<K, V>> Model for LiteMap<K, V, S> {
 
 impl<K: Ord, V> LiteMap<K, V, Vec<(K, V)>> {
     /// The empty map over a vector. It takes no memory.
+    ///
+    /// ```rust
+    /// let mut days = LiteMap::new_vec(alloc);
+    /// days.insert(3, "Wednesday")?;
+    /// days.insert(1, "Monday")?;
+    /// Ok(days.as_slice() == [(1, "Monday"), (3, "Wednesday")].as_slice())
+    /// ```
     pub fn new_vec(alloc: Global) -> Self
         ensures pairs { result.pairs ≡ [] }
         ensures room { result.room ≡ 0 }
@@ -59,6 +76,11 @@ impl<K: Ord, V> LiteMap<K, V, Vec<(K, V)>> {
     }
 
     /// The pairs as a vector. Their keys rise strictly.
+    ///
+    /// ```rust
+    /// let pairs = three_days(alloc)?.into_tuple_vec();
+    /// Ok(pairs.as_slice() == [(1, "Monday"), (3, "Wednesday"), (5, "Friday")].as_slice())
+    /// ```
     pub fn into_tuple_vec(self) -> Vec<(K, V)>
         ensures pairs { result.items ≡ self.pairs }
         ensures rising { Rising K.cmp result.items }
@@ -72,6 +94,15 @@ impl<K: Ord, V, S: Store<K, V>> LiteMap<K, V, S> {
     /// The map over a store whose keys rise strictly, which `is_sorted_store` tests. It takes no memory.
     ///
     /// The Rust crate trusts its caller here, as the call's name says. Here the caller's proof shows it.
+    ///
+    /// ```rust
+    /// let pairs = [(1, "Monday"), (3, "Wednesday")].to_vec(alloc)?;
+    /// if !Days::is_sorted_store(&pairs) {
+    ///     return Ok(false);
+    /// }
+    /// let days: Days = LiteMap::from_sorted_store_unchecked(pairs);
+    /// Ok(days.get(&3) == Some(&"Wednesday"))
+    /// ```
     pub fn from_sorted_store_unchecked(store: S) -> Self
         requires { Rising K.cmp (S.pairs store) }
         ensures pairs { result.pairs ≡ S.pairs store }
@@ -86,6 +117,15 @@ impl<K: Ord, V, S: Store<K, V>> LiteMap<K, V, S> {
     /// Whether the keys of a store rise strictly.
     ///
     /// It compares each key with the one before it, until one doesn't rise. The Rust crate has no such call.
+    ///
+    /// ```rust
+    /// let pairs = [(1, "Monday"), (3, "Wednesday")].to_vec(alloc)?;
+    /// if !Days::is_sorted_store(&pairs) {
+    ///     return Ok(false);
+    /// }
+    /// let days: Days = LiteMap::from_sorted_store_unchecked(pairs);
+    /// Ok(days.get(&3) == Some(&"Wednesday"))
+    /// ```
     pub fn is_sorted_store(store: &S) -> bool
         ensures { IsTrue result ↔ Rising K.cmp (S.pairs store.now) }
     {
@@ -106,6 +146,11 @@ impl<K: Ord, V, S: Store<K, V>> LiteMap<K, V, S> {
 
 impl<K: Ord, V, S: StoreConstEmpty<K, V>> LiteMap<K, V, S> {
     /// The empty map. It takes no memory.
+    ///
+    /// ```rust
+    /// let days: Days = LiteMap::new(alloc);
+    /// Ok(days.is_empty())
+    /// ```
     pub fn new(alloc: Global) -> Self
         ensures { result.pairs ≡ [] }
     {
@@ -118,6 +163,12 @@ impl<K: Ord, V, S: StoreConstEmpty<K, V>> LiteMap<K, V, S> {
 
 impl<K: Ord, V, S: StoreMut<K, V>> LiteMap<K, V, S> {
     /// An empty map with this much room at least, or a refusal for want of memory. No room is never refused.
+    ///
+    /// ```rust
+    /// let mut days: Days = LiteMap::with_capacity(alloc, 7)?;
+    /// days.insert(1, "Monday")?;
+    /// Ok(days.len() == 1)
+    /// ```
     pub fn with_capacity(alloc: Global, capacity: usize) -> Result<Self, AllocError>
         ensures empty { IfOk result (λ m. m.pairs ≡ []) }
         ensures room { IfOk result (λ m. capacity ≤ m.room) }
@@ -133,6 +184,12 @@ impl<K: Ord, V, S: StoreMut<K, V>> LiteMap<K, V, S> {
     ///
     /// A clone of a key has to compare `Equal` to its original. Of texts that is `text_clones_equal` in the crate's
     /// `proofs/Texts.antt`. No keys are compared. The Rust crate has the trait `Clone` here.
+    ///
+    /// ```rust
+    /// let days = three_days(alloc)?;
+    /// let copy = days.try_clone(alloc)?;
+    /// Ok(copy == days)
+    /// ```
     pub fn try_clone(&self, alloc: Global) -> Result<Self, AllocError>
     where
         K: Clone,
@@ -148,6 +205,12 @@ impl<K: Ord, V, S: StoreMut<K, V>> LiteMap<K, V, S> {
 }
 
 /// Printed as a map. No text is promised.
+///
+/// ```rust
+/// // days: 1 Monday, 3 Wednesday, 5 Friday
+/// let text = format!(in alloc; "{days:?}")?;
+/// Ok(text.as_str() == r#"{1: "Monday", 3: "Wednesday", 5: "Friday"}"#)
+/// ```
 impl<K: Ord + Debug, V: Debug, S: Store<K, V>> Debug for LiteMap<K, V, S> {
     fn fmt<W: Write>(&self, f: &mut Formatter<W>) -> fmt::Result {
         let mut out = f.debug_map();

@@ -22,6 +22,10 @@ const MOST_HINTED: usize = 65_536;
 /// by these. So a source whose keys rise costs a comparison for each pair, and no sort.
 ///
 /// The Rust crate reads by serde's `Deserialize` here.
+///
+/// ```rust
+///     read_pairs(alloc, &mut Fields { rest: fields })
+/// ```
 pub fn read_pairs<K: Ord + Drop, V: Drop, S: StoreBulkMut<K, V>, P: PairSource<K, V>>(
     alloc: Global,
     source: &mut P,

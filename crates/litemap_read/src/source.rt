@@ -13,6 +13,20 @@ use std::alloc::AllocError;
 /// faults it may answer, and whether it may come to its end, never changes.
 ///
 /// The Rust crate reads by serde's `MapAccess` here.
+///
+/// ```rust
+/// fn next_pair(&mut self) -> Result<Option<(&'a str, &'a str)>, Nameless> {
+///     let fields = self.rest;
+///     let Some(field) = fields.first() else {
+///         return Ok(None);
+///     };
+///     if field.name.is_empty() {
+///         return Err(Nameless);
+///     }
+///     self.rest = &fields[1..];
+///     Ok(Some((field.name, field.value)))
+/// }
+/// ```
 pub trait PairSource<K, V> {
     /// What can go wrong. A source where nothing can takes `NoFault`.
     type Fault;

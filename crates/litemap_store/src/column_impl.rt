@@ -21,6 +21,12 @@ use std::mem;
 /// pairs. An insertion or a removal moves the later keys and the later values.
 ///
 /// The Rust crate has no such store.
+///
+/// ```rust
+/// let mut days: LiteMap<u32, &str, ColumnStore<u32, &str>> = LiteMap::new(alloc);
+/// days.insert(3, "Wednesday")?;
+/// Ok(days.get(&3) == Some(&"Wednesday"))
+/// ```
 #[derive(Drop)]
 pub struct ColumnStore<K, V> {
     keys: Vec<K>,

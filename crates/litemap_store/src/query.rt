@@ -20,6 +20,22 @@ use std::sync::ArcStr;
 /// lists, or a type of a user's own.
 ///
 /// The Rust crate has `K: Borrow<Q>` with `Q: Ord` here.
+///
+/// ```rust
+/// impl Query<Person> for Number {
+///     ghost Sought = { ℕ };
+///
+///     ghost sought = { λ query. query.0 };
+///
+///     ghost order = { λ person number. nat_cmp person.number number };
+///
+///     ghost one_side = { λ number a b. key_one_side nat_cmp_total number a.number b.number };
+///
+///     fn compare_key(&self, key: &Person) -> Ordering {
+///         key.number.cmp(&self.0)
+///     }
+/// }
+/// ```
 pub trait Query<K: Ord>: Copy {
     /// What it looks for: a key, or what keys are compared with.
     ghost Sought: { Type 0 };

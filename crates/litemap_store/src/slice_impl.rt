@@ -10,6 +10,13 @@ use std::ops::Range;
 /// The pairs of a slice that someone else keeps. It cannot grow.
 ///
 /// The Rust crate has the slice itself as a store.
+///
+/// ```rust
+/// const CAPITALS: &[(&str, u32)] = &[("Lima", 51), ("Oslo", 47), ("Rome", 39)];
+/// // ...
+/// let capitals = LiteMap::from_sorted_store_unchecked(SliceStore::new(CAPITALS));
+/// capitals.const_get_with_index("Oslo") == Some((1, &47))
+/// ```
 pub struct SliceStore<'a, K, V> {
     /// The pairs.
     pub pairs: &'a [(K, V)],

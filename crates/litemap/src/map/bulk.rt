@@ -15,6 +15,11 @@ impl<K: Ord + Drop, V: Drop, S: StoreFromIterable<K, V>> LiteMap<K, V, S> {
     ///
     /// It is the empty map extended. Where the pairs rise it compares each key with the one before it, and makes no
     /// sort; else it sorts. The iterator's size hint isn't used. The Rust crate has the trait `FromIterator` here.
+    ///
+    /// ```rust
+    /// let days: Days = LiteMap::from_iter(alloc, [(2, "Tue"), (1, "Mon"), (2, "Tuesday")])?;
+    /// Ok(days.as_slice() == [(1, "Mon"), (2, "Tuesday")].as_slice())
+    /// ```
     pub fn from_iter<I: IntoIterator<Item = (K, V)>>(
         alloc: Global,
         iter: I,
@@ -28,6 +33,13 @@ impl<K: Ord + Drop, V: Drop, S: StoreFromIterable<K, V>> LiteMap<K, V, S> {
 
     /// `from_iter`, with its comparisons counted: at most one for each pair where the pairs rise. The Rust crate has no
     /// such call.
+    ///
+    /// ```rust
+    /// let mut count = Count::new();
+    /// let mut days = Days::from_iter_counted(alloc, [(1, "Mon"), (2, "Tue")], &mut count)?;
+    /// days.extend_counted(alloc, [(3, "Wed"), (4, "Thu")], &mut count)?;
+    /// Ok(days.len() == 4)
+    /// ```
     pub fn from_iter_counted<I: IntoIterator<Item = (K, V)>>(
         alloc: Global,
         iter: I,
@@ -56,6 +68,12 @@ impl<K: Ord + Drop, V: Drop, S: StoreBulkMut<K, V>> LiteMap<K, V, S> {
     /// they rise, wherever they belong, they are merged, by at most one comparison for each old and two for each new
     /// pair, and each pair moves a constant number of times. Else they are sorted before that, by comparisons that
     /// aren't counted. The Rust crate has the trait `Extend` here.
+    ///
+    /// ```rust
+    /// let mut days = three_days(alloc)?;
+    /// days.extend(alloc, [(5, "Fri"), (2, "Tue"), (5, "Freitag")])?;
+    /// Ok(days.get(&5) == Some(&"Freitag") && days.len() == 4)
+    /// ```
     pub fn extend<I: IntoIterator<Item = (K, V)>>(
         &mut self,
         alloc: Global,
@@ -70,6 +88,13 @@ impl<K: Ord + Drop, V: Drop, S: StoreBulkMut<K, V>> LiteMap<K, V, S> {
     }
 
     /// `extend`, with its comparisons counted, but for those of the sort. The Rust crate has no such call.
+    ///
+    /// ```rust
+    /// let mut count = Count::new();
+    /// let mut days = Days::from_iter_counted(alloc, [(1, "Mon"), (2, "Tue")], &mut count)?;
+    /// days.extend_counted(alloc, [(3, "Wed"), (4, "Thu")], &mut count)?;
+    /// Ok(days.len() == 4)
+    /// ```
     pub fn extend_counted<I: IntoIterator<Item = (K, V)>>(
         &mut self,
         alloc: Global,

@@ -26,6 +26,13 @@ impl<K: Ord, V, S: StoreMut<K, V>> LiteMap<K, V, S> {
     /// It is refused only where the key is absent and there is no room: then the pair comes back and nothing is changed.
     /// It compares at most once for each binary digit of the length, and moves the pairs with greater keys up by one
     /// where the key is absent.
+    ///
+    /// ```rust
+    /// let mut days = three_days(alloc)?;
+    /// let tuesday = days.insert(2, "Tuesday")?;
+    /// let friday = days.insert(5, "Fri")?;
+    /// Ok(tuesday.is_none() && friday == Some("Friday"))
+    /// ```
     pub fn insert(&mut self, key: K, value: V) -> Result<Option<V>, NoRoom<(K, V)>>
     where
         K: Drop,
@@ -47,6 +54,14 @@ impl<K: Ord, V, S: StoreMut<K, V>> LiteMap<K, V, S> {
     }
 
     /// `insert`, with its comparisons counted. The Rust crate has no such call.
+    ///
+    /// ```rust
+    /// let mut days = three_days(alloc)?;
+    /// let mut count = Count::new();
+    /// let friday = days.insert_counted(5, "Fri", &mut count)?;
+    /// let monday = days.remove_counted(&1, &mut count);
+    /// Ok(friday == Some("Friday") && monday == Some("Monday"))
+    /// ```
     pub fn insert_counted(
         &mut self,
         key: K,
@@ -84,6 +99,13 @@ impl<K: Ord, V, S: StoreMut<K, V>> LiteMap<K, V, S> {
     /// It is refused only where the key is absent and there is no room: then the pair comes back and the list stays. It
     /// compares at most once for each binary digit of the length, and moves the pairs with greater keys up by one where
     /// the key is absent.
+    ///
+    /// ```rust
+    /// let mut days = three_days(alloc)?;
+    /// let tuesday = days.try_insert(2, "Tuesday")?;
+    /// let friday = days.try_insert(5, "Fri")?;
+    /// Ok(tuesday.is_none() && friday == Some((5, "Fri")))
+    /// ```
     pub fn try_insert(&mut self, key: K, value: V) -> Result<Option<(K, V)>, NoRoom<(K, V)>>
         // Placed exactly where the key is absent. Else the pair comes back.
         ensures added { IfOk result (λ back. IsNone back ↔ IsNone (at K.cmp self.old.pairs key)) }
@@ -113,6 +135,13 @@ impl<K: Ord, V, S: StoreMut<K, V>> LiteMap<K, V, S> {
     ///
     /// It is refused only where the key is above all others and there is no room: then the pair comes back and the list
     /// stays. It compares at most once, with the last key, and moves no pair.
+    ///
+    /// ```rust
+    /// let mut days = three_days(alloc)?;
+    /// let saturday = days.try_append(6, "Saturday")?;
+    /// let tuesday = days.try_append(2, "Tuesday")?;
+    /// Ok(saturday.is_none() && tuesday == Some((2, "Tuesday")))
+    /// ```
     pub fn try_append(&mut self, key: K, value: V) -> Result<Option<(K, V)>, NoRoom<(K, V)>>
         // Put behind exactly where every key is below. Else the pair comes back.
         ensures added { IfOk result (λ back. IsNone back ↔ AllBelow K.cmp self.old.pairs key) }
@@ -141,6 +170,14 @@ impl<K: Ord, V, S: StoreMut<K, V>> LiteMap<K, V, S> {
     /// from a contract here: what a lender ends as is told by an answer that holds shared references and plain data alone,
     /// and here a key, a value or a fault may stand beside the reference. Who goes on to use the map calls
     /// `try_find_or_insert` and looks at the place: there is no second search.
+    ///
+    /// ```rust
+    /// let mut days = three_days(alloc)?;
+    /// match days.try_get_or_insert(7, |_number| Err("closed")) {
+    ///     Err(TryFault::Closure(fault)) => Ok(fault == "closed"),
+    ///     _ => Ok(false),
+    /// }
+    /// ```
     pub fn try_get_or_insert<E, F: FnOnce(&K) -> Result<V, E>>(
         &mut self,
         key: K,
@@ -176,6 +213,14 @@ impl<K: Ord, V, S: StoreMut<K, V>> LiteMap<K, V, S> {
     /// room: then the key and what `f` answered come back and the list stays. It compares at most once for each binary
     /// digit of the length, and moves the pairs with greater keys up by one where a pair is placed. The Rust crate has
     /// `try_get_or_insert` alone.
+    ///
+    /// ```rust
+    /// let mut days = three_days(alloc)?;
+    /// match days.try_find_or_insert(7, |_number| Ok::<_, AllocError>("Sunday")) {
+    ///     Ok(place) => Ok(days.get_indexed(place) == Some((&7, &"Sunday"))),
+    ///     _ => Ok(false),
+    /// }
+    /// ```
     pub fn try_find_or_insert<E, F: FnOnce(&K) -> Result<V, E>>(
         &mut self,
         key: K,
@@ -229,6 +274,12 @@ impl<K: Ord, V, S: StoreMut<K, V>> LiteMap<K, V, S> {
     /// It is asked as `get` is. It takes no memory. It compares at most once for each binary digit of the length, and
     /// moves the pairs with greater keys down by one. Where there is no such pair nothing is changed, and the room is
     /// kept; else nothing is promised of the room.
+    ///
+    /// ```rust
+    /// let mut days = three_days(alloc)?;
+    /// let wednesday = days.remove(&3);
+    /// Ok(wednesday == Some("Wednesday") && days.remove(&3).is_none())
+    /// ```
     pub fn remove<Q: Query<K>>(&mut self, key: Q) -> Option<V>
     where
         K: Drop,
@@ -240,6 +291,14 @@ impl<K: Ord, V, S: StoreMut<K, V>> LiteMap<K, V, S> {
     }
 
     /// `remove`, with its comparisons counted. The Rust crate has no such call.
+    ///
+    /// ```rust
+    /// let mut days = three_days(alloc)?;
+    /// let mut count = Count::new();
+    /// let friday = days.insert_counted(5, "Fri", &mut count)?;
+    /// let monday = days.remove_counted(&1, &mut count);
+    /// Ok(friday == Some("Friday") && monday == Some("Monday"))
+    /// ```
     pub fn remove_counted<Q: Query<K>>(&mut self, key: Q, count: &mut Count) -> Option<V>
     where
         K: Drop,
@@ -260,6 +319,12 @@ impl<K: Ord, V, S: StoreMut<K, V>> LiteMap<K, V, S> {
     /// `Greater`. Where several keys answer `Equal` any of them may be the one found. It takes no memory, and asks `f`
     /// at most once for each binary digit of the length. Where `f` answers `Equal` nowhere nothing is changed, and the
     /// room is kept; else nothing is promised of the room. The Rust crate has no such call.
+    ///
+    /// ```rust
+    /// let mut days = three_days(alloc)?;
+    /// let _rises = days.len();
+    /// Ok(days.remove_by(|number| number.cmp(&3)) == Some("Wednesday"))
+    /// ```
     pub fn remove_by<F: FnMut(&K) -> Ordering>(&mut self, f: F) -> Option<V>
     where
         K: Drop,
@@ -274,6 +339,12 @@ impl<K: Ord, V, S: StoreMut<K, V>> LiteMap<K, V, S> {
     }
 
     /// Gives up all pairs. Nothing is promised of the room.
+    ///
+    /// ```rust
+    /// let mut days = three_days(alloc)?;
+    /// days.clear();
+    /// Ok(days.is_empty())
+    /// ```
     pub fn clear(&mut self)
     where
         K: Drop,
@@ -286,6 +357,12 @@ impl<K: Ord, V, S: StoreMut<K, V>> LiteMap<K, V, S> {
     /// Takes this much room at least, or is refused for want of memory. The room is not lowered.
     ///
     /// It is refused only where there was less room.
+    ///
+    /// ```rust
+    /// let mut days = three_days(alloc)?;
+    /// days.reserve(1)?;
+    /// Ok(days.insert(7, "Sunday") == Ok(None))
+    /// ```
     pub fn reserve(&mut self, additional: usize) -> Result<(), AllocError>
         ensures pairs { self.new.pairs ≡ self.old.pairs }
         ensures room { OnOk result (additional ≤ self.new.room) }
@@ -358,6 +435,12 @@ impl<K: Ord + Drop, V: Drop, S: StoreBulkMut<K, V>> LiteMap<K, V, S> {
     ///
     /// `f` is asked once of each pair, in order, and has to take each as its earlier answers left it. It takes no memory,
     /// and compares no keys. Nothing is promised of the room.
+    ///
+    /// ```rust
+    /// let mut days = three_days(alloc)?;
+    /// days.retain(|number, _name| *number < 4);
+    /// Ok(days.as_slice() == [(1, "Monday"), (3, "Wednesday")].as_slice())
+    /// ```
     pub fn retain<F: FnMut(&K, &V) -> bool>(&mut self, f: F)
         requires { CallableOnEach F.FnMut f self.old.pairs }
         ensures { Kept F.FnMut f self.old.pairs self.new.pairs }

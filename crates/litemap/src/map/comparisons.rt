@@ -14,6 +14,11 @@ use std::cmp::Ordering;
 use std::hash::{Hash, Hasher};
 
 /// Maps are equal where they have as many pairs, and equal keys and equal values at each place.
+///
+/// ```rust
+/// let copy = days.try_clone(alloc)?;
+/// Ok(copy == *days)
+/// ```
 impl<K: Ord, V: PartialEq, S: Store<K, V>> PartialEq for LiteMap<K, V, S> {
     ghost eq = { λ m n. equal_pairs K.eq V.eq m.pairs n.pairs };
 
@@ -31,6 +36,15 @@ impl<K: Ord, V: Eq, S: Store<K, V>> Eq for LiteMap<K, V, S> {
 }
 
 /// The first place where maps differ decides, its keys before its values; a map is less than one that it begins.
+///
+/// ```rust
+/// // days: 1 Monday, 3 Wednesday, 5 Friday
+/// let all = days.as_sliced();
+/// match days.get_indexed_range(0..2) {
+///     Some(begins) => begins < all && begins.cmp(&all).is_lt(),
+///     None => false,
+/// }
+/// ```
 impl<K: Ord, V: PartialOrd, S: Store<K, V>> PartialOrd for LiteMap<K, V, S> {
     ghost partial_cmp = { λ m n. pairs_partial_cmp K.partial_cmp V.partial_cmp m.pairs n.pairs };
 
@@ -42,6 +56,16 @@ impl<K: Ord, V: PartialOrd, S: Store<K, V>> PartialOrd for LiteMap<K, V, S> {
     }
 }
 
+/// The same order, where all values have one.
+///
+/// ```rust
+/// // days: 1 Monday, 3 Wednesday, 5 Friday
+/// let all = days.as_sliced();
+/// match days.get_indexed_range(0..2) {
+///     Some(begins) => begins < all && begins.cmp(&all).is_lt(),
+///     None => false,
+/// }
+/// ```
 impl<K: Ord, V: Ord, S: Store<K, V>> Ord for LiteMap<K, V, S> {
     ghost cmp = { λ m n. pairs_cmp K.cmp V.cmp m.pairs n.pairs };
 
@@ -64,6 +88,14 @@ impl<K: Ord, V: Ord, S: Store<K, V>> Ord for LiteMap<K, V, S> {
 }
 
 /// The length, then each key and its value in turn: so equal maps hash alike.
+///
+/// ```rust
+/// let mut hasher = FoldHasher::default();
+/// days.hash(&mut hasher);
+/// let mut again = FoldHasher::default();
+/// days.hash(&mut again);
+/// hasher.finish() == again.finish()
+/// ```
 impl<K: Ord + Hash, V: Hash, S: Store<K, V>> Hash for LiteMap<K, V, S> {
     ghost hash_input = { λ m. pairs_hashed K.hash_input V.hash_input m.pairs };
 

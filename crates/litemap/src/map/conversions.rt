@@ -17,6 +17,12 @@ impl<K: Ord, V, S: Store<K, V>> LiteMap<K, V, S> {
     ///
     /// A clone of a key has to compare `Equal` to its original. No keys are compared.
     /// The Rust crate boxes any type that keys and values borrow as.
+    ///
+    /// ```rust
+    /// // hours: 1 8, 3 10
+    /// let boxed: Over<Box<u32>, Box<u8>> = hours.to_boxed_keys_values(alloc)?;
+    /// Ok(boxed.values().len() == 2)
+    /// ```
     pub fn to_boxed_keys_values<B: StoreMut<Box<K>, Box<V>> + Drop>(
         &self,
         alloc: Global,
@@ -35,6 +41,12 @@ impl<K: Ord, V, S: Store<K, V>> LiteMap<K, V, S> {
     ///
     /// A clone of a key has to compare `Equal` to its original. No keys are compared.
     /// The Rust crate boxes any type that keys borrow as.
+    ///
+    /// ```rust
+    /// // hours: 1 8, 3 10
+    /// let boxed: Over<Box<u32>, u8> = hours.to_boxed_keys(alloc)?;
+    /// Ok(boxed.values().next() == Some(&8))
+    /// ```
     pub fn to_boxed_keys<B: StoreMut<Box<K>, V> + Drop>(
         &self,
         alloc: Global,
@@ -53,6 +65,12 @@ impl<K: Ord, V, S: Store<K, V>> LiteMap<K, V, S> {
     ///
     /// A clone of a key has to compare `Equal` to its original. No keys are compared.
     /// The Rust crate boxes any type that values borrow as.
+    ///
+    /// ```rust
+    /// // hours: 1 8, 3 10
+    /// let boxed: Over<u32, Box<u8>> = hours.to_boxed_values(alloc)?;
+    /// Ok(boxed.contains_key(&3))
+    /// ```
     pub fn to_boxed_values<B: StoreMut<K, Box<V>> + Drop>(
         &self,
         alloc: Global,
@@ -71,6 +89,12 @@ impl<K: Ord, V, S: Store<K, V>> LiteMap<K, V, S> {
     ///
     /// The answers have to rise as the keys do. `f` is called once for each key. No keys are compared. The Rust crate has
     /// no such call: its conversions go by what keys borrow as.
+    ///
+    /// ```rust
+    /// // hours: 1 8, 3 10
+    /// let later: Over<u64, u8> = hours.to_keys_by(alloc, |number| *number as u64 + 7)?;
+    /// Ok(later.get(&8) == Some(&8))
+    /// ```
     pub fn to_keys_by<L: Ord + Drop, B: StoreMut<L, V> + Drop, F: Fn(&K) -> L + Drop>(
         &self,
         alloc: Global,
@@ -91,6 +115,12 @@ impl<'a, K: Ord + 'a, V: 'a, S: Store<K, V>> LiteMap<K, V, S> {
     ///
     /// No keys are compared.
     /// The Rust crate lends any type that keys and values borrow as.
+    ///
+    /// ```rust
+    /// // hours: 1 8, 3 10
+    /// let lent: Over<&u32, &u8> = hours.to_borrowed_keys_values(alloc)?;
+    /// Ok(lent.get(&&3) == Some(&&10))
+    /// ```
     pub fn to_borrowed_keys_values<B: StoreMut<&'a K, &'a V> + Drop>(
         &'a self,
         alloc: Global,
@@ -119,6 +149,12 @@ impl<'a, K: Ord + 'a, V: 'a, S: Store<K, V>> LiteMap<K, V, S> {
     ///
     /// No keys are compared.
     /// The Rust crate lends any type that keys borrow as.
+    ///
+    /// ```rust
+    /// // hours: 1 8, 3 10
+    /// let lent: Over<&u32, u8> = hours.to_borrowed_keys(alloc)?;
+    /// Ok(lent.get(&&3) == Some(&10))
+    /// ```
     pub fn to_borrowed_keys<B: StoreMut<&'a K, V> + Drop>(
         &'a self,
         alloc: Global,
@@ -149,6 +185,12 @@ impl<'a, K: Ord + 'a, V: 'a, S: Store<K, V>> LiteMap<K, V, S> {
     ///
     /// A clone of a key has to compare `Equal` to its original. No keys are compared.
     /// The Rust crate lends any type that values borrow as.
+    ///
+    /// ```rust
+    /// // hours: 1 8, 3 10
+    /// let lent: Over<u32, &u8> = hours.to_borrowed_values(alloc)?;
+    /// Ok(lent.get(&3) == Some(&&10))
+    /// ```
     pub fn to_borrowed_values<B: StoreMut<K, &'a V> + Drop>(
         &'a self,
         alloc: Global,

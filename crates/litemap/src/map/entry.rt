@@ -47,6 +47,16 @@ impl<K: Ord, V, S: StoreMut<K, V>> LiteMap<K, V, S> {
     ///
     /// It takes no memory, and changes nothing. It compares at most once for each binary digit of the length; what is
     /// then done through the entry compares no keys.
+    ///
+    /// ```rust
+    /// // days: 1 Monday, 3 Wednesday, 5 Friday
+    /// let Entry::Occupied(mut entry) = days.entry(1) else {
+    ///     return false;
+    /// };
+    /// let (number, old) = (*entry.key(), entry.insert("Mon"));
+    /// let now = *entry.get();
+    /// (number, old, now, entry.remove()) == (1, "Monday", "Mon", "Mon")
+    /// ```
     pub fn entry(&mut self, key: K) -> Entry<'_, K, V, S>
     where
         K: Drop,
@@ -87,6 +97,12 @@ impl<'a, K: Ord, V, S: StoreMut<K, V>> Entry<'a, K, V, S> {
     ///
     /// It is refused only where the key is not there and there is no room: then key and value come back and the list
     /// stays.
+    ///
+    /// ```rust
+    /// // days: 1 Monday, 3 Wednesday, 5 Friday
+    /// let name = days.entry(1).or_insert("Mon")?;
+    /// Ok(*name == "Monday")
+    /// ```
     pub fn or_insert(self, default: V) -> Result<&'a mut V, NoRoom<(K, V)>>
     where
         V: Drop,
@@ -109,6 +125,12 @@ impl<'a, K: Ord, V, S: StoreMut<K, V>> Entry<'a, K, V, S> {
     ///
     /// The default is made where the key is there, too. It is refused only where the key is not there and there is no
     /// room: then key and value come back and the list stays.
+    ///
+    /// ```rust
+    /// // days: 1 Monday, 3 Wednesday, 5 Friday
+    /// let name = days.entry(7).or_default()?;
+    /// Ok(*name == "")
+    /// ```
     pub fn or_default(self) -> Result<&'a mut V, NoRoom<(K, V)>>
     where
         V: Default + Drop,
@@ -129,6 +151,12 @@ impl<'a, K: Ord, V, S: StoreMut<K, V>> Entry<'a, K, V, S> {
     ///
     /// It is refused only where the key is not there and there is no room: then key and value come back and the list
     /// stays.
+    ///
+    /// ```rust
+    /// // days: 1 Monday, 3 Wednesday, 5 Friday
+    /// let name = days.entry(6).or_insert_with(|| "Saturday")?;
+    /// Ok(*name == "Saturday")
+    /// ```
     pub fn or_insert_with<F: FnOnce() -> V>(self, default: F) -> Result<&'a mut V, NoRoom<(K, V)>>
         requires { entry_value self ≡ None → F.pre default }
         ensures* writes_back { sem 𝓛 (EntryLends K.row V.row S.row self.entry result) }
@@ -148,6 +176,12 @@ impl<'a, K: Ord, V, S: StoreMut<K, V>> Entry<'a, K, V, S> {
     }
 
     /// Changes the value by `f`. Where the key is not there, `f` is not called.
+    ///
+    /// ```rust
+    /// // days: 1 Monday, 3 Wednesday, 5 Friday
+    /// let entry = days.entry(5).and_modify(|name| *name = "Fri");
+    /// Ok(*entry.or_insert("")? == "Fri")
+    /// ```
     pub fn and_modify<F: FnOnce(&mut V)>(self, f: F) -> Entry<'a, K, V, S>
         requires { (v : MutBor V) → entry_value self ≡ Some v.now → F.pre f v }
         ensures same_map { (entry_map result).ghost_name ≡ (entry_map self.entry).ghost_name }

@@ -11,6 +11,12 @@ pub use values::ValuesIterWrap;
 
 impl<'a, K: Ord + 'a, V: 'a, S: StoreIterable<'a, K, V>> LiteMap<K, V, S> {
     /// All pairs once, in the order of their keys, from both ends, then `None` for good.
+    ///
+    /// ```rust
+    /// // days: 1 Monday, 3 Wednesday, 5 Friday
+    /// let mut pairs = days.iter();
+    /// pairs.next() == Some((&1, &"Monday")) && pairs.next_back() == Some((&5, &"Friday"))
+    /// ```
     pub fn iter(&'a self) -> S::KeyValueIter
         ensures { S.KeyValueIter.rest result ≡ self.now.pairs }
     {
@@ -18,6 +24,11 @@ impl<'a, K: Ord + 'a, V: 'a, S: StoreIterable<'a, K, V>> LiteMap<K, V, S> {
     }
 
     /// All keys once, in their order, from both ends, then `None` for good.
+    ///
+    /// ```rust
+    /// // days: 1 Monday, 3 Wednesday, 5 Friday
+    /// days.iter_keys().next() == Some(&1) && days.iter_values().next() == Some(&"Monday")
+    /// ```
     #[deprecated = "use keys() instead"]
     pub fn iter_keys(&'a self) -> KeysIterWrap<'a, K, V, S::KeyValueIter>
         ensures { S.KeyValueIter.rest result ≡ self.now.pairs }
@@ -26,6 +37,11 @@ impl<'a, K: Ord + 'a, V: 'a, S: StoreIterable<'a, K, V>> LiteMap<K, V, S> {
     }
 
     /// All values once, in the order of their keys, from both ends, then `None` for good.
+    ///
+    /// ```rust
+    /// // days: 1 Monday, 3 Wednesday, 5 Friday
+    /// days.iter_keys().next() == Some(&1) && days.iter_values().next() == Some(&"Monday")
+    /// ```
     #[deprecated = "use values() instead"]
     pub fn iter_values(&'a self) -> ValuesIterWrap<'a, K, V, S::KeyValueIter>
         ensures { S.KeyValueIter.rest result ≡ self.now.pairs }
@@ -34,6 +50,12 @@ impl<'a, K: Ord + 'a, V: 'a, S: StoreIterable<'a, K, V>> LiteMap<K, V, S> {
     }
 
     /// All keys once, in their order, from both ends, then `None` for good.
+    ///
+    /// ```rust
+    /// // days: 1 Monday, 3 Wednesday, 5 Friday
+    /// let mut numbers = days.keys();
+    /// numbers.next() == Some(&1) && numbers.next_back() == Some(&5) && numbers.len() == 1
+    /// ```
     pub fn keys(&'a self) -> KeysIterWrap<'a, K, V, S::KeyValueIter>
         ensures { S.KeyValueIter.rest result ≡ self.now.pairs }
     {
@@ -41,6 +63,12 @@ impl<'a, K: Ord + 'a, V: 'a, S: StoreIterable<'a, K, V>> LiteMap<K, V, S> {
     }
 
     /// All values once, in the order of their keys, from both ends, then `None` for good.
+    ///
+    /// ```rust
+    /// // days: 1 Monday, 3 Wednesday, 5 Friday
+    /// let mut names = days.values();
+    /// names.next() == Some(&"Monday") && names.next_back() == Some(&"Friday") && names.len() == 1
+    /// ```
     pub fn values(&'a self) -> ValuesIterWrap<'a, K, V, S::KeyValueIter>
         ensures { S.KeyValueIter.rest result ≡ self.now.pairs }
     {
@@ -48,6 +76,16 @@ impl<'a, K: Ord + 'a, V: 'a, S: StoreIterable<'a, K, V>> LiteMap<K, V, S> {
     }
 }
 
+/// All pairs once, in the order of their keys, by reference.
+///
+/// ```rust
+/// // days: 1 Monday, 3 Wednesday, 5 Friday
+/// let mut sum = 0u32;
+/// for (number, _name) in days {
+///     sum = sum.wrapping_add(*number);
+/// }
+/// sum == 9
+/// ```
 impl<'a, K: Ord + 'a, V: 'a, S: StoreIterable<'a, K, V>> IntoIterator for &'a LiteMap<K, V, S> {
     type Item = (&'a K, &'a V);
 
@@ -60,6 +98,12 @@ impl<'a, K: Ord + 'a, V: 'a, S: StoreIterable<'a, K, V>> IntoIterator for &'a Li
     }
 }
 
+/// All pairs once, in the order of their keys, handed over.
+///
+/// ```rust
+/// // days: 3 W, 4 Thursday, 5 Fri, 6 Saturday, and 7 with no name
+/// days.into_iter().next() == Some((3, "W"))
+/// ```
 impl<K: Ord + Drop, V: Drop, S: StoreIntoIterator<K, V>> IntoIterator for LiteMap<K, V, S> {
     type Item = (K, V);
 

@@ -16,6 +16,11 @@ use std::cmp::Ordering;
 
 impl<K: Ord, V, S: Store<K, V>> LiteMap<K, V, S> {
     /// The number of pairs. A caller who needs it learns here that the keys rise strictly, as those of every map do.
+    ///
+    /// ```rust
+    /// // days: 1 Monday, 3 Wednesday, 5 Friday
+    /// days.len() == 3 && !days.is_empty()
+    /// ```
     pub fn len(&self) -> usize
         ensures len { result ≡ length self.now.pairs }
         ensures rising { Rising K.cmp self.now.pairs }
@@ -24,6 +29,11 @@ impl<K: Ord, V, S: Store<K, V>> LiteMap<K, V, S> {
     }
 
     /// Whether there is no pair.
+    ///
+    /// ```rust
+    /// // days: 1 Monday, 3 Wednesday, 5 Friday
+    /// days.len() == 3 && !days.is_empty()
+    /// ```
     pub fn is_empty(&self) -> bool
         ensures { result ≡ (length self.now.pairs == 0) }
     {
@@ -31,6 +41,11 @@ impl<K: Ord, V, S: Store<K, V>> LiteMap<K, V, S> {
     }
 
     /// The pair at a place, `None` from the length on.
+    ///
+    /// ```rust
+    /// // days: 1 Monday, 3 Wednesday, 5 Friday
+    /// days.get_indexed(1) == Some((&3, &"Wednesday")) && days.get_indexed(3).is_none()
+    /// ```
     pub fn get_indexed(&self, index: usize) -> Option<(&K, &V)>
         ensures { option_map deref_pair result ≡ slice_get self.now.pairs index }
     {
@@ -38,6 +53,11 @@ impl<K: Ord, V, S: Store<K, V>> LiteMap<K, V, S> {
     }
 
     /// The pair with the smallest key, `None` where there is no pair.
+    ///
+    /// ```rust
+    /// // days: 1 Monday, 3 Wednesday, 5 Friday
+    /// days.first() == Some((&1, &"Monday")) && days.last() == Some((&5, &"Friday"))
+    /// ```
     pub fn first(&self) -> Option<(&K, &V)>
         ensures { option_map deref_pair result ≡ slice_get self.now.pairs 0 }
     {
@@ -45,6 +65,11 @@ impl<K: Ord, V, S: Store<K, V>> LiteMap<K, V, S> {
     }
 
     /// The pair with the greatest key, `None` where there is no pair.
+    ///
+    /// ```rust
+    /// // days: 1 Monday, 3 Wednesday, 5 Friday
+    /// days.first() == Some((&1, &"Monday")) && days.last() == Some((&5, &"Friday"))
+    /// ```
     pub fn last(&self) -> Option<(&K, &V)>
         ensures { option_map deref_pair result ≡ slice_get self.now.pairs (length self.now.pairs - 1) }
     {
@@ -55,6 +80,11 @@ impl<K: Ord, V, S: Store<K, V>> LiteMap<K, V, S> {
     ///
     /// What is asked for is a `Query`: a key behind a `&`, a text where keys are texts, a slice where they are lists,
     /// or a type of the caller's own. It compares at most once for each binary digit of the length.
+    ///
+    /// ```rust
+    /// // days: 1 Monday, 3 Wednesday, 5 Friday
+    /// days.get(&3) == Some(&"Wednesday") && days.get(&4).is_none()
+    /// ```
     pub fn get<Q: Query<K>>(&self, key: Q) -> Option<&V>
         ensures { option_copied result ≡ value_at Q.order self.now.pairs (Q.sought key) }
     {
@@ -62,6 +92,14 @@ impl<K: Ord, V, S: Store<K, V>> LiteMap<K, V, S> {
     }
 
     /// `get`, with its comparisons counted. The Rust crate has no such call.
+    ///
+    /// ```rust
+    /// // days: 1 Monday, 3 Wednesday, 5 Friday
+    /// let mut count = Count::new();
+    /// let wednesday = days.get_counted(&3, &mut count);
+    /// let place = days.find_index_counted(&3, &mut count);
+    /// wednesday == Some(&"Wednesday") && place == Ok(1)
+    /// ```
     pub fn get_counted<Q: Query<K>>(&self, key: Q, count: &mut Count) -> Option<&V>
         ensures value { option_copied result ≡ value_at Q.order self.now.pairs (Q.sought key) }
         ensures cost { RisesByAtMost (digits (length self.now.pairs)) count.old count.new }
@@ -77,6 +115,14 @@ impl<K: Ord, V, S: Store<K, V>> LiteMap<K, V, S> {
     /// It is for what no `Query` says: a closure that finds several keys, or that keeps a state. Else `get` asks no
     /// proof of its caller. Over the keys `f` has to answer `Less`, then `Equal`, then `Greater`. Where several keys
     /// answer `Equal` any of them may be the one found. It asks `f` at most once for each binary digit of the length.
+    ///
+    /// ```rust
+    /// // days: 1 Monday, 3 Wednesday, 5 Friday
+    /// let _rises = days.len();
+    /// let there = days.get_by(|number| number.cmp(&3));
+    /// let place = days.find_index_by(|number| number.cmp(&4));
+    /// there == Some(&"Wednesday") && place == Err(2)
+    /// ```
     pub fn get_by<F: FnMut(&K) -> Ordering>(&self, f: F) -> Option<&V>
         requires { Shaped F.FnMut self.now.pairs f }
         ensures { GetsFound F.FnMut self.now.pairs f (option_copied result) }
@@ -90,6 +136,11 @@ impl<K: Ord, V, S: Store<K, V>> LiteMap<K, V, S> {
     /// Whether there is a pair with an equal key.
     ///
     /// It is asked as `get` is. It compares at most once for each binary digit of the length.
+    ///
+    /// ```rust
+    /// // days: 1 Monday, 3 Wednesday, 5 Friday
+    /// days.contains_key(&5) && !days.contains_key(&6)
+    /// ```
     pub fn contains_key<Q: Query<K>>(&self, key: Q) -> bool
         ensures { result ≡ is_some (at Q.order self.now.pairs (Q.sought key)) }
     {
@@ -100,6 +151,11 @@ impl<K: Ord, V, S: Store<K, V>> LiteMap<K, V, S> {
     ///
     /// It is asked as `get` is. It compares at most once for each binary digit of the length. The Rust crate has this
     /// as the operator `[]`, which panics where there is no such pair.
+    ///
+    /// ```rust
+    /// // days: 1 Monday, 3 Wednesday, 5 Friday
+    /// days.contains_key(&5) && *days.index(&5) == "Friday"
+    /// ```
     pub fn index<Q: Query<K>>(&self, key: Q) -> &V
         requires { IsSome (at Q.order self.now.pairs (Q.sought key)) }
         ensures { Some result.now ≡ value_at Q.order self.now.pairs (Q.sought key) }
@@ -114,6 +170,11 @@ impl<K: Ord, V, S: Store<K, V>> LiteMap<K, V, S> {
     /// smaller keys.
     ///
     /// It is asked as `get` is. It compares at most once for each binary digit of the length.
+    ///
+    /// ```rust
+    /// // days: 1 Monday, 3 Wednesday, 5 Friday
+    /// days.find_index(&3) == Ok(1) && days.find_index(&4) == Err(2)
+    /// ```
     pub fn find_index<Q: Query<K>>(&self, key: Q) -> Result<usize, usize>
         ensures place { result ≡ index_of Q.order self.now.pairs (Q.sought key) }
         ensures within { IfOk result (λ index. index < length self.now.pairs) }
@@ -124,6 +185,14 @@ impl<K: Ord, V, S: Store<K, V>> LiteMap<K, V, S> {
     }
 
     /// `find_index`, with its comparisons counted. The Rust crate has no such call.
+    ///
+    /// ```rust
+    /// // days: 1 Monday, 3 Wednesday, 5 Friday
+    /// let mut count = Count::new();
+    /// let wednesday = days.get_counted(&3, &mut count);
+    /// let place = days.find_index_counted(&3, &mut count);
+    /// wednesday == Some(&"Wednesday") && place == Ok(1)
+    /// ```
     pub fn find_index_counted<Q: Query<K>>(&self, key: Q, count: &mut Count) -> Result<usize, usize>
         ensures place { result ≡ index_of Q.order self.now.pairs (Q.sought key) }
         ensures within { IfOk result (λ index. index < length self.now.pairs) }
@@ -140,6 +209,14 @@ impl<K: Ord, V, S: Store<K, V>> LiteMap<K, V, S> {
     /// It is for what no `Query` says, as `get_by` is. Over the keys `f` has to answer `Less`, then `Equal`, then
     /// `Greater`. Where several keys answer `Equal` any of them may be the one found. It asks at most once for each
     /// binary digit of the length. The Rust crate has no such call.
+    ///
+    /// ```rust
+    /// // days: 1 Monday, 3 Wednesday, 5 Friday
+    /// let _rises = days.len();
+    /// let there = days.get_by(|number| number.cmp(&3));
+    /// let place = days.find_index_by(|number| number.cmp(&4));
+    /// there == Some(&"Wednesday") && place == Err(2)
+    /// ```
     pub fn find_index_by<F: FnMut(&K) -> Ordering>(&self, f: F) -> Result<usize, usize>
         requires { Shaped F.FnMut self.now.pairs f }
         ensures found { Found F.FnMut self.now.pairs f result }

@@ -26,6 +26,15 @@ impl<K: Ord + Drop, V: Drop, S: StoreIntoIterator<K, V> + Drop> LiteMap<K, V, S>
     ///
     /// The Rust crate asks `StoreFromIterator` too. It puts pairs before others one by one, and so it does where pairs
     /// fall between others: there its moves grow as the product of the lengths.
+    ///
+    /// ```rust
+    /// let mut days = three_days(alloc)?;
+    /// let short: Days = LiteMap::from_iter(alloc, [(4, "Thu"), (5, "Fri")])?;
+    /// match days.extend_from_litemap(alloc, short)? {
+    ///     Some(old) => Ok(old.as_slice() == [(5, "Friday")].as_slice() && days.len() == 4),
+    ///     None => Ok(false),
+    /// }
+    /// ```
     pub fn extend_from_litemap(
         &mut self,
         alloc: Global,
@@ -49,6 +58,13 @@ impl<K: Ord + Drop, V: Drop, S: StoreIntoIterator<K, V> + Drop> LiteMap<K, V, S>
     }
 
     /// `extend_from_litemap`, with its comparisons counted. The Rust crate has no such call.
+    ///
+    /// ```rust
+    /// let mut days = three_days(alloc)?;
+    /// let later: Days = LiteMap::from_iter(alloc, [(6, "Saturday"), (7, "Sunday")])?;
+    /// let none_common = days.extend_from_litemap_counted(alloc, later, &mut Count::new())?;
+    /// Ok(none_common.is_none() && days.len() == 5)
+    /// ```
     pub fn extend_from_litemap_counted(
         &mut self,
         alloc: Global,

@@ -11,6 +11,14 @@ use std::ops::Range;
 impl<K: Ord, V, S: StoreSlice<K, V>> LiteMap<K, V, S> {
     /// The pairs from a place to before another as a map of their own, `None` where the start lies past the end or the end
     /// past the length. Places count from the part's start there.
+    ///
+    /// ```rust
+    /// // days: 1 Monday, 3 Wednesday, 5 Friday
+    /// match days.get_indexed_range(1..3) {
+    ///     Some(part) => part.find_index(&3) == Ok(0) && part.get(&1).is_none(),
+    ///     None => false,
+    /// }
+    /// ```
     pub fn get_indexed_range(
         &self,
         range: Range<usize>,
@@ -22,6 +30,11 @@ impl<K: Ord, V, S: StoreSlice<K, V>> LiteMap<K, V, S> {
     }
 
     /// All the pairs as a map that borrows them.
+    ///
+    /// ```rust
+    /// // days: 1 Monday, 3 Wednesday, 5 Friday
+    /// days.as_sliced().get(&3) == Some(&"Wednesday")
+    /// ```
     pub fn as_sliced(&self) -> LiteMap<K, V, SliceStore<'_, K, V>>
         ensures { result.pairs ≡ self.now.pairs }
     {
@@ -29,6 +42,11 @@ impl<K: Ord, V, S: StoreSlice<K, V>> LiteMap<K, V, S> {
     }
 
     /// All the pairs as a slice. Their keys rise strictly.
+    ///
+    /// ```rust
+    /// // days: 1 Monday, 3 Wednesday, 5 Friday
+    /// days.as_slice() == [(1, "Monday"), (3, "Wednesday"), (5, "Friday")].as_slice()
+    /// ```
     pub fn as_slice(&self) -> &[(K, V)]
         ensures pairs { result.now ≡ self.now.pairs }
         ensures rising { Rising K.cmp result.now }

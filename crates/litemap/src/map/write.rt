@@ -18,6 +18,14 @@ impl<K: Ord, V, S: StoreMut<K, V>> LiteMap<K, V, S> {
     /// The value of a key, to be written; `None` where no equal key is there.
     ///
     /// It is asked as `get` is. It compares at most once for each binary digit of the length.
+    ///
+    /// ```rust
+    /// let mut days = three_days(alloc)?;
+    /// if let Some(name) = days.get_mut(&3) {
+    ///     *name = "Wed";
+    /// }
+    /// Ok(days.get(&3) == Some(&"Wed"))
+    /// ```
     pub fn get_mut<Q: Query<K>>(&mut self, key: Q) -> Option<&mut V>
         ensures* writes_back { sem 𝓛
             (LendsValue K.row V.row S.row K.Ord S.pairs S.room self.entry Q.order (Q.sought key) result) }
@@ -34,6 +42,15 @@ impl<K: Ord, V, S: StoreMut<K, V>> LiteMap<K, V, S> {
     /// It is for what no `Query` says, as `get_by` is. Over the keys `f` has to answer `Less`, then `Equal`, then
     /// `Greater`. Where several keys answer `Equal` any of them may be the one found. It asks at most once for each
     /// binary digit of the length. The Rust crate has no such call.
+    ///
+    /// ```rust
+    /// let mut days = three_days(alloc)?;
+    /// let _rises = days.len();
+    /// if let Some(name) = days.get_mut_by(|number| number.cmp(&3)) {
+    ///     *name = "Wed";
+    /// }
+    /// Ok(days.get(&3) == Some(&"Wed"))
+    /// ```
     pub fn get_mut_by<F: FnMut(&K) -> Ordering>(&mut self, f: F) -> Option<&mut V>
         requires { Shaped F.FnMut self.old.pairs f }
         ensures* writes_back { sem 𝓛
@@ -53,6 +70,14 @@ impl<K: Ord, V, S: StoreMut<K, V>> LiteMap<K, V, S> {
     ///
     /// It is asked as `get` is. It compares at most once for each binary digit of the length. The Rust crate has the
     /// operator `IndexMut` here, which panics where the key isn't there.
+    ///
+    /// ```rust
+    /// let mut days = three_days(alloc)?;
+    /// if days.contains_key(&3) {
+    ///     *days.index_mut(&3) = "Wed";
+    /// }
+    /// Ok(days.get(&3) == Some(&"Wed"))
+    /// ```
     pub fn index_mut<Q: Query<K>>(&mut self, key: Q) -> &mut V
         requires { IsSome (at Q.order self.old.pairs (Q.sought key)) }
         ensures* writes_back { sem 𝓛
@@ -68,6 +93,14 @@ impl<K: Ord, V, S: StoreMut<K, V>> LiteMap<K, V, S> {
     /// The value at a place, to be written; `None` from the length on.
     ///
     /// It stands in place of the Rust crate's `iter_mut`.
+    ///
+    /// ```rust
+    /// let mut days = three_days(alloc)?;
+    /// if let Some(name) = days.get_indexed_mut(0) {
+    ///     *name = "Mon";
+    /// }
+    /// Ok(days.first() == Some((&1, &"Mon")))
+    /// ```
     pub fn get_indexed_mut(&mut self, index: usize) -> Option<&mut V>
         ensures* writes_back { sem 𝓛
             (LendsPlace K.row V.row S.row K.Ord S.pairs S.room self.entry index result) }

@@ -11,6 +11,16 @@ use std::mem;
 
 impl<'a, K: Ord, V, S: StoreMut<K, V>> OccupiedEntry<'a, K, V, S> {
     /// The key that is there, which need not be the one that was asked for.
+    ///
+    /// ```rust
+    /// // days: 1 Monday, 3 Wednesday, 5 Friday
+    /// let Entry::Occupied(mut entry) = days.entry(1) else {
+    ///     return false;
+    /// };
+    /// let (number, old) = (*entry.key(), entry.insert("Mon"));
+    /// let now = *entry.get();
+    /// (number, old, now, entry.remove()) == (1, "Monday", "Mon", "Mon")
+    /// ```
     pub fn key(&self) -> &K
         ensures { entry_key (Occupied self.now) ≡ Some result.now }
     {
@@ -21,6 +31,16 @@ impl<'a, K: Ord, V, S: StoreMut<K, V>> OccupiedEntry<'a, K, V, S> {
     }
 
     /// The value.
+    ///
+    /// ```rust
+    /// // days: 1 Monday, 3 Wednesday, 5 Friday
+    /// let Entry::Occupied(mut entry) = days.entry(1) else {
+    ///     return false;
+    /// };
+    /// let (number, old) = (*entry.key(), entry.insert("Mon"));
+    /// let now = *entry.get();
+    /// (number, old, now, entry.remove()) == (1, "Monday", "Mon", "Mon")
+    /// ```
     pub fn get(&self) -> &V
         ensures { entry_value (Occupied self.now) ≡ Some result.now }
     {
@@ -28,6 +48,15 @@ impl<'a, K: Ord, V, S: StoreMut<K, V>> OccupiedEntry<'a, K, V, S> {
     }
 
     /// The value, to be written.
+    ///
+    /// ```rust
+    /// // days: 1 Monday, 3 Wednesday, 5 Friday
+    /// if let Entry::Occupied(mut entry) = days.entry(3) {
+    ///     *entry.get_mut() = "Wed";
+    ///     *entry.into_mut() = "W";
+    /// }
+    /// days.get(&3) == Some(&"W")
+    /// ```
     pub fn get_mut(&mut self) -> &mut V
         ensures* writes_back { sem 𝓛 (OccupiedLends K.row V.row S.row self.entry result) }
         ensures value { entry_value (Occupied self.old) ≡ Some result.now }
@@ -39,6 +68,15 @@ impl<'a, K: Ord, V, S: StoreMut<K, V>> OccupiedEntry<'a, K, V, S> {
     }
 
     /// The value, to be written as long as the map is borrowed.
+    ///
+    /// ```rust
+    /// // days: 1 Monday, 3 Wednesday, 5 Friday
+    /// if let Entry::Occupied(mut entry) = days.entry(3) {
+    ///     *entry.get_mut() = "Wed";
+    ///     *entry.into_mut() = "W";
+    /// }
+    /// days.get(&3) == Some(&"W")
+    /// ```
     pub fn into_mut(self) -> &'a mut V
         ensures* writes_back { sem 𝓛 (IntoLends K.row V.row S.row self.entry result) }
         ensures value { entry_value (Occupied self.entry) ≡ Some result.now }
@@ -49,6 +87,16 @@ impl<'a, K: Ord, V, S: StoreMut<K, V>> OccupiedEntry<'a, K, V, S> {
     }
 
     /// Replaces the value, and answers the old one. The key that is there stays.
+    ///
+    /// ```rust
+    /// // days: 1 Monday, 3 Wednesday, 5 Friday
+    /// let Entry::Occupied(mut entry) = days.entry(1) else {
+    ///     return false;
+    /// };
+    /// let (number, old) = (*entry.key(), entry.insert("Mon"));
+    /// let now = *entry.get();
+    /// (number, old, now, entry.remove()) == (1, "Monday", "Mon", "Mon")
+    /// ```
     pub fn insert(&mut self, value: V) -> V
         ensures old { entry_value (Occupied self.old) ≡ Some result }
         ensures written { IsWritten (Occupied self.old) value (Occupied self.new) }
@@ -59,6 +107,16 @@ impl<'a, K: Ord, V, S: StoreMut<K, V>> OccupiedEntry<'a, K, V, S> {
     /// Takes out the pair, and answers its value. Its key is given up.
     ///
     /// It moves the pairs with greater keys down by one. Nothing is promised of the room.
+    ///
+    /// ```rust
+    /// // days: 1 Monday, 3 Wednesday, 5 Friday
+    /// let Entry::Occupied(mut entry) = days.entry(1) else {
+    ///     return false;
+    /// };
+    /// let (number, old) = (*entry.key(), entry.insert("Mon"));
+    /// let now = *entry.get();
+    /// (number, old, now, entry.remove()) == (1, "Monday", "Mon", "Mon")
+    /// ```
     pub fn remove(self) -> V
     where
         K: Drop,

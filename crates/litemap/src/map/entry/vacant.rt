@@ -9,6 +9,16 @@ use std::fmt::{self, Debug, Formatter, Write};
 
 impl<'a, K: Ord, V, S: StoreMut<K, V>> VacantEntry<'a, K, V, S> {
     /// The key that was asked for.
+    ///
+    /// ```rust
+    /// // days: 1 Monday, 3 Wednesday, 5 Friday
+    /// let Entry::Vacant(entry) = days.entry(4) else {
+    ///     return Ok(false);
+    /// };
+    /// let number = *entry.key();
+    /// let name = entry.insert("Thursday")?;
+    /// Ok(number == 4 && *name == "Thursday")
+    /// ```
     pub fn key(&self) -> &K
         ensures { entry_key (Vacant self.now) ≡ Some result.now }
     {
@@ -19,6 +29,16 @@ impl<'a, K: Ord, V, S: StoreMut<K, V>> VacantEntry<'a, K, V, S> {
     ///
     /// It is refused only where there is no room: then key and value come back and the list stays. It compares no keys,
     /// and moves the pairs with greater keys up by one.
+    ///
+    /// ```rust
+    /// // days: 1 Monday, 3 Wednesday, 5 Friday
+    /// let Entry::Vacant(entry) = days.entry(4) else {
+    ///     return Ok(false);
+    /// };
+    /// let number = *entry.key();
+    /// let name = entry.insert("Thursday")?;
+    /// Ok(number == 4 && *name == "Thursday")
+    /// ```
     pub fn insert(self, value: V) -> Result<&'a mut V, NoRoom<(K, V)>>
         ensures* writes_back { sem 𝓛 (EntryLends K.row V.row S.row (Vacant self.entry) result) }
         ensures value { IfOk result (λ slot. slot.now ≡ value) }
