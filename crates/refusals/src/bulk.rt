@@ -7,19 +7,34 @@ use refusal_support::Outcome;
 use refusal_support::pairs::{LAST, PAIRS, SCATTERED, has, holds};
 use std::alloc::{AllocError, Global};
 
-/// What a map of one pair is extended by, and by which call.
+/// Runs the scenario of a call over a kind of store, if there is one of this name.
+pub(crate) fn run<S: Growing>(alloc: Global, name: &str) -> Option<Outcome> {
+    match name {
+        "from_iter" => Some(from_iter::<S>(alloc)),
+        "from_iter_counted" => Some(from_iter_counted::<S>(alloc)),
+        "extend" => Some(extend::<S>(alloc, Input::Mixed)),
+        "extend_behind" => Some(extend::<S>(alloc, Input::Behind)),
+        "extend_counted" => Some(extend::<S>(alloc, Input::Counted)),
+        "lm_extend" => Some(lm_extend::<S>(alloc)),
+        "lm_sort_from_iter" => Some(lm_sort_from_iter::<S>(alloc)),
+        "lm_from_pairs" => Some(lm_from_pairs::<S>(alloc)),
+        _ => None,
+    }
+}
+
+// What a map of one pair is extended by, and by which call.
 #[derive(Clone, Copy)]
-pub enum Input {
-    /// Pairs in no order, which are sorted, and merged with the pair that is there.
+enum Input {
+    // Pairs in no order, which are sorted, and merged with the pair that is there.
     Mixed,
-    /// The same by `extend_counted`.
+    // The same by `extend_counted`.
     Counted,
-    /// Pairs that rise, which are put behind the one that is there.
+    // Pairs that rise, which are put behind the one that is there.
     Behind,
 }
 
-/// A map of one pair, extended.
-pub(crate) fn extend<S: Growing>(alloc: Global, input: Input) -> Outcome {
+// A map of one pair, extended.
+fn extend<S: Growing>(alloc: Global, input: Input) -> Outcome {
     let mut map: Numbers<S> = LiteMap::new(alloc);
     let [first, ..] = PAIRS;
     if let Err(refused) = map.insert(first.0, first.1) {
@@ -39,8 +54,8 @@ pub(crate) fn extend<S: Growing>(alloc: Global, input: Input) -> Outcome {
     }
 }
 
-/// The same as `extend`, of an empty store.
-pub(crate) fn lm_extend<S: Growing>(alloc: Global) -> Outcome {
+// The same as `extend`, of an empty store.
+fn lm_extend<S: Growing>(alloc: Global) -> Outcome {
     let mut store = S::lm_empty(alloc);
     match store.lm_extend(alloc, SCATTERED.iter().copied(), &mut Count::new()) {
         Ok(()) => Outcome::answered(holds(&store, &LAST)),
@@ -48,26 +63,26 @@ pub(crate) fn lm_extend<S: Growing>(alloc: Global) -> Outcome {
     }
 }
 
-/// A map of pairs in no order.
-pub(crate) fn from_iter<S: Growing>(alloc: Global) -> Outcome {
+// A map of pairs in no order.
+fn from_iter<S: Growing>(alloc: Global) -> Outcome {
     made::<S>(LiteMap::from_iter(alloc, SCATTERED.iter().copied()))
 }
 
-/// The same by `from_iter_counted`.
-pub(crate) fn from_iter_counted<S: Growing>(alloc: Global) -> Outcome {
+// The same by `from_iter_counted`.
+fn from_iter_counted<S: Growing>(alloc: Global) -> Outcome {
     made::<S>(LiteMap::from_iter_counted(alloc, SCATTERED.iter().copied(), &mut Count::new()))
 }
 
-/// A store of pairs in no order.
-pub(crate) fn lm_sort_from_iter<S: Growing>(alloc: Global) -> Outcome {
+// A store of pairs in no order.
+fn lm_sort_from_iter<S: Growing>(alloc: Global) -> Outcome {
     made_as(
         S::lm_sort_from_iter(alloc, SCATTERED.iter().copied(), &mut Count::new()),
         &LAST,
     )
 }
 
-/// A store of pairs as they come.
-pub(crate) fn lm_from_pairs<S: Growing>(alloc: Global) -> Outcome {
+// A store of pairs as they come.
+fn lm_from_pairs<S: Growing>(alloc: Global) -> Outcome {
     made_as(
         S::lm_from_pairs(alloc, SCATTERED.iter().copied()),
         &SCATTERED,

@@ -1,10 +1,7 @@
 //! The scenarios, by name.
-use crate::bulk::{self, Input};
-use crate::maps::{self, Put};
-use crate::merge::{self, Merge};
 use crate::stores::{self, Growing};
 use crate::texts::{self, GrowingTexts};
-use crate::{conversions, scans};
+use crate::{bulk, conversions, maps, merge, scans};
 use litemap::store::ColumnStore;
 use refusal_support::{Outcome, Scenarios};
 use std::alloc::Global;
@@ -120,28 +117,17 @@ impl Scenarios for Calls {
 
 // Runs the scenario of a call over a kind of store.
 fn run_over<S: Growing, T: GrowingTexts>(alloc: Global, name: &str) -> Option<Outcome> {
-    match name {
-        "lm_push" => Some(stores::grow::<S>(alloc, stores::Put::Push)),
-        "lm_insert" => Some(stores::grow::<S>(alloc, stores::Put::Insert)),
-        "lm_with_capacity" => Some(stores::lm_with_capacity::<S>(alloc)),
-        "lm_reserve" => Some(stores::lm_reserve::<S>(alloc)),
-        "lm_extend" => Some(bulk::lm_extend::<S>(alloc)),
-        "lm_sort_from_iter" => Some(bulk::lm_sort_from_iter::<S>(alloc)),
-        "lm_from_pairs" => Some(bulk::lm_from_pairs::<S>(alloc)),
-        "lm_extend_end" => Some(merge::lm_extend_end::<S>(alloc)),
-        "lm_extend_start" => Some(merge::lm_extend_start::<S>(alloc)),
-        "with_capacity" => Some(maps::with_capacity::<S>(alloc)),
-        "reserve" => Some(maps::reserve::<S>(alloc)),
-        "reserved_entries" => Some(maps::reserved_entries::<S>(alloc)),
-        "try_clone" => Some(texts::try_clone::<T>(alloc)),
-        "from_iter" => Some(bulk::from_iter::<S>(alloc)),
-        "from_iter_counted" => Some(bulk::from_iter_counted::<S>(alloc)),
-        "extend" => Some(bulk::extend::<S>(alloc, Input::Mixed)),
-        "extend_behind" => Some(bulk::extend::<S>(alloc, Input::Behind)),
-        "extend_counted" => Some(bulk::extend::<S>(alloc, Input::Counted)),
-        "extend_from_litemap" => Some(merge::merge_maps::<S>(alloc, Merge::Few)),
-        "extend_from_litemap_counted" => Some(merge::merge_maps::<S>(alloc, Merge::Counted)),
-        "merge_in_one_pass" => Some(merge::merge_maps::<S>(alloc, Merge::Many)),
-        _ => Some(maps::grow::<S>(alloc, Put::of_name(name)?)),
+    if name == "try_clone" {
+        return Some(texts::try_clone::<T>(alloc));
     }
+    if let Some(outcome) = stores::run::<S>(alloc, name) {
+        return Some(outcome);
+    }
+    if let Some(outcome) = maps::run::<S>(alloc, name) {
+        return Some(outcome);
+    }
+    if let Some(outcome) = bulk::run::<S>(alloc, name) {
+        return Some(outcome);
+    }
+    merge::run::<S>(alloc, name)
 }

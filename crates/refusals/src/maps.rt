@@ -9,34 +9,44 @@ use std::alloc::Global;
 /// A map of numbers.
 pub type Numbers<S> = LiteMap<u32, u32, S>;
 
-/// A call that puts a pair with an absent key in.
+/// Runs the scenario of a call over a kind of store, if there is one of this name.
+pub(crate) fn run<S: Growing>(alloc: Global, name: &str) -> Option<Outcome> {
+    match name {
+        "with_capacity" => Some(with_capacity::<S>(alloc)),
+        "reserve" => Some(reserve::<S>(alloc)),
+        "reserved_entries" => Some(reserved_entries::<S>(alloc)),
+        _ => Some(grow::<S>(alloc, Put::of_name(name)?)),
+    }
+}
+
+// A call that puts a pair with an absent key in.
 #[derive(Clone, Copy)]
-pub enum Put {
-    /// `insert`.
+enum Put {
+    // `insert`.
     Insert,
-    /// `insert_counted`.
+    // `insert_counted`.
     InsertCounted,
-    /// `try_insert`.
+    // `try_insert`.
     TryInsert,
-    /// `try_append`.
+    // `try_append`.
     TryAppend,
-    /// `try_get_or_insert`.
+    // `try_get_or_insert`.
     TryGetOrInsert,
-    /// `try_find_or_insert`.
+    // `try_find_or_insert`.
     TryFindOrInsert,
-    /// `or_insert` of an entry.
+    // `or_insert` of an entry.
     OrInsert,
-    /// `or_default` of an entry.
+    // `or_default` of an entry.
     OrDefault,
-    /// `or_insert_with` of an entry.
+    // `or_insert_with` of an entry.
     OrInsertWith,
-    /// `insert` of the entry of an absent key.
+    // `insert` of the entry of an absent key.
     VacantInsert,
 }
 
 impl Put {
-    /// The call of a name, if there is one.
-    pub(crate) fn of_name(name: &str) -> Option<Put> {
+    // The call of a name, if there is one.
+    fn of_name(name: &str) -> Option<Put> {
         match name {
             "insert" => Some(Put::Insert),
             "insert_counted" => Some(Put::InsertCounted),
@@ -53,8 +63,8 @@ impl Put {
     }
 }
 
-/// Puts pairs into an empty map, one by one.
-pub(crate) fn grow<S: Growing>(alloc: Global, call: Put) -> Outcome {
+// Puts pairs into an empty map, one by one.
+fn grow<S: Growing>(alloc: Global, call: Put) -> Outcome {
     let mut map: Numbers<S> = LiteMap::new(alloc);
     for place in 0..PAIRS.len() {
         let (key, value) = PAIRS[place];
@@ -136,8 +146,8 @@ fn fill<S: Growing>(map: &mut Numbers<S>, pairs: &[(u32, u32)]) -> Outcome {
     Outcome::answered(has(map, &PAIRS))
 }
 
-/// A map with room for all pairs.
-pub(crate) fn with_capacity<S: Growing>(alloc: Global) -> Outcome {
+// A map with room for all pairs.
+fn with_capacity<S: Growing>(alloc: Global) -> Outcome {
     let made: Result<Numbers<S>, _> = LiteMap::with_capacity(alloc, PAIRS.len());
     match made {
         Ok(mut map) => fill(&mut map, &PAIRS),
@@ -145,8 +155,8 @@ pub(crate) fn with_capacity<S: Growing>(alloc: Global) -> Outcome {
     }
 }
 
-/// Room for all pairs, in a map of the first one.
-pub(crate) fn reserve<S: Growing>(alloc: Global) -> Outcome {
+// Room for all pairs, in a map of the first one.
+fn reserve<S: Growing>(alloc: Global) -> Outcome {
     let mut map: Numbers<S> = LiteMap::new(alloc);
     let [first, ..] = PAIRS;
     if let Err(refused) = map.insert(first.0, first.1) {
@@ -158,8 +168,8 @@ pub(crate) fn reserve<S: Growing>(alloc: Global) -> Outcome {
     }
 }
 
-/// Entries of a full map that takes room for one pair more: what they lend needs no further memory.
-pub(crate) fn reserved_entries<S: Growing>(alloc: Global) -> Outcome {
+// Entries of a full map that takes room for one pair more: what they lend needs no further memory.
+fn reserved_entries<S: Growing>(alloc: Global) -> Outcome {
     let made: Result<Numbers<S>, _> = LiteMap::with_capacity(alloc, 1);
     let Ok(mut map) = made else {
         return Outcome::Refused;

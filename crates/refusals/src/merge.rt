@@ -7,14 +7,26 @@ use refusal_support::pairs::{PAIRS, has, holds};
 use std::alloc::{AllocError, Global};
 use test_support::lists::map_of;
 
-/// Which maps are merged, and by which call.
+/// Runs the scenario of a call over a kind of store, if there is one of this name.
+pub(crate) fn run<S: Growing>(alloc: Global, name: &str) -> Option<Outcome> {
+    match name {
+        "extend_from_litemap" => Some(merge_maps::<S>(alloc, Merge::Few)),
+        "extend_from_litemap_counted" => Some(merge_maps::<S>(alloc, Merge::Counted)),
+        "merge_in_one_pass" => Some(merge_maps::<S>(alloc, Merge::Many)),
+        "lm_extend_end" => Some(lm_extend_end::<S>(alloc)),
+        "lm_extend_start" => Some(lm_extend_start::<S>(alloc)),
+        _ => None,
+    }
+}
+
+// Which maps are merged, and by which call.
 #[derive(Clone, Copy)]
-pub enum Merge {
-    /// A few pairs, which are put in one by one.
+enum Merge {
+    // A few pairs, which are put in one by one.
     Few,
-    /// The same by `extend_from_litemap_counted`.
+    // The same by `extend_from_litemap_counted`.
     Counted,
-    /// So many pairs that they are merged in one pass.
+    // So many pairs that they are merged in one pass.
     Many,
 }
 
@@ -101,8 +113,8 @@ const MANY: Case = Case {
     left: &[(4, 104), (10, 110), (16, 116), (22, 122)],
 };
 
-/// A map merged into another. Each is made with room for its own pairs.
-pub(crate) fn merge_maps<S: Growing>(alloc: Global, merge: Merge) -> Outcome {
+// A map merged into another. Each is made with room for its own pairs.
+fn merge_maps<S: Growing>(alloc: Global, merge: Merge) -> Outcome {
     let case = match merge {
         Merge::Few | Merge::Counted => FEW,
         Merge::Many => MANY,
@@ -131,8 +143,8 @@ fn two_maps<S: Growing>(
     Ok((map, other))
 }
 
-/// A store is put behind another.
-pub(crate) fn lm_extend_end<S: Growing>(alloc: Global) -> Outcome {
+// A store is put behind another.
+fn lm_extend_end<S: Growing>(alloc: Global) -> Outcome {
     let Ok((mut low, high)) = halves::<S>(alloc) else {
         return Outcome::Refused;
     };
@@ -144,8 +156,8 @@ pub(crate) fn lm_extend_end<S: Growing>(alloc: Global) -> Outcome {
     }
 }
 
-/// A store is put before another.
-pub(crate) fn lm_extend_start<S: Growing>(alloc: Global) -> Outcome {
+// A store is put before another.
+fn lm_extend_start<S: Growing>(alloc: Global) -> Outcome {
     let Ok((low, mut high)) = halves::<S>(alloc) else {
         return Outcome::Refused;
     };

@@ -18,17 +18,28 @@ impl Growing for Vec<(u32, u32)> {}
 
 impl Growing for ColumnStore<u32, u32> {}
 
-/// A call that puts a pair behind the last one.
+/// Runs the scenario of a call over a kind of store, if there is one of this name.
+pub(crate) fn run<S: Growing>(alloc: Global, name: &str) -> Option<Outcome> {
+    match name {
+        "lm_push" => Some(grow::<S>(alloc, Put::Push)),
+        "lm_insert" => Some(grow::<S>(alloc, Put::Insert)),
+        "lm_with_capacity" => Some(lm_with_capacity::<S>(alloc)),
+        "lm_reserve" => Some(lm_reserve::<S>(alloc)),
+        _ => None,
+    }
+}
+
+// A call that puts a pair behind the last one.
 #[derive(Clone, Copy)]
-pub enum Put {
-    /// `lm_push`.
+enum Put {
+    // `lm_push`.
     Push,
-    /// `lm_insert`, at the length.
+    // `lm_insert`, at the length.
     Insert,
 }
 
-/// Puts pairs into an empty store, one by one.
-pub(crate) fn grow<S: Growing>(alloc: Global, call: Put) -> Outcome {
+// Puts pairs into an empty store, one by one.
+fn grow<S: Growing>(alloc: Global, call: Put) -> Outcome {
     let mut store = S::lm_empty(alloc);
     for place in 0..PAIRS.len() {
         let (key, value) = PAIRS[place];
@@ -57,16 +68,16 @@ fn fill<S: Growing>(store: &mut S, pairs: &[(u32, u32)]) -> Outcome {
     Outcome::answered(holds(store, &PAIRS))
 }
 
-/// A store with room for all pairs.
-pub(crate) fn lm_with_capacity<S: Growing>(alloc: Global) -> Outcome {
+// A store with room for all pairs.
+fn lm_with_capacity<S: Growing>(alloc: Global) -> Outcome {
     match S::lm_with_capacity(alloc, PAIRS.len()) {
         Ok(mut store) => fill(&mut store, &PAIRS),
         Err(_) => Outcome::Refused,
     }
 }
 
-/// Room for all pairs, in a store of the first one.
-pub(crate) fn lm_reserve<S: Growing>(alloc: Global) -> Outcome {
+// Room for all pairs, in a store of the first one.
+fn lm_reserve<S: Growing>(alloc: Global) -> Outcome {
     let mut store = S::lm_empty(alloc);
     let [first, ..] = PAIRS;
     if let Err(refused) = store.lm_push(first.0, first.1) {
