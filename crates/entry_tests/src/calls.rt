@@ -2,7 +2,7 @@
 //! that do not.
 use crate::steps::{Call, Changed, Step, make_calls};
 use litemap::LiteMap;
-use litemap::store::{NoRoom, StoreMut};
+use litemap::store::{ColumnStore, NoRoom, StoreMut};
 use std::alloc::Global;
 use std::process::Abort;
 use std::test::Fail;
@@ -151,13 +151,15 @@ fn with_numbers<S: StoreMut<u32, u64> + Drop>(rt: &impl Abort, alloc: Global) ->
 #[test]
 fn texts_are_placed_once_and_then_changed(rt: HostRuntime) -> Result<(), Fail> {
     from_list::<&str, Vec<(u32, &str)>>(&rt, rt.alloc(), &[], &TEXTS)?;
-    from_list::<&str, FixedRoom<u32, &str>>(&rt, rt.alloc(), &[], &TEXTS)
+    from_list::<&str, FixedRoom<u32, &str>>(&rt, rt.alloc(), &[], &TEXTS)?;
+    from_list::<&str, ColumnStore<u32, &str>>(&rt, rt.alloc(), &[], &TEXTS)
 }
 
 #[test]
 fn numbers_are_placed_once_and_then_changed(rt: HostRuntime) -> Result<(), Fail> {
     with_numbers::<Vec<(u32, u64)>>(&rt, rt.alloc())?;
-    with_numbers::<FixedRoom<u32, u64>>(&rt, rt.alloc())
+    with_numbers::<FixedRoom<u32, u64>>(&rt, rt.alloc())?;
+    with_numbers::<ColumnStore<u32, u64>>(&rt, rt.alloc())
 }
 
 #[test]

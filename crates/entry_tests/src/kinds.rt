@@ -1,5 +1,5 @@
 //! Which kind of entry a key has, what the entry shows, and what is left where it is dropped.
-use litemap::store::StoreMut;
+use litemap::store::{ColumnStore, StoreMut};
 use litemap::{Entry, LiteMap};
 use std::alloc::Global;
 use std::process::Abort;
@@ -40,6 +40,7 @@ fn an_entry_that_is_dropped_unused_leaves_the_map(rt: HostRuntime) -> Result<(),
     for list in MAPS {
         show_each::<&str, Vec<(u32, &str)>>(&rt, rt.alloc(), list)?;
         show_each::<&str, FixedRoom<u32, &str>>(&rt, rt.alloc(), list)?;
+        show_each::<&str, ColumnStore<u32, &str>>(&rt, rt.alloc(), list)?;
     }
     Ok(())
 }

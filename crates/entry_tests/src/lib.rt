@@ -1,5 +1,5 @@
-//! Tests of the entries of a map: each call on each kind of entry, over a vector and over a store with a
-//! fixed room, and the proved caller that counts words.
+//! Tests of the entries of a map: each call on each kind of entry, over a vector, over two columns and over
+//! a store with a fixed room, and the proved caller that counts words.
 #![tactic(auto)]
 
 #[cfg(test)]

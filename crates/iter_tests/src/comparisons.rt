@@ -1,6 +1,6 @@
 //! Maps compared and hashed.
 use litemap::LiteMap;
-use litemap::store::{Store, StoreMut};
+use litemap::store::{ColumnStore, Store, StoreMut};
 use std::alloc::Global;
 use std::cmp::Ordering;
 use std::hash::{FoldHasher, Hash, Hasher};
@@ -94,6 +94,7 @@ fn by_the_first_difference(rt: HostRuntime) -> Result<(), Fail> {
     let alloc = rt.alloc();
     compare_all::<u8, u32, Vec<(u8, u32)>>(&rt, alloc, &NUMBERS, &NUMBERS)?;
     compare_all::<u8, u32, FixedRoom<u8, u32>>(&rt, alloc, &NUMBERS, &NUMBERS)?;
+    compare_all::<u8, u32, ColumnStore<u8, u32>>(&rt, alloc, &NUMBERS, &NUMBERS)?;
     compare_all::<u8, &str, Vec<(u8, &str)>>(&rt, alloc, &TEXTS, &TEXTS)?;
     compare_all::<u8, &str, FixedRoom<u8, &str>>(&rt, alloc, &TEXTS, &TEXTS)
 }
@@ -103,7 +104,8 @@ fn by_the_first_difference(rt: HostRuntime) -> Result<(), Fail> {
 fn by_equal_keys(rt: HostRuntime) -> Result<(), Fail> {
     let alloc = rt.alloc();
     compare_all::<Letter, u8, Vec<(Letter, u8)>>(&rt, alloc, &UPPER_LETTERS, &LOWER_LETTERS)?;
-    compare_all::<Letter, u8, FixedRoom<Letter, u8>>(&rt, alloc, &UPPER_LETTERS, &LOWER_LETTERS)
+    compare_all::<Letter, u8, FixedRoom<Letter, u8>>(&rt, alloc, &UPPER_LETTERS, &LOWER_LETTERS)?;
+    compare_all::<Letter, u8, ColumnStore<Letter, u8>>(&rt, alloc, &UPPER_LETTERS, &LOWER_LETTERS)
 }
 
 // The same of views.

@@ -1,6 +1,6 @@
 //! Maps made of the pairs of another, and maps that hand over their pairs.
 use litemap::LiteMap;
-use litemap::store::{Store, StoreFromIterable, StoreIntoIterator, StoreMut};
+use litemap::store::{ColumnStore, Store, StoreFromIterable, StoreIntoIterator, StoreMut};
 use std::alloc::Global;
 use std::process::Abort;
 use std::test::Fail;
@@ -139,7 +139,8 @@ where
 fn pairs_by_value(rt: HostRuntime) -> Result<(), Fail> {
     for list in MAPS {
         hand_over::<&str, Vec<(u8, &str)>, FixedRoom<u8, &str>>(&rt, rt.alloc(), list)?;
-        hand_over::<&str, FixedRoom<u8, &str>, Vec<(u8, &str)>>(&rt, rt.alloc(), list)?;
+        hand_over::<&str, FixedRoom<u8, &str>, ColumnStore<u8, &str>>(&rt, rt.alloc(), list)?;
+        hand_over::<&str, ColumnStore<u8, &str>, Vec<(u8, &str)>>(&rt, rt.alloc(), list)?;
     }
     Ok(())
 }

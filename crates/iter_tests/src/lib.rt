@@ -1,4 +1,5 @@
-//! Tests of what goes through maps and of what compares them, over a vector, a slice and a store with a fixed room.
+//! Tests of what goes through maps and of what compares them, over a vector, two columns, a slice and a store with a fixed
+//! room.
 #![tactic(auto)]
 
 #[cfg(test)]

@@ -1,6 +1,6 @@
 //! What goes through the pairs, the keys and the values of a map, from both ends.
 use litemap::LiteMap;
-use litemap::store::{StoreIterable, StoreMut};
+use litemap::store::{ColumnStore, StoreIterable, StoreMut};
 use std::process::Abort;
 use std::test::Fail;
 use test_support::fixed_room::FixedRoom;
@@ -66,11 +66,13 @@ fn from_both_ends(rt: HostRuntime) -> Result<(), Fail> {
     for list in MAPS {
         let map: LiteMap<u8, u32, Vec<(u8, u32)>> = map_of(rt.alloc(), list, 5)?;
         let fixed: LiteMap<u8, u32, FixedRoom<u8, u32>> = map_of(rt.alloc(), list, 5)?;
+        let columns: LiteMap<u8, u32, ColumnStore<u8, u32>> = map_of(rt.alloc(), list, 5)?;
         let sliced = map.as_sliced();
         for steps in STEPS {
             assert!(rt;
                 are_met(&map, list, steps)
                     && are_met(&fixed, list, steps)
+                    && are_met(&columns, list, steps)
                     && are_met(&sliced, list, steps)
             );
         }

@@ -2,7 +2,7 @@
 //!
 //! The keys are letters whose order ignores case, two of them equal: so the pair that is kept is told by its key too.
 use litemap::LiteMap;
-use litemap::store::StoreBulkMut;
+use litemap::store::{ColumnStore, StoreBulkMut};
 use litemap_read::{VecSource, read_pairs};
 use litemap_store::by_scan;
 use std::alloc::{AllocError, Global};
@@ -49,5 +49,6 @@ fn read_each<S: StoreBulkMut<Letter, u32>>(rt: &impl Abort, alloc: Global) -> Re
 #[test]
 fn lists_are_read_as_by_the_scan(rt: HostRuntime) -> Result<(), Fail> {
     read_each::<Vec<(Letter, u32)>>(&rt, rt.alloc())?;
-    read_each::<FixedRoom<Letter, u32>>(&rt, rt.alloc())
+    read_each::<FixedRoom<Letter, u32>>(&rt, rt.alloc())?;
+    read_each::<ColumnStore<Letter, u32>>(&rt, rt.alloc())
 }

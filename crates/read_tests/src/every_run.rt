@@ -1,7 +1,7 @@
 //! Every list of up to three calls over two keys, against slow scans.
 use crate::calls::{KINDS, answer_by_scan, calls_of, refusal_by_scan};
 use litemap::LiteMap;
-use litemap::store::StoreBulkMut;
+use litemap::store::{ColumnStore, StoreBulkMut};
 use litemap_read::laws::{Answer, run_calls};
 use std::alloc::{AllocError, Global};
 use std::process::Abort;
@@ -53,5 +53,6 @@ fn run_each<S: StoreBulkMut<u8, u8>>(rt: &impl Abort, alloc: Global) -> Result<u
 fn lists_of_calls_are_answered_as_by_the_scans(rt: HostRuntime) -> Result<(), Fail> {
     assert!(&rt; run_each::<Vec<(u8, u8)>>(&rt, rt.alloc())? == 0);
     assert!(&rt; run_each::<FixedRoom<u8, u8>>(&rt, rt.alloc())? > 0);
+    assert!(&rt; run_each::<ColumnStore<u8, u8>>(&rt, rt.alloc())? == 0);
     Ok(())
 }

@@ -1,4 +1,4 @@
-//! Tests of reading from sources and of lists of calls, over a vector and over a store with a fixed room.
+//! Tests of reading from sources and of lists of calls, over a vector, over two columns and over a store with a fixed room.
 #![tactic(auto)]
 
 #[cfg(test)]

@@ -1,6 +1,6 @@
 //! Lists of calls, with their answers.
 use litemap::LiteMap;
-use litemap::store::StoreBulkMut;
+use litemap::store::{ColumnStore, StoreBulkMut};
 use litemap_read::laws::{Answer, Call, run_calls};
 use std::alloc::{AllocError, Global};
 use std::process::Abort;
@@ -51,7 +51,8 @@ fn run_each_kind<S: StoreBulkMut<u32, u32>>(rt: &impl Abort, alloc: Global) -> R
 #[test]
 fn calls_are_answered_one_after_another(rt: HostRuntime) -> Result<(), Fail> {
     run_each_kind::<Vec<(u32, u32)>>(&rt, rt.alloc())?;
-    run_each_kind::<FixedRoom<u32, u32>>(&rt, rt.alloc())
+    run_each_kind::<FixedRoom<u32, u32>>(&rt, rt.alloc())?;
+    run_each_kind::<ColumnStore<u32, u32>>(&rt, rt.alloc())
 }
 
 #[test]

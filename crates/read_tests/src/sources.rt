@@ -1,6 +1,6 @@
 //! What is read from a source, by its pairs, its hint and its fault.
 use litemap::LiteMap;
-use litemap::store::StoreBulkMut;
+use litemap::store::{ColumnStore, StoreBulkMut};
 use litemap_read::{ReadFault, VecSource, read_pairs};
 use std::alloc::{AllocError, Global};
 use std::process::Abort;
@@ -52,7 +52,8 @@ fn read_each<S: StoreBulkMut<u32, u8>>(rt: &impl Abort, alloc: Global) -> Result
 #[test]
 fn of_each_key_the_last_pair_is_read(rt: HostRuntime) -> Result<(), Fail> {
     read_each::<Vec<(u32, u8)>>(&rt, rt.alloc())?;
-    read_each::<FixedRoom<u32, u8>>(&rt, rt.alloc())
+    read_each::<FixedRoom<u32, u8>>(&rt, rt.alloc())?;
+    read_each::<ColumnStore<u32, u8>>(&rt, rt.alloc())
 }
 
 // A hint, and the room that it leaves behind one pair where a store takes what it was made with and no more.
@@ -117,5 +118,6 @@ fn fail_each<S: StoreBulkMut<u32, u8>>(rt: &impl Abort, alloc: Global) -> Result
 #[test]
 fn a_fault_is_handed_on_and_the_source_stays_where_it_is(rt: HostRuntime) -> Result<(), Fail> {
     fail_each::<Vec<(u32, u8)>>(&rt, rt.alloc())?;
-    fail_each::<FixedRoom<u32, u8>>(&rt, rt.alloc())
+    fail_each::<FixedRoom<u32, u8>>(&rt, rt.alloc())?;
+    fail_each::<ColumnStore<u32, u8>>(&rt, rt.alloc())
 }
