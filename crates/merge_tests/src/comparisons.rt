@@ -1,9 +1,8 @@
 //! How often a merge compares, the comparisons of the counts and all others together.
 use litemap::LiteMap;
-use litemap::store::StoreIntoIterator;
+use litemap::store::{ColumnStore, StoreIntoIterator};
 use std::alloc::{AllocError, Global};
 use std::cell::Cell;
-use std::process::Abort;
 use std::test::Fail;
 use test_support::fixed_room::FixedRoom;
 use test_support::keys::Counted;
@@ -47,30 +46,43 @@ const MERGES: &[(u32, u32, u32, u32, u32)] = &[
     (20, 1010, 5, 20, 122),
 ];
 
-fn merge_each<'a, S: StoreIntoIterator<Counted<'a>, u32> + Drop>(
-    rt: &impl Abort,
+// How often a merge compares.
+fn compared<'a, S: StoreIntoIterator<Counted<'a>, u32> + Drop>(
     alloc: Global,
     made: &'a Cell<u32>,
-) -> Result<(), Fail> {
-    for (old, first, step, new, most) in MERGES {
-        let mut map: LiteMap<Counted<'a>, u32, S> = map_from(alloc, made, 1000, 2, *old)?;
-        let other: LiteMap<Counted<'a>, u32, S> = map_from(alloc, made, *first, *step, *new)?;
-        made.set(0);
-        if map.extend_from_litemap(alloc, other).is_err() {
-            return Err(AllocError.into());
+    old: u32,
+    (first, step, new): (u32, u32, u32),
+) -> Result<u32, AllocError> {
+    let mut map: LiteMap<Counted<'a>, u32, S> = map_from(alloc, made, 1000, 2, old)?;
+    let other: LiteMap<Counted<'a>, u32, S> = map_from(alloc, made, first, step, new)?;
+    made.set(0);
+    map.extend_from_litemap(alloc, other)?;
+    Ok(made.get())
+}
+
+// The place of the first row whose merge compares more often, and how often.
+fn first_wrong<'a, S: StoreIntoIterator<Counted<'a>, u32> + Drop>(
+    alloc: Global,
+    made: &'a Cell<u32>,
+) -> Result<Option<(usize, u32)>, AllocError> {
+    for (place, (old, first, step, new, most)) in MERGES.iter().enumerate() {
+        let compared = compared::<S>(alloc, made, *old, (*first, *step, *new))?;
+        if compared > *most {
+            return Ok(Some((place, compared)));
         }
-        assert!(rt;
-            made.get() <= *most,
-            "{new} from {first} into {old}: {}",
-            made.get()
-        );
     }
-    Ok(())
+    Ok(None)
 }
 
 #[test]
 fn merges_compare_as_often_as_promised(rt: HostRuntime) -> Result<(), Fail> {
+    let alloc = rt.alloc();
     let made = Cell::new(0u32);
-    merge_each::<Vec<(Counted<'_>, u32)>>(&rt, rt.alloc(), &made)?;
-    merge_each::<FixedRoom<Counted<'_>, u32>>(&rt, rt.alloc(), &made)
+    let wrong = [
+        first_wrong::<Vec<(Counted<'_>, u32)>>(alloc, &made)?,
+        first_wrong::<FixedRoom<Counted<'_>, u32>>(alloc, &made)?,
+        first_wrong::<ColumnStore<Counted<'_>, u32>>(alloc, &made)?,
+    ];
+    assert_eq!(rt; wrong, [None; 3]);
+    Ok(())
 }

@@ -1,4 +1,4 @@
-//! Tests of merging maps, over a vector and over a store with a fixed room.
+//! Tests of merging maps, over a vector, over two columns and over a store with a fixed room.
 #![tactic(auto)]
 
 #[cfg(test)]
@@ -7,8 +7,6 @@ mod comparisons;
 mod counts;
 #[cfg(test)]
 mod every_two;
-#[cfg(test)]
-mod joined;
 #[cfg(test)]
 mod merging;
 #[cfg(test)]

@@ -2,7 +2,7 @@
 //!
 //! The order of the letters ignores case, and a text doesn't: so a key that stays is told from an equal new one.
 use litemap::LiteMap;
-use litemap::store::StoreIntoIterator;
+use litemap::store::{Store, StoreIntoIterator};
 use std::alloc::{AllocError, Global};
 use test_support::keys::Letter;
 use test_support::lists::{list_of, map_of};
@@ -37,16 +37,36 @@ pub fn text_of(alloc: Global, pairs: &[(Letter, u8)]) -> Result<Vec<u8>, AllocEr
 }
 
 /// What is left of a map once another is merged into it, and what is left over: nothing where the map has no pair.
+pub type Merged = (Vec<u8>, Option<Vec<u8>>);
+
+/// Whether a merge is told by these texts: the map, and what is left over, where the empty text says that nothing is.
+pub fn is_told(merged: &Merged, all: &[u8], left: &[u8]) -> bool {
+    let is_left = match &merged.1 {
+        None => left.is_empty(),
+        Some(rest) => !rest.is_empty() && rest.as_slice() == left,
+    };
+    is_left && merged.0.as_slice() == all
+}
+
+// The text that tells the pairs of a map.
+fn told<S: Store<Letter, u8>>(
+    alloc: Global,
+    map: &LiteMap<Letter, u8, S>,
+) -> Result<Vec<u8>, AllocError> {
+    text_of(alloc, &list_of(alloc, map)?)
+}
+
+/// Merges the map of a list into that of another.
 pub fn merge<S: StoreIntoIterator<Letter, u8> + Drop>(
     alloc: Global,
     old: &[(Letter, u8)],
     new: &[(Letter, u8)],
-) -> Result<(Vec<u8>, Option<Vec<u8>>), AllocError> {
+) -> Result<Merged, AllocError> {
     let mut map: LiteMap<Letter, u8, S> = map_of(alloc, old, 40)?;
     let other: LiteMap<Letter, u8, S> = map_of(alloc, new, 40)?;
     let rest = match map.extend_from_litemap(alloc, other)? {
         None => None,
-        Some(rest) => Some(text_of(alloc, &list_of(alloc, &rest)?)?),
+        Some(rest) => Some(told(alloc, &rest)?),
     };
-    Ok((text_of(alloc, &list_of(alloc, &map)?)?, rest))
+    Ok((told(alloc, &map)?, rest))
 }

@@ -1,11 +1,12 @@
 //! Ten pairs that rise and ten that don't, through the calls of a map of any store that grows.
 use litemap::LiteMap;
-use litemap::store::{StoreBulkMut, StoreConstEmpty, StoreIntoIterator};
+use litemap::store::{ColumnStore, StoreBulkMut, StoreIntoIterator, StoreMut};
 use std::alloc::{AllocError, Global};
-use std::process::Abort;
 use std::test::Fail;
 use test_support::fixed_room::FixedRoom;
 use test_support::lists::{list_of, map_of};
+
+type Map<S> = LiteMap<u32, u64, S>;
 
 const SORTED: [(u32, u64); 10] = [
     (106, 4816),
@@ -20,6 +21,7 @@ const SORTED: [(u32, u64); 10] = [
     (724, 9211),
 ];
 
+// No key of these lies above the last one.
 const UNSORTED: [(u32, u64); 10] = [
     (546, 7490),
     (273, 4999),
@@ -33,89 +35,101 @@ const UNSORTED: [(u32, u64); 10] = [
     (704, 5359),
 ];
 
-// The map of the twenty pairs, put in one after the other; none if a call answered otherwise than it has to.
-fn map_of_all<S: StoreBulkMut<u32, u64>>(
-    alloc: Global,
-) -> Result<Option<LiteMap<u32, u64, S>>, AllocError> {
-    let mut map: LiteMap<u32, u64, S> = LiteMap::with_capacity(alloc, 64)?;
-    let mut is_right = true;
-    for (key, value) in SORTED {
-        is_right &= map.try_append(key, value)?.is_none();
+// Whether `try_append` takes each of the pairs, or hands each back.
+fn appends_each<S: StoreMut<u32, u64>>(
+    map: &mut Map<S>,
+    pairs: &[(u32, u64)],
+    is_taken: bool,
+) -> Result<bool, AllocError> {
+    for (key, value) in pairs {
+        let back = map.try_append(*key, *value)?;
+        if back != (if is_taken { None } else { Some((*key, *value)) }) {
+            return Ok(false);
+        }
     }
-    for (key, value) in UNSORTED {
-        is_right &= map.try_append(key, value)? == Some((key, value));
-    }
-    is_right &= map.len() == 10;
-    for (key, value) in UNSORTED {
-        is_right &= map.insert(key, value)?.is_none();
-    }
-    Ok((is_right && map.len() == 20).then_some(map))
+    Ok(map.len() == 10)
 }
 
-// The map of a list, with room for as many pairs again.
-fn again<S: StoreBulkMut<u32, u64>>(
+// Whether `insert` takes each of the pairs, whose keys are absent.
+fn inserts_each<S: StoreMut<u32, u64>>(
+    map: &mut Map<S>,
+    pairs: &[(u32, u64)],
+) -> Result<bool, AllocError> {
+    for (key, value) in pairs {
+        if map.insert(*key, *value)?.is_some() {
+            return Ok(false);
+        }
+    }
+    Ok(map.len() == 20)
+}
+
+// Merges another map into it: whether it then has the pairs of the list, and how many are left over.
+fn merges<S: StoreIntoIterator<u32, u64> + Drop>(
     alloc: Global,
+    map: &mut Map<S>,
+    other: Map<S>,
     list: &[(u32, u64)],
-) -> Result<LiteMap<u32, u64, S>, AllocError> {
-    map_of(alloc, list, 64)
+) -> Result<(bool, usize), AllocError> {
+    let left = match map.extend_from_litemap(alloc, other)? {
+        Some(rest) => rest.len(),
+        None => 0,
+    };
+    Ok((list_of(alloc, map)?.as_slice() == list, left))
 }
 
-// Whether each step leaves what it has to: a merge with a clone, one with the twenty pairs where the odd values are gone, and
-// an extension there; then removals, and those from a fresh map.
-fn steps<S: StoreBulkMut<u32, u64> + StoreIntoIterator<u32, u64>>(
+// Keeps the pairs with an even value: how many these are.
+fn thin<S: StoreBulkMut<u32, u64>>(map: &mut Map<S>) -> usize {
+    map.retain(|_, value| value % 2 == 0);
+    map.len()
+}
+
+// Whether a merge with a clone of the map, one with the twenty pairs where the odd values are gone, and an extension there
+// answer and leave what they have to.
+fn grows_back<S: StoreBulkMut<u32, u64> + StoreIntoIterator<u32, u64>>(
     alloc: Global,
-    mut map: LiteMap<u32, u64, S>,
-) -> Result<[bool; 7], AllocError> {
-    let all = list_of(alloc, &map)?;
+    map: &mut Map<S>,
+    all: &[(u32, u64)],
+) -> Result<bool, AllocError> {
     let clone = map.try_clone(alloc)?;
-    let rest = match map.extend_from_litemap(alloc, clone)? {
-        None => Vec::new(alloc),
-        Some(rest) => list_of(alloc, &rest)?,
-    };
-    let is_cloned = rest == all && map.len() == 20;
-    map.retain(|_, value| value % 2 == 0);
-    let is_halved = map.len() == 11;
-    let rest = map.extend_from_litemap(alloc, again(alloc, &all)?)?;
-    let is_merged = rest.is_some_and(|rest| rest.len() == 11) && map.len() == 20;
-    map.retain(|_, value| value % 2 == 0);
-    let is_halved_again = map.len() == 11;
+    let is_cloned = merges(alloc, map, clone, all)? == (true, 20) && thin(map) == 11;
+    let again = map_of(alloc, all, 64)?;
+    let is_merged = merges(alloc, map, again, all)? == (true, 11) && thin(map) == 11;
     map.extend(alloc, all.iter().copied())?;
-    let is_extended = list_of(alloc, &map)?.as_slice() == all.as_slice();
-    let is_removed = map.remove(&175).is_none()
-        && map.remove(&176) == Some(2101)
-        && map.len() == 19;
-    let mut fresh: LiteMap<u32, u64, S> = again(alloc, &all)?;
-    let is_fresh = fresh.remove(&175).is_none() && fresh.remove(&147) == Some(9864);
-    let is_less = fresh.len() == 19;
-    fresh.clear();
-    let is_cleared = is_fresh && is_less && fresh.is_empty();
-    Ok([
-        is_cloned,
-        is_halved,
-        is_merged,
-        is_halved_again,
-        is_extended,
-        is_removed,
-        is_cleared,
-    ])
+    let is_extended = list_of(alloc, map)?.as_slice() == all;
+    Ok(is_cloned && is_merged && is_extended)
 }
 
-fn merge_each<S: StoreBulkMut<u32, u64> + StoreIntoIterator<u32, u64>>(
-    rt: &impl Abort,
+// What three removals answer, and how many pairs are left.
+fn remove_some<S: StoreMut<u32, u64>>(map: &mut Map<S>) -> ([Option<u64>; 3], usize) {
+    let removed = [map.remove(&175), map.remove(&176), map.remove(&147)];
+    (removed, map.len())
+}
+
+// Whether each call on the map of the twenty pairs answers and leaves what it has to.
+fn goes_through<S: StoreBulkMut<u32, u64> + StoreIntoIterator<u32, u64>>(
     alloc: Global,
-) -> Result<(), Fail> {
-    let seen = match map_of_all::<S>(alloc)? {
-        None => [false; 7],
-        Some(map) => steps(alloc, map)?,
-    };
-    assert!(rt; seen == [true; 7], "{seen:?}");
-    Ok(())
+) -> Result<bool, AllocError> {
+    let mut map: Map<S> = LiteMap::with_capacity(alloc, 64)?;
+    let is_made = appends_each(&mut map, &SORTED, true)?
+        && appends_each(&mut map, &UNSORTED, false)?
+        && inserts_each(&mut map, &UNSORTED)?;
+    let all = list_of(alloc, &map)?;
+    let is_grown = grows_back(alloc, &mut map, &all)?;
+    let is_less = remove_some(&mut map) == ([None, Some(2101), Some(9864)], 18);
+    map.clear();
+    Ok(is_made && is_grown && is_less && map.is_empty())
 }
 
 #[test]
 fn twenty_pairs_go_through_all_calls(rt: HostRuntime) -> Result<(), Fail> {
-    merge_each::<Vec<(u32, u64)>>(&rt, rt.alloc())?;
-    merge_each::<FixedRoom<u32, u64>>(&rt, rt.alloc())
+    let alloc = rt.alloc();
+    let right = [
+        goes_through::<Vec<(u32, u64)>>(alloc)?,
+        goes_through::<FixedRoom<u32, u64>>(alloc)?,
+        goes_through::<ColumnStore<u32, u64>>(alloc)?,
+    ];
+    assert_eq!(rt; right, [true; 3]);
+    Ok(())
 }
 
 // What a map is extended by, one after the other, and what is left each time.
@@ -138,20 +152,37 @@ const EXTENSIONS: &[(Pairs, Pairs)] = &[
     ),
 ];
 
-fn extend_each<S: StoreBulkMut<u32, u64> + StoreConstEmpty<u32, u64>>(
-    rt: &impl Abort,
+// The place of the first extension that leaves something else.
+fn first_wrong<S: StoreBulkMut<u32, u64>>(
     alloc: Global,
-    mut map: LiteMap<u32, u64, S>,
-) -> Result<(), Fail> {
-    for (new, left) in EXTENSIONS {
+    map: &mut Map<S>,
+) -> Result<Option<usize>, AllocError> {
+    for (place, (new, left)) in EXTENSIONS.iter().enumerate() {
         map.extend(alloc, new.iter().copied())?;
-        assert!(rt; list_of(alloc, &map)?.as_slice() == *left, "{new:?}");
+        if list_of(alloc, map)?.as_slice() != *left {
+            return Ok(Some(place));
+        }
     }
-    Ok(())
+    Ok(None)
+}
+
+// The same of the empty map with so much room.
+fn wrong_from_none<S: StoreBulkMut<u32, u64>>(
+    alloc: Global,
+    room: usize,
+) -> Result<Option<usize>, AllocError> {
+    let mut map: Map<S> = LiteMap::with_capacity(alloc, room)?;
+    first_wrong(alloc, &mut map)
 }
 
 #[test]
 fn extensions_go_on_from_one_another(rt: HostRuntime) -> Result<(), Fail> {
-    extend_each::<Vec<(u32, u64)>>(&rt, rt.alloc(), LiteMap::new(rt.alloc()))?;
-    extend_each::<FixedRoom<u32, u64>>(&rt, rt.alloc(), LiteMap::with_capacity(rt.alloc(), 16)?)
+    let alloc = rt.alloc();
+    let wrong = [
+        wrong_from_none::<Vec<(u32, u64)>>(alloc, 0)?,
+        wrong_from_none::<FixedRoom<u32, u64>>(alloc, 16)?,
+        wrong_from_none::<ColumnStore<u32, u64>>(alloc, 0)?,
+    ];
+    assert_eq!(rt; wrong, [None; 3]);
+    Ok(())
 }
