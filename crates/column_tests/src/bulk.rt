@@ -3,8 +3,7 @@
 use crate::letters::{Pairs, are, letters};
 use litemap::LiteMap;
 use litemap::store::{ColumnStore, StoreBulkMut, StoreFromIterable};
-use std::alloc::Global;
-use std::process::Abort;
+use std::alloc::{AllocError, Global};
 use std::test::Fail;
 use test_support::fixed_room::FixedRoom;
 use test_support::keys::Letter;
@@ -52,25 +51,52 @@ const ROWS: &[(Pairs, Pairs, Pairs)] = &[
     ),
 ];
 
-fn extend_each<S>(rt: &impl Abort, alloc: Global) -> Result<(), Fail>
+// The list of a map of letters that is extended by more.
+fn extended<S: StoreBulkMut<Letter, u32>>(
+    alloc: Global,
+    old: &[(u8, u32)],
+    new: &[(u8, u32)],
+) -> Result<Vec<(Letter, u32)>, AllocError> {
+    let mut map: LiteMap<Letter, u32, S> = map_of(alloc, &letters(alloc, old)?, 9)?;
+    map.extend(alloc, letters(alloc, new)?)?;
+    list_of(alloc, &map)
+}
+
+// The list of a map that is made of both at once.
+fn made<S: StoreFromIterable<Letter, u32> + Drop>(
+    alloc: Global,
+    old: &[(u8, u32)],
+    new: &[(u8, u32)],
+) -> Result<Vec<(Letter, u32)>, AllocError> {
+    let mut all = letters(alloc, old)?;
+    all.append(&mut letters(alloc, new)?)?;
+    let map: LiteMap<Letter, u32, S> = LiteMap::from_iter(alloc, all)?;
+    list_of(alloc, &map)
+}
+
+// The place of the first row that a map doesn't keep to.
+fn first_wrong<S>(alloc: Global) -> Result<Option<usize>, AllocError>
 where
     S: StoreBulkMut<Letter, u32> + StoreFromIterable<Letter, u32>,
 {
-    for (old, new, left) in ROWS {
-        let mut map: LiteMap<Letter, u32, S> = map_of(alloc, &letters(alloc, old)?, 9)?;
-        map.extend(alloc, letters(alloc, new)?)?;
-        assert!(rt; are(&list_of(alloc, &map)?, left), "{new:?} into {old:?}");
-        let mut all = letters(alloc, old)?;
-        all.append(&mut letters(alloc, new)?)?;
-        let made: LiteMap<Letter, u32, S> = LiteMap::from_iter(alloc, all)?;
-        assert!(rt; are(&list_of(alloc, &made)?, left), "{new:?} after {old:?}");
+    for (place, (old, new, left)) in ROWS.iter().enumerate() {
+        if !are(&extended::<S>(alloc, old, new)?, left)
+            || !are(&made::<S>(alloc, old, new)?, left)
+        {
+            return Ok(Some(place));
+        }
     }
-    Ok(())
+    Ok(None)
 }
 
 #[test]
 fn of_each_key_the_last_pair_stays(rt: HostRuntime) -> Result<(), Fail> {
-    extend_each::<Vec<(Letter, u32)>>(&rt, rt.alloc())?;
-    extend_each::<FixedRoom<Letter, u32>>(&rt, rt.alloc())?;
-    extend_each::<ColumnStore<Letter, u32>>(&rt, rt.alloc())
+    let alloc = rt.alloc();
+    let wrong = [
+        first_wrong::<Vec<(Letter, u32)>>(alloc)?,
+        first_wrong::<FixedRoom<Letter, u32>>(alloc)?,
+        first_wrong::<ColumnStore<Letter, u32>>(alloc)?,
+    ];
+    assert_eq!(rt; wrong, [None; 3]);
+    Ok(())
 }

@@ -1,11 +1,7 @@
 //! Calls of a store that a generator picks, beside the same changes of a vector by std's own calls.
-use litemap::store::{
-    ColumnStore, Store, StoreBulkMut, StoreConstEmpty, StoreFromIterator, StoreIntoIterator,
-    StoreMut,
-};
-use std::alloc::Global;
+use litemap::store::{ColumnStore, Store, StoreBulkMut, StoreMut};
+use std::alloc::{AllocError, Global};
 use std::mem;
-use std::process::Abort;
 use std::test::Fail;
 use test_support::fixed_room::FixedRoom;
 
@@ -22,14 +18,33 @@ fn below(state: &mut u32, limit: usize) -> usize {
     (next(state) as usize).checked_rem(limit).unwrap_or(0)
 }
 
-// Whether the store has these pairs, at each place and past the end.
-fn has<S: Store<u32, u32>>(store: &S, pairs: &[(u32, u32)]) -> bool {
+// Whether the store has this pair at this place.
+fn has_at<S: Store<u32, u32>>(store: &S, place: usize, pair: (u32, u32)) -> bool {
+    match store.lm_get(place) {
+        Some((key, value)) => (*key, *value) == pair,
+        None => false,
+    }
+}
+
+// Whether the last pair of the store is this one.
+fn has_last<S: Store<u32, u32>>(store: &S, last: Option<&(u32, u32)>) -> bool {
+    match store.lm_last() {
+        Some((key, value)) => last == Some(&(*key, *value)),
+        None => last.is_none(),
+    }
+}
+
+/// Whether the store has these pairs, at each place and past the end.
+pub fn has<S: Store<u32, u32>>(store: &S, pairs: &[(u32, u32)]) -> bool {
+    for (place, pair) in pairs.iter().enumerate() {
+        if !has_at(store, place, *pair) {
+            return false;
+        }
+    }
     store.lm_len() == pairs.len()
         && store.lm_is_empty() == pairs.is_empty()
         && store.lm_get(pairs.len()).is_none()
-        && store.lm_last() == pairs.last().map(|pair| (&pair.0, &pair.1))
-        && pairs.iter().enumerate().all(|(place, pair)| store.lm_get(place)
-            == Some((&pair.0, &pair.1)))
+        && has_last(store, pairs.last())
 }
 
 // Puts a pair in, at the end or at a place.
@@ -38,7 +53,7 @@ fn add<S: StoreMut<u32, u32>>(
     pairs: &mut Pairs,
     place: usize,
     pair: (u32, u32),
-) -> Result<(), Fail> {
+) -> Result<(), AllocError> {
     if place < store.lm_len() && place < pairs.len() {
         store.lm_insert(place, pair.0, pair.1)?;
         pairs.insert(place, pair)?;
@@ -47,6 +62,12 @@ fn add<S: StoreMut<u32, u32>>(
         pairs.push(pair)?;
     }
     Ok(())
+}
+
+// Writes the value at a place: the pair that was there.
+fn write<S: StoreMut<u32, u32>>(store: &mut S, place: usize, value: u32) -> Option<(u32, u32)> {
+    let (key, slot) = store.lm_get_mut(place)?;
+    Some((*key, mem::replace(slot, value)))
 }
 
 // Changes the pair at a place, in one of three ways: whether both answered the same.
@@ -63,81 +84,74 @@ fn change<S: StoreMut<u32, u32>>(
     match way {
         0 => store.lm_remove(place) == pairs.remove(place),
         1 => store.lm_replace(place, pair.0, pair.1) == mem::replace(&mut pairs[place], pair),
-        _ => match store.lm_get_mut(place) {
-            Some((key, value)) => {
-                let is_key = *key == pairs[place].0;
-                is_key && mem::replace(value, pair.1) == mem::replace(&mut pairs[place].1, pair.1)
-            }
-            None => false,
-        },
+        _ => {
+            let old = pairs[place];
+            pairs[place].1 = pair.1;
+            write(store, place, pair.1) == Some(old)
+        }
     }
 }
 
-fn call_each<S>(rt: &impl Abort, alloc: Global) -> Result<(), Fail>
-where
-    S: StoreBulkMut<u32, u32>,
-{
-    let mut store = S::lm_with_capacity(alloc, 600)?;
-    let mut pairs: Pairs = Vec::new(alloc);
+// Keeps the pairs of both whose digits differ in this way.
+fn thin<S: StoreBulkMut<u32, u32>>(store: &mut S, pairs: &mut Pairs) {
+    store.lm_retain(|key, value| (*key ^ *value) % 3 != 0);
+    pairs.retain(|pair| (pair.0 ^ pair.1) % 3 != 0);
+}
+
+// Changes both in a way that the generator picks: whether they answered the same.
+fn take_turn<S: StoreBulkMut<u32, u32>>(
+    store: &mut S,
+    pairs: &mut Pairs,
+    state: &mut u32,
+    turn: u32,
+) -> Result<bool, AllocError> {
+    let place = below(state, pairs.len().wrapping_add(2));
+    let pair = (next(state) % 1000, turn);
+    let way = below(state, 8);
+    if way < 3 {
+        return Ok(change(store, pairs, place, pair, way));
+    }
+    if way == 3 && turn % 100 == 99 {
+        thin(store, pairs);
+    } else if pairs.len() < 500 {
+        add(store, pairs, place, pair)?;
+    }
+    Ok(true)
+}
+
+// The first turn after which the store is not as the vector is.
+fn first_wrong<S: StoreBulkMut<u32, u32>>(
+    store: &mut S,
+    pairs: &mut Pairs,
+) -> Result<Option<u32>, AllocError> {
     let mut state = 1u32;
     for turn in 0..1200u32 {
-        let place = below(&mut state, pairs.len().wrapping_add(2));
-        let pair = (next(&mut state) % 1000, turn);
-        let way = below(&mut state, 8);
-        if way < 3 {
-            assert!(rt; change(&mut store, &mut pairs, place, pair, way), "{turn}");
-        } else if way == 3 && turn % 100 == 99 {
-            store.lm_retain(|key, value| (*key ^ *value) % 3 != 0);
-            pairs.retain(|pair| (pair.0 ^ pair.1) % 3 != 0);
-        } else if pairs.len() < 500 {
-            add(&mut store, &mut pairs, place, pair)?;
+        if !take_turn(store, pairs, &mut state, turn)? || !has(store, pairs) {
+            return Ok(Some(turn));
         }
-        assert!(rt; has(&store, &pairs), "{turn}");
     }
+    Ok(None)
+}
+
+// Whether a store changes as a vector does, and has then the same pairs after a reservation, and none in the end.
+fn keeps_up<S: StoreBulkMut<u32, u32>>(alloc: Global) -> Result<bool, AllocError> {
+    let mut store = S::lm_with_capacity(alloc, 600)?;
+    let mut pairs: Pairs = Vec::new(alloc);
+    let is_alike = first_wrong(&mut store, &mut pairs)?.is_none();
     store.lm_reserve(1)?;
-    assert!(rt; has(&store, &pairs), "after a reservation");
+    let is_kept = has(&store, &pairs);
     store.lm_clear();
-    assert!(rt; has(&store, &[]), "after all were given up");
-    Ok(())
+    Ok(is_alike && is_kept && has(&store, &[]))
 }
 
 #[test]
 fn a_store_changes_as_a_vector_does(rt: HostRuntime) -> Result<(), Fail> {
-    call_each::<Pairs>(&rt, rt.alloc())?;
-    call_each::<FixedRoom<u32, u32>>(&rt, rt.alloc())?;
-    call_each::<ColumnStore<u32, u32>>(&rt, rt.alloc())
-}
-
-fn join_each<S>(rt: &impl Abort, alloc: Global) -> Result<(), Fail>
-where
-    S: StoreConstEmpty<u32, u32> + StoreFromIterator<u32, u32> + StoreIntoIterator<u32, u32> + Drop,
-{
-    let pairs = [(3, 30), (1, 10), (2, 20), (1, 11), (0, 9)];
-    for first in 0..6 {
-        for last in first..6 {
-            let mut store: S = S::lm_from_pairs(alloc, pairs[first..last].iter().copied())?;
-            let before: S = S::lm_from_pairs(alloc, pairs[..first].iter().copied())?;
-            let behind: S = S::lm_from_pairs(alloc, pairs[last..].iter().copied())?;
-            // A store with a fixed room has none left, so that it takes and gives nothing but nothing.
-            let starts = store.lm_extend_start(before).is_ok();
-            let ends = store.lm_extend_end(behind).is_ok();
-            let start = if starts { 0 } else { first };
-            let end = if ends { 5 } else { last };
-            assert!(rt; has(&store, &pairs[start..end]), "{first} to {last}");
-            let mut left = pairs[start..end].iter();
-            for pair in store.lm_into_iter() {
-                assert!(rt; left.next() == Some(&pair), "{first} to {last}");
-            }
-            assert!(rt; left.next().is_none(), "{first} to {last}");
-        }
-    }
-    assert!(rt; S::lm_empty(alloc).lm_is_empty());
+    let alloc = rt.alloc();
+    let right = [
+        keeps_up::<Pairs>(alloc)?,
+        keeps_up::<FixedRoom<u32, u32>>(alloc)?,
+        keeps_up::<ColumnStore<u32, u32>>(alloc)?,
+    ];
+    assert_eq!(rt; right, [true; 3]);
     Ok(())
-}
-
-#[test]
-fn pairs_are_joined_and_handed_over(rt: HostRuntime) -> Result<(), Fail> {
-    join_each::<Pairs>(&rt, rt.alloc())?;
-    join_each::<FixedRoom<u32, u32>>(&rt, rt.alloc())?;
-    join_each::<ColumnStore<u32, u32>>(&rt, rt.alloc())
 }

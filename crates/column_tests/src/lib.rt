@@ -1,4 +1,5 @@
-//! Tests of two columns as a store, beside a vector and a store with a fixed room: one body each for all three.
+//! Tests of two columns as a store, beside a vector and a store with a fixed room: one body each for all three. The calls
+//! of a map over columns that are not here run in the tests by kind of call.
 #![tactic(auto)]
 
 #[cfg(test)]
@@ -8,12 +9,6 @@ mod calls;
 #[cfg(test)]
 mod counts;
 #[cfg(test)]
-mod entries;
+mod joined;
 #[cfg(test)]
 mod letters;
-#[cfg(test)]
-mod merges;
-#[cfg(test)]
-mod store_data;
-#[cfg(test)]
-mod walks;
