@@ -1,5 +1,5 @@
 //! Looks at the pairs of a store, and at its parts.
-use litemap::store::{SliceStore, Store, StoreConstEmpty, StoreMut, StoreSlice};
+use litemap::store::{ColumnStore, SliceStore, Store, StoreConstEmpty, StoreMut, StoreSlice};
 use std::alloc::Global;
 use std::process::Abort;
 use std::test::Fail;
@@ -47,6 +47,7 @@ fn look_when_pushed<S: StoreConstEmpty<u32, u32> + StoreMut<u32, u32> + Drop>(
 fn a_store_has_its_pairs_at_their_places(rt: HostRuntime) -> Result<(), Fail> {
     look_when_pushed::<Vec<(u32, u32)>>(&rt, rt.alloc())?;
     look_when_pushed::<FixedRoom<u32, u32>>(&rt, rt.alloc())?;
+    look_when_pushed::<ColumnStore<u32, u32>>(&rt, rt.alloc())?;
     assert!(rt; has_pairs(&SliceStore::<u32, u32>::lm_empty(rt.alloc()), &[]));
     for len in 0..5 {
         let store = SliceStore::new(&PAIRS[..len]);

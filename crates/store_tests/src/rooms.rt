@@ -1,53 +1,64 @@
 //! The room of a store: as many pairs as were asked for are taken, and with ample memory no room is refused.
-use litemap::store::{Store, StoreMut};
-use std::alloc::Global;
-use std::process::Abort;
+use litemap::store::{ColumnStore, Store, StoreMut};
+use std::alloc::{AllocError, Global};
 use std::test::Fail;
 use test_support::fixed_room::FixedRoom;
 
-// Pushes as many pairs, each of which has to be taken.
-fn fill<S: StoreMut<u32, u32>>(rt: &impl Abort, store: &mut S, count: usize) {
+const ROOMS: [usize; 5] = [0, 1, 3, 10, 100_000];
+
+// Pushes as many pairs: how many of them are taken.
+fn fill<S: StoreMut<u32, u32>>(store: &mut S, count: usize) -> usize {
     for pushed in 0..count {
-        assert!(rt; store.lm_push(1, 10).is_ok(), "push {pushed} of {count}");
+        if store.lm_push(1, 10).is_err() {
+            return pushed;
+        }
     }
+    count
 }
 
-fn make_each_room<S: StoreMut<u32, u32> + Drop>(
-    rt: &impl Abort,
+// How many pairs a store takes that was made for as many, and how many it then has.
+fn filled<S: StoreMut<u32, u32> + Drop>(
     alloc: Global,
-) -> Result<(), Fail> {
-    for room in [0, 1, 3, 10, 100_000] {
-        let mut store = S::lm_with_capacity(alloc, room)?;
-        store.lm_reserve(room)?;
-        fill(rt, &mut store, room);
-        store.lm_reserve(0)?;
-        assert_eq!(rt; store.lm_len(), room);
-    }
-    Ok(())
+    room: usize,
+) -> Result<(usize, usize), AllocError> {
+    let mut store = S::lm_with_capacity(alloc, room)?;
+    store.lm_reserve(room)?;
+    let taken = fill(&mut store, room);
+    store.lm_reserve(0)?;
+    Ok((taken, store.lm_len()))
 }
 
 #[test]
 fn as_many_pairs_are_taken_as_there_was_room_for(rt: HostRuntime) -> Result<(), Fail> {
-    make_each_room::<Vec<(u32, u32)>>(&rt, rt.alloc())?;
-    make_each_room::<FixedRoom<u32, u32>>(&rt, rt.alloc())
+    let alloc = rt.alloc();
+    for room in ROOMS {
+        let taken = [
+            filled::<Vec<(u32, u32)>>(alloc, room)?,
+            filled::<FixedRoom<u32, u32>>(alloc, room)?,
+            filled::<ColumnStore<u32, u32>>(alloc, room)?,
+        ];
+        assert_eq!(rt; taken, [(room, room); 3]);
+    }
+    Ok(())
 }
 
-// A further reservation within the room takes none of it away.
+// Whether a full vector takes so much more room, and keeps it at a further reservation within it.
+fn takes_more(alloc: Global, room: usize) -> Result<bool, AllocError> {
+    let mut store = vec![in alloc; (0u32, 0u32)]?;
+    let spare = store.capacity() - store.len();
+    let is_full = fill(&mut store, spare) == spare;
+    let len = store.len();
+    store.lm_reserve(room)?;
+    let capacity = store.capacity();
+    store.lm_reserve(1)?;
+    let is_taken = fill(&mut store, room) == room;
+    Ok(is_full && is_taken && capacity >= len && capacity - len >= room)
+}
+
 #[test]
 fn a_full_vector_takes_more_room(rt: HostRuntime) -> Result<(), Fail> {
-    for room in [0, 1, 3, 10, 100_000] {
-        let mut store = vec![in rt.alloc(); (0u32, 0u32)]?;
-        let spare = store.capacity() - store.len();
-        fill(&rt, &mut store, spare);
-        let len = store.len();
-        store.lm_reserve(room)?;
-        let capacity = store.capacity();
-        store.lm_reserve(1)?;
-        fill(&rt, &mut store, room);
-        assert!(rt;
-            capacity >= len && capacity - len >= room,
-            "{capacity} for {room}"
-        );
+    for room in ROOMS {
+        assert!(rt; takes_more(rt.alloc(), room)?, "{room}");
     }
     Ok(())
 }
