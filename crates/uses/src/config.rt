@@ -1,4 +1,6 @@
 //! A configuration: settings by their names, where a user's go over the defaults.
+//! Each is a list in which a name may stand more than once: its last value counts. What a user sets wins, and no default is
+//! lost, as the contracts say.
 ghost use Rattle.std.specs.Prelude.{◌≡◌, None, Some, IfOk, OnOk, OnErr, reverse};
 ghost use Rattle.std.specs.String.{string_cmp};
 ghost use Rattle.litemap_store.specs.Pairs.{value_at};

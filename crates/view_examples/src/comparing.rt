@@ -5,7 +5,7 @@ use std::alloc::{AllocError, Global};
 use std::hash::{FoldHasher, Hash, Hasher};
 
 /// The examples, by the names of the calls.
-pub fn examples(alloc: Global, days: &Days) -> [Shown; 4] {
+pub(crate) fn examples(alloc: Global, days: &Days) -> [Shown; 4] {
     [
         ("eq", eq(alloc, days)),
         ("cmp", Ok(cmp(days))),

@@ -4,7 +4,7 @@ use litemap::LiteMap;
 use litemap::store::SliceStore;
 
 /// The examples, by the names of the calls.
-pub fn examples() -> [Shown; 4] {
+pub(crate) fn examples() -> [Shown; 4] {
     [
         ("const_get_with_index", Ok(texts())),
         ("const_get_with_index by bytes", Ok(bytes())),

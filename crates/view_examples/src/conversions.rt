@@ -4,7 +4,7 @@ use examples::days::{Hours, Over};
 use std::alloc::{AllocError, Global};
 
 /// The examples, by the names of the calls.
-pub fn examples(alloc: Global, hours: &Hours) -> [Shown; 7] {
+pub(crate) fn examples(alloc: Global, hours: &Hours) -> [Shown; 7] {
     [
         ("to_boxed_keys_values", to_boxed_keys_values(alloc, hours)),
         ("to_boxed_keys", to_boxed_keys(alloc, hours)),

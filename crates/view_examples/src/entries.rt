@@ -5,7 +5,7 @@ use litemap::Entry;
 use std::alloc::AllocError;
 
 /// The examples, by the names of the calls.
-pub fn examples(days: &mut Days) -> [Shown; 7] {
+pub(crate) fn examples(days: &mut Days) -> [Shown; 7] {
     [
         ("or_insert", or_insert(days)),
         ("or_default", or_default(days)),

@@ -3,7 +3,7 @@ use examples::Shown;
 use examples::days::Days;
 
 /// The examples, by the names of the calls.
-pub fn examples(days: &Days) -> [Shown; 3] {
+pub(crate) fn examples(days: &Days) -> [Shown; 3] {
     [
         ("get_indexed_range", Ok(get_indexed_range(days))),
         ("as_sliced", Ok(as_sliced(days))),

@@ -6,7 +6,7 @@ use own_store::Bounded;
 use std::alloc::{AllocError, Global};
 
 /// The examples, by the names of the stores.
-pub fn examples(alloc: Global) -> [Shown; 2] {
+pub(crate) fn examples(alloc: Global) -> [Shown; 2] {
     [
         ("ColumnStore", column_store(alloc)),
         ("a store of one's own", bounded(alloc)),

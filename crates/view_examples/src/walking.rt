@@ -3,7 +3,7 @@ use examples::Shown;
 use examples::days::Days;
 
 /// The examples, by the names of the calls.
-pub fn examples(days: &Days) -> [Shown; 5] {
+pub(crate) fn examples(days: &Days) -> [Shown; 5] {
     [
         ("iter", Ok(iter(days))),
         ("keys", Ok(keys(days))),
@@ -47,7 +47,7 @@ fn by_reference(days: &Days) -> bool {
 }
 
 /// The example of a map that hands its pairs over, where the entries have left this.
-pub fn into_iter(days: Days) -> bool {
+pub(crate) fn into_iter(days: Days) -> bool {
     // days: 3 W, 4 Thursday, 5 Fri, 6 Saturday, and 7 with no name
     days.into_iter().next() == Some((3, "W"))
 }
