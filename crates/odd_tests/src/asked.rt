@@ -81,8 +81,7 @@ fn a_value_is_made_once_where_its_key_is_absent(rt: HostRuntime) -> Result<(), F
     Ok(())
 }
 
-// How often `retain` asks, and what of the keys' digits it is asked in order, where every third pair is kept; and how many
-// are kept.
+// How often `retain` asks, whether it asks of the pairs in order, and how many are kept: every third.
 fn times_kept<S: StoreBulkMut<u32, u32>>(
     alloc: Global,
     len: u32,

@@ -9,8 +9,9 @@ use std::test::Fail;
 // What an iterator says of the number of its pairs.
 #[derive(Clone, Copy, Debug, Drop)]
 struct Hint {
-    // The least number that there may be. It is more than there are.
+    // How many there are at least, as it says: the greatest number is more than there are.
     least: usize,
+    // How many there are at most, if it says it.
     most: Option<usize>,
 }
 
