@@ -139,6 +139,7 @@ where
 fn pairs_by_value(rt: HostRuntime) -> Result<(), Fail> {
     for list in MAPS {
         hand_over::<&str, Vec<(u8, &str)>, FixedRoom<u8, &str>>(&rt, rt.alloc(), list)?;
+        hand_over::<&str, FixedRoom<u8, &str>, Vec<(u8, &str)>>(&rt, rt.alloc(), list)?;
         hand_over::<&str, FixedRoom<u8, &str>, ColumnStore<u8, &str>>(&rt, rt.alloc(), list)?;
         hand_over::<&str, ColumnStore<u8, &str>, Vec<(u8, &str)>>(&rt, rt.alloc(), list)?;
     }
