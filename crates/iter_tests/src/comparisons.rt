@@ -11,13 +11,15 @@ use test_support::keys::Letter;
 use test_support::lists::map_of;
 
 // Lists that rise: each map is less than all behind it.
-const NUMBERS: [&[(u8, u32)]; 9] = [
+const NUMBERS: [&[(u8, u32)]; 10] = [
     &[],
     &[(1, 0)],
     &[(1, 0), (2, 9)],
     &[(1, 0), (3, 0)],
     &[(1, 1)],
     &[(1, 1), (2, 0)],
+    // The pair at the first place decides, its key and then its value, before any later key.
+    &[(1, 1), (3, 0)],
     &[(1, 9), (2, 0)],
     &[(2, 0)],
     &[(2, 0), (3, 0), (4, 0)],
