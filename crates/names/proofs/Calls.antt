@@ -1,5 +1,5 @@
 -- Lemmas on the calls of the map, by the bytes of its strings.
-use Rattle.std.proofs.Common.{◌≡◌, ◌+◌, ◌<◌, ◌≤◌, ◌++◌, ◌∷◌, ℕ, List, [], length, map, take, Option, Some, Result, IsNone, IsSome, IfSome, IfOk, option_map, slice_get, inl, inr, refl, sym, ap, ◌∙◌, subst, arith, add-one, append-nil}
+use Rattle.std.proofs.Common.{◌≡◌, ◌+◌, ◌<◌, ◌≤◌, ◌++◌, ◌∷◌, ℕ, List, [], length, map, take, Option, Some, Result, IsNone, IsSome, IfSome, IfOk, option_map, slice_get, inl, inr, refl, sym, ap, ◌∙◌, subst, arith, add-one, append-nil, append_assoc}
 use Rattle.std.specs.Prelude.{flat_map, string_bytes, string_cmp}
 use Rattle.std.proofs.Math.Seq.{take-suc}
 use Rattle.std.proofs.lemmas.Grind.{flat_map-append}
@@ -99,15 +99,15 @@ does_command old next line text (said.Find key) says does = Calls (Find key.now)
 does_command old next line text said.All says does = ShowsAll says does.0 does.1
 does_command old next line text said.Json says does = ShowsJson says does.0 does.1
 
--- the text of one more element
-pub flat_map-one_more : {A : Type 0} (f : A → List ℕ) (xs : List A) (i : ℕ) (old new : List ℕ) → i < length xs
-    → old ≡ flat_map f (take i xs) → IfSome (slice_get xs i) (λ x. new ≡ old ++ f x) → new ≡ flat_map f (take (i + 1) xs)
-flat_map-one_more f xs i old new low so_far more =
+-- what one more element adds behind a front
+pub flat_map-one_more : {A B : Type 0} (front : List B) (f : A → List B) (xs : List A) (i : ℕ) (old new : List B) → i < length xs
+    → old ≡ front ++ flat_map f (take i xs) → IfSome (slice_get xs i) (λ x. new ≡ old ++ f x) → new ≡ front ++ flat_map f (take (i + 1) xs)
+flat_map-one_more front f xs i old new low so_far more =
     elim (slice_get_cases xs i).1 [
       | inl (x, h, is, got) ↦
-          (rw is at more) ∙ ap (λ t. t ++ f x) so_far
-          ∙ sym (ap (flat_map f) (ap (λ n. take n xs) (add-one i) ∙ take-suc xs i x low ∙ ap (λ y. take i xs ++ (y ∷ [])) got)
-          ∙ flat_map-append f (take i xs) (x ∷ []) ∙ ap (λ l. flat_map f (take i xs) ++ l) (append-nil (f x)))
+          (rw is at more) ∙ ap (λ t. t ++ f x) so_far ∙ append_assoc front (flat_map f (take i xs)) (f x)
+          ∙ ap (λ t. front ++ t) (sym (ap (flat_map f) (ap (λ n. take n xs) (add-one i) ∙ take-suc xs i x low ∙ ap (λ y. take i xs ++ (y ∷ [])) got)
+          ∙ flat_map-append f (take i xs) (x ∷ []) ∙ ap (λ l. flat_map f (take i xs) ++ l) (append-nil (f x))))
       | inr (past, none) ↦ absurd (omega arith)
     ]
 

@@ -2,6 +2,6 @@
 pub mod Calls
 pub mod Cuts
 pub mod Notes
+pub mod Objects
 pub mod Tolds
-pub mod Trees
 pub mod Views

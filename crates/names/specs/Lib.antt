@@ -5,6 +5,7 @@ pub mod Line
 pub mod Laws
 pub mod Command
 pub mod Texts
+pub mod Tokens
 pub mod Watched
 pub mod Fault
 pub mod ReadsUntil

@@ -3,6 +3,7 @@
 
 mod flags;
 mod input;
+mod json_line;
 mod laws;
 mod lines;
 mod program;

@@ -7,14 +7,14 @@ ghost use Rattle.litemap_store.specs.Pairs.{cut};
 ghost use Rattle.litemap_read.specs.declared.calls.Answer.TheVariants.{Place, Value};
 ghost use Rattle.litemap_read.specs.declared.calls.Call.TheVariants.{Find, Get, Insert, Remove};
 ghost use Rattle.names.specs.Line.{IsBad};
-ghost use Rattle.names.specs.Told.{Answers, Does, IsJsonLine, answer_text, pair_text, value_text};
+ghost use Rattle.names.specs.Told.{Answers, Does, answer_text, pair_text, value_text};
 ghost use Rattle.names.specs.Command.{DoesCommand};
 ghost use Rattle.names.specs.Texts.{names_of, pair_bytes};
 
+use crate::json_line::json_line;
 use crate::lines::{Command, parse};
 use litemap::LiteMap;
 use litemap::store::{Store, StoreMut};
-use litemap_json::to_json;
 use std::alloc::{AllocError, Global};
 
 /// The names and their values, kept in a store.
@@ -53,7 +53,7 @@ fn answer<S: StoreMut<String, String>>(
         Command::Del(key) => remove(alloc, names, key),
         Command::Find(key) => find(alloc, names, key),
         Command::All => show(alloc, names),
-        Command::Json => json(alloc, names),
+        Command::Json => json_line(alloc, names),
     }
 }
 
@@ -154,18 +154,6 @@ fn show<S: Store<String, String>>(alloc: Global, names: &Names<S>) -> Result<Str
     for index in 0..names.len() {
         push_pair(&mut text, names, index)?;
     }
-    Ok(text)
-}
-
-// The map as JSON, on one line.
-fn json<S: Store<String, String>>(alloc: Global, names: &Names<S>) -> Result<String, AllocError>
-    ensures { IfOk result (λ text. IsJsonLine (names_of names.now).pairs (string_bytes text)) }
-{
-    let Ok(value) = to_json(alloc, names) else {
-        return Err(AllocError);
-    };
-    let mut text = value.to_string(alloc)?;
-    text.push_str("\n")?;
     Ok(text)
 }
 

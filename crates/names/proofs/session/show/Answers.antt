@@ -1,4 +1,4 @@
-use Rattle.std.proofs.Common.{ap, sym, ◌∙◌, take_all, arith}
+use Rattle.std.proofs.Common.{[], ap, sym, ◌∙◌, take_all, arith}
 use Rattle.std.specs.Prelude.{flat_map}
 use Rattle.names.specs.Told.{pair_text}
 use Rattle.names.specs.Texts.{pair_bytes}
@@ -6,7 +6,7 @@ use Rattle.names.proofs.Calls.{flat_map-map, flat_map-one_more}
 use Rattle.names.proofs.session.show.Goals as goal
 
 pub loop-index-preserved : goal.loop-index-preserved
-loop-index-preserved g c = flat_map-one_more (λ pair. pair_text (pair_bytes pair)) c.args.names.now.pairs c.loop-index.index _ _ (omega arith) c.loop-index.invariant c.in_ok-push_pair.ensures
+loop-index-preserved g c = flat_map-one_more [] (λ pair. pair_text (pair_bytes pair)) c.args.names.now.pairs c.loop-index.index _ _ (omega arith) c.loop-index.invariant c.in_ok-push_pair.ensures
 
 pub returns : goal.returns
 returns g c =
