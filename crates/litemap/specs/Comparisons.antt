@@ -15,7 +15,8 @@ module _ {K V : Type 0} where
   pairs_cmp by_key by_value = lexicographic (λ p q. ordering_then (by_key p.0 q.0) (by_value p.1 q.1))
 
   -- the same by orders that may leave two keys or values undecided, and the lists with them
-  abbrev pub pairs_partial_cmp : (K → K → Option Ordering) → (V → V → Option Ordering) → List (K × V) → List (K × V) → Option Ordering
+  abbrev pub pairs_partial_cmp : (K → K → Option Ordering) → (V → V → Option Ordering) → List (K × V) → List (K × V)
+      → Option Ordering
   pairs_partial_cmp by_key by_value =
       partial_lexicographic (λ p q. partial_ordering_then (by_key p.0 q.0) (by_value p.1 q.1))
 

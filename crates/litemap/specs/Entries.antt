@@ -83,7 +83,8 @@ module _ {K V S : Type 0} {g : ord.Ghosts K} {g' : eq.Ghosts K} {g'' : partial.G
     pub room : (entry_map e).now.room ≤ n.room + 1
     pub room_kept : IsSome (entry_value e) → n.room ≡ (entry_map e).now.room
 
-module _ (K V S : RattleType) {g : ord.Ghosts K.Denot} {g' : eq.Ghosts K.Denot} {g'' : partial.Ghosts K.Denot} {s : store.Ghosts S.Denot K.Denot V.Denot} where
+module _ (K V S : RattleType) {g : ord.Ghosts K.Denot} {g' : eq.Ghosts K.Denot} {g'' : partial.Ghosts K.Denot}
+    {s : store.Ghosts S.Denot K.Denot V.Denot} where
   -- once the reference r ends, the map has the last value written through it at the key of the occupied entry
   abbrev pub IntoLends : OccupiedEntry K.Denot V.Denot S.Denot g g' g'' s → MutBor V.Denot → Fml
   IntoLends o r = follows (the_row K V S g g' g'' s) V o.map.ghost_name r.ghost_name (map_with_value o)

@@ -30,10 +30,13 @@ Reads see a (Ok x) = a ≡ Ok (see x)
 Reads see a (Err e) = e ≢ Memory → a ≡ Err e
 
 -- what is read of the trees of a pair is that pair
-abbrev pub ReadsBack : {K V : Type 0} → (Data → Result Data ItemFault) → (Data → Result Data ItemFault) → (K → Data) → (V → Data) → K × V → Type 0
-ReadsBack key_item json_item key_json json p = (key_item (key_json p.0) ≡ Ok (key_json p.0)) × (json_item (json p.1) ≡ Ok (json p.1))
+abbrev pub ReadsBack : {K V : Type 0} → (Data → Result Data ItemFault) → (Data → Result Data ItemFault)
+    → (K → Data) → (V → Data) → K × V → Type 0
+ReadsBack key_item json_item key_json json p =
+    (key_item (key_json p.0) ≡ Ok (key_json p.0)) × (json_item (json p.1) ≡ Ok (json p.1))
 
-abbrev pub AllReadBack : {K V : Type 0} → (Data → Result Data ItemFault) → (Data → Result Data ItemFault) → (K → Data) → (V → Data) → List (K × V) → Type 0
+abbrev pub AllReadBack : {K V : Type 0} → (Data → Result Data ItemFault) → (Data → Result Data ItemFault)
+    → (K → Data) → (V → Data) → List (K × V) → Type 0
 AllReadBack key_item json_item key_json json L = AllByRecursion (ReadsBack key_item json_item key_json json) L
 
 -- these pairs, and then those of r

@@ -10,7 +10,8 @@ module _ {S P : Type 0} (gives : S → List P → Type 0) where
   IsBehind s t = (front : List P) × ((rest : List P) → gives t rest → gives s (front ++ rest))
 
 -- s gives a list, and M is its last pairs
-pub record IsRead {S K V : Type 0} (cmp : K → K → Ordering) (gives : S → List (K × V) → Type 0) (s : S) (M : List (K × V)) : Type 0 where
+pub record IsRead {S K V : Type 0} (cmp : K → K → Ordering) (gives : S → List (K × V) → Type 0)
+    (s : S) (M : List (K × V)) : Type 0 where
   pub given : List (K × V)
   pub gives_it : gives s given
   pub last : Last cmp given M

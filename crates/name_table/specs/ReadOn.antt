@@ -23,7 +23,8 @@ pair_parts-append [] K = refl
 pair_parts-append (p ∷ J) K = ap (λ xs. text_parts p.0 ++ (text_parts p.1 ++ xs)) (pair_parts-append J K)
 
 pub read_on_itself : (s : Remaining) → IsReadOn s s
-read_on_itself s = record { pairs = []; front = []; split = refl; spelled = refl; place = sym (add-zero s.place); count = sym (zero-add s.left) }
+read_on_itself s =
+    record { pairs = []; front = []; split = refl; spelled = refl; place = sym (add-zero s.place); count = sym (zero-add s.left) }
 
 pub read_on_further : (s t u : Remaining) → IsReadOn s t → IsReadOn t u → IsReadOn s u
 read_on_further s t u p q = record {
@@ -31,7 +32,12 @@ read_on_further s t u p q = record {
   front = p.front ++ q.front;
   split = p.split ∙ ap (λ c. p.front ++ c) q.split ∙ sym (append_assoc p.front q.front u.rest);
   spelled = let P : List Part → Type 0 = λ xs. AreParts (p.front ++ q.front) xs in
-      subst P (sym (pair_parts-append p.pairs q.pairs)) (AreParts-append p.front q.front (pair_parts p.pairs) (pair_parts q.pairs) p.spelled q.spelled);
-  place = q.place ∙ ap (λ n. n + length q.front) p.place ∙ add_assoc s.place (length p.front) (length q.front) ∙ ap (λ n. s.place + n) (sym (length-append p.front q.front));
-  count = p.count ∙ ap (λ n. length p.pairs + n) q.count ∙ sym (add_assoc (length p.pairs) (length q.pairs) u.left) ∙ ap (λ n. n + u.left) (sym (length-append p.pairs q.pairs));
+      subst P (sym (pair_parts-append p.pairs q.pairs))
+      (AreParts-append p.front q.front (pair_parts p.pairs) (pair_parts q.pairs) p.spelled q.spelled);
+  place =
+      q.place ∙ ap (λ n. n + length q.front) p.place ∙ add_assoc s.place (length p.front) (length q.front)
+      ∙ ap (λ n. s.place + n) (sym (length-append p.front q.front));
+  count =
+      p.count ∙ ap (λ n. length p.pairs + n) q.count ∙ sym (add_assoc (length p.pairs) (length q.pairs) u.left)
+      ∙ ap (λ n. n + u.left) (sym (length-append p.pairs q.pairs));
 }

@@ -13,9 +13,11 @@ abbrev pub SpellEach : List (List ℕ) → List (Call (List ℕ) (List ℕ)) →
 SpellEach [] calls = calls ≡ []
 SpellEach (said ∷ more) calls =
     (((said ≡ []) ⊎ (SpellsAll said ⊎ SpellsJson said)) × SpellEach more calls) ⊎
-    ((call : Call (List ℕ) (List ℕ)) × (rest : List (Call (List ℕ) (List ℕ))) × Spells said call × (calls ≡ call ∷ rest) × SpellEach more rest)
+    ((call : Call (List ℕ) (List ℕ)) × (rest : List (Call (List ℕ) (List ℕ)))
+    × Spells said call × (calls ≡ call ∷ rest) × SpellEach more rest)
 
 -- what lines do is a run of the calls that they spell
 abbrev pub LinesAreARun : Type 0
 LinesAreARun = (start end : TextMap) (said : List (List ℕ)) (text : List ℕ) → DoesEach start said text end →
-    (calls : List (Call (List ℕ) (List ℕ))) × (answers : List (Answer (List ℕ) (List ℕ))) × SpellEach said calls × Run (slice_cmp nat_cmp) start calls answers end
+    (calls : List (Call (List ℕ) (List ℕ))) × (answers : List (Answer (List ℕ) (List ℕ)))
+    × SpellEach said calls × Run (slice_cmp nat_cmp) start calls answers end

@@ -23,7 +23,8 @@ flag_pairs value = pairs bool_key bool_item (whole_item (unsigned_fits 32)) valu
 
 -- the value spells pairs, and these are the last ones of them
 abbrev pub FlagsReadAs : Data → List (Bool × ℕ) → Type 0
-FlagsReadAs value flags = ReadsAs bool_cmp bool_key bool_item (whole_item (unsigned_fits 32)) boolean (λ n. whole_json (pos n)) value flags
+FlagsReadAs value flags =
+    ReadsAs bool_cmp bool_key bool_item (whole_item (unsigned_fits 32)) boolean (λ n. whole_json (pos n)) value flags
 
 -- the tree of flags as it is written now
 abbrev pub flags_tree : List (Bool × ℕ) → Result Data WriteFault
@@ -43,4 +44,5 @@ pub record IsRewritten (bytes text : List ℕ) : Type 0 where
 abbrev pub IsFlagsFault : List ℕ → FlagsFault → Type 0
 IsFlagsFault bytes Memory = ⊤
 IsFlagsFault bytes NotJson = IsUtf8 bytes → read_text bytes ≡ None
-IsFlagsFault bytes (Json fault) = (fault ≢ reading.Memory) × (value : Data) × IsJsonText bytes value × (flag_pairs value ≡ Err fault)
+IsFlagsFault bytes (Json fault) =
+    (fault ≢ reading.Memory) × (value : Data) × IsJsonText bytes value × (flag_pairs value ≡ Err fault)

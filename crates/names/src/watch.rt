@@ -56,7 +56,10 @@ impl<T> Watch<T> {
 
     // Notes that a call is made now.
     fn note_call(&mut self)
-        ensures { self.new ≡ record self.old { has_late_call = self.old.has_late_call || self.old.has_met_fault; has_open_call = true } }
+        ensures { self.new ≡ record self.old {
+          has_late_call = self.old.has_late_call || self.old.has_met_fault;
+          has_open_call = true;
+        } }
     {
         if self.has_met_fault {
             self.has_late_call = true;
