@@ -41,6 +41,12 @@ pub trait StoreIntoIterator<K: Drop, V: Drop>: StoreMut<K, V> + Sized {
     ///
     /// It takes its room first. Refused for want of memory, the list stays as it was and the other store comes back
     /// whole; that is only where there was less room than it has pairs. Nothing is said of the room after it.
+    ///
+    /// ```rust
+    /// let mut begin = [(1, "Monday")].to_vec(alloc)?;
+    /// begin.lm_extend_end([(3, "Wednesday")].to_vec(alloc)?)?;
+    /// Ok(begin.as_slice() == [(1, "Monday"), (3, "Wednesday")].as_slice())
+    /// ```
     fn lm_extend_end(&mut self, other: Self) -> Result<(), NoRoom<Self>>
         ensures ok { OnOk result (Self.pairs self.new ≡ Self.pairs self.old ++ Self.pairs other) }
         ensures refused { OnErr result (Self.pairs self.new ≡ Self.pairs self.old) }
@@ -64,6 +70,12 @@ pub trait StoreIntoIterator<K: Drop, V: Drop>: StoreMut<K, V> + Sized {
     /// the room after it.
     ///
     /// The Rust crate puts the pairs in at the front one by one, each of which moves all others.
+    ///
+    /// ```rust
+    /// let mut end = [(3, "Wednesday")].to_vec(alloc)?;
+    /// end.lm_extend_start([(1, "Monday")].to_vec(alloc)?)?;
+    /// Ok(end.as_slice() == [(1, "Monday"), (3, "Wednesday")].as_slice())
+    /// ```
     fn lm_extend_start(&mut self, mut other: Self) -> Result<(), NoRoom<Self>>
         ensures ok { OnOk result (Self.pairs self.new ≡ Self.pairs other ++ Self.pairs self.old) }
         ensures refused { OnErr result (Self.pairs self.new ≡ Self.pairs self.old) }

@@ -1,16 +1,55 @@
-//! Maps over other stores than a vector of pairs.
+//! Calls of a store, and maps over other stores than a vector of pairs.
 use examples::Shown;
 use litemap::LiteMap;
-use litemap::store::ColumnStore;
+use litemap::store::{
+    ColumnStore, Count, SliceStore, Store, StoreBulkMut, StoreIntoIterator, StoreSlice,
+};
 use own_store::Bounded;
 use std::alloc::{AllocError, Global};
 
-/// The examples, by the names of the stores.
-pub(crate) fn examples(alloc: Global) -> [Shown; 2] {
+/// The examples, by the names of the calls and of the stores.
+pub(crate) fn examples(alloc: Global) -> [Shown; 7] {
     [
+        ("lm_binary_search_by", Ok(lm_binary_search_by())),
+        ("lm_get_range", lm_get_range(alloc)),
+        ("lm_extend", lm_extend(alloc)),
+        ("lm_extend_end", lm_extend_end(alloc)),
+        ("lm_extend_start", lm_extend_start(alloc)),
         ("ColumnStore", column_store(alloc)),
         ("a store of one's own", bounded(alloc)),
     ]
+}
+
+const DAYS: &[(u32, &str)] = &[(1, "Monday"), (3, "Wednesday"), (5, "Friday")];
+
+fn lm_binary_search_by() -> bool {
+    let days = SliceStore::new(DAYS);
+    let there = days.lm_binary_search_by(|number| number.cmp(&3), &mut Count::new());
+    let not_there = days.lm_binary_search_by(|number| number.cmp(&4), &mut Count::new());
+    there == Ok(1) && not_there == Err(2)
+}
+
+fn lm_get_range(alloc: Global) -> Result<bool, AllocError> {
+    let pairs = [(1, "Monday"), (3, "Wednesday"), (5, "Friday")].to_vec(alloc)?;
+    Ok(pairs.lm_get_range(1..3) == Some([(3, "Wednesday"), (5, "Friday")].as_slice()))
+}
+
+fn lm_extend(alloc: Global) -> Result<bool, AllocError> {
+    let mut pairs = [(1, "Monday"), (5, "Friday")].to_vec(alloc)?;
+    pairs.lm_extend(alloc, [(5, "Fri"), (3, "Wed")], &mut Count::new())?;
+    Ok(pairs.as_slice() == [(1, "Monday"), (3, "Wed"), (5, "Fri")].as_slice())
+}
+
+fn lm_extend_end(alloc: Global) -> Result<bool, AllocError> {
+    let mut begin = [(1, "Monday")].to_vec(alloc)?;
+    begin.lm_extend_end([(3, "Wednesday")].to_vec(alloc)?)?;
+    Ok(begin.as_slice() == [(1, "Monday"), (3, "Wednesday")].as_slice())
+}
+
+fn lm_extend_start(alloc: Global) -> Result<bool, AllocError> {
+    let mut end = [(3, "Wednesday")].to_vec(alloc)?;
+    end.lm_extend_start([(1, "Monday")].to_vec(alloc)?)?;
+    Ok(end.as_slice() == [(1, "Monday"), (3, "Wednesday")].as_slice())
 }
 
 fn column_store(alloc: Global) -> Result<bool, AllocError> {
