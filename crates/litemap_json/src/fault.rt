@@ -25,6 +25,13 @@ pub enum WriteFault {
 ///
 /// A place is that of an array's element, or that of an object's member, whose members stand in the byte order of their
 /// names. The first place that spells no pair is told; at one place the pair's shape, then the key, then the item.
+///
+/// ```rust
+/// let value = Value::from_str(alloc, r#"{"1":8,"3":300}"#)?;
+/// let read: Result<Hours, JsonFault> = from_json(alloc, &value);
+/// let fault = ItemFault::Range;
+/// Ok(read.err() == Some(JsonFault::Item { place: 1, fault }))
+/// ```
 #[derive(Debug, PartialEq, Drop, Error)]
 pub enum JsonFault {
     /// Memory was refused. It may come in place of a fault at the same or a later place.

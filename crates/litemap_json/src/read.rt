@@ -20,6 +20,12 @@ use std::alloc::Global;
 /// The fault is that of the first place that spells no pair; `Memory` may come in place of a fault at the same or a later
 /// place. All pairs are gathered before a map is made, and moved into it by `extend`: where they rise that is one
 /// comparison for each, else a sort. The Rust crate has serde's `Deserialize` here.
+///
+/// ```rust
+/// let value = Value::from_str(alloc, r#"{"10":9,"3":8}"#)?;
+/// let hours: Hours = from_json(alloc, &value)?;
+/// Ok(hours.as_slice() == [(3, 8), (10, 9)].as_slice())
+/// ```
 pub fn from_json<K: JsonKey + Drop, V: JsonItem + Drop, S: StoreBulkMut<K, V>>(
     alloc: Global,
     value: &Value,

@@ -12,6 +12,11 @@ use std::alloc::{AllocError, Global};
 use thiserror::Error;
 
 /// Why a JSON value is no item of a type.
+///
+/// ```rust
+/// let value = Value::from_str(alloc, "300")?;
+/// Ok(u8::from_value(alloc, &value) == Err(ItemFault::Range))
+/// ```
 #[derive(Debug, PartialEq, Drop, Error)]
 pub enum ItemFault {
     /// Memory was refused.
@@ -31,6 +36,19 @@ pub enum ItemFault {
 /// A type whose values are written as JSON, and read back.
 ///
 /// A contract tells a value by its tree, `json x`, and what a tree spells by the tree of that value, `item d`.
+///
+/// ```rust
+/// impl JsonItem for Level {
+///     ghost json = { json_of };
+///
+///     ghost item = { level_item };
+///
+///     fn to_value(&self, alloc: Global) -> Result<Value, AllocError> {
+///         Value::try_from_str(alloc, word(*self))
+///     }
+///     // ...
+/// }
+/// ```
 pub trait JsonItem {
     /// The tree of a value. Values with one tree are the same to a reader.
     ghost json: { Self → Data };
@@ -39,11 +57,21 @@ pub trait JsonItem {
     ghost item: { Data → Result Data ItemFault };
 
     /// The value as JSON, or a refusal for want of memory. What is made reads as the same value.
+    ///
+    /// ```rust
+    /// let value = (3u32, true).to_value(alloc)?;
+    /// Ok(value.to_string(alloc)?.as_str() == "[3,true]")
+    /// ```
     fn to_value(&self, alloc: Global) -> Result<Value, AllocError>
         ensures tree { IfOk result (λ value. view value ≡ json self.now) }
         ensures reads_back { OnOk result (item (json self.now) ≡ Ok (json self.now)) };
 
     /// The value that a JSON value spells. `Memory` may come in place of any answer.
+    ///
+    /// ```rust
+    /// let value = Value::from_str(alloc, "[3,true]")?;
+    /// Ok(<(u32, bool)>::from_value(alloc, &value)? == (3, true))
+    /// ```
     fn from_value(alloc: Global, value: &Value) -> Result<Self, ItemFault>
         ensures { Answers json (item (view value.now)) result };
 }
@@ -52,6 +80,19 @@ pub trait JsonItem {
 /// as JSON values.
 ///
 /// A contract tells a key's text by `text k`, and the key that a text spells by that key's tree, `key s`.
+///
+/// ```rust
+/// impl JsonKey for Level {
+///     ghost text = { λ level. Some (word_of level) };
+///
+///     ghost key = { level_key };
+///
+///     fn key_text(&self, alloc: Global) -> Result<Option<String>, AllocError> {
+///         Ok(Some(String::from_str(alloc, word(*self))?))
+///     }
+///     // ...
+/// }
+/// ```
 pub trait JsonKey: JsonItem + Ord {
     /// The text that stands for a key as a member's name, if it has one.
     ghost text: { Self → Option (List ℕ) };
@@ -60,6 +101,12 @@ pub trait JsonKey: JsonItem + Ord {
     ghost key: { List ℕ → Option Data };
 
     /// The key's text, `None` where it has none, or a refusal for want of memory. What is made reads as the same key.
+    ///
+    /// ```rust
+    /// let text = 7u32.key_text(alloc)?;
+    /// let none = (7u32, true).key_text(alloc)?;
+    /// Ok(text.as_deref() == Some("7") && none.is_none())
+    /// ```
     fn key_text(&self, alloc: Global) -> Result<Option<String>, AllocError>
         ensures text { IfOk result (λ name. option_map string_bytes name ≡ text self.now) }
         ensures reads_back { OnOk result (IfSome (text self.now)
@@ -67,6 +114,12 @@ pub trait JsonKey: JsonItem + Ord {
 
     /// The key that has this text, `None` where no key has it, or a refusal for want of memory. A key has one text, so
     /// another spelling is no key's.
+    ///
+    /// ```rust
+    /// let seven = u32::from_key_text(alloc, "7")?;
+    /// let other_spelling = u32::from_key_text(alloc, "07")?;
+    /// Ok(seven == Some(7) && other_spelling.is_none())
+    /// ```
     fn from_key_text(alloc: Global, name: &str) -> Result<Option<Self>, AllocError>
         ensures key { IfOk result (λ found. option_map Self.json found ≡ key name.now) }
         ensures one_spelling { IfOk result (λ found. IfSome found (λ k. text k ≡ Some name.now)) };

@@ -9,6 +9,14 @@ use serde_json::Value;
 use std::alloc::{AllocError, Global};
 
 /// The two items of an array of exactly two, `None` for any other value.
+///
+/// ```rust
+/// let value = Value::from_str(alloc, "[3,true]")?;
+/// match two_items(&value) {
+///     Some((first, second)) => Ok(first.as_u64() == Some(3) && second.as_bool() == Some(true)),
+///     None => Ok(false),
+/// }
+/// ```
 pub fn two_items(value: &Value) -> Option<(&Value, &Value)>
     ensures { option_map (λ p. (view p.0.now, view p.1.now)) result ≡ two_of (view value.now) }
 {
@@ -19,6 +27,11 @@ pub fn two_items(value: &Value) -> Option<(&Value, &Value)>
 }
 
 /// The array of two values, or a refusal for want of memory.
+///
+/// ```rust
+/// let value = array_of_two(alloc, Value::from(3u32), Value::from(true))?;
+/// Ok(value.to_string(alloc)?.as_str() == "[3,true]")
+/// ```
 pub fn array_of_two(alloc: Global, first: Value, second: Value) -> Result<Value, AllocError>
     ensures { IfOk result (λ pair. view pair ≡ pair_json (view first) (view second)) }
 {

@@ -6,6 +6,11 @@ use std::alloc::AllocError;
 use thiserror::Error;
 
 /// Why a name table can't be read, and the place of the first byte of the number or text that can't.
+///
+/// ```rust
+/// let fault = read_names(alloc, b"\x01\x02de\x06Ger").err();
+/// Ok(fault == Some(ReadFault::Source(NameFault::Truncated { at: 5 })))
+/// ```
 #[derive(Debug, PartialEq, Drop, Error)]
 pub enum NameFault {
     /// The bytes end within the number or text, or before it.

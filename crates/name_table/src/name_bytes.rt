@@ -17,6 +17,14 @@ use std::marker::Model;
 /// the fault of the first number or text that can't. After a fault it answers the same one again.
 ///
 /// A contract sees it as the bytes behind those read, the number of those read, and the number of entries that are due.
+///
+/// ```rust
+/// const LANGUAGES: &[u8] = b"\x02\x02de\x06German\x02fr\x06French";
+/// // ...
+/// let mut languages = NameBytes::new(LANGUAGES)?;
+/// let first = languages.next_pair()?;
+/// Ok(first == Some(("de", "German")) && languages.hint() == Some(1) && languages.place() == 11)
+/// ```
 #[derive(Drop)]
 pub struct NameBytes<'a> {
     rest: &'a [u8],
@@ -37,6 +45,14 @@ impl<'a> Model for NameBytes<'a> {
 
 impl<'a> NameBytes<'a> {
     /// The entries of a table. Its number of entries is read here, and a fault is that number's.
+    ///
+    /// ```rust
+    /// const LANGUAGES: &[u8] = b"\x02\x02de\x06German\x02fr\x06French";
+    /// // ...
+    /// let mut languages = NameBytes::new(LANGUAGES)?;
+    /// let first = languages.next_pair()?;
+    /// Ok(first == Some(("de", "German")) && languages.hint() == Some(1) && languages.place() == 11)
+    /// ```
     pub fn new(bytes: &'a [u8]) -> Result<Self, NameFault>
         ensures ok { IfOk result (λ names. IsCounted bytes.now names) }
         ensures err { IfErr result (λ fault. NumberFault bytes.now 0 fault) }
@@ -50,6 +66,14 @@ impl<'a> NameBytes<'a> {
     }
 
     /// How many bytes were read: those of the number of entries and of whole entries.
+    ///
+    /// ```rust
+    /// const LANGUAGES: &[u8] = b"\x02\x02de\x06German\x02fr\x06French";
+    /// // ...
+    /// let mut languages = NameBytes::new(LANGUAGES)?;
+    /// let first = languages.next_pair()?;
+    /// Ok(first == Some(("de", "German")) && languages.hint() == Some(1) && languages.place() == 11)
+    /// ```
     pub fn place(&self) -> usize
         ensures { result ≡ self.now.place }
     {
@@ -71,6 +95,14 @@ impl<'a> PairSource<&'a str, &'a str> for NameBytes<'a> {
     ghost leads = { λ s t. IsReadOn s t };
 
     /// The number of entries that are due.
+    ///
+    /// ```rust
+    /// const LANGUAGES: &[u8] = b"\x02\x02de\x06German\x02fr\x06French";
+    /// // ...
+    /// let mut languages = NameBytes::new(LANGUAGES)?;
+    /// let first = languages.next_pair()?;
+    /// Ok(first == Some(("de", "German")) && languages.hint() == Some(1) && languages.place() == 11)
+    /// ```
     fn hint(&self) -> Option<usize>
         ensures { result ≡ Some self.now.left }
     {

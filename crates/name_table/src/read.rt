@@ -11,6 +11,13 @@ use litemap_read::{ReadFault, read_pairs};
 use std::alloc::Global;
 
 /// A map of texts that lie in the bytes of a name table.
+///
+/// ```rust
+/// let mut languages: NameMap = LiteMap::new_vec(alloc);
+/// languages.insert("de", "German")?;
+/// let bytes = write_names(alloc, &languages)?;
+/// Ok(bytes.as_slice() == b"\x01\x02de\x06German".as_slice())
+/// ```
 pub type NameMap<'a> = LiteMap<&'a str, &'a str, Vec<(&'a str, &'a str)>>;
 
 /// The map of a name table that the bytes begin with, and how many bytes the table takes. Of each key the last entry stays.
@@ -19,6 +26,13 @@ pub type NameMap<'a> = LiteMap<&'a str, &'a str, Vec<(&'a str, &'a str)>>;
 /// memory; bytes behind the table are left unread. A table whose keys rise costs a comparison for each entry.
 ///
 /// The Rust crate reads by `postcard`'s `from_bytes` here.
+///
+/// ```rust
+/// const LANGUAGES: &[u8] = b"\x02\x02de\x06German\x02fr\x06French";
+/// // ...
+/// let (languages, size) = read_names(alloc, LANGUAGES)?;
+/// Ok(languages.get("fr") == Some(&"French") && size == LANGUAGES.len())
+/// ```
 pub fn read_names<'a>(
     alloc: Global,
     bytes: &'a [u8],
@@ -38,6 +52,13 @@ pub fn read_names<'a>(
 ///
 /// The value is a slice of the bytes. The whole table is read first; then the lookup compares at most once for each binary
 /// digit of the number of names.
+///
+/// ```rust
+/// const LANGUAGES: &[u8] = b"\x02\x02de\x06German\x02fr\x06French";
+/// // ...
+/// let found = find_name(alloc, LANGUAGES, "fr")?;
+/// Ok(found == Some((1, "French")))
+/// ```
 pub fn find_name<'a>(
     alloc: Global,
     bytes: &'a [u8],

@@ -13,6 +13,13 @@ use std::alloc::{AllocError, Global};
 /// `read_names` answers the same map for it, and all of its bytes.
 ///
 /// The Rust crate writes by `postcard`'s `to_stdvec` here.
+///
+/// ```rust
+/// let mut languages: NameMap = LiteMap::new_vec(alloc);
+/// languages.insert("de", "German")?;
+/// let bytes = write_names(alloc, &languages)?;
+/// Ok(bytes.as_slice() == b"\x01\x02de\x06German".as_slice())
+/// ```
 pub fn write_names(alloc: Global, names: &NameMap<'_>) -> Result<Vec<u8>, NameWriteFault>
     ensures table { IfOk result (λ bytes. IsShortest bytes.items (table_parts (map shown names.now.pairs))) }
     ensures read_again { IfOk result (λ bytes. IsReadAgain bytes.items names.now.pairs) }
