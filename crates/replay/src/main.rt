@@ -10,19 +10,19 @@
 //! lines with these names tell what the maps have to answer.
 #![tactic(auto)]
 
-mod maps;
 mod scans;
-mod tables;
+mod stores;
 
+use replay_lines::tables::answers;
 use std::io;
-use tables::Tables;
+use stores::FourStores;
+use test_support::keys::Letter;
 
 fn main(rt: HostRuntime) -> io::Result<()> {
     let input = io::read_to_string(rt.alloc(), rt.stdin())?;
-    let mut tables = Tables::new(rt.alloc());
-    let mut output = String::new(rt.alloc());
-    for line in input.as_str().lines() {
-        tables.answer_line(line, &mut output)?;
-    }
+    let output = answers::<FourStores<u32>, FourStores<&str>, FourStores<Letter>>(
+        rt.alloc(),
+        input.as_str(),
+    )?;
     rt.print(output.as_str())
 }

@@ -1,8 +1,10 @@
-//! The lines that the program `replay` reads and writes: the calls that words spell, and the texts of what answers
-//! them.
+//! The lines that the programs `replay` and `replay_columns` read and write: the calls that words spell, what answers them
+//! of a map over any store, and the texts of the answers.
 #![tactic(auto)]
 
 pub mod answers;
 pub mod calls;
 pub mod keys;
+pub mod maps;
+pub mod tables;
 pub mod words;

@@ -1,14 +1,14 @@
 //! A map over any store, called as it is.
+use crate::answers::{Answer, Asked, Tried};
+use crate::calls::{Bulk, Call, Change, Look, Make, Put};
 use litemap::LiteMap;
 use litemap::store::{Store, StoreBulkMut, StoreConstEmpty, StoreFromIterable, StoreMut};
-use replay_lines::answers::{Answer, Asked, Tried};
-use replay_lines::calls::{Bulk, Call, Change, Look, Make, Put};
 use std::alloc::{AllocError, Global};
 use std::mem;
 use test_support::lists::list_of;
 
 /// Does a call of a map, and gives what answers it.
-pub(crate) fn answer<K, S>(
+pub fn answer<K, S>(
     alloc: Global,
     map: &mut LiteMap<K, u32, S>,
     call: Call<K>,
