@@ -1,10 +1,10 @@
-"""The calls that diff/run makes: runs of lines of the program `replay`, picked by a generator."""
+"""The calls that diff/run makes: runs of lines of the programs `replay` and `replay_columns`, picked by a generator."""
 import random
 import typing
 
-# The stores of `replay` that the Rust crate's answers are compared with; one that grows is added here. `fixed` refuses what
-# is past its room, by design, and `scan` is no map.
-STORES = ["vec"]
+# The stores whose answers are compared with those of the Rust crate's vector, each with the program that has maps over it;
+# one that grows is added here. `fixed` refuses what is past its room, by design, and `scan` is no map.
+STORES = {"vec": "replay", "columns": "replay_columns"}
 WORDS = "a aa aaa ab aba b ba bab c ca d de def e f fa faa fab g h ha i j k l m n A B Ab é ä ж 0 10 9 ~ !".split()
 LETTERS = "abcdefghijklmnopqrstuvwxyzABCDEFGHIJKLMNOPQRSTUVWXYZ"
 

@@ -1,8 +1,10 @@
-"""The two programs that diff/run compares, and what they answer."""
+"""The programs that diff/run compares, by their stores, and what they answer."""
 import pathlib
 import shutil
 import subprocess
 import tempfile
+
+from calls import STORES
 
 # How many lines a program is given at most: `rt try` takes 1 MiB of output.
 MOST_LINES = 40_000
@@ -42,7 +44,7 @@ class Tried:
         command = ["rt", "try", "--steps", "1", *more]
         run = subprocess.run(command, cwd=self.folder, input=text.encode(), capture_output=True)
         if b"\nrun=none" in b"\n" + run.stderr:
-            raise SystemExit(run.stderr.decode() + "replay: it was not built")
+            raise SystemExit(run.stderr.decode() + f"{self.folder.name}: it was not built")
         return run
 
     def outputs(self, inputs):
@@ -59,22 +61,26 @@ class Tried:
         return [outputs.get(str(number)) for number in range(len(inputs))]
 
 
-def build_theirs(source, room, crate):
-    """The program diff/rust over the Rust crate."""
+def theirs(source, room, crate):
+    """The program diff/rust over the Rust crate, whose one store, a vector, stands for each."""
     shutil.copytree(source, room / "rust")
     patch = f'patch.crates-io.litemap.path="{crate.resolve()}"'
     build(["cargo", "--config", patch, "build", "--release", "--offline", "--quiet"], room / "rust")
-    return Built(room / "rust" / "target" / "release" / "theirs")
+    return dict.fromkeys(STORES, Built(room / "rust" / "target" / "release" / "theirs"))
 
 
 def ours(top, is_built):
-    """The program `replay`: proved and built, or as `rt try` runs it."""
-    folder = top / "crates" / "replay"
+    """The program of each store: proved and built, or as `rt try` runs it."""
+    return {store: our_program(top / "crates" / name, is_built) for store, name in STORES.items()}
+
+
+def our_program(folder, is_built):
+    """The program of a crate."""
     if not is_built:
         tell(["rt", "try", "--steps", "1"], folder)
         return Tried(folder)
     build(["rt", "run"], folder)
-    return Built(folder / "out" / "replay")
+    return Built(folder / "out" / folder.name)
 
 
 def batches(runs):
@@ -99,7 +105,17 @@ def parted(output, runs):
     return [[next(rest) for _ in run.lines()] for run in runs]
 
 
-def answers(program, runs):
+def answers(by_store, runs):
+    """What the programs of the stores answer to each line of each run."""
+    answered = [None] * len(runs)
+    for store, program in by_store.items():
+        places = [place for place, run in enumerate(runs) if run.store == store]
+        for place, lines in zip(places, answers_of(program, [runs[place] for place in places])):
+            answered[place] = lines
+    return answered
+
+
+def answers_of(program, runs):
     """What a program answers to each line of each run."""
     answered = []
     for batch in batches(runs):
