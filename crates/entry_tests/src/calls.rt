@@ -1,44 +1,32 @@
 //! Each call through an entry, of a key that is there and of one that is not, over stores that grow and
 //! that do not.
-use crate::steps::{Call, Changed, Step, make_calls};
+use crate::steps::{Call, Changed, Step, first_wrong, is_made};
 use litemap::LiteMap;
 use litemap::store::{ColumnStore, NoRoom, StoreMut};
-use std::alloc::Global;
-use std::process::Abort;
+use std::alloc::{AllocError, Global};
 use std::test::Fail;
 use test_support::fixed_room::FixedRoom;
 use test_support::lists::map_of;
 
-// From the empty map, with texts.
-const TEXTS: [Step<&str>; 14] = [
-    (Call::Get, 1, "", Ok(None), 0, &[]),
-    (Call::OrInsert, 1, "one", Ok(Some("one")), 0, &[(1, "one")]),
-    (Call::Get, 1, "", Ok(Some("one")), 0, &[(1, "one")]),
-    (Call::OrInsert, 1, "uno", Ok(Some("one")), 0, &[(1, "one")]),
-    (
-        Call::OrInsertWith,
-        1,
-        "uno",
-        Ok(Some("one")),
-        0,
-        &[(1, "one")],
-    ),
-    (Call::GetMut, 1, "uno", Ok(Some("one")), 0, &[(1, "uno")]),
-    (Call::Insert, 1, "one", Ok(Some("uno")), 0, &[(1, "one")]),
-    (Call::Insert, 1, "uno", Ok(Some("one")), 0, &[(1, "uno")]),
-    (Call::Remove, 1, "", Ok(Some("uno")), 0, &[]),
-    (
-        Call::OrInsertWith,
-        1,
-        "one",
-        Ok(Some("one")),
-        1,
-        &[(1, "one")],
-    ),
-    (Call::IntoMut, 1, "uno", Ok(Some("one")), 0, &[(1, "uno")]),
-    (Call::Remove, 1, "", Ok(Some("uno")), 0, &[]),
-    (Call::Remove, 1, "", Ok(None), 0, &[]),
-    (Call::Insert, 1, "one", Ok(Some("one")), 0, &[(1, "one")]),
+const WORDS: [&str; 3] = ["", "one", "uno"];
+
+// From the empty map, with texts: a call of the key 1, the place of the word that is handed in, of the one that is met, how
+// often a closure is called, and the place of the word that is left at the key. The first place says that there is none.
+const TEXTS: [(Call, usize, usize, u32, usize); 14] = [
+    (Call::Get, 0, 0, 0, 0),
+    (Call::OrInsert, 1, 1, 0, 1),
+    (Call::Get, 0, 1, 0, 1),
+    (Call::OrInsert, 2, 1, 0, 1),
+    (Call::OrInsertWith, 2, 1, 0, 1),
+    (Call::GetMut, 2, 1, 0, 2),
+    (Call::Insert, 1, 2, 0, 1),
+    (Call::Insert, 2, 1, 0, 2),
+    (Call::Remove, 0, 2, 0, 0),
+    (Call::OrInsertWith, 1, 1, 1, 1),
+    (Call::IntoMut, 2, 1, 0, 2),
+    (Call::Remove, 0, 2, 0, 0),
+    (Call::Remove, 0, 0, 0, 0),
+    (Call::Insert, 1, 1, 0, 1),
 ];
 
 // From the empty map, where five is added to a value that is there.
@@ -124,47 +112,89 @@ const FULL: [Step<u64>; 8] = [
     (Call::AndModify, 2, 30, Ok(Some(25)), 1, &[(1, 10), (2, 25)]),
 ];
 
-// The map of a list, and the calls on it.
-fn from_list<V: Copy + Default + PartialEq + Changed, S: StoreMut<u32, V> + Drop>(
-    rt: &impl Abort,
+// The calls on the map of a list: the place of the first that is wrong.
+fn wrong_from_list<V: Copy + Default + PartialEq + Changed, S: StoreMut<u32, V> + Drop>(
     alloc: Global,
     old: &[(u32, V)],
     steps: &[Step<V>],
-) -> Result<(), Fail> {
+) -> Result<Option<usize>, AllocError> {
     let mut map: LiteMap<u32, V, S> = map_of(alloc, old, 4)?;
-    make_calls(rt, alloc, &mut map, steps)
+    first_wrong(alloc, &mut map, steps)
 }
 
 // The calls with numbers.
-fn with_numbers<S: StoreMut<u32, u64> + Drop>(rt: &impl Abort, alloc: Global) -> Result<(), Fail> {
-    for (old, steps) in [
-        (NONE, FIVE_MORE.as_slice()),
-        (NONE, DEFAULTS.as_slice()),
-        (ONE, OCCUPIED.as_slice()),
-        (OLD, REMOVALS.as_slice()),
-    ] {
-        from_list::<u64, S>(rt, alloc, old, steps)?;
+fn wrong_with_numbers<S: StoreMut<u32, u64> + Drop>(
+    alloc: Global,
+) -> Result<[Option<usize>; 4], AllocError> {
+    Ok([
+        wrong_from_list::<u64, S>(alloc, NONE, &FIVE_MORE)?,
+        wrong_from_list::<u64, S>(alloc, NONE, &DEFAULTS)?,
+        wrong_from_list::<u64, S>(alloc, ONE, &OCCUPIED)?,
+        wrong_from_list::<u64, S>(alloc, OLD, &REMOVALS)?,
+    ])
+}
+
+// The word at a place, where there is one.
+fn word<V: Copy>(words: &[V], place: usize) -> Option<V> {
+    if place == 0 {
+        return None;
     }
-    Ok(())
+    words.get(place).copied()
+}
+
+// The calls with texts.
+fn wrong_with_words<V: Copy + Default + PartialEq + Changed, S: StoreMut<u32, V> + Drop>(
+    alloc: Global,
+    words: &[V],
+) -> Result<Option<usize>, AllocError> {
+    let mut map: LiteMap<u32, V, S> = LiteMap::with_capacity(alloc, 4)?;
+    for (place, (call, value, met, times, left)) in TEXTS.iter().enumerate() {
+        let value = word(words, *value).unwrap_or_default();
+        let mut list = Vec::new(alloc);
+        if let Some(text) = word(words, *left) {
+            list.push((1, text))?;
+        }
+        let answer = Ok(word(words, *met));
+        if !is_made(alloc, &mut map, (*call, 1, value, &answer, *times, &list))? {
+            return Ok(Some(place));
+        }
+    }
+    Ok(None)
 }
 
 #[test]
 fn texts_are_placed_once_and_then_changed(rt: HostRuntime) -> Result<(), Fail> {
-    from_list::<&str, Vec<(u32, &str)>>(&rt, rt.alloc(), &[], &TEXTS)?;
-    from_list::<&str, FixedRoom<u32, &str>>(&rt, rt.alloc(), &[], &TEXTS)?;
-    from_list::<&str, ColumnStore<u32, &str>>(&rt, rt.alloc(), &[], &TEXTS)
+    let alloc = rt.alloc();
+    let wrong = [
+        wrong_with_words::<&str, Vec<(u32, &str)>>(alloc, &WORDS)?,
+        wrong_with_words::<&str, FixedRoom<u32, &str>>(alloc, &WORDS)?,
+        wrong_with_words::<&str, ColumnStore<u32, &str>>(alloc, &WORDS)?,
+    ];
+    assert_eq!(rt; wrong, [None; 3]);
+    Ok(())
 }
 
 #[test]
 fn numbers_are_placed_once_and_then_changed(rt: HostRuntime) -> Result<(), Fail> {
-    with_numbers::<Vec<(u32, u64)>>(&rt, rt.alloc())?;
-    with_numbers::<FixedRoom<u32, u64>>(&rt, rt.alloc())?;
-    with_numbers::<ColumnStore<u32, u64>>(&rt, rt.alloc())
+    let alloc = rt.alloc();
+    let wrong = [
+        wrong_with_numbers::<Vec<(u32, u64)>>(alloc)?,
+        wrong_with_numbers::<FixedRoom<u32, u64>>(alloc)?,
+        wrong_with_numbers::<ColumnStore<u32, u64>>(alloc)?,
+    ];
+    assert_eq!(rt; wrong, [[None; 4]; 3]);
+    Ok(())
+}
+
+// What is refused where there is room for one new key.
+fn wrong_where_full(alloc: Global) -> Result<Option<usize>, AllocError> {
+    let mut map: LiteMap<u32, u64, FixedRoom<u32, u64>> = map_of(alloc, ONE, 2)?;
+    map.reserve(1)?;
+    first_wrong(alloc, &mut map, &FULL)
 }
 
 #[test]
 fn reserved_room_is_there_for_one_new_key(rt: HostRuntime) -> Result<(), Fail> {
-    let mut map: LiteMap<u32, u64, FixedRoom<u32, u64>> = map_of(rt.alloc(), ONE, 2)?;
-    map.reserve(1)?;
-    make_calls(&rt, rt.alloc(), &mut map, &FULL)
+    assert_eq!(rt; wrong_where_full(rt.alloc())?, None);
+    Ok(())
 }

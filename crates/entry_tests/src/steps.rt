@@ -1,9 +1,7 @@
 //! Calls through entries, one after the other, as rows say them.
 use litemap::store::{NoRoom, StoreMut};
 use litemap::{Entry, LiteMap};
-use std::alloc::Global;
-use std::process::Abort;
-use std::test::Fail;
+use std::alloc::{AllocError, Global};
 use test_support::lists::list_of;
 
 /// What is done through the entry of a key.
@@ -31,16 +29,12 @@ pub enum Call {
     Get,
 }
 
+/// What a call answers.
+pub type Answer<V> = Result<Option<V>, NoRoom<(u32, V)>>;
+
 /// A call, its key and the value that is handed in; the value that is met, which is where a reference starts;
 /// how often a closure is called; and the list that is left.
-pub type Step<V> = (
-    Call,
-    u32,
-    V,
-    Result<Option<V>, NoRoom<(u32, V)>>,
-    u32,
-    &'static [(u32, V)],
-);
+pub type Step<V> = (Call, u32, V, Answer<V>, u32, &'static [(u32, V)]);
 
 /// A value that `and_modify` and a write through `or_insert` change.
 pub trait Changed {
@@ -67,7 +61,7 @@ fn met<V: Copy + Default + Changed, S: StoreMut<u32, V>>(
     key: u32,
     value: V,
     calls: &mut u32,
-) -> Result<Option<V>, NoRoom<(u32, V)>> {
+) -> Answer<V> {
     let start = match call {
         Call::OrInsert => *map.entry(key).or_insert(value)?,
         Call::OrDefault => *map.entry(key).or_default()?,
@@ -101,24 +95,41 @@ fn met_in_either<V: Copy, S: StoreMut<u32, V>>(
     call: Call,
     key: u32,
     value: V,
-) -> Result<Option<V>, NoRoom<(u32, V)>> {
-    let mut entry = match map.entry(key) {
-        Entry::Occupied(entry) => entry,
-        Entry::Vacant(entry) => {
-            return match call {
-                Call::Insert => Ok(Some(*entry.insert(value)?)),
-                _ => Ok(None),
-            };
+) -> Answer<V> {
+    match call {
+        Call::Insert => inserted(map, key, value),
+        _ => Ok(met_where_there(map, call, key, value)),
+    }
+}
+
+fn inserted<V: Copy, S: StoreMut<u32, V>>(
+    map: &mut LiteMap<u32, V, S>,
+    key: u32,
+    value: V,
+) -> Answer<V> {
+    let start = match map.entry(key) {
+        Entry::Occupied(mut entry) => {
+            let old = entry.insert(value);
+            let _slot = entry.into_mut();
+            old
         }
+        Entry::Vacant(entry) => *entry.insert(value)?,
+    };
+    Ok(Some(start))
+}
+
+fn met_where_there<V: Copy, S: StoreMut<u32, V>>(
+    map: &mut LiteMap<u32, V, S>,
+    call: Call,
+    key: u32,
+    value: V,
+) -> Option<V> {
+    let Entry::Occupied(mut entry) = map.entry(key) else {
+        return None;
     };
     let start = *entry.get();
     match call {
-        Call::Remove => return Ok(Some(entry.remove())),
-        Call::Insert => {
-            let old = entry.insert(value);
-            let _slot = entry.into_mut();
-            return Ok(Some(old));
-        }
+        Call::Remove => return Some(entry.remove()),
         Call::GetMut => {
             *entry.get_mut() = value;
             let _slot = entry.into_mut();
@@ -126,24 +137,31 @@ fn met_in_either<V: Copy, S: StoreMut<u32, V>>(
         Call::IntoMut => *entry.into_mut() = value,
         _ => {}
     }
-    Ok(Some(start))
+    Some(start)
 }
 
-/// Makes the calls on a map, and compares what each meets and leaves.
-pub fn make_calls<V: Copy + Default + PartialEq + Changed, S: StoreMut<u32, V>>(
-    rt: &impl Abort,
+/// Makes a call on a map: whether it meets and leaves what the step says.
+pub fn is_made<V: Copy + Default + PartialEq + Changed, S: StoreMut<u32, V>>(
+    alloc: Global,
+    map: &mut LiteMap<u32, V, S>,
+    (call, key, value, answer, times, left): (Call, u32, V, &Answer<V>, u32, &[(u32, V)]),
+) -> Result<bool, AllocError> {
+    let mut calls = 0;
+    let found = met(map, call, key, value, &mut calls);
+    let list = list_of(alloc, map)?;
+    Ok(found == *answer && calls == times && list.as_slice() == left)
+}
+
+/// Makes the calls on a map: the place of the first that meets or leaves something else than its step says.
+pub fn first_wrong<V: Copy + Default + PartialEq + Changed, S: StoreMut<u32, V>>(
     alloc: Global,
     map: &mut LiteMap<u32, V, S>,
     steps: &[Step<V>],
-) -> Result<(), Fail> {
-    for (call, key, value, answer, times, left) in steps {
-        let mut calls = 0;
-        let found = met(map, *call, *key, *value, &mut calls);
-        let list = list_of(alloc, map)?;
-        assert!(rt;
-            found == *answer && calls == *times && list.as_slice() == *left,
-            "{call:?} of {key}"
-        );
+) -> Result<Option<usize>, AllocError> {
+    for (place, (call, key, value, answer, times, left)) in steps.iter().enumerate() {
+        if !is_made(alloc, map, (*call, *key, *value, answer, *times, left))? {
+            return Ok(Some(place));
+        }
     }
-    Ok(())
+    Ok(None)
 }
