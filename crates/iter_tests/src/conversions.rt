@@ -1,8 +1,7 @@
 //! Maps made of the pairs of another, and maps that hand over their pairs.
 use litemap::LiteMap;
 use litemap::store::{ColumnStore, Store, StoreFromIterable, StoreIntoIterator, StoreMut};
-use std::alloc::Global;
-use std::process::Abort;
+use std::alloc::{AllocError, Global};
 use std::test::Fail;
 use test_support::fixed_room::FixedRoom;
 use test_support::lists::{list_of, map_of};
@@ -63,42 +62,88 @@ fn has<L: Ord + Shows<u8>, W: Shows<V>, V: Copy + PartialEq, S: Store<L, W>>(
     map.len() == list.len()
 }
 
-// The map of a list, and maps of boxes of its pairs.
-fn box_each<V: Copy + PartialEq + Shows<V>, S: StoreMut<u8, V> + Drop>(
-    rt: &impl Abort,
+// Whether the maps of boxes of a map's pairs have them.
+fn is_boxed<V: Copy + PartialEq + Shows<V>, S: Store<u8, V>>(
     alloc: Global,
+    map: &LiteMap<u8, V, S>,
     list: &[(u8, V)],
-) -> Result<(), Fail> {
-    let map: LiteMap<u8, V, S> = map_of(alloc, list, 4)?;
+) -> Result<bool, AllocError> {
     let both: LiteMap<Box<u8>, Box<V>, Vec<(Box<u8>, Box<V>)>> = map.to_boxed_keys_values(alloc)?;
-    let keys: LiteMap<Box<u8>, V, FixedRoom<Box<u8>, V>> = map.to_boxed_keys(alloc)?;
-    let values: LiteMap<u8, Box<V>, Vec<(u8, Box<V>)>> = map.to_boxed_values(alloc)?;
-    assert!(rt; has(&both, list) && has(&keys, list) && has(&values, list));
-    Ok(())
+    Ok(has(&both, list))
 }
 
-// The map of a list, and maps of references to its pairs.
-fn lend_each<V: Copy + PartialEq + Shows<V>, S: StoreMut<u8, V> + Drop>(
-    rt: &impl Abort,
+fn has_boxed_keys<V: Copy + PartialEq + Shows<V>, S: Store<u8, V>>(
+    alloc: Global,
+    map: &LiteMap<u8, V, S>,
+    list: &[(u8, V)],
+) -> Result<bool, AllocError> {
+    let keys: LiteMap<Box<u8>, V, FixedRoom<Box<u8>, V>> = map.to_boxed_keys(alloc)?;
+    Ok(has(&keys, list))
+}
+
+fn has_boxed_values<V: Copy + PartialEq + Shows<V>, S: Store<u8, V>>(
+    alloc: Global,
+    map: &LiteMap<u8, V, S>,
+    list: &[(u8, V)],
+) -> Result<bool, AllocError> {
+    let values: LiteMap<u8, Box<V>, Vec<(u8, Box<V>)>> = map.to_boxed_values(alloc)?;
+    Ok(has(&values, list))
+}
+
+// Whether the maps of references to a map's pairs have them.
+fn is_lent<V: Copy + PartialEq + Shows<V>, S: Store<u8, V>>(
+    alloc: Global,
+    map: &LiteMap<u8, V, S>,
+    list: &[(u8, V)],
+) -> Result<bool, AllocError> {
+    let both: LiteMap<&u8, &V, Vec<(&u8, &V)>> = map.to_borrowed_keys_values(alloc)?;
+    Ok(has(&both, list))
+}
+
+fn has_lent_keys<V: Copy + PartialEq + Shows<V>, S: Store<u8, V>>(
+    alloc: Global,
+    map: &LiteMap<u8, V, S>,
+    list: &[(u8, V)],
+) -> Result<bool, AllocError> {
+    let keys: LiteMap<&u8, V, Vec<(&u8, V)>> = map.to_borrowed_keys(alloc)?;
+    Ok(has(&keys, list))
+}
+
+fn has_lent_values<V: Copy + PartialEq + Shows<V>, S: Store<u8, V>>(
+    alloc: Global,
+    map: &LiteMap<u8, V, S>,
+    list: &[(u8, V)],
+) -> Result<bool, AllocError> {
+    let values: LiteMap<u8, &V, FixedRoom<u8, &V>> = map.to_borrowed_values(alloc)?;
+    Ok(has(&values, list))
+}
+
+// Whether each of these maps of the map of a list has its pairs: of boxes, and of references, of both parts of each pair,
+// of the keys and of the values.
+fn are_converted<V: Copy + PartialEq + Shows<V>, S: StoreMut<u8, V> + Drop>(
     alloc: Global,
     list: &[(u8, V)],
-) -> Result<(), Fail> {
+) -> Result<[bool; 6], AllocError> {
     let map: LiteMap<u8, V, S> = map_of(alloc, list, 4)?;
-    let both: LiteMap<&u8, &V, Vec<(&u8, &V)>> = map.to_borrowed_keys_values(alloc)?;
-    let keys: LiteMap<&u8, V, Vec<(&u8, V)>> = map.to_borrowed_keys(alloc)?;
-    let values: LiteMap<u8, &V, FixedRoom<u8, &V>> = map.to_borrowed_values(alloc)?;
-    assert!(rt; has(&both, list) && has(&keys, list) && has(&values, list));
-    Ok(())
+    Ok([
+        is_boxed(alloc, &map, list)?,
+        has_boxed_keys(alloc, &map, list)?,
+        has_boxed_values(alloc, &map, list)?,
+        is_lent(alloc, &map, list)?,
+        has_lent_keys(alloc, &map, list)?,
+        has_lent_values(alloc, &map, list)?,
+    ])
 }
 
 #[test]
 fn boxes_and_references(rt: HostRuntime) -> Result<(), Fail> {
     let alloc = rt.alloc();
     for list in MAPS {
-        box_each::<&str, Vec<(u8, &str)>>(&rt, alloc, list)?;
-        box_each::<&str, FixedRoom<u8, &str>>(&rt, alloc, list)?;
-        lend_each::<&str, Vec<(u8, &str)>>(&rt, alloc, list)?;
-        lend_each::<&str, FixedRoom<u8, &str>>(&rt, alloc, list)?;
+        let converted = [
+            are_converted::<&str, Vec<(u8, &str)>>(alloc, list)?,
+            are_converted::<&str, FixedRoom<u8, &str>>(alloc, list)?,
+        ];
+        assert_eq!(rt; converted, [[true; 6]; 2]);
     }
     Ok(())
 }
@@ -112,12 +157,40 @@ fn keys_by_a_closure(rt: HostRuntime) -> Result<(), Fail> {
     Ok(())
 }
 
-// A map hands over its pairs: to a map over the same store, to one over another, and one by one.
-fn hand_over<V: Copy + PartialEq, S, T>(
-    rt: &impl Abort,
+// Whether what a map hands over, pair by pair, is this list.
+fn hands_over<V: Copy + PartialEq, S: StoreIntoIterator<u8, V> + Drop>(
+    map: LiteMap<u8, V, S>,
+    list: &[(u8, V)],
+) -> bool {
+    let mut left = list;
+    for pair in map {
+        match left.split_first() {
+            Some((first, rest)) if *first == pair => left = rest,
+            _ => return false,
+        }
+    }
+    left.is_empty()
+}
+
+// Whether a map hands over its pairs to one over another store, and that one hands them over one by one.
+fn moves_on<V: Copy + PartialEq, S, T>(
+    alloc: Global,
+    map: LiteMap<u8, V, S>,
+    list: &[(u8, V)],
+) -> Result<bool, AllocError>
+where
+    S: StoreIntoIterator<u8, V>,
+    T: StoreIntoIterator<u8, V> + StoreFromIterable<u8, V> + Drop,
+{
+    let other: LiteMap<u8, V, T> = moved(alloc, map)?;
+    Ok(hands_over(other, list))
+}
+
+// Whether the map of a list hands over its pairs to one over the same store, and that one to one over another.
+fn is_handed_on<V: Copy + PartialEq, S, T>(
     alloc: Global,
     list: &[(u8, V)],
-) -> Result<(), Fail>
+) -> Result<[bool; 2], AllocError>
 where
     S: StoreMut<u8, V> + StoreIntoIterator<u8, V> + StoreFromIterable<u8, V> + Drop,
     T: StoreIntoIterator<u8, V> + StoreFromIterable<u8, V> + Drop,
@@ -125,23 +198,39 @@ where
     let map: LiteMap<u8, V, S> = map_of(alloc, list, 4)?;
     let again: LiteMap<u8, V, S> = LiteMap::from_iter(alloc, map)?;
     let is_same = list_of(alloc, &again)?.as_slice() == list;
-    let other: LiteMap<u8, V, T> = moved(alloc, again)?;
-    let mut left = list;
-    for pair in other {
-        assert!(rt; is_same && left.first() == Some(&pair));
-        left = left.get(1..).unwrap_or(&[]);
-    }
-    assert!(rt; left.is_empty());
-    Ok(())
+    Ok([is_same, moves_on::<V, S, T>(alloc, again, list)?])
+}
+
+// Whether three stores hand on the pairs of a list: the first to the second one, the second to both others, and the third
+// to the first.
+fn are_handed_on<V: Copy + PartialEq, S, T, U>(
+    alloc: Global,
+    list: &[(u8, V)],
+) -> Result<[[bool; 2]; 4], AllocError>
+where
+    S: StoreMut<u8, V> + StoreIntoIterator<u8, V> + StoreFromIterable<u8, V> + Drop,
+    T: StoreMut<u8, V> + StoreIntoIterator<u8, V> + StoreFromIterable<u8, V> + Drop,
+    U: StoreMut<u8, V> + StoreIntoIterator<u8, V> + StoreFromIterable<u8, V> + Drop,
+{
+    Ok([
+        is_handed_on::<V, S, T>(alloc, list)?,
+        is_handed_on::<V, T, S>(alloc, list)?,
+        is_handed_on::<V, T, U>(alloc, list)?,
+        is_handed_on::<V, U, S>(alloc, list)?,
+    ])
 }
 
 #[test]
 fn pairs_by_value(rt: HostRuntime) -> Result<(), Fail> {
+    type Text = &'static str;
     for list in MAPS {
-        hand_over::<&str, Vec<(u8, &str)>, FixedRoom<u8, &str>>(&rt, rt.alloc(), list)?;
-        hand_over::<&str, FixedRoom<u8, &str>, Vec<(u8, &str)>>(&rt, rt.alloc(), list)?;
-        hand_over::<&str, FixedRoom<u8, &str>, ColumnStore<u8, &str>>(&rt, rt.alloc(), list)?;
-        hand_over::<&str, ColumnStore<u8, &str>, Vec<(u8, &str)>>(&rt, rt.alloc(), list)?;
+        let handed = are_handed_on::<
+            Text,
+            Vec<(u8, Text)>,
+            FixedRoom<u8, Text>,
+            ColumnStore<u8, Text>,
+        >(rt.alloc(), list)?;
+        assert_eq!(rt; handed, [[true; 2]; 4]);
     }
     Ok(())
 }

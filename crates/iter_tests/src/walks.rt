@@ -1,7 +1,7 @@
 //! What goes through the pairs, the keys and the values of a map, from both ends.
 use litemap::LiteMap;
 use litemap::store::{ColumnStore, StoreIterable, StoreMut};
-use std::process::Abort;
+use std::alloc::{AllocError, Global};
 use std::test::Fail;
 use test_support::fixed_room::FixedRoom;
 use test_support::lists::map_of;
@@ -61,29 +61,59 @@ fn are_met<'a, V: PartialEq, S: StoreIterable<'a, u8, V>>(
     true
 }
 
+// Whether they are met in each order of the steps.
+fn are_met_each_way<'a, V: PartialEq, S: StoreIterable<'a, u8, V>>(
+    map: &'a LiteMap<u8, V, S>,
+    list: &'a [(u8, V)],
+) -> bool {
+    for steps in STEPS {
+        if !are_met(map, list, steps) {
+            return false;
+        }
+    }
+    true
+}
+
+// Over a vector, and over a slice of it.
+fn are_met_in_vector(alloc: Global, list: &[(u8, u32)]) -> Result<[bool; 2], AllocError> {
+    let map: LiteMap<u8, u32, Vec<(u8, u32)>> = map_of(alloc, list, 5)?;
+    let sliced = map.as_sliced();
+    Ok([
+        are_met_each_way(&map, list),
+        are_met_each_way(&sliced, list),
+    ])
+}
+
+fn are_met_in_fixed(alloc: Global, list: &[(u8, u32)]) -> Result<bool, AllocError> {
+    let map: LiteMap<u8, u32, FixedRoom<u8, u32>> = map_of(alloc, list, 5)?;
+    Ok(are_met_each_way(&map, list))
+}
+
+fn are_met_in_columns(alloc: Global, list: &[(u8, u32)]) -> Result<bool, AllocError> {
+    let map: LiteMap<u8, u32, ColumnStore<u8, u32>> = map_of(alloc, list, 5)?;
+    Ok(are_met_each_way(&map, list))
+}
+
 #[test]
 fn from_both_ends(rt: HostRuntime) -> Result<(), Fail> {
+    let alloc = rt.alloc();
     for list in MAPS {
-        let map: LiteMap<u8, u32, Vec<(u8, u32)>> = map_of(rt.alloc(), list, 5)?;
-        let fixed: LiteMap<u8, u32, FixedRoom<u8, u32>> = map_of(rt.alloc(), list, 5)?;
-        let columns: LiteMap<u8, u32, ColumnStore<u8, u32>> = map_of(rt.alloc(), list, 5)?;
-        let sliced = map.as_sliced();
-        for steps in STEPS {
-            assert!(rt;
-                are_met(&map, list, steps)
-                    && are_met(&fixed, list, steps)
-                    && are_met(&columns, list, steps)
-                    && are_met(&sliced, list, steps)
-            );
-        }
+        let [in_vector, in_slice] = are_met_in_vector(alloc, list)?;
+        let met = [
+            in_vector,
+            in_slice,
+            are_met_in_fixed(alloc, list)?,
+            are_met_in_columns(alloc, list)?,
+        ];
+        assert_eq!(rt; met, [true; 4]);
     }
     Ok(())
 }
 
 // How many keys there are, some of them from both ends, and how many are then left.
-fn some_keys<'a, V: 'a, S: StoreIterable<'a, u8, V>>(
-    map: &'a LiteMap<u8, V, S>,
-) -> (usize, [Option<u8>; 5], usize) {
+type SomeKeys = (usize, [Option<u8>; 5], usize);
+
+fn some_keys<'a, V: 'a, S: StoreIterable<'a, u8, V>>(map: &'a LiteMap<u8, V, S>) -> SomeKeys {
     let mut keys = map.keys();
     let len = keys.len();
     let met = [
@@ -96,14 +126,32 @@ fn some_keys<'a, V: 'a, S: StoreIterable<'a, u8, V>>(
     (len, met, keys.len())
 }
 
+// The same of a map of three pairs, over a vector and over a store with a fixed room.
+fn keys_of_three(alloc: Global) -> Result<[SomeKeys; 2], AllocError> {
+    let list = [(1, "a"), (2, "b"), (3, "c")];
+    let map: LiteMap<u8, &str, Vec<(u8, &str)>> = map_of(alloc, &list, 3)?;
+    let fixed: LiteMap<u8, &str, FixedRoom<u8, &str>> = map_of(alloc, &list, 3)?;
+    Ok([some_keys(&map), some_keys(&fixed)])
+}
+
 #[test]
 fn keys_until_there_are_none(rt: HostRuntime) -> Result<(), Fail> {
-    let list = [(1, "a"), (2, "b"), (3, "c")];
     let met = (3, [Some(1), Some(3), Some(2), None, None], 0);
-    let map: LiteMap<u8, &str, Vec<(u8, &str)>> = map_of(rt.alloc(), &list, 3)?;
-    let fixed: LiteMap<u8, &str, FixedRoom<u8, &str>> = map_of(rt.alloc(), &list, 3)?;
-    assert!(rt; some_keys(&map) == met && some_keys(&fixed) == met);
+    assert!(rt; keys_of_three(rt.alloc())? == [met; 2]);
     Ok(())
+}
+
+// The totals of the map of a list: over a vector, and over a slice of it.
+fn totals_in_vector(alloc: Global, list: &[(u8, u32)]) -> Result<[Option<u32>; 2], AllocError> {
+    let map: LiteMap<u8, u32, Vec<(u8, u32)>> = map_of(alloc, list, 5)?;
+    let sliced = map.as_sliced();
+    Ok([total(&map), total(&sliced)])
+}
+
+// Over a store with a fixed room.
+fn total_in_fixed(alloc: Global, list: &[(u8, u32)]) -> Result<Option<u32>, AllocError> {
+    let map: LiteMap<u8, u32, FixedRoom<u8, u32>> = map_of(alloc, list, 5)?;
+    Ok(total(&map))
 }
 
 #[test]
@@ -114,13 +162,8 @@ fn totals(rt: HostRuntime) -> Result<(), Fail> {
         (MAPS[3], Some(298)),
         (&[(1, u32::MAX), (2, 1)], None),
     ] {
-        let map: LiteMap<u8, u32, Vec<(u8, u32)>> = map_of(rt.alloc(), list, 5)?;
-        let fixed: LiteMap<u8, u32, FixedRoom<u8, u32>> = map_of(rt.alloc(), list, 5)?;
-        assert!(rt;
-            total(&map) == expected
-                && total(&fixed) == expected
-                && total(&map.as_sliced()) == expected
-        );
+        assert_eq!(rt; totals_in_vector(rt.alloc(), list)?, [expected; 2]);
+        assert_eq!(rt; total_in_fixed(rt.alloc(), list)?, expected);
     }
     Ok(())
 }
