@@ -1,5 +1,5 @@
-//! Reads and writes name tables: each line of standard input asks for something of a table, and standard output has
-//! what answers it.
+//! A caller of name tables (`languages`), and a program that reads and writes them: each line of standard input asks for
+//! something of a table, and standard output has what answers it.
 //!
 //! A line is words parted by one space. Bytes are given in hexadecimal, and `-` stands for none.
 //!
@@ -15,6 +15,7 @@
 //! The last three read each case by the slow reader too, and tell how often it answered otherwise.
 #![tactic(auto)]
 
+pub mod languages;
 mod lines;
 mod slow;
 mod sweeps;

@@ -1,11 +1,14 @@
-//! Reads JSON texts as maps, and writes the maps as JSON: each line of standard input is `TYPES TEXT`, and the line
-//! that answers it is what the map is written as, or why it was not read or not written.
+//! Types of a caller's own as keys of maps that are written as JSON, and a program that reads JSON texts as maps, and writes the
+//! maps as JSON: each line of standard input is `TYPES TEXT`, and the line that answers it is what the map is written as, or why
+//! it was not read or not written.
 //!
 //! `TYPES` names the types of the keys and of the items: see `rows`. `bin/json-rows` makes the input and tells the
 //! answers.
 #![tactic(auto)]
 
 mod evens;
+pub mod levels;
+pub mod limits;
 mod rows;
 
 use std::io;

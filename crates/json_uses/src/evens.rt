@@ -2,7 +2,7 @@
 ghost use Rattle.std.specs.Prelude.{◌==◌, ◌%◌, if◌then◌else◌, None, Some, decimal, pos};
 ghost use Rattle.litemap_json_items.specs.Item.{unsigned_fits, whole_item, whole_json};
 ghost use Rattle.litemap_json_items.specs.OneTree.{unsigned_one_tree};
-ghost use Rattle.json_rows.specs.Evens.{even_key};
+ghost use Rattle.json_uses.specs.Evens.{even_key};
 
 use litemap_json::{ItemFault, JsonItem, JsonKey};
 use serde_json::Value;

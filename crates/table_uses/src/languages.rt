@@ -1,8 +1,6 @@
 //! Names of languages: those that a program has in itself, and those that a translator sends as a name table.
 //! A map is laid over the program's table for one look-up and takes no memory. The translator's bytes are read into a map
 //! whose texts are slices of them, and what such a table can't be read by is told with its place.
-#![tactic(auto)]
-
 ghost use Rattle.std.specs.Prelude.{◌≡◌, IfErr, IfOk};
 ghost use Rattle.litemap.specs.ByBytes.{by_bytes};
 ghost use Rattle.litemap_read.specs.ReadFault.{IfSource};
