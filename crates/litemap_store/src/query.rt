@@ -47,6 +47,12 @@ pub trait Query<K: Ord>: Copy {
     ghost order: { K → Sought → Ordering };
 
     /// How the key stands to the query: `Less` where it is below it.
+    ///
+    /// ```rust
+    /// fn compare_key(&self, key: &Person) -> Ordering {
+    ///     key.number.cmp(&self.0)
+    /// }
+    /// ```
     fn compare_key(&self, key: &K) -> Ordering
         ensures { result ≡ order key.now (sought self.now) };
 

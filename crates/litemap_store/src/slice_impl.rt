@@ -36,6 +36,13 @@ impl<'a, K, V> Copy for SliceStore<'a, K, V> {}
 
 impl<'a, K, V> SliceStore<'a, K, V> {
     /// The store of the slice's pairs.
+    ///
+    /// ```rust
+    /// const CAPITALS: &[(&str, u32)] = &[("Lima", 51), ("Oslo", 47), ("Rome", 39)];
+    /// // ...
+    /// let capitals = LiteMap::from_sorted_store_unchecked(SliceStore::new(CAPITALS));
+    /// capitals.const_get_with_index("Oslo") == Some((1, &47))
+    /// ```
     pub fn new(pairs: &'a [(K, V)]) -> Self
         ensures { result.pairs.now ≡ pairs.now }
     {
