@@ -18,7 +18,6 @@ pub(crate) fn whole(value: &Value) -> Result<i128, ItemFault>
 }
 
 /// The whole number that is printed as this text: no plus sign, no leading zeros, `-` only before a negative number.
-
 pub(crate) fn printed(alloc: Global, text: &str) -> Result<Option<i128>, AllocError>
     ensures { IfOk result (λ number. number ≡ kept (signed_fits 127) (whole_of_text text.now)) }
 {
