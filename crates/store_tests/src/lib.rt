@@ -1,11 +1,20 @@
-//! Tests of what stands below the map: the count, the refusal, the calls of the stores, their search,
-//! and the slow scans.
+//! Tests of what stands below the map: the count, the refusal, the calls of the stores, their search, and the slow scans;
+//! and of two columns as a store, beside a vector and a store with a fixed room: one body each for all three, of bulk input
+//! and counted keys too. The calls of a map over columns that are not here run in the tests by kind of call.
 #![tactic(auto)]
 
 #[cfg(test)]
+mod bulk;
+#[cfg(test)]
 mod calls;
 #[cfg(test)]
+mod comparisons;
+#[cfg(test)]
 mod counts;
+#[cfg(test)]
+mod joined;
+#[cfg(test)]
+mod letters;
 #[cfg(test)]
 mod looks;
 #[cfg(test)]
@@ -14,3 +23,5 @@ mod rooms;
 mod scans;
 #[cfg(test)]
 mod searches;
+#[cfg(test)]
+mod turns;

@@ -1,5 +1,5 @@
 //! Stores that are made of pairs, put behind and before others, and handed over pair by pair.
-use crate::calls::has;
+use crate::looks::has_pairs;
 use litemap::store::{ColumnStore, StoreFromIterator, StoreIntoIterator, StoreMut};
 use std::alloc::{AllocError, Global};
 use std::test::Fail;
@@ -56,7 +56,7 @@ fn joins<S: StoreFromIterator<u32, u32> + StoreIntoIterator<u32, u32> + Drop>(
     } else {
         own
     };
-    Ok(is_taken && has(&store, all) && hands_over(store, all))
+    Ok(is_taken && has_pairs(&store, all) && hands_over(store, all))
 }
 
 // The places of the first parts of the pairs that are not joined.

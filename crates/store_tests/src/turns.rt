@@ -1,5 +1,6 @@
 //! Calls of a store that a generator picks, beside the same changes of a vector by std's own calls.
-use litemap::store::{ColumnStore, Store, StoreBulkMut, StoreMut};
+use crate::looks::has_pairs;
+use litemap::store::{ColumnStore, StoreBulkMut, StoreMut};
 use std::alloc::{AllocError, Global};
 use std::mem;
 use std::test::Fail;
@@ -16,35 +17,6 @@ fn next(state: &mut u32) -> u32 {
 // One below a limit.
 fn below(state: &mut u32, limit: usize) -> usize {
     (next(state) as usize).checked_rem(limit).unwrap_or(0)
-}
-
-// Whether the store has this pair at this place.
-fn has_at<S: Store<u32, u32>>(store: &S, place: usize, pair: (u32, u32)) -> bool {
-    match store.lm_get(place) {
-        Some((key, value)) => (*key, *value) == pair,
-        None => false,
-    }
-}
-
-// Whether the last pair of the store is this one.
-fn has_last<S: Store<u32, u32>>(store: &S, last: Option<&(u32, u32)>) -> bool {
-    match store.lm_last() {
-        Some((key, value)) => last == Some(&(*key, *value)),
-        None => last.is_none(),
-    }
-}
-
-/// Whether the store has these pairs, at each place and past the end.
-pub fn has<S: Store<u32, u32>>(store: &S, pairs: &[(u32, u32)]) -> bool {
-    for (place, pair) in pairs.iter().enumerate() {
-        if !has_at(store, place, *pair) {
-            return false;
-        }
-    }
-    store.lm_len() == pairs.len()
-        && store.lm_is_empty() == pairs.is_empty()
-        && store.lm_get(pairs.len()).is_none()
-        && has_last(store, pairs.last())
 }
 
 // Puts a pair in, at the end or at a place.
@@ -126,7 +98,7 @@ fn first_wrong<S: StoreBulkMut<u32, u32>>(
 ) -> Result<Option<u32>, AllocError> {
     let mut state = 1u32;
     for turn in 0..1200u32 {
-        if !take_turn(store, pairs, &mut state, turn)? || !has(store, pairs) {
+        if !take_turn(store, pairs, &mut state, turn)? || !has_pairs(store, pairs) {
             return Ok(Some(turn));
         }
     }
@@ -139,9 +111,9 @@ fn keeps_up<S: StoreBulkMut<u32, u32>>(alloc: Global) -> Result<bool, AllocError
     let mut pairs: Pairs = Vec::new(alloc);
     let is_alike = first_wrong(&mut store, &mut pairs)?.is_none();
     store.lm_reserve(1)?;
-    let is_kept = has(&store, &pairs);
+    let is_kept = has_pairs(&store, &pairs);
     store.lm_clear();
-    Ok(is_alike && is_kept && has(&store, &[]))
+    Ok(is_alike && is_kept && has_pairs(&store, &[]))
 }
 
 #[test]
