@@ -1,10 +1,10 @@
 //! Calls of a map of one byte's keys and values. A text tells a list of pairs, two bytes a pair, its key and its value.
 use crate::keys::Coded;
-use litemap::store::{StoreBulkMut, StoreFromIterable, StoreIntoIterator, StoreMut};
+use litemap::store::{NoRoom, Store, StoreBulkMut, StoreFromIterable, StoreIntoIterator, StoreMut};
 use litemap::{Entry, LiteMap};
 use std::alloc::{AllocError, Global};
 use std::mem;
-use test_support::lists::{list_of, map_of};
+use test_support::lists::map_of;
 
 /// A text.
 pub type Text = &'static [u8];
@@ -62,42 +62,82 @@ fn pairs_of<K: Coded>(alloc: Global, text: &[u8]) -> Result<Vec<(K, u8)>, AllocE
     Ok(pairs)
 }
 
-// The text that tells a list of pairs.
-fn text_of<K: Coded>(alloc: Global, pairs: &[(K, u8)]) -> Result<Vec<u8>, AllocError> {
-    let mut text = Vec::new(alloc);
-    for (key, value) in pairs {
-        text.push(key.code())?;
-        text.push(*value)?;
-    }
-    Ok(text)
+// The map of the pairs that a text tells.
+fn map_told<K: Coded, S: StoreMut<K, u8> + Drop>(
+    alloc: Global,
+    text: &[u8],
+) -> Result<LiteMap<K, u8, S>, AllocError> {
+    let pairs = pairs_of(alloc, text)?;
+    map_of(alloc, &pairs, 16)
 }
 
-// A pair that came back.
-fn shown_back<K: Coded>(back: Option<(K, u8)>) -> Shown {
-    match back {
-        Some((key, value)) => (Some(key.code()), Some(value)),
-        None => (None, None),
+// Whether a map has the pairs that a text tells, in their order, and no others.
+fn is_told<K: Coded, S: Store<K, u8>>(map: &LiteMap<K, u8, S>, text: &[u8]) -> bool {
+    for (place, pair) in text.chunks(2).enumerate() {
+        let Some((key, value)) = map.get_indexed(place) else {
+            return false;
+        };
+        if pair != [key.code(), *value].as_slice() {
+            return false;
+        }
+    }
+    map.len() == text.len() / 2
+}
+
+// Whether a text tells an answer.
+fn is_shown((first, value): Shown, text: &[u8]) -> bool {
+    match (first.or(value), first.and(value)) {
+        (None, _) => text.is_empty(),
+        (Some(one), None) => text == [one].as_slice(),
+        (Some(one), Some(two)) => text == [one, two].as_slice(),
     }
 }
 
-// Makes a call by a key.
-fn call_by_key<K: Coded, S: StoreMut<K, u8>>(
+// The value that a put drove out.
+fn shown_old<K: Coded>(old: Result<Option<u8>, NoRoom<(K, u8)>>) -> Result<Shown, AllocError> {
+    Ok((None, old?))
+}
+
+// The pair that a put handed back.
+fn shown_back<K: Coded>(
+    back: Result<Option<(K, u8)>, NoRoom<(K, u8)>>,
+) -> Result<Shown, AllocError> {
+    match back? {
+        Some((key, value)) => Ok((Some(key.code()), Some(value))),
+        None => Ok((None, None)),
+    }
+}
+
+// Makes a call that puts a pair.
+fn call_by_put<K: Coded, S: StoreMut<K, u8>>(
     map: &mut LiteMap<K, u8, S>,
     call: Call,
     (key, value): (K, u8),
 ) -> Result<Shown, AllocError> {
-    Ok(match call {
-        Call::Insert => (None, map.insert(key, value)?),
-        Call::TryInsert => shown_back(map.try_insert(key, value)?),
-        Call::TryAppend => shown_back(map.try_append(key, value)?),
+    match call {
+        Call::Insert => shown_old(map.insert(key, value)),
+        Call::TryInsert => shown_back(map.try_insert(key, value)),
+        Call::TryAppend => shown_back(map.try_append(key, value)),
+        _ => Ok((None, Some(*map.entry(key).or_insert(value)?))),
+    }
+}
+
+// Writes the value that a map lends, and answers the old one.
+fn written(slot: Option<&mut u8>, value: u8) -> Option<u8> {
+    Some(mem::replace(slot?, value))
+}
+
+// Makes a call that takes no memory.
+fn call_in_place<K: Coded, S: StoreMut<K, u8>>(
+    map: &mut LiteMap<K, u8, S>,
+    call: Call,
+    (key, value): (K, u8),
+) -> Shown {
+    match call {
         Call::Remove => (None, map.remove(&key)),
-        Call::OrInsert => (None, Some(*map.entry(key).or_insert(value)?)),
-        Call::Write => (
-            None,
-            map.get_mut(&key).map(|slot| mem::replace(slot, value)),
-        ),
+        Call::Write => (None, written(map.get_mut(&key), value)),
         _ => (None, map.get(&key).copied()),
-    })
+    }
 }
 
 // The digit of a place.
@@ -162,56 +202,65 @@ fn call_by_one<K: Coded, S: StoreMut<K, u8>>(
     match call {
         Call::GetOrInsert | Call::FindOrInsert => call_by_making(map, call, pair),
         Call::EntryInsert | Call::EntryRemove => call_by_entry(map, call, pair),
-        _ => call_by_key(map, call, pair),
+        Call::Remove | Call::Write | Call::Get => Ok(call_in_place(map, call, pair)),
+        _ => call_by_put(map, call, pair),
     }
 }
 
-// Makes a call of many pairs: the text of what a merge leaves over.
-fn call_by_many<K: Coded, S>(
+// Merges pairs into a map. Whether what is left over is what a text tells.
+fn is_merged<K: Coded, S: StoreIntoIterator<K, u8> + Drop>(
+    alloc: Global,
+    map: &mut LiteMap<K, u8, S>,
+    pairs: &[(K, u8)],
+    text: &[u8],
+) -> Result<bool, AllocError> {
+    let other: LiteMap<K, u8, S> = map_of(alloc, pairs, 16)?;
+    match map.extend_from_litemap(alloc, other) {
+        Ok(Some(rest)) => Ok(is_told(&rest, text)),
+        Ok(None) => Ok(text.is_empty()),
+        Err(_) => Err(AllocError),
+    }
+}
+
+// Makes a call of many pairs. Whether a text tells its answer.
+fn is_taken<K: Coded, S>(
     alloc: Global,
     map: &mut LiteMap<K, u8, S>,
     call: Call,
     pairs: Vec<(K, u8)>,
-) -> Result<Vec<u8>, AllocError>
+    text: &[u8],
+) -> Result<bool, AllocError>
 where
     S: StoreBulkMut<K, u8> + StoreFromIterable<K, u8> + StoreIntoIterator<K, u8>,
 {
     match call {
         Call::Extend => map.extend(alloc, pairs)?,
         Call::FromIter => *map = LiteMap::from_iter(alloc, pairs)?,
-        _ => {
-            let other: LiteMap<K, u8, S> = map_of(alloc, &pairs, 16)?;
-            if let Some(rest) = map.extend_from_litemap(alloc, other)? {
-                return text_of(alloc, &list_of(alloc, &rest)?);
-            }
-        }
+        _ => return is_merged(alloc, map, &pairs, text),
     }
-    Ok(Vec::new(alloc))
+    Ok(text.is_empty())
 }
 
-// Makes a call: the text of its answer.
-fn answer_of<K: Coded, S>(
+// Makes a call of the pairs that a text tells. Whether another one tells its answer.
+fn is_answered<K: Coded, S>(
     alloc: Global,
     map: &mut LiteMap<K, u8, S>,
     call: Call,
-    pairs: Vec<(K, u8)>,
-) -> Result<Vec<u8>, AllocError>
+    given: &[u8],
+    text: &[u8],
+) -> Result<bool, AllocError>
 where
     S: StoreBulkMut<K, u8> + StoreFromIterable<K, u8> + StoreIntoIterator<K, u8>,
 {
     if matches!(call, Call::Extend | Call::FromIter | Call::Merge) {
-        return call_by_many(alloc, map, call, pairs);
+        let pairs = pairs_of(alloc, given)?;
+        return is_taken(alloc, map, call, pairs, text);
     }
-    let mut text = Vec::new(alloc);
-    if let Some(pair) = pairs.first() {
-        let (key, value) = call_by_one(map, call, *pair)?;
-        for byte in [key, value] {
-            if let Some(byte) = byte {
-                text.push(byte)?;
-            }
-        }
-    }
-    Ok(text)
+    let [code, value, ..] = given else {
+        return Ok(false);
+    };
+    let shown = call_by_one(map, call, (K::of(*code), *value))?;
+    Ok(is_shown(shown, text))
 }
 
 // Whether a row's call answers and leaves what the row says.
@@ -219,11 +268,10 @@ fn is_right<K: Coded, S>(alloc: Global, row: Row) -> Result<bool, AllocError>
 where
     S: StoreBulkMut<K, u8> + StoreFromIterable<K, u8> + StoreIntoIterator<K, u8>,
 {
-    let (call, old, new, answer, left) = row;
-    let mut map: LiteMap<K, u8, S> = map_of(alloc, &pairs_of(alloc, old)?, 16)?;
-    let found = answer_of(alloc, &mut map, call, pairs_of(alloc, new)?)?;
-    let now = text_of(alloc, &list_of(alloc, &map)?)?;
-    Ok(found.as_slice() == answer && now.as_slice() == left)
+    let (call, old, given, answer, left) = row;
+    let mut map: LiteMap<K, u8, S> = map_told(alloc, old)?;
+    let is_answered = is_answered(alloc, &mut map, call, given, answer)?;
+    Ok(is_answered && is_told(&map, left))
 }
 
 /// The number of the first row that isn't answered right, over one store.
