@@ -1,7 +1,15 @@
-//! Tests that call a map as a user would, of what no contract says: over a vector, and over a store with a
-//! fixed room.
+//! Tests that call a map as a user would, of what neither a contract nor a line of `replay` says: over a vector, and over a
+//! store with a fixed room. Of the calls that change a map or take many pairs these are: that room is there where memory is
+//! ample, what `try_get_or_insert` leaves, how often bulk input compares, the counted calls at some lengths, that nothing is
+//! taken from what an iterator promises, and stores that are made of pairs.
 #![tactic(auto)]
 
+#[cfg(test)]
+mod ample;
+#[cfg(test)]
+mod bulk_comparisons;
+#[cfg(test)]
+mod bulk_counts;
 #[cfg(test)]
 mod callers;
 #[cfg(test)]
@@ -9,6 +17,14 @@ mod clones;
 #[cfg(test)]
 mod closures;
 #[cfg(test)]
+mod configuration;
+#[cfg(test)]
 mod counts;
+#[cfg(test)]
+mod hints;
+#[cfg(test)]
+mod kept;
+#[cfg(test)]
+mod made;
 #[cfg(test)]
 mod printing;
