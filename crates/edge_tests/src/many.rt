@@ -2,7 +2,7 @@
 ghost use Rattle.std.specs.Iterator.{at_most};
 
 use litemap::LiteMap;
-use litemap::store::{ColumnStore, StoreBulkMut, StoreFromIterable};
+use litemap::store::{ColumnStore, Store, StoreBulkMut, StoreFromIterable};
 use std::alloc::{AllocError, Global};
 use std::test::Fail;
 
@@ -54,7 +54,7 @@ fn falling_twice(number: u32, hint: Hint) -> Repeats {
 }
 
 // Whether a map has each key once, with the value of its second pair.
-fn has_last<S: StoreBulkMut<u32, u32>>(map: &LiteMap<u32, u32, S>, number: u32) -> bool {
+fn has_last<S: Store<u32, u32>>(map: &LiteMap<u32, u32, S>, number: u32) -> bool {
     for key in 0..number / 2 {
         let value = number.wrapping_sub(1).wrapping_sub(key.wrapping_mul(2));
         if map.get_indexed(key as usize) != Some((&key, &value)) {

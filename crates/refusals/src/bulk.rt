@@ -2,7 +2,9 @@
 use crate::maps::Numbers;
 use crate::stores::Growing;
 use litemap::LiteMap;
-use litemap::store::{Count, Store, StoreBulkMut, StoreFromIterable, StoreFromIterator};
+use litemap::store::{
+    Count, Store, StoreBulkMut, StoreConstEmpty, StoreFromIterable, StoreFromIterator,
+};
 use refusal_support::Outcome;
 use refusal_support::pairs::{LAST, PAIRS, SCATTERED, has, holds};
 use std::alloc::{AllocError, Global};
@@ -34,7 +36,10 @@ enum Input {
 }
 
 // A map of one pair, extended.
-fn extend<S: Growing>(alloc: Global, input: Input) -> Outcome {
+fn extend<S: StoreConstEmpty<u32, u32> + StoreBulkMut<u32, u32>>(
+    alloc: Global,
+    input: Input,
+) -> Outcome {
     let mut map: Numbers<S> = LiteMap::new(alloc);
     let [first, ..] = PAIRS;
     if let Err(refused) = map.insert(first.0, first.1) {
@@ -55,7 +60,7 @@ fn extend<S: Growing>(alloc: Global, input: Input) -> Outcome {
 }
 
 // The same as `extend`, of an empty store.
-fn lm_extend<S: Growing>(alloc: Global) -> Outcome {
+fn lm_extend<S: StoreConstEmpty<u32, u32> + StoreBulkMut<u32, u32>>(alloc: Global) -> Outcome {
     let mut store = S::lm_empty(alloc);
     match store.lm_extend(alloc, SCATTERED.iter().copied(), &mut Count::new()) {
         Ok(()) => Outcome::answered(holds(&store, &LAST)),
@@ -64,17 +69,17 @@ fn lm_extend<S: Growing>(alloc: Global) -> Outcome {
 }
 
 // A map of pairs in no order.
-fn from_iter<S: Growing>(alloc: Global) -> Outcome {
+fn from_iter<S: StoreFromIterable<u32, u32> + Drop>(alloc: Global) -> Outcome {
     made::<S>(LiteMap::from_iter(alloc, SCATTERED.iter().copied()))
 }
 
 // The same by `from_iter_counted`.
-fn from_iter_counted<S: Growing>(alloc: Global) -> Outcome {
+fn from_iter_counted<S: StoreFromIterable<u32, u32> + Drop>(alloc: Global) -> Outcome {
     made::<S>(LiteMap::from_iter_counted(alloc, SCATTERED.iter().copied(), &mut Count::new()))
 }
 
 // A store of pairs in no order.
-fn lm_sort_from_iter<S: Growing>(alloc: Global) -> Outcome {
+fn lm_sort_from_iter<S: StoreFromIterable<u32, u32> + Drop>(alloc: Global) -> Outcome {
     made_as(
         S::lm_sort_from_iter(alloc, SCATTERED.iter().copied(), &mut Count::new()),
         &LAST,
@@ -82,7 +87,7 @@ fn lm_sort_from_iter<S: Growing>(alloc: Global) -> Outcome {
 }
 
 // A store of pairs as they come.
-fn lm_from_pairs<S: Growing>(alloc: Global) -> Outcome {
+fn lm_from_pairs<S: StoreFromIterator<u32, u32> + Drop>(alloc: Global) -> Outcome {
     made_as(
         S::lm_from_pairs(alloc, SCATTERED.iter().copied()),
         &SCATTERED,
@@ -90,7 +95,7 @@ fn lm_from_pairs<S: Growing>(alloc: Global) -> Outcome {
 }
 
 // How the making of a map of the scattered pairs ended.
-fn made<S: Growing>(map: Result<Numbers<S>, AllocError>) -> Outcome {
+fn made<S: Store<u32, u32> + Drop>(map: Result<Numbers<S>, AllocError>) -> Outcome {
     match map {
         Ok(map) => Outcome::answered(has(&map, &LAST)),
         Err(_) => Outcome::Refused,
@@ -98,7 +103,10 @@ fn made<S: Growing>(map: Result<Numbers<S>, AllocError>) -> Outcome {
 }
 
 // How the making of a store of these pairs ended.
-fn made_as<S: Growing>(store: Result<S, AllocError>, pairs: &[(u32, u32)]) -> Outcome {
+fn made_as<S: Store<u32, u32> + Drop>(
+    store: Result<S, AllocError>,
+    pairs: &[(u32, u32)],
+) -> Outcome {
     match store {
         Ok(store) => Outcome::answered(holds(&store, pairs)),
         Err(_) => Outcome::Refused,

@@ -1,6 +1,5 @@
 //! The calls of a map that put pairs in one by one and take room.
-use crate::stores::Growing;
-use litemap::store::{Count, NoRoom};
+use litemap::store::{Count, NoRoom, StoreConstEmpty, StoreMut};
 use litemap::{Entry, LiteMap, TryFault};
 use refusal_support::Outcome;
 use refusal_support::pairs::{PAIRS, has};
@@ -10,7 +9,10 @@ use std::alloc::Global;
 pub type Numbers<S> = LiteMap<u32, u32, S>;
 
 /// Runs the scenario of a call over a kind of store, if there is one of this name.
-pub(crate) fn run<S: Growing>(alloc: Global, name: &str) -> Option<Outcome> {
+pub(crate) fn run<S: StoreConstEmpty<u32, u32> + StoreMut<u32, u32> + Drop>(
+    alloc: Global,
+    name: &str,
+) -> Option<Outcome> {
     match name {
         "with_capacity" => Some(with_capacity::<S>(alloc)),
         "reserve" => Some(reserve::<S>(alloc)),
@@ -64,7 +66,10 @@ impl Put {
 }
 
 // Puts pairs into an empty map, one by one.
-fn grow<S: Growing>(alloc: Global, call: Put) -> Outcome {
+fn grow<S: StoreConstEmpty<u32, u32> + StoreMut<u32, u32> + Drop>(
+    alloc: Global,
+    call: Put,
+) -> Outcome {
     let mut map: Numbers<S> = LiteMap::new(alloc);
     for place in 0..PAIRS.len() {
         let (key, value) = PAIRS[place];
@@ -80,7 +85,7 @@ fn grow<S: Growing>(alloc: Global, call: Put) -> Outcome {
 }
 
 // Puts in a pair whose key is above all others, and gives whether the answer was right.
-fn put_pair<S: Growing>(
+fn put_pair<S: StoreMut<u32, u32>>(
     map: &mut Numbers<S>,
     call: Put,
     key: u32,
@@ -112,7 +117,7 @@ fn put_pair<S: Growing>(
 
 // Puts in the default, and writes the value through the reference. Where it is refused the default has to
 // come back.
-fn put_default<S: Growing>(
+fn put_default<S: StoreMut<u32, u32>>(
     map: &mut Numbers<S>,
     key: u32,
     value: u32,
@@ -137,7 +142,7 @@ fn refused(fault: TryFault<u32, u32, u8>) -> Result<bool, NoRoom<(u32, u32)>> {
 }
 
 // Puts the pairs in, where there is room for all of them.
-fn fill<S: Growing>(map: &mut Numbers<S>, pairs: &[(u32, u32)]) -> Outcome {
+fn fill<S: StoreMut<u32, u32>>(map: &mut Numbers<S>, pairs: &[(u32, u32)]) -> Outcome {
     for (key, value) in pairs {
         if map.insert(*key, *value).is_err() {
             return Outcome::Wrong("less room than was asked for");
@@ -147,7 +152,7 @@ fn fill<S: Growing>(map: &mut Numbers<S>, pairs: &[(u32, u32)]) -> Outcome {
 }
 
 // A map with room for all pairs.
-fn with_capacity<S: Growing>(alloc: Global) -> Outcome {
+fn with_capacity<S: StoreMut<u32, u32> + Drop>(alloc: Global) -> Outcome {
     let made: Result<Numbers<S>, _> = LiteMap::with_capacity(alloc, PAIRS.len());
     match made {
         Ok(mut map) => fill(&mut map, &PAIRS),
@@ -156,7 +161,7 @@ fn with_capacity<S: Growing>(alloc: Global) -> Outcome {
 }
 
 // Room for all pairs, in a map of the first one.
-fn reserve<S: Growing>(alloc: Global) -> Outcome {
+fn reserve<S: StoreConstEmpty<u32, u32> + StoreMut<u32, u32> + Drop>(alloc: Global) -> Outcome {
     let mut map: Numbers<S> = LiteMap::new(alloc);
     let [first, ..] = PAIRS;
     if let Err(refused) = map.insert(first.0, first.1) {
@@ -169,7 +174,7 @@ fn reserve<S: Growing>(alloc: Global) -> Outcome {
 }
 
 // Entries of a full map that takes room for one pair more: what they lend needs no further memory.
-fn reserved_entries<S: Growing>(alloc: Global) -> Outcome {
+fn reserved_entries<S: StoreMut<u32, u32> + Drop>(alloc: Global) -> Outcome {
     let made: Result<Numbers<S>, _> = LiteMap::with_capacity(alloc, 1);
     let Ok(mut map) = made else {
         return Outcome::Refused;
@@ -185,7 +190,7 @@ fn reserved_entries<S: Growing>(alloc: Global) -> Outcome {
 }
 
 // Whether `or_insert` of a key and a value lends this value.
-fn lends<S: Growing>(map: &mut Numbers<S>, pair: (u32, u32), wanted: u32) -> bool {
+fn lends<S: StoreMut<u32, u32>>(map: &mut Numbers<S>, pair: (u32, u32), wanted: u32) -> bool {
     match map.entry(pair.0).or_insert(pair.1) {
         Ok(slot) => *slot == wanted,
         Err(_) => false,

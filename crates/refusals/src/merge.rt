@@ -1,14 +1,16 @@
 //! The calls that merge and join.
 use crate::maps::Numbers;
-use crate::stores::Growing;
-use litemap::store::{Count, Store, StoreFromIterator, StoreIntoIterator};
+use litemap::store::{Count, Store, StoreFromIterator, StoreIntoIterator, StoreMut};
 use refusal_support::Outcome;
 use refusal_support::pairs::{PAIRS, has, holds};
 use std::alloc::{AllocError, Global};
 use test_support::lists::map_of;
 
 /// Runs the scenario of a call over a kind of store, if there is one of this name.
-pub(crate) fn run<S: Growing>(alloc: Global, name: &str) -> Option<Outcome> {
+pub(crate) fn run<S: StoreIntoIterator<u32, u32> + StoreFromIterator<u32, u32> + Drop>(
+    alloc: Global,
+    name: &str,
+) -> Option<Outcome> {
     match name {
         "extend_from_litemap" => Some(merge_maps::<S>(alloc, Merge::Few)),
         "extend_from_litemap_counted" => Some(merge_maps::<S>(alloc, Merge::Counted)),
@@ -114,7 +116,7 @@ const MANY: Case = Case {
 };
 
 // A map merged into another. Each is made with room for its own pairs.
-fn merge_maps<S: Growing>(alloc: Global, merge: Merge) -> Outcome {
+fn merge_maps<S: StoreIntoIterator<u32, u32> + Drop>(alloc: Global, merge: Merge) -> Outcome {
     let case = match merge {
         Merge::Few | Merge::Counted => FEW,
         Merge::Many => MANY,
@@ -134,7 +136,7 @@ fn merge_maps<S: Growing>(alloc: Global, merge: Merge) -> Outcome {
 }
 
 // The two maps of a case.
-fn two_maps<S: Growing>(
+fn two_maps<S: StoreMut<u32, u32> + Drop>(
     alloc: Global,
     case: &Case,
 ) -> Result<(Numbers<S>, Numbers<S>), AllocError> {
@@ -144,7 +146,9 @@ fn two_maps<S: Growing>(
 }
 
 // A store is put behind another.
-fn lm_extend_end<S: Growing>(alloc: Global) -> Outcome {
+fn lm_extend_end<S: StoreIntoIterator<u32, u32> + StoreFromIterator<u32, u32> + Drop>(
+    alloc: Global,
+) -> Outcome {
     let Ok((mut low, high)) = halves::<S>(alloc) else {
         return Outcome::Refused;
     };
@@ -157,7 +161,9 @@ fn lm_extend_end<S: Growing>(alloc: Global) -> Outcome {
 }
 
 // A store is put before another.
-fn lm_extend_start<S: Growing>(alloc: Global) -> Outcome {
+fn lm_extend_start<S: StoreIntoIterator<u32, u32> + StoreFromIterator<u32, u32> + Drop>(
+    alloc: Global,
+) -> Outcome {
     let Ok((low, mut high)) = halves::<S>(alloc) else {
         return Outcome::Refused;
     };
@@ -170,7 +176,7 @@ fn lm_extend_start<S: Growing>(alloc: Global) -> Outcome {
 }
 
 // The first pair, and the others.
-fn halves<S: Growing>(alloc: Global) -> Result<(S, S), AllocError> {
+fn halves<S: StoreFromIterator<u32, u32> + Drop>(alloc: Global) -> Result<(S, S), AllocError> {
     let low = S::lm_from_pairs(alloc, PAIRS[..1].iter().copied())?;
     let high = S::lm_from_pairs(alloc, PAIRS[1..].iter().copied())?;
     Ok((low, high))

@@ -19,7 +19,10 @@ impl Growing for Vec<(u32, u32)> {}
 impl Growing for ColumnStore<u32, u32> {}
 
 /// Runs the scenario of a call over a kind of store, if there is one of this name.
-pub(crate) fn run<S: Growing>(alloc: Global, name: &str) -> Option<Outcome> {
+pub(crate) fn run<S: StoreConstEmpty<u32, u32> + StoreMut<u32, u32> + Drop>(
+    alloc: Global,
+    name: &str,
+) -> Option<Outcome> {
     match name {
         "lm_push" => Some(grow::<S>(alloc, Put::Push)),
         "lm_insert" => Some(grow::<S>(alloc, Put::Insert)),
@@ -39,7 +42,10 @@ enum Put {
 }
 
 // Puts pairs into an empty store, one by one.
-fn grow<S: Growing>(alloc: Global, call: Put) -> Outcome {
+fn grow<S: StoreConstEmpty<u32, u32> + StoreMut<u32, u32> + Drop>(
+    alloc: Global,
+    call: Put,
+) -> Outcome {
     let mut store = S::lm_empty(alloc);
     for place in 0..PAIRS.len() {
         let (key, value) = PAIRS[place];
@@ -59,7 +65,7 @@ fn grow<S: Growing>(alloc: Global, call: Put) -> Outcome {
 }
 
 // Puts the pairs in, where there is room for all of them.
-fn fill<S: Growing>(store: &mut S, pairs: &[(u32, u32)]) -> Outcome {
+fn fill<S: StoreMut<u32, u32>>(store: &mut S, pairs: &[(u32, u32)]) -> Outcome {
     for (key, value) in pairs {
         if store.lm_push(*key, *value).is_err() {
             return Outcome::Wrong("less room than was asked for");
@@ -69,7 +75,7 @@ fn fill<S: Growing>(store: &mut S, pairs: &[(u32, u32)]) -> Outcome {
 }
 
 // A store with room for all pairs.
-fn lm_with_capacity<S: Growing>(alloc: Global) -> Outcome {
+fn lm_with_capacity<S: StoreMut<u32, u32> + Drop>(alloc: Global) -> Outcome {
     match S::lm_with_capacity(alloc, PAIRS.len()) {
         Ok(mut store) => fill(&mut store, &PAIRS),
         Err(_) => Outcome::Refused,
@@ -77,7 +83,7 @@ fn lm_with_capacity<S: Growing>(alloc: Global) -> Outcome {
 }
 
 // Room for all pairs, in a store of the first one.
-fn lm_reserve<S: Growing>(alloc: Global) -> Outcome {
+fn lm_reserve<S: StoreConstEmpty<u32, u32> + StoreMut<u32, u32> + Drop>(alloc: Global) -> Outcome {
     let mut store = S::lm_empty(alloc);
     let [first, ..] = PAIRS;
     if let Err(refused) = store.lm_push(first.0, first.1) {
