@@ -3,8 +3,10 @@ ghost use Rattle.std.specs.Iterator.{at_most};
 
 use litemap::LiteMap;
 use litemap::store::{ColumnStore, Store, StoreBulkMut, StoreFromIterable};
+use litemap_read::read_pairs;
 use std::alloc::{AllocError, Global};
 use std::test::Fail;
+use test_support::sources::Script;
 
 // What an iterator says of the number of its pairs.
 #[derive(Clone, Copy, Debug, Drop)]
@@ -99,8 +101,38 @@ fn very_many_pairs(rt: HostRuntime) -> Result<(), Fail> {
         least: 1,
         most: None,
     };
-    let pairs = keeps_last::<Vec<(u32, u32)>>(rt.alloc(), 100_000, hint)?;
-    let columns = keeps_last::<ColumnStore<u32, u32>>(rt.alloc(), 100_000, hint)?;
+    let pairs = keeps_last::<Vec<(u32, u32)>>(rt.alloc(), 1_000_000, hint)?;
+    let columns = keeps_last::<ColumnStore<u32, u32>>(rt.alloc(), 1_000_000, hint)?;
     assert!(rt; pairs && columns);
+    Ok(())
+}
+
+// Whether a map that is read from a source of so many pairs, which promises one, has the last ones.
+fn reads_last<S: StoreBulkMut<u32, u32>>(alloc: Global, number: u32, pairs: &[(u32, u32)]) -> bool {
+    let mut source = Script::new(pairs);
+    source.hint = Some(1);
+    let read: Result<LiteMap<u32, u32, S>, _> = read_pairs(alloc, &mut source);
+    match read {
+        Ok(map) => has_last(&map, number),
+        Err(_) => false,
+    }
+}
+
+#[test]
+fn a_source_of_very_many_pairs(rt: HostRuntime) -> Result<(), Fail> {
+    let alloc = rt.alloc();
+    let hint = Hint {
+        least: 0,
+        most: None,
+    };
+    let mut pairs = Vec::new(alloc);
+    for pair in falling_twice(1_000_000, hint) {
+        pairs.push(pair)?;
+    }
+    let read = [
+        reads_last::<Vec<(u32, u32)>>(alloc, 1_000_000, &pairs),
+        reads_last::<ColumnStore<u32, u32>>(alloc, 1_000_000, &pairs),
+    ];
+    assert_eq!(rt; read, [true; 2]);
     Ok(())
 }
