@@ -16,7 +16,7 @@ type TextColumns = ColumnStore<String, String>;
 pub struct Calls;
 
 /// The names of the scenarios.
-const NAMES: [&str; 21] = [
+const NAMES: [&str; 22] = [
     "read_pairs",
     "read_pairs_hinted",
     "run_calls",
@@ -28,6 +28,7 @@ const NAMES: [&str; 21] = [
     "read_pairs_in_columns",
     "read_pairs_hinted_in_columns",
     "run_calls_in_columns",
+    "to_json_in_columns",
     "from_json_in_columns",
     "names_in_columns",
     "read_names",

@@ -21,7 +21,8 @@ const WORD: &str = "a word of more bytes than a block of memory for small texts 
 /// Runs the scenario of a call, if there is one of this name.
 pub(crate) fn run(alloc: Global, name: &str) -> Option<Outcome> {
     match name {
-        "to_json" => Some(to_json_object(alloc)),
+        "to_json" => Some(to_json_object::<Vec<(u32, String)>>(alloc)),
+        "to_json_in_columns" => Some(to_json_object::<ColumnStore<u32, String>>(alloc)),
         "from_json" => Some(from_json_object::<Vec<(u32, String)>>(alloc)),
         "from_json_in_columns" => Some(from_json_object::<ColumnStore<u32, String>>(alloc)),
         "json_array" => Some(json_array(alloc)),
@@ -35,7 +36,7 @@ pub(crate) fn run(alloc: Global, name: &str) -> Option<Outcome> {
 }
 
 // The map of words that a text spells; the value that it is read from takes the first requests.
-fn words(alloc: Global) -> Option<Words<Vec<(u32, String)>>> {
+fn words<S: StoreBulkMut<u32, String>>(alloc: Global) -> Option<Words<S>> {
     let value = Value::from_str(alloc, OBJECT).ok()?;
     from_json(alloc, &value).ok()
 }
@@ -55,8 +56,8 @@ fn ended(is_right: Option<bool>) -> Outcome {
 }
 
 // A map of words as an object.
-fn to_json_object(alloc: Global) -> Outcome {
-    let Some(map) = words(alloc) else {
+fn to_json_object<S: StoreBulkMut<u32, String>>(alloc: Global) -> Outcome {
+    let Some(map) = words::<S>(alloc) else {
         return Outcome::Refused;
     };
     match to_json(alloc, &map) {
