@@ -151,12 +151,18 @@ where
     ensures nothing_after { NoCallAfterFault writer.old writer.new }
 {
     let mut names = Names::<S>::new(alloc);
+    let mut kept = None;
     let mut rest = Some(input);
     let mut done = 0;
     while let Some(bytes) = rest {
         let (line, more) = first_line(bytes);
-        match reply(alloc, &mut names, line) {
-            Ok(Some(text)) => writer.write_all(text.as_bytes())?,
+        match reply(alloc, &mut names, &mut kept, line) {
+            Ok(Some((text, is_json))) => {
+                writer.write_all(text.as_bytes())?;
+                if is_json {
+                    kept = Some(text);
+                }
+            }
             Ok(None) => return Ok(LinesEnd::BadLine(done + 1)),
             Err(_) => return Ok(LinesEnd::NoMemory),
         }

@@ -1,5 +1,5 @@
 //! What answers each line.
-ghost use Rattle.std.specs.Prelude.{◌≡◌, ◌++◌, ℕ, List, Some, IfOk, IfSome, OnOk, MatchOption, flat_map};
+ghost use Rattle.std.specs.Prelude.{◌≡◌, ◌++◌, ℕ, List, Some, true, IfOk, IfSome, OnOk, MatchOption, flat_map};
 ghost use Rattle.std.specs.Prelude.{option_copied, option_map, slice_get, string_bytes};
 ghost use Rattle.std.specs.Cmp.Lexicographic.{slice_cmp};
 ghost use Rattle.std.specs.Ordering.{nat_cmp};
@@ -7,9 +7,9 @@ ghost use Rattle.litemap_store.specs.Pairs.{cut};
 ghost use Rattle.litemap_read.specs.declared.calls.Answer.TheVariants.{Place, Value};
 ghost use Rattle.litemap_read.specs.declared.calls.Call.TheVariants.{Find, Get, Insert, Remove};
 ghost use Rattle.names.specs.Line.{IsBad};
-ghost use Rattle.names.specs.Told.{Answers, Does, answer_text, pair_text, value_text};
+ghost use Rattle.names.specs.Told.{Answers, Does, IsJsonLine, answer_text, pair_text, value_text};
 ghost use Rattle.names.specs.Command.{DoesCommand};
-ghost use Rattle.names.specs.Texts.{names_of, pair_bytes};
+ghost use Rattle.names.specs.Texts.{IsKept, names_of, pair_bytes};
 
 use crate::json_line::json_line;
 use crate::lines::{Command, parse};
@@ -20,40 +20,71 @@ use std::alloc::{AllocError, Global};
 /// The names and their values, kept in a store.
 pub type Names<S> = LiteMap<String, String, S>;
 
-/// Does a line, and gives the text that answers it, or nothing if the line is bad.
+/// Does a line, and gives the text that answers it, and whether that is the map as JSON; or nothing if the line is bad.
+///
+/// A line of JSON may be handed in: `json` takes it, and a line that may change the names gives it up.
 pub fn reply<S: StoreMut<String, String>>(
     alloc: Global,
     names: &mut Names<S>,
+    kept: &mut Option<String>,
     line: &[u8],
-) -> Result<Option<String>, AllocError>
-    ensures { IfOk result (λ reply. MatchOption reply (IsBad line.now)
-        (λ text. Does (names_of names.old) line.now (string_bytes text) (names_of names.new))) }
+) -> Result<Option<(String, bool)>, AllocError>
+    requires { IsKept names.old kept.old }
+    ensures does { IfOk result (λ reply. MatchOption reply (IsBad line.now)
+        (λ said. Does (names_of names.old) line.now (string_bytes said.0) (names_of names.new))) }
+    ensures json { IfOk result (λ reply. IfSome reply
+        (λ said. said.1 ≡ true → IsJsonLine (names_of names.new).pairs (string_bytes said.0))) }
+    ensures kept { IsKept names.new kept.new }
 {
     if line.is_empty() {
-        return Ok(Some(String::new(alloc)));
+        return Ok(Some((String::new(alloc), false)));
     }
     let Some(command) = parse(line) else {
         return Ok(None);
     };
-    Ok(Some(answer(alloc, names, command)?))
+    let is_json = matches!(command, Command::Json);
+    let text = answer(alloc, names, kept, command)?;
+    Ok(Some((text, is_json)))
 }
 
 // Does a command, and gives the text that answers it.
 fn answer<S: StoreMut<String, String>>(
     alloc: Global,
     names: &mut Names<S>,
+    kept: &mut Option<String>,
     command: Command<'_>,
 ) -> Result<String, AllocError>
-    ensures { IfOk result
+    requires { IsKept names.old kept.old }
+    ensures does { IfOk result
         (λ text. DoesCommand (names_of names.old) command.entry (string_bytes text) (names_of names.new)) }
+    ensures kept { IsKept names.new kept.new }
 {
+    if let Command::Put(_, _) | Command::Del(_) = command {
+        *kept = None;
+    }
     match command {
         Command::Put(key, value) => insert(alloc, names, key, value),
         Command::Get(key) => get(alloc, names, key),
         Command::Del(key) => remove(alloc, names, key),
         Command::Find(key) => find(alloc, names, key),
         Command::All => show(alloc, names),
-        Command::Json => json_line(alloc, names),
+        Command::Json => json(alloc, names, kept),
+    }
+}
+
+// The map as JSON, on one line: the one that is kept, or one that is made now.
+fn json<S: Store<String, String>>(
+    alloc: Global,
+    names: &Names<S>,
+    kept: &mut Option<String>,
+) -> Result<String, AllocError>
+    requires { IsKept names.now kept.old }
+    ensures line { IfOk result (λ text. IsJsonLine (names_of names.now).pairs (string_bytes text)) }
+    ensures kept { IsKept names.now kept.new }
+{
+    match kept.take() {
+        Some(text) => Ok(text),
+        None => json_line(alloc, names),
     }
 }
 

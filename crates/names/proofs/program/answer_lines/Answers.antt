@@ -1,18 +1,20 @@
 use Rattle.std.proofs.Common.{◌+◌, ◌≤◌, ◌++◌, ◌∷◌, [], sym, ◌∙◌, subst, arith, length-append}
 use Rattle.std.proofs.KnownBytes.{Appends-trans}
-use Rattle.names.specs.Texts.{names_of}
+use Rattle.names.specs.Texts.{IsKept, names_of}
 use Rattle.names.specs.Told.{Does, DoesEach}
 use Rattle.names.specs.Rest.{bytes_left, lines_left}
 use Rattle.names.proofs.Tolds.{does_more, line_over, fewer_left, joined}
 use Rattle.names.proofs.Notes.{on_err, then_nothing_after}
 use Rattle.names.proofs.program.answer_lines.Goals as goal
+use Rattle.names.proofs.program.answer_lines.Goals.{then-is_json, else-is_json}
 
 pub loop-rest-preserved : goal.loop-rest-preserved
 loop-rest-preserved g c =
     let (before, text, e, n, appended, start, empty, each) = c.loop-rest.invariant.passed in
     let line = c.first_line.result.0.now in
     let more = c.as_bytes.result.now in
-    let did = rw c.in-Ok-Some.field-0-is at c.in-Ok-Some.ensures in
+    let did = rw c.in-Ok-Some.field-0-is at c.in-Ok-Some.ensures.does in
+    let json = rw c.in-Ok-Some.field-0-is at c.in-Ok-Some.ensures.json in
     let fewer : bytes_left c.first_line.result.1 + 1 ≤ bytes_left c.loop-rest.rest = fewer_left c.loop-rest.rest c.first_line.result.1 c.in-Some.bytes c.in-Some.is c.first_line.ensures.shorter in
     record {
       passed = (
@@ -25,6 +27,10 @@ loop-rest-preserved g c =
         empty,
         does_more start _ _ before line text more each (subst (λ t. Does (names_of c.loop-rest.names) line t (names_of c.reply.new.names)) (sym c.as_bytes.ensures.value) did),
       );
+      kept = elim c.if-is_json.branch [
+        | then-is_json w ↦ subst (IsKept c.reply.new.names) (sym w.kept-is) (json w.if-is_json.true)
+        | else-is_json w ↦ subst (IsKept c.reply.new.names) (sym w.kept-is) c.reply.ensures.kept
+      ];
       counted = omega (arith, fewer, c.loop-rest.invariant.counted);
       unfailed = c.in_ok-write_all-in-Ok-Some.ensures.ok ∙ c.loop-rest.invariant.unfailed;
       unmet = c.in_ok-write_all-in-Ok-Some.ensures.unmet ∙ c.loop-rest.invariant.unmet;
@@ -38,7 +44,7 @@ returns-in_err-write_all-in-Ok-Some-clause-cut g c =
     let line = c.first_line.result.0.now in
     let more = c.as_bytes.result.now in
     let names = names_of c.reply.new.names in
-    let did = rw c.in-Ok-Some.field-0-is at c.in-Ok-Some.ensures in
+    let did = rw c.in-Ok-Some.field-0-is at c.in-Ok-Some.ensures.does in
     let done = does_more start _ names before line text more each (subst (λ t. Does (names_of c.loop-rest.names) line t names) (sym c.as_bytes.ensures.value) did) in
     let lines = line_over _ before c.loop-rest.rest c.first_line.result.1 c.in-Some.bytes line e c.in-Some.is c.first_line.ensures.cut in
     let wrote = subst (λ t. DoesEach start (before ++ (line ∷ [])) t names) (joined text front rest more split) done in

@@ -3,7 +3,7 @@ use Rattle.std.proofs.Common.{◌≡◌, ◌≤◌, ◌+◌, ◌++◌, ℕ, List
 use Rattle.std.specs.Io.KnownBytes.{Appends}
 use Rattle.names.specs.Line.{lines_of}
 use Rattle.names.specs.Told.{DoesEach, TextMap}
-use Rattle.names.specs.Texts.{names_of}
+use Rattle.names.specs.Texts.{IsKept, names_of}
 use Rattle.names.specs.Rest.{lines_left, bytes_left}
 use Rattle.names.specs.Watched.{NoCallAfterFault, met_fault}
 use Rattle.names.proofs.program.answer_lines.Given as goal
@@ -14,6 +14,7 @@ invariant-loop-rest g l =
       passed : (before : List (List ℕ)) × (text : List ℕ) × (lines_of l.fn.input ≡ before ++ lines_left l.rest) × (l.done ≡ length before)
           × Appends (g.W.Write.contents l.fn.writer.inner) (g.W.Write.contents l.writer.inner) text
           × (start : TextMap) × (start.pairs ≡ []) × DoesEach start before text (names_of l.names);
+      kept : IsKept l.names l.kept;
       counted : l.done + bytes_left l.rest ≤ length l.fn.input + 1;
       unfailed : l.writer.failed ≡ l.fn.writer.failed;
       unmet : met_fault l.writer ≡ met_fault l.fn.writer;
