@@ -93,7 +93,8 @@ def cell(ours, theirs, measure):
     there = found_there(theirs, measure)
     if there is None:
         return here
-    return f"{here} : {shown(there.lowest())} ({ratio(ours, theirs, measure):.2f})"
+    times = ratio(ours, theirs, measure)
+    return f"{here} : {shown(there.lowest())} ({times:{'.2f' if times >= 0.1 else '.2g'}})"
 
 
 def parts(ours, theirs):
@@ -114,7 +115,8 @@ def head(sizes):
 
 def plain(ours, theirs):
     """The tables as text."""
-    lines = []
+    there = ", in the Rust crate, and how many times as long it takes here" if theirs else ""
+    lines = [f"Nanoseconds a pair: here{there}.", ""]
     for title, sizes, rows in parts(ours, theirs):
         rows = [[f"{title}, pairs", *head(sizes)], *rows]
         widths = [max(len(row[column]) for row in rows) for column in range(len(sizes) + 1)]
@@ -137,10 +139,12 @@ def markdown(ours, theirs):
 
 def noise(ours, theirs):
     """How well the measures repeat, in words."""
-    every = [found for found in [*ours.values(), *(theirs or {}).values()]]
+    every = [*ours.values(), *(theirs or {}).values()]
     spreads = sorted(found.spread() for found in every)
     half, most = [(spreads[len(spreads) * part // 100] - 1) * 100 for part in (50, 90)]
     passes = len(every[0].times)
+    if passes == 1:
+        return "From one pass, so nothing is known of how well it repeats.\n"
     return (
         f"The lowest of {passes} passes. The lowest times of each second pass and of the other passes lie within "
         f"{half:.0f} % of one another for half of the measures, and within {most:.0f} % for nine in ten.\n"

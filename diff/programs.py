@@ -1,4 +1,5 @@
 """The programs that diff/run compares, by their stores, and what they answer."""
+import os
 import pathlib
 import shutil
 import subprocess
@@ -16,9 +17,10 @@ def tell(command, folder):
 
 
 def build(command, folder):
-    """Runs a command that builds."""
+    """Runs a command that builds, with no warnings of cargo's."""
     tell(command, folder)
-    subprocess.run(command, cwd=folder, stdout=subprocess.DEVNULL, check=True)
+    quiet = {**os.environ, "RUSTFLAGS": "--cap-lints allow"}
+    subprocess.run(command, cwd=folder, env=quiet, stdout=subprocess.DEVNULL, check=True)
 
 
 class Built:
