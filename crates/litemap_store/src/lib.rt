@@ -2,7 +2,6 @@
 //! borrowed slice as stores, and the count of comparisons.
 #![tactic(auto)]
 
-pub mod by_scan;
 mod column_impl;
 mod column_iter;
 mod count;

@@ -2,7 +2,6 @@
 //! the closure failed, and there was no room. Its contract can't say it.
 use litemap::store::StoreMut;
 use litemap::{LiteMap, TryFault};
-use litemap_store::by_scan;
 use std::alloc::{AllocError, Global};
 use std::test::Fail;
 use test_support::fixed_room::FixedRoom;

@@ -4,7 +4,6 @@
 //! pairs, which are put in one by one, and many, which are merged in one pass.
 use crate::merging::{Pairs, is_told, merge, text_of};
 use litemap::store::{ColumnStore, StoreIntoIterator};
-use litemap_store::by_scan;
 use std::alloc::{AllocError, Global};
 use std::test::Fail;
 use test_support::fixed_room::FixedRoom;

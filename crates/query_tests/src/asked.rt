@@ -5,7 +5,6 @@ ghost use Rattle.litemap_store.specs.Pairs.{at};
 use crate::kinds::{Asked, Kind};
 use litemap::store::Count;
 use litemap::{LiteMap, Query};
-use litemap_store::by_scan;
 use std::alloc::{AllocError, Global};
 use std::borrow::CowStr;
 use std::boxed::{BoxedSlice, BoxedStr};

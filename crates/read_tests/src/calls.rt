@@ -1,6 +1,5 @@
 //! Calls by number, and what slow scans answer to them.
 use litemap_read::laws::{Answer, Call};
-use litemap_store::by_scan;
 use std::alloc::{AllocError, Global};
 
 type Pairs = Vec<(u8, u8)>;

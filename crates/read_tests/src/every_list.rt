@@ -4,7 +4,6 @@
 use litemap::LiteMap;
 use litemap::store::{ColumnStore, StoreBulkMut};
 use litemap_read::{VecSource, read_pairs};
-use litemap_store::by_scan;
 use std::alloc::{AllocError, Global};
 use std::process::Abort;
 use std::test::Fail;

@@ -1,5 +1,4 @@
 //! The slow scans that take memory.
-use litemap_store::by_scan;
 use refusal_support::Outcome;
 use refusal_support::pairs::PAIRS;
 use std::alloc::Global;

@@ -1,7 +1,6 @@
 //! A list that stands in the place of a map, and is changed by slow scans alone.
 use litemap::TryFault;
 use litemap::store::NoRoom;
-use litemap_store::by_scan;
 use replay_lines::answers::{Answer, Asked, Placed, Tried};
 use replay_lines::calls::{Bulk, Call, Change, Look, Make, Put};
 use std::alloc::{AllocError, Global};

@@ -1,5 +1,4 @@
 //! The slow scans by which other tests judge the fast calls.
-use litemap_store::by_scan;
 use std::test::Fail;
 
 const PAIRS: [(u32, u32); 3] = [(1, 10), (3, 30), (5, 50)];

@@ -5,7 +5,6 @@ ghost use Rattle.litemap_store.specs.Pairs.{Rising};
 
 use litemap::LiteMap;
 use litemap::store::{Count, SliceStore, Store, StoreMut};
-use litemap_store::by_scan;
 use std::alloc::Global;
 use std::process::Abort;
 use std::test::Fail;
