@@ -1,7 +1,7 @@
 # What bin/names, bin/program and bin/test share: the program, proved and built where its sources have changed. The caller
 # sets `top`, the top of the repository.
 program=$top/crates/names_main/out/names_main
-crates=(litemap_store litemap litemap_read name_table litemap_json_items litemap_json names names_main)
+crates=(litemap_store litemap names_run names_main)
 
 # The checksum of what the program is made from, by contents alone: the time of a file is no part of it.
 sources_sum() {

@@ -7,4 +7,5 @@ pub mod Entries
 pub mod FoundBy
 pub mod Lends
 pub mod Seen
+pub mod Steps
 pub mod TryFault

@@ -3,9 +3,9 @@
 use Rattle.std.proofs.Common.{List, [], ◌∷◌, ◌++◌, subst, refl}
 use Rattle.std.specs.declared.cmp.Ordering.{Ordering}
 use Rattle.litemap.specs.Seen.{Seen}
-use Rattle.litemap_read.specs.Steps.{Run, Step}
-use Rattle.litemap_read.specs.declared.calls.Answer.{Answer}
-use Rattle.litemap_read.specs.declared.calls.Call.{Call}
+use Rattle.litemap.specs.Steps.{Run, Step}
+use Rattle.litemap.specs.declared.calls.Answer.{Answer}
+use Rattle.litemap.specs.declared.calls.Call.{Call}
 
 module _ {K V : Type 0} (cmp : K → K → Ordering) (call : Call K V) (answer : Answer K V) where
   pub Run-push : (start between end : Seen K V) (calls : List (Call K V)) (answers : List (Answer K V)) → Run cmp start calls answers between

@@ -1,5 +1,4 @@
 -- The definitions that the contracts cite. Those of the sorted list are in `Pairs` of the crate `litemap_store`.
 pub mod Source
 pub mod ReadFault
-pub mod Steps
 pub mod Laws

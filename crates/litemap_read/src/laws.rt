@@ -1,10 +1,10 @@
 //! Lists of calls of a map, and what holds of each run of them.
 ghost use Rattle.std.specs.Prelude.{◌≡◌, IfOk, IfErr, OnErr};
 ghost use Rattle.litemap_read.specs.Laws.{SameAnswers};
-ghost use Rattle.litemap_read.specs.Steps.{Run, Step};
-ghost use Rattle.litemap_read.specs.declared.calls.Call.TheVariants.{Clear, Extend, Insert, Reserve, TryAppend, TryInsert};
+ghost use Rattle.litemap.specs.Steps.{Run, Step};
+ghost use Rattle.litemap.specs.declared.calls.Call.TheVariants.{Clear, Extend, Insert, Reserve, TryAppend, TryInsert};
 
-pub use crate::calls::{Answer, Call};
+pub use litemap::calls::{Answer, Call};
 use litemap::LiteMap;
 use litemap::store::{NoRoom, StoreBulkMut, StoreMut};
 use std::alloc::Global;

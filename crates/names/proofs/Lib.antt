@@ -1,7 +1,3 @@
 -- Lemmas of the crate.
-pub mod Calls
-pub mod Cuts
-pub mod Notes
-pub mod Objects
-pub mod Tolds
-pub mod Views
+pub mod Rises
+pub mod Trees

@@ -1,12 +1,15 @@
--- The law over the definitions, which the function of the module `laws` has as its contract.
-use Rattle.std.specs.Prelude.{◌≡◌, ◌⊎◌, ℕ, List, [], ◌∷◌}
+-- The laws over the definitions of a run, which the functions of the module `laws` have as their contracts.
+use Rattle.std.specs.Prelude.{◌≡◌, ◌⊎◌, ◌++◌, ℕ, List, [], ◌∷◌, Some, Ok}
 use Rattle.std.specs.Ordering.{nat_cmp}
 use Rattle.std.specs.Cmp.Lexicographic.{slice_cmp}
-use Rattle.litemap_read.specs.Steps.{Run}
-use Rattle.litemap_read.specs.declared.calls.Answer.{Answer}
-use Rattle.litemap_read.specs.declared.calls.Call.{Call}
-use Rattle.names.specs.Line.{Spells, SpellsAll, SpellsJson}
-use Rattle.names.specs.Told.{DoesEach, TextMap}
+use Rattle.serde_json.specs.Data.{Data, string}
+use Rattle.serde_json.specs.Written.{compact_text}
+use Rattle.litemap_json.specs.Json.{tree}
+use Rattle.litemap.specs.Steps.{Run}
+use Rattle.litemap.specs.declared.calls.Answer.{Answer}
+use Rattle.litemap.specs.declared.calls.Call.{Call}
+use Rattle.names_run.specs.Line.{Spells, SpellsAll, SpellsJson}
+use Rattle.names_run.specs.Told.{DoesEach, TextMap, json_text}
 
 -- the calls are those that the lines spell, in order: an empty line, `all` and `json` spell none
 abbrev pub SpellEach : List (List ℕ) → List (Call (List ℕ) (List ℕ)) → Type 0
@@ -21,3 +24,9 @@ abbrev pub LinesAreARun : Type 0
 LinesAreARun = (start end : TextMap) (said : List (List ℕ)) (text : List ℕ) → DoesEach start said text end →
     (calls : List (Call (List ℕ) (List ℕ))) × (answers : List (Answer (List ℕ) (List ℕ)))
     × SpellEach said calls × Run (slice_cmp nat_cmp) start calls answers end
+
+-- wherever lines have led from an empty map, the text that answers `json` is the compact one of the map's JSON value, the
+-- tree that `to_json` makes of it
+abbrev pub JsonIsTheTree : Type 0
+JsonIsTheTree = (start end : TextMap) (said : List (List ℕ)) (text : List ℕ) → start.pairs ≡ [] → DoesEach start said text end →
+    (value : Data) × (tree (λ key. Some key) string string end.pairs ≡ Ok value) × (json_text end.pairs ≡ compact_text value)

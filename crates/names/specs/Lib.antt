@@ -1,14 +1,3 @@
--- The definitions that the contracts cite. `Told` is the page to read first.
-pub mod Told
-pub mod Cut
-pub mod Line
+-- The definitions that the contracts cite. Those of a run are in `Told` of the crate `names_run`.
 pub mod Laws
-pub mod Command
-pub mod Texts
-pub mod Tokens
-pub mod Watched
-pub mod Fault
-pub mod ReadsUntil
-pub mod WritesUntil
-pub mod Rest
 pub mod Rewriting

@@ -1,7 +1,12 @@
-//! A law over the definitions of `specs/`. The function does nothing: its contract is the law.
-ghost use Rattle.names.specs.Laws.{LinesAreARun};
+//! Laws over the definitions of a run. The functions do nothing: their contracts are the laws.
+ghost use Rattle.names.specs.Laws.{JsonIsTheTree, LinesAreARun};
 
 /// What lines do, one after another, is a run of the calls that they spell.
 pub fn lines_are_a_run()
     ensures { LinesAreARun }
+{}
+
+/// The text that answers `json` is the compact one of the value that `to_json` makes of the map, after any lines.
+pub fn json_is_the_tree()
+    ensures { JsonIsTheTree }
 {}

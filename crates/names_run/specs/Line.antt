@@ -1,0 +1,40 @@
+-- The lines of the input, and what a line says. A text is the list of its bytes.
+use Rattle.std.specs.Prelude.{◌≡◌, ◌≢◌, ◌<◌, ◌≤◌, ◌++◌, ◌==◌, ℕ, List, [], ◌∷◌, length, All, codes}
+use Rattle.std.specs.List.{slice_split}
+use Rattle.litemap.specs.declared.calls.Call.{Call}
+use Rattle.litemap.specs.declared.calls.Call.TheVariants.{Find, Get, Insert, Remove}
+
+-- what stands between line feeds; behind a last line feed stands an empty line, which does nothing
+abbrev pub lines_of : List ℕ → List (List ℕ)
+lines_of bytes = slice_split (λ b. b == 10) bytes
+
+-- a byte from `!` to `~`
+abbrev pub IsGraphic : ℕ → Type 0
+IsGraphic b = (33 ≤ b) × (b ≤ 126)
+
+-- one or more such bytes
+abbrev pub IsWord : List ℕ → Type 0
+IsWord word = (0 < length word) × All IsGraphic word
+
+-- the line spells the call: its name and its words, parted by single spaces. No line spells any other call
+abbrev pub Spells : List ℕ → Call (List ℕ) (List ℕ) → Type 0
+Spells line (Insert key value) = (line ≡ codes "put " ++ (key ++ (32 ∷ value))) × IsWord key × IsWord value
+Spells line (Get key) = (line ≡ codes "get " ++ key) × IsWord key
+Spells line (Remove key) = (line ≡ codes "del " ++ key) × IsWord key
+Spells line (Find key) = (line ≡ codes "find " ++ key) × IsWord key
+Spells line call = ⊥
+
+-- the line asks for all pairs
+abbrev pub SpellsAll : List ℕ → Type 0
+SpellsAll line = line ≡ codes "all"
+
+-- the line asks for the map as JSON
+abbrev pub SpellsJson : List ℕ → Type 0
+SpellsJson line = line ≡ codes "json"
+
+-- the line is not empty, spells no call, and does not ask for all pairs or for the map as JSON
+pub record IsBad (line : List ℕ) : Type 0 where
+  pub not_empty : line ≢ []
+  pub not_all : SpellsAll line → ⊥
+  pub not_json : SpellsJson line → ⊥
+  pub no_call : (call : Call (List ℕ) (List ℕ)) → Spells line call → ⊥

@@ -1,0 +1,12 @@
+//! Keeps names and their values, as the lines of standard input say, and answers each line on standard output.
+#![tactic(auto)]
+
+mod input;
+mod json_line;
+mod lines;
+mod program;
+mod session;
+mod watch;
+
+pub use program::{run, run_with};
+pub use watch::Watch;
