@@ -10,12 +10,16 @@ ghost use Rattle.litemap_store.specs.Pairs.{Rising};
 
 pub mod merge;
 mod sort;
+pub mod vector;
 
 use crate::count::Count;
 use crate::extend::merge::merge;
 use crate::extend::sort::sort_last;
 use crate::store::{Store, StoreMut};
 use std::alloc::{AllocError, Global};
+
+// Room for so many items is taken with the first one.
+const FIRST: usize = 8;
 
 /// The items of an iterator, in order. No size hint is used.
 pub fn gather<T: Drop, I: IntoIterator<Item = T>>(
@@ -27,6 +31,9 @@ pub fn gather<T: Drop, I: IntoIterator<Item = T>>(
 {
     let mut items = Vec::new(alloc);
     for item in iter {
+        if items.capacity() == 0 {
+            items.reserve(FIRST)?;
+        }
         items.push(item)?;
     }
     Ok(items)
@@ -107,7 +114,11 @@ fn is_rising<K: Ord, V>(pairs: &[(K, V)], count: &mut Count) -> bool
 }
 
 // Whether pairs that rise lie above those of the store. It compares the first with the last one.
-fn goes_behind<K: Ord, V, S: Store<K, V>>(store: &S, pairs: &[(K, V)], count: &mut Count) -> bool
+pub(crate) fn goes_behind<K: Ord, V, S: Store<K, V>>(
+    store: &S,
+    pairs: &[(K, V)],
+    count: &mut Count,
+) -> bool
     requires store { Rising K.cmp (S.pairs store.now) }
     requires pairs { Rising K.cmp pairs.now }
     ensures behind { IsTrue result ↔ Rising K.cmp (S.pairs store.now ++ pairs.now) }

@@ -109,6 +109,23 @@ impl<K: Drop, V: Drop> StoreIntoIterator<K, V> for Vec<(K, V)> {
     fn lm_into_iter(self) -> IntoIter<(K, V)> {
         self.into_iter()
     }
+
+    fn lm_extend_end(&mut self, mut other: Self) -> Result<(), NoRoom<Self>> {
+        match self.append(&mut other) {
+            Ok(()) => Ok(()),
+            Err(_) => Err(NoRoom { back: other }),
+        }
+    }
+
+    fn lm_extend_start(&mut self, mut other: Self) -> Result<(), NoRoom<Self>> {
+        match other.append(self) {
+            Ok(()) => {
+                *self = other;
+                Ok(())
+            }
+            Err(_) => Err(NoRoom { back: other }),
+        }
+    }
 }
 
 // Puts the pairs that an iterator hands over behind those of the store, which has room for them.

@@ -79,7 +79,7 @@ impl<K: Ord> Query<K> for &K {
 fn compare_texts<'x>(left: &'x str, right: &'x str) -> Ordering
     ensures { result ≡ slice_cmp nat_cmp left.now right.now }
 {
-    left.as_bytes().cmp(right.as_bytes())
+    left.cmp(right)
 }
 
 // Item by item, both slices at one lifetime.

@@ -1,8 +1,9 @@
 //! A vector of pairs as a store. Its room is its capacity less its length.
-ghost use Rattle.std.specs.Prelude.{◌≡◌, ◌≤◌, [], vec_capacity, vec_len};
+ghost use Rattle.std.specs.Prelude.{◌≡◌, ◌<◌, ◌≤◌, ◌-◌, [], vec_capacity, vec_len, length, slice_get, remove, Some};
 ghost use Rattle.litemap_store.specs.Retain.{CallableOnEach, Kept};
 ghost use Rattle.litemap_store.specs.VecStore.{vec_room, vec_with_value, vec_writes, vec_keeps_room};
 
+use crate::extend::vector::put_pairs_in_vec;
 use crate::extend::{gather, last_of};
 use crate::retain::is_kept;
 use crate::slice_search;
@@ -90,6 +91,9 @@ impl<K, V> StoreMut<K, V> for Vec<(K, V)> {
     }
 
     fn lm_remove(&mut self, index: usize) -> (K, V) {
+        if index == self.len() - 1 {
+            return take_last(self);
+        }
         self.remove(index)
     }
 
@@ -116,13 +120,24 @@ impl<K: Ord + Drop, V: Drop> StoreBulkMut<K, V> for Vec<(K, V)> {
         let mut kept = 0;
         for index in 0..self.len() {
             let pair = &self[index];
-            if !is_kept(&mut f, &pair.0, &pair.1) {
-                continue;
-            }
+            let stays = is_kept(&mut f, &pair.0, &pair.1);
+            // It moves whatever the answer, so that no jump hangs on it.
             self.swap(kept, index);
-            kept += 1;
+            if stays {
+                kept += 1;
+            }
         }
         self.truncate(kept);
+    }
+
+    fn lm_extend<I: IntoIterator<Item = (K, V)>>(
+        &mut self,
+        alloc: Global,
+        iter: I,
+        count: &mut Count,
+    ) -> Result<(), AllocError> {
+        let pairs = gather(alloc, iter)?;
+        put_pairs_in_vec(alloc, self, pairs, count)
     }
 }
 
@@ -152,4 +167,13 @@ impl<K: Drop, V: Drop> StoreFromIterator<K, V> for Vec<(K, V)> {
     ) -> Result<Self, AllocError> {
         gather(alloc, iter)
     }
+}
+
+// The last item, which leaves with no other to move.
+fn take_last<T>(items: &mut Vec<T>) -> T
+    requires { 0 < length items.old.items }
+    ensures old { slice_get items.old.items (length items.old.items - 1) ≡ Some result }
+    ensures items { items.new.items ≡ remove items.old.items (length items.old.items - 1) }
+{
+    items.take_last()
 }

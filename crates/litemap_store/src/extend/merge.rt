@@ -40,7 +40,7 @@ pub fn merge<K: Ord + Drop, V: Drop, S: StoreMut<K, V> + Drop>(
 }
 
 // How the greatest key of the store stands to that of the pairs.
-fn greater_end<K: Ord, V, S: Store<K, V>>(
+pub(crate) fn greater_end<K: Ord, V, S: Store<K, V>>(
     store: &S,
     pairs: &[(K, V)],
     count: &mut Count,
@@ -65,7 +65,7 @@ fn greater_end<K: Ord, V, S: Store<K, V>>(
 }
 
 // Takes all pairs from the two ends, the greater key first; of equal keys the store's pair is given up.
-fn take_down<K: Ord + Drop, V: Drop, S: StoreMut<K, V>>(
+pub(crate) fn take_down<K: Ord + Drop, V: Drop, S: StoreMut<K, V>>(
     store: &mut S,
     mut pairs: Vec<(K, V)>,
     side: &mut Vec<(K, V)>,
@@ -108,7 +108,7 @@ fn take_greatest<K: Ord + Drop, V: Drop, S: StoreMut<K, V>>(
 }
 
 // The last pair, which leaves the vector.
-fn take_last_pair<T>(items: &mut Vec<T>) -> T
+pub(crate) fn take_last_pair<T>(items: &mut Vec<T>) -> T
     requires { 0 < length items.old.items }
     ensures { items.old.items ≡ items.new.items ++ result ∷ [] }
 {
