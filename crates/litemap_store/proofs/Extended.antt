@@ -1,19 +1,21 @@
 -- What a look-up finds after an extension by a vector of pairs: lemmas for the proofs of callers.
 --     given_by_vec      what a vector gives;  value_at-extended, new_wins, old_stays      what is found after `extend`
 --     value_at-collected      what is found after `from_iter`;  cost_behind, cost_rising      how far a count rises
+--     refused_cost_behind, refused_cost_rising      the same where the call was refused
 -- An answer shows `holds` by `λ v it h. h.0`.
-use Rattle.std.proofs.Common.{◌≡◌, ◌+◌, ◌*◌, List, [], ◌++◌, length, Some, None, option_map, reverse, ap, ◌∙◌, subst, Vec}
+use Rattle.std.proofs.Common.{◌≡◌, ◌+◌, ◌*◌, List, [], ◌++◌, length, Some, None, option_map, reverse, ap, ◌∙◌, subst, inl, inr, arith, Vec}
 use Rattle.std.proofs.IntoIterSteps.{All-taken}
 use Rattle.std.specs.Cmp.{IsTotalOrder}
 use Rattle.std.specs.Option.{option_or}
 use Rattle.std.specs.Vec.Iter.{into_iter_items, into_iter_steps}
 use Rattle.std.specs.declared.vec.IntoIter.{IntoIter}
 use Rattle.std.specs.declared.cmp.Ordering.{Ordering}
-use Rattle.litemap_store.specs.Bulk.{Gives, IsExtended, IsExtendedCounted}
+use Rattle.litemap_store.specs.Bulk.{Gives, IsCountedFor, IsExtended, IsExtendedCounted, IsRefusedCounted}
 use Rattle.litemap_store.specs.Counts.{RisesByAtMost}
 use Rattle.litemap_store.specs.declared.count.Count.{Count}
 use Rattle.litemap_store.specs.Last.{Last, Rises}
 use Rattle.litemap_store.specs.Pairs.{Rising, value_at}
+use Rattle.litemap_store.proofs.Counting.{at_most}
 use Rattle.litemap_store.proofs.LastLookups.{at-Last, value_at-Last_of_more}
 
 module _ {X Z : Type 0} (becomes : Vec X Z → IntoIter X Z → Type 0) (holds : (v : Vec X Z) (it : IntoIter X Z) → becomes v it → into_iter_items it ≡ v.items) where
@@ -46,7 +48,21 @@ module _ {K V Z : Type 0} {cmp : K → K → Ordering} (o : IsTotalOrder cmp) (b
     same = given_by_vec becomes holds v e.extended.given e.extended.gives
 
     pub cost_behind : Rises cmp old v.items → RisesByAtMost (length v.items) before after
-    cost_behind r = subst (λ J. Rises cmp old J → RisesByAtMost (length J) before after) same e.behind r
+    cost_behind r = subst (λ J. Rises cmp old J → RisesByAtMost (length J) before after) same e.counted.behind r
 
     pub cost_rising : Rising cmp v.items → RisesByAtMost (length old + 2 * length v.items) before after
-    cost_rising r = subst (λ J. Rising cmp J → RisesByAtMost (length old + 2 * length J) before after) same e.rising r
+    cost_rising r = subst (λ J. Rising cmp J → RisesByAtMost (length old + 2 * length J) before after) same e.counted.rising r
+
+  -- the same where the call was refused
+  module _ (v : Vec (K × V) Z) (old : List (K × V)) (before after : Count) (e : IsRefusedCounted cmp becomes into_iter_steps v old before after) where
+    counted : IsCountedFor cmp old v.items before after
+    counted = elim e [
+      | inl none ↦ record { behind = λ _. at_most 0 (length v.items) (omega arith) none; rising = λ _. at_most 0 (length old + 2 * length v.items) (omega arith) none }
+      | inr all ↦ subst (λ J. IsCountedFor cmp old J before after) (given_by_vec becomes holds v all.0 all.1) all.2
+    ]
+
+    pub refused_cost_behind : Rises cmp old v.items → RisesByAtMost (length v.items) before after
+    refused_cost_behind = counted.behind
+
+    pub refused_cost_rising : Rising cmp v.items → RisesByAtMost (length old + 2 * length v.items) before after
+    refused_cost_rising = counted.rising

@@ -1,5 +1,5 @@
 -- What bulk input leaves: the last pairs of the old ones followed by what an iterator gave.
-use Rattle.std.specs.Prelude.{◌+◌, ◌*◌, List, ◌++◌, Option, length}
+use Rattle.std.specs.Prelude.{◌⊎◌, ◌+◌, ◌*◌, List, ◌++◌, Option, length}
 use Rattle.std.specs.declared.cmp.Ordering.{Ordering}
 use Rattle.std.specs.Iterator.{Drains}
 use Rattle.litemap_store.specs.declared.count.Count.{Count}
@@ -11,6 +11,13 @@ use Rattle.litemap_store.specs.Pairs.{Rising}
 abbrev pub Gives : {U T X : Type 0} → (U → T → Type 0) → (T → Option X → T → Type 0) → U → List X → Type 0
 Gives {U} {T} becomes steps iter items = (it : T) × becomes iter it × Drains steps it items
 
+-- how many comparisons are counted at most where the pairs `given` are put to the old ones
+pub record IsCountedFor {K V : Type 0} (cmp : K → K → Ordering) (old given : List (K × V)) (before after : Count) : Type 0 where
+  -- where they rise past the last old key: one for each new pair
+  pub behind : Rises cmp old given → RisesByAtMost (length given) before after
+  -- where they rise, wherever they fall: one for each old and two for each new pair
+  pub rising : Rising cmp given → RisesByAtMost (length old + 2 * length given) before after
+
 module _ {U T K V : Type 0} (cmp : K → K → Ordering) (becomes : U → T → Type 0) (steps : T → Option (K × V) → T → Type 0) where
   -- iter gave the pairs `given` and then ended, and new has the last pairs of the old ones followed by these
   pub record IsExtended (iter : U) (old new : List (K × V)) : Type 0 where
@@ -18,10 +25,12 @@ module _ {U T K V : Type 0} (cmp : K → K → Ordering) (becomes : U → T → 
     pub gives : Gives becomes steps iter given
     pub last : Last cmp (old ++ given) new
 
-  -- the same, by so many counted comparisons
+  -- new has the last pairs of the old ones followed by what iter gave, by so many counted comparisons
   pub record IsExtendedCounted (iter : U) (old new : List (K × V)) (before after : Count) : Type 0 where
     pub extended : IsExtended iter old new
-    -- where the new pairs rise past the last old key: one for each new pair
-    pub behind : Rises cmp old extended.given → RisesByAtMost (length extended.given) before after
-    -- where the new pairs rise, wherever they fall: one for each old and two for each new pair
-    pub rising : Rising cmp extended.given → RisesByAtMost (length old + 2 * length extended.given) before after
+    pub counted : IsCountedFor cmp old extended.given before after
+
+  -- where the call is refused: none was counted, or iter gave the pairs `given` and then ended, and no more than for these
+  abbrev pub IsRefusedCounted : U → List (K × V) → Count → Count → Type 0
+  IsRefusedCounted iter old before after = RisesByAtMost 0 before after
+      ⊎ ((given : List (K × V)) × Gives becomes steps iter given × IsCountedFor cmp old given before after)

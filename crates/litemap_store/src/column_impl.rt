@@ -1,6 +1,9 @@
 //! A vector of keys and a vector of values as a store. Its room is the smaller of theirs.
-ghost use Rattle.std.specs.Prelude.{◌≡◌, ◌+◌, ◌≤◌, ◌<◌, insert, refl, vec_capacity, vec_len};
-ghost use Rattle.litemap_store.specs.Columns.{columns_with_value};
+ghost use Rattle.std.specs.Prelude.{◌≡◌, ◌+◌, ◌≤◌, ◌<◌, insert, length, min, refl, vec_capacity, vec_len};
+ghost use Rattle.std.specs.Map.{keys_of, values_of};
+ghost use Rattle.litemap_store.specs.Columns.{columns, columns_with_value};
+ghost use Rattle.litemap_store.specs.Retain.{CallableOnEach, Kept};
+ghost use Rattle.litemap_store.specs.VecStore.{vec_room};
 
 use crate::column_iter::{ColumnIntoIter, ColumnIter};
 use crate::retain::is_kept;
@@ -42,6 +45,43 @@ impl<K, V> Model for ColumnStore<K, V> {
     ghost view = { λ s. columns s.keys s.values };
 
     ghost invariant = { λ s. vec_len s.keys ≡ vec_len s.values };
+}
+
+impl<K, V> ColumnStore<K, V> {
+    /// The store of a vector of keys and a vector of as many values: each key with the value at its place. Its room is the
+    /// smaller of theirs. It takes no memory, and moves and compares no keys.
+    ///
+    /// For a map over it the keys have to rise, which `from_sorted_store_unchecked` asks for.
+    ///
+    /// ```rust
+    /// let numbers = [1, 3].to_vec(alloc)?;
+    /// let names = ["Monday", "Wednesday"].to_vec(alloc)?;
+    /// let days = ColumnStore::from_columns(numbers, names);
+    /// Ok(days.lm_get(1) == Some((&3, &"Wednesday")))
+    /// ```
+    pub fn from_columns(keys: Vec<K>, values: Vec<V>) -> Self
+        requires { vec_len keys ≡ vec_len values }
+        ensures { result ≡ columns keys values }
+    {
+        ColumnStore { keys, values }
+    }
+
+    /// The vector of the keys and that of the values, in the order of the pairs, with all their memory. It takes no memory,
+    /// and moves and compares no keys.
+    ///
+    /// ```rust
+    /// let days = ColumnStore::lm_from_pairs(alloc, [(1, "Monday"), (3, "Wednesday")])?;
+    /// let (numbers, names) = days.into_columns();
+    /// Ok(numbers.as_slice() == [1, 3].as_slice() && names.get(1) == Some(&"Wednesday"))
+    /// ```
+    pub fn into_columns(self) -> (Vec<K>, Vec<V>)
+        ensures keys { result.0.items ≡ keys_of self.pairs }
+        ensures values { result.1.items ≡ values_of self.pairs }
+        ensures room { min (vec_room result.0) (vec_room result.1) ≡ self.room }
+    {
+        let ColumnStore { keys, values } = self;
+        (keys, values)
+    }
 }
 
 impl<K, V> Store<K, V> for ColumnStore<K, V> {
@@ -149,7 +189,11 @@ impl<K, V> StoreMut<K, V> for ColumnStore<K, V> {
 }
 
 impl<K: Ord + Drop, V: Drop> StoreBulkMut<K, V> for ColumnStore<K, V> {
-    fn lm_retain<F: FnMut(&K, &V) -> bool>(&mut self, mut f: F) {
+    fn lm_retain<F: FnMut(&K, &V) -> bool>(&mut self, mut f: F)
+        requires { CallableOnEach F.FnMut f self.old.pairs }
+        ensures kept { Kept F.FnMut f self.old.pairs self.new.pairs }
+        ensures memory { self.new.room + length self.new.pairs ≡ self.old.room + length self.old.pairs }
+    {
         let mut kept = 0;
         for index in 0..self.keys.len() {
             let key = &self.keys[index];

@@ -154,9 +154,19 @@ impl<K: Drop, V: Drop> Iterator for ColumnIntoIter<K, V> {
         Some((key, value))
     }
 
-    fn size_hint(&self) -> (usize, Option<usize>) {
-        let len = self.keys.len();
+    fn size_hint(&self) -> (usize, Option<usize>)
+        ensures lower { IsWithinCount result.0 (at_most (length self.now)) }
+        ensures upper { IfSome result.1 (UpTo (at_most (length self.now))) }
+        ensures exact { (result.0 ≡ length self.now) × (result.1 ≡ Some (length self.now)) }
+    {
+        let len = self.len();
         (len, Some(len))
+    }
+}
+
+impl<K: Drop, V: Drop> ExactSizeIterator for ColumnIntoIter<K, V> {
+    fn len(&self) -> usize {
+        self.keys.len()
     }
 }
 

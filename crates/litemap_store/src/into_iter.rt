@@ -1,5 +1,5 @@
 //! Stores that hand over their pairs, and are joined with others of their type.
-ghost use Rattle.std.specs.Prelude.{◌≡◌, ◌<◌, ◌≤◌, ◌++◌, List, length, IfErr, OnErr, OnOk};
+ghost use Rattle.std.specs.Prelude.{◌≡◌, ◌⊎◌, ◌<◌, ◌≤◌, ◌++◌, List, length, IfErr, OnErr, OnOk};
 ghost use Rattle.std.specs.Iterator.{YieldsFirst, at_most};
 ghost use Rattle.std.specs.Vec.Iter.{into_iter_items};
 ghost use Rattle.litemap_store.specs.IntoIter.{count_is, first_is};
@@ -10,7 +10,9 @@ use std::mem;
 use std::vec::IntoIter;
 
 /// An iterator that hands over the pairs of a store: a contract sees it as the list of those that are left.
-pub trait PairIntoIter<K, V>: Iterator<Item = (K, V)> + Drop {
+///
+/// Its `len` is their number, by the law `count`; both ends of its `size_hint` are to be that number, which no law can ask.
+pub trait PairIntoIter<K, V>: Iterator<Item = (K, V)> + ExactSizeIterator + Drop {
     /// The pairs that are left, in their order.
     ghost owned: { Self → List (K × V) };
 
@@ -63,11 +65,11 @@ pub trait StoreIntoIterator<K: Drop, V: Drop>: StoreMut<K, V> + Sized {
     }
 
     /// Puts the pairs of another store before the own ones, which are put behind those of the other store. So each own
-    /// pair moves once, and none of the other's.
+    /// pair moves once, and each of the other's at most once, where its memory grows.
     ///
     /// The other store takes its room first. Refused for want of memory, the list stays as it was and the other store
-    /// comes back whole; that is only where the other store had less room than there are own pairs. Nothing is said of
-    /// the room after it.
+    /// comes back whole; that is only where one of the two had less room than the other has pairs. Nothing is said of
+    /// the room after it. A store that can grow in front may put the pairs in there, and take its own room.
     ///
     /// The Rust crate puts the pairs in at the front one by one, each of which moves all others.
     ///
@@ -80,7 +82,8 @@ pub trait StoreIntoIterator<K: Drop, V: Drop>: StoreMut<K, V> + Sized {
         ensures ok { OnOk result (Self.pairs self.new ≡ Self.pairs other ++ Self.pairs self.old) }
         ensures refused { OnErr result (Self.pairs self.new ≡ Self.pairs self.old) }
         ensures back { IfErr result (λ refused. Self.pairs refused.back ≡ Self.pairs other) }
-        ensures full { OnErr result (Self.room other < length (Self.pairs self.old)) }
+        ensures full { OnErr result ((Self.room self.old < length (Self.pairs other))
+            ⊎ (Self.room other < length (Self.pairs self.old))) }
     {
         match other.lm_reserve(self.lm_len()) {
             Ok(()) => {

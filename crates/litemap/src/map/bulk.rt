@@ -1,7 +1,7 @@
 //! Calls that take many pairs at once. Of each key the last pair stays.
 ghost use Rattle.std.specs.Prelude.{◌≡◌, [], IfOk, OnOk, OnErr};
 ghost use Rattle.std.specs.Iterator.{IsFiniteIterable};
-ghost use Rattle.litemap_store.specs.Bulk.{IsExtended, IsExtendedCounted};
+ghost use Rattle.litemap_store.specs.Bulk.{IsExtended, IsExtendedCounted, IsRefusedCounted};
 ghost use Rattle.litemap_store.specs.Counts.{GoesOn};
 
 use crate::LiteMap;
@@ -31,8 +31,8 @@ impl<K: Ord + Drop, V: Drop, S: StoreFromIterable<K, V>> LiteMap<K, V, S> {
         Self::from_iter_counted(alloc, iter, &mut Count::new())
     }
 
-    /// `from_iter`, with its comparisons counted: at most one for each pair where the pairs rise. The Rust crate has no
-    /// such call.
+    /// `from_iter`, with its comparisons counted: at most one for each pair where the pairs rise, also where it is refused.
+    /// The Rust crate has no such call.
     ///
     /// ```rust
     /// let mut count = Count::new();
@@ -48,6 +48,8 @@ impl<K: Ord + Drop, V: Drop, S: StoreFromIterable<K, V>> LiteMap<K, V, S> {
         requires { IsFiniteIterable I.into_iter_gives I.IntoIter.can_next I.IntoIter.remaining iter }
         ensures made { IfOk result (λ m. IsExtendedCounted K.cmp I.into_iter_gives I.IntoIter.next_gives
             iter [] m.pairs count.old count.new) }
+        ensures refused_cost { OnErr result
+            (IsRefusedCounted K.cmp I.into_iter_gives I.IntoIter.next_gives iter [] count.old count.new) }
         ensures counted { GoesOn count.old count.new }
     {
         Ok(LiteMap {
@@ -62,7 +64,9 @@ impl<K: Ord + Drop, V: Drop, S: StoreBulkMut<K, V>> LiteMap<K, V, S> {
     /// whole, where an old pair counts as earlier than all new ones: a new key takes the place of an equal old one.
     ///
     /// The new pairs are gathered before the map changes. So a refusal leaves the list, and the pairs taken from the
-    /// iterator are given up. The iterator's size hint isn't used, and nothing is promised of the room.
+    /// iterator are given up. The iterator's size hint isn't used, and nothing is promised of the room: where a new pair
+    /// falls between others a fresh store takes the place of the map's, and a limit that was set when that was made goes
+    /// with it.
     ///
     /// Where the new pairs rise past the last key they are put behind it, by at most one comparison for each. Where
     /// they rise, wherever they belong, they are merged, by at most one comparison for each old and two for each new
@@ -87,7 +91,8 @@ impl<K: Ord + Drop, V: Drop, S: StoreBulkMut<K, V>> LiteMap<K, V, S> {
         self.extend_counted(alloc, iter, &mut Count::new())
     }
 
-    /// `extend`, with its comparisons counted, but for those of the sort. The Rust crate has no such call.
+    /// `extend`, with its comparisons counted, but for those of the sort. A refused call compares no more than an answered
+    /// one. The Rust crate has no such call.
     ///
     /// ```rust
     /// let mut count = Count::new();
@@ -105,6 +110,8 @@ impl<K: Ord + Drop, V: Drop, S: StoreBulkMut<K, V>> LiteMap<K, V, S> {
         ensures extended { OnOk result (IsExtendedCounted K.cmp I.into_iter_gives I.IntoIter.next_gives
             iter self.old.pairs self.new.pairs count.old count.new) }
         ensures refused { OnErr result (self.new.pairs ≡ self.old.pairs) }
+        ensures refused_cost { OnErr result (IsRefusedCounted K.cmp I.into_iter_gives I.IntoIter.next_gives
+            iter self.old.pairs count.old count.new) }
         ensures counted { GoesOn count.old count.new }
     {
         self.store.lm_extend(alloc, iter, count)

@@ -22,7 +22,8 @@ impl<K: Ord + Drop, V: Drop, S: StoreIntoIterator<K, V> + Drop> LiteMap<K, V, S>
     /// one by one, and more are merged in one pass through a fresh store.
     ///
     /// All room, that of what is driven out included, is taken before the first change. Refused for want of memory, the
-    /// list stays as it was and the other map comes back whole. Nothing is promised of the room.
+    /// list stays as it was and the other map comes back whole. Nothing is promised of the room: where a fresh store takes
+    /// the place of the map's, a limit that was set when that was made goes with it.
     ///
     /// The Rust crate asks `StoreFromIterator` too. It puts pairs before others one by one, and so it does where pairs
     /// fall between others: there its moves grow as the product of the lengths.

@@ -21,6 +21,20 @@ is_kept-requires g c =
     let here : drop i pairs ≡ p ∷ drop (i + 1) pairs = drop-first pairs i p (omega arith) at in
     CallableOnEach-first g.F.FnMut c.loop-index.f p (drop (i + 1) pairs) (subst (CallableOnEach g.F.FnMut c.loop-index.f) here inv.callable)
 
+pub loop-index-init : goal.loop-index-init
+loop-index-init g c =
+    let keys = c.self.inside.keys in
+    let values = c.self.inside.values in
+    let all : length (zip keys.items values.items) ≡ length keys.items = length-zip_same keys.items values.items (same_length keys values c.self.invariant) in
+    record {
+      within = omega arith;
+      keys = sym c.len-index-end.ensures;
+      values = sym (c.len-index-end.ensures ∙ c.self.invariant);
+      memory = rw (← c.self.view_is) (omega (arith, all, keys.ok.0, keys.ok.1, values.ok.1, c.self.invariant));
+      callable = rw (← c.self.view_is) at c.requires;
+      so_far = λ M kept. rw (← c.self.view_is) kept;
+    }
+
 pub loop-index-preserved-then-not-is_kept : goal.loop-index-preserved-then-not-is_kept
 loop-index-preserved-then-not-is_kept g c =
     let f = c.loop-index.f in
@@ -42,6 +56,7 @@ loop-index-preserved-then-not-is_kept g c =
       within = omega arith;
       keys = inv.keys;
       values = inv.values;
+      memory = inv.memory;
       callable = CallableOnEach-rest g.F.FnMut f p _ _ rest called (subst (CallableOnEach g.F.FnMut f) here inv.callable);
       so_far = λ M kept. inv.so_far M (subst (λ L. Kept g.F.FnMut f L M) (sym here) (Kept-more g.F.FnMut f p false f' rest M called kept));
     }
@@ -76,14 +91,23 @@ loop-index-preserved g c =
       within = omega arith;
       keys = c.swap.ensures.len ∙ inv.keys;
       values = c.swap-in-loop-index.ensures.len ∙ inv.values;
+      memory = rw (c.swap.ensures.capacity, c.swap-in-loop-index.ensures.capacity) inv.memory;
       callable = subst (CallableOnEach g.F.FnMut f') (sym behind) (CallableOnEach-rest g.F.FnMut f p _ _ rest called (subst (CallableOnEach g.F.FnMut f) here inv.callable));
       so_far = λ M kept. subst (Kept g.F.FnMut c.args.f c.args.self.now.pairs)
           (sym (append_assoc (take k pairs) (p ∷ []) M) ∙ ap (λ L. L ++ M) (sym front))
           (inv.so_far (p ∷ M) (subst (λ L. Kept g.F.FnMut f L (p ∷ M)) (sym here) (Kept-more g.F.FnMut f p true f' rest M called (subst (λ L. Kept g.F.FnMut f' L M) behind kept))));
     }
 
-pub returns : goal.returns
-returns g c =
+pub returns-clause-memory : goal.returns-clause-memory
+returns-clause-memory g c =
+    let keys = c.truncate.new.self in
+    let values = c.truncate-2.new.self in
+    let inv = c.loop-index.invariant in
+    let all : length (zip keys.items values.items) ≡ length keys.items = length-zip_same keys.items values.items (omega (arith, keys.ok.0, values.ok.0, inv.keys, inv.values, c.truncate.ensures.len, c.truncate-2.ensures.len)) in
+    omega (arith, all, keys.ok.0, keys.ok.1, values.ok.0, values.ok.1, inv.keys, inv.values, inv.memory, c.truncate.ensures.len, c.truncate-2.ensures.len, c.truncate.ensures.capacity, c.truncate-2.ensures.capacity)
+
+pub returns-clause-kept : goal.returns-clause-kept
+returns-clause-kept g c =
     let keys = c.loop-index.self-inside.keys in
     let values = c.loop-index.self-inside.values in
     let pairs = zip keys.items values.items in

@@ -1,7 +1,7 @@
-use Rattle.std.proofs.Common.{◌+◌, ◌*◌, ◌-◌, length, arith}
+use Rattle.std.proofs.Common.{inr}
 use Rattle.std.proofs.lemmas.Result.{IfOk-weaker}
 use Rattle.litemap_store.specs.Last.{Last}
-use Rattle.litemap_store.proofs.Counting.{at_most}
+use Rattle.litemap_store.proofs.Counting.{always_on_err, counted_for_none}
 use Rattle.litemap_store.proofs.vec_impl.VecTuple2StoreFromIterable.lm_sort_from_iter.Goals as goal
 
 pub returns-clause-made : goal.returns-clause-made
@@ -10,6 +10,10 @@ returns-clause-made g c =
     let sorted = c.last_of.ensures in
     IfOk-weaker c.last_of.result (λ s. Last g.K.Ord.cmp given s.items) _ (λ s last. record {
       extended = record { given = given; gives = c.in_ok-pairs.ensures; last = last };
-      behind = λ _. at_most (length given - 1) (length given) (omega arith) sorted.cost;
-      rising = λ _. at_most (length given - 1) (0 + 2 * length given) (omega arith) sorted.cost;
+      counted = counted_for_none g.K.Ord.cmp given sorted.cost;
     }) sorted.last
+
+pub returns-clause-refused_cost : goal.returns-clause-refused_cost
+returns-clause-refused_cost g c =
+    let given = c.in_ok-pairs.pairs.items in
+    always_on_err c.last_of.result (inr (given, c.in_ok-pairs.ensures, counted_for_none g.K.Ord.cmp given c.last_of.ensures.cost))
