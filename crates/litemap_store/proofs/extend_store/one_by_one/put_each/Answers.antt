@@ -19,3 +19,15 @@ loop-key-preserved g c =
       room = omega arith;
       rest_room = omega arith;
     }
+
+pub put_in-driven_out-requires-room : goal.put_in-driven_out-requires-room
+put_in-driven_out-requires-room g c =
+    let shorter = ap length (g.met.S.KeyValueIntoIter.PairIntoIter.first _ _ _ c.in-Some.ensures.steps) in
+    let room = c.loop-key.invariant.room in
+    omega arith
+
+pub push_some-requires : goal.push_some-requires
+push_some-requires g c =
+    let shorter = ap length (g.met.S.KeyValueIntoIter.PairIntoIter.first _ _ _ c.in-Some.ensures.steps) in
+    let rest_room = c.loop-key.invariant.rest_room in
+    omega arith
