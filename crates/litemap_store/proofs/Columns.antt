@@ -1,6 +1,6 @@
 -- Two lists of one length, one of keys and one of values: what is done to both is done to the pairs.
 --     length-zip_same, within-zip      as many pairs as keys;  zip-read, get_or-zip_same, zip-key, zip-none      the pair at a place, and past the end
---     zip-append, zip-insert, zip-remove, zip-set, zip-set_value, zip-take      after a change of both, or of the values
+--     zip-append, zip-joined, zip-insert, zip-remove, zip-set, zip-set_value, zip-take      after a change of both, or of the values
 --     zip-swapped      after a swap in both
 use Rattle.std.proofs.Common.{◌≡◌, ℕ, zero, suc, ◌<◌, ◌≤◌, List, [], ◌∷◌, ◌++◌, length, take, slice_get, slice_set, get_or, Some, None, Vec, vec_len, refl, sym, ap, ◌∙◌, arith}
 use Rattle.std.specs.Option.{option_map_or}
@@ -55,6 +55,12 @@ module _ {K V : Type 0} where
   zip-append [] (w ∷ vs) k v h = absurd (omega arith)
   zip-append (j ∷ ks) [] k v h = absurd (omega arith)
   zip-append (j ∷ ks) (w ∷ vs) k v h = ap (λ L. (j, w) ∷ L) (zip-append ks vs k v (omega arith))
+
+  pub zip-joined : (ks js : List K) (vs ws : List V) → length ks ≡ length vs → zip (ks ++ js) (vs ++ ws) ≡ zip ks vs ++ zip js ws
+  zip-joined [] js [] ws h = refl
+  zip-joined [] js (v ∷ vs) ws h = absurd (omega arith)
+  zip-joined (k ∷ ks) js [] ws h = absurd (omega arith)
+  zip-joined (k ∷ ks) js (v ∷ vs) ws h = ap (λ L. (k, v) ∷ L) (zip-joined ks js vs ws (omega arith))
 
   pub zip-insert : (ks : List K) (vs : List V) (i : ℕ) (k : K) (v : V) → i ≤ length ks → length ks ≡ length vs → zip (insert ks i k) (insert vs i v) ≡ insert (zip ks vs) i (k, v)
   zip-insert [] [] zero k v u h = refl

@@ -1,5 +1,5 @@
 -- What a look-up finds after an extension by a vector of pairs: lemmas for the proofs of callers.
---     given_by_vec      what a vector gives;  value_at-extended, new_wins, old_stays      what is found after `extend`
+--     given_by_vec      what a vector gives;  Last-extended      what is left of it;  value_at-extended, new_wins, old_stays      what is found after `extend`
 --     value_at-collected      what is found after `from_iter`;  cost_behind, cost_rising      how far a count rises
 --     refused_cost_behind, refused_cost_rising      the same where the call was refused
 -- An answer shows `holds` by `λ v it h. h.0`.

@@ -1,5 +1,5 @@
 -- A merge from the last pair of B down to the first.
---     parted, length-parts      a rising list is what lies below a key, its pair and what lies above
+--     Merge-one      one pair into another with an equal key;  parted, length-parts      a rising list is what lies below a key, its pair and what lies above
 --     taken_found, found_drop, missing_take, missing_drop      the parts by the place that a search found
 --     Merge-down, left-down      one step: what is merged above the last key of B, and what is left over there
 --     length-behind, length-option      how long a list is that was read from its end
@@ -89,7 +89,7 @@ module _ {K V : Type 0} (cmp : K → K → Ordering) (o : IsTotalOrder cmp) wher
         ∙ drop-append_seam (below cmp L k) (above cmp L k)
 
   -- ---- one pair into another with an equal key
-  Merge-one : (a b : K × V) → cmp a.0 b.0 ≡ Equal → Merge cmp (a ∷ []) (b ∷ []) ((a.0, b.1) ∷ [])
+  pub Merge-one : (a b : K × V) → cmp a.0 b.0 ≡ Equal → Merge cmp (a ∷ []) (b ∷ []) ((a.0, b.1) ∷ [])
   Merge-one a b e = record { rising = (tt, tt); exactly = λ p. (there p, back p) }
     where
       there : (p : K × V) → In p ((a.0, b.1) ∷ []) → IsMerged cmp (a ∷ []) (b ∷ []) p

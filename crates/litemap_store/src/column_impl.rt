@@ -1,11 +1,14 @@
 //! A vector of keys and a vector of values as a store. Its room is the smaller of theirs.
-ghost use Rattle.std.specs.Prelude.{◌≡◌, ◌+◌, ◌≤◌, ◌<◌, insert, length, min, refl, vec_capacity, vec_len};
+ghost use Rattle.std.specs.Prelude.{◌≡◌, ◌+◌, ◌-◌, ◌≤◌, ◌<◌, ◌++◌, IfOk, insert, length, min, refl, vec_capacity, vec_len};
 ghost use Rattle.std.specs.Map.{keys_of, values_of};
 ghost use Rattle.litemap_store.specs.Columns.{columns, columns_with_value};
+ghost use Rattle.litemap_store.specs.Counts.{RisesByAtMost};
+ghost use Rattle.litemap_store.specs.Last.{Last};
 ghost use Rattle.litemap_store.specs.Retain.{CallableOnEach, Kept};
 ghost use Rattle.litemap_store.specs.VecStore.{vec_room};
 
 use crate::column_iter::{ColumnIntoIter, ColumnIter};
+use crate::extend::{gather, last_of};
 use crate::retain::is_kept;
 use crate::slice_search;
 use crate::store::{
@@ -224,9 +227,8 @@ impl<K: Ord + Drop, V: Drop> StoreFromIterable<K, V> for ColumnStore<K, V> {
         iter: I,
         count: &mut Count,
     ) -> Result<Self, AllocError> {
-        let mut store: ColumnStore<K, V> = ColumnStore::lm_empty(alloc);
-        store.lm_extend(alloc, iter, count)?;
-        Ok(store)
+        let pairs = gather(alloc, iter)?;
+        split_last(alloc, pairs, count)
     }
 }
 
@@ -251,6 +253,55 @@ impl<K: Drop, V: Drop> StoreIntoIterator<K, V> for ColumnStore<K, V> {
     fn lm_into_iter(self) -> ColumnIntoIter<K, V> {
         ColumnIntoIter::new(self.keys, self.values)
     }
+
+    fn lm_extend_end(&mut self, mut other: Self) -> Result<(), NoRoom<Self>> {
+        let Ok(()) = self.lm_reserve(other.keys.len()) else {
+            return Err(NoRoom { back: other });
+        };
+        append_reserved(&mut self.keys, &mut other.keys);
+        append_reserved(&mut self.values, &mut other.values);
+        Ok(())
+    }
+}
+
+// The last pair of each key in two columns, which have room for these alone.
+fn split_last<K: Ord + Drop, V: Drop>(
+    alloc: Global,
+    pairs: Vec<(K, V)>,
+    count: &mut Count,
+) -> Result<ColumnStore<K, V>, AllocError>
+    ensures last { IfOk result (λ s. Last K.cmp pairs.items s.pairs) }
+    ensures cost { RisesByAtMost (length pairs.items - 1) count.old count.new }
+{
+    let pairs = last_of(pairs, count)?;
+    split(alloc, pairs)
+}
+
+// The pairs in two columns that have room for them alone.
+fn split<K: Drop, V: Drop>(
+    alloc: Global,
+    pairs: Vec<(K, V)>,
+) -> Result<ColumnStore<K, V>, AllocError>
+    ensures { IfOk result (λ s. s.pairs ≡ pairs.items) }
+{
+    let mut keys = Vec::with_capacity(alloc, pairs.len())?;
+    let mut values = Vec::with_capacity(alloc, pairs.len())?;
+    for (key, value) in pairs {
+        keys.push_reserved(key);
+        values.push_reserved(value);
+    }
+    Ok(ColumnStore { keys, values })
+}
+
+// Puts the items of another vector behind, where there is room for them.
+fn append_reserved<T: Drop>(items: &mut Vec<T>, other: &mut Vec<T>)
+    requires { vec_len items.old + vec_len other.old ≤ vec_capacity items.old }
+    ensures items { items.new.items ≡ items.old.items ++ other.old.items }
+    ensures len { vec_len items.new ≡ vec_len items.old + vec_len other.old }
+{
+    let Ok(()) = items.append(other) else {
+        unreachable!()
+    };
 }
 
 // Puts an item at a place, in a vector that has room, by one move of the later ones.

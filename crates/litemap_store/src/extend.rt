@@ -18,8 +18,10 @@ use crate::extend::sort::sort_last;
 use crate::store::{Store, StoreMut};
 use std::alloc::{AllocError, Global};
 
-// Room for so many items is taken with the first one.
+// Room for so many items is taken with the first one, and then four times as much until there is room for many.
 const FIRST: usize = 8;
+
+const MANY: usize = 512;
 
 /// The items of an iterator, in order. No size hint is used.
 pub fn gather<T: Drop, I: IntoIterator<Item = T>>(
@@ -31,8 +33,9 @@ pub fn gather<T: Drop, I: IntoIterator<Item = T>>(
 {
     let mut items = Vec::new(alloc);
     for item in iter {
-        if items.capacity() == 0 {
-            items.reserve(FIRST)?;
+        let len = items.len();
+        if len == items.capacity() && len < MANY {
+            items.reserve(FIRST.max(3 * len))?;
         }
         items.push(item)?;
     }

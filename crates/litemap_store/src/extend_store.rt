@@ -1,5 +1,5 @@
 //! The body behind `extend_from_litemap`: one store's pairs are merged into another's.
-ghost use Rattle.std.specs.Prelude.{◌≡◌, ◌≢◌, ◌⊎◌, ◌↔◌, ◌+◌, ◌*◌, ◌++◌, [], length, IsTrue, IsOk, IsNone, IfOk, IfErr};
+ghost use Rattle.std.specs.Prelude.{◌≡◌, ◌≢◌, ◌⊎◌, ◌↔◌, ◌+◌, ◌*◌, ◌<◌, ◌≤◌, ◌++◌, [], length, IsTrue, IsOk, IsNone, IfOk, IfErr};
 ghost use Rattle.std.specs.Prelude.{IfSome, OnOk, OnErr};
 ghost use Rattle.litemap_store.specs.Counts.{RisesByAtMost};
 ghost use Rattle.litemap_store.specs.Digits.{digits};
@@ -7,25 +7,29 @@ ghost use Rattle.litemap_store.specs.Merge.{Apart, Merge, left};
 ghost use Rattle.litemap_store.specs.Pairs.{Rising};
 ghost use Rattle.litemap_store.specs.Splits.{Splits};
 
+mod coming;
 mod in_one_pass;
 mod one_by_one;
+mod side_by_side;
 
 use crate::extend_store::in_one_pass::merge_in_one_pass;
 use crate::extend_store::one_by_one::merge_each;
+use crate::extend_store::side_by_side::merge_side_by_side;
 use crate::store::{Count, NoRoom, Store, StoreIntoIterator};
 use std::alloc::Global;
 
-// Of how many pairs at most a merge puts each in by itself. A vector of numbers is merged faster in one pass from about 4
-// pairs on into 8, 16 into 100, 30 into 1,000 and 50 into 10,000.
-const FEW: usize = 16;
+// A merge puts each pair in by itself where there are fewer than so many for each binary digit of both lengths' sum. Among more
+// it moves each pair of both instead.
+const FEW: usize = 3;
 
 /// Merges a store's pairs into another's. Where an equal key is there, that key stays and takes the new value; the old
 /// values are answered, each with its new key, in order, or `None` where there are none.
 ///
 /// Where one store is empty, it takes no memory and compares no keys: an empty other changes nothing, and an empty store
 /// takes the other one whole. Where the keys of one lie above all of the other, its pairs are put behind, or before, by
-/// at most two comparisons. Else each pair of other takes one search, and each pair of both moves a constant number of
-/// times.
+/// at most two comparisons. Else it compares once for each pair of both, where these are no more than one search for each pair
+/// of other may ask, or makes these searches. Few pairs are put in one by one; else each pair of both moves a constant number
+/// of times.
 ///
 /// All room, that of the old values included, is taken before the first change. Refused for want of memory, the list stays
 /// as it was and the other store comes back whole.
@@ -70,7 +74,8 @@ pub fn extend_from_store<K: Ord + Drop, V: Drop, S: StoreIntoIterator<K, V> + Dr
     merge_mixed(alloc, store, other, count)
 }
 
-// Merges stores whose pairs lie mixed: pair by pair where the other one has few, else in one pass.
+// Merges stores whose pairs lie mixed: side by side where the other one has many, pair by pair where it has few, else by one
+// search for each of its pairs in one pass.
 fn merge_mixed<K: Ord + Drop, V: Drop, S: StoreIntoIterator<K, V> + Drop>(
     alloc: Global,
     store: &mut S,
@@ -89,11 +94,42 @@ fn merge_mixed<K: Ord + Drop, V: Drop, S: StoreIntoIterator<K, V> + Drop>(
         (length (S.pairs other) * digits (length (S.pairs store.old) + length (S.pairs other)))
         count.old count.new }
 {
-    if other.lm_len() <= FEW {
-        Ok(unless_empty(merge_each(alloc, store, other, count)?))
-    } else {
-        Ok(unless_empty(merge_in_one_pass(alloc, store, other, count)?))
+    let len = other.lm_len();
+    let Some(total) = store.lm_len().checked_add(len) else {
+        return Err(NoRoom { back: other });
+    };
+    let steps = binary_digits(total);
+    if is_walked(total, len, steps) {
+        return Ok(unless_empty(merge_side_by_side(alloc, store, other, count)?));
     }
+    if len / FEW < steps {
+        return Ok(unless_empty(merge_each(alloc, store, other, count)?));
+    }
+    Ok(unless_empty(merge_in_one_pass(alloc, store, other, count)?))
+}
+
+// Whether a step for each of a total of pairs is no more than what so many searches ask, each of so many steps.
+fn is_walked(total: usize, searches: usize, steps: usize) -> bool
+    requires { searches ≤ total }
+    ensures { IsTrue result ↔ ((0 < searches) × (total ≤ searches * steps)) }
+{
+    if searches == 0 {
+        return false;
+    }
+    (total - 1) / searches < steps
+}
+
+// How many binary digits a number has: what a search among as many pairs asks at most.
+fn binary_digits(number: usize) -> usize
+    ensures { result ≡ digits number }
+{
+    let mut count = 0;
+    let mut left = number;
+    while 0 < left {
+        left /= 2;
+        count += 1;
+    }
+    count
 }
 
 // What is left over, if it has pairs.

@@ -1,7 +1,7 @@
 //! Every two maps over four keys, merged, against a slow scan: each pair of the second is put in by itself.
 //!
 //! They are merged as they are, and between further pairs, which the other map lacks or has too: so the second map has few
-//! pairs, which are put in one by one, and many, which are merged in one pass.
+//! pairs, which are put in one by one, and many, which are merged side by side.
 use crate::merging::{Pairs, is_told, merge, text_of};
 use litemap::store::{ColumnStore, StoreIntoIterator};
 use std::alloc::{AllocError, Global};
@@ -18,6 +18,8 @@ const FURTHER: &[(&[u8], &[u8])] = &[
     // Two around the second key.
     (b"gi", b""),
     (b"", b"gi"),
+    // Many in the first map: above, below and between the four.
+    (b"abefgiklmpqsuvwxy", b""),
     // Many in the second map: below, between and above the four.
     (b"", b"abefgiklmpqsuvwxy"),
     (b"cjorz", b"abefgiklmpqsuvwxy"),

@@ -14,4 +14,6 @@ mod refused;
 #[cfg(test)]
 mod rows;
 #[cfg(test)]
+mod sizes;
+#[cfg(test)]
 mod store_data;

@@ -39,11 +39,11 @@ const ROWS: &[(usize, &[(u32, u32)], usize, bool)] = &[
     // Before the first pair, where the other map needs it.
     (3, &[(1, 10)], 1, false),
     (2, &[(1, 10)], 3, true),
-    // Between them.
-    (2, &[(1, 10), (3, 30)], 2, false),
-    (3, &[(1, 10), (3, 30)], 2, false),
-    (4, &[(1, 10), (3, 30)], 2, true),
-    // Many between them, for which a fresh store has the room.
+    // One between them, where the map needs it.
+    (2, &[(3, 30)], 1, false),
+    (3, &[(3, 30)], 1, true),
+    // More between them, for which a fresh store has the room.
+    (2, &[(1, 10), (3, 30)], 2, true),
     (2, &MANY, 17, true),
 ];
 

@@ -1,5 +1,5 @@
 //! The room of a store: as many pairs as were asked for are taken, and with ample memory no room is refused.
-use litemap::store::{ColumnStore, Store, StoreMut};
+use litemap::store::{ColumnStore, Count, Store, StoreBulkMut, StoreMut};
 use std::alloc::{AllocError, Global};
 use std::test::Fail;
 use test_support::fixed_room::FixedRoom;
@@ -59,6 +59,18 @@ fn takes_more(alloc: Global, room: usize) -> Result<bool, AllocError> {
 fn a_full_vector_takes_more_room(rt: HostRuntime) -> Result<(), Fail> {
     for room in ROOMS {
         assert!(rt; takes_more(rt.alloc(), room)?, "{room}");
+    }
+    Ok(())
+}
+
+#[test]
+fn an_empty_vector_that_is_extended_keeps_its_room(rt: HostRuntime) -> Result<(), Fail> {
+    let alloc = rt.alloc();
+    for room in ROOMS {
+        let mut store: Vec<(u32, u32)> = Vec::with_capacity(alloc, room)?;
+        let pairs = [(1u32, 10u32), (2, 20), (3, 30)];
+        store.lm_extend(alloc, pairs.iter().copied(), &mut Count::new())?;
+        assert!(rt; store.capacity() >= room && store.as_slice() == pairs.as_slice(), "{room}");
     }
     Ok(())
 }

@@ -55,11 +55,15 @@ fn put_rising_in_vec<K: Ord + Drop, V: Drop>(
     merge_in_vec(alloc, store, pairs, count)
 }
 
-// Puts pairs behind the others, all at once.
+// Puts pairs behind the others, all at once. Where there are none, and no room for the new ones, their vector becomes the store.
 fn append_in_vec<T: Drop>(store: &mut Vec<T>, mut items: Vec<T>) -> Result<(), AllocError>
     ensures behind { OnOk result (store.new.items ≡ store.old.items ++ items.items) }
     ensures refused { OnErr result (store.new.items ≡ store.old.items) }
 {
+    if store.is_empty() && store.capacity() < items.len() {
+        *store = items;
+        return Ok(());
+    }
     store.append(&mut items)
 }
 

@@ -1,6 +1,4 @@
-use Rattle.std.proofs.Common.{◌≡◌, ◌-◌, length, Some, slice_get, sym, ap, ◌∙◌, arith}
-use Rattle.std.specs.List.{remove}
-use Rattle.std.proofs.lemmas.List.{length_push}
+use Rattle.std.proofs.Common.{sym}
 use Rattle.litemap_store.proofs.Taken.{last_got, last_removed}
 use Rattle.litemap_store.proofs.vec_impl.take_last.Goals as goal
 

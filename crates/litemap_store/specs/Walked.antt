@@ -1,0 +1,24 @@
+-- Which of two rising lists has the lower first key, and what is left to merge where its pair is taken.
+use Rattle.std.specs.Prelude.{◌≡◌, ◌+◌, ◌<◌, List, ◌∷◌, [], ◌++◌, Option, Some, None, length}
+use Rattle.std.specs.declared.cmp.Ordering.{Ordering}
+use Rattle.std.specs.declared.cmp.Ordering.TheVariants.{Less, Equal, Greater}
+use Rattle.litemap_store.specs.Merge.{Merge, left}
+use Rattle.litemap_store.specs.Pairs.{BelowAll, Rising}
+
+module _ {K V : Type 0} (cmp : K → K → Ordering) where
+  -- none where both lists are empty, else how the first key of A stands to that of B; an empty list's is above all
+  abbrev pub IsLowerFirst : List (K × V) → List (K × V) → Option Ordering → Type 0
+  IsLowerFirst A B None = (A ≡ []) × (B ≡ [])
+  IsLowerFirst A B (Some Less) = (a : K × V) × (A' : List (K × V)) × (A ≡ a ∷ A') × BelowAll cmp a.0 B
+  IsLowerFirst A B (Some Greater) = (b : K × V) × (B' : List (K × V)) × (B ≡ b ∷ B') × BelowAll cmp b.0 A
+  IsLowerFirst A B (Some Equal) = (a : K × V) × (A' : List (K × V)) × (b : K × V) × (B' : List (K × V))
+      × (A ≡ a ∷ A') × (B ≡ b ∷ B') × (cmp a.0 b.0 ≡ Equal)
+
+  -- p was made of the first pairs of A and B, which are A' and B' then: it goes before what is merged of these; and R, what
+  -- was left over so far, is R' then
+  pub record IsTakenFirst (A B A' B' : List (K × V)) (p : K × V) (R R' : List (K × V)) : Type 0 where
+    pub old_rises : Rising cmp A'
+    pub new_rise : Rising cmp B'
+    pub goes_before : (M : List (K × V)) → Merge cmp A' B' M → Merge cmp A B (p ∷ M)
+    pub left_over : R' ++ left cmp A' B' ≡ R ++ left cmp A B
+    pub fewer : length A' + length B' < length A + length B
