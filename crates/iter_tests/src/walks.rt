@@ -34,7 +34,8 @@ fn are_met<'a, V: PartialEq, S: StoreIterable<'a, u8, V>>(
     let mut values = map.values();
     for from_front in steps {
         let len = left.len();
-        let is_exact = keys.size_hint() == (len, Some(len))
+        let is_exact = pairs.size_hint() == (len, Some(len))
+            && keys.size_hint() == (len, Some(len))
             && values.size_hint() == (len, Some(len));
         let is_counted = pairs.len() == len && keys.len() == len && values.len() == len;
         let (expected, pair, key, value) = if *from_front {

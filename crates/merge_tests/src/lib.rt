@@ -12,6 +12,8 @@ mod merging;
 #[cfg(test)]
 mod refused;
 #[cfg(test)]
+mod replaced;
+#[cfg(test)]
 mod rows;
 #[cfg(test)]
 mod sizes;

@@ -7,8 +7,9 @@
 ghost use Rattle.std.specs.Prelude.{refl};
 ghost use Rattle.own_store.specs.Contents.{with_value};
 
-use litemap::store::{NoRoom, Store, StoreConstEmpty, StoreMut};
+use litemap::store::{Count, NoRoom, Store, StoreConstEmpty, StoreMut};
 use std::alloc::{AllocError, Global};
+use std::cmp::Ordering;
 use std::marker::Model;
 use std::mem;
 
@@ -42,6 +43,14 @@ impl<K, V, const LIMIT: usize> Store<K, V> for Bounded<K, V, LIMIT> {
     fn lm_get(&self, index: usize) -> Option<(&K, &V)> {
         let (key, value) = self.items.as_slice().get(index)?;
         Some((key, value))
+    }
+
+    fn lm_binary_search_by<F: FnMut(&K) -> Ordering>(
+        &self,
+        f: F,
+        count: &mut Count,
+    ) -> Result<usize, usize> {
+        self.items.lm_binary_search_by(f, count)
     }
 }
 
@@ -90,12 +99,7 @@ impl<K, V, const LIMIT: usize> StoreMut<K, V> for Bounded<K, V, LIMIT> {
         if self.items.len() == LIMIT {
             return Err(NoRoom { back: (key, value) });
         }
-        match self.items.insert(index, (key, value)) {
-            Ok(()) => Ok(()),
-            Err(refused) => Err(NoRoom {
-                back: refused.value,
-            }),
-        }
+        self.items.lm_insert(index, key, value)
     }
 
     fn lm_remove(&mut self, index: usize) -> (K, V) {

@@ -3,6 +3,7 @@ use crate::stores::{self, Growing};
 use crate::texts::{self, GrowingTexts};
 use crate::{bulk, conversions, maps, merge, scans};
 use litemap::store::ColumnStore;
+use own_store::Bounded;
 use refusal_support::{Outcome, Scenarios};
 use std::alloc::Global;
 
@@ -10,7 +11,7 @@ use std::alloc::Global;
 pub struct Calls;
 
 /// The names of the scenarios.
-const NAMES: [&str; 81] = [
+const NAMES: [&str; 85] = [
     "lm_push",
     "lm_insert",
     "lm_with_capacity",
@@ -87,6 +88,10 @@ const NAMES: [&str; 81] = [
     "to_borrowed_keys_in_columns",
     "to_borrowed_values_in_columns",
     "to_keys_by_in_columns",
+    "lm_push_in_bounded",
+    "lm_insert_in_bounded",
+    "lm_with_capacity_in_bounded",
+    "lm_reserve_in_bounded",
     "scan_below",
     "scan_above",
     "scan_put",
@@ -102,6 +107,9 @@ impl Scenarios for Calls {
     fn run(&self, alloc: Global, name: &str) -> Option<Outcome> {
         if let Some(outcome) = conversions::run(alloc, name) {
             return Some(outcome);
+        }
+        if let Some(call) = name.strip_suffix("_in_bounded") {
+            return stores::run::<Bounded<u32, u32, 8>>(alloc, call);
         }
         match name.strip_suffix("_in_columns") {
             Some(call) => {

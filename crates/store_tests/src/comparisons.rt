@@ -171,3 +171,42 @@ fn many_pairs_are_put_in_by_as_many_comparisons_as_promised(rt: HostRuntime) -> 
     assert_eq!(rt; right, [true; 3]);
     Ok(())
 }
+
+// How many comparisons it takes to refuse the extension of a map with no room by pairs behind its own; `None` where it isn't.
+fn refused<'a>(
+    alloc: Global,
+    made: &'a Cell<u32>,
+    old: Keys,
+    new: Keys,
+) -> Result<Option<u32>, AllocError> {
+    let room = old.2 as usize;
+    let mut map: LiteMap<Counted<'a>, u32, FixedRoom<Counted<'a>, u32>> = map_of(
+        alloc,
+        &pairs(alloc, made, old)?,
+        room,
+    )?;
+    let new = pairs(alloc, made, new)?;
+    made.set(0);
+    Ok(match map.extend(alloc, new) {
+        Ok(()) => None,
+        Err(_) => Some(made.get()),
+    })
+}
+
+#[test]
+fn a_refused_extension_takes_no_more_comparisons(rt: HostRuntime) -> Result<(), Fail> {
+    let made = Cell::new(0u32);
+    let rows = [
+        ((1, 1, 1), (2, 1, 1), 1),
+        ((1, 1, 20), (21, 1, 1), 1),
+        ((1, 1, 20), (21, 1, 20), 20),
+    ];
+    for (old, new, most) in rows {
+        let compared = refused(rt.alloc(), &made, old, new)?;
+        assert!(rt;
+            compared.is_some_and(|made| made <= most),
+            "{compared:?} in place of {most}"
+        );
+    }
+    Ok(())
+}

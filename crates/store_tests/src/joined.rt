@@ -7,16 +7,17 @@ use test_support::fixed_room::FixedRoom;
 
 const PAIRS: [(u32, u32); 5] = [(3, 30), (1, 10), (2, 20), (1, 11), (0, 9)];
 
-// Whether what a store hands over are these pairs.
+// Whether what a store hands over are these pairs, with the number of those that are left at each step.
 fn hands_over<S: StoreIntoIterator<u32, u32> + Drop>(store: S, pairs: &[(u32, u32)]) -> bool {
-    let mut left = pairs;
-    for pair in store.lm_into_iter() {
-        match left.split_first() {
-            Some((first, rest)) if *first == pair => left = rest,
-            _ => return false,
+    let mut items = store.lm_into_iter();
+    for place in 0..pairs.len().saturating_add(2) {
+        let left = pairs.len().saturating_sub(place);
+        let is_counted = items.len() == left && items.size_hint() == (left, Some(left));
+        if !is_counted || items.next() != pairs.get(place).copied() {
+            return false;
         }
     }
-    left.is_empty()
+    true
 }
 
 // A store of these pairs: made of them, or made with room for five and filled.

@@ -18,6 +18,7 @@ use litemap::store::{
     StoreFromIterator, StoreIntoIterator, StoreIterable, StoreMut,
 };
 use std::alloc::{AllocError, Global};
+use std::cmp::Ordering;
 use std::marker::Model;
 use std::mem;
 use std::vec::IntoIter;
@@ -54,6 +55,14 @@ impl<K, V> Store<K, V> for FixedRoom<K, V> {
     fn lm_get(&self, index: usize) -> Option<(&K, &V)> {
         let (key, value) = self.items.as_slice().get(index)?;
         Some((key, value))
+    }
+
+    fn lm_binary_search_by<F: FnMut(&K) -> Ordering>(
+        &self,
+        f: F,
+        count: &mut Count,
+    ) -> Result<usize, usize> {
+        self.items.lm_binary_search_by(f, count)
     }
 }
 
@@ -103,12 +112,7 @@ impl<K, V> StoreMut<K, V> for FixedRoom<K, V> {
         if self.items.len() == self.limit {
             return Err(NoRoom { back: (key, value) });
         }
-        match self.items.insert(index, (key, value)) {
-            Ok(()) => Ok(()),
-            Err(refused) => Err(NoRoom {
-                back: refused.value,
-            }),
-        }
+        self.items.lm_insert(index, key, value)
     }
 
     fn lm_remove(&mut self, index: usize) -> (K, V) {

@@ -2,13 +2,14 @@
 use examples::Shown;
 use litemap::LiteMap;
 use litemap::store::{
-    ColumnStore, Count, SliceStore, Store, StoreBulkMut, StoreIntoIterator, StoreSlice,
+    ColumnStore, Count, SliceStore, Store, StoreBulkMut, StoreFromIterator, StoreIntoIterator,
+    StoreSlice,
 };
 use own_store::Bounded;
 use std::alloc::{AllocError, Global};
 
 /// The examples, by the names of the calls and of the stores.
-pub(crate) fn examples(alloc: Global) -> [Shown; 7] {
+pub(crate) fn examples(alloc: Global) -> [Shown; 9] {
     [
         ("lm_binary_search_by", Ok(lm_binary_search_by())),
         ("lm_get_range", lm_get_range(alloc)),
@@ -16,6 +17,8 @@ pub(crate) fn examples(alloc: Global) -> [Shown; 7] {
         ("lm_extend_end", lm_extend_end(alloc)),
         ("lm_extend_start", lm_extend_start(alloc)),
         ("ColumnStore", column_store(alloc)),
+        ("from_columns", from_columns(alloc)),
+        ("into_columns", into_columns(alloc)),
         ("a store of one's own", bounded(alloc)),
     ]
 }
@@ -56,6 +59,19 @@ fn column_store(alloc: Global) -> Result<bool, AllocError> {
     let mut days: LiteMap<u32, &str, ColumnStore<u32, &str>> = LiteMap::new(alloc);
     days.insert(3, "Wednesday")?;
     Ok(days.get(&3) == Some(&"Wednesday"))
+}
+
+fn from_columns(alloc: Global) -> Result<bool, AllocError> {
+    let numbers = [1, 3].to_vec(alloc)?;
+    let names = ["Monday", "Wednesday"].to_vec(alloc)?;
+    let days = ColumnStore::from_columns(numbers, names);
+    Ok(days.lm_get(1) == Some((&3, &"Wednesday")))
+}
+
+fn into_columns(alloc: Global) -> Result<bool, AllocError> {
+    let days = ColumnStore::lm_from_pairs(alloc, [(1, "Monday"), (3, "Wednesday")])?;
+    let (numbers, names) = days.into_columns();
+    Ok(numbers.as_slice() == [1, 3].as_slice() && names.get(1) == Some(&"Wednesday"))
 }
 
 fn bounded(alloc: Global) -> Result<bool, AllocError> {
