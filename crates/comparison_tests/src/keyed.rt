@@ -1,5 +1,5 @@
 //! Calls by a key and by a closure that compares with one.
-ghost use Rattle.litemap_store.specs.Search.{Shaped};
+ghost use Rattle.litemap_store.specs.Search.{CallableOnKeys};
 
 use crate::lengths::{LENGTHS, digits, end_of, odd_keys};
 use litemap::store::{Count, StoreMut};
@@ -110,7 +110,7 @@ fn call_by<K: Ord + Copy, S: StoreMut<K, u32>, F: FnMut(&K) -> Ordering>(
     f: F,
     call: Call,
 ) -> bool
-    requires { Shaped F.FnMut map.old.pairs f }
+    requires { CallableOnKeys F.FnMut map.old.pairs f }
 {
     match call {
         Call::FindIndexBy => map.find_index_by(f).is_ok(),
@@ -126,7 +126,6 @@ fn call_by_key<K: Ord + Copy, S: StoreMut<K, u32>>(
     key: &K,
     call: Call,
 ) -> bool {
-    let _rises = map.len();
     call_by(map, |k| k.cmp(key), call)
 }
 

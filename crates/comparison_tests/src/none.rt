@@ -46,7 +46,7 @@ fn answers<K: Ord + Copy, S: StoreBulkMut<K, u32> + Drop>(
     len: usize,
     call: Call,
 ) -> Option<bool>
-    requires { ClonesCompareEqual K.cmp K.is_clone }
+    requires { ClonesCompareEqual K.cmp K.is_clone map.old.pairs }
 {
     match call {
         Call::Len => Some(map.len() == len),

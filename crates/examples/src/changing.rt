@@ -75,7 +75,6 @@ fn remove(alloc: Global) -> Result<bool, AllocError> {
 
 fn remove_by(alloc: Global) -> Result<bool, AllocError> {
     let mut days = three_days(alloc)?;
-    let _rises = days.len();
     Ok(days.remove_by(|number| number.cmp(&3)) == Some("Wednesday"))
 }
 

@@ -1,15 +1,12 @@
 //! The maps that the examples look at.
-use litemap::LiteMap;
+use litemap::{LiteMap, VecMap};
 use std::alloc::{AllocError, Global};
 
-/// A map over a vector.
-pub type Over<K, V> = LiteMap<K, V, Vec<(K, V)>>;
-
 /// Names of days by their numbers.
-pub type Days = Over<u32, &'static str>;
+pub type Days = VecMap<u32, &'static str>;
 
 /// When a shop opens, by the number of the day.
-pub type Hours = Over<u32, u8>;
+pub type Hours = VecMap<u32, u8>;
 
 /// Monday, Wednesday and Friday, at 1, 3 and 5.
 pub fn three_days(alloc: Global) -> Result<Days, AllocError> {

@@ -48,7 +48,6 @@ fn get_counted(days: &Days) -> bool {
 
 fn get_by(days: &Days) -> bool {
     // days: 1 Monday, 3 Wednesday, 5 Friday
-    let _rises = days.len();
     let there = days.get_by(|number| number.cmp(&3));
     let place = days.find_index_by(|number| number.cmp(&4));
     there == Some(&"Wednesday") && place == Err(2)

@@ -1,14 +1,15 @@
 //! Maps that are made, and what becomes of them.
 use crate::Shown;
 use crate::days::{Days, three_days};
-use litemap::LiteMap;
+use litemap::{ColumnMap, LiteMap};
 use std::alloc::{AllocError, Global};
 
 /// The examples, by the names of the calls.
-pub fn examples(alloc: Global) -> [Shown; 7] {
+pub fn examples(alloc: Global) -> [Shown; 8] {
     [
         ("new_vec", new_vec(alloc)),
         ("new", new(alloc)),
+        ("ColumnMap", over_columns(alloc)),
         ("with_capacity", with_capacity(alloc)),
         ("from_sorted_store_unchecked", from_sorted_store(alloc)),
         ("try_clone", try_clone(alloc)),
@@ -27,6 +28,12 @@ fn new_vec(alloc: Global) -> Result<bool, AllocError> {
 fn new(alloc: Global) -> Result<bool, AllocError> {
     let days: Days = LiteMap::new(alloc);
     Ok(days.is_empty())
+}
+
+fn over_columns(alloc: Global) -> Result<bool, AllocError> {
+    let mut days: ColumnMap<u32, &str> = LiteMap::new(alloc);
+    days.insert(1, "Monday")?;
+    Ok(days.get(&1) == Some(&"Monday"))
 }
 
 fn with_capacity(alloc: Global) -> Result<bool, AllocError> {

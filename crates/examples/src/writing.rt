@@ -23,7 +23,6 @@ fn get_mut(alloc: Global) -> Result<bool, AllocError> {
 
 fn get_mut_by(alloc: Global) -> Result<bool, AllocError> {
     let mut days = three_days(alloc)?;
-    let _rises = days.len();
     if let Some(name) = days.get_mut_by(|number| number.cmp(&3)) {
         *name = "Wed";
     }

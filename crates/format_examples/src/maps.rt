@@ -1,7 +1,8 @@
 //! Maps as JSON.
 use crate::Shown;
 use crate::fault::Fault;
-use examples::days::{Hours, Over};
+use examples::days::Hours;
+use litemap::VecMap;
 use litemap_json::{ItemFault, JsonFault, from_json, to_json};
 use serde_json::Value;
 use std::alloc::Global;
@@ -23,7 +24,7 @@ fn write(alloc: Global, hours: &Hours) -> Result<bool, Fault> {
 }
 
 fn write_pairs(alloc: Global) -> Result<bool, Fault> {
-    let seats: Over<(u8, u8), bool> = Over::from_iter(alloc, [((2, 7), true)])?;
+    let seats: VecMap<(u8, u8), bool> = VecMap::from_iter(alloc, [((2, 7), true)])?;
     Ok(to_json(alloc, &seats)?.to_string(alloc)?.as_str() == "[[[2,7],true]]")
 }
 

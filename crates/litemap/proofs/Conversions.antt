@@ -56,10 +56,10 @@ module _ {K L V W : Type 0} (cmp : K → K → Ordering) (new_cmp : L → L → 
   )
 
 -- clones that compare Equal to their originals keep the order
-pub clones-keep-order : {K V : Type 0} {cmp : K → K → Ordering} (C : K → K → Type 0) → IsTotalOrder cmp → ClonesCompareEqual cmp C
-    → (list : List (K × V)) → KeysKeepOrder cmp cmp C list
-clones-keep-order C o equal list p q a b i j c d less =
-    sym (o.congr p.0 a b (equal p.0 a c)) ∙ sym (alike_right o q.0 b p.0 (equal q.0 b d)) ∙ less
+pub clones-keep-order : {K V : Type 0} {cmp : K → K → Ordering} (C : K → K → Type 0) → IsTotalOrder cmp → (list : List (K × V))
+    → ClonesCompareEqual cmp C list → KeysKeepOrder cmp cmp C list
+clones-keep-order C o list equal p q a b i j c d less =
+    sym (o.congr p.0 a b (equal p a i c)) ∙ sym (alike_right o q.0 b p.0 (equal q b j d)) ∙ less
 
 -- references keep the order
 pub lent-keep-order : {K V : Type 0} (cmp : K → K → Ordering) (list : List (K × V))

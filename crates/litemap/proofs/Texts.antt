@@ -2,7 +2,7 @@
 -- function takes these by an attribute, as `#[tactic(auto, using(litemap::proofs::Texts::string_keys))]`.
 --     string_keys      where keys are `String`, asked by keys;  text_keys      the same, asked by texts
 --     byte_keys      where keys are `Vec<u8>`, asked by bytes;  str_keys      where keys are `&str` or `&[u8]`
---     text_clones_equal      the condition of `try_clone` where keys are `String`
+--     text_clones      the condition of `try_clone` and of the conversions where keys are `String`
 use Rattle.std.proofs.Common.{◌≡◌, ◌≢◌, List, Some, None, IsSome, String, Vec, Bor, ℕ}
 use Rattle.std.proofs.lemmas.Cmp.{tied_itself}
 use Rattle.std.proofs.lemmas.Map.Lookups.{exact_bytes}
@@ -17,7 +17,6 @@ use Rattle.litemap_store.specs.Queries.{by_slice, by_text}
 use Rattle.litemap_store.proofs.Lookups.{value_at-cut, value_at-cut_other, value_at-put, value_at-put_other, value_at-write}
 use Rattle.litemap_store.proofs.Lookups.{key_or_equal, value_at-between_apart, value_at-cut_apart, value_at-write_apart}
 use Rattle.litemap.specs.ByBytes.{by_bytes}
-use Rattle.litemap.specs.Clones.{ClonesCompareEqual}
 
 by_bytes_total : IsTotalOrder by_bytes
 by_bytes_total = on_texts (λ (a : Bor (List ℕ)). a.now)
@@ -125,5 +124,7 @@ pub ruleset byte_keys = (byte_write_found, byte_write_others, byte_cut_gone, byt
 pub ruleset str_keys = (str_put_found, str_put_others, str_cut_gone, str_cut_others)
 
 -- a clone of a text has its bytes
-pub text_clones_equal : {Z : Type 0} → ClonesCompareEqual {K = String Z} string_cmp (λ x y. string_bytes y ≡ string_bytes x)
-text_clones_equal x y e = rw e (tied_itself string_cmp_total x)
+pub text_clone_equal : {Z : Type 0} (text clone : String Z) → string_bytes clone ≡ string_bytes text → string_cmp text clone ≡ Equal
+text_clone_equal text clone e = rw e (tied_itself string_cmp_total text)
+
+pub ruleset text_clones = (text_clone_equal)

@@ -4,10 +4,11 @@ use Rattle.std.specs.Prelude.{◌≡◌, List}
 use Rattle.std.specs.List.{AllZip}
 use Rattle.std.specs.declared.cmp.Ordering.{Ordering}
 use Rattle.std.specs.declared.cmp.Ordering.TheVariants.{Equal}
+use Rattle.litemap_store.specs.Last.{In}
 
--- a clone of a key compares Equal to its original
-abbrev pub ClonesCompareEqual : {K : Type 0} → (K → K → Ordering) → (K → K → Type 0) → Type 0
-ClonesCompareEqual {K} cmp is_clone = (x y : K) → is_clone x y → cmp x y ≡ Equal
+-- a clone of a key of the list compares Equal to its original
+abbrev pub ClonesCompareEqual : {K V : Type 0} → (K → K → Ordering) → (K → K → Type 0) → List (K × V) → Type 0
+ClonesCompareEqual {K} {V} cmp is_clone list = (p : K × V) (clone : K) → In p list → is_clone p.0 clone → cmp p.0 clone ≡ Equal
 
 -- a clone is the same value as its original
 abbrev pub ClonesAreSame : {X : Type 0} → (X → X → Type 0) → Type 0

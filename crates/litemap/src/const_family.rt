@@ -33,7 +33,7 @@ impl<'a, K: Ord, V> LiteMap<K, V, SliceStore<'a, K, V>> {
     /// const DAYS: &[(u32, &str)] = &[(1, "Monday"), (3, "Wednesday"), (5, "Friday")];
     /// // ...
     /// let days = LiteMap::from_sorted_store_unchecked(SliceStore::new(DAYS));
-    /// days.const_len() == 3 && !days.const_is_empty() && days.const_get_indexed_or_panic(2).0 == 5
+    /// days.const_len() == 3
     /// ```
     pub fn const_len(&self) -> usize
         ensures { result ≡ length self.now.pairs }
@@ -47,7 +47,7 @@ impl<'a, K: Ord, V> LiteMap<K, V, SliceStore<'a, K, V>> {
     /// const DAYS: &[(u32, &str)] = &[(1, "Monday"), (3, "Wednesday"), (5, "Friday")];
     /// // ...
     /// let days = LiteMap::from_sorted_store_unchecked(SliceStore::new(DAYS));
-    /// days.const_len() == 3 && !days.const_is_empty() && days.const_get_indexed_or_panic(2).0 == 5
+    /// !days.const_is_empty()
     /// ```
     pub fn const_is_empty(&self) -> bool
         ensures { result ≡ (length self.now.pairs == 0) }
@@ -63,7 +63,7 @@ impl<'a, K: Ord, V> LiteMap<K, V, SliceStore<'a, K, V>> {
     /// const DAYS: &[(u32, &str)] = &[(1, "Monday"), (3, "Wednesday"), (5, "Friday")];
     /// // ...
     /// let days = LiteMap::from_sorted_store_unchecked(SliceStore::new(DAYS));
-    /// days.const_len() == 3 && !days.const_is_empty() && days.const_get_indexed_or_panic(2).0 == 5
+    /// days.const_len() == 3 && days.const_get_indexed_or_panic(2).0 == 5
     /// ```
     pub fn const_get_indexed_or_panic(&self, index: usize) -> &'a (K, V)
         requires { index < length self.now.pairs }
@@ -132,6 +132,7 @@ impl<'a, 'k, V> LiteMap<&'k [u8], V, SliceStore<'a, &'k [u8], V>> {
 
 impl<'a, V> LiteMap<u8, V, SliceStore<'a, u8, V>> {
     /// The place and the value of the key, if it is there. It compares at most once for each binary digit of the length.
+    /// Its example is that of `u32` keys, with this type in their place.
     pub fn const_get_with_index(&self, key: u8) -> Option<(usize, &'a V)>
         ensures value { option_map (λ found. found.1.now) result ≡ value_at nat_cmp self.now.pairs key }
         ensures place { IfSome result (λ found. found.0 ≡ place nat_cmp self.now.pairs key) }
@@ -144,6 +145,7 @@ impl<'a, V> LiteMap<u8, V, SliceStore<'a, u8, V>> {
 
 impl<'a, V> LiteMap<u16, V, SliceStore<'a, u16, V>> {
     /// The place and the value of the key, if it is there. It compares at most once for each binary digit of the length.
+    /// Its example is that of `u32` keys, with this type in their place.
     pub fn const_get_with_index(&self, key: u16) -> Option<(usize, &'a V)>
         ensures value { option_map (λ found. found.1.now) result ≡ value_at nat_cmp self.now.pairs key }
         ensures place { IfSome result (λ found. found.0 ≡ place nat_cmp self.now.pairs key) }
@@ -175,6 +177,7 @@ impl<'a, V> LiteMap<u32, V, SliceStore<'a, u32, V>> {
 
 impl<'a, V> LiteMap<u64, V, SliceStore<'a, u64, V>> {
     /// The place and the value of the key, if it is there. It compares at most once for each binary digit of the length.
+    /// Its example is that of `u32` keys, with this type in their place.
     pub fn const_get_with_index(&self, key: u64) -> Option<(usize, &'a V)>
         ensures value { option_map (λ found. found.1.now) result ≡ value_at nat_cmp self.now.pairs key }
         ensures place { IfSome result (λ found. found.0 ≡ place nat_cmp self.now.pairs key) }
@@ -187,6 +190,7 @@ impl<'a, V> LiteMap<u64, V, SliceStore<'a, u64, V>> {
 
 impl<'a, V> LiteMap<u128, V, SliceStore<'a, u128, V>> {
     /// The place and the value of the key, if it is there. It compares at most once for each binary digit of the length.
+    /// Its example is that of `u32` keys, with this type in their place.
     pub fn const_get_with_index(&self, key: u128) -> Option<(usize, &'a V)>
         ensures value { option_map (λ found. found.1.now) result ≡ value_at nat_cmp self.now.pairs key }
         ensures place { IfSome result (λ found. found.0 ≡ place nat_cmp self.now.pairs key) }
@@ -199,6 +203,7 @@ impl<'a, V> LiteMap<u128, V, SliceStore<'a, u128, V>> {
 
 impl<'a, V> LiteMap<usize, V, SliceStore<'a, usize, V>> {
     /// The place and the value of the key, if it is there. It compares at most once for each binary digit of the length.
+    /// Its example is that of `u32` keys, with this type in their place.
     pub fn const_get_with_index(&self, key: usize) -> Option<(usize, &'a V)>
         ensures value { option_map (λ found. found.1.now) result ≡ value_at nat_cmp self.now.pairs key }
         ensures place { IfSome result (λ found. found.0 ≡ place nat_cmp self.now.pairs key) }
@@ -211,6 +216,7 @@ impl<'a, V> LiteMap<usize, V, SliceStore<'a, usize, V>> {
 
 impl<'a, V> LiteMap<i8, V, SliceStore<'a, i8, V>> {
     /// The place and the value of the key, if it is there. It compares at most once for each binary digit of the length.
+    /// Its example is that of `u32` keys, with this type in their place.
     pub fn const_get_with_index(&self, key: i8) -> Option<(usize, &'a V)>
         ensures value { option_map (λ found. found.1.now) result ≡ value_at int_cmp self.now.pairs key }
         ensures place { IfSome result (λ found. found.0 ≡ place int_cmp self.now.pairs key) }
@@ -223,6 +229,7 @@ impl<'a, V> LiteMap<i8, V, SliceStore<'a, i8, V>> {
 
 impl<'a, V> LiteMap<i16, V, SliceStore<'a, i16, V>> {
     /// The place and the value of the key, if it is there. It compares at most once for each binary digit of the length.
+    /// Its example is that of `u32` keys, with this type in their place.
     pub fn const_get_with_index(&self, key: i16) -> Option<(usize, &'a V)>
         ensures value { option_map (λ found. found.1.now) result ≡ value_at int_cmp self.now.pairs key }
         ensures place { IfSome result (λ found. found.0 ≡ place int_cmp self.now.pairs key) }
@@ -235,6 +242,7 @@ impl<'a, V> LiteMap<i16, V, SliceStore<'a, i16, V>> {
 
 impl<'a, V> LiteMap<i32, V, SliceStore<'a, i32, V>> {
     /// The place and the value of the key, if it is there. It compares at most once for each binary digit of the length.
+    /// Its example is that of `u32` keys, with this type in their place.
     pub fn const_get_with_index(&self, key: i32) -> Option<(usize, &'a V)>
         ensures value { option_map (λ found. found.1.now) result ≡ value_at int_cmp self.now.pairs key }
         ensures place { IfSome result (λ found. found.0 ≡ place int_cmp self.now.pairs key) }
@@ -247,6 +255,7 @@ impl<'a, V> LiteMap<i32, V, SliceStore<'a, i32, V>> {
 
 impl<'a, V> LiteMap<i64, V, SliceStore<'a, i64, V>> {
     /// The place and the value of the key, if it is there. It compares at most once for each binary digit of the length.
+    /// Its example is that of `u32` keys, with this type in their place.
     pub fn const_get_with_index(&self, key: i64) -> Option<(usize, &'a V)>
         ensures value { option_map (λ found. found.1.now) result ≡ value_at int_cmp self.now.pairs key }
         ensures place { IfSome result (λ found. found.0 ≡ place int_cmp self.now.pairs key) }
@@ -259,6 +268,7 @@ impl<'a, V> LiteMap<i64, V, SliceStore<'a, i64, V>> {
 
 impl<'a, V> LiteMap<i128, V, SliceStore<'a, i128, V>> {
     /// The place and the value of the key, if it is there. It compares at most once for each binary digit of the length.
+    /// Its example is that of `u32` keys, with this type in their place.
     pub fn const_get_with_index(&self, key: i128) -> Option<(usize, &'a V)>
         ensures value { option_map (λ found. found.1.now) result ≡ value_at int_cmp self.now.pairs key }
         ensures place { IfSome result (λ found. found.0 ≡ place int_cmp self.now.pairs key) }
@@ -271,6 +281,7 @@ impl<'a, V> LiteMap<i128, V, SliceStore<'a, i128, V>> {
 
 impl<'a, V> LiteMap<isize, V, SliceStore<'a, isize, V>> {
     /// The place and the value of the key, if it is there. It compares at most once for each binary digit of the length.
+    /// Its example is that of `u32` keys, with this type in their place.
     pub fn const_get_with_index(&self, key: isize) -> Option<(usize, &'a V)>
         ensures value { option_map (λ found. found.1.now) result ≡ value_at int_cmp self.now.pairs key }
         ensures place { IfSome result (λ found. found.0 ≡ place int_cmp self.now.pairs key) }

@@ -6,6 +6,24 @@ mod const_family;
 mod map;
 mod try_fault;
 
+use litemap_store::store::ColumnStore;
 pub use litemap_store::{Query, store};
 pub use map::{Entry, KeysIterWrap, LiteMap, OccupiedEntry, VacantEntry, ValuesIterWrap};
 pub use try_fault::TryFault;
+
+/// A map over one vector of pairs.
+///
+/// ```rust
+/// /// Names of days by their numbers.
+/// pub type Days = VecMap<u32, &'static str>;
+/// ```
+pub type VecMap<K, V> = LiteMap<K, V, Vec<(K, V)>>;
+
+/// A map over two columns: a vector of the keys and one of the values.
+///
+/// ```rust
+/// let mut days: ColumnMap<u32, &str> = LiteMap::new(alloc);
+/// days.insert(1, "Monday")?;
+/// Ok(days.get(&1) == Some(&"Monday"))
+/// ```
+pub type ColumnMap<K, V> = LiteMap<K, V, ColumnStore<K, V>>;

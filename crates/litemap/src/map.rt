@@ -182,8 +182,9 @@ impl<K: Ord, V, S: StoreMut<K, V>> LiteMap<K, V, S> {
 
     /// A map of clones of the keys and values, in the same order, or a refusal for want of memory.
     ///
-    /// A clone of a key has to compare `Equal` to its original. Of texts that is `text_clones_equal` in the crate's
-    /// `proofs/Texts.antt`. No keys are compared. The Rust crate has the trait `Clone` here.
+    /// A clone of each key of the map has to compare `Equal` to it. Where keys are texts the caller's attribute
+    /// `using(litemap::proofs::Texts::text_clones)` shows that. No keys are compared. The Rust crate has the trait `Clone`
+    /// here.
     ///
     /// ```rust
     /// let days = three_days(alloc)?;
@@ -195,7 +196,7 @@ impl<K: Ord, V, S: StoreMut<K, V>> LiteMap<K, V, S> {
         K: Clone,
         V: Clone,
         S: Drop,
-        requires { ClonesCompareEqual K.cmp K.is_clone }
+        requires { ClonesCompareEqual K.cmp K.is_clone self.now.pairs }
         ensures clones { IfOk result (λ m. PairsAreClones K.is_clone V.is_clone self.now.pairs m.pairs) }
         ensures same { IfOk result
             (λ m. ClonesAreSame K.is_clone → ClonesAreSame V.is_clone → m.pairs ≡ self.now.pairs) }

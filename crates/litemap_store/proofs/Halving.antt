@@ -2,7 +2,8 @@
 --     Narrowed ord l low high      what is known of the places below low and from high on
 --     Narrowed-whole, -less, -greater      at the start, and after an answer at the place m;  Finds-here, Finds-nowhere      at the two ends
 --     Seen ord l hit low left, Seen-next, left_next      the same for the search that notes a hit and the number of places left
---     takes, next      from `Shape`: the closure may be asked for a key of the list, and what it answers; each answer uses up a question
+--     takes, takes_next      from `Callable`: the closure may be asked for a key of the list; each answer uses up a question
+--     next      the same of `Shape`, and what the closure answers
 use Rattle.std.proofs.Common.{◌≡◌, ◌≢◌, ℕ, zero, suc, ◌+◌, ◌-◌, ◌/◌, ◌<◌, ◌≤◌, Bool, true, false, cond, List, [], ◌∷◌, length, Some, Ok, Err, slice_get, slice_index_or, Bor, refl, sym, ap, ◌∙◌, subst, arith, inl, inr, ◌⊎◌}
 use denote.Param.Members.{Mut}
 use Rattle.std.specs.Fn.{CalledAt, TakesAt}
@@ -12,7 +13,7 @@ use Rattle.std.specs.Ordering.{is_eq, is_lt, ordering_index}
 use Rattle.std.specs.List.{AllWithin, Any, filter}
 use Rattle.std.proofs.lemmas.Option.{get_or_from_slice_get, slice_get_within}
 use Rattle.litemap_store.specs.Digits.{digits, digits-halved}
-use Rattle.litemap_store.specs.Search.{Ascends, Finds, Shape}
+use Rattle.litemap_store.specs.Search.{Ascends, Callable, Finds, Shape}
 
 top : (o : Ordering) → 2 ≤ ordering_index o → o ≡ Greater
 top Less h = absurd (omega arith)
@@ -163,13 +164,27 @@ left_next false Equal low left n w p = (omega arith, digits-halved _ _ p (omega 
 left_next true Greater low left n w p = (omega arith, digits-halved _ _ p (omega arith))
 left_next false Greater low left n w p = (omega arith, digits-halved _ _ p (omega arith))
 
+-- the place behind a hit lies within the list
+pub hit_next : (answer : Ordering) (low left n hit : ℕ) → low + left ≤ n → 0 < left → hit ≤ n → cond (is_eq answer) (low + (left - left / 2)) hit ≤ n
+hit_next Less low left n hit w p h = h
+hit_next Equal low left n hit w p h = omega arith
+hit_next Greater low left n hit w p h = h
+
 pub known : {K V : Type 0} (l : List (K × V)) (m : ℕ) (k : K) (v : V) → slice_get l m ≡ Some (k, v) → Any (λ q. q.0 ≡ k) l
 known l m k v e = (m, (k, v), slice_get_within l m (k, v) e, get_or_from_slice_get l m (k, v) (k, v) e, refl)
 
-module _ {F K V : Type 0} (g : Mut F (Bor K × Unit {0}) Ordering) (l : List (K × V)) (ord : K → Ordering) where
-  pub takes : (n : ℕ) (f : F) (k : K) → 1 ≤ n → Shape g l ord n f → Any (λ q. q.0 ≡ k) l → TakesAt g f k
-  takes n f k h s a p e = (s.answers.at (p ∷ []) (omega arith) (subst (λ (x : K). Any (λ q. q.0 ≡ x) l) (sym e) a)).0
+module _ {F K V : Type 0} (g : Mut F (Bor K × Unit {0}) Ordering) (l : List (K × V)) where
+  pub takes : (n : ℕ) (f : F) (k : K) → 1 ≤ n → Callable g l n f → Any (λ q. q.0 ≡ k) l → TakesAt g f k
+  takes n f k h s a p e = s.at [] f p (omega arith) refl (subst (λ (x : K). Any (λ q. q.0 ≡ x) l) (sym e) a)
 
+  -- one question less may be asked after an answer
+  pub takes_next : (m n : ℕ) (f : F) (k : K) (r : Ordering) (f' : F) → m + 1 ≤ n → Callable g l n f → Any (λ q. q.0 ≡ k) l
+      → CalledAt g f k r f' → Callable g l m f'
+  takes_next m n f k r f' h s a c =
+      let b : Any (λ q. q.0 ≡ c.shown.now) l = subst (λ (x : K). Any (λ q. q.0 ≡ x) l) (sym c.shows) a in
+      record { at = λ asked f'' p few calls there. s.at (c.shown ∷ asked) f'' p (omega arith) (f', (b, (r, c.called)), calls) there }
+
+module _ {F K V : Type 0} (g : Mut F (Bor K × Unit {0}) Ordering) (l : List (K × V)) (ord : K → Ordering) where
   -- one question less may be asked after an answer
   pub next : (m n : ℕ) (f : F) (k : K) (r : Ordering) (f' : F) → m + 1 ≤ n → Shape g l ord n f → Any (λ q. q.0 ≡ k) l → CalledAt g f k r f' → (ord k ≡ r) × Shape g l ord m f'
   next m n f k r f' h s a c =

@@ -1,12 +1,14 @@
--- How the caller of a search shows that its closure is shaped: each gives a `Shape`, for its `Shaped`.
+-- How the caller of a search by a closure shows that the closure answers by the key, and so what was found: each gives a
+-- `Shape`, for the `at` of `Found`.
 --     shape_counted      by a fact of the closure and of how many questions are left;  shape_kept      however many are left
 --     shape_always      where any call may be made, and answers alike;  shape_steady      where a call leaves the closure alone
 --     shape_lent      where the closure is lent by `&mut`
-use Rattle.std.proofs.Common.{◌≡◌, ℕ, zero, suc, ◌≤◌, List, [], ◌∷◌, length, refl, sym, subst, arith}
+--     Callable-from_Answers      what so answers may be called
+use Rattle.std.proofs.Common.{◌≡◌, ℕ, zero, suc, ◌<◌, ◌≤◌, List, [], ◌∷◌, length, refl, sym, subst, arith}
 use Rattle.std.specs.declared.cmp.Ordering.{Ordering}
-use Rattle.std.specs.List.{Any}
-use Rattle.std.specs.Fn.{Called}
-use Rattle.litemap_store.specs.Search.{Answers, AnswersEach, Ascends, Shape}
+use Rattle.std.specs.List.{Any, FoldsTo}
+use Rattle.std.specs.Fn.{Called, Takes}
+use Rattle.litemap_store.specs.Search.{Answers, AnswersEach, Ascends, Asks, Callable, Shape}
 use denote.Param.Members.{Mut}
 use denote.Ref.{Bor, MutBor}
 
@@ -15,6 +17,17 @@ module _ {F K V : Type 0} (g : Mut F (Bor K × Unit {0}) Ordering) (l : List (K 
   abbrev AnswersOne : (F → Type 0) → F → Bor K → Type 0
   AnswersOne Then f p =
       g.pre f (p, tt) × ((r : Ordering) (f' : F) → Called g f (p, tt) r f' → (r ≡ ord p.now) × Then f')
+
+  callable_after : (n : ℕ) (asked : List (Bor K)) (f f' : F) (k : Bor K) → Answers g l ord n f → length asked < n → FoldsTo (Asks g l) f asked f'
+      → Any (λ q. q.0 ≡ k.now) l → Takes g f' (k, tt)
+  callable_after n [] f f' k a few calls there = subst (λ (s : F). Takes g s (k, tt)) calls (a.at (k ∷ []) (omega arith) there).0
+  callable_after zero (p ∷ asked) f f' k a few calls there = absurd (omega arith)
+  callable_after (suc n) (p ∷ asked) f f' k a few calls there =
+      callable_after n asked calls.0 f' k
+      (record { at = λ ps h. ((a.at (p ∷ ps) (omega arith) calls.1.0).1 calls.1.1.0 calls.0 calls.1.1.1).1 }) (omega arith) calls.2 there
+
+  pub Callable-from_Answers : (n : ℕ) (f : F) → Answers g l ord n f → Callable g l n f
+  Callable-from_Answers n f a = record { at = λ asked f' k few calls there. callable_after n asked f f' k a few calls there }
 
   -- by a fact I of the closure and of how many questions are left, which lets it be asked for a key of the list, and
   -- which each answer keeps

@@ -1,8 +1,8 @@
 //! The search of the stores whose keys lie in slices, with no jump that hangs on an answer.
-ghost use Rattle.std.specs.Prelude.{◌≡◌, ◌<◌, ◌≤◌, List, Some, length, slice_get, if◌then◌else◌};
+ghost use Rattle.std.specs.Prelude.{◌≡◌, ◌<◌, ◌≤◌, IfOk, List, Some, length, slice_get, if◌then◌else◌};
 ghost use Rattle.litemap_store.specs.Counts.{RisesByAtMost};
 ghost use Rattle.litemap_store.specs.Digits.{digits};
-ghost use Rattle.litemap_store.specs.Search.{Shaped, Found};
+ghost use Rattle.litemap_store.specs.Search.{CallableOnKeys, Found};
 
 use crate::count::Count;
 use std::cmp::Ordering;
@@ -43,8 +43,9 @@ pub fn find<K, V, S: Keys<K, V>, F: FnMut(&K) -> Ordering>(
     f: F,
     count: &mut Count,
 ) -> Result<usize, usize>
-    requires { Shaped F.FnMut (S.pairs keys.now) f }
+    requires { CallableOnKeys F.FnMut (S.pairs keys.now) f }
     ensures found { Found F.FnMut (S.pairs keys.now) f result }
+    ensures within { IfOk result (λ index. index < length (S.pairs keys.now)) }
     ensures cost { RisesByAtMost (digits (length (S.pairs keys.now))) count.old count.new }
 {
     let mut f = f;

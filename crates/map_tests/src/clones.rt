@@ -65,6 +65,7 @@ fn map_of_texts(alloc: Global, texts: &[(&str, &str)]) -> Result<Texts, Fail> {
 }
 
 #[test]
+#[tactic(auto, using(litemap::proofs::Texts::text_clones))]
 fn texts_are_cloned(rt: HostRuntime) -> Result<(), Fail> {
     let texts = [("a", "1"), ("b", "2")];
     for len in 0..3 {

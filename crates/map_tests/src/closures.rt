@@ -1,9 +1,8 @@
 //! Calls by a closure that answers `Equal` for more than one key, or that looks up by another type than
 //! the keys'.
 //!
-//! Over the keys of a map such a closure has to answer `Less`, then `Equal`, then `Greater`. That is
-//! proved here of each function that makes one, from the keys' rising.
-ghost use Rattle.litemap_store.specs.Search.{Shaped};
+//! Over the keys of a map each of them answers `Less`, then `Equal`, then `Greater`.
+ghost use Rattle.litemap_store.specs.Search.{CallableOnKeys};
 
 use litemap::LiteMap;
 use litemap::store::StoreMut;
@@ -39,7 +38,7 @@ fn write<S: StoreMut<u32, u8>, F: FnMut(&u32) -> Ordering>(
     f: F,
     value: u8,
 ) -> Option<u8>
-    requires { Shaped F.FnMut map.old.pairs f }
+    requires { CallableOnKeys F.FnMut map.old.pairs f }
 {
     Some(mem::replace(map.get_mut_by(f)?, value))
 }
@@ -49,7 +48,7 @@ fn call_by<S: StoreMut<u32, u8>, F: FnMut(&u32) -> Ordering>(
     f: F,
     call: Call,
 ) -> Answer
-    requires { Shaped F.FnMut map.old.pairs f }
+    requires { CallableOnKeys F.FnMut map.old.pairs f }
 {
     match call {
         Call::Find => Answer::Place(map.find_index_by(f)),
@@ -61,7 +60,6 @@ fn call_by<S: StoreMut<u32, u8>, F: FnMut(&u32) -> Ordering>(
 
 // A call by a closure that compares with half of a key.
 fn call_by_half<S: StoreMut<u32, u8>>(map: &mut Numbered<S>, half: u32, call: Call) -> Answer {
-    let _rises = map.len();
     call_by(map, |key| (*key / 2).cmp(&half), call)
 }
 
@@ -170,7 +168,6 @@ fn a_closure_finds_one_of_the_keys_that_it_calls_equal(rt: HostRuntime) -> Resul
 }
 
 fn find_text(map: &Texts, text: &str) -> Result<usize, usize> {
-    let _rises = map.len();
     map.find_index_by(|key| key.as_str().cmp(text))
 }
 

@@ -110,6 +110,7 @@ fn boxed_keys<B: StoreMut<Box<u32>, String> + Drop>(
 }
 
 // Boxes of the values.
+#[tactic(auto, using(litemap::proofs::Texts::text_clones))]
 fn boxed_values<B: StoreMut<String, Box<String>> + Drop>(
     alloc: Global,
     map: &Named,
@@ -137,6 +138,7 @@ where
 }
 
 // References to the values.
+#[tactic(auto, using(litemap::proofs::Texts::text_clones))]
 fn lent_values<'a, B>(alloc: Global, map: &'a Named) -> Result<bool, AllocError>
 where
     B: StoreMut<String, &'a String> + Drop,

@@ -28,6 +28,7 @@ pub(crate) fn texts<S: GrowingTexts>(alloc: Global) -> Option<Texts<S>> {
 }
 
 /// A clone of a map of texts. The map itself takes the first requests.
+#[tactic(auto, using(litemap::proofs::Texts::text_clones))]
 pub(crate) fn try_clone<S: GrowingTexts>(alloc: Global) -> Outcome {
     let map: Option<Texts<S>> = texts(alloc);
     let Some(map) = map else {

@@ -46,6 +46,6 @@ pub fn override_with(
         → value_at string_cmp settings.new.pairs name ≡ value_at string_cmp settings.old.pairs name) }
     ensures refused { OnErr result (settings.new.pairs ≡ settings.old.pairs) }
 {
-    let _rises = settings.len();
+    settings.keys_rise();
     settings.extend(alloc, user)
 }

@@ -44,6 +44,7 @@ pub fn remove(headers: &mut Headers, name: &str) -> Option<String>
 }
 
 /// A copy of the headers, with texts of its own that have the same bytes.
+#[tactic(auto, using(litemap::proofs::Texts::text_clones))]
 pub fn copy_of(alloc: Global, headers: &Headers) -> Result<Headers, AllocError>
     ensures { IfOk result (λ copy. PairsAreClones
         (λ text clone. string_bytes clone ≡ string_bytes text) (λ text clone. string_bytes clone ≡ string_bytes text)

@@ -17,6 +17,6 @@ where
     T: StoreFromIterable<K, V>,
     ensures { IfOk result (λ moved. moved.pairs ≡ map.pairs) }
 {
-    let _rises = map.len();
+    map.keys_rise();
     Ok(LiteMap::from_iter(alloc, map)?)
 }

@@ -5,11 +5,11 @@ ghost use Rattle.litemap_store.specs.Last.{Last};
 ghost use Rattle.litemap_store.specs.Pairs.{index_of, value_at};
 ghost use Rattle.litemap_store.specs.Queries.{by_text};
 
-use litemap::LiteMap;
+use litemap::VecMap;
 use std::alloc::{AllocError, Global};
 
 /// A map from names to scores, over a vector.
-pub type Scores = LiteMap<String, u32, Vec<(String, u32)>>;
+pub type Scores = VecMap<String, u32>;
 
 /// Sets a score, which is then found at the name. A refusal leaves the map.
 #[tactic(auto, using(litemap::proofs::Texts::text_keys))]

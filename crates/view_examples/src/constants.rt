@@ -4,12 +4,14 @@ use litemap::LiteMap;
 use litemap::store::SliceStore;
 
 /// The examples, by the names of the calls.
-pub(crate) fn examples() -> [Shown; 4] {
+pub(crate) fn examples() -> [Shown; 6] {
     [
         ("const_get_with_index", Ok(texts())),
         ("const_get_with_index by bytes", Ok(bytes())),
         ("const_get_with_index by a number", Ok(numbers())),
         ("const_len", Ok(length())),
+        ("const_is_empty", Ok(is_empty())),
+        ("const_get_indexed_or_panic", Ok(at_a_place())),
     ]
 }
 
@@ -36,5 +38,15 @@ fn numbers() -> bool {
 
 fn length() -> bool {
     let days = LiteMap::from_sorted_store_unchecked(SliceStore::new(DAYS));
-    days.const_len() == 3 && !days.const_is_empty() && days.const_get_indexed_or_panic(2).0 == 5
+    days.const_len() == 3
+}
+
+fn is_empty() -> bool {
+    let days = LiteMap::from_sorted_store_unchecked(SliceStore::new(DAYS));
+    !days.const_is_empty()
+}
+
+fn at_a_place() -> bool {
+    let days = LiteMap::from_sorted_store_unchecked(SliceStore::new(DAYS));
+    days.const_len() == 3 && days.const_get_indexed_or_panic(2).0 == 5
 }

@@ -5,14 +5,17 @@ use litemap::Entry;
 use std::alloc::AllocError;
 
 /// The examples, by the names of the calls.
-pub(crate) fn examples(days: &mut Days) -> [Shown; 7] {
+pub(crate) fn examples(days: &mut Days) -> [Shown; 10] {
     [
         ("or_insert", or_insert(days)),
         ("or_default", or_default(days)),
         ("or_insert_with", or_insert_with(days)),
         ("and_modify", and_modify(days)),
         ("VacantEntry", vacant(days)),
-        ("OccupiedEntry", Ok(occupied(days))),
+        ("key of an OccupiedEntry", Ok(occupied_key(days))),
+        ("get of an OccupiedEntry", Ok(occupied_get(days))),
+        ("insert of an OccupiedEntry", Ok(occupied_insert(days))),
+        ("remove of an OccupiedEntry", Ok(occupied_remove(days))),
         ("get_mut of an OccupiedEntry", Ok(occupied_get_mut(days))),
     ]
 }
@@ -51,14 +54,36 @@ fn vacant(days: &mut Days) -> Result<bool, AllocError> {
     Ok(number == 4 && *name == "Thursday")
 }
 
-fn occupied(days: &mut Days) -> bool {
+fn occupied_key(days: &mut Days) -> bool {
     // days: 1 Monday, 3 Wednesday, 5 Friday
-    let Entry::Occupied(mut entry) = days.entry(1) else {
-        return false;
-    };
-    let (number, old) = (*entry.key(), entry.insert("Mon"));
-    let now = *entry.get();
-    (number, old, now, entry.remove()) == (1, "Monday", "Mon", "Mon")
+    match days.entry(1) {
+        Entry::Occupied(entry) => *entry.key() == 1,
+        Entry::Vacant(_) => false,
+    }
+}
+
+fn occupied_get(days: &mut Days) -> bool {
+    // days: 1 Monday, 3 Wednesday, 5 Friday
+    match days.entry(1) {
+        Entry::Occupied(entry) => *entry.get() == "Monday",
+        Entry::Vacant(_) => false,
+    }
+}
+
+fn occupied_insert(days: &mut Days) -> bool {
+    // days: 1 Monday, 3 Wednesday, 5 Friday
+    match days.entry(1) {
+        Entry::Occupied(mut entry) => entry.insert("Mon") == "Monday",
+        Entry::Vacant(_) => false,
+    }
+}
+
+fn occupied_remove(days: &mut Days) -> bool {
+    // days: 1 Monday, 3 Wednesday, 5 Friday
+    if let Entry::Occupied(entry) = days.entry(1) {
+        entry.remove();
+    }
+    !days.contains_key(&1)
 }
 
 fn occupied_get_mut(days: &mut Days) -> bool {

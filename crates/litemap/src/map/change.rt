@@ -7,7 +7,7 @@ ghost use Rattle.litemap_store.specs.Counts.{RisesByAtMost};
 ghost use Rattle.litemap_store.specs.Digits.{digits};
 ghost use Rattle.litemap_store.specs.Pairs.{AllBelow, at, cut, place, put, set_value, value_at, value_in};
 ghost use Rattle.litemap_store.specs.Retain.{CallableOnEach, Kept};
-ghost use Rattle.litemap_store.specs.Search.{Shaped};
+ghost use Rattle.litemap_store.specs.Search.{CallableOnKeys};
 ghost use Rattle.litemap_store.specs.Splits.{IsMissingAt};
 ghost use Rattle.litemap.specs.FoundBy.{RemovesFound};
 ghost use Rattle.litemap.specs.TryFault.{IfClosure, IfNoRoom};
@@ -164,12 +164,12 @@ impl<K: Ord, V, S: StoreMut<K, V>> LiteMap<K, V, S> {
         Ok(None)
     }
 
-    /// The place and the value of a key. Where the key is absent, its value is what `f` answers for it, and is placed.
+    /// The place and the value of a key, for who only reads them: who goes on to use the map calls `try_find_or_insert`.
     ///
-    /// It is `try_find_or_insert` with the value there, and leaves of the map what that call says. Callers can't learn it
-    /// from a contract here: what a lender ends as is told by an answer that holds shared references and plain data alone,
-    /// and here a key, a value or a fault may stand beside the reference. Who goes on to use the map calls
-    /// `try_find_or_insert` and looks at the place: there is no second search.
+    /// Where the key is absent, its value is what `f` answers for it, and is placed. It is `try_find_or_insert` with the
+    /// value there, and leaves of the map what that call says. Callers can't learn it from a contract here: what a lender
+    /// ends as is told by an answer that holds shared references and plain data alone, and here a key, a value or a fault
+    /// may stand beside the reference. After `try_find_or_insert` the place has the value: there is no second search.
     ///
     /// ```rust
     /// let mut days = three_days(alloc)?;
@@ -315,20 +315,20 @@ impl<K: Ord, V, S: StoreMut<K, V>> LiteMap<K, V, S> {
 
     /// Takes out a pair for whose key `f` answers `Equal`, and answers its value. Its key is given up.
     ///
-    /// It is for what no `Query` says, as `get_by` is. Over the keys `f` has to answer `Less`, then `Equal`, then
-    /// `Greater`. Where several keys answer `Equal` any of them may be the one found. It takes no memory, and asks `f`
-    /// at most once for each binary digit of the length. Where `f` answers `Equal` nowhere nothing is changed, and the
-    /// room is kept; else nothing is promised of the room. The Rust crate has no such call.
+    /// It is for what no `Query` says, as `get_by` is. The answer of `f` should hang on the key alone, and over the keys be
+    /// `Less`, then `Equal`, then `Greater`: else it means nothing which pair is taken, if one is. Where several keys
+    /// answer `Equal` any of them may be the one found. It takes no memory, and asks `f` at most once for each binary
+    /// digit of the length. Where no pair is taken nothing is changed, and the room is kept; else nothing is promised of
+    /// the room. The Rust crate has no such call.
     ///
     /// ```rust
     /// let mut days = three_days(alloc)?;
-    /// let _rises = days.len();
     /// Ok(days.remove_by(|number| number.cmp(&3)) == Some("Wednesday"))
     /// ```
     pub fn remove_by<F: FnMut(&K) -> Ordering>(&mut self, f: F) -> Option<V>
     where
         K: Drop,
-        requires { Shaped F.FnMut self.old.pairs f }
+        requires { CallableOnKeys F.FnMut self.old.pairs f }
         ensures found { RemovesFound F.FnMut self.old.pairs f result self.new.pairs }
         ensures unchanged { IsNone result → self.new ≡ self.old }
     {

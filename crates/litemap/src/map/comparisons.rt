@@ -137,8 +137,7 @@ fn pair_order<K: Ord, V: Ord>(a: &K, x: &V, b: &K, y: &V) -> Ordering
 {
     match a.cmp(b) {
         Ordering::Equal => x.cmp(y),
-        Ordering::Less => Ordering::Less,
-        Ordering::Greater => Ordering::Greater,
+        decided => decided,
     }
 }
 
@@ -154,8 +153,7 @@ fn order<'a, 'b, K: Ord + 'a + 'b, V: Ord + 'a + 'b, S: Store<K, V>>(
         };
         match pair_order(a, x, b, y) {
             Ordering::Equal => {}
-            Ordering::Less => return Ordering::Less,
-            Ordering::Greater => return Ordering::Greater,
+            decided => return decided,
         }
     }
     match right.next() {
@@ -168,12 +166,8 @@ fn partial_pair_order<K: PartialOrd, V: PartialOrd>(a: &K, x: &V, b: &K, y: &V) 
     ensures { result ≡ partial_ordering_then (K.partial_cmp a.now b.now) (V.partial_cmp x.now y.now) }
 {
     match a.partial_cmp(b) {
-        Some(found) => match found {
-            Ordering::Equal => x.partial_cmp(y),
-            Ordering::Less => Some(Ordering::Less),
-            Ordering::Greater => Some(Ordering::Greater),
-        },
-        None => None,
+        Some(Ordering::Equal) => x.partial_cmp(y),
+        decided => decided,
     }
 }
 
@@ -188,12 +182,8 @@ fn partial_order<'a, 'b, K: PartialOrd + 'a + 'b, V: PartialOrd + 'a + 'b, S: St
             return Some(Ordering::Greater);
         };
         match partial_pair_order(a, x, b, y) {
-            Some(found) => match found {
-                Ordering::Equal => {}
-                Ordering::Less => return Some(Ordering::Less),
-                Ordering::Greater => return Some(Ordering::Greater),
-            },
-            None => return None,
+            Some(Ordering::Equal) => {}
+            decided => return decided,
         }
     }
     match right.next() {

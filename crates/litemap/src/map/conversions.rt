@@ -15,12 +15,12 @@ use std::marker::PhantomData;
 impl<K: Ord, V, S: Store<K, V>> LiteMap<K, V, S> {
     /// A map of boxes of clones of the keys and values, or a refusal for want of memory.
     ///
-    /// A clone of a key has to compare `Equal` to its original. No keys are compared.
+    /// A clone of each key of the map has to compare `Equal` to it. No keys are compared.
     /// The Rust crate boxes any type that keys and values borrow as.
     ///
     /// ```rust
     /// // hours: 1 8, 3 10
-    /// let boxed: Over<Box<u32>, Box<u8>> = hours.to_boxed_keys_values(alloc)?;
+    /// let boxed: VecMap<Box<u32>, Box<u8>> = hours.to_boxed_keys_values(alloc)?;
     /// Ok(boxed.values().len() == 2)
     /// ```
     pub fn to_boxed_keys_values<B: StoreMut<Box<K>, Box<V>> + Drop>(
@@ -30,7 +30,7 @@ impl<K: Ord, V, S: Store<K, V>> LiteMap<K, V, S> {
     where
         K: Clone,
         V: Clone,
-        requires { ClonesCompareEqual K.cmp K.is_clone }
+        requires { ClonesCompareEqual K.cmp K.is_clone self.now.pairs }
         ensures { IfOk result (λ m. PairsBecame (λ k b. K.is_clone k b.value) (λ v b. V.is_clone v b.value)
             self.now.pairs m.pairs) }
     {
@@ -39,12 +39,12 @@ impl<K: Ord, V, S: Store<K, V>> LiteMap<K, V, S> {
 
     /// A map of boxes of clones of the keys, and clones of the values, or a refusal for want of memory.
     ///
-    /// A clone of a key has to compare `Equal` to its original. No keys are compared.
+    /// A clone of each key of the map has to compare `Equal` to it. No keys are compared.
     /// The Rust crate boxes any type that keys borrow as.
     ///
     /// ```rust
     /// // hours: 1 8, 3 10
-    /// let boxed: Over<Box<u32>, u8> = hours.to_boxed_keys(alloc)?;
+    /// let boxed: VecMap<Box<u32>, u8> = hours.to_boxed_keys(alloc)?;
     /// Ok(boxed.values().next() == Some(&8))
     /// ```
     pub fn to_boxed_keys<B: StoreMut<Box<K>, V> + Drop>(
@@ -54,7 +54,7 @@ impl<K: Ord, V, S: Store<K, V>> LiteMap<K, V, S> {
     where
         K: Clone,
         V: Clone,
-        requires { ClonesCompareEqual K.cmp K.is_clone }
+        requires { ClonesCompareEqual K.cmp K.is_clone self.now.pairs }
         ensures { IfOk result (λ m. PairsBecame (λ k b. K.is_clone k b.value) V.is_clone
             self.now.pairs m.pairs) }
     {
@@ -63,12 +63,12 @@ impl<K: Ord, V, S: Store<K, V>> LiteMap<K, V, S> {
 
     /// A map of clones of the keys, and boxes of clones of the values, or a refusal for want of memory.
     ///
-    /// A clone of a key has to compare `Equal` to its original. No keys are compared.
+    /// A clone of each key of the map has to compare `Equal` to it. No keys are compared.
     /// The Rust crate boxes any type that values borrow as.
     ///
     /// ```rust
     /// // hours: 1 8, 3 10
-    /// let boxed: Over<u32, Box<u8>> = hours.to_boxed_values(alloc)?;
+    /// let boxed: VecMap<u32, Box<u8>> = hours.to_boxed_values(alloc)?;
     /// Ok(boxed.contains_key(&3))
     /// ```
     pub fn to_boxed_values<B: StoreMut<K, Box<V>> + Drop>(
@@ -78,7 +78,7 @@ impl<K: Ord, V, S: Store<K, V>> LiteMap<K, V, S> {
     where
         K: Clone,
         V: Clone,
-        requires { ClonesCompareEqual K.cmp K.is_clone }
+        requires { ClonesCompareEqual K.cmp K.is_clone self.now.pairs }
         ensures { IfOk result (λ m. PairsBecame K.is_clone (λ v b. V.is_clone v b.value)
             self.now.pairs m.pairs) }
     {
@@ -92,7 +92,7 @@ impl<K: Ord, V, S: Store<K, V>> LiteMap<K, V, S> {
     ///
     /// ```rust
     /// // hours: 1 8, 3 10
-    /// let later: Over<u64, u8> = hours.to_keys_by(alloc, |number| *number as u64 + 7)?;
+    /// let later: VecMap<u64, u8> = hours.to_keys_by(alloc, |number| *number as u64 + 7)?;
     /// Ok(later.get(&8) == Some(&8))
     /// ```
     pub fn to_keys_by<L: Ord + Drop, B: StoreMut<L, V> + Drop, F: Fn(&K) -> L + Drop>(
@@ -118,7 +118,7 @@ impl<'a, K: Ord + 'a, V: 'a, S: Store<K, V>> LiteMap<K, V, S> {
     ///
     /// ```rust
     /// // hours: 1 8, 3 10
-    /// let lent: Over<&u32, &u8> = hours.to_borrowed_keys_values(alloc)?;
+    /// let lent: VecMap<&u32, &u8> = hours.to_borrowed_keys_values(alloc)?;
     /// Ok(lent.get(&&3) == Some(&&10))
     /// ```
     pub fn to_borrowed_keys_values<B: StoreMut<&'a K, &'a V> + Drop>(
@@ -152,7 +152,7 @@ impl<'a, K: Ord + 'a, V: 'a, S: Store<K, V>> LiteMap<K, V, S> {
     ///
     /// ```rust
     /// // hours: 1 8, 3 10
-    /// let lent: Over<&u32, u8> = hours.to_borrowed_keys(alloc)?;
+    /// let lent: VecMap<&u32, u8> = hours.to_borrowed_keys(alloc)?;
     /// Ok(lent.get(&&3) == Some(&10))
     /// ```
     pub fn to_borrowed_keys<B: StoreMut<&'a K, V> + Drop>(
@@ -183,12 +183,12 @@ impl<'a, K: Ord + 'a, V: 'a, S: Store<K, V>> LiteMap<K, V, S> {
 
     /// A map of clones of the keys, and references to the values, or a refusal for want of memory.
     ///
-    /// A clone of a key has to compare `Equal` to its original. No keys are compared.
+    /// A clone of each key of the map has to compare `Equal` to it. No keys are compared.
     /// The Rust crate lends any type that values borrow as.
     ///
     /// ```rust
     /// // hours: 1 8, 3 10
-    /// let lent: Over<u32, &u8> = hours.to_borrowed_values(alloc)?;
+    /// let lent: VecMap<u32, &u8> = hours.to_borrowed_values(alloc)?;
     /// Ok(lent.get(&3) == Some(&&10))
     /// ```
     pub fn to_borrowed_values<B: StoreMut<K, &'a V> + Drop>(
@@ -197,7 +197,7 @@ impl<'a, K: Ord + 'a, V: 'a, S: Store<K, V>> LiteMap<K, V, S> {
     ) -> Result<LiteMap<K, &'a V, B>, AllocError>
     where
         K: Clone,
-        requires { ClonesCompareEqual K.cmp K.is_clone }
+        requires { ClonesCompareEqual K.cmp K.is_clone self.now.pairs }
         ensures { IfOk result (λ m. PairsBecame K.is_clone (λ v r. r.now ≡ v)
             self.now.pairs m.pairs) }
     {

@@ -50,12 +50,10 @@ impl<K: Ord, V, S: StoreMut<K, V>> LiteMap<K, V, S> {
     ///
     /// ```rust
     /// // days: 1 Monday, 3 Wednesday, 5 Friday
-    /// let Entry::Occupied(mut entry) = days.entry(1) else {
-    ///     return false;
-    /// };
-    /// let (number, old) = (*entry.key(), entry.insert("Mon"));
-    /// let now = *entry.get();
-    /// (number, old, now, entry.remove()) == (1, "Monday", "Mon", "Mon")
+    /// match days.entry(1) {
+    ///     Entry::Occupied(entry) => *entry.get() == "Monday",
+    ///     Entry::Vacant(_) => false,
+    /// }
     /// ```
     pub fn entry(&mut self, key: K) -> Entry<'_, K, V, S>
     where

@@ -5,7 +5,7 @@ ghost use Rattle.std.specs.Option.{option_copied, option_map};
 ghost use Rattle.litemap_store.specs.Counts.{RisesByAtMost};
 ghost use Rattle.litemap_store.specs.Digits.{digits};
 ghost use Rattle.litemap_store.specs.Pairs.{Rising, at, index_of, value_at, value_in};
-ghost use Rattle.litemap_store.specs.Search.{Found, Shaped};
+ghost use Rattle.litemap_store.specs.Search.{CallableOnKeys, Found};
 ghost use Rattle.litemap_store.specs.Splits.{Splits};
 ghost use Rattle.litemap.specs.FoundBy.{GetsFound};
 
@@ -15,7 +15,7 @@ use litemap_store::store::{Count, Store};
 use std::cmp::Ordering;
 
 impl<K: Ord, V, S: Store<K, V>> LiteMap<K, V, S> {
-    /// The number of pairs. A caller who needs it learns here that the keys rise strictly, as those of every map do.
+    /// The number of pairs.
     ///
     /// ```rust
     /// // days: 1 Monday, 3 Wednesday, 5 Friday
@@ -26,6 +26,20 @@ impl<K: Ord, V, S: Store<K, V>> LiteMap<K, V, S> {
         ensures rising { Rising K.cmp self.now.pairs }
     {
         self.store.lm_len()
+    }
+
+    /// That the keys rise strictly, as those of every map do: for a caller whose proof needs it. It does nothing.
+    ///
+    /// The Rust crate has no such call.
+    ///
+    /// ```rust
+    /// map.keys_rise();
+    /// Ok(LiteMap::from_iter(alloc, map)?)
+    /// ```
+    pub fn keys_rise(&self)
+        ensures { Rising K.cmp self.now.pairs }
+    {
+        let _opened = &self.store;
     }
 
     /// Whether there is no pair.
@@ -112,19 +126,19 @@ impl<K: Ord, V, S: Store<K, V>> LiteMap<K, V, S> {
 
     /// The value at a place that `f` answers `Equal` for, `None` where it answers `Equal` nowhere.
     ///
-    /// It is for what no `Query` says: a closure that finds several keys, or that keeps a state. Else `get` asks no
-    /// proof of its caller. Over the keys `f` has to answer `Less`, then `Equal`, then `Greater`. Where several keys
-    /// answer `Equal` any of them may be the one found. It asks `f` at most once for each binary digit of the length.
+    /// It is for what no `Query` says: a closure that finds several keys, or that keeps a state. The answer of `f` should
+    /// hang on the key alone, and over the keys be `Less`, then `Equal`, then `Greater`: else the value that is answered
+    /// means nothing. Where several keys answer `Equal` any of them may be the one found. It asks `f` at most once for
+    /// each binary digit of the length.
     ///
     /// ```rust
     /// // days: 1 Monday, 3 Wednesday, 5 Friday
-    /// let _rises = days.len();
     /// let there = days.get_by(|number| number.cmp(&3));
     /// let place = days.find_index_by(|number| number.cmp(&4));
     /// there == Some(&"Wednesday") && place == Err(2)
     /// ```
     pub fn get_by<F: FnMut(&K) -> Ordering>(&self, f: F) -> Option<&V>
-        requires { Shaped F.FnMut self.now.pairs f }
+        requires { CallableOnKeys F.FnMut self.now.pairs f }
         ensures { GetsFound F.FnMut self.now.pairs f (option_copied result) }
     {
         match self.find_index_by(f) {
@@ -206,19 +220,19 @@ impl<K: Ord, V, S: Store<K, V>> LiteMap<K, V, S> {
     /// `Ok` of a place where `f` answers `Equal`, or `Err` of the number of keys that answer `Less` where it answers
     /// `Equal` for none.
     ///
-    /// It is for what no `Query` says, as `get_by` is. Over the keys `f` has to answer `Less`, then `Equal`, then
-    /// `Greater`. Where several keys answer `Equal` any of them may be the one found. It asks at most once for each
-    /// binary digit of the length. The Rust crate has no such call.
+    /// It is for what no `Query` says, as `get_by` is. The answer of `f` should hang on the key alone, and over the keys be
+    /// `Less`, then `Equal`, then `Greater`: else the place means nothing, though an `Ok` has one of a pair. Where several
+    /// keys answer `Equal` any of them may be the one found. It asks at most once for each binary digit of the length. The
+    /// Rust crate has no such call.
     ///
     /// ```rust
     /// // days: 1 Monday, 3 Wednesday, 5 Friday
-    /// let _rises = days.len();
     /// let there = days.get_by(|number| number.cmp(&3));
     /// let place = days.find_index_by(|number| number.cmp(&4));
     /// there == Some(&"Wednesday") && place == Err(2)
     /// ```
     pub fn find_index_by<F: FnMut(&K) -> Ordering>(&self, f: F) -> Result<usize, usize>
-        requires { Shaped F.FnMut self.now.pairs f }
+        requires { CallableOnKeys F.FnMut self.now.pairs f }
         ensures found { Found F.FnMut self.now.pairs f result }
         ensures within { IfOk result (λ index. index < length self.now.pairs) }
     {

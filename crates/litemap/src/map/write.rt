@@ -6,7 +6,7 @@ ghost use Rattle.std.specs.Prelude.{◌≡◌, ◌<◌, length, slice_get, ℕ, 
 ghost use Rattle.std.specs.Borrow.{sem};
 ghost use Rattle.std.specs.Option.{option_map, option_copied_mut};
 ghost use Rattle.litemap_store.specs.Pairs.{at, value_at, value_in};
-ghost use Rattle.litemap_store.specs.Search.{Found, Shaped};
+ghost use Rattle.litemap_store.specs.Search.{CallableOnKeys, Found};
 ghost use Rattle.litemap.specs.Lends.{LendsThere, LendsFound, LendsKey, LendsPlace, LendsValue};
 
 use crate::LiteMap;
@@ -39,20 +39,20 @@ impl<K: Ord, V, S: StoreMut<K, V>> LiteMap<K, V, S> {
 
     /// The value at a place where `f` answers `Equal`, to be written; `None` where it answers `Equal` for no key.
     ///
-    /// It is for what no `Query` says, as `get_by` is. Over the keys `f` has to answer `Less`, then `Equal`, then
-    /// `Greater`. Where several keys answer `Equal` any of them may be the one found. It asks at most once for each
-    /// binary digit of the length. The Rust crate has no such call.
+    /// It is for what no `Query` says, as `get_by` is. The answer of `f` should hang on the key alone, and over the keys be
+    /// `Less`, then `Equal`, then `Greater`: else it means nothing which value is lent, if one is. Where several keys
+    /// answer `Equal` any of them may be the one found. It asks at most once for each binary digit of the length. The Rust
+    /// crate has no such call.
     ///
     /// ```rust
     /// let mut days = three_days(alloc)?;
-    /// let _rises = days.len();
     /// if let Some(name) = days.get_mut_by(|number| number.cmp(&3)) {
     ///     *name = "Wed";
     /// }
     /// Ok(days.get(&3) == Some(&"Wed"))
     /// ```
     pub fn get_mut_by<F: FnMut(&K) -> Ordering>(&mut self, f: F) -> Option<&mut V>
-        requires { Shaped F.FnMut self.old.pairs f }
+        requires { CallableOnKeys F.FnMut self.old.pairs f }
         ensures* writes_back { sem 𝓛
             (LendsFound K.row V.row S.row K.Ord S.pairs S.room self.entry
             (λ i. Found F.FnMut self.old.pairs f (Ok i)) result) }

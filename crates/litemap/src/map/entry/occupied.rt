@@ -14,12 +14,10 @@ impl<'a, K: Ord, V, S: StoreMut<K, V>> OccupiedEntry<'a, K, V, S> {
     ///
     /// ```rust
     /// // days: 1 Monday, 3 Wednesday, 5 Friday
-    /// let Entry::Occupied(mut entry) = days.entry(1) else {
-    ///     return false;
-    /// };
-    /// let (number, old) = (*entry.key(), entry.insert("Mon"));
-    /// let now = *entry.get();
-    /// (number, old, now, entry.remove()) == (1, "Monday", "Mon", "Mon")
+    /// match days.entry(1) {
+    ///     Entry::Occupied(entry) => *entry.key() == 1,
+    ///     Entry::Vacant(_) => false,
+    /// }
     /// ```
     pub fn key(&self) -> &K
         ensures { entry_key (Occupied self.now) ≡ Some result.now }
@@ -34,12 +32,10 @@ impl<'a, K: Ord, V, S: StoreMut<K, V>> OccupiedEntry<'a, K, V, S> {
     ///
     /// ```rust
     /// // days: 1 Monday, 3 Wednesday, 5 Friday
-    /// let Entry::Occupied(mut entry) = days.entry(1) else {
-    ///     return false;
-    /// };
-    /// let (number, old) = (*entry.key(), entry.insert("Mon"));
-    /// let now = *entry.get();
-    /// (number, old, now, entry.remove()) == (1, "Monday", "Mon", "Mon")
+    /// match days.entry(1) {
+    ///     Entry::Occupied(entry) => *entry.get() == "Monday",
+    ///     Entry::Vacant(_) => false,
+    /// }
     /// ```
     pub fn get(&self) -> &V
         ensures { entry_value (Occupied self.now) ≡ Some result.now }
@@ -90,12 +86,10 @@ impl<'a, K: Ord, V, S: StoreMut<K, V>> OccupiedEntry<'a, K, V, S> {
     ///
     /// ```rust
     /// // days: 1 Monday, 3 Wednesday, 5 Friday
-    /// let Entry::Occupied(mut entry) = days.entry(1) else {
-    ///     return false;
-    /// };
-    /// let (number, old) = (*entry.key(), entry.insert("Mon"));
-    /// let now = *entry.get();
-    /// (number, old, now, entry.remove()) == (1, "Monday", "Mon", "Mon")
+    /// match days.entry(1) {
+    ///     Entry::Occupied(mut entry) => entry.insert("Mon") == "Monday",
+    ///     Entry::Vacant(_) => false,
+    /// }
     /// ```
     pub fn insert(&mut self, value: V) -> V
         ensures old { entry_value (Occupied self.old) ≡ Some result }
@@ -110,12 +104,10 @@ impl<'a, K: Ord, V, S: StoreMut<K, V>> OccupiedEntry<'a, K, V, S> {
     ///
     /// ```rust
     /// // days: 1 Monday, 3 Wednesday, 5 Friday
-    /// let Entry::Occupied(mut entry) = days.entry(1) else {
-    ///     return false;
-    /// };
-    /// let (number, old) = (*entry.key(), entry.insert("Mon"));
-    /// let now = *entry.get();
-    /// (number, old, now, entry.remove()) == (1, "Monday", "Mon", "Mon")
+    /// if let Entry::Occupied(entry) = days.entry(1) {
+    ///     entry.remove();
+    /// }
+    /// !days.contains_key(&1)
     /// ```
     pub fn remove(self) -> V
     where

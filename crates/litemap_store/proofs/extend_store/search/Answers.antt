@@ -4,14 +4,6 @@ use Rattle.litemap_store.proofs.Shapes.{shape_steady}
 use Rattle.litemap_store.proofs.Splitting.{Ascends-by_query, Splits-from_Finds}
 use Rattle.litemap_store.proofs.extend_store.search.Goals as goal
 
-pub lm_binary_search_by-requires : goal.lm_binary_search_by-requires
-lm_binary_search_by-requires g c =
-    let ascends = Ascends-by_query (key_one_side g.met.K.Ord.total) _ c.args.key.now c.requires in
-    record {
-      ord = λ x. g.K.Ord.cmp x c.args.key.now;
-      shape = shape_steady _ _ _ _ (λ p a. tt) (λ p r f' k. search rules) ascends;
-    }
-
 pub returns-clause-splits : goal.returns-clause-splits
 returns-clause-splits g c =
     let one = key_one_side g.met.K.Ord.total in

@@ -2,8 +2,8 @@ use Rattle.std.proofs.Common.{◌≡◌, ◌+◌, ◌≤◌, length, ◌-◌, �
 use Rattle.std.specs.List.{Any}
 use Rattle.std.specs.Ordering.{is_eq, is_lt}
 use Rattle.litemap_store.specs.Digits.{digits, digits-halved}
-use Rattle.litemap_store.specs.Search.{Shape}
-use Rattle.litemap_store.proofs.Halving.{Seen-whole, Seen-next, Finds-nowhere, known, takes, next, left_next, left_after}
+use Rattle.litemap_store.specs.Search.{Callable, Shape}
+use Rattle.litemap_store.proofs.Halving.{Seen-whole, Seen-next, Finds-nowhere, hit_next, known, takes, takes_next, next, left_next, left_after}
 use Rattle.litemap_store.proofs.slice_search.find.Goals as goal
 
 pub loop-left-init : goal.loop-left-init
@@ -12,7 +12,8 @@ loop-left-init g c =
     let all : length list ≡ c.key_count-left.result = sym c.key_count-left.ensures in
     record {
       within = omega arith;
-      shaped = (c.requires.ord, subst (λ n. Shape g.F.FnMut list c.requires.ord (digits n) c.args.f) all c.requires.shape);
+      hit_within = omega arith;
+      callable = subst (λ n. Callable g.F.FnMut list (digits n) c.args.f) all c.requires;
       seen = λ ord s. (subst (λ n. Shape g.F.FnMut list ord (digits n) c.args.f) all s, Seen-whole ord list _ (omega arith));
       same = refl;
       not_lowered = omega arith;
@@ -27,8 +28,7 @@ ask-answer-requires g c =
     let (value, e) = c.key_at-key.ensures in
     let a : Any (λ q. q.0 ≡ key) list = known list m key value e in
     let d : digits 0 + 1 ≤ digits c.loop-left.left = digits-halved 0 _ (omega arith) (omega arith) in
-    let s = c.loop-left.invariant.shaped in
-    takes g.F.FnMut list s.0 _ c.loop-left.f key (omega arith) s.1 a
+    takes g.F.FnMut list _ c.loop-left.f key (omega arith) c.loop-left.invariant.callable a
 
 pub loop-left-preserved : goal.loop-left-preserved
 loop-left-preserved g c =
@@ -52,10 +52,10 @@ loop-left-preserved g c =
     rw (c.choose-left.ensures, c.choose.ensures, c.choose-before.ensures, c.choose-rest.ensures, c.is_lt-is_less.ensures, c.is_eq-is_equal.ensures) (refl {a = left_after small answer left}) in
     let d : digits c.choose-left.result + 1 ≤ digits left = rw is_left t.1 in
     let k = c.ask-answer.ensures.counted in
-    let s = inv.shaped in
     record {
       within = rw (is_low, is_left) t.0;
-      shaped = (s.0, (next g.F.FnMut list s.0 _ _ _ key _ _ d s.1 a called).1);
+      hit_within = rw is_hit (hit_next answer low left (length list) c.loop-left.hit inv.within (omega arith) inv.hit_within);
+      callable = takes_next g.F.FnMut list _ _ _ key _ _ d inv.callable a called;
       seen = λ ord sh. let old = inv.seen ord sh in let n = next g.F.FnMut list ord _ _ _ key _ _ d old.0 a called in
           (n.1, rw (is_hit, is_low, is_left) (Seen-next ord list old.0.ascends small c.loop-left.hit low left key value answer (omega arith) e old.1 n.0));
       same = c.ask-answer.ensures.same ∙ inv.same;

@@ -1,14 +1,15 @@
 use Rattle.std.proofs.Common.{◌≡◌, ◌+◌, ◌≤◌, length}
 use Rattle.std.specs.declared.cmp.Ordering.{Ordering}
 use Rattle.litemap_store.specs.Digits.{digits}
-use Rattle.litemap_store.specs.Search.{Shape}
+use Rattle.litemap_store.specs.Search.{Callable, Shape}
 use Rattle.litemap_store.proofs.Halving.{Seen}
 use Rattle.litemap_store.proofs.slice_search.find.Given as goal
 
 abbrev pub invariant-loop-left : goal.invariant-loop-left
 invariant-loop-left g l = let list = g.S.Keys.pairs l.keys in record {
   within : l.low + l.left ≤ length list;
-  shaped : (ord : g.row.K.Denot → Ordering) × Shape g.F.FnMut list ord (digits l.left) l.f;
+  hit_within : l.hit ≤ length list;
+  callable : Callable g.F.FnMut list (digits l.left) l.f;
   seen : (ord : g.row.K.Denot → Ordering) → Shape g.F.FnMut list ord (digits (length list)) l.fn.f
       → Shape g.F.FnMut list ord (digits l.left) l.f × Seen ord list l.hit l.low l.left;
   same : l.count.name ≡ l.fn.count.name;

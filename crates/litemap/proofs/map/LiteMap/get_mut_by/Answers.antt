@@ -1,9 +1,6 @@
 use Rattle.std.proofs.Common.{refl}
 use Rattle.litemap.proofs.map.LiteMap.get_mut_by.Goals as goal
 
-pub value_in_mut-requires : goal.value_in_mut-requires
-value_in_mut-requires g c = (c.in-Ok.ensures.found.at c.requires.ord c.requires.shape).0
-
 pub returns-in-Ok : goal.returns-in-Ok
 returns-in-Ok g c = (
   (refl, λ w. (c.in-Ok.place, c.in-Ok.ensures.found, c.value_in_mut.ensures.value, refl), tt),

@@ -3,14 +3,6 @@ use Rattle.litemap_store.proofs.Shapes.{shape_steady}
 use Rattle.litemap_store.proofs.Splitting.{Ascends-by_query, Splits-from_Finds}
 use Rattle.litemap.proofs.map.LiteMap.search.Goals as goal
 
-pub lm_binary_search_by-requires : goal.lm_binary_search_by-requires
-lm_binary_search_by-requires g c =
-    let ascends = Ascends-by_query g.met.Q.Query.one_side _ (g.Q.Query.sought c.args.key) c.self.invariant in
-    record {
-      ord = λ x. g.Q.Query.order x (g.Q.Query.sought c.args.key);
-      shape = shape_steady _ _ _ _ (λ p a. tt) (λ p r f' k. search rules) ascends;
-    }
-
 pub returns-clause-splits : goal.returns-clause-splits
 returns-clause-splits g c =
     let one = g.met.Q.Query.one_side in

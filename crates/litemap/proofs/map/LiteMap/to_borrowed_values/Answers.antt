@@ -1,4 +1,5 @@
-use Rattle.std.proofs.Common.{◌≡◌, length, arith, refl, sym}
+use Rattle.std.proofs.Common.{◌≡◌, length, ap, arith, refl, subst, sym}
+use Rattle.litemap_store.specs.Last.{In}
 use Rattle.std.proofs.Math.Seq.{take-length}
 use Rattle.litemap.proofs.Conversions.{PairsBecame-more, Rising-became, clones-keep-order}
 use denote.Ref.{Bor}
@@ -18,4 +19,4 @@ invariant_of-result g c =
     let pairs = g.S.Store.pairs c.self.inside.store in
     let end : c.loop-index.index ≡ length pairs = omega arith in
     let became = rw (end, take-length) at c.loop-index.invariant.became in
-    Rising-became g.K.Ord.cmp g.K.Ord.cmp g.K.Clone.is_clone (λ (v : g.row.V.Denot) (r : Bor g.row.V.Denot). r.now ≡ v) pairs _ (clones-keep-order g.K.Clone.is_clone g.met.K.Ord.total c.requires pairs) became c.self.invariant
+    Rising-became g.K.Ord.cmp g.K.Ord.cmp g.K.Clone.is_clone (λ (v : g.row.V.Denot) (r : Bor g.row.V.Denot). r.now ≡ v) pairs _ (clones-keep-order g.K.Clone.is_clone g.met.K.Ord.total pairs (λ p clone i is. c.requires p clone (subst (λ l. In p l) (ap (λ m. m.pairs) c.self.view_is) i) is)) became c.self.invariant
