@@ -21,7 +21,7 @@ pub trait Scenarios {
 /// Does the lines of standard input.
 ///
 /// A line is `NAME`, `NAME PLACE` or `all`. It runs the scenario of that name, or each in turn, and writes a line for
-/// each: `NAME: answered`, `NAME: refused` or `NAME: WRONG: ..`, by `Outcome`.
+/// each: `NAME: answered`, `NAME: answered, room N`, `NAME: refused` or `NAME: WRONG: ..`, by `Outcome`.
 ///
 /// Where there is a PLACE, from 1 on, small requests for memory go before the scenario, so many that its request number
 /// PLACE is request number `LEAD` of the program. `rt try --fail-alloc` refuses that one: see `bin/refusals`. Nothing
@@ -97,6 +97,7 @@ fn report<S: Scenarios>(
 ) -> io::Result<()> {
     match scenarios.run(rt.alloc(), name) {
         Some(Outcome::Answered) => println!(rt; "{name}: answered"),
+        Some(Outcome::AnsweredWithRoom(room)) => println!(rt; "{name}: answered, room {room}"),
         Some(Outcome::Refused) => println!(rt; "{name}: refused"),
         Some(Outcome::Wrong(what)) => println!(rt; "{name}: WRONG: {what}"),
         None => println!(rt; "{name}: unknown"),
