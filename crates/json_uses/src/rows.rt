@@ -1,11 +1,16 @@
 //! What answers a line.
 use crate::evens::Even;
+use crate::levels::Level;
+use crate::limits::copied;
 use litemap::LiteMap;
-use litemap_json::{JsonItem, JsonKey, from_json, to_json};
+use litemap::store::{ColumnStore, Store};
+use litemap_json::{JsonFault, JsonItem, JsonKey, from_json, to_json};
 use serde_json::Value;
 use std::alloc::{AllocError, Global};
 
 type Map<K, V> = LiteMap<K, V, Vec<(K, V)>>;
+
+type Columns = LiteMap<u32, String, ColumnStore<u32, String>>;
 
 /// Adds the line that answers a line.
 pub fn answer_line(alloc: Global, line: &str, output: &mut String) -> Result<(), AllocError> {
@@ -33,6 +38,9 @@ fn answer(alloc: Global, types: &str, text: &str) -> Result<String, AllocError> 
         "words" => written::<u32, String>(alloc, text),
         "evens" => written::<Even, String>(alloc, text),
         "tongues" => written::<(u32, String), String>(alloc, text),
+        "levels" => written::<Level, u32>(alloc, text),
+        "limits" => copied_limits(alloc, text),
+        "columns" => written_in_columns(alloc, text),
         "nested" => written::<((u8, bool), String), (u32, (bool, i8))>(alloc, text),
         _ => String::from_str(alloc, "no such types"),
     }
@@ -46,12 +54,41 @@ fn written<K: JsonKey + Drop, V: JsonItem + Drop>(
     let Ok(value) = Value::from_str(alloc, text) else {
         return String::from_str(alloc, "no JSON");
     };
-    let map: Map<K, V> = match from_json(alloc, &value) {
-        Ok(map) => map,
-        Err(fault) => return format!(in alloc; "{fault}"),
+    let map: Result<Map<K, V>, JsonFault> = from_json(alloc, &value);
+    shown(alloc, map.as_ref())
+}
+
+// The same, with the map over two columns.
+fn written_in_columns(alloc: Global, text: &str) -> Result<String, AllocError> {
+    let Ok(value) = Value::from_str(alloc, text) else {
+        return String::from_str(alloc, "no JSON");
     };
-    match to_json(alloc, &map) {
-        Ok(value) => value.to_string(alloc),
+    let map: Result<Columns, JsonFault> = from_json(alloc, &value);
+    shown(alloc, map.as_ref())
+}
+
+// The same, with the map sent to JSON and back before.
+fn copied_limits(alloc: Global, text: &str) -> Result<String, AllocError> {
+    let Ok(value) = Value::from_str(alloc, text) else {
+        return String::from_str(alloc, "no JSON");
+    };
+    let map = match from_json(alloc, &value) {
+        Ok(limits) => Ok(copied(alloc, &limits)?),
+        Err(fault) => Err(fault),
+    };
+    shown(alloc, map.as_ref())
+}
+
+// The map as JSON, or why it was not read or not written.
+fn shown<K: JsonKey, V: JsonItem, S: Store<K, V>>(
+    alloc: Global,
+    map: Result<&LiteMap<K, V, S>, &JsonFault>,
+) -> Result<String, AllocError> {
+    match map {
+        Ok(map) => match to_json(alloc, map) {
+            Ok(value) => value.to_string(alloc),
+            Err(fault) => format!(in alloc; "{fault}"),
+        },
         Err(fault) => format!(in alloc; "{fault}"),
     }
 }

@@ -28,7 +28,7 @@ keeps a k = refl
 abbrev TextPairs : Type 0
 TextPairs = List (String Global × String Global)
 
-value-bytes : (L : TextPairs) (k : List ℕ) (value : Option (String Global)) → value ≡ value_at by_text L k
+pub value-bytes : (L : TextPairs) (k : List ℕ) (value : Option (String Global)) → value ≡ value_at by_text L k
     → option_map string_bytes value ≡ value_at (slice_cmp nat_cmp) (map pair_bytes L) k
 value-bytes L k value e =
     ap (option_map string_bytes) e ∙ sym (value-view by_text (slice_cmp nat_cmp) (λ k. k) string_bytes string_bytes keeps L k)

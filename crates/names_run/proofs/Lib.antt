@@ -4,4 +4,5 @@ pub mod Cuts
 pub mod Notes
 pub mod Objects
 pub mod Tolds
+pub mod Unchanged
 pub mod Views

@@ -3,6 +3,7 @@
 
 mod input;
 mod json_line;
+mod kept;
 mod lines;
 mod program;
 mod session;

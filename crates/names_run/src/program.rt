@@ -10,6 +10,7 @@ ghost use Rattle.names_run.specs.Told.{Told, most_bytes, read_fault};
 ghost use Rattle.names_run.specs.Watched.{NoCallAfterFault, is_unsettled, met_fault};
 
 use crate::input::{InputEnd, read_input};
+use crate::kept::Kept;
 use crate::lines::first_line;
 use crate::session::{Names, reply};
 use crate::watch::Watch;
@@ -151,17 +152,15 @@ where
     ensures nothing_after { NoCallAfterFault writer.old writer.new }
 {
     let mut names = Names::<S>::new(alloc);
-    let mut kept = None;
+    let mut kept = Kept::new();
     let mut rest = Some(input);
     let mut done = 0;
     while let Some(bytes) = rest {
         let (line, more) = first_line(bytes);
         match reply(alloc, &mut names, &mut kept, line) {
-            Ok(Some((text, is_json))) => {
+            Ok(Some((text, kind))) => {
                 writer.write_all(text.as_bytes())?;
-                if is_json {
-                    kept = Some(text);
-                }
+                kept.keep(kind, text);
             }
             Ok(None) => return Ok(LinesEnd::BadLine(done + 1)),
             Err(_) => return Ok(LinesEnd::NoMemory),

@@ -1,5 +1,5 @@
 //! What answers each line.
-ghost use Rattle.std.specs.Prelude.{◌≡◌, ◌++◌, ℕ, List, Some, true, IfOk, IfSome, OnOk, MatchOption, flat_map};
+ghost use Rattle.std.specs.Prelude.{◌≡◌, ◌++◌, ℕ, List, Some, IfOk, IfSome, OnOk, MatchOption, flat_map};
 ghost use Rattle.std.specs.Prelude.{option_copied, option_map, slice_get, string_bytes};
 ghost use Rattle.std.specs.Cmp.Lexicographic.{slice_cmp};
 ghost use Rattle.std.specs.Ordering.{nat_cmp};
@@ -7,11 +7,12 @@ ghost use Rattle.litemap_store.specs.Pairs.{cut};
 ghost use Rattle.litemap.specs.declared.calls.Answer.TheVariants.{Place, Value};
 ghost use Rattle.litemap.specs.declared.calls.Call.TheVariants.{Find, Get, Insert, Remove};
 ghost use Rattle.names_run.specs.Line.{IsBad};
-ghost use Rattle.names_run.specs.Told.{Answers, Does, answer_text, json_answer, pair_text, value_text};
+ghost use Rattle.names_run.specs.Told.{Answers, Does, TextMap, answer_text, json_answer, pair_text, value_text};
 ghost use Rattle.names_run.specs.Command.{DoesCommand};
-ghost use Rattle.names_run.specs.Texts.{IsKept, names_of, pair_bytes};
+ghost use Rattle.names_run.specs.Texts.{IsKept, IsTextOf, names_of, pair_bytes};
 
 use crate::json_line::json_line;
+use crate::kept::{Kept, TextKind};
 use crate::lines::{Command, parse};
 use litemap::LiteMap;
 use litemap::store::{Store, StoreMut};
@@ -20,69 +21,94 @@ use std::alloc::{AllocError, Global};
 /// The names and their values, kept in a store.
 pub type Names<S> = LiteMap<String, String, S>;
 
-/// Does a line, and gives the text that answers it, and whether that is the map as JSON; or nothing if the line is bad.
+/// Does a line, and gives the text that answers it, and what kind of text that is; or nothing if the line is bad.
 ///
-/// A line of JSON may be handed in: `json` takes it, and a line that may change the names gives it up.
+/// A text that is kept is taken where it answers the line; those that the line makes untrue are given up.
 pub fn reply<S: StoreMut<String, String>>(
     alloc: Global,
     names: &mut Names<S>,
-    kept: &mut Option<String>,
+    kept: &mut Kept,
     line: &[u8],
-) -> Result<Option<(String, bool)>, AllocError>
-    requires { IsKept names.old kept.old }
+) -> Result<Option<(String, TextKind)>, AllocError>
+    requires { IsKept (names_of names.old).pairs kept.old }
     ensures does { IfOk result (λ reply. MatchOption reply (IsBad line.now)
         (λ said. Does (names_of names.old) line.now (string_bytes said.0) (names_of names.new))) }
-    ensures json { IfOk result (λ reply. IfSome reply
-        (λ said. said.1 ≡ true → string_bytes said.0 ≡ json_answer (names_of names.new).pairs)) }
-    ensures kept { IsKept names.new kept.new }
+    ensures kind { IfOk result (λ reply. IfSome reply
+        (λ said. IsTextOf said.1 (names_of names.new).pairs (string_bytes said.0))) }
+    ensures kept { OnOk result (IsKept (names_of names.new).pairs kept.new) }
 {
     if line.is_empty() {
-        return Ok(Some((String::new(alloc), false)));
+        return Ok(Some((String::new(alloc), TextKind::OfLine)));
     }
     let Some(command) = parse(line) else {
         return Ok(None);
     };
-    let is_json = matches!(command, Command::Json);
     let text = answer(alloc, names, kept, command)?;
-    Ok(Some((text, is_json)))
+    Ok(Some((text, kind_of(command))))
+}
+
+// What kind of text answers a command.
+fn kind_of(command: Command<'_>) -> TextKind
+    ensures { (old next : TextMap) → (text : List ℕ) → DoesCommand old command.entry text next
+        → IsTextOf result next.pairs text }
+{
+    match command {
+        Command::All => TextKind::OfAll,
+        Command::Json => TextKind::OfJson,
+        _ => TextKind::OfLine,
+    }
 }
 
 // Does a command, and gives the text that answers it.
 fn answer<S: StoreMut<String, String>>(
     alloc: Global,
     names: &mut Names<S>,
-    kept: &mut Option<String>,
+    kept: &mut Kept,
     command: Command<'_>,
 ) -> Result<String, AllocError>
-    requires { IsKept names.old kept.old }
+    requires { IsKept (names_of names.old).pairs kept.old }
     ensures does { IfOk result
         (λ text. DoesCommand (names_of names.old) command.entry (string_bytes text) (names_of names.new)) }
-    ensures kept { IsKept names.new kept.new }
+    ensures kept { OnOk result (IsKept (names_of names.new).pairs kept.new) }
 {
-    if let Command::Put(_, _) | Command::Del(_) = command {
-        *kept = None;
-    }
+    kept.prepare(names, command);
     match command {
         Command::Put(key, value) => insert(alloc, names, key, value),
         Command::Get(key) => get(alloc, names, key),
         Command::Del(key) => remove(alloc, names, key),
         Command::Find(key) => find(alloc, names, key),
-        Command::All => show(alloc, names),
+        Command::All => all(alloc, names, kept),
         Command::Json => json(alloc, names, kept),
     }
 }
 
-// The map as JSON, on one line: the one that is kept, or one that is made now.
+// All pairs, each on a line: the text that is kept, or one that is made now.
+fn all<S: Store<String, String>>(
+    alloc: Global,
+    names: &Names<S>,
+    kept: &mut Kept,
+) -> Result<String, AllocError>
+    requires { IsKept (names_of names.now).pairs kept.old }
+    ensures text { IfOk result (λ text. string_bytes text ≡ flat_map pair_text (names_of names.now).pairs) }
+    ensures kept { IsKept (names_of names.now).pairs kept.new }
+{
+    match kept.all.take() {
+        Some(text) => Ok(text),
+        None => show(alloc, names),
+    }
+}
+
+// The map as JSON, on one line: the text that is kept, or one that is made now.
 fn json<S: Store<String, String>>(
     alloc: Global,
     names: &Names<S>,
-    kept: &mut Option<String>,
+    kept: &mut Kept,
 ) -> Result<String, AllocError>
-    requires { IsKept names.now kept.old }
-    ensures line { IfOk result (λ text. string_bytes text ≡ json_answer (names_of names.now).pairs) }
-    ensures kept { IsKept names.now kept.new }
+    requires { IsKept (names_of names.now).pairs kept.old }
+    ensures text { IfOk result (λ text. string_bytes text ≡ json_answer (names_of names.now).pairs) }
+    ensures kept { IsKept (names_of names.now).pairs kept.new }
 {
-    match kept.take() {
+    match kept.json.take() {
         Some(text) => Ok(text),
         None => json_line(alloc, names),
     }

@@ -13,7 +13,8 @@ const LINES: &[u8] =
 const ANSWERS: &[u8] =
     b"new\nnew\nold 2\n= 3\nnone\nerr 2\n= 1\nnone\nb 3\n{\"b\":\"3\"}\nnew\n{\"b\":\"3\",\"c\":\"\\\"\"}\n";
 
-const KINDS: [ErrorKind; 42] = [
+/// Each kind of error.
+pub const KINDS: [ErrorKind; 42] = [
     ErrorKind::NotFound,
     ErrorKind::PermissionDenied,
     ErrorKind::ConnectionRefused,

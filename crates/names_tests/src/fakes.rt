@@ -100,7 +100,9 @@ impl<W: Write> Write for FailAt<W> {
     }
 
     fn flush(&mut self) -> io::Result<()> {
-        self.calls = self.calls.saturating_add(1);
+        if let Some(Err(error)) = self.begin() {
+            return Err(error);
+        }
         self.inner.flush()
     }
 }

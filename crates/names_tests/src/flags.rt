@@ -1,7 +1,7 @@
 //! Flags that are brought over from arrays to objects.
 use litemap_json::{ItemFault, JsonFault};
 use names::{FlagsFault, rewrite_flags};
-use std::alloc::Global;
+use std::alloc::{AllocError, Global};
 use std::test::Fail;
 
 // Whether the bytes are rewritten as this text.
@@ -63,6 +63,55 @@ fn refused(rt: HostRuntime) -> Result<(), Fail> {
     ];
     for (bytes, fault) in rows {
         assert!(rt; rewrite_flags(rt.alloc(), bytes) == Err(fault));
+    }
+    Ok(())
+}
+
+// The text of an array of so many pairs, and one element more, behind so many spaces.
+fn flags_text(
+    alloc: Global,
+    spaces: usize,
+    pairs: usize,
+    last: &[u8],
+) -> Result<Vec<u8>, AllocError> {
+    let mut text = vec![in alloc; b' '; spaces]?;
+    text.push(b'[')?;
+    for _ in 0..pairs {
+        text.extend_from_slice(b"[true,1],")?;
+    }
+    text.extend_from_slice(last)?;
+    text.push(b']')?;
+    Ok(text)
+}
+
+#[test]
+fn long_texts(rt: HostRuntime) -> Result<(), Fail> {
+    for (spaces, pairs) in [(246, 0), (0, 9), (0, 10), (0, 101), (5_000, 28), (0, 1_000)] {
+        let text = flags_text(rt.alloc(), spaces, pairs, b"[true,7]")?;
+        assert!(rt; is_text(rt.alloc(), &text, "{\"true\":7}"));
+        let place = pairs;
+        let faults: [(&[u8], FlagsFault); 4] = [
+            (
+                b"[1,1]",
+                FlagsFault::Json(JsonFault::Key {
+                    place,
+                    fault: ItemFault::Shape,
+                }),
+            ),
+            (b"[true]", FlagsFault::Json(JsonFault::NotAPair { place })),
+            (
+                b"[true,-1]",
+                FlagsFault::Json(JsonFault::Item {
+                    place,
+                    fault: ItemFault::Range,
+                }),
+            ),
+            (b"[true,", FlagsFault::NotJson),
+        ];
+        for (last, fault) in faults {
+            let text = flags_text(rt.alloc(), spaces, pairs, last)?;
+            assert!(rt; rewrite_flags(rt.alloc(), &text) == Err(fault));
+        }
     }
     Ok(())
 }

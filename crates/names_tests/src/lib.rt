@@ -1,8 +1,10 @@
-//! Tests of the program, over readers and writers in memory.
+//! Tests of the program, over readers and writers in memory, and of callers that pages show.
 #![tactic(auto)]
 
 #[cfg(test)]
 mod answers;
+#[cfg(test)]
+mod callers;
 #[cfg(test)]
 mod columns;
 #[cfg(test)]

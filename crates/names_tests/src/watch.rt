@@ -1,5 +1,6 @@
 //! What a `Watch` notes by itself.
-use crate::fakes::{FailAt, Fault};
+use crate::each_call::KINDS;
+use crate::fakes::{FailAt, Fault, NEVER};
 use names::Watch;
 use std::io;
 use std::io::{ErrorKind, Read, Write};
@@ -55,6 +56,41 @@ fn reads_up_to_a_fault_and_after(rt: HostRuntime) -> Result<(), Fail> {
     for (count, has_failed) in reads {
         assert_eq!(rt; reader.read(&mut bytes).ok(), count);
         assert_eq!(rt; reader.failed, has_failed);
+    }
+    Ok(())
+}
+
+// How many calls a read, a write, a whole write and a flush make to what is watched, where the call number `at` meets the
+// fault.
+fn calls_made(bytes: &mut [u8], at: u64, fault: Fault) -> [u64; 4] {
+    let mut source = FailAt::new(b"".as_slice(), at, fault);
+    let mut written = FailAt::new(RefusesFlush, at, fault);
+    let mut all_written = FailAt::new(RefusesFlush, at, fault);
+    let mut flushed = FailAt::new(RefusesFlush, at, fault);
+    drop(Watch::new(&mut source).read(bytes));
+    drop(Watch::new(&mut written).write(bytes));
+    drop(Watch::new(&mut all_written).write_all(bytes));
+    drop(Watch::new(&mut flushed).flush());
+    [
+        source.calls,
+        written.calls,
+        all_written.calls,
+        flushed.calls,
+    ]
+}
+
+#[test]
+fn each_call_is_made_once(rt: HostRuntime) -> Result<(), Fail> {
+    let mut bytes = vec![in rt.alloc(); b'a'; 5_000]?;
+    for kind in KINDS {
+        for len in [0, 1, 64, 65, 5_000] {
+            // No call is made for a text without bytes that is to be written whole.
+            let wanted = [1, 1, if len == 0 { 0 } else { 1 }, 1];
+            for at in [0, NEVER] {
+                let made = calls_made(&mut bytes[..len], at, Fault::Answers(kind));
+                assert_eq!(rt; made, wanted, "{kind}, {len} bytes");
+            }
+        }
     }
     Ok(())
 }

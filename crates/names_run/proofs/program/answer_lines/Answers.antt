@@ -1,12 +1,11 @@
 use Rattle.std.proofs.Common.{◌+◌, ◌≤◌, ◌++◌, ◌∷◌, [], sym, ◌∙◌, subst, arith, length-append}
 use Rattle.std.proofs.KnownBytes.{Appends-trans}
-use Rattle.names_run.specs.Texts.{IsKept, names_of}
+use Rattle.names_run.specs.Texts.{names_of}
 use Rattle.names_run.specs.Told.{Does, DoesEach}
 use Rattle.names_run.specs.Rest.{bytes_left, lines_left}
 use Rattle.names_run.proofs.Tolds.{does_more, line_over, fewer_left, joined}
 use Rattle.names_run.proofs.Notes.{on_err, then_nothing_after}
 use Rattle.names_run.proofs.program.answer_lines.Goals as goal
-use Rattle.names_run.proofs.program.answer_lines.Goals.{then-is_json, else-is_json}
 
 pub loop-rest-preserved : goal.loop-rest-preserved
 loop-rest-preserved g c =
@@ -14,7 +13,7 @@ loop-rest-preserved g c =
     let line = c.first_line.result.0.now in
     let more = c.as_bytes.result.now in
     let did = rw c.in-Ok-Some.field-0-is at c.in-Ok-Some.ensures.does in
-    let json = rw c.in-Ok-Some.field-0-is at c.in-Ok-Some.ensures.json in
+    let kind = rw c.in-Ok-Some.field-0-is at c.in-Ok-Some.ensures.kind in
     let fewer : bytes_left c.first_line.result.1 + 1 ≤ bytes_left c.loop-rest.rest = fewer_left c.loop-rest.rest c.first_line.result.1 c.in-Some.bytes c.in-Some.is c.first_line.ensures.shorter in
     record {
       passed = (
@@ -27,10 +26,7 @@ loop-rest-preserved g c =
         empty,
         does_more start _ _ before line text more each (subst (λ t. Does (names_of c.loop-rest.names) line t (names_of c.reply.new.names)) (sym c.as_bytes.ensures.value) did),
       );
-      kept = elim c.if-is_json.branch [
-        | then-is_json w ↦ subst (IsKept c.reply.new.names) (sym w.kept-is) (json w.if-is_json.true)
-        | else-is_json w ↦ subst (IsKept c.reply.new.names) (sym w.kept-is) c.reply.ensures.kept
-      ];
+      kept = c.keep.ensures (names_of c.reply.new.names).pairs c.in-Ok-Some.ensures.kept kind;
       counted = omega (arith, fewer, c.loop-rest.invariant.counted);
       unfailed = c.in_ok-write_all-in-Ok-Some.ensures.ok ∙ c.loop-rest.invariant.unfailed;
       unmet = c.in_ok-write_all-in-Ok-Some.ensures.unmet ∙ c.loop-rest.invariant.unmet;

@@ -14,7 +14,7 @@ invariant-loop-rest g l =
       passed : (before : List (List ℕ)) × (text : List ℕ) × (lines_of l.fn.input ≡ before ++ lines_left l.rest) × (l.done ≡ length before)
           × Appends (g.W.Write.contents l.fn.writer.inner) (g.W.Write.contents l.writer.inner) text
           × (start : TextMap) × (start.pairs ≡ []) × DoesEach start before text (names_of l.names);
-      kept : IsKept l.names l.kept;
+      kept : IsKept (names_of l.names).pairs l.kept;
       counted : l.done + bytes_left l.rest ≤ length l.fn.input + 1;
       unfailed : l.writer.failed ≡ l.fn.writer.failed;
       unmet : met_fault l.writer ≡ met_fault l.fn.writer;
