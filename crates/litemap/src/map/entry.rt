@@ -96,7 +96,7 @@ impl<'a, K: Ord, V, S: StoreMut<K, V>> Entry<'a, K, V, S> {
     /// The value, to be written. Where the key is not there, `default` is placed first; else `default` is given up.
     ///
     /// It is refused only where the key is not there and there is no room: then key and value come back and the list
-    /// stays.
+    /// stays. It compares no keys, and moves the pairs with greater keys up by one where the key is placed.
     ///
     /// ```rust
     /// // days: 1 Monday, 3 Wednesday, 5 Friday
@@ -124,7 +124,8 @@ impl<'a, K: Ord, V, S: StoreMut<K, V>> Entry<'a, K, V, S> {
     /// The value, to be written. Where the key is not there, `V::default()` is placed first.
     ///
     /// The default is made where the key is there, too. It is refused only where the key is not there and there is no
-    /// room: then key and value come back and the list stays.
+    /// room: then key and value come back and the list stays. It compares no keys, and moves the pairs with greater keys
+    /// up by one where the key is placed.
     ///
     /// ```rust
     /// // days: 1 Monday, 3 Wednesday, 5 Friday
@@ -150,7 +151,7 @@ impl<'a, K: Ord, V, S: StoreMut<K, V>> Entry<'a, K, V, S> {
     /// called.
     ///
     /// It is refused only where the key is not there and there is no room: then key and value come back and the list
-    /// stays.
+    /// stays. It compares no keys, and moves the pairs with greater keys up by one where the key is placed.
     ///
     /// ```rust
     /// // days: 1 Monday, 3 Wednesday, 5 Friday
