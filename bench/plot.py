@@ -7,8 +7,9 @@ import tables
 COLOURS = ["#9ecae1", "#4292c6", "#08519c", "#e6550d"]
 # The scale is by powers of two, from a quarter to eight times; what lies outside of it is an arrow at its end.
 LOWEST, HIGHEST = -2, 3
-NAMES_WIDTH, PANEL_WIDTH, GAP, ROW, TOP, BOTTOM = 320, 270, 30, 24, 74, 34
-TEXT = 'font-family="sans-serif" font-size="12" fill="#222"'
+# Two panels beside one another are as wide as a page; one stands below the other for each type of keys.
+NAMES_WIDTH, PANEL_WIDTH, GAP, ROW, TOP, HEAD, BOTTOM = 320, 250, 30, 28, 56, 44, 34
+TEXT = 'font-family="sans-serif" font-size="13" fill="#222"'
 
 
 def text(x, y, words, anchor="start", more=""):
@@ -28,34 +29,39 @@ def place(ratio):
 def mark(x, y, ratio, colour):
     """A dot, or outside of the scale an arrow that points there."""
     if LOWEST <= math.log2(ratio) <= HIGHEST:
-        return f'<circle cx="{x:.1f}" cy="{y:.1f}" r="4" fill="{colour}" stroke="#fff" stroke-width="0.7"/>'
-    step = 8 if ratio > 1 else -8
-    return f'<path d="M{x:.1f} {y - 4:.1f}l{step} 4l{-step} 4z" fill="{colour}"><title>{ratio:.2f}</title></path>'
+        return f'<circle cx="{x:.1f}" cy="{y:.1f}" r="4.5" fill="{colour}" stroke="#fff" stroke-width="0.7"/>'
+    return arrow(x, y, 10 if ratio > 1 else -10, colour, f"{ratio:.2g}")
+
+
+def arrow(x, y, step, colour, words):
+    return f'<path d="M{x:.1f} {y - 5:.1f}l{step} 5l{-step} 5z" fill="{colour}"><title>{words}</title></path>'
 
 
 def legend(sizes):
-    """What the colours stand for."""
-    x = NAMES_WIDTH
+    """What the colours and the arrows stand for."""
+    x, y = NAMES_WIDTH, 20
     drawn = [text(16, 24, "Time here : in the Rust crate", more=' font-weight="bold"')]
     for size, colour in zip(sizes, COLOURS):
         label = f"{size:,} pairs"
-        drawn += [mark(x, 20, 1, colour), text(x + 10, 24, label)]
-        x += 34 + 7 * len(label)
-    return drawn
+        drawn += [mark(x, y, 1, colour), text(x + 10, 24, label)]
+        x += 34 + 8 * len(label)
+    x, y, ends = NAMES_WIDTH, 40, (f"1/{2 ** -LOWEST}", str(2**HIGHEST))
+    drawn += [text(16, 44, "left of 1: faster here"), arrow(x, y, -10, "#555", "less"), arrow(x + 6, y, 10, "#555", "more")]
+    return [*drawn, text(x + 24, 44, f"beyond the scale, below {ends[0]} or above {ends[1]}: the tables have the number")]
 
 
-def panel(left, title, bottom):
+def panel(left, top, title, bottom):
     """A title, and the lines of the scale."""
-    drawn = [text(left + PANEL_WIDTH / 2, TOP - 24, title, "middle", ' font-weight="bold"')]
+    drawn = [text(left + PANEL_WIDTH / 2, top - 22, title, "middle", ' font-weight="bold"')]
     for power in range(LOWEST, HIGHEST + 1):
         x = left + place(2**power)
         colour, width = ("#333", 1.5) if power == 0 else ("#ddd", 1)
-        drawn.append(line(x, TOP - 12, bottom, colour, width))
+        drawn.append(line(x, top - 12, bottom, colour, width))
         drawn.append(text(x, bottom + 16, f"{2 ** power:g}", "middle"))
     return drawn
 
 
-def dots(ours, theirs, left, part, calls, sizes):
+def dots(ours, theirs, left, top, part, calls, sizes):
     """The ratios of a type of keys and a store."""
     keys, store = part
     for row, call in enumerate(calls):
@@ -64,27 +70,33 @@ def dots(ours, theirs, left, part, calls, sizes):
             if measure in ours:
                 ratio = tables.ratio(ours, theirs, measure)
                 # Each size a little lower than the one before, so that no dot hides another.
-                yield mark(left + place(ratio), TOP + ROW * row + 6 + 4 * number, ratio, colour)
+                yield mark(left + place(ratio), top + ROW * row + 6 + 5 * number, ratio, colour)
+
+
+def names(calls, top, width):
+    """The calls, one a row, on stripes."""
+    for row, call in enumerate(calls):
+        y = top + ROW * row
+        if row % 2 == 0:
+            yield f'<rect y="{y}" width="{width}" height="{ROW}" fill="#f5f5f5"/>'
+        yield text(16, y + ROW / 2 + 4, tables.TITLES.get(call, call).replace("`", ""))
 
 
 def ratios(ours, theirs):
-    """The plot: a panel for each type of keys and each store, a row for each call, a dot for each size."""
+    """The plot: a row of panels for each type of keys, in it a panel for each store; a row for each call, a dot for each size."""
     drawn_ones = [measure for measure in ours if tables.found_there(theirs, measure) is not None]
     calls = tables.distinct(measure.call for measure in drawn_ones)
     sizes = tables.distinct(measure.size for measure in drawn_ones)
-    parts = tables.distinct((measure.keys, measure.store) for measure in drawn_ones)
-    width = NAMES_WIDTH + (PANEL_WIDTH + GAP) * len(parts)
-    bottom = TOP + ROW * len(calls)
-    drawn = [f'<rect width="{width}" height="{bottom + BOTTOM}" fill="#fff"/>', *legend(sizes)]
-    for row, call in enumerate(calls):
-        y = TOP + ROW * row
-        if row % 2 == 0:
-            drawn.append(f'<rect y="{y}" width="{width}" height="{ROW}" fill="#f5f5f5"/>')
-        drawn.append(text(16, y + ROW / 2 + 4, tables.TITLES.get(call, call).replace("`", "")))
-    for number, part in enumerate(parts):
-        left = NAMES_WIDTH + (PANEL_WIDTH + GAP) * number
-        drawn += panel(left, f"{part[0]}s, {part[1]}", bottom)
-        drawn += dots(ours, theirs, left, part, calls, sizes)
-    drawn.append(text(16, bottom + 16, "left of 1: faster here"))
-    size = f'width="{width}" height="{bottom + BOTTOM}" viewBox="0 0 {width} {bottom + BOTTOM}"'
-    return "\n".join([f'<svg xmlns="http://www.w3.org/2000/svg" {size}>', *drawn, "</svg>", ""])
+    stores = tables.distinct(measure.store for measure in drawn_ones)
+    width, drawn, top = NAMES_WIDTH + (PANEL_WIDTH + GAP) * len(stores), legend(sizes), TOP
+    for keys in tables.distinct(measure.keys for measure in drawn_ones):
+        top, bottom = top + HEAD, top + HEAD + ROW * len(calls)
+        drawn += names(calls, top, width)
+        for number, store in enumerate(stores):
+            left = NAMES_WIDTH + (PANEL_WIDTH + GAP) * number
+            drawn += panel(left, top, f"{keys}s, {store}", bottom)
+            drawn += dots(ours, theirs, left, top, (keys, store), calls, sizes)
+        top = bottom + BOTTOM
+    size = f'width="{width}" height="{top}" viewBox="0 0 {width} {top}"'
+    back = f'<rect width="{width}" height="{top}" fill="#fff"/>'
+    return "\n".join([f'<svg xmlns="http://www.w3.org/2000/svg" {size}>', back, *drawn, "</svg>", ""])

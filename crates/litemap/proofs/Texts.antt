@@ -1,22 +1,27 @@
--- Texts and bytes as keys: what look-ups find after a put, a write and a cut, and what clones of texts are. A caller's
+-- Texts and bytes as keys: what look-ups find after a put, a write, a cut and a merge, and what clones of texts are. A caller's
 -- function takes these by an attribute, as `#[tactic(auto, using(litemap::proofs::Texts::string_keys))]`.
 --     string_keys      where keys are `String`, asked by keys;  text_keys      the same, asked by texts
 --     byte_keys      where keys are `Vec<u8>`, asked by bytes;  str_keys      where keys are `&str` or `&[u8]`
 --     text_clones      the condition of `try_clone` and of the conversions where keys are `String`
-use Rattle.std.proofs.Common.{◌≡◌, ◌≢◌, List, Some, None, IsSome, String, Vec, Bor, ℕ}
+use Rattle.std.proofs.Common.{◌≡◌, ◌≢◌, ◌∷◌, ◌++◌, List, Option, Some, None, Ok, IsSome, String, Vec, Bor, ℕ, cond, is_some, slice_get, slice_set}
 use Rattle.std.proofs.lemmas.Cmp.{tied_itself}
 use Rattle.std.proofs.lemmas.Map.Lookups.{exact_bytes}
 use Rattle.std.specs.Cmp.{IsTotalOrder}
 use Rattle.std.specs.Cmp.Lexicographic.{slice_cmp, nat_list_cmp_total, on_texts}
+use Rattle.std.specs.Option.{option_or}
 use Rattle.std.specs.Ordering.{nat_cmp}
 use Rattle.std.specs.String.{string_bytes, string_cmp, string_cmp_total}
 use Rattle.std.specs.declared.cmp.Ordering.{Ordering}
 use Rattle.std.specs.declared.cmp.Ordering.TheVariants.{Equal}
-use Rattle.litemap_store.specs.Pairs.{at, cut, key_or, put, value_at, write}
+use Rattle.litemap_store.specs.Merge.{Merge, left}
+use Rattle.litemap_store.specs.Pairs.{above, at, below, cut, index_of, key_or, place, put, value_at, write}
 use Rattle.litemap_store.specs.Queries.{by_slice, by_text}
 use Rattle.litemap_store.proofs.Lookups.{value_at-cut, value_at-cut_other, value_at-put, value_at-put_other, value_at-write}
-use Rattle.litemap_store.proofs.Lookups.{key_or_equal, value_at-between_apart, value_at-cut_apart, value_at-write_apart}
+use Rattle.litemap_store.proofs.Lookups.{index_of-put, key_or_equal, value_at-between_apart, value_at-cut_apart, value_at-set}
+use Rattle.litemap_store.proofs.Lookups.{value_at-written_apart}
+use Rattle.litemap_store.proofs.MergeLookups.{key_alike, key_same, value_at-left, value_at-merged}
 use Rattle.litemap.specs.ByBytes.{by_bytes}
+use Rattle.litemap.proofs.Places.{other_places}
 
 by_bytes_total : IsTotalOrder by_bytes
 by_bytes_total = on_texts (λ (a : Bor (List ℕ)). a.now)
@@ -40,8 +45,19 @@ module _ {K : Type 0} (bytes : K → List ℕ) where
       value_at-between_apart cmp k by u (slice_cmp nat_cmp u (bytes k)) (differs (bytes k) u n) (turned (bytes k) u) L (key_or (at cmp L k) k, v)
       (key_or_equal (on_texts bytes) k L)
 
-  write_others : {V : Type 0} (L : List (K × V)) (t u : List ℕ) (v : V) → u ≢ t → value_at by (write by L t v) u ≡ value_at by L u
-  write_others L t u v n = value_at-write_apart by t by u (slice_cmp nat_cmp u t) (differs t u n) (turned t u) L v
+  written_others : {V : Type 0} (L : List (K × V)) (t u : List ℕ) (p : K × V) (v : V) → at by L t ≡ Some p → u ≢ t → value_at by (below by L t ++ (p.0, v) ∷ above by L t) u ≡ value_at by L u
+  written_others L t u p v is n = value_at-written_apart by t by u (slice_cmp nat_cmp u t) (differs t u n) (turned t u) L p v is
+
+  set_others : {V : Type 0} (L : List (K × V)) (i : ℕ) (u : List ℕ) (p : K × V) (v : V) → slice_get L i ≡ Some p → bytes p.0 ≢ u → value_at by (slice_set L i (p.0, v)) u ≡ value_at by L u
+  set_others L i u p v is n = value_at-set by u L i p v is (λ e. n (exact_bytes (bytes p.0) u e))
+
+  merged : {V : Type 0} (A B M : List (K × V)) (t : List ℕ) → Merge cmp A B M → value_at by M t ≡ option_or (value_at by B t) (value_at by A t)
+  merged A B M t merge =
+      value_at-merged cmp (on_texts bytes) by t (λ x y. key_same nat_list_cmp_total t (bytes x) (bytes y)) (λ x y. key_alike nat_list_cmp_total t (bytes x) (bytes y)) A B M merge
+
+  left_over : {V : Type 0} (A B : List (K × V)) (t : List ℕ) → value_at by (left cmp A B) t ≡ cond (is_some (at by B t)) (value_at by A t) None
+  left_over A B t =
+      value_at-left cmp (on_texts bytes) by t (λ x y. key_same nat_list_cmp_total t (bytes x) (bytes y)) (λ x y. key_alike nat_list_cmp_total t (bytes x) (bytes y)) A B
 
   cut_others : {V : Type 0} (L : List (K × V)) (t u : List ℕ) → u ≢ t → value_at by (cut by L t) u ≡ value_at by L u
   cut_others L t u n = value_at-cut_apart by t by u (slice_cmp nat_cmp u t) (differs t u n) (turned t u) L
@@ -61,6 +77,20 @@ module _ {V Z : Type 0} where
   pub string_cut_others : (L : List (String Z × V)) (k q : String Z) → string_cmp q k ≢ Equal → value_at string_cmp (cut string_cmp L k) q ≡ value_at string_cmp L q
   string_cut_others L k q differs = value_at-cut_other string_cmp_total L k q differs
 
+  pub string_write_found : (L : List (String Z × V)) (k : String Z) (v : V) → IsSome (at string_cmp L k) → value_at string_cmp (write string_cmp L k v) k ≡ Some v
+  string_write_found L k v there = value_at-write string_cmp k L v there
+
+  -- what a write leaves where it finds the key
+  pub string_written_others : (L : List (String Z × V)) (k q : String Z) (p : String Z × V) (v : V) → at string_cmp L k ≡ Some p → string_cmp q k ≢ Equal
+      → value_at string_cmp (below string_cmp L k ++ (p.0, v) ∷ above string_cmp L k) q ≡ value_at string_cmp L q
+  string_written_others L k q p v is n = value_at-written_apart string_cmp k string_cmp q (string_cmp q k) n (λ x e. string_cmp_total.congr x q k e) L p v is
+
+  pub string_merged : (A B M : List (String Z × V)) (k : String Z) → Merge string_cmp A B M → value_at string_cmp M k ≡ option_or (value_at string_cmp B k) (value_at string_cmp A k)
+  string_merged A B M k merge = value_at-merged string_cmp string_cmp_total string_cmp k (key_same string_cmp_total k) (key_alike string_cmp_total k) A B M merge
+
+  pub string_left : (A B : List (String Z × V)) (k : String Z) → value_at string_cmp (left string_cmp A B) k ≡ cond (is_some (at string_cmp B k)) (value_at string_cmp A k) None
+  string_left A B k = value_at-left string_cmp string_cmp_total string_cmp k (key_same string_cmp_total k) (key_alike string_cmp_total k) A B
+
   -- ---- the same, asked by texts
 
   pub text_put_found : (L : List (String Z × V)) (k : String Z) (v : V) → value_at by_text (put string_cmp L k v) (string_bytes k) ≡ Some v
@@ -72,8 +102,24 @@ module _ {V Z : Type 0} where
   pub text_write_found : (L : List (String Z × V)) (t : List ℕ) (v : V) → IsSome (at by_text L t) → value_at by_text (write by_text L t v) t ≡ Some v
   text_write_found L t v there = value_at-write by_text t L v there
 
-  pub text_write_others : (L : List (String Z × V)) (t u : List ℕ) (v : V) → u ≢ t → value_at by_text (write by_text L t v) u ≡ value_at by_text L u
-  text_write_others L t u v n = write_others (λ k. string_bytes k) L t u v n
+  -- what a write leaves where it finds the key
+  pub text_written_others : (L : List (String Z × V)) (t u : List ℕ) (p : String Z × V) (v : V) → at by_text L t ≡ Some p → u ≢ t
+      → value_at by_text (below by_text L t ++ (p.0, v) ∷ above by_text L t) u ≡ value_at by_text L u
+  text_written_others L t u p v is n = written_others (λ k. string_bytes k) L t u p v is n
+
+  -- what a write at a place leaves where a pair is there
+  pub text_set_others : (L : List (String Z × V)) (i : ℕ) (u : List ℕ) (p : String Z × V) (v : V) → slice_get L i ≡ Some p → string_bytes p.0 ≢ u
+      → value_at by_text (slice_set L i (p.0, v)) u ≡ value_at by_text L u
+  text_set_others L i u p v is n = set_others (λ k. string_bytes k) L i u p v is n
+
+  pub text_put_place : (L : List (String Z × V)) (k : String Z) (v : V) → index_of by_text (put string_cmp L k v) (string_bytes k) ≡ Ok (place by_text L (string_bytes k))
+  text_put_place L k v = index_of-put string_cmp_total k L v
+
+  pub text_merged : (A B M : List (String Z × V)) (t : List ℕ) → Merge string_cmp A B M → value_at by_text M t ≡ option_or (value_at by_text B t) (value_at by_text A t)
+  text_merged A B M t merge = merged (λ k. string_bytes k) A B M t merge
+
+  pub text_left : (A B : List (String Z × V)) (t : List ℕ) → value_at by_text (left string_cmp A B) t ≡ cond (is_some (at by_text B t)) (value_at by_text A t) None
+  text_left A B t = left_over (λ k. string_bytes k) A B t
 
   pub text_cut_gone : (L : List (String Z × V)) (t : List ℕ) → value_at by_text (cut by_text L t) t ≡ None
   text_cut_gone L t = value_at-cut by_text t L
@@ -86,8 +132,10 @@ module _ {V Z : Type 0} where
   pub byte_write_found : (L : List (Vec ℕ Z × V)) (t : List ℕ) (v : V) → IsSome (at (by_slice nat_cmp) L t) → value_at (by_slice nat_cmp) (write (by_slice nat_cmp) L t v) t ≡ Some v
   byte_write_found L t v there = value_at-write (by_slice nat_cmp) t L v there
 
-  pub byte_write_others : (L : List (Vec ℕ Z × V)) (t u : List ℕ) (v : V) → u ≢ t → value_at (by_slice nat_cmp) (write (by_slice nat_cmp) L t v) u ≡ value_at (by_slice nat_cmp) L u
-  byte_write_others L t u v n = write_others (λ k. k.items) L t u v n
+  -- what a write leaves where it finds the key
+  pub byte_written_others : (L : List (Vec ℕ Z × V)) (t u : List ℕ) (p : Vec ℕ Z × V) (v : V) → at (by_slice nat_cmp) L t ≡ Some p → u ≢ t
+      → value_at (by_slice nat_cmp) (below (by_slice nat_cmp) L t ++ (p.0, v) ∷ above (by_slice nat_cmp) L t) u ≡ value_at (by_slice nat_cmp) L u
+  byte_written_others L t u p v is n = written_others (λ k. k.items) L t u p v is n
 
   pub byte_cut_gone : (L : List (Vec ℕ Z × V)) (t : List ℕ) → value_at (by_slice nat_cmp) (cut (by_slice nat_cmp) L t) t ≡ None
   byte_cut_gone L t = value_at-cut (by_slice nat_cmp) t L
@@ -108,20 +156,59 @@ module _ {V : Type 0} where
   pub str_cut_others : (L : List (Bor (List ℕ) × V)) (k q : Bor (List ℕ)) → by_bytes q k ≢ Equal → value_at by_bytes (cut by_bytes L k) q ≡ value_at by_bytes L q
   str_cut_others L k q differs = value_at-cut_other by_bytes_total L k q differs
 
-pub ruleset string_keys = (string_put_found, string_put_others, string_cut_gone, string_cut_others)
+  pub str_write_found : (L : List (Bor (List ℕ) × V)) (k : Bor (List ℕ)) (v : V) → IsSome (at by_bytes L k) → value_at by_bytes (write by_bytes L k v) k ≡ Some v
+  str_write_found L k v there = value_at-write by_bytes k L v there
+
+  -- what a write leaves where it finds the key
+  pub str_written_others : (L : List (Bor (List ℕ) × V)) (k q : Bor (List ℕ)) (p : Bor (List ℕ) × V) (v : V) → at by_bytes L k ≡ Some p → by_bytes q k ≢ Equal
+      → value_at by_bytes (below by_bytes L k ++ (p.0, v) ∷ above by_bytes L k) q ≡ value_at by_bytes L q
+  str_written_others L k q p v is n = value_at-written_apart by_bytes k by_bytes q (by_bytes q k) n (λ x e. by_bytes_total.congr x q k e) L p v is
+
+  pub str_merged : (A B M : List (Bor (List ℕ) × V)) (k : Bor (List ℕ)) → Merge by_bytes A B M → value_at by_bytes M k ≡ option_or (value_at by_bytes B k) (value_at by_bytes A k)
+  str_merged A B M k merge = value_at-merged by_bytes by_bytes_total by_bytes k (key_same by_bytes_total k) (key_alike by_bytes_total k) A B M merge
+
+  pub str_left : (A B : List (Bor (List ℕ) × V)) (k : Bor (List ℕ)) → value_at by_bytes (left by_bytes A B) k ≡ cond (is_some (at by_bytes B k)) (value_at by_bytes A k) None
+  str_left A B k = value_at-left by_bytes by_bytes_total by_bytes k (key_same by_bytes_total k) (key_alike by_bytes_total k) A B
+
+pub ruleset string_keys = (
+  string_put_found,
+  string_put_others,
+  string_write_found,
+  string_written_others,
+  string_cut_gone,
+  string_cut_others,
+  string_merged,
+  string_left,
+  other_places,
+)
 
 pub ruleset text_keys = (
   text_put_found,
+  text_put_place,
   text_put_others,
   text_write_found,
-  text_write_others,
+  text_written_others,
+  text_set_others,
   text_cut_gone,
   text_cut_others,
+  text_merged,
+  text_left,
+  other_places,
 )
 
-pub ruleset byte_keys = (byte_write_found, byte_write_others, byte_cut_gone, byte_cut_others)
+pub ruleset byte_keys = (byte_write_found, byte_written_others, byte_cut_gone, byte_cut_others, other_places)
 
-pub ruleset str_keys = (str_put_found, str_put_others, str_cut_gone, str_cut_others)
+pub ruleset str_keys = (
+  str_put_found,
+  str_put_others,
+  str_write_found,
+  str_written_others,
+  str_cut_gone,
+  str_cut_others,
+  str_merged,
+  str_left,
+  other_places,
+)
 
 -- a clone of a text has its bytes
 pub text_clone_equal : {Z : Type 0} (text clone : String Z) → string_bytes clone ≡ string_bytes text → string_cmp text clone ≡ Equal

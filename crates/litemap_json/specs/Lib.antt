@@ -2,3 +2,4 @@
 pub mod Json
 pub mod Reading
 pub mod Laws
+pub mod Kinds

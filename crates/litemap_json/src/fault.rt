@@ -1,10 +1,13 @@
 //! Why a map was not written, or not read.
 ghost use Rattle.std.specs.Prelude.{◌≡◌};
+ghost use Rattle.std.specs.IoError.{error_kind};
+ghost use Rattle.litemap_json.specs.Kinds.{read_kind, write_kind};
 ghost use Rattle.litemap_json.specs.declared.fault.WriteFault.TheVariants as writing;
 ghost use Rattle.litemap_json.specs.declared.fault.JsonFault.TheVariants as reading;
 
 use litemap_json_items::ItemFault;
 use std::alloc::AllocError;
+use std::io;
 use thiserror::Error;
 
 /// Why a map was not written as JSON.
@@ -83,5 +86,40 @@ impl From<AllocError> for JsonFault {
 
     fn from(_refused: AllocError) -> JsonFault {
         JsonFault::Memory
+    }
+}
+
+/// So that `?` hands a fault on where an `io::Result` is answered. The place is then given up: who wants to tell it prints the
+/// fault itself.
+impl From<WriteFault> for io::Error {
+    ghost from_gives = { λ fault e. error_kind e ≡ write_kind fault };
+
+    fn from(fault: WriteFault) -> io::Error {
+        match fault {
+            WriteFault::Memory => io::Error::from(AllocError),
+            WriteFault::KeyWithoutText { place: _ } => {
+                io::Error::new(
+                    io::ErrorKind::InvalidData,
+                    "a key has no text in JSON, and the first key has one",
+                )
+            }
+        }
+    }
+}
+
+/// So that `?` does so for a map that was not read.
+impl From<JsonFault> for io::Error {
+    ghost from_gives = { λ fault e. error_kind e ≡ read_kind fault };
+
+    fn from(fault: JsonFault) -> io::Error {
+        let words = match fault {
+            JsonFault::Memory => return io::Error::from(AllocError),
+            JsonFault::NotAMap => "a JSON value is no map",
+            JsonFault::NotAPair { place: _ } => "an element in JSON is not a key and an item",
+            JsonFault::KeyText { place: _ } => "a name in JSON is not a key's text",
+            JsonFault::Key { place: _, fault: _ } => "a key in JSON is not of its type",
+            JsonFault::Item { place: _, fault: _ } => "an item in JSON is not of its type",
+        };
+        io::Error::new(io::ErrorKind::InvalidData, words)
     }
 }

@@ -1,5 +1,7 @@
 -- Why no map was read.
 use Rattle.std.specs.Prelude.{⊤}
+use Rattle.std.specs.declared.io.ErrorKind.{ErrorKind}
+use Rattle.std.specs.declared.io.ErrorKind.TheVariants.{InvalidData, OutOfMemory}
 use Rattle.litemap_read.specs.declared.source.ReadFault.{ReadFault}
 use Rattle.litemap_read.specs.declared.source.ReadFault.TheVariants.{NoRoom, Source}
 
@@ -7,3 +9,8 @@ use Rattle.litemap_read.specs.declared.source.ReadFault.TheVariants.{NoRoom, Sou
 abbrev pub IfSource : {E : Type 0} → ReadFault E → (E → Type 0) → Type 0
 IfSource NoRoom P = ⊤
 IfSource (Source e) P = P e
+
+-- of which kind it is as a fault of input
+abbrev pub fault_kind : {E : Type 0} → ReadFault E → ErrorKind
+fault_kind NoRoom = OutOfMemory
+fault_kind (Source e) = InvalidData

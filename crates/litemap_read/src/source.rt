@@ -1,9 +1,14 @@
 //! Sources of pairs.
 ghost use Rattle.std.specs.Prelude.{◌≡◌, ◌↔◌, ℕ, List, alloc_error};
+ghost use Rattle.std.specs.IoError.{error_kind};
+ghost use Rattle.litemap_read.specs.ReadFault.{fault_kind};
 ghost use Rattle.litemap_read.specs.Source.{GivesNext};
 ghost use Rattle.litemap_read.specs.declared.source.ReadFault.TheVariants.{NoRoom};
 
 use std::alloc::AllocError;
+use std::error::Error;
+use std::fmt::{self, Display, Formatter, Write};
+use std::io;
 
 /// What gives pairs one by one, and may answer a fault in the place of one.
 ///
@@ -79,3 +84,31 @@ impl<E> From<AllocError> for ReadFault<E> {
         ReadFault::NoRoom
     }
 }
+
+/// So that `?` does so where an `io::Result` is answered. A source's fault is then data that is not valid, and which one it was is
+/// given up: who wants to tell it prints the fault itself.
+impl<E: Drop> From<ReadFault<E>> for io::Error {
+    ghost from_gives = { λ fault e. error_kind e ≡ fault_kind fault };
+
+    fn from(fault: ReadFault<E>) -> io::Error {
+        match fault {
+            ReadFault::NoRoom => io::Error::from(AllocError),
+            ReadFault::Source(_) => io::Error::new(
+                io::ErrorKind::InvalidData,
+                "the source of pairs has a fault",
+            ),
+        }
+    }
+}
+
+impl<E: Display> Display for ReadFault<E> {
+    fn fmt<W: Write>(&self, f: &mut Formatter<W>) -> fmt::Result {
+        match self {
+            ReadFault::NoRoom => f.write_str("there is not enough memory"),
+            ReadFault::Source(fault) => write!(f, "{fault}"),
+        }
+    }
+}
+
+/// So that `?` hands each fault on where an `anyhow::Result` is answered.
+impl<E: Error> Error for ReadFault<E> {}

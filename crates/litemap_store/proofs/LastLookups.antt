@@ -1,6 +1,7 @@
 -- What a look-up finds among the last pairs of a list: lemmas for the proofs of callers. `laws::last_is_found` has them as
 -- its contract. An answer takes the order's laws as those of `Lookups` do.
 --     at-Last      what it finds in the list read backwards;  value_at-Last_of_more      what it finds after more pairs
+--     value_at-Last_of_rising      the same where both lists rise
 use Rattle.std.proofs.Common.{◌≡◌, ◌≢◌, ◌⊎◌, List, [], ◌∷◌, ◌++◌, Option, Some, None, option_map, reverse, refl, sym, ap, ◌∙◌, subst, inl, inr}
 use Rattle.std.proofs.lemmas.Cmp.{alike_right}
 use Rattle.std.proofs.lemmas.List.{reverse-append}
@@ -72,3 +73,9 @@ module _ {K V : Type 0} {cmp : K → K → Ordering} (o : IsTotalOrder cmp) wher
       ∙ find-append (λ p. is_eq (cmp p.0 k)) (reverse J) (reverse L)
       ∙ ap (option_or (at cmp (reverse J) k)) (sym (at-Last L L (Last-rising cmp L r) k)) in
       ap (option_map (λ p. p.1)) found ∙ map-option_or (λ p. p.1) (at cmp (reverse J) k) (at cmp L k)
+
+  -- where both rise, it finds the new one of its key, or what it found before
+  pub value_at-Last_of_rising : (L J M : List (K × V)) → Rising cmp L → Rising cmp J → Last cmp (L ++ J) M → (k : K) → value_at cmp M k ≡ option_or (value_at cmp J k) (value_at cmp L k)
+  value_at-Last_of_rising L J M r s last k =
+      value_at-Last_of_more L J M r last k
+      ∙ ap (λ a. option_or (option_map (λ p. p.1) a) (value_at cmp L k)) (sym (at-Last J J (Last-rising cmp J s) k))

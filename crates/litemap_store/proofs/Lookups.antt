@@ -3,9 +3,10 @@
 -- or from std, as `nat_cmp_total` and `string_cmp_total`.
 --     at-put, value_at-put, value_at-put_other, place-put, index_of-put      after a put
 --     value_at-cut, value_at-cut_other, value_at-cut_apart      after a cut, by the query, by another key, and by another query
---     value_at-write, value_at-write_apart      the same after a write
+--     value_at-write, value_at-write_apart      the same after a write;  value_at-written_apart      where a write finds the key
+--     value_in-set_value_other, value_at-set_value      after a write at a place;  value_in-set, value_at-set      where a pair is there
 --     length-put_present, length-put_absent, length-cut_present, length-cut_absent, Rising-cut      what both leave of a rising list
-use Rattle.std.proofs.Common.{◌≡◌, ◌≢◌, ℕ, suc, ◌+◌, Bool, true, false, List, [], ◌∷◌, ◌++◌, length, filter, Option, Some, None, IsSome, Ok, option_map, refl, sym, ap, ◌∙◌, subst, arith}
+use Rattle.std.proofs.Common.{◌≡◌, ◌≢◌, ℕ, zero, suc, cond, IfSome, slice_get, slice_set, ◌+◌, Bool, true, false, List, [], ◌∷◌, ◌++◌, length, filter, Option, Some, None, IsSome, Ok, option_map, refl, sym, ap, ◌∙◌, subst, arith}
 use Rattle.std.specs.Ordering.{is_lt, is_eq, is_gt}
 use Rattle.std.specs.Option.{option_map_or, option_or}
 use Rattle.std.specs.Cmp.{IsTotalOrder, tied_itself}
@@ -15,16 +16,21 @@ use Rattle.std.proofs.lemmas.List.Folds.{find-append}
 use Rattle.std.proofs.lemmas.Option.{get_or_from_slice_get}
 use Rattle.std.specs.declared.cmp.Ordering.{Ordering}
 use Rattle.std.specs.declared.cmp.Ordering.TheVariants.{Less, Equal, Greater}
-use Rattle.litemap_store.specs.Pairs.{Rising, above, at, below, cut, index_of, key_or, place, put, value_at, write}
+use Rattle.litemap_store.specs.Pairs.{Rising, above, at, below, cut, index_of, key_or, place, put, set_value, value_at, value_in, write}
 use Rattle.litemap_store.specs.Queries.{key_one_side}
 use Rattle.litemap_store.specs.Splits.{IsFoundAt}
-use Rattle.litemap_store.proofs.Seams.{found_get, found_remove, found_within}
+use Rattle.litemap_store.proofs.Seams.{found_get, found_remove, found_within, set_value-suc}
 use Rattle.litemap_store.proofs.Splitting.{Rising-remove, found_at, missing_splits}
 
 is_equal : (c : Ordering) → is_eq c ≡ true → c ≡ Equal
 is_equal Less h = absurd (cc)
 is_equal Equal h = refl
 is_equal Greater h = absurd (cc)
+
+not_equal : (c : Ordering) → c ≢ Equal → is_eq c ≡ false
+not_equal Less n = refl
+not_equal Equal n = absurd (n refl)
+not_equal Greater n = refl
 
 not_both : (c : Ordering) → is_gt c ≡ true → is_lt c ≡ false
 not_both Less h = absurd (cc)
@@ -134,6 +140,44 @@ module _ {K Q Q' V : Type 0} (order : K → Q → Ordering) (q : Q) (order' : K 
     | None ↦ λ e. refl
     | Some p ↦ λ e. value_at-between_apart L (p.0, v) (at-is_equal order q L p e)
   ]) refl
+
+  -- where a write finds the key, it leaves this
+  pub value_at-written_apart : (L : List (K × V)) (p : K × V) (v : V) → at order L q ≡ Some p
+      → value_at order' (below order L q ++ (p.0, v) ∷ above order L q) q' ≡ value_at order' L q'
+  value_at-written_apart L p v e = value_at-between_apart L (p.0, v) (at-is_equal order q L p e)
+
+-- ---- a write at a place
+pub value_in-set_value_other : {K V : Type 0} (L : List (K × V)) (i j : ℕ) (v : V) → j ≢ i → value_in (set_value L i v) j ≡ value_in L j
+value_in-set_value_other [] i j v n = refl
+value_in-set_value_other (p ∷ L) zero zero v n = absurd (n refl)
+value_in-set_value_other (p ∷ L) zero (suc j) v n = refl
+value_in-set_value_other (p ∷ L) (suc i) zero v n = ap (λ M. value_in M 0) (set_value-suc p L i v)
+value_in-set_value_other (p ∷ L) (suc i) (suc j) v n =
+    ap (λ M. value_in M (suc j)) (set_value-suc p L i v) ∙ value_in-set_value_other L i j v (λ e. n (ap suc e))
+
+-- where there is a pair, it leaves this
+pub value_in-set : {K V : Type 0} (L : List (K × V)) (i j : ℕ) (p : K × V) (v : V) → slice_get L i ≡ Some p → j ≢ i
+    → value_in (slice_set L i (p.0, v)) j ≡ value_in L j
+value_in-set L i j p v e n = let h : value_in (set_value L i v) j ≡ value_in L j = value_in-set_value_other L i j v n in rw e at h
+
+module _ {K Q V : Type 0} (order : K → Q → Ordering) (q : Q) where
+  same_values : (c : Bool) (p : K × V) (a b : Option (K × V)) → option_map (λ x. x.1) a ≡ option_map (λ x. x.1) b
+      → option_map (λ x. x.1) (cond c (Some p) a) ≡ option_map (λ x. x.1) (cond c (Some p) b)
+  same_values true p a b e = refl
+  same_values false p a b e = e
+
+  -- a query that doesn't find the key there finds what it found before
+  pub value_at-set_value : (L : List (K × V)) (i : ℕ) (v : V) → IfSome (slice_get L i) (λ p. order p.0 q ≢ Equal)
+      → value_at order (set_value L i v) q ≡ value_at order L q
+  value_at-set_value [] i v d = refl
+  value_at-set_value (p ∷ L) zero v d = rw (not_equal (order p.0 q) d) refl
+  value_at-set_value (p ∷ L) (suc i) v d =
+      ap (λ M. value_at order M q) (set_value-suc p L i v)
+      ∙ same_values (is_eq (order p.0 q)) p (at order (set_value L i v) q) (at order L q) (value_at-set_value L i v d)
+
+  pub value_at-set : (L : List (K × V)) (i : ℕ) (p : K × V) (v : V) → slice_get L i ≡ Some p → order p.0 q ≢ Equal
+      → value_at order (slice_set L i (p.0, v)) q ≡ value_at order L q
+  value_at-set L i p v e d = let h : value_at order (set_value L i v) q ≡ value_at order L q = value_at-set_value L i v (rw e d) in rw e at h
 
 module _ {K V : Type 0} {cmp : K → K → Ordering} (o : IsTotalOrder cmp) where
   -- ---- the key itself

@@ -1,11 +1,14 @@
 //! A configuration: settings by their names, where a user's go over the defaults.
 //! Each is a list in which a name may stand more than once: its last value counts. What a user sets wins, and no default is
 //! lost, as the contracts say.
-ghost use Rattle.std.specs.Prelude.{◌≡◌, None, Some, IfOk, OnOk, OnErr, reverse};
+ghost use Rattle.std.specs.Prelude.{◌≡◌, None, Some, IfErr, IfOk, IfSome, OnOk, OnErr, cond, is_some, reverse};
+ghost use Rattle.std.specs.Option.{option_or};
 ghost use Rattle.std.specs.String.{string_cmp};
-ghost use Rattle.litemap_store.specs.Pairs.{value_at};
+ghost use Rattle.litemap_store.specs.Pairs.{at, value_at};
+ghost use Rattle.litemap_store.specs.Queries.{by_text};
 
 use litemap::LiteMap;
+use litemap::store::NoRoom;
 use std::alloc::{AllocError, Global};
 
 /// Settings that own their texts.
@@ -48,4 +51,37 @@ pub fn override_with(
 {
     settings.keys_rise();
     settings.extend(alloc, user)
+}
+
+/// Puts a user's settings over those that are there, and answers what they drove out: of each name that both have, the old
+/// value. Where memory is refused, both are as they were, and the user's come back.
+#[tactic(auto, using(litemap::proofs::Texts::text_keys))]
+pub fn overlay(
+    settings: &mut Settings,
+    alloc: Global,
+    user: Settings,
+) -> Result<Option<Settings>, NoRoom<Settings>>
+    // The user's setting where there is one, else the one that was there.
+    ensures found { OnOk result ((name : _) → value_at by_text settings.new.pairs name
+        ≡ option_or (value_at by_text user.pairs name) (value_at by_text settings.old.pairs name)) }
+    // What is driven out: the old setting where the user has one, else nothing.
+    ensures driven_out { IfOk result (λ rest. IfSome rest (λ old. (name : _) → value_at by_text old.pairs name
+        ≡ cond (is_some (at by_text user.pairs name)) (value_at by_text settings.old.pairs name) None)) }
+    ensures refused { OnErr result (settings.new.pairs ≡ settings.old.pairs) }
+    ensures back { IfErr result (λ refused. refused.back.pairs ≡ user.pairs) }
+{
+    settings.extend_from_litemap(alloc, user)
+}
+
+/// Puts a user's settings over those that are there. A user's setting wins, and no other is lost.
+pub fn prefer(settings: &mut Settings, alloc: Global, user: Settings) -> Result<(), AllocError>
+    ensures user { OnOk result ((name value : _)
+        → value_at by_text user.pairs name ≡ Some value
+        → value_at by_text settings.new.pairs name ≡ Some value) }
+    ensures others { OnOk result ((name : _)
+        → value_at by_text user.pairs name ≡ None
+        → value_at by_text settings.new.pairs name ≡ value_at by_text settings.old.pairs name) }
+{
+    overlay(settings, alloc, user)?;
+    Ok(())
 }

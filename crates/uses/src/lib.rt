@@ -9,6 +9,7 @@ pub mod made;
 pub mod message;
 pub mod moved;
 pub mod names;
+pub mod numbers;
 pub mod people;
 pub mod reserved;
 pub mod scores;

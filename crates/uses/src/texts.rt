@@ -1,11 +1,11 @@
 //! Maps asked by what can stand for a key: texts and bytes that are borrowed, and keys.
 ghost use Rattle.std.specs.Prelude.{◌≡◌, ◌≢◌, [], ◌∷◌, IsSome, IsTrue, None, OnOk, Some};
-ghost use Rattle.std.specs.Prelude.{is_some, string_bytes};
+ghost use Rattle.std.specs.Prelude.{IfSome, is_some, slice_get, string_bytes};
 ghost use Rattle.std.specs.Cmp.Lexicographic.{slice_cmp};
 ghost use Rattle.std.specs.Ordering.{int_cmp, nat_cmp};
 ghost use Rattle.std.specs.String.{string_cmp};
 ghost use Rattle.std.specs.declared.cmp.Ordering.TheVariants.{Equal};
-ghost use Rattle.litemap_store.specs.Pairs.{at, cut, index_of, put, value_at, write};
+ghost use Rattle.litemap_store.specs.Pairs.{at, cut, index_of, put, value_at, value_in, write};
 ghost use Rattle.litemap_store.specs.Queries.{by_slice, by_text};
 ghost use Rattle.litemap.specs.ByBytes.{by_bytes};
 
@@ -59,10 +59,13 @@ pub fn number_there(map: &Numbers, name: &str) -> u32
     *map.index(name)
 }
 
-/// Writes the number at a name that is there.
+/// Writes the number at a name that is there. All others stay.
+#[tactic(auto, using(litemap::proofs::Texts::text_keys))]
 pub fn set_there(map: &mut Numbers, name: &str, number: u32)
     requires { IsSome (at by_text map.old.pairs name.now) }
-    ensures { map.new.pairs ≡ write by_text map.old.pairs name.now number }
+    ensures written { map.new.pairs ≡ write by_text map.old.pairs name.now number }
+    ensures others { (other : _) → other ≢ name.now
+        → value_at by_text map.new.pairs other ≡ value_at by_text map.old.pairs other }
 {
     *map.index_mut(name) = number;
 }
@@ -89,12 +92,14 @@ pub fn take_key(map: &mut Numbers, key: &String) -> Option<u32>
     map.remove(key)
 }
 
-/// Writes the number at a name, where the name is there.
+/// Writes the number at a name, where the name is there. All others stay.
 #[tactic(auto, using(litemap::proofs::Texts::text_keys))]
 pub fn set_number(map: &mut Numbers, name: &str, number: u32) -> bool
     ensures there { result ≡ is_some (at by_text map.old.pairs name.now) }
     ensures written { map.new.pairs ≡ write by_text map.old.pairs name.now number }
     ensures set { IsTrue result → value_at by_text map.new.pairs name.now ≡ Some number }
+    ensures others { (other : _) → other ≢ name.now
+        → value_at by_text map.new.pairs other ≡ value_at by_text map.old.pairs other }
 {
     match map.get_mut(name) {
         Some(slot) => {
@@ -102,6 +107,18 @@ pub fn set_number(map: &mut Numbers, name: &str, number: u32) -> bool
             true
         }
         None => false,
+    }
+}
+
+/// Writes the number at a place. All others stay: those at other places, and those of other names.
+#[tactic(auto, using(litemap::proofs::Texts::text_keys))]
+pub fn set_at_place(map: &mut Numbers, index: usize, number: u32)
+    ensures places { (other : _) → other ≢ index → value_in map.new.pairs other ≡ value_in map.old.pairs other }
+    ensures others { (other : _) → IfSome (slice_get map.old.pairs index) (λ p. string_bytes p.0 ≢ other)
+        → value_at by_text map.new.pairs other ≡ value_at by_text map.old.pairs other }
+{
+    if let Some(slot) = map.get_indexed_mut(index) {
+        *slot = number;
     }
 }
 

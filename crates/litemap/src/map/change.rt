@@ -1,12 +1,12 @@
 //! Calls that change a map.
 ghost use Rattle.std.specs.Prelude.{◌≡◌, ◌↔◌, ◌+◌, ◌≤◌, ◌<◌, [], ◌∷◌, ◌++◌, length, slice_get, None, Some};
 ghost use Rattle.std.specs.Prelude.{IsNone, IsSome, IfSome, IsTrue, remove, IsOk, Ok, Err, IfOk, IfErr, OnOk};
-ghost use Rattle.std.specs.Prelude.{OnErr};
+ghost use Rattle.std.specs.Prelude.{Bool, OnErr, filter};
 ghost use Rattle.std.specs.Fn.{FnOnceReturnsAt, FnOnceTakesAt};
 ghost use Rattle.litemap_store.specs.Counts.{RisesByAtMost};
 ghost use Rattle.litemap_store.specs.Digits.{digits};
 ghost use Rattle.litemap_store.specs.Pairs.{AllBelow, at, cut, place, put, set_value, value_at, value_in};
-ghost use Rattle.litemap_store.specs.Retain.{CallableOnEach, Kept};
+ghost use Rattle.litemap_store.specs.Retain.{CallableOnEach, Kept, Tests};
 ghost use Rattle.litemap_store.specs.Search.{CallableOnKeys};
 ghost use Rattle.litemap_store.specs.Splits.{IsMissingAt};
 ghost use Rattle.litemap.specs.FoundBy.{RemovesFound};
@@ -433,8 +433,9 @@ impl<K: Ord, V, S: StoreMut<K, V>> LiteMap<K, V, S> {
 impl<K: Ord + Drop, V: Drop, S: StoreBulkMut<K, V>> LiteMap<K, V, S> {
     /// Keeps the pairs of which `f` answers yes, in their order, and gives up the others.
     ///
-    /// `f` is asked once of each pair, in order, and has to take each as its earlier answers left it. It takes no memory,
-    /// and compares no keys. Nothing is promised of the room.
+    /// `f` is asked once of each pair, in order, and has to take each as its earlier answers left it. Where it keeps no state
+    /// and its answers are those of a test, what is left is the list filtered by the test. It takes no memory, and compares
+    /// no keys. Nothing is promised of the room.
     ///
     /// ```rust
     /// let mut days = three_days(alloc)?;
@@ -443,7 +444,9 @@ impl<K: Ord + Drop, V: Drop, S: StoreBulkMut<K, V>> LiteMap<K, V, S> {
     /// ```
     pub fn retain<F: FnMut(&K, &V) -> bool>(&mut self, f: F)
         requires { CallableOnEach F.FnMut f self.old.pairs }
-        ensures { Kept F.FnMut f self.old.pairs self.new.pairs }
+        ensures kept { Kept F.FnMut f self.old.pairs self.new.pairs }
+        ensures filtered { (test : K × V → Bool)
+            → Tests F.FnMut f test → self.new.pairs ≡ filter test self.old.pairs }
     {
         self.store.lm_retain(f);
     }

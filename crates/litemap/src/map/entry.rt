@@ -94,7 +94,7 @@ impl<'a, K: Ord, V, S: StoreMut<K, V>> Entry<'a, K, V, S> {
     /// The value, to be written. Where the key is not there, `default` is placed first; else `default` is given up.
     ///
     /// It is refused only where the key is not there and there is no room: then key and value come back and the list
-    /// stays.
+    /// stays. It compares no keys, and moves the pairs with greater keys up by one where the key is placed.
     ///
     /// ```rust
     /// // days: 1 Monday, 3 Wednesday, 5 Friday
@@ -122,7 +122,8 @@ impl<'a, K: Ord, V, S: StoreMut<K, V>> Entry<'a, K, V, S> {
     /// The value, to be written. Where the key is not there, `V::default()` is placed first.
     ///
     /// The default is made where the key is there, too. It is refused only where the key is not there and there is no
-    /// room: then key and value come back and the list stays.
+    /// room: then key and value come back and the list stays. It compares no keys, and moves the pairs with greater keys
+    /// up by one where the key is placed.
     ///
     /// ```rust
     /// // days: 1 Monday, 3 Wednesday, 5 Friday
@@ -148,7 +149,7 @@ impl<'a, K: Ord, V, S: StoreMut<K, V>> Entry<'a, K, V, S> {
     /// called.
     ///
     /// It is refused only where the key is not there and there is no room: then key and value come back and the list
-    /// stays.
+    /// stays. It compares no keys, and moves the pairs with greater keys up by one where the key is placed.
     ///
     /// ```rust
     /// // days: 1 Monday, 3 Wednesday, 5 Friday

@@ -1,8 +1,10 @@
 //! Merging maps.
 ghost use Rattle.std.specs.Prelude.{◌≡◌, ◌≢◌, ◌⊎◌, ◌↔◌, ◌+◌, ◌*◌, [], length, IsOk, IsNone, IfOk, IfErr, IfSome, OnOk, OnErr};
+ghost use Rattle.std.specs.Option.{option_or};
 ghost use Rattle.litemap_store.specs.Counts.{RisesByAtMost};
 ghost use Rattle.litemap_store.specs.Digits.{digits};
 ghost use Rattle.litemap_store.specs.Merge.{Apart, Merge, left};
+ghost use Rattle.litemap_store.specs.Pairs.{value_at};
 
 use crate::LiteMap;
 use litemap_store::extend_store::extend_from_store;
@@ -47,6 +49,10 @@ impl<K: Ord + Drop, V: Drop, S: StoreIntoIterator<K, V> + Drop> LiteMap<K, V, S>
         ensures none { IfOk result (λ rest. IsNone rest ↔ (left K.cmp self.old.pairs other.pairs ≡ [])) }
         ensures left { IfOk result (λ rest. IfSome rest (λ m. m.pairs ≡ left K.cmp self.old.pairs other.pairs)) }
 
+        // What a look-up finds: the other map's value where it has the key, else the one that was there.
+        ensures found { OnOk result ((key : K) → value_at K.cmp self.new.pairs key
+            ≡ option_or (value_at K.cmp other.pairs key) (value_at K.cmp self.old.pairs key)) }
+
         // Refused: the list stays, and the other map comes back whole.
         ensures refused { OnErr result (self.new.pairs ≡ self.old.pairs) }
         ensures back { IfErr result (λ refused. refused.back.pairs ≡ other.pairs) }
@@ -77,6 +83,10 @@ impl<K: Ord + Drop, V: Drop, S: StoreIntoIterator<K, V> + Drop> LiteMap<K, V, S>
         ensures merged { OnOk result (Merge K.cmp self.old.pairs other.pairs self.new.pairs) }
         ensures none { IfOk result (λ rest. IsNone rest ↔ (left K.cmp self.old.pairs other.pairs ≡ [])) }
         ensures left { IfOk result (λ rest. IfSome rest (λ m. m.pairs ≡ left K.cmp self.old.pairs other.pairs)) }
+
+        // What a look-up finds: the other map's value where it has the key, else the one that was there.
+        ensures found { OnOk result ((key : K) → value_at K.cmp self.new.pairs key
+            ≡ option_or (value_at K.cmp other.pairs key) (value_at K.cmp self.old.pairs key)) }
 
         // Refused: the list stays, and the other map comes back whole.
         ensures refused { OnErr result (self.new.pairs ≡ self.old.pairs) }

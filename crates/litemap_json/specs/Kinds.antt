@@ -1,0 +1,19 @@
+-- Of which kind a fault is as one of input or output.
+use Rattle.std.specs.declared.io.ErrorKind.{ErrorKind}
+use Rattle.std.specs.declared.io.ErrorKind.TheVariants.{InvalidData, OutOfMemory}
+use Rattle.litemap_json.specs.declared.fault.JsonFault.{JsonFault}
+use Rattle.litemap_json.specs.declared.fault.JsonFault.TheVariants as reading
+use Rattle.litemap_json.specs.declared.fault.WriteFault.{WriteFault}
+use Rattle.litemap_json.specs.declared.fault.WriteFault.TheVariants as writing
+
+abbrev pub write_kind : WriteFault → ErrorKind
+write_kind writing.Memory = OutOfMemory
+write_kind (writing.KeyWithoutText place) = InvalidData
+
+abbrev pub read_kind : JsonFault → ErrorKind
+read_kind reading.Memory = OutOfMemory
+read_kind reading.NotAMap = InvalidData
+read_kind (reading.NotAPair place) = InvalidData
+read_kind (reading.KeyText place) = InvalidData
+read_kind (reading.Key place fault) = InvalidData
+read_kind (reading.Item place fault) = InvalidData

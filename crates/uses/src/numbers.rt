@@ -1,0 +1,180 @@
+//! Numbers as keys, and keys of a caller's own. What look-ups find after a change follows from the lemmas that the attributes
+//! name, or from the laws that a function calls: no function here has a proof file.
+ghost use Rattle.std.specs.Prelude.{◌≡◌, ◌≢◌, None, Ok, Some, IfErr, IfOk, IfSome, IsSome, IsTrue, OnErr, OnOk};
+ghost use Rattle.std.specs.Prelude.{cond, filter, is_some, nat_le, slice_get};
+ghost use Rattle.std.specs.IoError.{error_kind};
+ghost use Rattle.std.specs.Option.{option_or};
+ghost use Rattle.std.specs.Ordering.{int_cmp, nat_cmp};
+ghost use Rattle.std.specs.declared.cmp.Ordering.TheVariants.{Equal};
+ghost use Rattle.std.specs.declared.io.ErrorKind.TheVariants.{OutOfMemory};
+ghost use Rattle.litemap_store.specs.Pairs.{at, index_of, place, put, value_at, value_in};
+
+use litemap::LiteMap;
+use litemap::store::{NoRoom, StoreMut};
+use litemap_store::laws::{after_cut, after_put, after_write};
+use std::alloc::{AllocError, Global};
+use std::io;
+
+/// Ages by numbers of people.
+pub type Ages = LiteMap<u32, u8, Vec<(u32, u8)>>;
+
+/// Readings by signed times.
+pub type Readings = LiteMap<i64, u8, Vec<(i64, u8)>>;
+
+/// Sets an age, which is then found, at the place where it belongs. All others stay.
+#[tactic(auto, using(litemap::proofs::Numbers::number_keys))]
+pub fn set_age(ages: &mut Ages, id: u32, age: u8) -> Result<(), AllocError>
+    ensures there { OnOk result (value_at nat_cmp ages.new.pairs id ≡ Some age) }
+    ensures place { OnOk result (index_of nat_cmp ages.new.pairs id ≡ Ok (place nat_cmp ages.old.pairs id)) }
+    ensures others { OnOk result ((other : _) → other ≢ id
+        → value_at nat_cmp ages.new.pairs other ≡ value_at nat_cmp ages.old.pairs other) }
+    ensures refused { OnErr result (ages.new.pairs ≡ ages.old.pairs) }
+{
+    ages.insert(id, age)?;
+    Ok(())
+}
+
+/// Sets an age in a function that may answer faults of input, too: want of memory is told as one of them.
+pub fn note_age(ages: &mut Ages, id: u32, age: u8) -> io::Result<()>
+    ensures set { OnOk result (ages.new.pairs ≡ put nat_cmp ages.old.pairs id age) }
+    ensures refused { IfErr result (λ fault. error_kind fault ≡ OutOfMemory) }
+{
+    ages.insert(id, age)?;
+    Ok(())
+}
+
+/// Forgets someone, and answers the age that was there. All others stay.
+#[tactic(auto, using(litemap::proofs::Numbers::number_keys))]
+pub fn forget(ages: &mut Ages, id: u32) -> Option<u8>
+    ensures value { result ≡ value_at nat_cmp ages.old.pairs id }
+    ensures gone { value_at nat_cmp ages.new.pairs id ≡ None }
+    ensures others { (other : _) → other ≢ id
+        → value_at nat_cmp ages.new.pairs other ≡ value_at nat_cmp ages.old.pairs other }
+{
+    ages.remove(&id)
+}
+
+/// Writes an age where someone has the number. All others stay.
+#[tactic(auto, using(litemap::proofs::Numbers::number_keys))]
+pub fn correct(ages: &mut Ages, id: u32, age: u8) -> bool
+    ensures there { result ≡ is_some (at nat_cmp ages.old.pairs id) }
+    ensures set { IsTrue result → value_at nat_cmp ages.new.pairs id ≡ Some age }
+    ensures others { (other : _) → other ≢ id
+        → value_at nat_cmp ages.new.pairs other ≡ value_at nat_cmp ages.old.pairs other }
+{
+    match ages.get_mut(&id) {
+        Some(slot) => {
+            *slot = age;
+            true
+        }
+        None => false,
+    }
+}
+
+/// Writes the age of someone who is there. All others stay.
+#[tactic(auto, using(litemap::proofs::Numbers::number_keys))]
+pub fn correct_there(ages: &mut Ages, id: u32, age: u8)
+    requires { IsSome (at nat_cmp ages.old.pairs id) }
+    ensures set { value_at nat_cmp ages.new.pairs id ≡ Some age }
+    ensures others { (other : _) → other ≢ id
+        → value_at nat_cmp ages.new.pairs other ≡ value_at nat_cmp ages.old.pairs other }
+{
+    *ages.index_mut(&id) = age;
+}
+
+/// Writes the age at a place. All others stay: those at other places, and those of other numbers.
+#[tactic(auto, using(litemap::proofs::Numbers::number_keys))]
+pub fn correct_at(ages: &mut Ages, index: usize, age: u8)
+    ensures places { (other : _) → other ≢ index → value_in ages.new.pairs other ≡ value_in ages.old.pairs other }
+    ensures others { (other : _) → IfSome (slice_get ages.old.pairs index) (λ p. p.0 ≢ other)
+        → value_at nat_cmp ages.new.pairs other ≡ value_at nat_cmp ages.old.pairs other }
+{
+    if let Some(slot) = ages.get_indexed_mut(index) {
+        *slot = age;
+    }
+}
+
+/// Keeps those of an age, and of more.
+pub fn keep_from(ages: &mut Ages, age: u8)
+    ensures { ages.new.pairs ≡ filter (λ p. nat_le age p.1) ages.old.pairs }
+{
+    ages.retain(|_, found| *found >= age);
+}
+
+/// Puts newer ages over those that are there, and answers the old ages of those who have both.
+#[tactic(auto, using(litemap::proofs::Numbers::number_keys))]
+pub fn renew(ages: &mut Ages, alloc: Global, newer: Ages) -> Result<Option<Ages>, NoRoom<Ages>>
+    ensures found { OnOk result ((id : _) → value_at nat_cmp ages.new.pairs id
+        ≡ option_or (value_at nat_cmp newer.pairs id) (value_at nat_cmp ages.old.pairs id)) }
+    ensures driven_out { IfOk result (λ rest. IfSome rest (λ old. (id : _) → value_at nat_cmp old.pairs id
+        ≡ cond (is_some (at nat_cmp newer.pairs id)) (value_at nat_cmp ages.old.pairs id) None)) }
+    ensures refused { OnErr result (ages.new.pairs ≡ ages.old.pairs) }
+{
+    ages.extend_from_litemap(alloc, newer)
+}
+
+/// Sets a reading, which is then found. All others stay.
+#[tactic(auto, using(litemap::proofs::Numbers::signed_keys))]
+pub fn set_reading(readings: &mut Readings, time: i64, level: u8) -> Result<(), AllocError>
+    ensures there { OnOk result (value_at int_cmp readings.new.pairs time ≡ Some level) }
+    ensures others { OnOk result ((other : _) → other ≢ time
+        → value_at int_cmp readings.new.pairs other ≡ value_at int_cmp readings.old.pairs other) }
+{
+    readings.insert(time, level)?;
+    Ok(())
+}
+
+/// Clears a reading, where there is one. All others stay.
+#[tactic(auto, using(litemap::proofs::Numbers::signed_keys))]
+pub fn clear_reading(readings: &mut Readings, time: i64)
+    ensures others { (other : _) → other ≢ time
+        → value_at int_cmp readings.new.pairs other ≡ value_at int_cmp readings.old.pairs other }
+{
+    if let Some(level) = readings.get_mut(&time) {
+        *level = 0;
+    }
+}
+
+/// A place in a store room, with an order of its own.
+#[derive(Clone, Copy, PartialEq, Eq, PartialOrd, Ord)]
+pub struct Shelf {
+    /// The number of the shelf.
+    pub number: u8,
+    /// How far its board lies above the floor.
+    pub board: i16,
+}
+
+/// How many there are, by shelf.
+pub type Stock = LiteMap<Shelf, u32, Vec<(Shelf, u32)>>;
+
+/// Sets how many are on a shelf. All others stay. The call of the law stands for an attribute, for keys of any type.
+pub fn set_stock(stock: &mut Stock, shelf: Shelf, count: u32) -> Result<(), AllocError>
+    ensures there { OnOk result (value_at ⟦<Shelf as Ord>⟧.cmp stock.new.pairs shelf ≡ Some count) }
+    ensures others { OnOk result ((other : _) → ⟦<Shelf as Ord>⟧.cmp other shelf ≢ Equal
+        → value_at ⟦<Shelf as Ord>⟧.cmp stock.new.pairs other ≡ value_at ⟦<Shelf as Ord>⟧.cmp stock.old.pairs other) }
+{
+    after_put::<Shelf, u32>();
+    stock.insert(shelf, count)?;
+    Ok(())
+}
+
+/// Takes a pair out, over every map. All others stay.
+pub fn take<K: Ord + Drop, V, S: StoreMut<K, V>>(map: &mut LiteMap<K, V, S>, key: &K) -> Option<V>
+    ensures gone { value_at K.cmp map.new.pairs key.now ≡ None }
+    ensures others { (other : _) → K.cmp other key.now ≢ Equal
+        → value_at K.cmp map.new.pairs other ≡ value_at K.cmp map.old.pairs other }
+{
+    after_cut::<K, V>();
+    map.remove(key)
+}
+
+/// Writes a value where its key is there, over every map. All others stay.
+pub fn overwrite<K: Ord, V: Drop, S: StoreMut<K, V>>(map: &mut LiteMap<K, V, S>, key: &K, value: V)
+    ensures others { (other : _) → K.cmp other key.now ≢ Equal
+        → value_at K.cmp map.new.pairs other ≡ value_at K.cmp map.old.pairs other }
+{
+    after_write::<K, V>();
+    if let Some(slot) = map.get_mut(key) {
+        *slot = value;
+    }
+}
