@@ -6,10 +6,13 @@ use litemap::store::Count;
 use std::alloc::{AllocError, Global};
 
 /// The examples, by the names of the calls.
-pub fn examples(alloc: Global) -> [Shown; 5] {
+pub fn examples(alloc: Global) -> [Shown; 8] {
     [
         ("extend", extend(alloc)),
         ("from_iter_counted", from_iter_counted(alloc)),
+        ("from_vec", from_vec(alloc)),
+        ("extend_from_vec", extend_from_vec(alloc)),
+        ("from_vec_counted", from_vec_counted(alloc)),
         ("extend_from_litemap", extend_from_litemap(alloc)),
         (
             "extend_from_litemap_counted",
@@ -29,6 +32,27 @@ fn from_iter_counted(alloc: Global) -> Result<bool, AllocError> {
     let mut count = Count::new();
     let mut days = Days::from_iter_counted(alloc, [(1, "Mon"), (2, "Tue")], &mut count)?;
     days.extend_counted(alloc, [(3, "Wed"), (4, "Thu")], &mut count)?;
+    Ok(days.len() == 4)
+}
+
+fn from_vec(alloc: Global) -> Result<bool, AllocError> {
+    let pairs = [(2, "Tue"), (1, "Mon"), (2, "Tuesday")].to_vec(alloc)?;
+    let days: Days = LiteMap::from_vec(alloc, pairs)?;
+    Ok(days.as_slice() == [(1, "Mon"), (2, "Tuesday")].as_slice())
+}
+
+fn extend_from_vec(alloc: Global) -> Result<bool, AllocError> {
+    let mut days = three_days(alloc)?;
+    let more = [(5, "Fri"), (2, "Tue"), (5, "Freitag")].to_vec(alloc)?;
+    days.extend_from_vec(alloc, more)?;
+    Ok(days.get(&5) == Some(&"Freitag") && days.len() == 4)
+}
+
+fn from_vec_counted(alloc: Global) -> Result<bool, AllocError> {
+    let mut count = Count::new();
+    let two = [(1, "Mon"), (2, "Tue")].to_vec(alloc)?;
+    let mut days = Days::from_vec_counted(alloc, two, &mut count)?;
+    days.extend_from_vec_counted(alloc, [(3, "Wed"), (4, "Thu")].to_vec(alloc)?, &mut count)?;
     Ok(days.len() == 4)
 }
 

@@ -1,9 +1,9 @@
 -- What a look-up finds after an extension by a vector of pairs: lemmas for the proofs of callers.
---     given_by_vec      what a vector gives;  Last-extended      what is left of it;  value_at-extended, new_wins, old_stays      what is found after `extend`
---     value_at-collected      what is found after `from_iter`;  cost_behind, cost_rising      how far a count rises
+--     given_by_vec      what a vector gives;  Last-extended, Last_if_made      what is left of it;  value_at-extended, new_wins, old_stays      what is found after `extend`
+--     counted_in_each      how far a count rises, refused or not;  value_at-collected      what is found after `from_iter`;  cost_behind, cost_rising      how far a count rises
 --     refused_cost_behind, refused_cost_rising      the same where the call was refused
 -- An answer shows `holds` by `λ v it h. h.0`.
-use Rattle.std.proofs.Common.{◌≡◌, ◌+◌, ◌*◌, List, [], ◌++◌, length, Some, None, option_map, reverse, ap, ◌∙◌, subst, inl, inr, arith, Vec}
+use Rattle.std.proofs.Common.{◌≡◌, ◌+◌, ◌*◌, List, [], ◌++◌, length, Some, None, option_map, reverse, ap, ◌∙◌, subst, inl, inr, arith, Vec, Result, Ok, Err, IfOk, OnErr}
 use Rattle.std.proofs.IntoIterSteps.{All-taken}
 use Rattle.std.specs.Cmp.{IsTotalOrder}
 use Rattle.std.specs.Option.{option_or}
@@ -66,3 +66,15 @@ module _ {K V Z : Type 0} {cmp : K → K → Ordering} (o : IsTotalOrder cmp) (b
 
     pub refused_cost_rising : Rising cmp v.items → RisesByAtMost (length old + 2 * length v.items) before after
     refused_cost_rising = counted.rising
+
+  -- and so in each case
+  pub counted_in_each : {T E : Type 0} (pairs : T → List (K × V)) (v : Vec (K × V) Z) (old : List (K × V)) (before after : Count) (r : Result T E)
+      → IfOk r (λ s. IsExtendedCounted cmp becomes into_iter_steps v old (pairs s) before after) → OnErr r (IsRefusedCounted cmp becomes into_iter_steps v old before after)
+      → IsCountedFor cmp old v.items before after
+  counted_in_each pairs v old before after (Ok s) made refused = record { behind = cost_behind v old (pairs s) before after made; rising = cost_rising v old (pairs s) before after made }
+  counted_in_each pairs v old before after (Err e) made refused = counted v old before after refused
+
+  pub Last_if_made : {T E : Type 0} (pairs : T → List (K × V)) (v : Vec (K × V) Z) (old : List (K × V)) (before after : Count) (r : Result T E)
+      → IfOk r (λ s. IsExtendedCounted cmp becomes into_iter_steps v old (pairs s) before after) → IfOk r (λ s. Last cmp (old ++ v.items) (pairs s))
+  Last_if_made pairs v old before after (Ok s) made = Last-extended v old (pairs s) made.extended
+  Last_if_made pairs v old before after (Err e) made = tt

@@ -230,6 +230,15 @@ impl<K: Ord + Drop, V: Drop> StoreFromIterable<K, V> for ColumnStore<K, V> {
         let pairs = gather(alloc, iter)?;
         split_last(alloc, pairs, count)
     }
+
+    fn lm_sort_from_vec(
+        alloc: Global,
+        given: &mut Vec<(K, V)>,
+        count: &mut Count,
+    ) -> Result<Self, AllocError> {
+        let pairs = mem::replace(given, Vec::new(alloc));
+        split_last(alloc, pairs, count)
+    }
 }
 
 impl<K: Drop, V: Drop> StoreFromIterator<K, V> for ColumnStore<K, V> {

@@ -139,6 +139,16 @@ impl<K: Ord + Drop, V: Drop> StoreBulkMut<K, V> for Vec<(K, V)> {
         let pairs = gather(alloc, iter)?;
         put_pairs_in_vec(alloc, self, pairs, count)
     }
+
+    fn lm_extend_from_vec(
+        &mut self,
+        alloc: Global,
+        given: &mut Vec<(K, V)>,
+        count: &mut Count,
+    ) -> Result<(), AllocError> {
+        let pairs = mem::replace(given, Vec::new(alloc));
+        put_pairs_in_vec(alloc, self, pairs, count)
+    }
 }
 
 impl<'a, K: 'a, V: 'a> StoreIterable<'a, K, V> for Vec<(K, V)> {
@@ -156,6 +166,15 @@ impl<K: Ord + Drop, V: Drop> StoreFromIterable<K, V> for Vec<(K, V)> {
         count: &mut Count,
     ) -> Result<Self, AllocError> {
         let pairs = gather(alloc, iter)?;
+        last_of(pairs, count)
+    }
+
+    fn lm_sort_from_vec(
+        alloc: Global,
+        given: &mut Vec<(K, V)>,
+        count: &mut Count,
+    ) -> Result<Self, AllocError> {
+        let pairs = mem::replace(given, Vec::new(alloc));
         last_of(pairs, count)
     }
 }

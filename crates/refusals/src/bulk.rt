@@ -17,8 +17,14 @@ pub(crate) fn run<S: Growing>(alloc: Global, name: &str) -> Option<Outcome> {
         "extend" => Some(extend::<S>(alloc, Input::Mixed)),
         "extend_behind" => Some(extend::<S>(alloc, Input::Behind)),
         "extend_counted" => Some(extend::<S>(alloc, Input::Counted)),
+        "from_vec" => Some(from_vec::<S>(alloc)),
+        "from_vec_counted" => Some(from_vec_counted::<S>(alloc)),
+        "extend_from_vec" => Some(extend_from_vec::<S>(alloc, Input::Mixed)),
+        "extend_from_vec_counted" => Some(extend_from_vec::<S>(alloc, Input::Counted)),
         "lm_extend" => Some(lm_extend::<S>(alloc)),
+        "lm_extend_from_vec" => Some(lm_extend_from_vec::<S>(alloc)),
         "lm_sort_from_iter" => Some(lm_sort_from_iter::<S>(alloc)),
+        "lm_sort_from_vec" => Some(lm_sort_from_vec::<S>(alloc)),
         "lm_from_pairs" => Some(lm_from_pairs::<S>(alloc)),
         _ => None,
     }
@@ -59,10 +65,47 @@ fn extend<S: StoreConstEmpty<u32, u32> + StoreBulkMut<u32, u32>>(
     }
 }
 
+// The same by a vector.
+fn extend_from_vec<S: StoreConstEmpty<u32, u32> + StoreBulkMut<u32, u32>>(
+    alloc: Global,
+    input: Input,
+) -> Outcome {
+    let mut map: Numbers<S> = LiteMap::new(alloc);
+    let [first, ..] = PAIRS;
+    if let Err(refused) = map.insert(first.0, first.1) {
+        return Outcome::refused(refused.back == first, has(&map, &[]));
+    }
+    let Ok(pairs) = SCATTERED.to_vec(alloc) else {
+        return Outcome::Refused;
+    };
+    let extended = match input {
+        Input::Mixed | Input::Behind => map.extend_from_vec(alloc, pairs),
+        Input::Counted => map.extend_from_vec_counted(alloc, pairs, &mut Count::new()),
+    };
+    match extended {
+        Err(_) => Outcome::refused(true, has(&map, &PAIRS[..1])),
+        Ok(()) => Outcome::answered(has(&map, &LAST)),
+    }
+}
+
 // The same as `extend`, of an empty store.
 fn lm_extend<S: StoreConstEmpty<u32, u32> + StoreBulkMut<u32, u32>>(alloc: Global) -> Outcome {
     let mut store = S::lm_empty(alloc);
     match store.lm_extend(alloc, SCATTERED.iter().copied(), &mut Count::new()) {
+        Ok(()) => Outcome::answered(holds(&store, &LAST)),
+        Err(_) => Outcome::refused(true, store.lm_is_empty()),
+    }
+}
+
+// The same by a vector.
+fn lm_extend_from_vec<S: StoreConstEmpty<u32, u32> + StoreBulkMut<u32, u32>>(
+    alloc: Global,
+) -> Outcome {
+    let mut store = S::lm_empty(alloc);
+    let Ok(mut pairs) = SCATTERED.to_vec(alloc) else {
+        return Outcome::Refused;
+    };
+    match store.lm_extend_from_vec(alloc, &mut pairs, &mut Count::new()) {
         Ok(()) => Outcome::answered(holds(&store, &LAST)),
         Err(_) => Outcome::refused(true, store.lm_is_empty()),
     }
@@ -76,6 +119,33 @@ fn from_iter<S: StoreFromIterable<u32, u32> + Drop>(alloc: Global) -> Outcome {
 // The same by `from_iter_counted`.
 fn from_iter_counted<S: StoreFromIterable<u32, u32> + Drop>(alloc: Global) -> Outcome {
     made::<S>(LiteMap::from_iter_counted(alloc, SCATTERED.iter().copied(), &mut Count::new()))
+}
+
+// A map of a vector of pairs in no order.
+fn from_vec<S: StoreFromIterable<u32, u32> + Drop>(alloc: Global) -> Outcome {
+    let Ok(pairs) = SCATTERED.to_vec(alloc) else {
+        return Outcome::Refused;
+    };
+    made::<S>(LiteMap::from_vec(alloc, pairs))
+}
+
+// The same by `from_vec_counted`.
+fn from_vec_counted<S: StoreFromIterable<u32, u32> + Drop>(alloc: Global) -> Outcome {
+    let Ok(pairs) = SCATTERED.to_vec(alloc) else {
+        return Outcome::Refused;
+    };
+    made::<S>(LiteMap::from_vec_counted(alloc, pairs, &mut Count::new()))
+}
+
+// A store of a vector of pairs in no order.
+fn lm_sort_from_vec<S: StoreFromIterable<u32, u32> + Drop>(alloc: Global) -> Outcome {
+    let Ok(mut pairs) = SCATTERED.to_vec(alloc) else {
+        return Outcome::Refused;
+    };
+    made_as(
+        S::lm_sort_from_vec(alloc, &mut pairs, &mut Count::new()),
+        &LAST,
+    )
 }
 
 // A store of pairs in no order.

@@ -14,7 +14,7 @@ pub(crate) fn run<S: StoreIntoIterator<u32, u32> + StoreFromIterator<u32, u32> +
     match name {
         "extend_from_litemap" => Some(merge_maps::<S>(alloc, Merge::Few)),
         "extend_from_litemap_counted" => Some(merge_maps::<S>(alloc, Merge::Counted)),
-        "merge_in_one_pass" => Some(merge_maps::<S>(alloc, Merge::Many)),
+        "merge_side_by_side" => Some(merge_maps::<S>(alloc, Merge::Many)),
         "lm_extend_end" => Some(lm_extend_end::<S>(alloc)),
         "lm_extend_start" => Some(lm_extend_start::<S>(alloc)),
         _ => None,
@@ -24,11 +24,11 @@ pub(crate) fn run<S: StoreIntoIterator<u32, u32> + StoreFromIterator<u32, u32> +
 // Which maps are merged, and by which call.
 #[derive(Clone, Copy)]
 enum Merge {
-    // A few pairs, which are put in one by one.
+    // A few pairs into more, which are put in one by one.
     Few,
     // The same by `extend_from_litemap_counted`.
     Counted,
-    // So many pairs that they are merged in one pass.
+    // So many pairs that they are merged side by side.
     Many,
 }
 
@@ -41,11 +41,24 @@ struct Case {
     left: &'static [(u32, u32)],
 }
 
+#[rattlefmt::skip]
 const FEW: Case = Case {
-    old: &[(1, 11), (3, 31)],
-    new: &[(2, 20), (3, 30), (4, 40), (5, 50)],
-    merged: &[(1, 11), (2, 20), (3, 30), (4, 40), (5, 50)],
-    left: &[(3, 31)],
+    old: MANY.old,
+    new: &[(2, 20), (4, 40)],
+    merged: &[
+        (1, 101),
+        (2, 20),
+        (4, 40),
+        (7, 107),
+        (10, 110),
+        (13, 113),
+        (16, 116),
+        (19, 119),
+        (22, 122),
+        (25, 125),
+        (28, 128),
+    ],
+    left: &[(4, 104)],
 };
 
 #[rattlefmt::skip]

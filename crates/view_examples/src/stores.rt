@@ -2,8 +2,8 @@
 use examples::Shown;
 use litemap::LiteMap;
 use litemap::store::{
-    ColumnStore, Count, SliceStore, Store, StoreBulkMut, StoreFromIterator, StoreIntoIterator,
-    StoreSlice,
+    ColumnStore, Count, SliceStore, Store, StoreBulkMut, StoreFromIterable, StoreFromIterator,
+    StoreIntoIterator, StoreSlice,
 };
 use own_store::Bounded;
 use std::alloc::{AllocError, Global};
@@ -14,6 +14,8 @@ pub(crate) fn examples(alloc: Global) -> [Shown; 9] {
         ("lm_binary_search_by", Ok(lm_binary_search_by())),
         ("lm_get_range", lm_get_range(alloc)),
         ("lm_extend", lm_extend(alloc)),
+        ("lm_extend_from_vec", lm_extend_from_vec(alloc)),
+        ("lm_sort_from_vec", lm_sort_from_vec(alloc)),
         ("lm_extend_end", lm_extend_end(alloc)),
         ("lm_extend_start", lm_extend_start(alloc)),
         ("ColumnStore", column_store(alloc)),
@@ -41,6 +43,19 @@ fn lm_extend(alloc: Global) -> Result<bool, AllocError> {
     let mut pairs = [(1, "Monday"), (5, "Friday")].to_vec(alloc)?;
     pairs.lm_extend(alloc, [(5, "Fri"), (3, "Wed")], &mut Count::new())?;
     Ok(pairs.as_slice() == [(1, "Monday"), (3, "Wed"), (5, "Fri")].as_slice())
+}
+
+fn lm_extend_from_vec(alloc: Global) -> Result<bool, AllocError> {
+    let mut pairs = [(1, "Monday"), (5, "Friday")].to_vec(alloc)?;
+    let mut more = [(5, "Fri"), (3, "Wed")].to_vec(alloc)?;
+    pairs.lm_extend_from_vec(alloc, &mut more, &mut Count::new())?;
+    Ok(pairs.as_slice() == [(1, "Monday"), (3, "Wed"), (5, "Fri")].as_slice())
+}
+
+fn lm_sort_from_vec(alloc: Global) -> Result<bool, AllocError> {
+    let mut two = [(3, "Wednesday"), (1, "Monday")].to_vec(alloc)?;
+    let pairs = Vec::lm_sort_from_vec(alloc, &mut two, &mut Count::new())?;
+    Ok(pairs.as_slice() == [(1, "Monday"), (3, "Wednesday")].as_slice() && two.is_empty())
 }
 
 fn lm_extend_end(alloc: Global) -> Result<bool, AllocError> {

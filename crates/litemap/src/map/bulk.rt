@@ -1,8 +1,9 @@
 //! Calls that take many pairs at once. Of each key the last pair stays.
-ghost use Rattle.std.specs.Prelude.{◌≡◌, [], IfOk, OnOk, OnErr};
+ghost use Rattle.std.specs.Prelude.{◌≡◌, ◌++◌, [], IfOk, OnOk, OnErr};
 ghost use Rattle.std.specs.Iterator.{IsFiniteIterable};
-ghost use Rattle.litemap_store.specs.Bulk.{IsExtended, IsExtendedCounted, IsRefusedCounted};
+ghost use Rattle.litemap_store.specs.Bulk.{IsCountedFor, IsExtended, IsExtendedCounted, IsRefusedCounted};
 ghost use Rattle.litemap_store.specs.Counts.{GoesOn};
+ghost use Rattle.litemap_store.specs.Last.{Last};
 
 use crate::LiteMap;
 use litemap_store::store::{Count, StoreBulkMut, StoreFromIterable};
@@ -54,6 +55,46 @@ impl<K: Ord + Drop, V: Drop, S: StoreFromIterable<K, V>> LiteMap<K, V, S> {
     {
         Ok(LiteMap {
             store: S::lm_sort_from_iter(alloc, iter, count)?,
+            marker: PhantomData,
+        })
+    }
+
+    /// The map of the pairs of a vector, or a refusal for want of memory. Of each key the last pair stays, whole.
+    ///
+    /// It answers as `from_iter` does, but takes the vector as it is: over a vector no pair moves where they rise, and nothing
+    /// is gathered. What it leaves is told by the vector's list. The Rust crate has no such call.
+    ///
+    /// ```rust
+    /// let pairs = [(2, "Tue"), (1, "Mon"), (2, "Tuesday")].to_vec(alloc)?;
+    /// let days: Days = LiteMap::from_vec(alloc, pairs)?;
+    /// Ok(days.as_slice() == [(1, "Mon"), (2, "Tuesday")].as_slice())
+    /// ```
+    pub fn from_vec(alloc: Global, pairs: Vec<(K, V)>) -> Result<Self, AllocError>
+        ensures { IfOk result (λ m. Last K.cmp pairs.items m.pairs) }
+    {
+        Self::from_vec_counted(alloc, pairs, &mut Count::new())
+    }
+
+    /// `from_vec`, with its comparisons counted: at most one for each pair where the pairs rise, refused or not. The Rust crate
+    /// has no such call.
+    ///
+    /// ```rust
+    /// let mut count = Count::new();
+    /// let two = [(1, "Mon"), (2, "Tue")].to_vec(alloc)?;
+    /// let mut days = Days::from_vec_counted(alloc, two, &mut count)?;
+    /// days.extend_from_vec_counted(alloc, [(3, "Wed"), (4, "Thu")].to_vec(alloc)?, &mut count)?;
+    /// Ok(days.len() == 4)
+    /// ```
+    pub fn from_vec_counted(
+        alloc: Global,
+        mut pairs: Vec<(K, V)>,
+        count: &mut Count,
+    ) -> Result<Self, AllocError>
+        ensures made { IfOk result (λ m. Last K.cmp pairs.items m.pairs) }
+        ensures counted { IsCountedFor K.cmp [] pairs.items count.old count.new }
+    {
+        Ok(LiteMap {
+            store: S::lm_sort_from_vec(alloc, &mut pairs, count)?,
             marker: PhantomData,
         })
     }
@@ -115,5 +156,48 @@ impl<K: Ord + Drop, V: Drop, S: StoreBulkMut<K, V>> LiteMap<K, V, S> {
         ensures counted { GoesOn count.old count.new }
     {
         self.store.lm_extend(alloc, iter, count)
+    }
+
+    /// Puts the pairs of a vector in, or is refused for want of memory. Of each key the last pair stays, whole, where an old
+    /// pair counts as earlier than all new ones.
+    ///
+    /// It answers as `extend` does, by as many comparisons, but takes the vector as it is, and nothing is gathered. What it
+    /// leaves is told by the vector's list. A refusal leaves the list, and the vector is given up. Nothing is promised of the
+    /// room. The Rust crate has no such call.
+    ///
+    /// ```rust
+    /// let mut days = three_days(alloc)?;
+    /// let more = [(5, "Fri"), (2, "Tue"), (5, "Freitag")].to_vec(alloc)?;
+    /// days.extend_from_vec(alloc, more)?;
+    /// Ok(days.get(&5) == Some(&"Freitag") && days.len() == 4)
+    /// ```
+    pub fn extend_from_vec(&mut self, alloc: Global, pairs: Vec<(K, V)>) -> Result<(), AllocError>
+        ensures last { OnOk result (Last K.cmp (self.old.pairs ++ pairs.items) self.new.pairs) }
+        ensures refused { OnErr result (self.new.pairs ≡ self.old.pairs) }
+    {
+        self.extend_from_vec_counted(alloc, pairs, &mut Count::new())
+    }
+
+    /// `extend_from_vec`, with its comparisons counted, but for those of a sort: the bounds hold where it is refused too. The
+    /// Rust crate has no such call.
+    ///
+    /// ```rust
+    /// let mut count = Count::new();
+    /// let two = [(1, "Mon"), (2, "Tue")].to_vec(alloc)?;
+    /// let mut days = Days::from_vec_counted(alloc, two, &mut count)?;
+    /// days.extend_from_vec_counted(alloc, [(3, "Wed"), (4, "Thu")].to_vec(alloc)?, &mut count)?;
+    /// Ok(days.len() == 4)
+    /// ```
+    pub fn extend_from_vec_counted(
+        &mut self,
+        alloc: Global,
+        mut pairs: Vec<(K, V)>,
+        count: &mut Count,
+    ) -> Result<(), AllocError>
+        ensures last { OnOk result (Last K.cmp (self.old.pairs ++ pairs.items) self.new.pairs) }
+        ensures refused { OnErr result (self.new.pairs ≡ self.old.pairs) }
+        ensures counted { IsCountedFor K.cmp self.old.pairs pairs.items count.old count.new }
+    {
+        self.store.lm_extend_from_vec(alloc, &mut pairs, count)
     }
 }
