@@ -2,7 +2,7 @@
 use litemap::LiteMap;
 use std::alloc::{AllocError, Global};
 use std::test::Fail;
-use uses::config::{configured, override_with};
+use uses::config::{configured, overlay, override_with, prefer};
 
 type Settings = LiteMap<String, String, Vec<(String, String)>>;
 
@@ -45,5 +45,32 @@ fn a_users_setting_wins_and_no_default_is_lost(rt: HostRuntime) -> Result<(), Fa
         assert!(rt; has_value(&settings, name, value), "{name}");
     }
     assert_eq!(rt; settings.len(), 5);
+    Ok(())
+}
+
+// The defaults with a user's settings over them, and what they drive out.
+fn overlaid(alloc: Global) -> Result<(Settings, Option<Settings>), AllocError> {
+    let mut settings = configured(alloc, texts(alloc, DEFAULTS)?, texts(alloc, USER)?)?;
+    let later = configured(alloc, texts(alloc, LATER)?, Vec::new(alloc))?;
+    let driven_out = overlay(&mut settings, alloc, later)?;
+    let again = configured(alloc, texts(alloc, &[("a", "c")])?, Vec::new(alloc))?;
+    prefer(&mut settings, alloc, again)?;
+    Ok((settings, driven_out))
+}
+
+#[test]
+fn a_user_s_map_goes_over_the_settings(rt: HostRuntime) -> Result<(), Fail> {
+    let (settings, driven_out) = overlaid(rt.alloc())?;
+    for (name, value) in [
+        ("a", Some("c")),
+        ("host", Some("here")),
+        ("log", Some("on")),
+        ("none", None),
+    ] {
+        assert!(rt; has_value(&settings, name, value), "{name}");
+    }
+    assert!(rt;
+        driven_out.is_some_and(|old| old.len() == 1 && has_value(&old, "log", Some("off")))
+    );
     Ok(())
 }

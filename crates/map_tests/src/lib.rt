@@ -27,4 +27,6 @@ mod kept;
 #[cfg(test)]
 mod made;
 #[cfg(test)]
+mod numbers;
+#[cfg(test)]
 mod printing;

@@ -49,7 +49,10 @@ fn there_at(
     if !texts::has_name(map, name) {
         return Ok([None; 2]);
     }
-    texts::set_there(map, name, 22);
+    texts::set_there(map, name, 2);
+    if let Ok(place) = texts::place_of(map, name) {
+        texts::set_at_place(map, place, 22);
+    }
     let number = if texts::has_name(map, name) {
         Some(texts::number_there(map, name))
     } else {

@@ -84,10 +84,6 @@ impl<K: Ord + Drop, V: Drop, S: StoreIntoIterator<K, V> + Drop> LiteMap<K, V, S>
         ensures none { IfOk result (λ rest. IsNone rest ↔ (left K.cmp self.old.pairs other.pairs ≡ [])) }
         ensures left { IfOk result (λ rest. IfSome rest (λ m. m.pairs ≡ left K.cmp self.old.pairs other.pairs)) }
 
-        // What a look-up finds: the other map's value where it has the key, else the one that was there.
-        ensures found { OnOk result ((key : K) → value_at K.cmp self.new.pairs key
-            ≡ option_or (value_at K.cmp other.pairs key) (value_at K.cmp self.old.pairs key)) }
-
         // Refused: the list stays, and the other map comes back whole.
         ensures refused { OnErr result (self.new.pairs ≡ self.old.pairs) }
         ensures back { IfErr result (λ refused. refused.back.pairs ≡ other.pairs) }

@@ -1,6 +1,5 @@
 use Rattle.std.proofs.Common.{◌≡◌}
 use Rattle.litemap_store.specs.Merge.{left}
-use Rattle.litemap_store.proofs.MergeLookups.{key_alike, key_same, value_at-merged}
 use Rattle.litemap_store.proofs.Merging.{Rising-left}
 use Rattle.litemap.proofs.map.LiteMap.extend_from_litemap_counted.Goals as goal
 
@@ -10,15 +9,3 @@ from_sorted_store_unchecked-requires g c =
     let given = g.S.Store.pairs c.other.inside.store in
     let is : g.S.Store.pairs c.in-Ok-Some.rest ≡ left g.K.Ord.cmp old given = rw c.in-Ok-Some.field-0-is at c.in-Ok-Some.ensures.left in
     rw is (Rising-left g.K.Ord.cmp g.met.K.Ord.total old given c.other.invariant)
-
-pub returns-in-Ok-None-clause-found : goal.returns-in-Ok-None-clause-found
-returns-in-Ok-None-clause-found g c =
-    let cmp = g.K.Ord.cmp in
-    let o = g.met.K.Ord.total in
-    λ key. value_at-merged cmp o cmp key (key_same o key) (key_alike o key) _ _ _ c.in-Ok-None.ensures.merged
-
-pub returns-in-Ok-Some-clause-found : goal.returns-in-Ok-Some-clause-found
-returns-in-Ok-Some-clause-found g c =
-    let cmp = g.K.Ord.cmp in
-    let o = g.met.K.Ord.total in
-    λ key. value_at-merged cmp o cmp key (key_same o key) (key_alike o key) _ _ _ c.in-Ok-Some.ensures.merged

@@ -1,0 +1,11 @@
+use Rattle.std.proofs.lemmas.Result.{on_ok_weaker}
+use Rattle.litemap_store.proofs.MergeLookups.{key_alike, key_same, value_at-merged}
+use Rattle.litemap.proofs.map.LiteMap.extend_from_litemap.Goals as goal
+
+pub returns-clause-found : goal.returns-clause-found
+returns-clause-found g c =
+    let cmp = g.K.Ord.cmp in
+    let o = g.met.K.Ord.total in
+    on_ok_weaker c.extend_from_litemap_counted.result
+    (λ merged key. value_at-merged cmp o cmp key (key_same o key) (key_alike o key) c.args.self.now.pairs c.args.other.pairs _ merged)
+    c.extend_from_litemap_counted.ensures.merged
