@@ -45,7 +45,11 @@ fn newer_ages_go_over_older_ones(rt: HostRuntime) -> Result<(), Fail> {
     let newer = ages(alloc, &[(2, 21), (3, 31)])?;
     let driven_out = numbers::renew(&mut old, alloc, newer)?;
     assert!(rt; old.as_slice() == [(1, 10), (2, 21), (3, 31)].as_slice());
-    assert!(rt; driven_out.is_some_and(|rest| rest.as_slice() == [(2, 20)].as_slice()));
+    let is_driven_out = match &driven_out {
+        Some(rest) => rest.as_slice() == [(2, 20)].as_slice(),
+        None => false,
+    };
+    assert!(rt; is_driven_out);
     Ok(())
 }
 
