@@ -69,8 +69,10 @@ fn a_user_s_map_goes_over_the_settings(rt: HostRuntime) -> Result<(), Fail> {
     ] {
         assert!(rt; has_value(&settings, name, value), "{name}");
     }
-    assert!(rt;
-        driven_out.is_some_and(|old| old.len() == 1 && has_value(&old, "log", Some("off")))
-    );
+    let is_driven_out = match &driven_out {
+        Some(old) => old.len() == 1 && has_value(old, "log", Some("off")),
+        None => false,
+    };
+    assert!(rt; is_driven_out);
     Ok(())
 }

@@ -53,6 +53,10 @@ fn newer_ages_go_over_older_ones(rt: HostRuntime) -> Result<(), Fail> {
     Ok(())
 }
 
+fn shelf(number: u8) -> Shelf {
+    Shelf { number, board: -1 }
+}
+
 // Readings at signed times, of which one is cleared, and a stock by shelves, of which one is taken and one is overwritten.
 fn kept(alloc: Global) -> Result<(Readings, Stock, Option<u32>), AllocError> {
     let mut readings = Readings::new_vec(alloc);
@@ -62,23 +66,10 @@ fn kept(alloc: Global) -> Result<(Readings, Stock, Option<u32>), AllocError> {
     }
     numbers::clear_reading(&mut readings, -5);
     for number in 0..3u8 {
-        numbers::set_stock(&mut stock, Shelf { number, board: -1 }, u32::from(number))?;
+        numbers::set_stock(&mut stock, shelf(number), u32::from(number))?;
     }
-    numbers::overwrite(
-        &mut stock,
-        &Shelf {
-            number: 2,
-            board: -1,
-        },
-        20,
-    );
-    let taken = numbers::take(
-        &mut stock,
-        &Shelf {
-            number: 1,
-            board: -1,
-        },
-    );
+    numbers::overwrite(&mut stock, &shelf(2), 20);
+    let taken = numbers::take(&mut stock, &shelf(1));
     Ok((readings, stock, taken))
 }
 
@@ -86,13 +77,6 @@ fn kept(alloc: Global) -> Result<(Readings, Stock, Option<u32>), AllocError> {
 fn readings_and_shelves_are_kept(rt: HostRuntime) -> Result<(), Fail> {
     let (readings, stock, taken) = kept(rt.alloc())?;
     assert!(rt; readings.as_slice() == [(-5, 0), (5, 1)].as_slice());
-    assert!(rt;
-        stock.len() == 2
-            && taken == Some(1)
-            && stock.get(&Shelf {
-                number: 2,
-                board: -1
-            }) == Some(&20)
-    );
+    assert!(rt; stock.len() == 2 && taken == Some(1) && stock.get(&shelf(2)) == Some(&20));
     Ok(())
 }
