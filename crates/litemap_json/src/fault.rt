@@ -1,7 +1,5 @@
 //! Why a map was not written, or not read.
 ghost use Rattle.std.specs.Prelude.{◌≡◌};
-ghost use Rattle.std.specs.IoError.{error_kind};
-ghost use Rattle.litemap_json.specs.Kinds.{read_kind, write_kind};
 ghost use Rattle.litemap_json.specs.declared.fault.WriteFault.TheVariants as writing;
 ghost use Rattle.litemap_json.specs.declared.fault.JsonFault.TheVariants as reading;
 
@@ -92,6 +90,10 @@ impl From<AllocError> for JsonFault {
 /// So that `?` hands a fault on where an `io::Result` is answered. The place is then given up: who wants to tell it prints the
 /// fault itself.
 impl From<WriteFault> for io::Error {
+    ghost use Rattle.std.specs.Prelude.{◌≡◌};
+    ghost use Rattle.std.specs.IoError.{error_kind};
+    ghost use Rattle.litemap_json.specs.Kinds.{write_kind};
+
     ghost from_gives = { λ fault e. error_kind e ≡ write_kind fault };
 
     fn from(fault: WriteFault) -> io::Error {
@@ -109,6 +111,10 @@ impl From<WriteFault> for io::Error {
 
 /// So that `?` does so for a map that was not read.
 impl From<JsonFault> for io::Error {
+    ghost use Rattle.std.specs.Prelude.{◌≡◌};
+    ghost use Rattle.std.specs.IoError.{error_kind};
+    ghost use Rattle.litemap_json.specs.Kinds.{read_kind};
+
     ghost from_gives = { λ fault e. error_kind e ≡ read_kind fault };
 
     fn from(fault: JsonFault) -> io::Error {

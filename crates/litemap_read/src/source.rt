@@ -1,7 +1,5 @@
 //! Sources of pairs.
 ghost use Rattle.std.specs.Prelude.{◌≡◌, ◌↔◌, ℕ, List, alloc_error};
-ghost use Rattle.std.specs.IoError.{error_kind};
-ghost use Rattle.litemap_read.specs.ReadFault.{fault_kind};
 ghost use Rattle.litemap_read.specs.Source.{GivesNext};
 ghost use Rattle.litemap_read.specs.declared.source.ReadFault.TheVariants.{NoRoom};
 
@@ -88,6 +86,10 @@ impl<E> From<AllocError> for ReadFault<E> {
 /// So that `?` does so where an `io::Result` is answered. A source's fault is then data that is not valid, and which one it was is
 /// given up: who wants to tell it prints the fault itself.
 impl<E: Drop> From<ReadFault<E>> for io::Error {
+    ghost use Rattle.std.specs.Prelude.{◌≡◌};
+    ghost use Rattle.std.specs.IoError.{error_kind};
+    ghost use Rattle.litemap_read.specs.ReadFault.{fault_kind};
+
     ghost from_gives = { λ fault e. error_kind e ≡ fault_kind fault };
 
     fn from(fault: ReadFault<E>) -> io::Error {
