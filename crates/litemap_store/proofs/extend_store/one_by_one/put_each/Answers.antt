@@ -20,7 +20,7 @@ loop-key-preserved g c =
       rest_room = omega arith;
     }
 
-pub put_in-driven_out-requires-clause-room : goal.put_in-driven_out-requires-room
+pub put_in-driven_out-requires-clause-room : goal.put_in-driven_out-requires-clause-room
 put_in-driven_out-requires-clause-room g c =
     let shorter = ap length (g.met.S.KeyValueIntoIter.PairIntoIter.first _ _ _ c.in-Some.ensures.steps) in
     let room = c.loop-key.invariant.room in
