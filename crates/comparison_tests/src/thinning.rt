@@ -1,6 +1,6 @@
 //! What is asked when a store or a map is thinned out: once of each pair, in order.
 use litemap::LiteMap;
-use litemap::store::{Store, StoreBulkMut, StoreMut};
+use litemap::store::{ColumnStore, Store, StoreBulkMut, StoreMut};
 use std::alloc::Global;
 use std::process::Abort;
 use std::test::Fail;
@@ -133,6 +133,7 @@ fn each_pair_is_asked_of_once_in_order(rt: HostRuntime) -> Result<(), Fail> {
     for (len, ways) in [1u32, 2, 4, 8, 16, 32, 64, 128, 256].iter().enumerate() {
         thin_in_each_way::<Vec<(u64, u64)>>(&rt, rt.alloc(), len as u64, *ways)?;
         thin_in_each_way::<FixedRoom<u64, u64>>(&rt, rt.alloc(), len as u64, *ways)?;
+        thin_in_each_way::<ColumnStore<u64, u64>>(&rt, rt.alloc(), len as u64, *ways)?;
     }
     Ok(())
 }

@@ -16,7 +16,7 @@ type TextColumns = ColumnStore<String, String>;
 pub struct Calls;
 
 /// The names of the scenarios.
-const NAMES: [&str; 22] = [
+const NAMES: [&str; 23] = [
     "read_pairs",
     "read_pairs_hinted",
     "run_calls",
@@ -31,6 +31,7 @@ const NAMES: [&str; 22] = [
     "to_json_in_columns",
     "from_json_in_columns",
     "names_in_columns",
+    "names_json_in_columns",
     "read_names",
     "find_name",
     "write_names",
@@ -58,7 +59,8 @@ impl Scenarios for Calls {
             "run_calls_in_columns" => Some(read::run_calls::<NumberColumns>(alloc)),
             "names" => Some(session::run_lines::<Texts>(alloc)),
             "names_in_columns" => Some(session::run_lines::<TextColumns>(alloc)),
-            "names_json" => Some(session::run_json(alloc)),
+            "names_json" => Some(session::run_json::<Texts>(alloc)),
+            "names_json_in_columns" => Some(session::run_json::<TextColumns>(alloc)),
             "read_names" => Some(tables::read_names(alloc)),
             "find_name" => Some(tables::find_name(alloc)),
             "write_names" => Some(tables::write_names(alloc)),

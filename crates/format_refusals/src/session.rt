@@ -38,8 +38,11 @@ where
 }
 
 /// The same of lines that remove a name and show the map as JSON.
-pub(crate) fn run_json(alloc: Global) -> Outcome {
-    run_all::<Vec<(String, String)>>(alloc, JSON_LINES, &JSON_WRITTEN)
+pub(crate) fn run_json<S>(alloc: Global) -> Outcome
+where
+    S: StoreConstEmpty<String, String> + StoreMut<String, String> + Drop,
+{
+    run_all::<S>(alloc, JSON_LINES, &JSON_WRITTEN)
 }
 
 // The answers of all lines, or those of the lines done and then `no memory`; `written` has what was written once none of the

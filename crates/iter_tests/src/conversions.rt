@@ -69,7 +69,10 @@ fn is_boxed<V: Copy + PartialEq + Shows<V>, S: Store<u8, V>>(
     list: &[(u8, V)],
 ) -> Result<bool, AllocError> {
     let both: LiteMap<Box<u8>, Box<V>, Vec<(Box<u8>, Box<V>)>> = map.to_boxed_keys_values(alloc)?;
-    Ok(has(&both, list))
+    let columns: LiteMap<Box<u8>, Box<V>, ColumnStore<Box<u8>, Box<V>>> = map.to_boxed_keys_values(
+        alloc,
+    )?;
+    Ok(has(&both, list) && has(&columns, list))
 }
 
 fn has_boxed_keys<V: Copy + PartialEq + Shows<V>, S: Store<u8, V>>(
@@ -78,7 +81,9 @@ fn has_boxed_keys<V: Copy + PartialEq + Shows<V>, S: Store<u8, V>>(
     list: &[(u8, V)],
 ) -> Result<bool, AllocError> {
     let keys: LiteMap<Box<u8>, V, FixedRoom<Box<u8>, V>> = map.to_boxed_keys(alloc)?;
-    Ok(has(&keys, list))
+    let pairs: LiteMap<Box<u8>, V, Vec<(Box<u8>, V)>> = map.to_boxed_keys(alloc)?;
+    let columns: LiteMap<Box<u8>, V, ColumnStore<Box<u8>, V>> = map.to_boxed_keys(alloc)?;
+    Ok(has(&keys, list) && has(&pairs, list) && has(&columns, list))
 }
 
 fn has_boxed_values<V: Copy + PartialEq + Shows<V>, S: Store<u8, V>>(
@@ -87,7 +92,8 @@ fn has_boxed_values<V: Copy + PartialEq + Shows<V>, S: Store<u8, V>>(
     list: &[(u8, V)],
 ) -> Result<bool, AllocError> {
     let values: LiteMap<u8, Box<V>, Vec<(u8, Box<V>)>> = map.to_boxed_values(alloc)?;
-    Ok(has(&values, list))
+    let columns: LiteMap<u8, Box<V>, ColumnStore<u8, Box<V>>> = map.to_boxed_values(alloc)?;
+    Ok(has(&values, list) && has(&columns, list))
 }
 
 // Whether the maps of references to a map's pairs have them.
@@ -97,7 +103,8 @@ fn is_lent<V: Copy + PartialEq + Shows<V>, S: Store<u8, V>>(
     list: &[(u8, V)],
 ) -> Result<bool, AllocError> {
     let both: LiteMap<&u8, &V, Vec<(&u8, &V)>> = map.to_borrowed_keys_values(alloc)?;
-    Ok(has(&both, list))
+    let columns: LiteMap<&u8, &V, ColumnStore<&u8, &V>> = map.to_borrowed_keys_values(alloc)?;
+    Ok(has(&both, list) && has(&columns, list))
 }
 
 fn has_lent_keys<V: Copy + PartialEq + Shows<V>, S: Store<u8, V>>(
@@ -106,7 +113,8 @@ fn has_lent_keys<V: Copy + PartialEq + Shows<V>, S: Store<u8, V>>(
     list: &[(u8, V)],
 ) -> Result<bool, AllocError> {
     let keys: LiteMap<&u8, V, Vec<(&u8, V)>> = map.to_borrowed_keys(alloc)?;
-    Ok(has(&keys, list))
+    let columns: LiteMap<&u8, V, ColumnStore<&u8, V>> = map.to_borrowed_keys(alloc)?;
+    Ok(has(&keys, list) && has(&columns, list))
 }
 
 fn has_lent_values<V: Copy + PartialEq + Shows<V>, S: Store<u8, V>>(
@@ -115,7 +123,9 @@ fn has_lent_values<V: Copy + PartialEq + Shows<V>, S: Store<u8, V>>(
     list: &[(u8, V)],
 ) -> Result<bool, AllocError> {
     let values: LiteMap<u8, &V, FixedRoom<u8, &V>> = map.to_borrowed_values(alloc)?;
-    Ok(has(&values, list))
+    let pairs: LiteMap<u8, &V, Vec<(u8, &V)>> = map.to_borrowed_values(alloc)?;
+    let columns: LiteMap<u8, &V, ColumnStore<u8, &V>> = map.to_borrowed_values(alloc)?;
+    Ok(has(&values, list) && has(&pairs, list) && has(&columns, list))
 }
 
 // Whether each of these maps of the map of a list has its pairs: of boxes, and of references, of both parts of each pair,
@@ -142,18 +152,33 @@ fn boxes_and_references(rt: HostRuntime) -> Result<(), Fail> {
         let converted = [
             are_converted::<&str, Vec<(u8, &str)>>(alloc, list)?,
             are_converted::<&str, FixedRoom<u8, &str>>(alloc, list)?,
+            are_converted::<&str, ColumnStore<u8, &str>>(alloc, list)?,
         ];
-        assert_eq!(rt; converted, [[true; 6]; 2]);
+        assert_eq!(rt; converted, [[true; 6]; 3]);
     }
     Ok(())
+}
+
+// The pairs of the map over one store whose keys are ten times those of a map over another.
+fn tens_of<V: Copy, S: StoreMut<u8, V> + Drop, T: StoreMut<u32, V> + Drop>(
+    alloc: Global,
+    list: &[(u8, V)],
+) -> Result<Vec<(u32, V)>, AllocError> {
+    let map: LiteMap<u8, V, S> = map_of(alloc, list, 4)?;
+    let tens: LiteMap<u32, V, T> = map.to_keys_by(alloc, |key| *key as u32 * 10)?;
+    list_of(alloc, &tens)
 }
 
 #[test]
 fn keys_by_a_closure(rt: HostRuntime) -> Result<(), Fail> {
     let alloc = rt.alloc();
-    let map: LiteMap<u8, &str, Vec<(u8, &str)>> = map_of(alloc, MAPS[1], 2)?;
-    let tens: LiteMap<u32, &str, Vec<(u32, &str)>> = map.to_keys_by(alloc, |key| *key as u32 * 10)?;
-    assert!(rt; tens.as_slice() == [(10, "a"), (20, "b")].as_slice());
+    let tens = [
+        tens_of::<_, Vec<(u8, &str)>, Vec<(u32, &str)>>(alloc, MAPS[1])?,
+        tens_of::<_, ColumnStore<u8, &str>, ColumnStore<u32, &str>>(alloc, MAPS[1])?,
+    ];
+    for pairs in tens {
+        assert!(rt; pairs.as_slice() == [(10, "a"), (20, "b")].as_slice());
+    }
     Ok(())
 }
 

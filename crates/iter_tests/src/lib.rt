@@ -7,4 +7,6 @@ mod comparisons;
 #[cfg(test)]
 mod conversions;
 #[cfg(test)]
+mod counts;
+#[cfg(test)]
 mod walks;

@@ -6,6 +6,8 @@ ghost use Rattle.std.specs.Prelude.{◌≡◌, ◌<◌, ◌==◌, length, slice_
 ghost use Rattle.std.specs.Option.{option_and_then, option_map};
 ghost use Rattle.std.specs.Ordering.{int_cmp, nat_cmp};
 ghost use Rattle.std.specs.Result.{result_ok};
+ghost use Rattle.litemap_store.specs.Counts.{RisesByAtMost};
+ghost use Rattle.litemap_store.specs.Digits.{digits};
 ghost use Rattle.litemap_store.specs.Pairs.{place, value_at, value_in};
 ghost use Rattle.litemap.specs.ByBytes.{by_bytes};
 
@@ -72,15 +74,17 @@ impl<'a, K: Ord, V> LiteMap<K, V, SliceStore<'a, K, V>> {
         &self.borrowed()[index]
     }
 
-    // The place and the value of the equal key.
-    fn const_find<Q: Query<K>>(&self, key: Q) -> Option<(usize, &'a V)>
+    // The place and the value of the equal key. Its callers below only hand it a fresh count: numbers and texts can't count
+    // how often they are compared.
+    fn const_find<Q: Query<K>>(&self, key: Q, count: &mut Count) -> Option<(usize, &'a V)>
         ensures value { option_map
             (λ found. found.1.now) result ≡ value_at Q.order self.now.pairs (Q.sought key) }
         ensures place { IfSome result (λ found. found.0 ≡ place Q.order self.now.pairs (Q.sought key)) }
         ensures within { IfSome result (λ found. found.0 < length self.now.pairs) }
         ensures there { IfSome result (λ found. value_in self.now.pairs found.0 ≡ Some found.1.now) }
+        ensures cost { RisesByAtMost (digits (length self.now.pairs)) count.old count.new }
     {
-        const_found(self.borrowed(), self.search(key, &mut Count::new()))
+        const_found(self.borrowed(), self.search(key, count))
     }
 }
 
@@ -103,7 +107,7 @@ impl<'a, 'k, V> LiteMap<&'k str, V, SliceStore<'a, &'k str, V>> {
         ensures within { IfSome result (λ found. found.0 < length self.now.pairs) }
         ensures there { IfSome result (λ found. value_in self.now.pairs found.0 ≡ Some found.1.now) }
     {
-        self.const_find::<&str>(key)
+        self.const_find::<&str>(key, &mut Count::new())
     }
 }
 
@@ -126,7 +130,7 @@ impl<'a, 'k, V> LiteMap<&'k [u8], V, SliceStore<'a, &'k [u8], V>> {
         ensures within { IfSome result (λ found. found.0 < length self.now.pairs) }
         ensures there { IfSome result (λ found. value_in self.now.pairs found.0 ≡ Some found.1.now) }
     {
-        self.const_find::<&[u8]>(key)
+        self.const_find::<&[u8]>(key, &mut Count::new())
     }
 }
 
@@ -139,7 +143,7 @@ impl<'a, V> LiteMap<u8, V, SliceStore<'a, u8, V>> {
         ensures within { IfSome result (λ found. found.0 < length self.now.pairs) }
         ensures there { IfSome result (λ found. value_in self.now.pairs found.0 ≡ Some found.1.now) }
     {
-        self.const_find(&key)
+        self.const_find(&key, &mut Count::new())
     }
 }
 
@@ -152,7 +156,7 @@ impl<'a, V> LiteMap<u16, V, SliceStore<'a, u16, V>> {
         ensures within { IfSome result (λ found. found.0 < length self.now.pairs) }
         ensures there { IfSome result (λ found. value_in self.now.pairs found.0 ≡ Some found.1.now) }
     {
-        self.const_find(&key)
+        self.const_find(&key, &mut Count::new())
     }
 }
 
@@ -171,7 +175,7 @@ impl<'a, V> LiteMap<u32, V, SliceStore<'a, u32, V>> {
         ensures within { IfSome result (λ found. found.0 < length self.now.pairs) }
         ensures there { IfSome result (λ found. value_in self.now.pairs found.0 ≡ Some found.1.now) }
     {
-        self.const_find(&key)
+        self.const_find(&key, &mut Count::new())
     }
 }
 
@@ -184,7 +188,7 @@ impl<'a, V> LiteMap<u64, V, SliceStore<'a, u64, V>> {
         ensures within { IfSome result (λ found. found.0 < length self.now.pairs) }
         ensures there { IfSome result (λ found. value_in self.now.pairs found.0 ≡ Some found.1.now) }
     {
-        self.const_find(&key)
+        self.const_find(&key, &mut Count::new())
     }
 }
 
@@ -197,7 +201,7 @@ impl<'a, V> LiteMap<u128, V, SliceStore<'a, u128, V>> {
         ensures within { IfSome result (λ found. found.0 < length self.now.pairs) }
         ensures there { IfSome result (λ found. value_in self.now.pairs found.0 ≡ Some found.1.now) }
     {
-        self.const_find(&key)
+        self.const_find(&key, &mut Count::new())
     }
 }
 
@@ -210,7 +214,7 @@ impl<'a, V> LiteMap<usize, V, SliceStore<'a, usize, V>> {
         ensures within { IfSome result (λ found. found.0 < length self.now.pairs) }
         ensures there { IfSome result (λ found. value_in self.now.pairs found.0 ≡ Some found.1.now) }
     {
-        self.const_find(&key)
+        self.const_find(&key, &mut Count::new())
     }
 }
 
@@ -223,7 +227,7 @@ impl<'a, V> LiteMap<i8, V, SliceStore<'a, i8, V>> {
         ensures within { IfSome result (λ found. found.0 < length self.now.pairs) }
         ensures there { IfSome result (λ found. value_in self.now.pairs found.0 ≡ Some found.1.now) }
     {
-        self.const_find(&key)
+        self.const_find(&key, &mut Count::new())
     }
 }
 
@@ -236,7 +240,7 @@ impl<'a, V> LiteMap<i16, V, SliceStore<'a, i16, V>> {
         ensures within { IfSome result (λ found. found.0 < length self.now.pairs) }
         ensures there { IfSome result (λ found. value_in self.now.pairs found.0 ≡ Some found.1.now) }
     {
-        self.const_find(&key)
+        self.const_find(&key, &mut Count::new())
     }
 }
 
@@ -249,7 +253,7 @@ impl<'a, V> LiteMap<i32, V, SliceStore<'a, i32, V>> {
         ensures within { IfSome result (λ found. found.0 < length self.now.pairs) }
         ensures there { IfSome result (λ found. value_in self.now.pairs found.0 ≡ Some found.1.now) }
     {
-        self.const_find(&key)
+        self.const_find(&key, &mut Count::new())
     }
 }
 
@@ -262,7 +266,7 @@ impl<'a, V> LiteMap<i64, V, SliceStore<'a, i64, V>> {
         ensures within { IfSome result (λ found. found.0 < length self.now.pairs) }
         ensures there { IfSome result (λ found. value_in self.now.pairs found.0 ≡ Some found.1.now) }
     {
-        self.const_find(&key)
+        self.const_find(&key, &mut Count::new())
     }
 }
 
@@ -275,7 +279,7 @@ impl<'a, V> LiteMap<i128, V, SliceStore<'a, i128, V>> {
         ensures within { IfSome result (λ found. found.0 < length self.now.pairs) }
         ensures there { IfSome result (λ found. value_in self.now.pairs found.0 ≡ Some found.1.now) }
     {
-        self.const_find(&key)
+        self.const_find(&key, &mut Count::new())
     }
 }
 
@@ -288,6 +292,6 @@ impl<'a, V> LiteMap<isize, V, SliceStore<'a, isize, V>> {
         ensures within { IfSome result (λ found. found.0 < length self.now.pairs) }
         ensures there { IfSome result (λ found. value_in self.now.pairs found.0 ≡ Some found.1.now) }
     {
-        self.const_find(&key)
+        self.const_find(&key, &mut Count::new())
     }
 }

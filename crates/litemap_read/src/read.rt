@@ -19,7 +19,8 @@ const MOST_HINTED: usize = 65_536;
 ///
 /// The source's hint makes room for at most 65,536 pairs, and where that room is refused it is done without. A pair whose key
 /// is above the last one is put behind it, by one comparison. Any other is put aside, and at the end the map is extended
-/// by these. So a source whose keys rise costs a comparison for each pair, and no sort.
+/// by these. So a source whose keys rise costs at most one comparison for each pair, and no sort; any other one comparison
+/// for each pair, and what `extend` costs for those put aside.
 ///
 /// The Rust crate reads by serde's `Deserialize` here.
 ///

@@ -22,9 +22,8 @@ use std::mem;
 
 /// A vector of keys, and a vector of the values that belong to them.
 ///
-/// A search touches the keys alone, which lie side by side whatever the size of the values: that is what it is for. Among
-/// 100,000 keys of 8 bytes with values of 128 bytes it took 39 nanoseconds where it was measured, and 327 in a vector of
-/// pairs. An insertion or a removal moves the later keys and the later values.
+/// A search touches the keys alone, which lie side by side whatever the size of the values: that is what it is for. An
+/// insertion or a removal moves the later keys and the later values.
 ///
 /// The Rust crate has no such store.
 ///
@@ -33,7 +32,7 @@ use std::mem;
 /// days.insert(3, "Wednesday")?;
 /// Ok(days.get(&3) == Some(&"Wednesday"))
 /// ```
-#[derive(Drop)]
+#[derive(Debug, Drop)]
 pub struct ColumnStore<K, V> {
     keys: Vec<K>,
     values: Vec<V>,

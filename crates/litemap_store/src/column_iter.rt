@@ -11,7 +11,7 @@ use std::marker::Model;
 use std::vec::IntoIter;
 
 /// The pairs of two columns that are still to come. A contract sees their list.
-#[derive(Drop)]
+#[derive(Debug, Drop)]
 pub struct ColumnIter<'a, K, V> {
     keys: &'a [K],
     values: &'a [V],
@@ -110,7 +110,7 @@ impl<'a, K, V> Keys<K, V> for ColumnIter<'a, K, V> {
 }
 
 /// The pairs of two columns that are still to be handed over. A contract sees their list.
-#[derive(Drop)]
+#[derive(Debug, Drop)]
 pub struct ColumnIntoIter<K, V> {
     keys: IntoIter<K>,
     values: IntoIter<V>,

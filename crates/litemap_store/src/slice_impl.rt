@@ -17,6 +17,7 @@ use std::ops::Range;
 /// let capitals = LiteMap::from_sorted_store_unchecked(SliceStore::new(CAPITALS));
 /// capitals.const_get_with_index("Oslo") == Some((1, &47))
 /// ```
+#[derive(Debug)]
 pub struct SliceStore<'a, K, V> {
     /// The pairs.
     pub pairs: &'a [(K, V)],

@@ -37,7 +37,8 @@ fn choose(is_first: bool, first: usize, second: usize) -> usize
 ///
 /// The middle is asked once, and what is left is at most half. Small keys cost less than a jump that is guessed wrongly:
 /// there what is left is half whatever the answer, so that the number of steps hangs on the length alone. Among larger
-/// ones each key is asked once at most, and `Equal` ends the search. All choices become conditional moves.
+/// ones each key is asked once at most, and `Equal` ends the search. No choice is a jump in the
+/// source: each is made by `choose`.
 pub fn find<K, V, S: Keys<K, V>, F: FnMut(&K) -> Ordering>(
     keys: &S,
     f: F,

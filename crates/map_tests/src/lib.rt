@@ -25,6 +25,8 @@ mod hints;
 #[cfg(test)]
 mod kept;
 #[cfg(test)]
+mod languages;
+#[cfg(test)]
 mod made;
 #[cfg(test)]
 mod numbers;

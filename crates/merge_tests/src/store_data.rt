@@ -1,6 +1,7 @@
-//! Ten pairs that rise and ten that don't, through the calls of a map of any store that grows.
+//! Ten pairs that rise and ten that don't, through the calls of a map of any store that grows. At the end of each step each key
+//! and each gap is searched for.
 use litemap::LiteMap;
-use litemap::store::{ColumnStore, StoreBulkMut, StoreIntoIterator, StoreMut};
+use litemap::store::{ColumnStore, Store, StoreBulkMut, StoreIntoIterator, StoreMut};
 use std::alloc::{AllocError, Global};
 use std::test::Fail;
 use test_support::fixed_room::FixedRoom;
@@ -35,8 +36,71 @@ const UNSORTED: [(u32, u64); 10] = [
     (704, 5359),
 ];
 
+// Both, in order.
+const ALL: [(u32, u64); 20] = [
+    (106, 4816),
+    (147, 9864),
+    (167, 8078),
+    (176, 2101),
+    (188, 8588),
+    (252, 6031),
+    (273, 4999),
+    (301, 1214),
+    (339, 9613),
+    (373, 1304),
+    (434, 2518),
+    (483, 4453),
+    (546, 7490),
+    (561, 3620),
+    (574, 8500),
+    (607, 3756),
+    (619, 4965),
+    (663, 2669),
+    (704, 5359),
+    (724, 9211),
+];
+
+// Those with an even value.
+const EVEN: [(u32, u64); 11] = [
+    (106, 4816),
+    (147, 9864),
+    (167, 8078),
+    (188, 8588),
+    (301, 1214),
+    (373, 1304),
+    (434, 2518),
+    (546, 7490),
+    (561, 3620),
+    (574, 8500),
+    (607, 3756),
+];
+
+// Whether a search finds each key of a list at its place, and tells of every other number below 800 where it would go.
+fn finds_each<S: Store<u32, u64>>(map: &Map<S>, list: &[(u32, u64)]) -> bool {
+    let mut place = 0usize;
+    for key in 0..800u32 {
+        let is_there = list.get(place).is_some_and(|pair| pair.0 == key);
+        let expected = if is_there { Ok(place) } else { Err(place) };
+        if map.find_index(&key) != expected {
+            return false;
+        }
+        place = place.saturating_add(usize::from(is_there));
+    }
+    place == list.len()
+}
+
+// Whether a map has the pairs of a list, and each of them is found.
+fn holds<S: Store<u32, u64>>(
+    alloc: Global,
+    map: &Map<S>,
+    list: &[(u32, u64)],
+) -> Result<bool, AllocError> {
+    Ok(list_of(alloc, map)?.as_slice() == list && finds_each(map, list))
+}
+
 // Whether `try_append` takes each of the pairs, or hands each back.
 fn appends_each<S: StoreMut<u32, u64>>(
+    alloc: Global,
     map: &mut Map<S>,
     pairs: &[(u32, u64)],
     is_taken: bool,
@@ -47,11 +111,12 @@ fn appends_each<S: StoreMut<u32, u64>>(
             return Ok(false);
         }
     }
-    Ok(map.len() == 10)
+    holds(alloc, map, &SORTED)
 }
 
 // Whether `insert` takes each of the pairs, whose keys are absent.
 fn inserts_each<S: StoreMut<u32, u64>>(
+    alloc: Global,
     map: &mut Map<S>,
     pairs: &[(u32, u64)],
 ) -> Result<bool, AllocError> {
@@ -60,27 +125,26 @@ fn inserts_each<S: StoreMut<u32, u64>>(
             return Ok(false);
         }
     }
-    Ok(map.len() == 20)
+    holds(alloc, map, &ALL)
 }
 
-// Merges another map into it: whether it then has the pairs of the list, and how many are left over.
+// Whether what is left over where another map is merged in is the map before, and the map then has all pairs.
 fn merges<S: StoreIntoIterator<u32, u64> + Drop>(
     alloc: Global,
     map: &mut Map<S>,
     other: Map<S>,
-    list: &[(u32, u64)],
-) -> Result<(bool, usize), AllocError> {
-    let left = match map.extend_from_litemap(alloc, other)? {
-        Some(rest) => rest.len(),
-        None => 0,
+) -> Result<bool, AllocError> {
+    let before = list_of(alloc, map)?;
+    let Some(rest) = map.extend_from_litemap(alloc, other)? else {
+        return Ok(false);
     };
-    Ok((list_of(alloc, map)?.as_slice() == list, left))
+    Ok(holds(alloc, &rest, &before)? && holds(alloc, map, &ALL)?)
 }
 
-// Keeps the pairs with an even value: how many these are.
-fn thin<S: StoreBulkMut<u32, u64>>(map: &mut Map<S>) -> usize {
+// Keeps the pairs with an even value: whether these are left.
+fn thins<S: StoreBulkMut<u32, u64>>(alloc: Global, map: &mut Map<S>) -> Result<bool, AllocError> {
     map.retain(|_, value| value % 2 == 0);
-    map.len()
+    holds(alloc, map, &EVEN)
 }
 
 // Whether a merge with a clone of the map, one with the twenty pairs where the odd values are gone, and an extension there
@@ -88,21 +152,33 @@ fn thin<S: StoreBulkMut<u32, u64>>(map: &mut Map<S>) -> usize {
 fn grows_back<S: StoreBulkMut<u32, u64> + StoreIntoIterator<u32, u64>>(
     alloc: Global,
     map: &mut Map<S>,
-    all: &[(u32, u64)],
 ) -> Result<bool, AllocError> {
     let clone = map.try_clone(alloc)?;
-    let is_cloned = merges(alloc, map, clone, all)? == (true, 20) && thin(map) == 11;
-    let again = map_of(alloc, all, 64)?;
-    let is_merged = merges(alloc, map, again, all)? == (true, 11) && thin(map) == 11;
-    map.extend(alloc, all.iter().copied())?;
-    let is_extended = list_of(alloc, map)?.as_slice() == all;
-    Ok(is_cloned && is_merged && is_extended)
+    let is_cloned = merges(alloc, map, clone)? && thins(alloc, map)?;
+    let again = map_of(alloc, &ALL, 64)?;
+    let is_merged = merges(alloc, map, again)? && thins(alloc, map)?;
+    map.extend(alloc, ALL)?;
+    Ok(is_cloned && is_merged && holds(alloc, map, &ALL)?)
 }
 
-// What three removals answer, and how many pairs are left.
-fn remove_some<S: StoreMut<u32, u64>>(map: &mut Map<S>) -> ([Option<u64>; 3], usize) {
-    let removed = [map.remove(&175), map.remove(&176), map.remove(&147)];
-    (removed, map.len())
+// Whether a key that is absent, and then the one of a pair, are removed from all pairs as they have to be.
+fn removes<S: StoreMut<u32, u64>>(
+    alloc: Global,
+    map: &mut Map<S>,
+    (key, value): (u32, u64),
+) -> Result<bool, AllocError> {
+    let removed = [map.remove(&175), map.remove(&key)];
+    let others = ALL.iter().copied().filter(|pair| pair.0 != key);
+    let left: Vec<(u32, u64)> = others.collect(alloc)?;
+    Ok(removed == [None, Some(value)] && holds(alloc, map, &left)?)
+}
+
+// Whether the calls on a fresh map of the twenty pairs answer and leave what they have to.
+fn is_emptied<S: StoreMut<u32, u64> + Drop>(alloc: Global) -> Result<bool, AllocError> {
+    let mut map: Map<S> = map_of(alloc, &ALL, 64)?;
+    let is_less = removes(alloc, &mut map, (147, 9864))?;
+    map.clear();
+    Ok(is_less && holds(alloc, &map, &[])?)
 }
 
 // Whether each call on the map of the twenty pairs answers and leaves what it has to.
@@ -110,14 +186,12 @@ fn goes_through<S: StoreBulkMut<u32, u64> + StoreIntoIterator<u32, u64>>(
     alloc: Global,
 ) -> Result<bool, AllocError> {
     let mut map: Map<S> = LiteMap::with_capacity(alloc, 64)?;
-    let is_made = appends_each(&mut map, &SORTED, true)?
-        && appends_each(&mut map, &UNSORTED, false)?
-        && inserts_each(&mut map, &UNSORTED)?;
-    let all = list_of(alloc, &map)?;
-    let is_grown = grows_back(alloc, &mut map, &all)?;
-    let is_less = remove_some(&mut map) == ([None, Some(2101), Some(9864)], 18);
-    map.clear();
-    Ok(is_made && is_grown && is_less && map.is_empty())
+    let is_made = appends_each(alloc, &mut map, &SORTED, true)?
+        && appends_each(alloc, &mut map, &UNSORTED, false)?
+        && inserts_each(alloc, &mut map, &UNSORTED)?;
+    let is_grown = grows_back(alloc, &mut map)?;
+    let is_less = removes(alloc, &mut map, (176, 2101))?;
+    Ok(is_made && is_grown && is_less && is_emptied::<S>(alloc)?)
 }
 
 #[test]

@@ -23,7 +23,8 @@ pub type NameMap<'a> = LiteMap<&'a str, &'a str, Vec<(&'a str, &'a str)>>;
 /// The map of a name table that the bytes begin with, and how many bytes the table takes. Of each key the last entry stays.
 ///
 /// Keys and values are slices of the bytes. The fault is that of the first number or text that can't be read, or want of
-/// memory; bytes behind the table are left unread. A table whose keys rise costs a comparison for each entry.
+/// memory; bytes behind the table are left unread. Keys are compared by `read_pairs`, which reads the entries: in a table
+/// whose keys rise at most once for each.
 ///
 /// The Rust crate reads by `postcard`'s `from_bytes` here.
 ///
@@ -50,8 +51,8 @@ pub fn read_names<'a>(
 
 /// The place and the value of a name in the map that `read_names` answers for the bytes, `None` where the name isn't there.
 ///
-/// The value is a slice of the bytes. The whole table is read first; then the lookup compares at most once for each binary
-/// digit of the number of names.
+/// The value is a slice of the bytes. The whole table is read first, with the comparisons of `read_names`; then the lookup
+/// compares at most once for each binary digit of the number of names, as `const_get_with_index` does.
 ///
 /// ```rust
 /// const LANGUAGES: &[u8] = b"\x02\x02de\x06German\x02fr\x06French";

@@ -4,6 +4,8 @@
 #[cfg(test)]
 mod calls;
 #[cfg(test)]
+mod comparisons;
+#[cfg(test)]
 mod every_list;
 #[cfg(test)]
 mod every_run;

@@ -76,14 +76,33 @@ fn read_hinted<S: StoreBulkMut<u32, u8>>(
     read_pairs(alloc, &mut source)
 }
 
+// Whether a store that grows has the one pair, whatever the hint: the place of the first hint with which it hasn't.
+fn first_hint_not_read<S: StoreBulkMut<u32, u8>>(alloc: Global) -> Result<Option<usize>, Fail> {
+    for (place, (hint, _)) in HINTS.iter().enumerate() {
+        let Ok::<LiteMap<u32, u8, S>, _>(map) = read_hinted(alloc, *hint) else {
+            return Ok(Some(place));
+        };
+        if list_of(alloc, &map)?.as_slice() != [(1, b'a')].as_slice() {
+            return Ok(Some(place));
+        }
+    }
+    Ok(None)
+}
+
+#[test]
+fn a_store_that_grows_reads_with_each_hint(rt: HostRuntime) -> Result<(), Fail> {
+    let wrong = [
+        first_hint_not_read::<Vec<(u32, u8)>>(rt.alloc())?,
+        first_hint_not_read::<ColumnStore<u32, u8>>(rt.alloc())?,
+    ];
+    assert_eq!(rt; wrong, [None; 2]);
+    Ok(())
+}
+
 #[test]
 fn a_hint_is_used_up_to_a_limit(rt: HostRuntime) -> Result<(), Fail> {
     let alloc = rt.alloc();
     for (hint, room) in HINTS {
-        let Ok::<LiteMap<u32, u8, Vec<(u32, u8)>>, _>(map) = read_hinted(alloc, *hint) else {
-            return Err(AllocError.into());
-        };
-        assert!(&rt; map.as_slice() == [(1, b'a')].as_slice(), "{hint:?}");
         let fixed: Result<LiteMap<u32, u8, FixedRoom<u32, u8>>, _> = read_hinted(alloc, *hint);
         match (fixed, *room) {
             (Err(fault), None) => assert!(&rt; fault == ReadFault::NoRoom, "{hint:?}"),
