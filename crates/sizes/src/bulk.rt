@@ -7,15 +7,21 @@ use refusal_support::pairs::{has, holds};
 use std::alloc::{AllocError, Global};
 
 /// The names of the calls.
-pub(crate) const BULK: [&str; 9] = [
+pub(crate) const BULK: [&str; 15] = [
     "lm_extend",
+    "lm_extend_from_vec",
     "lm_sort_from_iter",
+    "lm_sort_from_vec",
     "lm_from_pairs",
     "from_iter",
     "from_iter_counted",
+    "from_vec",
+    "from_vec_counted",
     "extend",
     "extend_behind",
     "extend_counted",
+    "extend_from_vec",
+    "extend_from_vec_counted",
     "try_clone",
 ];
 
@@ -29,17 +35,27 @@ pub(crate) fn is_right<S: Growing>(
     let new = falling_twice(alloc, len)?;
     let last = odd(alloc, len)?;
     match name {
-        "lm_extend" => Ok(Some(lm_extend::<S>(alloc, &new, &last)?)),
+        "lm_extend" | "lm_extend_from_vec" => {
+            Ok(Some(lm_extend::<S>(alloc, name, &new, &last)?))
+        }
         "lm_sort_from_iter" => {
             let store = S::lm_sort_from_iter(alloc, new.iter().copied(), &mut Count::new())?;
+            Ok(Some(holds(&store, &last)))
+        }
+        "lm_sort_from_vec" => {
+            let mut pairs = Vec::from_slice(alloc, &new)?;
+            let store = S::lm_sort_from_vec(alloc, &mut pairs, &mut Count::new())?;
             Ok(Some(holds(&store, &last)))
         }
         "lm_from_pairs" => {
             let store = S::lm_from_pairs(alloc, new.iter().copied())?;
             Ok(Some(holds(&store, &new)))
         }
-        "from_iter" | "from_iter_counted" => Ok(Some(is_made::<S>(alloc, name, &new, &last)?)),
-        "extend" | "extend_behind" | "extend_counted" => {
+        "from_iter" | "from_iter_counted" | "from_vec" | "from_vec_counted" => {
+            Ok(Some(is_made::<S>(alloc, name, &new, &last)?))
+        }
+        "extend_behind" => Ok(Some(is_extended_behind::<S>(alloc, &last)?)),
+        "extend" | "extend_counted" | "extend_from_vec" | "extend_from_vec_counted" => {
             Ok(Some(is_extended::<S>(alloc, name, &new, &last)?))
         }
         "try_clone" => Ok(Some(is_copied::<S>(alloc, &last)?)),
@@ -50,11 +66,17 @@ pub(crate) fn is_right<S: Growing>(
 // Whether an empty store that is extended by the new pairs has the last ones, and once more.
 fn lm_extend<S: StoreConstEmpty<u32, u32> + StoreBulkMut<u32, u32>>(
     alloc: Global,
+    name: &str,
     new: &[(u32, u32)],
     last: &[(u32, u32)],
 ) -> Result<bool, AllocError> {
     let mut store = S::lm_empty(alloc);
-    store.lm_extend(alloc, new.iter().copied(), &mut Count::new())?;
+    if name == "lm_extend" {
+        store.lm_extend(alloc, new.iter().copied(), &mut Count::new())?;
+    } else {
+        let mut pairs = Vec::from_slice(alloc, new)?;
+        store.lm_extend_from_vec(alloc, &mut pairs, &mut Count::new())?;
+    }
     Ok(holds(&store, last))
 }
 
@@ -65,16 +87,29 @@ fn is_made<S: StoreFromIterable<u32, u32> + Drop>(
     new: &[(u32, u32)],
     last: &[(u32, u32)],
 ) -> Result<bool, AllocError> {
-    let map: Numbers<S> = if name == "from_iter" {
-        LiteMap::from_iter(alloc, new.iter().copied())?
-    } else {
-        LiteMap::from_iter_counted(alloc, new.iter().copied(), &mut Count::new())?
+    let map: Numbers<S> = match name {
+        "from_iter" => LiteMap::from_iter(alloc, new.iter().copied())?,
+        "from_iter_counted" => {
+            LiteMap::from_iter_counted(alloc, new.iter().copied(), &mut Count::new())?
+        }
+        "from_vec" => LiteMap::from_vec(alloc, Vec::from_slice(alloc, new)?)?,
+        _ => { LiteMap::from_vec_counted(alloc, Vec::from_slice(alloc, new)?, &mut Count::new())? }
     };
     Ok(has(&map, last))
 }
 
-// Whether a map that is extended has the last pairs: by the new ones, where it has the half of them with other values and
-// more, or by those of the second half, where it has the first.
+// Whether a map that has the first half of the pairs has all of them once it is extended by the second.
+fn is_extended_behind<S: StoreFromIterable<u32, u32> + StoreBulkMut<u32, u32>>(
+    alloc: Global,
+    last: &[(u32, u32)],
+) -> Result<bool, AllocError> {
+    let half = last.len() / 2;
+    let mut map: Numbers<S> = LiteMap::from_iter(alloc, last[..half].iter().copied())?;
+    map.extend(alloc, last[half..].iter().copied())?;
+    Ok(has(&map, last))
+}
+
+// Whether a map that has half of the last pairs with other values has the last ones once it is extended by the new ones.
 fn is_extended<S: StoreFromIterable<u32, u32> + StoreBulkMut<u32, u32>>(
     alloc: Global,
     name: &str,
@@ -82,19 +117,15 @@ fn is_extended<S: StoreFromIterable<u32, u32> + StoreBulkMut<u32, u32>>(
     last: &[(u32, u32)],
 ) -> Result<bool, AllocError> {
     let half = last.len() / 2;
-    if name == "extend_behind" {
-        let mut map: Numbers<S> = LiteMap::from_iter(alloc, last[..half].iter().copied())?;
-        map.extend(alloc, last[half..].iter().copied())?;
-        return Ok(has(&map, last));
-    }
     let mut map: Numbers<S> = LiteMap::from_iter(
         alloc,
         last[half..].iter().map(|pair| (pair.0, 9)),
     )?;
-    if name == "extend" {
-        map.extend(alloc, new.iter().copied())?;
-    } else {
-        map.extend_counted(alloc, new.iter().copied(), &mut Count::new())?;
+    match name {
+        "extend" => map.extend(alloc, new.iter().copied())?,
+        "extend_counted" => { map.extend_counted(alloc, new.iter().copied(), &mut Count::new())? }
+        "extend_from_vec" => map.extend_from_vec(alloc, Vec::from_slice(alloc, new)?)?,
+        _ => map.extend_from_vec_counted(alloc, Vec::from_slice(alloc, new)?, &mut Count::new())?,
     }
     Ok(has(&map, last))
 }

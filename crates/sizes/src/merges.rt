@@ -6,13 +6,14 @@ use litemap::store::{Count, StoreFromIterable, StoreFromIterator, StoreIntoItera
 use refusal_support::pairs::{has, holds};
 use std::alloc::{AllocError, Global};
 
-/// The names of the calls: the merges of as many pairs, into more than 5,000 pairs of few one by one and of many in one pass,
-/// and of more than 5,000 pairs into few.
-pub(crate) const MERGES: [&str; 7] = [
+/// The names of the calls: the merges of as many pairs, into more than 5,000 pairs of few one by one, of more in one pass and of
+/// many side by side, and of more than 5,000 pairs into few.
+pub(crate) const MERGES: [&str; 8] = [
     "extend_from_litemap",
     "extend_from_litemap_counted",
     "merge_each",
     "merge_in_one_pass",
+    "merge_side_by_side",
     "merge_into_few",
     "lm_extend_end",
     "lm_extend_start",
@@ -60,7 +61,8 @@ pub(crate) fn is_right<S: Growing>(
     let (evens, threefolds) = match name {
         "extend_from_litemap" | "extend_from_litemap_counted" => (len, len),
         "merge_each" => (more, len % 17),
-        "merge_in_one_pass" => (more, len.wrapping_add(17)),
+        "merge_in_one_pass" => (more, 40 + len % 300),
+        "merge_side_by_side" => (more, len.wrapping_add(700)),
         "merge_into_few" => (len % 17, more),
         "lm_extend_end" | "lm_extend_start" => return Ok(Some(joins::<S>(alloc, name, len)?)),
         _ => return Ok(None),

@@ -9,7 +9,7 @@ use own_store::Bounded;
 use std::alloc::{AllocError, Global};
 
 /// The examples, by the names of the calls and of the stores.
-pub(crate) fn examples(alloc: Global) -> [Shown; 9] {
+pub(crate) fn examples(alloc: Global) -> [Shown; 11] {
     [
         ("lm_binary_search_by", Ok(lm_binary_search_by())),
         ("lm_get_range", lm_get_range(alloc)),
