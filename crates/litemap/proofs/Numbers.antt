@@ -3,7 +3,7 @@
 --     number_keys      where keys are numbers without a sign, or `char`
 --     signed_keys      where keys are numbers with a sign
 -- Keys of any other type have the same lemmas by their order where a function calls the laws of `litemap_store::laws`.
-use Rattle.std.proofs.Common.{◌≡◌, ◌≢◌, ◌∷◌, ◌++◌, ℕ, ℤ, List, Option, Some, None, Ok, IsSome, cond, is_some, slice_get, slice_set}
+use Rattle.std.proofs.Common.{◌≡◌, ◌≢◌, ◌∷◌, ◌++◌, ℕ, ℤ, List, Some, None, Ok, IsSome, cond, is_some, slice_get, slice_set}
 use Rattle.std.proofs.lemmas.Cmp.{int_cmp_total, nat_cmp_total}
 use Rattle.std.proofs.lemmas.Map.Lookups.{CmpEqualImpliesEq, exact_signed, exact_unsigned}
 use Rattle.std.specs.Cmp.{IsTotalOrder}

@@ -3,7 +3,7 @@
 --     string_keys      where keys are `String`, asked by keys;  text_keys      the same, asked by texts
 --     byte_keys      where keys are `Vec<u8>`, asked by bytes;  str_keys      where keys are `&str` or `&[u8]`
 --     text_clones      the condition of `try_clone` and of the conversions where keys are `String`
-use Rattle.std.proofs.Common.{◌≡◌, ◌≢◌, ◌∷◌, ◌++◌, List, Option, Some, None, Ok, IsSome, String, Vec, Bor, ℕ, cond, is_some, slice_get, slice_set}
+use Rattle.std.proofs.Common.{◌≡◌, ◌≢◌, ◌∷◌, ◌++◌, List, Some, None, Ok, IsSome, String, Vec, Bor, ℕ, cond, is_some, slice_get, slice_set}
 use Rattle.std.proofs.lemmas.Cmp.{tied_itself}
 use Rattle.std.proofs.lemmas.Map.Lookups.{exact_bytes}
 use Rattle.std.specs.Cmp.{IsTotalOrder}
