@@ -42,8 +42,22 @@ struct Case {
 }
 
 #[rattlefmt::skip]
+const OLD: &[(u32, u32)] = &[
+    (1, 101),
+    (4, 104),
+    (7, 107),
+    (10, 110),
+    (13, 113),
+    (16, 116),
+    (19, 119),
+    (22, 122),
+    (25, 125),
+    (28, 128),
+];
+
+#[rattlefmt::skip]
 const FEW: Case = Case {
-    old: MANY.old,
+    old: OLD,
     new: &[(2, 20), (4, 40)],
     merged: &[
         (1, 101),
@@ -63,18 +77,7 @@ const FEW: Case = Case {
 
 #[rattlefmt::skip]
 const MANY: Case = Case {
-    old: &[
-        (1, 101),
-        (4, 104),
-        (7, 107),
-        (10, 110),
-        (13, 113),
-        (16, 116),
-        (19, 119),
-        (22, 122),
-        (25, 125),
-        (28, 128),
-    ],
+    old: OLD,
     new: &[
         (2, 202),
         (3, 203),
