@@ -3,14 +3,11 @@ use Rattle.std.proofs.Common.{◌≡◌, ℕ, zero, suc, ◌+◌, List, [], ◌�
 use Rattle.std.specs.List.{AllZip}
 use Rattle.std.proofs.lemmas.List.{take_more}
 use Rattle.std.proofs.lemmas.Option.{slice_get_within, get_or_from_slice_get}
-use Rattle.std.specs.Cmp.{IsTotalOrder, alike_right}
 use Rattle.std.specs.declared.cmp.Ordering.{Ordering}
-use Rattle.std.specs.declared.cmp.Ordering.TheVariants.{Equal, Less}
+use Rattle.std.specs.declared.cmp.Ordering.TheVariants.{Less}
 use Rattle.litemap_store.specs.Last.{In}
 use Rattle.litemap_store.specs.Pairs.{BelowAll, Rising}
-use Rattle.litemap.specs.Clones.{ClonesCompareEqual}
 use Rattle.litemap.specs.Conversions.{KeysKeepOrder, PairsBecame}
-use denote.Ref.{Bor}
 
 -- what stands at a place of a list is in it
 pub In-at : {X : Type 0} (list : List X) (i : ℕ) (x : X) → slice_get list i ≡ Some x → In x list
@@ -54,14 +51,3 @@ module _ {K L V W : Type 0} (cmp : K → K → Ordering) (new_cmp : L → L → 
     BelowAll-became p q.0 before after (λ s d i. k p s q.0 d (inl refl) (inr i) c.0.0) c.1 r.0,
     Rising-became before after (λ s t a b i j. k s t a b (inr i) (inr j)) c.1 r.1,
   )
-
--- clones that compare Equal to their originals keep the order
-pub clones-keep-order : {K V : Type 0} {cmp : K → K → Ordering} (C : K → K → Type 0) → IsTotalOrder cmp → (list : List (K × V))
-    → ClonesCompareEqual cmp C list → KeysKeepOrder cmp cmp C list
-clones-keep-order C o list equal p q a b i j c d less =
-    sym (o.congr p.0 a b (equal p a i c)) ∙ sym (alike_right o q.0 b p.0 (equal q b j d)) ∙ less
-
--- references keep the order
-pub lent-keep-order : {K V : Type 0} (cmp : K → K → Ordering) (list : List (K × V))
-    → KeysKeepOrder cmp (λ a b. cmp a.now b.now) (λ (k : K) (r : Bor K). r.now ≡ k) list
-lent-keep-order cmp list p q a b i j c d less = rw (c, d) less

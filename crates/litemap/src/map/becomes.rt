@@ -5,14 +5,14 @@ ghost use Rattle.std.specs.Fn.{FnReturnsAt};
 use std::alloc::{AllocError, Global};
 
 /// A way to make a value of another one.
-pub(super) trait Becomes<X, Y> {
+pub(super) trait Becomes<'a, X, Y> {
     /// Whether something may be made of a value.
     ghost takes: { Self → X → Type 0 };
 
     /// What may be made of a value.
     ghost became: { Self → X → Y → Type 0 };
 
-    fn made_of(&self, alloc: Global, value: &X) -> Result<Y, AllocError>
+    fn made_of(&self, alloc: Global, value: &'a X) -> Result<Y, AllocError>
         requires { takes self.now value.now }
         ensures { IfOk result (became self.now value.now) };
 }
@@ -23,38 +23,51 @@ pub(super) struct Cloned;
 /// The box of a clone.
 pub(super) struct Boxed;
 
+/// A reference.
+pub(super) struct Lent;
+
 /// What a closure answers.
 #[derive(Drop)]
 pub(super) struct Answered<F> {
     pub(super) f: F,
 }
 
-impl<X: Clone> Becomes<X, X> for Cloned {
+impl<'a, X: Clone> Becomes<'a, X, X> for Cloned {
     ghost takes = { λ _ _. ⊤ };
 
     ghost became = { λ _. X.is_clone };
 
-    fn made_of(&self, alloc: Global, value: &X) -> Result<X, AllocError> {
+    fn made_of(&self, alloc: Global, value: &'a X) -> Result<X, AllocError> {
         value.clone()
     }
 }
 
-impl<X: Clone> Becomes<X, Box<X>> for Boxed {
+impl<'a, X: Clone> Becomes<'a, X, Box<X>> for Boxed {
     ghost takes = { λ _ _. ⊤ };
 
     ghost became = { λ _ x b. X.is_clone x b.value };
 
-    fn made_of(&self, alloc: Global, value: &X) -> Result<Box<X>, AllocError> {
+    fn made_of(&self, alloc: Global, value: &'a X) -> Result<Box<X>, AllocError> {
         Ok(Box::new(alloc, value.clone()?)?)
     }
 }
 
-impl<X, Y, F: Fn(&X) -> Y> Becomes<X, Y> for Answered<F> {
+impl<'a, X: 'a> Becomes<'a, X, &'a X> for Lent {
+    ghost takes = { λ _ _. ⊤ };
+
+    ghost became = { λ _ x r. r.now ≡ x };
+
+    fn made_of(&self, alloc: Global, value: &'a X) -> Result<&'a X, AllocError> {
+        Ok(value)
+    }
+}
+
+impl<'a, X, Y, F: Fn(&X) -> Y> Becomes<'a, X, Y> for Answered<F> {
     ghost takes = { λ s x. (k : _) → k.now ≡ x → F.Fn.pre s.f (k, tt) };
 
     ghost became = { λ s. FnReturnsAt F.Fn s.f };
 
-    fn made_of(&self, alloc: Global, value: &X) -> Result<Y, AllocError> {
+    fn made_of(&self, alloc: Global, value: &'a X) -> Result<Y, AllocError> {
         Ok((self.f)(value))
     }
 }

@@ -6,7 +6,7 @@ ghost use Rattle.litemap_store.specs.Pairs.{Rising};
 ghost use Rattle.litemap.specs.Clones.{ClonesCompareEqual};
 ghost use Rattle.litemap.specs.Conversions.{KeysKeepOrder, PairsBecame, TakesKeys};
 
-use super::becomes::{Answered, Becomes, Boxed, Cloned};
+use super::becomes::{Answered, Becomes, Boxed, Cloned, Lent};
 use crate::LiteMap;
 use litemap_store::store::{Store, StoreMut};
 use std::alloc::{AllocError, Global};
@@ -128,21 +128,7 @@ impl<'a, K: Ord + 'a, V: 'a, S: Store<K, V>> LiteMap<K, V, S> {
         ensures { IfOk result (λ m. PairsBecame (λ k r. r.now ≡ k) (λ v r. r.now ≡ v)
             self.now.pairs m.pairs) }
     {
-        let len = self.store.lm_len();
-        let mut store = B::lm_with_capacity(alloc, len)?;
-        for index in 0..len {
-            let Some((key, value)) = self.store.lm_get(index) else {
-                unreachable!()
-            };
-            match store.lm_push(key, value) {
-                Ok(()) => {}
-                Err(_) => unreachable!(),
-            }
-        }
-        Ok(LiteMap {
-            store,
-            marker: PhantomData,
-        })
+        converted(&self.store, alloc, &Lent, &Lent)
     }
 
     /// A map of references to the keys, and clones of the values, or a refusal for want of memory.
@@ -164,21 +150,7 @@ impl<'a, K: Ord + 'a, V: 'a, S: Store<K, V>> LiteMap<K, V, S> {
         ensures { IfOk result (λ m. PairsBecame (λ k r. r.now ≡ k) V.is_clone
             self.now.pairs m.pairs) }
     {
-        let len = self.store.lm_len();
-        let mut store = B::lm_with_capacity(alloc, len)?;
-        for index in 0..len {
-            let Some((key, value)) = self.store.lm_get(index) else {
-                unreachable!()
-            };
-            match store.lm_push(key, value.clone()?) {
-                Ok(()) => {}
-                Err(_) => unreachable!(),
-            }
-        }
-        Ok(LiteMap {
-            store,
-            marker: PhantomData,
-        })
+        converted(&self.store, alloc, &Lent, &Cloned)
     }
 
     /// A map of clones of the keys, and references to the values, or a refusal for want of memory.
@@ -201,38 +173,25 @@ impl<'a, K: Ord + 'a, V: 'a, S: Store<K, V>> LiteMap<K, V, S> {
         ensures { IfOk result (λ m. PairsBecame K.is_clone (λ v r. r.now ≡ v)
             self.now.pairs m.pairs) }
     {
-        let len = self.store.lm_len();
-        let mut store = B::lm_with_capacity(alloc, len)?;
-        for index in 0..len {
-            let Some((key, value)) = self.store.lm_get(index) else {
-                unreachable!()
-            };
-            match store.lm_push(key.clone()?, value) {
-                Ok(()) => {}
-                Err(_) => unreachable!(),
-            }
-        }
-        Ok(LiteMap {
-            store,
-            marker: PhantomData,
-        })
+        converted(&self.store, alloc, &Cloned, &Lent)
     }
 }
 
 // The map of what the pairs of a store become.
-pub(super) fn converted<K, V, S, L, W, B, X, Y>(
-    store: &S,
+pub(super) fn converted<'a, K, V, S, L, W, B, X, Y>(
+    store: &'a S,
     alloc: Global,
     keys: &X,
     values: &Y,
 ) -> Result<LiteMap<L, W, B>, AllocError>
 where
-    K: Ord,
+    K: Ord + 'a,
+    V: 'a,
     S: Store<K, V>,
     L: Ord + Drop,
     B: StoreMut<L, W> + Drop,
-    X: Becomes<K, L>,
-    Y: Becomes<V, W>,
+    X: Becomes<'a, K, L>,
+    Y: Becomes<'a, V, W>,
     requires rises { Rising K.cmp (S.pairs store.now) }
     requires keys { (p : _) → In p (S.pairs store.now) → X.takes keys.now p.0 }
     requires values { (p : _) → In p (S.pairs store.now) → Y.takes values.now p.1 }
