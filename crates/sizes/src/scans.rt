@@ -1,6 +1,5 @@
 //! The slow scans that take memory.
 use crate::lists::{falling_twice, odd, odd_pair};
-use litemap_store::by_scan;
 use std::alloc::{AllocError, Global};
 
 /// The names of the scans.
