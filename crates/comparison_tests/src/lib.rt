@@ -6,11 +6,15 @@
 #![tactic(auto)]
 
 #[cfg(test)]
+mod entries;
+#[cfg(test)]
 mod keyed;
 #[cfg(test)]
 mod lengths;
 #[cfg(test)]
 mod none;
+#[cfg(test)]
+mod passing;
 #[cfg(test)]
 mod sorted;
 #[cfg(test)]

@@ -3,7 +3,7 @@ use crate::maps::Numbers;
 use crate::stores::Growing;
 use litemap::LiteMap;
 use litemap::store::{
-    Count, Store, StoreBulkMut, StoreConstEmpty, StoreFromIterable, StoreFromIterator,
+    Count, Store, StoreBulkMut, StoreConstEmpty, StoreFromIterable, StoreFromIterator, StoreMut,
 };
 use refusal_support::Outcome;
 use refusal_support::pairs::{LAST, PAIRS, SCATTERED, has, holds};
@@ -60,8 +60,14 @@ fn extend<S: StoreConstEmpty<u32, u32> + StoreBulkMut<u32, u32>>(
     };
     match (extended, input) {
         (Err(_), _) => Outcome::refused(true, has(&map, &PAIRS[..1])),
-        (Ok(()), Input::Behind) => Outcome::answered(has(&map, &PAIRS)),
-        (Ok(()), _) => Outcome::answered(has(&map, &LAST)),
+        (Ok(()), _) => {
+            let list: &[(u32, u32)] = match input {
+                Input::Behind => &PAIRS,
+                _ => &LAST,
+            };
+            let is_right = has(&map, list);
+            Outcome::left(&mut map, is_right)
+        }
     }
 }
 
@@ -84,7 +90,10 @@ fn extend_from_vec<S: StoreConstEmpty<u32, u32> + StoreBulkMut<u32, u32>>(
     };
     match extended {
         Err(_) => Outcome::refused(true, has(&map, &PAIRS[..1])),
-        Ok(()) => Outcome::answered(has(&map, &LAST)),
+        Ok(()) => {
+            let is_right = has(&map, &LAST);
+            Outcome::left(&mut map, is_right)
+        }
     }
 }
 
@@ -112,17 +121,19 @@ fn lm_extend_from_vec<S: StoreConstEmpty<u32, u32> + StoreBulkMut<u32, u32>>(
 }
 
 // A map of pairs in no order.
-fn from_iter<S: StoreFromIterable<u32, u32> + Drop>(alloc: Global) -> Outcome {
+fn from_iter<S: StoreFromIterable<u32, u32> + StoreMut<u32, u32> + Drop>(alloc: Global) -> Outcome {
     made::<S>(LiteMap::from_iter(alloc, SCATTERED.iter().copied()))
 }
 
 // The same by `from_iter_counted`.
-fn from_iter_counted<S: StoreFromIterable<u32, u32> + Drop>(alloc: Global) -> Outcome {
+fn from_iter_counted<S: StoreFromIterable<u32, u32> + StoreMut<u32, u32> + Drop>(
+    alloc: Global,
+) -> Outcome {
     made::<S>(LiteMap::from_iter_counted(alloc, SCATTERED.iter().copied(), &mut Count::new()))
 }
 
 // A map of a vector of pairs in no order.
-fn from_vec<S: StoreFromIterable<u32, u32> + Drop>(alloc: Global) -> Outcome {
+fn from_vec<S: StoreFromIterable<u32, u32> + StoreMut<u32, u32> + Drop>(alloc: Global) -> Outcome {
     let Ok(pairs) = SCATTERED.to_vec(alloc) else {
         return Outcome::Refused;
     };
@@ -130,7 +141,9 @@ fn from_vec<S: StoreFromIterable<u32, u32> + Drop>(alloc: Global) -> Outcome {
 }
 
 // The same by `from_vec_counted`.
-fn from_vec_counted<S: StoreFromIterable<u32, u32> + Drop>(alloc: Global) -> Outcome {
+fn from_vec_counted<S: StoreFromIterable<u32, u32> + StoreMut<u32, u32> + Drop>(
+    alloc: Global,
+) -> Outcome {
     let Ok(pairs) = SCATTERED.to_vec(alloc) else {
         return Outcome::Refused;
     };
@@ -165,9 +178,12 @@ fn lm_from_pairs<S: StoreFromIterator<u32, u32> + Drop>(alloc: Global) -> Outcom
 }
 
 // How the making of a map of the scattered pairs ended.
-fn made<S: Store<u32, u32> + Drop>(map: Result<Numbers<S>, AllocError>) -> Outcome {
+fn made<S: StoreMut<u32, u32> + Drop>(map: Result<Numbers<S>, AllocError>) -> Outcome {
     match map {
-        Ok(map) => Outcome::answered(has(&map, &LAST)),
+        Ok(mut map) => {
+            let is_right = has(&map, &LAST);
+            Outcome::left(&mut map, is_right)
+        }
         Err(_) => Outcome::Refused,
     }
 }

@@ -1,7 +1,7 @@
 //! The scenarios, by name.
 use crate::stores::{self, Growing};
 use crate::texts::{self, GrowingTexts};
-use crate::{bulk, conversions, maps, merge, scans};
+use crate::{bulk, conversions, maps, merge, none, scans};
 use litemap::store::ColumnStore;
 use own_store::Bounded;
 use refusal_support::{Outcome, Scenarios};
@@ -11,7 +11,7 @@ use std::alloc::Global;
 pub struct Calls;
 
 /// The names of the scenarios.
-const NAMES: [&str; 97] = [
+const NAMES: [&str; 197] = [
     "lm_push",
     "lm_insert",
     "lm_with_capacity",
@@ -109,6 +109,106 @@ const NAMES: [&str; 97] = [
     "scan_put",
     "scan_cut",
     "scan_last",
+    "lm_get",
+    "lm_last",
+    "lm_get_mut",
+    "lm_replace",
+    "lm_remove",
+    "lm_retain",
+    "lm_clear",
+    "len",
+    "first",
+    "last",
+    "get_indexed",
+    "get",
+    "get_counted",
+    "contains_key",
+    "find_index",
+    "equal",
+    "cmp",
+    "partial_cmp",
+    "hash",
+    "clear",
+    "retain",
+    "remove",
+    "remove_counted",
+    "get_mut",
+    "get_indexed_mut",
+    "insert_there",
+    "insert_counted_there",
+    "try_insert_there",
+    "try_append_below",
+    "try_get_or_insert_there",
+    "try_find_or_insert_there",
+    "entry_vacant",
+    "entry_or_insert",
+    "entry_or_default",
+    "entry_or_insert_with",
+    "entry_and_modify",
+    "entry_get",
+    "entry_key",
+    "entry_insert",
+    "entry_remove",
+    "entry_into_mut",
+    "iter",
+    "keys",
+    "values",
+    "into_iter",
+    "from_sorted_store_unchecked",
+    "merge_of_empty",
+    "merge_into_empty",
+    "as_slice",
+    "as_sliced",
+    "get_indexed_range",
+    "into_tuple_vec",
+    "lm_get_in_columns",
+    "lm_last_in_columns",
+    "lm_get_mut_in_columns",
+    "lm_replace_in_columns",
+    "lm_remove_in_columns",
+    "lm_retain_in_columns",
+    "lm_clear_in_columns",
+    "len_in_columns",
+    "first_in_columns",
+    "last_in_columns",
+    "get_indexed_in_columns",
+    "get_in_columns",
+    "get_counted_in_columns",
+    "contains_key_in_columns",
+    "find_index_in_columns",
+    "equal_in_columns",
+    "cmp_in_columns",
+    "partial_cmp_in_columns",
+    "hash_in_columns",
+    "clear_in_columns",
+    "retain_in_columns",
+    "remove_in_columns",
+    "remove_counted_in_columns",
+    "get_mut_in_columns",
+    "get_indexed_mut_in_columns",
+    "insert_there_in_columns",
+    "insert_counted_there_in_columns",
+    "try_insert_there_in_columns",
+    "try_append_below_in_columns",
+    "try_get_or_insert_there_in_columns",
+    "try_find_or_insert_there_in_columns",
+    "entry_vacant_in_columns",
+    "entry_or_insert_in_columns",
+    "entry_or_default_in_columns",
+    "entry_or_insert_with_in_columns",
+    "entry_and_modify_in_columns",
+    "entry_get_in_columns",
+    "entry_key_in_columns",
+    "entry_insert_in_columns",
+    "entry_remove_in_columns",
+    "entry_into_mut_in_columns",
+    "iter_in_columns",
+    "keys_in_columns",
+    "values_in_columns",
+    "into_iter_in_columns",
+    "from_sorted_store_unchecked_in_columns",
+    "merge_of_empty_in_columns",
+    "merge_into_empty_in_columns",
 ];
 
 impl Scenarios for Calls {
@@ -125,11 +225,17 @@ impl Scenarios for Calls {
         }
         match name.strip_suffix("_in_columns") {
             Some(call) => {
-                run_over::<ColumnStore<u32, u32>, ColumnStore<String, String>>(alloc, call)
+                match run_over::<ColumnStore<u32, u32>, ColumnStore<String, String>>(alloc, call) {
+                    None => none::run_in_columns(alloc, call),
+                    outcome => outcome,
+                }
             }
             None => match scans::run(alloc, name) {
                 Some(outcome) => Some(outcome),
-                None => run_over::<Vec<(u32, u32)>, Vec<(String, String)>>(alloc, name),
+                None => match run_over::<Vec<(u32, u32)>, Vec<(String, String)>>(alloc, name) {
+                    None => none::run_in_vector(alloc, name),
+                    outcome => outcome,
+                },
             },
         }
     }
@@ -149,5 +255,8 @@ fn run_over<S: Growing, T: GrowingTexts>(alloc: Global, name: &str) -> Option<Ou
     if let Some(outcome) = bulk::run::<S>(alloc, name) {
         return Some(outcome);
     }
-    merge::run::<S>(alloc, name)
+    if let Some(outcome) = merge::run::<S>(alloc, name) {
+        return Some(outcome);
+    }
+    none::run::<S>(alloc, name)
 }

@@ -73,10 +73,11 @@ fn of_texts(alloc: Global, map: &Named, name: &str) -> Option<Outcome> {
     Some(ended(made, is_pair(map, PAIR)))
 }
 
-// How a scenario ended, by whether the map that was made is right, and whether the one that it was made of is as it was.
-fn ended(made: Result<bool, AllocError>, left: bool) -> Outcome {
+// How a scenario ended, by the map that was made, and whether the one that it was made of is as it was.
+fn ended(made: Result<Outcome, AllocError>, left: bool) -> Outcome {
     match made {
-        Ok(is_right) => Outcome::answered(is_right && left),
+        Ok(outcome) if left => outcome,
+        Ok(_) => Outcome::Wrong("another list"),
         Err(_) => Outcome::refused(true, left),
     }
 }
@@ -95,18 +96,20 @@ fn words(alloc: Global) -> Option<Words> {
 fn boxed_both<B: StoreMut<Box<u32>, Box<String>> + Drop>(
     alloc: Global,
     map: &Words,
-) -> Result<bool, AllocError> {
-    let boxed: LiteMap<_, _, B> = map.to_boxed_keys_values(alloc)?;
-    Ok(are_words(&boxed, &WORDS))
+) -> Result<Outcome, AllocError> {
+    let mut boxed: LiteMap<_, _, B> = map.to_boxed_keys_values(alloc)?;
+    let is_right = are_words(&boxed, &WORDS);
+    Ok(Outcome::left(&mut boxed, is_right))
 }
 
 // Boxes of the keys.
 fn boxed_keys<B: StoreMut<Box<u32>, String> + Drop>(
     alloc: Global,
     map: &Words,
-) -> Result<bool, AllocError> {
-    let boxed: LiteMap<_, _, B> = map.to_boxed_keys(alloc)?;
-    Ok(are_words(&boxed, &WORDS))
+) -> Result<Outcome, AllocError> {
+    let mut boxed: LiteMap<_, _, B> = map.to_boxed_keys(alloc)?;
+    let is_right = are_words(&boxed, &WORDS);
+    Ok(Outcome::left(&mut boxed, is_right))
 }
 
 // Boxes of the values.
@@ -114,44 +117,49 @@ fn boxed_keys<B: StoreMut<Box<u32>, String> + Drop>(
 fn boxed_values<B: StoreMut<String, Box<String>> + Drop>(
     alloc: Global,
     map: &Named,
-) -> Result<bool, AllocError> {
-    let boxed: LiteMap<_, _, B> = map.to_boxed_values(alloc)?;
-    Ok(is_pair(&boxed, PAIR))
+) -> Result<Outcome, AllocError> {
+    let mut boxed: LiteMap<_, _, B> = map.to_boxed_values(alloc)?;
+    let is_right = is_pair(&boxed, PAIR);
+    Ok(Outcome::left(&mut boxed, is_right))
 }
 
 // References to both.
-fn lent_both<'a, B>(alloc: Global, map: &'a Words) -> Result<bool, AllocError>
+fn lent_both<'a, B>(alloc: Global, map: &'a Words) -> Result<Outcome, AllocError>
 where
     B: StoreMut<&'a u32, &'a String> + Drop,
 {
-    let lent: LiteMap<_, _, B> = map.to_borrowed_keys_values(alloc)?;
-    Ok(are_words(&lent, &WORDS))
+    let mut lent: LiteMap<_, _, B> = map.to_borrowed_keys_values(alloc)?;
+    let is_right = are_words(&lent, &WORDS);
+    Ok(Outcome::left(&mut lent, is_right))
 }
 
 // References to the keys.
-fn lent_keys<'a, B>(alloc: Global, map: &'a Words) -> Result<bool, AllocError>
+fn lent_keys<'a, B>(alloc: Global, map: &'a Words) -> Result<Outcome, AllocError>
 where
     B: StoreMut<&'a u32, String> + Drop,
 {
-    let lent: LiteMap<_, _, B> = map.to_borrowed_keys(alloc)?;
-    Ok(are_words(&lent, &WORDS))
+    let mut lent: LiteMap<_, _, B> = map.to_borrowed_keys(alloc)?;
+    let is_right = are_words(&lent, &WORDS);
+    Ok(Outcome::left(&mut lent, is_right))
 }
 
 // References to the values.
 #[tactic(auto, using(litemap::proofs::Texts::text_clones))]
-fn lent_values<'a, B>(alloc: Global, map: &'a Named) -> Result<bool, AllocError>
+fn lent_values<'a, B>(alloc: Global, map: &'a Named) -> Result<Outcome, AllocError>
 where
     B: StoreMut<String, &'a String> + Drop,
 {
-    let lent: LiteMap<_, _, B> = map.to_borrowed_values(alloc)?;
-    Ok(is_pair(&lent, PAIR))
+    let mut lent: LiteMap<_, _, B> = map.to_borrowed_values(alloc)?;
+    let is_right = is_pair(&lent, PAIR);
+    Ok(Outcome::left(&mut lent, is_right))
 }
 
 // The keys as longer numbers.
 fn keys_by<B: StoreMut<u64, String> + Drop>(
     alloc: Global,
     map: &Words,
-) -> Result<bool, AllocError> {
-    let longer: LiteMap<_, _, B> = map.to_keys_by(alloc, |key| *key as u64)?;
-    Ok(are_words(&longer, &WORDS))
+) -> Result<Outcome, AllocError> {
+    let mut longer: LiteMap<_, _, B> = map.to_keys_by(alloc, |key| *key as u64)?;
+    let is_right = are_words(&longer, &WORDS);
+    Ok(Outcome::left(&mut longer, is_right))
 }

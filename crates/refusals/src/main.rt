@@ -9,6 +9,7 @@ mod calls;
 mod conversions;
 mod maps;
 mod merge;
+mod none;
 mod scans;
 mod stores;
 mod texts;

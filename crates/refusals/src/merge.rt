@@ -145,7 +145,10 @@ fn merge_maps<S: StoreIntoIterator<u32, u32> + Drop>(alloc: Global, merge: Merge
         Merge::Counted => map.extend_from_litemap_counted(alloc, other, &mut Count::new()),
     };
     match merged {
-        Ok(Some(rest)) => Outcome::answered(has(&rest, case.left) && has(&map, case.merged)),
+        Ok(Some(rest)) => {
+            let is_right = has(&rest, case.left) && has(&map, case.merged);
+            Outcome::left(&mut map, is_right)
+        }
         Ok(None) => Outcome::Wrong("nothing was left over"),
         Err(refused) => Outcome::refused(has(&refused.back, case.new), has(&map, case.old)),
     }

@@ -35,7 +35,10 @@ pub(crate) fn try_clone<S: GrowingTexts>(alloc: Global) -> Outcome {
         return Outcome::Refused;
     };
     match map.try_clone(alloc) {
-        Ok(clone) => Outcome::answered(is_pair(&map, PAIR) && is_pair(&clone, PAIR)),
+        Ok(mut clone) => {
+            let is_right = is_pair(&map, PAIR) && is_pair(&clone, PAIR);
+            Outcome::left(&mut clone, is_right)
+        }
         Err(_) => Outcome::refused(true, is_pair(&map, PAIR)),
     }
 }

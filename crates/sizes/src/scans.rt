@@ -1,6 +1,5 @@
 //! The slow scans that take memory.
 use crate::lists::{falling_twice, odd, odd_pair};
-use litemap_store::by_scan;
 use std::alloc::{AllocError, Global};
 
 /// The names of the scans.
@@ -12,9 +11,10 @@ pub(crate) const SCANS: [&str; 5] = [
     "scan_last",
 ];
 
-/// Whether the scan of a name answers as it has to on so many pairs, at the key in the middle, `None` where there is no such
-/// scan.
+/// Whether the scan of a name answers as it has to on so many pairs, at most 1,000, at the key in the middle, `None` where there
+/// is no such scan.
 pub(crate) fn is_right(alloc: Global, name: &str, len: u32) -> Result<Option<bool>, AllocError> {
+    let len = len.min(1000);
     let list = odd(alloc, len)?;
     let half = list.len() / 2;
     let (key, _) = odd_pair(len / 2);

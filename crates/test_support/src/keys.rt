@@ -116,3 +116,13 @@ impl Ord for Counted<'_> {
         self.number.cmp(&other.number)
     }
 }
+
+impl Hash for Counted<'_> {
+    ghost hash_input = { λ a. fed.u32 a.number };
+
+    ghost respects_eq = { Prim.search (hashing, rules) };
+
+    fn hash<H: Hasher>(&self, state: &mut H) {
+        self.number.hash(state);
+    }
+}
