@@ -7,4 +7,4 @@ mod outcome;
 pub mod pairs;
 
 pub use lines::{Scenarios, run_lines};
-pub use outcome::Outcome;
+pub use outcome::{Outcome, room_left};

@@ -46,16 +46,22 @@ impl Outcome {
         map: &mut LiteMap<K, V, S>,
         is_right: bool,
     ) -> Outcome {
-        if !is_right {
-            return Outcome::Wrong("another list");
+        if is_right {
+            Outcome::AnsweredWithRoom(room_left(map))
+        } else {
+            Outcome::Wrong("another list")
         }
-        let mut room = 0;
-        for more in 1..MOST_ROOM {
-            if map.reserve(more).is_err() {
-                break;
-            }
-            room = more;
-        }
-        Outcome::AnsweredWithRoom(room)
     }
+}
+
+/// For how many pairs more a map has or gets room, asked for one after the other until it is refused.
+pub fn room_left<K: Ord, V, S: StoreMut<K, V>>(map: &mut LiteMap<K, V, S>) -> usize {
+    let mut room = 0;
+    for more in 1..MOST_ROOM {
+        if map.reserve(more).is_err() {
+            break;
+        }
+        room = more;
+    }
+    room
 }

@@ -3,7 +3,7 @@ use crate::texts::{PAIR, Texts, texts};
 use crate::told::{are_words, is_pair};
 use litemap::LiteMap;
 use litemap::store::{ColumnStore, StoreMut};
-use refusal_support::Outcome;
+use refusal_support::{Outcome, room_left};
 use std::alloc::{AllocError, Global};
 
 type Words = LiteMap<u32, String, Vec<(u32, String)>>;
@@ -73,10 +73,11 @@ fn of_texts(alloc: Global, map: &Named, name: &str) -> Option<Outcome> {
     Some(ended(made, is_pair(map, PAIR)))
 }
 
-// How a scenario ended, by the map that was made, and whether the one that it was made of is as it was.
-fn ended(made: Result<Outcome, AllocError>, left: bool) -> Outcome {
+// How a scenario ended, by whether the map that was made is right, its room, and whether the one that it was made of is as it
+// was.
+fn ended(made: Result<(bool, usize), AllocError>, left: bool) -> Outcome {
     match made {
-        Ok(outcome) if left => outcome,
+        Ok((true, room)) if left => Outcome::AnsweredWithRoom(room),
         Ok(_) => Outcome::Wrong("another list"),
         Err(_) => Outcome::refused(true, left),
     }
@@ -96,20 +97,20 @@ fn words(alloc: Global) -> Option<Words> {
 fn boxed_both<B: StoreMut<Box<u32>, Box<String>> + Drop>(
     alloc: Global,
     map: &Words,
-) -> Result<Outcome, AllocError> {
+) -> Result<(bool, usize), AllocError> {
     let mut boxed: LiteMap<_, _, B> = map.to_boxed_keys_values(alloc)?;
     let is_right = are_words(&boxed, &WORDS);
-    Ok(Outcome::left(&mut boxed, is_right))
+    Ok((is_right, room_left(&mut boxed)))
 }
 
 // Boxes of the keys.
 fn boxed_keys<B: StoreMut<Box<u32>, String> + Drop>(
     alloc: Global,
     map: &Words,
-) -> Result<Outcome, AllocError> {
+) -> Result<(bool, usize), AllocError> {
     let mut boxed: LiteMap<_, _, B> = map.to_boxed_keys(alloc)?;
     let is_right = are_words(&boxed, &WORDS);
-    Ok(Outcome::left(&mut boxed, is_right))
+    Ok((is_right, room_left(&mut boxed)))
 }
 
 // Boxes of the values.
@@ -117,49 +118,49 @@ fn boxed_keys<B: StoreMut<Box<u32>, String> + Drop>(
 fn boxed_values<B: StoreMut<String, Box<String>> + Drop>(
     alloc: Global,
     map: &Named,
-) -> Result<Outcome, AllocError> {
+) -> Result<(bool, usize), AllocError> {
     let mut boxed: LiteMap<_, _, B> = map.to_boxed_values(alloc)?;
     let is_right = is_pair(&boxed, PAIR);
-    Ok(Outcome::left(&mut boxed, is_right))
+    Ok((is_right, room_left(&mut boxed)))
 }
 
 // References to both.
-fn lent_both<'a, B>(alloc: Global, map: &'a Words) -> Result<Outcome, AllocError>
+fn lent_both<'a, B>(alloc: Global, map: &'a Words) -> Result<(bool, usize), AllocError>
 where
     B: StoreMut<&'a u32, &'a String> + Drop,
 {
     let mut lent: LiteMap<_, _, B> = map.to_borrowed_keys_values(alloc)?;
     let is_right = are_words(&lent, &WORDS);
-    Ok(Outcome::left(&mut lent, is_right))
+    Ok((is_right, room_left(&mut lent)))
 }
 
 // References to the keys.
-fn lent_keys<'a, B>(alloc: Global, map: &'a Words) -> Result<Outcome, AllocError>
+fn lent_keys<'a, B>(alloc: Global, map: &'a Words) -> Result<(bool, usize), AllocError>
 where
     B: StoreMut<&'a u32, String> + Drop,
 {
     let mut lent: LiteMap<_, _, B> = map.to_borrowed_keys(alloc)?;
     let is_right = are_words(&lent, &WORDS);
-    Ok(Outcome::left(&mut lent, is_right))
+    Ok((is_right, room_left(&mut lent)))
 }
 
 // References to the values.
 #[tactic(auto, using(litemap::proofs::Texts::text_clones))]
-fn lent_values<'a, B>(alloc: Global, map: &'a Named) -> Result<Outcome, AllocError>
+fn lent_values<'a, B>(alloc: Global, map: &'a Named) -> Result<(bool, usize), AllocError>
 where
     B: StoreMut<String, &'a String> + Drop,
 {
     let mut lent: LiteMap<_, _, B> = map.to_borrowed_values(alloc)?;
     let is_right = is_pair(&lent, PAIR);
-    Ok(Outcome::left(&mut lent, is_right))
+    Ok((is_right, room_left(&mut lent)))
 }
 
 // The keys as longer numbers.
 fn keys_by<B: StoreMut<u64, String> + Drop>(
     alloc: Global,
     map: &Words,
-) -> Result<Outcome, AllocError> {
+) -> Result<(bool, usize), AllocError> {
     let mut longer: LiteMap<_, _, B> = map.to_keys_by(alloc, |key| *key as u64)?;
     let is_right = are_words(&longer, &WORDS);
-    Ok(Outcome::left(&mut longer, is_right))
+    Ok((is_right, room_left(&mut longer)))
 }
