@@ -195,8 +195,20 @@ fn lm_extend_start<S: StoreIntoIterator<u32, u32> + StoreFromIterator<u32, u32> 
 }
 
 // The first pair, and the others.
-fn halves<S: StoreFromIterator<u32, u32> + Drop>(alloc: Global) -> Result<(S, S), AllocError> {
-    let low = S::lm_from_pairs(alloc, PAIRS[..1].iter().copied())?;
-    let high = S::lm_from_pairs(alloc, PAIRS[1..].iter().copied())?;
+fn halves<S: StoreMut<u32, u32> + Drop>(alloc: Global) -> Result<(S, S), AllocError> {
+    let low = full(alloc, &PAIRS[..1])?;
+    let high = full(alloc, &PAIRS[1..])?;
     Ok((low, high))
+}
+
+// A store of these pairs, with room for them alone.
+fn full<S: StoreMut<u32, u32> + Drop>(
+    alloc: Global,
+    pairs: &[(u32, u32)],
+) -> Result<S, AllocError> {
+    let mut store = S::lm_with_capacity(alloc, pairs.len())?;
+    for (key, value) in pairs {
+        store.lm_push(*key, *value)?;
+    }
+    Ok(store)
 }
