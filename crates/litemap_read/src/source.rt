@@ -83,8 +83,8 @@ impl<E> From<AllocError> for ReadFault<E> {
     }
 }
 
-/// So that `?` does so where an `io::Result` is answered. A source's fault is then data that is not valid, and which one it was is
-/// given up: who wants to tell it prints the fault itself.
+/// So that `?` does so where an `io::Result` is answered. A source's fault is then data that is not valid, and which one it
+/// was is given up: who wants to tell it prints the fault itself.
 impl<E: Drop> From<ReadFault<E>> for io::Error {
     ghost use Rattle.std.specs.Prelude.{◌≡◌};
     ghost use Rattle.std.specs.IoError.{error_kind};

@@ -25,4 +25,5 @@ IsTextOf OfJson L text = text ≡ json_answer L
 -- the texts that are kept are those of the pairs
 abbrev pub IsKept : List (List ℕ × List ℕ) → Kept → Type 0
 IsKept L kept =
-    IfSome kept.all (λ text. IsTextOf OfAll L (string_bytes text)) × IfSome kept.json (λ text. IsTextOf OfJson L (string_bytes text))
+    IfSome kept.all (λ text. IsTextOf OfAll L (string_bytes text))
+    × IfSome kept.json (λ text. IsTextOf OfJson L (string_bytes text))

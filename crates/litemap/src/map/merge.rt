@@ -20,9 +20,10 @@ impl<K: Ord + Drop, V: Drop, S: StoreIntoIterator<K, V> + Drop> LiteMap<K, V, S>
     /// Where one map is empty, no memory is taken and no keys are compared: an empty other map changes nothing, and an
     /// empty map takes the other's store whole. Where all keys of the other map lie above those of this one, or all lie
     /// below, its pairs are put behind or before, by at most two comparisons: the pairs of one map move once, and those of
-    /// the other only where its store needs more memory. Else each pair of the other map takes one search, or one comparison is made for each pair of both where these are no more;
-    /// few pairs are put in one by one into many, and others are merged through a fresh store, so that the moves grow as
-    /// the sum of the lengths, but for a factor that grows as their digits.
+    /// the other only where its store needs more memory. Else each pair of the other map takes one search, or one comparison
+    /// is made for each pair of both where these are no more; few pairs are put in one by one into many, and others are
+    /// merged through a fresh store, so that the moves grow as the sum of the lengths, but for a factor that grows as their
+    /// digits.
     ///
     /// All room, that of what is driven out included, is taken before the first change. Refused for want of memory, the
     /// list stays as it was and the other map comes back whole. Nothing is promised of the room: where a fresh store takes
