@@ -4,8 +4,8 @@ ghost use Rattle.litemap_read.specs.Laws.{SameAnswers};
 ghost use Rattle.litemap.specs.Steps.{Run, Step};
 ghost use Rattle.litemap.specs.declared.calls.Call.TheVariants.{Clear, Extend, Insert, Reserve, TryAppend, TryInsert};
 
-pub use litemap::calls::{Answer, Call};
 use litemap::LiteMap;
+pub use litemap::calls::{Answer, Call};
 use litemap::store::{NoRoom, StoreBulkMut, StoreMut};
 use std::alloc::Global;
 

@@ -38,11 +38,11 @@ module _ (old next : TextMap) (said text : List ℕ) (rises : TextsRise old.pair
 
   line_rises : Does old said text next → TextsRise next.pairs
   line_rises does = elim does [
-      | Nothing empty wrote same ↦ same_rises same
-      | ShowsAll all wrote same ↦ same_rises same
-      | ShowsJson json wrote same ↦ same_rises same
-      | Calls call spells answers ↦ call_rises call spells answers
-    ]
+    | Nothing empty wrote same ↦ same_rises same
+    | ShowsAll all wrote same ↦ same_rises same
+    | ShowsJson json wrote same ↦ same_rises same
+    | Calls call spells answers ↦ call_rises call spells answers
+  ]
 
 pub lines_rise : (start end : TextMap) (said : List (List ℕ)) (text : List ℕ) → TextsRise start.pairs → DoesEach start said text end → TextsRise end.pairs
 lines_rise start end [] text rises (none, same) = subst (λ (m : TextMap). TextsRise m.pairs) (sym same) rises

@@ -70,7 +70,10 @@ fn an_empty_vector_that_is_extended_keeps_its_room(rt: HostRuntime) -> Result<()
         let mut store: Vec<(u32, u32)> = Vec::with_capacity(alloc, room)?;
         let pairs = [(1u32, 10u32), (2, 20), (3, 30)];
         store.lm_extend(alloc, pairs.iter().copied(), &mut Count::new())?;
-        assert!(rt; store.capacity() >= room && store.as_slice() == pairs.as_slice(), "{room}");
+        assert!(rt;
+            store.capacity() >= room && store.as_slice() == pairs.as_slice(),
+            "{room}"
+        );
     }
     Ok(())
 }
