@@ -1,3 +1,4 @@
 -- The definitions that the contracts cite. Those of a run are in `Told` of the crate `names_run`.
+pub mod FailsAt
 pub mod Laws
 pub mod Rewriting

@@ -2,9 +2,11 @@
 //! those of `names_run`, the name tables those of `name_table`.
 #![tactic(auto)]
 
+mod fail_at;
 mod flags;
 pub mod laws;
 
+pub use fail_at::{FailAt, Fault};
 pub use flags::{FlagsFault, rewrite_flags};
 pub use name_table::{
     NameBytes, NameFault, NameMap, NameWriteFault, find_name, read_names, write_names,
