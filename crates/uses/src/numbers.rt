@@ -1,5 +1,5 @@
 //! Numbers as keys, and keys of a caller's own. What look-ups find after a change follows from the lemmas that the attributes
-//! name, or from the laws that a function calls. `clear_reading` alone has a proof file, of one line.
+//! name, or from the laws that a function calls. `clear_reading` alone has a proof file.
 ghost use Rattle.std.specs.Prelude.{◌≡◌, ◌≢◌, None, Ok, Some, IfErr, IfOk, IfSome, IsSome, IsTrue, OnErr, OnOk};
 ghost use Rattle.std.specs.Prelude.{cond, filter, is_some, nat_le, slice_get};
 ghost use Rattle.std.specs.IoError.{error_kind};
