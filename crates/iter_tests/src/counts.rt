@@ -1,8 +1,9 @@
 //! How often a comparison of maps compares keys.
 use litemap::LiteMap;
-use litemap::store::{ColumnStore, StoreMut};
+use litemap::store::{ColumnStore, Store, StoreMut};
 use std::alloc::Global;
 use std::cell::Cell;
+use std::cmp::Ordering;
 use std::process::Abort;
 use std::test::Fail;
 use test_support::fixed_room::FixedRoom;
@@ -34,6 +35,28 @@ fn keys_from_zero<'a, S: StoreMut<Counted<'a>, u32> + Drop>(
     Ok(map)
 }
 
+// The calls themselves, of keys of any type: here a key with a lifetime stands for one type of keys.
+fn is_equal<K: Ord, S: Store<K, u32>>(
+    left: &LiteMap<K, u32, S>,
+    right: &LiteMap<K, u32, S>,
+) -> bool {
+    left == right
+}
+
+fn partial_order<K: Ord, S: Store<K, u32>>(
+    left: &LiteMap<K, u32, S>,
+    right: &LiteMap<K, u32, S>,
+) -> Option<Ordering> {
+    left.partial_cmp(right)
+}
+
+fn order<K: Ord, S: Store<K, u32>>(
+    left: &LiteMap<K, u32, S>,
+    right: &LiteMap<K, u32, S>,
+) -> Ordering {
+    left.cmp(right)
+}
+
 // How often `==`, `partial_cmp` and `cmp` compare keys.
 fn compared<'a, S: StoreMut<Counted<'a>, u32> + Drop>(
     made: &'a Cell<u32>,
@@ -41,11 +64,11 @@ fn compared<'a, S: StoreMut<Counted<'a>, u32> + Drop>(
     right: &LiteMap<Counted<'a>, u32, S>,
 ) -> [u32; 3] {
     made.set(0);
-    let _is_equal = left == right;
+    let _is_equal = is_equal(left, right);
     let equal = made.replace(0);
-    let _partial = left.partial_cmp(right);
+    let _partial = partial_order(left, right);
     let partial = made.replace(0);
-    let _order = left.cmp(right);
+    let _order = order(left, right);
     [equal, partial, made.get()]
 }
 
