@@ -2,8 +2,6 @@
 #![tactic(auto)]
 
 #[cfg(test)]
-mod chains;
-#[cfg(test)]
 mod comparisons;
 #[cfg(test)]
 mod counts;
