@@ -25,8 +25,6 @@ mod hints;
 #[cfg(test)]
 mod kept;
 #[cfg(test)]
-mod languages;
-#[cfg(test)]
 mod made;
 #[cfg(test)]
 mod numbers;
