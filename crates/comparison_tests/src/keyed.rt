@@ -7,6 +7,7 @@ use litemap::{Entry, LiteMap};
 use std::alloc::Global;
 use std::cell::Cell;
 use std::cmp::Ordering;
+use std::ops::Bound;
 use std::process::Abort;
 use std::test::Fail;
 use test_support::fixed_room::FixedRoom;
@@ -18,6 +19,9 @@ enum Call {
     FindIndexCounted,
     Get,
     GetCounted,
+    GetKeyValue,
+    Places,
+    PlacesCounted,
     ContainsKey,
     Index,
     FindIndexBy,
@@ -28,6 +32,7 @@ enum Call {
     IndexMut,
     Remove,
     RemoveCounted,
+    RemoveEntry,
     Insert,
     InsertCounted,
     TryInsert,
@@ -39,11 +44,14 @@ enum Call {
     EntryOrInsert,
 }
 
-const CALLS: [Call; 23] = [
+const CALLS: [Call; 27] = [
     Call::FindIndex,
     Call::FindIndexCounted,
     Call::Get,
     Call::GetCounted,
+    Call::GetKeyValue,
+    Call::Places,
+    Call::PlacesCounted,
     Call::ContainsKey,
     Call::Index,
     Call::FindIndexBy,
@@ -54,6 +62,7 @@ const CALLS: [Call; 23] = [
     Call::IndexMut,
     Call::Remove,
     Call::RemoveCounted,
+    Call::RemoveEntry,
     Call::Insert,
     Call::InsertCounted,
     Call::TryInsert,
@@ -76,6 +85,15 @@ fn look<K: Ord + Copy, S: StoreMut<K, u32>>(
         Call::FindIndexCounted => map.find_index_counted(key, &mut Count::new()).is_ok(),
         Call::Get => map.get(key).is_some(),
         Call::GetCounted => map.get_counted(key, &mut Count::new()).is_some(),
+        Call::GetKeyValue => map.get_key_value(key).is_some(),
+        Call::Places => !map
+            .places(Bound::Included(key), Bound::Included(key))
+            .is_empty(),
+        Call::PlacesCounted => {
+            let (from, to) = (Bound::Included(key), Bound::Included(key));
+            let places = map.places_counted(from, to, &mut Count::new());
+            !places.is_empty()
+        }
         Call::GetMut => map.get_mut(key).is_some(),
         _ => map.contains_key(key),
     }
@@ -140,6 +158,7 @@ fn write<K: Ord + Copy, S: StoreMut<K, u32>>(
     match call {
         Call::Remove => Some(map.remove(&key).is_some()),
         Call::RemoveCounted => Some(map.remove_counted(&key, &mut Count::new()).is_some()),
+        Call::RemoveEntry => Some(map.remove_entry(&key).is_some()),
         Call::Insert => Some(map.insert(key, value).ok()?.is_some()),
         Call::InsertCounted => {
             let old = map.insert_counted(key, value, &mut Count::new()).ok()?;
@@ -218,6 +237,7 @@ fn make_call<K: Ord + Copy, S: StoreMut<K, u32>>(
         }
         Call::Remove
         | Call::RemoveCounted
+        | Call::RemoveEntry
         | Call::Insert
         | Call::InsertCounted
         | Call::TryInsert
@@ -237,10 +257,11 @@ fn restore<K: Ord + Copy, S: StoreMut<K, u32>>(map: &mut LiteMap<K, u32, S>, key
 }
 
 // What a call has to answer for a number against a map of this length, and how often it may compare: a pair
-// behind the last one, which has the number above all keys, once.
+// behind the last one, which has the number above all keys, once, and the places within two bounds for each of them.
 fn wanted(call: Call, number: u32, len: u32) -> (bool, u32) {
     match call {
         Call::TryAppend => (number != len.wrapping_mul(2), 1),
+        Call::Places | Call::PlacesCounted => (number % 2 == 1, digits(len).wrapping_mul(2)),
         _ => (number % 2 == 1, digits(len)),
     }
 }

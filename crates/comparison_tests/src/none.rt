@@ -21,12 +21,15 @@ enum Call {
     GetIndexedMut,
     TryClone,
     Reserve,
+    Update,
     Retain,
+    PopFirst,
+    PopLast,
     Clear,
 }
 
-// `Clear` stands last.
-const CALLS: [Call; 10] = [
+// Those that take pairs out stand last.
+const CALLS: [Call; 13] = [
     Call::Len,
     Call::IsEmpty,
     Call::First,
@@ -35,7 +38,10 @@ const CALLS: [Call; 10] = [
     Call::GetIndexedMut,
     Call::TryClone,
     Call::Reserve,
+    Call::Update,
     Call::Retain,
+    Call::PopFirst,
+    Call::PopLast,
     Call::Clear,
 ];
 
@@ -57,6 +63,12 @@ fn answers<K: Ord + Copy, S: StoreBulkMut<K, u32> + Drop>(
         Call::GetIndexedMut => Some(map.get_indexed_mut(len / 2).is_some() == (len > 0)),
         Call::TryClone => Some(map.try_clone(alloc).ok()?.len() == len),
         Call::Reserve => Some(map.reserve(1).is_ok()),
+        Call::Update => {
+            map.update(|_, value| *value = 7);
+            Some(map.len() == len)
+        }
+        Call::PopFirst => Some(map.pop_first().is_some() == (len > 0)),
+        Call::PopLast => Some(map.pop_last().is_some() == (len > 1)),
         Call::Retain => {
             map.retain(|_, _| true);
             Some(map.len() == len)

@@ -18,9 +18,10 @@ enum Call {
     IntoIterMidway,
     Merge,
     MergeIntoOther,
+    SplitOff,
 }
 
-const CALLS: [Call; 8] = [
+const CALLS: [Call; 9] = [
     Call::Clear,
     Call::Retain,
     Call::FromIter,
@@ -29,6 +30,7 @@ const CALLS: [Call; 8] = [
     Call::IntoIterMidway,
     Call::Merge,
     Call::MergeIntoOther,
+    Call::SplitOff,
 ];
 
 // Pairs that come in: so many, from a number on by steps. A step below 0 is one that falls.
@@ -131,6 +133,11 @@ where
         Call::MergeIntoOther => {
             let mut other: LiteMap<K, V, S> = LiteMap::from_iter(alloc, new)?;
             let _ = other.extend_from_litemap(alloc, map);
+        }
+        Call::SplitOff => {
+            if let Some((key, _)) = new.first() {
+                let _later = map.split_off(alloc, key)?;
+            }
         }
     }
     Ok(())

@@ -4,6 +4,7 @@ use litemap::store::{ColumnStore, Store, StoreMut};
 use litemap::{Entry, LiteMap};
 use std::alloc::{AllocError, Global};
 use std::cell::Cell;
+use std::mem;
 use std::process::Abort;
 use std::test::Fail;
 use test_support::fixed_room::FixedRoom;
@@ -17,6 +18,10 @@ enum Call {
     TryGetOrInsert,
     ClosureFails,
     Remove,
+    RemoveEntry,
+    PopFirst,
+    PopLast,
+    Update,
     Replace,
     EntryDropped,
     EntryInsert,
@@ -26,7 +31,7 @@ enum Call {
     AndModify,
 }
 
-const CALLS: [Call; 14] = [
+const CALLS: [Call; 18] = [
     Call::Insert,
     Call::TryInsert,
     Call::TryAppend,
@@ -34,6 +39,10 @@ const CALLS: [Call; 14] = [
     Call::TryGetOrInsert,
     Call::ClosureFails,
     Call::Remove,
+    Call::RemoveEntry,
+    Call::PopFirst,
+    Call::PopLast,
+    Call::Update,
     Call::Replace,
     Call::EntryDropped,
     Call::EntryInsert,
@@ -68,6 +77,19 @@ fn change<K: Ord + Drop, V: Drop, S: StoreMut<K, V>>(
         }
         Call::ClosureFails => {
             let _ = map.try_find_or_insert(key, |_| Err(value));
+        }
+        Call::RemoveEntry => {
+            let _ = map.remove_entry(&key);
+        }
+        Call::PopFirst => {
+            let _ = map.pop_first();
+        }
+        Call::PopLast => {
+            let _ = map.pop_last();
+        }
+        Call::Update => {
+            let mut value = value;
+            map.update(|_, held| mem::swap(held, &mut value));
         }
         _ => {
             let _ = map.remove(&key);

@@ -6,13 +6,15 @@ use litemap::store::Count;
 use std::alloc::{AllocError, Global};
 
 /// The examples, by the names of the calls.
-pub fn examples(alloc: Global) -> [Shown; 8] {
+pub fn examples(alloc: Global) -> [Shown; 10] {
     [
         ("extend", extend(alloc)),
+        ("extend_counted", extend_counted(alloc)),
         ("from_iter_counted", from_iter_counted(alloc)),
         ("from_vec", from_vec(alloc)),
         ("extend_from_vec", extend_from_vec(alloc)),
         ("from_vec_counted", from_vec_counted(alloc)),
+        ("extend_from_vec_counted", extend_from_vec_counted(alloc)),
         ("extend_from_litemap", extend_from_litemap(alloc)),
         (
             "extend_from_litemap_counted",
@@ -28,11 +30,16 @@ fn extend(alloc: Global) -> Result<bool, AllocError> {
     Ok(days.get(&5) == Some(&"Freitag") && days.len() == 4)
 }
 
+fn extend_counted(alloc: Global) -> Result<bool, AllocError> {
+    let mut days = three_days(alloc)?;
+    days.extend_counted(alloc, [(6, "Sat"), (7, "Sun")], &mut Count::new())?;
+    Ok(days.len() == 5)
+}
+
 fn from_iter_counted(alloc: Global) -> Result<bool, AllocError> {
     let mut count = Count::new();
-    let mut days = Days::from_iter_counted(alloc, [(1, "Mon"), (2, "Tue")], &mut count)?;
-    days.extend_counted(alloc, [(3, "Wed"), (4, "Thu")], &mut count)?;
-    Ok(days.len() == 4)
+    let days = Days::from_iter_counted(alloc, [(2, "Tue"), (1, "Mon")], &mut count)?;
+    Ok(days.len() == 2)
 }
 
 fn from_vec(alloc: Global) -> Result<bool, AllocError> {
@@ -49,11 +56,16 @@ fn extend_from_vec(alloc: Global) -> Result<bool, AllocError> {
 }
 
 fn from_vec_counted(alloc: Global) -> Result<bool, AllocError> {
-    let mut count = Count::new();
-    let two = [(1, "Mon"), (2, "Tue")].to_vec(alloc)?;
-    let mut days = Days::from_vec_counted(alloc, two, &mut count)?;
-    days.extend_from_vec_counted(alloc, [(3, "Wed"), (4, "Thu")].to_vec(alloc)?, &mut count)?;
-    Ok(days.len() == 4)
+    let pairs = [(2, "Tue"), (1, "Mon")].to_vec(alloc)?;
+    let days = Days::from_vec_counted(alloc, pairs, &mut Count::new())?;
+    Ok(days.len() == 2)
+}
+
+fn extend_from_vec_counted(alloc: Global) -> Result<bool, AllocError> {
+    let mut days = three_days(alloc)?;
+    let more = [(6, "Sat"), (7, "Sun")].to_vec(alloc)?;
+    days.extend_from_vec_counted(alloc, more, &mut Count::new())?;
+    Ok(days.len() == 5)
 }
 
 fn extend_from_litemap(alloc: Global) -> Result<bool, AllocError> {

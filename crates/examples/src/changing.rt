@@ -6,7 +6,7 @@ use litemap::{LiteMap, TryFault};
 use std::alloc::{AllocError, Global};
 
 /// The examples, by the names of the calls.
-pub fn examples(alloc: Global) -> [Shown; 11] {
+pub fn examples(alloc: Global) -> [Shown; 16] {
     [
         ("insert", insert(alloc)),
         ("insert_counted", insert_counted(alloc)),
@@ -15,10 +15,15 @@ pub fn examples(alloc: Global) -> [Shown; 11] {
         ("try_get_or_insert", try_get_or_insert(alloc)),
         ("try_find_or_insert", try_find_or_insert(alloc)),
         ("remove", remove(alloc)),
+        ("remove_counted", remove_counted(alloc)),
         ("remove_by", remove_by(alloc)),
+        ("remove_entry", remove_entry(alloc)),
+        ("pop_first", pop_first(alloc)),
+        ("pop_last", pop_last(alloc)),
         ("clear", clear(alloc)),
         ("reserve", reserve(alloc)),
         ("retain", retain(alloc)),
+        ("split_off", split_off(alloc)),
     ]
 }
 
@@ -31,10 +36,8 @@ fn insert(alloc: Global) -> Result<bool, AllocError> {
 
 fn insert_counted(alloc: Global) -> Result<bool, AllocError> {
     let mut days = three_days(alloc)?;
-    let mut count = Count::new();
-    let friday = days.insert_counted(5, "Fri", &mut count)?;
-    let monday = days.remove_counted(&1, &mut count);
-    Ok(friday == Some("Friday") && monday == Some("Monday"))
+    let friday = days.insert_counted(5, "Fri", &mut Count::new())?;
+    Ok(friday == Some("Friday"))
 }
 
 fn try_insert(alloc: Global) -> Result<bool, AllocError> {
@@ -73,9 +76,33 @@ fn remove(alloc: Global) -> Result<bool, AllocError> {
     Ok(wednesday == Some("Wednesday") && days.remove(&3).is_none())
 }
 
+fn remove_counted(alloc: Global) -> Result<bool, AllocError> {
+    let mut days = three_days(alloc)?;
+    let monday = days.remove_counted(&1, &mut Count::new());
+    Ok(monday == Some("Monday"))
+}
+
 fn remove_by(alloc: Global) -> Result<bool, AllocError> {
     let mut days = three_days(alloc)?;
     Ok(days.remove_by(|number| number.cmp(&3)) == Some("Wednesday"))
+}
+
+fn remove_entry(alloc: Global) -> Result<bool, AllocError> {
+    let mut days = three_days(alloc)?;
+    let wednesday = days.remove_entry(&3);
+    Ok(wednesday == Some((3, "Wednesday")) && days.remove_entry(&3).is_none())
+}
+
+fn pop_first(alloc: Global) -> Result<bool, AllocError> {
+    let mut days = three_days(alloc)?;
+    let monday = days.pop_first();
+    Ok(monday == Some((1, "Monday")) && days.first() == Some((&3, &"Wednesday")))
+}
+
+fn pop_last(alloc: Global) -> Result<bool, AllocError> {
+    let mut days = three_days(alloc)?;
+    let friday = days.pop_last();
+    Ok(friday == Some((5, "Friday")) && days.last() == Some((&3, &"Wednesday")))
 }
 
 fn clear(alloc: Global) -> Result<bool, AllocError> {
@@ -94,4 +121,10 @@ fn retain(alloc: Global) -> Result<bool, AllocError> {
     let mut days = three_days(alloc)?;
     days.retain(|number, _name| *number < 4);
     Ok(days.as_slice() == [(1, "Monday"), (3, "Wednesday")].as_slice())
+}
+
+fn split_off(alloc: Global) -> Result<bool, AllocError> {
+    let mut days = three_days(alloc)?;
+    let later = days.split_off(alloc, &2)?;
+    Ok(days.len() == 1 && later.as_slice() == [(3, "Wednesday"), (5, "Friday")].as_slice())
 }

@@ -5,13 +5,14 @@ use litemap::{ColumnMap, LiteMap};
 use std::alloc::{AllocError, Global};
 
 /// The examples, by the names of the calls.
-pub fn examples(alloc: Global) -> [Shown; 8] {
+pub fn examples(alloc: Global) -> [Shown; 9] {
     [
         ("new_vec", new_vec(alloc)),
         ("new", new(alloc)),
         ("ColumnMap", over_columns(alloc)),
         ("with_capacity", with_capacity(alloc)),
         ("from_sorted_store_unchecked", from_sorted_store(alloc)),
+        ("is_sorted_store", is_sorted_store(alloc)),
         ("try_clone", try_clone(alloc)),
         ("into_tuple_vec", into_tuple_vec(alloc)),
         ("from_iter", from_iter(alloc)),
@@ -49,6 +50,11 @@ fn from_sorted_store(alloc: Global) -> Result<bool, AllocError> {
     }
     let days: Days = LiteMap::from_sorted_store_unchecked(pairs);
     Ok(days.get(&3) == Some(&"Wednesday"))
+}
+
+fn is_sorted_store(alloc: Global) -> Result<bool, AllocError> {
+    let pairs = [(1, "Monday"), (3, "Wednesday")].to_vec(alloc)?;
+    Ok(Days::is_sorted_store(&pairs))
 }
 
 fn try_clone(alloc: Global) -> Result<bool, AllocError> {

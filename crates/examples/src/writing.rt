@@ -4,12 +4,13 @@ use crate::days::three_days;
 use std::alloc::{AllocError, Global};
 
 /// The examples, by the names of the calls.
-pub fn examples(alloc: Global) -> [Shown; 4] {
+pub fn examples(alloc: Global) -> [Shown; 5] {
     [
         ("get_mut", get_mut(alloc)),
         ("get_mut_by", get_mut_by(alloc)),
         ("index_mut", index_mut(alloc)),
         ("get_indexed_mut", get_indexed_mut(alloc)),
+        ("update", update(alloc)),
     ]
 }
 
@@ -43,4 +44,14 @@ fn get_indexed_mut(alloc: Global) -> Result<bool, AllocError> {
         *name = "Mon";
     }
     Ok(days.first() == Some((&1, &"Mon")))
+}
+
+fn update(alloc: Global) -> Result<bool, AllocError> {
+    let mut days = three_days(alloc)?;
+    days.update(|number, name| {
+        if *number > 1 {
+            *name = "later";
+        }
+    });
+    Ok(days.as_slice() == [(1, "Monday"), (3, "later"), (5, "later")].as_slice())
 }

@@ -6,7 +6,7 @@ use serde_json::Value;
 use std::alloc::Global;
 
 /// The examples, by the names of the calls.
-pub(crate) fn examples(alloc: Global) -> [Shown; 7] {
+pub(crate) fn examples(alloc: Global) -> [Shown; 8] {
     [
         ("to_value", to_value(alloc)),
         ("from_value", from_value(alloc)),
@@ -15,6 +15,7 @@ pub(crate) fn examples(alloc: Global) -> [Shown; 7] {
         ("from_key_text", from_key_text(alloc)),
         ("array_of_two", array(alloc)),
         ("two_items", two(alloc)),
+        ("wanted", wanted()),
     ]
 }
 
@@ -56,4 +57,8 @@ fn two(alloc: Global) -> Result<bool, Fault> {
         Some((first, second)) => Ok(first.as_u64() == Some(3) && second.as_bool() == Some(true)),
         None => Ok(false),
     }
+}
+
+fn wanted() -> Result<bool, Fault> {
+    Ok(u16::wanted() == "a whole number of 16 bits")
 }

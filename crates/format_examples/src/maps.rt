@@ -8,12 +8,13 @@ use serde_json::Value;
 use std::alloc::Global;
 
 /// The examples, by the names of the calls.
-pub(crate) fn examples(alloc: Global, hours: &Hours) -> [Shown; 4] {
+pub(crate) fn examples(alloc: Global, hours: &Hours) -> [Shown; 5] {
     [
         ("to_json", write(alloc, hours)),
         ("to_json of keys with no text", write_pairs(alloc)),
         ("from_json", read(alloc)),
         ("JsonFault", read_fault(alloc)),
+        ("told_in", told(alloc)),
     ]
 }
 
@@ -39,4 +40,12 @@ fn read_fault(alloc: Global) -> Result<bool, Fault> {
     let read: Result<Hours, JsonFault> = from_json(alloc, &value);
     let fault = ItemFault::Range;
     Ok(read.err() == Some(JsonFault::Item { place: 1, fault }))
+}
+
+fn told(alloc: Global) -> Result<bool, Fault> {
+    let value = Value::from_str(alloc, r#"{"1":8,"3":"noon"}"#)?;
+    let read: Result<Hours, JsonFault> = from_json(alloc, &value);
+    let Err(fault) = read else { return Ok(false) };
+    let told = format!(in alloc; "{}", fault.told_in::<u32, u8>(&value))?;
+    Ok(told.as_str() == r#""3": a whole number of 8 bits is wanted, and a text stands there"#)
 }

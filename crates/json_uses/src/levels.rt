@@ -43,6 +43,10 @@ impl JsonItem for Level {
         let level = Self::from_key_text(alloc, name).map_err(|_| ItemFault::Memory)?;
         level.ok_or(ItemFault::Shape)
     }
+
+    fn wanted() -> &'static str {
+        "low, middle or high"
+    }
 }
 
 impl JsonKey for Level {

@@ -2,6 +2,7 @@
 use crate::evens::Even;
 use crate::levels::Level;
 use crate::limits::copied;
+use crate::told;
 use litemap::LiteMap;
 use litemap::store::{ColumnStore, Store};
 use litemap_json::{JsonFault, JsonItem, JsonKey, from_json, to_json};
@@ -10,7 +11,7 @@ use std::alloc::{AllocError, Global};
 
 type Map<K, V> = LiteMap<K, V, Vec<(K, V)>>;
 
-type Columns = LiteMap<u32, String, ColumnStore<u32, String>>;
+type Columns<K, V> = LiteMap<K, V, ColumnStore<K, V>>;
 
 /// Adds the line that answers a line.
 pub fn answer_line(alloc: Global, line: &str, output: &mut String) -> Result<(), AllocError> {
@@ -40,13 +41,13 @@ fn answer(alloc: Global, types: &str, text: &str) -> Result<String, AllocError> 
         "tongues" => written::<(u32, String), String>(alloc, text),
         "levels" => written::<Level, u32>(alloc, text),
         "limits" => copied_limits(alloc, text),
-        "columns" => written_in_columns(alloc, text),
+        "told" => told::answer(alloc, text),
         "nested" => written::<((u8, bool), String), (u32, (bool, i8))>(alloc, text),
         _ => String::from_str(alloc, "no such types"),
     }
 }
 
-// The map that a text is read as, written as JSON.
+// The map that a text is read as, written as JSON: over a vector and over two columns.
 fn written<K: JsonKey + Drop, V: JsonItem + Drop>(
     alloc: Global,
     text: &str,
@@ -55,19 +56,25 @@ fn written<K: JsonKey + Drop, V: JsonItem + Drop>(
         return String::from_str(alloc, "no JSON");
     };
     let map: Result<Map<K, V>, JsonFault> = from_json(alloc, &value);
-    shown(alloc, map.as_ref())
+    let columns: Result<Columns<K, V>, JsonFault> = from_json(alloc, &value);
+    let over_vector = shown(alloc, map.as_ref())?;
+    let over_columns = shown(alloc, columns.as_ref())?;
+    answer_of_both(alloc, over_vector, over_columns)
 }
 
-// The same, with the map over two columns.
-fn written_in_columns(alloc: Global, text: &str) -> Result<String, AllocError> {
-    let Ok(value) = Value::from_str(alloc, text) else {
-        return String::from_str(alloc, "no JSON");
-    };
-    let map: Result<Columns, JsonFault> = from_json(alloc, &value);
-    shown(alloc, map.as_ref())
+// The answer over both stores, or that there are two.
+fn answer_of_both(
+    alloc: Global,
+    over_vector: String,
+    over_columns: String,
+) -> Result<String, AllocError> {
+    if over_vector.as_str() == over_columns.as_str() {
+        return Ok(over_vector);
+    }
+    format!(in alloc; "over a vector {over_vector}, over two columns {over_columns}")
 }
 
-// The same, with the map sent to JSON and back before.
+// The same over a vector, with the map sent to JSON and back before.
 fn copied_limits(alloc: Global, text: &str) -> Result<String, AllocError> {
     let Ok(value) = Value::from_str(alloc, text) else {
         return String::from_str(alloc, "no JSON");

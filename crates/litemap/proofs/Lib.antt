@@ -1,8 +1,11 @@
 -- Lemmas of the proofs.
 pub mod Conversions
 pub mod Entries
+pub mod Lists
 pub mod Numbers
 pub mod Outcomes
 pub mod Places
 pub mod Texts
 pub mod Tries
+pub mod Cuts
+pub mod Writing

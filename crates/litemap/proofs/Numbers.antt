@@ -14,7 +14,7 @@ use Rattle.std.specs.declared.cmp.Ordering.TheVariants.{Equal}
 use Rattle.litemap_store.specs.Merge.{Merge, left}
 use Rattle.litemap_store.specs.Pairs.{above, at, below, cut, index_of, place, put, value_at, write}
 use Rattle.litemap_store.proofs.Lookups.{index_of-put, value_at-cut, value_at-cut_other, value_at-put, value_at-put_other}
-use Rattle.litemap_store.proofs.Lookups.{value_at-set, value_at-write, value_at-written_apart}
+use Rattle.litemap_store.proofs.Lookups.{value_at-set, value_at-write, value_at-write_apart, value_at-written_apart}
 use Rattle.litemap_store.proofs.MergeLookups.{key_alike, key_same, value_at-left, value_at-merged}
 use Rattle.litemap.proofs.Places.{other_places}
 
@@ -90,10 +90,8 @@ module _ {V : Type 0} where
   pub signed_write_found : (L : List (ℤ × V)) (k : ℤ) (v : V) → IsSome (at int_cmp L k) → value_at int_cmp (write int_cmp L k v) k ≡ Some v
   signed_write_found L k v there = value_at-write int_cmp k L v there
 
-  -- what a write leaves where it finds the key
-  pub signed_written_others : (L : List (ℤ × V)) (k q : ℤ) (p : ℤ × V) (v : V) → at int_cmp L k ≡ Some p → q ≢ k
-      → value_at int_cmp (below int_cmp L k ++ (p.0, v) ∷ above int_cmp L k) q ≡ value_at int_cmp L q
-  signed_written_others L k q p v is n = written_others int_cmp int_cmp_total exact_signed L k q p v is n
+  pub signed_write_others : (L : List (ℤ × V)) (k q : ℤ) (v : V) → q ≢ k → value_at int_cmp (write int_cmp L k v) q ≡ value_at int_cmp L q
+  signed_write_others L k q v n = value_at-write_apart int_cmp k int_cmp q (int_cmp q k) (differs int_cmp int_cmp_total exact_signed L k q n) (λ x e. int_cmp_total.congr x q k e) L v
 
   -- what a write at a place leaves where a pair is there
   pub signed_set_others : (L : List (ℤ × V)) (i : ℕ) (q : ℤ) (p : ℤ × V) (v : V) → slice_get L i ≡ Some p → p.0 ≢ q
@@ -131,7 +129,7 @@ pub ruleset signed_keys = (
   signed_put_place,
   signed_put_others,
   signed_write_found,
-  signed_written_others,
+  signed_write_others,
   signed_set_others,
   signed_cut_gone,
   signed_cut_others,

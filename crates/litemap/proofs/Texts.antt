@@ -1,6 +1,7 @@
 -- Texts and bytes as keys: what look-ups find after a put, a write, a cut and a merge, and what clones of texts are. A caller's
 -- function takes these by an attribute, as `#[tactic(auto, using(litemap::proofs::Texts::string_keys))]`.
 --     string_keys      where keys are `String`, asked by keys;  text_keys      the same, asked by texts
+--     text_entries      those on puts and cuts alone, for a chain of `entry`
 --     byte_keys      where keys are `Vec<u8>`, asked by bytes;  str_keys      where keys are `&str` or `&[u8]`
 --     text_clones      the condition of `try_clone` and of the conversions where keys are `String`
 use Rattle.std.proofs.Common.{◌≡◌, ◌≢◌, ◌∷◌, ◌++◌, List, Some, None, Ok, IsSome, String, Vec, Bor, ℕ, cond, is_some, slice_get, slice_set}
@@ -16,7 +17,7 @@ use Rattle.std.specs.declared.cmp.Ordering.TheVariants.{Equal}
 use Rattle.litemap_store.specs.Merge.{Merge, left}
 use Rattle.litemap_store.specs.Pairs.{above, at, below, cut, index_of, key_or, place, put, value_at, write}
 use Rattle.litemap_store.specs.Queries.{by_slice, by_text}
-use Rattle.litemap_store.proofs.Lookups.{value_at-cut, value_at-cut_other, value_at-put, value_at-put_other, value_at-write}
+use Rattle.litemap_store.proofs.Lookups.{value_at-cut, value_at-cut_other, value_at-put, value_at-put_other, value_at-write, value_at-write_apart}
 use Rattle.litemap_store.proofs.Lookups.{index_of-put, key_or_equal, value_at-between_apart, value_at-cut_apart, value_at-set}
 use Rattle.litemap_store.proofs.Lookups.{value_at-written_apart}
 use Rattle.litemap_store.proofs.MergeLookups.{key_alike, key_same, value_at-left, value_at-merged}
@@ -45,8 +46,8 @@ module _ {K : Type 0} (bytes : K → List ℕ) where
       value_at-between_apart cmp k by u (slice_cmp nat_cmp u (bytes k)) (differs (bytes k) u n) (turned (bytes k) u) L (key_or (at cmp L k) k, v)
       (key_or_equal (on_texts bytes) k L)
 
-  written_others : {V : Type 0} (L : List (K × V)) (t u : List ℕ) (p : K × V) (v : V) → at by L t ≡ Some p → u ≢ t → value_at by (below by L t ++ (p.0, v) ∷ above by L t) u ≡ value_at by L u
-  written_others L t u p v is n = value_at-written_apart by t by u (slice_cmp nat_cmp u t) (differs t u n) (turned t u) L p v is
+  write_others : {V : Type 0} (L : List (K × V)) (t u : List ℕ) (v : V) → u ≢ t → value_at by (write by L t v) u ≡ value_at by L u
+  write_others L t u v n = value_at-write_apart by t by u (slice_cmp nat_cmp u t) (differs t u n) (turned t u) L v
 
   set_others : {V : Type 0} (L : List (K × V)) (i : ℕ) (u : List ℕ) (p : K × V) (v : V) → slice_get L i ≡ Some p → bytes p.0 ≢ u → value_at by (slice_set L i (p.0, v)) u ≡ value_at by L u
   set_others L i u p v is n = value_at-set by u L i p v is (λ e. n (exact_bytes (bytes p.0) u e))
@@ -102,10 +103,8 @@ module _ {V Z : Type 0} where
   pub text_write_found : (L : List (String Z × V)) (t : List ℕ) (v : V) → IsSome (at by_text L t) → value_at by_text (write by_text L t v) t ≡ Some v
   text_write_found L t v there = value_at-write by_text t L v there
 
-  -- what a write leaves where it finds the key
-  pub text_written_others : (L : List (String Z × V)) (t u : List ℕ) (p : String Z × V) (v : V) → at by_text L t ≡ Some p → u ≢ t
-      → value_at by_text (below by_text L t ++ (p.0, v) ∷ above by_text L t) u ≡ value_at by_text L u
-  text_written_others L t u p v is n = written_others (λ k. string_bytes k) L t u p v is n
+  pub text_write_others : (L : List (String Z × V)) (t u : List ℕ) (v : V) → u ≢ t → value_at by_text (write by_text L t v) u ≡ value_at by_text L u
+  text_write_others L t u v n = write_others (λ k. string_bytes k) L t u v n
 
   -- what a write at a place leaves where a pair is there
   pub text_set_others : (L : List (String Z × V)) (i : ℕ) (u : List ℕ) (p : String Z × V) (v : V) → slice_get L i ≡ Some p → string_bytes p.0 ≢ u
@@ -132,10 +131,8 @@ module _ {V Z : Type 0} where
   pub byte_write_found : (L : List (Vec ℕ Z × V)) (t : List ℕ) (v : V) → IsSome (at (by_slice nat_cmp) L t) → value_at (by_slice nat_cmp) (write (by_slice nat_cmp) L t v) t ≡ Some v
   byte_write_found L t v there = value_at-write (by_slice nat_cmp) t L v there
 
-  -- what a write leaves where it finds the key
-  pub byte_written_others : (L : List (Vec ℕ Z × V)) (t u : List ℕ) (p : Vec ℕ Z × V) (v : V) → at (by_slice nat_cmp) L t ≡ Some p → u ≢ t
-      → value_at (by_slice nat_cmp) (below (by_slice nat_cmp) L t ++ (p.0, v) ∷ above (by_slice nat_cmp) L t) u ≡ value_at (by_slice nat_cmp) L u
-  byte_written_others L t u p v is n = written_others (λ k. k.items) L t u p v is n
+  pub byte_write_others : (L : List (Vec ℕ Z × V)) (t u : List ℕ) (v : V) → u ≢ t → value_at (by_slice nat_cmp) (write (by_slice nat_cmp) L t v) u ≡ value_at (by_slice nat_cmp) L u
+  byte_write_others L t u v n = write_others (λ k. k.items) L t u v n
 
   pub byte_cut_gone : (L : List (Vec ℕ Z × V)) (t : List ℕ) → value_at (by_slice nat_cmp) (cut (by_slice nat_cmp) L t) t ≡ None
   byte_cut_gone L t = value_at-cut (by_slice nat_cmp) t L
@@ -187,7 +184,7 @@ pub ruleset text_keys = (
   text_put_place,
   text_put_others,
   text_write_found,
-  text_written_others,
+  text_write_others,
   text_set_others,
   text_cut_gone,
   text_cut_others,
@@ -196,7 +193,10 @@ pub ruleset text_keys = (
   other_places,
 )
 
-pub ruleset byte_keys = (byte_write_found, byte_written_others, byte_cut_gone, byte_cut_others, other_places)
+-- fewer of them, for a chain of `entry`: beside the others the search comes to its bound
+pub ruleset text_entries = (text_put_found, text_put_others, text_cut_gone, text_cut_others)
+
+pub ruleset byte_keys = (byte_write_found, byte_write_others, byte_cut_gone, byte_cut_others, other_places)
 
 pub ruleset str_keys = (
   str_put_found,

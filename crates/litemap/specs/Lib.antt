@@ -1,5 +1,6 @@
 -- The definitions that the contracts cite. Those of the sorted list are in `Pairs` of the crate `litemap_store`.
 pub mod ByBytes
+pub mod Changes
 pub mod Clones
 pub mod Comparisons
 pub mod Conversions
@@ -9,3 +10,5 @@ pub mod Lends
 pub mod Seen
 pub mod Steps
 pub mod TryFault
+pub mod Within
+pub mod Written

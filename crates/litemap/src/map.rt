@@ -13,7 +13,11 @@ mod iter;
 mod look;
 mod merge;
 mod places;
+mod ranges;
 mod slice;
+mod split;
+mod take;
+mod update;
 mod write;
 
 use becomes::Cloned;
@@ -120,11 +124,7 @@ impl<K: Ord, V, S: Store<K, V>> LiteMap<K, V, S> {
     ///
     /// ```rust
     /// let pairs = [(1, "Monday"), (3, "Wednesday")].to_vec(alloc)?;
-    /// if !Days::is_sorted_store(&pairs) {
-    ///     return Ok(false);
-    /// }
-    /// let days: Days = LiteMap::from_sorted_store_unchecked(pairs);
-    /// Ok(days.get(&3) == Some(&"Wednesday"))
+    /// Ok(Days::is_sorted_store(&pairs))
     /// ```
     pub fn is_sorted_store(store: &S) -> bool
         ensures { IsTrue result ↔ Rising K.cmp (S.pairs store.now) }

@@ -18,8 +18,8 @@ use std::alloc::Global;
 /// arrays of exactly a key and an item. Of equal keys the last pair stays, whole, in the order that the value holds.
 ///
 /// The fault is that of the first place that spells no pair; `Memory` may come in place of a fault at the same or a later
-/// place. All pairs are gathered before a map is made, and moved into it by `extend`: where they rise that is one
-/// comparison for each, else a sort. The Rust crate has serde's `Deserialize` here.
+/// place. All pairs are gathered before a map is made, and moved into it by `extend_from_vec`: where they rise that
+/// is one comparison for each, else a sort. The Rust crate has serde's `Deserialize` here.
 ///
 /// ```rust
 /// let value = Value::from_str(alloc, r#"{"10":9,"3":8}"#)?;
@@ -37,7 +37,7 @@ pub fn from_json<K: JsonKey + Drop, V: JsonItem + Drop, S: StoreBulkMut<K, V>>(
 {
     let pairs = pairs_of(alloc, value)?;
     let mut map = LiteMap::with_capacity(alloc, 0)?;
-    map.extend(alloc, pairs)?;
+    map.extend_from_vec(alloc, pairs)?;
     Ok(map)
 }
 
@@ -126,13 +126,12 @@ fn read_members<K: JsonKey + Drop, V: JsonItem + Drop>(
     let mut found = Vec::new(alloc);
     let mut place = 0usize;
     // The places stay below the number of members: its bound is known from here on.
-    let count = members.len();
+    let _count = members.len();
     for (name, member) in members.iter() {
         let pair = read_member(alloc, place, name, member)?;
         push_pair(&mut found, pair)?;
         place += 1;
     }
-    let _ = count;
     Ok(found)
 }
 

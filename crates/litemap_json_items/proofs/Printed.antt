@@ -58,57 +58,8 @@ whole_of_text-printed z f =
     rw (value, same)
 
 -- a printed number that fits is read
-read_printed : (fits : ℤ → Bool) (z : ℤ) → fits z ≡ true → FitsSigned w128 z → whole_key fits (signed_decimal z) ≡ Some (whole_json z)
-read_printed fits z h f = rw (whole_of_text-printed z f, h)
-
-unsigned_read : (bits n : ℕ) → bits ≤ 64 → n < 2 ^ bits → whole_key (unsigned_fits bits) (decimal n) ≡ Some (whole_json (pos n))
-unsigned_read bits n b h = read_printed (unsigned_fits bits) (pos n) (lt-ltb n (2 ^ bits) h) (fits_w128 (pos n) (lt-ltb n (2 ^ 127) (omega (arith, pow_mono {i = bits} {j = 64} b))))
-
-signed_read : (bits : ℕ) (z : ℤ) → bits ≤ 63 → signed_fits bits z ≡ true → whole_key (signed_fits bits) (signed_decimal z) ≡ Some (whole_json z)
-signed_read bits (pos n) b h =
-    read_printed (signed_fits bits) (pos n) h (fits_w128 (pos n) (lt-ltb n (2 ^ 127) (omega (arith, ltb-true n (2 ^ bits) h, pow_mono {i = bits} {j = 63} b))))
-signed_read bits (negsuc n) b h =
-    read_printed (signed_fits bits) (negsuc n) h (fits_w128 (negsuc n) (lt-ltb n (2 ^ 127) (omega (arith, ltb-true n (2 ^ bits) h, pow_mono {i = bits} {j = 63} b))))
-
-pub read_u8 : (n : ℕ) → n < 2 ^ 8 → whole_key (unsigned_fits 8) (decimal n) ≡ Some (whole_json (pos n))
-read_u8 n h = unsigned_read 8 n (omega arith) h
-
-pub read_u16 : (n : ℕ) → n < 2 ^ 16 → whole_key (unsigned_fits 16) (decimal n) ≡ Some (whole_json (pos n))
-read_u16 n h = unsigned_read 16 n (omega arith) h
-
-pub read_u32 : (n : ℕ) → n < 2 ^ 32 → whole_key (unsigned_fits 32) (decimal n) ≡ Some (whole_json (pos n))
-read_u32 n h = unsigned_read 32 n (omega arith) h
-
-pub read_u64 : (n : ℕ) → n < 2 ^ 64 → whole_key (unsigned_fits 64) (decimal n) ≡ Some (whole_json (pos n))
-read_u64 n h = unsigned_read 64 n (omega arith) h
-
-fits_i8 : (z : ℤ) → FitsSigned w8 z → signed_fits 7 z ≡ true
-fits_i8 (pos n) f = lt-ltb n (2 ^ 7) (omega (arith, ints))
-fits_i8 (negsuc n) f = lt-ltb n (2 ^ 7) (omega (arith, ints))
-
-pub read_i8 : (z : ℤ) → FitsSigned w8 z → whole_key (signed_fits 7) (signed_decimal z) ≡ Some (whole_json z)
-read_i8 z f = signed_read 7 z (omega arith) (fits_i8 z f)
-
-fits_i16 : (z : ℤ) → FitsSigned w16 z → signed_fits 15 z ≡ true
-fits_i16 (pos n) f = lt-ltb n (2 ^ 15) (omega (arith, ints))
-fits_i16 (negsuc n) f = lt-ltb n (2 ^ 15) (omega (arith, ints))
-
-pub read_i16 : (z : ℤ) → FitsSigned w16 z → whole_key (signed_fits 15) (signed_decimal z) ≡ Some (whole_json z)
-read_i16 z f = signed_read 15 z (omega arith) (fits_i16 z f)
-
-fits_i32 : (z : ℤ) → FitsSigned w32 z → signed_fits 31 z ≡ true
-fits_i32 (pos n) f = lt-ltb n (2 ^ 31) (omega (arith, ints))
-fits_i32 (negsuc n) f = lt-ltb n (2 ^ 31) (omega (arith, ints))
-
-pub read_i32 : (z : ℤ) → FitsSigned w32 z → whole_key (signed_fits 31) (signed_decimal z) ≡ Some (whole_json z)
-read_i32 z f = signed_read 31 z (omega arith) (fits_i32 z f)
-
-fits_i64 : (z : ℤ) → FitsSigned w64 z → signed_fits 63 z ≡ true
-fits_i64 (pos n) f = lt-ltb n (2 ^ 63) (omega (arith, ints))
-fits_i64 (negsuc n) f = lt-ltb n (2 ^ 63) (omega (arith, ints))
-
-pub read_i64 : (z : ℤ) → FitsSigned w64 z → whole_key (signed_fits 63) (signed_decimal z) ≡ Some (whole_json z)
-read_i64 z f = signed_read 63 z (omega arith) (fits_i64 z f)
+pub read_whole : (fits : ℤ → Bool) (z : ℤ) → fits z ≡ true → signed_fits 127 z ≡ true → whole_key fits (signed_decimal z) ≡ Some (whole_json z)
+read_whole fits z h f = rw (whole_of_text-printed z (fits_w128 z f), h)
 
 -- a text that `parse` refuses is no such number's
 unread_at : {E : Type 0} (t u : Bool) (s : List ℕ) (z : ℤ) (r : Result ℤ E) → bytes_eq (signed_decimal z) s ≡ t → signed_fits 127 z ≡ u → ParsesSigned w128 10 s r → ((y : ℤ) → r ≡ Ok y → ⊥)

@@ -1,3 +1,4 @@
 -- The definitions that the contracts cite. `Item` is the page to read first.
 pub mod Item
 pub mod OneTree
+pub mod Widths

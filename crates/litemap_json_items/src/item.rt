@@ -74,6 +74,16 @@ pub trait JsonItem {
     /// ```
     fn from_value(alloc: Global, value: &Value) -> Result<Self, ItemFault>
         ensures { Answers json (item (view value.now)) result };
+
+    /// What a JSON value has to be to spell a value of the type, in words that `is wanted` can follow: for a fault that is
+    /// shown to people. A type that says nothing of it has the words here.
+    ///
+    /// ```rust
+    /// Ok(u16::wanted() == "a whole number of 16 bits")
+    /// ```
+    fn wanted() -> &'static str {
+        "a value of the type"
+    }
 }
 
 /// A type whose values are written as the keys of a map: as the names of an object's members where they have texts, else

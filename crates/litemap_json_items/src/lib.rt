@@ -4,9 +4,8 @@
 mod item;
 mod numbers;
 mod pairs;
-mod signed;
 mod simple;
-mod unsigned;
+mod whole;
 
 pub use item::{ItemFault, JsonItem, JsonKey};
 pub use pairs::{array_of_two, two_items};

@@ -1,11 +1,11 @@
 //! Whole numbers of any width, as items and as texts.
-ghost use Rattle.std.specs.Prelude.{◌≡◌, IfOk};
+ghost use Rattle.std.specs.Prelude.{◌≡◌};
 ghost use Rattle.serde_json.specs.View.{view};
 ghost use Rattle.litemap_json_items.specs.Item.{kept, signed_fits, whole_of, whole_of_text};
 
 use crate::item::ItemFault;
+use itoa::Buffer;
 use serde_json::Value;
-use std::alloc::{AllocError, Global};
 
 /// The whole number that a value is.
 pub(crate) fn whole(value: &Value) -> Result<i128, ItemFault>
@@ -18,15 +18,15 @@ pub(crate) fn whole(value: &Value) -> Result<i128, ItemFault>
 }
 
 /// The whole number that is printed as this text: no plus sign, no leading zeros, `-` only before a negative number.
-pub(crate) fn printed(alloc: Global, text: &str) -> Result<Option<i128>, AllocError>
-    ensures { IfOk result (λ number. number ≡ kept (signed_fits 127) (whole_of_text text.now)) }
+pub(crate) fn printed(text: &str) -> Option<i128>
+    ensures { result ≡ kept (signed_fits 127) (whole_of_text text.now) }
 {
     let Ok(number) = text.parse::<i128>() else {
-        return Ok(None);
+        return None;
     };
-    if number.to_string(alloc)?.as_str() == text {
-        Ok(Some(number))
+    if Buffer::new().format(number) == text {
+        Some(number)
     } else {
-        Ok(None)
+        None
     }
 }

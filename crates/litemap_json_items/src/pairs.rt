@@ -60,6 +60,10 @@ impl<A: JsonItem + Drop, B: JsonItem + Drop> JsonItem for (A, B) {
         let b = B::from_value(alloc, second)?;
         Ok((a, b))
     }
+
+    fn wanted() -> &'static str {
+        "an array of exactly two, each of its type,"
+    }
 }
 
 impl<A: JsonKey + Drop, B: JsonKey + Drop> JsonKey for (A, B) {

@@ -1,27 +1,42 @@
 //! Truth values and texts.
-ghost use Rattle.std.specs.Prelude.{Some, string_bytes};
+ghost use Rattle.std.specs.Prelude.{◌≡◌, ◌≢◌, Some, Ok, Err, IfOk, IfSome, IsOk, OnOk, option_map, string_bytes};
 ghost use Rattle.serde_json.specs.Data.{boolean, string};
-ghost use Rattle.litemap_json_items.specs.Item.{bool_item, bool_key, bool_text, text_item};
+ghost use Rattle.serde_json.specs.View.{view};
+ghost use Rattle.litemap_json_items.specs.Item.{Answers, bool_item, bool_key, bool_text, text_item};
 ghost use Rattle.litemap_json_items.specs.OneTree.{bool_one_tree, text_one_tree};
+ghost use Rattle.litemap_json_items.specs.declared.item.ItemFault.TheVariants.{Memory};
 
 use crate::item::{ItemFault, JsonItem, JsonKey};
 use serde_json::Value;
 use std::alloc::{AllocError, Global};
 
+/// No call takes memory, so none is refused.
 impl JsonItem for bool {
     ghost json = { boolean };
 
     ghost item = { bool_item };
 
-    fn to_value(&self, _alloc: Global) -> Result<Value, AllocError> {
+    fn to_value(&self, _alloc: Global) -> Result<Value, AllocError>
+        ensures tree { IfOk result (λ value. view value ≡ boolean self.now) }
+        ensures reads_back { OnOk result (bool_item (boolean self.now) ≡ Ok (boolean self.now)) }
+        ensures succeeds { IsOk result }
+    {
         Ok(Value::from(*self))
     }
 
-    fn from_value(_alloc: Global, value: &Value) -> Result<bool, ItemFault> {
+    fn from_value(_alloc: Global, value: &Value) -> Result<bool, ItemFault>
+        ensures answers { Answers boolean (bool_item (view value.now)) result }
+        ensures no_memory { result ≢ Err Memory }
+    {
         value.as_bool().ok_or(ItemFault::Shape)
+    }
+
+    fn wanted() -> &'static str {
+        "a truth value"
     }
 }
 
+/// Only `key_text` takes memory; `from_key_text` is never refused.
 impl JsonKey for bool {
     ghost text = { λ b. Some (bool_text b) };
 
@@ -31,7 +46,11 @@ impl JsonKey for bool {
         Ok(Some(String::from_str(alloc, if *self { "true" } else { "false" })?))
     }
 
-    fn from_key_text(_alloc: Global, name: &str) -> Result<Option<bool>, AllocError> {
+    fn from_key_text(_alloc: Global, name: &str) -> Result<Option<bool>, AllocError>
+        ensures key { IfOk result (λ found. option_map boolean found ≡ bool_key name.now) }
+        ensures one_spelling { IfOk result (λ found. IfSome found (λ b. Some (bool_text b) ≡ Some name.now)) }
+        ensures succeeds { IsOk result }
+    {
         match name {
             "true" => Ok(Some(true)),
             "false" => Ok(Some(false)),
@@ -56,6 +75,10 @@ impl JsonItem for String {
             None => Err(ItemFault::Shape),
             Some(text) => String::from_str(alloc, text).map_err(|_| ItemFault::Memory),
         }
+    }
+
+    fn wanted() -> &'static str {
+        "a text"
     }
 }
 

@@ -186,6 +186,9 @@ taken_last (y ∷ L) (suc i) x h e = ap (λ M. y ∷ M) (taken_last L i x (omega
 pub reverse_behind : {X : Type 0} (M L : List X) (x : X) → (M ++ x ∷ []) ++ reverse L ≡ M ++ reverse (L ++ x ∷ [])
 reverse_behind M L x = rw (append_assoc, reverse-append) refl
 
+pub reverse_push : {X : Type 0} (L N : List X) (x : X) → N ≡ L ++ x ∷ [] → reverse N ≡ x ∷ reverse L
+reverse_push L N x e = ap reverse e ∙ reverse-append L (x ∷ [])
+
 pub Last-of_none : {K V : Type 0} (cmp : K → K → Ordering) (A B : List (K × V)) → A ≡ [] → B ≡ [] → Last cmp (A ++ B) []
 Last-of_none cmp A B e f = rw (e, f) (Last-rising cmp [] tt)
 

@@ -15,6 +15,7 @@ pub mod vector;
 use crate::count::Count;
 use crate::extend::merge::merge;
 use crate::extend::sort::sort_last;
+use crate::reserved::append_each;
 use crate::store::{Store, StoreMut};
 use std::alloc::{AllocError, Global};
 
@@ -97,7 +98,7 @@ fn put_rising<K: Ord + Drop, V: Drop, S: StoreMut<K, V> + Drop>(
     }
     if goes_behind(store, &pairs, count) {
         store.lm_reserve(pairs.len())?;
-        append(store, pairs);
+        append_each(store, pairs.into_iter());
         return Ok(());
     }
     merge(alloc, store, pairs, count)
@@ -134,16 +135,4 @@ pub(crate) fn goes_behind<K: Ord, V, S: Store<K, V>>(
         return true;
     };
     count.cmp(last, first).is_lt()
-}
-
-// Puts pairs behind those of the store, which has room for them.
-fn append<K: Drop, V: Drop, S: StoreMut<K, V>>(store: &mut S, pairs: Vec<(K, V)>)
-    requires { length pairs.items ≤ S.room store.old }
-    ensures { S.pairs store.new ≡ S.pairs store.old ++ pairs.items }
-{
-    for (key, value) in pairs {
-        let Ok(()) = store.lm_push(key, value) else {
-            unreachable!()
-        };
-    }
 }

@@ -5,6 +5,7 @@ ghost use Rattle.std.specs.Vec.Iter.{into_iter_items};
 ghost use Rattle.litemap_store.specs.IntoIter.{count_is, first_is};
 
 use crate::no_room::NoRoom;
+use crate::reserved::append_each;
 use crate::store::{Store, StoreMut};
 use std::mem;
 use std::vec::IntoIter;
@@ -129,17 +130,5 @@ impl<K: Drop, V: Drop> StoreIntoIterator<K, V> for Vec<(K, V)> {
             }
             Err(_) => Err(NoRoom { back: other }),
         }
-    }
-}
-
-// Puts the pairs that an iterator hands over behind those of the store, which has room for them.
-fn append_each<K: Drop, V: Drop, S: StoreMut<K, V>, I: PairIntoIter<K, V>>(store: &mut S, pairs: I)
-    requires { length (I.owned pairs) ≤ S.room store.old }
-    ensures { S.pairs store.new ≡ S.pairs store.old ++ I.owned pairs }
-{
-    for (key, value) in pairs {
-        let Ok(()) = store.lm_push(key, value) else {
-            unreachable!()
-        };
     }
 }

@@ -11,6 +11,7 @@ mod into_iter;
 pub mod laws;
 mod no_room;
 mod query;
+mod reserved;
 mod retain;
 mod slice_impl;
 mod slice_iter;

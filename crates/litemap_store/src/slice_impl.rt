@@ -68,7 +68,7 @@ impl<'a, K, V> Store<K, V> for SliceStore<'a, K, V> {
         f: F,
         count: &mut Count,
     ) -> Result<usize, usize> {
-        slice_search::find(&SliceIter::new(self.pairs), f, count)
+        slice_search::find(&self.lm_iter(), f, count)
     }
 }
 

@@ -35,7 +35,7 @@ impl<K, V> Store<K, V> for Vec<(K, V)> {
         f: F,
         count: &mut Count,
     ) -> Result<usize, usize> {
-        slice_search::find(&SliceIter::new(self.as_slice()), f, count)
+        slice_search::find(&self.lm_iter(), f, count)
     }
 }
 
@@ -92,7 +92,8 @@ impl<K, V> StoreMut<K, V> for Vec<(K, V)> {
 
     fn lm_remove(&mut self, index: usize) -> (K, V) {
         if index == self.len() - 1 {
-            return take_last(self);
+            // The last pair leaves with no other to move.
+            return self.take_last();
         }
         self.remove(index)
     }
@@ -186,13 +187,4 @@ impl<K: Drop, V: Drop> StoreFromIterator<K, V> for Vec<(K, V)> {
     ) -> Result<Self, AllocError> {
         gather(alloc, iter)
     }
-}
-
-// The last item, which leaves with no other to move.
-fn take_last<T>(items: &mut Vec<T>) -> T
-    requires { 0 < length items.old.items }
-    ensures old { slice_get items.old.items (length items.old.items - 1) ≡ Some result }
-    ensures items { items.new.items ≡ remove items.old.items (length items.old.items - 1) }
-{
-    items.take_last()
 }

@@ -1,6 +1,6 @@
 //! What `try_get_or_insert` leaves of a map at each of its ends: the key was there, a value was made,
 //! the closure failed, and there was no room. Its contract can't say it.
-use litemap::store::StoreMut;
+use litemap::store::{ColumnStore, StoreMut};
 use litemap::{LiteMap, TryFault};
 use std::alloc::{AllocError, Global};
 use std::test::Fail;
@@ -109,6 +109,12 @@ fn is_right_in_vector(alloc: Global, list: &[(u32, u32)], case: Case) -> Result<
     Ok(is_right && (len > before || capacity == before))
 }
 
+// Two columns are left right, too.
+fn is_right_in_columns(alloc: Global, list: &[(u32, u32)], case: Case) -> Result<bool, AllocError> {
+    let (is_right, _map, _len) = try_one::<ColumnStore<u32, u32>>(alloc, list, case, true)?;
+    Ok(is_right)
+}
+
 // The first key or gap at which a call on a list of this length is wrong.
 fn first_wrong(
     alloc: Global,
@@ -119,7 +125,10 @@ fn first_wrong(
     let list = odd_pairs(alloc, len)?;
     for key in 0..len.wrapping_mul(2).wrapping_add(1) {
         let case = Case { spare, key, answer };
-        if !is_right_in_fixed(alloc, &list, case)? || !is_right_in_vector(alloc, &list, case)? {
+        let is_right = is_right_in_fixed(alloc, &list, case)?
+            && is_right_in_vector(alloc, &list, case)?
+            && is_right_in_columns(alloc, &list, case)?;
+        if !is_right {
             return Ok(Some(key));
         }
     }

@@ -1,3 +1,4 @@
+pub mod EachRead
 pub mod FaultLemmas
 pub mod NumberLemmas
 pub mod OneReading

@@ -1,6 +1,6 @@
 -- Bytes have one reading at most: one table, or one fault.
 use Rattle.std.proofs.Common.{◌≡◌, ℕ, ◌+◌, List, [], ◌∷◌, ◌++◌, length, refl, sym, ap, ◌∙◌, subst, arith, ⊎_elim, append_assoc, append-nil, length-append}
-use Rattle.name_table.specs.Faults.{NumberFault, TextFault, PartFault, AreOfTable, TableFault}
+use Rattle.name_table.specs.Faults.{Fault, NumberFault, TextFault, PartFault, AreOfTable, TableFault}
 use Rattle.name_table.specs.Numbers.{GoesOn, EndsAtLast, IsCut, IsTooLarge}
 use Rattle.name_table.specs.Parts.{Part, Number, Text, AreParts, Begins, pair_parts, table_parts}
 use Rattle.name_table.specs.declared.fault.NameFault.{NameFault}
@@ -26,19 +26,24 @@ agree_longer (x ∷ xs) ys y g = agree_longer xs ys y (g.1 refl)
 append_none : (xs : List Part) → xs ++ [] ≡ xs
 append_none xs = append-nil xs
 
-pub table_no_fault : (bytes : List ℕ) (J : List (List ℕ × List ℕ)) (rest : List ℕ) (fault : NameFault) → Begins bytes (table_parts J) rest → TableFault bytes fault → ⊥
-table_no_fault bytes J rest fault p w =
-    let xs = table_parts J in
-    let A : List Part → Type 0 = λ ys. Agree (table_parts J) ys in
+-- where bytes begin with parts that agree with all that are allowed, none of these has a fault
+pub parts_no_fault : {Allowed : List Part → Type 0} (bytes rest : List ℕ) (xs : List Part) (place : ℕ) (fault : NameFault) → ((ys : List Part) → Allowed ys → Agree xs ys) → Begins bytes xs rest → Fault Allowed bytes place fault → ⊥
+parts_no_fault bytes rest xs place fault agrees p w =
+    let A : List Part → Type 0 = λ ys. Agree xs ys in
     let B : List Part → Type 0 = λ ys. Agree ys (w.done ++ w.due ∷ w.more) in
-    let g : Agree (table_parts J) (w.done ++ w.due ∷ w.more) = subst A (sym w.allowed.1) (agree_tables J w.allowed.0) in
-    let i = fault_past (table_parts J) [] w.done w.due w.more p.front rest w.front w.rest (0 + length w.front) fault (subst B (sym (append_none (table_parts J))) g) p.spelled w.spelled (sym p.split ∙ w.split) w.why in
-    let h : w.done ++ w.due ∷ w.more ≡ table_parts J ++ (i.parts ++ w.due ∷ w.more) = ap (λ ys. ys ++ w.due ∷ w.more) i.is_done ∙ append_assoc (table_parts J) i.parts (w.due ∷ w.more) in
-    longer (table_parts J) i.parts w.more w.due (subst A h g)
+    let g : Agree xs (w.done ++ w.due ∷ w.more) = agrees (w.done ++ w.due ∷ w.more) w.allowed in
+    let i = fault_past xs [] w.done w.due w.more p.front rest w.front w.rest (place + length w.front) fault (subst B (sym (append_none xs)) g) p.spelled w.spelled (sym p.split ∙ w.split) w.why in
+    let h : w.done ++ w.due ∷ w.more ≡ xs ++ (i.parts ++ w.due ∷ w.more) = ap (λ ys. ys ++ w.due ∷ w.more) i.is_done ∙ append_assoc xs i.parts (w.due ∷ w.more) in
+    longer xs i.parts w.more w.due (subst A h g)
   where
     longer : (xs parts more : List Part) (due : Part) → Agree xs (xs ++ (parts ++ due ∷ more)) → ⊥
     longer xs [] more due g = agree_longer xs more due g
     longer xs (y ∷ parts) more due g = agree_longer xs (parts ++ due ∷ more) y g
+
+pub table_no_fault : (bytes : List ℕ) (J : List (List ℕ × List ℕ)) (rest : List ℕ) (fault : NameFault) → Begins bytes (table_parts J) rest → TableFault bytes fault → ⊥
+table_no_fault bytes J rest fault p w =
+    let A : List Part → Type 0 = λ ys. Agree (table_parts J) ys in
+    parts_no_fault bytes rest (table_parts J) 0 fault (λ ys a. subst A (sym a.1) (agree_tables J a.0)) p w
 
 -- ---- one fault
 

@@ -5,7 +5,7 @@ use Rattle.std.proofs.lemmas.List.{length-replicate}
 use Rattle.name_table.specs.Faults.{Fault, PartFault, AreOfPairs, AreOfText}
 use Rattle.name_table.specs.Parts.{Part, Begins, text_parts, pair_parts}
 use Rattle.name_table.specs.ReadOn.{IsReadOn}
-use Rattle.name_table.specs.Remaining.{Remaining, shown, CanBeRead, AllCanBeRead}
+use Rattle.name_table.specs.Remaining.{Remaining, shown, CanBeRead, AllCanBeRead, IsNext}
 use Rattle.name_table.specs.declared.fault.NameFault.{NameFault}
 use Rattle.name_table.proofs.FaultLemmas.{fault_behind, fault_where, fault_wider}
 use Rattle.name_table.proofs.PartLemmas.{begins_none, begins_pair, begins_pairs, begins_split}
@@ -37,11 +37,6 @@ value_fault s middle key place f h b e w =
     (λ xs a. (pair_parts more, ((key, a.0) ∷ more, omega (arith, l, h), ap (λ ys. text_parts key ++ (ys ++ pair_parts more)) a.1))) w)
 
 -- ---- t is s once the next pair p is read
-
-pub record IsNext (s t : Remaining) (p : List ℕ × List ℕ) : Type 0 where
-  pub spelled : Begins s.rest (pair_parts (p ∷ [])) t.rest
-  pub place : t.place ≡ s.place + length spelled.front
-  pub count : s.left ≡ t.left + 1
 
 -- from the texts of its key and its value
 pub is_next : (s : Remaining) (key value middle rest : List ℕ) → Begins s.rest (text_parts key) middle → Begins middle (text_parts value) rest → s.left ≢ 0 → IsNext s (record { rest = rest; place = s.place + (length s.rest - length middle) + (length middle - length rest); left = s.left - 1 }) (key, value)

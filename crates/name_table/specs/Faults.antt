@@ -2,6 +2,7 @@
 use Rattle.std.specs.Prelude.{◌≡◌, ℕ, ◌+◌, ◌<◌, ◌≤◌, List, ◌∷◌, ◌++◌, length, take, IsUtf8}
 use Rattle.name_table.specs.Numbers.{IsCut, IsTooLarge}
 use Rattle.name_table.specs.Parts.{Part, Number, Text, AreParts, text_parts, pair_parts, table_parts}
+use Rattle.name_table.specs.Remaining.{Remaining}
 use Rattle.name_table.specs.declared.fault.NameFault.{NameFault}
 use Rattle.name_table.specs.declared.fault.NameFault.TheVariants.{Truncated, NotUtf8, NumberTooLarge}
 
@@ -41,6 +42,10 @@ AreOfText parts = (text : List ℕ) × (parts ≡ text_parts text)
 -- the parts are those of so many pairs
 abbrev pub AreOfPairs : ℕ → List Part → Type 0
 AreOfPairs n parts = (pairs : List (List ℕ × List ℕ)) × (length pairs ≡ n) × (parts ≡ pair_parts pairs)
+
+-- a pair that is due can't be read: this is why
+abbrev pub PairsFault : Remaining → NameFault → Type 0
+PairsFault s fault = Fault (AreOfPairs s.left) s.rest s.place fault
 
 -- the parts are those of a table
 abbrev pub AreOfTable : List Part → Type 0

@@ -1,5 +1,5 @@
 -- The laws over the definitions, which the functions of the module `laws` have as their contracts.
-use Rattle.std.specs.Prelude.{◌≡◌, ℕ, List}
+use Rattle.std.specs.Prelude.{◌≡◌, ◌⊎◌, ℕ, List}
 use Rattle.name_table.specs.Faults.{TableFault}
 use Rattle.name_table.specs.Parts.{Begins, table_parts}
 use Rattle.name_table.specs.declared.fault.NameFault.{NameFault}
@@ -17,3 +17,8 @@ TableHasNoFault = (bytes : List ℕ) (J : List (List ℕ × List ℕ)) (rest : L
 -- bytes have one fault at most
 abbrev pub FaultIsOne : Type 0
 FaultIsOne = (bytes : List ℕ) (f g : NameFault) → TableFault bytes f → TableFault bytes g → f ≡ g
+
+-- each list of bytes begins with a table, or has a fault
+abbrev pub EachIsRead : Type 0
+EachIsRead = (bytes : List ℕ)
+    → ((J : List (List ℕ × List ℕ)) × (rest : List ℕ) × Begins bytes (table_parts J) rest) ⊎ ((fault : NameFault) × TableFault bytes fault)

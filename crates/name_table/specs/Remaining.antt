@@ -36,3 +36,9 @@ pub record AllCanBeRead (s : Remaining) : Type 0 where
 pub record IsCounted (bytes : List ℕ) (s : Remaining) : Type 0 where
   pub spelled : Begins bytes (Number s.left ∷ []) s.rest
   pub place : s.place ≡ length spelled.front
+
+-- t is s once the next pair is read
+pub record IsNext (s t : Remaining) (pair : List ℕ × List ℕ) : Type 0 where
+  pub spelled : Begins s.rest (pair_parts (pair ∷ [])) t.rest
+  pub place : t.place ≡ s.place + length spelled.front
+  pub count : s.left ≡ t.left + 1

@@ -1,7 +1,9 @@
 //! Why a name table can't be read, and why none is written.
 ghost use Rattle.std.specs.Prelude.{◌≡◌};
+ghost use Rattle.litemap_read.specs.declared.source.ReadFault.TheVariants.{Source};
 ghost use Rattle.name_table.specs.declared.fault.NameWriteFault.TheVariants.{NoRoom};
 
+use litemap_read::ReadFault;
 use std::alloc::AllocError;
 use thiserror::Error;
 
@@ -50,5 +52,14 @@ impl From<AllocError> for NameWriteFault {
 
     fn from(_: AllocError) -> Self {
         NameWriteFault::NoRoom
+    }
+}
+
+/// So that `?` hands a fault of the format on where reading a map may also want memory.
+impl From<NameFault> for ReadFault<NameFault> {
+    ghost from_gives = { λ fault result. result ≡ Source fault };
+
+    fn from(fault: NameFault) -> Self {
+        ReadFault::Source(fault)
     }
 }

@@ -6,6 +6,7 @@ mod fault;
 pub mod laws;
 mod name_bytes;
 mod number;
+pub mod parts;
 mod read;
 mod text;
 mod write;

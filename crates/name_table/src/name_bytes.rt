@@ -1,7 +1,8 @@
 //! The entries of a name table as a source of pairs.
-ghost use Rattle.std.specs.Prelude.{◌≡◌, IfErr, IfOk, Some};
-ghost use Rattle.name_table.specs.Faults.{AreOfPairs, Fault, NumberFault};
-ghost use Rattle.name_table.specs.Remaining.{AllCanBeRead, CanBeRead, IsCounted};
+ghost use Rattle.std.specs.Prelude.{◌≡◌, ◌↔◌, IfErr, IfOk, IfSome, Some};
+ghost use Rattle.litemap_read.specs.Source.{GivesNext};
+ghost use Rattle.name_table.specs.Faults.{NumberFault, PairsFault};
+ghost use Rattle.name_table.specs.Remaining.{AllCanBeRead, CanBeRead, IsCounted, IsNext, shown};
 ghost use Rattle.name_table.specs.ReadOn.{IsReadOn, read_on_itself, read_on_further};
 
 use crate::fault::NameFault;
@@ -84,15 +85,15 @@ impl<'a> NameBytes<'a> {
 impl<'a> PairSource<&'a str, &'a str> for NameBytes<'a> {
     type Fault = NameFault;
 
-    ghost gives = { λ s pairs. CanBeRead s pairs };
+    ghost gives = { CanBeRead };
 
     ghost left = { λ s. s.left };
 
-    ghost allows = { λ s fault. Fault (AreOfPairs s.left) s.rest s.place fault };
+    ghost allows = { PairsFault };
 
-    ghost ends = { λ s. AllCanBeRead s };
+    ghost ends = { AllCanBeRead };
 
-    ghost leads = { λ s t. IsReadOn s t };
+    ghost leads = { IsReadOn };
 
     /// The number of entries that are due.
     ///
@@ -109,7 +110,14 @@ impl<'a> PairSource<&'a str, &'a str> for NameBytes<'a> {
         Some(self.left)
     }
 
-    fn next_pair(&mut self) -> Result<Option<(&'a str, &'a str)>, NameFault> {
+    /// The next entry, `None` at the end, or the fault of the first number or text that can't be read.
+    fn next_pair(&mut self) -> Result<Option<(&'a str, &'a str)>, NameFault>
+        ensures next { GivesNext CanBeRead (λ s. s.left) PairsFault AllCanBeRead self.old result self.new }
+        ensures keeps_faults { (fault : _) → PairsFault self.new fault ↔ PairsFault self.old fault }
+        ensures keeps_end { AllCanBeRead self.new ↔ AllCanBeRead self.old }
+        ensures leads { IsReadOn self.old self.new }
+        ensures read { IfOk result (λ read. IfSome read (λ pair. IsNext self.old self.new (shown pair))) }
+    {
         if self.left == 0 {
             return Ok(None);
         }

@@ -1,7 +1,8 @@
 //! Name tables written from maps.
-ghost use Rattle.std.specs.Prelude.{IfErr, IfOk, OnOk, ◌∷◌, [], ◌≤◌, length, map};
+ghost use Rattle.std.specs.Prelude.{◌≡◌, Err, IfErr, IfOk, OnOk, ◌∷◌, [], ◌≤◌, length, map};
 ghost use Rattle.name_table.specs.Parts.{Number, pair_parts, table_parts, text_parts};
 ghost use Rattle.name_table.specs.Remaining.{shown};
+ghost use Rattle.name_table.specs.declared.fault.NameWriteFault.TheVariants.{TooLarge};
 ghost use Rattle.name_table.specs.Writes.{Appends, AppendsNumber, IfTooLarge, IsReadAgain, IsShortest, NoTable};
 
 use crate::fault::NameWriteFault;
@@ -65,6 +66,7 @@ fn put_text(bytes: &mut Vec<u8>, text: &str) -> Result<(), NameWriteFault>
 fn put_length(bytes: &mut Vec<u8>, size: usize) -> Result<(), NameWriteFault>
     ensures ok { OnOk result (Appends bytes.old.items bytes.new.items (Number size ∷ [])) }
     ensures too_large { IfErr result (λ fault. IfTooLarge fault (4294967296 ≤ size)) }
+    ensures refused { 4294967296 ≤ size → result ≡ Err TooLarge }
 {
     if size >= 4_294_967_296 {
         return Err(NameWriteFault::TooLarge);

@@ -1,14 +1,14 @@
 //! What answers each line, and the exit status.
-use crate::fakes::LINES;
-use names::{Watch, run};
+use crate::runs::{Kept, LINES, STORES, run_kept};
+use names::Watch;
 use std::alloc::Global;
 use std::test::Fail;
 
-fn status_and_out(alloc: Global, input: &[u8]) -> (u8, Vec<u8>) {
+fn status_and_out(alloc: Global, kept: Kept, input: &[u8]) -> (u8, Vec<u8>) {
     let mut out = Vec::new(alloc);
     let mut reader = Watch::new(input);
     let mut writer = Watch::new(&mut out);
-    let status = run(alloc, &mut reader, &mut writer);
+    let status = run_kept(alloc, kept, &mut reader, &mut writer);
     (status, out)
 }
 
@@ -63,9 +63,11 @@ fn lines_and_their_answers(rt: HostRuntime) -> Result<(), Fail> {
         ),
     ];
     for (input, status, out) in runs {
-        let (found, text) = status_and_out(rt.alloc(), input);
-        assert_eq!(rt; found, status);
-        assert_eq!(rt; text.as_slice(), out);
+        for kept in STORES {
+            let (found, text) = status_and_out(rt.alloc(), kept, input);
+            assert_eq!(rt; found, status, "{kept:?}");
+            assert_eq!(rt; text.as_slice(), out, "{kept:?}");
+        }
     }
     Ok(())
 }
@@ -109,9 +111,11 @@ fn bad_lines(rt: HostRuntime) -> Result<(), Fail> {
         b"JSON",
     ];
     for line in lines {
-        let (status, text) = status_and_out(rt.alloc(), line);
-        assert_eq!(rt; status, 2);
-        assert_eq!(rt; text.as_slice(), b"bad line 1\n".as_slice());
+        for kept in STORES {
+            let (status, text) = status_and_out(rt.alloc(), kept, line);
+            assert_eq!(rt; status, 2, "{kept:?}");
+            assert_eq!(rt; text.as_slice(), b"bad line 1\n".as_slice());
+        }
     }
     Ok(())
 }
@@ -119,12 +123,14 @@ fn bad_lines(rt: HostRuntime) -> Result<(), Fail> {
 #[test]
 fn input_of_the_greatest_length(rt: HostRuntime) -> Result<(), Fail> {
     let input = vec![in rt.alloc(); b'\n'; 1_048_577]?;
-    let (status, text) = status_and_out(rt.alloc(), &input);
-    assert_eq!(rt; status, 2);
-    assert_eq!(rt; text.as_slice(), b"input too long\n".as_slice());
-    let (status, text) = status_and_out(rt.alloc(), &input[1..]);
-    assert_eq!(rt; status, 0);
-    assert_eq!(rt; text.as_slice(), b"".as_slice());
+    for kept in STORES {
+        let (status, text) = status_and_out(rt.alloc(), kept, &input);
+        assert_eq!(rt; status, 2, "{kept:?}");
+        assert_eq!(rt; text.as_slice(), b"input too long\n".as_slice());
+        let (status, text) = status_and_out(rt.alloc(), kept, &input[1..]);
+        assert_eq!(rt; status, 0, "{kept:?}");
+        assert_eq!(rt; text.as_slice(), b"".as_slice());
+    }
     Ok(())
 }
 
@@ -138,9 +144,11 @@ fn the_longest_line(rt: HostRuntime) -> Result<(), Fail> {
         (b"\n".as_slice(), 2, b"input too long\n".as_slice()),
     ] {
         input.extend_from_slice(more)?;
-        let (status, text) = status_and_out(rt.alloc(), &input);
-        assert_eq!(rt; status, wanted);
-        assert_eq!(rt; text.as_slice(), out);
+        for kept in STORES {
+            let (status, text) = status_and_out(rt.alloc(), kept, &input);
+            assert_eq!(rt; status, wanted, "{kept:?}");
+            assert_eq!(rt; text.as_slice(), out);
+        }
     }
     Ok(())
 }
@@ -158,9 +166,11 @@ fn many_names_are_new(rt: HostRuntime) -> Result<(), Fail> {
     for key in 0..201 {
         push_put(rt.alloc(), &mut input, key)?;
     }
-    let (status, text) = status_and_out(rt.alloc(), &input);
-    assert_eq!(rt; status, 0);
-    assert_eq!(rt; text.len(), 4 * 201);
-    assert!(rt; text.chunks(4).all(|line| line == b"new\n".as_slice()));
+    for kept in STORES {
+        let (status, text) = status_and_out(rt.alloc(), kept, &input);
+        assert_eq!(rt; status, 0, "{kept:?}");
+        assert_eq!(rt; text.len(), 4 * 201);
+        assert!(rt; text.chunks(4).all(|line| line == b"new\n".as_slice()));
+    }
     Ok(())
 }

@@ -1,17 +1,24 @@
-//! Lines of each kind, in runs that meet a fault of each kind at each read and at each write in turn, until a run meets none.
-use crate::fakes::{FailAt, Fault, NEVER};
-use names::{Watch, run};
+//! Lines in runs that meet a fault of each kind at each read and at each write in turn, until a run meets none.
+use crate::runs::{Kept, NEVER, STORES, run_kept};
+use names::{FailAt, Fault, Watch};
 use std::alloc::Global;
 use std::io::ErrorKind;
 use std::test::Fail;
 
-// Lines of each kind. There is an empty one, and the last one has no line feed.
-const LINES: &[u8] =
-    b"put b 2\nput a 1\nput b 3\nget b\nget c\nfind c\ndel a\ndel a\nall\njson\n\nput c \"\njson";
+// Lines, and what answers them: a line for each of them but an empty one.
+type Lines = (&'static [u8], &'static [u8]);
 
-// What answers them: a line for each of them but the empty one.
-const ANSWERS: &[u8] =
-    b"new\nnew\nold 2\n= 3\nnone\nerr 2\n= 1\nnone\nb 3\n{\"b\":\"3\"}\nnew\n{\"b\":\"3\",\"c\":\"\\\"\"}\n";
+// Lines of each kind. There is an empty one, and the last one has no line feed.
+const EACH_KIND: Lines = (
+    b"put b 2\nput a 1\nput b 3\nget b\nget c\nfind c\ndel a\ndel a\nall\njson\n\nput c \"\njson",
+    b"new\nnew\nold 2\n= 3\nnone\nerr 2\n= 1\nnone\nb 3\n{\"b\":\"3\"}\nnew\n{\"b\":\"3\",\"c\":\"\\\"\"}\n",
+);
+
+// `json` of no names and of two, between lines that remove one.
+const JSON: Lines = (
+    b"del a\njson\nput b 2\nput a 1\njson\ndel b\nget b\n",
+    b"none\n[]\nnew\nnew\n{\"a\":\"1\",\"b\":\"2\"}\n= 2\nnone\n",
+);
 
 /// Each kind of error.
 pub const KINDS: [ErrorKind; 42] = [
@@ -59,29 +66,36 @@ pub const KINDS: [ErrorKind; 42] = [
     ErrorKind::Uncategorized,
 ];
 
-// How a run ends, and what it writes. The read and the write of these numbers meet the fault; a read moves at most 7 bytes,
-// and a write at most so many.
+// How a run of these lines ends, and what it writes. The read and the write of these numbers meet the fault; a read moves at
+// most 7 bytes, and a write at most so many.
 fn status_and_out(
     alloc: Global,
+    kept: Kept,
+    lines: &[u8],
     (read_at, write_at): (u64, u64),
     fault: Fault,
     most: usize,
 ) -> (u8, Vec<u8>) {
     let mut out = Vec::new(alloc);
-    let mut source = FailAt::new(LINES, read_at, fault);
+    let mut source = FailAt::new(lines, read_at, fault);
     source.most = 7;
     let mut sink = FailAt::new(&mut out, write_at, fault);
     sink.most = most;
-    let status = run(alloc, &mut Watch::new(source), &mut Watch::new(sink));
+    let status = run_kept(alloc, kept, &mut Watch::new(source), &mut Watch::new(sink));
     (status, out)
 }
 
 // How many runs meet the fault at a read, if each ends as it has to.
-fn runs_with_a_read_fault(alloc: Global, fault: Fault) -> Option<u64> {
+fn runs_with_a_read_fault(
+    alloc: Global,
+    kept: Kept,
+    (lines, answers): Lines,
+    fault: Fault,
+) -> Option<u64> {
     for at in 0..100 {
-        let (status, out) = status_and_out(alloc, (at, NEVER), fault, usize::MAX);
+        let (status, out) = status_and_out(alloc, kept, lines, (at, NEVER), fault, usize::MAX);
         if status == 0 {
-            return (out.as_slice() == ANSWERS).then_some(at);
+            return (out.as_slice() == answers).then_some(at);
         }
         if status != 4 || out.as_slice() != b"read fault\n".as_slice() {
             return None;
@@ -92,14 +106,20 @@ fn runs_with_a_read_fault(alloc: Global, fault: Fault) -> Option<u64> {
 
 // How many runs meet the fault at a write, if each ends as it has to: what is written is the front of the answers, all that
 // the writes before took.
-fn runs_with_a_write_fault(alloc: Global, fault: Fault, most: usize) -> Option<u64> {
+fn runs_with_a_write_fault(
+    alloc: Global,
+    kept: Kept,
+    (lines, answers): Lines,
+    fault: Fault,
+    most: usize,
+) -> Option<u64> {
     for at in 0..100 {
-        let (status, out) = status_and_out(alloc, (NEVER, at), fault, most);
-        if !ANSWERS.starts_with(&out) {
+        let (status, out) = status_and_out(alloc, kept, lines, (NEVER, at), fault, most);
+        if !answers.starts_with(&out) {
             return None;
         }
         if status == 0 {
-            return (out.len() == ANSWERS.len()).then_some(at);
+            return (out.len() == answers.len()).then_some(at);
         }
         if status != 4 || writes_of(&out, most) != at {
             return None;
@@ -119,25 +139,47 @@ fn writes_of(out: &[u8], most: usize) -> u64 {
     NEVER
 }
 
+// How many runs meet the fault at a write, where a write takes a line, and where it takes a byte.
+fn runs_with_write_faults(
+    alloc: Global,
+    kept: Kept,
+    lines: Lines,
+    fault: Fault,
+) -> [Option<u64>; 2] {
+    [usize::MAX, 1].map(|most| runs_with_a_write_fault(alloc, kept, lines, fault, most))
+}
+
 #[test]
 fn each_call_meets_a_fault_of_each_kind(rt: HostRuntime) -> Result<(), Fail> {
-    for kind in KINDS {
-        let fault = Fault::Answers(kind);
-        let reads = runs_with_a_read_fault(rt.alloc(), fault);
-        let lines = runs_with_a_write_fault(rt.alloc(), fault, usize::MAX);
-        let bytes = runs_with_a_write_fault(rt.alloc(), fault, 1);
-        assert_eq!(rt;
-            [reads, lines, bytes],
-            [Some(12), Some(12), Some(75)],
-            "{kind}"
-        );
+    // How many runs meet a fault at a read, at the write of a line, at that of a byte.
+    let rows = [
+        (EACH_KIND, 12, [Some(12), Some(75)]),
+        (JSON, 8, [Some(7), Some(43)]),
+    ];
+    for (lines, reads, writes) in rows {
+        for kept in STORES {
+            for kind in KINDS {
+                let fault = Fault::Answers(kind);
+                let found = runs_with_a_read_fault(rt.alloc(), kept, lines, fault);
+                assert_eq!(rt; found, Some(reads), "{kind}, {kept:?}");
+                let found = runs_with_write_faults(rt.alloc(), kept, lines, fault);
+                assert_eq!(rt; found, writes, "{kind}, {kept:?}");
+            }
+        }
     }
     Ok(())
 }
 
 #[test]
 fn each_write_takes_nothing(rt: HostRuntime) {
-    let lines = runs_with_a_write_fault(rt.alloc(), Fault::MovesNothing, usize::MAX);
-    let bytes = runs_with_a_write_fault(rt.alloc(), Fault::MovesNothing, 1);
-    assert_eq!(rt; [lines, bytes], [Some(12), Some(75)]);
+    let rows = [
+        (EACH_KIND, [Some(12), Some(75)]),
+        (JSON, [Some(7), Some(43)]),
+    ];
+    for (lines, writes) in rows {
+        for kept in STORES {
+            let found = runs_with_write_faults(rt.alloc(), kept, lines, Fault::MovesNothing);
+            assert_eq!(rt; found, writes, "{kept:?}");
+        }
+    }
 }

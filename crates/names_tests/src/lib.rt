@@ -1,4 +1,5 @@
-//! Tests of the program, over readers and writers in memory, and of callers that pages show.
+//! Tests of the program, over readers and writers in memory, with its names kept in one vector and in two columns; and of callers
+//! that pages show.
 #![tactic(auto)]
 
 #[cfg(test)]
@@ -6,16 +7,14 @@ mod answers;
 #[cfg(test)]
 mod callers;
 #[cfg(test)]
-mod columns;
-#[cfg(test)]
 mod each_call;
 #[cfg(test)]
 mod endless;
 #[cfg(test)]
-mod fakes;
-#[cfg(test)]
 mod faults;
 #[cfg(test)]
 mod flags;
+#[cfg(test)]
+mod runs;
 #[cfg(test)]
 mod watch;

@@ -1,24 +1,10 @@
 //! What a `Watch` notes by itself.
 use crate::each_call::KINDS;
-use crate::fakes::{FailAt, Fault, NEVER};
-use names::Watch;
+use crate::runs::NEVER;
+use names::{FailAt, Fault, Watch};
 use std::io;
 use std::io::{ErrorKind, Read, Write};
 use std::test::Fail;
-
-// Takes every text, and refuses each flush.
-#[derive(Drop)]
-struct RefusesFlush;
-
-impl Write for RefusesFlush {
-    fn write(&mut self, buf: &[u8]) -> io::Result<usize> {
-        Ok(buf.len())
-    }
-
-    fn flush(&mut self) -> io::Result<()> {
-        Err(io::Error::from(ErrorKind::Other))
-    }
-}
 
 #[test]
 fn a_write_into_no_room(rt: HostRuntime) -> Result<(), Fail> {
@@ -36,7 +22,8 @@ fn a_write_into_no_room(rt: HostRuntime) -> Result<(), Fail> {
 
 #[test]
 fn a_refused_flush(rt: HostRuntime) -> Result<(), Fail> {
-    let mut writer = Watch::new(RefusesFlush);
+    let fault = Fault::Answers(ErrorKind::Other);
+    let mut writer = Watch::new(FailAt::new(io::sink(), 0, fault));
     assert!(rt; writer.flush().is_err());
     assert!(rt; !writer.failed);
     Ok(())
@@ -66,9 +53,9 @@ fn calls_made(len: usize, at: u64, fault: Fault) -> [u64; 4] {
     let mut room = [b'a'; 5_000];
     let bytes = &mut room[..len.min(5_000)];
     let mut source = FailAt::new(b"".as_slice(), at, fault);
-    let mut written = FailAt::new(RefusesFlush, at, fault);
-    let mut all_written = FailAt::new(RefusesFlush, at, fault);
-    let mut flushed = FailAt::new(RefusesFlush, at, fault);
+    let mut written = FailAt::new(io::sink(), at, fault);
+    let mut all_written = FailAt::new(io::sink(), at, fault);
+    let mut flushed = FailAt::new(io::sink(), at, fault);
     drop(Watch::new(&mut source).read(bytes));
     drop(Watch::new(&mut written).write(bytes));
     drop(Watch::new(&mut all_written).write_all(bytes));

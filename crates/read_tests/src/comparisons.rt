@@ -41,8 +41,8 @@ fn compared<'a, S: StoreBulkMut<Counted<'a>, u32>>(
     Ok(made.get())
 }
 
-// Pairs that rise, and then one more that belongs before them all: it is compared with the last key, and then the pairs are
-// extended by it.
+// Pairs that rise: each is compared with the one before it. Then one more that belongs before them all: it is compared with the
+// last key, and then the pairs are extended by it.
 fn compare_each<'a, S: StoreBulkMut<Counted<'a>, u32>>(
     rt: &impl Abort,
     alloc: Global,
@@ -53,9 +53,9 @@ fn compare_each<'a, S: StoreBulkMut<Counted<'a>, u32>>(
         let rising = compared::<S>(alloc, made, &given)?;
         given.push((Counted { number: 1, made }, 0))?;
         let falling = compared::<S>(alloc, made, &given)?;
-        let most = len.wrapping_mul(2).wrapping_add(3);
+        let most = len.wrapping_mul(2).wrapping_add(2);
         assert!(rt;
-            rising <= len && falling <= most,
+            rising <= len.saturating_sub(1) && falling <= most,
             "{len}: {rising}, {falling}"
         );
     }

@@ -10,7 +10,11 @@ mod every_list;
 #[cfg(test)]
 mod every_run;
 #[cfg(test)]
+mod long_runs;
+#[cfg(test)]
 mod message;
+#[cfg(test)]
+mod rising;
 #[cfg(test)]
 mod runs;
 #[cfg(test)]

@@ -1,4 +1,4 @@
-//! The calls that merge and join.
+//! The calls that merge, join and part.
 use crate::maps::Numbers;
 use litemap::store::{Count, Store, StoreFromIterator, StoreIntoIterator, StoreMut};
 use refusal_support::Outcome;
@@ -15,6 +15,7 @@ pub(crate) fn run<S: StoreIntoIterator<u32, u32> + StoreFromIterator<u32, u32> +
         "extend_from_litemap" => Some(merge_maps::<S>(alloc, Merge::Few)),
         "extend_from_litemap_counted" => Some(merge_maps::<S>(alloc, Merge::Counted)),
         "merge_side_by_side" => Some(merge_maps::<S>(alloc, Merge::Many)),
+        "split_off" => Some(split_off::<S>(alloc)),
         "lm_extend_end" => Some(lm_extend_end::<S>(alloc)),
         "lm_extend_start" => Some(lm_extend_start::<S>(alloc)),
         _ => None,
@@ -162,6 +163,21 @@ fn two_maps<S: StoreMut<u32, u32> + Drop>(
     let map = map_of(alloc, case.old, case.old.len())?;
     let other = map_of(alloc, case.new, case.new.len())?;
     Ok((map, other))
+}
+
+// A map of all pairs, made with room for them alone, is parted at a key that is there.
+fn split_off<S: StoreIntoIterator<u32, u32> + Drop>(alloc: Global) -> Outcome {
+    let made: Result<Numbers<S>, AllocError> = map_of(alloc, &PAIRS, PAIRS.len());
+    let Ok(mut map) = made else {
+        return Outcome::Refused;
+    };
+    match map.split_off(alloc, &3) {
+        Ok(later) => {
+            let is_right = has(&map, &PAIRS[..2]) && has(&later, &PAIRS[2..]);
+            Outcome::left(&mut map, is_right)
+        }
+        Err(_) => Outcome::refused(true, has(&map, &PAIRS)),
+    }
 }
 
 // A store is put behind another.

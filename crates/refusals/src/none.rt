@@ -6,15 +6,17 @@ use litemap::{Entry, LiteMap};
 use refusal_support::Outcome;
 use std::alloc::{AllocError, Global};
 use std::hash::{FoldHasher, Hash, Hasher};
+use std::ops::Bound;
 
 // The calls that lend what a store keeps, which are run over each kind of store by itself.
-const LENDING: [&str; 7] = [
+const LENDING: [&str; 8] = [
     "iter",
     "keys",
     "values",
     "as_slice",
     "as_sliced",
     "get_indexed_range",
+    "range",
     "into_tuple_vec",
 ];
 
@@ -31,6 +33,7 @@ pub(crate) fn run_in_vector(alloc: Global, name: &str) -> Option<Outcome> {
             Some(part) => part.first() == Some((&3, &1)),
             None => false,
         },
+        "range" => map.range(Bound::Included(&2), Bound::Unbounded).first() == Some((&3, &1)),
         "into_tuple_vec" => return Some(Outcome::answered(map.into_tuple_vec().len() == 1000)),
         _ => walks(&map, name)?,
     };
@@ -143,6 +146,12 @@ fn looks<S: Store<u32, u32>>(map: &Numbers<S>, name: &str) -> Option<bool> {
         "get_counted" => Some(map.get_counted(&3, &mut Count::new()) == Some(&1)),
         "contains_key" => Some(map.contains_key(&3) && !map.contains_key(&4)),
         "find_index" => Some(map.find_index(&3) == Ok(1) && map.find_index(&4) == Err(2)),
+        "get_key_value" => Some(map.get_key_value(&3) == Some((&3, &1))),
+        "places" => Some(map.places(Bound::Included(&2), Bound::Included(&7)) == (1..4)),
+        "places_counted" => {
+            let (from, to) = (Bound::Included(&2), Bound::Excluded(&7));
+            Some(map.places_counted(from, to, &mut Count::new()) == (1..3))
+        },
         "equal" => Some(map == map),
         "cmp" => Some(map.cmp(map).is_eq()),
         "partial_cmp" => Some(map.partial_cmp(map).is_some()),
@@ -164,6 +173,13 @@ fn changes<S: StoreBulkMut<u32, u32>>(map: &mut Numbers<S>, name: &str) -> Optio
         }
         "remove" => Some(map.remove(&3) == Some(1) && map.remove(&4).is_none()),
         "remove_counted" => Some(map.remove_counted(&3, &mut Count::new()) == Some(1)),
+        "remove_entry" => Some(map.remove_entry(&3) == Some((3, 1))),
+        "pop_first" => Some(map.pop_first() == Some((1, 0))),
+        "pop_last" => Some(map.pop_last() == Some((1999, 999))),
+        "update" => {
+            map.update(|_, value| *value = 7);
+            Some(map.get(&3) == Some(&7))
+        }
         "get_mut" => Some(map.get_mut(&3).is_some() && map.get_mut(&4).is_none()),
         "get_indexed_mut" => Some(map.get_indexed_mut(1).is_some()),
         "insert_there" => Some(map.insert(3, 7) == Ok(Some(1))),
@@ -239,6 +255,16 @@ fn hands_over<S: Growing>(alloc: Global, mut map: Numbers<S>, name: &str) -> Opt
                 met = met.wrapping_add(1);
             }
             Some(Outcome::answered(met == 1000))
+        }
+        "split_off_none" => {
+            let later = map.split_off(alloc, &2000).ok()?;
+            let is_right = later.is_empty() && map.len() == 1000;
+            Some(Outcome::left(&mut map, is_right))
+        }
+        "split_off_all" => {
+            let mut later = map.split_off(alloc, &0).ok()?;
+            let is_right = later.len() == 1000 && map.is_empty();
+            Some(Outcome::left(&mut later, is_right))
         }
         "merge_of_empty" => {
             let rest = map.extend_from_litemap(alloc, LiteMap::new(alloc)).ok()?;

@@ -4,6 +4,7 @@ use litemap::store::NoRoom;
 use replay_lines::answers::{Answer, Asked, Placed, Tried};
 use replay_lines::calls::{Bulk, Call, Change, Look, Make, Put};
 use std::alloc::{AllocError, Global};
+use std::ops::Range;
 
 /// A list of pairs whose contents the slow scans make, with a limit or none.
 #[derive(Drop)]
@@ -40,6 +41,7 @@ impl<K: Ord + Copy> Scans<K> {
             Call::Change(change) => self.answer_change(change),
             Call::Make(make) => Ok(self.answer_make(make)),
             Call::Bulk(Bulk::Extend, pairs) => Ok(Answer::Room(self.extend(&pairs)?)),
+            Call::SplitOff(key) => Ok(Answer::List(self.split_off(key)?)),
             Call::Bulk(Bulk::FromIter, pairs) => {
                 self.pairs = by_scan::last(self.alloc, &pairs)?;
                 Ok(Answer::Room(Ok(())))
@@ -55,6 +57,12 @@ impl<K: Ord + Copy> Scans<K> {
             Look::Last => Answer::Pair(self.pairs.last().copied()),
             Look::GetIndexed(index) => Answer::Pair(self.pairs.get(index).copied()),
             Look::Get(key) => Answer::Value(self.value(key)),
+            Look::GetKeyValue(key) => Answer::Pair(by_scan::at(&self.pairs, &key).copied()),
+            Look::Places(from, to) => Answer::Places(between(self.below(from), self.below(to))),
+            Look::PlacesTo(from, to) => Answer::Places(between(self.below(from), self.up_to(to))),
+            Look::PlacesBehind(from, to) => {
+                Answer::Places(between(self.up_to(from), self.up_to(to)))
+            }
             Look::ContainsKey(key) => Answer::Truth(self.value(key).is_some()),
             Look::FindIndex(key) => Answer::Place(by_scan::index_of(&self.pairs, &key)),
             Look::Index(key) => Answer::There(self.value(key)),
@@ -93,6 +101,16 @@ impl<K: Ord + Copy> Scans<K> {
                 self.cut(key)?;
                 Answer::Value(old)
             }
+            Change::RemoveEntry(key) => Answer::Pair(self.take_out(key)?),
+            Change::PopFirst => match self.pairs.first().copied() {
+                Some((key, _)) => Answer::Pair(self.take_out(key)?),
+                None => Answer::Pair(None),
+            },
+            Change::PopLast => match self.pairs.last().copied() {
+                Some((key, _)) => Answer::Pair(self.take_out(key)?),
+                None => Answer::Pair(None),
+            },
+            Change::Update(more) => Answer::Times(self.update(more)?),
             Change::Retain { divisor, rest } => Answer::Times(self.retain(divisor, rest)?),
             Change::Clear => {
                 self.pairs = Vec::new(self.alloc);
@@ -159,6 +177,49 @@ impl<K: Ord + Copy> Scans<K> {
     fn cut(&mut self, key: K) -> Result<(), AllocError> {
         self.pairs = by_scan::cut(self.alloc, &self.pairs, &key)?;
         Ok(())
+    }
+
+    // How many keys are smaller.
+    fn below(&self, key: K) -> usize {
+        by_scan::place(&self.pairs, &key)
+    }
+
+    // How many keys are smaller or equal.
+    fn up_to(&self, key: K) -> usize {
+        let equal = by_scan::at(&self.pairs, &key).is_some() as usize;
+        self.below(key).saturating_add(equal)
+    }
+
+    // Takes out a key, and answers its pair.
+    fn take_out(&mut self, key: K) -> Result<Option<(K, u32)>, AllocError> {
+        let old = by_scan::at(&self.pairs, &key).copied();
+        self.cut(key)?;
+        Ok(old)
+    }
+
+    // Adds to each value this number and how many values came before it and with it, and answers how many there are.
+    fn update(&mut self, more: u32) -> Result<u32, AllocError> {
+        let mut times = 0u32;
+        for (key, value) in self.pairs.as_slice().to_vec(self.alloc)? {
+            times = times.wrapping_add(1);
+            self.put(key, value.wrapping_add(more).wrapping_add(times))?;
+        }
+        Ok(times)
+    }
+
+    // Parts the list at a key, and answers the later part. Where both parts have pairs, or all are taken, what stays has no
+    // room for more.
+    fn split_off(&mut self, key: K) -> Result<Vec<(K, u32)>, AllocError> {
+        let place = self.below(key);
+        let mut later = Vec::new(self.alloc);
+        for pair in self.pairs.iter().skip(place) {
+            later.push(*pair)?;
+        }
+        if place < self.pairs.len() {
+            self.pairs = by_scan::below(self.alloc, &self.pairs, &key)?;
+            self.set_limit(place);
+        }
+        Ok(later)
     }
 
     // Places a pair whose key is absent, or hands it back where there is no room.
@@ -267,4 +328,9 @@ impl<K: Ord + Copy> Scans<K> {
         }
         true
     }
+}
+
+// The places from one to before another, none where they cross.
+fn between(start: usize, end: usize) -> Range<usize> {
+    start..end.max(start)
 }

@@ -4,6 +4,7 @@ use litemap::TryFault;
 use litemap::store::NoRoom;
 use std::alloc::AllocError;
 use std::fmt::{self, Display, Formatter, Write};
+use std::ops::Range;
 
 /// What a call answers that puts a pair: the pair comes back where there is no room.
 pub type Placed<K, T> = Result<T, NoRoom<(K, u32)>>;
@@ -47,6 +48,8 @@ pub enum Answer<K> {
     Found(Asked<Tried<K, (usize, u32)>>),
     /// The place `I`, `closure E` or `no room K V`, and then `asked N`.
     FoundPlace(Asked<Tried<K, usize>>),
+    /// The places of keys: `A..B`.
+    Places(Range<usize>),
     /// How often a closure was asked: `asked N`.
     Times(u32),
     /// All pairs, `K V` parted by `, `.
@@ -68,6 +71,7 @@ impl<K: Key> Display for Answer<K> {
             Answer::Back(back) => write_back(f, back),
             Answer::Found(asked) => write_found(f, asked),
             Answer::FoundPlace(asked) => write_found_place(f, asked),
+            Answer::Places(places) => write!(f, "{}..{}", places.start, places.end),
             Answer::Times(times) => write!(f, "asked {times}"),
             Answer::List(list) => write_list(f, list),
         }

@@ -15,6 +15,8 @@ pub enum Call<K> {
     Make(Make),
     /// One that takes many pairs at once.
     Bulk(Bulk, Vec<(K, u32)>),
+    /// One that parts the map at a key.
+    SplitOff(K),
 }
 
 /// A call that changes nothing.
@@ -32,6 +34,14 @@ pub enum Look<K> {
     GetIndexed(usize),
     /// The value of a key.
     Get(K),
+    /// The pair of a key.
+    GetKeyValue(K),
+    /// The places of the keys from one to before another.
+    Places(K, K),
+    /// The places of the keys from one up to another.
+    PlacesTo(K, K),
+    /// The places of the keys behind one, up to another.
+    PlacesBehind(K, K),
     /// Whether a key is there.
     ContainsKey(K),
     /// The place of a key.
@@ -72,6 +82,14 @@ pub enum Change<K> {
     GetIndexedMut(usize, u32),
     /// To take out a key.
     Remove(K),
+    /// To take out a key with its value.
+    RemoveEntry(K),
+    /// To take out the first pair.
+    PopFirst,
+    /// To take out the last pair.
+    PopLast,
+    /// To add a number to each value.
+    Update(u32),
     /// To keep the pairs whose values leave a rest by a divisor.
     Retain {
         /// The divisor, which is not 0.
@@ -117,7 +135,9 @@ pub fn parse<'a, K: FromWord<'a>>(
     Ok(match words {
         [] => plain(name),
         [key] => by_key(name, key).or(by_number(name, key)),
-        [key, value] => by_key_and_value(name, key, value).or(by_numbers(name, key, value)),
+        [key, value] => by_key_and_value(name, key, value)
+            .or(by_numbers(name, key, value))
+            .or(by_keys(name, key, value)),
         _ => None,
     })
 }
@@ -163,6 +183,8 @@ fn plain<K>(name: &str) -> Option<Call<K>> {
         "is_empty" => Call::Look(Look::IsEmpty),
         "first" => Call::Look(Look::First),
         "last" => Call::Look(Look::Last),
+        "pop_first" => Call::Change(Change::PopFirst),
+        "pop_last" => Call::Change(Change::PopLast),
         "clear" => Call::Change(Change::Clear),
         "list" => Call::Look(Look::List),
         _ => return None,
@@ -174,21 +196,25 @@ fn by_key<'a, K: FromWord<'a>>(name: &str, key: &'a str) -> Option<Call<K>> {
     let key = K::from_word(key)?;
     Some(match name {
         "get" => Call::Look(Look::Get(key)),
+        "get_key_value" => Call::Look(Look::GetKeyValue(key)),
         "contains_key" => Call::Look(Look::ContainsKey(key)),
         "find_index" => Call::Look(Look::FindIndex(key)),
         "index" => Call::Look(Look::Index(key)),
         "remove" => Call::Change(Change::Remove(key)),
+        "remove_entry" => Call::Change(Change::RemoveEntry(key)),
+        "split_off" => Call::SplitOff(key),
         _ => return None,
     })
 }
 
 // A call by a number.
-fn by_number<K>(name: &str, number: &str) -> Option<Call<K>> {
-    let number = usize::from_word(number)?;
+fn by_number<K>(name: &str, word: &str) -> Option<Call<K>> {
+    let number = usize::from_word(word)?;
     Some(match name {
         "with_capacity" => Call::Make(Make::WithCapacity(number)),
         "reserve" => Call::Make(Make::Reserve(number)),
         "get_indexed" => Call::Look(Look::GetIndexed(number)),
+        "update" => Call::Change(Change::Update(u32::from_word(word)?)),
         _ => return None,
     })
 }
@@ -202,6 +228,18 @@ fn by_key_and_value<'a, K: FromWord<'a>>(name: &str, key: &'a str, value: &str) 
         "index_mut" => Some(Call::Change(Change::IndexMut(key, value))),
         _ => Some(Call::Put(put_of(name)?, key, value)),
     }
+}
+
+// A call by two keys.
+fn by_keys<'a, K: FromWord<'a>>(name: &str, first: &'a str, second: &'a str) -> Option<Call<K>> {
+    let from = K::from_word(first)?;
+    let to = K::from_word(second)?;
+    Some(Call::Look(match name {
+        "places" => Look::Places(from, to),
+        "places_to" => Look::PlacesTo(from, to),
+        "places_behind" => Look::PlacesBehind(from, to),
+        _ => return None,
+    }))
 }
 
 // A call that may place a pair.

@@ -2,9 +2,12 @@
 use crate::answers::{Answer, Asked, Tried};
 use crate::calls::{Bulk, Call, Change, Look, Make, Put};
 use litemap::LiteMap;
-use litemap::store::{Store, StoreBulkMut, StoreConstEmpty, StoreFromIterable, StoreMut};
+use litemap::store::{
+    Store, StoreBulkMut, StoreConstEmpty, StoreFromIterable, StoreIntoIterator, StoreMut,
+};
 use std::alloc::{AllocError, Global};
 use std::mem;
+use std::ops::Bound;
 use test_support::lists::list_of;
 
 /// Does a call of a map, and gives what answers it.
@@ -15,7 +18,11 @@ pub fn answer<K, S>(
 ) -> Result<Answer<K>, AllocError>
 where
     K: Ord + Copy,
-    S: StoreConstEmpty<K, u32> + StoreFromIterable<K, u32> + StoreBulkMut<K, u32> + Drop,
+    S: StoreConstEmpty<K, u32>
+        + StoreFromIterable<K, u32>
+        + StoreBulkMut<K, u32>
+        + StoreIntoIterator<K, u32>
+        + Drop,
 {
     match call {
         Call::Look(look) => answer_look(alloc, map, look),
@@ -24,6 +31,7 @@ where
         Call::Make(make) => Ok(answer_make(alloc, map, make)),
         Call::Bulk(Bulk::Extend, pairs) => Ok(Answer::Room(map.extend(alloc, pairs))),
         Call::Bulk(Bulk::FromIter, pairs) => Ok(Answer::Room(renew_with(alloc, map, pairs))),
+        Call::SplitOff(key) => Ok(Answer::List(list_of(alloc, &map.split_off(alloc, &key)?)?)),
     }
 }
 
@@ -45,6 +53,18 @@ fn answer_look<K: Ord + Copy, S: Store<K, u32>>(
         Look::Last => Answer::Pair(copied(map.last())),
         Look::GetIndexed(index) => Answer::Pair(copied(map.get_indexed(index))),
         Look::Get(key) => Answer::Value(map.get(&key).copied()),
+        Look::GetKeyValue(key) => Answer::Pair(copied(map.get_key_value(&key))),
+        Look::Places(from, to) => Answer::Places(map.places(
+            Bound::Included(&from),
+            Bound::Excluded(&to),
+        )),
+        Look::PlacesTo(from, to) => Answer::Places(map.places(
+            Bound::Included(&from),
+            Bound::Included(&to),
+        )),
+        Look::PlacesBehind(from, to) => {
+            Answer::Places(map.places(Bound::Excluded(&from), Bound::Included(&to)))
+        }
         Look::ContainsKey(key) => Answer::Truth(map.contains_key(&key)),
         Look::FindIndex(key) => Answer::Place(map.find_index(&key)),
         Look::Index(key) => Answer::There(index(map, key)),
@@ -126,6 +146,10 @@ fn answer_change<K: Ord + Copy, S: StoreBulkMut<K, u32>>(
             Answer::Value(written(map.get_indexed_mut(index), value))
         }
         Change::Remove(key) => Answer::Value(map.remove(&key)),
+        Change::RemoveEntry(key) => Answer::Pair(map.remove_entry(&key)),
+        Change::PopFirst => Answer::Pair(map.pop_first()),
+        Change::PopLast => Answer::Pair(map.pop_last()),
+        Change::Update(more) => Answer::Times(update(map, more)),
         Change::Retain { divisor, rest } => Answer::Times(retain(map, divisor, rest)),
         Change::Clear => {
             map.clear();
@@ -156,6 +180,16 @@ fn retain<K: Ord + Copy, S: StoreBulkMut<K, u32>>(
     map.retain(|_, value| {
         times = times.wrapping_add(1);
         value.checked_rem(divisor) == Some(rest)
+    });
+    times
+}
+
+// Adds a number to each value, and answers how often the closure was asked.
+fn update<K: Ord + Copy, S: StoreMut<K, u32>>(map: &mut LiteMap<K, u32, S>, more: u32) -> u32 {
+    let mut times = 0u32;
+    map.update(|_, value| {
+        times = times.wrapping_add(1);
+        *value = value.wrapping_add(more).wrapping_add(times);
     });
     times
 }

@@ -1,4 +1,4 @@
-//! The calls that merge and join.
+//! The calls that merge, join and part.
 use crate::lists::{Numbers, odd};
 use crate::stores::Growing;
 use litemap::LiteMap;
@@ -8,7 +8,7 @@ use std::alloc::{AllocError, Global};
 
 /// The names of the calls: the merges of as many pairs, into more than 5,000 pairs of few one by one, of more in one pass and of
 /// many side by side, and of more than 5,000 pairs into few.
-pub(crate) const MERGES: [&str; 8] = [
+pub(crate) const MERGES: [&str; 9] = [
     "extend_from_litemap",
     "extend_from_litemap_counted",
     "merge_each",
@@ -17,6 +17,7 @@ pub(crate) const MERGES: [&str; 8] = [
     "merge_into_few",
     "lm_extend_end",
     "lm_extend_start",
+    "split_off",
 ];
 
 // Two maps that lie mixed: so many pairs of even keys, and so many whose keys are threefold.
@@ -64,6 +65,7 @@ pub(crate) fn is_right<S: Growing>(
         "merge_in_one_pass" => (more, 40 + len % 300),
         "merge_side_by_side" => (more, len.wrapping_add(700)),
         "merge_into_few" => (len % 17, more),
+        "split_off" => return Ok(Some(parts::<S>(alloc, len)?)),
         "lm_extend_end" | "lm_extend_start" => return Ok(Some(joins::<S>(alloc, name, len)?)),
         _ => return Ok(None),
     };
@@ -139,6 +141,26 @@ fn joins<S: StoreFromIterator<u32, u32> + StoreIntoIterator<u32, u32> + Drop>(
             high.lm_extend_start(low)?;
         }
         if !holds(&high, &list) {
+            return Ok(false);
+        }
+    }
+    Ok(true)
+}
+
+// Whether a map of so many pairs is parted at the first key, at one between, and behind the last one.
+fn parts<S: StoreFromIterable<u32, u32> + StoreIntoIterator<u32, u32> + Drop>(
+    alloc: Global,
+    len: u32,
+) -> Result<bool, AllocError> {
+    let list = odd(alloc, len)?;
+    for place in [0, list.len() / 3, list.len()] {
+        let key = match list.get(place) {
+            Some((key, _)) => *key,
+            None => u32::MAX,
+        };
+        let mut map: Numbers<S> = LiteMap::from_iter(alloc, list.iter().copied())?;
+        let later = map.split_off(alloc, &key)?;
+        if !(has(&map, &list[..place]) && has(&later, &list[place..])) {
             return Ok(false);
         }
     }

@@ -1,6 +1,7 @@
 //! The lines.
+use crate::languages::language_name;
 use crate::sweeps::{self, Tally};
-use crate::texts;
+use crate::{tables, texts};
 use name_table::{read_names, write_names};
 use std::alloc::{AllocError, Global};
 
@@ -33,6 +34,10 @@ fn answer(
         ["find", key] => texts::write_found(alloc, key, bytes, output),
         ["walk"] => texts::write_walk(bytes, output),
         ["again"] => write_again(alloc, bytes, output),
+        ["name", code] => write_name(alloc, code, bytes, output),
+        ["table"] => tables::write_table(alloc, bytes, output),
+        ["ask", key] => tables::write_asked(alloc, key, bytes, output),
+        ["many", number] => write_many(alloc, number, output),
         [name] => sweep(alloc, name, bytes, output),
         _ => output.push_str("bad line"),
     }
@@ -48,6 +53,31 @@ fn write_again(alloc: Global, bytes: &[u8], output: &mut String) -> Result<(), A
     };
     let digits = hex::encode(alloc, written.as_slice())?;
     output.push_str(digits.as_str())
+}
+
+// The program's own names.
+const OWN: &[(&str, &str)] = &[("de", "German"), ("en", "own English"), ("zu", "Zulu")];
+
+// Writes the name of a language.
+fn write_name(
+    alloc: Global,
+    code: &str,
+    bytes: &[u8],
+    output: &mut String,
+) -> Result<(), AllocError> {
+    match language_name(alloc, bytes, OWN, code) {
+        Ok(Some(name)) => output.push_str(name),
+        Ok(None) => output.push_str("none"),
+        Err(fault) => texts::write_fault(&fault, output),
+    }
+}
+
+// Asks a table of so many names.
+fn write_many(alloc: Global, number: &str, output: &mut String) -> Result<(), AllocError> {
+    match number.parse::<u32>() {
+        Ok(number) => tables::write_many(alloc, number, output),
+        Err(_) => output.push_str("bad line"),
+    }
 }
 
 // Reads many cases, and writes what came of them.

@@ -8,17 +8,23 @@
 //! - `walk BYTES`: the entries that `NameBytes` gives one by one, each with the place and the number due behind it, and
 //!   the answer that is no entry, twice.
 //! - `again BYTES`: what `write_names` writes for the map that is read.
+//! - `name CODE BYTES`: the name of a language, the bytes' or else the program's (`languages`).
+//! - `table BYTES`: each entry of a `NameTable`, found again by its key there and in its `NameIndex`.
+//! - `ask KEY BYTES`: what a `NameTable` and its `NameIndex` answer for a key.
+//! - `many NUMBER -`: what a `NameTable` of so many names and its `NameIndex` answer.
 //! - `prefixes BYTES`: what is read of each proper prefix, by kinds.
 //! - `changes BYTES`: the same with each byte changed into each other one.
 //! - `strings BYTES`: the same of every string of up to four of these bytes.
 //!
-//! The last three read each case by the slow reader too, and tell how often it answered otherwise.
+//! The last three read each case by the slow reader too, into a map and by a `NameTable`, and tell how often one of the two
+//! answered otherwise.
 #![tactic(auto)]
 
 pub mod languages;
 mod lines;
 mod slow;
 mod sweeps;
+mod tables;
 mod texts;
 
 use std::io;

@@ -17,6 +17,46 @@ pub fn write_read(alloc: Global, bytes: &[u8], output: &mut String) -> Result<()
     }
 }
 
+/// Writes what the bytes are as a table whose keys rise.
+pub fn write_table(alloc: Global, bytes: &[u8], output: &mut String) -> Result<(), AllocError> {
+    let mut pairs = Vec::new(alloc);
+    let read = read(bytes, &mut pairs)?;
+    let mut entries = pairs.as_slice().windows(2);
+    let falls = entries.position(|two| two[1].0 <= two[0].0);
+    if let Some(index) = falls {
+        let at = place_of(bytes, index.saturating_add(1));
+        return write!(output, "the key of the entry at byte {at} does not rise");
+    }
+    match read {
+        Ok(_) => write_pairs(pairs.as_slice(), output),
+        Err(fault) => write!(output, "{fault}"),
+    }
+}
+
+// Where the entry of an index begins.
+fn place_of(bytes: &[u8], index: usize) -> usize {
+    let Ok((_, mut place)) = number(bytes, 0) else {
+        return 0;
+    };
+    for _ in 0..index {
+        if let Ok((_, _, next)) = pair(bytes, place) {
+            place = next;
+        }
+    }
+    place
+}
+
+fn write_pairs<'a>(pairs: &[Pair<'a>], output: &mut String) -> Result<(), AllocError> {
+    write!(output, "table {}:", pairs.len())?;
+    for (key, value) in pairs {
+        output.push(' ')?;
+        write_text(key, output)?;
+        output.push('=')?;
+        write_text(value, output)?;
+    }
+    Ok(())
+}
+
 // A key and a value, by their bytes.
 type Pair<'a> = (&'a [u8], &'a [u8]);
 

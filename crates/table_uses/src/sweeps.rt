@@ -1,5 +1,5 @@
 //! Many cases at once, each read by the slow reader too.
-use crate::{slow, texts};
+use crate::{slow, tables, texts};
 use name_table::{read_names, write_names};
 use std::alloc::{AllocError, Global};
 use std::fmt::Write;
@@ -36,7 +36,9 @@ impl Tally {
         texts::write_read(alloc, bytes, &mut text)?;
         let mut other = String::new(alloc);
         slow::write_read(alloc, bytes, &mut other)?;
-        let is_same = text.as_str() == other.as_str() && is_read_again(alloc, bytes)?;
+        let is_same = text.as_str() == other.as_str()
+            && is_read_again(alloc, bytes)?
+            && is_looked_up_alike(alloc, bytes)?;
         self.count(text.as_str(), is_same);
         Ok(())
     }
@@ -89,6 +91,15 @@ fn is_read_again(alloc: Global, bytes: &[u8]) -> Result<bool, AllocError> {
     let mut second = String::new(alloc);
     texts::write_read(alloc, written.as_slice(), &mut second)?;
     Ok(first.as_str() == second.as_str() && written.len() <= size)
+}
+
+// Whether a `NameTable` has the entries that the slow reader finds, or the fault.
+fn is_looked_up_alike(alloc: Global, bytes: &[u8]) -> Result<bool, AllocError> {
+    let mut text = String::new(alloc);
+    tables::write_table(alloc, bytes, &mut text)?;
+    let mut other = String::new(alloc);
+    slow::write_table(alloc, bytes, &mut other)?;
+    Ok(text.as_str() == other.as_str())
 }
 
 /// Each proper prefix.

@@ -36,21 +36,19 @@ pub fn configured(
 }
 
 /// Puts more settings over those that are there, or leaves all as they are where memory is refused.
+#[tactic(auto, using(litemap::proofs::Lists::string_lists))]
 pub fn override_with(
     settings: &mut Settings,
     alloc: Global,
     user: Vec<(String, String)>,
 ) -> Result<(), AllocError>
-    ensures user { OnOk result ((name value : _)
-        → value_at string_cmp (reverse user.items) name ≡ Some value
-        → value_at string_cmp settings.new.pairs name ≡ Some value) }
-    ensures others { OnOk result ((name : _)
-        → value_at string_cmp (reverse user.items) name ≡ None
-        → value_at string_cmp settings.new.pairs name ≡ value_at string_cmp settings.old.pairs name) }
+    // The last setting of the user where there is one, else the one that was there.
+    ensures found { OnOk result ((name : _) → value_at string_cmp settings.new.pairs name
+        ≡ option_or (value_at string_cmp (reverse user.items) name) (value_at string_cmp settings.old.pairs name)) }
     ensures refused { OnErr result (settings.new.pairs ≡ settings.old.pairs) }
 {
     settings.keys_rise();
-    settings.extend(alloc, user)
+    settings.extend_from_vec(alloc, user)
 }
 
 /// Puts a user's settings over those that are there, and answers what they drove out: of each name that both have, the old

@@ -1,5 +1,5 @@
 //! Numbers as keys, and keys of a caller's own. What look-ups find after a change follows from the lemmas that the attributes
-//! name, or from the laws that a function calls. `clear_reading` alone has a proof file.
+//! name, or from the laws that a function calls.
 ghost use Rattle.std.specs.Prelude.{◌≡◌, ◌≢◌, None, Ok, Some, IfErr, IfOk, IfSome, IsSome, IsTrue, OnErr, OnOk};
 ghost use Rattle.std.specs.Prelude.{cond, filter, is_some, nat_le, slice_get};
 ghost use Rattle.std.specs.IoError.{error_kind};
@@ -7,7 +7,7 @@ ghost use Rattle.std.specs.Option.{option_or};
 ghost use Rattle.std.specs.Ordering.{int_cmp, nat_cmp};
 ghost use Rattle.std.specs.declared.cmp.Ordering.TheVariants.{Equal};
 ghost use Rattle.std.specs.declared.io.ErrorKind.TheVariants.{OutOfMemory};
-ghost use Rattle.litemap_store.specs.Pairs.{at, index_of, place, put, value_at, value_in};
+ghost use Rattle.litemap_store.specs.Pairs.{at, index_of, place, put, value_at, value_in, write};
 
 use litemap::LiteMap;
 use litemap::store::{NoRoom, StoreMut};
@@ -130,8 +130,15 @@ pub fn clear_reading(readings: &mut Readings, time: i64)
     ensures others { (other : _) → other ≢ time
         → value_at int_cmp readings.new.pairs other ≡ value_at int_cmp readings.old.pairs other }
 {
-    if let Some(level) = readings.get_mut(&time) {
-        *level = 0;
+    write_reading(readings, time, 0);
+}
+
+// Writes a reading, where there is one.
+fn write_reading(readings: &mut Readings, time: i64, level: u8)
+    ensures { readings.new.pairs ≡ write int_cmp readings.old.pairs time level }
+{
+    if let Some(slot) = readings.get_mut(&time) {
+        *slot = level;
     }
 }
 

@@ -67,6 +67,14 @@ pub fn set_there(map: &mut Numbers, name: &str, number: u32)
     ensures others { (other : _) → other ≢ name.now
         → value_at by_text map.new.pairs other ≡ value_at by_text map.old.pairs other }
 {
+    write_there(map, name, number);
+}
+
+// Writes the number at a name that is there.
+fn write_there(map: &mut Numbers, name: &str, number: u32)
+    requires { IsSome (at by_text map.old.pairs name.now) }
+    ensures { map.new.pairs ≡ write by_text map.old.pairs name.now number }
+{
     *map.index_mut(name) = number;
 }
 
@@ -100,6 +108,14 @@ pub fn set_number(map: &mut Numbers, name: &str, number: u32) -> bool
     ensures set { IsTrue result → value_at by_text map.new.pairs name.now ≡ Some number }
     ensures others { (other : _) → other ≢ name.now
         → value_at by_text map.new.pairs other ≡ value_at by_text map.old.pairs other }
+{
+    write_number(map, name, number)
+}
+
+// Writes the number at a name, where the name is there.
+fn write_number(map: &mut Numbers, name: &str, number: u32) -> bool
+    ensures there { result ≡ is_some (at by_text map.old.pairs name.now) }
+    ensures written { map.new.pairs ≡ write by_text map.old.pairs name.now number }
 {
     match map.get_mut(name) {
         Some(slot) => {

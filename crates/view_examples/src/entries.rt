@@ -5,18 +5,21 @@ use litemap::Entry;
 use std::alloc::AllocError;
 
 /// The examples, by the names of the calls.
-pub(crate) fn examples(days: &mut Days) -> [Shown; 10] {
+pub(crate) fn examples(days: &mut Days) -> [Shown; 13] {
     [
         ("or_insert", or_insert(days)),
         ("or_default", or_default(days)),
         ("or_insert_with", or_insert_with(days)),
         ("and_modify", and_modify(days)),
-        ("VacantEntry", vacant(days)),
+        ("entry", Ok(entry(days))),
+        ("key of a VacantEntry", Ok(vacant_key(days))),
+        ("insert of a VacantEntry", vacant_insert(days)),
         ("key of an OccupiedEntry", Ok(occupied_key(days))),
         ("get of an OccupiedEntry", Ok(occupied_get(days))),
         ("insert of an OccupiedEntry", Ok(occupied_insert(days))),
         ("remove of an OccupiedEntry", Ok(occupied_remove(days))),
         ("get_mut of an OccupiedEntry", Ok(occupied_get_mut(days))),
+        ("into_mut of an OccupiedEntry", Ok(occupied_into_mut(days))),
     ]
 }
 
@@ -44,14 +47,28 @@ fn and_modify(days: &mut Days) -> Result<bool, AllocError> {
     Ok(*entry.or_insert("")? == "Fri")
 }
 
-fn vacant(days: &mut Days) -> Result<bool, AllocError> {
+fn entry(days: &mut Days) -> bool {
+    // days: 1 Monday, 3 Wednesday, 5 Friday
+    match days.entry(1) {
+        Entry::Occupied(_) => true,
+        Entry::Vacant(_) => false,
+    }
+}
+
+fn vacant_key(days: &mut Days) -> bool {
+    // days: 1 Monday, 3 Wednesday, 5 Friday
+    match days.entry(2) {
+        Entry::Occupied(_) => false,
+        Entry::Vacant(entry) => *entry.key() == 2,
+    }
+}
+
+fn vacant_insert(days: &mut Days) -> Result<bool, AllocError> {
     // days: 1 Monday, 3 Wednesday, 5 Friday
     let Entry::Vacant(entry) = days.entry(4) else {
         return Ok(false);
     };
-    let number = *entry.key();
-    let name = entry.insert("Thursday")?;
-    Ok(number == 4 && *name == "Thursday")
+    Ok(*entry.insert("Thursday")? == "Thursday")
 }
 
 fn occupied_key(days: &mut Days) -> bool {
@@ -90,6 +107,13 @@ fn occupied_get_mut(days: &mut Days) -> bool {
     // days: 1 Monday, 3 Wednesday, 5 Friday
     if let Entry::Occupied(mut entry) = days.entry(3) {
         *entry.get_mut() = "Wed";
+    }
+    days.get(&3) == Some(&"Wed")
+}
+
+fn occupied_into_mut(days: &mut Days) -> bool {
+    // days: 1 Monday, 3 Wednesday, 5 Friday
+    if let Entry::Occupied(entry) = days.entry(3) {
         *entry.into_mut() = "W";
     }
     days.get(&3) == Some(&"W")

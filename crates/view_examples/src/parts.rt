@@ -1,11 +1,13 @@
 //! Calls that lend the pairs, or a part of them.
 use examples::Shown;
 use examples::days::Days;
+use std::ops::Bound;
 
 /// The examples, by the names of the calls.
-pub(crate) fn examples(days: &Days) -> [Shown; 3] {
+pub(crate) fn examples(days: &Days) -> [Shown; 4] {
     [
         ("get_indexed_range", Ok(get_indexed_range(days))),
+        ("range", Ok(range(days))),
         ("as_sliced", Ok(as_sliced(days))),
         ("as_slice", Ok(as_slice(days))),
     ]
@@ -17,6 +19,12 @@ fn get_indexed_range(days: &Days) -> bool {
         Some(part) => part.find_index(&3) == Ok(0) && part.get(&1).is_none(),
         None => false,
     }
+}
+
+fn range(days: &Days) -> bool {
+    // days: 1 Monday, 3 Wednesday, 5 Friday
+    let part = days.range(Bound::Included(&2), Bound::Unbounded);
+    part.len() == 2 && part.first() == Some((&3, &"Wednesday"))
 }
 
 fn as_sliced(days: &Days) -> bool {

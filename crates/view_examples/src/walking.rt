@@ -3,12 +3,13 @@ use examples::Shown;
 use examples::days::Days;
 
 /// The examples, by the names of the calls.
-pub(crate) fn examples(days: &Days) -> [Shown; 5] {
+pub(crate) fn examples(days: &Days) -> [Shown; 6] {
     [
         ("iter", Ok(iter(days))),
         ("keys", Ok(keys(days))),
         ("values", Ok(values(days))),
         ("iter_keys", Ok(iter_keys(days))),
+        ("iter_values", Ok(iter_values(days))),
         ("for over &map", Ok(by_reference(days))),
     ]
 }
@@ -34,7 +35,13 @@ fn values(days: &Days) -> bool {
 #[allow(deprecated)]
 fn iter_keys(days: &Days) -> bool {
     // days: 1 Monday, 3 Wednesday, 5 Friday
-    days.iter_keys().next() == Some(&1) && days.iter_values().next() == Some(&"Monday")
+    days.iter_keys().next() == Some(&1)
+}
+
+#[allow(deprecated)]
+fn iter_values(days: &Days) -> bool {
+    // days: 1 Monday, 3 Wednesday, 5 Friday
+    days.iter_values().next() == Some(&"Monday")
 }
 
 fn by_reference(days: &Days) -> bool {

@@ -37,9 +37,8 @@ impl<K: Ord + Drop, V: Drop, S: StoreFromIterable<K, V>> LiteMap<K, V, S> {
     ///
     /// ```rust
     /// let mut count = Count::new();
-    /// let mut days = Days::from_iter_counted(alloc, [(1, "Mon"), (2, "Tue")], &mut count)?;
-    /// days.extend_counted(alloc, [(3, "Wed"), (4, "Thu")], &mut count)?;
-    /// Ok(days.len() == 4)
+    /// let days = Days::from_iter_counted(alloc, [(2, "Tue"), (1, "Mon")], &mut count)?;
+    /// Ok(days.len() == 2)
     /// ```
     pub fn from_iter_counted<I: IntoIterator<Item = (K, V)>>(
         alloc: Global,
@@ -79,11 +78,9 @@ impl<K: Ord + Drop, V: Drop, S: StoreFromIterable<K, V>> LiteMap<K, V, S> {
     /// has no such call.
     ///
     /// ```rust
-    /// let mut count = Count::new();
-    /// let two = [(1, "Mon"), (2, "Tue")].to_vec(alloc)?;
-    /// let mut days = Days::from_vec_counted(alloc, two, &mut count)?;
-    /// days.extend_from_vec_counted(alloc, [(3, "Wed"), (4, "Thu")].to_vec(alloc)?, &mut count)?;
-    /// Ok(days.len() == 4)
+    /// let pairs = [(2, "Tue"), (1, "Mon")].to_vec(alloc)?;
+    /// let days = Days::from_vec_counted(alloc, pairs, &mut Count::new())?;
+    /// Ok(days.len() == 2)
     /// ```
     pub fn from_vec_counted(
         alloc: Global,
@@ -136,10 +133,9 @@ impl<K: Ord + Drop, V: Drop, S: StoreBulkMut<K, V>> LiteMap<K, V, S> {
     /// one. The Rust crate has no such call.
     ///
     /// ```rust
-    /// let mut count = Count::new();
-    /// let mut days = Days::from_iter_counted(alloc, [(1, "Mon"), (2, "Tue")], &mut count)?;
-    /// days.extend_counted(alloc, [(3, "Wed"), (4, "Thu")], &mut count)?;
-    /// Ok(days.len() == 4)
+    /// let mut days = three_days(alloc)?;
+    /// days.extend_counted(alloc, [(6, "Sat"), (7, "Sun")], &mut Count::new())?;
+    /// Ok(days.len() == 5)
     /// ```
     pub fn extend_counted<I: IntoIterator<Item = (K, V)>>(
         &mut self,
@@ -182,11 +178,10 @@ impl<K: Ord + Drop, V: Drop, S: StoreBulkMut<K, V>> LiteMap<K, V, S> {
     /// Rust crate has no such call.
     ///
     /// ```rust
-    /// let mut count = Count::new();
-    /// let two = [(1, "Mon"), (2, "Tue")].to_vec(alloc)?;
-    /// let mut days = Days::from_vec_counted(alloc, two, &mut count)?;
-    /// days.extend_from_vec_counted(alloc, [(3, "Wed"), (4, "Thu")].to_vec(alloc)?, &mut count)?;
-    /// Ok(days.len() == 4)
+    /// let mut days = three_days(alloc)?;
+    /// let more = [(6, "Sat"), (7, "Sun")].to_vec(alloc)?;
+    /// days.extend_from_vec_counted(alloc, more, &mut Count::new())?;
+    /// Ok(days.len() == 5)
     /// ```
     pub fn extend_from_vec_counted(
         &mut self,

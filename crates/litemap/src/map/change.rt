@@ -9,6 +9,7 @@ ghost use Rattle.litemap_store.specs.Pairs.{AllBelow, at, cut, place, put, set_v
 ghost use Rattle.litemap_store.specs.Retain.{CallableOnEach, Kept, Tests};
 ghost use Rattle.litemap_store.specs.Search.{CallableOnKeys};
 ghost use Rattle.litemap_store.specs.Splits.{IsMissingAt};
+ghost use Rattle.litemap.specs.Changes.{Inserts};
 ghost use Rattle.litemap.specs.FoundBy.{RemovesFound};
 ghost use Rattle.litemap.specs.TryFault.{IfClosure, IfNoRoom};
 
@@ -36,19 +37,7 @@ impl<K: Ord, V, S: StoreMut<K, V>> LiteMap<K, V, S> {
     pub fn insert(&mut self, key: K, value: V) -> Result<Option<V>, NoRoom<(K, V)>>
     where
         K: Drop,
-        // The list after, and the value before.
-        ensures put { OnOk result (self.new.pairs ≡ put K.cmp self.old.pairs key value) }
-        ensures old { IfOk result (λ old. old ≡ value_at K.cmp self.old.pairs key) }
-
-        // Refused only where a pair has to be added and there is no room. The pair comes back.
-        ensures unchanged { OnErr result (self.new.pairs ≡ self.old.pairs) }
-        ensures absent { OnErr result (at K.cmp self.old.pairs key ≡ None) }
-        ensures full { OnErr result (self.old.room ≡ 0) }
-        ensures back { IfErr result (λ refused. refused.back ≡ (key, value)) }
-
-        // The room: kept where no pair is added.
-        ensures room_kept { IsSome (at K.cmp self.old.pairs key) → self.new.room ≡ self.old.room }
-        ensures room { self.old.room ≤ self.new.room + 1 }
+        ensures inserts { Inserts K.cmp key value self.old self.new result }
     {
         self.insert_counted(key, value, &mut Count::new())
     }
@@ -57,10 +46,8 @@ impl<K: Ord, V, S: StoreMut<K, V>> LiteMap<K, V, S> {
     ///
     /// ```rust
     /// let mut days = three_days(alloc)?;
-    /// let mut count = Count::new();
-    /// let friday = days.insert_counted(5, "Fri", &mut count)?;
-    /// let monday = days.remove_counted(&1, &mut count);
-    /// Ok(friday == Some("Friday") && monday == Some("Monday"))
+    /// let friday = days.insert_counted(5, "Fri", &mut Count::new())?;
+    /// Ok(friday == Some("Friday"))
     /// ```
     pub fn insert_counted(
         &mut self,
@@ -70,19 +57,7 @@ impl<K: Ord, V, S: StoreMut<K, V>> LiteMap<K, V, S> {
     ) -> Result<Option<V>, NoRoom<(K, V)>>
     where
         K: Drop,
-        // The list after, and the value before.
-        ensures put { OnOk result (self.new.pairs ≡ put K.cmp self.old.pairs key value) }
-        ensures old { IfOk result (λ old. old ≡ value_at K.cmp self.old.pairs key) }
-
-        // Refused only where a pair has to be added and there is no room. The pair comes back.
-        ensures unchanged { OnErr result (self.new.pairs ≡ self.old.pairs) }
-        ensures absent { OnErr result (at K.cmp self.old.pairs key ≡ None) }
-        ensures full { OnErr result (self.old.room ≡ 0) }
-        ensures back { IfErr result (λ refused. refused.back ≡ (key, value)) }
-
-        // The room: kept where no pair is added.
-        ensures room_kept { IsSome (at K.cmp self.old.pairs key) → self.new.room ≡ self.old.room }
-        ensures room { self.old.room ≤ self.new.room + 1 }
+        ensures inserts { Inserts K.cmp key value self.old self.new result }
         ensures cost { RisesByAtMost (digits (length self.old.pairs)) count.old count.new }
     {
         match self.search(&key, count) {
@@ -294,10 +269,8 @@ impl<K: Ord, V, S: StoreMut<K, V>> LiteMap<K, V, S> {
     ///
     /// ```rust
     /// let mut days = three_days(alloc)?;
-    /// let mut count = Count::new();
-    /// let friday = days.insert_counted(5, "Fri", &mut count)?;
-    /// let monday = days.remove_counted(&1, &mut count);
-    /// Ok(friday == Some("Friday") && monday == Some("Monday"))
+    /// let monday = days.remove_counted(&1, &mut Count::new());
+    /// Ok(monday == Some("Monday"))
     /// ```
     pub fn remove_counted<Q: Query<K>>(&mut self, key: Q, count: &mut Count) -> Option<V>
     where
@@ -307,10 +280,8 @@ impl<K: Ord, V, S: StoreMut<K, V>> LiteMap<K, V, S> {
         ensures unchanged { IsNone (at Q.order self.old.pairs (Q.sought key)) → self.new ≡ self.old }
         ensures cost { RisesByAtMost (digits (length self.old.pairs)) count.old count.new }
     {
-        match self.search(key, count) {
-            Ok(index) => Some(self.remove_at(index)),
-            Err(_) => None,
-        }
+        let (_, value) = self.take_out(key, count)?;
+        Some(value)
     }
 
     /// Takes out a pair for whose key `f` answers `Equal`, and answers its value. Its key is given up.
@@ -402,7 +373,7 @@ impl<K: Ord, V, S: StoreMut<K, V>> LiteMap<K, V, S> {
         ensures old { value_in self.old.pairs index ≡ Some result }
         ensures pairs { self.new.pairs ≡ remove self.old.pairs index }
     {
-        let (_, value) = self.store.lm_remove(index);
+        let (_, value) = self.take_at(index);
         value
     }
 

@@ -51,7 +51,7 @@ impl<K: Ord, V, S: StoreMut<K, V>> LiteMap<K, V, S> {
     /// ```rust
     /// // days: 1 Monday, 3 Wednesday, 5 Friday
     /// match days.entry(1) {
-    ///     Entry::Occupied(entry) => *entry.get() == "Monday",
+    ///     Entry::Occupied(_) => true,
     ///     Entry::Vacant(_) => false,
     /// }
     /// ```

@@ -27,7 +27,7 @@ impl<'a, K: Ord + 'a, V: 'a, S: StoreIterable<'a, K, V>> LiteMap<K, V, S> {
     ///
     /// ```rust
     /// // days: 1 Monday, 3 Wednesday, 5 Friday
-    /// days.iter_keys().next() == Some(&1) && days.iter_values().next() == Some(&"Monday")
+    /// days.iter_keys().next() == Some(&1)
     /// ```
     #[deprecated = "use keys() instead"]
     pub fn iter_keys(&'a self) -> KeysIterWrap<'a, K, V, S::KeyValueIter>
@@ -40,7 +40,7 @@ impl<'a, K: Ord + 'a, V: 'a, S: StoreIterable<'a, K, V>> LiteMap<K, V, S> {
     ///
     /// ```rust
     /// // days: 1 Monday, 3 Wednesday, 5 Friday
-    /// days.iter_keys().next() == Some(&1) && days.iter_values().next() == Some(&"Monday")
+    /// days.iter_values().next() == Some(&"Monday")
     /// ```
     #[deprecated = "use values() instead"]
     pub fn iter_values(&'a self) -> ValuesIterWrap<'a, K, V, S::KeyValueIter>

@@ -19,7 +19,7 @@ impl<K: Ord, V, S: Store<K, V>> LiteMap<K, V, S> {
     ///
     /// ```rust
     /// // days: 1 Monday, 3 Wednesday, 5 Friday
-    /// days.len() == 3 && !days.is_empty()
+    /// days.len() == 3
     /// ```
     pub fn len(&self) -> usize
         ensures len { result ≡ length self.now.pairs }
@@ -46,7 +46,7 @@ impl<K: Ord, V, S: Store<K, V>> LiteMap<K, V, S> {
     ///
     /// ```rust
     /// // days: 1 Monday, 3 Wednesday, 5 Friday
-    /// days.len() == 3 && !days.is_empty()
+    /// !days.is_empty()
     /// ```
     pub fn is_empty(&self) -> bool
         ensures { result ≡ (length self.now.pairs == 0) }
@@ -70,7 +70,7 @@ impl<K: Ord, V, S: Store<K, V>> LiteMap<K, V, S> {
     ///
     /// ```rust
     /// // days: 1 Monday, 3 Wednesday, 5 Friday
-    /// days.first() == Some((&1, &"Monday")) && days.last() == Some((&5, &"Friday"))
+    /// days.first() == Some((&1, &"Monday"))
     /// ```
     pub fn first(&self) -> Option<(&K, &V)>
         ensures { option_map deref_pair result ≡ slice_get self.now.pairs 0 }
@@ -82,7 +82,7 @@ impl<K: Ord, V, S: Store<K, V>> LiteMap<K, V, S> {
     ///
     /// ```rust
     /// // days: 1 Monday, 3 Wednesday, 5 Friday
-    /// days.first() == Some((&1, &"Monday")) && days.last() == Some((&5, &"Friday"))
+    /// days.last() == Some((&5, &"Friday"))
     /// ```
     pub fn last(&self) -> Option<(&K, &V)>
         ensures { option_map deref_pair result ≡ slice_get self.now.pairs (length self.now.pairs - 1) }
@@ -110,9 +110,7 @@ impl<K: Ord, V, S: Store<K, V>> LiteMap<K, V, S> {
     /// ```rust
     /// // days: 1 Monday, 3 Wednesday, 5 Friday
     /// let mut count = Count::new();
-    /// let wednesday = days.get_counted(&3, &mut count);
-    /// let place = days.find_index_counted(&3, &mut count);
-    /// wednesday == Some(&"Wednesday") && place == Ok(1)
+    /// days.get_counted(&3, &mut count) == Some(&"Wednesday")
     /// ```
     pub fn get_counted<Q: Query<K>>(&self, key: Q, count: &mut Count) -> Option<&V>
         ensures value { option_copied result ≡ value_at Q.order self.now.pairs (Q.sought key) }
@@ -120,6 +118,23 @@ impl<K: Ord, V, S: Store<K, V>> LiteMap<K, V, S> {
     {
         match self.search(key, count) {
             Ok(index) => self.value_in(index),
+            Err(_) => None,
+        }
+    }
+
+    /// The pair with an equal key, if there is one: the key that is there, where equal keys differ.
+    ///
+    /// It is asked as `get` is. It compares at most once for each binary digit of the length. The Rust crate has no such call.
+    ///
+    /// ```rust
+    /// // days: 1 Monday, 3 Wednesday, 5 Friday
+    /// days.get_key_value(&3) == Some((&3, &"Wednesday")) && days.get_key_value(&4).is_none()
+    /// ```
+    pub fn get_key_value<Q: Query<K>>(&self, key: Q) -> Option<(&K, &V)>
+        ensures { option_map deref_pair result ≡ at Q.order self.now.pairs (Q.sought key) }
+    {
+        match self.search(key, &mut Count::new()) {
+            Ok(index) => self.store.lm_get(index),
             Err(_) => None,
         }
     }
@@ -133,9 +148,7 @@ impl<K: Ord, V, S: Store<K, V>> LiteMap<K, V, S> {
     ///
     /// ```rust
     /// // days: 1 Monday, 3 Wednesday, 5 Friday
-    /// let there = days.get_by(|number| number.cmp(&3));
-    /// let place = days.find_index_by(|number| number.cmp(&4));
-    /// there == Some(&"Wednesday") && place == Err(2)
+    /// days.get_by(|number| number.cmp(&3)) == Some(&"Wednesday")
     /// ```
     pub fn get_by<F: FnMut(&K) -> Ordering>(&self, f: F) -> Option<&V>
         requires { CallableOnKeys F.FnMut self.now.pairs f }
@@ -203,9 +216,7 @@ impl<K: Ord, V, S: Store<K, V>> LiteMap<K, V, S> {
     /// ```rust
     /// // days: 1 Monday, 3 Wednesday, 5 Friday
     /// let mut count = Count::new();
-    /// let wednesday = days.get_counted(&3, &mut count);
-    /// let place = days.find_index_counted(&3, &mut count);
-    /// wednesday == Some(&"Wednesday") && place == Ok(1)
+    /// days.find_index_counted(&3, &mut count) == Ok(1)
     /// ```
     pub fn find_index_counted<Q: Query<K>>(&self, key: Q, count: &mut Count) -> Result<usize, usize>
         ensures place { result ≡ index_of Q.order self.now.pairs (Q.sought key) }
@@ -227,9 +238,7 @@ impl<K: Ord, V, S: Store<K, V>> LiteMap<K, V, S> {
     ///
     /// ```rust
     /// // days: 1 Monday, 3 Wednesday, 5 Friday
-    /// let there = days.get_by(|number| number.cmp(&3));
-    /// let place = days.find_index_by(|number| number.cmp(&4));
-    /// there == Some(&"Wednesday") && place == Err(2)
+    /// days.find_index_by(|number| number.cmp(&4)) == Err(2)
     /// ```
     pub fn find_index_by<F: FnMut(&K) -> Ordering>(&self, f: F) -> Result<usize, usize>
         requires { CallableOnKeys F.FnMut self.now.pairs f }

@@ -1,10 +1,11 @@
 //! Merging maps.
-ghost use Rattle.std.specs.Prelude.{◌≡◌, ◌≢◌, ◌⊎◌, ◌↔◌, ◌+◌, ◌*◌, [], length, IsOk, IsNone, IfOk, IfErr, IfSome, OnOk, OnErr};
+ghost use Rattle.std.specs.Prelude.{◌≡◌, ◌⊎◌, ◌+◌, ◌*◌, [], length, OnOk};
 ghost use Rattle.std.specs.Option.{option_or};
 ghost use Rattle.litemap_store.specs.Counts.{RisesByAtMost};
 ghost use Rattle.litemap_store.specs.Digits.{digits};
-ghost use Rattle.litemap_store.specs.Merge.{Apart, Merge, left};
+ghost use Rattle.litemap_store.specs.Merge.{Apart};
 ghost use Rattle.litemap_store.specs.Pairs.{value_at};
+ghost use Rattle.litemap.specs.Changes.{IsMergedInto};
 
 use crate::LiteMap;
 use litemap_store::extend_store::extend_from_store;
@@ -45,23 +46,11 @@ impl<K: Ord + Drop, V: Drop, S: StoreIntoIterator<K, V> + Drop> LiteMap<K, V, S>
         alloc: Global,
         other: Self,
     ) -> Result<Option<Self>, NoRoom<Self>>
-        // What is left, and what is driven out.
-        ensures merged { OnOk result (Merge K.cmp self.old.pairs other.pairs self.new.pairs) }
-        ensures none { IfOk result (λ rest. IsNone rest ↔ (left K.cmp self.old.pairs other.pairs ≡ [])) }
-        ensures left { IfOk result (λ rest. IfSome rest (λ m. m.pairs ≡ left K.cmp self.old.pairs other.pairs)) }
+        ensures merged { IsMergedInto K.cmp other self.old self.new result }
 
         // What a look-up finds: the other map's value where it has the key, else the one that was there.
         ensures found { OnOk result ((key : K) → value_at K.cmp self.new.pairs key
             ≡ option_or (value_at K.cmp other.pairs key) (value_at K.cmp self.old.pairs key)) }
-
-        // Refused: the list stays, and the other map comes back whole.
-        ensures refused { OnErr result (self.new.pairs ≡ self.old.pairs) }
-        ensures back { IfErr result (λ refused. refused.back.pairs ≡ other.pairs) }
-
-        // Where a map is empty it is never refused.
-        ensures succeeds { (self.old.pairs ≡ []) ⊎ (other.pairs ≡ []) → IsOk result }
-        ensures unchanged { other.pairs ≡ [] → self.new ≡ self.old }
-        ensures taken { self.old.pairs ≡ [] → other.pairs ≢ [] → self.new ≡ other }
     {
         self.extend_from_litemap_counted(alloc, other, &mut Count::new())
     }
@@ -80,19 +69,7 @@ impl<K: Ord + Drop, V: Drop, S: StoreIntoIterator<K, V> + Drop> LiteMap<K, V, S>
         other: Self,
         count: &mut Count,
     ) -> Result<Option<Self>, NoRoom<Self>>
-        // What is left, and what is driven out.
-        ensures merged { OnOk result (Merge K.cmp self.old.pairs other.pairs self.new.pairs) }
-        ensures none { IfOk result (λ rest. IsNone rest ↔ (left K.cmp self.old.pairs other.pairs ≡ [])) }
-        ensures left { IfOk result (λ rest. IfSome rest (λ m. m.pairs ≡ left K.cmp self.old.pairs other.pairs)) }
-
-        // Refused: the list stays, and the other map comes back whole.
-        ensures refused { OnErr result (self.new.pairs ≡ self.old.pairs) }
-        ensures back { IfErr result (λ refused. refused.back.pairs ≡ other.pairs) }
-
-        // Where a map is empty it is never refused.
-        ensures succeeds { (self.old.pairs ≡ []) ⊎ (other.pairs ≡ []) → IsOk result }
-        ensures unchanged { other.pairs ≡ [] → self.new ≡ self.old }
-        ensures taken { self.old.pairs ≡ [] → other.pairs ≢ [] → self.new ≡ other }
+        ensures merged { IsMergedInto K.cmp other self.old self.new result }
 
         // The comparisons: none where a map is empty, and two where they lie apart.
         ensures uncounted { (self.old.pairs ≡ []) ⊎ (other.pairs ≡ []) → RisesByAtMost 0 count.old count.new }

@@ -7,6 +7,7 @@ ghost use Rattle.litemap_store.specs.Pairs.{Rising};
 ghost use Rattle.litemap_store.specs.Taken.{IsGreaterEnd, IsTaken};
 
 use crate::count::Count;
+use crate::reserved::put_up;
 use crate::store::{Store, StoreMut};
 use std::alloc::{AllocError, Global};
 use std::cmp::Ordering;
@@ -40,7 +41,7 @@ pub fn merge<K: Ord + Drop, V: Drop, S: StoreMut<K, V> + Drop>(
 }
 
 // How the greatest key of the store stands to that of the pairs.
-pub(crate) fn greater_end<K: Ord, V, S: Store<K, V>>(
+fn greater_end<K: Ord, V, S: Store<K, V>>(
     store: &S,
     pairs: &[(K, V)],
     count: &mut Count,
@@ -80,9 +81,7 @@ pub(crate) fn take_down<K: Ord + Drop, V: Drop, S: StoreMut<K, V>>(
     ensures cost { RisesByAtMost (length (S.pairs store.old) + length pairs.items) count.old count.new }
 {
     while let Some(end) = greater_end(store, &pairs, count) {
-        let Ok(()) = side.push(take_greatest(store, &mut pairs, end)) else {
-            unreachable!()
-        };
+        side.push_reserved(take_greatest(store, &mut pairs, end));
     }
 }
 
@@ -99,20 +98,12 @@ fn take_greatest<K: Ord + Drop, V: Drop, S: StoreMut<K, V>>(
 {
     match end {
         Ordering::Greater => take_last(store),
-        Ordering::Less => take_last_pair(pairs),
+        Ordering::Less => pairs.take_last(),
         Ordering::Equal => {
             let _ = take_last(store);
-            take_last_pair(pairs)
+            pairs.take_last()
         }
     }
-}
-
-// The last pair, which leaves the vector.
-pub(crate) fn take_last_pair<T>(items: &mut Vec<T>) -> T
-    requires { 0 < length items.old.items }
-    ensures { items.old.items ≡ items.new.items ++ result ∷ [] }
-{
-    items.pop().unwrap()
 }
 
 /// The last pair, which leaves the store.
@@ -122,16 +113,4 @@ pub fn take_last<K, V, S: StoreMut<K, V>>(store: &mut S) -> (K, V)
 {
     let last = store.lm_len() - 1;
     store.lm_remove(last)
-}
-
-/// Puts pairs behind those of the store, from the last on. The store has room for them.
-pub fn put_up<K: Drop, V: Drop, S: StoreMut<K, V>>(store: &mut S, mut pairs: Vec<(K, V)>)
-    requires { length pairs.items ≤ S.room store.old }
-    ensures { S.pairs store.new ≡ S.pairs store.old ++ reverse pairs.items }
-{
-    while let Some((key, value)) = pairs.pop() {
-        let Ok(()) = store.lm_push(key, value) else {
-            unreachable!()
-        };
-    }
 }

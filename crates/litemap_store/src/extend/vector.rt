@@ -1,16 +1,14 @@
 //! The bodies behind a vector's `lm_extend`: pairs behind the last one move at once, and a merge turns its side vector round,
 //! which becomes the store.
-ghost use Rattle.std.specs.Prelude.{◌≡◌, ◌+◌, ◌*◌, ◌≤◌, ◌++◌, [], reverse, OnOk, OnErr, length, vec_capacity, Some};
+ghost use Rattle.std.specs.Prelude.{◌≡◌, ◌+◌, ◌*◌, ◌++◌, OnOk, OnErr, length};
 ghost use Rattle.litemap_store.specs.Counts.{RisesByAtMost};
 ghost use Rattle.litemap_store.specs.Last.{Last, Rises};
 ghost use Rattle.litemap_store.specs.Pairs.{Rising};
-ghost use Rattle.litemap_store.specs.Taken.{IsGreaterEnd, IsTaken};
 
 use crate::count::Count;
-use crate::extend::merge::{greater_end, take_last_pair};
+use crate::extend::merge::take_down;
 use crate::extend::{goes_behind, last_of};
 use std::alloc::{AllocError, Global};
-use std::cmp::Ordering;
 
 /// Puts pairs in: of each key the last pair stays.
 pub fn put_pairs_in_vec<K: Ord + Drop, V: Drop>(
@@ -84,51 +82,8 @@ fn merge_in_vec<K: Ord + Drop, V: Drop>(
         return Err(AllocError);
     };
     let mut side = Vec::with_capacity(alloc, total)?;
-    take_down_vec(store, pairs, &mut side, count);
+    take_down(store, pairs, &mut side, count);
     side.reverse();
     *store = side;
     Ok(())
-}
-
-// Takes all pairs from the two ends, the greater key first; of equal keys the store's pair is given up.
-fn take_down_vec<K: Ord + Drop, V: Drop>(
-    store: &mut Vec<(K, V)>,
-    mut pairs: Vec<(K, V)>,
-    side: &mut Vec<(K, V)>,
-    count: &mut Count,
-)
-    requires store { Rising K.cmp store.old.items }
-    requires pairs { Rising K.cmp pairs.items }
-    requires empty { side.old.items ≡ [] }
-    requires room { length store.old.items + length pairs.items ≤ vec_capacity side.old }
-    ensures last { Last K.cmp (store.old.items ++ pairs.items) (reverse side.new.items) }
-    ensures len { length side.new.items ≤ length store.old.items + length pairs.items }
-    ensures cost { RisesByAtMost (length store.old.items + length pairs.items) count.old count.new }
-{
-    while let Some(end) = greater_end(store, &pairs, count) {
-        let Ok(()) = side.push(take_greatest_vec(store, &mut pairs, end)) else {
-            unreachable!()
-        };
-    }
-}
-
-// The pair of the greatest key, which leaves the store or the pairs; of equal keys the store's pair is given up.
-fn take_greatest_vec<K: Ord + Drop, V: Drop>(
-    store: &mut Vec<(K, V)>,
-    pairs: &mut Vec<(K, V)>,
-    end: Ordering,
-) -> (K, V)
-    requires store { Rising K.cmp store.old.items }
-    requires pairs { Rising K.cmp pairs.old.items }
-    requires end { IsGreaterEnd K.cmp store.old.items pairs.old.items (Some end) }
-    ensures { IsTaken K.cmp store.old.items pairs.old.items store.new.items pairs.new.items result }
-{
-    match end {
-        Ordering::Greater => take_last_pair(store),
-        Ordering::Less => take_last_pair(pairs),
-        Ordering::Equal => {
-            let _ = take_last_pair(store);
-            take_last_pair(pairs)
-        }
-    }
 }

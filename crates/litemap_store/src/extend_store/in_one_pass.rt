@@ -7,8 +7,9 @@ ghost use Rattle.litemap_store.specs.Digits.{digits};
 ghost use Rattle.litemap_store.specs.Merge.{Merge, left};
 ghost use Rattle.litemap_store.specs.Pairs.{Rising, above, at, below, key_or};
 
-use crate::extend::merge::{put_up, take_last};
+use crate::extend::merge::take_last;
 use crate::extend_store::search;
+use crate::reserved::put_up;
 use crate::store::{Count, NoRoom, Store, StoreMut};
 use std::alloc::{AllocError, Global};
 
@@ -41,7 +42,7 @@ pub fn merge_in_one_pass<K: Ord + Drop, V: Drop, S: StoreMut<K, V> + Drop>(
     let Ok((mut driven_out, mut rest)) = room_for(alloc, other.lm_len()) else {
         return Err(NoRoom { back: other });
     };
-    take_down(store, other, &mut side, &mut driven_out, count);
+    take_aside(store, other, &mut side, &mut driven_out, count);
     put_up(&mut fresh, side);
     put_up(&mut rest, driven_out);
     *store = fresh;
@@ -64,7 +65,7 @@ fn room_for<K: Drop, V: Drop, S: StoreMut<K, V>>(
 }
 
 // Takes all pairs of both stores aside, the greatest key first, and the old values that new ones drive out.
-fn take_down<K: Ord + Drop, V: Drop, S: StoreMut<K, V> + Drop>(
+fn take_aside<K: Ord + Drop, V: Drop, S: StoreMut<K, V> + Drop>(
     store: &mut S,
     mut other: S,
     side: &mut Vec<(K, V)>,
@@ -120,12 +121,12 @@ fn take_above<K: Ord + Drop, V: Drop, S: StoreMut<K, V>>(
         Ok(index) => {
             take_from(store, index + 1, side);
             let (stored, old) = take_last(store);
-            put_aside(side, (stored, value));
-            put_aside(driven_out, (key, old));
+            side.push_reserved((stored, value));
+            driven_out.push_reserved((key, old));
         }
         Err(index) => {
             take_from(store, index, side);
-            put_aside(side, (key, value));
+            side.push_reserved((key, value));
         }
     }
 }
@@ -143,17 +144,6 @@ fn take_from<K: Drop, V: Drop, S: StoreMut<K, V>>(
     ensures room { vec_capacity side.old ≤ vec_capacity side.new }
 {
     while store.lm_len() > index {
-        put_aside(side, take_last(store));
+        side.push_reserved(take_last(store));
     }
-}
-
-// Puts a pair behind those of the vector, which has room for it.
-fn put_aside<T: Drop>(side: &mut Vec<T>, item: T)
-    requires { length side.old.items < vec_capacity side.old }
-    ensures side { reverse side.new.items ≡ item ∷ reverse side.old.items }
-    ensures room { vec_capacity side.old ≤ vec_capacity side.new }
-{
-    let Ok(()) = side.push(item) else {
-        unreachable!()
-    };
 }

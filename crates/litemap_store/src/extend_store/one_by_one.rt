@@ -8,6 +8,7 @@ ghost use Rattle.litemap_store.specs.Merge.{Merge, left};
 ghost use Rattle.litemap_store.specs.Pairs.{Rising, at, put};
 
 use crate::extend_store::search;
+use crate::reserved::push_reserved;
 use crate::store::{Count, NoRoom, Store, StoreIntoIterator, StoreMut};
 use std::alloc::Global;
 use std::mem;
@@ -103,7 +104,5 @@ fn push_some<K: Drop, V: Drop, S: StoreMut<K, V>>(store: &mut S, pair: Option<(K
     let Some((key, value)) = pair else {
         return;
     };
-    let Ok(()) = store.lm_push(key, value) else {
-        unreachable!()
-    };
+    push_reserved(store, key, value);
 }

@@ -7,6 +7,7 @@ ghost use Rattle.litemap_store.specs.Walked.{IsLowerFirst, IsTakenFirst};
 
 use crate::extend_store::coming::Coming;
 use crate::into_iter::PairIntoIter;
+use crate::reserved::push_reserved;
 use crate::store::{Count, NoRoom, Store, StoreIntoIterator, StoreMut};
 use std::alloc::Global;
 use std::cmp::Ordering;
@@ -66,9 +67,7 @@ fn put_both<K: Ord + Drop, V: Drop, S: StoreMut<K, V>, I: PairIntoIter<K, V>>(
 {
     while let Some(order) = lower_first(&olds, &news, count) {
         let (key, value) = take_lower(&mut olds, &mut news, rest, order);
-        let Ok(()) = store.lm_push(key, value) else {
-            unreachable!()
-        };
+        push_reserved(store, key, value);
     }
 }
 
@@ -117,9 +116,7 @@ fn take_lower<K: Ord + Drop, V: Drop, S: StoreMut<K, V>, I: PairIntoIter<K, V>>(
         Ordering::Equal => {
             let (stored, old) = olds.take_first();
             let (key, value) = news.take_first();
-            let Ok(()) = rest.lm_push(key, old) else {
-                unreachable!()
-            };
+            push_reserved(rest, key, old);
             (stored, value)
         }
     }

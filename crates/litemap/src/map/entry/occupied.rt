@@ -49,9 +49,8 @@ impl<'a, K: Ord, V, S: StoreMut<K, V>> OccupiedEntry<'a, K, V, S> {
     /// // days: 1 Monday, 3 Wednesday, 5 Friday
     /// if let Entry::Occupied(mut entry) = days.entry(3) {
     ///     *entry.get_mut() = "Wed";
-    ///     *entry.into_mut() = "W";
     /// }
-    /// days.get(&3) == Some(&"W")
+    /// days.get(&3) == Some(&"Wed")
     /// ```
     pub fn get_mut(&mut self) -> &mut V
         ensures* writes_back { sem 𝓛 (OccupiedLends K.row V.row S.row self.entry result) }
@@ -67,8 +66,7 @@ impl<'a, K: Ord, V, S: StoreMut<K, V>> OccupiedEntry<'a, K, V, S> {
     ///
     /// ```rust
     /// // days: 1 Monday, 3 Wednesday, 5 Friday
-    /// if let Entry::Occupied(mut entry) = days.entry(3) {
-    ///     *entry.get_mut() = "Wed";
+    /// if let Entry::Occupied(entry) = days.entry(3) {
     ///     *entry.into_mut() = "W";
     /// }
     /// days.get(&3) == Some(&"W")

@@ -12,12 +12,10 @@ impl<'a, K: Ord, V, S: StoreMut<K, V>> VacantEntry<'a, K, V, S> {
     ///
     /// ```rust
     /// // days: 1 Monday, 3 Wednesday, 5 Friday
-    /// let Entry::Vacant(entry) = days.entry(4) else {
-    ///     return Ok(false);
-    /// };
-    /// let number = *entry.key();
-    /// let name = entry.insert("Thursday")?;
-    /// Ok(number == 4 && *name == "Thursday")
+    /// match days.entry(2) {
+    ///     Entry::Occupied(_) => false,
+    ///     Entry::Vacant(entry) => *entry.key() == 2,
+    /// }
     /// ```
     pub fn key(&self) -> &K
         ensures { entry_key (Vacant self.now) ≡ Some result.now }
@@ -35,9 +33,7 @@ impl<'a, K: Ord, V, S: StoreMut<K, V>> VacantEntry<'a, K, V, S> {
     /// let Entry::Vacant(entry) = days.entry(4) else {
     ///     return Ok(false);
     /// };
-    /// let number = *entry.key();
-    /// let name = entry.insert("Thursday")?;
-    /// Ok(number == 4 && *name == "Thursday")
+    /// Ok(*entry.insert("Thursday")? == "Thursday")
     /// ```
     pub fn insert(self, value: V) -> Result<&'a mut V, NoRoom<(K, V)>>
         ensures* writes_back { sem 𝓛 (EntryLends K.row V.row S.row (Vacant self.entry) result) }

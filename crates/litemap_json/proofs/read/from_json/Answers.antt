@@ -1,15 +1,13 @@
 use Rattle.std.proofs.Common.{◌++◌, subst}
 use Rattle.litemap_store.specs.Last.{Last}
-use Rattle.litemap_store.proofs.Extended.{Last-extended}
 use Rattle.litemap_json.proofs.read.from_json.Goals as goal
 
 pub returns-clause-read : goal.returns-clause-read
 returns-clause-read g c =
     let found = c.in_ok-pairs.pairs in
-    let new = c.extend.new.self.pairs in
+    let new = c.extend_from_vec.new.self.pairs in
     record {
       spelled = found.items;
       spells = c.in_ok-pairs.ensures;
-      last = subst (λ old. Last g.K.Ord.cmp (old ++ found.items) new) c.in_ok-map.ensures.empty
-          (Last-extended g.met.K.Ord.total _ (λ v it h. h.0) found _ new c.in_ok-extend.ensures.extended);
+      last = subst (λ old. Last g.K.Ord.cmp (old ++ found.items) new) c.in_ok-map.ensures.empty c.in_ok-extend_from_vec.ensures.last;
     }

@@ -12,5 +12,5 @@ returns-then-is_empty-clause-last g c =
 pub returns-then-goes_behind-clause-last : goal.returns-then-goes_behind-clause-last
 returns-then-goes_behind-clause-last g c =
     let up = subst (λ xs. Rising g.K.Ord.cmp (g.S.Store.pairs c.args.store.now ++ xs)) c.deref.ensures.value (c.goes_behind.ensures.behind.0 c.if-goes_behind.true) in
-    let all : g.S.Store.pairs c.append.new.store ≡ g.S.Store.pairs c.args.store.now ++ c.args.pairs.items = cc in
+    let all : g.S.Store.pairs c.append_each.new.store ≡ g.S.Store.pairs c.args.store.now ++ c.args.pairs.items = cc in
     rw all (Last-rising g.K.Ord.cmp _ up)

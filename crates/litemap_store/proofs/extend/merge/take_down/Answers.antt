@@ -12,13 +12,13 @@ loop-end-preserved g c =
     let taken = c.take_greatest.ensures in
     let old = c.loop-end.invariant in
     let fewer = taken.fewer in
-    let len : length c.push.new.self.items ≡ length c.loop-end.side.items + 1 = ap length c.in-Ok.ensures.items ∙ length_push c.loop-end.side.items c.take_greatest.result in
+    let len : length c.push_reserved.new.self.items ≡ length c.loop-end.side.items + 1 = ap length c.push_reserved.ensures.items ∙ length_push c.loop-end.side.items c.take_greatest.result in
     record {
       old_rises = taken.old_rises;
       new_rise = taken.new_rise;
-      goes_on = λ M h. rw (c.in-Ok.ensures.items, ← reverse_behind) (old.goes_on _ (taken.goes_behind M h));
+      goes_on = λ M h. rw (c.push_reserved.ensures.items, ← reverse_behind) (old.goes_on _ (taken.goes_behind M h));
       room = let k = old.room in omega arith;
-      fits = let k = old.fits in let a = c.in-Ok.ensures.len in let b = c.in-Ok.ensures.capacity in omega arith;
+      fits = let k = old.fits in let a = c.push_reserved.ensures.len in let b = c.push_reserved.ensures.capacity in omega arith;
       same = c.in-Some.ensures.cost.same ∙ old.same;
       not_lowered = let k = old.not_lowered in let a = c.in-Some.ensures.cost.not_lowered in omega arith;
       most = let k = old.most in let a = c.in-Some.ensures.cost.most in omega arith;

@@ -8,7 +8,7 @@ loop-order-preserved g c =
     let taken = c.take_lower-key.ensures.taken in
     let was = c.loop-order.invariant in
     let fewer = taken.fewer in
-    let pushed = c.in-Ok.ensures.ok in
+    let pushed = c.push_reserved.ensures.pairs in
     let done = g.S.Store.pairs c.loop-order.store in
     let pair = c.take_lower-key.result in
     let olds = c.args.olds in
@@ -18,7 +18,7 @@ loop-order-preserved g c =
       new_rise = taken.new_rise;
       merged = λ M m. subst (λ L. Merge g.K.Ord.cmp olds news (L ++ M)) (sym pushed) (rw (append_assoc done (pair ∷ []) M) (was.merged (pair ∷ M) (taken.goes_before M m)));
       left_over = taken.left_over ∙ was.left_over;
-      room = let k = was.room in let r = c.lm_push.ensures.room in omega arith;
+      room = let k = was.room in let r = c.push_reserved.ensures.room in omega arith;
       rest_room = c.take_lower-key.ensures.room;
       same = c.in-Some.ensures.cost.same ∙ was.same;
       not_lowered = let k = was.not_lowered in let a = c.in-Some.ensures.cost.not_lowered in omega arith;

@@ -48,3 +48,9 @@ returns-clause-leads c =
     let s : Remaining = record { rest = c.self.inside.rest.now; place = c.self.inside.place; left = c.self.inside.left } in
     let n = is_next s c.in_ok-key.key.now c.in_ok-value.value.now c.in_ok-key.middle.now c.in_ok-value.rest.now c.in_ok-key.ensures.ok c.in_ok-value.ensures.ok c.if-self-eq0.false in
     rw (← c.self.view_is) (read_on_one s _ _ n)
+
+pub returns-clause-read : goal.returns-clause-read
+returns-clause-read c =
+    let s : Remaining = record { rest = c.self.inside.rest.now; place = c.self.inside.place; left = c.self.inside.left } in
+    let n = is_next s c.in_ok-key.key.now c.in_ok-value.value.now c.in_ok-key.middle.now c.in_ok-value.rest.now c.in_ok-key.ensures.ok c.in_ok-value.ensures.ok c.if-self-eq0.false in
+    rw (← c.self.view_is) n

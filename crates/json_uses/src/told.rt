@@ -1,0 +1,60 @@
+//! What answers a line that asks for a fault as it is shown to people.
+use crate::evens::Even;
+use crate::levels::Level;
+use litemap::VecMap;
+use litemap_json::{JsonFault, JsonItem, JsonKey, from_json};
+use serde_json::Value;
+use std::alloc::{AllocError, Global};
+
+/// The answer of a line `TYPES TEXT`: why the text is no map of these types, or that it is one.
+pub fn answer(alloc: Global, line: &str) -> Result<String, AllocError> {
+    let Some((types, text)) = line.split_once(' ') else {
+        return String::from_str(alloc, "no types");
+    };
+    match types {
+        "u8" => told::<u8, u8>(alloc, text),
+        "u16" => told::<u16, u16>(alloc, text),
+        "u32" => told::<u32, u32>(alloc, text),
+        "u64" => told::<u64, u64>(alloc, text),
+        "i8" => told::<i8, i8>(alloc, text),
+        "i16" => told::<i16, i16>(alloc, text),
+        "i32" => told::<i32, i32>(alloc, text),
+        "i64" => told::<i64, i64>(alloc, text),
+        "ports" => told::<String, u16>(alloc, text),
+        "flags" => told::<bool, bool>(alloc, text),
+        "words" => told::<u32, String>(alloc, text),
+        "tongues" => told::<(u32, String), String>(alloc, text),
+        "levels" => told::<Level, Level>(alloc, text),
+        "evens" => told::<Even, Even>(alloc, text),
+        "elsewhere" => told_elsewhere(alloc, text),
+        _ => String::from_str(alloc, "no such types"),
+    }
+}
+
+// Why a text is no map.
+fn told<K: JsonKey + Drop, V: JsonItem + Drop>(
+    alloc: Global,
+    text: &str,
+) -> Result<String, AllocError> {
+    let Ok(value) = Value::from_str(alloc, text) else {
+        return String::from_str(alloc, "no JSON");
+    };
+    let map: Result<VecMap<K, V>, JsonFault> = from_json(alloc, &value);
+    match map {
+        Ok(_) => String::from_str(alloc, "a map"),
+        Err(fault) => format!(in alloc; "{}", fault.told_in::<K, V>(&value)),
+    }
+}
+
+// The same, told of a value that was not read, and has no places.
+fn told_elsewhere(alloc: Global, text: &str) -> Result<String, AllocError> {
+    let (Ok(value), Ok(other)) = (Value::from_str(alloc, text), Value::from_str(alloc, "null"))
+    else {
+        return String::from_str(alloc, "no JSON");
+    };
+    let map: Result<VecMap<u32, u32>, JsonFault> = from_json(alloc, &value);
+    match map {
+        Ok(_) => String::from_str(alloc, "a map"),
+        Err(fault) => format!(in alloc; "{}", fault.told_in::<u32, u32>(&other)),
+    }
+}

@@ -1,0 +1,200 @@
+-- Where a test cuts a list in two.
+--     cut_before, cut_behind      the cut before a query and that behind it, from what a search found
+--     drop-next, take-next      one element more;  Rising-filter      what is filtered of a rising list
+--     length-before, take-cut, drop-cut, first_cut, last_cut, between, sub_between, length-between      what lies before a cut, behind it, and between two
+use Rattle.std.proofs.Common.{◌≡◌, ℕ, zero, suc, ◌+◌, ◌-◌, ◌≤◌, Bool, true, false, not, ◌&&◌, cond, List, [], ◌∷◌, ◌++◌, length, filter, take, drop, slice_range, nat_le, Some, None, add-one, refl, sym, ap, ◌∙◌, subst, arith}
+use Rattle.std.proofs.lemmas.Bool.{le-leb}
+use Rattle.std.specs.List.{AllByRecursion}
+use Rattle.std.specs.Ordering.{is_gt, is_le, is_lt}
+use Rattle.std.specs.declared.cmp.Ordering.{Ordering}
+use Rattle.std.specs.declared.cmp.Ordering.TheVariants.{Less, Equal, Greater}
+use Rattle.litemap_store.specs.Pairs.{Rising, above, below}
+use Rattle.litemap_store.proofs.Splitting.{each-filter}
+use Rattle.litemap_store.specs.Splits.{IsFoundAt, IsMissingAt}
+use Rattle.litemap.specs.Within.{IsCut}
+
+-- ---- where a list is cut
+module _ {X : Type 0} (test : X → Bool) where
+  IsCut-zero : (L : List X) → AllByRecursion (λ y. test y ≡ false) L → IsCut test L 0
+  IsCut-zero [] h = refl
+  IsCut-zero (x ∷ L) h = h
+
+  IsCut-append : (A B : List X) → AllByRecursion (λ y. test y ≡ true) A → AllByRecursion (λ y. test y ≡ false) B → IsCut test (A ++ B) (length A)
+  IsCut-append [] B h k = IsCut-zero B k
+  IsCut-append (x ∷ A) B h k = (h.0, IsCut-append A B h.1 k)
+
+  IsCut-seam : (A : List X) (x : X) (B : List X) → AllByRecursion (λ y. test y ≡ true) A → test x ≡ true → AllByRecursion (λ y. test y ≡ false) B → IsCut test (A ++ x ∷ B) (suc (length A))
+  IsCut-seam [] x B h e k = (e, IsCut-zero B k)
+  IsCut-seam (y ∷ A) x B h e k = (h.0, IsCut-seam A x B h.1 e k)
+
+  pub IsCut-none : (L : List X) → ((x : X) → test x ≡ false) → IsCut test L 0
+  IsCut-none [] h = refl
+  IsCut-none (x ∷ L) h = (h x, each L)
+    where
+      each : (M : List X) → AllByRecursion (λ y. test y ≡ false) M
+      each [] = tt
+      each (y ∷ M) = (h y, each M)
+
+  pub IsCut-all : (L : List X) → ((x : X) → test x ≡ true) → IsCut test L (length L)
+  IsCut-all [] h = refl
+  IsCut-all (x ∷ L) h = (h x, IsCut-all L h)
+
+  -- ---- what lies before a cut, and behind it
+  none : (L : List X) → AllByRecursion (λ y. test y ≡ false) L → filter test L ≡ []
+  none [] h = refl
+  none (x ∷ L) h = rw h.0 (none L h.1)
+
+  pub length-before : (L : List X) (n : ℕ) → IsCut test L n → length (filter test L) ≡ n
+  length-before [] n h = sym h
+  length-before (x ∷ L) zero h = ap length (none (x ∷ L) h)
+  length-before (x ∷ L) (suc n) h = rw h.0 (ap suc (length-before L n h.1))
+
+  pub within-cut : (L : List X) (n : ℕ) → IsCut test L n → n ≤ length L
+  within-cut [] n h = omega arith
+  within-cut (x ∷ L) zero h = omega arith
+  within-cut (x ∷ L) (suc n) h = let k = within-cut L n h.1 in omega arith
+
+  pub take-cut : (L : List X) (n : ℕ) → IsCut test L n → take n L ≡ filter test L
+  take-cut [] zero h = refl
+  take-cut [] (suc n) h = refl
+  take-cut (x ∷ L) zero h = sym (none (x ∷ L) h)
+  take-cut (x ∷ L) (suc n) h = rw h.0 (ap (λ M. x ∷ M) (take-cut L n h.1))
+
+  all_left : (L : List X) → AllByRecursion (λ y. test y ≡ false) L → L ≡ filter (λ y. not (test y) && true) L
+  all_left [] h = refl
+  all_left (x ∷ L) h = rw h.0 (ap (λ M. x ∷ M) (all_left L h.1))
+
+  pub drop-cut : (L : List X) (n : ℕ) → IsCut test L n → drop n L ≡ filter (λ y. not (test y) && true) L
+  drop-cut [] zero h = refl
+  drop-cut [] (suc n) h = refl
+  drop-cut (x ∷ L) zero h = all_left (x ∷ L) h
+  drop-cut (x ∷ L) (suc n) h = rw h.0 (drop-cut L n h.1)
+
+  -- where nothing lies before a cut, and where nothing lies behind it
+  pub first_cut : (L : List X) (n : ℕ) → IsCut test L n → filter test L ≡ [] → n ≡ 0
+  first_cut L n h e = sym (length-before L n h) ∙ ap length e
+
+  drop_none : (L : List X) (n : ℕ) → drop n L ≡ [] → length L ≤ n
+  drop_none [] n e = omega arith
+  drop_none (x ∷ L) zero e = absurd (cc)
+  drop_none (x ∷ L) (suc n) e = let k = drop_none L n e in omega arith
+
+  pub last_cut : (L : List X) (n : ℕ) → IsCut test L n → filter (λ y. not (test y) && true) L ≡ [] → n ≡ length L
+  last_cut L n h e =
+      let k = drop_none L n (drop-cut L n h ∙ e) in
+      let w = within-cut L n h in
+      omega arith
+
+-- ---- what lies between two cuts
+module _ {X : Type 0} (early late : X → Bool) where
+  both_late : (b c : Bool) → c ≡ false → not b && c ≡ false
+  both_late true c e = refl
+  both_late false c e = e
+
+  none_late : (L : List X) → AllByRecursion (λ y. late y ≡ false) L → filter (λ x. not (early x) && late x) L ≡ []
+  none_late [] h = refl
+  none_late (x ∷ L) h = rw (both_late (early x) (late x) h.0) (none_late L h.1)
+
+  pub between : (L : List X) (a c m : ℕ) → m ≡ c - a → IsCut early L a → IsCut late L c → take m (drop a L) ≡ filter (λ x. not (early x) && late x) L
+  between [] zero c zero e p r = refl
+  between [] zero c (suc m) e p r = refl
+  between [] (suc a) c zero e p r = refl
+  between [] (suc a) c (suc m) e p r = refl
+  between (x ∷ L) zero zero zero e p r = sym (none_late (x ∷ L) r)
+  between (x ∷ L) zero zero (suc m) e p r = absurd (omega arith)
+  between (x ∷ L) zero (suc c) zero e p r = absurd (omega arith)
+  between (x ∷ L) zero (suc c) (suc m) e p r = rw p.0 (rw r.0 (ap (λ M. x ∷ M) (between L zero c m (omega arith) (IsCut-zero early L p.1) r.1)))
+  between (x ∷ L) (suc a) zero zero e p r = sym (none_late (x ∷ L) r)
+  between (x ∷ L) (suc a) zero (suc m) e p r = absurd (omega arith)
+  between (x ∷ L) (suc a) (suc c) m e p r = rw p.0 (between L a c m (omega arith) p.1 r.1)
+
+  pub length-between : (L : List X) (a c : ℕ) → IsCut early L a → IsCut late L c → length (filter (λ x. not (early x) && late x) L) ≡ c - a
+  length-between [] a c p r = omega arith
+  length-between (x ∷ L) zero zero p r = ap length (none_late (x ∷ L) r)
+  length-between (x ∷ L) zero (suc c) p r =
+      let k : length (filter (λ x. not (early x) && late x) L) ≡ c - 0 = length-between L zero c (IsCut-zero early L p.1) r.1 in
+      rw p.0 (rw r.0 (omega arith))
+  length-between (x ∷ L) (suc a) zero p r = ap length (none_late (x ∷ L) r) ∙ omega arith
+  length-between (x ∷ L) (suc a) (suc c) p r =
+      let k : length (filter (λ x. not (early x) && late x) L) ≡ c - a = length-between L a c p.1 r.1 in
+      rw p.0 (omega arith)
+
+  -- the part of a list between two places
+  pub sub_between : (L : List X) (a c m b : ℕ) → m ≡ c - a → b ≡ a + m → IsCut early L a → IsCut late L c
+      → cond (nat_le a b && nat_le b (length L)) (Some (slice_range L a b)) None ≡ Some (filter (λ x. not (early x) && late x) L)
+  sub_between L a c m b e s p r =
+      let u = within-cut early L a p in
+      let v = within-cut late L c r in
+      let first : a ≤ b = omega arith in
+      let second : b ≤ length L = omega arith in
+      rw (le-leb a b first) (rw (le-leb b (length L) second) (ap Some (between L a c (b - a) (omega arith) p r)))
+
+-- ---- where a query cuts a list
+module _ {K Q V : Type 0} (order : K → Q → Ordering) (test : Ordering → Bool) (less : test Less ≡ true) (greater : test Greater ≡ false) (q : Q) where
+  of_below : (p : K × V) (M : List (K × V)) (o : Ordering) → order p.0 q ≡ o → AllByRecursion (λ (y : K × V). test (order y.0 q) ≡ true) M
+      → AllByRecursion (λ (y : K × V). test (order y.0 q) ≡ true) (cond (is_lt o) (p ∷ M) M)
+  of_below p M Less e h = (ap test e ∙ less, h)
+  of_below p M Equal e h = h
+  of_below p M Greater e h = h
+
+  each-below : (L : List (K × V)) → AllByRecursion (λ (y : K × V). test (order y.0 q) ≡ true) (below order L q)
+  each-below [] = tt
+  each-below (p ∷ L) = of_below p (below order L q) (order p.0 q) refl (each-below L)
+
+  of_above : (p : K × V) (M : List (K × V)) (o : Ordering) → order p.0 q ≡ o → AllByRecursion (λ (y : K × V). test (order y.0 q) ≡ false) M
+      → AllByRecursion (λ (y : K × V). test (order y.0 q) ≡ false) (cond (is_gt o) (p ∷ M) M)
+  of_above p M Less e h = h
+  of_above p M Equal e h = h
+  of_above p M Greater e h = (ap test e ∙ greater, h)
+
+  each-above : (L : List (K × V)) → AllByRecursion (λ (y : K × V). test (order y.0 q) ≡ false) (above order L q)
+  each-above [] = tt
+  each-above (p ∷ L) = of_above p (above order L q) (order p.0 q) refl (each-above L)
+
+  cut_missing : (L : List (K × V)) (i : ℕ) → IsMissingAt order L q i → IsCut (λ p. test (order p.0 q)) L i
+  cut_missing L i m =
+      rw m.place (subst (λ M. IsCut (λ p. test (order p.0 q)) M (length (below order L q))) (sym m.is) (IsCut-append (λ p. test (order p.0 q)) (below order L q) (above order L q) (each-below L) (each-above L)))
+
+  cut_found : (L : List (K × V)) (i : ℕ) → IsFoundAt order L q i → test Equal ≡ false → IsCut (λ p. test (order p.0 q)) L i
+  cut_found L i f e =
+      rw f.place (subst (λ M. IsCut (λ p. test (order p.0 q)) M (length (below order L q))) (sym f.is) (IsCut-append (λ p. test (order p.0 q)) (below order L q) (f.pair ∷ above order L q) (each-below L) (ap test f.equal ∙ e, each-above L)))
+
+  cut_past_found : (L : List (K × V)) (i : ℕ) → IsFoundAt order L q i → test Equal ≡ true → IsCut (λ p. test (order p.0 q)) L (i + 1)
+  cut_past_found L i f e =
+      let next : i + 1 ≡ suc (length (below order L q)) = omega (arith, f.place) in
+      rw next (subst (λ M. IsCut (λ p. test (order p.0 q)) M (suc (length (below order L q)))) (sym f.is) (IsCut-seam (λ p. test (order p.0 q)) (below order L q) f.pair (above order L q) (each-below L) (ap test f.equal ∙ e) (each-above L)))
+
+module _ {K Q V : Type 0} (order : K → Q → Ordering) (q : Q) (L : List (K × V)) (i : ℕ) where
+  pub before_found : IsFoundAt order L q i → IsCut (λ p. is_lt (order p.0 q)) L i
+  before_found f = cut_found order is_lt refl refl q L i f refl
+
+  pub before_missing : IsMissingAt order L q i → IsCut (λ p. is_lt (order p.0 q)) L i
+  before_missing m = cut_missing order is_lt refl refl q L i m
+
+  pub behind_found : IsFoundAt order L q i → IsCut (λ p. is_le (order p.0 q)) L (i + 1)
+  behind_found f = cut_past_found order is_le refl refl q L i f refl
+
+  pub behind_missing : IsMissingAt order L q i → IsCut (λ p. is_le (order p.0 q)) L i
+  behind_missing m = cut_missing order is_le refl refl q L i m
+
+-- ---- one element more
+module _ {X : Type 0} where
+  next-suc : (L : List X) (n : ℕ) (x : X) (R : List X) → drop n L ≡ x ∷ R → (drop (suc n) L ≡ R) × (take (suc n) L ≡ take n L ++ x ∷ [])
+  next-suc [] zero x R e = absurd (cc)
+  next-suc [] (suc n) x R e = absurd (cc)
+  next-suc (y ∷ L) zero x R e = let s : y ≡ x = cc in let t : L ≡ R = cc in (t, ap (λ z. z ∷ []) s)
+  next-suc (y ∷ L) (suc n) x R e = let h = next-suc L n x R e in (h.0, ap (λ M. y ∷ M) h.1)
+
+  -- where x stands first behind n elements: what lies behind it, and up to it
+  pub drop-next : (L : List X) (n : ℕ) (x : X) (R : List X) → drop n L ≡ x ∷ R → R ≡ drop (n + 1) L
+  drop-next L n x R e = rw add-one (sym (next-suc L n x R e).0)
+
+  pub take-next : (L : List X) (n : ℕ) (x : X) (R : List X) → drop n L ≡ x ∷ R → take n L ++ x ∷ [] ≡ take (n + 1) L
+  take-next L n x R e = rw add-one (sym (next-suc L n x R e).1)
+
+-- ---- what is filtered of a rising list rises
+pub Rising-filter : {K V : Type 0} (cmp : K → K → Ordering) (test : K × V → Bool) (L : List (K × V)) → Rising cmp L → Rising cmp (filter test L)
+Rising-filter cmp test [] r = tt
+Rising-filter cmp test (p ∷ L) r =
+    let rest : Rising cmp (filter test L) = Rising-filter cmp test L r.1 in
+    elim (test p) as (λ b. Rising cmp (cond b (p ∷ filter test L) (filter test L))) [ true ↦ (each-filter (λ q. cmp p.0 q.0 ≡ Less) test L r.0, rest) | false ↦ rest ]

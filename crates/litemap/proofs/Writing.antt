@@ -1,0 +1,74 @@
+-- What a closure writes into a list of pairs.
+--     Written-none, Written-more      from one pair to the next;  CallableOnValues-first, -rest      what may be called on
+--     keys-written, Rising-written, map-written      what is left has the same keys, rises, and is mapped
+use Rattle.std.proofs.Common.{◌≡◌, ℕ, zero, suc, ◌+◌, List, [], ◌∷◌, ◌++◌, map, take, drop, slice_get, Some, add-one, refl, ap, ◌∙◌, subst}
+use Rattle.std.specs.Map.{keys_of}
+use Rattle.std.specs.declared.cmp.Ordering.{Ordering}
+use Rattle.std.specs.declared.cmp.Ordering.TheVariants.{Less}
+use Rattle.litemap_store.specs.Pairs.{BelowAll, Rising, set_value}
+use Rattle.litemap_store.proofs.Seams.{set_value-suc}
+use Rattle.litemap.specs.Written.{CallableOnValues, TakesValue, Writes, WritesPair, Written}
+use denote.Param.Members.{Mut}
+use denote.Ref.{Bor, MutBor}
+
+module _ {K V : Type 0} where
+  at-suc : (L : List (K × V)) (i : ℕ) (p : K × V) → slice_get L i ≡ Some p → drop i L ≡ p ∷ drop (suc i) L
+  at-suc [] i p e = absurd (cc)
+  at-suc (q ∷ L) zero p e = let s : q ≡ p = cc in ap (λ x. x ∷ L) s
+  at-suc (q ∷ L) (suc i) p e = at-suc L i p e
+
+  behind-suc : (L : List (K × V)) (i : ℕ) (v : V) → drop (suc i) (set_value L i v) ≡ drop (suc i) L
+  behind-suc [] i v = refl
+  behind-suc (q ∷ L) zero v = refl
+  behind-suc (q ∷ L) (suc i) v = ap (drop (suc (suc i))) (set_value-suc q L i v) ∙ behind-suc L i v
+
+  up_to-suc : (L : List (K × V)) (i : ℕ) (p : K × V) (v : V) → slice_get L i ≡ Some p → take (suc i) (set_value L i v) ≡ take i L ++ (p.0, v) ∷ []
+  up_to-suc [] i p v e = absurd (cc)
+  up_to-suc (q ∷ L) zero p v e = let s : q ≡ p = cc in ap (λ x. (x.0, v) ∷ []) s
+  up_to-suc (q ∷ L) (suc i) p v e = ap (take (suc (suc i))) (set_value-suc q L i v) ∙ ap (λ M. q ∷ M) (up_to-suc L i p v e)
+
+  -- the pairs from place i on, of which p is the first
+  pub drop-at : (L : List (K × V)) (i : ℕ) (p : K × V) → slice_get L i ≡ Some p → drop i L ≡ p ∷ drop (i + 1) L
+  drop-at L i p e = rw add-one (at-suc L i p e)
+
+  -- with another value at place i: the pairs behind it, and those up to it
+  pub drop-written : (L : List (K × V)) (i : ℕ) (v : V) → drop (i + 1) (set_value L i v) ≡ drop (i + 1) L
+  drop-written L i v = rw add-one (behind-suc L i v)
+
+  pub take-written : (L : List (K × V)) (i : ℕ) (p : K × V) (v : V) → slice_get L i ≡ Some p → take (i + 1) (set_value L i v) ≡ take i L ++ (p.0, v) ∷ []
+  take-written L i p v e = rw add-one (up_to-suc L i p v e)
+
+module _ {F K V : Type 0} (g : Mut F (Bor K × (MutBor V × Unit {0})) (Unit {0} × (MutBor V × Unit {0}))) where
+  pub Written-more : (f : F) (p q : K × V) (f' : F) (L M : List (K × V)) → WritesPair g f p q f' → Written g f' L M → Written g f (p ∷ L) (q ∷ M)
+  Written-more f p q f' L M w h = (q, f', M, w, h, refl)
+
+  -- f may be called on the first pair, and then on the others
+  pub CallableOnValues-first : (f : F) (p : K × V) (L : List (K × V)) → CallableOnValues g f (p ∷ L) → TakesValue g f p
+  CallableOnValues-first f p L c = c.at [] L f p refl refl
+
+  pub CallableOnValues-rest : (f : F) (p q : K × V) (f' : F) (L : List (K × V)) → WritesPair g f p q f' → CallableOnValues g f (p ∷ L) → CallableOnValues g f' L
+  CallableOnValues-rest f p q f' L w c = record { at = λ before after s r is folds. c.at (p ∷ before) after s r (ap (λ N. p ∷ N) is) (f', (q, w), folds) }
+
+  pub keys-written : (f : F) (L M : List (K × V)) → Written g f L M → keys_of M ≡ keys_of L
+  keys-written f [] M h = ap keys_of h
+  keys-written f (p ∷ L) M (q, f', N, w, h, is) = ap keys_of is ∙ ap (λ k. k ∷ keys_of N) (ap (λ x. x.0) w.leaves) ∙ ap (λ ks. p.0 ∷ ks) (keys-written f' L N h)
+
+  pub map-written : (f : F) (write : K → V → V) → Writes g f write → (L M : List (K × V)) → Written g f L M → M ≡ map (λ p. (p.0, write p.0 p.1)) L
+  map-written f write s [] M h = h
+  map-written f write s (p ∷ L) M (q, f', N, w, h, is) =
+      let same : f' ≡ f = (s p q f' w).1 in
+      is ∙ ap (λ x. x ∷ N) (s p q f' w).0 ∙ ap (λ ps. (p.0, write p.0 p.1) ∷ ps) (map-written f write s L N (subst (λ x. Written g x L N) same h))
+
+module _ {K V : Type 0} (cmp : K → K → Ordering) where
+  BelowAll-keys : (k : K) (L M : List (K × V)) → keys_of M ≡ keys_of L → BelowAll cmp k L → BelowAll cmp k M
+  BelowAll-keys k [] [] e h = tt
+  BelowAll-keys k [] (q ∷ M) e h = absurd (cc)
+  BelowAll-keys k (p ∷ L) [] e h = absurd (cc)
+  BelowAll-keys k (p ∷ L) (q ∷ M) e h = let s : p.0 ≡ q.0 = cc in let t : keys_of M ≡ keys_of L = cc in (subst (λ x. cmp k x ≡ Less) s h.0, BelowAll-keys k L M t h.1)
+
+  -- a list with the keys of a rising one rises
+  pub Rising-keys : (L M : List (K × V)) → keys_of M ≡ keys_of L → Rising cmp L → Rising cmp M
+  Rising-keys [] [] e h = tt
+  Rising-keys [] (q ∷ M) e h = absurd (cc)
+  Rising-keys (p ∷ L) [] e h = absurd (cc)
+  Rising-keys (p ∷ L) (q ∷ M) e h = let s : p.0 ≡ q.0 = cc in let t : keys_of M ≡ keys_of L = cc in (subst (λ x. BelowAll cmp x M) s (BelowAll-keys p.0 L M t h.0), Rising-keys L M t h.1)

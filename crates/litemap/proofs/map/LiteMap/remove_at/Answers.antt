@@ -1,6 +1,0 @@
-use Rattle.litemap_store.proofs.Splitting.{Rising-remove}
-use Rattle.litemap.proofs.map.LiteMap.remove_at.Goals as goal
-
-pub invariant_of-self : goal.invariant_of-self
-invariant_of-self g c =
-    rw c.lm_remove-value.ensures.pairs (Rising-remove g.K.Ord.cmp (g.S.Store.pairs c.self.inside.store) c.args.index c.self.invariant)

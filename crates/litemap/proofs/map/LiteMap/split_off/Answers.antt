@@ -1,0 +1,41 @@
+use Rattle.std.proofs.Common.{◌≡◌, ◌≤◌, false, true, drop, take, inl, inr, length, sym, ap, subst, ◌∙◌, ⊎_elim}
+use Rattle.litemap_store.specs.Pairs.{Rising}
+use Rattle.litemap.proofs.Cuts.{Rising-filter, drop-cut, first_cut, last_cut, take-cut, within-cut}
+use Rattle.litemap.proofs.map.LiteMap.split_off.Goals as goal
+
+pub part-requires : goal.part-requires
+part-requires g c = subst (λ L. c.place_before-place.result ≤ length L) (sym (ap (λ m. m.pairs) c.self.view_is)) (within-cut _ c.args.self.now.pairs c.place_before-place.result c.place_before-place.ensures.cut)
+
+pub returns-in_err-later-clause-succeeds : goal.returns-in_err-later-clause-succeeds
+returns-in_err-later-clause-succeeds g c = λ either.
+    let now = c.args.self.now.pairs in
+    let place = c.place_before-place.result in
+    let cut = c.place_before-place.ensures.cut in
+    let impossible : false ≡ true = c.in_err-later.ensures.succeeds (⊎_elim (λ b. inl (first_cut _ now place cut b)) (λ w. inr (last_cut _ now place cut w ∙ ap length (sym (ap (λ m. m.pairs) c.self.view_is)))) either) in
+    absurd (cc)
+
+pub from_sorted_store_unchecked-requires : goal.from_sorted_store_unchecked-requires
+from_sorted_store_unchecked-requires g c =
+    let now = c.args.self.now.pairs in
+    let place = c.place_before-place.result in
+    let is = ap (λ m. m.pairs) c.self.view_is in
+    subst (Rising g.K.Ord.cmp) (sym (c.in_ok-later.ensures.later ∙ ap (drop place) is ∙ drop-cut _ now place c.place_before-place.ensures.cut))
+    (Rising-filter g.K.Ord.cmp _ now (subst (Rising g.K.Ord.cmp) is c.self.invariant))
+
+pub invariant_of-self-2 : goal.invariant_of-self-2
+invariant_of-self-2 g c =
+    let now = c.args.self.now.pairs in
+    let place = c.place_before-place.result in
+    let is = ap (λ m. m.pairs) c.self.view_is in
+    subst (Rising g.K.Ord.cmp) (sym (c.in_ok-later.ensures.stays ∙ ap (take place) is ∙ take-cut _ now place c.place_before-place.ensures.cut))
+    (Rising-filter g.K.Ord.cmp _ now (subst (Rising g.K.Ord.cmp) is c.self.invariant))
+
+pub returns-clause-below : goal.returns-clause-below
+returns-clause-below g c =
+    let place = c.place_before-place.result in
+    c.in_ok-later.ensures.stays ∙ ap (take place) (ap (λ m. m.pairs) c.self.view_is) ∙ take-cut _ c.args.self.now.pairs place c.place_before-place.ensures.cut
+
+pub returns-clause-from : goal.returns-clause-from
+returns-clause-from g c =
+    let place = c.place_before-place.result in
+    c.from_sorted_store_unchecked.ensures.pairs ∙ c.in_ok-later.ensures.later ∙ ap (drop place) (ap (λ m. m.pairs) c.self.view_is) ∙ drop-cut _ c.args.self.now.pairs place c.place_before-place.ensures.cut

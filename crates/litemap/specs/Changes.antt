@@ -1,0 +1,37 @@
+-- What an insertion and a merge answer and leave.
+use Rattle.std.specs.Prelude.{◌≡◌, ◌≢◌, ◌⊎◌, ◌↔◌, ◌+◌, ◌≤◌, [], Option, None, Result, IsNone, IsSome, IsOk}
+use Rattle.std.specs.Prelude.{IfSome, IfOk, IfErr, OnOk, OnErr}
+use Rattle.std.specs.declared.cmp.Ordering.{Ordering}
+use Rattle.litemap_store.specs.declared.no_room.NoRoom.{NoRoom}
+use Rattle.litemap_store.specs.Merge.{Merge, left}
+use Rattle.litemap_store.specs.Pairs.{at, put, value_at}
+use Rattle.litemap.specs.Seen.{Seen}
+
+module _ {K V : Type 0} (cmp : K → K → Ordering) where
+  -- the pair is put into the map `before`, which is then `after`
+  pub record Inserts (key : K) (value : V) (before after : Seen K V) (result : Result (Option V) (NoRoom (K × V))) : Type 0 where
+    -- the list after, and the value before
+    pub put : OnOk result (after.pairs ≡ put cmp before.pairs key value)
+    pub old : IfOk result (λ old. old ≡ value_at cmp before.pairs key)
+    -- refused only where a pair has to be added and there is no room: the pair comes back
+    pub unchanged : OnErr result (after.pairs ≡ before.pairs)
+    pub absent : OnErr result (at cmp before.pairs key ≡ None)
+    pub full : OnErr result (before.room ≡ 0)
+    pub back : IfErr result (λ refused. refused.back ≡ (key, value))
+    -- the room: kept where no pair is added
+    pub room_kept : IsSome (at cmp before.pairs key) → after.room ≡ before.room
+    pub room : before.room ≤ after.room + 1
+
+  -- the map `other` is merged into the map `before`, which is then `after`
+  pub record IsMergedInto (other before after : Seen K V) (result : Result (Option (Seen K V)) (NoRoom (Seen K V))) : Type 0 where
+    -- what is left, and what is driven out
+    pub merge : OnOk result (Merge cmp before.pairs other.pairs after.pairs)
+    pub none : IfOk result (λ rest. IsNone rest ↔ (left cmp before.pairs other.pairs ≡ []))
+    pub left : IfOk result (λ rest. IfSome rest (λ m. m.pairs ≡ left cmp before.pairs other.pairs))
+    -- refused: the list stays, and the other map comes back whole
+    pub refused : OnErr result (after.pairs ≡ before.pairs)
+    pub back : IfErr result (λ refused. refused.back.pairs ≡ other.pairs)
+    -- where a map is empty it is never refused
+    pub succeeds : (before.pairs ≡ []) ⊎ (other.pairs ≡ []) → IsOk result
+    pub unchanged : other.pairs ≡ [] → after ≡ before
+    pub taken : before.pairs ≡ [] → other.pairs ≢ [] → after ≡ other

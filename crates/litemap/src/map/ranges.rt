@@ -1,0 +1,139 @@
+//! Calls for the keys that lie within two bounds. None takes memory.
+ghost use Rattle.std.specs.Prelude.{◌≡◌, ◌+◌, ◌*◌, ◌≤◌, Some, length};
+ghost use Rattle.std.specs.Ordering.{is_le, is_lt};
+ghost use Rattle.std.specs.Range.Bound.{bound_map};
+ghost use Rattle.litemap_store.specs.Counts.{RisesByAtMost};
+ghost use Rattle.litemap_store.specs.Digits.{digits};
+ghost use Rattle.litemap_store.specs.Pairs.{sub};
+ghost use Rattle.litemap.specs.Within.{IsCut, before, is_before, is_up_to, within};
+
+use crate::LiteMap;
+use litemap_store::Query;
+use litemap_store::store::{Count, SliceStore, Store, StoreSlice};
+use std::ops::{Bound, Range};
+
+impl<K: Ord, V, S: Store<K, V>> LiteMap<K, V, S> {
+    /// The places of the keys within two bounds.
+    ///
+    /// They start behind all keys that lie before the first bound. Where no key lies within, and where the bounds cross, the
+    /// range is empty there: it never faults. Each bound is asked as `get` is: for each it compares at most once for each
+    /// binary digit of the length. The Rust crate has no such call.
+    ///
+    /// ```rust
+    /// // days: 1 Monday, 3 Wednesday, 5 Friday
+    /// let later = days.places(Bound::Excluded(&1), Bound::Unbounded);
+    /// let crossing = days.places(Bound::Included(&5), Bound::Excluded(&2));
+    /// later == (1..3) && crossing == (2..2)
+    /// ```
+    pub fn places<Q: Query<K>>(&self, from: Bound<Q>, to: Bound<Q>) -> Range<usize>
+        ensures pairs { sub self.now.pairs result.start result.end ≡ Some (within Q.order self.now.pairs
+            (bound_map Q.sought from) (bound_map Q.sought to)) }
+        ensures start { result.start ≡ length (before Q.order self.now.pairs (bound_map Q.sought from)) }
+        ensures len { result.end ≡ result.start + length (within Q.order self.now.pairs
+            (bound_map Q.sought from) (bound_map Q.sought to)) }
+        ensures inside { result.end ≤ length self.now.pairs }
+    {
+        self.places_counted(from, to, &mut Count::new())
+    }
+
+    /// `places`, with its comparisons counted. The Rust crate has no such call.
+    ///
+    /// ```rust
+    /// // days: 1 Monday, 3 Wednesday, 5 Friday
+    /// let mut count = Count::new();
+    /// let places = days.places_counted(Bound::Included(&2), Bound::Excluded(&9), &mut count);
+    /// places == (1..3)
+    /// ```
+    pub fn places_counted<Q: Query<K>>(
+        &self,
+        from: Bound<Q>,
+        to: Bound<Q>,
+        count: &mut Count,
+    ) -> Range<usize>
+        ensures pairs { sub self.now.pairs result.start result.end ≡ Some (within Q.order self.now.pairs
+            (bound_map Q.sought from) (bound_map Q.sought to)) }
+        ensures start { result.start ≡ length (before Q.order self.now.pairs (bound_map Q.sought from)) }
+        ensures len { result.end ≡ result.start + length (within Q.order self.now.pairs
+            (bound_map Q.sought from) (bound_map Q.sought to)) }
+        ensures inside { result.end ≤ length self.now.pairs }
+        ensures cost { RisesByAtMost (2 * digits (length self.now.pairs)) count.old count.new }
+    {
+        let start = self.start_of(from, count);
+        let end = self.end_of(to, count);
+        // Where the bounds cross, no place lies between.
+        start..start + end.saturating_sub(start)
+    }
+
+    // How many keys lie before a lower bound.
+    fn start_of<Q: Query<K>>(&self, from: Bound<Q>, count: &mut Count) -> usize
+        ensures cut { IsCut (λ p. is_before Q.order (bound_map Q.sought from) p.0) self.now.pairs result }
+        ensures cost { RisesByAtMost (digits (length self.now.pairs)) count.old count.new }
+    {
+        match from {
+            Bound::Included(key) => self.place_before(key, count),
+            Bound::Excluded(key) => self.place_behind(key, count),
+            Bound::Unbounded => 0,
+        }
+    }
+
+    // How many keys do not lie past an upper bound.
+    fn end_of<Q: Query<K>>(&self, to: Bound<Q>, count: &mut Count) -> usize
+        ensures cut { IsCut (λ p. is_up_to Q.order (bound_map Q.sought to) p.0) self.now.pairs result }
+        ensures cost { RisesByAtMost (digits (length self.now.pairs)) count.old count.new }
+    {
+        match to {
+            Bound::Included(key) => self.place_behind(key, count),
+            Bound::Excluded(key) => self.place_before(key, count),
+            Bound::Unbounded => self.len(),
+        }
+    }
+
+    // How many keys are smaller than a query.
+    pub(super) fn place_before<Q: Query<K>>(&self, key: Q, count: &mut Count) -> usize
+        ensures cut { IsCut (λ p. is_lt (Q.order p.0 (Q.sought key))) self.now.pairs result }
+        ensures cost { RisesByAtMost (digits (length self.now.pairs)) count.old count.new }
+    {
+        match self.search(key, count) {
+            Ok(index) | Err(index) => index,
+        }
+    }
+
+    // How many keys are smaller than a query, or equal to it.
+    fn place_behind<Q: Query<K>>(&self, key: Q, count: &mut Count) -> usize
+        ensures cut { IsCut (λ p. is_le (Q.order p.0 (Q.sought key))) self.now.pairs result }
+        ensures cost { RisesByAtMost (digits (length self.now.pairs)) count.old count.new }
+    {
+        // The place behind a pair is at most the length, which is a `usize`.
+        let _len = self.len();
+        match self.search(key, count) {
+            Ok(index) => index + 1,
+            Err(index) => index,
+        }
+    }
+}
+
+impl<K: Ord, V, S: StoreSlice<K, V>> LiteMap<K, V, S> {
+    /// The pairs whose keys lie within two bounds, as a map that borrows them.
+    ///
+    /// The bounds are those of `places`: where they cross, the part is empty. For each bound it compares at most once for each
+    /// binary digit of the length. The Rust crate has no such call.
+    ///
+    /// ```rust
+    /// // days: 1 Monday, 3 Wednesday, 5 Friday
+    /// let part = days.range(Bound::Included(&2), Bound::Unbounded);
+    /// part.len() == 2 && part.first() == Some((&3, &"Wednesday"))
+    /// ```
+    pub fn range<Q: Query<K>>(
+        &self,
+        from: Bound<Q>,
+        to: Bound<Q>,
+    ) -> LiteMap<K, V, SliceStore<'_, K, V>>
+        ensures { result.pairs ≡ within Q.order self.now.pairs
+            (bound_map Q.sought from) (bound_map Q.sought to) }
+    {
+        match self.get_indexed_range(self.places(from, to)) {
+            Some(part) => part,
+            None => unreachable!(),
+        }
+    }
+}

@@ -1,0 +1,149 @@
+//! A fault as it is shown to people: with the name that it stands at, what is wanted there and what stands there.
+use crate::fault::JsonFault;
+use litemap_json_items::{JsonItem, two_items};
+use serde_json::Value;
+use std::fmt::{self, Display, Formatter, Write};
+
+/// A fault and what stands at its place in the value that was read. `JsonFault::told_in` makes it, and `{told}` prints it.
+#[derive(Drop)]
+pub struct Told<'a> {
+    fault: &'a JsonFault,
+    stands: Option<Stands<'a>>,
+}
+
+// What stands at a fault's place: of an object's member with its name.
+#[derive(Drop)]
+struct Stands<'a> {
+    name: Option<&'a str>,
+    wanted: &'static str,
+    value: &'a Value,
+}
+
+impl JsonFault {
+    /// The fault as it is shown to people, where `value` is what was read as a map from `K` to `V`: the member's name, what is
+    /// wanted there (`JsonItem::wanted`), and what stands there.
+    ///
+    /// An array's element has its place in place of a name. Of a value that has no such place, as one that was not read may not,
+    /// the fault is told alone, and so it is where memory was refused. No memory is taken.
+    ///
+    /// ```rust
+    /// let value = Value::from_str(alloc, r#"{"1":8,"3":"noon"}"#)?;
+    /// let read: Result<Hours, JsonFault> = from_json(alloc, &value);
+    /// let Err(fault) = read else { return Ok(false) };
+    /// let told = format!(in alloc; "{}", fault.told_in::<u32, u8>(&value))?;
+    /// Ok(told.as_str() == r#""3": a whole number of 8 bits is wanted, and a text stands there"#)
+    /// ```
+    pub fn told_in<'a, K: JsonItem, V: JsonItem>(&'a self, value: &'a Value) -> Told<'a> {
+        let stands = match self {
+            JsonFault::Memory => None,
+            JsonFault::NotAMap => named(
+                None,
+                "an object or an array of [key, item] arrays",
+                Some(value),
+            ),
+            JsonFault::NotAPair { place } => {
+                named(
+                    None,
+                    "an array of exactly a key and an item",
+                    element(value, *place),
+                )
+            }
+            JsonFault::KeyText { place } => member(value, *place, K::wanted()),
+            JsonFault::Key { place, fault: _ } => {
+                named(None, K::wanted(), pair(value, *place).map(|parts| parts.0))
+            }
+            JsonFault::Item { place, fault: _ } => match pair(value, *place) {
+                Some(parts) => named(None, V::wanted(), Some(parts.1)),
+                None => member(value, *place, V::wanted()),
+            },
+        };
+        Told {
+            fault: self,
+            stands,
+        }
+    }
+}
+
+// What stands there, where something does.
+fn named<'a>(
+    name: Option<&'a str>,
+    wanted: &'static str,
+    value: Option<&'a Value>,
+) -> Option<Stands<'a>> {
+    let value = value?;
+    Some(Stands {
+        name,
+        wanted,
+        value,
+    })
+}
+
+// An array's element at a place.
+fn element(value: &Value, place: usize) -> Option<&Value> {
+    value.as_array()?.as_slice().get(place)
+}
+
+// The two parts of an array's element at a place.
+fn pair(value: &Value, place: usize) -> Option<(&Value, &Value)> {
+    two_items(element(value, place)?)
+}
+
+// An object's member at a place, in the byte order of the names.
+fn member<'a>(value: &'a Value, place: usize, wanted: &'static str) -> Option<Stands<'a>> {
+    let (name, value) = value.as_object()?.iter().nth(place)?;
+    named(Some(name.as_str()), wanted, Some(value))
+}
+
+impl Display for Told<'_> {
+    fn fmt<W: Write>(&self, f: &mut Formatter<W>) -> fmt::Result {
+        let Some(stands) = &self.stands else {
+            return write!(f, "{}", self.fault);
+        };
+        let wanted = stands.wanted;
+        match (self.fault, stands.name) {
+            (JsonFault::KeyText { place: _ }, Some(name)) => {
+                return write!(f, "the name {name:?} is no key's text: {wanted} is wanted");
+            }
+            (_, Some(name)) => write!(f, "{name:?}: ")?,
+            (JsonFault::NotAPair { place }, None) => write!(
+                f,
+                "the element at place {place} (from 0): "
+            )?,
+            (JsonFault::Key { place, fault: _ }, None) => write!(
+                f,
+                "the key at place {place} (from 0): "
+            )?,
+            (JsonFault::Item { place, fault: _ }, None) => write!(
+                f,
+                "the item at place {place} (from 0): "
+            )?,
+            _ => {}
+        }
+        write!(f, "{wanted} is wanted, and ")?;
+        write_kind(f, stands.value)?;
+        f.write_str(" stands there")
+    }
+}
+
+// Which kind of value it is; a number is written whole.
+fn write_kind<W: Write>(f: &mut Formatter<W>, value: &Value) -> fmt::Result {
+    match value.as_number() {
+        Some(number) => write!(f, "{number}"),
+        None => f.write_str(kind(value)),
+    }
+}
+
+// Which kind of value it is, but a number.
+fn kind(value: &Value) -> &'static str {
+    if value.is_string() {
+        "a text"
+    } else if value.is_boolean() {
+        "a truth value"
+    } else if value.is_array() {
+        "an array"
+    } else if value.is_object() {
+        "an object"
+    } else {
+        "null"
+    }
+}

@@ -1,0 +1,258 @@
+//! No item, one, or a vector of items.
+ghost use Rattle.std.specs.Prelude.{◌≡◌, ◌+◌, ◌<◌, ◌≤◌, [], ◌∷◌, length, insert, remove, slice_get, slice_index_or};
+ghost use Rattle.std.specs.Prelude.{Some, IfSome, OnOk, OnErr, vec_len, vec_capacity};
+ghost use Rattle.std.specs.Borrow.{sem};
+ghost use Rattle.std.specs.Map.Iter.{deref_pair};
+ghost use Rattle.std.specs.Vec.Iter.{into_iter_items};
+ghost use Rattle.litemap_short.specs.Left.{with_first};
+ghost use Rattle.std.specs.Option.{option_copied, option_map};
+ghost use Rattle.litemap_store.specs.Pairs.{sub};
+ghost use Rattle.litemap_store.specs.Retain.{CallableOnEach, CalledOnPair, Kept, TakesPair};
+
+use litemap_store::store::StoreBulkMut;
+use std::alloc::{AllocError, Global};
+use std::ops::Range;
+use std::vec::IntoIter;
+use std::{array, mem};
+
+/// Where a short store keeps its items: none and one lie in it, more lie in a vector.
+#[derive(Drop)]
+pub(crate) enum Held<T> {
+    Nothing,
+    One(T, [T; 0]),
+    Many(Vec<T>),
+}
+
+impl<T> Held<T> {
+    ghost use Rattle.litemap_short.specs.Held.{held_items, held_room, IsFew, IsOne};
+    ghost use Rattle.litemap_short.specs.Lends.{held_lends_item};
+    ghost use Rattle.litemap_short.specs.declared.held.Held.TheVariants.{Nothing};
+
+    // All items, side by side.
+    pub(crate) fn as_slice(&self) -> &[T]
+        ensures { result.now ≡ held_items self.now }
+    {
+        match self {
+            Held::Nothing => &[],
+            Held::One(item, _) => array::from_ref(item).as_slice(),
+            Held::Many(items) => items.as_slice(),
+        }
+    }
+
+    // Takes room for so many further items. Where the room is not there yet, they all lie in a vector then.
+    pub(crate) fn reserve(&mut self, alloc: Global, additional: usize) -> Result<(), AllocError>
+        ensures items { held_items self.new ≡ held_items self.old }
+        ensures room { OnOk result (additional ≤ held_room self.new) }
+        ensures room_not_lowered { held_room self.old ≤ held_room self.new }
+        ensures full { OnErr result (held_room self.old < additional) }
+    {
+        match self {
+            Held::Nothing if additional <= 1 => Ok(()),
+            Held::One(_, _) if additional == 0 => Ok(()),
+            Held::Many(items) => items.reserve(additional),
+            _ => self.move_to_vec(alloc, additional),
+        }
+    }
+
+    // Moves none or one to a vector that has room for so many more.
+    fn move_to_vec(&mut self, alloc: Global, additional: usize) -> Result<(), AllocError>
+        requires few { IsFew self.old }
+        ensures items { held_items self.new ≡ held_items self.old }
+        ensures room { OnOk result (additional ≤ held_room self.new) }
+        ensures room_not_lowered { held_room self.old ≤ held_room self.new }
+    {
+        let Some(capacity) = additional.checked_add(1) else {
+            return Err(AllocError);
+        };
+        let items = Vec::with_capacity(alloc, capacity)?;
+        let few = mem::replace(self, Held::Many(items));
+        self.keep_in(few);
+        Ok(())
+    }
+
+    // Puts none or one into a vector that is empty and has room.
+    fn keep_in(&mut self, few: Held<T>)
+        requires few { IsFew few }
+        requires empty { held_items self.old ≡ [] }
+        requires room { 0 < held_room self.old }
+        ensures items { held_items self.new ≡ held_items few }
+        ensures room { held_room self.old ≤ held_room self.new + length (held_items few) }
+    {
+        match few {
+            Held::Nothing => {}
+            Held::One(item, []) => self.insert_reserved(0, item),
+            Held::Many(_) => unreachable!(),
+        }
+    }
+
+    // Puts an item at a place, and moves later ones up by one.
+    pub(crate) fn insert_reserved(&mut self, index: usize, item: T)
+        requires index { index ≤ length (held_items self.old) }
+        requires room { 0 < held_room self.old }
+        ensures items { held_items self.new ≡ insert (held_items self.old) index item }
+        ensures room { held_room self.old ≤ held_room self.new + 1 }
+    {
+        match self {
+            Held::Nothing => self.put_first(item),
+            Held::One(_, _) => unreachable!(),
+            Held::Many(items) => insert_reserved(items, index, item),
+        }
+    }
+
+    // Takes out the item at a place, and moves later ones down by one. A vector keeps its memory.
+    pub(crate) fn remove(&mut self, index: usize) -> T
+        requires { index < length (held_items self.old) }
+        ensures old { slice_get (held_items self.old) index ≡ Some result }
+        ensures items { held_items self.new ≡ remove (held_items self.old) index }
+    {
+        match self {
+            Held::Nothing => unreachable!(),
+            Held::One(_, _) => self.take_one(),
+            Held::Many(items) => items.remove(index),
+        }
+    }
+
+    // Takes out the one item.
+    fn take_one(&mut self) -> T
+        requires { IsOne self.old }
+        ensures old { held_items self.old ≡ result ∷ [] }
+        ensures nothing { self.new ≡ Nothing }
+    {
+        match mem::replace(self, Held::Nothing) {
+            Held::One(item, []) => item,
+            _ => unreachable!(),
+        }
+    }
+
+    // The item at a place, which may be written.
+    pub(crate) fn item_mut(&mut self, index: usize) -> &mut T
+        requires { index < length (held_items self.old) }
+        ensures* writes_back { sem 𝓛 (held_lends_item T.row self.entry index result) }
+        ensures value { result.now ≡ slice_index_or (held_items self.old) index result.now }
+    {
+        match self {
+            Held::Nothing => unreachable!(),
+            Held::One(item, _) => item,
+            Held::Many(items) => &mut items[index],
+        }
+    }
+
+    // The items of a vector, which stays where it has two or more, and is given up else.
+    pub(crate) fn from_vec(mut items: Vec<T>) -> Self
+        ensures { held_items result ≡ items.items }
+    {
+        match items.len() {
+            0 => {
+                items.destroy_empty();
+                Held::Nothing
+            }
+            1 => {
+                let item = items.take_last();
+                items.destroy_empty();
+                Held::One(item, [])
+            }
+            _ => Held::Many(items),
+        }
+    }
+
+    // The one item, if it is one, and the others.
+    pub(crate) fn into_parts(self, alloc: Global) -> (Option<T>, IntoIter<T>)
+        ensures items { with_first result.0 (into_iter_items result.1) ≡ held_items self }
+        ensures alone { IfSome result.0 (λ _. into_iter_items result.1 ≡ []) }
+    {
+        match self {
+            Held::Nothing => (None, Vec::new(alloc).into_iter()),
+            Held::One(item, []) => (Some(item), Vec::new(alloc).into_iter()),
+            Held::Many(items) => (None, items.into_iter()),
+        }
+    }
+
+    // Gives up all items. A vector keeps its memory.
+    pub(crate) fn clear(&mut self)
+    where
+        T: Drop,
+        ensures { held_items self.new ≡ [] }
+    {
+        match self {
+            Held::Many(items) => items.clear(),
+            _ => *self = Held::Nothing,
+        }
+    }
+
+    // Puts the one item in.
+    fn put_first(&mut self, item: T)
+        requires { self.old ≡ Nothing }
+        ensures { held_items self.new ≡ item ∷ [] }
+    {
+        match mem::replace(self, Held::One(item, [])) {
+            Held::Nothing => {}
+            _ => unreachable!(),
+        }
+    }
+}
+
+// Puts an item at a place, in a vector that has room, by one move of the later ones.
+fn insert_reserved<T>(items: &mut Vec<T>, index: usize, item: T)
+    requires index { index ≤ vec_len items.old }
+    requires room { vec_len items.old < vec_capacity items.old }
+    ensures items { items.new.items ≡ insert items.old.items index item }
+    ensures len { vec_len items.new ≡ vec_len items.old + 1 }
+    ensures capacity { vec_capacity items.new ≡ vec_capacity items.old }
+{
+    items.push_reserved(item);
+    items[index..].rotate_right(1);
+}
+
+impl<K: Drop, V: Drop> Held<(K, V)> {
+    ghost use Rattle.litemap_short.specs.Held.{held_items, IsOne};
+
+    // Keeps the pairs of which `f` answers yes. It asks once of each, in order.
+    pub(crate) fn retain<F: FnMut(&K, &V) -> bool>(&mut self, f: F)
+    where
+        K: Ord,
+        requires { CallableOnEach F.FnMut f (held_items self.old) }
+        ensures { Kept F.FnMut f (held_items self.old) (held_items self.new) }
+    {
+        match self {
+            Held::Nothing => {}
+            Held::One(_, _) => self.retain_one(f),
+            Held::Many(items) => items.lm_retain(f),
+        }
+    }
+
+    // The same of the one pair.
+    fn retain_one<F: FnMut(&K, &V) -> bool>(&mut self, mut f: F)
+        requires one { IsOne self.old }
+        requires callable { CallableOnEach F.FnMut f (held_items self.old) }
+        ensures { Kept F.FnMut f (held_items self.old) (held_items self.new) }
+    {
+        let (key, value) = self.take_one();
+        let stays = is_kept(&mut f, &key, &value);
+        if stays {
+            self.put_first((key, value));
+        }
+    }
+}
+
+// Whether a closure keeps a pair.
+fn is_kept<K, V, F: FnMut(&K, &V) -> bool>(f: &mut F, key: &K, value: &V) -> bool
+    requires { TakesPair F.FnMut f.old (key.now, value.now) }
+    ensures { CalledOnPair F.FnMut f.old (key.now, value.now) result f.new }
+{
+    f(key, value)
+}
+
+// The pair at a place, `None` from the length on.
+pub(crate) fn pair_at<K, V>(pairs: &[(K, V)], index: usize) -> Option<(&K, &V)>
+    ensures { option_map deref_pair result ≡ slice_get pairs.now index }
+{
+    let (key, value) = pairs.get(index)?;
+    Some((key, value))
+}
+
+// The pairs from a place to before another.
+pub(crate) fn part_of<K, V>(pairs: &[(K, V)], range: Range<usize>) -> Option<&[(K, V)]>
+    ensures { option_copied result ≡ sub pairs.now range.start range.end }
+{
+    pairs.get(range)
+}

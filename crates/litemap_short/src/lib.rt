@@ -1,0 +1,10 @@
+//! A store for the sorted map of the crate `litemap` that keeps no pair or one in itself, and takes memory from the second
+//! pair on.
+#![tactic(auto)]
+
+mod held;
+mod short_iter;
+mod short_store;
+
+pub use short_iter::ShortIntoIter;
+pub use short_store::ShortStore;

@@ -1,0 +1,83 @@
+//! The iterator that hands over the pairs of a short store.
+ghost use Rattle.std.specs.Prelude.{◌≡◌, [], length, Some, IfSome, Option, refl};
+ghost use Rattle.std.specs.Iterator.{YieldsFirst, at_most, UpTo};
+ghost use Rattle.std.specs.Iterator.SizeHint.{IsWithinCount};
+ghost use Rattle.std.specs.Vec.Iter.{into_iter_items};
+ghost use Rattle.litemap_short.specs.Left.{with_first};
+
+use litemap_store::store::PairIntoIter;
+use std::marker::Model;
+use std::vec::IntoIter;
+
+/// The pairs of a short store that are still to be handed over. A contract sees their list.
+#[derive(Drop)]
+pub struct ShortIntoIter<K, V> {
+    first: Option<(K, V)>,
+    others: IntoIter<(K, V)>,
+}
+
+impl<K, V> Model for ShortIntoIter<K, V> {
+    ghost use Rattle.std.specs.Prelude.{◌≡◌, List, [], IfSome};
+    ghost use Rattle.std.specs.Vec.Iter.{into_iter_items};
+    ghost use Rattle.litemap_short.specs.Left.{with_first};
+
+    ghost Value = { List (K × V) };
+
+    ghost view = { λ a. with_first a.first (into_iter_items a.others) };
+
+    ghost invariant = { λ a. IfSome a.first (λ _. into_iter_items a.others ≡ []) };
+}
+
+impl<K, V> ShortIntoIter<K, V> {
+    // The iterator over the one pair, if it is one, and the others.
+    pub(crate) fn new(first: Option<(K, V)>, others: IntoIter<(K, V)>) -> Self
+        requires { IfSome first (λ _. into_iter_items others ≡ []) }
+        ensures { result ≡ with_first first (into_iter_items others) }
+    {
+        ShortIntoIter { first, others }
+    }
+}
+
+impl<K: Drop, V: Drop> Iterator for ShortIntoIter<K, V> {
+    type Item = (K, V);
+
+    ghost next_gives = { YieldsFirst (λ s. s) };
+
+    ghost remaining = { λ s. at_most (length s) };
+
+    fn next(&mut self) -> Option<(K, V)> {
+        match self.first.take() {
+            Some(pair) => Some(pair),
+            None => self.others.next(),
+        }
+    }
+
+    fn size_hint(&self) -> (usize, Option<usize>)
+        ensures lower { IsWithinCount result.0 (at_most (length self.now)) }
+        ensures upper { IfSome result.1 (UpTo (at_most (length self.now))) }
+        ensures exact { (result.0 ≡ length self.now) × (result.1 ≡ Some (length self.now)) }
+    {
+        let len = self.len();
+        (len, Some(len))
+    }
+}
+
+impl<K: Drop, V: Drop> ExactSizeIterator for ShortIntoIter<K, V> {
+    fn len(&self) -> usize {
+        if self.first.is_some() {
+            1
+        } else {
+            self.others.len()
+        }
+    }
+}
+
+impl<K: Drop, V: Drop> PairIntoIter<K, V> for ShortIntoIter<K, V> {
+    ghost owned = { λ s. s };
+
+    ghost can = { λ _. tt };
+
+    ghost first = { λ _ _ _ h. h };
+
+    ghost count = { λ _. refl };
+}

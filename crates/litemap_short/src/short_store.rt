@@ -1,0 +1,185 @@
+//! The store of no pair, one, or a vector of pairs.
+ghost use Rattle.std.specs.Prelude.{◌≡◌, [], refl};
+ghost use Rattle.litemap_short.specs.Contents.{with_value};
+
+use crate::held::{Held, pair_at, part_of};
+use crate::short_iter::ShortIntoIter;
+use litemap_store::store::{
+    Count, NoRoom, SliceIter, SliceStore, Store, StoreBulkMut, StoreConstEmpty, StoreFromIterable,
+    StoreFromIterator, StoreIntoIterator, StoreIterable, StoreMut, StoreSlice,
+};
+use std::alloc::{AllocError, Global};
+use std::cmp::Ordering;
+use std::marker::Model;
+use std::mem;
+use std::ops::Range;
+
+/// Pairs of which none and one lie in the store itself, and more in a vector.
+///
+/// It is for maps that mostly have no pair or one. As long as it never had more it takes no memory, and the first pair of one
+/// that `lm_empty` made is never refused. From the second pair on all lie in a vector, which stays where pairs are removed
+/// again. Where a second pair is refused for want of memory, the first stays and the new one comes back.
+///
+/// The Rust crate has no such store.
+#[derive(Drop)]
+pub struct ShortStore<K, V> {
+    alloc: Global,
+    held: Held<(K, V)>,
+}
+
+impl<K, V> Model for ShortStore<K, V> {
+    ghost use Rattle.litemap_short.specs.Contents.{Contents};
+    ghost use Rattle.litemap_short.specs.Held.{held_items, held_room};
+
+    ghost Value = { Contents K V };
+
+    ghost view = { λ s. record { pairs = held_items s.held; room = held_room s.held } };
+}
+
+impl<K, V> Store<K, V> for ShortStore<K, V> {
+    ghost pairs = { λ s. s.pairs };
+
+    ghost room = { λ s. s.room };
+
+    fn lm_len(&self) -> usize {
+        self.held.as_slice().len()
+    }
+
+    fn lm_get(&self, index: usize) -> Option<(&K, &V)> {
+        pair_at(self.held.as_slice(), index)
+    }
+
+    fn lm_binary_search_by<F: FnMut(&K) -> Ordering>(
+        &self,
+        f: F,
+        count: &mut Count,
+    ) -> Result<usize, usize> {
+        SliceStore::new(self.held.as_slice()).lm_binary_search_by(f, count)
+    }
+}
+
+impl<K, V> StoreConstEmpty<K, V> for ShortStore<K, V> {
+    fn lm_empty(alloc: Global) -> Self
+        ensures pairs { result.pairs ≡ [] }
+        ensures room { result.room ≡ 1 }
+    {
+        ShortStore {
+            alloc,
+            held: Held::Nothing,
+        }
+    }
+}
+
+impl<K, V> StoreSlice<K, V> for ShortStore<K, V> {
+    fn lm_get_range(&self, range: Range<usize>) -> Option<&[(K, V)]> {
+        part_of(self.held.as_slice(), range)
+    }
+}
+
+impl<'a, K: 'a, V: 'a> StoreIterable<'a, K, V> for ShortStore<K, V> {
+    type KeyValueIter = SliceIter<'a, K, V>;
+
+    fn lm_iter(&'a self) -> SliceIter<'a, K, V> {
+        SliceIter::new(self.held.as_slice())
+    }
+}
+
+impl<K, V> StoreMut<K, V> for ShortStore<K, V> {
+    ghost with_value = { with_value };
+
+    fn lm_with_capacity(alloc: Global, capacity: usize) -> Result<Self, AllocError> {
+        let held = if capacity <= 1 {
+            Held::Nothing
+        } else {
+            Held::Many(Vec::with_capacity(alloc, capacity)?)
+        };
+        Ok(ShortStore { alloc, held })
+    }
+
+    fn lm_reserve(&mut self, additional: usize) -> Result<(), AllocError> {
+        self.held.reserve(self.alloc, additional)
+    }
+
+    fn lm_pair_mut(&mut self, index: usize) -> (&K, &mut V) {
+        let pair = self.held.item_mut(index);
+        (&pair.0, &mut pair.1)
+    }
+
+    fn lm_replace(&mut self, index: usize, key: K, value: V) -> (K, V) {
+        mem::replace(self.held.item_mut(index), (key, value))
+    }
+
+    fn lm_push(&mut self, key: K, value: V) -> Result<(), NoRoom<(K, V)>> {
+        let index = self.lm_len();
+        self.lm_insert(index, key, value)
+    }
+
+    fn lm_insert(&mut self, index: usize, key: K, value: V) -> Result<(), NoRoom<(K, V)>> {
+        match self.held.reserve(self.alloc, 1) {
+            Ok(()) => {
+                self.held.insert_reserved(index, (key, value));
+                Ok(())
+            }
+            Err(_) => Err(NoRoom { back: (key, value) }),
+        }
+    }
+
+    fn lm_remove(&mut self, index: usize) -> (K, V) {
+        self.held.remove(index)
+    }
+
+    fn lm_clear(&mut self)
+    where
+        K: Drop,
+        V: Drop,
+    {
+        self.held.clear();
+    }
+
+    ghost writes = { λ s i v. refl };
+
+    ghost keeps_room = { λ s i v. refl };
+}
+
+impl<K: Ord + Drop, V: Drop> StoreBulkMut<K, V> for ShortStore<K, V> {
+    fn lm_retain<F: FnMut(&K, &V) -> bool>(&mut self, f: F) {
+        self.held.retain(f);
+    }
+}
+
+impl<K: Ord + Drop, V: Drop> StoreFromIterable<K, V> for ShortStore<K, V> {
+    fn lm_sort_from_iter<I: IntoIterator<Item = (K, V)>>(
+        alloc: Global,
+        iter: I,
+        count: &mut Count,
+    ) -> Result<Self, AllocError> {
+        let items = Vec::lm_sort_from_iter(alloc, iter, count)?;
+        Ok(ShortStore {
+            alloc,
+            held: Held::from_vec(items),
+        })
+    }
+}
+
+impl<K: Drop, V: Drop> StoreFromIterator<K, V> for ShortStore<K, V> {
+    fn lm_from_pairs<I: IntoIterator<Item = (K, V)>>(
+        alloc: Global,
+        iter: I,
+    ) -> Result<Self, AllocError> {
+        let items = Vec::lm_from_pairs(alloc, iter)?;
+        Ok(ShortStore {
+            alloc,
+            held: Held::from_vec(items),
+        })
+    }
+}
+
+impl<K: Drop, V: Drop> StoreIntoIterator<K, V> for ShortStore<K, V> {
+    type KeyValueIntoIter = ShortIntoIter<K, V>;
+
+    fn lm_into_iter(self) -> ShortIntoIter<K, V> {
+        let ShortStore { alloc, held } = self;
+        let (first, others) = held.into_parts(alloc);
+        ShortIntoIter::new(first, others)
+    }
+}

@@ -1,0 +1,4 @@
+pub mod KnownParts
+pub mod Placing
+pub mod Scanning
+pub mod Rises

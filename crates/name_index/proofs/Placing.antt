@@ -1,0 +1,185 @@
+-- Places of entries: one more of them, and what is read at one.
+use Rattle.std.proofs.Common.{◌≡◌, ℕ, zero, suc, ◌+◌, ◌-◌, ◌<◌, ◌≤◌, List, [], ◌∷◌, ◌++◌, length, take, drop, get_or, slice_get, Some, None, Ok, Err, refl, sym, ap, ◌∙◌, subst, arith, append_assoc, length-append}
+use Rattle.std.proofs.Math.Seq.{take-length}
+use Rattle.std.proofs.lemmas.List.{length-drop}
+use Rattle.std.proofs.lemmas.Option.{slice_get-get_or, slice_get_within}
+use Rattle.std.specs.declared.cmp.Ordering.TheVariants.{Less, Equal, Greater}
+use Rattle.litemap_store.specs.Counts.{RisesByAtMost}
+use Rattle.litemap_store.specs.Digits.{digits}
+use Rattle.litemap_store.specs.Pairs.{at, value_at}
+use Rattle.litemap_store.specs.Splits.{Splits}
+use Rattle.litemap_store.specs.declared.count.Count.{Count}
+use Rattle.litemap_store.proofs.Halving.{Narrowed, Narrowed-whole, Narrowed-less, Narrowed-greater, Finds-here, Finds-nowhere}
+use Rattle.litemap_store.proofs.Splitting.{Splits-from_Finds, there-from_Splits}
+use Rattle.name_table.proofs.PartLemmas.{begins_split}
+use Rattle.name_table.specs.Parts.{Begins, Number, pair_parts, text_parts}
+use Rattle.name_index.specs.Entries.{AreEntries, BeginsPair, BeginsText, IsOpened}
+use Rattle.name_index.specs.Placed.{ArePlaced, IsKeyAt}
+use Rattle.name_index.proofs.KnownParts.{pair_first, text_next}
+use Rattle.name_index.specs.Tables.{IsRisingTable, text_order}
+use Rattle.name_index.proofs.Rises.{rising_table}
+use Rattle.name_index.proofs.Scanning.{IsAt, ascends, begins_here, is_at_next, one_side, pair_here, to_key}
+
+-- what holds of each element by its place, and of one more
+each_push : (P : ℕ → ℕ → Type 0) (L : List ℕ) (x : ℕ) → ((i y : ℕ) → slice_get L i ≡ Some y → P i y) → P (length L) x → (i y : ℕ) → slice_get (L ++ x ∷ []) i ≡ Some y → P i y
+each_push P [] x each h zero y e = let s : x ≡ y = cc in subst (λ z. P 0 z) s h
+each_push P [] x each h (suc i) y e = absurd (cc)
+each_push P (z ∷ L) x each h zero y e = each zero y e
+each_push P (z ∷ L) x each h (suc i) y e = each_push (λ j w. P (suc j) w) L x (λ j w f. each (suc j) w f) h i y e
+
+drop_front : (front rest : List ℕ) → drop (length front) (front ++ rest) ≡ rest
+drop_front [] rest = refl
+drop_front (x ∷ front) rest = drop_front front rest
+
+-- so many places are noted, and the bytes from the next one on are the rest
+pub record Noted (entries : List ℕ) (count : ℕ) (places rest : List ℕ) (index : ℕ) : Type 0 where
+  pub these : AreEntries entries count
+  pub here : IsAt these.pairs these.rest rest index
+  pub number : length places ≡ index
+  pub front : List ℕ
+  pub split : entries ≡ front ++ rest
+  pub within : (i place : ℕ) → slice_get places i ≡ Some place → place ≤ length entries
+  pub there : (i place : ℕ) → slice_get places i ≡ Some place → Begins (drop place entries) (pair_parts (drop i these.pairs)) these.rest
+
+pub noted_start : (entries : List ℕ) (count : ℕ) → AreEntries entries count → Noted entries count [] entries 0
+noted_start entries count these = record {
+  these = these;
+  here = these.spelled;
+  number = refl;
+  front = [];
+  split = refl;
+  within = λ i place e. absurd (none i place e);
+  there = λ i place e. absurd (none i place e);
+}
+  where
+    none : (i place : ℕ) → slice_get [] i ≡ Some place → ⊥
+    none zero place e = absurd (cc)
+    none (suc i) place e = absurd (cc)
+
+pub noted_next : (entries : List ℕ) (count : ℕ) (places rest : List ℕ) (index place : ℕ) (pair : List ℕ × List ℕ) (behind : List ℕ) → (n : Noted entries count places rest index) → index < count → place ≡ length entries - length rest → Begins rest (pair_parts (pair ∷ [])) behind → Noted entries count (places ++ place ∷ []) behind (index + 1)
+noted_next entries count places rest index place pair behind n within e b =
+    let l : index < length n.these.pairs = omega (arith, within, n.these.count_is) in
+    let f : length n.front ≡ place = omega (arith, e, ap length n.split, length-append n.front rest) in
+    let d : drop place entries ≡ rest = (λ i. drop (sym f i) (n.split i)) ∙ drop_front n.front rest in
+    let P : List ℕ → Type 0 = λ c. Begins c (pair_parts (drop index n.these.pairs)) n.these.rest in
+    let Q : ℕ → Type 0 = λ j. Begins (drop place entries) (pair_parts (drop j n.these.pairs)) n.these.rest in
+    record {
+      these = n.these;
+      here = is_at_next n.these.pairs n.these.rest rest index l n.here pair behind b;
+      number = omega (arith, n.number, length-append places (place ∷ []));
+      front = n.front ++ b.front;
+      split = n.split ∙ ap (λ c. n.front ++ c) b.split ∙ sym (append_assoc n.front b.front behind);
+      within = each_push (λ i p. p ≤ length entries) places place n.within (omega (arith, e));
+      there =
+          each_push (λ i p. Begins (drop p entries) (pair_parts (drop i n.these.pairs)) n.these.rest) places place n.there
+          (subst Q (sym n.number) (subst P (sym d) n.here));
+    }
+
+pub placed_end : (entries : List ℕ) (count : ℕ) (places rest : List ℕ) (index : ℕ) → Noted entries count places rest index → index ≡ count → ArePlaced entries places
+placed_end entries count places rest index n e =
+    record {
+      these = record { pairs = n.these.pairs; rest = n.these.rest; spelled = n.these.spelled; count_is = omega (arith, n.these.count_is, n.number, e); rises = n.these.rises };
+      within = n.within;
+      there = n.there;
+    }
+
+-- ---- at a place
+
+-- what a slice from a place on has
+pub tail_is : (l : List ℕ) (n : ℕ) → take (length l - n) (drop n l) ≡ drop n l
+tail_is l n = ap (λ k. take k (drop n l)) (sym (length-drop n l)) ∙ take-length (drop n l)
+
+module _ (entries places : List ℕ) (index : ℕ) (d : ℕ) (placed : ArePlaced entries places) (l : index < length places) where
+  place_is : slice_get places index ≡ Some (get_or places index d)
+  place_is = slice_get-get_or places index d l
+
+  pub place_within : get_or places index d ≤ length entries
+  place_within = placed.within index (get_or places index d) place_is
+
+  at_place : IsAt placed.these.pairs placed.these.rest (drop (get_or places index d) entries) index
+  at_place = placed.there index (get_or places index d) place_is
+
+  in_pairs : index < length placed.these.pairs
+  in_pairs = omega (arith, l, placed.these.count_is)
+
+  pub pair_begins : BeginsPair (drop (get_or places index d) entries)
+  pair_begins = begins_here placed.these.pairs placed.these.rest (drop (get_or places index d) entries) index in_pairs at_place
+
+  pub pair_there : (pair : List ℕ × List ℕ) (behind : List ℕ) → Begins (drop (get_or places index d) entries) (pair_parts (pair ∷ [])) behind → slice_get placed.these.pairs index ≡ Some pair
+  pair_there pair behind b = pair_here placed.these.pairs placed.these.rest (drop (get_or places index d) entries) index in_pairs at_place pair behind b
+
+  -- the key alone
+  pub text_begins : BeginsText (drop (get_or places index d) entries)
+  text_begins =
+      let f = pair_begins in
+      let c = begins_split (drop (get_or places index d) entries) f.1 (text_parts f.0.0) (text_parts f.0.1) f.2 in
+      (f.0.0, c.0, c.1)
+
+  pub key_there : (key behind : List ℕ) → Begins (drop (get_or places index d) entries) (text_parts key) behind → IsKeyAt placed.these.pairs index key
+  key_there key behind b =
+      let f = pair_begins in
+      let n = text_next (drop (get_or places index d) entries) f.1 behind key f.0.0 (text_parts f.0.1) f.2 b in
+      let e = pair_there f.0 f.1 f.2 in
+      (f.0.1, e ∙ ap (λ k. Some (k, f.0.1)) (sym n.0))
+
+-- ---- a search's state
+
+pub record Searched (entries places key : List ℕ) (low high : ℕ) : Type 0 where
+  pub ordered : low ≤ high
+  pub within : high ≤ length places
+  pub narrowed : (placed : ArePlaced entries places) → Narrowed (to_key key) placed.these.pairs low high
+
+pub searched_start : (entries places key : List ℕ) (high : ℕ) → high ≡ length places → Searched entries places key 0 high
+searched_start entries places key high e = record {
+  ordered = omega arith;
+  within = omega (arith, e);
+  narrowed = λ placed. Narrowed-whole (to_key key) placed.these.pairs high (omega (arith, e, placed.these.count_is));
+}
+
+module _ (entries places key name : List ℕ) (low high middle : ℕ) (s : Searched entries places key low high) (l : low ≤ middle) (h : middle < high) (there : (placed : ArePlaced entries places) → IsKeyAt placed.these.pairs middle name) where
+  pub searched_less : text_order name key ≡ Less → Searched entries places key (middle + 1) high
+  searched_less is = record {
+    ordered = omega (arith, h);
+    within = s.within;
+    narrowed = λ placed. let pairs = placed.these.pairs in let at = there placed in
+        Narrowed-less (to_key key) pairs (ascends pairs key placed.these.rises) low high middle name at.0 at.1 (s.narrowed placed) is;
+  }
+
+  pub searched_greater : text_order name key ≡ Greater → Searched entries places key low middle
+  searched_greater is = record {
+    ordered = l;
+    within = omega (arith, h, s.within);
+    narrowed = λ placed. let pairs = placed.these.pairs in let at = there placed in
+        Narrowed-greater (to_key key) pairs (ascends pairs key placed.these.rises) low high middle name at.0 at.1 (s.narrowed placed) is;
+  }
+
+  pub searched_equal : text_order name key ≡ Equal → (placed : ArePlaced entries places) → Splits text_order placed.these.pairs key (Ok middle)
+  searched_equal is placed =
+      let pairs = placed.these.pairs in
+      let at = there placed in
+      Splits-from_Finds one_side pairs key placed.these.rises (Ok middle) (Finds-here (to_key key) pairs middle name at.0 at.1 is)
+
+pub searched_end : (entries places key : List ℕ) (low high : ℕ) → Searched entries places key low high → high ≤ low → (placed : ArePlaced entries places) → Splits text_order placed.these.pairs key (Err low)
+searched_end entries places key low high s h placed =
+    let pairs = placed.these.pairs in
+    Splits-from_Finds one_side pairs key placed.these.rises (Err low)
+    (Finds-nowhere (to_key key) pairs low high h (omega (arith, h, s.ordered, s.within, placed.these.count_is)) (s.narrowed placed))
+
+-- ---- what is found
+
+pub placed_table : (bytes entries places : List ℕ) → Begins bytes (Number (length places) ∷ []) entries → (placed : ArePlaced entries places) → IsRisingTable bytes placed.these.pairs
+placed_table bytes entries places counted placed =
+    let o : IsOpened bytes entries (length places) = record { counted = counted; these = placed.these } in
+    rising_table bytes entries (length places) o
+
+pub value_at_split : (pairs : List (List ℕ × List ℕ)) (key : List ℕ) (i : ℕ) (p : List ℕ × List ℕ) → Splits text_order pairs key (Ok i) → slice_get pairs i ≡ Some p → value_at text_order pairs key ≡ Some p.1
+value_at_split pairs key i p s e =
+    let a : at text_order pairs key ≡ Some p = sym (there-from_Splits text_order pairs key (Ok i) s) ∙ e in
+    rw a refl
+
+pub value_at_none : (pairs : List (List ℕ × List ℕ)) (key : List ℕ) (i : ℕ) → Splits text_order pairs key (Err i) → value_at text_order pairs key ≡ None
+value_at_none pairs key i s = rw s.missing refl
+
+-- a count of as many pairs as places
+pub cost_by_pairs : (entries places : List ℕ) (placed : ArePlaced entries places) (old new : Count) → RisesByAtMost (digits (length places)) old new → RisesByAtMost (digits (length placed.these.pairs)) old new
+cost_by_pairs entries places placed old new r = let P : ℕ → Type 0 = λ n. RisesByAtMost (digits n) old new in subst P (sym placed.these.count_is) r

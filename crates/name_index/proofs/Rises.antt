@@ -1,0 +1,142 @@
+-- Reading on while the keys rise, and where they don't.
+use Rattle.std.proofs.Common.{◌≡◌, true, false, ℕ, ◌+◌, ◌-◌, List, [], ◌∷◌, ◌++◌, length, drop, Option, Some, None, slice_get, refl, sym, ap, ◌∙◌, subst, arith, append_assoc, length-append, Bor}
+use Rattle.std.specs.Cmp.Lexicographic.{slice_cmp}
+use Rattle.std.specs.Ordering.{is_lt}
+use Rattle.std.specs.Prelude.{Bool, IfNone, IfSome, IsTrue}
+use Rattle.std.specs.declared.cmp.Ordering.{Ordering}
+use Rattle.std.specs.declared.cmp.Ordering.TheVariants.{Less, Equal, Greater}
+use Rattle.litemap_store.specs.Pairs.{AllBelow, BelowAll, Rising}
+use Rattle.litemap_store.proofs.Ends.{AllBelow-at, AllBelow-from_last, Rising-push}
+use Rattle.name_table.specs.Parts.{Part, AreParts, Begins, Number, pair_parts, table_parts}
+use Rattle.name_table.specs.ReadOn.{IsReadOn, AreParts-append, pair_parts-append}
+use Rattle.name_table.specs.Remaining.{IsCounted, IsNext, Remaining}
+use Rattle.name_index.specs.Entries.{AreEntries, IsOpened}
+use Rattle.name_index.specs.Faults.{AllRise, RisesTo}
+use Rattle.name_index.specs.Tables.{IsRisingTable, text_order}
+use Rattle.name_index.proofs.Scanning.{text_order_total}
+
+-- the key of the last pair, if there is one
+abbrev pub LastKey : Option (Bor (List ℕ)) → List (List ℕ × List ℕ) → Type 0
+LastKey None pairs = pairs ≡ []
+LastKey (Some key) pairs = (front : List (List ℕ × List ℕ)) × (value : List ℕ) × (pairs ≡ front ++ (key.now, value) ∷ [])
+
+-- what the walk knows at t
+pub record Checked (s t : Remaining) (last : Option (Bor (List ℕ))) : Type 0 where
+  pub to : RisesTo s t
+  pub last_is : LastKey last to.on.pairs
+
+pub checked_start : (s : Remaining) → Checked s s None
+checked_start s = record {
+  to = record {
+    on = record { pairs = []; front = []; split = refl; spelled = refl; place = omega arith; count = omega arith };
+    rises = tt;
+  };
+  last_is = refl;
+}
+
+less_from_true : (o : Ordering) → IsTrue (is_lt o) → o ≡ Less
+less_from_true Less h = refl
+less_from_true Equal h = absurd (cc)
+less_from_true Greater h = absurd (cc)
+
+-- the key is above the last one
+abbrev pub IsAbove : Option (Bor (List ℕ)) → List ℕ → Type 0
+IsAbove None key = Unit {0}
+IsAbove (Some last) key = text_order last.now key ≡ Less
+
+last_at : (front : List (List ℕ × List ℕ)) (p : List ℕ × List ℕ) → slice_get (front ++ p ∷ []) (length front) ≡ Some p
+last_at [] p = refl
+last_at (q ∷ front) p = last_at front p
+
+rises_on : (last : Option (Bor (List ℕ))) (L : List (List ℕ × List ℕ)) (p : List ℕ × List ℕ) → LastKey last L → Rising text_order L → IsAbove last p.0 → Rising text_order (L ++ p ∷ [])
+rises_on None L p e r a = let P : List (List ℕ × List ℕ) → Type 0 = λ M. Rising text_order (M ++ p ∷ []) in subst P (sym e) (tt, tt)
+rises_on (Some last) L p e r a =
+    let M = e.0 ++ (last.now, e.1) ∷ [] in
+    let R : List (List ℕ × List ℕ) → Type 0 = λ M. Rising text_order M in
+    let P : List (List ℕ × List ℕ) → Type 0 = λ M. Rising text_order (M ++ p ∷ []) in
+    let s : Rising text_order M = subst R e.2 r in
+    let b : AllBelow text_order M p.0 = AllBelow-from_last text_order_total M p.0 (length e.0) (last.now, e.1) s (omega (arith, length-append e.0 ((last.now, e.1) ∷ []))) (last_at e.0 (last.now, e.1)) a in
+    subst P (sym e.2) (Rising-push text_order M p.0 p.1 s b)
+
+rising_last : (L : List (List ℕ × List ℕ)) (x y : List ℕ × List ℕ) → Rising text_order ((L ++ x ∷ []) ++ y ∷ []) → text_order x.0 y.0 ≡ Less
+rising_last [] x y r = r.0.0
+rising_last (z ∷ L) x y r = rising_last L x y r.1
+
+pub falls_on : (last : Bor (List ℕ)) (L : List (List ℕ × List ℕ)) (p : List ℕ × List ℕ) → LastKey (Some last) L → Rising text_order (L ++ p ∷ []) → text_order last.now p.0 ≡ Less
+falls_on last L p e r =
+    let P : List (List ℕ × List ℕ) → Type 0 = λ M. Rising text_order (M ++ p ∷ []) in
+    rising_last e.0 (last.now, e.1) p (subst P e.2 r)
+
+-- what the test of a key says
+pub above_true : (last : Option (Bor (List ℕ))) (key : List ℕ) (b : Bool) → IfSome last (λ l. b ≡ is_lt (text_order l.now key)) → IsTrue b → IsAbove last key
+above_true None key b s t = tt
+above_true (Some last) key b s t = less_from_true (text_order last.now key) (sym s ∙ t)
+
+pub above_false : (last : Option (Bor (List ℕ))) (L : List (List ℕ × List ℕ)) (p : List ℕ × List ℕ) (b : Bool) → LastKey last L → IfNone last (IsTrue b) → IfSome last (λ l. b ≡ is_lt (text_order l.now p.0)) → b ≡ false → Rising text_order (L ++ p ∷ []) → ⊥
+above_false None L p b e n s f r = let h : b ≡ true = n in absurd (cc)
+above_false (Some last) L p b e n s f r = let h : b ≡ true = s ∙ ap is_lt (falls_on last L p e r) in absurd (cc)
+
+-- one more pair was read, and its key is above the last one
+pub checked_next : (s t u : Remaining) (last : Option (Bor (List ℕ))) (key value : Bor (List ℕ)) → Checked s t last → IsNext t u (key.now, value.now) → IsAbove last key.now → Checked s u (Some key)
+checked_next s t u last key value c n a =
+    let on = c.to.on in
+    let p : List ℕ × List ℕ = (key.now, value.now) in
+    let P : List Part → Type 0 = λ xs. AreParts (on.front ++ n.spelled.front) xs in
+    record {
+      to = record {
+        on = record {
+          pairs = on.pairs ++ p ∷ [];
+          front = on.front ++ n.spelled.front;
+          split = on.split ∙ ap (λ b. on.front ++ b) n.spelled.split ∙ sym (append_assoc on.front n.spelled.front u.rest);
+          spelled =
+              subst P (sym (pair_parts-append on.pairs (p ∷ [])))
+              (AreParts-append on.front n.spelled.front (pair_parts on.pairs) (pair_parts (p ∷ [])) on.spelled n.spelled.spelled);
+          place = omega (arith, on.place, n.place, length-append on.front n.spelled.front);
+          count = omega (arith, on.count, n.count, length-append on.pairs (p ∷ []));
+        };
+        rises = rises_on last on.pairs p c.last_is c.to.rises a;
+      };
+      last_is = (on.pairs, value.now, refl);
+    }
+
+-- the whole table was read
+pub opened : (bytes entries : List ℕ) (s : Remaining) → IsCounted bytes s → entries ≡ s.rest → AllRise s → IsOpened bytes entries s.left
+opened bytes entries s c e a =
+    let P : List ℕ → Type 0 = λ t. IsOpened bytes t s.left in
+    subst P (sym e) (record {
+      counted = c.spelled;
+      these = record {
+        pairs = a.1.on.pairs;
+        rest = a.0.rest;
+        spelled = record { front = a.1.on.front; split = a.1.on.split; spelled = a.1.on.spelled };
+        count_is = omega (arith, a.1.on.count, a.2);
+        rises = a.1.rises;
+      };
+    })
+
+-- what stands behind the number of entries
+pub entries_behind : (bytes : List ℕ) (s : Remaining) → IsCounted bytes s → drop s.place bytes ≡ s.rest
+entries_behind bytes s c = let P : ℕ → List ℕ → Type 0 = λ n b. drop n b ≡ s.rest in rest_behind bytes c.spelled.front s.rest s.place c.spelled.split c.place
+  where
+    drop_front : (front rest : List ℕ) → drop (length front) (front ++ rest) ≡ rest
+    drop_front [] rest = refl
+    drop_front (x ∷ front) rest = drop_front front rest
+
+    rest_behind : (bytes front rest : List ℕ) (place : ℕ) → bytes ≡ front ++ rest → place ≡ length front → drop place bytes ≡ rest
+    rest_behind bytes front rest place e n = (λ i. drop (n i) (e i)) ∙ drop_front front rest
+
+-- a table that was opened is one whose keys rise
+pub rising_table : (bytes entries : List ℕ) (count : ℕ) → (o : IsOpened bytes entries count) → IsRisingTable bytes o.these.pairs
+rising_table bytes entries count o =
+    let b = o.counted in
+    let p = o.these.spelled in
+    let A : ℕ → Type 0 = λ n. AreParts (b.front ++ p.front) (Number n ∷ pair_parts o.these.pairs) in
+    record {
+      rest = o.these.rest;
+      table = record {
+        front = b.front ++ p.front;
+        split = b.split ∙ ap (λ c. b.front ++ c) p.split ∙ sym (append_assoc b.front p.front o.these.rest);
+        spelled = subst A (sym o.these.count_is) (AreParts-append b.front p.front (Number count ∷ []) (pair_parts o.these.pairs) b.spelled p.spelled);
+      };
+      rises = o.these.rises;
+    }

@@ -1,0 +1,95 @@
+-- What a walk over entries knows: the pairs from a place on are still to be read, and those in front of it are below the key.
+use Rattle.std.proofs.Common.{◌≡◌, ℕ, ◌+◌, ◌<◌, ◌≤◌, List, [], ◌∷◌, length, drop, get_or, slice_get, Some, None, Result, Ok, Err, refl, sym, ap, ◌∙◌, subst, arith, Bor}
+use Rattle.std.proofs.lemmas.List.{drop_more}
+use Rattle.std.proofs.lemmas.Option.{slice_get-get_or, slice_get_within}
+use Rattle.std.specs.Cmp.{IsTotalOrder}
+use Rattle.std.specs.Cmp.Lexicographic.{on_texts}
+use Rattle.std.specs.declared.cmp.Ordering.{Ordering}
+use Rattle.std.specs.declared.cmp.Ordering.TheVariants.{Less, Equal, Greater}
+use Rattle.litemap_store.specs.Pairs.{Rising, at, index_of, value_at}
+use Rattle.litemap_store.specs.Queries.{OneSide, key_one_side}
+use Rattle.litemap_store.specs.Search.{Ascends, Finds}
+use Rattle.litemap_store.specs.Splits.{Splits}
+use Rattle.litemap_store.proofs.Halving.{Narrowed, Narrowed-whole, Narrowed-less, Narrowed-greater, Finds-here, Finds-nowhere}
+use Rattle.litemap_store.proofs.Splitting.{Ascends-by_query, Splits-from_Finds, index_of-from_Splits, there-from_Splits}
+use Rattle.name_table.specs.Parts.{Begins, pair_parts}
+use Rattle.name_index.specs.Entries.{AreEntries, BeginsPair, IsScanned}
+use Rattle.name_index.specs.Tables.{text_order}
+use Rattle.name_index.proofs.KnownParts.{pair_first, pair_next}
+
+pub text_order_total : IsTotalOrder text_order
+text_order_total = on_texts (λ (a : List ℕ). a)
+
+abbrev pub one_side : OneSide text_order text_order
+one_side = key_one_side text_order_total
+
+-- how a key stands to the one that is looked for
+abbrev pub to_key : List ℕ → List ℕ → Ordering
+to_key key k = text_order k key
+
+-- the pairs from the place on stand at the rest
+abbrev pub IsAt : List (List ℕ × List ℕ) → List ℕ → List ℕ → ℕ → Type 0
+IsAt pairs behind rest index = Begins rest (pair_parts (drop index pairs)) behind
+
+module _ (pairs : List (List ℕ × List ℕ)) (behind rest : List ℕ) (index : ℕ) (within : index < length pairs) (here : IsAt pairs behind rest index) where
+  cut_here : Begins rest (pair_parts (get_or pairs index ([], []) ∷ drop (index + 1) pairs)) behind
+  cut_here = let P : List (List ℕ × List ℕ) → Type 0 = λ L. Begins rest (pair_parts L) behind in subst P (drop_more pairs index ([], []) within) here
+
+  pub begins_here : BeginsPair rest
+  begins_here = let f = pair_first rest behind (get_or pairs index ([], [])) (drop (index + 1) pairs) cut_here in (get_or pairs index ([], []), f.0, f.1)
+
+  module _ (pair : List ℕ × List ℕ) (later : List ℕ) (read : Begins rest (pair_parts (pair ∷ [])) later) where
+    next_here : (pair ≡ get_or pairs index ([], [])) × Begins later (pair_parts (drop (index + 1) pairs)) behind
+    next_here = pair_next rest later behind (get_or pairs index ([], [])) pair (drop (index + 1) pairs) cut_here read
+
+    -- the pair that is read stands there, and behind it the next ones
+    pub pair_here : slice_get pairs index ≡ Some pair
+    pair_here = slice_get-get_or pairs index ([], []) within ∙ ap Some (sym next_here.0)
+
+    pub is_at_next : IsAt pairs behind later (index + 1)
+    is_at_next = next_here.1
+
+-- ---- what a search's answers say
+
+module _ (pairs : List (List ℕ × List ℕ)) (key : List ℕ) (rises : Rising text_order pairs) where
+  pub ascends : Ascends (to_key key) pairs
+  ascends = Ascends-by_query one_side pairs key rises
+
+  pub index_of_found : (r : Result ℕ ℕ) → Finds (to_key key) pairs r → r ≡ index_of text_order pairs key
+  index_of_found r f = index_of-from_Splits text_order pairs key r (Splits-from_Finds one_side pairs key rises r f)
+
+  pub value_at_found : (i : ℕ) (p : List ℕ × List ℕ) → Finds (to_key key) pairs (Ok i) → slice_get pairs i ≡ Some p → value_at text_order pairs key ≡ Some p.1
+  value_at_found i p f e =
+      let s = there-from_Splits text_order pairs key (Ok i) (Splits-from_Finds one_side pairs key rises (Ok i) f) in
+      let a : at text_order pairs key ≡ Some p = sym s ∙ e in
+      rw a refl
+
+  pub value_at_missing : (i : ℕ) → Finds (to_key key) pairs (Err i) → value_at text_order pairs key ≡ None
+  value_at_missing i f = let s = Splits-from_Finds one_side pairs key rises (Err i) f in rw s.missing refl
+
+  -- a walk's end: at a pair whose key is equal, or between those below and those above
+  pub scanned_found : (index : ℕ) (name : List ℕ) (value : Bor (List ℕ)) → slice_get pairs index ≡ Some (name, value.now) → text_order name key ≡ Equal → IsScanned pairs key (Ok (index, value))
+  scanned_found index name value e is =
+      let f = Finds-here (to_key key) pairs index name value.now e is in
+      (sym (index_of_found (Ok index) f), value_at_found index (name, value.now) f e)
+
+  pub scanned_missing : (low high : ℕ) → high ≤ low → low ≤ length pairs → Narrowed (to_key key) pairs low high → IsScanned pairs key (Err low)
+  scanned_missing low high h l n =
+      let f = Finds-nowhere (to_key key) pairs low high h l n in
+      (sym (index_of_found (Err low) f), value_at_missing low f)
+
+-- ---- a scan's state
+
+pub record Scanned (entries : List ℕ) (count : ℕ) (key rest : List ℕ) (index : ℕ) : Type 0 where
+  pub these : AreEntries entries count
+  pub here : IsAt these.pairs these.rest rest index
+  pub narrowed : Narrowed (to_key key) these.pairs index (length these.pairs)
+
+pub scanned_start : (entries key : List ℕ) (count : ℕ) → AreEntries entries count → Scanned entries count key entries 0
+scanned_start entries key count these = record { these = these; here = these.spelled; narrowed = Narrowed-whole (to_key key) these.pairs (length these.pairs) (omega arith) }
+
+-- ---- a walk to a place
+
+pub record Walked (entries : List ℕ) (count : ℕ) (rest : List ℕ) (index : ℕ) : Type 0 where
+  pub these : AreEntries entries count
+  pub here : IsAt these.pairs these.rest rest index

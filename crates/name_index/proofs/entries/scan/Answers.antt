@@ -1,0 +1,48 @@
+use Rattle.std.proofs.Common.{◌≡◌, ◌∙◌, ℕ, arith, length, subst, sym}
+use Rattle.litemap_store.proofs.Halving.{Narrowed, Narrowed-greater, Narrowed-less}
+use Rattle.name_index.proofs.Scanning.{ascends, begins_here, is_at_next, pair_here, scanned_found, scanned_missing, scanned_start, to_key}
+use Rattle.name_index.proofs.entries.scan.Goals as goal
+
+pub loop-index-init : goal.loop-index-init
+loop-index-init c = scanned_start c.args.entries.now c.args.key.now c.args.count c.requires
+
+pub known_pair-requires : goal.known_pair-requires
+known_pair-requires c =
+    let inv = c.loop-index.invariant in
+    begins_here inv.these.pairs inv.these.rest _ c.loop-index.index (omega (arith, inv.these.count_is)) inv.here
+
+pub returns-in-Equal : goal.returns-in-Equal
+returns-in-Equal c =
+    let inv = c.loop-index.invariant in
+    let pair = c.known_pair.result.0 in
+    let e = pair_here inv.these.pairs inv.these.rest _ c.loop-index.index (omega (arith, inv.these.count_is)) inv.here (pair.0.now, pair.1.now) _ c.known_pair.ensures in
+    (inv.these, scanned_found inv.these.pairs c.args.key.now inv.these.rises c.loop-index.index pair.0.now pair.1 e (sym c.cmp.ensures ∙ c.in-Equal.is))
+
+pub returns-in-Greater : goal.returns-in-Greater
+returns-in-Greater c =
+    let inv = c.loop-index.invariant in
+    let pair = c.known_pair.result.0 in
+    let pairs = inv.these.pairs in
+    let e = pair_here pairs inv.these.rest _ c.loop-index.index (omega (arith, inv.these.count_is)) inv.here (pair.0.now, pair.1.now) _ c.known_pair.ensures in
+    let n = Narrowed-greater (to_key c.args.key.now) pairs (ascends pairs c.args.key.now inv.these.rises) _ _ c.loop-index.index _ _ e inv.narrowed (sym c.cmp.ensures ∙ c.in-Greater.is) in
+    (inv.these, scanned_missing pairs c.args.key.now inv.these.rises c.loop-index.index c.loop-index.index (omega arith) (omega (arith, inv.these.count_is)) n)
+
+pub loop-index-preserved : goal.loop-index-preserved
+loop-index-preserved c =
+    let inv = c.loop-index.invariant in
+    let pair = c.known_pair.result.0 in
+    let pairs = inv.these.pairs in
+    let e = pair_here pairs inv.these.rest _ c.loop-index.index (omega (arith, inv.these.count_is)) inv.here (pair.0.now, pair.1.now) _ c.known_pair.ensures in
+    record {
+      these = inv.these;
+      here = is_at_next pairs inv.these.rest _ c.loop-index.index (omega (arith, inv.these.count_is)) inv.here (pair.0.now, pair.1.now) _ c.known_pair.ensures;
+      narrowed = Narrowed-less (to_key c.args.key.now) pairs (ascends pairs c.args.key.now inv.these.rises) _ _ c.loop-index.index _ _ e inv.narrowed (sym c.cmp.ensures ∙ c.in-Less.is);
+    }
+
+pub returns : goal.returns
+returns c =
+    let inv = c.loop-index.invariant in
+    let pairs = inv.these.pairs in
+    let end : c.loop-index.index ≡ c.args.count = omega arith in
+    let P : ℕ → Type 0 = λ n. Narrowed (to_key c.args.key.now) pairs n (length pairs) in
+    (inv.these, scanned_missing pairs c.args.key.now inv.these.rises c.args.count (length pairs) (omega (arith, inv.these.count_is)) (omega (arith, inv.these.count_is)) (subst P end inv.narrowed))

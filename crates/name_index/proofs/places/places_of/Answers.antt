@@ -1,0 +1,25 @@
+use Rattle.std.proofs.Common.{◌+◌, ℕ, List, arith, subst, sym}
+use Rattle.name_index.proofs.Placing.{Noted, noted_next, noted_start, placed_end}
+use Rattle.name_index.proofs.Scanning.{begins_here}
+use Rattle.name_index.proofs.places.places_of.Goals as goal
+
+pub loop-init : goal.loop-init
+loop-init c =
+    let P : List ℕ → Type 0 = λ places. Noted c.args.entries.now c.args.count places c.args.entries.now 0 in
+    subst P (sym c.in_ok-places.ensures.items) (noted_start c.args.entries.now c.args.count c.requires)
+
+pub known_pair-requires : goal.known_pair-requires
+known_pair-requires c =
+    let inv = c.loop.invariant in
+    begins_here inv.these.pairs inv.these.rest _ c.loop.counter (omega (arith, inv.these.count_is)) inv.here
+
+pub loop-preserved : goal.loop-preserved
+loop-preserved c =
+    let inv = c.loop.invariant in
+    let pair = c.known_pair.result.0 in
+    let P : List ℕ → Type 0 = λ places. Noted c.args.entries.now c.args.count places c.known_pair.result.1.now (c.loop.counter + 1) in
+    subst P (sym c.in_ok-push.ensures.items)
+    (noted_next c.args.entries.now c.args.count _ _ c.loop.counter _ (pair.0.now, pair.1.now) c.known_pair.result.1.now inv (omega arith) (omega arith) c.known_pair.ensures)
+
+pub returns-clause-placed : goal.returns-clause-placed
+returns-clause-placed c = placed_end c.args.entries.now c.args.count _ _ c.loop.counter c.loop.invariant (omega arith)

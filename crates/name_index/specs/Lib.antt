@@ -1,0 +1,5 @@
+-- The definitions that the contracts cite. `Tables` is the page to read first.
+pub mod Tables
+pub mod Entries
+pub mod Placed
+pub mod Faults

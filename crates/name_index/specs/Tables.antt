@@ -1,0 +1,21 @@
+-- Name tables whose keys rise. A text is the list of its bytes.
+use Rattle.std.specs.Prelude.{ℕ, List}
+use Rattle.std.specs.Cmp.Lexicographic.{slice_cmp}
+use Rattle.std.specs.Ordering.{nat_cmp}
+use Rattle.std.specs.declared.cmp.Ordering.{Ordering}
+use Rattle.litemap_store.specs.Pairs.{Rising}
+use Rattle.name_table.specs.Parts.{Begins, table_parts}
+
+-- the order of texts: by their bytes, where a proper prefix is less
+abbrev pub text_order : List ℕ → List ℕ → Ordering
+text_order a b = slice_cmp nat_cmp a b
+
+-- the bytes begin with a table of the pairs, whose keys rise
+pub record IsRisingTable (bytes : List ℕ) (pairs : List (List ℕ × List ℕ)) : Type 0 where
+  pub rest : List ℕ
+  pub table : Begins bytes (table_parts pairs) rest
+  pub rises : Rising text_order pairs
+
+-- the bytes begin with a table whose keys rise, and P holds of its pairs: by a law of name tables there is no other one
+abbrev pub OfTable : List ℕ → (List (List ℕ × List ℕ) → Type 0) → Type 0
+OfTable bytes P = (pairs : List (List ℕ × List ℕ)) × IsRisingTable bytes pairs × P pairs

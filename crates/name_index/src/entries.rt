@@ -1,0 +1,39 @@
+//! Entries whose keys rise, walked from the first on.
+ghost use Rattle.std.specs.Prelude.{◌≡◌, ◌<◌, Some, slice_get};
+ghost use Rattle.name_index.specs.Entries.{AreEntries, IsScanned, OfEntries};
+ghost use Rattle.name_table.specs.Remaining.{shown};
+
+use crate::known::known_pair;
+use std::cmp::Ordering;
+
+/// The place of the key among so many entries, with its value, or else the place where it would go.
+pub fn scan<'a>(entries: &'a [u8], count: usize, key: &str) -> Result<(usize, &'a str), usize>
+    requires { AreEntries entries.now count }
+    ensures { OfEntries entries.now count (λ pairs. IsScanned pairs key.now result) }
+{
+    let mut rest = entries;
+    for index in 0..count {
+        let ((name, value), behind) = known_pair(rest);
+        match name.cmp(key) {
+            Ordering::Less => rest = behind,
+            Ordering::Equal => return Ok((index, value)),
+            Ordering::Greater => return Err(index),
+        }
+    }
+    Err(count)
+}
+
+/// The entry at a place.
+pub fn entry_at<'a>(entries: &'a [u8], count: usize, index: usize) -> (&'a str, &'a str)
+    requires entries { AreEntries entries.now count }
+    requires within { index < count }
+    ensures { OfEntries entries.now count (λ pairs. slice_get pairs index ≡ Some (shown result)) }
+{
+    let mut rest = entries;
+    for _ in 0..index {
+        let (_, behind) = known_pair(rest);
+        rest = behind;
+    }
+    let (pair, _) = known_pair(rest);
+    pair
+}

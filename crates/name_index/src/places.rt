@@ -1,0 +1,73 @@
+//! The places of entries, and what is found by them.
+ghost use Rattle.std.specs.Prelude.{◌≡◌, ◌<◌, IfOk, Some, length, slice_get};
+ghost use Rattle.litemap_store.specs.Counts.{RisesByAtMost};
+ghost use Rattle.litemap_store.specs.Digits.{digits};
+ghost use Rattle.litemap_store.specs.Splits.{Splits};
+ghost use Rattle.name_index.specs.Entries.{AreEntries};
+ghost use Rattle.name_index.specs.Placed.{ArePlaced, AsPlaced, IsKeyAt};
+ghost use Rattle.name_index.specs.Tables.{text_order};
+ghost use Rattle.name_table.specs.Remaining.{shown};
+
+use crate::known::{known_pair, known_text};
+use litemap_store::store::Count;
+use std::alloc::{AllocError, Global};
+use std::cmp::Ordering;
+
+/// The places of so many entries, from the first one's on. It is refused where one isn't below 4,294,967,296.
+pub fn places_of(alloc: Global, entries: &[u8], count: usize) -> Result<Vec<u32>, AllocError>
+    requires { AreEntries entries.now count }
+    ensures number { IfOk result (λ places. length places.items ≡ count) }
+    ensures placed { IfOk result (λ places. ArePlaced entries.now places.items) }
+{
+    let mut places = Vec::with_capacity(alloc, count)?;
+    let mut rest = entries;
+    for _ in 0..count {
+        let Ok(place) = u32::try_from(entries.len() - rest.len()) else {
+            return Err(AllocError);
+        };
+        places.push(place)?;
+        let (_, behind) = known_pair(rest);
+        rest = behind;
+    }
+    Ok(places)
+}
+
+/// The entry at a place.
+pub fn pair_of<'a>(entries: &'a [u8], places: &[u32], index: usize) -> (&'a str, &'a str)
+    requires placed { ArePlaced entries.now places.now }
+    requires within { index < length places.now }
+    ensures { AsPlaced entries.now places.now (λ pairs. slice_get pairs index ≡ Some (shown result)) }
+{
+    let (pair, _) = known_pair(&entries[places[index] as usize..]);
+    pair
+}
+
+// The key of the entry at a place.
+fn key_of<'a>(entries: &'a [u8], places: &[u32], index: usize) -> &'a str
+    requires placed { ArePlaced entries.now places.now }
+    requires within { index < length places.now }
+    ensures { AsPlaced entries.now places.now (λ pairs. IsKeyAt pairs index result.now) }
+{
+    let (key, _) = known_text(&entries[places[index] as usize..]);
+    key
+}
+
+/// The place of the key, or where it would go.
+pub fn search(entries: &[u8], places: &[u32], key: &str, count: &mut Count) -> Result<usize, usize>
+    requires { ArePlaced entries.now places.now }
+    ensures splits { AsPlaced entries.now places.now (λ pairs. Splits text_order pairs key.now result) }
+    ensures within { IfOk result (λ index. index < length places.now) }
+    ensures cost { RisesByAtMost (digits (length places.now)) count.old count.new }
+{
+    let mut low = 0;
+    let mut high = places.len();
+    while low < high {
+        let middle = low + (high - low) / 2;
+        match count.cmp(&key_of(entries, places, middle), &key) {
+            Ordering::Less => low = middle + 1,
+            Ordering::Equal => return Ok(middle),
+            Ordering::Greater => high = middle,
+        }
+    }
+    Err(low)
+}

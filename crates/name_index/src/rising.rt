@@ -1,0 +1,38 @@
+//! Whether the keys of a table rise.
+ghost use Rattle.std.specs.Prelude.{◌≡◌, IfErr, IfNone, IfSome, IsTrue, OnOk};
+ghost use Rattle.std.specs.Ordering.{is_lt};
+ghost use Rattle.name_index.specs.Faults.{AllRise, StopsAt};
+ghost use Rattle.name_index.specs.Tables.{text_order};
+
+use crate::fault::NameTableFault;
+use litemap_read::PairSource;
+use name_table::NameBytes;
+
+/// Reads what is left of a table. The fault is that of the first entry that can't be read or whose key doesn't rise.
+pub fn check(names: &mut NameBytes<'_>) -> Result<(), NameTableFault>
+    ensures ok { OnOk result (AllRise names.old) }
+    ensures fault { IfErr result (λ fault. StopsAt names.old fault) }
+{
+    let mut last: Option<&str> = None;
+    loop {
+        let at = names.place();
+        let Some((key, _)) = names.next_pair()? else {
+            return Ok(());
+        };
+        if !is_above(last, key) {
+            return Err(NameTableFault::NotRising { at });
+        }
+        last = Some(key);
+    }
+}
+
+// Whether a key is above the last one.
+fn is_above(last: Option<&str>, key: &str) -> bool
+    ensures first { IfNone last.entry (IsTrue result) }
+    ensures later { IfSome last.entry (λ last. result ≡ is_lt (text_order last.now key.now)) }
+{
+    match last {
+        None => true,
+        Some(last) => last.cmp(key).is_lt(),
+    }
+}

@@ -1,0 +1,114 @@
+//! A name table that is scanned.
+ghost use Rattle.std.specs.Prelude.{◌≡◌, ◌==◌, IfErr, IfOk, length, slice_get, ⊤};
+ghost use Rattle.std.specs.Option.{option_copied, option_map};
+ghost use Rattle.litemap_store.specs.Pairs.{index_of, value_at};
+ghost use Rattle.name_index.specs.Entries.{IsOpened};
+ghost use Rattle.name_index.specs.Faults.{IsFault};
+ghost use Rattle.name_index.specs.Tables.{OfTable, text_order};
+ghost use Rattle.name_table.specs.Remaining.{shown};
+
+use crate::entries::{entry_at, scan};
+use crate::fault::NameTableFault;
+use crate::rising::check;
+use litemap_read::PairSource;
+use name_table::NameBytes;
+use std::marker::Model;
+
+/// A name table whose keys rise, looked up in its bytes. It takes no memory.
+///
+/// A contract sees it as the bytes. They begin with one table, and what a call answers is said of the list of its pairs
+/// (`OfTable`), whose texts are compared by their bytes.
+#[derive(Drop)]
+pub struct NameTable<'a> {
+    bytes: &'a [u8],
+    entries: &'a [u8],
+    count: usize,
+}
+
+impl<'a> Model for NameTable<'a> {
+    ghost use Rattle.std.specs.Prelude.{ℕ, List};
+    ghost use Rattle.name_index.specs.Entries.{IsOpened};
+
+    ghost Value = { List ℕ };
+
+    ghost view = { λ t. t.bytes.now };
+
+    ghost invariant = { λ t. IsOpened t.bytes.now t.entries.now t.count };
+}
+
+impl<'a> NameTable<'a> {
+    /// The table that the bytes begin with.
+    ///
+    /// It is read once, with one comparison for each key but the first, and no memory is taken. The fault is that of the
+    /// first entry that can't be read, as `read_names` tells it, or whose key isn't above the one before it. Bytes behind
+    /// the table are left unread.
+    pub fn new(bytes: &'a [u8]) -> Result<Self, NameTableFault>
+        ensures bytes { IfOk result (λ table. table ≡ bytes.now) }
+        ensures table { IfOk result (λ _. OfTable bytes.now (λ _. ⊤)) }
+        ensures fault { IfErr result (λ fault. IsFault bytes.now fault) }
+    {
+        let mut names = NameBytes::new(bytes)?;
+        let entries = &bytes[names.place()..];
+        let count = names.hint().unwrap_or(0);
+        check(&mut names)?;
+        Ok(NameTable {
+            bytes,
+            entries,
+            count,
+        })
+    }
+
+    // The bytes, the entries in them, and how many these are.
+    pub(crate) fn opened(&self) -> (&'a [u8], &'a [u8], usize)
+        ensures opened { IsOpened result.0.now result.1.now result.2 }
+        ensures bytes { result.0.now ≡ self.now }
+    {
+        (self.bytes, self.entries, self.count)
+    }
+
+    /// The number of entries.
+    pub fn len(&self) -> usize
+        ensures { OfTable self.now (λ pairs. result ≡ length pairs) }
+    {
+        self.count
+    }
+
+    /// Whether there is no entry.
+    pub fn is_empty(&self) -> bool
+        ensures { OfTable self.now (λ pairs. result ≡ (length pairs == 0)) }
+    {
+        self.count == 0
+    }
+
+    /// The value of a key, if it is there.
+    ///
+    /// The entries are read from the first on, with one comparison for each, up to the first key that isn't below this one.
+    pub fn get(&self, key: &str) -> Option<&'a str>
+        ensures { OfTable self.now (λ pairs. option_copied result ≡ value_at text_order pairs key.now) }
+    {
+        match scan(self.entries, self.count, key) {
+            Ok((_, value)) => Some(value),
+            Err(_) => None,
+        }
+    }
+
+    /// The place of a key, or where it would go. It costs what `get` does.
+    pub fn find_index(&self, key: &str) -> Result<usize, usize>
+        ensures { OfTable self.now (λ pairs. result ≡ index_of text_order pairs key.now) }
+    {
+        match scan(self.entries, self.count, key) {
+            Ok((index, _)) => Ok(index),
+            Err(index) => Err(index),
+        }
+    }
+
+    /// The entry at a place, `None` from the length on. The entries in front of it are read.
+    pub fn get_indexed(&self, index: usize) -> Option<(&'a str, &'a str)>
+        ensures { OfTable self.now (λ pairs. option_map shown result ≡ slice_get pairs index) }
+    {
+        if index >= self.count {
+            return None;
+        }
+        Some(entry_at(self.entries, self.count, index))
+    }
+}

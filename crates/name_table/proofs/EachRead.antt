@@ -1,0 +1,124 @@
+-- Each list of bytes begins with a table, or has a fault.
+use Rattle.std.proofs.Common.{◌≡◌, ◌≢◌, ◌⊎◌, inl, inr, ℕ, zero, suc, ◌+◌, ◌-◌, ◌*◌, ◌%◌, ◌<◌, ◌≤◌, Bool, true, false, List, [], ◌∷◌, ◌++◌, length, take, drop, refl, sym, ap, ◌∙◌, subst, arith, ⊎_elim, length-append}
+use Rattle.std.proofs.lemmas.List.{length-take-le, take-append-drop}
+use Rattle.std.proofs.lemmas.Str.{IsUtf8-from_is_utf8, is_utf8-from_IsUtf8}
+use Rattle.std.specs.Prelude.{IsUtf8}
+use Rattle.std.specs.Str.{is_utf8}
+use Rattle.name_table.specs.Faults.{AreOfPairs, AreOfText, Fault, NumberFault, TableFault}
+use Rattle.name_table.specs.Numbers.{BeginsNumber, WhyUnread}
+use Rattle.name_table.specs.Parts.{Begins, Number, pair_parts, table_parts, text_parts}
+use Rattle.name_table.specs.Remaining.{IsCounted, IsNext, Remaining}
+use Rattle.name_table.specs.declared.fault.NameFault.{NameFault}
+use Rattle.name_table.specs.declared.fault.NameFault.TheVariants.{Truncated, NotUtf8, NumberTooLarge}
+use Rattle.name_table.specs.declared.number.Unread.{Unread}
+use Rattle.name_table.specs.declared.number.Unread.TheVariants.{Ends, TooLong}
+use Rattle.name_table.proofs.FaultLemmas.{length_fault, text_fault}
+use Rattle.name_table.proofs.NumberLemmas.{begins_last, begins_more, begins_number, cut_fault, large_fault, long_fault, unread_more}
+use Rattle.name_table.proofs.PartLemmas.{begins_none, begins_pairs, begins_text, begins_then}
+use Rattle.name_table.proofs.Remains.{fault_later, is_next, key_fault, value_fault}
+use Rattle.name_table.proofs.WholeTables.{count_fault, pairs_fault}
+
+below_or : (k n : ℕ) → (k < n) ⊎ (n ≤ k)
+below_or k zero = inr (omega arith)
+below_or zero (suc n) = inl (omega arith)
+below_or (suc k) (suc n) = ⊎_elim (λ h. inl (omega (arith, h))) (λ h. inr (omega (arith, h))) (below_or k n)
+
+-- ---- a number
+
+abbrev NumberRead : ℕ → List ℕ → Type 0
+NumberRead room bytes = ((n : ℕ) × (rest : List ℕ) × BeginsNumber bytes room n rest) ⊎ ((why : Unread) × WhyUnread why room bytes)
+
+number_read : (room : ℕ) (bytes : List ℕ) → NumberRead room bytes
+number_read zero bytes = inr (TooLong, ([], bytes, refl, tt, refl))
+number_read (suc room) [] = inr (Ends, (tt, omega arith))
+number_read (suc room) (b ∷ bytes) =
+    let k : suc room ≢ 0 = λ e. omega (arith, e) in
+    let less : suc room - 1 ≡ room = omega arith in
+    let more : 128 ≤ b → NumberRead room bytes → NumberRead (suc room) (b ∷ bytes) = λ h.
+    ⊎_elim
+    (λ r. let P : ℕ → Type 0 = λ m. BeginsNumber bytes m r.0 r.1 in inl (b % 128 + 128 * r.0, r.1, begins_more (b ∷ bytes) bytes b b (suc room) refl refl k r.0 r.1 h (subst P (sym less) r.2)))
+    (λ w. let P : ℕ → Type 0 = λ m. WhyUnread w.0 m bytes in inr (w.0, unread_more (b ∷ bytes) bytes b b (suc room) refl refl k w.0 h (subst P (sym less) w.1))) in
+    ⊎_elim (λ h. inl (b, bytes, begins_last (b ∷ bytes) bytes b b (suc room) refl refl k h)) (λ h. more h (number_read room bytes)) (below_or b 128)
+
+-- a number below 2^32
+abbrev LengthRead : List ℕ → ℕ → Type 0
+LengthRead bytes place = ((n : ℕ) × (rest : List ℕ) × Begins bytes (Number n ∷ []) rest) ⊎ ((f : NameFault) × NumberFault bytes place f)
+
+unread_fault : (why : Unread) (bytes : List ℕ) (place : ℕ) → WhyUnread why 5 bytes → (f : NameFault) × NumberFault bytes place f
+unread_fault Ends bytes place w = (Truncated place, cut_fault bytes place w)
+unread_fault TooLong bytes place w = (NumberTooLarge place, long_fault bytes place w)
+
+length_read : (bytes : List ℕ) (place : ℕ) → LengthRead bytes place
+length_read bytes place =
+    ⊎_elim
+    (λ r. ⊎_elim
+    (λ h. inl (r.0, r.1, begins_number bytes r.1 r.0 r.2 h))
+    (λ h. inr (NumberTooLarge place, large_fault bytes r.1 r.0 place r.2 h))
+    (below_or r.0 4294967296))
+    (λ w. inr (unread_fault w.0 bytes place w.1))
+    (number_read 5 bytes)
+
+-- ---- a text
+
+abbrev TextRead : List ℕ → ℕ → Type 0
+TextRead bytes place = ((text : List ℕ) × (rest : List ℕ) × Begins bytes (text_parts text) rest) ⊎ ((f : NameFault) × Fault AreOfText bytes place f)
+
+sized_read : (bytes tail : List ℕ) (place size : ℕ) → Begins bytes (Number size ∷ []) tail → size ≤ length tail → (b : Bool) → is_utf8 (take size tail) ≡ b → TextRead bytes place
+sized_read bytes tail place size n h true u =
+    inl (take size tail, drop size tail, begins_text bytes tail (drop size tail) (take size tail) size n (sym (take-append-drop size tail)) (length-take-le size tail h) (IsUtf8-from_is_utf8 (take size tail) u))
+sized_read bytes tail place size n h false u =
+    let next = place + length n.front in
+    inr (NotUtf8 next, text_fault bytes tail place next size (NotUtf8 next) n refl (refl, h, λ v. let w : is_utf8 (take size tail) ≡ true = is_utf8-from_IsUtf8 (take size tail) v in absurd (cc)))
+
+text_read : (bytes : List ℕ) (place : ℕ) → TextRead bytes place
+text_read bytes place =
+    ⊎_elim
+    (λ r. let next = place + length r.2.front in
+    ⊎_elim
+    (λ h. inr (Truncated next, text_fault bytes r.1 place next r.0 (Truncated next) r.2 refl (refl, h)))
+    (λ h. sized_read bytes r.1 place r.0 r.2 h (is_utf8 (take r.0 r.1)) refl)
+    (below_or (length r.1) r.0))
+    (λ w. inr (w.0, length_fault bytes place w.0 w.1))
+    (length_read bytes place)
+
+-- ---- pairs
+
+abbrev PairsRead : Remaining → Type 0
+PairsRead s =
+    ((pairs : List (List ℕ × List ℕ)) × (rest : List ℕ) × Begins s.rest (pair_parts pairs) rest × (length pairs ≡ s.left))
+    ⊎ ((f : NameFault) × Fault (AreOfPairs s.left) s.rest s.place f)
+
+pairs_read : (n : ℕ) (s : Remaining) → s.left ≡ n → PairsRead s
+pairs_read zero s e = inl ([], s.rest, begins_none s.rest, sym e)
+pairs_read (suc n) s e =
+    let h : s.left ≢ 0 = λ z. omega (arith, z, e) in
+    ⊎_elim
+    (λ k. let place = s.place + length k.2.front in
+    ⊎_elim
+    (λ v.
+    let t : Remaining = record { rest = v.1; place = s.place + (length s.rest - length k.1) + (length k.1 - length v.1); left = s.left - 1 } in
+    let next : IsNext s t (k.0, v.0) = is_next s k.0 v.0 k.1 v.1 k.2 v.2 h in
+    ⊎_elim
+    (λ r. inl ((k.0, v.0) ∷ r.0, r.1, begins_pairs s.rest t.rest r.1 ((k.0, v.0) ∷ []) r.0 next.spelled r.2, omega (arith, r.3, e)))
+    (λ f. inr (f.0, fault_later s t (k.0, v.0) next f.0 f.1))
+    (pairs_read n t (omega (arith, e))))
+    (λ f. inr (f.0, value_fault s k.1 k.0 place f.0 h k.2 refl f.1))
+    (text_read k.1 place))
+    (λ f. inr (f.0, key_fault s f.0 h f.1))
+    (text_read s.rest s.place)
+
+-- ---- a table
+
+pub table_read : (bytes : List ℕ) → ((pairs : List (List ℕ × List ℕ)) × (rest : List ℕ) × Begins bytes (table_parts pairs) rest) ⊎ ((fault : NameFault) × TableFault bytes fault)
+table_read bytes =
+    ⊎_elim
+    (λ r.
+    let s : Remaining = record { rest = r.1; place = length r.2.front; left = r.0 } in
+    let c : IsCounted bytes s = record { spelled = r.2; place = refl } in
+    ⊎_elim
+    (λ p. let P : ℕ → Type 0 = λ n. Begins bytes (Number n ∷ []) r.1 in
+    inl (p.0, p.1, begins_then bytes r.1 p.1 (Number (length p.0) ∷ []) (pair_parts p.0) (subst P (sym p.3) r.2) p.2))
+    (λ f. inr (f.0, pairs_fault bytes s f.0 c f.1))
+    (pairs_read r.0 s refl))
+    (λ w. inr (w.0, count_fault bytes w.0 w.1))
+    (length_read bytes 0)

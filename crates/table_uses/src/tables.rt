@@ -1,0 +1,107 @@
+//! What a table answers that is looked up in its bytes.
+use name_index::{NameIndex, NameTable};
+use std::alloc::{AllocError, Global};
+use std::fmt::Write;
+
+/// Writes each entry of a `NameTable`, with a word more where its key isn't found in the table or its `NameIndex`.
+pub fn write_table(alloc: Global, bytes: &[u8], output: &mut String) -> Result<(), AllocError> {
+    let table = match NameTable::new(bytes) {
+        Ok(table) => table,
+        Err(fault) => return write!(output, "{fault}"),
+    };
+    let index = NameIndex::new(alloc, &table)?;
+    write!(output, "table {}:", index.len())?;
+    for place in 0..table.len() {
+        let Some((key, value)) = table.get_indexed(place) else {
+            return output.push_str(" no entry");
+        };
+        write!(output, " {key}={value}")?;
+        if table.find_index(key) != Ok(place) || !is_indexed(&table, &index, key) {
+            output.push_str(" not found")?;
+        }
+        if index.get_indexed(place) != Some((key, value)) {
+            output.push_str(" not there")?;
+        }
+    }
+    if table.get_indexed(table.len()).is_some() || index.get_indexed(table.len()).is_some() {
+        output.push_str(" one more")?;
+    }
+    Ok(())
+}
+
+// Whether an index answers as its table does at a key.
+fn is_indexed(table: &NameTable<'_>, index: &NameIndex<'_>, key: &str) -> bool {
+    index.get(key) == table.get(key) && index.find_index(key) == table.find_index(key)
+}
+
+/// Writes what a `NameTable` has at a key, and whether its `NameIndex` answers otherwise.
+pub fn write_asked(
+    alloc: Global,
+    key: &str,
+    bytes: &[u8],
+    output: &mut String,
+) -> Result<(), AllocError> {
+    let table = match NameTable::new(bytes) {
+        Ok(table) => table,
+        Err(fault) => return write!(output, "{fault}"),
+    };
+    if !is_indexed(&table, &NameIndex::new(alloc, &table)?, key) {
+        return output.push_str("another answer");
+    }
+    match (table.get(key), table.find_index(key)) {
+        (Some(value), Ok(index)) => write!(output, "found {index}: {value}"),
+        (None, Err(index)) => write!(output, "none, it would be {index}"),
+        _ => output.push_str("two answers"),
+    }
+}
+
+/// Makes a table of so many names, and writes how many of some keys are found in it: 16 that are there, and one behind
+/// each of these.
+pub fn write_many(alloc: Global, number: u32, output: &mut String) -> Result<(), AllocError> {
+    let mut bytes = Vec::new(alloc);
+    put_number(number, &mut bytes)?;
+    let mut key = String::new(alloc);
+    for name in 0..number {
+        key.clear();
+        write!(key, "{name:08}")?;
+        bytes.push(8)?;
+        bytes.extend_from_slice(key.as_str().as_bytes())?;
+        bytes.push(0)?;
+    }
+    let Ok(table) = NameTable::new(bytes.as_slice()) else {
+        return output.push_str("no table");
+    };
+    let index = NameIndex::new(alloc, &table)?;
+    let (mut there, mut between) = (0u32, 0u32);
+    for step in 0..16u32 {
+        let name = (number / 16).wrapping_mul(step);
+        key.clear();
+        write!(key, "{name:08}")?;
+        let found = table.find_index(key.as_str()) == Ok(name as usize);
+        there = there.wrapping_add(u32::from(found && is_indexed(&table, &index, key.as_str())));
+        key.push('+')?;
+        let missing = table.find_index(key.as_str()) == Err((name as usize).wrapping_add(1));
+        between = between.wrapping_add(u32::from(
+            missing && is_indexed(&table, &index, key.as_str()),
+        ));
+    }
+    write!(
+        output,
+        "{} names: {there} there, {between} between",
+        table.len()
+    )
+}
+
+// Writes a number in groups of seven bits.
+fn put_number(number: u32, bytes: &mut Vec<u8>) -> Result<(), AllocError> {
+    let mut rest = number;
+    for _ in 0..5 {
+        if rest < 128 {
+            bytes.push(rest as u8)?;
+            return Ok(());
+        }
+        bytes.push((rest % 128 + 128) as u8)?;
+        rest /= 128;
+    }
+    Ok(())
+}
