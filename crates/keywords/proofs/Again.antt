@@ -1,5 +1,5 @@
 -- What a text spells is one list of keywords, and what is written for keywords spells these.
-use Rattle.std.proofs.Common.{◌≡◌, ◌≢◌, ◌⊎◌, ◌↔◌, inl, inr, ℕ, ◌+◌, Bool, true, false, cond, List, [], ◌∷◌, ◌++◌, Option, Some, None, map, length, refl, sym, ap, ◌∙◌, subst, append_assoc, append-nil, IsTrue, arith, option_map}
+use Rattle.std.proofs.Common.{◌≡◌, ◌≢◌, ◌⊎◌, inl, inr, ℕ, Bool, true, false, cond, List, [], ◌∷◌, ◌++◌, Some, map, refl, sym, ap, ◌∙◌, subst, append-nil, IsTrue, option_map}
 use Rattle.std.proofs.lemmas.Cmp.{tied_itself}
 use Rattle.std.proofs.lemmas.Map.Lookups.{exact_bytes}
 use Rattle.std.specs.Char.{to_ascii_lowercase}
@@ -14,7 +14,7 @@ use Rattle.litemap_store.specs.Pairs.{at}
 use Rattle.litemap_store.proofs.LastLookups.{at-Rising}
 use Rattle.litemap_store.proofs.LastPairs.{same_rising}
 use Rattle.litemap_store.proofs.Splitting.{each-append}
-use Rattle.keywords.specs.Keywords.{AreCanonical, IsFault, IsKeyword, IsRead, Keyword, Rise, Spells, canonical, is_key, is_value_part, joined, keyword_parts, pair_of, parts_of, value_of}
+use Rattle.keywords.specs.Keywords.{AreCanonical, IsFault, IsKeyword, IsRead, Keyword, Rise, Spells, canonical, is_key, is_value_part, joined, keyword_parts, pair_of, parts_of, size_of, value_of}
 use Rattle.keywords.specs.Reading.{NoValueFirst}
 use Rattle.keywords.specs.Written.{IsReadAgain, if_some, printed}
 use Rattle.keywords.proofs.Cases.{NoDash-key, NoDash-part, joined-lowered, lowered_key, lowered_parts, lowered_twice, no_value_key}
@@ -83,7 +83,7 @@ keywords_unique (k ∷ ks) (l ∷ ls) h i e =
     let same : k ≡ l = ap (λ (x : List ℕ). record k { key = x }) f ∙ ap (λ (x : List (List ℕ)). record l { value = x }) v.0 in
     ap (λ x. x ∷ ks) same ∙ ap (λ t. l ∷ t) (keywords_unique ks ls h.1 i.1 v.1)
 
-spelled_unique : (text : List ℕ) (ks ls : List Keyword) → Spells text ks → Spells text ls → ks ≡ ls
+pub spelled_unique : (text : List ℕ) (ks ls : List Keyword) → Spells text ks → Spells text ls → ks ≡ ls
 spelled_unique text [] [] s t = refl
 spelled_unique text [] (l ∷ ls) s t = absurd (spelled_some text l ls t s.spelled)
 spelled_unique text (k ∷ ks) [] s t = absurd (spelled_some text k ks s t.spelled)
@@ -143,6 +143,47 @@ pub no_fault : (text : List ℕ) (ks : List Keyword) (at : ℕ) → Spells text 
 no_fault text [] at s f = f.some s.spelled
 no_fault text (k ∷ ks) at s f =
     no_bad k ks f.before f.part f.behind s.each (sym (parts_spelled text k ks s) ∙ f.parts) f.no_key f.no_value
+
+-- ---- one fault
+
+not_good : (part other : List ℕ) → part ≡ other → is_key part ≡ false → is_value_part part ≡ false → IsGood other → ⊥
+not_good part other e n m (inl t) = let u : is_key part ≡ true = subst (λ z. is_key z ≡ true) (sym e) t in cc
+not_good part other e n m (inr t) = let u : is_value_part part ≡ true = subst (λ z. is_value_part z ≡ true) (sym e) t in cc
+
+-- good parts before a bad one are those before it
+fronts_same : (f g : List (List ℕ)) (p q : List ℕ) (r s : List (List ℕ)) → AllByRecursion IsGood f → AllByRecursion IsGood g → is_key p ≡ false → is_value_part p ≡ false → is_key q ≡ false → is_value_part q ≡ false → f ++ p ∷ r ≡ g ++ q ∷ s → f ≡ g
+fronts_same [] [] p q r s a b i j k l e = refl
+fronts_same [] (y ∷ g) p q r s a b i j k l e = let h : p ≡ y = cc in absurd (not_good p y h i j b.0)
+fronts_same (x ∷ f) [] p q r s a b i j k l e = let h : q ≡ x = cc in absurd (not_good q x h k l a.0)
+fronts_same (x ∷ f) (y ∷ g) p q r s a b i j k l e =
+    let h : x ≡ y = cc in
+    let t : f ++ p ∷ r ≡ g ++ q ∷ s = cc in
+    ap (λ z. z ∷ f) h ∙ ap (λ z. y ∷ z) (fronts_same f g p q r s a.1 b.1 i j k l t)
+
+no_value_behind : (ks : List Keyword) (k : Keyword) (p : List ℕ) → ((k ∷ ks) ≡ []) ⊎ (is_value_part p ≡ false) → is_value_part p ≡ false
+no_value_behind ks k p (inl e) = cc
+no_value_behind ks k p (inr e) = e
+
+starts_key : (x : List ℕ) (f : List (List ℕ)) (p : List ℕ) (r s : List (List ℕ)) → is_key x ≡ true → is_key p ≡ false → (x ∷ f) ++ r ≡ p ∷ s → ⊥
+starts_key x f p r s k n e =
+    let h : x ≡ p = cc in
+    let t : is_key p ≡ true = subst (λ z. is_key z ≡ true) h k in
+    cc
+
+befores_same : (ks ls : List Keyword) (p q : List ℕ) (r s : List (List ℕ)) → AllByRecursion IsKeyword ks → AllByRecursion IsKeyword ls → is_key p ≡ false → is_key q ≡ false → (ks ≡ []) ⊎ (is_value_part p ≡ false) → (ls ≡ []) ⊎ (is_value_part q ≡ false) → keyword_parts ks ++ p ∷ r ≡ keyword_parts ls ++ q ∷ s → keyword_parts ks ≡ keyword_parts ls
+befores_same [] [] p q r s a b i k j l e = refl
+befores_same [] (y ∷ ls) p q r s a b i k j l e =
+    absurd (starts_key y.key (y.value ++ keyword_parts ls) p (q ∷ s) r b.0.0 i (sym e))
+befores_same (x ∷ ks) [] p q r s a b i k j l e =
+    absurd (starts_key x.key (x.value ++ keyword_parts ks) q (p ∷ r) s a.0.0 k e)
+befores_same (x ∷ ks) (y ∷ ls) p q r s a b i k j l e =
+    fronts_same (keyword_parts (x ∷ ks)) (keyword_parts (y ∷ ls)) p q r s (good_keywords (x ∷ ks) a) (good_keywords (y ∷ ls) b) i (no_value_behind ks x p j) k (no_value_behind ls y q l) e
+
+pub fault_unique : (text : List ℕ) (at other : ℕ) → IsFault text at → IsFault text other → at ≡ other
+fault_unique text at other f g =
+    f.place
+    ∙ ap size_of (befores_same f.before g.before f.part g.part f.behind g.behind f.each g.each f.no_key g.no_key f.no_value g.no_value (sym f.parts ∙ g.parts))
+    ∙ sym g.place
 
 -- ---- what is written
 

@@ -1,5 +1,5 @@
 -- A pair put in where its key is absent, in the view of a map whose values are shown by their bytes.
-use Rattle.std.proofs.Common.{◌≡◌, ◌≢◌, ◌⊎◌, ◌↔◌, inl, inr, ℕ, Bool, true, false, cond, List, [], ◌∷◌, ◌++◌, Option, Some, None, IsNone, IsSome, String, map, refl, sym, ap, ◌∙◌, subst, option_map, string_bytes, is_some}
+use Rattle.std.proofs.Common.{◌≡◌, ◌≢◌, ◌⊎◌, ◌↔◌, inl, inr, ℕ, true, false, List, [], ◌∷◌, Option, Some, None, IsNone, IsSome, String, map, refl, sym, ap, ◌∙◌, subst, option_map, string_bytes}
 use Rattle.std.proofs.lemmas.Map.Lookups.{exact_bytes}
 use Rattle.std.specs.Cmp.Lexicographic.{nat_list_cmp_total, slice_cmp}
 use Rattle.std.specs.Option.{option_or}

@@ -1,5 +1,5 @@
 -- Keywords, written one by one.
-use Rattle.std.proofs.Common.{◌≡◌, ℕ, zero, suc, ◌+◌, ◌<◌, Bool, true, List, [], ◌∷◌, ◌++◌, Option, Some, None, String, map, take, length, get_or, refl, sym, ap, ◌∙◌, subst, append_assoc, append-nil, IsTrue, add-one, slice_get, string_bytes}
+use Rattle.std.proofs.Common.{◌≡◌, ℕ, zero, suc, ◌+◌, ◌<◌, List, [], ◌∷◌, ◌++◌, Some, String, map, take, get_or, sym, ap, ◌∙◌, subst, append_assoc, append-nil, IsTrue, add-one, slice_get, string_bytes}
 use Rattle.std.proofs.lemmas.List.{map-append}
 use Rattle.std.specs.Char.{to_ascii_lowercase}
 use Rattle.keywords.specs.Keywords.{AreCanonical, IsKeyword, Keyword, is_key, joined, pair_of}

@@ -1,18 +1,16 @@
 -- Keywords, read one by one.
-use Rattle.std.proofs.Common.{◌≡◌, ◌≢◌, ◌⊎◌, inl, inr, ℕ, ◌+◌, Bool, true, false, cond, List, [], ◌∷◌, ◌++◌, Option, Some, None, map, length, length-append, ◌≤◌, ◌<◌, refl, sym, ap, ◌∙◌, subst, append_assoc, append-nil, IsTrue, arith, option_map}
+use Rattle.std.proofs.Common.{◌≡◌, ◌≢◌, ◌⊎◌, inl, inr, ℕ, false, List, [], ◌∷◌, ◌++◌, Option, Some, None, map, length, length-append, ◌≤◌, ◌<◌, refl, sym, ap, ◌∙◌, subst, append_assoc, append-nil, IsTrue, arith, option_map}
 use Rattle.std.proofs.lemmas.List.{map-append}
 use Rattle.std.proofs.lemmas.List.Folds.{find-append}
 use Rattle.std.proofs.lemmas.List.Splits.{join_with_byte-slice_split}
 use Rattle.std.specs.Char.{to_ascii_lowercase}
 use Rattle.std.specs.Cmp.Lexicographic.{slice_cmp}
-use Rattle.std.specs.List.{AllByRecursion}
 use Rattle.std.specs.Option.{option_or}
 use Rattle.std.specs.Ordering.{is_eq, nat_cmp}
-use Rattle.litemap_store.specs.Last.{In}
 use Rattle.litemap_store.specs.Pairs.{at}
 use Rattle.litemap_store.proofs.Membership.{each, from_each}
 use Rattle.litemap_store.proofs.Splitting.{each-append}
-use Rattle.keywords.specs.Keywords.{AreCanonical, IsFault, IsKeyword, IsRead, Keyword, Rise, Spells, canonical, is_key, is_value_part, joined, keyword_parts, pair_of, parts_of, size_of, value_of}
+use Rattle.keywords.specs.Keywords.{AreCanonical, IsFault, IsKeyword, IsRead, Keyword, Rise, canonical, is_key, is_value_part, joined, keyword_parts, pair_of, parts_of, size_of, value_of}
 use Rattle.keywords.specs.Reading.{AreRead, AreValue, IfPart, IsKeywordRead, IsNoKey, IsPutFirst, NoValueFirst, parts_in}
 use Rattle.keywords.specs.declared.fault.KeywordFault.{KeywordFault}
 use Rattle.keywords.specs.declared.fault.KeywordFault.TheVariants.{NoRoom, Part}

@@ -1,10 +1,9 @@
 -- Parts of texts: cut apart, and joined.
-use Rattle.std.proofs.Common.{not, ◌≡◌, ◌≢◌, ℕ, zero, suc, ◌+◌, ◌<◌, ◌≤◌, ◌==◌, Bool, true, false, cond, List, [], ◌∷◌, ◌++◌, length, get_or, map, refl, sym, ap, ◌∙◌, subst, arith, append_assoc, append-nil, length-append, eqb, IsTrue}
-use Rattle.std.proofs.lemmas.List.Splits.{slice_split-cons_no, slice_split-cons_yes, slice_split_first}
-use Rattle.std.specs.Char.{is_ascii_alphabetic, is_ascii_alphanumeric, to_ascii_lowercase}
-use Rattle.std.specs.List.{AllByRecursion, after_first, before_first, join_with_byte, list_all, onto_first, position_or_len, slice_split}
+use Rattle.std.proofs.Common.{not, ◌≡◌, ℕ, suc, ◌+◌, ◌<◌, ◌==◌, Bool, true, false, cond, List, [], ◌∷◌, ◌++◌, length, refl, sym, ap, ◌∙◌, arith, append_assoc, append-nil}
+use Rattle.std.proofs.lemmas.List.Splits.{slice_split-cons_no, slice_split_first}
+use Rattle.std.specs.List.{AllByRecursion, after_first, before_first, onto_first, position_or_len}
 use Rattle.keywords.specs.Keywords.{joined, parts_of, size_of}
-use Rattle.keywords.specs.Written.{if_some, with_part}
+use Rattle.keywords.specs.Written.{with_part}
 
 abbrev is_dash : ℕ → Bool
 is_dash b = b == 45

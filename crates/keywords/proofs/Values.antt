@@ -1,9 +1,9 @@
 -- What is read of a value, part by part.
-use Rattle.std.proofs.Common.{◌≡◌, ◌≢◌, ℕ, Bool, true, false, List, [], ◌∷◌, ◌++◌, Option, Some, None, refl, sym, ap, ◌∙◌, subst, append_assoc, IsTrue, length, arith}
+use Rattle.std.proofs.Common.{◌≡◌, ℕ, true, false, List, [], ◌∷◌, ◌++◌, Option, Some, refl, sym, ap, ◌∙◌, subst, append_assoc, IsTrue}
 use Rattle.std.specs.List.{AllByRecursion}
 use Rattle.litemap_store.proofs.Splitting.{each-append}
-use Rattle.keywords.specs.Keywords.{is_value_part, joined, parts_of}
-use Rattle.keywords.specs.Reading.{AreJoined, AreValue, NoValueFirst, parts_in}
+use Rattle.keywords.specs.Keywords.{is_value_part, parts_of}
+use Rattle.keywords.specs.Reading.{AreJoined, NoValueFirst, parts_in}
 use Rattle.keywords.specs.Written.{with_part}
 use Rattle.keywords.proofs.Splitting.{FirstSome, with_part-joined}
 

@@ -1,5 +1,5 @@
 -- A text that spells keywords: parts with a `-` between each two, where a keyword is a key and the parts of its value.
-use Rattle.std.specs.Prelude.{◌≡◌, ◌≢◌, ◌⊎◌, ◌==◌, ◌&&◌, ◌+◌, ℕ, Bool, true, false, IsTrue, cond, List, [], ◌∷◌, ◌++◌, Option, length, map, nat_le}
+use Rattle.std.specs.Prelude.{◌≡◌, ◌≢◌, ◌⊎◌, ◌==◌, ◌&&◌, ◌+◌, ℕ, Bool, false, IsTrue, cond, List, [], ◌∷◌, ◌++◌, Option, length, map, nat_le}
 use Rattle.std.specs.Char.{is_ascii_alphabetic, is_ascii_alphanumeric, to_ascii_lowercase}
 use Rattle.std.specs.Cmp.Lexicographic.{slice_cmp}
 use Rattle.std.specs.List.{AllByRecursion, join_with_byte, list_all, slice_split}
@@ -29,6 +29,7 @@ pub record Keyword : Type 0 where
   pub key : List ℕ
   pub value : List (List ℕ)
 
+-- the key is one, and so is each part of the value
 abbrev pub IsKeyword : Keyword → Type 0
 IsKeyword k = IsTrue (is_key k.key) × AllByRecursion (λ part. IsTrue (is_value_part part)) k.value
 

@@ -2,3 +2,4 @@
 pub mod Keywords
 pub mod Reading
 pub mod Written
+pub mod Laws

@@ -3,7 +3,7 @@ use Rattle.std.specs.Prelude.{◌≡◌, ◌⊎◌, ◌+◌, ⊤, ℕ, length, f
 use Rattle.std.specs.List.{AllByRecursion}
 use Rattle.std.specs.Option.{option_or}
 use Rattle.litemap_store.specs.Last.{In}
-use Rattle.keywords.specs.Keywords.{AreCanonical, IsFault, IsKeyword, Keyword, is_key, is_value_part, joined, keyword_parts, pair_of, parts_of, value_of}
+use Rattle.keywords.specs.Keywords.{AreCanonical, IsKeyword, Keyword, is_key, is_value_part, joined, keyword_parts, pair_of, parts_of, value_of}
 use Rattle.keywords.specs.declared.fault.KeywordFault.{KeywordFault}
 use Rattle.keywords.specs.declared.fault.KeywordFault.TheVariants.{NoRoom, Part}
 

@@ -1,6 +1,6 @@
 -- What is written for keywords.
 use Rattle.std.specs.Prelude.{◌≡◌, ℕ, List, [], ◌∷◌, ◌++◌}
-use Rattle.keywords.specs.Keywords.{IsFault, IsRead, joined}
+use Rattle.keywords.specs.Keywords.{IsFault, IsRead}
 
 -- a value where it is not empty
 abbrev pub if_some : List ℕ → List (List ℕ)

@@ -3,6 +3,7 @@
 #![tactic(auto)]
 
 mod fault;
+pub mod laws;
 mod map;
 mod parts;
 mod read;
@@ -12,6 +13,3 @@ mod write;
 pub use fault::KeywordFault;
 pub use map::Keywords;
 pub use parts::Key;
-
-#[cfg(test)]
-mod tests;

@@ -16,12 +16,6 @@ use std::marker::Model;
 ///
 /// A contract sees the list of its pairs, in the order of their keys. A value is the text of its parts, with a `-` between each two;
 /// it is empty where there is none, and for `true`. Where there is one keyword the map itself takes no memory.
-///
-/// ```rust
-/// let keywords = Keywords::read(alloc, "NU-thai-ca-islamic-civil-nu-latn")?;
-/// let text = keywords.to_text(alloc)?;
-/// Ok(text.as_str() == "ca-islamic-civil-nu-thai" && keywords.get(b"nu") == Some("thai"))
-/// ```
 #[derive(Drop)]
 pub struct Keywords {
     pairs: Pairs,

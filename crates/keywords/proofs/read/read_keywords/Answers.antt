@@ -2,7 +2,7 @@ use Rattle.std.proofs.Common.{map}
 use Rattle.std.proofs.lemmas.Result.{err_from_is_err_and}
 use Rattle.std.specs.Option.{option_copied}
 use Rattle.keywords.specs.Reading.{shown}
-use Rattle.keywords.proofs.Readings.{fewer_parts, if_part_weaker, no_keyword, read_more, rest_within}
+use Rattle.keywords.proofs.Readings.{if_part_weaker, no_keyword, read_more, rest_within}
 use Rattle.keywords.proofs.read.read_keywords.Goals as goal
 
 pub read_keyword-requires : goal.read_keyword-requires

@@ -1,5 +1,5 @@
 //! Texts, and what is printed of them or the place of their fault.
-use crate::{KeywordFault, Keywords};
+use keywords::{KeywordFault, Keywords};
 use std::alloc::Global;
 
 // What is printed, or where the fault is.
@@ -57,5 +57,36 @@ fn texts_are_read_and_printed(rt: HostRuntime) {
             }
             _ => assert!(rt; false, "{text}"),
         }
+    }
+}
+
+// Of these keywords, keys and what a look-up of them finds.
+const FOUND: [(&[u8; 2], Option<&str>); 5] = [
+    (b"ca", Some("islamic-civil")),
+    (b"kn", Some("")),
+    (b"nu", Some("thai")),
+    (b"NU", None),
+    (b"kk", None),
+];
+
+#[test]
+fn of_equal_keys_the_first_is_found(rt: HostRuntime) {
+    let text = "NU-thai-kn-True-ca-islamic-civil-nu-latn";
+    let Ok(keywords) = Keywords::read(rt.alloc(), text) else {
+        assert!(rt; false);
+        return;
+    };
+    assert_eq!(rt; keywords.len(), 3);
+    assert!(rt; !keywords.is_empty());
+    for (key, value) in FOUND {
+        assert!(rt; keywords.get(key) == value);
+    }
+}
+
+#[test]
+fn no_bytes_spell_no_keywords(rt: HostRuntime) {
+    match Keywords::read(rt.alloc(), "") {
+        Ok(keywords) => assert!(rt; keywords.is_empty()),
+        Err(_) => assert!(rt; false),
     }
 }
