@@ -1,5 +1,5 @@
 -- Keywords, read one by one.
-use Rattle.std.proofs.Common.{◌≡◌, ◌≢◌, ◌⊎◌, inl, inr, ℕ, false, List, [], ◌∷◌, ◌++◌, Option, Some, None, map, length, length-append, ◌≤◌, ◌<◌, refl, sym, ap, ◌∙◌, subst, append_assoc, append-nil, IsTrue, arith, option_map}
+use Rattle.std.proofs.Common.{◌≡◌, ◌≢◌, ◌⊎◌, inl, inr, ℕ, false, List, [], ◌∷◌, ◌++◌, Option, Some, None, map, length, ◌≤◌, refl, sym, ap, ◌∙◌, subst, append_assoc, append-nil, IsTrue, arith, option_map}
 use Rattle.std.proofs.lemmas.List.{map-append}
 use Rattle.std.proofs.lemmas.List.Folds.{find-append}
 use Rattle.std.proofs.lemmas.List.Splits.{join_with_byte-slice_split}
@@ -43,16 +43,6 @@ keyword_read rest part key value text behind more old new e k r f g p = record {
 }
 
 -- ---- all keywords
-
-pub none_read : (text : List ℕ) (pairs : List (List ℕ × List ℕ)) → pairs ≡ [] → AreRead text (Some text) pairs
-none_read text pairs e = record {
-  keywords = [];
-  each = tt;
-  parts = refl;
-  stops = inl refl;
-  first = λ key. ap (λ L. value_of L key) e;
-  known = subst AreCanonical (sym e) tt;
-}
 
 known_more : (old new : List (List ℕ × List ℕ)) (k : Keyword) → IsKeyword k → AreCanonical old → IsPutFirst old (pair_of k) new → AreCanonical new
 known_more old new k valid known put =
@@ -110,19 +100,8 @@ read_whole text pairs r rise = record {
   first = r.first;
 }
 
-pub read_nothing : (text : List ℕ) (pairs : List (List ℕ × List ℕ)) → text ≡ [] → pairs ≡ [] → IsRead text pairs
-read_nothing text pairs e f = record {
-  keywords = [];
-  spells = record { each = tt; spelled = e };
-  rise = subst Rise (sym f) tt;
-  first = λ key. ap (λ L. value_of L key) f;
-}
-
--- ---- what is left grows no longer
+-- ---- what is left
 
 pub rest_within : (text rest : List ℕ) (pairs : List (List ℕ × List ℕ)) → AreRead text (Some rest) pairs → length rest ≤ length text
 rest_within text rest pairs r =
     omega (arith, size_of-parts text, size_of-parts rest, ap size_of r.parts, size_of-append (keyword_parts r.keywords) (parts_of rest))
-
-pub fewer_parts : (rest : List ℕ) (more : Option (List ℕ)) (old new : List (List ℕ × List ℕ)) → IsKeywordRead rest more old new → length (parts_in more) < length (parts_of rest)
-fewer_parts rest more old new k = omega (arith, ap length k.parts, length-append k.keyword.value (parts_in more))

@@ -5,9 +5,6 @@ use Rattle.std.specs.List.{AllByRecursion, after_first, before_first, onto_first
 use Rattle.keywords.specs.Keywords.{joined, parts_of, size_of}
 use Rattle.keywords.specs.Written.{with_part}
 
-abbrev is_dash : ℕ → Bool
-is_dash b = b == 45
-
 -- ---- cut at the first `-`
 
 pub parts_of-first : (text part behind : List ℕ) → position_or_len (λ b. b == 45) text < length text → part ≡ before_first (λ b. b == 45) text → behind ≡ after_first (λ b. b == 45) text → parts_of text ≡ part ∷ parts_of behind
@@ -64,6 +61,7 @@ with_part-joined [] part h = refl
 with_part-joined ([] ∷ parts) part h = absurd h
 with_part-joined ((b ∷ first) ∷ parts) part h =
     ap (λ t. with_part t part) (joined-tailed (b ∷ first) parts)
+    ∙ append_assoc ((b ∷ first) ++ tailed parts) (45 ∷ []) part
     ∙ append_assoc (b ∷ first) (tailed parts) (45 ∷ part)
     ∙ ap (λ t. (b ∷ first) ++ (tailed parts ++ 45 ∷ t)) (sym (append-nil part))
     ∙ ap (λ t. (b ∷ first) ++ t) (sym (tailed-append parts (part ∷ [])))

@@ -12,10 +12,14 @@ abbrev pub printed : List (List ℕ × List ℕ) → List (List ℕ)
 printed [] = []
 printed (p ∷ pairs) = p.0 ∷ (if_some p.1 ++ printed pairs)
 
+-- the text, with a `-` behind it where it is not empty
+abbrev pub dashed : List ℕ → List ℕ
+dashed [] = []
+dashed (b ∷ text) = (b ∷ text) ++ 45 ∷ []
+
 -- the text with one more part
 abbrev pub with_part : List ℕ → List ℕ → List ℕ
-with_part [] part = part
-with_part (b ∷ text) part = (b ∷ text) ++ 45 ∷ part
+with_part text part = dashed text ++ part
 
 -- the text spells keywords, and is read as the pairs and no others
 pub record IsReadAgain (text : List ℕ) (pairs : List (List ℕ × List ℕ)) : Type 0 where

@@ -3,18 +3,26 @@ ghost use Rattle.std.specs.Prelude.{◌≡◌, IfOk, OnOk, string_bytes};
 ghost use Rattle.std.specs.Option.{option_copied};
 ghost use Rattle.keywords.specs.Keywords.{canonical};
 ghost use Rattle.keywords.specs.Reading.{AreJoined, AreValue, NoValueFirst, parts_in};
-ghost use Rattle.keywords.specs.Written.{with_part};
+ghost use Rattle.keywords.specs.Written.{dashed, with_part};
 
 use crate::parts::{first_part, is_value_part};
 use std::alloc::{AllocError, Global};
+
+/// Puts a `-` behind a text, where there is some text.
+pub(crate) fn put_dash(text: &mut String) -> Result<(), AllocError>
+    ensures { OnOk result (string_bytes text.new ≡ dashed (string_bytes text.old)) }
+{
+    if !text.is_empty() {
+        text.push('-')?;
+    }
+    Ok(())
+}
 
 /// Puts a part behind a text, with a `-` before it where there is some text.
 pub(crate) fn put_part(text: &mut String, part: &str) -> Result<(), AllocError>
     ensures { OnOk result (string_bytes text.new ≡ with_part (string_bytes text.old) part.now) }
 {
-    if !text.is_empty() {
-        text.push('-')?;
-    }
+    put_dash(text)?;
     text.push_str(part)?;
     Ok(())
 }

@@ -6,7 +6,7 @@ ghost use Rattle.keywords.specs.Written.{printed, printed_on, with_part};
 
 use crate::parts::Key;
 use crate::read::Pairs;
-use crate::value::put_part;
+use crate::value::{put_dash, put_part};
 use std::alloc::{AllocError, Global};
 
 // Puts a key behind a text, with a `-` before it where there is some text.
@@ -15,9 +15,7 @@ fn put_key(text: &mut String, key: &Key) -> Result<(), AllocError>
     requires second { slice_index key.now 1 < 128 }
     ensures { OnOk result (string_bytes text.new ≡ with_part (string_bytes text.old) key.now) }
 {
-    if !text.is_empty() {
-        text.push('-')?;
-    }
+    put_dash(text)?;
     let [first, second] = *key;
     text.push(char::from(first))?;
     text.push(char::from(second))?;
