@@ -7,6 +7,7 @@ use Rattle.std.specs.Cmp.Lexicographic.{nat_list_cmp_total, slice_cmp}
 use Rattle.std.specs.List.{AllByRecursion}
 use Rattle.std.specs.Ordering.{is_eq, nat_cmp}
 use Rattle.std.specs.Str.{bytes_eq}
+use Rattle.std.specs.Str.Parse.{true_text}
 use Rattle.std.specs.declared.cmp.Ordering.{Ordering}
 use Rattle.std.specs.declared.cmp.Ordering.TheVariants.{Less, Equal, Greater}
 use Rattle.litemap_store.specs.Last.{In}
@@ -201,7 +202,7 @@ record LoweredOne (p : List ℕ × List ℕ) : Type 0 where
   key_is : keyword.key ≡ p.0
   value_is : joined keyword.value ≡ p.1
 
-lowered_value : (value : List (List ℕ)) (b : Bool) → AreParts value → bytes_eq (map to_ascii_lowercase (joined value)) (116 ∷ 114 ∷ 117 ∷ 101 ∷ []) ≡ b → (low : List (List ℕ)) × AreParts low × (joined low ≡ canonical (joined value)) × (canonical (joined low) ≡ canonical (joined value))
+lowered_value : (value : List (List ℕ)) (b : Bool) → AreParts value → bytes_eq (map to_ascii_lowercase (joined value)) true_text ≡ b → (low : List (List ℕ)) × AreParts low × (joined low ≡ canonical (joined value)) × (canonical (joined low) ≡ canonical (joined value))
 lowered_value value true h e =
     let t : canonical (joined value) ≡ [] = rw e refl in
     ([], tt, sym t, sym t)
@@ -209,11 +210,11 @@ lowered_value value false h e =
     let t : canonical (joined value) ≡ map to_ascii_lowercase (joined value) = rw e refl in
     let j = joined-lowered value in
     let twice : map to_ascii_lowercase (joined (map (map to_ascii_lowercase) value)) ≡ map to_ascii_lowercase (joined value) = ap (map to_ascii_lowercase) j ∙ lowered_twice (joined value) in
-    (map (map to_ascii_lowercase) value, lowered_parts value h, j ∙ sym t, ap (λ x. cond (bytes_eq x (116 ∷ 114 ∷ 117 ∷ 101 ∷ [])) [] x) twice)
+    (map (map to_ascii_lowercase) value, lowered_parts value h, j ∙ sym t, ap (λ x. cond (bytes_eq x true_text) [] x) twice)
 
 lowered_one : (k : Keyword) → IsKeyword k → LoweredOne (pair_of k)
 lowered_one k h =
-    let v = lowered_value k.value (bytes_eq (map to_ascii_lowercase (joined k.value)) (116 ∷ 114 ∷ 117 ∷ 101 ∷ [])) h.1 refl in
+    let v = lowered_value k.value (bytes_eq (map to_ascii_lowercase (joined k.value)) true_text) h.1 refl in
     record {
       keyword = record { key = map to_ascii_lowercase k.key; value = v.0 };
       valid = (lowered_key k.key h.0, v.1);

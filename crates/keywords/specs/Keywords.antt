@@ -5,6 +5,7 @@ use Rattle.std.specs.Cmp.Lexicographic.{slice_cmp}
 use Rattle.std.specs.List.{AllByRecursion, join_with_byte, list_all, slice_split}
 use Rattle.std.specs.Ordering.{nat_cmp}
 use Rattle.std.specs.Str.{bytes_eq}
+use Rattle.std.specs.Str.Parse.{true_text}
 use Rattle.litemap_store.specs.Pairs.{Rising, value_at}
 
 -- the parts of a text: what stands before, between and behind its `-`
@@ -47,7 +48,7 @@ pub record Spells (text : List ℕ) (keywords : List Keyword) : Type 0 where
 
 -- lower case, and nothing for `true`
 abbrev pub canonical : List ℕ → List ℕ
-canonical text = cond (bytes_eq (map to_ascii_lowercase text) (116 ∷ 114 ∷ 117 ∷ 101 ∷ [])) [] (map to_ascii_lowercase text)
+canonical text = cond (bytes_eq (map to_ascii_lowercase text) true_text) [] (map to_ascii_lowercase text)
 
 -- the key and the value of a keyword in their canonical form
 abbrev pub pair_of : Keyword → List ℕ × List ℕ
@@ -79,7 +80,8 @@ abbrev pub size_of : List (List ℕ) → ℕ
 size_of [] = 0
 size_of (part ∷ parts) = length part + 1 + size_of parts
 
--- behind keywords, at the byte `at`, stands a part that is no key, and no part of the value of a key before it
+-- the text is not empty, and behind keywords, at the byte `at`, stands a part that is no key, and no part of the value of a key
+-- before it
 pub record IsFault (text : List ℕ) (at : ℕ) : Type 0 where
   pub before : List Keyword
   pub part : List ℕ
