@@ -14,8 +14,8 @@ use std::marker::Model;
 
 /// The keywords of a locale's extension: values by their keys, both in lower case.
 ///
-/// A contract sees the list of its pairs, in the order of their keys. A value is the text of its parts, with a `-` between each two;
-/// it is empty where there is none, and for `true`. Where there is one keyword the map itself takes no memory.
+/// A contract sees the list of its pairs, in the order of their keys. A value is the text of its parts, with a `-` between
+/// each two; it is empty where there is none, and for `true`. Where there is one keyword the map itself takes no memory.
 #[derive(Drop)]
 pub struct Keywords {
     pairs: Pairs,
@@ -36,8 +36,8 @@ impl Model for Keywords {
 impl Keywords {
     /// The keywords that a text spells, in either case. Of two equal keys the first counts.
     ///
-    /// The fault is the place of the first part that is no key, and no part of the value of a key before it, or want of memory. Keys
-    /// are compared at most once for each binary digit of the number of keys that were read, for each keyword.
+    /// The fault is the place of the first part that is no key, and no part of the value of a key before it, or want of
+    /// memory. Keys are compared at most once for each binary digit of the number of keys that were read, for each keyword.
     pub fn read(alloc: Global, text: &str) -> Result<Self, KeywordFault>
         ensures read { IfOk result (λ keywords. IsRead text.now keywords) }
         ensures fault { IfErr result (λ fault. IfPart fault (IsFault text.now)) }
@@ -70,8 +70,8 @@ impl Keywords {
         Some(value.as_str())
     }
 
-    /// The text of the keywords in its canonical form: keys rise, all is in lower case, and `true` is left out. It is read as the same
-    /// keywords. It is refused only for want of memory.
+    /// The text of the keywords in its canonical form: keys rise, all is in lower case, and `true` is left out. It is read as
+    /// the same keywords. It is refused only for want of memory.
     pub fn to_text(&self, alloc: Global) -> Result<String, AllocError>
         ensures text { IfOk result (λ text. string_bytes text ≡ joined (printed self.now)) }
         ensures read_again { IfOk result (λ text. IsReadAgain (string_bytes text) self.now) }
