@@ -3,7 +3,7 @@
 use litemap::LiteMap;
 use litemap::store::{ColumnStore, StoreIntoIterator, StoreMut};
 use std::alloc::{AllocError, Global};
-use std::ops::Bound;
+use std::ops::{Bound, Range};
 use std::test::Fail;
 use test_support::fixed_room::FixedRoom;
 use test_support::keys::Letter;
@@ -28,6 +28,20 @@ const ROWS: [(u8, u8, usize, usize); 9] = [
     (b'A', b'a', 0, 0),
 ];
 
+// The places of the keys from one letter to another.
+fn between<S: StoreMut<Letter, u32>>(
+    map: &LiteMap<Letter, u32, S>,
+    from: Letter,
+    to: Letter,
+) -> Range<usize> {
+    map.places(Bound::Included(&from), Bound::Included(&to))
+}
+
+// The places of the keys behind a letter.
+fn behind<S: StoreMut<Letter, u32>>(map: &LiteMap<Letter, u32, S>, from: Letter) -> Range<usize> {
+    map.places(Bound::Excluded(&from), Bound::Unbounded)
+}
+
 // The first row whose places are others, in a map of three letters or in one of none.
 fn wrong_row<S: StoreMut<Letter, u32> + Drop>(alloc: Global) -> Result<Option<usize>, AllocError> {
     let three = [(letter(b'B'), 1), (letter(b'D'), 2), (letter(b'F'), 3)];
@@ -35,11 +49,11 @@ fn wrong_row<S: StoreMut<Letter, u32> + Drop>(alloc: Global) -> Result<Option<us
     let none: LiteMap<Letter, u32, S> = map_of(alloc, &[], 0)?;
     for (row, (from, to, start, end)) in ROWS.iter().enumerate() {
         let (from, to) = (letter(*from), letter(*to));
-        let behind = map.places(Bound::Excluded(&from), Bound::Unbounded);
-        let is_right = map.places(Bound::Included(&from), Bound::Included(&to)) == (*start..*end)
-            && none.places(Bound::Included(&from), Bound::Included(&to)) == (0..0)
-            && behind.end == 3
-            && behind.start >= *start;
+        let later = behind(&map, from);
+        let is_right = between(&map, from, to) == (*start..*end)
+            && between(&none, from, to) == (0..0)
+            && later.end == 3
+            && later.start >= *start;
         if !is_right {
             return Ok(Some(row));
         }
@@ -93,8 +107,18 @@ fn prices_of_a_range_are_found_and_all_are_raised(rt: HostRuntime) -> Result<(),
     }
     prices::raise(&mut prices, 5);
     assert!(rt; prices.get("aa") == Some(&u32::MAX) && prices.get("ab") == Some(&7));
-    let begins = prices::between(&prices, "ab", "ac");
-    assert!(rt; begins.len() == 2 && begins.get("abc") == Some(&6));
+    let between = prices::between(&prices, "ab", "ac");
+    assert!(rt; between.len() == 2 && between.get("abc") == Some(&6));
+    for (text, len) in [
+        ("ab", 2),
+        ("abc", 1),
+        ("", 4),
+        ("a", 4),
+        ("b", 0),
+        ("aab", 0),
+    ] {
+        assert_eq!(rt; prices::beginning_with(&prices, text).len(), len, "{text}");
+    }
     assert!(rt; prices::between(&prices, "b", "a").is_empty());
     assert!(rt; prices::from(&prices, "ac").len() == 1 && prices::from(&prices, "x").is_empty());
     Ok(())
