@@ -1,4 +1,6 @@
 pub mod KnownParts
 pub mod Placing
+pub mod Indexing
+pub mod Writing
 pub mod Scanning
 pub mod Rises

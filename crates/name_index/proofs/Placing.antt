@@ -2,7 +2,7 @@
 use Rattle.std.proofs.Common.{◌≡◌, ℕ, zero, suc, ◌+◌, ◌-◌, ◌<◌, ◌≤◌, List, [], ◌∷◌, ◌++◌, length, take, drop, get_or, slice_get, Some, None, Ok, Err, refl, sym, ap, ◌∙◌, subst, arith, append_assoc, length-append}
 use Rattle.std.proofs.Math.Seq.{take-length}
 use Rattle.std.proofs.lemmas.List.{length-drop}
-use Rattle.std.proofs.lemmas.Option.{slice_get-get_or, slice_get_within}
+use Rattle.std.proofs.lemmas.Option.{slice_get-get_or}
 use Rattle.std.specs.declared.cmp.Ordering.TheVariants.{Less, Equal, Greater}
 use Rattle.litemap_store.specs.Counts.{RisesByAtMost}
 use Rattle.litemap_store.specs.Digits.{digits}
@@ -15,13 +15,13 @@ use Rattle.name_table.proofs.PartLemmas.{begins_split}
 use Rattle.name_table.specs.Parts.{Begins, Number, pair_parts, text_parts}
 use Rattle.name_index.specs.Entries.{AreEntries, BeginsPair, BeginsText, IsOpened}
 use Rattle.name_index.specs.Placed.{ArePlaced, IsKeyAt}
-use Rattle.name_index.proofs.KnownParts.{pair_first, text_next}
+use Rattle.name_index.proofs.KnownParts.{text_next}
 use Rattle.name_index.specs.Tables.{IsRisingTable, text_order}
 use Rattle.name_index.proofs.Rises.{rising_table}
 use Rattle.name_index.proofs.Scanning.{IsAt, ascends, begins_here, is_at_next, one_side, pair_here, to_key}
 
 -- what holds of each element by its place, and of one more
-each_push : (P : ℕ → ℕ → Type 0) (L : List ℕ) (x : ℕ) → ((i y : ℕ) → slice_get L i ≡ Some y → P i y) → P (length L) x → (i y : ℕ) → slice_get (L ++ x ∷ []) i ≡ Some y → P i y
+pub each_push : {X : Type 0} (P : ℕ → X → Type 0) (L : List X) (x : X) → ((i : ℕ) (y : X) → slice_get L i ≡ Some y → P i y) → P (length L) x → (i : ℕ) (y : X) → slice_get (L ++ x ∷ []) i ≡ Some y → P i y
 each_push P [] x each h zero y e = let s : x ≡ y = cc in subst (λ z. P 0 z) s h
 each_push P [] x each h (suc i) y e = absurd (cc)
 each_push P (z ∷ L) x each h zero y e = each zero y e

@@ -1,16 +1,15 @@
 -- Reading on while the keys rise, and where they don't.
-use Rattle.std.proofs.Common.{◌≡◌, true, false, ℕ, ◌+◌, ◌-◌, List, [], ◌∷◌, ◌++◌, length, drop, Option, Some, None, slice_get, refl, sym, ap, ◌∙◌, subst, arith, append_assoc, length-append, Bor}
-use Rattle.std.specs.Cmp.Lexicographic.{slice_cmp}
+use Rattle.std.proofs.Common.{◌≡◌, true, false, ℕ, List, [], ◌∷◌, ◌++◌, length, drop, Option, Some, None, slice_get, refl, sym, ap, ◌∙◌, subst, arith, append_assoc, length-append, Bor}
 use Rattle.std.specs.Ordering.{is_lt}
 use Rattle.std.specs.Prelude.{Bool, IfNone, IfSome, IsTrue}
 use Rattle.std.specs.declared.cmp.Ordering.{Ordering}
 use Rattle.std.specs.declared.cmp.Ordering.TheVariants.{Less, Equal, Greater}
-use Rattle.litemap_store.specs.Pairs.{AllBelow, BelowAll, Rising}
-use Rattle.litemap_store.proofs.Ends.{AllBelow-at, AllBelow-from_last, Rising-push}
-use Rattle.name_table.specs.Parts.{Part, AreParts, Begins, Number, pair_parts, table_parts}
-use Rattle.name_table.specs.ReadOn.{IsReadOn, AreParts-append, pair_parts-append}
+use Rattle.litemap_store.specs.Pairs.{AllBelow, Rising}
+use Rattle.litemap_store.proofs.Ends.{AllBelow-from_last, Rising-push}
+use Rattle.name_table.specs.Parts.{Part, AreParts, Number, pair_parts}
+use Rattle.name_table.specs.ReadOn.{AreParts-append, pair_parts-append}
 use Rattle.name_table.specs.Remaining.{IsCounted, IsNext, Remaining}
-use Rattle.name_index.specs.Entries.{AreEntries, IsOpened}
+use Rattle.name_index.specs.Entries.{IsOpened}
 use Rattle.name_index.specs.Faults.{AllRise, RisesTo}
 use Rattle.name_index.specs.Tables.{IsRisingTable, text_order}
 use Rattle.name_index.proofs.Scanning.{text_order_total}
@@ -44,11 +43,11 @@ abbrev pub IsAbove : Option (Bor (List ℕ)) → List ℕ → Type 0
 IsAbove None key = Unit {0}
 IsAbove (Some last) key = text_order last.now key ≡ Less
 
-last_at : (front : List (List ℕ × List ℕ)) (p : List ℕ × List ℕ) → slice_get (front ++ p ∷ []) (length front) ≡ Some p
+pub last_at : (front : List (List ℕ × List ℕ)) (p : List ℕ × List ℕ) → slice_get (front ++ p ∷ []) (length front) ≡ Some p
 last_at [] p = refl
 last_at (q ∷ front) p = last_at front p
 
-rises_on : (last : Option (Bor (List ℕ))) (L : List (List ℕ × List ℕ)) (p : List ℕ × List ℕ) → LastKey last L → Rising text_order L → IsAbove last p.0 → Rising text_order (L ++ p ∷ [])
+pub rises_on : (last : Option (Bor (List ℕ))) (L : List (List ℕ × List ℕ)) (p : List ℕ × List ℕ) → LastKey last L → Rising text_order L → IsAbove last p.0 → Rising text_order (L ++ p ∷ [])
 rises_on None L p e r a = let P : List (List ℕ × List ℕ) → Type 0 = λ M. Rising text_order (M ++ p ∷ []) in subst P (sym e) (tt, tt)
 rises_on (Some last) L p e r a =
     let M = e.0 ++ (last.now, e.1) ∷ [] in

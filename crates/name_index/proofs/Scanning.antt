@@ -1,16 +1,15 @@
 -- What a walk over entries knows: the pairs from a place on are still to be read, and those in front of it are below the key.
 use Rattle.std.proofs.Common.{◌≡◌, ℕ, ◌+◌, ◌<◌, ◌≤◌, List, [], ◌∷◌, length, drop, get_or, slice_get, Some, None, Result, Ok, Err, refl, sym, ap, ◌∙◌, subst, arith, Bor}
 use Rattle.std.proofs.lemmas.List.{drop_more}
-use Rattle.std.proofs.lemmas.Option.{slice_get-get_or, slice_get_within}
+use Rattle.std.proofs.lemmas.Option.{slice_get-get_or}
 use Rattle.std.specs.Cmp.{IsTotalOrder}
 use Rattle.std.specs.Cmp.Lexicographic.{on_texts}
 use Rattle.std.specs.declared.cmp.Ordering.{Ordering}
-use Rattle.std.specs.declared.cmp.Ordering.TheVariants.{Less, Equal, Greater}
+use Rattle.std.specs.declared.cmp.Ordering.TheVariants.{Equal}
 use Rattle.litemap_store.specs.Pairs.{Rising, at, index_of, value_at}
 use Rattle.litemap_store.specs.Queries.{OneSide, key_one_side}
 use Rattle.litemap_store.specs.Search.{Ascends, Finds}
-use Rattle.litemap_store.specs.Splits.{Splits}
-use Rattle.litemap_store.proofs.Halving.{Narrowed, Narrowed-whole, Narrowed-less, Narrowed-greater, Finds-here, Finds-nowhere}
+use Rattle.litemap_store.proofs.Halving.{Narrowed, Narrowed-whole, Finds-here, Finds-nowhere}
 use Rattle.litemap_store.proofs.Splitting.{Ascends-by_query, Splits-from_Finds, index_of-from_Splits, there-from_Splits}
 use Rattle.name_table.specs.Parts.{Begins, pair_parts}
 use Rattle.name_index.specs.Entries.{AreEntries, BeginsPair, IsScanned}

@@ -3,3 +3,5 @@ pub mod Tables
 pub mod Entries
 pub mod Placed
 pub mod Faults
+pub mod Index
+pub mod Writes

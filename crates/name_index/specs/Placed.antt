@@ -1,7 +1,7 @@
 -- The places of the entries of a table.
 use Rattle.std.specs.Prelude.{◌≡◌, ℕ, ◌≤◌, List, drop, length, Some, slice_get}
 use Rattle.name_table.specs.Parts.{Begins, Number, pair_parts}
-use Rattle.name_index.specs.Entries.{AreEntries, IsOpened}
+use Rattle.name_index.specs.Entries.{AreEntries}
 use Rattle.std.specs.Prelude.{[], ◌∷◌}
 
 -- the bytes are entries, one for each place, which is where the bytes of its pair and of the later ones begin

@@ -1,4 +1,4 @@
-//! Why a name table can't be looked up in.
+//! Why a name table or an index of names can't be looked up in.
 ghost use Rattle.std.specs.Prelude.{◌≡◌};
 ghost use Rattle.name_index.specs.declared.fault.NameTableFault.TheVariants.{Format};
 
@@ -26,4 +26,27 @@ impl From<NameFault> for NameTableFault {
     fn from(fault: NameFault) -> Self {
         NameTableFault::Format(fault)
     }
+}
+
+/// Why bytes are no index of names.
+#[derive(Debug, PartialEq, Drop, Error)]
+pub enum IndexFault {
+    /// The bytes end before the number or text does, or before it begins.
+    #[error("the bytes end within the number or text at byte {at}")]
+    Truncated {
+        /// Where the number or text begins.
+        at: usize,
+    },
+    /// The text's bytes aren't UTF-8.
+    #[error("the text at byte {at} is not UTF-8")]
+    NotUtf8 {
+        /// Where the text begins.
+        at: usize,
+    },
+    /// A key isn't above the one before it.
+    #[error("the key of the entry {index} does not rise")]
+    NotRising {
+        /// Which entry it is.
+        index: usize,
+    },
 }

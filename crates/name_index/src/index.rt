@@ -1,5 +1,5 @@
 //! A name table with the place of each entry.
-ghost use Rattle.std.specs.Prelude.{◌≡◌, IfOk, length, slice_get};
+ghost use Rattle.std.specs.Prelude.{◌≡◌, ◌==◌, IfOk, length, slice_get};
 ghost use Rattle.std.specs.Option.{option_copied, option_map};
 ghost use Rattle.litemap_store.specs.Counts.{RisesByAtMost};
 ghost use Rattle.litemap_store.specs.Digits.{digits};
@@ -55,6 +55,13 @@ impl<'a> NameIndex<'a> {
         ensures { OfTable self.now (λ pairs. result ≡ length pairs) }
     {
         self.places.len()
+    }
+
+    /// Whether there is no entry.
+    pub fn is_empty(&self) -> bool
+        ensures { OfTable self.now (λ pairs. result ≡ (length pairs == 0)) }
+    {
+        self.len() == 0
     }
 
     /// The value of a key, if it is there. It compares at most once for each binary digit of the length.

@@ -1,15 +1,25 @@
 //! Name tables looked up in their bytes, with no map made: `NameTable` scans them and takes no memory, and `NameIndex` keeps
-//! the place of each entry. `docs/NAME_TABLES.md` says when to use which.
+//! the place of each entry. `IndexedNames` and `CheckedNames` are bytes with the places in front, which `write_index` writes.
+//! `docs/NAME_TABLES.md` says when to use which.
 #![tactic(auto)]
 
+mod checked;
 mod entries;
 mod fault;
 mod index;
+mod index_bytes;
+mod index_write;
+mod indexed;
+mod indexed_search;
 mod known;
+pub mod laws;
 mod places;
 mod rising;
 mod table;
 
-pub use fault::NameTableFault;
+pub use checked::CheckedNames;
+pub use fault::{IndexFault, NameTableFault};
 pub use index::NameIndex;
+pub use index_write::{write_index, write_index_of};
+pub use indexed::IndexedNames;
 pub use table::NameTable;

@@ -26,8 +26,8 @@ pub fn check(names: &mut NameBytes<'_>) -> Result<(), NameTableFault>
     }
 }
 
-// Whether a key is above the last one.
-fn is_above(last: Option<&str>, key: &str) -> bool
+/// Whether a key is above the last one.
+pub fn is_above(last: Option<&str>, key: &str) -> bool
     ensures first { IfNone last.entry (IsTrue result) }
     ensures later { IfSome last.entry (λ last. result ≡ is_lt (text_order last.now key.now)) }
 {

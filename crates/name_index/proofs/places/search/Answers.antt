@@ -1,4 +1,4 @@
-use Rattle.std.proofs.Common.{◌≡◌, ◌+◌, ◌-◌, ◌/◌, ◌≤◌, ◌<◌, ◌∙◌, arith, length, refl, sym}
+use Rattle.std.proofs.Common.{◌≡◌, ◌+◌, ◌-◌, ◌/◌, ◌≤◌, ◌∙◌, arith, length, refl, sym}
 use Rattle.litemap_store.specs.Digits.{digits, digits-halved}
 use Rattle.name_index.proofs.Placing.{searched_end, searched_equal, searched_greater, searched_less, searched_start}
 use Rattle.name_index.proofs.places.search.Goals as goal

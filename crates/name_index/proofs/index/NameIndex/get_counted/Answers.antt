@@ -1,6 +1,5 @@
 use Rattle.std.proofs.Common.{ℕ, List, subst, sym}
 use Rattle.name_index.specs.Placed.{IsIndexed}
-use Rattle.name_index.specs.Tables.{text_order}
 use Rattle.name_table.specs.Remaining.{shown}
 use Rattle.name_index.proofs.Placing.{cost_by_pairs, placed_table, value_at_none, value_at_split}
 use Rattle.name_index.proofs.index.NameIndex.get_counted.Goals as goal

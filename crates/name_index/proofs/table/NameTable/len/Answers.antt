@@ -1,4 +1,4 @@
-use Rattle.std.proofs.Common.{◌==◌, sym, ap}
+use Rattle.std.proofs.Common.{sym}
 use Rattle.name_index.proofs.Rises.{rising_table}
 use Rattle.name_index.proofs.table.NameTable.len.Goals as goal
 

@@ -1,0 +1,199 @@
+-- What the bytes of an index have at a place, they have once; and what a search and a check know.
+use Rattle.std.proofs.Common.{◌≡◌, Bool, true, false, ℕ, zero, suc, ◌+◌, ◌*◌, ◌<◌, ◌≤◌, List, [], ◌∷◌, ◌++◌, length, take, drop, get_or, slice_get, Some, None, Result, Ok, Err, Option, Bor, refl, sym, ap, ◌∙◌, subst, arith, length-append}
+use Rattle.std.specs.Prelude.{IfErr, IfNone, IfSome, IsTrue}
+use Rattle.std.specs.Ordering.{is_lt}
+use Rattle.std.proofs.lemmas.List.{same_lists}
+use Rattle.std.proofs.lemmas.Option.{slice_get-get_or}
+use Rattle.std.specs.declared.cmp.Ordering.TheVariants.{Less, Equal, Greater}
+use Rattle.litemap_store.specs.Pairs.{Rising}
+use Rattle.litemap_store.specs.Splits.{Splits}
+use Rattle.litemap_store.proofs.Halving.{Narrowed, Narrowed-whole, Narrowed-less, Narrowed-greater, Finds-here, Finds-nowhere}
+use Rattle.litemap_store.proofs.Splitting.{Splits-from_Finds}
+use Rattle.name_index.specs.Index.{BeginsAt, HasKey, HasPlaces, IsEntry, IsIndex, IsNumberAt, IsPairAt, IsTextAt, NoEntry, NoIndex}
+use Rattle.name_index.specs.Tables.{text_order}
+use Rattle.name_index.proofs.Placing.{each_push}
+use Rattle.name_index.proofs.Rises.{IsAbove, LastKey, last_at, rises_on}
+use Rattle.name_index.proofs.Scanning.{ascends, one_side, to_key}
+
+-- what holds whatever the fault is
+pub whatever_fault : {T E Q : Type 0} (r : Result T E) → Q → IfErr r (λ _. Q)
+whatever_fault (Ok x) q = tt
+whatever_fault (Err e) q = q
+
+-- ---- one number, one text, one entry
+
+pub number_unique : (bytes : List ℕ) (at n m : ℕ) → IsNumberAt bytes at n → IsNumberAt bytes at m → n ≡ m
+number_unique bytes at n m p q = sym p.value ∙ q.value
+
+pub text_unique : (bytes : List ℕ) (at : ℕ) (s t : List ℕ) → IsTextAt bytes at s → IsTextAt bytes at t → s ≡ t
+text_unique bytes at s t p q =
+    let e : length s ≡ length t = number_unique bytes at (length s) (length t) p.size q.size in
+    sym p.there ∙ ap (λ n. take n (drop (at + 4) bytes)) e ∙ q.there
+
+pub pair_unique : (bytes : List ℕ) (at : ℕ) (p q : List ℕ × List ℕ) → IsPairAt bytes at p → IsPairAt bytes at q → p ≡ q
+pair_unique bytes at p q a b =
+    let k : p.0 ≡ q.0 = text_unique bytes at p.0 q.0 a.0 b.0 in
+    let P : List ℕ → Type 0 = λ t. IsTextAt bytes (at + 4 + length t) p.1 in
+    let v : p.1 ≡ q.1 = text_unique bytes (at + 4 + length q.0) p.1 q.1 (subst P k a.1) b.1 in
+    λ i. (k i, v i)
+
+pub begins_unique : (bytes : List ℕ) (count index a b : ℕ) → BeginsAt bytes count index a → BeginsAt bytes count index b → a ≡ b
+begins_unique bytes count index a b p q =
+    let e : p.far ≡ q.far = number_unique bytes (4 + 4 * index) p.far q.far p.noted q.noted in
+    omega (arith, p.at_is, q.at_is)
+
+pub entry_unique : (bytes : List ℕ) (count index : ℕ) (p q : List ℕ × List ℕ) → IsEntry bytes count index p → IsEntry bytes count index q → p ≡ q
+entry_unique bytes count index p q a b =
+    let e : a.0 ≡ b.0 = begins_unique bytes count index a.0 b.0 a.1 b.1 in
+    let P : ℕ → Type 0 = λ at. IsPairAt bytes at p in
+    pair_unique bytes b.0 p q (subst P e a.2) b.2
+
+-- ---- an index, and what is read of it
+
+module _ (bytes : List ℕ) (count : ℕ) (places : HasPlaces bytes count) (pairs : List (List ℕ × List ℕ)) (x : IsIndex bytes pairs) where
+  pub count_is : length pairs ≡ count
+  count_is = number_unique bytes 0 (length pairs) count x.number places.number
+
+  pub entry_there : (index : ℕ) → index < count → (pair : List ℕ × List ℕ) × (slice_get pairs index ≡ Some pair) × IsEntry bytes count index pair
+  entry_there index l =
+      let k : index < length pairs = omega (arith, count_is) in
+      let pair = get_or pairs index ([], []) in
+      let e : slice_get pairs index ≡ Some pair = slice_get-get_or pairs index ([], []) k in
+      let P : ℕ → Type 0 = λ n. IsEntry bytes n index pair in
+      (pair, e, subst P count_is (x.entries index pair e))
+
+  -- an entry that is read is the one of the list
+  pub entry_is : (index : ℕ) (pair : List ℕ × List ℕ) → index < count → IsEntry bytes count index pair → slice_get pairs index ≡ Some pair
+  entry_is index pair l r =
+      let t = entry_there index l in
+      t.1 ∙ ap Some (entry_unique bytes count index t.0 pair t.2 r)
+
+  -- so is its key
+  pub key_is : (index : ℕ) (key : List ℕ) → index < count → HasKey bytes count index key → (value : List ℕ) × (slice_get pairs index ≡ Some (key, value))
+  key_is index key l r =
+      let t = entry_there index l in
+      let e : t.2.0 ≡ r.0 = begins_unique bytes count index t.2.0 r.0 t.2.1 r.1 in
+      let P : ℕ → Type 0 = λ at. IsTextAt bytes at t.0.0 in
+      let k : t.0.0 ≡ key = text_unique bytes r.0 t.0.0 key (subst P e t.2.2.0) r.2 in
+      (t.0.1, t.1 ∙ ap (λ s. Some (s, t.0.1)) k)
+
+-- where an entry is missing, the bytes are no index
+pub no_index : (bytes : List ℕ) (count index : ℕ) → HasPlaces bytes count → index < count → NoEntry bytes count index → NoIndex bytes
+no_index bytes count index places l none pairs x =
+    let t = entry_there bytes count places pairs x index l in
+    none t.0 t.2
+
+-- where there is no room for the places, too
+pub no_room : (bytes : List ℕ) (count : ℕ) → IsNumberAt bytes 0 count → length bytes < 4 + 4 * count → NoIndex bytes
+no_room bytes count number l pairs x =
+    let e : length pairs ≡ count = number_unique bytes 0 (length pairs) count x.number number in
+    room (length pairs) refl e
+  where
+    room : (n : ℕ) → length pairs ≡ n → n ≡ count → ⊥
+    room zero f e = omega (arith, x.number.within, l, e)
+    room (suc n) f e =
+        let s = slice_get-get_or pairs n ([], []) (omega (arith, f)) in
+        let t = x.entries n (get_or pairs n ([], [])) s in
+        omega (arith, t.1.noted.within, l, e)
+
+-- ---- a search's state
+
+module _ (bytes key name : List ℕ) (count low high middle : ℕ) (places : HasPlaces bytes count) (within : middle < count) (there : HasKey bytes count middle name) (narrowed : (pairs : List (List ℕ × List ℕ)) → IsIndex bytes pairs → Narrowed (to_key key) pairs low high) where
+  pub indexed_less : text_order name key ≡ Less → (pairs : List (List ℕ × List ℕ)) → IsIndex bytes pairs → Narrowed (to_key key) pairs (middle + 1) high
+  indexed_less is pairs x =
+      let at = key_is bytes count places pairs x middle name within there in
+      Narrowed-less (to_key key) pairs (ascends pairs key x.rises) low high middle name at.0 at.1 (narrowed pairs x) is
+
+  pub indexed_greater : text_order name key ≡ Greater → (pairs : List (List ℕ × List ℕ)) → IsIndex bytes pairs → Narrowed (to_key key) pairs low middle
+  indexed_greater is pairs x =
+      let at = key_is bytes count places pairs x middle name within there in
+      Narrowed-greater (to_key key) pairs (ascends pairs key x.rises) low high middle name at.0 at.1 (narrowed pairs x) is
+
+  pub indexed_equal : text_order name key ≡ Equal → (pairs : List (List ℕ × List ℕ)) → IsIndex bytes pairs → Splits text_order pairs key (Ok middle)
+  indexed_equal is pairs x =
+      let at = key_is bytes count places pairs x middle name within there in
+      Splits-from_Finds one_side pairs key x.rises (Ok middle) (Finds-here (to_key key) pairs middle name at.0 at.1 is)
+
+pub indexed_start : (bytes key : List ℕ) (count : ℕ) → HasPlaces bytes count → (pairs : List (List ℕ × List ℕ)) → IsIndex bytes pairs → Narrowed (to_key key) pairs 0 count
+indexed_start bytes key count places pairs x = Narrowed-whole (to_key key) pairs count (omega (arith, count_is bytes count places pairs x))
+
+pub indexed_end : (bytes key : List ℕ) (count low high : ℕ) → HasPlaces bytes count → high ≤ low → low ≤ count → ((pairs : List (List ℕ × List ℕ)) → IsIndex bytes pairs → Narrowed (to_key key) pairs low high) → (pairs : List (List ℕ × List ℕ)) → IsIndex bytes pairs → Splits text_order pairs key (Err low)
+indexed_end bytes key count low high places h l narrowed pairs x =
+    Splits-from_Finds one_side pairs key x.rises (Err low) (Finds-nowhere (to_key key) pairs low high h (omega (arith, l, count_is bytes count places pairs x)) (narrowed pairs x))
+
+-- ---- a check's state
+
+-- the first entries were read, and their keys rise
+pub record Followed (bytes : List ℕ) (count : ℕ) (last : Option (Bor (List ℕ))) (index : ℕ) : Type 0 where
+  pub pairs : List (List ℕ × List ℕ)
+  pub number : length pairs ≡ index
+  pub entries : (i : ℕ) (pair : List ℕ × List ℕ) → slice_get pairs i ≡ Some pair → IsEntry bytes count i pair
+  pub rises : Rising text_order pairs
+  pub last_is : LastKey last pairs
+
+pub followed_start : (bytes : List ℕ) (count : ℕ) → Followed bytes count None 0
+followed_start bytes count = record { pairs = []; number = refl; entries = none; rises = tt; last_is = refl }
+  where
+    none : (i : ℕ) (pair : List ℕ × List ℕ) → slice_get [] i ≡ Some pair → IsEntry bytes count i pair
+    none i pair e = absurd (cc)
+
+pub followed_next : (bytes : List ℕ) (count index : ℕ) (last : Option (Bor (List ℕ))) (key value : Bor (List ℕ)) → Followed bytes count last index → IsEntry bytes count index (key.now, value.now) → IsAbove last key.now → Followed bytes count (Some key) (index + 1)
+followed_next bytes count index last key value f r a =
+    let p : List ℕ × List ℕ = (key.now, value.now) in
+    let P : ℕ → Type 0 = λ n. IsEntry bytes count n p in
+    record {
+      pairs = f.pairs ++ p ∷ [];
+      number = omega (arith, f.number, length-append f.pairs (p ∷ []));
+      entries = each_push (λ i q. IsEntry bytes count i q) f.pairs p f.entries (subst P (sym f.number) r);
+      rises = rises_on last f.pairs p f.last_is f.rises a;
+      last_is = (f.pairs, value.now, refl);
+    }
+
+pub followed_end : (bytes : List ℕ) (count index : ℕ) (last : Option (Bor (List ℕ))) → HasPlaces bytes count → Followed bytes count last index → index ≡ count → (pairs : List (List ℕ × List ℕ)) × IsIndex bytes pairs
+followed_end bytes count index last places f e =
+    let n : count ≡ length f.pairs = sym e ∙ sym f.number in
+    let P : ℕ → Type 0 = λ m. IsNumberAt bytes 0 m in (
+      f.pairs,
+      record {
+        number = subst P n places.number;
+        entries = λ i pair g. let Q : ℕ → Type 0 = λ m. IsEntry bytes m i pair in subst Q n (f.entries i pair g);
+        rises = f.rises;
+      },
+    )
+
+rises_next : (L : List (List ℕ × List ℕ)) (i : ℕ) (p q : List ℕ × List ℕ) → Rising text_order L → slice_get L i ≡ Some p → slice_get L (suc i) ≡ Some q → text_order p.0 q.0 ≡ Less
+rises_next [] i p q r e f = absurd (cc)
+rises_next (x ∷ []) zero p q r e f = absurd (cc)
+rises_next (x ∷ y ∷ L) zero p q r e f =
+    let s : x ≡ p = cc in
+    let t : y ≡ q = cc in
+    (λ i. text_order (sym s i).0 (sym t i).0) ∙ r.0.0
+rises_next (x ∷ L) (suc i) p q r e f = rises_next L i p q r.1 e f
+
+-- where the next key isn't above the last one, the bytes are no index
+pub falls_there : (bytes : List ℕ) (count index : ℕ) (last : Bor (List ℕ)) (key value : List ℕ) → HasPlaces bytes count → index < count → Followed bytes count (Some last) index → IsEntry bytes count index (key, value) → (text_order last.now key ≡ Less → ⊥) → NoIndex bytes
+falls_there bytes count index last key value places l f r never pairs x =
+    let front = f.last_is.0 in
+    let p : List ℕ × List ℕ = (last.now, f.last_is.1) in
+    let G : List (List ℕ × List ℕ) → Type 0 = λ L. slice_get L (length front) ≡ Some p in
+    let g : slice_get f.pairs (length front) ≡ Some p = subst G (sym f.last_is.2) (last_at front p) in
+    let n : suc (length front) ≡ index = omega (arith, f.number, ap length f.last_is.2, length-append front (p ∷ [])) in
+    let a = entry_is bytes count places pairs x (length front) p (omega (arith, n, l)) (f.entries (length front) p g) in
+    let b = entry_is bytes count places pairs x index (key, value) l r in
+    let Q : ℕ → Type 0 = λ i. slice_get pairs i ≡ Some (key, value) in
+    never (rises_next pairs (length front) p (key, value) x.rises a (subst Q (sym n) b))
+
+pub falls : (bytes : List ℕ) (count index : ℕ) (last : Option (Bor (List ℕ))) (key value : List ℕ) (b : Bool) → HasPlaces bytes count → index < count → Followed bytes count last index → IsEntry bytes count index (key, value) → IfNone last (IsTrue b) → IfSome last (λ l. b ≡ is_lt (text_order l.now key)) → b ≡ false → NoIndex bytes
+falls bytes count index None key value b places l f r n s e = let h : b ≡ true = n in absurd (cc)
+falls bytes count index (Some last) key value b places l f r n s e =
+    falls_there bytes count index last key value places l f r (λ is. let h : b ≡ true = s ∙ ap is_lt is in absurd (cc))
+
+-- ---- bytes have one index at most
+
+pub index_unique : (bytes : List ℕ) (J K : List (List ℕ × List ℕ)) → IsIndex bytes J → IsIndex bytes K → J ≡ K
+index_unique bytes J K x y =
+    let e : length K ≡ length J = number_unique bytes 0 (length K) (length J) y.number x.number in
+    same_lists J K (sym e) (λ k d l.
+    let P : ℕ → Type 0 = λ n. IsEntry bytes n k (get_or K k d) in
+    let h : k < length K = omega (arith, e, l) in
+    entry_unique bytes (length J) k (get_or J k d) (get_or K k d) (x.entries k (get_or J k d) (slice_get-get_or J k d l)) (subst P e (y.entries k (get_or K k d) (slice_get-get_or K k d h))))

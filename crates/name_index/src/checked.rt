@@ -1,0 +1,113 @@
+//! An index of names that was read once.
+ghost use Rattle.std.specs.Prelude.{◌≡◌, ◌==◌, IfErr, IfOk, length, slice_get, ⊤};
+ghost use Rattle.std.specs.Option.{option_copied, option_map};
+ghost use Rattle.litemap_store.specs.Counts.{RisesByAtMost};
+ghost use Rattle.litemap_store.specs.Digits.{digits};
+ghost use Rattle.litemap_store.specs.Pairs.{index_of, value_at};
+ghost use Rattle.name_index.specs.Index.{NoIndex, OfIndex};
+ghost use Rattle.name_index.specs.Tables.{text_order};
+ghost use Rattle.name_table.specs.Remaining.{shown};
+
+use crate::fault::IndexFault;
+use crate::indexed::IndexedNames;
+use crate::indexed_search::follow;
+use litemap_store::store::Count;
+use std::marker::Model;
+
+/// An index of names that was read once: no call answers a fault.
+///
+/// A contract sees it as the bytes, and what a call answers is said of the list of its pairs (`OfIndex`).
+#[derive(Drop)]
+pub struct CheckedNames<'a> {
+    names: IndexedNames<'a>,
+}
+
+impl<'a> Model for CheckedNames<'a> {
+    ghost use Rattle.std.specs.Prelude.{ℕ, List, ⊤};
+    ghost use Rattle.name_index.specs.Index.{OfIndex};
+
+    ghost Value = { List ℕ };
+
+    ghost view = { λ t. t.names };
+
+    ghost invariant = { λ t. OfIndex t.names (λ _. ⊤) };
+}
+
+impl<'a> IndexedNames<'a> {
+    /// The index that the bytes are, read once, so that no look-up answers a fault.
+    ///
+    /// There is one comparison for each key but the first, and no memory is taken. The fault is that of the first entry that
+    /// can't be read, or whose key isn't above the one before it.
+    pub fn open_checked(bytes: &'a [u8]) -> Result<CheckedNames<'a>, IndexFault>
+        ensures bytes { IfOk result (λ names. names ≡ bytes.now) }
+        ensures index { IfOk result (λ _. OfIndex bytes.now (λ _. ⊤)) }
+        ensures fault { IfErr result (λ _. NoIndex bytes.now) }
+    {
+        let names = IndexedNames::open(bytes)?;
+        let (bytes, size) = names.opened();
+        follow(bytes, size)?;
+        Ok(CheckedNames { names })
+    }
+}
+
+impl<'a> CheckedNames<'a> {
+    /// The number of entries.
+    pub fn len(&self) -> usize
+        ensures { OfIndex self.now (λ pairs. result ≡ length pairs) }
+    {
+        self.names.len()
+    }
+
+    /// Whether there is no entry.
+    pub fn is_empty(&self) -> bool
+        ensures { OfIndex self.now (λ pairs. result ≡ (length pairs == 0)) }
+    {
+        self.names.is_empty()
+    }
+
+    /// The value of a key, if it is there. It compares at most once for each binary digit of the length.
+    pub fn get(&self, key: &str) -> Option<&'a str>
+        ensures { OfIndex self.now (λ pairs. option_copied result ≡ value_at text_order pairs key.now) }
+    {
+        self.get_counted(key, &mut Count::new())
+    }
+
+    /// `get`, with its comparisons counted.
+    pub fn get_counted(&self, key: &str, count: &mut Count) -> Option<&'a str>
+        ensures value { OfIndex self.now (λ pairs. option_copied result ≡ value_at text_order pairs key.now) }
+        ensures cost { OfIndex self.now (λ pairs. RisesByAtMost (digits (length pairs)) count.old count.new) }
+    {
+        match self.names.get_counted(key, count) {
+            Ok(found) => found,
+            Err(_) => unreachable!(),
+        }
+    }
+
+    /// The place of a key, or where it would go. It costs what `get` does.
+    pub fn find_index(&self, key: &str) -> Result<usize, usize>
+        ensures { OfIndex self.now (λ pairs. result ≡ index_of text_order pairs key.now) }
+    {
+        self.find_index_counted(key, &mut Count::new())
+    }
+
+    /// `find_index`, with its comparisons counted.
+    pub fn find_index_counted(&self, key: &str, count: &mut Count) -> Result<usize, usize>
+        ensures place { OfIndex self.now (λ pairs. result ≡ index_of text_order pairs key.now) }
+        ensures cost { OfIndex self.now (λ pairs. RisesByAtMost (digits (length pairs)) count.old count.new) }
+    {
+        match self.names.find_index_counted(key, count) {
+            Ok(found) => found,
+            Err(_) => unreachable!(),
+        }
+    }
+
+    /// The entry at a place, `None` from the length on. No other entry is read.
+    pub fn get_indexed(&self, index: usize) -> Option<(&'a str, &'a str)>
+        ensures { OfIndex self.now (λ pairs. option_map shown result ≡ slice_get pairs index) }
+    {
+        match self.names.get_indexed(index) {
+            Ok(found) => found,
+            Err(_) => unreachable!(),
+        }
+    }
+}

@@ -1,0 +1,117 @@
+//! Indexes written from maps.
+ghost use Rattle.std.specs.Prelude.{◌≡◌, ◌+◌, ◌*◌, ◌≤◌, ◌<◌, IfErr, IfNone, IfOk, IfSome, OnOk, length, map};
+ghost use Rattle.litemap.specs.ByBytes.{by_bytes};
+ghost use Rattle.litemap_store.specs.Pairs.{Rising};
+ghost use Rattle.name_index.specs.Index.{IsIndex, IsNumberAt, IsPairAt, IsTextAt};
+ghost use Rattle.name_table.specs.Remaining.{shown};
+ghost use Rattle.name_index.specs.Writes.{Adds, AddsPairs, ArePlaces, entries_size, index_size, pair_size};
+ghost use Rattle.name_table.specs.Writes.{IfTooLarge};
+
+use name_table::{NameMap, NameWriteFault};
+use std::alloc::Global;
+
+/// The index of a map.
+///
+/// It is refused for want of memory, and where the entries take 4,294,967,296 bytes or more.
+pub fn write_index(alloc: Global, names: &NameMap<'_>) -> Result<Vec<u8>, NameWriteFault>
+    ensures index { IfOk result (λ bytes. IsIndex bytes.items (map shown names.now.pairs)) }
+    ensures size { IfOk result (λ bytes. length bytes.items ≡ index_size (map shown names.now.pairs)) }
+    ensures too_large { IfErr result (λ fault. IfTooLarge fault (4294967296 ≤ entries_size (map shown names.now.pairs))) }
+{
+    write_index_of(alloc, names.as_slice())
+}
+
+/// The index of pairs whose keys rise strictly, as those of a table of the program do. It is refused where `write_index` is.
+pub fn write_index_of(alloc: Global, names: &[(&str, &str)]) -> Result<Vec<u8>, NameWriteFault>
+    requires { Rising by_bytes names.now }
+    ensures index { IfOk result (λ bytes. IsIndex bytes.items (map shown names.now)) }
+    ensures size { IfOk result (λ bytes. length bytes.items ≡ index_size (map shown names.now)) }
+    ensures too_large { IfErr result (λ fault. IfTooLarge fault (4294967296 ≤ entries_size (map shown names.now))) }
+{
+    let mut bytes = put_places(alloc, names)?;
+    put_entries(&mut bytes, names)?;
+    Ok(bytes)
+}
+
+// Writes the number of pairs, and the place of each.
+fn put_places(alloc: Global, pairs: &[(&str, &str)]) -> Result<Vec<u8>, NameWriteFault>
+    ensures places { IfOk result (λ bytes. ArePlaces bytes.items (map shown pairs.now) (length pairs.now)) }
+    ensures too_large { IfErr result (λ fault. IfTooLarge fault (4294967296 ≤ entries_size (map shown pairs.now))) }
+{
+    let mut bytes = Vec::new(alloc);
+    put_number(&mut bytes, pairs.len())?;
+    let mut place = 0;
+    for pair in pairs {
+        put_number(&mut bytes, place)?;
+        let Some(next) = behind(place, pair.0, pair.1) else {
+            return Err(NameWriteFault::TooLarge);
+        };
+        place = next;
+    }
+    Ok(bytes)
+}
+
+// Writes the pairs.
+fn put_entries(bytes: &mut Vec<u8>, pairs: &[(&str, &str)]) -> Result<(), NameWriteFault>
+    ensures pairs { OnOk result (AddsPairs bytes.old.items bytes.new.items (map shown pairs.now) (length pairs.now)) }
+    ensures too_large { IfErr result (λ fault. IfTooLarge fault (4294967296 ≤ entries_size (map shown pairs.now))) }
+{
+    for pair in pairs {
+        put_pair(bytes, pair.0, pair.1)?;
+    }
+    Ok(())
+}
+
+// The place behind a pair, where it is one that can be noted.
+fn behind(place: usize, key: &str, value: &str) -> Option<usize>
+    requires { place < 4294967296 }
+    ensures next { IfSome result (λ next. next ≡ place + pair_size (key.now, value.now)) }
+    ensures small { IfSome result (λ next. next < 4294967296) }
+    ensures none { IfNone result (4294967296 ≤ place + pair_size (key.now, value.now)) }
+{
+    if key.len() >= 4_294_967_296 || value.len() >= 4_294_967_296 {
+        return None;
+    }
+    let next = place + 8 + key.len() + value.len();
+    if next < 4_294_967_296 {
+        Some(next)
+    } else {
+        None
+    }
+}
+
+// Writes a key and its value.
+fn put_pair(bytes: &mut Vec<u8>, key: &str, value: &str) -> Result<(), NameWriteFault>
+    ensures adds { OnOk result (Adds bytes.old.items bytes.new.items (pair_size (key.now, value.now))) }
+    ensures pair { OnOk result (IsPairAt bytes.new.items (length bytes.old.items) (key.now, value.now)) }
+    ensures too_large { IfErr result (λ fault. IfTooLarge fault (4294967296 ≤ pair_size (key.now, value.now))) }
+{
+    put_text(bytes, key)?;
+    put_text(bytes, value)?;
+    Ok(())
+}
+
+// Writes a text behind the number of its bytes.
+fn put_text(bytes: &mut Vec<u8>, text: &str) -> Result<(), NameWriteFault>
+    ensures adds { OnOk result (Adds bytes.old.items bytes.new.items (4 + length text.now)) }
+    ensures text { OnOk result (IsTextAt bytes.new.items (length bytes.old.items) text.now) }
+    ensures too_large { IfErr result (λ fault. IfTooLarge fault (4294967296 ≤ length text.now)) }
+{
+    put_number(bytes, text.len())?;
+    bytes.extend_from_slice(text.as_bytes())?;
+    Ok(())
+}
+
+// Writes a number.
+fn put_number(bytes: &mut Vec<u8>, number: usize) -> Result<(), NameWriteFault>
+    ensures adds { OnOk result (Adds bytes.old.items bytes.new.items 4) }
+    ensures number { OnOk result (IsNumberAt bytes.new.items (length bytes.old.items) number) }
+    ensures small { OnOk result (number < 4294967296) }
+    ensures too_large { IfErr result (λ fault. IfTooLarge fault (4294967296 ≤ number)) }
+{
+    if number >= 4_294_967_296 {
+        return Err(NameWriteFault::TooLarge);
+    }
+    bytes.extend_from_slice(&(number as u32).to_le_bytes())?;
+    Ok(())
+}

@@ -1,0 +1,131 @@
+//! Names looked up by the places that stand in front of them in the bytes.
+ghost use Rattle.std.specs.Prelude.{◌≡◌, ◌==◌, IfErr, IfOk, length, slice_get};
+ghost use Rattle.std.specs.Option.{option_copied, option_map};
+ghost use Rattle.litemap_store.specs.Counts.{RisesByAtMost};
+ghost use Rattle.litemap_store.specs.Digits.{digits};
+ghost use Rattle.litemap_store.specs.Pairs.{index_of, value_at};
+ghost use Rattle.name_index.specs.Index.{HasPlaces, IfIndex, NoIndex};
+ghost use Rattle.name_index.specs.Tables.{text_order};
+ghost use Rattle.name_table.specs.Remaining.{shown};
+
+use crate::fault::IndexFault;
+use crate::index_bytes::{entry_at, number_at};
+use crate::indexed_search::find;
+use litemap_store::store::Count;
+use std::marker::Model;
+
+/// An index of names that lies in bytes: `write_index` writes one.
+///
+/// It takes no memory, and is opened in constant time: a look-up reads what it needs and checks that. Where the bytes are an
+/// index (`IsIndex`) no call answers a fault; of other bytes it may answer one, or anything that stands in them.
+///
+/// A contract sees it as the bytes.
+#[derive(Drop)]
+pub struct IndexedNames<'a> {
+    bytes: &'a [u8],
+    size: usize,
+}
+
+impl<'a> Model for IndexedNames<'a> {
+    ghost use Rattle.std.specs.Prelude.{ℕ, List};
+    ghost use Rattle.name_index.specs.Index.{HasPlaces};
+
+    ghost Value = { List ℕ };
+
+    ghost view = { λ t. t.bytes.now };
+
+    ghost invariant = { λ t. HasPlaces t.bytes.now t.size };
+}
+
+impl<'a> IndexedNames<'a> {
+    /// The index that the bytes are. Only the number of entries is read, and whether the bytes have room for their places.
+    pub fn open(bytes: &'a [u8]) -> Result<Self, IndexFault>
+        ensures bytes { IfOk result (λ names. names ≡ bytes.now) }
+        ensures fault { IfErr result (λ _. NoIndex bytes.now) }
+    {
+        let size = number_at(bytes, 0)?;
+        if bytes.len() < 4 + 4 * size {
+            let at = bytes.len() - bytes.len() % 4;
+            return Err(IndexFault::Truncated { at });
+        }
+        Ok(IndexedNames { bytes, size })
+    }
+
+    // The bytes, and the number of entries.
+    pub(crate) fn opened(&self) -> (&'a [u8], usize)
+        ensures places { HasPlaces result.0.now result.1 }
+        ensures bytes { result.0.now ≡ self.now }
+    {
+        (self.bytes, self.size)
+    }
+
+    /// The number of entries.
+    pub fn len(&self) -> usize
+        ensures { IfIndex self.now (λ pairs. result ≡ length pairs) }
+    {
+        self.size
+    }
+
+    /// Whether there is no entry.
+    pub fn is_empty(&self) -> bool
+        ensures { IfIndex self.now (λ pairs. result ≡ (length pairs == 0)) }
+    {
+        self.size == 0
+    }
+
+    /// The value of a key, if it is there. It compares at most once for each binary digit of the length.
+    pub fn get(&self, key: &str) -> Result<Option<&'a str>, IndexFault>
+        ensures value { IfOk result (λ found. IfIndex self.now (λ pairs. option_copied found ≡ value_at text_order pairs key.now)) }
+        ensures fault { IfErr result (λ _. NoIndex self.now) }
+    {
+        self.get_counted(key, &mut Count::new())
+    }
+
+    /// `get`, with its comparisons counted.
+    pub fn get_counted(&self, key: &str, count: &mut Count) -> Result<Option<&'a str>, IndexFault>
+        ensures value { IfOk result (λ found. IfIndex self.now (λ pairs. option_copied found ≡ value_at text_order pairs key.now)) }
+        ensures fault { IfErr result (λ _. NoIndex self.now) }
+        ensures cost { IfIndex self.now (λ pairs. RisesByAtMost (digits (length pairs)) count.old count.new) }
+    {
+        match find(self.bytes, self.size, key, count)? {
+            Ok(index) => {
+                let (_, value) = entry_at(self.bytes, self.size, index)?;
+                Ok(Some(value))
+            }
+            Err(_) => Ok(None),
+        }
+    }
+
+    /// The place of a key, or where it would go. It costs what `get` does.
+    pub fn find_index(&self, key: &str) -> Result<Result<usize, usize>, IndexFault>
+        ensures place { IfOk result (λ found. IfIndex self.now (λ pairs. found ≡ index_of text_order pairs key.now)) }
+        ensures fault { IfErr result (λ _. NoIndex self.now) }
+    {
+        self.find_index_counted(key, &mut Count::new())
+    }
+
+    /// `find_index`, with its comparisons counted.
+    pub fn find_index_counted(
+        &self,
+        key: &str,
+        count: &mut Count,
+    ) -> Result<Result<usize, usize>, IndexFault>
+        ensures place { IfOk result (λ found. IfIndex self.now (λ pairs. found ≡ index_of text_order pairs key.now)) }
+        ensures fault { IfErr result (λ _. NoIndex self.now) }
+        ensures cost { IfIndex self.now (λ pairs. RisesByAtMost (digits (length pairs)) count.old count.new) }
+    {
+        find(self.bytes, self.size, key, count)
+    }
+
+    /// The entry at a place, `None` from the length on. No other entry is read.
+    pub fn get_indexed(&self, index: usize) -> Result<Option<(&'a str, &'a str)>, IndexFault>
+        ensures entry { IfOk result (λ found. IfIndex self.now (λ pairs. option_map shown found ≡ slice_get pairs index)) }
+        ensures fault { IfErr result (λ _. NoIndex self.now) }
+    {
+        if index >= self.size {
+            return Ok(None);
+        }
+        let pair = entry_at(self.bytes, self.size, index)?;
+        Ok(Some(pair))
+    }
+}

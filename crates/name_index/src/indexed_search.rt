@@ -1,0 +1,57 @@
+//! What is found among the entries of an index, and whether they are all there.
+ghost use Rattle.std.specs.Prelude.{◌<◌, IfErr, IfOk, OnOk, ⊤};
+ghost use Rattle.litemap_store.specs.Counts.{RisesByAtMost};
+ghost use Rattle.litemap_store.specs.Digits.{digits};
+ghost use Rattle.litemap_store.specs.Splits.{Splits};
+ghost use Rattle.name_index.specs.Index.{HasPlaces, IfIndex, NoIndex, OfIndex};
+ghost use Rattle.name_index.specs.Tables.{text_order};
+
+use crate::fault::IndexFault;
+use crate::index_bytes::{entry_at, key_at};
+use crate::rising::is_above;
+use litemap_store::store::Count;
+use std::cmp::Ordering;
+
+/// The place of the key, or where it would go.
+pub fn find(
+    bytes: &[u8],
+    size: usize,
+    key: &str,
+    count: &mut Count,
+) -> Result<Result<usize, usize>, IndexFault>
+    requires { HasPlaces bytes.now size }
+    ensures splits { IfOk result (λ found. IfIndex bytes.now (λ pairs. Splits text_order pairs key.now found)) }
+    ensures within { IfOk result (λ found. IfOk found (λ index. index < size)) }
+    ensures fault { IfErr result (λ _. NoIndex bytes.now) }
+    ensures cost { RisesByAtMost (digits size) count.old count.new }
+{
+    let mut low = 0;
+    let mut high = size;
+    while low < high {
+        let middle = low + (high - low) / 2;
+        let name = key_at(bytes, size, middle)?;
+        match count.cmp(&name, &key) {
+            Ordering::Less => low = middle + 1,
+            Ordering::Equal => return Ok(Ok(middle)),
+            Ordering::Greater => high = middle,
+        }
+    }
+    Ok(Err(low))
+}
+
+/// Reads all entries. The fault is that of the first one that can't be read, or whose key doesn't rise.
+pub fn follow(bytes: &[u8], size: usize) -> Result<(), IndexFault>
+    requires { HasPlaces bytes.now size }
+    ensures ok { OnOk result (OfIndex bytes.now (λ _. ⊤)) }
+    ensures fault { IfErr result (λ _. NoIndex bytes.now) }
+{
+    let mut last: Option<&str> = None;
+    for index in 0..size {
+        let (key, _) = entry_at(bytes, size, index)?;
+        if !is_above(last, key) {
+            return Err(IndexFault::NotRising { index });
+        }
+        last = Some(key);
+    }
+    Ok(())
+}
