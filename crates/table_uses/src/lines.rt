@@ -1,7 +1,7 @@
 //! The lines.
 use crate::languages::language_name;
 use crate::sweeps::{self, Tally};
-use crate::{tables, texts};
+use crate::{indexes, tables, texts};
 use name_table::{read_names, write_names};
 use std::alloc::{AllocError, Global};
 
@@ -37,6 +37,9 @@ fn answer(
         ["name", code] => write_name(alloc, code, bytes, output),
         ["table"] => tables::write_table(alloc, bytes, output),
         ["ask", key] => tables::write_asked(alloc, key, bytes, output),
+        ["index"] => indexes::write_digits(alloc, bytes, output),
+        ["opened"] => indexes::write_opened(bytes, output),
+        ["look", key] => indexes::write_looked(key, bytes, output),
         ["many", number] => write_many(alloc, number, output),
         [name] => sweep(alloc, name, bytes, output),
         _ => output.push_str("bad line"),
@@ -87,6 +90,8 @@ fn sweep(alloc: Global, name: &str, bytes: &[u8], output: &mut String) -> Result
         "prefixes" => sweeps::prefixes(alloc, bytes, &mut tally)?,
         "changes" => sweeps::changes(alloc, bytes, &mut tally)?,
         "strings" => sweeps::strings(alloc, bytes, &mut tally)?,
+        "cuts" => sweeps::cuts(alloc, bytes, &mut tally)?,
+        "damages" => sweeps::damages(alloc, bytes, &mut tally)?,
         _ => return output.push_str("bad line"),
     }
     tally.write(output)

@@ -16,10 +16,16 @@
 //! - `changes BYTES`: the same with each byte changed into each other one.
 //! - `strings BYTES`: the same of every string of up to four of these bytes.
 //!
-//! The last three read each case by the slow reader too, into a map and by a `NameTable`, and tell how often one of the two
-//! answered otherwise.
+//! These three read each case by the slow reader too, into a map and by a `NameTable`, and tell how often one of the two
+//! answered otherwise. A table is also written as an index, which is asked as it lies and read once.
+//!
+//! - `index BYTES`: what `write_index` writes for the map that is read.
+//! - `opened BYTES`: each entry of an index that is read once, found again by its key.
+//! - `look KEY BYTES`: what an index that isn't read before answers for a key.
+//! - `cuts BYTES`, `damages BYTES`: what is opened of each proper prefix of an index, and with each byte changed, by kinds.
 #![tactic(auto)]
 
+mod indexes;
 pub mod languages;
 mod lines;
 mod slow;

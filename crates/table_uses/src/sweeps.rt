@@ -1,5 +1,6 @@
 //! Many cases at once, each read by the slow reader too.
-use crate::{slow, tables, texts};
+use crate::{indexes, slow, tables, texts};
+use name_index::{CheckedNames, IndexedNames};
 use name_table::{read_names, write_names};
 use std::alloc::{AllocError, Global};
 use std::fmt::Write;
@@ -43,10 +44,24 @@ impl Tally {
         Ok(())
     }
 
+    // Opens one more case as an index, and asks it for the keys of one.
+    fn add_index(
+        &mut self,
+        alloc: Global,
+        bytes: &[u8],
+        keys: &CheckedNames<'_>,
+    ) -> Result<(), AllocError> {
+        let mut text = String::new(alloc);
+        indexes::write_opened(bytes, &mut text)?;
+        self.count(text.as_str(), indexes::is_opened_alike(bytes, keys));
+        Ok(())
+    }
+
     // Counts a case by its text.
     fn count(&mut self, text: &str, is_same: bool) {
         self.cases = self.cases.wrapping_add(1);
-        self.read = self.read.wrapping_add(u64::from(text.starts_with("read")));
+        let is_read = text.starts_with("read") || text.starts_with("index");
+        self.read = self.read.wrapping_add(u64::from(is_read));
         self.truncated = self
             .truncated
             .wrapping_add(u64::from(text.contains("the bytes end")));
@@ -167,4 +182,34 @@ fn add_string(
         left /= base;
     }
     tally.add(alloc, text.as_slice())
+}
+
+/// Each proper prefix of an index.
+pub fn cuts(alloc: Global, bytes: &[u8], tally: &mut Tally) -> Result<(), AllocError> {
+    let Ok(keys) = IndexedNames::open_checked(bytes) else {
+        return Ok(());
+    };
+    for size in 0..bytes.len() {
+        tally.add_index(alloc, &bytes[..size], &keys)?;
+    }
+    Ok(())
+}
+
+/// Each change of one byte of an index.
+pub fn damages(alloc: Global, bytes: &[u8], tally: &mut Tally) -> Result<(), AllocError> {
+    let Ok(keys) = IndexedNames::open_checked(bytes) else {
+        return Ok(());
+    };
+    for (place, byte) in bytes.iter().enumerate() {
+        for value in 0..=255u8 {
+            if value != *byte {
+                let mut changed = bytes.to_vec(alloc)?;
+                if let Some(byte) = changed.get_mut(place) {
+                    *byte = value;
+                }
+                tally.add_index(alloc, changed.as_slice(), &keys)?;
+            }
+        }
+    }
+    Ok(())
 }

@@ -1,4 +1,5 @@
 //! What a table answers that is looked up in its bytes.
+use crate::indexes::{BothWays, index_of};
 use name_index::{NameIndex, NameTable};
 use std::alloc::{AllocError, Global};
 use std::fmt::Write;
@@ -23,6 +24,10 @@ pub fn write_table(alloc: Global, bytes: &[u8], output: &mut String) -> Result<(
             output.push_str(" not there")?;
         }
     }
+    let written = index_of(alloc, bytes)?;
+    if !BothWays::open(written.as_slice()).is_ok_and(|both| both.has_entries_of(&table)) {
+        output.push_str(" another index")?;
+    }
     if table.get_indexed(table.len()).is_some() || index.get_indexed(table.len()).is_some() {
         output.push_str(" one more")?;
     }
@@ -45,7 +50,13 @@ pub fn write_asked(
         Ok(table) => table,
         Err(fault) => return write!(output, "{fault}"),
     };
-    if !is_indexed(&table, &NameIndex::new(alloc, &table)?, key) {
+    let written = index_of(alloc, bytes)?;
+    let Ok(both) = BothWays::open(written.as_slice()) else {
+        return output.push_str("no index");
+    };
+    if !is_indexed(&table, &NameIndex::new(alloc, &table)?, key)
+        || !both.is_asked_alike(&table, key)
+    {
         return output.push_str("another answer");
     }
     match (table.get(key), table.find_index(key)) {
@@ -55,9 +66,8 @@ pub fn write_asked(
     }
 }
 
-/// Makes a table of so many names, and writes how many of some keys are found in it: 16 that are there, and one behind
-/// each of these.
-pub fn write_many(alloc: Global, number: u32, output: &mut String) -> Result<(), AllocError> {
+// A table of so many names.
+fn many(alloc: Global, number: u32) -> Result<Vec<u8>, AllocError> {
     let mut bytes = Vec::new(alloc);
     put_number(number, &mut bytes)?;
     let mut key = String::new(alloc);
@@ -68,22 +78,36 @@ pub fn write_many(alloc: Global, number: u32, output: &mut String) -> Result<(),
         bytes.extend_from_slice(key.as_str().as_bytes())?;
         bytes.push(0)?;
     }
+    Ok(bytes)
+}
+
+/// Makes a table of so many names, and writes how many of some keys are found in it: 16 that are there, and one behind
+/// each of these.
+pub fn write_many(alloc: Global, number: u32, output: &mut String) -> Result<(), AllocError> {
+    let bytes = many(alloc, number)?;
     let Ok(table) = NameTable::new(bytes.as_slice()) else {
         return output.push_str("no table");
     };
     let index = NameIndex::new(alloc, &table)?;
+    let written = index_of(alloc, bytes.as_slice())?;
+    let Ok(both) = BothWays::open(written.as_slice()) else {
+        return output.push_str("no index");
+    };
+    let mut key = String::new(alloc);
     let (mut there, mut between) = (0u32, 0u32);
     for step in 0..16u32 {
         let name = (number / 16).wrapping_mul(step);
         key.clear();
         write!(key, "{name:08}")?;
-        let found = table.find_index(key.as_str()) == Ok(name as usize);
-        there = there.wrapping_add(u32::from(found && is_indexed(&table, &index, key.as_str())));
+        let found = table.find_index(key.as_str()) == Ok(name as usize)
+            && is_indexed(&table, &index, key.as_str())
+            && both.is_asked_alike(&table, key.as_str());
+        there = there.wrapping_add(u32::from(found));
         key.push('+')?;
-        let missing = table.find_index(key.as_str()) == Err((name as usize).wrapping_add(1));
-        between = between.wrapping_add(u32::from(
-            missing && is_indexed(&table, &index, key.as_str()),
-        ));
+        let missing = table.find_index(key.as_str()) == Err((name as usize).wrapping_add(1))
+            && is_indexed(&table, &index, key.as_str())
+            && both.is_asked_alike(&table, key.as_str());
+        between = between.wrapping_add(u32::from(missing));
     }
     write!(
         output,

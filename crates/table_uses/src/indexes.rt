@@ -1,0 +1,138 @@
+//! What bytes answer that are an index of names.
+use name_index::{CheckedNames, IndexFault, IndexedNames, NameTable, write_index};
+use name_table::read_names;
+use std::alloc::{AllocError, Global};
+use std::fmt::Write;
+
+/// The index of the map that bytes are read as; no bytes where they are read as none.
+pub fn index_of(alloc: Global, bytes: &[u8]) -> Result<Vec<u8>, AllocError> {
+    let Ok((map, _)) = read_names(alloc, bytes) else {
+        return Ok(Vec::new(alloc));
+    };
+    match write_index(alloc, &map) {
+        Ok(written) => Ok(written),
+        Err(_) => Ok(Vec::new(alloc)),
+    }
+}
+
+/// Writes it in hexadecimal.
+pub fn write_digits(alloc: Global, bytes: &[u8], output: &mut String) -> Result<(), AllocError> {
+    let written = index_of(alloc, bytes)?;
+    if written.is_empty() {
+        return output.push_str("no index");
+    }
+    let digits = hex::encode(alloc, written.as_slice())?;
+    output.push_str(digits.as_str())
+}
+
+/// Writes each entry of an index, with a word more where its key isn't found, or the fault.
+pub fn write_opened(bytes: &[u8], output: &mut String) -> Result<(), AllocError> {
+    let names = match IndexedNames::open_checked(bytes) {
+        Ok(names) => names,
+        Err(fault) => return write!(output, "{fault}"),
+    };
+    write!(output, "index {}:", names.len())?;
+    for place in 0..names.len() {
+        let Some((key, value)) = names.get_indexed(place) else {
+            return output.push_str(" no entry");
+        };
+        write!(output, " {key}={value}")?;
+        if names.find_index(key) != Ok(place) || names.get(key) != Some(value) {
+            output.push_str(" not found")?;
+        }
+    }
+    if names.get_indexed(names.len()).is_some() || names.is_empty() != (names.len() == 0) {
+        output.push_str(" one more")?;
+    }
+    Ok(())
+}
+
+/// Writes what an index that wasn't read before answers for a key, or the fault.
+pub fn write_looked(key: &str, bytes: &[u8], output: &mut String) -> Result<(), AllocError> {
+    let names = match IndexedNames::open(bytes) {
+        Ok(names) => names,
+        Err(fault) => return write!(output, "{fault}"),
+    };
+    let place = match names.find_index(key) {
+        Ok(place) => place,
+        Err(fault) => return write!(output, "{fault}"),
+    };
+    match (names.get(key), place) {
+        (Ok(Some(value)), Ok(index)) => write!(output, "found {index}: {value}"),
+        (Ok(None), Err(index)) => write!(output, "none, it would be {index}"),
+        (Err(fault), _) => write!(output, "{fault}"),
+        _ => output.push_str("two answers"),
+    }
+}
+
+/// An index that is asked both as it lies and read once.
+#[derive(Drop)]
+pub struct BothWays<'a> {
+    names: IndexedNames<'a>,
+    checked: CheckedNames<'a>,
+}
+
+impl<'a> BothWays<'a> {
+    /// The index that the bytes are.
+    pub fn open(bytes: &'a [u8]) -> Result<Self, IndexFault> {
+        let names = IndexedNames::open(bytes)?;
+        let checked = IndexedNames::open_checked(bytes)?;
+        Ok(BothWays { names, checked })
+    }
+
+    /// Whether it answers for a key as a table does.
+    pub fn is_asked_alike(&self, table: &NameTable<'_>, key: &str) -> bool {
+        let (value, place) = (table.get(key), table.find_index(key));
+        self.checked.get(key) == value
+            && self.checked.find_index(key) == place
+            && self.names.get(key) == Ok(value)
+            && self.names.find_index(key) == Ok(place)
+    }
+
+    // Whether it answers for a key alike both ways.
+    fn is_one(&self, key: &str) -> bool {
+        self.names.get(key) == Ok(self.checked.get(key))
+            && self.names.find_index(key) == Ok(self.checked.find_index(key))
+    }
+
+    /// Whether it has the entries of a table.
+    pub fn has_entries_of(&self, table: &NameTable<'_>) -> bool {
+        let number = table.len();
+        let mut alike = self.names.len() == number && self.checked.len() == number;
+        alike &= self.names.is_empty() == table.is_empty();
+        for place in 0..=number {
+            let entry = table.get_indexed(place);
+            alike &= self.checked.get_indexed(place) == entry;
+            alike &= self.names.get_indexed(place) == Ok(entry);
+        }
+        alike
+    }
+}
+
+/// Whether bytes are opened alike both ways, but for what reading them all finds, and answer alike at the keys of an index.
+pub fn is_opened_alike(bytes: &[u8], keys: &CheckedNames<'_>) -> bool {
+    let Ok(both) = BothWays::open(bytes) else {
+        return is_asked_in_peace(bytes, keys);
+    };
+    let mut alike = true;
+    for place in 0..keys.len() {
+        if let Some((key, value)) = keys.get_indexed(place) {
+            alike &= both.is_one(key) && both.is_one(value);
+        }
+    }
+    alike
+}
+
+// Asks bytes that are no index for the keys of one: each look-up comes back, and where opening is refused so is reading.
+fn is_asked_in_peace(bytes: &[u8], keys: &CheckedNames<'_>) -> bool {
+    let Ok(names) = IndexedNames::open(bytes) else {
+        return IndexedNames::open_checked(bytes).is_err();
+    };
+    let mut faults = 0usize;
+    for place in 0..keys.len() {
+        if let Some((key, _)) = keys.get_indexed(place) {
+            faults = faults.wrapping_add(usize::from(names.get(key).is_err()));
+        }
+    }
+    faults <= keys.len()
+}
