@@ -1,8 +1,10 @@
--- Which name a language has.
+-- Which name a language has, and which text a word.
 use Rattle.std.specs.Prelude.{◌≡◌, ℕ, List, Option, Some, None}
+use Rattle.std.specs.Option.{unwrap_or}
 use Rattle.litemap.specs.ByBytes.{by_bytes}
 use Rattle.litemap_store.specs.Pairs.{value_at}
 use Rattle.name_table.specs.Reads.{IsFound, Text}
+use Rattle.name_index.specs.Tables.{text_order}
 
 -- the name that was found in the bytes, or else the one in the table
 abbrev pub name_of : Option (ℕ × Text) → Option Text → Option Text
@@ -14,3 +16,7 @@ pub record IsNamed (bytes : List ℕ) (table : List (Text × Text)) (code : Text
   pub there : Option (ℕ × Text)
   pub found : IsFound bytes code there
   pub name_is : name ≡ name_of there (value_at by_bytes table code)
+
+-- the text is what the pairs have at the word, or else the word itself
+abbrev pub IsTranslated : List (List ℕ × List ℕ) → List ℕ → List ℕ → Type 0
+IsTranslated pairs word text = text ≡ unwrap_or (value_at text_order pairs word) word

@@ -112,7 +112,7 @@ impl<'a> BothWays<'a> {
 /// Whether bytes are opened alike both ways, but for what reading them all finds, and answer alike at the keys of an index.
 pub fn is_opened_alike(bytes: &[u8], keys: &CheckedNames<'_>) -> bool {
     let Ok(both) = BothWays::open(bytes) else {
-        return is_asked_in_peace(bytes, keys);
+        return is_asked_within(bytes, keys);
     };
     let mut alike = true;
     for place in 0..keys.len() {
@@ -123,16 +123,22 @@ pub fn is_opened_alike(bytes: &[u8], keys: &CheckedNames<'_>) -> bool {
     alike
 }
 
-// Asks bytes that are no index for the keys of one: each look-up comes back, and where opening is refused so is reading.
-fn is_asked_in_peace(bytes: &[u8], keys: &CheckedNames<'_>) -> bool {
+// Whether bytes that are no index answer for the keys of one by places within their number, where they answer at all. Where
+// opening is refused so is reading.
+fn is_asked_within(bytes: &[u8], keys: &CheckedNames<'_>) -> bool {
     let Ok(names) = IndexedNames::open(bytes) else {
         return IndexedNames::open_checked(bytes).is_err();
     };
-    let mut faults = 0usize;
+    let mut within = true;
     for place in 0..keys.len() {
         if let Some((key, _)) = keys.get_indexed(place) {
-            faults = faults.wrapping_add(usize::from(names.get(key).is_err()));
+            let _value = names.get(key);
+            within &= match names.find_index(key) {
+                Ok(Ok(index)) => index < names.len(),
+                Ok(Err(index)) => index <= names.len(),
+                Err(_) => true,
+            };
         }
     }
-    faults <= keys.len()
+    within
 }

@@ -1,4 +1,4 @@
-//! A caller of name tables (`languages`), and a program that reads and writes them: each line of standard input asks for
+//! Callers of name tables (`languages`, `words`), and a program that reads and writes them: each line of standard input asks for
 //! something of a table, and standard output has what answers it.
 //!
 //! A line is words parted by one space. Bytes are given in hexadecimal, and `-` stands for none.
@@ -32,6 +32,7 @@ mod slow;
 mod sweeps;
 mod tables;
 mod texts;
+pub mod words;
 
 use std::io;
 
