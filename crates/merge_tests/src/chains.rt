@@ -1,6 +1,7 @@
 //! Merges that go on from one another: what each leaves over, and what the map then has.
 use litemap::LiteMap;
 use litemap::store::{ColumnStore, StoreIntoIterator};
+use litemap_short::ShortStore;
 use std::alloc::{AllocError, Global};
 use std::test::Fail;
 use test_support::fixed_room::FixedRoom;
@@ -90,8 +91,9 @@ fn merges_go_on_from_one_another(rt: HostRuntime) -> Result<(), Fail> {
             goes_on::<Text, Vec<(u32, Text)>>(alloc, chain)?,
             goes_on::<Text, FixedRoom<u32, Text>>(alloc, chain)?,
             goes_on::<Text, ColumnStore<u32, Text>>(alloc, chain)?,
+            goes_on::<Text, ShortStore<u32, Text>>(alloc, chain)?,
         ];
-        assert_eq!(rt; right, [true; 3]);
+        assert_eq!(rt; right, [true; 4]);
     }
     Ok(())
 }

@@ -1,6 +1,7 @@
 //! How often a merge compares, the comparisons of the counts and all others together.
 use litemap::LiteMap;
 use litemap::store::{ColumnStore, StoreIntoIterator};
+use litemap_short::ShortStore;
 use std::alloc::{AllocError, Global};
 use std::cell::Cell;
 use std::test::Fail;
@@ -90,7 +91,8 @@ fn merges_compare_as_often_as_promised(rt: HostRuntime) -> Result<(), Fail> {
         first_wrong::<Vec<(Counted<'_>, u32)>>(alloc, &made)?,
         first_wrong::<FixedRoom<Counted<'_>, u32>>(alloc, &made)?,
         first_wrong::<ColumnStore<Counted<'_>, u32>>(alloc, &made)?,
+        first_wrong::<ShortStore<Counted<'_>, u32>>(alloc, &made)?,
     ];
-    assert_eq!(rt; wrong, [None; 3]);
+    assert_eq!(rt; wrong, [None; 4]);
     Ok(())
 }

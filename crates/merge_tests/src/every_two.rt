@@ -4,6 +4,7 @@
 //! pairs, which are put in one by one, and many, which are merged side by side.
 use crate::merging::{Pairs, is_told, merge, text_of};
 use litemap::store::{ColumnStore, StoreIntoIterator};
+use litemap_short::ShortStore;
 use std::alloc::{AllocError, Global};
 use std::test::Fail;
 use test_support::fixed_room::FixedRoom;
@@ -79,28 +80,30 @@ fn left_over(
     Ok(left)
 }
 
-// Whether a map of letters and another are merged as by the scan.
+// Whether a map of letters and another, each made with this much room, are merged as by the scan.
 fn is_merged<S: StoreIntoIterator<Letter, u8> + Drop>(
     alloc: Global,
     old: u32,
     new: u32,
+    room: usize,
 ) -> Result<bool, AllocError> {
     let old = pairs_of(alloc, old, b'a', 0)?;
     let new = pairs_of(alloc, new, b'A', 100)?;
     let all = text_of(alloc, &merged(alloc, &old, &new)?)?;
     let left = text_of(alloc, &left_over(alloc, &old, &new)?)?;
-    Ok(is_told(&merge::<S>(alloc, &old, &new)?, &all, &left))
+    Ok(is_told(&merge::<S>(alloc, &old, &new, room)?, &all, &left))
 }
 
 // The letters of the first two maps that are not merged as by the scan.
 fn first_wrong<S: StoreIntoIterator<Letter, u8> + Drop>(
     alloc: Global,
+    room: usize,
 ) -> Result<Option<(u32, u32)>, AllocError> {
     for (further_old, further_new) in FURTHER {
         for number in 0..SETS * SETS {
             let old = letters_of(number % SETS) | set_of(further_old);
             let new = letters_of(number / SETS) | set_of(further_new);
-            if !is_merged::<S>(alloc, old, new)? {
+            if !is_merged::<S>(alloc, old, new, room)? {
                 return Ok(Some((old, new)));
             }
         }
@@ -112,10 +115,11 @@ fn first_wrong<S: StoreIntoIterator<Letter, u8> + Drop>(
 fn maps_are_merged_as_by_the_scan(rt: HostRuntime) -> Result<(), Fail> {
     let alloc = rt.alloc();
     let wrong = [
-        first_wrong::<Vec<(Letter, u8)>>(alloc)?,
-        first_wrong::<FixedRoom<Letter, u8>>(alloc)?,
-        first_wrong::<ColumnStore<Letter, u8>>(alloc)?,
+        first_wrong::<Vec<(Letter, u8)>>(alloc, 40)?,
+        first_wrong::<FixedRoom<Letter, u8>>(alloc, 40)?,
+        first_wrong::<ColumnStore<Letter, u8>>(alloc, 40)?,
+        first_wrong::<ShortStore<Letter, u8>>(alloc, 0)?,
     ];
-    assert_eq!(rt; wrong, [None; 3]);
+    assert_eq!(rt; wrong, [None; 4]);
     Ok(())
 }

@@ -56,14 +56,15 @@ fn told<S: Store<Letter, u8>>(
     text_of(alloc, &list_of(alloc, map)?)
 }
 
-/// Merges the map of a list into that of another.
+/// Merges the map of a list into that of another. Each is made with this much room.
 pub fn merge<S: StoreIntoIterator<Letter, u8> + Drop>(
     alloc: Global,
     old: &[(Letter, u8)],
     new: &[(Letter, u8)],
+    room: usize,
 ) -> Result<Merged, AllocError> {
-    let mut map: LiteMap<Letter, u8, S> = map_of(alloc, old, 40)?;
-    let other: LiteMap<Letter, u8, S> = map_of(alloc, new, 40)?;
+    let mut map: LiteMap<Letter, u8, S> = map_of(alloc, old, room)?;
+    let other: LiteMap<Letter, u8, S> = map_of(alloc, new, room)?;
     let rest = match map.extend_from_litemap(alloc, other)? {
         None => None,
         Some(rest) => Some(told(alloc, &rest)?),

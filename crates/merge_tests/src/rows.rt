@@ -1,6 +1,7 @@
 //! Maps that are merged, from a table: the pairs of both, what is left over, and the pairs of the merge.
 use crate::merging::{is_told, merge, pairs_of};
 use litemap::store::{ColumnStore, StoreIntoIterator};
+use litemap_short::ShortStore;
 use std::alloc::{AllocError, Global};
 use std::test::Fail;
 use test_support::fixed_room::FixedRoom;
@@ -50,12 +51,13 @@ const ROWS: &[(Text, Text, Text, Text)] = &[
     ),
 ];
 
-// The place of the first row that a merge doesn't keep to.
+// The place of the first row that a merge of maps made with this much room doesn't keep to.
 fn first_wrong<S: StoreIntoIterator<Letter, u8> + Drop>(
     alloc: Global,
+    room: usize,
 ) -> Result<Option<usize>, AllocError> {
     for (place, (old, new, left, all)) in ROWS.iter().enumerate() {
-        let merged = merge::<S>(alloc, &pairs_of(alloc, old)?, &pairs_of(alloc, new)?)?;
+        let merged = merge::<S>(alloc, &pairs_of(alloc, old)?, &pairs_of(alloc, new)?, room)?;
         if !is_told(&merged, all, left) {
             return Ok(Some(place));
         }
@@ -67,10 +69,11 @@ fn first_wrong<S: StoreIntoIterator<Letter, u8> + Drop>(
 fn maps_are_merged(rt: HostRuntime) -> Result<(), Fail> {
     let alloc = rt.alloc();
     let wrong = [
-        first_wrong::<Vec<(Letter, u8)>>(alloc)?,
-        first_wrong::<FixedRoom<Letter, u8>>(alloc)?,
-        first_wrong::<ColumnStore<Letter, u8>>(alloc)?,
+        first_wrong::<Vec<(Letter, u8)>>(alloc, 40)?,
+        first_wrong::<FixedRoom<Letter, u8>>(alloc, 40)?,
+        first_wrong::<ColumnStore<Letter, u8>>(alloc, 40)?,
+        first_wrong::<ShortStore<Letter, u8>>(alloc, 0)?,
     ];
-    assert_eq!(rt; wrong, [None; 3]);
+    assert_eq!(rt; wrong, [None; 4]);
     Ok(())
 }

@@ -1,6 +1,7 @@
 //! Merges of so many pairs that each way of merging is met, and of the sizes where one way gives place to another.
 use litemap::LiteMap;
 use litemap::store::{ColumnStore, StoreIntoIterator};
+use litemap_short::ShortStore;
 use std::alloc::{AllocError, Global};
 use std::test::Fail;
 use test_support::fixed_room::FixedRoom;
@@ -47,11 +48,12 @@ fn pairs_of(
         .collect(alloc)
 }
 
-// Whether the merge of two lists is what a scan makes of them, and what is left over too.
+// Whether the merge of two lists, in maps made with this much room, is what a scan makes of them, and what is left over too.
 fn is_merged<S: StoreIntoIterator<u32, u32> + Drop>(
     alloc: Global,
     old: &[(u32, u32)],
     new: &[(u32, u32)],
+    room: usize,
 ) -> Result<bool, AllocError> {
     let mut all = Vec::from_slice(alloc, old)?;
     let mut left = Vec::new(alloc);
@@ -61,8 +63,8 @@ fn is_merged<S: StoreIntoIterator<u32, u32> + Drop>(
         }
         all = by_scan::put(alloc, &all, *key, *value)?;
     }
-    let mut map: LiteMap<u32, u32, S> = map_of(alloc, old, 450)?;
-    let other: LiteMap<u32, u32, S> = map_of(alloc, new, 450)?;
+    let mut map: LiteMap<u32, u32, S> = map_of(alloc, old, room)?;
+    let other: LiteMap<u32, u32, S> = map_of(alloc, new, room)?;
     let rest = match map.extend_from_litemap(alloc, other)? {
         None => Vec::new(alloc),
         Some(rest) => list_of(alloc, &rest)?,
@@ -73,12 +75,13 @@ fn is_merged<S: StoreIntoIterator<u32, u32> + Drop>(
 // The first sizes and places that are merged in another way than by the scan.
 fn first_wrong<S: StoreIntoIterator<u32, u32> + Drop>(
     alloc: Global,
+    room: usize,
 ) -> Result<Option<(u32, u32, u32, u32)>, AllocError> {
     for (old_len, new_len) in SIZES {
         let old = pairs_of(alloc, (10, 10), *old_len, 1)?;
         for (first, step) in PLACES {
             let new = pairs_of(alloc, (*first, *step), *new_len, 1000)?;
-            if !is_merged::<S>(alloc, &old, &new)? {
+            if !is_merged::<S>(alloc, &old, &new, room)? {
                 return Ok(Some((*old_len, *new_len, *first, *step)));
             }
         }
@@ -90,10 +93,11 @@ fn first_wrong<S: StoreIntoIterator<u32, u32> + Drop>(
 fn maps_of_all_sizes_are_merged(rt: HostRuntime) -> Result<(), Fail> {
     let alloc = rt.alloc();
     let wrong = [
-        first_wrong::<Vec<(u32, u32)>>(alloc)?,
-        first_wrong::<FixedRoom<u32, u32>>(alloc)?,
-        first_wrong::<ColumnStore<u32, u32>>(alloc)?,
+        first_wrong::<Vec<(u32, u32)>>(alloc, 450)?,
+        first_wrong::<FixedRoom<u32, u32>>(alloc, 450)?,
+        first_wrong::<ColumnStore<u32, u32>>(alloc, 450)?,
+        first_wrong::<ShortStore<u32, u32>>(alloc, 0)?,
     ];
-    assert_eq!(rt; wrong, [None; 3]);
+    assert_eq!(rt; wrong, [None; 4]);
     Ok(())
 }

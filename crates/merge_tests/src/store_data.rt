@@ -2,6 +2,7 @@
 //! and each gap is searched for.
 use litemap::LiteMap;
 use litemap::store::{ColumnStore, Store, StoreBulkMut, StoreIntoIterator, StoreMut};
+use litemap_short::ShortStore;
 use std::alloc::{AllocError, Global};
 use std::test::Fail;
 use test_support::fixed_room::FixedRoom;
@@ -201,8 +202,9 @@ fn twenty_pairs_go_through_all_calls(rt: HostRuntime) -> Result<(), Fail> {
         goes_through::<Vec<(u32, u64)>>(alloc)?,
         goes_through::<FixedRoom<u32, u64>>(alloc)?,
         goes_through::<ColumnStore<u32, u64>>(alloc)?,
+        goes_through::<ShortStore<u32, u64>>(alloc)?,
     ];
-    assert_eq!(rt; right, [true; 3]);
+    assert_eq!(rt; right, [true; 4]);
     Ok(())
 }
 
@@ -256,7 +258,8 @@ fn extensions_go_on_from_one_another(rt: HostRuntime) -> Result<(), Fail> {
         wrong_from_none::<Vec<(u32, u64)>>(alloc, 0)?,
         wrong_from_none::<FixedRoom<u32, u64>>(alloc, 16)?,
         wrong_from_none::<ColumnStore<u32, u64>>(alloc, 0)?,
+        wrong_from_none::<ShortStore<u32, u64>>(alloc, 0)?,
     ];
-    assert_eq!(rt; wrong, [None; 3]);
+    assert_eq!(rt; wrong, [None; 4]);
     Ok(())
 }
