@@ -1,8 +1,9 @@
 //! The scenarios, by name.
 use crate::stores::{self, Growing};
 use crate::texts::{self, GrowingTexts};
-use crate::{bulk, conversions, maps, merge, none, scans};
+use crate::{bulk, conversions, few, maps, merge, none, scans};
 use litemap::store::ColumnStore;
+use litemap_short::ShortStore;
 use own_store::Bounded;
 use refusal_support::{Outcome, Scenarios};
 use std::alloc::Global;
@@ -11,7 +12,7 @@ use std::alloc::Global;
 pub struct Calls;
 
 /// The names of the scenarios.
-const NAMES: [&str; 218] = [
+const NAMES: [&str; 362] = [
     "lm_push",
     "lm_insert",
     "lm_with_capacity",
@@ -102,6 +103,61 @@ const NAMES: [&str; 218] = [
     "to_borrowed_keys_in_columns",
     "to_borrowed_values_in_columns",
     "to_keys_by_in_columns",
+    "lm_push_in_short",
+    "lm_insert_in_short",
+    "lm_with_capacity_in_short",
+    "lm_reserve_in_short",
+    "lm_extend_in_short",
+    "lm_extend_from_vec_in_short",
+    "lm_sort_from_iter_in_short",
+    "lm_sort_from_vec_in_short",
+    "lm_from_pairs_in_short",
+    "lm_extend_end_in_short",
+    "lm_extend_start_in_short",
+    "insert_in_short",
+    "insert_counted_in_short",
+    "try_insert_in_short",
+    "try_append_in_short",
+    "try_get_or_insert_in_short",
+    "try_find_or_insert_in_short",
+    "or_insert_in_short",
+    "or_default_in_short",
+    "or_insert_with_in_short",
+    "vacant_insert_in_short",
+    "with_capacity_in_short",
+    "reserve_in_short",
+    "reserved_entries_in_short",
+    "try_clone_in_short",
+    "from_iter_in_short",
+    "from_iter_counted_in_short",
+    "from_vec_in_short",
+    "from_vec_counted_in_short",
+    "extend_in_short",
+    "extend_behind_in_short",
+    "extend_counted_in_short",
+    "extend_from_vec_in_short",
+    "extend_from_vec_counted_in_short",
+    "extend_from_litemap_in_short",
+    "extend_from_litemap_counted_in_short",
+    "split_off_in_short",
+    "merge_side_by_side_in_short",
+    "to_boxed_keys_values_in_short",
+    "to_boxed_keys_in_short",
+    "to_boxed_values_in_short",
+    "to_borrowed_keys_values_in_short",
+    "to_borrowed_keys_in_short",
+    "to_borrowed_values_in_short",
+    "to_keys_by_in_short",
+    "second_insert_in_short",
+    "second_insert_counted_in_short",
+    "second_try_insert_in_short",
+    "second_try_append_in_short",
+    "second_try_get_or_insert_in_short",
+    "second_try_find_or_insert_in_short",
+    "second_or_insert_in_short",
+    "second_or_default_in_short",
+    "second_or_insert_with_in_short",
+    "second_vacant_insert_in_short",
     "lm_push_in_bounded",
     "lm_insert_in_bounded",
     "lm_with_capacity_in_bounded",
@@ -230,6 +286,95 @@ const NAMES: [&str; 218] = [
     "split_off_all_in_columns",
     "merge_of_empty_in_columns",
     "merge_into_empty_in_columns",
+    "lm_get_in_short",
+    "lm_last_in_short",
+    "lm_get_mut_in_short",
+    "lm_replace_in_short",
+    "lm_remove_in_short",
+    "lm_retain_in_short",
+    "lm_clear_in_short",
+    "len_in_short",
+    "first_in_short",
+    "last_in_short",
+    "get_indexed_in_short",
+    "get_in_short",
+    "get_counted_in_short",
+    "contains_key_in_short",
+    "find_index_in_short",
+    "get_key_value_in_short",
+    "places_in_short",
+    "places_counted_in_short",
+    "equal_in_short",
+    "cmp_in_short",
+    "partial_cmp_in_short",
+    "hash_in_short",
+    "clear_in_short",
+    "retain_in_short",
+    "remove_in_short",
+    "remove_counted_in_short",
+    "remove_entry_in_short",
+    "pop_first_in_short",
+    "pop_last_in_short",
+    "update_in_short",
+    "get_mut_in_short",
+    "get_indexed_mut_in_short",
+    "insert_there_in_short",
+    "insert_counted_there_in_short",
+    "try_insert_there_in_short",
+    "try_append_below_in_short",
+    "try_get_or_insert_there_in_short",
+    "try_find_or_insert_there_in_short",
+    "entry_vacant_in_short",
+    "entry_or_insert_in_short",
+    "entry_or_default_in_short",
+    "entry_or_insert_with_in_short",
+    "entry_and_modify_in_short",
+    "entry_get_in_short",
+    "entry_key_in_short",
+    "entry_insert_in_short",
+    "entry_remove_in_short",
+    "entry_into_mut_in_short",
+    "iter_in_short",
+    "keys_in_short",
+    "values_in_short",
+    "into_iter_in_short",
+    "from_sorted_store_unchecked_in_short",
+    "split_off_none_in_short",
+    "split_off_all_in_short",
+    "merge_of_empty_in_short",
+    "merge_into_empty_in_short",
+    "as_slice_in_short",
+    "as_sliced_in_short",
+    "get_indexed_range_in_short",
+    "range_in_short",
+    "first_insert_in_short",
+    "first_insert_counted_in_short",
+    "first_try_insert_in_short",
+    "first_try_append_in_short",
+    "first_try_get_or_insert_in_short",
+    "first_try_find_or_insert_in_short",
+    "first_or_insert_in_short",
+    "first_or_default_in_short",
+    "first_or_insert_with_in_short",
+    "first_vacant_insert_in_short",
+    "none_with_capacity_in_short",
+    "none_with_capacity_of_one_in_short",
+    "none_reserve_in_short",
+    "none_try_clone_in_short",
+    "none_into_iter_in_short",
+    "one_try_clone_in_short",
+    "one_clear_in_short",
+    "one_remove_in_short",
+    "one_retain_in_short",
+    "one_split_off_none_in_short",
+    "one_split_off_all_in_short",
+    "one_merge_of_empty_in_short",
+    "one_merge_into_empty_in_short",
+    "one_to_borrowed_keys_values_in_short",
+    "one_to_borrowed_keys_in_short",
+    "one_to_borrowed_values_in_short",
+    "one_to_keys_by_in_short",
+    "one_into_iter_in_short",
 ];
 
 impl Scenarios for Calls {
@@ -243,6 +388,9 @@ impl Scenarios for Calls {
         }
         if let Some(call) = name.strip_suffix("_in_bounded") {
             return stores::run::<Bounded<u32, u32, 8>>(alloc, call);
+        }
+        if let Some(call) = name.strip_suffix("_in_short") {
+            return run_in_short(alloc, call);
         }
         match name.strip_suffix("_in_columns") {
             Some(call) => {
@@ -259,6 +407,17 @@ impl Scenarios for Calls {
                 },
             },
         }
+    }
+}
+
+// Runs the scenario of a call over a short store.
+fn run_in_short(alloc: Global, name: &str) -> Option<Outcome> {
+    if let Some(outcome) = few::run(alloc, name) {
+        return Some(outcome);
+    }
+    match run_over::<ShortStore<u32, u32>, ShortStore<String, String>>(alloc, name) {
+        None => none::run_in_short(alloc, name),
+        outcome => outcome,
     }
 }
 

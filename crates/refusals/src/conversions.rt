@@ -3,6 +3,7 @@ use crate::texts::{PAIR, Texts, texts};
 use crate::told::{are_words, is_pair};
 use litemap::LiteMap;
 use litemap::store::{ColumnStore, StoreMut};
+use litemap_short::ShortStore;
 use refusal_support::{Outcome, room_left};
 use std::alloc::{AllocError, Global};
 
@@ -12,61 +13,103 @@ type Named = Texts<Vec<(String, String)>>;
 
 const WORDS: [(u32, &str); 2] = [(1, "one"), (2, "two")];
 
+// A kind of store that a conversion makes a map over.
+#[derive(Clone, Copy)]
+enum Into {
+    // A vector of pairs.
+    Vector,
+    // Two columns.
+    Columns,
+    // A short store.
+    Short,
+}
+
+// The kind of store that a name ends in, and the name of the call.
+fn parts_of(name: &str) -> (Into, &str) {
+    if let Some(call) = name.strip_suffix("_in_columns") {
+        return (Into::Columns, call);
+    }
+    match name.strip_suffix("_in_short") {
+        Some(call) => (Into::Short, call),
+        None => (Into::Vector, name),
+    }
+}
+
 /// Runs the scenario of a conversion, if there is one of this name.
 pub(crate) fn run(alloc: Global, name: &str) -> Option<Outcome> {
-    let takes_words = match name.strip_suffix("_in_columns").unwrap_or(name) {
+    let (store, call) = parts_of(name);
+    match call {
         "to_boxed_keys_values"
         | "to_boxed_keys"
         | "to_borrowed_keys_values"
         | "to_borrowed_keys"
-        | "to_keys_by" => true,
-        "to_boxed_values" | "to_borrowed_values" => false,
-        _ => return None,
-    };
-    if takes_words {
-        return match words(alloc) {
-            Some(map) => of_words(alloc, &map, name),
+        | "to_keys_by" => match words(alloc) {
+            Some(map) => of_words(alloc, &map, store, call),
             None => Some(Outcome::Refused),
-        };
-    }
-    match texts(alloc) {
-        Some(map) => of_texts(alloc, &map, name),
-        None => Some(Outcome::Refused),
+        },
+        "to_boxed_values" | "to_borrowed_values" => match texts(alloc) {
+            Some(map) => of_texts(alloc, &map, store, call),
+            None => Some(Outcome::Refused),
+        },
+        _ => None,
     }
 }
 
 // Runs a scenario whose map has numbers as keys.
-fn of_words(alloc: Global, map: &Words, name: &str) -> Option<Outcome> {
-    let made = match name {
-        "to_boxed_keys_values" => boxed_both::<Vec<(Box<u32>, Box<String>)>>(alloc, map),
-        "to_boxed_keys" => boxed_keys::<Vec<(Box<u32>, String)>>(alloc, map),
-        "to_borrowed_keys_values" => lent_both::<Vec<(&u32, &String)>>(alloc, map),
-        "to_borrowed_keys" => lent_keys::<Vec<(&u32, String)>>(alloc, map),
-        "to_keys_by" => keys_by::<Vec<(u64, String)>>(alloc, map),
-        "to_boxed_keys_values_in_columns" => {
+fn of_words(alloc: Global, map: &Words, store: Into, call: &str) -> Option<Outcome> {
+    let made = match (call, store) {
+        ("to_boxed_keys_values", Into::Vector) => {
+            boxed_both::<Vec<(Box<u32>, Box<String>)>>(alloc, map)
+        }
+        ("to_boxed_keys_values", Into::Columns) => {
             boxed_both::<ColumnStore<Box<u32>, Box<String>>>(alloc, map)
         }
-        "to_boxed_keys_in_columns" => boxed_keys::<ColumnStore<Box<u32>, String>>(alloc, map),
-        "to_borrowed_keys_values_in_columns" => {
+        ("to_boxed_keys_values", Into::Short) => {
+            boxed_both::<ShortStore<Box<u32>, Box<String>>>(alloc, map)
+        }
+        ("to_boxed_keys", Into::Vector) => boxed_keys::<Vec<(Box<u32>, String)>>(alloc, map),
+        ("to_boxed_keys", Into::Columns) => {
+            boxed_keys::<ColumnStore<Box<u32>, String>>(alloc, map)
+        }
+        ("to_boxed_keys", Into::Short) => boxed_keys::<ShortStore<Box<u32>, String>>(alloc, map),
+        ("to_borrowed_keys_values", Into::Vector) => {
+            lent_both::<Vec<(&u32, &String)>>(alloc, map)
+        }
+        ("to_borrowed_keys_values", Into::Columns) => {
             lent_both::<ColumnStore<&u32, &String>>(alloc, map)
         }
-        "to_borrowed_keys_in_columns" => lent_keys::<ColumnStore<&u32, String>>(alloc, map),
-        "to_keys_by_in_columns" => keys_by::<ColumnStore<u64, String>>(alloc, map),
+        ("to_borrowed_keys_values", Into::Short) => {
+            lent_both::<ShortStore<&u32, &String>>(alloc, map)
+        }
+        ("to_borrowed_keys", Into::Vector) => lent_keys::<Vec<(&u32, String)>>(alloc, map),
+        ("to_borrowed_keys", Into::Columns) => lent_keys::<ColumnStore<&u32, String>>(alloc, map),
+        ("to_borrowed_keys", Into::Short) => lent_keys::<ShortStore<&u32, String>>(alloc, map),
+        ("to_keys_by", Into::Vector) => keys_by::<Vec<(u64, String)>>(alloc, map),
+        ("to_keys_by", Into::Columns) => keys_by::<ColumnStore<u64, String>>(alloc, map),
+        ("to_keys_by", Into::Short) => keys_by::<ShortStore<u64, String>>(alloc, map),
         _ => return None,
     };
     Some(ended(made, are_words(map, &WORDS)))
 }
 
 // Runs a scenario whose map has texts as keys, which take memory too.
-fn of_texts(alloc: Global, map: &Named, name: &str) -> Option<Outcome> {
-    let made = match name {
-        "to_boxed_values" => boxed_values::<Vec<(String, Box<String>)>>(alloc, map),
-        "to_borrowed_values" => lent_values::<Vec<(String, &String)>>(alloc, map),
-        "to_boxed_values_in_columns" => {
+fn of_texts(alloc: Global, map: &Named, store: Into, call: &str) -> Option<Outcome> {
+    let made = match (call, store) {
+        ("to_boxed_values", Into::Vector) => {
+            boxed_values::<Vec<(String, Box<String>)>>(alloc, map)
+        }
+        ("to_boxed_values", Into::Columns) => {
             boxed_values::<ColumnStore<String, Box<String>>>(alloc, map)
         }
-        "to_borrowed_values_in_columns" => {
+        ("to_boxed_values", Into::Short) => {
+            boxed_values::<ShortStore<String, Box<String>>>(alloc, map)
+        }
+        ("to_borrowed_values", Into::Vector) => lent_values::<Vec<(String, &String)>>(alloc, map),
+        ("to_borrowed_values", Into::Columns) => {
             lent_values::<ColumnStore<String, &String>>(alloc, map)
+        }
+        ("to_borrowed_values", Into::Short) => {
+            lent_values::<ShortStore<String, &String>>(alloc, map)
         }
         _ => return None,
     };

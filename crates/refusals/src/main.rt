@@ -1,12 +1,13 @@
 //! Shows what each call of a store or a map answers where one of its requests for memory is refused.
 //!
-//! Each scenario runs over a vector and, under a name that ends in `_in_columns`, over two columns. The lines that it
-//! reads are those of `refusal_support::run_lines`.
+//! Each scenario runs over a vector and, under a name that ends in `_in_columns`, over two columns, and in `_in_short` over a
+//! short store. The lines that it reads are those of `refusal_support::run_lines`.
 #![tactic(auto)]
 
 mod bulk;
 mod calls;
 mod conversions;
+mod few;
 mod maps;
 mod merge;
 mod none;

@@ -21,34 +21,34 @@ pub(crate) fn run<S: StoreConstEmpty<u32, u32> + StoreMut<u32, u32> + Drop>(
     }
 }
 
-// A call that puts a pair with an absent key in.
+/// A call that puts a pair with an absent key in.
 #[derive(Clone, Copy)]
-enum Put {
-    // `insert`.
+pub(crate) enum Put {
+    /// `insert`.
     Insert,
-    // `insert_counted`.
+    /// `insert_counted`.
     InsertCounted,
-    // `try_insert`.
+    /// `try_insert`.
     TryInsert,
-    // `try_append`.
+    /// `try_append`.
     TryAppend,
-    // `try_get_or_insert`.
+    /// `try_get_or_insert`.
     TryGetOrInsert,
-    // `try_find_or_insert`.
+    /// `try_find_or_insert`.
     TryFindOrInsert,
-    // `or_insert` of an entry.
+    /// `or_insert` of an entry.
     OrInsert,
-    // `or_default` of an entry.
+    /// `or_default` of an entry.
     OrDefault,
-    // `or_insert_with` of an entry.
+    /// `or_insert_with` of an entry.
     OrInsertWith,
-    // `insert` of the entry of an absent key.
+    /// `insert` of the entry of an absent key.
     VacantInsert,
 }
 
 impl Put {
-    // The call of a name, if there is one.
-    fn of_name(name: &str) -> Option<Put> {
+    /// The call of a name, if there is one.
+    pub(crate) fn of_name(name: &str) -> Option<Put> {
         match name {
             "insert" => Some(Put::Insert),
             "insert_counted" => Some(Put::InsertCounted),
@@ -84,8 +84,8 @@ fn grow<S: StoreConstEmpty<u32, u32> + StoreMut<u32, u32> + Drop>(
     Outcome::answered(has(&map, &PAIRS))
 }
 
-// Puts in a pair whose key is above all others, and gives whether the answer was right.
-fn put_pair<S: StoreMut<u32, u32>>(
+/// Puts in a pair whose key is above all others, and gives whether the answer was right.
+pub(crate) fn put_pair<S: StoreMut<u32, u32>>(
     map: &mut Numbers<S>,
     call: Put,
     key: u32,

@@ -1,8 +1,11 @@
 //! The calls that take no memory, on maps of 1,000 pairs that are made by the first requests.
 use crate::maps::Numbers;
 use crate::stores::Growing;
-use litemap::store::{ColumnStore, Count, Store, StoreBulkMut, StoreIterable, StoreMut};
+use litemap::store::{
+    ColumnStore, Count, Store, StoreBulkMut, StoreIterable, StoreMut, StoreSlice,
+};
 use litemap::{Entry, LiteMap};
+use litemap_short::ShortStore;
 use refusal_support::Outcome;
 use std::alloc::{AllocError, Global};
 use std::hash::{FoldHasher, Hash, Hasher};
@@ -23,19 +26,26 @@ const LENDING: [&str; 8] = [
 // How many pairs a map has: the odd keys from 1 on, each with its place as its value.
 const LEN: u32 = 1000;
 
-/// Runs the scenario of a call over a vector that is one of a vector alone, or of a walk, if there is one of this name.
+/// Runs the scenario of a call over a vector that is one of a vector alone, of a view, or of a walk, if there is one of this
+/// name.
 pub(crate) fn run_in_vector(alloc: Global, name: &str) -> Option<Outcome> {
     let mut map: Numbers<Vec<(u32, u32)>> = filled(alloc).ok()?;
-    let is_right = match name {
-        "as_slice" => map.as_slice().len() == map.len(),
-        "as_sliced" => map.as_sliced().get(&1) == Some(&0),
-        "get_indexed_range" => match map.get_indexed_range(1..map.len()) {
-            Some(part) => part.first() == Some((&3, &1)),
-            None => false,
-        },
-        "range" => map.range(Bound::Included(&2), Bound::Unbounded).first() == Some((&3, &1)),
-        "into_tuple_vec" => return Some(Outcome::answered(map.into_tuple_vec().len() == 1000)),
-        _ => walks(&map, name)?,
+    if name == "into_tuple_vec" {
+        return Some(Outcome::answered(map.into_tuple_vec().len() == 1000));
+    }
+    let is_right = match views(&map, name) {
+        Some(is_right) => is_right,
+        None => walks(&map, name)?,
+    };
+    Some(Outcome::left(&mut map, is_right))
+}
+
+/// Runs the scenario of a view or a walk over a short store, if there is one of this name.
+pub(crate) fn run_in_short(alloc: Global, name: &str) -> Option<Outcome> {
+    let mut map: Numbers<ShortStore<u32, u32>> = filled(alloc).ok()?;
+    let is_right = match views(&map, name) {
+        Some(is_right) => is_right,
+        None => walks(&map, name)?,
     };
     Some(Outcome::left(&mut map, is_right))
 }
@@ -221,6 +231,23 @@ fn through_entry<S: StoreMut<u32, u32>>(map: &mut Numbers<S>, name: &str) -> Opt
                     _ => Some(*entry.into_mut() == 1),
                 },
             }
+        }
+        _ => None,
+    }
+}
+
+// A view of a map: whether it lends what it has to, `None` where there is no such view.
+fn views<S: StoreSlice<u32, u32>>(map: &Numbers<S>, name: &str) -> Option<bool> {
+    match name {
+        "as_slice" => Some(map.as_slice().len() == map.len()),
+        "as_sliced" => Some(map.as_sliced().get(&1) == Some(&0)),
+        "get_indexed_range" => match map.get_indexed_range(1..map.len()) {
+            Some(part) => Some(part.first() == Some((&3, &1))),
+            None => Some(false),
+        },
+        "range" => {
+            let later = map.range(Bound::Included(&2), Bound::Unbounded);
+            Some(later.first() == Some((&3, &1)))
         }
         _ => None,
     }

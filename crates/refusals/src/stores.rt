@@ -3,6 +3,7 @@ use litemap::store::{
     ColumnStore, NoRoom, Store, StoreBulkMut, StoreConstEmpty, StoreFromIterable,
     StoreFromIterator, StoreIntoIterator, StoreMut,
 };
+use litemap_short::ShortStore;
 use refusal_support::Outcome;
 use refusal_support::pairs::{PAIRS, holds};
 use std::alloc::Global;
@@ -17,6 +18,8 @@ pub trait Growing: StoreConstEmpty<u32, u32>
 impl Growing for Vec<(u32, u32)> {}
 
 impl Growing for ColumnStore<u32, u32> {}
+
+impl Growing for ShortStore<u32, u32> {}
 
 /// Runs the scenario of a call over a kind of store, if there is one of this name.
 pub(crate) fn run<S: StoreConstEmpty<u32, u32> + StoreMut<u32, u32> + Drop>(

@@ -2,6 +2,7 @@
 use crate::told::is_pair;
 use litemap::LiteMap;
 use litemap::store::{ColumnStore, StoreConstEmpty, StoreMut};
+use litemap_short::ShortStore;
 use refusal_support::Outcome;
 use std::alloc::Global;
 
@@ -11,6 +12,8 @@ pub trait GrowingTexts: StoreConstEmpty<String, String> + StoreMut<String, Strin
 impl GrowingTexts for Vec<(String, String)> {}
 
 impl GrowingTexts for ColumnStore<String, String> {}
+
+impl GrowingTexts for ShortStore<String, String> {}
 
 /// A map of texts.
 pub type Texts<S> = LiteMap<String, String, S>;
