@@ -1,11 +1,12 @@
 //! How often each word stands in a list.
-ghost use Rattle.std.specs.Prelude.{◌≡◌, ◌+◌, ◌<◌, IfOk, OnOk, OnErr, unwrap_or};
+ghost use Rattle.std.specs.Prelude.{◌≡◌, ◌≢◌, ◌==◌, ◌+◌, ◌<◌, IfOk, OnOk, OnErr, Some, filter, string_bytes, unwrap_or};
 ghost use Rattle.std.specs.List.{count_by};
 ghost use Rattle.std.specs.Ordering.{is_eq};
 ghost use Rattle.litemap_store.specs.Pairs.{put, value_at};
+ghost use Rattle.litemap_store.specs.Queries.{by_text};
 
-use litemap::LiteMap;
 use litemap::store::{NoRoom, StoreMut};
+use litemap::{LiteMap, VecMap};
 use std::alloc::{AllocError, Global};
 
 /// Counts a word once more. A word that is not there yet counts one.
@@ -35,4 +36,28 @@ pub fn count_words<K: Ord + Copy>(
         count_word(&mut counts, *word)?;
     }
     Ok(counts)
+}
+
+/// How often each name came.
+pub type Names = VecMap<String, u32>;
+
+/// Counts a name once more. All others stay.
+#[tactic(auto, using(litemap::proofs::Texts::text_entries))]
+pub fn count_name(names: &mut Names, name: String) -> Result<(), AllocError>
+    requires { unwrap_or (value_at by_text names.old.pairs (string_bytes name)) 0 < u32.MAX }
+    ensures counted { OnOk result (value_at by_text names.new.pairs (string_bytes name)
+        ≡ Some (unwrap_or (value_at by_text names.old.pairs (string_bytes name)) 0 + 1)) }
+    ensures others { OnOk result ((other : _) → other ≢ string_bytes name
+        → value_at by_text names.new.pairs other ≡ value_at by_text names.old.pairs other) }
+    ensures refused { OnErr result (names.new.pairs ≡ names.old.pairs) }
+{
+    names.entry(name).and_modify(|n| *n += 1).or_insert(1)?;
+    Ok(())
+}
+
+/// Keeps the names that came once.
+pub fn keep_single(names: &mut Names)
+    ensures { names.new.pairs ≡ filter (λ p. p.1 == 1) names.old.pairs }
+{
+    names.retain(|_, n| *n == 1);
 }
