@@ -1,4 +1,5 @@
 //! What bytes answer that are an index of names.
+use crate::words;
 use name_index::{CheckedNames, IndexFault, IndexedNames, NameTable, write_index};
 use name_table::read_names;
 use std::alloc::{AllocError, Global};
@@ -87,6 +88,11 @@ impl<'a> BothWays<'a> {
             && self.checked.find_index(key) == place
             && self.names.get(key) == Ok(value)
             && self.names.find_index(key) == Ok(place)
+    }
+
+    /// Whether it has the text for a word.
+    pub fn is_translated(&self, word: &str, text: &str) -> bool {
+        words::by_checked(&self.checked, word) == text && words::by_index(&self.names, word) == text
     }
 
     // Whether it answers for a key alike both ways.

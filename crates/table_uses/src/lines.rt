@@ -37,6 +37,7 @@ fn answer(
         ["name", code] => write_name(alloc, code, bytes, output),
         ["table"] => tables::write_table(alloc, bytes, output),
         ["ask", key] => tables::write_asked(alloc, key, bytes, output),
+        ["word", word] => tables::write_translated(alloc, word, bytes, output),
         ["index"] => indexes::write_digits(alloc, bytes, output),
         ["opened"] => indexes::write_opened(bytes, output),
         ["look", key] => indexes::write_looked(key, bytes, output),

@@ -11,6 +11,7 @@
 //! - `name CODE BYTES`: the name of a language, the bytes' or else the program's (`languages`).
 //! - `table BYTES`: each entry of a `NameTable`, found again by its key there and in its `NameIndex`.
 //! - `ask KEY BYTES`: what a `NameTable` and its `NameIndex` answer for a key.
+//! - `word WORD BYTES`: the text that a table has for a word, or the word itself, by each of its forms (`words`).
 //! - `many NUMBER -`: what a `NameTable` of so many names and its `NameIndex` answer.
 //! - `prefixes BYTES`: what is read of each proper prefix, by kinds.
 //! - `changes BYTES`: the same with each byte changed into each other one.

@@ -1,5 +1,6 @@
 //! What a table answers that is looked up in its bytes.
 use crate::indexes::{BothWays, index_of};
+use crate::words;
 use name_index::{NameIndex, NameTable};
 use std::alloc::{AllocError, Global};
 use std::fmt::Write;
@@ -64,6 +65,29 @@ pub fn write_asked(
         (None, Err(index)) => write!(output, "none, it would be {index}"),
         _ => output.push_str("two answers"),
     }
+}
+
+/// Writes the text that a table has for a word, or the word itself, and whether its other forms have another.
+pub fn write_translated(
+    alloc: Global,
+    word: &str,
+    bytes: &[u8],
+    output: &mut String,
+) -> Result<(), AllocError> {
+    let table = match NameTable::new(bytes) {
+        Ok(table) => table,
+        Err(fault) => return write!(output, "{fault}"),
+    };
+    let index = NameIndex::new(alloc, &table)?;
+    let written = index_of(alloc, bytes)?;
+    let Ok(both) = BothWays::open(written.as_slice()) else {
+        return output.push_str("no index");
+    };
+    let text = words::by_table(&table, word);
+    if words::by_places(&index, word) != text || !both.is_translated(word, text) {
+        return output.push_str("another answer");
+    }
+    output.push_str(text)
 }
 
 // A table of so many names.
