@@ -1,6 +1,7 @@
 //! Maps compared and hashed.
 use litemap::LiteMap;
 use litemap::store::{ColumnStore, Store, StoreMut};
+use litemap_short::ShortStore;
 use std::alloc::Global;
 use std::cmp::Ordering;
 use std::hash::{FoldHasher, Hash, Hasher};
@@ -74,7 +75,8 @@ fn compare_as<K: Ord + Hash, V: Ord + Hash, S: Store<K, V>>(
         && (hash_of(a) == hash_of(b)) == is_equal
 }
 
-// The maps of two places compare as the places do. A store with more room has the same pairs.
+// The maps of two places compare as the places do. A store with more room has the same pairs, and so has a short store that
+// keeps one pair in a vector.
 fn compare_all<K: Copy + Ord + Hash, V: Copy + Ord + Hash, S: StoreMut<K, V> + Drop>(
     rt: &impl Abort,
     alloc: Global,
@@ -82,7 +84,7 @@ fn compare_all<K: Copy + Ord + Hash, V: Copy + Ord + Hash, S: StoreMut<K, V> + D
     seconds: &[&[(K, V)]],
 ) -> Result<(), Fail> {
     for (i, first) in firsts.iter().enumerate() {
-        let a: LiteMap<K, V, S> = map_of(alloc, first, 3)?;
+        let a: LiteMap<K, V, S> = map_of(alloc, first, first.len())?;
         for (j, second) in seconds.iter().enumerate() {
             let b: LiteMap<K, V, S> = map_of(alloc, second, 9)?;
             assert!(rt; compare_as(&a, &b, i.cmp(&j)), "{i} and {j}");
@@ -97,6 +99,7 @@ fn by_the_first_difference(rt: HostRuntime) -> Result<(), Fail> {
     compare_all::<u8, u32, Vec<(u8, u32)>>(&rt, alloc, &NUMBERS, &NUMBERS)?;
     compare_all::<u8, u32, FixedRoom<u8, u32>>(&rt, alloc, &NUMBERS, &NUMBERS)?;
     compare_all::<u8, u32, ColumnStore<u8, u32>>(&rt, alloc, &NUMBERS, &NUMBERS)?;
+    compare_all::<u8, u32, ShortStore<u8, u32>>(&rt, alloc, &NUMBERS, &NUMBERS)?;
     compare_all::<u8, &str, Vec<(u8, &str)>>(&rt, alloc, &TEXTS, &TEXTS)?;
     compare_all::<u8, &str, FixedRoom<u8, &str>>(&rt, alloc, &TEXTS, &TEXTS)
 }
@@ -107,7 +110,8 @@ fn by_equal_keys(rt: HostRuntime) -> Result<(), Fail> {
     let alloc = rt.alloc();
     compare_all::<Letter, u8, Vec<(Letter, u8)>>(&rt, alloc, &UPPER_LETTERS, &LOWER_LETTERS)?;
     compare_all::<Letter, u8, FixedRoom<Letter, u8>>(&rt, alloc, &UPPER_LETTERS, &LOWER_LETTERS)?;
-    compare_all::<Letter, u8, ColumnStore<Letter, u8>>(&rt, alloc, &UPPER_LETTERS, &LOWER_LETTERS)
+    compare_all::<Letter, u8, ColumnStore<Letter, u8>>(&rt, alloc, &UPPER_LETTERS, &LOWER_LETTERS)?;
+    compare_all::<Letter, u8, ShortStore<Letter, u8>>(&rt, alloc, &UPPER_LETTERS, &LOWER_LETTERS)
 }
 
 // The same of views.

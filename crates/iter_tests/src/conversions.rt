@@ -1,15 +1,19 @@
 //! Maps made of the pairs of another, and maps that hand over their pairs.
 use litemap::LiteMap;
 use litemap::store::{ColumnStore, Store, StoreFromIterable, StoreIntoIterator, StoreMut};
+use litemap_short::ShortStore;
 use std::alloc::{AllocError, Global};
 use std::test::Fail;
 use test_support::fixed_room::FixedRoom;
 use test_support::lists::{list_of, map_of};
 use uses::moved::moved;
 
-const MAPS: [&[(u8, &str)]; 4] = [
+type Text = &'static str;
+
+const MAPS: [&[(u8, &str)]; 5] = [
     &[],
     &[(1, "a"), (2, "b")],
+    &[(7, "seven")],
     &[(4, "four"), (6, "six")],
     &[(1, "one"), (2, "two"), (3, "three"), (5, "")],
 ];
@@ -153,8 +157,9 @@ fn boxes_and_references(rt: HostRuntime) -> Result<(), Fail> {
             are_converted::<&str, Vec<(u8, &str)>>(alloc, list)?,
             are_converted::<&str, FixedRoom<u8, &str>>(alloc, list)?,
             are_converted::<&str, ColumnStore<u8, &str>>(alloc, list)?,
+            are_converted::<&str, ShortStore<u8, &str>>(alloc, list)?,
         ];
-        assert_eq!(rt; converted, [[true; 6]; 3]);
+        assert_eq!(rt; converted, [[true; 6]; 4]);
     }
     Ok(())
 }
@@ -175,6 +180,7 @@ fn keys_by_a_closure(rt: HostRuntime) -> Result<(), Fail> {
     let tens = [
         tens_of::<_, Vec<(u8, &str)>, Vec<(u32, &str)>>(alloc, MAPS[1])?,
         tens_of::<_, ColumnStore<u8, &str>, ColumnStore<u32, &str>>(alloc, MAPS[1])?,
+        tens_of::<_, ShortStore<u8, &str>, ShortStore<u32, &str>>(alloc, MAPS[1])?,
     ];
     for pairs in tens {
         assert!(rt; pairs.as_slice() == [(10, "a"), (20, "b")].as_slice());
@@ -247,7 +253,6 @@ where
 
 #[test]
 fn pairs_by_value(rt: HostRuntime) -> Result<(), Fail> {
-    type Text = &'static str;
     for list in MAPS {
         let handed = are_handed_on::<
             Text,
@@ -256,6 +261,11 @@ fn pairs_by_value(rt: HostRuntime) -> Result<(), Fail> {
             ColumnStore<u8, Text>,
         >(rt.alloc(), list)?;
         assert_eq!(rt; handed, [[true; 2]; 4]);
+        let in_short = [
+            is_handed_on::<Text, ShortStore<u8, Text>, Vec<(u8, Text)>>(rt.alloc(), list)?,
+            is_handed_on::<Text, Vec<(u8, Text)>, ShortStore<u8, Text>>(rt.alloc(), list)?,
+        ];
+        assert_eq!(rt; in_short, [[true; 2]; 2]);
     }
     Ok(())
 }

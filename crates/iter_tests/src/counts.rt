@@ -1,6 +1,7 @@
 //! How often a comparison of maps compares keys.
 use litemap::LiteMap;
 use litemap::store::{ColumnStore, Store, StoreMut};
+use litemap_short::ShortStore;
 use std::alloc::Global;
 use std::cell::Cell;
 use std::cmp::Ordering;
@@ -97,5 +98,6 @@ fn each_place_is_compared_once(rt: HostRuntime) -> Result<(), Fail> {
     let made = Cell::new(0);
     compare_each::<Vec<(Counted, u32)>>(&rt, rt.alloc(), &made)?;
     compare_each::<FixedRoom<Counted, u32>>(&rt, rt.alloc(), &made)?;
-    compare_each::<ColumnStore<Counted, u32>>(&rt, rt.alloc(), &made)
+    compare_each::<ColumnStore<Counted, u32>>(&rt, rt.alloc(), &made)?;
+    compare_each::<ShortStore<Counted, u32>>(&rt, rt.alloc(), &made)
 }

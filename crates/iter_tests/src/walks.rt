@@ -1,6 +1,7 @@
 //! What goes through the pairs, the keys and the values of a map, from both ends.
 use litemap::LiteMap;
 use litemap::store::{ColumnStore, StoreIterable, StoreMut};
+use litemap_short::ShortStore;
 use std::alloc::{AllocError, Global};
 use std::test::Fail;
 use test_support::fixed_room::FixedRoom;
@@ -95,18 +96,31 @@ fn are_met_in_columns(alloc: Global, list: &[(u8, u32)]) -> Result<bool, AllocEr
     Ok(are_met_each_way(&map, list))
 }
 
+// Over a short store that keeps one pair in itself, and over a slice of it.
+fn are_met_in_short(alloc: Global, list: &[(u8, u32)]) -> Result<[bool; 2], AllocError> {
+    let map: LiteMap<u8, u32, ShortStore<u8, u32>> = map_of(alloc, list, 0)?;
+    let sliced = map.as_sliced();
+    Ok([
+        are_met_each_way(&map, list),
+        are_met_each_way(&sliced, list),
+    ])
+}
+
 #[test]
 fn from_both_ends(rt: HostRuntime) -> Result<(), Fail> {
     let alloc = rt.alloc();
     for list in MAPS {
         let [in_vector, in_slice] = are_met_in_vector(alloc, list)?;
+        let [in_short, in_slice_of_short] = are_met_in_short(alloc, list)?;
         let met = [
             in_vector,
             in_slice,
             are_met_in_fixed(alloc, list)?,
             are_met_in_columns(alloc, list)?,
+            in_short,
+            in_slice_of_short,
         ];
-        assert_eq!(rt; met, [true; 4]);
+        assert_eq!(rt; met, [true; 6]);
     }
     Ok(())
 }
