@@ -1,5 +1,6 @@
 -- A text that spells keywords: parts with a `-` between each two, where a keyword is a key and the parts of its value.
-use Rattle.std.specs.Prelude.{◌≡◌, ◌≢◌, ◌⊎◌, ◌==◌, ◌&&◌, ◌+◌, ℕ, Bool, false, IsTrue, cond, List, [], ◌∷◌, ◌++◌, Option, length, map, nat_le}
+use Rattle.std.specs.Prelude.{◌≡◌, ◌≢◌, ◌⊎◌, ◌==◌, ◌&&◌, ◌+◌, ℕ, Bool, false, IsTrue, cond, nat_le}
+use Rattle.std.specs.Prelude.{List, [], ◌∷◌, ◌++◌, Option, length, map}
 use Rattle.std.specs.Char.{is_ascii_alphabetic, is_ascii_alphanumeric, to_ascii_lowercase}
 use Rattle.std.specs.Cmp.Lexicographic.{slice_cmp}
 use Rattle.std.specs.List.{AllByRecursion, join_with_byte, list_all, slice_split}

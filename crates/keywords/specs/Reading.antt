@@ -1,9 +1,11 @@
 -- What is read of a text, and what is left of it.
-use Rattle.std.specs.Prelude.{◌≡◌, ◌⊎◌, ◌+◌, ⊤, ℕ, length, false, IsTrue, List, [], ◌∷◌, ◌++◌, Option, None, Some, map, String, string_bytes}
+use Rattle.std.specs.Prelude.{◌≡◌, ◌⊎◌, ◌+◌, ⊤, ℕ, length, false, IsTrue, List, [], ◌∷◌, ◌++◌}
+use Rattle.std.specs.Prelude.{Option, None, Some, map, String, string_bytes}
 use Rattle.std.specs.List.{AllByRecursion}
 use Rattle.std.specs.Option.{option_or}
 use Rattle.litemap_store.specs.Last.{In}
-use Rattle.keywords.specs.Keywords.{AreCanonical, IsKeyword, Keyword, is_key, is_value_part, joined, keyword_parts, pair_of, parts_of, value_of}
+use Rattle.keywords.specs.Keywords.{AreCanonical, IsKeyword, Keyword, is_key, is_value_part, joined}
+use Rattle.keywords.specs.Keywords.{keyword_parts, pair_of, parts_of, value_of}
 use Rattle.keywords.specs.declared.fault.KeywordFault.{KeywordFault}
 use Rattle.keywords.specs.declared.fault.KeywordFault.TheVariants.{NoRoom, Part}
 

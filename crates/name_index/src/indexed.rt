@@ -75,7 +75,8 @@ impl<'a> IndexedNames<'a> {
 
     /// The value of a key, if it is there. It compares at most once for each binary digit of the length.
     pub fn get(&self, key: &str) -> Result<Option<&'a str>, IndexFault>
-        ensures value { IfOk result (λ found. IfIndex self.now (λ pairs. option_copied found ≡ value_at text_order pairs key.now)) }
+        ensures value { IfOk result (λ found. IfIndex self.now
+            (λ pairs. option_copied found ≡ value_at text_order pairs key.now)) }
         ensures fault { IfErr result (λ _. NoIndex self.now) }
     {
         self.get_counted(key, &mut Count::new())
@@ -83,7 +84,8 @@ impl<'a> IndexedNames<'a> {
 
     /// `get`, with its comparisons counted.
     pub fn get_counted(&self, key: &str, count: &mut Count) -> Result<Option<&'a str>, IndexFault>
-        ensures value { IfOk result (λ found. IfIndex self.now (λ pairs. option_copied found ≡ value_at text_order pairs key.now)) }
+        ensures value { IfOk result (λ found. IfIndex self.now
+            (λ pairs. option_copied found ≡ value_at text_order pairs key.now)) }
         ensures fault { IfErr result (λ _. NoIndex self.now) }
         ensures cost { IfIndex self.now (λ pairs. RisesByAtMost (digits (length pairs)) count.old count.new) }
     {
