@@ -2,6 +2,7 @@
 use crate::lengths::{LENGTHS, end_of, odd_keys};
 use litemap::store::{ColumnStore, StoreMut};
 use litemap::{Entry, LiteMap};
+use litemap_short::ShortStore;
 use std::alloc::Global;
 use std::cell::Cell;
 use std::process::Abort;
@@ -155,6 +156,7 @@ fn what_is_done_through_an_entry_compares_nothing(rt: HostRuntime) -> Result<(),
         make_each_call::<Vec<(Counted<'_>, u32)>>(&rt, rt.alloc(), &made, len)?;
         make_each_call::<FixedRoom<Counted<'_>, u32>>(&rt, rt.alloc(), &made, len)?;
         make_each_call::<ColumnStore<Counted<'_>, u32>>(&rt, rt.alloc(), &made, len)?;
+        make_each_call::<ShortStore<Counted<'_>, u32>>(&rt, rt.alloc(), &made, len)?;
     }
     Ok(())
 }

@@ -4,6 +4,7 @@ ghost use Rattle.litemap_store.specs.Search.{CallableOnKeys};
 use crate::lengths::{LENGTHS, digits, end_of, odd_keys};
 use litemap::store::{ColumnStore, Count, StoreMut};
 use litemap::{Entry, LiteMap};
+use litemap_short::ShortStore;
 use std::alloc::Global;
 use std::cell::Cell;
 use std::cmp::Ordering;
@@ -308,6 +309,7 @@ fn a_call_compares_once_for_each_binary_digit_of_the_length(rt: HostRuntime) -> 
         make_each_call::<Vec<(Counted<'_>, u32)>>(&rt, rt.alloc(), &made, len)?;
         make_each_call::<FixedRoom<Counted<'_>, u32>>(&rt, rt.alloc(), &made, len)?;
         make_each_call::<ColumnStore<Counted<'_>, u32>>(&rt, rt.alloc(), &made, len)?;
+        make_each_call::<ShortStore<Counted<'_>, u32>>(&rt, rt.alloc(), &made, len)?;
     }
     Ok(())
 }

@@ -4,6 +4,7 @@ ghost use Rattle.litemap.specs.Clones.{ClonesCompareEqual};
 use crate::lengths::{LENGTHS, odd_keys};
 use litemap::LiteMap;
 use litemap::store::{ColumnStore, StoreBulkMut, StoreSlice};
+use litemap_short::ShortStore;
 use std::alloc::Global;
 use std::cell::Cell;
 use std::process::Abort;
@@ -117,6 +118,7 @@ fn a_call_by_no_key_compares_nothing(rt: HostRuntime) -> Result<(), Fail> {
         make_each_call::<Vec<(Counted<'_>, u32)>>(&rt, rt.alloc(), &made, len)?;
         make_each_call::<FixedRoom<Counted<'_>, u32>>(&rt, rt.alloc(), &made, len)?;
         make_each_call::<ColumnStore<Counted<'_>, u32>>(&rt, rt.alloc(), &made, len)?;
+        make_each_call::<ShortStore<Counted<'_>, u32>>(&rt, rt.alloc(), &made, len)?;
     }
     Ok(())
 }

@@ -5,6 +5,7 @@ ghost use Rattle.litemap.specs.Clones.{ClonesCompareEqual};
 use crate::lengths::{LENGTHS, odd_keys};
 use litemap::LiteMap;
 use litemap::store::{ColumnStore, Store, StoreFromIterator, StoreIntoIterator, StoreIterable};
+use litemap_short::ShortStore;
 use std::alloc::{AllocError, Global};
 use std::cell::Cell;
 use std::hash::{FoldHasher, Hash, Hasher};
@@ -136,6 +137,8 @@ fn a_walk_compares_nothing(rt: HostRuntime) -> Result<(), Fail> {
         make_each_walk(&rt, &in_vector, &made);
         let in_columns: Map<'_, ColumnStore<_, _>> = odd_keys(rt.alloc(), &made, len)?;
         make_each_walk(&rt, &in_columns, &made);
+        let in_short: Map<'_, ShortStore<_, _>> = odd_keys(rt.alloc(), &made, len)?;
+        make_each_walk(&rt, &in_short, &made);
         make_each_walk(&rt, &in_vector.as_sliced(), &made);
     }
     Ok(())
@@ -269,6 +272,7 @@ fn a_call_that_passes_over_all_pairs_compares_nothing(rt: HostRuntime) -> Result
         make_each_call::<Pairs<Counted<'_>, u32>>(&rt, rt.alloc(), &made, len)?;
         make_each_call::<FixedRoom<Counted<'_>, u32>>(&rt, rt.alloc(), &made, len)?;
         make_each_call::<ColumnStore<Counted<'_>, u32>>(&rt, rt.alloc(), &made, len)?;
+        make_each_call::<ShortStore<Counted<'_>, u32>>(&rt, rt.alloc(), &made, len)?;
     }
     Ok(())
 }

@@ -1,6 +1,7 @@
 //! What is asked when a store or a map is thinned out: once of each pair, in order.
 use litemap::LiteMap;
 use litemap::store::{ColumnStore, Store, StoreBulkMut, StoreMut};
+use litemap_short::ShortStore;
 use std::alloc::Global;
 use std::process::Abort;
 use std::test::Fail;
@@ -134,6 +135,7 @@ fn each_pair_is_asked_of_once_in_order(rt: HostRuntime) -> Result<(), Fail> {
         thin_in_each_way::<Vec<(u64, u64)>>(&rt, rt.alloc(), len as u64, *ways)?;
         thin_in_each_way::<FixedRoom<u64, u64>>(&rt, rt.alloc(), len as u64, *ways)?;
         thin_in_each_way::<ColumnStore<u64, u64>>(&rt, rt.alloc(), len as u64, *ways)?;
+        thin_in_each_way::<ShortStore<u64, u64>>(&rt, rt.alloc(), len as u64, *ways)?;
     }
     Ok(())
 }
