@@ -2,6 +2,7 @@
 use litemap::LiteMap;
 use litemap::store::{ColumnStore, StoreBulkMut};
 use litemap_read::read_pairs;
+use litemap_short::ShortStore;
 use std::alloc::{AllocError, Global};
 use std::cell::Cell;
 use std::process::Abort;
@@ -67,5 +68,6 @@ fn rising_pairs_are_compared_once_each(rt: HostRuntime) -> Result<(), Fail> {
     let made = Cell::new(0);
     compare_each::<Vec<(Counted, u32)>>(&rt, rt.alloc(), &made)?;
     compare_each::<FixedRoom<Counted, u32>>(&rt, rt.alloc(), &made)?;
-    compare_each::<ColumnStore<Counted, u32>>(&rt, rt.alloc(), &made)
+    compare_each::<ColumnStore<Counted, u32>>(&rt, rt.alloc(), &made)?;
+    compare_each::<ShortStore<Counted, u32>>(&rt, rt.alloc(), &made)
 }

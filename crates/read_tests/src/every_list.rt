@@ -4,6 +4,7 @@
 use litemap::LiteMap;
 use litemap::store::{ColumnStore, StoreBulkMut};
 use litemap_read::{VecSource, read_pairs};
+use litemap_short::ShortStore;
 use std::alloc::{AllocError, Global};
 use std::process::Abort;
 use std::test::Fail;
@@ -49,5 +50,6 @@ fn read_each<S: StoreBulkMut<Letter, u32>>(rt: &impl Abort, alloc: Global) -> Re
 fn lists_are_read_as_by_the_scan(rt: HostRuntime) -> Result<(), Fail> {
     read_each::<Vec<(Letter, u32)>>(&rt, rt.alloc())?;
     read_each::<FixedRoom<Letter, u32>>(&rt, rt.alloc())?;
-    read_each::<ColumnStore<Letter, u32>>(&rt, rt.alloc())
+    read_each::<ColumnStore<Letter, u32>>(&rt, rt.alloc())?;
+    read_each::<ShortStore<Letter, u32>>(&rt, rt.alloc())
 }

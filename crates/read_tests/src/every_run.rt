@@ -3,6 +3,7 @@ use crate::calls::{KINDS, answer_by_scan, calls_of, refusal_by_scan};
 use litemap::LiteMap;
 use litemap::store::{ColumnStore, StoreBulkMut};
 use litemap_read::laws::{Answer, run_calls};
+use litemap_short::ShortStore;
 use std::alloc::{AllocError, Global};
 use std::process::Abort;
 use std::test::Fail;
@@ -54,5 +55,6 @@ fn lists_of_calls_are_answered_as_by_the_scans(rt: HostRuntime) -> Result<(), Fa
     assert!(&rt; run_each::<Vec<(u8, u8)>>(&rt, rt.alloc())? == 0);
     assert!(&rt; run_each::<FixedRoom<u8, u8>>(&rt, rt.alloc())? > 0);
     assert!(&rt; run_each::<ColumnStore<u8, u8>>(&rt, rt.alloc())? == 0);
+    assert!(&rt; run_each::<ShortStore<u8, u8>>(&rt, rt.alloc())? == 0);
     Ok(())
 }

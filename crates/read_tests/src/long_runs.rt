@@ -2,6 +2,7 @@
 use litemap::LiteMap;
 use litemap::store::{ColumnStore, StoreBulkMut};
 use litemap_read::laws::{Answer, Call, run_calls};
+use litemap_short::ShortStore;
 use std::alloc::{AllocError, Global};
 use std::process::Abort;
 use std::test::Fail;
@@ -32,7 +33,8 @@ fn insert_each<S: StoreBulkMut<u32, u32>>(rt: &impl Abort, alloc: Global) -> Res
 fn many_calls_are_each_answered(rt: HostRuntime) -> Result<(), Fail> {
     insert_each::<Vec<(u32, u32)>>(&rt, rt.alloc())?;
     insert_each::<FixedRoom<u32, u32>>(&rt, rt.alloc())?;
-    insert_each::<ColumnStore<u32, u32>>(&rt, rt.alloc())
+    insert_each::<ColumnStore<u32, u32>>(&rt, rt.alloc())?;
+    insert_each::<ShortStore<u32, u32>>(&rt, rt.alloc())
 }
 
 // Extends by no pair, by four, and by none again.
@@ -68,5 +70,6 @@ fn extend_each<S: StoreBulkMut<u32, u32>>(rt: &impl Abort, alloc: Global) -> Res
 fn a_run_extends_by_none_and_by_four(rt: HostRuntime) -> Result<(), Fail> {
     extend_each::<Vec<(u32, u32)>>(&rt, rt.alloc())?;
     extend_each::<FixedRoom<u32, u32>>(&rt, rt.alloc())?;
-    extend_each::<ColumnStore<u32, u32>>(&rt, rt.alloc())
+    extend_each::<ColumnStore<u32, u32>>(&rt, rt.alloc())?;
+    extend_each::<ShortStore<u32, u32>>(&rt, rt.alloc())
 }

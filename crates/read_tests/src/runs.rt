@@ -2,6 +2,7 @@
 use litemap::LiteMap;
 use litemap::store::{ColumnStore, StoreBulkMut};
 use litemap_read::laws::{Answer, Call, run_calls};
+use litemap_short::ShortStore;
 use std::alloc::{AllocError, Global};
 use std::process::Abort;
 use std::test::Fail;
@@ -52,7 +53,8 @@ fn run_each_kind<S: StoreBulkMut<u32, u32>>(rt: &impl Abort, alloc: Global) -> R
 fn calls_are_answered_one_after_another(rt: HostRuntime) -> Result<(), Fail> {
     run_each_kind::<Vec<(u32, u32)>>(&rt, rt.alloc())?;
     run_each_kind::<FixedRoom<u32, u32>>(&rt, rt.alloc())?;
-    run_each_kind::<ColumnStore<u32, u32>>(&rt, rt.alloc())
+    run_each_kind::<ColumnStore<u32, u32>>(&rt, rt.alloc())?;
+    run_each_kind::<ShortStore<u32, u32>>(&rt, rt.alloc())
 }
 
 #[test]

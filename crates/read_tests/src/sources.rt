@@ -2,6 +2,7 @@
 use litemap::LiteMap;
 use litemap::store::{ColumnStore, StoreBulkMut};
 use litemap_read::{ReadFault, VecSource, read_pairs};
+use litemap_short::ShortStore;
 use std::alloc::{AllocError, Global};
 use std::process::Abort;
 use std::test::Fail;
@@ -53,7 +54,8 @@ fn read_each<S: StoreBulkMut<u32, u8>>(rt: &impl Abort, alloc: Global) -> Result
 fn of_each_key_the_last_pair_is_read(rt: HostRuntime) -> Result<(), Fail> {
     read_each::<Vec<(u32, u8)>>(&rt, rt.alloc())?;
     read_each::<FixedRoom<u32, u8>>(&rt, rt.alloc())?;
-    read_each::<ColumnStore<u32, u8>>(&rt, rt.alloc())
+    read_each::<ColumnStore<u32, u8>>(&rt, rt.alloc())?;
+    read_each::<ShortStore<u32, u8>>(&rt, rt.alloc())
 }
 
 // A hint, and the room that it leaves behind one pair where a store takes what it was made with and no more.
@@ -94,8 +96,9 @@ fn a_store_that_grows_reads_with_each_hint(rt: HostRuntime) -> Result<(), Fail> 
     let wrong = [
         first_hint_not_read::<Vec<(u32, u8)>>(rt.alloc())?,
         first_hint_not_read::<ColumnStore<u32, u8>>(rt.alloc())?,
+        first_hint_not_read::<ShortStore<u32, u8>>(rt.alloc())?,
     ];
-    assert_eq!(rt; wrong, [None; 2]);
+    assert_eq!(rt; wrong, [None; 3]);
     Ok(())
 }
 
@@ -138,5 +141,6 @@ fn fail_each<S: StoreBulkMut<u32, u8>>(rt: &impl Abort, alloc: Global) -> Result
 fn a_fault_is_handed_on_and_the_source_stays_where_it_is(rt: HostRuntime) -> Result<(), Fail> {
     fail_each::<Vec<(u32, u8)>>(&rt, rt.alloc())?;
     fail_each::<FixedRoom<u32, u8>>(&rt, rt.alloc())?;
-    fail_each::<ColumnStore<u32, u8>>(&rt, rt.alloc())
+    fail_each::<ColumnStore<u32, u8>>(&rt, rt.alloc())?;
+    fail_each::<ShortStore<u32, u8>>(&rt, rt.alloc())
 }
