@@ -2,6 +2,7 @@
 use crate::noted::{Map, Noted, odd_keys, pairs};
 use litemap::LiteMap;
 use litemap::store::{ColumnStore, StoreBulkMut, StoreFromIterable, StoreIntoIterator, StoreMut};
+use litemap_short::ShortStore;
 use std::alloc::{AllocError, Global};
 use std::cell::Cell;
 use std::process::Abort;
@@ -178,6 +179,7 @@ fn a_call_on_many_pairs_leaks_nothing(rt: HostRuntime) -> Result<(), Fail> {
         make_each_call::<Vec<(Noted<'_>, Noted<'_>)>>(&rt, rt.alloc(), &there, len)?;
         make_each_call::<FixedRoom<Noted<'_>, Noted<'_>>>(&rt, rt.alloc(), &there, len)?;
         make_each_call::<ColumnStore<Noted<'_>, Noted<'_>>>(&rt, rt.alloc(), &there, len)?;
+        make_each_call::<ShortStore<Noted<'_>, Noted<'_>>>(&rt, rt.alloc(), &there, len)?;
     }
     Ok(())
 }

@@ -2,6 +2,7 @@
 use crate::noted::{Map, Noted, note, odd_keys};
 use litemap::store::{ColumnStore, Store, StoreMut};
 use litemap::{Entry, LiteMap};
+use litemap_short::ShortStore;
 use std::alloc::{AllocError, Global};
 use std::cell::Cell;
 use std::mem;
@@ -196,6 +197,7 @@ fn a_call_on_a_key_leaks_nothing(rt: HostRuntime) -> Result<(), Fail> {
         make_each_call::<Vec<(Noted<'_>, Noted<'_>)>>(&rt, rt.alloc(), &there, len)?;
         make_each_call::<FixedRoom<Noted<'_>, Noted<'_>>>(&rt, rt.alloc(), &there, len)?;
         make_each_call::<ColumnStore<Noted<'_>, Noted<'_>>>(&rt, rt.alloc(), &there, len)?;
+        make_each_call::<ShortStore<Noted<'_>, Noted<'_>>>(&rt, rt.alloc(), &there, len)?;
     }
     Ok(())
 }

@@ -2,6 +2,7 @@
 //! replaced.
 use litemap::LiteMap;
 use litemap::store::{ColumnStore, StoreBulkMut, StoreMut};
+use litemap_short::ShortStore;
 use std::alloc::{AllocError, Global};
 use std::cell::Cell;
 use std::test::Fail;
@@ -75,7 +76,8 @@ fn a_value_is_made_once_where_its_key_is_absent(rt: HostRuntime) -> Result<(), F
             let pairs = wrong_key::<Vec<(u32, u32)>>(rt.alloc(), room, answer)?;
             let columns = wrong_key::<ColumnStore<u32, u32>>(rt.alloc(), room, answer)?;
             let fixed = wrong_key::<FixedRoom<u32, u32>>(rt.alloc(), room, answer)?;
-            assert_eq!(rt; [pairs, columns, fixed], [None; 3], "{room:?}");
+            let short = wrong_key::<ShortStore<u32, u32>>(rt.alloc(), room, answer)?;
+            assert_eq!(rt; [pairs, columns, fixed, short], [None; 4], "{room:?}");
         }
     }
     Ok(())
@@ -104,8 +106,9 @@ fn each_pair_is_asked_of_once(rt: HostRuntime) -> Result<(), Fail> {
             times_kept::<Vec<(u32, u32)>>(rt.alloc(), len)?,
             times_kept::<ColumnStore<u32, u32>>(rt.alloc(), len)?,
             times_kept::<FixedRoom<u32, u32>>(rt.alloc(), len)?,
+            times_kept::<ShortStore<u32, u32>>(rt.alloc(), len)?,
         ];
-        assert_eq!(rt; found, [wanted; 3], "{len} pairs");
+        assert_eq!(rt; found, [wanted; 4], "{len} pairs");
     }
     Ok(())
 }
@@ -132,8 +135,9 @@ fn each_key_is_asked_for_once(rt: HostRuntime) -> Result<(), Fail> {
             times_renamed::<Vec<(u32, u32)>>(rt.alloc(), len)?,
             times_renamed::<ColumnStore<u32, u32>>(rt.alloc(), len)?,
             times_renamed::<FixedRoom<u32, u32>>(rt.alloc(), len)?,
+            times_renamed::<ShortStore<u32, u32>>(rt.alloc(), len)?,
         ];
-        assert_eq!(rt; found, [wanted; 3], "{len} pairs");
+        assert_eq!(rt; found, [wanted; 4], "{len} pairs");
     }
     Ok(())
 }

@@ -5,6 +5,7 @@
 use litemap::LiteMap;
 use litemap::store::{ColumnStore, Store, StoreIntoIterator, StoreMut};
 use litemap_read::read_pairs;
+use litemap_short::ShortStore;
 use std::alloc::{AllocError, Global};
 use std::mem;
 use std::test::Fail;
@@ -35,7 +36,7 @@ fn is_refused<K: Ord + Copy, V: Copy + PartialEq, S: StoreMut<K, V> + Drop>(
 }
 
 // The same over each kind of store, with keys and values that take memory and that take none.
-fn are_refused(alloc: Global) -> Result<[bool; 6], AllocError> {
+fn are_refused(alloc: Global) -> Result<[bool; 8], AllocError> {
     Ok([
         is_refused::<u32, u32, Vec<(u32, u32)>>(alloc, 1, 2)?,
         is_refused::<Unit, Unit, Vec<(Unit, Unit)>>(alloc, Unit, Unit)?,
@@ -43,12 +44,14 @@ fn are_refused(alloc: Global) -> Result<[bool; 6], AllocError> {
         is_refused::<Unit, u32, ColumnStore<Unit, u32>>(alloc, Unit, 2)?,
         is_refused::<Unit, Unit, ColumnStore<Unit, Unit>>(alloc, Unit, Unit)?,
         is_refused::<Unit, Unit, FixedRoom<Unit, Unit>>(alloc, Unit, Unit)?,
+        is_refused::<u32, u32, ShortStore<u32, u32>>(alloc, 1, 2)?,
+        is_refused::<Unit, Unit, ShortStore<Unit, Unit>>(alloc, Unit, Unit)?,
     ])
 }
 
 #[test]
 fn room_past_the_end_is_refused(rt: HostRuntime) -> Result<(), Fail> {
-    assert_eq!(rt; are_refused(rt.alloc())?, [true; 6]);
+    assert_eq!(rt; are_refused(rt.alloc())?, [true; 8]);
     Ok(())
 }
 

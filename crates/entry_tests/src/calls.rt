@@ -3,6 +3,7 @@
 use crate::steps::{Call, Changed, Step, first_wrong, is_made};
 use litemap::LiteMap;
 use litemap::store::{ColumnStore, NoRoom, StoreMut};
+use litemap_short::ShortStore;
 use std::alloc::{AllocError, Global};
 use std::test::Fail;
 use test_support::fixed_room::FixedRoom;
@@ -112,25 +113,27 @@ const FULL: [Step<u64>; 8] = [
     (Call::AndModify, 2, 30, Ok(Some(25)), 1, &[(1, 10), (2, 25)]),
 ];
 
-// The calls on the map of a list: the place of the first that is wrong.
+// The calls on the map of a list, made with this much room: the place of the first that is wrong.
 fn wrong_from_list<V: Copy + Default + PartialEq + Changed, S: StoreMut<u32, V> + Drop>(
     alloc: Global,
     old: &[(u32, V)],
     steps: &[Step<V>],
+    room: usize,
 ) -> Result<Option<usize>, AllocError> {
-    let mut map: LiteMap<u32, V, S> = map_of(alloc, old, 4)?;
+    let mut map: LiteMap<u32, V, S> = map_of(alloc, old, room)?;
     first_wrong(alloc, &mut map, steps)
 }
 
 // The calls with numbers.
 fn wrong_with_numbers<S: StoreMut<u32, u64> + Drop>(
     alloc: Global,
+    room: usize,
 ) -> Result<[Option<usize>; 4], AllocError> {
     Ok([
-        wrong_from_list::<u64, S>(alloc, NONE, &FIVE_MORE)?,
-        wrong_from_list::<u64, S>(alloc, NONE, &DEFAULTS)?,
-        wrong_from_list::<u64, S>(alloc, ONE, &OCCUPIED)?,
-        wrong_from_list::<u64, S>(alloc, OLD, &REMOVALS)?,
+        wrong_from_list::<u64, S>(alloc, NONE, &FIVE_MORE, room)?,
+        wrong_from_list::<u64, S>(alloc, NONE, &DEFAULTS, room)?,
+        wrong_from_list::<u64, S>(alloc, ONE, &OCCUPIED, room)?,
+        wrong_from_list::<u64, S>(alloc, OLD, &REMOVALS, room)?,
     ])
 }
 
@@ -147,7 +150,7 @@ fn wrong_with_words<V: Copy + Default + PartialEq + Changed, S: StoreMut<u32, V>
     alloc: Global,
     words: &[V],
 ) -> Result<Option<usize>, AllocError> {
-    let mut map: LiteMap<u32, V, S> = LiteMap::with_capacity(alloc, 4)?;
+    let mut map: LiteMap<u32, V, S> = LiteMap::with_capacity(alloc, 1)?;
     for (place, (call, value, met, times, left)) in TEXTS.iter().enumerate() {
         let value = word(words, *value).unwrap_or_default();
         let mut list = Vec::new(alloc);
@@ -169,8 +172,9 @@ fn texts_are_placed_once_and_then_changed(rt: HostRuntime) -> Result<(), Fail> {
         wrong_with_words::<&str, Vec<(u32, &str)>>(alloc, &WORDS)?,
         wrong_with_words::<&str, FixedRoom<u32, &str>>(alloc, &WORDS)?,
         wrong_with_words::<&str, ColumnStore<u32, &str>>(alloc, &WORDS)?,
+        wrong_with_words::<&str, ShortStore<u32, &str>>(alloc, &WORDS)?,
     ];
-    assert_eq!(rt; wrong, [None; 3]);
+    assert_eq!(rt; wrong, [None; 4]);
     Ok(())
 }
 
@@ -178,11 +182,12 @@ fn texts_are_placed_once_and_then_changed(rt: HostRuntime) -> Result<(), Fail> {
 fn numbers_are_placed_once_and_then_changed(rt: HostRuntime) -> Result<(), Fail> {
     let alloc = rt.alloc();
     let wrong = [
-        wrong_with_numbers::<Vec<(u32, u64)>>(alloc)?,
-        wrong_with_numbers::<FixedRoom<u32, u64>>(alloc)?,
-        wrong_with_numbers::<ColumnStore<u32, u64>>(alloc)?,
+        wrong_with_numbers::<Vec<(u32, u64)>>(alloc, 4)?,
+        wrong_with_numbers::<FixedRoom<u32, u64>>(alloc, 4)?,
+        wrong_with_numbers::<ColumnStore<u32, u64>>(alloc, 4)?,
+        wrong_with_numbers::<ShortStore<u32, u64>>(alloc, 0)?,
     ];
-    assert_eq!(rt; wrong, [[None; 4]; 3]);
+    assert_eq!(rt; wrong, [[None; 4]; 4]);
     Ok(())
 }
 

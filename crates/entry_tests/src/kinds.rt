@@ -1,6 +1,7 @@
 //! Which kind of entry a key has, what the entry shows, and what is left where it is dropped.
 use litemap::store::{ColumnStore, StoreMut};
 use litemap::{Entry, LiteMap};
+use litemap_short::ShortStore;
 use std::alloc::Global;
 use std::process::Abort;
 use std::test::Fail;
@@ -23,7 +24,7 @@ fn show_each<V: Copy + PartialEq, S: StoreMut<u32, V> + Drop>(
     alloc: Global,
     list: &[(u32, V)],
 ) -> Result<(), Fail> {
-    let mut map: LiteMap<u32, V, S> = map_of(alloc, list, 3)?;
+    let mut map: LiteMap<u32, V, S> = map_of(alloc, list, list.len())?;
     for key in 0..8 {
         let value = map.get(&key).copied();
         let (entry_key, entry_value) = shown(&mut map, key);
@@ -41,6 +42,7 @@ fn an_entry_that_is_dropped_unused_leaves_the_map(rt: HostRuntime) -> Result<(),
         show_each::<&str, Vec<(u32, &str)>>(&rt, rt.alloc(), list)?;
         show_each::<&str, FixedRoom<u32, &str>>(&rt, rt.alloc(), list)?;
         show_each::<&str, ColumnStore<u32, &str>>(&rt, rt.alloc(), list)?;
+        show_each::<&str, ShortStore<u32, &str>>(&rt, rt.alloc(), list)?;
     }
     Ok(())
 }

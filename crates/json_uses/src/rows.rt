@@ -4,8 +4,9 @@ use crate::levels::Level;
 use crate::limits::copied;
 use crate::told;
 use litemap::LiteMap;
-use litemap::store::{ColumnStore, Store};
+use litemap::store::{ColumnStore, Store, StoreBulkMut};
 use litemap_json::{JsonFault, JsonItem, JsonKey, from_json, to_json};
+use litemap_short::ShortStore;
 use serde_json::Value;
 use std::alloc::{AllocError, Global};
 
@@ -25,30 +26,36 @@ pub fn answer_line(alloc: Global, line: &str, output: &mut String) -> Result<(),
 // The answer of a text at the types of this name.
 fn answer(alloc: Global, types: &str, text: &str) -> Result<String, AllocError> {
     match types {
-        "u8" => written::<u8, u8>(alloc, text),
-        "u16" => written::<u16, u16>(alloc, text),
-        "u32" => written::<u32, u32>(alloc, text),
-        "u64" => written::<u64, u64>(alloc, text),
-        "i8" => written::<i8, i8>(alloc, text),
-        "i16" => written::<i16, i16>(alloc, text),
-        "i32" => written::<i32, i32>(alloc, text),
-        "i64" => written::<i64, i64>(alloc, text),
-        "bool" => written::<bool, bool>(alloc, text),
-        "text" => written::<String, String>(alloc, text),
-        "flags" => written::<bool, u32>(alloc, text),
-        "words" => written::<u32, String>(alloc, text),
-        "evens" => written::<Even, String>(alloc, text),
-        "tongues" => written::<(u32, String), String>(alloc, text),
-        "levels" => written::<Level, u32>(alloc, text),
+        "u8" => written::<u8, u8, ShortStore<u8, u8>>(alloc, text),
+        "u16" => written::<u16, u16, ShortStore<u16, u16>>(alloc, text),
+        "u32" => written::<u32, u32, ShortStore<u32, u32>>(alloc, text),
+        "u64" => written::<u64, u64, ShortStore<u64, u64>>(alloc, text),
+        "i8" => written::<i8, i8, ShortStore<i8, i8>>(alloc, text),
+        "i16" => written::<i16, i16, ShortStore<i16, i16>>(alloc, text),
+        "i32" => written::<i32, i32, ShortStore<i32, i32>>(alloc, text),
+        "i64" => written::<i64, i64, ShortStore<i64, i64>>(alloc, text),
+        "bool" => written::<bool, bool, ShortStore<bool, bool>>(alloc, text),
+        "text" => written::<String, String, ShortStore<String, String>>(alloc, text),
+        "flags" => written::<bool, u32, ShortStore<bool, u32>>(alloc, text),
+        "words" => written::<u32, String, ShortStore<u32, String>>(alloc, text),
+        "evens" => written::<Even, String, ShortStore<Even, String>>(alloc, text),
+        "tongues" => written::<(u32, String), String, ShortStore<(u32, String), String>>(
+            alloc, text,
+        ),
+        "levels" => written::<Level, u32, ShortStore<Level, u32>>(alloc, text),
         "limits" => copied_limits(alloc, text),
         "told" => told::answer(alloc, text),
-        "nested" => written::<((u8, bool), String), (u32, (bool, i8))>(alloc, text),
+        "nested" => written::<
+            ((u8, bool), String),
+            (u32, (bool, i8)),
+            ShortStore<((u8, bool), String), (u32, (bool, i8))>,
+        >(alloc, text),
         _ => String::from_str(alloc, "no such types"),
     }
 }
 
-// The map that a text is read as, written as JSON: over a vector and over two columns.
-fn written<K: JsonKey + Drop, V: JsonItem + Drop>(
+// The map that a text is read as, written as JSON: over a vector, over two columns and over a short store.
+fn written<K: JsonKey + Drop, V: JsonItem + Drop, S: StoreBulkMut<K, V>>(
     alloc: Global,
     text: &str,
 ) -> Result<String, AllocError> {
@@ -57,21 +64,27 @@ fn written<K: JsonKey + Drop, V: JsonItem + Drop>(
     };
     let map: Result<Map<K, V>, JsonFault> = from_json(alloc, &value);
     let columns: Result<Columns<K, V>, JsonFault> = from_json(alloc, &value);
+    let short: Result<LiteMap<K, V, S>, JsonFault> = from_json(alloc, &value);
     let over_vector = shown(alloc, map.as_ref())?;
     let over_columns = shown(alloc, columns.as_ref())?;
-    answer_of_both(alloc, over_vector, over_columns)
+    let over_short = shown(alloc, short.as_ref())?;
+    answer_of_all(alloc, over_vector, over_columns, over_short)
 }
 
-// The answer over both stores, or that there are two.
-fn answer_of_both(
+// The answer over each store, or that they differ.
+fn answer_of_all(
     alloc: Global,
     over_vector: String,
     over_columns: String,
+    over_short: String,
 ) -> Result<String, AllocError> {
-    if over_vector.as_str() == over_columns.as_str() {
+    let answer = over_vector.as_str();
+    if over_columns.as_str() == answer && over_short.as_str() == answer {
         return Ok(over_vector);
     }
-    format!(in alloc; "over a vector {over_vector}, over two columns {over_columns}")
+    format!(in alloc;
+        "over a vector {over_vector}, over two columns {over_columns}, over a short store {over_short}"
+    )
 }
 
 // The same over a vector, with the map sent to JSON and back before.

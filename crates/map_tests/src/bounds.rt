@@ -2,6 +2,7 @@
 //! equal keys that differ, over each store that grows; and the proved callers of the crate `uses` that call these.
 use litemap::LiteMap;
 use litemap::store::{ColumnStore, StoreIntoIterator, StoreMut};
+use litemap_short::ShortStore;
 use std::alloc::{AllocError, Global};
 use std::ops::{Bound, Range};
 use std::test::Fail;
@@ -67,8 +68,9 @@ fn places_lie_within_bounds_of_any_kind(rt: HostRuntime) -> Result<(), Fail> {
         wrong_row::<Vec<(Letter, u32)>>(rt.alloc())?,
         wrong_row::<ColumnStore<Letter, u32>>(rt.alloc())?,
         wrong_row::<FixedRoom<Letter, u32>>(rt.alloc())?,
+        wrong_row::<ShortStore<Letter, u32>>(rt.alloc())?,
     ];
-    assert_eq!(rt; rows, [None; 3]);
+    assert_eq!(rt; rows, [None; 4]);
     Ok(())
 }
 
@@ -95,7 +97,8 @@ fn the_key_that_was_put_in_is_taken_out(rt: HostRuntime) -> Result<(), Fail> {
     let in_vector = takes_out::<Vec<(Letter, u32)>>(rt.alloc())?;
     let in_columns = takes_out::<ColumnStore<Letter, u32>>(rt.alloc())?;
     let in_fixed = takes_out::<FixedRoom<Letter, u32>>(rt.alloc())?;
-    assert!(rt; in_vector && in_columns && in_fixed);
+    let in_short = takes_out::<ShortStore<Letter, u32>>(rt.alloc())?;
+    assert!(rt; in_vector && in_columns && in_fixed && in_short);
     Ok(())
 }
 

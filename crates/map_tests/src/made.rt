@@ -2,6 +2,7 @@
 //! the closure failed, and there was no room. Its contract can't say it.
 use litemap::store::{ColumnStore, StoreMut};
 use litemap::{LiteMap, TryFault};
+use litemap_short::ShortStore;
 use std::alloc::{AllocError, Global};
 use std::test::Fail;
 use test_support::fixed_room::FixedRoom;
@@ -115,6 +116,12 @@ fn is_right_in_columns(alloc: Global, list: &[(u32, u32)], case: Case) -> Result
     Ok(is_right)
 }
 
+// So is a short store, which keeps one pair in itself.
+fn is_right_in_short(alloc: Global, list: &[(u32, u32)], case: Case) -> Result<bool, AllocError> {
+    let (is_right, _map, _len) = try_one::<ShortStore<u32, u32>>(alloc, list, case, true)?;
+    Ok(is_right)
+}
+
 // The first key or gap at which a call on a list of this length is wrong.
 fn first_wrong(
     alloc: Global,
@@ -127,7 +134,8 @@ fn first_wrong(
         let case = Case { spare, key, answer };
         let is_right = is_right_in_fixed(alloc, &list, case)?
             && is_right_in_vector(alloc, &list, case)?
-            && is_right_in_columns(alloc, &list, case)?;
+            && is_right_in_columns(alloc, &list, case)?
+            && is_right_in_short(alloc, &list, case)?;
         if !is_right {
             return Ok(Some(key));
         }

@@ -1,6 +1,7 @@
 //! How a map is printed, and what goes over one.
 use litemap::LiteMap;
 use litemap::store::{ColumnStore, SliceStore, StoreFromIterator, StoreIntoIterator};
+use litemap_short::ShortStore;
 use std::alloc::{AllocError, Global};
 use std::test::Fail;
 use test_support::lists::map_of;
@@ -50,16 +51,18 @@ fn as_map(alloc: Global, pairs: &str) -> Result<String, AllocError> {
     format!(in alloc; "{{{bare}}}")
 }
 
-// How the map of so many odd keys is printed, over a vector and over two columns.
-fn printed_odd(alloc: Global, len: u32) -> Result<[String; 2], AllocError> {
+// How the map of so many odd keys is printed, over a vector, two columns and a short store.
+fn printed_odd(alloc: Global, len: u32) -> Result<[String; 3], AllocError> {
     let list: Vec<(u32, u32)> = (0..len)
         .map(|place| (place.wrapping_mul(2).wrapping_add(1), place))
         .collect(alloc)?;
     let pairs: LiteMap<u32, u32, Vec<(u32, u32)>> = map_of(alloc, &list, list.len())?;
     let columns: LiteMap<u32, u32, ColumnStore<u32, u32>> = map_of(alloc, &list, list.len())?;
+    let short: LiteMap<u32, u32, ShortStore<u32, u32>> = map_of(alloc, &list, list.len())?;
     Ok([
         format!(in alloc; "{pairs:?}")?,
         format!(in alloc; "{columns:?}")?,
+        format!(in alloc; "{short:?}")?,
     ])
 }
 

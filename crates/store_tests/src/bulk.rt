@@ -3,6 +3,7 @@
 use crate::letters::{Pairs, are, letters};
 use litemap::LiteMap;
 use litemap::store::{ColumnStore, StoreBulkMut, StoreFromIterable};
+use litemap_short::ShortStore;
 use std::alloc::{AllocError, Global};
 use std::test::Fail;
 use test_support::fixed_room::FixedRoom;
@@ -51,13 +52,14 @@ const ROWS: &[(Pairs, Pairs, Pairs)] = &[
     ),
 ];
 
-// The list of a map of letters that is extended by more.
+// The list of a map of letters, made with this much room, that is extended by more.
 fn extended<S: StoreBulkMut<Letter, u32>>(
     alloc: Global,
     old: &[(u8, u32)],
     new: &[(u8, u32)],
+    room: usize,
 ) -> Result<Vec<(Letter, u32)>, AllocError> {
-    let mut map: LiteMap<Letter, u32, S> = map_of(alloc, &letters(alloc, old)?, 9)?;
+    let mut map: LiteMap<Letter, u32, S> = map_of(alloc, &letters(alloc, old)?, room)?;
     map.extend(alloc, letters(alloc, new)?)?;
     list_of(alloc, &map)
 }
@@ -75,12 +77,12 @@ fn made<S: StoreFromIterable<Letter, u32> + Drop>(
 }
 
 // The place of the first row that a map doesn't keep to.
-fn first_wrong<S>(alloc: Global) -> Result<Option<usize>, AllocError>
+fn first_wrong<S>(alloc: Global, room: usize) -> Result<Option<usize>, AllocError>
 where
     S: StoreBulkMut<Letter, u32> + StoreFromIterable<Letter, u32>,
 {
     for (place, (old, new, left)) in ROWS.iter().enumerate() {
-        if !are(&extended::<S>(alloc, old, new)?, left)
+        if !are(&extended::<S>(alloc, old, new, room)?, left)
             || !are(&made::<S>(alloc, old, new)?, left)
         {
             return Ok(Some(place));
@@ -93,10 +95,11 @@ where
 fn of_each_key_the_last_pair_stays(rt: HostRuntime) -> Result<(), Fail> {
     let alloc = rt.alloc();
     let wrong = [
-        first_wrong::<Vec<(Letter, u32)>>(alloc)?,
-        first_wrong::<FixedRoom<Letter, u32>>(alloc)?,
-        first_wrong::<ColumnStore<Letter, u32>>(alloc)?,
+        first_wrong::<Vec<(Letter, u32)>>(alloc, 9)?,
+        first_wrong::<FixedRoom<Letter, u32>>(alloc, 9)?,
+        first_wrong::<ColumnStore<Letter, u32>>(alloc, 9)?,
+        first_wrong::<ShortStore<Letter, u32>>(alloc, 0)?,
     ];
-    assert_eq!(rt; wrong, [None; 3]);
+    assert_eq!(rt; wrong, [None; 4]);
     Ok(())
 }

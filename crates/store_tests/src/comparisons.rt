@@ -1,6 +1,7 @@
 //! How often keys are compared: the comparisons of the counts and all others together.
 use litemap::LiteMap;
 use litemap::store::{ColumnStore, StoreBulkMut, StoreFromIterable, StoreMut};
+use litemap_short::ShortStore;
 use std::alloc::{AllocError, Global};
 use std::cell::Cell;
 use std::test::Fail;
@@ -98,8 +99,9 @@ fn a_key_is_found_by_ten_comparisons_among_a_thousand(rt: HostRuntime) -> Result
         wrong_of_a_thousand::<Vec<(Counted<'_>, u32)>>(alloc, &made)?,
         wrong_of_a_thousand::<FixedRoom<Counted<'_>, u32>>(alloc, &made)?,
         wrong_of_a_thousand::<ColumnStore<Counted<'_>, u32>>(alloc, &made)?,
+        wrong_of_a_thousand::<ShortStore<Counted<'_>, u32>>(alloc, &made)?,
     ];
-    assert_eq!(rt; wrong, [None; 3]);
+    assert_eq!(rt; wrong, [None; 4]);
     Ok(())
 }
 
@@ -167,8 +169,9 @@ fn many_pairs_are_put_in_by_as_many_comparisons_as_promised(rt: HostRuntime) -> 
         are_few::<Vec<(Counted<'_>, u32)>>(alloc, &made)?,
         are_few::<FixedRoom<Counted<'_>, u32>>(alloc, &made)?,
         are_few::<ColumnStore<Counted<'_>, u32>>(alloc, &made)?,
+        are_few::<ShortStore<Counted<'_>, u32>>(alloc, &made)?,
     ];
-    assert_eq!(rt; right, [true; 3]);
+    assert_eq!(rt; right, [true; 4]);
     Ok(())
 }
 

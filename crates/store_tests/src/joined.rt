@@ -1,6 +1,7 @@
 //! Stores that are made of pairs, put behind and before others, and handed over pair by pair.
 use crate::looks::has_pairs;
 use litemap::store::{ColumnStore, StoreFromIterator, StoreIntoIterator, StoreMut};
+use litemap_short::ShortStore;
 use std::alloc::{AllocError, Global};
 use std::test::Fail;
 use test_support::fixed_room::FixedRoom;
@@ -85,7 +86,8 @@ fn pairs_are_joined_and_handed_over(rt: HostRuntime) -> Result<(), Fail> {
         first_wrong::<FixedRoom<u32, u32>>(alloc, false, false)?,
         first_wrong::<FixedRoom<u32, u32>>(alloc, true, true)?,
         first_wrong::<ColumnStore<u32, u32>>(alloc, false, true)?,
+        first_wrong::<ShortStore<u32, u32>>(alloc, false, true)?,
     ];
-    assert_eq!(rt; wrong, [None; 4]);
+    assert_eq!(rt; wrong, [None; 5]);
     Ok(())
 }

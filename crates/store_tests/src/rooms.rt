@@ -1,5 +1,6 @@
 //! The room of a store: as many pairs as were asked for are taken, and with ample memory no room is refused.
 use litemap::store::{ColumnStore, Count, Store, StoreBulkMut, StoreMut};
+use litemap_short::ShortStore;
 use std::alloc::{AllocError, Global};
 use std::test::Fail;
 use test_support::fixed_room::FixedRoom;
@@ -36,8 +37,9 @@ fn as_many_pairs_are_taken_as_there_was_room_for(rt: HostRuntime) -> Result<(), 
             filled::<Vec<(u32, u32)>>(alloc, room)?,
             filled::<FixedRoom<u32, u32>>(alloc, room)?,
             filled::<ColumnStore<u32, u32>>(alloc, room)?,
+            filled::<ShortStore<u32, u32>>(alloc, room)?,
         ];
-        assert_eq!(rt; taken, [(room, room); 3]);
+        assert_eq!(rt; taken, [(room, room); 4]);
     }
     Ok(())
 }

@@ -1,6 +1,7 @@
 //! Calls of a store that a generator picks, beside the same changes of a vector by std's own calls.
 use crate::looks::has_pairs;
 use litemap::store::{ColumnStore, StoreBulkMut, StoreMut};
+use litemap_short::ShortStore;
 use std::alloc::{AllocError, Global};
 use std::mem;
 use std::test::Fail;
@@ -105,9 +106,9 @@ fn first_wrong<S: StoreBulkMut<u32, u32>>(
     Ok(None)
 }
 
-// Whether a store changes as a vector does, and has then the same pairs after a reservation, and none in the end.
-fn keeps_up<S: StoreBulkMut<u32, u32>>(alloc: Global) -> Result<bool, AllocError> {
-    let mut store = S::lm_with_capacity(alloc, 600)?;
+// Whether a store made with this much room changes as a vector does, and has then the same pairs after a reservation, and none in the end.
+fn keeps_up<S: StoreBulkMut<u32, u32>>(alloc: Global, room: usize) -> Result<bool, AllocError> {
+    let mut store = S::lm_with_capacity(alloc, room)?;
     let mut pairs: Pairs = Vec::new(alloc);
     let is_alike = first_wrong(&mut store, &mut pairs)?.is_none();
     store.lm_reserve(1)?;
@@ -120,10 +121,11 @@ fn keeps_up<S: StoreBulkMut<u32, u32>>(alloc: Global) -> Result<bool, AllocError
 fn a_store_changes_as_a_vector_does(rt: HostRuntime) -> Result<(), Fail> {
     let alloc = rt.alloc();
     let right = [
-        keeps_up::<Pairs>(alloc)?,
-        keeps_up::<FixedRoom<u32, u32>>(alloc)?,
-        keeps_up::<ColumnStore<u32, u32>>(alloc)?,
+        keeps_up::<Pairs>(alloc, 600)?,
+        keeps_up::<FixedRoom<u32, u32>>(alloc, 600)?,
+        keeps_up::<ColumnStore<u32, u32>>(alloc, 600)?,
+        keeps_up::<ShortStore<u32, u32>>(alloc, 0)?,
     ];
-    assert_eq!(rt; right, [true; 3]);
+    assert_eq!(rt; right, [true; 4]);
     Ok(())
 }
