@@ -18,6 +18,7 @@ use bulk::BULK;
 use changes::CHANGES;
 use conversions::CONVERSIONS;
 use litemap::store::ColumnStore;
+use litemap_short::ShortStore;
 use merges::MERGES;
 use reading::READING;
 use scans::SCANS;
@@ -80,6 +81,7 @@ fn report_all<S: Growing>(rt: &(impl Print + AllocGlobal), suffix: &str) -> io::
 fn main(rt: HostRuntime) -> io::Result<()> {
     report_all::<Pairs<u32, u32>>(&rt, "")?;
     report_all::<ColumnStore<u32, u32>>(&rt, "_in_columns")?;
+    report_all::<ShortStore<u32, u32>>(&rt, "_in_short")?;
     for name in SCANS {
         report::<Pairs<u32, u32>>(&rt, name, "")?;
     }

@@ -6,6 +6,7 @@ use litemap::store::{
     ColumnStore, StoreBulkMut, StoreConstEmpty, StoreFromIterable, StoreFromIterator,
     StoreIntoIterator,
 };
+use litemap_short::ShortStore;
 use std::alloc::{AllocError, Global};
 
 /// A vector of pairs.
@@ -35,5 +36,13 @@ impl Growing for ColumnStore<u32, u32> {
         let list = odd(alloc, len)?;
         let map: Numbers<Self> = LiteMap::from_iter(alloc, list.iter().copied())?;
         converts_into!(ColumnStore, alloc, &map, &list, name)
+    }
+}
+
+impl Growing for ShortStore<u32, u32> {
+    fn converts(alloc: Global, name: &str, len: u32) -> Result<Option<bool>, AllocError> {
+        let list = odd(alloc, len)?;
+        let map: Numbers<Self> = LiteMap::from_iter(alloc, list.iter().copied())?;
+        converts_into!(ShortStore, alloc, &map, &list, name)
     }
 }
