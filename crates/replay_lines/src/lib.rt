@@ -1,5 +1,5 @@
-//! The lines that the programs `replay` and `replay_columns` read and write: the calls that words spell, what answers them
-//! of a map over any store, and the texts of the answers.
+//! The lines that the programs `replay`, `replay_columns` and `replay_short` read and write: the calls that words spell, what
+//! answers them of a map over any store, and the texts of the answers.
 #![tactic(auto)]
 
 pub mod answers;
