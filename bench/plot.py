@@ -84,7 +84,8 @@ def names(calls, top, width):
 
 def ratios(ours, theirs):
     """The plot: a row of panels for each type of keys, in it a panel for each store; a row for each call, a dot for each size."""
-    drawn_ones = [measure for measure in ours if tables.found_there(theirs, measure) is not None]
+    plotted = [measure for measure in ours if measure.keys in tables.PLOTTED]
+    drawn_ones = [measure for measure in plotted if tables.found_there(theirs, measure) is not None]
     calls = tables.distinct(measure.call for measure in drawn_ones)
     sizes = tables.distinct(measure.size for measure in drawn_ones)
     stores = tables.distinct(measure.store for measure in drawn_ones)

@@ -22,14 +22,37 @@ TITLES = {
     "read_names": "`read_names`",
     "find_name": "`find_name`",
     "write_names": "`write_names`",
+    "few_get": "`get`",
+    "few_insert": "`insert` of one more",
+    "few_iterate": "`iter`, of the whole map",
+    "few_clone": "`try_clone`",
+    "made_map": "`read_names`",
+    "made_table": "`NameTable::new`",
+    "made_index": "`NameIndex::new`",
+    "opened": "`IndexedNames::open`, a call",
+    "in_map": "`get` of the map of `read_names`",
+    "in_table": "`get` of a `NameTable`",
+    "in_index": "`get` of a `NameIndex`",
+    "in_indexed": "`get` of an `IndexedNames`",
+    "by_find_name": "`find_name`",
 }
-KEYS = {"number": "numbers (`u64`)", "text": "texts (`String`)"}
+KEYS = {
+    "number": "numbers (`u64`)",
+    "text": "texts (`String`)",
+    "few": "few numbers, a call,",
+    "name": "names of 50 bytes,",
+}
+# The keys whose rows the plot has.
+PLOTTED = ["number", "text"]
 # Where the pairs are kept, or the format that they are written in.
 STORES = {
     "vec": "over `Vec`",
     "column": "over `ColumnStore`",
+    "short": "over `ShortStore`",
     "json": "as JSON",
     "table": "as a name table",
+    "made": "made ready, an entry",
+    "asked": "a look-up",
 }
 
 
@@ -116,7 +139,7 @@ def head(sizes):
 def plain(ours, theirs):
     """The tables as text."""
     there = ", in the Rust crate, and how many times as long it takes here" if theirs else ""
-    lines = [f"Nanoseconds a pair: here{there}.", ""]
+    lines = [f"Nanoseconds a pair, or what a title says: here{there}.", ""]
     for title, sizes, rows in parts(ours, theirs):
         rows = [[f"{title}, pairs", *head(sizes)], *rows]
         widths = [max(len(row[column]) for row in rows) for column in range(len(sizes) + 1)]

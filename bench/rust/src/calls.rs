@@ -127,8 +127,9 @@ fn get<K: Key>(map: &LiteMap<K, u64>, keys: &[K]) -> u64 {
     sum
 }
 
+/// The sum of all values of a map, by `iter`.
 #[inline(never)]
-fn total<K: Key>(map: &LiteMap<K, u64>) -> u64 {
+pub fn total<K: Key>(map: &LiteMap<K, u64>) -> u64 {
     let mut sum: u64 = 0;
     for (_, value) in map {
         sum = sum.wrapping_add(*value);

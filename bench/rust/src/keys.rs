@@ -43,7 +43,7 @@ impl Key for String {
 }
 
 /// A number of a sequence that looks like chance.
-fn number(place: u64) -> u64 {
+pub fn number(place: u64) -> u64 {
     let first = place.wrapping_mul(0x9E37_79B9_7F4A_7C15);
     let second = (first ^ (first >> 30)).wrapping_mul(0xBF58_476D_1CE4_E5B9);
     let third = (second ^ (second >> 27)).wrapping_mul(0x94D0_49BB_1331_11EB);

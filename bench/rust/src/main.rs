@@ -1,6 +1,7 @@
 //! The measures of bench/rattle, of the Rust crate: the same work on the same keys, and lines of the same form.
 mod calls;
 mod cases;
+mod few;
 mod keys;
 mod measure;
 
@@ -22,4 +23,5 @@ fn main() {
         measure_keys::<u64>(size);
         measure_keys::<String>(size);
     }
+    few::measure_few();
 }

@@ -31,7 +31,7 @@ extern "C" {
 }
 
 /// The processor time that was used so far: work of others on a busy machine is no part of it.
-fn nanos_used() -> u128 {
+pub fn nanos_used() -> u128 {
     let mut time = Timespec {
         seconds: 0,
         nanos: 0,
@@ -92,7 +92,7 @@ fn change<K: Key>(data: &Data<K>, call: Call, cases: Vec<Case<K>>) -> Round {
 }
 
 /// A number that stands for all pairs of a map and their order.
-fn weight<K: Key>(map: &LiteMap<K, u64>) -> u64 {
+pub fn weight<K: Key>(map: &LiteMap<K, u64>) -> u64 {
     let mut weight: u64 = 0;
     for (key, value) in map {
         weight = weight
