@@ -4,3 +4,4 @@ pub mod Indexing
 pub mod Writing
 pub mod Scanning
 pub mod Rises
+pub mod LeftLemmas

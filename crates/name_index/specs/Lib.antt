@@ -5,3 +5,4 @@ pub mod Placed
 pub mod Faults
 pub mod Index
 pub mod Writes
+pub mod Left

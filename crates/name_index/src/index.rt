@@ -7,6 +7,7 @@ ghost use Rattle.litemap_store.specs.Pairs.{index_of, value_at};
 ghost use Rattle.name_index.specs.Tables.{OfTable, text_order};
 ghost use Rattle.name_table.specs.Remaining.{shown};
 
+use crate::name_entries::NameEntries;
 use crate::places::{pair_of, places_of, search};
 use crate::table::NameTable;
 use litemap_store::store::Count;
@@ -106,5 +107,12 @@ impl<'a> NameIndex<'a> {
             return None;
         }
         Some(pair_of(self.entries, self.places.as_slice(), index))
+    }
+
+    /// All entries in order. Each is read when it is asked for, with no comparison.
+    pub fn iter(&self) -> NameEntries<'a>
+        ensures { OfTable self.now (λ pairs. result ≡ pairs) }
+    {
+        NameEntries::new(self.entries, self.places.len())
     }
 }

@@ -9,6 +9,7 @@ ghost use Rattle.name_table.specs.Remaining.{shown};
 
 use crate::entries::{entry_at, scan};
 use crate::fault::NameTableFault;
+use crate::name_entries::NameEntries;
 use crate::rising::check;
 use litemap_read::PairSource;
 use name_table::NameBytes;
@@ -110,5 +111,12 @@ impl<'a> NameTable<'a> {
             return None;
         }
         Some(entry_at(self.entries, self.count, index))
+    }
+
+    /// All entries in order. Each is read when it is asked for, with no comparison.
+    pub fn iter(&self) -> NameEntries<'a>
+        ensures { OfTable self.now (λ pairs. result ≡ pairs) }
+    {
+        NameEntries::new(self.entries, self.count)
     }
 }

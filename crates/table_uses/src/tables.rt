@@ -25,6 +25,9 @@ pub fn write_table(alloc: Global, bytes: &[u8], output: &mut String) -> Result<(
             output.push_str(" not there")?;
         }
     }
+    if !is_walked(&table, &index) {
+        output.push_str(" another walk")?;
+    }
     let written = index_of(alloc, bytes)?;
     if !BothWays::open(written.as_slice()).is_ok_and(|both| both.has_entries_of(&table)) {
         output.push_str(" another index")?;
@@ -33,6 +36,20 @@ pub fn write_table(alloc: Global, bytes: &[u8], output: &mut String) -> Result<(
         output.push_str(" one more")?;
     }
     Ok(())
+}
+
+// Whether a table and its index are walked through the entries at the places, and no others.
+fn is_walked(table: &NameTable<'_>, index: &NameIndex<'_>) -> bool {
+    let (mut entries, mut others) = (table.iter(), index.iter());
+    let mut alike = true;
+    for place in 0..=table.len() {
+        let left = table.len().saturating_sub(place);
+        alike &= entries.len() == left && others.len() == left;
+        let entry = table.get_indexed(place);
+        alike &= entries.next() == entry;
+        alike &= others.next() == entry;
+    }
+    alike
 }
 
 // Whether an index answers as its table does at a key.

@@ -1,0 +1,32 @@
+-- The entries that are still to come.
+use Rattle.std.specs.Prelude.{◌≡◌, ℕ, List, length}
+use Rattle.std.specs.Coded.{Coded-set, coded_ℕ, coded_list, coded×}
+use Rattle.std.proofs.Common.{sym, ◌∙◌}
+use Rattle.std.proofs.Math.Logic.{∥∥₁_prop, ∥∥₁_elim}
+use mathlib.Core.HLevel.{Σ_prop_path}
+use Rattle.name_table.specs.Parts.{Begins, pair_parts}
+use Rattle.name_table.proofs.Unique.{agree_pairs, pair_parts-inj, parts_unique}
+
+-- the bytes begin with the pairs, which are so many
+pub record AreLeft (bytes : List ℕ) (count : ℕ) (pairs : List (List ℕ × List ℕ)) : Type 0 where
+  pub behind : List ℕ
+  pub spelled : Begins bytes (pair_parts pairs) behind
+  pub count_is : length pairs ≡ count
+
+-- the pairs, so many, that the bytes begin with
+abbrev pub Left : List ℕ → ℕ → Type 0
+Left bytes count = (pairs : List (List ℕ × List ℕ)) × ∥ AreLeft bytes count pairs ∥₁
+
+pub left_one : (bytes : List ℕ) (count : ℕ) (J K : List (List ℕ × List ℕ)) → AreLeft bytes count J → AreLeft bytes count K → J ≡ K
+left_one bytes count J K a b =
+    let u = parts_unique (pair_parts J) (pair_parts K) a.spelled.front b.spelled.front a.behind b.behind (agree_pairs J K (a.count_is ∙ sym b.count_is)) a.spelled.spelled b.spelled.spelled (sym a.spelled.split ∙ b.spelled.split) in
+    pair_parts-inj J K u.1
+
+pub pairs_set : (J K : List (List ℕ × List ℕ)) → IsProp (J ≡ K)
+pairs_set J K = Coded-set (coded_list (coded× (coded_list coded_ℕ) (coded_list coded_ℕ))) J K
+
+-- there is one such list at most
+pub Left-prop : (bytes : List ℕ) (count : ℕ) → IsProp (Left bytes count)
+Left-prop bytes count s t =
+    Σ_prop_path (λ pairs. ∥∥₁_prop)
+    (∥∥₁_elim s.1 (pairs_set s.0 t.0) (λ a. ∥∥₁_elim t.1 (pairs_set s.0 t.0) (λ b. left_one bytes count s.0 t.0 a b)))

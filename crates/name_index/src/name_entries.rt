@@ -1,0 +1,79 @@
+//! The iterator over the entries of a table.
+ghost use Rattle.std.specs.Prelude.{◌≡◌, length, Some, IfSome};
+ghost use Rattle.std.specs.Iterator.{at_most, UpTo};
+ghost use Rattle.std.specs.Iterator.SizeHint.{IsWithinCount};
+ghost use Rattle.std.specs.Map.Iter.{TakesFirst};
+ghost use Rattle.name_index.specs.Entries.{AreEntries, OfEntries};
+ghost use Rattle.name_index.specs.Left.{Left, Left-prop};
+ghost use Rattle.name_table.specs.Remaining.{shown};
+
+use crate::known::known_pair;
+use std::iter::FusedIterator;
+use std::marker::Model;
+
+/// The entries of a table that are still to come. A contract sees their list, in which a text is the list of its bytes.
+#[derive(Drop)]
+pub struct NameEntries<'a> {
+    rest: &'a [u8],
+    count: usize,
+    ghost pairs: { Left rest.now count } by { Left-prop rest.now count },
+}
+
+impl<'a> Model for NameEntries<'a> {
+    ghost use Rattle.std.specs.Prelude.{ℕ, List};
+    ghost use Rattle.name_index.specs.Left.{AreLeft};
+
+    ghost Value = { List (List ℕ × List ℕ) };
+
+    ghost view = { λ s. s.pairs.0 };
+
+    ghost invariant = { λ s. AreLeft s.rest.now s.count s.pairs.0 };
+}
+
+impl<'a> NameEntries<'a> {
+    // The iterator over so many entries, which the bytes begin with.
+    pub(crate) fn new(entries: &'a [u8], count: usize) -> Self
+        requires { AreEntries entries.now count }
+        ensures { OfEntries entries.now count (λ pairs. result ≡ pairs) }
+    {
+        NameEntries {
+            rest: entries,
+            count,
+        }
+    }
+}
+
+impl<'a> Iterator for NameEntries<'a> {
+    type Item = (&'a str, &'a str);
+
+    ghost next_gives = { TakesFirst shown };
+
+    ghost remaining = { λ s. at_most (length s) };
+
+    fn next(&mut self) -> Option<(&'a str, &'a str)> {
+        if self.count == 0 {
+            return None;
+        }
+        let (pair, behind) = known_pair(self.rest);
+        self.rest = behind;
+        self.count -= 1;
+        Some(pair)
+    }
+
+    fn size_hint(&self) -> (usize, Option<usize>)
+        ensures lower { IsWithinCount result.0 (at_most (length self.now)) }
+        ensures upper { IfSome result.1 (UpTo (at_most (length self.now))) }
+        ensures exact { (result.0 ≡ length self.now) × (result.1 ≡ Some (length self.now)) }
+    {
+        let len = self.len();
+        (len, Some(len))
+    }
+}
+
+impl<'a> ExactSizeIterator for NameEntries<'a> {
+    fn len(&self) -> usize {
+        self.count
+    }
+}
+
+impl<'a> FusedIterator for NameEntries<'a> {}
