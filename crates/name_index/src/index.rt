@@ -116,3 +116,16 @@ impl<'a> NameIndex<'a> {
         NameEntries::new(self.entries, self.places.len())
     }
 }
+
+/// All entries in order, as `iter` gives them.
+impl<'t, 'a> IntoIterator for &'t NameIndex<'a> {
+    type Item = (&'a str, &'a str);
+
+    type IntoIter = NameEntries<'a>;
+
+    ghost into_iter_gives = { λ t r. OfTable t.now (λ pairs. r ≡ pairs) };
+
+    fn into_iter(self) -> NameEntries<'a> {
+        self.iter()
+    }
+}

@@ -120,3 +120,16 @@ impl<'a> NameTable<'a> {
         NameEntries::new(self.entries, self.count)
     }
 }
+
+/// All entries in order, as `iter` gives them.
+impl<'t, 'a> IntoIterator for &'t NameTable<'a> {
+    type Item = (&'a str, &'a str);
+
+    type IntoIter = NameEntries<'a>;
+
+    ghost into_iter_gives = { λ t r. OfTable t.now (λ pairs. r ≡ pairs) };
+
+    fn into_iter(self) -> NameEntries<'a> {
+        self.iter()
+    }
+}

@@ -25,7 +25,7 @@ pub fn write_table(alloc: Global, bytes: &[u8], output: &mut String) -> Result<(
             output.push_str(" not there")?;
         }
     }
-    if !is_walked(&table, &index) {
+    if !is_walked(&table, &index) || !is_met(&table, &index) {
         output.push_str(" another walk")?;
     }
     let written = index_of(alloc, bytes)?;
@@ -50,6 +50,18 @@ fn is_walked(table: &NameTable<'_>, index: &NameIndex<'_>) -> bool {
         alike &= others.next() == entry;
     }
     alike
+}
+
+// Whether each entry of a table is met once, and found in its index.
+fn is_met(table: &NameTable<'_>, index: &NameIndex<'_>) -> bool {
+    let mut number = 0usize;
+    for (key, value) in table {
+        if index.find_index(key) != Ok(number) || index.get(key) != Some(value) {
+            return false;
+        }
+        number = number.wrapping_add(1);
+    }
+    number == table.len()
 }
 
 // Whether an index answers as its table does at a key.
