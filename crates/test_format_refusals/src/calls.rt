@@ -1,0 +1,70 @@
+//! The scenarios, by name.
+use crate::{json, read, session, tables};
+use litemap::store::ColumnStore;
+use std::alloc::Global;
+use test_refusal_support::{Outcome, Scenarios};
+
+type Numbers = Vec<(u32, u32)>;
+
+type NumberColumns = ColumnStore<u32, u32>;
+
+type Texts = Vec<(String, String)>;
+
+type TextColumns = ColumnStore<String, String>;
+
+/// The scenarios of calls that read and write.
+pub struct Calls;
+
+/// The names of the scenarios.
+const NAMES: [&str; 23] = [
+    "read_pairs",
+    "read_pairs_hinted",
+    "run_calls",
+    "to_json",
+    "from_json",
+    "json_array",
+    "names",
+    "names_json",
+    "read_pairs_in_columns",
+    "read_pairs_hinted_in_columns",
+    "run_calls_in_columns",
+    "to_json_in_columns",
+    "from_json_in_columns",
+    "names_in_columns",
+    "names_json_in_columns",
+    "read_names",
+    "find_name",
+    "write_names",
+    "array_of_two",
+    "number_key",
+    "text_item",
+    "text_key",
+    "rewrite_flags",
+];
+
+impl Scenarios for Calls {
+    fn names(&self) -> &[&'static str] {
+        &NAMES
+    }
+
+    fn run(&self, alloc: Global, name: &str) -> Option<Outcome> {
+        match name {
+            "read_pairs" => Some(read::read_pairs::<Numbers>(alloc)),
+            "read_pairs_in_columns" => Some(read::read_pairs::<NumberColumns>(alloc)),
+            "read_pairs_hinted" => Some(read::read_pairs_hinted::<Numbers>(alloc)),
+            "read_pairs_hinted_in_columns" => {
+                Some(read::read_pairs_hinted::<NumberColumns>(alloc))
+            }
+            "run_calls" => Some(read::run_calls::<Numbers>(alloc)),
+            "run_calls_in_columns" => Some(read::run_calls::<NumberColumns>(alloc)),
+            "names" => Some(session::run_lines::<Texts>(alloc)),
+            "names_in_columns" => Some(session::run_lines::<TextColumns>(alloc)),
+            "names_json" => Some(session::run_json::<Texts>(alloc)),
+            "names_json_in_columns" => Some(session::run_json::<TextColumns>(alloc)),
+            "read_names" => Some(tables::read_names(alloc)),
+            "find_name" => Some(tables::find_name(alloc)),
+            "write_names" => Some(tables::write_names(alloc)),
+            _ => json::run(alloc, name),
+        }
+    }
+}

@@ -1,0 +1,93 @@
+//! Reading from a source, and a list of calls.
+use litemap::LiteMap;
+use litemap::store::{Store, StoreBulkMut};
+use litemap_read::ReadFault;
+use litemap_read::laws::{Answer, Call};
+use std::alloc::{AllocError, Global};
+use test_refusal_support::Outcome;
+use test_refusal_support::pairs::{LAST, PAIRS, SCATTERED, has};
+use test_support::sources::Script;
+
+/// A map of numbers.
+pub type Numbers<S> = LiteMap<u32, u32, S>;
+
+// What is read, and whether it has these pairs.
+fn read<S: StoreBulkMut<u32, u32>>(
+    alloc: Global,
+    source: &mut Script<'_, u32, u32>,
+    left: &[(u32, u32)],
+) -> Outcome {
+    let read: Result<Numbers<S>, _> = litemap_read::read_pairs(alloc, source);
+    match read {
+        Ok(map) => Outcome::answered(has(&map, left)),
+        Err(ReadFault::NoRoom) => Outcome::Refused,
+        Err(ReadFault::Source(_)) => Outcome::Wrong("a fault that the source does not have"),
+    }
+}
+
+/// Pairs in no order, of a source that says nothing of their number.
+pub(crate) fn read_pairs<S: StoreBulkMut<u32, u32>>(alloc: Global) -> Outcome {
+    read::<S>(alloc, &mut Script::new(&SCATTERED), &LAST)
+}
+
+/// Pairs that rise, of a source that says how many they are: the room for these is done without where it is refused.
+pub(crate) fn read_pairs_hinted<S: StoreBulkMut<u32, u32>>(alloc: Global) -> Outcome {
+    let mut source = Script::new(&PAIRS);
+    source.hint = Some(PAIRS.len());
+    read::<S>(alloc, &mut source, &PAIRS)
+}
+
+// A call for each pair, which puts it in.
+fn insert_each(alloc: Global) -> Result<Vec<Call<u32, u32>>, AllocError> {
+    let mut calls = Vec::with_capacity(alloc, PAIRS.len())?;
+    for (key, value) in PAIRS {
+        calls.push(Call::Insert(key, value))?;
+    }
+    Ok(calls)
+}
+
+// Whether these are the calls of `insert_each`.
+fn are_all(calls: &[Call<u32, u32>]) -> bool {
+    calls.len() == PAIRS.len()
+        && calls.iter().zip(PAIRS.iter()).all(|(
+            call,
+            pair,
+        )| matches!(call, Call::Insert(key, value) if (*key, *value) == *pair))
+}
+
+/// Pairs put in by a list of calls: those that are refused are left out, and the run goes on.
+pub(crate) fn run_calls<S: StoreBulkMut<u32, u32>>(alloc: Global) -> Outcome {
+    let Ok(calls) = insert_each(alloc) else {
+        return Outcome::Refused;
+    };
+    let made: Result<Numbers<S>, _> = LiteMap::with_capacity(alloc, 0);
+    let Ok(mut map) = made else {
+        return Outcome::Wrong("no room was refused");
+    };
+    match litemap_read::laws::run_calls(alloc, &mut map, calls) {
+        Ok(answers) => after_run(&map, &answers),
+        Err(refused) => Outcome::refused(are_all(&refused.back), map.is_empty()),
+    }
+}
+
+// What came of the calls of `insert_each`.
+fn after_run<S: Store<u32, u32>>(map: &Numbers<S>, answers: &[Answer<u32, u32>]) -> Outcome {
+    let mut left = 0usize;
+    for (pair, answer) in PAIRS.iter().zip(answers.iter()) {
+        if *answer == Answer::Value(None) {
+            if map.get_indexed(left) != Some((&pair.0, &pair.1)) {
+                return Outcome::Wrong("a pair that was put in is not there");
+            }
+            left = left.wrapping_add(1);
+        } else if *answer != Answer::NoRoom(Some(*pair)) {
+            return Outcome::Wrong("another answer");
+        }
+    }
+    if answers.len() != PAIRS.len() {
+        Outcome::Wrong("another number of answers")
+    } else if left == PAIRS.len() {
+        Outcome::answered(has(map, &PAIRS))
+    } else {
+        Outcome::refused(true, map.len() == left)
+    }
+}

@@ -1,0 +1,55 @@
+//! Name tables that are read and written.
+use litemap::LiteMap;
+use litemap_read::ReadFault;
+use names::{NameFault, NameMap, NameWriteFault};
+use std::alloc::Global;
+use test_refusal_support::Outcome;
+
+/// Keys in no order, one of them twice.
+const TABLE: &[u8] = b"\x05\x01c\x011\x01a\x012\x01b\x013\x01a\x014\x01d\x015";
+
+/// What it is read as.
+const PAIRS: [(&str, &str); 4] = [("a", "4"), ("b", "3"), ("c", "1"), ("d", "5")];
+
+/// That written.
+const WRITTEN: &[u8] = b"\x04\x01a\x014\x01b\x013\x01c\x011\x01d\x015";
+
+/// `read_names`.
+pub(crate) fn read_names(alloc: Global) -> Outcome {
+    match names::read_names(alloc, TABLE) {
+        Ok((map, size)) => {
+            Outcome::answered(size == TABLE.len() && map.as_slice() == PAIRS.as_slice())
+        }
+        Err(fault) => refused(&fault),
+    }
+}
+
+/// `find_name`.
+pub(crate) fn find_name(alloc: Global) -> Outcome {
+    match names::find_name(alloc, TABLE, "b") {
+        Ok(found) => Outcome::answered(found == Some((1, "3"))),
+        Err(fault) => refused(&fault),
+    }
+}
+
+/// `write_names`, of a map made by insertions.
+pub(crate) fn write_names(alloc: Global) -> Outcome {
+    let mut map: NameMap = LiteMap::new_vec(alloc);
+    for (key, value) in PAIRS {
+        if map.insert(key, value).is_err() {
+            return Outcome::Refused;
+        }
+    }
+    match names::write_names(alloc, &map) {
+        Ok(bytes) => Outcome::answered(bytes.as_slice() == WRITTEN),
+        Err(NameWriteFault::NoRoom) => Outcome::refused(true, map.as_slice() == PAIRS.as_slice()),
+        Err(NameWriteFault::TooLarge) => Outcome::Wrong("another fault"),
+    }
+}
+
+fn refused(fault: &ReadFault<NameFault>) -> Outcome {
+    match fault {
+        ReadFault::NoRoom => Outcome::Refused,
+        ReadFault::Source(_) => Outcome::Wrong("a fault of the table"),
+    }
+}
