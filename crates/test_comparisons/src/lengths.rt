@@ -13,18 +13,18 @@ pub const LENGTHS: [u32; 22] = [
 ];
 
 /// The number of binary digits of a number.
-pub fn digits(number: u32) -> u32 {
+pub(crate) fn digits(number: u32) -> u32 {
     u32::BITS - number.leading_zeros()
 }
 
 /// The end of the numbers that are tried on a map of this length: each key, and one in each gap.
-pub fn end_of(len: u32) -> u32 {
+pub(crate) fn end_of(len: u32) -> u32 {
     len.wrapping_mul(2).wrapping_add(1)
 }
 
 /// The map of the keys 1, 3, 5 and so on, as many as this, with room for one pair more. A key's value is
 /// its number.
-pub fn odd_keys<'a, S: StoreMut<Counted<'a>, u32> + Drop>(
+pub(crate) fn odd_keys<'a, S: StoreMut<Counted<'a>, u32> + Drop>(
     alloc: Global,
     made: &'a Cell<u32>,
     len: u32,

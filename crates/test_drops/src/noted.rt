@@ -70,13 +70,13 @@ impl Ord for Noted<'_> {
 }
 
 /// A number, which is counted from here on.
-pub fn note<'a>(number: u32, there: &'a Cell<u32>) -> Noted<'a> {
+pub(crate) fn note<'a>(number: u32, there: &'a Cell<u32>) -> Noted<'a> {
     there.set(there.get().wrapping_add(1));
     Noted { number, there }
 }
 
 /// So many pairs, from a number on by steps.
-pub fn pairs<'a>(
+pub(crate) fn pairs<'a>(
     alloc: Global,
     count: u32,
     first: u32,
@@ -92,7 +92,7 @@ pub fn pairs<'a>(
 }
 
 /// A map of so many odd keys from 1 on, with no room for a further pair where the store's room is fixed.
-pub fn odd_keys<'a, S: StoreMut<Noted<'a>, Noted<'a>> + Drop>(
+pub(crate) fn odd_keys<'a, S: StoreMut<Noted<'a>, Noted<'a>> + Drop>(
     alloc: Global,
     len: u32,
     there: &'a Cell<u32>,

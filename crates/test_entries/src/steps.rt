@@ -141,7 +141,7 @@ fn met_where_there<V: Copy, S: StoreMut<u32, V>>(
 }
 
 /// Makes a call on a map: whether it meets and leaves what the step says.
-pub fn is_made<V: Copy + Default + PartialEq + Changed, S: StoreMut<u32, V>>(
+pub(crate) fn is_made<V: Copy + Default + PartialEq + Changed, S: StoreMut<u32, V>>(
     alloc: Global,
     map: &mut LiteMap<u32, V, S>,
     (call, key, value, answer, times, left): (Call, u32, V, &Answer<V>, u32, &[(u32, V)]),
@@ -153,7 +153,7 @@ pub fn is_made<V: Copy + Default + PartialEq + Changed, S: StoreMut<u32, V>>(
 }
 
 /// Makes the calls on a map: the place of the first that meets or leaves something else than its step says.
-pub fn first_wrong<V: Copy + Default + PartialEq + Changed, S: StoreMut<u32, V>>(
+pub(crate) fn first_wrong<V: Copy + Default + PartialEq + Changed, S: StoreMut<u32, V>>(
     alloc: Global,
     map: &mut LiteMap<u32, V, S>,
     steps: &[Step<V>],

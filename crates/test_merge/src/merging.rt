@@ -11,7 +11,7 @@ use test_support::lists::{list_of, map_of};
 pub type Pairs = Vec<(Letter, u8)>;
 
 /// The pairs that a text tells.
-pub fn pairs_of(alloc: Global, text: &[u8]) -> Result<Pairs, AllocError> {
+pub(crate) fn pairs_of(alloc: Global, text: &[u8]) -> Result<Pairs, AllocError> {
     let mut pairs = Vec::new(alloc);
     let mut key = None;
     for byte in text {
@@ -27,7 +27,7 @@ pub fn pairs_of(alloc: Global, text: &[u8]) -> Result<Pairs, AllocError> {
 }
 
 /// The text that tells a list of pairs.
-pub fn text_of(alloc: Global, pairs: &[(Letter, u8)]) -> Result<Vec<u8>, AllocError> {
+pub(crate) fn text_of(alloc: Global, pairs: &[(Letter, u8)]) -> Result<Vec<u8>, AllocError> {
     let mut text = Vec::new(alloc);
     for (letter, value) in pairs {
         text.push(letter.code)?;
@@ -40,7 +40,7 @@ pub fn text_of(alloc: Global, pairs: &[(Letter, u8)]) -> Result<Vec<u8>, AllocEr
 pub type Merged = (Vec<u8>, Option<Vec<u8>>);
 
 /// Whether a merge is told by these texts: the map, and what is left over, where the empty text says that nothing is.
-pub fn is_told(merged: &Merged, all: &[u8], left: &[u8]) -> bool {
+pub(crate) fn is_told(merged: &Merged, all: &[u8], left: &[u8]) -> bool {
     let is_left = match &merged.1 {
         None => left.is_empty(),
         Some(rest) => !rest.is_empty() && rest.as_slice() == left,
@@ -57,7 +57,7 @@ fn told<S: Store<Letter, u8>>(
 }
 
 /// Merges the map of a list into that of another. Each is made with this much room.
-pub fn merge<S: StoreIntoIterator<Letter, u8> + Drop>(
+pub(crate) fn merge<S: StoreIntoIterator<Letter, u8> + Drop>(
     alloc: Global,
     old: &[(Letter, u8)],
     new: &[(Letter, u8)],

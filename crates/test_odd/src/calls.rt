@@ -275,7 +275,10 @@ where
 }
 
 /// The number of the first row that isn't answered right, over one store.
-pub fn first_wrong<K: Coded, S>(alloc: Global, rows: &[Row]) -> Result<Option<usize>, AllocError>
+pub(crate) fn first_wrong<K: Coded, S>(
+    alloc: Global,
+    rows: &[Row],
+) -> Result<Option<usize>, AllocError>
 where
     S: StoreBulkMut<K, u8> + StoreFromIterable<K, u8> + StoreIntoIterator<K, u8>,
 {

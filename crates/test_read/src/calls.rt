@@ -29,7 +29,11 @@ fn call_of(alloc: Global, number: u32, value: u8) -> Result<Call<u8, u8>, AllocE
 }
 
 /// The calls of a number: its digits to the base `KINDS`. Their values are 1, 2 and so on.
-pub fn calls_of(alloc: Global, number: u32, len: u8) -> Result<Vec<Call<u8, u8>>, AllocError> {
+pub(crate) fn calls_of(
+    alloc: Global,
+    number: u32,
+    len: u8,
+) -> Result<Vec<Call<u8, u8>>, AllocError> {
     let mut calls = Vec::new(alloc);
     let mut rest = number;
     for place in 0..len {
@@ -71,7 +75,7 @@ fn last_of(alloc: Global, pairs: &[(u8, u8)], more: &[(u8, u8)]) -> Result<Pairs
 }
 
 /// Does a call to a list by slow scans, and answers it as a map does that isn't refused.
-pub fn answer_by_scan(
+pub(crate) fn answer_by_scan(
     alloc: Global,
     pairs: &mut Pairs,
     call: &Call<u8, u8>,
@@ -113,7 +117,7 @@ pub fn answer_by_scan(
 }
 
 /// Whether a call to a list may be refused, and with what it then comes back.
-pub fn refusal_by_scan(pairs: &[(u8, u8)], call: &Call<u8, u8>) -> Option<Answer<u8, u8>> {
+pub(crate) fn refusal_by_scan(pairs: &[(u8, u8)], call: &Call<u8, u8>) -> Option<Answer<u8, u8>> {
     let back = match call {
         Call::Insert(key, value) | Call::TryInsert(key, value) => {
             value_of(pairs, *key)

@@ -6,7 +6,10 @@ use test_support::keys::Letter;
 pub type Pairs = &'static [(u8, u32)];
 
 /// The pairs with their keys as letters.
-pub fn letters(alloc: Global, pairs: &[(u8, u32)]) -> Result<Vec<(Letter, u32)>, AllocError> {
+pub(crate) fn letters(
+    alloc: Global,
+    pairs: &[(u8, u32)],
+) -> Result<Vec<(Letter, u32)>, AllocError> {
     pairs
         .iter()
         .map(|(code, value)| (Letter { code: *code }, *value))
@@ -14,7 +17,7 @@ pub fn letters(alloc: Global, pairs: &[(u8, u32)]) -> Result<Vec<(Letter, u32)>,
 }
 
 /// Whether the letters are these, their case too, and the values.
-pub fn are(list: &[(Letter, u32)], pairs: &[(u8, u32)]) -> bool {
+pub(crate) fn are(list: &[(Letter, u32)], pairs: &[(u8, u32)]) -> bool {
     list.len() == pairs.len()
         && list
             .iter()

@@ -17,7 +17,7 @@ fn pair_at<S: Store<u32, u32>>(store: &S, place: usize) -> Option<(u32, u32)> {
 }
 
 /// Whether the store has these pairs, at their places and at none of the nine behind them.
-pub fn has_pairs<S: Store<u32, u32>>(store: &S, pairs: &[(u32, u32)]) -> bool {
+pub(crate) fn has_pairs<S: Store<u32, u32>>(store: &S, pairs: &[(u32, u32)]) -> bool {
     for place in 0..pairs.len().wrapping_add(9) {
         if pair_at(store, place) != pairs.get(place).copied() {
             return false;
