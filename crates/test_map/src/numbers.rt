@@ -1,5 +1,5 @@
-//! The proved callers of the crate `example_uses` that keep numbers, write in place, keep some and merge. Each answers plain lists,
-//! and the tests compare them.
+//! The proved callers of the crate `example_uses` that keep numbers, write in place, keep some and merge. Each answers plain
+//! lists, and the tests compare them.
 use example_uses::numbers::{self, Ages, Readings, Shelf, Stock};
 use litemap::LiteMap;
 use std::alloc::{AllocError, Global};

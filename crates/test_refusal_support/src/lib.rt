@@ -3,8 +3,10 @@
 #![tactic(auto)]
 
 mod lines;
+mod numbers;
 mod outcome;
 pub mod pairs;
 
 pub use lines::{Scenarios, run_lines};
+pub use numbers::Number;
 pub use outcome::{Outcome, room_left};

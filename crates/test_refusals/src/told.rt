@@ -1,36 +1,7 @@
 //! Keys and values as a scenario tells them, whether they are there, boxed or lent.
 use litemap::LiteMap;
 use litemap::store::Store;
-
-/// What is a number, or leads to one.
-pub(crate) trait Number {
-    /// The number.
-    fn number(&self) -> u64;
-}
-
-impl Number for u32 {
-    fn number(&self) -> u64 {
-        *self as u64
-    }
-}
-
-impl Number for u64 {
-    fn number(&self) -> u64 {
-        *self
-    }
-}
-
-impl Number for Box<u32> {
-    fn number(&self) -> u64 {
-        **self as u64
-    }
-}
-
-impl Number for &u32 {
-    fn number(&self) -> u64 {
-        **self as u64
-    }
-}
+use test_refusal_support::Number;
 
 /// What is a text, or leads to one.
 pub(crate) trait Text {

@@ -4,45 +4,18 @@
 //! `test_replay` does with the store `vec`.
 #![tactic(auto)]
 
-use litemap::LiteMap;
 use litemap::store::ColumnStore;
-use std::alloc::{AllocError, Global};
 use std::io;
-use test_replay_lines::answers::Answer;
-use test_replay_lines::calls::Call;
-use test_replay_lines::maps;
-use test_replay_lines::tables::{Stores, answers};
+use test_replay_lines::one_store::OneStore;
+use test_replay_lines::tables::answers;
 use test_support::keys::Letter;
 
-/// The map with one type of keys.
-#[derive(Drop)]
-pub struct Columns<K: Ord> {
-    map: LiteMap<K, u32, ColumnStore<K, u32>>,
-}
-
-impl<K: Ord + Copy> Stores<K> for Columns<K> {
-    fn new(alloc: Global) -> Self {
-        Columns {
-            map: LiteMap::new(alloc),
-        }
-    }
-
-    fn answer_of(
-        &mut self,
-        alloc: Global,
-        store: &str,
-        call: Call<K>,
-    ) -> Option<Result<Answer<K>, AllocError>> {
-        match store {
-            "columns" => Some(maps::answer(alloc, &mut self.map, call)),
-            _ => None,
-        }
-    }
-}
+// The map with one type of keys, over two columns.
+type InColumns<K> = OneStore<K, ColumnStore<K, u32>>;
 
 fn main(rt: HostRuntime) -> io::Result<()> {
     let input = io::read_to_string(rt.alloc(), rt.stdin())?;
-    let output = answers::<Columns<u32>, Columns<&str>, Columns<Letter>>(
+    let output = answers::<InColumns<u32>, InColumns<&str>, InColumns<Letter>>(
         rt.alloc(),
         input.as_str(),
     )?;

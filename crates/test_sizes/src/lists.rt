@@ -2,6 +2,7 @@
 use litemap::LiteMap;
 use litemap::store::Store;
 use std::alloc::{AllocError, Global};
+use test_refusal_support::Number;
 
 /// A map of numbers.
 pub(crate) type Numbers<S> = LiteMap<u32, u32, S>;
@@ -24,36 +25,6 @@ pub(crate) fn falling_twice(alloc: Global, len: u32) -> Result<Vec<(u32, u32)>, 
             (key, if step % 2 == 0 { 7 } else { value })
         })
         .collect(alloc)
-}
-
-/// What is a number, or leads to one.
-pub(crate) trait Number {
-    /// The number.
-    fn number(&self) -> u64;
-}
-
-impl Number for u32 {
-    fn number(&self) -> u64 {
-        *self as u64
-    }
-}
-
-impl Number for u64 {
-    fn number(&self) -> u64 {
-        *self
-    }
-}
-
-impl Number for Box<u32> {
-    fn number(&self) -> u64 {
-        **self as u64
-    }
-}
-
-impl Number for &u32 {
-    fn number(&self) -> u64 {
-        **self as u64
-    }
 }
 
 /// Whether the map has the numbers of these pairs, in this order, and no others.

@@ -106,7 +106,8 @@ fn first_wrong<S: StoreBulkMut<u32, u32>>(
     Ok(None)
 }
 
-// Whether a store made with this much room changes as a vector does, and has then the same pairs after a reservation, and none in the end.
+// Whether a store made with this much room changes as a vector does, and has then the same pairs after a reservation, and
+// none in the end.
 fn keeps_up<S: StoreBulkMut<u32, u32>>(alloc: Global, room: usize) -> Result<bool, AllocError> {
     let mut store = S::lm_with_capacity(alloc, room)?;
     let mut pairs: Pairs = Vec::new(alloc);
