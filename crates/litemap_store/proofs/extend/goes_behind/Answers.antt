@@ -1,4 +1,5 @@
-use Rattle.std.proofs.Common.{◌≡◌, sym, ap, ◌∙◌, is_lt, refl}
+use Rattle.std.proofs.Common.{◌≡◌, sym, ap, ◌∙◌, is_lt, refl, arith}
+use Rattle.std.proofs.lemmas.Grind.{common_steps}
 use Rattle.litemap_store.proofs.LastPairs.{less_from_is_lt}
 use Rattle.litemap_store.proofs.Joined.{Rising-behind, empty_from_last}
 use Rattle.litemap_store.proofs.extend.goes_behind.Goals as goal
@@ -12,3 +13,6 @@ returns-clause-behind g c =
 
 pub returns-in_default-clause-behind : goal.returns-in_default-clause-behind
 returns-in_default-clause-behind g c = let e = empty_from_last (g.S.Store.pairs c.args.store.now) (sym c.in_default.ensures) in (λ t. rw e c.requires.pairs, λ r. refl)
+
+pub returns-in_default-first-clause-behind : goal.returns-in_default-first-clause-behind
+returns-in_default-first-clause-behind g c = grind (arith, common_steps)

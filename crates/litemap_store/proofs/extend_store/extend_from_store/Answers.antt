@@ -1,5 +1,6 @@
-use Rattle.std.proofs.Common.{◌≡◌, [], sym, ◌∙◌, refl, eqb-true}
+use Rattle.std.proofs.Common.{◌≡◌, [], sym, ◌∙◌, refl, eqb-true, arith}
 use Rattle.std.proofs.lemmas.List.{nil_from_length}
+use Rattle.std.proofs.lemmas.Grind.{common_steps}
 use mathlib.Core.Bool.{true≢false}
 use Rattle.litemap_store.proofs.MergeJoins.{Merge-before, Merge-behind, left-before, left-behind, left-nil, not_apart}
 use Rattle.litemap_store.proofs.extend_store.extend_from_store.Goals as goal
@@ -32,3 +33,15 @@ returns-clause-apart g c = λ apart.
     absurd (not_apart g.K.Ord.cmp g.met.K.Ord.total _ _ c.requires.store c.requires.other (sym c.lm_is_empty-2.ensures ∙ c.if-lm_is_empty-2.false) (sym c.lm_is_empty.ensures ∙ c.if-lm_is_empty.false)
     (λ r. true≢false (sym (c.lies_below.ensures.below.1 r) ∙ c.if-lies_below.false))
     (λ r. true≢false (sym (c.lies_below-2.ensures.below.1 r) ∙ c.if-lies_below-2.false)) apart)
+
+pub returns-then-lm_is_empty-clause-merged : goal.returns-then-lm_is_empty-clause-merged
+returns-then-lm_is_empty-clause-merged g c = grind (arith, common_steps)
+
+pub returns-then-lm_is_empty-clause-none : goal.returns-then-lm_is_empty-clause-none
+returns-then-lm_is_empty-clause-none g c = grind (arith, common_steps)
+
+pub returns-then-lm_is_empty-2-clause-merged : goal.returns-then-lm_is_empty-2-clause-merged
+returns-then-lm_is_empty-2-clause-merged g c = grind (arith, common_steps)
+
+pub returns-clause-uncounted : goal.returns-clause-uncounted
+returns-clause-uncounted g c = grind (arith, common_steps)

@@ -1,6 +1,7 @@
 use Rattle.std.proofs.Common.{◌≡◌, ◌-◌, length, arith, ap, ◌∙◌, inl, inr}
 use Rattle.std.proofs.lemmas.Bool.{cases_eq}
 use Rattle.std.proofs.lemmas.Result.{on_ok_weaker}
+use Rattle.std.proofs.lemmas.Grind.{common_steps}
 use Rattle.litemap_store.proofs.Counting.{in_turn}
 use Rattle.litemap_store.proofs.Joined.{Rising-from_Rises}
 use Rattle.litemap_store.proofs.LastPairs.{Last-join_right}
@@ -18,3 +19,6 @@ returns-clause-behind g c = λ h.
       | inl none ↦ in_turn (length given - 1) 0 (length given) (omega arith) c.in_ok-pairs.ensures.cost (c.put_rising_in_vec.ensures.none (ap length same ∙ none))
       | inr some ↦ in_turn (length given - 1) 1 (length given) (omega arith) c.in_ok-pairs.ensures.cost (c.put_rising_in_vec.ensures.behind (rw same up))
     ]
+
+pub returns-clause-cost : goal.returns-clause-cost
+returns-clause-cost g c = grind (arith, common_steps)

@@ -1,4 +1,5 @@
 use Rattle.std.proofs.Common.{rules, ◌≡◌, ◌∷◌, ap, length, suc, arith}
+use Rattle.std.proofs.lemmas.Grind.{common_steps}
 use Rattle.litemap_store.proofs.MergeSteps.{MergedUpTo-more}
 use Rattle.litemap_store.proofs.extend_store.one_by_one.put_each.Goals as goal
 
@@ -31,3 +32,9 @@ push_some-requires g c =
     let shorter = ap length (g.met.S.KeyValueIntoIter.PairIntoIter.first _ _ _ c.in-Some.ensures.steps) in
     let rest_room = c.loop-key.invariant.rest_room in
     omega arith
+
+pub returns-clause-left : goal.returns-clause-left
+returns-clause-left g c = grind (arith, common_steps)
+
+pub returns-clause-cost : goal.returns-clause-cost
+returns-clause-cost g c = grind (arith, common_steps)

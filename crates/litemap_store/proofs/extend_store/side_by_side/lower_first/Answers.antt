@@ -1,4 +1,5 @@
-use Rattle.std.proofs.Common.{sym}
+use Rattle.std.proofs.Common.{sym, arith}
+use Rattle.std.proofs.lemmas.Grind.{common_steps}
 use Rattle.litemap_store.proofs.Walking.{lower_from_cmp, lower_new, lower_none, lower_old}
 use Rattle.litemap_store.proofs.extend_store.side_by_side.lower_first.Goals as goal
 
@@ -13,3 +14,6 @@ returns-in_default-first-2-clause-lower g c = lower_old g.K.Ord.cmp g.met.K.Ord.
 
 pub returns-clause-lower : goal.returns-clause-lower
 returns-clause-lower g c = lower_from_cmp g.K.Ord.cmp g.met.K.Ord.total c.args.olds.now c.args.news.now (c.in-Some.old.now, c.in-Some.field-0-1.now) (c.in-Some-first-2.new.now, c.in-Some-first-2.field-0-1.now) c.cmp.result c.requires.olds c.requires.news (sym c.in-Some.ensures) (sym c.in-Some-first-2.ensures) c.cmp.ensures.answer
+
+pub returns-clause-none : goal.returns-clause-none
+returns-clause-none g c = grind (arith, common_steps)
