@@ -33,6 +33,10 @@ pub value-bytes : (L : TextPairs) (k : List ℕ) (value : Option (String Global)
 value-bytes L k value e =
     ap (option_map string_bytes) e ∙ sym (value-view by_text (slice_cmp nat_cmp) (λ k. k) string_bytes string_bytes keeps L k)
 
+pub index-bytes : (old : Seen (String Global) (String Global)) (k : List ℕ) (place : Result ℕ ℕ) → place ≡ index_of by_text old.pairs k
+    → place ≡ index_of (slice_cmp nat_cmp) (names_of old).pairs k
+index-bytes old k place e = e ∙ sym (index-view by_text (slice_cmp nat_cmp) (λ k. k) string_bytes string_bytes keeps old.pairs k)
+
 -- what is left without the key
 pub cut-bytes : (old new : Seen (String Global) (String Global)) (k : List ℕ) → new.pairs ≡ cut by_text old.pairs k
     → (names_of new).pairs ≡ cut (slice_cmp nat_cmp) (names_of old).pairs k

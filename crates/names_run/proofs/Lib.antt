@@ -1,6 +1,7 @@
 -- Lemmas of the crate.
 pub mod Calls
 pub mod Cuts
+pub mod Joins
 pub mod Notes
 pub mod Objects
 pub mod Tolds

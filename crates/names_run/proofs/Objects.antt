@@ -1,5 +1,5 @@
 -- The text of pairs as a JSON object, from the tokens pair by pair.
-use Rattle.std.proofs.Common.{◌≡◌, ◌≤◌, ℕ, List, [], ◌∷◌, ◌++◌, true, false, length, map, take, take_all, arith, refl, sym, ap, ◌∙◌, append_assoc}
+use Rattle.std.proofs.Common.{◌≡◌, ◌≤◌, ℕ, List, [], ◌∷◌, ◌++◌, true, false, drop, length, map, take, take_all, arith, refl, sym, ap, ◌∙◌, append_assoc}
 use Rattle.std.specs.Prelude.{◌==◌, flat_map}
 use Rattle.std.proofs.lemmas.Bool.{eqb-true}
 use Rattle.std.proofs.lemmas.List.{length-map}
@@ -41,6 +41,17 @@ print-pairs (p ∷ L) =
     ∙ print-pair p (flat_map pair_tokens L ++ (end_object ∷ []))
     ∙ ap (λ t. 44 ∷ (member_text p ++ t)) (print-pairs L)
     ∙ ap (λ t. 44 ∷ t) (sym (append_assoc (member_text p) (later_members L) (125 ∷ [])))
+
+print-later : (L : Texts) → print_from true (flat_map pair_tokens L) ≡ later_members L
+unfolding print_from
+print-later [] = refl
+print-later (p ∷ L) = print-pair p (flat_map pair_tokens L) ∙ ap (λ t. 44 ∷ (member_text p ++ t)) (print-later L)
+
+-- the members of an object, with nothing around them
+pub print-members : (L : Texts) → print (flat_map pair_tokens L) ≡ drop 1 (later_members L)
+unfolding print_from
+print-members [] = refl
+print-members (p ∷ L) = print-first p (flat_map pair_tokens L) ∙ ap (λ t. member_text p ++ t) (print-later L)
 
 print-opened : (ts : List Token) → print (begin_object ∷ ts) ≡ 123 ∷ print_from false ts
 unfolding print_from

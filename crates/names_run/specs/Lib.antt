@@ -3,6 +3,7 @@ pub mod Told
 pub mod Cut
 pub mod Line
 pub mod Command
+pub mod Runs
 pub mod Texts
 pub mod Tokens
 pub mod Watched

@@ -5,6 +5,8 @@ use Rattle.std.specs.declared.string.String.{String}
 use Rattle.litemap.specs.Seen.{Seen}
 use Rattle.names_run.specs.Told.{TextMap, json_answer, pair_text}
 use Rattle.names_run.specs.declared.kept.Kept.{Kept}
+use Rattle.names_run.specs.declared.runs.Form.TheVariants.{All, Json}
+use Rattle.names_run.specs.Runs.{AreRunsOf}
 use Rattle.names_run.specs.declared.kept.TextKind.{TextKind}
 use Rattle.names_run.specs.declared.kept.TextKind.TheVariants.{OfAll, OfJson, OfLine}
 
@@ -22,8 +24,10 @@ IsTextOf OfLine L text = ⊤
 IsTextOf OfAll L text = text ≡ flat_map pair_text L
 IsTextOf OfJson L text = text ≡ json_answer L
 
--- the texts that are kept are those of the pairs
+-- the texts and the runs that are kept are those of the pairs
 abbrev pub IsKept : List (List ℕ × List ℕ) → Kept → Type 0
 IsKept L kept =
     IfSome kept.all (λ text. IsTextOf OfAll L (string_bytes text))
     × IfSome kept.json (λ text. IsTextOf OfJson L (string_bytes text))
+    × IfSome kept.all_runs (λ runs. AreRunsOf All L runs.items)
+    × IfSome kept.json_runs (λ runs. AreRunsOf Json L runs.items)

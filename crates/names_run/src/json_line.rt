@@ -1,7 +1,8 @@
 //! The line that answers `json`.
-ghost use Rattle.std.specs.Prelude.{◌≡◌, ◌++◌, ◌∷◌, [], IfOk, IfSome, OnOk, slice_get, string_bytes};
+ghost use Rattle.std.specs.Prelude.{◌≡◌, ◌≤◌, ◌+◌, ◌++◌, ◌∷◌, [], IfOk, IfSome, OnOk, drop, length, slice_get, string_bytes};
+ghost use Rattle.std.specs.Prelude.{take};
 ghost use Rattle.json.specs.Print.{print};
-ghost use Rattle.names_run.specs.Told.{json_answer, line};
+ghost use Rattle.names_run.specs.Told.{json_answer, later_members, line};
 ghost use Rattle.names_run.specs.Texts.{names_of, pair_bytes};
 ghost use Rattle.names_run.specs.Tokens.{pair_tokens};
 
@@ -30,6 +31,25 @@ pub(crate) fn json_line<S: Store<String, String>>(
     written_line(writer)
 }
 
+/// So many pairs from a place on as members of a JSON object, with a comma between two.
+pub(crate) fn members<S: Store<String, String>>(
+    alloc: Global,
+    names: &Names<S>,
+    from: usize,
+    pairs: usize,
+) -> Result<String, AllocError>
+    requires { from + pairs ≤ length names.now.pairs }
+    ensures { IfOk result
+        (λ text. string_bytes text ≡ drop 1 (later_members (take pairs (drop from (names_of names.now).pairs)))) }
+{
+    let _places = names.len();
+    let mut writer = Writer::new(Vec::new(alloc));
+    for step in 0..pairs {
+        write_pair(&mut writer, names, from + step)?;
+    }
+    Ok(written(writer))
+}
+
 // Writes the pair at a place.
 fn write_pair<S: Store<String, String>>(
     writer: &mut Writer,
@@ -52,7 +72,15 @@ fn written_line(writer: Writer) -> Result<String, AllocError>
     requires { writer.before ≡ [] }
     ensures { IfOk result (λ text. string_bytes text ≡ line (print writer.tokens)) }
 {
-    let mut text = String::from_utf8(writer.into_inner()).unwrap();
+    let mut text = written(writer);
     text.push_str("\n")?;
     Ok(text)
+}
+
+// What was written.
+fn written(writer: Writer) -> String
+    requires { writer.before ≡ [] }
+    ensures { string_bytes result ≡ print writer.tokens }
+{
+    String::from_utf8(writer.into_inner()).unwrap()
 }

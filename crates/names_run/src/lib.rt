@@ -6,6 +6,7 @@ mod json_line;
 mod kept;
 mod lines;
 mod program;
+mod runs;
 mod session;
 mod watch;
 

@@ -1,5 +1,6 @@
 //! What answers each line.
-ghost use Rattle.std.specs.Prelude.{◌≡◌, ◌++◌, ℕ, List, Some, IfOk, IfSome, OnOk, MatchOption, flat_map};
+ghost use Rattle.std.specs.Prelude.{◌≡◌, ◌≤◌, ◌+◌, ◌++◌, ℕ, List, Some, IfOk, IfSome, OnOk, MatchOption};
+ghost use Rattle.std.specs.Prelude.{drop, flat_map, length, take};
 ghost use Rattle.std.specs.Prelude.{option_copied, option_map, slice_get, string_bytes};
 ghost use Rattle.std.specs.Cmp.Lexicographic.{slice_cmp};
 ghost use Rattle.std.specs.Ordering.{nat_cmp};
@@ -14,6 +15,7 @@ ghost use Rattle.names_run.specs.Texts.{IsKept, IsTextOf, names_of, pair_bytes};
 use crate::json_line::json_line;
 use crate::kept::{Kept, TextKind};
 use crate::lines::{Command, parse};
+use crate::runs::{Form, joined};
 use litemap::LiteMap;
 use litemap::store::{Store, StoreMut};
 use std::alloc::{AllocError, Global};
@@ -82,7 +84,8 @@ fn answer<S: StoreMut<String, String>>(
     }
 }
 
-// All pairs, each on a line: the text that is kept, or one that is made now.
+// All pairs, each on a line: the text that is kept, or one that is put together of its runs. Where memory for these is
+// refused, it is written with none.
 fn all<S: Store<String, String>>(
     alloc: Global,
     names: &Names<S>,
@@ -92,13 +95,16 @@ fn all<S: Store<String, String>>(
     ensures text { IfOk result (λ text. string_bytes text ≡ flat_map pair_text (names_of names.now).pairs) }
     ensures kept { IsKept (names_of names.now).pairs kept.new }
 {
-    match kept.all.take() {
-        Some(text) => Ok(text),
-        None => show(alloc, names),
+    if let Some(text) = kept.all.take() {
+        return Ok(text);
+    }
+    match joined(alloc, names, Form::All, &mut kept.all_runs) {
+        Ok(text) => Ok(text),
+        Err(_) => show(alloc, names, 0, names.len()),
     }
 }
 
-// The map as JSON, on one line: the text that is kept, or one that is made now.
+// The map as JSON, on one line, as `all` makes its text.
 fn json<S: Store<String, String>>(
     alloc: Global,
     names: &Names<S>,
@@ -108,9 +114,15 @@ fn json<S: Store<String, String>>(
     ensures text { IfOk result (λ text. string_bytes text ≡ json_answer (names_of names.now).pairs) }
     ensures kept { IsKept (names_of names.now).pairs kept.new }
 {
-    match kept.json.take() {
-        Some(text) => Ok(text),
-        None => json_line(alloc, names),
+    if let Some(text) = kept.json.take() {
+        return Ok(text);
+    }
+    if names.is_empty() {
+        return String::from_str(alloc, "[]\n");
+    }
+    match joined(alloc, names, Form::Json, &mut kept.json_runs) {
+        Ok(text) => Ok(text),
+        Err(_) => json_line(alloc, names),
     }
 }
 
@@ -203,13 +215,21 @@ fn place_reply(alloc: Global, place: Result<usize, usize>) -> Result<String, All
     }
 }
 
-// The text of all pairs, in order.
-fn show<S: Store<String, String>>(alloc: Global, names: &Names<S>) -> Result<String, AllocError>
-    ensures { IfOk result (λ text. string_bytes text ≡ flat_map pair_text (names_of names.now).pairs) }
+/// The text of so many pairs from a place on, each on a line.
+pub fn show<S: Store<String, String>>(
+    alloc: Global,
+    names: &Names<S>,
+    from: usize,
+    pairs: usize,
+) -> Result<String, AllocError>
+    requires { from + pairs ≤ length names.now.pairs }
+    ensures { IfOk result
+        (λ text. string_bytes text ≡ flat_map pair_text (take pairs (drop from (names_of names.now).pairs))) }
 {
+    let _places = names.len();
     let mut text = String::new(alloc);
-    for index in 0..names.len() {
-        push_pair(&mut text, names, index)?;
+    for step in 0..pairs {
+        push_pair(&mut text, names, from + step)?;
     }
     Ok(text)
 }

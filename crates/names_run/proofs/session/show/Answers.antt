@@ -1,15 +1,14 @@
-use Rattle.std.proofs.Common.{[], ap, sym, ◌∙◌, take_all, arith}
+use Rattle.std.proofs.Common.{◌≡◌, [], drop, length, map, arith, ap, ◌∙◌, take_all, length-drop}
 use Rattle.std.specs.Prelude.{flat_map}
+use Rattle.std.proofs.lemmas.List.{length-map}
 use Rattle.names_run.specs.Told.{pair_text}
-use Rattle.names_run.specs.Texts.{pair_bytes}
-use Rattle.names_run.proofs.Calls.{flat_map-map, flat_map-one_more}
+use Rattle.names_run.specs.Texts.{names_of, pair_bytes}
+use Rattle.names_run.proofs.Calls.{flat_map-one_more}
+use Rattle.names_run.proofs.Joins.{step_view, step_within}
 use Rattle.names_run.proofs.session.show.Goals as goal
 
-pub loop-index-preserved : goal.loop-index-preserved
-loop-index-preserved g c = flat_map-one_more [] (λ pair. pair_text (pair_bytes pair)) c.args.names.now.pairs c.loop-index.index _ _ (omega arith) c.loop-index.invariant c.in_ok-push_pair.ensures
-
-pub returns : goal.returns
-returns g c =
-    c.loop-index.invariant
-    ∙ ap (flat_map (λ pair. pair_text (pair_bytes pair))) (take_all c.loop-index.index c.args.names.now.pairs (omega arith))
-    ∙ sym (flat_map-map pair_text pair_bytes c.args.names.now.pairs)
+pub loop-step-preserved : goal.loop-step-preserved
+loop-step-preserved g c =
+    flat_map-one_more [] pair_text (drop c.args.from (names_of c.args.names.now).pairs) c.loop-step.step _ _
+    (step_within c.args.names.now.pairs c.args.from c.loop-step.step (omega arith)) c.loop-step.invariant
+    (step_view _ c.args.names.now.pairs c.args.from c.loop-step.step c.in_ok-push_pair.ensures)

@@ -1,9 +1,9 @@
 -- the text so far is that of the pairs so far
-use Rattle.std.proofs.Common.{◌≡◌, take}
+use Rattle.std.proofs.Common.{◌≡◌, drop, take}
 use Rattle.std.specs.Prelude.{flat_map, string_bytes}
 use Rattle.names_run.specs.Told.{pair_text}
-use Rattle.names_run.specs.Texts.{pair_bytes}
+use Rattle.names_run.specs.Texts.{names_of}
 use Rattle.names_run.proofs.session.show.Given as goal
 
-abbrev pub invariant-loop-index : goal.invariant-loop-index
-invariant-loop-index g l = string_bytes l.text ≡ flat_map (λ pair. pair_text (pair_bytes pair)) (take l.index l.names.pairs)
+abbrev pub invariant-loop-step : goal.invariant-loop-step
+invariant-loop-step g l = string_bytes l.text ≡ flat_map pair_text (take l.step (drop l.from (names_of l.names).pairs))
