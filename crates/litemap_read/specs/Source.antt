@@ -16,6 +16,13 @@ pub record IsRead {S K V : Type 0} (cmp : K → K → Ordering) (gives : S → L
   pub gives_it : gives s given
   pub last : Last cmp given M
 
+-- s gives a list, and M is the last pairs of the old ones followed by it
+pub record IsReadBehind {S K V : Type 0} (cmp : K → K → Ordering) (gives : S → List (K × V) → Type 0)
+    (s : S) (old M : List (K × V)) : Type 0 where
+  pub given : List (K × V)
+  pub gives_it : gives s given
+  pub last : Last cmp (old ++ given) M
+
 module _ {S P : Type 0} (gives : S → List P → Type 0) (left : S → ℕ) where
   -- t has the list of s
   abbrev pub SameList : S → S → Type 0

@@ -6,6 +6,6 @@ mod read;
 mod source;
 mod vec_source;
 
-pub use read::read_pairs;
+pub use read::{extend_from_source, read_pairs, read_results};
 pub use source::{PairSource, ReadFault};
 pub use vec_source::{NoFault, VecSource};

@@ -1,8 +1,10 @@
 //! Reading a map from a source.
-ghost use Rattle.std.specs.Prelude.{◌≡◌, [], ◌∷◌, IfErr, IfOk, OnErr, OnOk};
+ghost use Rattle.std.specs.Prelude.{◌≡◌, [], ◌∷◌, ◌++◌, IfErr, IfOk, OnErr, OnOk};
+ghost use Rattle.std.specs.Iterator.{IsFiniteIterable};
 ghost use Rattle.litemap_store.specs.Laws.{Sifted};
 ghost use Rattle.litemap_read.specs.ReadFault.{IfSource};
-ghost use Rattle.litemap_read.specs.Source.{IsBehind, IsRead};
+ghost use Rattle.litemap_read.specs.Results.{GivesFault, IsReadOf};
+ghost use Rattle.litemap_read.specs.Source.{IsBehind, IsRead, IsReadBehind};
 
 use crate::{PairSource, ReadFault};
 use litemap::LiteMap;
@@ -50,8 +52,108 @@ pub fn read_pairs<K: Ord + Drop, V: Drop, S: StoreBulkMut<K, V>, P: PairSource<K
             Err(fault) => return Err(ReadFault::Source(fault)),
         }
     }
-    map.extend(alloc, aside)?;
+    map.extend_from_vec(alloc, aside)?;
     Ok(map)
+}
+
+/// Puts the pairs that a source gives, up to its end, into a map. Of each key the last pair stays, whole, where an old pair
+/// counts as earlier than all new ones.
+///
+/// The pairs are gathered before the map changes: a source's fault, which is handed on, and want of memory leave the map's
+/// list. The pairs read so far are then given up, and the source stays where it is: behind the pairs that it gave.
+///
+/// The source's hint makes room for at most 65,536 pairs, and where that room is refused it is done without. It compares and
+/// moves as `extend_from_vec` does. The Rust crate has no such call.
+pub fn extend_from_source<K: Ord + Drop, V: Drop, S: StoreBulkMut<K, V>, P: PairSource<K, V>>(
+    alloc: Global,
+    map: &mut LiteMap<K, V, S>,
+    source: &mut P,
+) -> Result<(), ReadFault<P::Fault>>
+    // The last pairs of the map's and of the source's list behind them. The source's list is then empty.
+    ensures read { OnOk result (IsReadBehind K.cmp P.gives source.old map.old.pairs map.new.pairs) }
+    ensures ends { OnOk result (P.ends source.old) }
+    ensures empty { OnOk result (P.gives source.new []) }
+
+    // A fault of the source's, or want of memory.
+    ensures unchanged { OnErr result (map.new.pairs ≡ map.old.pairs) }
+    ensures fault { IfErr result (λ fault. IfSource fault (P.allows source.old)) }
+    ensures rest { OnErr result (IsBehind P.gives source.old source.new) }
+    ensures leads { P.leads source.old source.new }
+{
+    let pairs = gather(alloc, source)?;
+    map.extend_from_vec(alloc, pairs)?;
+    Ok(())
+}
+
+/// The map of the pairs that an iterator gives up to its end. Of each key the last pair stays, whole.
+///
+/// The first fault that the iterator gives in the place of a pair is handed on, and nothing is asked of it behind that; want
+/// of memory is `NoRoom`. In both cases the pairs read so far are given up. It compares and moves as `read_pairs` does.
+///
+/// So what can be written as an iterator of `Result`s needs no `PairSource`. The Rust crate has no such call.
+pub fn read_results<
+    K: Ord + Drop,
+    V: Drop,
+    E: Drop,
+    S: StoreBulkMut<K, V>,
+    I: IntoIterator<Item = Result<(K, V), E>>,
+>(alloc: Global, iter: I) -> Result<LiteMap<K, V, S>, ReadFault<E>>
+    requires { IsFiniteIterable I.into_iter_gives I.IntoIter.can_next I.IntoIter.remaining iter }
+    ensures read { IfOk result (λ map. IsReadOf K.cmp I.into_iter_gives I.IntoIter.next_gives iter map.pairs) }
+    ensures fault { IfErr result (λ fault. IfSource fault (GivesFault I.into_iter_gives I.IntoIter.next_gives iter)) }
+{
+    let items = iter.into_iter();
+    let mut map = with_hint(alloc, None)?;
+    let mut aside = Vec::new(alloc);
+    for item in items {
+        match item {
+            Ok((key, value)) => sift(&mut map, &mut aside, key, value)?,
+            Err(fault) => return Err(ReadFault::Source(fault)),
+        }
+    }
+    map.extend_from_vec(alloc, aside)?;
+    Ok(map)
+}
+
+// The pairs that a source gives up to its end.
+fn gather<K: Drop, V: Drop, P: PairSource<K, V>>(
+    alloc: Global,
+    source: &mut P,
+) -> Result<Vec<(K, V)>, ReadFault<P::Fault>>
+    ensures given { IfOk result (λ pairs. P.gives source.old pairs.items) }
+    ensures ends { OnOk result (P.ends source.old) }
+    ensures empty { OnOk result (P.gives source.new []) }
+    ensures fault { IfErr result (λ fault. IfSource fault (P.allows source.old)) }
+    ensures rest { IsBehind P.gives source.old source.new }
+    ensures leads { P.leads source.old source.new }
+{
+    let mut pairs = vec_with_hint(alloc, source.hint());
+    loop {
+        match source.next_pair() {
+            Ok(Some(pair)) => put(&mut pairs, pair)?,
+            Ok(None) => return Ok(pairs),
+            Err(fault) => return Err(ReadFault::Source(fault)),
+        }
+    }
+}
+
+// An empty vector with room for what a hint promises, up to a limit, or with none where that is refused.
+fn vec_with_hint<T: Drop>(alloc: Global, hint: Option<usize>) -> Vec<T>
+    ensures { result.items ≡ [] }
+{
+    let capacity = hint.unwrap_or(0).min(MOST_HINTED);
+    match Vec::with_capacity(alloc, capacity) {
+        Ok(items) => items,
+        Err(_) => Vec::new(alloc),
+    }
+}
+
+// Puts an item behind those of a vector, or gives it up.
+fn put<T: Drop>(items: &mut Vec<T>, item: T) -> Result<(), AllocError>
+    ensures { OnOk result (items.new.items ≡ items.old.items ++ item ∷ []) }
+{
+    items.push(item)?;
+    Ok(())
 }
 
 // An empty map with room for what a hint promises, up to a limit, or with none where that is refused.

@@ -10,9 +10,13 @@ mod every_list;
 #[cfg(test)]
 mod every_run;
 #[cfg(test)]
+mod extending;
+#[cfg(test)]
 mod long_runs;
 #[cfg(test)]
 mod message;
+#[cfg(test)]
+mod results;
 #[cfg(test)]
 mod rising;
 #[cfg(test)]

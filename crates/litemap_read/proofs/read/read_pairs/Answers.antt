@@ -1,5 +1,4 @@
 use Rattle.std.proofs.Common.{[], ◌∷◌, ◌++◌, append-nil, append_assoc}
-use Rattle.litemap_store.proofs.Extended.{Last-extended}
 use Rattle.litemap_store.proofs.Sifting.{Last-sifted}
 use Rattle.litemap_read.proofs.Sifted.{Sifted-joins, always_on_err}
 use Rattle.litemap_read.proofs.read.read_pairs.Goals as goal
@@ -40,6 +39,6 @@ returns-clause-read g c =
     record {
       given = seen;
       gives_it = rw append-nil at (before.seen.1 [] ((next.1.0 []).0 next.2));
-      last = Last-sifted o seen c.loop-key.map.pairs c.loop-key.aside.items c.extend.new.self.pairs before.seen.2
-          (Last-extended o _ (λ v it h. h.0) c.loop-key.aside c.loop-key.map.pairs c.extend.new.self.pairs c.in_ok-extend.ensures.extended);
+      last = Last-sifted o seen c.loop-key.map.pairs c.loop-key.aside.items c.extend_from_vec.new.self.pairs before.seen.2
+          c.in_ok-extend_from_vec.ensures.last;
     }

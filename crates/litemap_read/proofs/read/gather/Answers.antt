@@ -1,0 +1,9 @@
+use Rattle.std.proofs.Common.{[], ◌∷◌, ◌++◌, append_assoc}
+use Rattle.litemap_read.proofs.read.gather.Goals as goal
+
+-- the pair that found no room stood before what is left
+pub returns-in_err-put-in-Ok-Some-clause-rest : goal.returns-in_err-put-in-Ok-Some-clause-rest
+returns-in_err-put-in-Ok-Some-clause-rest g c =
+    let before = c.loop-pair.invariant in
+    let next = rw c.in-Ok-Some.field-0-is at c.in-Ok-Some.ensures.next in
+    (c.loop-pair.pairs.items ++ c.in-Ok-Some.pair ∷ [], λ rest h. rw append_assoc (before.seen (c.in-Ok-Some.pair ∷ rest) (next.0 rest h)))
