@@ -1,7 +1,7 @@
 //! The lines.
 use crate::languages::language_name;
 use crate::sweeps::{self, Tally};
-use crate::{indexes, tables, texts};
+use crate::{indexes, prefixes, tables, texts};
 use name_table::{read_names, write_names};
 use std::alloc::{AllocError, Global};
 
@@ -37,6 +37,7 @@ fn answer(
         ["name", code] => write_name(alloc, code, bytes, output),
         ["table"] => tables::write_table(alloc, bytes, output),
         ["ask", key] => tables::write_asked(alloc, key, bytes, output),
+        ["begin", text] => prefixes::write_beginning(alloc, text, bytes, output),
         ["word", word] => tables::write_translated(alloc, word, bytes, output),
         ["index"] => indexes::write_digits(alloc, bytes, output),
         ["opened"] => indexes::write_opened(bytes, output),

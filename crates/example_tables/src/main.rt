@@ -12,6 +12,7 @@
 //! - `table BYTES`: each entry of a `NameTable`, found again by its key there and in its `NameIndex`, and met again where they
 //!   are walked.
 //! - `ask KEY BYTES`: what a `NameTable` and its `NameIndex` answer for a key.
+//! - `begin TEXT BYTES`: the places and the entries of the names that begin with a text, by a `NameIndex`.
 //! - `word WORD BYTES`: the text that a table has for a word, or the word itself, by each of its forms (`words`).
 //! - `many NUMBER -`: what a `NameTable` of so many names and its `NameIndex` answer.
 //! - `prefixes BYTES`: what is read of each proper prefix, by kinds.
@@ -30,6 +31,7 @@
 mod indexes;
 pub mod languages;
 mod lines;
+pub mod prefixes;
 mod slow;
 mod sweeps;
 mod tables;

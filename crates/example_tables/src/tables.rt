@@ -1,5 +1,6 @@
 //! What a table answers that is looked up in its bytes.
 use crate::indexes::{BothWays, index_of};
+use crate::prefixes::{is_cut, is_scanned};
 use crate::words;
 use name_index::{NameIndex, NameTable};
 use std::alloc::{AllocError, Global};
@@ -24,8 +25,11 @@ pub fn write_table(alloc: Global, bytes: &[u8], output: &mut String) -> Result<(
         if index.get_indexed(place) != Some((key, value)) {
             output.push_str(" not there")?;
         }
+        if !is_scanned(&table, &index, key) || !is_scanned(&table, &index, value) {
+            output.push_str(" other names")?;
+        }
     }
-    if !is_walked(&table, &index) || !is_met(&table, &index) {
+    if !is_walked(&table, &index) || !is_met(&table, &index) || !is_cut(&table, &index) {
         output.push_str(" another walk")?;
     }
     let written = index_of(alloc, bytes)?;

@@ -1,5 +1,7 @@
 pub mod KnownParts
 pub mod Placing
+pub mod Prefixing
+pub mod Between
 pub mod Indexing
 pub mod Writing
 pub mod Scanning

@@ -96,7 +96,7 @@ module _ (entries places : List ℕ) (index : ℕ) (d : ℕ) (placed : ArePlaced
   pub place_within : get_or places index d ≤ length entries
   place_within = placed.within index (get_or places index d) place_is
 
-  at_place : IsAt placed.these.pairs placed.these.rest (drop (get_or places index d) entries) index
+  pub at_place : IsAt placed.these.pairs placed.these.rest (drop (get_or places index d) entries) index
   at_place = placed.there index (get_or places index d) place_is
 
   in_pairs : index < length placed.these.pairs

@@ -211,6 +211,14 @@ pub shown_rise : (pairs : List (Text × Text)) → Rising by_bytes pairs → Ris
 shown_rise [] r = tt
 shown_rise (p ∷ pairs) r = (below_shown p.0 pairs r.0, shown_rise pairs r.1)
 
+shown_below : (key : Text) (pairs : List (Text × Text)) → BelowAll text_order key.now (map shown pairs) → BelowAll by_bytes key pairs
+shown_below key [] b = tt
+shown_below key (p ∷ pairs) b = (b.0, shown_below key pairs b.1)
+
+pub rise_shown : (pairs : List (Text × Text)) → Rising text_order (map shown pairs) → Rising by_bytes pairs
+rise_shown [] r = tt
+rise_shown (p ∷ pairs) r = (shown_below p.0 pairs r.0, rise_shown pairs r.1)
+
 length_less : (pairs : List (List ℕ × List ℕ)) → length pairs ≤ entries_size pairs
 length_less [] = omega arith
 length_less (p ∷ pairs) = omega (arith, sum_by-cons pair_size p pairs, length_less pairs)

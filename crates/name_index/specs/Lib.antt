@@ -2,6 +2,7 @@
 pub mod Tables
 pub mod Entries
 pub mod Placed
+pub mod Prefixes
 pub mod Faults
 pub mod Index
 pub mod Writes

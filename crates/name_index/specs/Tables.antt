@@ -1,10 +1,13 @@
 -- Name tables whose keys rise. A text is the list of its bytes.
-use Rattle.std.specs.Prelude.{ℕ, List}
+use Rattle.std.specs.Prelude.{◌≡◌, ℕ, List, map}
 use Rattle.std.specs.Cmp.Lexicographic.{slice_cmp}
 use Rattle.std.specs.Ordering.{nat_cmp}
 use Rattle.std.specs.declared.cmp.Ordering.{Ordering}
 use Rattle.litemap_store.specs.Pairs.{Rising}
-use Rattle.name_table.specs.Parts.{Begins, table_parts}
+use Rattle.litemap.specs.ByBytes.{by_bytes}
+use Rattle.name_table.specs.Parts.{Begins, IsTable, table_parts}
+use Rattle.name_table.specs.Reads.{Text}
+use Rattle.name_table.specs.Remaining.{shown}
 
 -- the order of texts: by their bytes, where a proper prefix is less
 abbrev pub text_order : List ℕ → List ℕ → Ordering
@@ -19,3 +22,8 @@ pub record IsRisingTable (bytes : List ℕ) (pairs : List (List ℕ × List ℕ)
 -- the bytes begin with a table whose keys rise, and P holds of its pairs: by a law of name tables there is no other one
 abbrev pub OfTable : List ℕ → (List (List ℕ × List ℕ) → Type 0) → Type 0
 OfTable bytes P = (pairs : List (List ℕ × List ℕ)) × IsRisingTable bytes pairs × P pairs
+
+-- bytes that are a table of a map's pairs, as those that are written for it, begin with a table of these pairs, whose keys rise
+abbrev pub WrittenIsOpened : Type 0
+WrittenIsOpened = (bytes : List ℕ) (pairs : List (Text × Text)) → Rising by_bytes pairs → IsTable bytes (map shown pairs)
+    → OfTable bytes (λ opened. opened ≡ map shown pairs)

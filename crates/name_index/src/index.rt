@@ -1,18 +1,23 @@
 //! A name table with the place of each entry.
-ghost use Rattle.std.specs.Prelude.{◌≡◌, ◌==◌, IfOk, length, slice_get};
+ghost use Rattle.std.specs.Prelude.{◌≡◌, ◌==◌, ◌*◌, ◌<◌, IfOk, OnErr, Some, filter, length, map, slice_get, slice_range};
 ghost use Rattle.std.specs.Option.{option_copied, option_map};
 ghost use Rattle.litemap_store.specs.Counts.{RisesByAtMost};
 ghost use Rattle.litemap_store.specs.Digits.{digits};
-ghost use Rattle.litemap_store.specs.Pairs.{index_of, value_at};
+ghost use Rattle.litemap_store.specs.Pairs.{index_of, place, sub, value_at};
+ghost use Rattle.name_index.specs.Prefixes.{begins};
 ghost use Rattle.name_index.specs.Tables.{OfTable, text_order};
 ghost use Rattle.name_table.specs.Remaining.{shown};
 
+use crate::maps::map_of;
 use crate::name_entries::NameEntries;
-use crate::places::{pair_of, places_of, search};
+use crate::places::{entries_between, pair_of, places_of, search};
+use crate::prefixes::edge;
 use crate::table::NameTable;
 use litemap_store::store::Count;
+use name_table::NameMap;
 use std::alloc::{AllocError, Global};
 use std::marker::Model;
+use std::ops::Range;
 
 /// A name table whose keys rise, with the place of each entry: four bytes for each.
 ///
@@ -38,9 +43,11 @@ impl<'a> Model for NameIndex<'a> {
 impl<'a> NameIndex<'a> {
     /// The index of a table: its entries are read once, with no comparison.
     ///
-    /// It is refused for want of memory, and where the place of an entry isn't below 4,294,967,296.
+    /// It is refused for want of memory, and where the place of an entry isn't below 4,294,967,296; that of a table with no
+    /// entry never is.
     pub fn new(alloc: Global, table: &NameTable<'a>) -> Result<Self, AllocError>
-        ensures { IfOk result (λ index. index ≡ table.now) }
+        ensures bytes { IfOk result (λ index. index ≡ table.now) }
+        ensures refused { OnErr result (OfTable table.now (λ pairs. 0 < length pairs)) }
     {
         let (bytes, entries, count) = table.opened();
         let places = places_of(alloc, entries, count)?;
@@ -107,6 +114,56 @@ impl<'a> NameIndex<'a> {
             return None;
         }
         Some(pair_of(self.entries, self.places.as_slice(), index))
+    }
+
+    /// The places of the names that begin with a text. They start behind all names that are below the text, and where no name
+    /// begins with it the range is empty there. An empty text begins each name.
+    ///
+    /// It compares at most twice for each binary digit of the length, each time a name with the text, as far as this reaches.
+    pub fn prefix_places(&self, prefix: &str) -> Range<usize>
+        ensures start { OfTable self.now (λ pairs. result.start ≡ place text_order pairs prefix.now) }
+        ensures names { OfTable self.now (λ pairs. sub pairs result.start result.end
+            ≡ Some (filter (λ p. begins p.0 prefix.now) pairs)) }
+    {
+        self.prefix_places_counted(prefix, &mut Count::new())
+    }
+
+    /// `prefix_places`, with its comparisons counted.
+    pub fn prefix_places_counted(&self, prefix: &str, count: &mut Count) -> Range<usize>
+        ensures start { OfTable self.now (λ pairs. result.start ≡ place text_order pairs prefix.now) }
+        ensures names { OfTable self.now (λ pairs. sub pairs result.start result.end
+            ≡ Some (filter (λ p. begins p.0 prefix.now) pairs)) }
+        ensures cost { OfTable self.now (λ pairs. RisesByAtMost (2 * digits (length pairs)) count.old count.new) }
+    {
+        let places = self.places.as_slice();
+        let start = edge(self.entries, places, prefix, false, count);
+        let end = edge(self.entries, places, prefix, true, count);
+        start..end
+    }
+
+    /// The entries at the places of a range, in order; a place past the last one has none. Each is read when it is asked for,
+    /// with no comparison.
+    pub fn entries_in(&self, range: Range<usize>) -> NameEntries<'a>
+        ensures { OfTable self.now (λ pairs. result ≡ slice_range pairs range.start range.end) }
+    {
+        let places = self.places.as_slice();
+        let end = range.end.min(places.len());
+        if range.start < end {
+            entries_between(self.entries, places, range.start, end)
+        } else {
+            NameEntries::new(self.entries, 0)
+        }
+    }
+
+    /// The map of all entries, whose keys and values are slices of the bytes. The entries are read once, with no comparison,
+    /// and each is moved once.
+    ///
+    /// It is refused for want of memory alone: it takes room for all entries at once, and none where there is no entry.
+    pub fn to_map(&self, alloc: Global) -> Result<NameMap<'a>, AllocError>
+        ensures pairs { IfOk result (λ made. OfTable self.now (λ pairs. map shown made.pairs ≡ pairs)) }
+        ensures refused { OnErr result (OfTable self.now (λ pairs. 0 < length pairs)) }
+    {
+        map_of(alloc, self.iter())
     }
 
     /// All entries in order. Each is read when it is asked for, with no comparison.

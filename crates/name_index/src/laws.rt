@@ -1,7 +1,14 @@
 //! Laws over the definitions of `specs/`. Each function does nothing: its contract is the law.
+ghost use Rattle.name_index.specs.Tables.{WrittenIsOpened};
 ghost use Rattle.name_index.specs.Writes.{IndexIsOne};
 
 /// Bytes are an index of one list of pairs at most: what is written for a map is opened as the map's pairs, and no others.
 pub fn index_is_one()
     ensures { IndexIsOne }
+{}
+
+/// The bytes that `write_names` writes for a map are, opened by `NameTable::new`, a table of the map's pairs: `to_map` makes the
+/// same map of it again.
+pub fn written_is_opened()
+    ensures { WrittenIsOpened }
 {}

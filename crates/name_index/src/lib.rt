@@ -13,8 +13,10 @@ mod indexed;
 mod indexed_search;
 mod known;
 pub mod laws;
+mod maps;
 mod name_entries;
 mod places;
+mod prefixes;
 mod rising;
 mod table;
 

@@ -1,5 +1,5 @@
 //! The places of entries, and what is found by them.
-ghost use Rattle.std.specs.Prelude.{◌≡◌, ◌<◌, IfOk, Some, length, slice_get};
+ghost use Rattle.std.specs.Prelude.{◌≡◌, ◌<◌, ◌≤◌, IfOk, OnErr, Some, length, slice_get, slice_range};
 ghost use Rattle.litemap_store.specs.Counts.{RisesByAtMost};
 ghost use Rattle.litemap_store.specs.Digits.{digits};
 ghost use Rattle.litemap_store.specs.Splits.{Splits};
@@ -9,6 +9,7 @@ ghost use Rattle.name_index.specs.Tables.{text_order};
 ghost use Rattle.name_table.specs.Remaining.{shown};
 
 use crate::known::{known_pair, known_text};
+use crate::name_entries::NameEntries;
 use litemap_store::store::Count;
 use std::alloc::{AllocError, Global};
 use std::cmp::Ordering;
@@ -18,6 +19,7 @@ pub fn places_of(alloc: Global, entries: &[u8], count: usize) -> Result<Vec<u32>
     requires { AreEntries entries.now count }
     ensures number { IfOk result (λ places. length places.items ≡ count) }
     ensures placed { IfOk result (λ places. ArePlaced entries.now places.items) }
+    ensures refused { OnErr result (0 < count) }
 {
     let mut places = Vec::with_capacity(alloc, count)?;
     let mut rest = entries;
@@ -42,8 +44,23 @@ pub fn pair_of<'a>(entries: &'a [u8], places: &[u32], index: usize) -> (&'a str,
     pair
 }
 
-// The key of the entry at a place.
-fn key_of<'a>(entries: &'a [u8], places: &[u32], index: usize) -> &'a str
+/// The entries from one place to before another.
+pub fn entries_between<'a>(
+    entries: &'a [u8],
+    places: &[u32],
+    start: usize,
+    end: usize,
+) -> NameEntries<'a>
+    requires placed { ArePlaced entries.now places.now }
+    requires start { start < end }
+    requires within { end ≤ length places.now }
+    ensures { AsPlaced entries.now places.now (λ pairs. result ≡ slice_range pairs start end) }
+{
+    NameEntries::new(&entries[places[start] as usize..], end - start)
+}
+
+/// The key of the entry at a place.
+pub fn key_of<'a>(entries: &'a [u8], places: &[u32], index: usize) -> &'a str
     requires placed { ArePlaced entries.now places.now }
     requires within { index < length places.now }
     ensures { AsPlaced entries.now places.now (λ pairs. IsKeyAt pairs index result.now) }

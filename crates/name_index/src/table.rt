@@ -1,5 +1,5 @@
 //! A name table that is scanned.
-ghost use Rattle.std.specs.Prelude.{◌≡◌, ◌==◌, IfErr, IfOk, length, slice_get, ⊤};
+ghost use Rattle.std.specs.Prelude.{◌≡◌, ◌==◌, ◌<◌, IfErr, IfOk, OnErr, length, map, slice_get, ⊤};
 ghost use Rattle.std.specs.Option.{option_copied, option_map};
 ghost use Rattle.litemap_store.specs.Pairs.{index_of, value_at};
 ghost use Rattle.name_index.specs.Entries.{IsOpened};
@@ -9,10 +9,12 @@ ghost use Rattle.name_table.specs.Remaining.{shown};
 
 use crate::entries::{entry_at, scan};
 use crate::fault::NameTableFault;
+use crate::maps::map_of;
 use crate::name_entries::NameEntries;
 use crate::rising::check;
 use litemap_read::PairSource;
-use name_table::NameBytes;
+use name_table::{NameBytes, NameMap};
+use std::alloc::{AllocError, Global};
 use std::marker::Model;
 
 /// A name table whose keys rise, looked up in its bytes. It takes no memory.
@@ -111,6 +113,17 @@ impl<'a> NameTable<'a> {
             return None;
         }
         Some(entry_at(self.entries, self.count, index))
+    }
+
+    /// The map of all entries, whose keys and values are slices of the bytes. The entries are read once, with no comparison,
+    /// and each is moved once.
+    ///
+    /// It is refused for want of memory alone: it takes room for all entries at once, and none where there is no entry.
+    pub fn to_map(&self, alloc: Global) -> Result<NameMap<'a>, AllocError>
+        ensures pairs { IfOk result (λ made. OfTable self.now (λ pairs. map shown made.pairs ≡ pairs)) }
+        ensures refused { OnErr result (OfTable self.now (λ pairs. 0 < length pairs)) }
+    {
+        map_of(alloc, self.iter())
     }
 
     /// All entries in order. Each is read when it is asked for, with no comparison.

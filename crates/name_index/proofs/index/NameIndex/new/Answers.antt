@@ -1,4 +1,7 @@
-use Rattle.std.proofs.Common.{ℕ, [], ◌∷◌, subst, sym}
+use Rattle.std.proofs.Common.{◌<◌, ℕ, List, [], ◌∷◌, arith, length, subst, sym}
+use Rattle.litemap_read.proofs.Sifted.{always_on_err}
+use Rattle.name_index.specs.Tables.{OfTable}
+use Rattle.name_index.proofs.Rises.{rising_table}
 use Rattle.name_table.specs.Parts.{Begins, Number}
 use Rattle.name_index.proofs.index.NameIndex.new.Goals as goal
 
@@ -7,3 +10,10 @@ invariant_of-result c =
     let opened = c.opened-count in
     let P : ℕ → Type 0 = λ n. Begins opened.result.0.now (Number n ∷ []) opened.result.1.now in
     record { counted = subst P (sym c.in_ok-places.ensures.number) opened.ensures.opened.counted; placed = c.in_ok-places.ensures.placed }
+
+pub returns-in_err-places-clause-refused : goal.returns-in_err-places-clause-refused
+returns-in_err-places-clause-refused c =
+    let opened = c.opened-count.ensures.opened in
+    let P : List ℕ → Type 0 = λ bytes. OfTable bytes (λ pairs. 0 < length pairs) in
+    let some : 0 < length opened.these.pairs = omega (arith, opened.these.count_is, c.in_err-places.ensures.refused) in
+    always_on_err c.from_residual.result (subst P c.opened-count.ensures.bytes (opened.these.pairs, rising_table _ _ _ opened, some))

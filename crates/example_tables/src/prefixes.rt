@@ -1,0 +1,83 @@
+//! The names of a table that begin with a text.
+ghost use Rattle.std.specs.Prelude.{◌≡◌, filter};
+ghost use Rattle.name_index.specs.Prefixes.{begins};
+ghost use Rattle.name_index.specs.Tables.{OfTable};
+
+use name_index::{NameEntries, NameIndex, NameTable};
+use std::alloc::{AllocError, Global};
+use std::fmt::Write;
+
+/// The entries whose names begin with a text, in order.
+pub fn beginning<'a>(index: &NameIndex<'a>, text: &str) -> NameEntries<'a>
+    ensures { OfTable index.now (λ pairs. result ≡ filter (λ p. begins p.0 text.now) pairs) }
+{
+    index.entries_in(index.prefix_places(text))
+}
+
+/// Writes the places of the names that begin with a text, each of these entries, and whether a scan finds others.
+pub fn write_beginning(
+    alloc: Global,
+    text: &str,
+    bytes: &[u8],
+    output: &mut String,
+) -> Result<(), AllocError> {
+    let table = match NameTable::new(bytes) {
+        Ok(table) => table,
+        Err(fault) => return write!(output, "{fault}"),
+    };
+    let index = NameIndex::new(alloc, &table)?;
+    let places = index.prefix_places(text);
+    write!(output, "{} to {}:", places.start, places.end)?;
+    for (name, value) in index.entries_in(places) {
+        write!(output, " {name}={value}")?;
+    }
+    if !is_scanned(&table, &index, text) {
+        output.push_str(" other names")?;
+    }
+    Ok(())
+}
+
+/// Whether an index has the names that begin with a text where a scan of its table has them.
+pub fn is_scanned(table: &NameTable<'_>, index: &NameIndex<'_>, text: &str) -> bool {
+    let places = index.prefix_places(text);
+    let mut found = beginning(index, text);
+    let mut place = 0usize;
+    for (name, value) in table {
+        let begins = name.starts_with(text);
+        if begins != (places.start <= place && place < places.end)
+            || (name < text) != (place < places.start)
+        {
+            return false;
+        }
+        if begins && found.next() != Some((name, value)) {
+            return false;
+        }
+        place = place.wrapping_add(1);
+    }
+    found.next().is_none() && places.end <= place
+}
+
+/// Whether the entries at each two places of a table are those between them, where some lie past its end.
+pub fn is_cut(table: &NameTable<'_>, index: &NameIndex<'_>) -> bool {
+    let len = table.len().min(6);
+    for start in 0..len.wrapping_add(2) {
+        for end in 0..len.wrapping_add(3) {
+            if !is_part(table, index, start, end) {
+                return false;
+            }
+        }
+    }
+    true
+}
+
+// Whether the entries of an index between two places are those of its table.
+fn is_part(table: &NameTable<'_>, index: &NameIndex<'_>, start: usize, end: usize) -> bool {
+    let mut place = start;
+    for entry in index.entries_in(start..end) {
+        if place >= end || table.get_indexed(place) != Some(entry) {
+            return false;
+        }
+        place = place.wrapping_add(1);
+    }
+    place >= end || place >= table.len()
+}

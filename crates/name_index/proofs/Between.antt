@@ -1,0 +1,68 @@
+-- The entries between two places, and parts of a list.
+--     between_are, between_is      at the first place stand so many entries, which are those between;  slice_none, slice_clamped      what a range past the end has
+use Rattle.std.proofs.Common.{◌≡◌, ℕ, zero, suc, ◌-◌, ◌<◌, ◌≤◌, List, [], ◌∷◌, length, min, take, drop, get_or, slice_range, Some, refl, sym, ap, ◌∙◌, subst, arith}
+use Rattle.std.proofs.lemmas.Bool.{le-leb}
+use Rattle.std.proofs.lemmas.List.{length-drop, length-take-le, take-append-drop, take_min}
+use Rattle.litemap_store.specs.Pairs.{sub}
+use Rattle.litemap_store.proofs.Parts.{Rising-sub}
+use Rattle.name_table.proofs.PartLemmas.{begins_split}
+use Rattle.name_table.specs.ReadOn.{pair_parts-append}
+use Rattle.name_table.specs.Parts.{Begins, Part, pair_parts}
+use Rattle.name_index.specs.Entries.{AreEntries}
+use Rattle.name_index.specs.Left.{left_one}
+use Rattle.name_index.specs.Placed.{ArePlaced}
+use Rattle.name_index.specs.Tables.{text_order}
+use Rattle.name_index.proofs.LeftLemmas.{entries_left}
+use Rattle.name_index.proofs.Placing.{at_place}
+
+sub_is : (L : List (List ℕ × List ℕ)) (a b : ℕ) → a ≤ b → b ≤ length L → Some (slice_range L a b) ≡ sub L a b
+sub_is L a b h k = rw (le-leb a b h) (rw (le-leb b (length L) k) refl)
+
+module _ (entries places : List ℕ) (from to d : ℕ) (placed : ArePlaced entries places) (l : from < to) (h : to ≤ length places) where
+  pub between_are : AreEntries (drop (get_or places from d) entries) (to - from)
+  between_are =
+      let L = placed.these.pairs in
+      let bytes = drop (get_or places from d) entries in
+      let K = drop from L in
+      let n = to - from in
+      let first : from < length places = omega (arith, l, h) in
+      let long : to ≤ length L = omega (arith, h, placed.these.count_is) in
+      let P : List Part → Type 0 = λ xs. Begins bytes xs placed.these.rest in
+      let s =
+      begins_split bytes placed.these.rest (pair_parts (take n K)) (pair_parts (drop n K))
+      (subst P (ap pair_parts (sym (take-append-drop n K)) ∙ pair_parts-append (take n K) (drop n K)) (at_place entries places from d placed first)) in
+      record {
+        pairs = slice_range L from to;
+        rest = s.0;
+        spelled = s.1;
+        count_is = length-take-le n K (omega (arith, long, length-drop from L));
+        rises = Rising-sub text_order L from to (slice_range L from to) placed.these.rises (sub_is L from to (omega (arith, l)) long);
+      }
+
+  pub between_is : (these : AreEntries (drop (get_or places from d) entries) (to - from)) → these.pairs ≡ slice_range placed.these.pairs from to
+  unfolding between_are
+  between_is these =
+      left_one (drop (get_or places from d) entries) (to - from) these.pairs between_are.pairs
+      (entries_left (drop (get_or places from d) entries) (to - from) these)
+      (entries_left (drop (get_or places from d) entries) (to - from) between_are)
+
+-- ---- parts of a list
+pub none_of : {X : Type 0} (L : List X) → length L ≡ 0 → L ≡ []
+none_of [] e = refl
+none_of (x ∷ L) e = absurd (omega (arith, e))
+
+take_none : {X : Type 0} (n : ℕ) → take {A = X} n [] ≡ []
+take_none zero = refl
+take_none (suc n) = refl
+
+pub slice_none : {X : Type 0} (L : List X) (a b : ℕ) → min b (length L) ≤ a → slice_range L a b ≡ []
+slice_none [] zero b h = take_none (b - 0)
+slice_none [] (suc a) b h = take_none (b - suc a)
+slice_none (x ∷ L) zero b h = let e : b - 0 ≡ 0 = omega (arith, h) in ap (λ n. take n (x ∷ L)) e
+slice_none (x ∷ L) (suc a) zero h = let e : 0 - suc a ≡ 0 = omega arith in ap (λ n. take n (drop a L)) e
+slice_none (x ∷ L) (suc a) (suc b) h = let e : suc b - suc a ≡ b - a = omega arith in ap (λ n. take n (drop a L)) e ∙ slice_none L a b (omega (arith, h))
+
+pub slice_clamped : {X : Type 0} (L : List X) (a b : ℕ) → slice_range L a (min b (length L)) ≡ slice_range L a b
+slice_clamped L a b =
+    let e : min b (length L) - a ≡ min (b - a) (length (drop a L)) = omega (arith, length-drop a L) in
+    ap (λ k. take k (drop a L)) e ∙ take_min (b - a) (drop a L)

@@ -1,0 +1,47 @@
+//! Where the names that begin with a text stand.
+ghost use Rattle.std.specs.Prelude.{◌≡◌, ◌+◌, length, take};
+ghost use Rattle.litemap.specs.Within.{IsCut};
+ghost use Rattle.litemap_store.specs.Counts.{RisesByAtMost};
+ghost use Rattle.litemap_store.specs.Digits.{digits};
+ghost use Rattle.name_index.specs.Placed.{ArePlaced, AsPlaced};
+ghost use Rattle.name_index.specs.Prefixes.{leads_to};
+
+use crate::places::key_of;
+use litemap_store::store::Count;
+
+/// How many names lie before those that begin with the text, these counted too where `behind` is true.
+pub fn edge(entries: &[u8], places: &[u32], text: &str, behind: bool, count: &mut Count) -> usize
+    requires { ArePlaced entries.now places.now }
+    ensures cut { AsPlaced entries.now places.now (λ pairs. IsCut (λ p. leads_to behind text.now p.0) pairs result) }
+    ensures cost { RisesByAtMost (digits (length places.now)) count.old count.new }
+{
+    let mut low = 0;
+    let mut high = places.len();
+    while low < high {
+        let middle = low + (high - low) / 2;
+        if is_led(key_of(entries, places, middle), text, behind, count) {
+            low = middle + 1;
+        } else {
+            high = middle;
+        }
+    }
+    low
+}
+
+// Whether a name lies before those that begin with the text, or, where `behind` is true, not behind them.
+fn is_led(name: &str, text: &str, behind: bool, count: &mut Count) -> bool
+    ensures led { result ≡ leads_to behind text.now name.now }
+    ensures same { count.new.name ≡ count.old.name }
+    ensures counted { count.new.total ≡ count.old.total + 1 }
+{
+    let order = count.cmp(&head(name, text.len()), &text.as_bytes());
+    if behind { order.is_le() } else { order.is_lt() }
+}
+
+// The first bytes of a name, so many or all.
+fn head(name: &str, size: usize) -> &[u8]
+    ensures { result.now ≡ take size name.now }
+{
+    let bytes = name.as_bytes();
+    &bytes[..bytes.len().min(size)]
+}
