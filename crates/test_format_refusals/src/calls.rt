@@ -16,9 +16,11 @@ type TextColumns = ColumnStore<String, String>;
 pub struct Calls;
 
 /// The names of the scenarios.
-const NAMES: [&str; 23] = [
+const NAMES: [&str; 32] = [
     "read_pairs",
     "read_pairs_hinted",
+    "extend_from_source",
+    "read_results",
     "run_calls",
     "to_json",
     "from_json",
@@ -27,6 +29,8 @@ const NAMES: [&str; 23] = [
     "names_json",
     "read_pairs_in_columns",
     "read_pairs_hinted_in_columns",
+    "extend_from_source_in_columns",
+    "read_results_in_columns",
     "run_calls_in_columns",
     "to_json_in_columns",
     "from_json_in_columns",
@@ -35,6 +39,11 @@ const NAMES: [&str; 23] = [
     "read_names",
     "find_name",
     "write_names",
+    "name_index",
+    "table_to_map",
+    "index_to_map",
+    "write_index",
+    "write_index_of",
     "array_of_two",
     "number_key",
     "text_item",
@@ -55,16 +64,34 @@ impl Scenarios for Calls {
             "read_pairs_hinted_in_columns" => {
                 Some(read::read_pairs_hinted::<NumberColumns>(alloc))
             }
+            "extend_from_source" => Some(read::extend_from_source::<Numbers>(alloc)),
+            "extend_from_source_in_columns" => {
+                Some(read::extend_from_source::<NumberColumns>(alloc))
+            }
+            "read_results" => Some(read::read_results::<Numbers>(alloc)),
+            "read_results_in_columns" => Some(read::read_results::<NumberColumns>(alloc)),
             "run_calls" => Some(read::run_calls::<Numbers>(alloc)),
             "run_calls_in_columns" => Some(read::run_calls::<NumberColumns>(alloc)),
             "names" => Some(session::run_lines::<Texts>(alloc)),
             "names_in_columns" => Some(session::run_lines::<TextColumns>(alloc)),
             "names_json" => Some(session::run_json::<Texts>(alloc)),
             "names_json_in_columns" => Some(session::run_json::<TextColumns>(alloc)),
-            "read_names" => Some(tables::read_names(alloc)),
-            "find_name" => Some(tables::find_name(alloc)),
-            "write_names" => Some(tables::write_names(alloc)),
-            _ => json::run(alloc, name),
+            _ => run_tables(alloc, name).or_else(|| json::run(alloc, name)),
         }
+    }
+}
+
+// Runs the scenario of this name that is one of name tables.
+fn run_tables(alloc: Global, name: &str) -> Option<Outcome> {
+    match name {
+        "read_names" => Some(tables::read_names(alloc)),
+        "find_name" => Some(tables::find_name(alloc)),
+        "write_names" => Some(tables::write_names(alloc)),
+        "name_index" => Some(tables::name_index(alloc)),
+        "table_to_map" => Some(tables::table_to_map(alloc)),
+        "index_to_map" => Some(tables::index_to_map(alloc)),
+        "write_index" => Some(tables::write_index(alloc)),
+        "write_index_of" => Some(tables::write_index_of(alloc)),
+        _ => None,
     }
 }

@@ -37,6 +37,33 @@ pub(crate) fn read_pairs_hinted<S: StoreBulkMut<u32, u32>>(alloc: Global) -> Out
     read::<S>(alloc, &mut source, &PAIRS)
 }
 
+/// Pairs in no order, of a source that says nothing of their number, put behind one that is there.
+pub(crate) fn extend_from_source<S: StoreBulkMut<u32, u32>>(alloc: Global) -> Outcome {
+    let made: Result<Numbers<S>, _> = LiteMap::with_capacity(alloc, 0);
+    let Ok(mut map) = made else {
+        return Outcome::Wrong("no room was refused");
+    };
+    if map.insert(0, 1).is_err() {
+        return Outcome::Refused;
+    }
+    match litemap_read::extend_from_source(alloc, &mut map, &mut Script::new(&SCATTERED)) {
+        Ok(()) => Outcome::answered(has(&map, &LAST)),
+        Err(ReadFault::NoRoom) => Outcome::refused(true, has(&map, &[(0, 1)])),
+        Err(ReadFault::Source(_)) => Outcome::Wrong("a fault that the source does not have"),
+    }
+}
+
+/// Pairs in no order, of an iterator of results.
+pub(crate) fn read_results<S: StoreBulkMut<u32, u32>>(alloc: Global) -> Outcome {
+    let results = SCATTERED.iter().map(|pair| Ok::<_, u8>(*pair));
+    let read: Result<Numbers<S>, _> = litemap_read::read_results(alloc, results);
+    match read {
+        Ok(map) => Outcome::answered(has(&map, &LAST)),
+        Err(ReadFault::NoRoom) => Outcome::Refused,
+        Err(ReadFault::Source(_)) => Outcome::Wrong("a fault that the iterator does not give"),
+    }
+}
+
 // A call for each pair, which puts it in.
 fn insert_each(alloc: Global) -> Result<Vec<Call<u32, u32>>, AllocError> {
     let mut calls = Vec::with_capacity(alloc, PAIRS.len())?;

@@ -1,8 +1,9 @@
 //! Name tables that are read and written.
 use litemap::LiteMap;
 use litemap_read::ReadFault;
+use name_index::{IndexedNames, NameIndex, NameTable};
 use names::{NameFault, NameMap, NameWriteFault};
-use std::alloc::Global;
+use std::alloc::{AllocError, Global};
 use test_refusal_support::Outcome;
 
 /// Keys in no order, one of them twice.
@@ -43,6 +44,74 @@ pub(crate) fn write_names(alloc: Global) -> Outcome {
     match names::write_names(alloc, &map) {
         Ok(bytes) => Outcome::answered(bytes.as_slice() == WRITTEN),
         Err(NameWriteFault::NoRoom) => Outcome::refused(true, map.as_slice() == PAIRS.as_slice()),
+        Err(NameWriteFault::TooLarge) => Outcome::Wrong("another fault"),
+    }
+}
+
+/// `NameIndex::new`, of a table whose keys rise.
+pub(crate) fn name_index(alloc: Global) -> Outcome {
+    let Ok(table) = NameTable::new(WRITTEN) else {
+        return Outcome::Wrong("no table");
+    };
+    match NameIndex::new(alloc, &table) {
+        Ok(index) => Outcome::answered(index.get("b") == Some("3") && index.len() == PAIRS.len()),
+        Err(_) => Outcome::Refused,
+    }
+}
+
+/// `NameTable::to_map`.
+pub(crate) fn table_to_map(alloc: Global) -> Outcome {
+    let Ok(table) = NameTable::new(WRITTEN) else {
+        return Outcome::Wrong("no table");
+    };
+    is_pairs(table.to_map(alloc))
+}
+
+/// `NameIndex::to_map`.
+pub(crate) fn index_to_map(alloc: Global) -> Outcome {
+    let Ok(table) = NameTable::new(WRITTEN) else {
+        return Outcome::Wrong("no table");
+    };
+    match NameIndex::new(alloc, &table) {
+        Ok(index) => is_pairs(index.to_map(alloc)),
+        Err(_) => Outcome::Refused,
+    }
+}
+
+// Whether the pairs were made a map.
+fn is_pairs(made: Result<NameMap<'_>, AllocError>) -> Outcome {
+    match made {
+        Ok(map) => Outcome::answered(map.as_slice() == PAIRS.as_slice()),
+        Err(_) => Outcome::Refused,
+    }
+}
+
+/// `write_index`, of a map made by insertions, whose index is read again.
+pub(crate) fn write_index(alloc: Global) -> Outcome {
+    let mut map: NameMap = LiteMap::new_vec(alloc);
+    for (key, value) in PAIRS {
+        if map.insert(key, value).is_err() {
+            return Outcome::Refused;
+        }
+    }
+    is_index(&name_index::write_index(alloc, &map))
+}
+
+/// `write_index_of`, of pairs that rise.
+pub(crate) fn write_index_of(alloc: Global) -> Outcome {
+    is_index(&name_index::write_index_of(alloc, &PAIRS))
+}
+
+// Whether an index of the pairs was written.
+fn is_index(written: &Result<Vec<u8>, NameWriteFault>) -> Outcome {
+    match written {
+        Ok(bytes) => match IndexedNames::open_checked(bytes.as_slice()) {
+            Ok(names) => Outcome::answered(
+                names.len() == PAIRS.len() && names.get_indexed(3) == Some(("d", "5")),
+            ),
+            Err(_) => Outcome::Wrong("no index"),
+        },
+        Err(NameWriteFault::NoRoom) => Outcome::Refused,
         Err(NameWriteFault::TooLarge) => Outcome::Wrong("another fault"),
     }
 }

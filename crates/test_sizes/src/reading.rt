@@ -8,7 +8,12 @@ use std::alloc::{AllocError, Global};
 use test_refusal_support::pairs::has;
 
 /// The names of the calls.
-pub(crate) const READING: [&str; 2] = ["read_pairs", "run_calls"];
+pub(crate) const READING: [&str; 4] = [
+    "read_pairs",
+    "extend_from_source",
+    "read_results",
+    "run_calls",
+];
 
 /// Whether the call of a name answers as it has to, of so many keys, `None` where there is no such call.
 pub(crate) fn is_right<S: StoreBulkMut<u32, u32>>(
@@ -26,8 +31,34 @@ pub(crate) fn is_right<S: StoreBulkMut<u32, u32>>(
                 Err(_) => Ok(Some(false)),
             }
         }
+        "extend_from_source" => Ok(Some(extends::<S>(alloc, &list, len)?)),
+        "read_results" => {
+            let pairs = falling_twice(alloc, len)?;
+            let results = pairs.iter().map(|pair| Ok::<_, u8>(*pair));
+            let read: Result<Numbers<S>, _> = litemap_read::read_results(alloc, results);
+            Ok(Some(read.is_ok_and(|map| has(&map, &list))))
+        }
         "run_calls" => Ok(Some(runs::<S>(alloc, &list)?)),
         _ => Ok(None),
+    }
+}
+
+// Whether a source's pairs are put behind one that is there.
+fn extends<S: StoreBulkMut<u32, u32>>(
+    alloc: Global,
+    list: &[(u32, u32)],
+    len: u32,
+) -> Result<bool, AllocError> {
+    let mut map: Numbers<S> = LiteMap::with_capacity(alloc, 0)?;
+    if let Some((key, _)) = list.first() {
+        if map.insert(*key, u32::MAX).is_err() {
+            return Ok(false);
+        }
+    }
+    let mut source = VecSource::new(falling_twice(alloc, len)?);
+    match litemap_read::extend_from_source(alloc, &mut map, &mut source) {
+        Ok(()) => Ok(has(&map, list)),
+        Err(_) => Ok(false),
     }
 }
 
