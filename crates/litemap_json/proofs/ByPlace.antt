@@ -1,5 +1,5 @@
 -- A list that is read by places.
-use Rattle.std.proofs.Common.{◌≡◌, ℕ, zero, suc, ◌+◌, ◌<◌, List, [], ◌∷◌, length, get_or, drop, slice_get, Option, Some, None, Err, Result, sym, ◌∙◌, ap, arith, add-one, drop-cons}
+use Rattle.std.proofs.Common.{◌≡◌, ℕ, zero, suc, ◌+◌, ◌<◌, List, [], ◌∷◌, length, get_or, drop, slice_get, refl, Option, Some, None, option_map, IsSome, Err, Result, sym, ◌∙◌, ap, arith, add-one, drop-cons}
 use Rattle.serde_json.specs.Data.{Data, Members, put}
 use Rattle.litemap_json.specs.Json.{object_with}
 use Rattle.litemap_json.specs.declared.fault.WriteFault.{WriteFault}
@@ -10,7 +10,17 @@ at_place [] i x e = absurd cc
 at_place (y ∷ ys) zero x e = (omega arith, cc)
 at_place (y ∷ ys) (suc i) x e = let rest = at_place ys i x e in (omega (arith, rest.0), rest.1)
 
-next : {X : Type 0} (L : List X) (i : ℕ) (x : X) → i < length L → x ≡ get_or L i x → drop i L ≡ x ∷ drop (i + 1) L
+none_past : {X : Type 0} (L : List X) (i : ℕ) → None ≡ slice_get L i → i < length L → ⊥
+none_past [] i e h = omega arith
+none_past (y ∷ ys) zero e h = cc
+none_past (y ∷ ys) (suc i) e h = none_past ys i e (omega arith)
+
+-- what is seen of a place within the list is there
+pub there : {X Y : Type 0} (f : Y → X) (r : Option Y) (L : List X) (i : ℕ) → option_map f r ≡ slice_get L i → i < length L → IsSome r
+there f (Some y) L i e h = refl
+there f None L i e h = absurd (none_past L i e h)
+
+pub next : {X : Type 0} (L : List X) (i : ℕ) (x : X) → i < length L → x ≡ get_or L i x → drop i L ≡ x ∷ drop (i + 1) L
 next L i x h e = rw add-one (drop-cons L i x h ∙ ap (λ y. y ∷ drop (suc i) L) (sym e))
 
 module _ {K V : Type 0} (text : K → Option (List ℕ)) (key_json : K → Data) (json : V → Data) where

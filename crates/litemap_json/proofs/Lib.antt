@@ -3,3 +3,5 @@ pub mod Again
 pub mod ByPlace
 pub mod Floats
 pub mod OneMap
+pub mod Joined
+pub mod Texts

@@ -3,3 +3,4 @@ pub mod Json
 pub mod Reading
 pub mod Laws
 pub mod Kinds
+pub mod Written

@@ -1,2 +1,3 @@
 pub mod ArraysOfTwo
 pub mod Printed
+pub mod Tokens

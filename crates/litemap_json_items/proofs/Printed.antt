@@ -1,5 +1,5 @@
 -- Whole numbers as they are printed: each is read back, and in that one spelling.
-use Rattle.std.proofs.Common.{◌≡◌, ℕ, suc, ◌^◌, ◌<◌, ◌≤◌, if◌then◌else◌, ℤ, pos, negsuc, neg_ℤ, List, ◌∷◌, Bool, true, false, Some, None, Result, Ok, Err, decimal, arith, refl, sym, ap, subst, ◌∙◌}
+use Rattle.std.proofs.Common.{◌≡◌, ℕ, suc, ◌^◌, if◌then◌else◌, ℤ, pos, negsuc, neg_ℤ, List, ◌∷◌, Bool, true, false, Some, None, Result, Ok, Err, decimal, arith, refl, sym, ap, subst, ◌∙◌}
 use Rattle.std.proofs.lemmas.Bool.{lt-ltb, ltb-true, both_ways}
 use Rattle.std.proofs.lemmas.Bool.Decides.{Decides-int_eq}
 use Rattle.std.proofs.lemmas.Fmt.{decimal_is_IsNumeral_wide}
@@ -7,14 +7,13 @@ use Rattle.std.proofs.lemmas.Int.{ints}
 use Rattle.std.proofs.lemmas.Result.{Ok-from_Ok_iff}
 use Rattle.std.proofs.lemmas.Slice.Eq.{bytes_eq-Decides}
 use Rattle.std.proofs.lemmas.Str.Parse.{numerals_by_value, tells_digits, parse_signed_minus, parse_signed_digits}
-use Rattle.std.proofs.Math.Pow.{pow_mono}
-use Rattle.std.specs.Int.{w8, w16, w32, w64, w128}
+use Rattle.std.specs.Int.{w128}
 use Rattle.std.specs.Prelude.{FitsSigned}
 use Rattle.std.specs.Ordering.{int_eq}
 use Rattle.std.specs.Fmt.{signed_decimal}
 use Rattle.std.specs.Str.{bytes_eq}
 use Rattle.std.specs.Str.Parse.{signed_digits_value, without_leading_sign, IsNumeral, ParsesSigned}
-use Rattle.litemap_json_items.specs.Item.{kept, signed_fits, unsigned_fits, whole_json, whole_key, whole_of_text}
+use Rattle.litemap_json_items.specs.Item.{kept, signed_fits, whole_json, whole_key, whole_of_text}
 
 -- where it fits, what is printed is read
 parse_printed : {E : Type 0} (z : ℤ) (s : List ℕ) (r : Result ℤ E) → FitsSigned w128 z → s ≡ signed_decimal z → ParsesSigned w128 10 s r → r ≡ Ok z

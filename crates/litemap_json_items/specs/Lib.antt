@@ -2,3 +2,4 @@
 pub mod Item
 pub mod OneTree
 pub mod Widths
+pub mod Written

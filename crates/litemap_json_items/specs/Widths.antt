@@ -1,5 +1,5 @@
 -- What a type of at most 64 bits has is held by 128 bits with a sign.
-use Rattle.std.proofs.Common.{◌≡◌, ℕ, ◌^◌, ◌+◌, ◌≤◌, ◌<◌, ℤ, pos, negsuc, true, arith}
+use Rattle.std.proofs.Common.{◌≡◌, ℕ, ◌^◌, ◌+◌, ℤ, pos, negsuc, true, arith}
 use Rattle.std.proofs.lemmas.Bool.{lt-ltb, ltb-true}
 use Rattle.std.proofs.Math.Pow.{pow_mono}
 use Rattle.litemap_json_items.specs.Item.{signed_fits, unsigned_fits}

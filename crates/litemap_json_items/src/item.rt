@@ -5,8 +5,11 @@ ghost use Rattle.std.specs.declared.cmp.Ordering.TheVariants.{Equal};
 ghost use Rattle.serde_json.specs.Data.{Data};
 ghost use Rattle.serde_json.specs.View.{view};
 ghost use Rattle.litemap_json_items.specs.Item.{Answers};
+ghost use Rattle.litemap_json_items.specs.Written.{WritesTree};
 ghost use Rattle.litemap_json_items.specs.declared.item.ItemFault.{ItemFault};
 
+use crate::written::write_value;
+use json::Writer;
 use serde_json::Value;
 use std::alloc::{AllocError, Global};
 use thiserror::Error;
@@ -74,6 +77,24 @@ pub trait JsonItem {
     /// ```
     fn from_value(alloc: Global, value: &Value) -> Result<Self, ItemFault>
         ensures { Answers json (item (view value.now)) result };
+
+    /// Writes the value behind what a writer has: the text of what `to_value` makes, without that value where a type has a
+    /// body of its own for it. A type that has none makes the value, writes it, and drops it.
+    ///
+    /// A refusal for want of memory may leave some of the value written.
+    ///
+    /// ```rust
+    /// let mut out = Writer::new(Vec::new(alloc));
+    /// (3u32, true).write_to(alloc, &mut out)?;
+    /// Ok(out.into_inner().as_slice() == b"[3,true]")
+    /// ```
+    fn write_to(&self, alloc: Global, out: &mut Writer) -> Result<(), AllocError>
+        ensures tree { OnOk result (WritesTree (json self.now) out.old.tokens out.new.tokens) }
+        ensures before { out.new.before ≡ out.old.before }
+    {
+        let value = self.to_value(alloc)?;
+        write_value(alloc, &value, out)
+    }
 
     /// What a JSON value has to be to spell a value of the type, in words that `is wanted` can follow: for a fault that is
     /// shown to people. A type that says nothing of it has the words here.

@@ -6,6 +6,9 @@ mod numbers;
 mod pairs;
 mod simple;
 mod whole;
+mod written;
 
 pub use item::{ItemFault, JsonItem, JsonKey};
+pub use json::Writer;
 pub use pairs::{array_of_two, two_items};
+pub use written::write_value;

@@ -5,6 +5,7 @@ ghost use Rattle.litemap_json_items.specs.Item.{pair_item, pair_json, two_of};
 ghost use Rattle.litemap_json_items.specs.OneTree.{pair_one_tree};
 
 use crate::item::{ItemFault, JsonItem, JsonKey};
+use json::Writer;
 use serde_json::Value;
 use std::alloc::{AllocError, Global};
 
@@ -59,6 +60,13 @@ impl<A: JsonItem + Drop, B: JsonItem + Drop> JsonItem for (A, B) {
         let a = A::from_value(alloc, first)?;
         let b = B::from_value(alloc, second)?;
         Ok((a, b))
+    }
+
+    fn write_to(&self, alloc: Global, out: &mut Writer) -> Result<(), AllocError> {
+        out.begin_array()?;
+        self.0.write_to(alloc, out)?;
+        self.1.write_to(alloc, out)?;
+        out.end_array()
     }
 
     fn wanted() -> &'static str {

@@ -7,10 +7,11 @@ ghost use Rattle.litemap_json_items.specs.OneTree.{bool_one_tree, text_one_tree}
 ghost use Rattle.litemap_json_items.specs.declared.item.ItemFault.TheVariants.{Memory};
 
 use crate::item::{ItemFault, JsonItem, JsonKey};
+use json::Writer;
 use serde_json::Value;
 use std::alloc::{AllocError, Global};
 
-/// No call takes memory, so none is refused.
+/// No call takes memory but the writer's, so none else is refused.
 impl JsonItem for bool {
     ghost json = { boolean };
 
@@ -29,6 +30,10 @@ impl JsonItem for bool {
         ensures no_memory { result ≢ Err Memory }
     {
         value.as_bool().ok_or(ItemFault::Shape)
+    }
+
+    fn write_to(&self, _alloc: Global, out: &mut Writer) -> Result<(), AllocError> {
+        out.boolean(*self)
     }
 
     fn wanted() -> &'static str {
@@ -75,6 +80,10 @@ impl JsonItem for String {
             None => Err(ItemFault::Shape),
             Some(text) => String::from_str(alloc, text).map_err(|_| ItemFault::Memory),
         }
+    }
+
+    fn write_to(&self, _alloc: Global, out: &mut Writer) -> Result<(), AllocError> {
+        out.string(self.as_str())
     }
 
     fn wanted() -> &'static str {

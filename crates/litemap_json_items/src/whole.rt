@@ -45,7 +45,7 @@ pub trait Whole: Copy + Ord {
     ghost one_number: { (x y : Self) → whole_json (number x) ≡ whole_json (number y) → Self.cmp x y ≡ Equal };
 }
 
-/// No call takes memory, so none is refused.
+/// No call takes memory but the writer's, so none else is refused.
 impl<T: Whole> JsonItem for T {
     ghost json = { λ x. whole_json (T.number x) };
 

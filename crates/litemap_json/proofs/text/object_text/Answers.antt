@@ -1,0 +1,43 @@
+use Rattle.std.proofs.Common.{◌≡◌, ◌++◌, ◌∷◌, [], arith, ◌∙◌, None, option_map, Some, string_bytes, subst, sym, ap}
+use Rattle.json.specs.Token.{begin_object, key}
+use Rattle.litemap_json.proofs.ByPlace.{at_place, made_stop, there}
+use Rattle.litemap_json.proofs.Texts.{PairsHeld, pairs_end, pairs_more, pairs_none, text_of_tree}
+use Rattle.litemap_json.proofs.text.object_text.Goals as goal
+
+pub loop-place-init : goal.loop-place-init
+loop-place-init g c =
+    let start = c.in_ok-begin_object.ensures.ok in (
+      c.begin_object.ensures.room.0 ∙ c.new-out.ensures.before ∙ c.new.ensures.items,
+      subst (λ ts. PairsHeld g.K.JsonKey.text g.K.JsonItem.json g.V.JsonItem.json c.args.map.now.pairs 0 (string_bytes c.new-last.result) ts)
+          (sym (start ∙ ap (λ ts. ts ++ begin_object ∷ []) c.new-out.ensures.tokens))
+          (pairs_none g.K.JsonKey.text g.K.JsonItem.json g.V.JsonItem.json c.args.map.now.pairs (string_bytes c.new-last.result)),
+    )
+
+pub unwrap-requires : goal.unwrap-requires
+unwrap-requires g c = there _ c.get_indexed.result c.args.map.now.pairs c.loop-place.place c.get_indexed.ensures (omega arith)
+
+pub returns-in_default-clause-refused : goal.returns-in_default-clause-refused
+returns-in_default-clause-refused g c =
+    let L = c.args.map.now.pairs in
+    let x : g.row.K.Denot × g.row.V.Denot = (c.unwrap.result.0.now, c.unwrap.result.1.now) in
+    let found = at_place L c.loop-place.place x (rw c.unwrap.ensures at c.get_indexed.ensures) in
+    let unnamed : g.K.JsonKey.text x.0 ≡ None = sym c.in_ok-name.ensures.text ∙ ap (option_map string_bytes) c.in_default.is in
+    λ _. made_stop g.K.JsonKey.text g.K.JsonItem.json g.V.JsonItem.json L c.loop-place.place x c.loop-place.invariant.1.0 _ found.0 found.1 unnamed c.loop-place.invariant.1.2
+
+pub loop-place-preserved : goal.loop-place-preserved
+loop-place-preserved g c =
+    let L = c.args.map.now.pairs in
+    let x : g.row.K.Denot × g.row.V.Denot = (c.unwrap.result.0.now, c.unwrap.result.1.now) in
+    let found = at_place L c.loop-place.place x (rw c.unwrap.ensures at c.get_indexed.ensures) in
+    let s = string_bytes c.in-Some.name in
+    let named : g.K.JsonKey.text x.0 ≡ Some s = sym c.in_ok-name.ensures.text ∙ ap (option_map string_bytes) c.in-Some.is in (
+      c.write_to.ensures.before ∙ c.key.ensures.room.0 ∙ c.loop-place.invariant.0,
+      pairs_more g.K.JsonKey.text g.K.JsonItem.json g.V.JsonItem.json L c.loop-place.place x (string_bytes c.loop-place.last) s c.loop-place.out.tokens c.key.new.self.tokens c.write_to.new.out.tokens
+          found.0 found.1 named (c.rises.ensures c.if-not-rises.false) (c.in_ok-key.ensures.ok ∙ ap (λ t. c.loop-place.out.tokens ++ key t ∷ []) c.as_str.ensures.value) c.in_ok-write_to.ensures.tree c.loop-place.invariant.1,
+    )
+
+pub returns-clause-text : goal.returns-clause-text
+returns-clause-text g c =
+    let made = pairs_end g.K.JsonKey.text g.K.JsonItem.json g.V.JsonItem.json c.args.map.now.pairs c.loop-place.place (string_bytes c.loop-place.last) c.loop-place.out.tokens c.end_object.new.self.tokens
+    (omega arith) c.in_ok-end_object.ensures.ok c.loop-place.invariant.1 in
+    (made.0, made.1, text_of_tree made.0 c.end_object.new.self.tokens (string_bytes c.text_of.result) made.2 c.text_of.ensures.text c.text_of.ensures.tokens)

@@ -1,0 +1,13 @@
+-- Which text is written for a tree.
+use Rattle.std.specs.Prelude.{◌≡◌, ℕ, false, List}
+use Rattle.json.specs.Lex.{tokens}
+use Rattle.json.specs.Print.{print}
+use Rattle.serde_json.specs.Data.{Data}
+use Rattle.serde_json.specs.Written.{compact_text, has_float, IsInOrder}
+
+-- The text is the tree's compact one. Of a tree with a float, whose digits the definitions do not tell, it is a text with no
+-- space that has the tree's items and members, each once and in order.
+pub record IsTextOf (d : Data) (text : List ℕ) : Type 0 where
+  pub compact : has_float d ≡ false → text ≡ compact_text d
+  pub order : IsInOrder text d
+  pub no_space : text ≡ print (tokens text)

@@ -1,0 +1,131 @@
+//! A map as a JSON text, pair by pair.
+ghost use Rattle.std.specs.Prelude.{◌≡◌, ◌≢◌, ℕ, ◌<◌, [], ◌∷◌, Ok, Err, IfOk, IfErr, IfSome, OnOk, true, string_bytes};
+ghost use Rattle.std.specs.Ordering.{nat_cmp};
+ghost use Rattle.std.specs.Cmp.Lexicographic.{slice_cmp};
+ghost use Rattle.std.specs.declared.cmp.Ordering.TheVariants.{Less};
+ghost use Rattle.json.specs.Lex.{tokens};
+ghost use Rattle.json.specs.Print.{print};
+ghost use Rattle.json.specs.Token.{key as key_token};
+ghost use Rattle.serde_json.specs.Data.{Data, array, no_members};
+ghost use Rattle.litemap_json_items.specs.Written.{WritesTree};
+ghost use Rattle.litemap_json.specs.Json.{object_with, row, rows, tree};
+ghost use Rattle.litemap_json.specs.Written.{IsTextOf};
+ghost use Rattle.litemap_json.specs.declared.fault.WriteFault.TheVariants.{Memory};
+
+use crate::fault::WriteFault;
+use crate::write::to_json;
+use json::Writer;
+use litemap::LiteMap;
+use litemap::store::Store;
+use litemap_json_items::{JsonItem, JsonKey};
+use std::alloc::{AllocError, Global};
+
+/// The map as a JSON text with no space: that of the value that `to_json` makes, with the same faults, and without that value.
+///
+/// It is written pair by pair while the keys' texts rise in their byte order, as texts do, and numbers of one length. Where
+/// one doesn't rise, as `"10"` behind `"2"`, the members' order is not that of the keys: what was written is dropped, and the
+/// value is made and printed. `Memory` may come in place of any answer. No keys are compared, and each pair's name with the
+/// one before. The Rust crate has serde's `Serialize` here, whose members stand in the order of the keys.
+///
+/// ```rust
+/// // hours: 1 8, 3 10
+/// Ok(write_json(alloc, hours)?.as_str() == r#"{"1":8,"3":10}"#)
+/// ```
+pub fn write_json<K: JsonKey, V: JsonItem, S: Store<K, V>>(
+    alloc: Global,
+    map: &LiteMap<K, V, S>,
+) -> Result<String, WriteFault>
+    ensures text { IfOk result (λ text. (d : Data) × (tree K.text K.json V.json map.now.pairs ≡ Ok d)
+        × IsTextOf d (string_bytes text)) }
+    ensures refused { IfErr result (λ fault. fault ≢ Memory → tree K.text K.json V.json map.now.pairs ≡ Err fault) }
+{
+    let Some((first, _)) = map.first() else {
+        return Ok(array_text(alloc, map)?);
+    };
+    if first.key_text(alloc)?.is_none() {
+        return Ok(array_text(alloc, map)?);
+    }
+    match object_text(alloc, map)? {
+        Some(text) => Ok(text),
+        None => Ok(to_json(alloc, map)?.to_string(alloc)?),
+    }
+}
+
+// The text of the array of the pairs.
+fn array_text<K: JsonKey, V: JsonItem, S: Store<K, V>>(
+    alloc: Global,
+    map: &LiteMap<K, V, S>,
+) -> Result<String, AllocError>
+    ensures { IfOk result (λ text. IsTextOf (array (rows K.text K.json V.json map.now.pairs)) (string_bytes text)) }
+{
+    let mut out = Writer::new(Vec::new(alloc));
+    out.begin_array()?;
+    for place in 0..map.len() {
+        let (key, item) = map.get_indexed(place).unwrap();
+        write_row(alloc, key, item, &mut out)?;
+    }
+    out.end_array()?;
+    Ok(text_of(out))
+}
+
+// Writes a pair as an array of two.
+fn write_row<K: JsonKey, V: JsonItem>(
+    alloc: Global,
+    key: &K,
+    item: &V,
+    out: &mut Writer,
+) -> Result<(), AllocError>
+    ensures tree { OnOk result (WritesTree (row K.text K.json V.json (key.now, item.now)) out.old.tokens out.new.tokens) }
+    ensures before { out.new.before ≡ out.old.before }
+{
+    out.begin_array()?;
+    key.write_to(alloc, out)?;
+    item.write_to(alloc, out)?;
+    out.end_array()
+}
+
+// The text of the object of the pairs, or none where a key's text does not rise.
+fn object_text<K: JsonKey, V: JsonItem, S: Store<K, V>>(
+    alloc: Global,
+    map: &LiteMap<K, V, S>,
+) -> Result<Option<String>, WriteFault>
+    ensures text { IfOk result (λ made. IfSome made
+        (λ text. (d : Data) × (object_with K.text K.json V.json 0 no_members map.now.pairs ≡ Ok d)
+        × IsTextOf d (string_bytes text))) }
+    ensures refused { IfErr result
+        (λ fault. fault ≢ Memory → object_with K.text K.json V.json 0 no_members map.now.pairs ≡ Err fault) }
+{
+    let mut out = Writer::new(Vec::new(alloc));
+    out.begin_object()?;
+    let mut last = String::new(alloc);
+    for place in 0..map.len() {
+        let (key, item) = map.get_indexed(place).unwrap();
+        let Some(name) = key.key_text(alloc)? else {
+            return Err(WriteFault::KeyWithoutText { place });
+        };
+        if !rises(place, &last, &name) {
+            return Ok(None);
+        }
+        out.key(name.as_str())?;
+        item.write_to(alloc, &mut out)?;
+        last = name;
+    }
+    out.end_object()?;
+    Ok(Some(text_of(out)))
+}
+
+// Whether the name at a place is above the one before; the first has none before it.
+fn rises(place: usize, last: &String, name: &String) -> bool
+    ensures { result ≡ true → 0 < place → slice_cmp nat_cmp (string_bytes last.now) (string_bytes name.now) ≡ Less }
+{
+    place == 0 || last < name
+}
+
+// What was written, as a text.
+fn text_of(out: Writer) -> String
+    requires { out.before ≡ [] }
+    ensures text { string_bytes result ≡ print out.tokens }
+    ensures tokens { tokens (string_bytes result) ≡ out.tokens }
+{
+    String::from_utf8(out.into_inner()).unwrap()
+}
