@@ -4,7 +4,7 @@
 --     number_lists, signed_lists      where keys are numbers
 -- Each has: what is found in a map of a list, and that a list that rises is the map's; what is found after more pairs, and after
 -- more pairs that rise.
-use Rattle.std.proofs.Common.{◌≡◌, ◌≢◌, ◌⊎◌, ◌∷◌, ◌++◌, ℕ, ℤ, List, [], Option, Some, None, String, option_map, reverse, refl, sym, ap, subst, ◌∙◌, inl, inr}
+use Rattle.std.proofs.Common.{◌≡◌, ◌≢◌, ◌⊎◌, ◌∷◌, ◌++◌, ℕ, ℤ, List, [], Option, Some, None, String, option_map, reverse, refl, sym, ap, ◌∙◌, inl, inr}
 use Rattle.std.proofs.lemmas.Cmp.{int_cmp_total, nat_cmp_total}
 use Rattle.std.proofs.lemmas.List.{reverse-append}
 use Rattle.std.proofs.lemmas.List.Folds.{find-append}
@@ -21,23 +21,13 @@ use Rattle.litemap_store.specs.Pairs.{Rising, at, value_at}
 use Rattle.litemap_store.specs.Queries.{by_text}
 use Rattle.litemap_store.proofs.LastPairs.{In-from_last, Last-rising, Last-unique}
 use Rattle.litemap_store.proofs.Membership.{each, from_each}
-use Rattle.litemap_store.proofs.MergeLookups.{key_alike, key_same}
+use Rattle.litemap_store.proofs.MergeLookups.{at-rising, key_alike, key_same}
 use Rattle.litemap_store.proofs.Splitting.{at_none}
 
 -- ---- whatever stands for a key: `same` says that the keys it finds are equal, `alike` that with a key it finds every equal one
 module _ {K Q V : Type 0} (cmp : K → K → Ordering) (o : IsTotalOrder cmp) (order : K → Q → Ordering) (q : Q)
     (same : (x y : K) → order x q ≡ Equal → order y q ≡ Equal → cmp x y ≡ Equal)
     (alike : (x y : K) → cmp x y ≡ Equal → order x q ≡ Equal → order y q ≡ Equal) where
-  at-rising : (M : List (K × V)) (p : K × V) → Rising cmp M → In p M → order p.0 q ≡ Equal → at order M q ≡ Some p
-  at-rising [] p r i e = absurd i
-  at-rising (x ∷ M) p r (inl f) e = let g : order x.0 q ≡ Equal = subst (λ (y : K × V). order y.0 q ≡ Equal) (sym f) e in rw g (ap Some f)
-  at-rising (x ∷ M) p r (inr i) e = by (order x.0 q) refl (each (λ (y : K × V). cmp x.0 y.0 ≡ Less) M r.0 p i) (at-rising M p r.1 i e)
-    where
-      by : (c : Ordering) → order x.0 q ≡ c → cmp x.0 p.0 ≡ Less → at order M q ≡ Some p → at order (x ∷ M) q ≡ Some p
-      by Less f less found = rw f found
-      by Equal f less found = absurd (let s : cmp x.0 p.0 ≡ Equal = same x.0 p.0 f e in cc)
-      by Greater f less found = rw f found
-
   -- the list read backwards
   behind : (x : K × V) (J : List (K × V)) → at order (reverse (x ∷ J)) q ≡ option_or (at order (reverse J) q) (at order (x ∷ []) q)
   behind x J = ap (λ L. at order L q) (reverse-append (x ∷ []) J) ∙ find-append (λ p. is_eq (order p.0 q)) (reverse J) (x ∷ [])
@@ -66,7 +56,7 @@ module _ {K Q V : Type 0} (cmp : K → K → Ordering) (o : IsTotalOrder cmp) (o
 
   at-last : (J M : List (K × V)) → Last cmp J M → at order M q ≡ at order (reverse J) q
   at-last J M last = elim (last_backwards J) [
-    | inl h ↦ at-rising M h.0 last.rising ((last.exactly h.0).1 h.1) h.2 ∙ sym h.3
+    | inl h ↦ at-rising cmp o order q same alike M h.0 last.rising ((last.exactly h.0).1 h.1) h.2 ∙ sym h.3
     | inr h ↦ at_none order M q (from_each (λ (p : K × V). order p.0 q ≢ Equal) M (λ p i. each (λ (y : K × V). order y.0 q ≢ Equal) J h.0 p (In-from_last cmp p J ((last.exactly p).0 i)))) ∙ sym h.1
   ]
 

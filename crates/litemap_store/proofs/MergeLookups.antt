@@ -48,7 +48,7 @@ module _ {K Q : Type 0} (cmp : K → K → Ordering) (o : IsTotalOrder cmp) (ord
     Missing L = AllByRecursion (λ p. order p.0 q ≢ Equal) L
 
     -- the pair of a rising list whose key is found
-    at-rising : (M : List (K × V)) (p : K × V) → Rising cmp M → In p M → order p.0 q ≡ Equal → at order M q ≡ Some p
+    pub at-rising : (M : List (K × V)) (p : K × V) → Rising cmp M → In p M → order p.0 q ≡ Equal → at order M q ≡ Some p
     at-rising [] p r i e = absurd i
     at-rising (x ∷ M) p r (inl f) e = let g : order x.0 q ≡ Equal = subst (λ (y : K × V). order y.0 q ≡ Equal) (sym f) e in rw g (ap Some f)
     at-rising (x ∷ M) p r (inr i) e = by (order x.0 q) refl (each (λ (y : K × V). cmp x.0 y.0 ≡ Less) M r.0 p i) (at-rising M p r.1 i e)
