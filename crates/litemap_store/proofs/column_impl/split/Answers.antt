@@ -1,4 +1,5 @@
 use Rattle.std.proofs.Common.{◌≡◌, ◌++◌, ◌∷◌, [], length, suc, ap, ◌∙◌, arith}
+use Rattle.std.proofs.lemmas.Grind.{common_steps}
 use Rattle.std.specs.Vec.Iter.{into_iter_items}
 use Rattle.litemap_store.proofs.Columns.{same_length, zip-append}
 use Rattle.litemap_store.proofs.column_impl.split.Goals as goal
@@ -19,3 +20,6 @@ loop-key-preserved g c =
       keys_fit = omega (arith, inv.keys_fit, push.len, push.capacity, shorter);
       values_fit = omega (arith, inv.values_fit, other.len, other.capacity, shorter);
     }
+
+pub push_reserved-requires-in-loop-key : goal.push_reserved-requires-in-loop-key
+push_reserved-requires-in-loop-key g c = grind (arith, common_steps)

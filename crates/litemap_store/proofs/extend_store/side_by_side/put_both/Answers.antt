@@ -1,4 +1,5 @@
-use Rattle.std.proofs.Common.{◌≡◌, ◌∷◌, ◌++◌, [], append_assoc, append-nil, arith, refl, sym, ap, ◌∙◌, subst}
+use Rattle.std.proofs.Common.{◌≡◌, ◌∷◌, ◌++◌, [], append_assoc, append-nil, arith, refl, sym, ap, ◌∙◌, subst, rules}
+use Rattle.std.proofs.lemmas.Grind.{common_steps}
 use Rattle.litemap_store.specs.Merge.{Merge, left}
 use Rattle.litemap_store.proofs.MergeJoins.{Merge-none}
 use Rattle.litemap_store.proofs.extend_store.side_by_side.put_both.Goals as goal
@@ -37,3 +38,12 @@ returns-clause-left g c =
     let rest = g.S.Store.pairs c.loop-order.rest in
     let none : left g.K.Ord.cmp c.loop-order.olds c.loop-order.news ≡ [] = rw end.1 refl in
     sym (append-nil rest) ∙ ap (λ W. rest ++ W) (sym none) ∙ c.loop-order.invariant.left_over
+
+pub lower_first-requires-clause-olds : goal.lower_first-requires-clause-olds
+lower_first-requires-clause-olds g c = search rules
+
+pub take_lower-key-requires-clause-room : goal.take_lower-key-requires-clause-room
+take_lower-key-requires-clause-room g c = search rules
+
+pub returns-clause-cost : goal.returns-clause-cost
+returns-clause-cost g c = grind (arith, common_steps)
