@@ -48,11 +48,11 @@ held-set rs i r new after from low so_far is =
     omega (arith, more, so_far, ap held (take-set rs i new))
 
 module _ (form : Form) where
-  pub held_all : (L : Texts) (rs : List Run) → AreRunsOf form L rs → held rs ≡ length L
+  held_all : (L : Texts) (rs : List Run) → AreRunsOf form L rs → held rs ≡ length L
   held_all L [] a = ap length (sym a)
   held_all L (x ∷ rs) a = omega (arith, held_all (drop x.pairs L) rs a.2, length-drop x.pairs L, a.0)
 
-  pub held_past : (L : Texts) (rs : List Run) (i : ℕ) → length rs ≤ i → AreRunsOf form L rs → held (take i rs) ≡ length L
+  held_past : (L : Texts) (rs : List Run) (i : ℕ) → length rs ≤ i → AreRunsOf form L rs → held (take i rs) ≡ length L
   held_past L rs i past a = ap held (take_all i rs past) ∙ held_all L rs a
 
   -- ---- a run among those of all pairs
@@ -185,6 +185,13 @@ text_more form L old new a p q same fits so_far more =
     ∙ append_assoc (opening form) (body form (take a L)) (joint form a p ++ body form (take p (drop a L)))
     ∙ ap (λ l. opening form ++ l) (body-one_more form L a p fits_p)
     ∙ ap (λ n. opening form ++ body form (take (a + n) L)) (sym same)
+
+-- the text behind the last run
+pub text_all : (form : Form) (L : Texts) (rs : List Run) (i : ℕ) (text : List ℕ) (from : ℕ) → length rs ≤ i → AreRunsOf form L rs → from ≡ held (take i rs)
+    → text ≡ opening form ++ body form (take from L) → text ≡ opening form ++ body form L
+text_all form L rs i text from past a so_far is =
+    is ∙ ap (λ n. opening form ++ body form (take n L)) (so_far ∙ held_past form L rs i past a)
+    ∙ ap (λ (M : Texts). opening form ++ body form M) (take_all (length L) L (omega arith))
 
 -- the texts with what opens and what closes them
 pub framed-all : (L : Texts) → opening All ++ (body All L ++ closing All) ≡ flat_map pair_text L

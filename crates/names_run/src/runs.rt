@@ -38,25 +38,59 @@ pub struct Change {
     pub come: usize,
 }
 
-// How many pairs a run has at first.
-const FIRST: usize = 128;
+// The most pairs that a run has at first.
+const FEW: usize = 128;
+
+// The most bytes of the keys and values of a run at first, where it has more than one pair.
+const FEW_BYTES: usize = 2048;
 
 // The most pairs that come to a run.
 const MOST: usize = 256;
 
-// Runs of so many pairs, with no text known.
-fn runs_of(alloc: Global, len: usize) -> Result<Vec<Run>, AllocError>
-    ensures { IfOk result
-        (λ runs. (form : Form) (L : List (List ℕ × List ℕ)) → length L ≡ len → AreRunsOf form L runs.items) }
+// The most bytes that the text of a run grows to, where it has more than one pair. It is more than a run's at first: a byte
+// of a key or a value becomes two at most, and six stand around each pair.
+const MOST_BYTES: usize = 8192;
+
+// Runs of all pairs, with no text known.
+fn runs_of<S: Store<String, String>>(
+    alloc: Global,
+    names: &Names<S>,
+) -> Result<Vec<Run>, AllocError>
+    ensures { IfOk result (λ runs. (form : Form) → AreRunsOf form (names_of names.now).pairs runs.items) }
 {
     let mut runs = Vec::new(alloc);
-    let mut left = len;
-    while left > 0 {
-        let pairs = left.min(FIRST);
+    let mut from = 0;
+    while from < names.len() {
+        let pairs = pairs_of_run(names, from);
         runs.push(Run { pairs, text: None })?;
-        left -= pairs;
+        from += pairs;
     }
     Ok(runs)
+}
+
+// How many pairs a run from a place on has at first: few, of few bytes, but one at least.
+fn pairs_of_run<S: Store<String, String>>(names: &Names<S>, from: usize) -> usize
+    requires { from < length names.now.pairs }
+    ensures some { 0 < result }
+    ensures within { from + result ≤ length names.now.pairs }
+{
+    let most = FEW.min(names.len() - from);
+    let mut bytes = 0usize;
+    for pairs in 0..most {
+        bytes = bytes.saturating_add(bytes_at(names, from + pairs));
+        if bytes > FEW_BYTES {
+            return pairs.max(1);
+        }
+    }
+    most
+}
+
+// How many bytes the key and the value at a place have.
+fn bytes_at<S: Store<String, String>>(names: &Names<S>, index: usize) -> usize {
+    match names.get_indexed(index) {
+        Some((key, value)) => key.len().saturating_add(value.len()),
+        None => 0,
+    }
 }
 
 // The place of the first run that holds the pairs that go and can take others at their place, if one does.
@@ -127,12 +161,29 @@ pub fn joined<S: Store<String, String>>(
 {
     let mut runs = match known.take() {
         Some(runs) => runs,
-        None => runs_of(alloc, names.len())?,
+        None => runs_of(alloc, names)?,
     };
     let mut text = join(alloc, names, form, &mut runs)?;
     text.push_str(closing(form))?;
-    *known = Some(runs);
+    if are_short(&runs) {
+        *known = Some(runs);
+    }
     Ok(text)
+}
+
+// Whether no run but those of one pair has grown to many bytes: else a change in it would cost too much, and the runs should
+// be cut anew.
+fn are_short(runs: &[Run]) -> bool {
+    runs.iter()
+        .all(|run| run.pairs <= 1 || bytes_of(&run.text) <= MOST_BYTES)
+}
+
+// How many bytes a text has, 0 where it isn't known.
+fn bytes_of(text: &Option<String>) -> usize {
+    match text {
+        Some(text) => text.len(),
+        None => 0,
+    }
 }
 
 // The texts of the runs one behind the other, behind what opens the text.

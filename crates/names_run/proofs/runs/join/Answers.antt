@@ -1,10 +1,10 @@
-use Rattle.std.proofs.Common.{◌≡◌, ◌<◌, ◌≤◌, ◌+◌, ◌++◌, ◌∙◌, ℕ, IfSome, ap, length, drop, take, take_all, arith, subst, sym}
+use Rattle.std.proofs.Common.{◌≡◌, ◌<◌, ◌≤◌, ◌+◌, ◌∙◌, ℕ, IfSome, length, drop, take, arith, subst, sym}
 use Rattle.std.proofs.Math.ListN.{length-set}
 use Rattle.std.specs.Prelude.{string_bytes}
 use Rattle.std.proofs.lemmas.List.{length-map}
-use Rattle.names_run.specs.Runs.{body, opening}
+use Rattle.names_run.specs.Runs.{body}
 use Rattle.names_run.specs.Texts.{names_of, pair_bytes}
-use Rattle.names_run.proofs.Joins.{held_past, held-set, run_known, run_within, same_pairs, set_run, text_more}
+use Rattle.names_run.proofs.Joins.{held-set, run_known, run_within, same_pairs, set_run, text_all, text_more}
 use Rattle.names_run.proofs.runs.join.Goals as goal
 
 pub push_run-requires-clause-within : goal.push_run-requires-clause-within
@@ -61,8 +61,5 @@ loop-index-preserved g c =
 
 pub returns-clause-text : goal.returns-clause-text
 returns-clause-text g c =
-    let names = (names_of c.args.names.now).pairs in
     let past : length c.loop-index.runs.items ≤ c.loop-index.index = omega arith in
-    c.loop-index.invariant.text
-    ∙ ap (λ n. opening c.args.form ++ body c.args.form (take n names)) (c.loop-index.invariant.from ∙ held_past c.args.form names c.loop-index.runs.items c.loop-index.index past c.loop-index.invariant.runs)
-    ∙ ap (λ L. opening c.args.form ++ body c.args.form L) (take_all (length names) names (omega arith))
+    text_all c.args.form (names_of c.args.names.now).pairs c.loop-index.runs.items c.loop-index.index (string_bytes c.loop-index.text) c.loop-index.from past c.loop-index.invariant.runs c.loop-index.invariant.from c.loop-index.invariant.text
