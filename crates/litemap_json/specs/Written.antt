@@ -1,5 +1,5 @@
 -- Which text is written for a tree.
-use Rattle.std.specs.Prelude.{◌≡◌, ℕ, false, List}
+use Rattle.std.specs.Prelude.{◌≡◌, ℕ, false, List, Option, Some, slice_get}
 use Rattle.json.specs.Lex.{tokens}
 use Rattle.json.specs.Print.{print}
 use Rattle.serde_json.specs.Data.{Data}
@@ -11,3 +11,8 @@ pub record IsTextOf (d : Data) (text : List ℕ) : Type 0 where
   pub compact : has_float d ≡ false → text ≡ compact_text d
   pub order : IsInOrder text d
   pub no_space : text ≡ print (tokens text)
+
+-- for a private clause: the first pair has this item, and its key this name, which reads as the key
+abbrev pub IsFirst : {K V : Type 0} → (K → Option (List ℕ)) → (List ℕ → Option Data) → (K → Data) → List (K × V) → List ℕ → V → Type 0
+IsFirst {K} text key key_json L name item =
+    (k : K) × (Some (k, item) ≡ slice_get L 0) × (text k ≡ Some name) × (key name ≡ Some (key_json k))

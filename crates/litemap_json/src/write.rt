@@ -6,6 +6,7 @@ ghost use Rattle.litemap_store.specs.Pairs.{Rising};
 ghost use Rattle.litemap_json_items.specs.Item.{pair_json};
 ghost use Rattle.litemap_json.specs.Json.{object_with, rows, tree};
 ghost use Rattle.litemap_json.specs.Reading.{AllReadBack, ReadsAs, ReadsBack};
+ghost use Rattle.litemap_json.specs.Written.{IsFirst};
 ghost use Rattle.litemap_json.specs.declared.fault.WriteFault.TheVariants.{Memory};
 
 use crate::fault::WriteFault;
@@ -36,9 +37,9 @@ pub fn to_json<K: JsonKey, V: JsonItem, S: Store<K, V>>(
     ensures reads_back { IfOk result
         (λ value. ReadsAs K.cmp K.key K.item V.item K.json V.json (view value) map.now.pairs) }
 {
-    if let Some((first, _)) = map.first() {
-        if first.key_text(alloc)?.is_some() {
-            return object_of(alloc, map);
+    if let Some((first, item)) = map.first() {
+        if let Some(name) = first.key_text(alloc)? {
+            return object_of(alloc, map, name, item);
         }
     }
     Ok(array_of(alloc, map)?)
@@ -72,11 +73,14 @@ fn row_of<K: JsonKey, V: JsonItem>(alloc: Global, key: &K, item: &V) -> Result<V
     array_of_two(alloc, first, second)
 }
 
-// The object of the pairs.
+// The object of the pairs, the first of which has this name and this item.
 fn object_of<K: JsonKey, V: JsonItem, S: Store<K, V>>(
     alloc: Global,
     map: &LiteMap<K, V, S>,
+    name: String,
+    item: &V,
 ) -> Result<Value, WriteFault>
+    requires { IsFirst K.text K.key K.json map.now.pairs (string_bytes name) item.now }
     ensures tree { IfOk result
         (λ value. object_with K.text K.json V.json 0 no_members map.now.pairs ≡ Ok (view value)) }
     ensures refused { IfErr result
@@ -85,7 +89,8 @@ fn object_of<K: JsonKey, V: JsonItem, S: Store<K, V>>(
         (λ value. ReadsAs K.cmp K.key K.item V.item K.json V.json (view value) map.now.pairs) }
 {
     let mut members = Map::new(alloc);
-    for place in 0..map.len() {
+    put_member(&mut members, name, item.to_value(alloc)?)?;
+    for place in 1..map.len() {
         let (key, item) = map.get_indexed(place).unwrap();
         let Some(name) = key.key_text(alloc)? else {
             return Err(WriteFault::KeyWithoutText { place });

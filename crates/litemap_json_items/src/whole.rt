@@ -10,7 +10,7 @@ ghost use Rattle.litemap_json_items.specs.Widths.{signed_is_held, unsigned_is_he
 ghost use Rattle.litemap_json_items.specs.declared.item.ItemFault.TheVariants.{Memory};
 
 use crate::item::{ItemFault, JsonItem, JsonKey};
-use crate::numbers::{printed, whole};
+use crate::numbers::{decimal_text, printed, whole};
 use serde_json::Value;
 use std::alloc::{AllocError, Global};
 
@@ -82,8 +82,7 @@ impl<T: Whole> JsonKey for T {
 
     #[tactic(auto, using(crate::proofs::Printed::read_whole))]
     fn key_text(&self, alloc: Global) -> Result<Option<String>, AllocError> {
-        let number = self.wide();
-        Ok(Some(number.to_string(alloc)?))
+        Ok(Some(decimal_text(alloc, self.wide())?))
     }
 
     fn from_key_text(_alloc: Global, name: &str) -> Result<Option<T>, AllocError>
