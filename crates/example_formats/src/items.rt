@@ -1,15 +1,19 @@
 //! Items and keys as JSON.
 use crate::Shown;
 use crate::fault::Fault;
-use litemap_json_items::{ItemFault, JsonItem, JsonKey, array_of_two, two_items};
+use litemap_json_items::{
+    ItemFault, JsonItem, JsonKey, Writer, array_of_two, two_items, write_value,
+};
 use serde_json::Value;
 use std::alloc::Global;
 
 /// The examples, by the names of the calls.
-pub(crate) fn examples(alloc: Global) -> [Shown; 8] {
+pub(crate) fn examples(alloc: Global) -> [Shown; 10] {
     [
         ("to_value", to_value(alloc)),
         ("from_value", from_value(alloc)),
+        ("write_to", write_to(alloc)),
+        ("write_value", written(alloc)),
         ("ItemFault", item_fault(alloc)),
         ("key_text", key_text(alloc)),
         ("from_key_text", from_key_text(alloc)),
@@ -27,6 +31,18 @@ fn to_value(alloc: Global) -> Result<bool, Fault> {
 fn from_value(alloc: Global) -> Result<bool, Fault> {
     let value = Value::from_str(alloc, "[3,true]")?;
     Ok(<(u32, bool)>::from_value(alloc, &value)? == (3, true))
+}
+
+fn write_to(alloc: Global) -> Result<bool, Fault> {
+    let mut out = Writer::new(Vec::new(alloc));
+    (3u32, true).write_to(alloc, &mut out)?;
+    Ok(out.into_inner().as_slice() == b"[3,true]".as_slice())
+}
+
+fn written(alloc: Global) -> Result<bool, Fault> {
+    let mut out = Writer::new(Vec::new(alloc));
+    write_value(alloc, &Value::from(true), &mut out)?;
+    Ok(out.into_inner().as_slice() == b"true".as_slice())
 }
 
 fn item_fault(alloc: Global) -> Result<bool, Fault> {

@@ -3,15 +3,16 @@ use crate::Shown;
 use crate::fault::Fault;
 use example_map::days::Hours;
 use litemap::VecMap;
-use litemap_json::{ItemFault, JsonFault, from_json, to_json};
+use litemap_json::{ItemFault, JsonFault, from_json, to_json, write_json};
 use serde_json::Value;
 use std::alloc::Global;
 
 /// The examples, by the names of the calls.
-pub(crate) fn examples(alloc: Global, hours: &Hours) -> [Shown; 5] {
+pub(crate) fn examples(alloc: Global, hours: &Hours) -> [Shown; 6] {
     [
         ("to_json", write(alloc, hours)),
         ("to_json of keys with no text", write_pairs(alloc)),
+        ("write_json", written(alloc, hours)),
         ("from_json", read(alloc)),
         ("JsonFault", read_fault(alloc)),
         ("told_in", told(alloc)),
@@ -27,6 +28,11 @@ fn write(alloc: Global, hours: &Hours) -> Result<bool, Fault> {
 fn write_pairs(alloc: Global) -> Result<bool, Fault> {
     let seats: VecMap<(u8, u8), bool> = VecMap::from_iter(alloc, [((2, 7), true)])?;
     Ok(to_json(alloc, &seats)?.to_string(alloc)?.as_str() == "[[[2,7],true]]")
+}
+
+fn written(alloc: Global, hours: &Hours) -> Result<bool, Fault> {
+    // hours: 1 8, 3 10
+    Ok(write_json(alloc, hours)?.as_str() == r#"{"1":8,"3":10}"#)
 }
 
 fn read(alloc: Global) -> Result<bool, Fault> {

@@ -86,7 +86,7 @@ pub trait JsonItem {
     /// ```rust
     /// let mut out = Writer::new(Vec::new(alloc));
     /// (3u32, true).write_to(alloc, &mut out)?;
-    /// Ok(out.into_inner().as_slice() == b"[3,true]")
+    /// Ok(out.into_inner().as_slice() == b"[3,true]".as_slice())
     /// ```
     fn write_to(&self, alloc: Global, out: &mut Writer) -> Result<(), AllocError>
         ensures tree { OnOk result (WritesTree (json self.now) out.old.tokens out.new.tokens) }

@@ -16,13 +16,14 @@ type TextColumns = ColumnStore<String, String>;
 pub struct Calls;
 
 /// The names of the scenarios.
-const NAMES: [&str; 32] = [
+const NAMES: [&str; 36] = [
     "read_pairs",
     "read_pairs_hinted",
     "extend_from_source",
     "read_results",
     "run_calls",
     "to_json",
+    "write_json",
     "from_json",
     "json_array",
     "names",
@@ -33,6 +34,7 @@ const NAMES: [&str; 32] = [
     "read_results_in_columns",
     "run_calls_in_columns",
     "to_json_in_columns",
+    "write_json_in_columns",
     "from_json_in_columns",
     "names_in_columns",
     "names_json_in_columns",
@@ -46,6 +48,8 @@ const NAMES: [&str; 32] = [
     "write_index_of",
     "array_of_two",
     "number_key",
+    "write_to",
+    "write_value",
     "text_item",
     "text_key",
     "rewrite_flags",

@@ -1,8 +1,10 @@
 //! The calls that write JSON and read it.
 use litemap::LiteMap;
 use litemap::store::{ColumnStore, StoreBulkMut};
-use litemap_json::{ItemFault, JsonFault, JsonItem, JsonKey, WriteFault, from_json, to_json};
-use litemap_json_items::array_of_two;
+use litemap_json::{
+    ItemFault, JsonFault, JsonItem, JsonKey, WriteFault, from_json, to_json, write_json,
+};
+use litemap_json_items::{Writer, array_of_two, write_value};
 use names::{FlagsFault, rewrite_flags};
 use serde_json::Value;
 use std::alloc::Global;
@@ -23,11 +25,15 @@ pub(crate) fn run(alloc: Global, name: &str) -> Option<Outcome> {
     match name {
         "to_json" => Some(to_json_object::<Vec<(u32, String)>>(alloc)),
         "to_json_in_columns" => Some(to_json_object::<ColumnStore<u32, String>>(alloc)),
+        "write_json" => Some(write_json_object::<Vec<(u32, String)>>(alloc)),
+        "write_json_in_columns" => Some(write_json_object::<ColumnStore<u32, String>>(alloc)),
         "from_json" => Some(from_json_object::<Vec<(u32, String)>>(alloc)),
         "from_json_in_columns" => Some(from_json_object::<ColumnStore<u32, String>>(alloc)),
         "json_array" => Some(json_array(alloc)),
         "array_of_two" => Some(two(alloc)),
         "number_key" => Some(number_key(alloc)),
+        "write_to" => Some(item_text(alloc)),
+        "write_value" => Some(value_text(alloc)),
         "text_item" => Some(text_item(alloc)),
         "text_key" => Some(text_key(alloc)),
         "rewrite_flags" => Some(flags(alloc)),
@@ -62,6 +68,18 @@ fn to_json_object<S: StoreBulkMut<u32, String>>(alloc: Global) -> Outcome {
     };
     match to_json(alloc, &map) {
         Ok(value) => ended(is_text(alloc, &value, OBJECT)),
+        Err(WriteFault::Memory) => Outcome::refused(true, map.len() == 3),
+        Err(_) => Outcome::Wrong("another fault"),
+    }
+}
+
+// A map of words as the text of an object.
+fn write_json_object<S: StoreBulkMut<u32, String>>(alloc: Global) -> Outcome {
+    let Some(map) = words::<S>(alloc) else {
+        return Outcome::Refused;
+    };
+    match write_json(alloc, &map) {
+        Ok(text) => Outcome::answered(text.as_str() == OBJECT),
         Err(WriteFault::Memory) => Outcome::refused(true, map.len() == 3),
         Err(_) => Outcome::Wrong("another fault"),
     }
@@ -116,6 +134,30 @@ fn number_key(alloc: Global) -> Outcome {
     };
     match u32::from_key_text(alloc, name.as_str()) {
         Ok(read) => Outcome::answered(name.as_str() == "1234" && read == Some(1234)),
+        Err(_) => Outcome::Refused,
+    }
+}
+
+// A number and a text, written behind one another.
+fn item_text(alloc: Global) -> Outcome {
+    let Ok(text) = String::from_str(alloc, WORD) else {
+        return Outcome::Refused;
+    };
+    let mut out = Writer::new(Vec::new(alloc));
+    match (7u32, text).write_to(alloc, &mut out) {
+        Ok(()) => Outcome::answered(out.into_inner().len() == WORD.len() + 6),
+        Err(_) => Outcome::Refused,
+    }
+}
+
+// An array of two numbers, written.
+fn value_text(alloc: Global) -> Outcome {
+    let Ok(value) = array_of_two(alloc, Value::from(1u64), Value::from(2u64)) else {
+        return Outcome::Refused;
+    };
+    let mut out = Writer::new(Vec::new(alloc));
+    match write_value(alloc, &value, &mut out) {
+        Ok(()) => Outcome::answered(out.into_inner().as_slice() == b"[1,2]".as_slice()),
         Err(_) => Outcome::Refused,
     }
 }
