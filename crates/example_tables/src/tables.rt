@@ -3,6 +3,7 @@ use crate::indexes::{BothWays, index_of};
 use crate::prefixes::{is_cut, is_scanned};
 use crate::words;
 use name_index::{NameIndex, NameTable};
+use name_table::NameMap;
 use std::alloc::{AllocError, Global};
 use std::fmt::Write;
 
@@ -32,6 +33,9 @@ pub fn write_table(alloc: Global, bytes: &[u8], output: &mut String) -> Result<(
     if !is_walked(&table, &index) || !is_met(&table, &index) || !is_cut(&table, &index) {
         output.push_str(" another walk")?;
     }
+    if !is_map(&table, &table.to_map(alloc)?) || !is_map(&table, &index.to_map(alloc)?) {
+        output.push_str(" another map")?;
+    }
     let written = index_of(alloc, bytes)?;
     if !BothWays::open(written.as_slice()).is_ok_and(|both| both.has_entries_of(&table)) {
         output.push_str(" another index")?;
@@ -40,6 +44,18 @@ pub fn write_table(alloc: Global, bytes: &[u8], output: &mut String) -> Result<(
         output.push_str(" one more")?;
     }
     Ok(())
+}
+
+// Whether a map has the entries of a table.
+fn is_map(table: &NameTable<'_>, map: &NameMap<'_>) -> bool {
+    let mut place = 0usize;
+    for (key, value) in map {
+        if table.get_indexed(place) != Some((*key, *value)) {
+            return false;
+        }
+        place = place.wrapping_add(1);
+    }
+    place == table.len()
 }
 
 // Whether a table and its index are walked through the entries at the places, and no others.
