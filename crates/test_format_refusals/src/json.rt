@@ -145,7 +145,7 @@ fn item_text(alloc: Global) -> Outcome {
     };
     let mut out = Writer::new(Vec::new(alloc));
     match (7u32, text).write_to(alloc, &mut out) {
-        Ok(()) => Outcome::answered(out.into_inner().len() == WORD.len() + 6),
+        Ok(()) => Outcome::answered(out.into_inner().len() == WORD.len().wrapping_add(6)),
         Err(_) => Outcome::Refused,
     }
 }
