@@ -1,5 +1,5 @@
 //! The scenarios, by name.
-use crate::{json, read, session, tables};
+use crate::{json, json_faults, read, session, tables};
 use litemap::store::ColumnStore;
 use std::alloc::Global;
 use test_refusal_support::{Outcome, Scenarios};
@@ -16,7 +16,7 @@ type TextColumns = ColumnStore<String, String>;
 pub struct Calls;
 
 /// The names of the scenarios.
-const NAMES: [&str; 36] = [
+const NAMES: [&str; 44] = [
     "read_pairs",
     "read_pairs_hinted",
     "extend_from_source",
@@ -53,6 +53,14 @@ const NAMES: [&str; 36] = [
     "text_item",
     "text_key",
     "rewrite_flags",
+    "from_json_bad_item",
+    "from_json_bad_number",
+    "from_json_bad_name",
+    "from_json_bad_key",
+    "from_json_bad_item_of_text",
+    "from_json_bad_element",
+    "from_json_bad_first",
+    "from_json_no_map",
 ];
 
 impl Scenarios for Calls {
@@ -80,7 +88,11 @@ impl Scenarios for Calls {
             "names_in_columns" => Some(session::run_lines::<TextColumns>(alloc)),
             "names_json" => Some(session::run_json::<Texts>(alloc)),
             "names_json_in_columns" => Some(session::run_json::<TextColumns>(alloc)),
-            _ => run_tables(alloc, name).or_else(|| json::run(alloc, name)),
+            _ => {
+                run_tables(alloc, name)
+                    .or_else(|| json::run(alloc, name))
+                    .or_else(|| json_faults::run(alloc, name))
+            }
         }
     }
 }

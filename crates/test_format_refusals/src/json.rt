@@ -20,6 +20,9 @@ const ARRAY: &str = "[[[1,false],10],[[1,true],11],[[2,true],12]]";
 
 const WORD: &str = "a word of more bytes than a block of memory for small texts might have";
 
+// The most bytes that the text of the object may have room for: a writer takes at least 128 ahead of what it writes.
+const MOST_BYTES: usize = 256;
+
 /// Runs the scenario of a call, if there is one of this name.
 pub(crate) fn run(alloc: Global, name: &str) -> Option<Outcome> {
     match name {
@@ -61,6 +64,13 @@ fn ended(is_right: Option<bool>) -> Outcome {
     }
 }
 
+// For how many elements more the array has room that a value is.
+fn room_of_array(value: &Value) -> Option<usize> {
+    value
+        .as_array()
+        .map(|list| list.capacity().saturating_sub(list.len()))
+}
+
 // A map of words as an object.
 fn to_json_object<S: StoreBulkMut<u32, String>>(alloc: Global) -> Outcome {
     let Some(map) = words::<S>(alloc) else {
@@ -79,7 +89,7 @@ fn write_json_object<S: StoreBulkMut<u32, String>>(alloc: Global) -> Outcome {
         return Outcome::Refused;
     };
     match write_json(alloc, &map) {
-        Ok(text) => Outcome::answered(text.as_str() == OBJECT),
+        Ok(text) => Outcome::answered(text.as_str() == OBJECT && text.capacity() <= MOST_BYTES),
         Err(WriteFault::Memory) => Outcome::refused(true, map.len() == 3),
         Err(_) => Outcome::Wrong("another fault"),
     }
@@ -90,15 +100,19 @@ fn json_array(alloc: Global) -> Outcome {
     let Ok(value) = Value::from_str(alloc, ARRAY) else {
         return Outcome::Refused;
     };
-    let map: Pairs = match from_json(alloc, &value) {
+    let mut map: Pairs = match from_json(alloc, &value) {
         Ok(map) => map,
         Err(JsonFault::Memory) => return Outcome::Refused,
         Err(_) => return Outcome::Wrong("another fault"),
     };
-    match to_json(alloc, &map) {
-        Ok(value) => ended(is_text(alloc, &value, ARRAY)),
-        Err(WriteFault::Memory) => Outcome::Refused,
-        Err(_) => Outcome::Wrong("another fault"),
+    let value = match to_json(alloc, &map) {
+        Ok(value) => value,
+        Err(WriteFault::Memory) => return Outcome::Refused,
+        Err(_) => return Outcome::Wrong("another fault"),
+    };
+    match is_text(alloc, &value, ARRAY) {
+        Some(is_right) => Outcome::left(&mut map, is_right && room_of_array(&value) == Some(0)),
+        None => Outcome::Refused,
     }
 }
 
@@ -107,13 +121,14 @@ fn from_json_object<S: StoreBulkMut<u32, String>>(alloc: Global) -> Outcome {
     let Ok(value) = Value::from_str(alloc, OBJECT) else {
         return Outcome::Refused;
     };
-    let map: Words<S> = match from_json(alloc, &value) {
+    let mut map: Words<S> = match from_json(alloc, &value) {
         Ok(map) => map,
         Err(JsonFault::Memory) => return Outcome::Refused,
         Err(_) => return Outcome::Wrong("another fault"),
     };
     let last = map.get(&3).map(|word| word.as_str());
-    Outcome::answered(map.len() == 3 && last == Some("three"))
+    let is_right = map.len() == 3 && last == Some("three");
+    Outcome::left(&mut map, is_right)
 }
 
 // An array of two numbers.
@@ -171,7 +186,7 @@ fn text_item(alloc: Global) -> Outcome {
         return Outcome::Refused;
     };
     match String::from_value(alloc, &value) {
-        Ok(read) => Outcome::answered(read.as_str() == WORD),
+        Ok(read) => Outcome::answered(read.as_str() == WORD && read.capacity() == WORD.len()),
         Err(ItemFault::Memory) => Outcome::Refused,
         Err(_) => Outcome::Wrong("another fault"),
     }
@@ -189,7 +204,9 @@ fn text_key(alloc: Global) -> Outcome {
         return Outcome::Wrong("no text");
     };
     match String::from_key_text(alloc, name.as_str()) {
-        Ok(Some(read)) => Outcome::answered(read.as_str() == WORD),
+        Ok(Some(read)) => {
+            Outcome::answered(read.as_str() == WORD && read.capacity() == WORD.len())
+        }
         Ok(None) => Outcome::Wrong("no key"),
         Err(_) => Outcome::Refused,
     }

@@ -6,6 +6,7 @@
 
 mod calls;
 mod json;
+mod json_faults;
 mod read;
 mod session;
 mod tables;
