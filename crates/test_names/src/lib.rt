@@ -18,3 +18,5 @@ mod flags;
 mod runs;
 #[cfg(test)]
 mod watch;
+#[cfg(test)]
+mod watch_calls;
