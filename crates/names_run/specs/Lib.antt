@@ -1,5 +1,6 @@
 -- The definitions that the contracts cite. `Told` is the page to read first.
 pub mod Told
+pub mod Run
 pub mod Cut
 pub mod Line
 pub mod Command

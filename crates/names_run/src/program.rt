@@ -1,13 +1,13 @@
 //! A run of the program: it reads the lines, and writes what answers them.
-ghost use Rattle.std.specs.Prelude.{◌≡◌, ◌≢◌, ◌≤◌, ◌⊎◌, ◌||◌, ◌↔◌, ◌++◌, ℕ, List, false, true, length, IfOk};
-ghost use Rattle.std.specs.Prelude.{OnErr};
-ghost use Rattle.std.specs.Io.KnownBytes.{Appends, Consumes, IsAtEnd};
+ghost use Rattle.std.specs.Prelude.{◌≡◌, ◌≤◌, ◌⊎◌, ◌↔◌, ℕ, List, false, true, length, IfOk, OnErr};
+ghost use Rattle.std.specs.Io.KnownBytes.{Appends};
 ghost use Rattle.names_run.specs.Cut.{LinesCut, ToldFront};
 ghost use Rattle.names_run.specs.Fault.{AppendsFront};
 ghost use Rattle.names_run.specs.Line.{lines_of};
+ghost use Rattle.names_run.specs.Run.{IsRun};
 ghost use Rattle.names_run.specs.WritesUntil.{WritesUntil};
-ghost use Rattle.names_run.specs.Told.{Told, most_bytes, read_fault};
-ghost use Rattle.names_run.specs.Watched.{NoCallAfterFault, is_unsettled, met_fault};
+ghost use Rattle.names_run.specs.Told.{Told, most_bytes};
+ghost use Rattle.names_run.specs.Watched.{NoCallAfterFault, met_fault};
 
 use crate::input::{InputEnd, read_input};
 use crate::kept::Kept;
@@ -38,33 +38,7 @@ pub enum LinesEnd {
 ///
 /// The names are kept in a vector.
 pub fn run<R: Read, W: Write>(alloc: Global, reader: &mut Watch<R>, writer: &mut Watch<W>) -> u8
-    // The status is 4 exactly where a call met a fault.
-    ensures faults { reader.old.failed ≡ false → writer.old.failed ≡ false
-        → (result ≡ 4) ↔ ((reader.new.failed || writer.new.failed) ≡ true) }
-    // Where a read met a fault and no write did, that is all that is written.
-    ensures read_fault { reader.new.failed ≡ true → reader.old.failed ≡ false → writer.new.failed ≡ false
-        → Appends (⟦<Watch<W> as Write>⟧.contents writer.old) (⟦<Watch<W> as Write>⟧.contents writer.new) read_fault }
-    // Where no call met a fault, what is written and the status are those of the bytes that were read.
-    ensures told { reader.new.failed ≡ false → writer.new.failed ≡ false
-        → (bytes : List ℕ) × (out : List ℕ)
-        × Consumes (⟦<Watch<R> as Read>⟧.remaining reader.old) (⟦<Watch<R> as Read>⟧.remaining reader.new) bytes
-        × Appends (⟦<Watch<W> as Write>⟧.contents writer.old) (⟦<Watch<W> as Write>⟧.contents writer.new) out
-        × Told bytes out result
-        × (result ≢ 3 → length bytes ≤ most_bytes → IsAtEnd (⟦<Watch<R> as Read>⟧.remaining reader.new)) }
-    // Where a write met a fault, what is written is the front of what a run writes for the bytes that were read.
-    ensures cut { reader.new.failed ≡ false → writer.old.failed ≡ false → writer.new.failed ≡ true
-        → (bytes : List ℕ) × (front : List ℕ)
-        × Consumes (⟦<Watch<R> as Read>⟧.remaining reader.old) (⟦<Watch<R> as Read>⟧.remaining reader.new) bytes
-        × Appends (⟦<Watch<W> as Write>⟧.contents writer.old) (⟦<Watch<W> as Write>⟧.contents writer.new) front
-        × ToldFront bytes front }
-    // Where a read and a write met one, it is the front of `read fault`.
-    ensures both_faults { reader.old.failed ≡ false → reader.new.failed ≡ true
-        → writer.old.failed ≡ false → writer.new.failed ≡ true
-        → AppendsFront (⟦<Watch<W> as Write>⟧.contents writer.old) (⟦<Watch<W> as Write>⟧.contents writer.new) read_fault }
-    // No call is made through either after a fault of its own, and none through the reader after a fault of the writer.
-    ensures reader_stops { NoCallAfterFault reader.old reader.new }
-    ensures writer_stops { NoCallAfterFault writer.old writer.new }
-    ensures reads_come_first { met_fault writer.old ≡ false → is_unsettled reader.new ≡ false }
+    ensures run { IsRun R.remaining W.contents reader.old reader.new writer.old writer.new result }
 {
     run_with::<Vec<(String, String)>, R, W>(alloc, reader, writer)
 }
@@ -77,27 +51,7 @@ pub fn run_with<S, R: Read, W: Write>(
 ) -> u8
 where
     S: StoreConstEmpty<String, String> + StoreMut<String, String> + Drop,
-    ensures faults { reader.old.failed ≡ false → writer.old.failed ≡ false
-        → (result ≡ 4) ↔ ((reader.new.failed || writer.new.failed) ≡ true) }
-    ensures read_fault { reader.new.failed ≡ true → reader.old.failed ≡ false → writer.new.failed ≡ false
-        → Appends (⟦<Watch<W> as Write>⟧.contents writer.old) (⟦<Watch<W> as Write>⟧.contents writer.new) read_fault }
-    ensures told { reader.new.failed ≡ false → writer.new.failed ≡ false
-        → (bytes : List ℕ) × (out : List ℕ)
-        × Consumes (⟦<Watch<R> as Read>⟧.remaining reader.old) (⟦<Watch<R> as Read>⟧.remaining reader.new) bytes
-        × Appends (⟦<Watch<W> as Write>⟧.contents writer.old) (⟦<Watch<W> as Write>⟧.contents writer.new) out
-        × Told bytes out result
-        × (result ≢ 3 → length bytes ≤ most_bytes → IsAtEnd (⟦<Watch<R> as Read>⟧.remaining reader.new)) }
-    ensures cut { reader.new.failed ≡ false → writer.old.failed ≡ false → writer.new.failed ≡ true
-        → (bytes : List ℕ) × (front : List ℕ)
-        × Consumes (⟦<Watch<R> as Read>⟧.remaining reader.old) (⟦<Watch<R> as Read>⟧.remaining reader.new) bytes
-        × Appends (⟦<Watch<W> as Write>⟧.contents writer.old) (⟦<Watch<W> as Write>⟧.contents writer.new) front
-        × ToldFront bytes front }
-    ensures both_faults { reader.old.failed ≡ false → reader.new.failed ≡ true
-        → writer.old.failed ≡ false → writer.new.failed ≡ true
-        → AppendsFront (⟦<Watch<W> as Write>⟧.contents writer.old) (⟦<Watch<W> as Write>⟧.contents writer.new) read_fault }
-    ensures reader_stops { NoCallAfterFault reader.old reader.new }
-    ensures writer_stops { NoCallAfterFault writer.old writer.new }
-    ensures reads_come_first { met_fault writer.old ≡ false → is_unsettled reader.new ≡ false }
+    ensures run { IsRun R.remaining W.contents reader.old reader.new writer.old writer.new result }
 {
     let mut input = Vec::new(alloc);
     let ending = read_input(reader, &mut input);
