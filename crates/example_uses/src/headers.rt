@@ -5,7 +5,7 @@ ghost use Rattle.std.specs.Prelude.{◌≡◌, ◌≢◌, None, Some, IfOk, OnOk
 ghost use Rattle.std.specs.Option.{option_copied};
 ghost use Rattle.litemap_store.specs.Pairs.{value_at};
 ghost use Rattle.litemap_store.specs.Queries.{by_text};
-ghost use Rattle.litemap.specs.Clones.{PairsAreClones};
+ghost use Rattle.litemap_store.specs.Clones.{PairsAreClones};
 
 use litemap::LiteMap;
 use std::alloc::{AllocError, Global};

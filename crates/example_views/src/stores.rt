@@ -4,15 +4,16 @@ use example_store::Bounded;
 use litemap::LiteMap;
 use litemap::store::{
     ColumnStore, Count, SliceStore, Store, StoreBulkMut, StoreFromIterable, StoreFromIterator,
-    StoreIntoIterator, StoreSlice,
+    StoreIntoIterator, StoreMut, StoreSlice,
 };
 use std::alloc::{AllocError, Global};
 
 /// The examples, by the names of the calls and of the stores.
-pub(crate) fn examples(alloc: Global) -> [Shown; 11] {
+pub(crate) fn examples(alloc: Global) -> [Shown; 12] {
     [
         ("lm_binary_search_by", Ok(lm_binary_search_by())),
         ("lm_get_range", lm_get_range(alloc)),
+        ("lm_try_clone", lm_try_clone(alloc)),
         ("lm_extend", lm_extend(alloc)),
         ("lm_extend_from_vec", lm_extend_from_vec(alloc)),
         ("lm_sort_from_vec", lm_sort_from_vec(alloc)),
@@ -37,6 +38,12 @@ fn lm_binary_search_by() -> bool {
 fn lm_get_range(alloc: Global) -> Result<bool, AllocError> {
     let pairs = [(1, "Monday"), (3, "Wednesday"), (5, "Friday")].to_vec(alloc)?;
     Ok(pairs.lm_get_range(1..3) == Some([(3, "Wednesday"), (5, "Friday")].as_slice()))
+}
+
+fn lm_try_clone(alloc: Global) -> Result<bool, AllocError> {
+    let pairs = [(1, "Monday"), (5, "Friday")].to_vec(alloc)?;
+    let copy = pairs.lm_try_clone(alloc)?;
+    Ok(copy.as_slice() == pairs.as_slice())
 }
 
 fn lm_extend(alloc: Global) -> Result<bool, AllocError> {

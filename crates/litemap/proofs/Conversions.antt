@@ -1,10 +1,10 @@
 -- What keys that keep their order become is a rising list.
-use Rattle.std.proofs.Common.{◌≡◌, ℕ, zero, suc, ◌+◌, List, [], ◌∷◌, ◌++◌, Some, slice_get, take, sym, ap, subst, ◌∙◌, refl, inl, inr}
-use Rattle.std.specs.List.{AllZip}
-use Rattle.std.proofs.lemmas.List.{take_more}
-use Rattle.std.proofs.lemmas.Option.{slice_get_within, get_or_from_slice_get}
+use Rattle.std.proofs.Common.{◌≡◌, ℕ, zero, suc, List, [], ◌∷◌, Some, slice_get, sym, ◌∙◌, refl, inl, inr}
+use Rattle.std.specs.Cmp.{IsTotalOrder}
+use Rattle.std.proofs.lemmas.Cmp.{alike_right}
 use Rattle.std.specs.declared.cmp.Ordering.{Ordering}
 use Rattle.std.specs.declared.cmp.Ordering.TheVariants.{Less}
+use Rattle.litemap_store.specs.Clones.{ClonesCompareEqual, PairsAreClones}
 use Rattle.litemap_store.specs.Last.{In}
 use Rattle.litemap_store.specs.Pairs.{BelowAll, Rising}
 use Rattle.litemap.specs.Conversions.{KeysKeepOrder, PairsBecame}
@@ -14,23 +14,6 @@ pub In-at : {X : Type 0} (list : List X) (i : ℕ) (x : X) → slice_get list i 
 In-at [] i x h = absurd cc
 In-at (y ∷ list) zero x h = inl cc
 In-at (y ∷ list) (suc i) x h = inr (In-at list i x h)
-
--- one pair more
-pairs-push : {A B : Type 0} (R : A → B → Type 0) (xs : List A) (ys : List B) (x : A) (y : B) → AllZip R xs ys → R x y
-    → AllZip R (xs ++ x ∷ []) (ys ++ y ∷ [])
-pairs-push R [] [] x y h r = (r, tt)
-pairs-push R [] (z ∷ ys) x y h r = absurd h
-pairs-push R (w ∷ xs) [] x y h r = absurd h
-pairs-push R (w ∷ xs) (z ∷ ys) x y h r = (h.0, pairs-push R xs ys x y h.1 r)
-
-pub PairsBecame-more : {K L V W : Type 0} (C : K → L → Type 0) (D : V → W → Type 0) (before : List (K × V)) (after : List (L × W))
-    (i : ℕ) (p : K × V) (a : L) (b : W) → slice_get before i ≡ Some p → C p.0 a → D p.1 b
-    → PairsBecame C D (take i before) after → PairsBecame C D (take (i + 1) before) (after ++ (a, b) ∷ [])
-PairsBecame-more {K} {L} {V} {W} C D before after i p a b is c d h =
-    let R : K × V → L × W → Type 0 = λ p q. C p.0 q.0 × D p.1 q.1 in
-    subst (λ l. AllZip R l (after ++ (a, b) ∷ []))
-    (ap (λ z. take i before ++ z ∷ []) (sym (get_or_from_slice_get before i p p is)) ∙ sym (take_more before i p (slice_get_within before i p is)))
-    (pairs-push R (take i before) after p (a, b) h (c, d))
 
 module _ {K L V W : Type 0} (cmp : K → K → Ordering) (new_cmp : L → L → Ordering) (C : K → L → Type 0) (D : V → W → Type 0) where
   BelowAll-became : (p : K × V) (a : L) (before : List (K × V)) (after : List (L × W))
@@ -51,3 +34,10 @@ module _ {K L V W : Type 0} (cmp : K → K → Ordering) (new_cmp : L → L → 
     BelowAll-became p q.0 before after (λ s d i. k p s q.0 d (inl refl) (inr i) c.0.0) c.1 r.0,
     Rising-became before after (λ s t a b i j. k s t a b (inr i) (inr j)) c.1 r.1,
   )
+
+-- clones that compare Equal to their originals rise as these do
+module _ {K V : Type 0} {cmp : K → K → Ordering} (o : IsTotalOrder cmp) (C : K → K → Type 0) (D : V → V → Type 0) where
+  pub Rising-clones : (before after : List (K × V)) → ClonesCompareEqual cmp C before → PairsAreClones C D before after → Rising cmp before → Rising cmp after
+  Rising-clones before after equal =
+      Rising-became cmp cmp C D before after
+      (λ p q a b i j c d less. sym (o.congr p.0 a b (equal p a i c)) ∙ sym (alike_right o q.0 b p.0 (equal q b j d)) ∙ less)

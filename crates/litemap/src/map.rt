@@ -1,7 +1,7 @@
 //! The map: its type, and how one is made.
 ghost use Rattle.std.specs.Prelude.{◌≡◌, ◌↔◌, ◌≤◌, [], IfOk, IsOk, IsTrue};
 ghost use Rattle.litemap_store.specs.Pairs.{Rising};
-ghost use Rattle.litemap.specs.Clones.{ClonesAreSame, ClonesCompareEqual, PairsAreClones};
+ghost use Rattle.litemap_store.specs.Clones.{ClonesAreSame, ClonesCompareEqual, PairsAreClones};
 
 mod becomes;
 mod bulk;
@@ -20,8 +20,6 @@ mod take;
 mod update;
 mod write;
 
-use becomes::Cloned;
-use conversions::converted;
 pub use entry::{Entry, OccupiedEntry, VacantEntry};
 pub use iter::{KeysIterWrap, ValuesIterWrap};
 use litemap_store::store::{Store, StoreConstEmpty, StoreMut};
@@ -201,7 +199,11 @@ impl<K: Ord, V, S: StoreMut<K, V>> LiteMap<K, V, S> {
         ensures same { IfOk result
             (λ m. ClonesAreSame K.is_clone → ClonesAreSame V.is_clone → m.pairs ≡ self.now.pairs) }
     {
-        converted(&self.store, alloc, &Cloned, &Cloned)
+        let store = self.store.lm_try_clone(alloc)?;
+        Ok(LiteMap {
+            store,
+            marker: PhantomData,
+        })
     }
 }
 

@@ -185,6 +185,20 @@ impl<K, V> StoreMut<K, V> for ColumnStore<K, V> {
         self.values.clear();
     }
 
+    fn lm_try_clone(&self, alloc: Global) -> Result<Self, AllocError>
+    where
+        K: Clone,
+        V: Clone,
+        Self: Drop,
+    {
+        if self.lm_is_empty() {
+            return Ok(Self::lm_empty(alloc));
+        }
+        let keys = Vec::from_clones(alloc, self.keys.as_slice())?;
+        let values = Vec::from_clones(alloc, self.values.as_slice())?;
+        Ok(ColumnStore { keys, values })
+    }
+
     ghost writes = { λ s i v. refl };
 
     ghost keeps_room = { λ s i v. refl };

@@ -106,6 +106,18 @@ impl<K, V> StoreMut<K, V> for Vec<(K, V)> {
         self.clear();
     }
 
+    fn lm_try_clone(&self, alloc: Global) -> Result<Self, AllocError>
+    where
+        K: Clone,
+        V: Clone,
+        Self: Drop,
+    {
+        if self.is_empty() {
+            return Ok(Vec::new(alloc));
+        }
+        Vec::from_clones(alloc, self.as_slice())
+    }
+
     ghost writes = { vec_writes };
 
     ghost keeps_room = { vec_keeps_room };

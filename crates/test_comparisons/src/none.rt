@@ -1,5 +1,5 @@
 //! Calls that compare no keys.
-ghost use Rattle.litemap.specs.Clones.{ClonesCompareEqual};
+ghost use Rattle.litemap_store.specs.Clones.{ClonesCompareEqual};
 
 use crate::lengths::{LENGTHS, odd_keys};
 use litemap::LiteMap;

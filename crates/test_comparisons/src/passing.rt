@@ -1,6 +1,6 @@
 //! Calls that pass over all pairs and compare no keys: walks, `==` of maps of unlike length, `hash`, conversions, and the
 //! making of a store of pairs as they come.
-ghost use Rattle.litemap.specs.Clones.{ClonesCompareEqual};
+ghost use Rattle.litemap_store.specs.Clones.{ClonesCompareEqual};
 
 use crate::lengths::{LENGTHS, odd_keys};
 use litemap::LiteMap;

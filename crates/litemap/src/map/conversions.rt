@@ -3,7 +3,7 @@ ghost use Rattle.std.specs.Prelude.{◌≡◌, IfOk};
 ghost use Rattle.std.specs.Fn.{FnReturnsAt};
 ghost use Rattle.litemap_store.specs.Last.{In};
 ghost use Rattle.litemap_store.specs.Pairs.{Rising};
-ghost use Rattle.litemap.specs.Clones.{ClonesCompareEqual};
+ghost use Rattle.litemap_store.specs.Clones.{ClonesCompareEqual};
 ghost use Rattle.litemap.specs.Conversions.{KeysKeepOrder, PairsBecame, TakesKeys};
 
 use super::becomes::{Answered, Becomes, Boxed, Cloned, Lent};
@@ -199,7 +199,7 @@ where
 }
 
 // The map of what the pairs of a store become.
-pub(super) fn converted<'a, K, V, S, L, W, B, X, Y>(
+fn converted<'a, K, V, S, L, W, B, X, Y>(
     store: &'a S,
     alloc: Global,
     keys: &X,

@@ -1,6 +1,7 @@
 use Rattle.std.proofs.Common.{◌≡◌, length, arith, refl, sym}
 use Rattle.std.proofs.Math.Seq.{take-length}
-use Rattle.litemap.proofs.Conversions.{In-at, PairsBecame-more, Rising-became}
+use Rattle.litemap_store.proofs.Alongside.{alongside-more}
+use Rattle.litemap.proofs.Conversions.{In-at, Rising-became}
 use Rattle.litemap.proofs.map.conversions.converted.Goals as goal
 
 pub made_of-requires : goal.made_of-requires
@@ -12,9 +13,9 @@ made_of-requires-in-loop-index g c = λ k. ((refl, tt), c.requires.values (c.in-
 pub loop-index-preserved : goal.loop-index-preserved
 loop-index-preserved g c = record {
   became = rw c.in-Ok.ensures.ok
-      (PairsBecame-more (g.X.Becomes.became c.args.keys.now) (g.Y.Becomes.became c.args.values.now) (g.S.Store.pairs c.args.store.now) (g.B.Store.pairs c.loop-index.made) c.loop-index.index
-      (c.in-Some.key.now, c.in-Some.value.now) c.in_ok-made_of.field-0 c.in_ok-made_of-2.field-0 (sym c.in-Some.ensures) c.in_ok-made_of.ensures c.in_ok-made_of-2.ensures
-      c.loop-index.invariant.became);
+      (alongside-more (λ p q. g.X.Becomes.became c.args.keys.now p.0 q.0 × g.Y.Becomes.became c.args.values.now p.1 q.1) (g.S.Store.pairs c.args.store.now) (g.B.Store.pairs c.loop-index.made)
+      c.loop-index.index (c.in-Some.key.now, c.in-Some.value.now) (c.in_ok-made_of.field-0, c.in_ok-made_of-2.field-0) (sym c.in-Some.ensures)
+      (c.in_ok-made_of.ensures, c.in_ok-made_of-2.ensures) c.loop-index.invariant.became);
   room = omega (arith, c.in-Ok.ensures.room);
 }
 
