@@ -3,6 +3,7 @@ use crate::cases::Case;
 use crate::keys::Key;
 use litemap::LiteMap;
 use std::fmt::{self, Display, Formatter};
+use std::mem::take;
 
 /// A call that is measured.
 #[derive(Clone, Copy)]
@@ -21,23 +22,35 @@ pub enum Call {
     Remove,
     /// To keep about half of the pairs.
     Retain,
+    /// To keep all pairs.
+    RetainAll,
+    /// To keep no pair.
+    RetainNone,
     /// A map of pairs that rise.
     FromIterRising,
     /// A map of pairs in no order.
     FromIter,
     /// To put in pairs that rise, each between two that are there.
     ExtendRising,
+    /// To put in pairs that rise, behind all others.
+    ExtendAbove,
     /// To put in pairs in no order.
     Extend,
+    /// To put in a few pairs in no order.
+    ExtendFew,
     /// To put in a map whose keys lie above all others.
     MergeApart,
     /// To put in a map whose keys lie between the others.
     MergeInterleaved,
+    /// To put in a map with the same keys.
+    MergeEqual,
+    /// A copy of the map.
+    Clone,
 }
 
 impl Call {
     /// All calls.
-    pub const ALL: [Call; 13] = [
+    pub const ALL: [Call; 19] = [
         Call::Get,
         Call::GetMissing,
         Call::Iterate,
@@ -45,18 +58,19 @@ impl Call {
         Call::Append,
         Call::Remove,
         Call::Retain,
+        Call::RetainAll,
+        Call::RetainNone,
         Call::FromIterRising,
         Call::FromIter,
         Call::ExtendRising,
+        Call::ExtendAbove,
         Call::Extend,
+        Call::ExtendFew,
         Call::MergeApart,
         Call::MergeInterleaved,
+        Call::MergeEqual,
+        Call::Clone,
     ];
-
-    /// Whether it changes nothing.
-    pub fn is_look(self) -> bool {
-        matches!(self, Call::Get | Call::GetMissing | Call::Iterate)
-    }
 }
 
 impl Display for Call {
@@ -69,49 +83,44 @@ impl Display for Call {
             Call::Append => "append",
             Call::Remove => "remove",
             Call::Retain => "retain",
+            Call::RetainAll => "retain_all",
+            Call::RetainNone => "retain_none",
             Call::FromIterRising => "from_iter_rising",
             Call::FromIter => "from_iter",
             Call::ExtendRising => "extend_rising",
+            Call::ExtendAbove => "extend_above",
             Call::Extend => "extend",
+            Call::ExtendFew => "extend_few",
             Call::MergeApart => "merge_apart",
             Call::MergeInterleaved => "merge_interleaved",
+            Call::MergeEqual => "merge_equal",
+            Call::Clone => "clone",
         })
     }
 }
 
-/// Makes a call that changes nothing of each case, and gives the sum of what was answered.
-pub fn look<K: Key>(call: Call, keys: &[K], cases: &[Case<K>]) -> u64 {
+/// Makes a call of each case, and gives the sum of what was answered.
+pub fn call_all<K: Key>(call: Call, cases: &mut [Case<K>]) -> u64 {
     let mut sum: u64 = 0;
     for case in cases {
-        sum = sum.wrapping_add(match call {
-            Call::Iterate => total(&case.map),
-            _ => get(&case.map, keys),
-        });
-    }
-    sum
-}
-
-/// Makes a call of each case, hands over the maps that are left, and gives the sum of what was answered.
-pub fn change<K: Key>(
-    call: Call,
-    keys: &[K],
-    cases: Vec<Case<K>>,
-    left: &mut Vec<LiteMap<K, u64>>,
-) -> u64 {
-    let mut sum: u64 = 0;
-    for case in cases {
-        let mut map = case.map;
         match call {
-            Call::Get | Call::GetMissing | Call::Iterate => {}
-            Call::Insert => insert(&mut map, case.given),
-            Call::Append => append(&mut map, case.given),
-            Call::Remove => sum = sum.wrapping_add(remove(&mut map, keys)),
-            Call::Retain => retain(&mut map),
-            Call::FromIterRising | Call::FromIter => map = from_iter(case.given),
-            Call::ExtendRising | Call::Extend => extend(&mut map, case.given),
-            Call::MergeApart | Call::MergeInterleaved => merge(&mut map, case.other),
+            Call::Get | Call::GetMissing => sum = sum.wrapping_add(get(&case.map, &case.keys)),
+            Call::Iterate => sum = sum.wrapping_add(total(&case.map)),
+            Call::Insert => insert(&mut case.map, take(&mut case.given)),
+            Call::Append => append(&mut case.map, take(&mut case.given)),
+            Call::Remove => sum = sum.wrapping_add(remove(&mut case.map, &case.keys)),
+            Call::Retain => retain(&mut case.map),
+            Call::RetainAll => retain_all(&mut case.map),
+            Call::RetainNone => retain_none(&mut case.map),
+            Call::FromIterRising | Call::FromIter => case.map = from_iter(take(&mut case.given)),
+            Call::ExtendRising | Call::ExtendAbove | Call::Extend | Call::ExtendFew => {
+                extend(&mut case.map, take(&mut case.given))
+            }
+            Call::MergeApart | Call::MergeInterleaved | Call::MergeEqual => {
+                case.made = merge(&mut case.map, take(&mut case.other))
+            }
+            Call::Clone => case.made = Some(clone(&case.map)),
         }
-        left.push(map);
     }
     sum
 }
@@ -167,6 +176,17 @@ fn retain<K: Key>(map: &mut LiteMap<K, u64>) {
     map.retain(|_, value| *value & 2 == 0);
 }
 
+// All values are even.
+#[inline(never)]
+fn retain_all<K: Key>(map: &mut LiteMap<K, u64>) {
+    map.retain(|_, value| *value & 1 == 0);
+}
+
+#[inline(never)]
+fn retain_none<K: Key>(map: &mut LiteMap<K, u64>) {
+    map.retain(|_, value| *value & 1 == 1);
+}
+
 #[inline(never)]
 fn from_iter<K: Key>(pairs: Vec<(K, u64)>) -> LiteMap<K, u64> {
     LiteMap::from_iter(pairs)
@@ -178,6 +198,11 @@ fn extend<K: Key>(map: &mut LiteMap<K, u64>, pairs: Vec<(K, u64)>) {
 }
 
 #[inline(never)]
-fn merge<K: Key>(map: &mut LiteMap<K, u64>, other: LiteMap<K, u64>) {
-    let _driven_out = map.extend_from_litemap(other);
+fn merge<K: Key>(map: &mut LiteMap<K, u64>, other: LiteMap<K, u64>) -> Option<LiteMap<K, u64>> {
+    map.extend_from_litemap(other)
+}
+
+#[inline(never)]
+fn clone<K: Key>(map: &LiteMap<K, u64>) -> LiteMap<K, u64> {
+    map.clone()
 }

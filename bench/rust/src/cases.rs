@@ -1,9 +1,9 @@
 //! What the calls are made of.
 use crate::calls::Call;
-use crate::keys::{self, Data, Key, LOOKS};
+use crate::keys::{self, Data, Draw, Key, FEW, LOOKS};
 use litemap::LiteMap;
 
-/// A map and what it is called with.
+/// A map, what it is called with, and what the call makes.
 pub struct Case<K> {
     /// The map.
     pub map: LiteMap<K, u64>,
@@ -11,6 +11,10 @@ pub struct Case<K> {
     pub given: Vec<(K, u64)>,
     /// The map that it is given.
     pub other: LiteMap<K, u64>,
+    /// The keys that it is asked for.
+    pub keys: Vec<K>,
+    /// The map that the call makes, if it makes one.
+    pub made: Option<LiteMap<K, u64>>,
 }
 
 /// The numbers of the pairs in a map, in those that it is given, and in the map that it is given.
@@ -21,66 +25,69 @@ struct Parts<'a> {
 }
 
 /// The cases of a round: as many maps as make some thousands of calls.
-pub fn cases<K: Key>(data: &Data<K>, call: Call) -> Vec<Case<K>> {
+pub fn cases<K: Key>(data: &Data, call: Call, round: usize) -> Vec<Case<K>> {
     (0..how_many(data, call))
-        .map(|_| make_case(data, call))
+        .map(|map| make_case(data.draw(round, map), call, round))
         .collect()
 }
 
 /// How many maps a round calls.
-fn how_many<K: Key>(data: &Data<K>, call: Call) -> usize {
+fn how_many(data: &Data, call: Call) -> usize {
     match call {
         Call::Get | Call::GetMissing => 1,
-        _ => (LOOKS / data.size).max(1),
+        _ => keys::maps_of(data.size),
     }
 }
 
 /// How many pairs or keys a round asks for, puts in, takes out or goes through.
-pub fn how_many_pairs<K: Key>(data: &Data<K>, call: Call) -> usize {
+pub fn how_many_pairs(data: &Data, call: Call) -> usize {
     let each = match call {
         Call::Get | Call::GetMissing => LOOKS,
-        Call::Insert => data.size - data.before_inserts(),
-        Call::Remove => data.removed.len(),
-        Call::ExtendRising | Call::Extend | Call::MergeApart | Call::MergeInterleaved => {
-            data.size / 2
-        }
+        Call::Insert | Call::Remove => keys::changes(data.size),
+        Call::ExtendFew => FEW,
+        Call::ExtendRising
+        | Call::ExtendAbove
+        | Call::Extend
+        | Call::MergeApart
+        | Call::MergeInterleaved => data.size / 2,
         _ => data.size,
     };
     each * how_many(data, call)
 }
 
-/// The keys that a call asks for.
-pub fn keys_of<K: Key>(data: &Data<K>, call: Call) -> &[K] {
-    match call {
-        Call::GetMissing => &data.missing,
-        Call::Remove => &data.removed,
-        _ => &data.asked,
-    }
-}
-
-fn make_case<K: Key>(data: &Data<K>, call: Call) -> Case<K> {
-    let parts = parts_of(data, call);
+fn make_case<K: Key>(draw: &Draw, call: Call, round: usize) -> Case<K> {
+    let parts = parts_of(draw, call);
     Case {
-        map: LiteMap::from_iter(keys::pairs(parts.map)),
-        given: keys::pairs(parts.given),
-        other: LiteMap::from_iter(keys::pairs(parts.other)),
+        map: LiteMap::from_iter(keys::pairs(parts.map, 0)),
+        given: keys::pairs(parts.given, 0),
+        other: LiteMap::from_iter(keys::pairs(parts.other, 1)),
+        keys: match call {
+            Call::Get => keys::keys(&draw.asked(round)),
+            Call::GetMissing => keys::keys(&draw.missing(round)),
+            Call::Remove => keys::keys(draw.removed()),
+            _ => Vec::new(),
+        },
+        made: None,
     }
 }
 
-fn parts_of<K: Key>(data: &Data<K>, call: Call) -> Parts<'_> {
-    let (scattered, rising) = (&data.scattered[..], &data.rising[..]);
-    let (lower, upper) = rising.split_at(data.size / 2);
-    let (evens, odds) = (&data.evens[..], &data.odds[..]);
-    let (first, second) = scattered.split_at(data.size / 2);
-    let (before, inserted) = scattered.split_at(data.before_inserts());
+fn parts_of(draw: &Draw, call: Call) -> Parts<'_> {
+    let (scattered, rising) = (&draw.scattered[..], &draw.rising[..]);
+    let (lower, upper) = rising.split_at(rising.len() / 2);
+    let (evens, odds) = (&draw.evens[..], &draw.odds[..]);
+    let (first, second) = scattered.split_at(scattered.len() / 2);
+    let (before, inserted) = scattered.split_at(scattered.len() - draw.removed().len());
     let (map, given, other): (&[u64], &[u64], &[u64]) = match call {
         Call::Insert => (before, inserted, &[]),
         Call::Append | Call::FromIterRising => (&[], rising, &[]),
         Call::FromIter => (&[], scattered, &[]),
         Call::ExtendRising => (evens, odds, &[]),
+        Call::ExtendAbove => (lower, upper, &[]),
         Call::Extend => (first, second, &[]),
+        Call::ExtendFew => (rising, &draw.few, &[]),
         Call::MergeApart => (lower, &[], upper),
         Call::MergeInterleaved => (evens, &[], odds),
+        Call::MergeEqual => (rising, &[], rising),
         _ => (rising, &[], &[]),
     };
     Parts { map, given, other }

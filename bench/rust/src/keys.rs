@@ -1,13 +1,17 @@
 //! The keys of the measures: even numbers that look like chance, so that each odd one is missing, and texts of them.
+use crate::measure::ROUNDS;
 
-/// How many keys a round looks up.
+/// How many keys a round looks up, and how many its maps have together at least.
 pub const LOOKS: usize = 10_000;
 
 /// How many keys a round puts in or takes out of one map at most, one by one.
 const CHANGES: usize = 1000;
 
+/// How many pairs are few.
+pub const FEW: usize = 10;
+
 /// A type of keys.
-pub trait Key: Ord {
+pub trait Key: Ord + Clone {
     /// The name of the type.
     const NAME: &'static str;
 
@@ -50,70 +54,116 @@ pub fn number(place: u64) -> u64 {
     (third ^ (third >> 31)) & !1
 }
 
-/// The pairs of numbers: each key with its number as the value.
-pub fn pairs<K: Key>(numbers: &[u64]) -> Vec<(K, u64)> {
+/// The pairs of numbers: each key with its number as the value, or with one that is larger by so much.
+pub fn pairs<K: Key>(numbers: &[u64], more: u64) -> Vec<(K, u64)> {
     numbers
         .iter()
-        .map(|number| (K::of(*number), *number))
+        .map(|number| (K::of(*number), number.wrapping_add(more)))
         .collect()
 }
 
-fn keys<K: Key>(numbers: &[u64]) -> Vec<K> {
+/// The keys of numbers.
+pub fn keys<K: Key>(numbers: &[u64]) -> Vec<K> {
     numbers.iter().map(|number| K::of(*number)).collect()
 }
 
-/// What the measures of one size and type of keys are made from.
-pub struct Data<K> {
-    /// How many pairs a map has.
-    pub size: usize,
-    /// The numbers of the keys, in no order.
+/// How many maps a round makes of a size, where it makes more than one.
+pub fn maps_of(size: usize) -> usize {
+    (LOOKS / size).max(1)
+}
+
+/// The numbers of the keys of one map.
+pub struct Draw {
+    /// In no order.
     pub scattered: Vec<u64>,
-    /// The numbers of the keys, in the order of the keys.
+    /// In the order of the keys.
     pub rising: Vec<u64>,
     /// Each second one of these, from the first on.
     pub evens: Vec<u64>,
     /// Each second one of these, from the second on.
     pub odds: Vec<u64>,
-    /// Keys that are there.
-    pub asked: Vec<K>,
-    /// Keys that are not.
-    pub missing: Vec<K>,
-    /// The keys to be taken out.
-    pub removed: Vec<K>,
+    /// Some more, in no order.
+    pub few: Vec<u64>,
 }
 
-impl<K: Key> Data<K> {
-    /// The data of a size.
-    pub fn new(size: usize) -> Self {
-        let scattered: Vec<u64> = (0..size as u64).map(number).collect();
-        let chances: Vec<u64> = (0..LOOKS as u64).map(number).collect();
-        let asked: Vec<u64> = chances
-            .iter()
-            .map(|chance| number((chance >> 1) % size as u64))
-            .collect();
-        let missing: Vec<u64> = chances.iter().map(|chance| chance | 1).collect();
+impl Draw {
+    /// As many numbers, from a place of the sequence on.
+    fn new<K: Key>(size: usize, first: u64) -> Self {
+        let scattered = drawn(first, size);
         let rising = rising::<K>(&scattered);
-        Data {
-            size,
+        Draw {
             evens: rising.iter().copied().step_by(2).collect(),
             odds: rising.iter().copied().skip(1).step_by(2).collect(),
+            few: drawn(first + size as u64, FEW),
             rising,
-            asked: keys(&asked),
-            missing: keys(&missing),
-            removed: keys(&scattered[..size.min(CHANGES)]),
             scattered,
         }
     }
 
-    /// How many pairs a map has before the last ones are inserted.
-    pub fn before_inserts(&self) -> usize {
-        self.size.saturating_sub(CHANGES)
+    /// The numbers of keys that are there, other ones in each round.
+    pub fn asked(&self, round: usize) -> Vec<u64> {
+        chances(round)
+            .map(|chance| self.scattered[(chance >> 1) as usize % self.scattered.len()])
+            .collect()
     }
+
+    /// The numbers of keys that are not there, other ones in each round.
+    pub fn missing(&self, round: usize) -> Vec<u64> {
+        chances(round).map(|chance| chance | 1).collect()
+    }
+
+    /// The numbers of the keys to be taken out.
+    pub fn removed(&self) -> &[u64] {
+        &self.scattered[..changes(self.scattered.len())]
+    }
+}
+
+/// What the measures of one size and type of keys are made from.
+pub struct Data {
+    /// How many pairs a map has.
+    pub size: usize,
+    /// The keys of the maps of all rounds, or of one map, where that has more than a round needs.
+    draws: Vec<Draw>,
+}
+
+impl Data {
+    /// The data of a size.
+    pub fn new<K: Key>(size: usize) -> Self {
+        let maps = match maps_of(size) {
+            1 => 1,
+            maps => maps * ROUNDS,
+        };
+        let block = size + FEW;
+        let draws = (0..maps)
+            .map(|map| Draw::new::<K>(size, (map * block) as u64))
+            .collect();
+        Data { size, draws }
+    }
+
+    /// The keys of a map of a round.
+    pub fn draw(&self, round: usize, map: usize) -> &Draw {
+        &self.draws[(round * maps_of(self.size) + map) % self.draws.len()]
+    }
+}
+
+/// How many keys are put in or taken out one by one, of a map of a size.
+pub fn changes(size: usize) -> usize {
+    size.min(CHANGES)
+}
+
+fn drawn(first: u64, many: usize) -> Vec<u64> {
+    (first..first + many as u64).map(number).collect()
+}
+
+/// Numbers that choose the keys that a round asks for.
+fn chances(round: usize) -> impl Iterator<Item = u64> {
+    let first = ((round + 1) << 32) as u64;
+    (first..first + LOOKS as u64).map(number)
 }
 
 /// The numbers in the order of their keys.
 fn rising<K: Key>(numbers: &[u64]) -> Vec<u64> {
-    let mut pairs: Vec<(K, u64)> = pairs(numbers);
+    let mut pairs: Vec<(K, u64)> = pairs(numbers, 0);
     pairs.sort();
     pairs.into_iter().map(|(_, number)| number).collect()
 }

@@ -1,6 +1,7 @@
 //! The measures of bench/rattle, of the Rust crate: the same work on the same keys, and lines of the same form.
 mod calls;
 mod cases;
+mod consts;
 mod few;
 mod keys;
 mod measure;
@@ -11,17 +12,20 @@ use keys::{Data, Key};
 const SIZES: [usize; 4] = [8, 64, 1000, 100_000];
 
 /// Times each call, with one type of keys.
-fn measure_keys<K: Key>(size: usize) {
-    let data = Data::<K>::new(size);
+fn measure_keys<K: Key>(data: &Data) {
     for call in Call::ALL {
-        measure::measure(&data, call);
+        measure::measure::<K>(data, call);
     }
 }
 
 fn main() {
     for size in SIZES {
-        measure_keys::<u64>(size);
-        measure_keys::<String>(size);
+        let numbers = Data::new::<u64>(size);
+        measure_keys::<u64>(&numbers);
+        consts::measure_numbers(&numbers);
+        let texts = Data::new::<String>(size);
+        measure_keys::<String>(&texts);
+        consts::measure_texts(&texts);
     }
     few::measure_few();
 }

@@ -5,15 +5,15 @@ use crate::keys::{Data, Key};
 use litemap::LiteMap;
 
 /// How often a measure is made at most.
-const ROUNDS: u32 = 50;
+pub const ROUNDS: usize = 30;
 
-/// How long a measure goes on: the round that passes it is the last one.
-const LONGEST_NANOS: u128 = 60_000_000;
+/// How long a measure goes on: no round begins after that.
+const LONGEST_NANOS: u128 = 20_000_000;
 
 /// The time of a round, and a number that stands for what was answered and left.
-struct Round {
-    nanos: u128,
-    answer: u64,
+pub struct Round {
+    pub nanos: u128,
+    pub answer: u64,
 }
 
 #[repr(C)]
@@ -42,53 +42,50 @@ pub fn nanos_used() -> u128 {
     time.seconds as u128 * 1_000_000_000 + time.nanos as u128
 }
 
-/// Measures a call, and writes its line.
-pub fn measure<K: Key>(data: &Data<K>, call: Call) {
+/// Makes rounds, and gives the lowest time and the answer of the first one.
+pub fn rounds(mut round: impl FnMut(usize) -> Round) -> Round {
     let began = nanos_used();
-    let looked_at = cases::cases(data, call);
-    let mut lowest = u128::MAX;
-    let mut answer = 0;
-    for _ in 0..ROUNDS {
-        let round = if call.is_look() {
-            look(data, call, &looked_at)
-        } else {
-            change(data, call, cases::cases(data, call))
-        };
-        lowest = lowest.min(round.nanos);
-        answer = round.answer;
+    let mut found = round(0);
+    for turn in 1..ROUNDS {
         if nanos_used() - began > LONGEST_NANOS {
             break;
         }
+        found.nanos = found.nanos.min(round(turn).nanos);
     }
+    found
+}
+
+/// Measures a call, and writes its line.
+pub fn measure<K: Key>(data: &Data, call: Call) {
+    let Round { nanos, answer } = rounds(|round| {
+        let mut cases: Vec<Case<K>> = cases::cases(data, call, round);
+        let start = nanos_used();
+        let sum = calls::call_all(call, &mut cases);
+        let nanos = nanos_used() - start;
+        let answer = all_weights(sum, &cases);
+        Round { nanos, answer }
+    });
     let pairs = cases::how_many_pairs(data, call) as u128;
     println!(
         "{call} {} vec {} {} {answer}",
         K::NAME,
         data.size,
-        lowest * 1000 / pairs
+        nanos * 1000 / pairs
     );
 }
 
-/// A round of a call that changes nothing.
-fn look<K: Key>(data: &Data<K>, call: Call, cases: &[Case<K>]) -> Round {
-    let start = nanos_used();
-    let answer = calls::look(call, cases::keys_of(data, call), cases);
-    let nanos = nanos_used() - start;
-    Round { nanos, answer }
-}
-
-/// A round of a call that changes its maps, which are given up after it.
-fn change<K: Key>(data: &Data<K>, call: Call, cases: Vec<Case<K>>) -> Round {
-    let mut left = Vec::with_capacity(cases.len());
-    let keys = cases::keys_of(data, call);
-    let start = nanos_used();
-    let sum = calls::change(call, keys, cases, &mut left);
-    let nanos = nanos_used() - start;
+/// A number that stands for what was answered, and for all maps that were left and made.
+fn all_weights<K: Key>(sum: u64, cases: &[Case<K>]) -> u64 {
     let mut answer = sum;
-    for map in &left {
-        answer = answer.wrapping_mul(31).wrapping_add(weight(map));
+    for case in cases {
+        let made = case.made.as_ref().map_or(0, weight);
+        answer = answer
+            .wrapping_mul(31)
+            .wrapping_add(weight(&case.map))
+            .wrapping_mul(31)
+            .wrapping_add(made);
     }
-    Round { nanos, answer }
+    answer
 }
 
 /// A number that stands for all pairs of a map and their order.
