@@ -98,9 +98,15 @@ fn changed<K: Ord + Drop, Q: Query<K>>(
     (before, map.len())
 }
 
+// The number at a text in a list, by the scan.
+fn number_at(list: &[Pair], text: &'static str) -> Option<u32> {
+    let pair = test_scan::at(list, &text)?;
+    Some(pair.1)
+}
+
 // The same of a list whose keys rise, by the scans.
 fn scanned(list: &[Pair], text: &'static str) -> Found {
-    let value = test_scan::at(list, &text).map(|pair| pair.1);
+    let value = number_at(list, text);
     let place = test_scan::index_of(list, &text);
     (value.is_some(), (value, value, value), (place, place))
 }
@@ -162,16 +168,11 @@ fn is_changed<K: Kind, Q: Query<K>>(
     (text, number): (&'static str, Option<u32>),
     query: Q,
 ) -> Result<bool, AllocError> {
-    let left = left(alloc, list, text, number)?;
-    let before = test_scan::at(list, &text).map(|pair| pair.1);
+    let left = map_of::<K>(alloc, &left(alloc, list, text, number)?)?;
     let mut map = map_of::<K>(alloc, list)?;
     let answer = changed(&mut map, query, number);
-    let is_left = map
-        .as_slice()
-        .iter()
-        .map(|pair| pair.1)
-        .eq(left.iter().map(|pair| pair.1));
-    Ok(answer == (before, left.len()) && is_left)
+    let is_left = map.as_slice() == left.as_slice();
+    Ok(answer == (number_at(list, text), left.len()) && is_left)
 }
 
 // The same by what stands for the key, and by the key.

@@ -5,7 +5,6 @@ ghost use Rattle.litemap.specs.ByBytes.{by_bytes};
 
 use litemap::LiteMap;
 use litemap::store::SliceStore;
-use std::process::Abort;
 use std::test::Fail;
 
 type SliceMap<'a, K, V> = LiteMap<K, V, SliceStore<'a, K, V>>;
@@ -138,7 +137,7 @@ fn numbers_are_found_up_to_both_ends_of_their_type(rt: HostRuntime) {
         isize_ends(),
     ];
     for (number, found) in found.iter().enumerate() {
-        assert_eq!(rt; *found, wanted, "of type {number}");
+        assert_eq!(rt; (number, *found), (number, wanted));
     }
 }
 
@@ -147,29 +146,28 @@ fn negative_numbers_are_found(rt: HostRuntime) {
     let pairs = [(-128i8, 1), (0, 2), (127, 3)];
     let map = slice_map(&pairs);
     for (key, found) in [(127, Some((2, &3))), (1, None), (-128, Some((0, &1)))] {
-        assert_eq!(rt; map.const_get_with_index(key), found, "of {key}");
+        assert_eq!(rt; (key, map.const_get_with_index(key)), (key, found));
     }
 }
 
-// Asserts that each text of a table is found at its place, and that this one is not found.
-fn assert_texts_found(rt: &impl Abort, pairs: &[(&str, u32)], absent: &str)
-    requires { Rising by_bytes pairs.now }
-{
-    let map = slice_map(pairs);
-    for (place, (text, value)) in pairs.iter().enumerate() {
-        assert_eq!(rt;
-            map.const_get_with_index(text),
-            Some((place, value)),
-            "of {text}"
-        );
+// Whether the keys of a slice rise, each text is found at its place, and this one is not found.
+fn finds_texts(pairs: &[(&str, u32)], absent: &str) -> bool {
+    let store = SliceStore::new(pairs);
+    if !LiteMap::is_sorted_store(&store) {
+        return false;
     }
-    assert_eq!(rt; map.const_get_with_index(absent), None);
+    let map = LiteMap::from_sorted_store_unchecked(store);
+    for (place, (text, value)) in pairs.iter().enumerate() {
+        if map.const_get_with_index(text) != Some((place, value)) {
+            return false;
+        }
+    }
+    map.const_get_with_index(absent).is_none()
 }
 
 #[test]
 fn texts_are_found_and_one_that_begins_another_comes_before_it(rt: HostRuntime) {
-    assert_texts_found(&rt, WORDS, "dng");
-    assert_texts_found(&rt, PREFIXES, "aaa");
+    assert!(rt; finds_texts(WORDS, "dng") && finds_texts(PREFIXES, "aaa"));
 }
 
 #[test]
@@ -180,38 +178,23 @@ fn a_value_outlives_the_map_and_the_text_that_is_looked_up(rt: HostRuntime) -> R
 }
 
 // The same of bytes.
-fn assert_bytes_found(rt: &impl Abort, pairs: &[(&[u8], u32)], absent: &[u8])
-    requires { Rising by_bytes pairs.now }
-{
-    let map = slice_map(pairs);
-    for (place, (bytes, value)) in pairs.iter().enumerate() {
-        assert_eq!(rt;
-            map.const_get_with_index(bytes),
-            Some((place, value)),
-            "of {bytes:?}"
-        );
+fn finds_bytes(pairs: &[(&[u8], u32)], absent: &[u8]) -> bool {
+    let store = SliceStore::new(pairs);
+    if !LiteMap::is_sorted_store(&store) {
+        return false;
     }
-    assert_eq!(rt; map.const_get_with_index(absent), None);
+    let map = LiteMap::from_sorted_store_unchecked(store);
+    for (place, (bytes, value)) in pairs.iter().enumerate() {
+        if map.const_get_with_index(bytes) != Some((place, value)) {
+            return false;
+        }
+    }
+    map.const_get_with_index(absent).is_none()
 }
 
 #[test]
 fn bytes_are_found_and_those_that_begin_others_come_before_them(rt: HostRuntime) {
-    assert_bytes_found(&rt, BYTE_WORDS, b"dng");
-    assert_bytes_found(&rt, BYTE_PREFIXES, b"ab");
-}
-
-// Asserts that the keys of a slice rise, and that each is found at its place.
-fn assert_found_in_order(rt: &impl Abort, pairs: &[(&[u8], usize)]) {
-    let store = SliceStore::new(pairs);
-    assert!(rt; LiteMap::is_sorted_store(&store), "{pairs:?}");
-    let map = LiteMap::from_sorted_store_unchecked(store);
-    for (bytes, place) in pairs {
-        assert_eq!(rt;
-            map.const_get_with_index(bytes),
-            Some((*place, place)),
-            "of {bytes:?}"
-        );
-    }
+    assert!(rt; finds_bytes(BYTE_WORDS, b"dng") && finds_bytes(BYTE_PREFIXES, b"ab"));
 }
 
 // Among three keys a search looks at the middle one first, and among two at the second: so each text of
@@ -221,8 +204,9 @@ fn test_const_cmp_bytes(rt: HostRuntime) {
     let rising: [&[u8]; 6] = [b"a", b"aa", b"abc", b"abde", b"bcd", b"bcde"];
     for (i, a) in rising.iter().enumerate() {
         for b in rising.iter().skip(i).skip(1) {
-            assert_found_in_order(&rt, &[(a, 0), (b, 1)]);
-            assert_found_in_order(&rt, &[(b"", 0), (a, 1), (b, 2)]);
+            let is_found = finds_bytes(&[(a, 0), (b, 1)], b"c")
+                && finds_bytes(&[(b"", 0), (a, 1), (b, 2)], b"c");
+            assert_eq!(rt; (a, b, is_found), (a, b, true));
         }
     }
 }
@@ -242,7 +226,6 @@ fn a_slice_map_has_a_length_and_its_pairs_have_places(rt: HostRuntime) {
 #[test]
 fn an_empty_slice_map_has_nothing(rt: HostRuntime) {
     let map: SliceMap<u8, u8> = slice_map(&[]);
-    assert_eq!(rt; map.const_len(), 0);
-    assert!(rt; map.const_is_empty());
-    assert_eq!(rt; map.const_get_with_index(0), None);
+    let is_empty = map.const_len() == 0 && map.const_is_empty();
+    assert!(rt; is_empty && map.const_get_with_index(0).is_none());
 }

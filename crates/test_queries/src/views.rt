@@ -1,10 +1,8 @@
 //! Parts of a map that are lent as maps, and maps over a store that is sorted already.
 use litemap::LiteMap;
 use litemap::store::SliceStore;
-use std::alloc::Global;
-use std::process::Abort;
+use std::alloc::{AllocError, Global};
 use std::test::Fail;
-use test_support::lists::map_of;
 
 type Names = LiteMap<u32, &'static str, Vec<(u32, &'static str)>>;
 
@@ -15,32 +13,35 @@ const NAMES: [(u32, &str); 3] = [(1, "one"), (2, "two"), (3, "three")];
 const FROM_THE_LAST_ON: [(u32, &str); 3] = [(3, "three"), (2, "two"), (1, "one")];
 
 // The map of the first names, which are put in from the last on.
-fn names(alloc: Global, count: usize) -> Result<Names, Fail> {
-    Ok(map_of(
-        alloc,
-        &FROM_THE_LAST_ON[3_usize.saturating_sub(count)..],
-        count,
-    )?)
+fn names(alloc: Global, count: u32) -> Result<Names, AllocError> {
+    let mut map = LiteMap::new_vec(alloc);
+    for (number, name) in FROM_THE_LAST_ON {
+        if number <= count {
+            map.insert(number, name)?;
+        }
+    }
+    Ok(map)
 }
 
 // Whether a part has these names, or there is neither.
 fn is_part(part: Option<Part<'_>>, names: Option<&[(u32, &str)]>) -> bool {
-    match part {
-        Some(part) => Some(part.as_slice()) == names,
-        None => names.is_none(),
-    }
+    let Some(part) = part else {
+        return names.is_none();
+    };
+    let Some(names) = names else { return false };
+    part.as_slice() == names
 }
 
-// The parts of a part, within it and past its end.
-fn assert_parts(rt: &impl Abort, map: &Part<'_>, names: &[(u32, &str)]) {
+// Whether the parts of a part are those of the names, within it and past its end.
+fn has_parts(map: &Part<'_>, names: &[(u32, &str)]) -> bool {
     for start in 0..5 {
         for end in 0..5 {
-            assert!(rt;
-                is_part(map.get_indexed_range(start..end), names.get(start..end)),
-                "{start}..{end} of {names:?}"
-            );
+            if !is_part(map.get_indexed_range(start..end), names.get(start..end)) {
+                return false;
+            }
         }
     }
+    true
 }
 
 // A range within a map is a map, and one that runs backwards or past the end is none.
@@ -55,7 +56,7 @@ fn a_range_of_places_is_a_map(rt: HostRuntime) -> Result<(), Fail> {
                 "{start}..{end}"
             );
             if let (Some(part), Some(names)) = (map.get_indexed_range(start..end), names) {
-                assert_parts(&rt, &part, names);
+                assert!(rt; has_parts(&part, names), "parts of {names:?}");
             }
         }
     }
@@ -86,11 +87,12 @@ fn a_part_is_searched_in_its_own_places(rt: HostRuntime) -> Result<(), Fail> {
 fn all_pairs_are_lent_as_a_map_and_as_a_slice(rt: HostRuntime) -> Result<(), Fail> {
     for count in 0..4 {
         let map = names(rt.alloc(), count)?;
-        let names = &NAMES[..count];
+        let names = &NAMES[..count as usize];
         let borrowed = map.as_sliced();
         let is_lent = borrowed.as_slice() == names && map.as_slice() == names;
-        assert!(rt; is_lent && borrowed.len() == count, "{count}");
-        assert!(rt; map.into_tuple_vec().as_slice() == names, "{count}");
+        let has_len = borrowed.len() == names.len();
+        let is_moved = map.into_tuple_vec().as_slice() == names;
+        assert!(rt; is_lent && has_len && is_moved, "{count}");
     }
     Ok(())
 }
