@@ -1,4 +1,4 @@
-//! The calls of a map over a short store, from no pair to many and back.
+//! The store that keeps no pair or one in itself: its calls from no pair to many and back, and how large it is.
 use litemap::LiteMap;
 use litemap::store::StoreMut;
 use litemap_short::ShortStore;
@@ -50,4 +50,19 @@ fn room_for_one_is_there_without_memory(rt: HostRuntime) {
         );
         assert!(rt; store.is_ok());
     }
+}
+
+#[test]
+fn a_map_of_short_keys_is_one_word_larger_than_a_vector(rt: HostRuntime) {
+    let map = size_of::<LiteMap<[u8; 2], [u8; 8], ShortStore<[u8; 2], [u8; 8]>>>();
+    assert_eq!(rt;
+        map,
+        size_of::<Vec<([u8; 2], [u8; 8])>>() + size_of::<usize>()
+    );
+}
+
+#[test]
+fn a_large_pair_takes_one_word_more(rt: HostRuntime) {
+    let store = size_of::<ShortStore<u64, [u64; 8]>>();
+    assert_eq!(rt; store, size_of::<(u64, [u64; 8])>() + size_of::<usize>());
 }
