@@ -1,6 +1,6 @@
 use Rattle.std.proofs.Common.{rules, ◌≡◌, ◌∷◌, ap, length, suc, arith}
 use Rattle.std.proofs.lemmas.Grind.{common_steps}
-use Rattle.litemap_store.proofs.MergeSteps.{MergedUpTo-more}
+use Rattle.litemap_store.proofs.MergeSteps.{MergedUpTo-more, MergedUpTo-none}
 use Rattle.litemap_store.proofs.extend_store.one_by_one.put_each.Goals as goal
 
 pub loop-key-preserved : goal.loop-key-preserved
@@ -38,3 +38,12 @@ returns-clause-left g c = grind (arith, common_steps)
 
 pub returns-clause-cost : goal.returns-clause-cost
 returns-clause-cost g c = grind (arith, common_steps)
+
+pub loop-key-init : goal.loop-key-init
+loop-key-init g c = record {
+  can = g.met.S.KeyValueIntoIter.PairIntoIter.can _;
+  ends = search rules;
+  so_far = MergedUpTo-none g.K.Ord.cmp g.met.K.Ord.total _ _ _ _ _ c.requires.store (search rules) c.requires.empty;
+  room = first_of (search rules, grind (arith, common_steps));
+  rest_room = first_of (search rules, grind (arith, common_steps));
+}
