@@ -1,4 +1,5 @@
-use Rattle.std.proofs.Common.{◌≡◌, ◌≤◌, false, true, drop, take, inl, inr, length, sym, ap, subst, ◌∙◌, ⊎_elim}
+use Rattle.std.proofs.Common.{arith, ◌≡◌, ◌≤◌, false, true, drop, take, inl, inr, length, sym, ap, subst, ◌∙◌, ⊎_elim}
+use Rattle.std.proofs.lemmas.Grind.{common_steps}
 use Rattle.litemap_store.specs.Pairs.{Rising}
 use Rattle.litemap.proofs.Cuts.{Rising-filter, drop-cut, first_cut, last_cut, take-cut, within-cut}
 use Rattle.litemap.proofs.map.LiteMap.split_off.Goals as goal
@@ -39,3 +40,9 @@ pub returns-clause-from : goal.returns-clause-from
 returns-clause-from g c =
     let place = c.place_before-place.result in
     c.from_sorted_store_unchecked.ensures.pairs ∙ c.in_ok-later.ensures.later ∙ ap (drop place) (ap (λ m. m.pairs) c.self.view_is) ∙ drop-cut _ c.args.self.now.pairs place c.place_before-place.ensures.cut
+
+pub invariant_of-self : goal.invariant_of-self
+invariant_of-self g c = rw c.in_err-later.ensures.refused c.self.invariant
+
+pub returns-clause-all : goal.returns-clause-all
+returns-clause-all g c = grind (arith, common_steps)
