@@ -1,7 +1,8 @@
 //! No item, one, or a vector of items.
 ghost use Rattle.std.specs.Prelude.{◌≡◌, ◌+◌, ◌<◌, ◌≤◌, [], ◌∷◌, length, insert, remove, slice_get, slice_index_or};
-ghost use Rattle.std.specs.Prelude.{Some, IfSome, OnOk, OnErr, vec_len, vec_capacity};
+ghost use Rattle.std.specs.Prelude.{Some, IfOk, IfSome, IsOk, OnOk, OnErr, vec_len, vec_capacity};
 ghost use Rattle.std.specs.Borrow.{sem};
+ghost use Rattle.std.specs.List.{AllZip};
 ghost use Rattle.std.specs.Map.Iter.{deref_pair};
 ghost use Rattle.std.specs.Vec.Iter.{into_iter_items};
 ghost use Rattle.litemap_short.specs.Left.{with_first};
@@ -164,6 +165,20 @@ impl<T> Held<T> {
             Held::Nothing => (None, Vec::new(alloc).into_iter()),
             Held::One(item, []) => (Some(item), Vec::new(alloc).into_iter()),
             Held::Many(items) => (None, items.into_iter()),
+        }
+    }
+
+    // A clone of each item, in the same order. None and one take no memory of their own.
+    pub(crate) fn try_clone(&self, alloc: Global) -> Result<Self, AllocError>
+    where
+        T: Clone,
+        ensures clones { IfOk result (λ h. AllZip T.is_clone (held_items self.now) (held_items h)) }
+        ensures succeeds { held_items self.now ≡ [] → IsOk result }
+    {
+        match self.as_slice() {
+            [] => Ok(Held::Nothing),
+            [item] => Ok(Held::One(item.clone()?, [])),
+            items => Ok(Held::Many(Vec::from_clones(alloc, items)?)),
         }
     }
 

@@ -136,6 +136,16 @@ impl<K, V> StoreMut<K, V> for ShortStore<K, V> {
         self.held.clear();
     }
 
+    fn lm_try_clone(&self, alloc: Global) -> Result<Self, AllocError>
+    where
+        K: Clone,
+        V: Clone,
+        Self: Drop,
+    {
+        let held = self.held.try_clone(alloc)?;
+        Ok(ShortStore { alloc, held })
+    }
+
     ghost writes = { λ s i v. refl };
 
     ghost keeps_room = { λ s i v. refl };
