@@ -4,15 +4,15 @@ ghost use Rattle.name_index.specs.Entries.{BeginsPair, BeginsText};
 ghost use Rattle.name_table.specs.Parts.{Begins, pair_parts, text_parts};
 ghost use Rattle.name_table.specs.Remaining.{shown};
 
-use name_table::parts::text;
+use name_table::parts::Cursor;
 
 /// The text that the bytes begin with, behind its length, and the bytes behind it.
 pub fn known_text(bytes: &[u8]) -> (&str, &[u8])
     requires { BeginsText bytes.now }
     ensures { Begins bytes.now (text_parts result.0.now) result.1.now }
 {
-    match text(bytes, 0) {
-        Ok(read) => read,
+    match Cursor::new(bytes).text() {
+        Ok((text, behind)) => (text, behind.rest()),
         Err(_) => unreachable!(),
     }
 }

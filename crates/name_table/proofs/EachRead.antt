@@ -1,12 +1,12 @@
 -- Each list of bytes begins with a table, or has a fault.
-use Rattle.std.proofs.Common.{◌≡◌, ◌≢◌, ◌⊎◌, inl, inr, ℕ, zero, suc, ◌+◌, ◌-◌, ◌*◌, ◌%◌, ◌<◌, ◌≤◌, Bool, true, false, List, [], ◌∷◌, ◌++◌, length, take, drop, refl, sym, ap, ◌∙◌, subst, arith, ⊎_elim, length-append}
+use Rattle.std.proofs.Common.{◌≡◌, ◌≢◌, ◌⊎◌, inl, inr, ℕ, zero, suc, ◌+◌, ◌-◌, ◌*◌, ◌%◌, ◌<◌, ◌≤◌, Bool, true, false, List, [], ◌∷◌, length, take, drop, refl, sym, subst, arith, ⊎_elim}
 use Rattle.std.proofs.lemmas.List.{length-take-le, take-append-drop}
 use Rattle.std.proofs.lemmas.Str.{IsUtf8-from_is_utf8, is_utf8-from_IsUtf8}
-use Rattle.std.specs.Prelude.{IsUtf8}
 use Rattle.std.specs.Str.{is_utf8}
 use Rattle.name_table.specs.Faults.{AreOfPairs, AreOfText, Fault, NumberFault, TableFault}
 use Rattle.name_table.specs.Numbers.{BeginsNumber, WhyUnread}
 use Rattle.name_table.specs.Parts.{Begins, Number, pair_parts, table_parts, text_parts}
+use Rattle.name_table.specs.Position.{Position}
 use Rattle.name_table.specs.Remaining.{IsCounted, IsNext, Remaining}
 use Rattle.name_table.specs.declared.fault.NameFault.{NameFault}
 use Rattle.name_table.specs.declared.fault.NameFault.TheVariants.{Truncated, NotUtf8, NumberTooLarge}
@@ -88,22 +88,25 @@ PairsRead s =
     ((pairs : List (List ℕ × List ℕ)) × (rest : List ℕ) × Begins s.rest (pair_parts pairs) rest × (length pairs ≡ s.left))
     ⊎ ((f : NameFault) × Fault (AreOfPairs s.left) s.rest s.place f)
 
+one_more : (s t : Remaining) (p : List ℕ × List ℕ) → IsNext s t p → PairsRead t → PairsRead s
+one_more s t p next =
+    ⊎_elim
+    (λ r. inl (p ∷ r.0, r.1, begins_pairs s.rest t.rest r.1 (p ∷ []) r.0 next.spelled r.2, omega (arith, r.3, next.count)))
+    (λ f. inr (f.0, fault_later s t p next f.0 f.1))
+
 pairs_read : (n : ℕ) (s : Remaining) → s.left ≡ n → PairsRead s
 pairs_read zero s e = inl ([], s.rest, begins_none s.rest, sym e)
 pairs_read (suc n) s e =
     let h : s.left ≢ 0 = λ z. omega (arith, z, e) in
     ⊎_elim
-    (λ k. let place = s.place + length k.2.front in
+    (λ k. let middle : Position = record { rest = k.1; place = s.place + length k.2.front } in
     ⊎_elim
-    (λ v.
-    let t : Remaining = record { rest = v.1; place = s.place + (length s.rest - length k.1) + (length k.1 - length v.1); left = s.left - 1 } in
-    let next : IsNext s t (k.0, v.0) = is_next s k.0 v.0 k.1 v.1 k.2 v.2 h in
-    ⊎_elim
-    (λ r. inl ((k.0, v.0) ∷ r.0, r.1, begins_pairs s.rest t.rest r.1 ((k.0, v.0) ∷ []) r.0 next.spelled r.2, omega (arith, r.3, e)))
-    (λ f. inr (f.0, fault_later s t (k.0, v.0) next f.0 f.1))
-    (pairs_read n t (omega (arith, e))))
-    (λ f. inr (f.0, value_fault s k.1 k.0 place f.0 h k.2 refl f.1))
-    (text_read k.1 place))
+    (λ v. let behind : Position = record { rest = v.1; place = middle.place + length v.2.front } in
+    let t : Remaining = record { rest = behind.rest; place = behind.place; left = s.left - 1 } in
+    let next : IsNext s t (k.0, v.0) = is_next s k.0 v.0 middle behind (record { spelled = k.2; place = refl }) (record { spelled = v.2; place = refl }) h in
+    one_more s t (k.0, v.0) next (pairs_read n t (omega (arith, e))))
+    (λ f. inr (f.0, value_fault s k.1 k.0 middle.place f.0 h k.2 refl f.1))
+    (text_read k.1 middle.place))
     (λ f. inr (f.0, key_fault s f.0 h f.1))
     (text_read s.rest s.place)
 

@@ -1,8 +1,9 @@
 -- Parts, one behind another.
-use Rattle.std.proofs.Common.{◌≡◌, ℕ, List, [], ◌∷◌, ◌++◌, length, refl, sym, ap, ◌∙◌, subst, append_assoc, append-nil}
+use Rattle.std.proofs.Common.{◌≡◌, ℕ, ◌+◌, List, [], ◌∷◌, ◌++◌, length, refl, sym, ap, ◌∙◌, subst, arith, append_assoc, append-nil, length-append}
 use Rattle.std.specs.Prelude.{IsUtf8}
 use Rattle.name_table.specs.ReadOn.{AreParts-append, pair_parts-append}
 use Rattle.name_table.specs.Parts.{Part, Number, Text, IsPart, AreParts, Begins, text_parts, pair_parts}
+use Rattle.name_table.specs.Position.{IsPast, Position}
 
 pub AreParts-one : (bytes : List ℕ) (x : Part) → IsPart bytes x → AreParts bytes (x ∷ [])
 AreParts-one bytes x p = (bytes, [], sym (append-nil bytes), p, refl)
@@ -40,6 +41,15 @@ begins_text bytes tail rest text size p e l u =
     let P : ℕ → Type 0 = λ n. Begins bytes (Number n ∷ []) tail in
     begins_then bytes tail rest (Number (length text) ∷ []) (Text text ∷ []) (subst P (sym l) p)
     (record { front = text; split = e; spelled = AreParts-one text (Text text) (refl, u) })
+
+-- the same from place to place
+pub past_text : (s : Position) (tail rest text : List ℕ) (place size : ℕ) → IsPast s (record { rest = tail; place = place }) (Number size ∷ []) → tail ≡ text ++ rest → length text ≡ size → IsUtf8 text → IsPast s (record { rest = rest; place = place + size }) (text_parts text)
+past_text s tail rest text place size p e l u =
+    let b = begins_text s.rest tail rest text size p.spelled e l u in
+    record {
+      spelled = b;
+      place = omega (arith, p.place, l, ap length p.spelled.split, length-append p.spelled.front tail, ap length b.split, length-append b.front rest, ap length e, length-append text rest);
+    }
 
 -- one pair, its key and its value
 pub begins_pair : (bytes middle rest : List ℕ) (pair : List ℕ × List ℕ) → Begins bytes (text_parts pair.0) middle → Begins middle (text_parts pair.1) rest → Begins bytes (pair_parts (pair ∷ [])) rest

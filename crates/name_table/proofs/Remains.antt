@@ -4,6 +4,7 @@ use Rattle.std.proofs.Math.ListN.{replicate}
 use Rattle.std.proofs.lemmas.List.{length-replicate}
 use Rattle.name_table.specs.Faults.{Fault, PartFault, AreOfPairs, AreOfText}
 use Rattle.name_table.specs.Parts.{Part, Begins, text_parts, pair_parts}
+use Rattle.name_table.specs.Position.{IsPast, Position}
 use Rattle.name_table.specs.ReadOn.{IsReadOn}
 use Rattle.name_table.specs.Remaining.{Remaining, shown, CanBeRead, AllCanBeRead, IsNext}
 use Rattle.name_table.specs.declared.fault.NameFault.{NameFault}
@@ -38,13 +39,16 @@ value_fault s middle key place f h b e w =
 
 -- ---- t is s once the next pair p is read
 
+abbrev pub position : Remaining → Position
+position s = record { rest = s.rest; place = s.place }
+
 -- from the texts of its key and its value
-pub is_next : (s : Remaining) (key value middle rest : List ℕ) → Begins s.rest (text_parts key) middle → Begins middle (text_parts value) rest → s.left ≢ 0 → IsNext s (record { rest = rest; place = s.place + (length s.rest - length middle) + (length middle - length rest); left = s.left - 1 }) (key, value)
-is_next s key value middle rest k v h =
-    let b = begins_pair s.rest middle rest (key, value) k v in
+pub is_next : (s : Remaining) (key value : List ℕ) (middle behind : Position) → IsPast (position s) middle (text_parts key) → IsPast middle behind (text_parts value) → s.left ≢ 0 → IsNext s (record { rest = behind.rest; place = behind.place; left = s.left - 1 }) (key, value)
+is_next s key value middle behind k v h =
+    let b = begins_pair s.rest middle.rest behind.rest (key, value) k.spelled v.spelled in
     record {
       spelled = b;
-      place = omega (arith, ap length b.split, length-append b.front rest, ap length k.split, length-append k.front middle, ap length v.split, length-append v.front rest);
+      place = omega (arith, k.place, v.place, ap length b.split, length-append b.front behind.rest, ap length k.spelled.split, length-append k.spelled.front middle.rest, ap length v.spelled.split, length-append v.spelled.front behind.rest);
       count = omega (arith, h);
     }
 

@@ -1,6 +1,7 @@
 -- The definitions that the contracts cite. `Parts` is the page to read first.
 pub mod Parts
 pub mod Numbers
+pub mod Position
 pub mod Faults
 pub mod Remaining
 pub mod ReadOn

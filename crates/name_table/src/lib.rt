@@ -2,13 +2,13 @@
 //! behind its length. `docs/NAME_TABLES.md` has the format.
 #![tactic(auto)]
 
+mod cursor;
 mod fault;
 pub mod laws;
 mod name_bytes;
 mod number;
 pub mod parts;
 mod read;
-mod text;
 mod write;
 
 pub use fault::{NameFault, NameWriteFault};

@@ -5,9 +5,8 @@ ghost use Rattle.name_table.specs.Faults.{NumberFault, PairsFault};
 ghost use Rattle.name_table.specs.Remaining.{AllCanBeRead, CanBeRead, IsCounted, IsNext, shown};
 ghost use Rattle.name_table.specs.ReadOn.{IsReadOn, read_on_itself, read_on_further};
 
+use crate::cursor::Cursor;
 use crate::fault::NameFault;
-use crate::number::number;
-use crate::text::text;
 use litemap_read::PairSource;
 use std::marker::Model;
 
@@ -28,20 +27,16 @@ use std::marker::Model;
 /// ```
 #[derive(Drop)]
 pub struct NameBytes<'a> {
-    rest: &'a [u8],
-    place: usize,
+    cursor: Cursor<'a>,
     left: usize,
 }
 
 impl<'a> Model for NameBytes<'a> {
-    ghost use Rattle.std.specs.Prelude.{◌+◌, ◌^◌, ◌<◌, length};
     ghost use Rattle.name_table.specs.Remaining.{Remaining};
 
     ghost Value = { Remaining };
 
-    ghost view = { λ s. record { rest = s.rest.now; place = s.place; left = s.left } };
-
-    ghost invariant = { λ s. s.place + length s.rest.now < 2 ^ 64 };
+    ghost view = { λ s. record { rest = s.cursor.rest; place = s.cursor.place; left = s.left } };
 }
 
 impl<'a> NameBytes<'a> {
@@ -58,12 +53,8 @@ impl<'a> NameBytes<'a> {
         ensures ok { IfOk result (λ names. IsCounted bytes.now names) }
         ensures err { IfErr result (λ fault. NumberFault bytes.now 0 fault) }
     {
-        let (left, rest) = number(bytes, 0)?;
-        Ok(NameBytes {
-            rest,
-            place: bytes.len() - rest.len(),
-            left,
-        })
+        let (left, cursor) = Cursor::new(bytes).number()?;
+        Ok(NameBytes { cursor, left })
     }
 
     /// How many bytes were read: those of the number of entries and of whole entries.
@@ -78,7 +69,7 @@ impl<'a> NameBytes<'a> {
     pub fn place(&self) -> usize
         ensures { result ≡ self.now.place }
     {
-        self.place
+        self.cursor.place()
     }
 }
 
@@ -121,11 +112,9 @@ impl<'a> PairSource<&'a str, &'a str> for NameBytes<'a> {
         if self.left == 0 {
             return Ok(None);
         }
-        let (key, middle) = text(self.rest, self.place)?;
-        let middle_place = self.place + (self.rest.len() - middle.len());
-        let (value, rest) = text(middle, middle_place)?;
-        self.place = middle_place + (middle.len() - rest.len());
-        self.rest = rest;
+        let (key, middle) = self.cursor.text()?;
+        let (value, behind) = middle.text()?;
+        self.cursor = behind;
         self.left -= 1;
         Ok(Some((key, value)))
     }

@@ -1,3 +1,2 @@
 //! The parts of a table, read one by one.
-pub use crate::number::number;
-pub use crate::text::text;
+pub use crate::cursor::Cursor;

@@ -1,0 +1,97 @@
+//! Bytes that are read on from a place.
+ghost use Rattle.std.specs.Prelude.{◌≡◌, ◌∷◌, [], IfErr, IfOk};
+ghost use Rattle.name_table.specs.Faults.{AreOfText, Fault, NumberFault};
+ghost use Rattle.name_table.specs.Parts.{Number, text_parts};
+ghost use Rattle.name_table.specs.Position.{IsPast};
+
+use crate::fault::NameFault;
+use crate::number::{Unread, number_within};
+use std::marker::Model;
+use std::str;
+
+/// A place in bytes: those that lie ahead, and how many lie before.
+///
+/// A number or a text is read where it stands, and told with the cursor behind it; what it stood at stays. A contract sees it
+/// as a `Position`.
+#[derive(Drop)]
+pub struct Cursor<'a> {
+    rest: &'a [u8],
+    place: usize,
+}
+
+impl<'a> Model for Cursor<'a> {
+    ghost use Rattle.std.specs.Prelude.{◌+◌, ◌^◌, ◌<◌, length};
+    ghost use Rattle.name_table.specs.Position.{Position};
+
+    ghost Value = { Position };
+
+    ghost view = { λ s. record { rest = s.rest.now; place = s.place } };
+
+    ghost invariant = { λ s. s.place + length s.rest.now < 2 ^ 64 };
+}
+
+impl<'a> Cursor<'a> {
+    /// The cursor in front of all bytes.
+    pub fn new(bytes: &'a [u8]) -> Self
+        ensures rest { result.rest ≡ bytes.now }
+        ensures place { result.place ≡ 0 }
+    {
+        Cursor {
+            rest: bytes,
+            place: 0,
+        }
+    }
+
+    /// The bytes that lie ahead.
+    pub fn rest(&self) -> &'a [u8]
+        ensures { result.now ≡ self.now.rest }
+    {
+        self.rest
+    }
+
+    /// How many bytes lie before.
+    pub fn place(&self) -> usize
+        ensures { result ≡ self.now.place }
+    {
+        self.place
+    }
+
+    /// The number that the bytes begin with, and the cursor behind it. A fault's place is that of the number.
+    pub fn number(&self) -> Result<(usize, Self), NameFault>
+        ensures ok { IfOk result (λ read. IsPast self.now read.1 (Number read.0 ∷ [])) }
+        ensures err { IfErr result (λ fault. NumberFault self.now.rest self.now.place fault) }
+    {
+        let at = self.place;
+        match number_within(self.rest, 5) {
+            Ok((number, rest)) => {
+                if number < 4_294_967_296 {
+                    let place = at + (self.rest.len() - rest.len());
+                    Ok((number as usize, Cursor { rest, place }))
+                } else {
+                    Err(NameFault::NumberTooLarge { at })
+                }
+            }
+            Err(Unread::Ends) => Err(NameFault::Truncated { at }),
+            Err(Unread::TooLong) => Err(NameFault::NumberTooLarge { at }),
+        }
+    }
+
+    /// The text that the bytes begin with, behind its length, and the cursor behind it. A fault's place is that of the length
+    /// or of the text.
+    pub fn text(&self) -> Result<(&'a str, Self), NameFault>
+        ensures ok { IfOk result (λ read. IsPast self.now read.1 (text_parts read.0.now)) }
+        ensures err { IfErr result (λ fault. Fault AreOfText self.now.rest self.now.place fault) }
+    {
+        let (size, tail) = self.number()?;
+        let from = tail.place;
+        if size > tail.rest.len() {
+            return Err(NameFault::Truncated { at: from });
+        }
+        let (text, rest) = tail.rest.split_at(size);
+        let place = from + size;
+        match str::from_utf8(text) {
+            Ok(text) => Ok((text, Cursor { rest, place })),
+            Err(_) => Err(NameFault::NotUtf8 { at: from }),
+        }
+    }
+}
