@@ -51,8 +51,10 @@ pub fn read_names<'a>(
 
 /// The place and the value of a name in the map that `read_names` answers for the bytes, `None` where the name isn't there.
 ///
-/// The value is a slice of the bytes. The whole table is read first, with the comparisons of `read_names`; then the lookup
-/// compares at most once for each binary digit of the number of names, as `const_get_with_index` does.
+/// The value is a slice of the bytes. Each call reads the whole table, all `n` entries, into a map that is given up again, with
+/// the comparisons and the memory of `read_names`; then the lookup compares at most once for each binary digit of the number of
+/// names, as `const_get_with_index` does. Where more than one name is sought, read the map once, or look a table whose keys rise
+/// up in its bytes, by the crate `name_index`.
 ///
 /// ```rust
 /// const LANGUAGES: &[u8] = b"\x02\x02de\x06German\x02fr\x06French";
