@@ -7,3 +7,4 @@ pub mod Writing
 pub mod Scanning
 pub mod Rises
 pub mod LeftLemmas
+pub mod NoFault

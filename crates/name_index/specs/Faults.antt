@@ -5,7 +5,7 @@ use Rattle.litemap_store.specs.Pairs.{Rising}
 use Rattle.name_table.specs.Faults.{NumberFault, PairsFault}
 use Rattle.name_table.specs.ReadOn.{IsReadOn}
 use Rattle.name_table.specs.Remaining.{IsCounted, IsNext, Remaining}
-use Rattle.name_index.specs.Tables.{text_order}
+use Rattle.name_index.specs.Tables.{IsRisingTable, text_order}
 use Rattle.name_index.specs.declared.fault.NameTableFault.{NameTableFault}
 use Rattle.name_index.specs.declared.fault.NameTableFault.TheVariants.{Format, NotRising}
 
@@ -29,3 +29,8 @@ StopsAt s (NotRising at) =
 abbrev pub IsFault : List ℕ → NameTableFault → Type 0
 IsFault bytes (Format fault) = NumberFault bytes 0 fault ⊎ ((s : Remaining) × IsCounted bytes s × StopsAt s (Format fault))
 IsFault bytes (NotRising at) = (s : Remaining) × IsCounted bytes s × StopsAt s (NotRising at)
+
+-- bytes that begin with a table whose keys rise have no fault
+abbrev pub RisingHasNoFault : Type 0
+RisingHasNoFault = (bytes : List ℕ) (pairs : List (List ℕ × List ℕ)) (fault : NameTableFault)
+    → IsRisingTable bytes pairs → IsFault bytes fault → ⊥

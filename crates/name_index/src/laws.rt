@@ -1,4 +1,5 @@
 //! Laws over the definitions of `specs/`. Each function does nothing: its contract is the law.
+ghost use Rattle.name_index.specs.Faults.{RisingHasNoFault};
 ghost use Rattle.name_index.specs.Tables.{WrittenIsOpened};
 ghost use Rattle.name_index.specs.Writes.{IndexIsOne};
 
@@ -11,4 +12,10 @@ pub fn index_is_one()
 /// same map of it again.
 pub fn written_is_opened()
     ensures { WrittenIsOpened }
+{}
+
+/// Bytes that begin with a table whose keys rise have no fault: `NameTable::new` answers `Ok`, and so it does of what
+/// `write_names` writes (`written_is_opened`).
+pub fn rising_has_no_fault()
+    ensures { RisingHasNoFault }
 {}
