@@ -104,7 +104,11 @@ fn a_read_is_one_read(rt: HostRuntime) -> Result<(), Fail> {
         for len in LENS {
             for at in [0, NEVER] {
                 let made = made_by_read(len, at, Fault::Answers(kind));
-                assert_eq!(rt; made, [Some(Call::Read(len)), None, None], "{kind}, {len} bytes");
+                assert_eq!(rt;
+                    made,
+                    [Some(Call::Read(len)), None, None],
+                    "{kind}, {len} bytes"
+                );
             }
         }
     }
@@ -117,7 +121,11 @@ fn a_write_is_one_write(rt: HostRuntime) -> Result<(), Fail> {
         for len in LENS {
             for at in [0, NEVER] {
                 let made = made_by_write(len, at, Fault::Answers(kind));
-                assert_eq!(rt; made, [Some(Call::Write(len)), None, None], "{kind}, {len} bytes");
+                assert_eq!(rt;
+                    made,
+                    [Some(Call::Write(len)), None, None],
+                    "{kind}, {len} bytes"
+                );
             }
         }
     }
