@@ -1,5 +1,5 @@
 -- Bytes that begin with a table whose keys rise have no fault.
-use Rattle.std.proofs.Common.{◌≡◌, ◌⊎◌, ⊎_elim, ℕ, ◌+◌, ◌≤◌, List, [], ◌∷◌, ◌++◌, length, refl, sym, ap, ◌∙◌, subst, arith, length-append}
+use Rattle.std.proofs.Common.{◌≡◌, ⊎_elim, ℕ, ◌≤◌, List, [], ◌∷◌, ◌++◌, length, refl, sym, ap, ◌∙◌, subst, arith, length-append}
 use Rattle.litemap_store.proofs.Taken.{Rising-left}
 use Rattle.litemap_store.specs.Pairs.{Rising}
 use Rattle.name_table.specs.Faults.{PairsFault, TableFault}
