@@ -12,6 +12,8 @@ mod every_run;
 #[cfg(test)]
 mod extending;
 #[cfg(test)]
+mod faults;
+#[cfg(test)]
 mod long_runs;
 #[cfg(test)]
 mod message;

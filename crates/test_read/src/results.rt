@@ -3,7 +3,7 @@ use litemap::LiteMap;
 use litemap::store::{ColumnStore, StoreBulkMut};
 use litemap_read::{ReadFault, read_results};
 use litemap_short::ShortStore;
-use std::alloc::Global;
+use std::alloc::{AllocError, Global};
 use std::process::Abort;
 use std::test::Fail;
 use test_support::fixed_room::FixedRoom;
@@ -82,5 +82,19 @@ fn a_store_with_no_room_refuses_the_first_pair(rt: HostRuntime) -> Result<(), Fa
         &[Ok((1, 2))],
     );
     assert!(&rt; one.err() == Some(ReadFault::NoRoom));
+    Ok(())
+}
+
+#[test]
+fn many_results_are_read(rt: HostRuntime) -> Result<(), Fail> {
+    let alloc = rt.alloc();
+    let given: Vec<Result<(u32, u32), u8>> = (0..2000u32)
+        .map(|number| Ok((number % 1500, number)))
+        .collect(alloc)?;
+    let Ok::<LiteMap<u32, u32, Vec<(u32, u32)>>, _>(map) = read_results(alloc, given) else {
+        return Err(AllocError.into());
+    };
+    let (first, last) = (map.get(&499).copied(), map.get(&500).copied());
+    assert_eq!(&rt; (map.len(), first, last), (1500, Some(1999), Some(500)));
     Ok(())
 }

@@ -2,11 +2,14 @@
 ghost use Rattle.std.specs.Prelude.{◌≡◌, length, ⊤};
 
 use litemap::LiteMap;
-use litemap_read::{PairSource, read_pairs};
-use std::alloc::AllocError;
+use litemap_read::{PairSource, extend_from_source, read_pairs};
+use std::alloc::{AllocError, Global};
 use std::cell::Cell;
 use std::test::Fail;
 use test_support::keys::Counted;
+
+/// A map whose keys count how often they are compared.
+type Map<'a> = LiteMap<Counted<'a>, u32, Vec<(Counted<'a>, u32)>>;
 
 // The pairs of a slice, and how often they were asked for.
 #[derive(Drop)]
@@ -46,32 +49,54 @@ impl<K: Copy, V: Copy> PairSource<K, V> for Asked<'_, K, V> {
     ghost leads_on = { λ _ _ _ _ _. tt };
 }
 
+const PAIRS: u32 = 2000;
+
+// Pairs whose keys rise.
+fn rising_pairs<'a>(
+    alloc: Global,
+    made: &'a Cell<u32>,
+) -> Result<Vec<(Counted<'a>, u32)>, AllocError> {
+    let mut pairs = Vec::new(alloc);
+    for number in 0..PAIRS {
+        pairs.push((Counted { number, made }, number))?;
+    }
+    Ok(pairs)
+}
+
 #[test]
 fn rising_pairs_are_compared_and_asked_for_once_each(rt: HostRuntime) -> Result<(), Fail> {
     let made = Cell::new(0u32);
-    let mut pairs = Vec::new(rt.alloc());
-    for number in 0..2000u32 {
-        pairs.push((
-            Counted {
-                number,
-                made: &made,
-            },
-            number,
-        ))?;
-    }
+    let pairs = rising_pairs(rt.alloc(), &made)?;
     let mut source = Asked {
         rest: &pairs,
         asked: 0,
     };
-    let Ok::<LiteMap<Counted<'_>, u32, Vec<(Counted<'_>, u32)>>, _>(map) = read_pairs(
-        rt.alloc(),
-        &mut source,
-    ) else {
+    let Ok::<Map<'_>, _>(map) = read_pairs(rt.alloc(), &mut source) else {
         return Err(AllocError.into());
     };
     let (compared, asked) = (made.get(), source.asked);
     assert!(&rt;
-        map.len() == 2000 && compared <= 2000 && asked == 2001,
+        map.len() == PAIRS as usize && compared <= PAIRS && asked == PAIRS + 1,
+        "{compared} {asked}"
+    );
+    Ok(())
+}
+
+#[test]
+fn a_map_is_extended_by_rising_pairs_at_the_same_cost(rt: HostRuntime) -> Result<(), Fail> {
+    let made = Cell::new(0u32);
+    let pairs = rising_pairs(rt.alloc(), &made)?;
+    let mut source = Asked {
+        rest: &pairs,
+        asked: 0,
+    };
+    let mut map: Map<'_> = LiteMap::new_vec(rt.alloc());
+    if extend_from_source(rt.alloc(), &mut map, &mut source).is_err() {
+        return Err(AllocError.into());
+    }
+    let (compared, asked) = (made.get(), source.asked);
+    assert!(&rt;
+        map.len() == PAIRS as usize && compared <= PAIRS && asked == PAIRS + 1,
         "{compared} {asked}"
     );
     Ok(())
