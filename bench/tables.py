@@ -50,6 +50,9 @@ KEYS = {
     "few": "few numbers, a call,",
     "name": "names of 50 bytes,",
 }
+# The calls whose bytes at the peak have a table, and the number of pairs there.
+HELD = ["from_iter_rising", "from_iter", "extend_rising", "extend", "merge_apart", "merge_interleaved", "merge_equal", "clone"]
+HELD_SIZE = 100_000
 # The keys whose rows the plot has.
 PLOTTED = ["number", "text"]
 # Where the pairs are kept, or the format that they are written in.
@@ -140,17 +143,37 @@ def parts(ours, theirs):
         yield f"{KEYS.get(keys, keys)} {STORES.get(store, store)}", sizes, rows
 
 
-def head(sizes):
-    return [f"{size:,}" for size in sizes]
+def held_cell(ours, theirs, measure):
+    """The bytes a pair at the peak, here and there: the clock told a microsecond for each byte."""
+    here, there = ours[measure], found_there(theirs, measure)
+    return " : ".join(f"{found.lowest() / 1_000_000:.0f}" for found in (here, there) if found is not None)
 
 
-def plain(ours, theirs):
-    """The tables as text."""
+def held_rows(ours, theirs=None):
+    """The columns of such a table, for each type of keys and each store, and its rows."""
+    columns = distinct((measure.keys, measure.store) for measure in ours if measure.call in HELD)
+    rows = []
+    for call in HELD:
+        measures = [Measure(call, keys, store, HELD_SIZE) for keys, store in columns]
+        rows.append([TITLES[call], *(held_cell(ours, theirs, measure) for measure in measures)])
+    heads = [f"{KEYS[keys]} {STORES[store]}" for keys, store in columns]
+    return heads, rows
+
+
+def every_table(ours, theirs, held):
+    """The rows of each table, its head first: those of the times, and that of the bytes at the peak."""
+    for title, sizes, rows in parts(ours, theirs):
+        yield [[f"{title}, pairs", *(f"{size:,}" for size in sizes)], *rows]
+    heads, rows = held_rows(*held)
+    yield [[f"bytes a pair at the peak, {HELD_SIZE:,} pairs", *heads], *rows]
+
+
+def plain(ours, theirs, held):
+    """The tables as text. What is held is that of both programs."""
     there = ", in the Rust crate, and how many times as long it takes here" if theirs else ""
     lines = [f"Nanoseconds a pair, or what a title says: here{there}.", ""]
-    for title, sizes, rows in parts(ours, theirs):
-        rows = [[f"{title}, pairs", *head(sizes)], *rows]
-        widths = [max(len(row[column]) for row in rows) for column in range(len(sizes) + 1)]
+    for rows in every_table(ours, theirs, held):
+        widths = [max(len(row[column]) for row in rows) for column in range(len(rows[0]))]
         for name, *cells in rows:
             aligned = [text.rjust(width) for text, width in zip(cells, widths[1:])]
             lines.append("  ".join([name.ljust(widths[0]), *aligned]).replace("`", ""))
@@ -158,12 +181,12 @@ def plain(ours, theirs):
     return "\n".join(lines)
 
 
-def markdown(ours, theirs):
-    """The tables as Markdown."""
+def markdown(ours, theirs, held):
+    """The tables as Markdown. What is held is that of both programs."""
     lines = []
-    for title, sizes, rows in parts(ours, theirs):
-        lines += ["", "| " + " | ".join([f"{title[0].upper()}{title[1:]}, pairs", *head(sizes)]) + " |"]
-        lines.append("|---|" + "---:|" * len(sizes))
+    for (title, *heads), *rows in every_table(ours, theirs, held):
+        lines += ["", "| " + " | ".join([f"{title[0].upper()}{title[1:]}", *heads]) + " |"]
+        lines.append("|---|" + "---:|" * len(heads))
         lines += ["| " + " | ".join(row) + " |" for row in rows]
     return "\n".join([*lines, "", ""])
 
