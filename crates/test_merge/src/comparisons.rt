@@ -17,9 +17,11 @@ fn map_from<'a, S: StoreIntoIterator<Counted<'a>, u32> + Drop>(
     step: u32,
     len: u32,
 ) -> Result<LiteMap<Counted<'a>, u32, S>, AllocError> {
-    let numbers = (0..len).map(|place| first.wrapping_add(step.wrapping_mul(place)));
-    let pairs: Vec<(Counted<'a>, u32)> = numbers
-        .map(|number| (Counted { number, made }, number))
+    let pairs: Vec<(Counted<'a>, u32)> = (0..len)
+        .map(|place| {
+            let number = first.wrapping_add(step.wrapping_mul(place));
+            (Counted { number, made }, number)
+        })
         .collect(alloc)?;
     map_of(alloc, &pairs, 4000)
 }

@@ -19,5 +19,3 @@ mod replaced;
 mod rows;
 #[cfg(test)]
 mod sizes;
-#[cfg(test)]
-mod store_data;

@@ -21,11 +21,9 @@ enum Put {
 
 // So many pairs whose keys follow one another.
 fn pairs_from(alloc: Global, first: u32, count: u32) -> Result<Vec<(u32, u32)>, AllocError> {
-    let mut pairs = Vec::new(alloc);
-    for number in 0..count {
-        pairs.push((number.wrapping_add(first), 0))?;
-    }
-    Ok(pairs)
+    (0..count)
+        .map(|number| (number.wrapping_add(first), 0))
+        .collect(alloc)
 }
 
 // How many further pairs a map of two pairs takes, once so many were put to it.
@@ -33,10 +31,7 @@ fn room_after(alloc: Global, put: Put, count: u32) -> Result<usize, AllocError> 
     let mut map: Map = map_of(alloc, &[(0, 0), (9_999, 0)], LIMIT)?;
     match put {
         Put::Merge => {
-            let mut other: Map = LiteMap::with_capacity(alloc, LIMIT)?;
-            for (key, value) in pairs_from(alloc, 1, count)? {
-                other.insert(key, value)?;
-            }
+            let other: Map = map_of(alloc, &pairs_from(alloc, 1, count)?, LIMIT)?;
             map.extend_from_litemap(alloc, other)?;
         }
         Put::ExtendBetween => map.extend(alloc, pairs_from(alloc, 1, count)?)?,

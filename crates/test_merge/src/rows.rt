@@ -49,6 +49,19 @@ const ROWS: &[(Text, Text, Text, Text)] = &[
         b"A9",
         b"a0B1C2D3E4F5G6H7I8J9K0L1M2N3O4P5Q6",
     ),
+    // A map like this one, of twenty pairs, and all of these into eleven of them.
+    (
+        b"a0b1c2d3e4f5g6h7i8j9k+l-m*n/o<p>q=r(s)t!",
+        b"a0b1c2d3e4f5g6h7i8j9k+l-m*n/o<p>q=r(s)t!",
+        b"a0b1c2d3e4f5g6h7i8j9k+l-m*n/o<p>q=r(s)t!",
+        b"a0b1c2d3e4f5g6h7i8j9k+l-m*n/o<p>q=r(s)t!",
+    ),
+    (
+        b"a0b1c2e4h7j9k+m*n/o<p>",
+        b"a0b1c2d3e4f5g6h7i8j9k+l-m*n/o<p>q=r(s)t!",
+        b"a0b1c2e4h7j9k+m*n/o<p>",
+        b"a0b1c2d3e4f5g6h7i8j9k+l-m*n/o<p>q=r(s)t!",
+    ),
 ];
 
 // The place of the first row that a merge of maps made with this much room doesn't keep to.
