@@ -1,6 +1,6 @@
 // Loaded before the C library into a program of the benchmark, whose clock then tells bytes in place of time: between two looks
-// at it a microsecond goes by for each byte that was held at the peak beyond those that were held at the first look. So each
-// measure gives up after its first round, which takes more bytes than it has time.
+// at it a microsecond goes by for each byte that was held at the peak beyond those that were held at the first look. So a
+// measure whose time is limited ends after its first round.
 typedef unsigned long size_t;
 
 struct timespec {
@@ -14,7 +14,8 @@ void *__libc_realloc(void *block, size_t size);
 void __libc_free(void *block);
 size_t malloc_usable_size(void *block);
 
-// The bytes that are held now, at the last look, at the peak since then, and what the clock tells. The programs have one thread.
+// The bytes that are held now, that were held at the last look and at the peak since then, and what the clock tells. The
+// programs have one thread.
 static long held, last, peak, told;
 
 // Counts a block that is held now, where there is one.
