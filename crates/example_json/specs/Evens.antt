@@ -1,5 +1,5 @@
 -- The keys that even numbers' texts spell.
-use Rattle.std.specs.Prelude.{ℕ, ◌%◌, ◌==◌, List, if◌then◌else◌, Option, Some, None, pos, negsuc, option_map}
+use Rattle.std.specs.Prelude.{ℕ, ◌%◌, ◌==◌, List, Option, pos, negsuc, option_map}
 use Rattle.serde_json.specs.Data.{Data}
 use Rattle.litemap_json_items.specs.Item.{kept, unsigned_fits, whole_json, whole_of_text}
 use Rattle.std.specs.Prelude.{Bool, ℤ, false}

@@ -1,9 +1,7 @@
 -- The words of the levels.
-use Rattle.std.specs.Prelude.{◌≡◌, ℕ, List, if◌then◌else◌, Option, Some, None, Result, codes, refl}
-use Rattle.std.specs.Prelude.{ok_or, option_and_then, option_map}
+use Rattle.std.specs.Prelude.{ℕ, List, if◌then◌else◌, Option, Some, None, Result, codes}
+use Rattle.std.specs.Prelude.{ok_or, option_and_then}
 use Rattle.std.specs.Str.{bytes_eq}
-use Rattle.std.specs.declared.cmp.Ordering.{Ordering}
-use Rattle.std.specs.declared.cmp.Ordering.TheVariants.{Equal}
 use Rattle.serde_json.specs.Data.{Data, string}
 use Rattle.serde_json.specs.Find.{as_str}
 use Rattle.litemap_json_items.specs.declared.item.ItemFault.{ItemFault}

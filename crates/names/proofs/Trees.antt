@@ -1,5 +1,5 @@
 -- The JSON value of rising texts is an object of the pairs in their order, and its text that of the pairs one by one.
-use Rattle.std.proofs.Common.{◌≡◌, ℕ, ◌+◌, List, [], ◌∷◌, ◌++◌, true, false, Some, Ok, Less, Greater, inl, inr, nat_cmp, refl, sym, ap, ◌∙◌, append_assoc}
+use Rattle.std.proofs.Common.{◌≡◌, ℕ, ◌+◌, List, [], ◌∷◌, ◌++◌, true, Some, Ok, Less, Greater, inl, inr, nat_cmp, refl, sym, ap, ◌∙◌, append_assoc}
 use Rattle.std.specs.Cmp.Lexicographic.{slice_cmp, nat_list_cmp_total}
 use Rattle.std.specs.Ordering.{ordering_reverse}
 use Rattle.json.specs.Print.{quoted}

@@ -1,5 +1,4 @@
-use Rattle.std.proofs.Common.{◌≡◌, ◌+◌, ◌*◌, length, arith, inr, inl, ap, ◌∙◌, refl}
-use Rattle.litemap_store.specs.Counts.{RisesByAtMost}
+use Rattle.std.proofs.Common.{inr, inl}
 use Rattle.litemap_store.specs.Digits.{digits}
 use Rattle.test_merge.proofs.counts.merge_in_eight.Goals as goal
 
