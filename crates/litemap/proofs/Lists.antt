@@ -16,7 +16,7 @@ use Rattle.std.specs.Ordering.{int_cmp, is_eq, nat_cmp}
 use Rattle.std.specs.String.{string_bytes, string_cmp, string_cmp_total}
 use Rattle.std.specs.declared.cmp.Ordering.{Ordering}
 use Rattle.std.specs.declared.cmp.Ordering.TheVariants.{Less, Equal, Greater}
-use Rattle.litemap_store.specs.Last.{In, Last, NoneEqual, StandsLast}
+use Rattle.litemap_store.specs.Last.{Last, NoneEqual, StandsLast}
 use Rattle.litemap_store.specs.Pairs.{Rising, at, value_at}
 use Rattle.litemap_store.specs.Queries.{by_text}
 use Rattle.litemap_store.proofs.LastPairs.{In-from_last, Last-rising, Last-unique}

@@ -1,5 +1,5 @@
 -- What an entry of a map shows: the map that it borrows, its key, its value, and what the calls on it make of the pairs.
-use Rattle.std.specs.Prelude.{◌≡◌, ◌+◌, ◌<◌, ◌≤◌, List, [], Option, Some, None, IsSome, Result, IsOk, OnOk, OnErr}
+use Rattle.std.specs.Prelude.{◌≡◌, ◌+◌, ◌<◌, ◌≤◌, List, [], Option, Some, None, IsSome, Result, IsOk, OnErr}
 use Rattle.std.specs.Prelude.{length, slice_get}
 use Rattle.std.proofs.Common.{subst, sym}
 use Rattle.std.specs.declared.cmp.Ord as ord

@@ -1,7 +1,6 @@
 -- What a short store is where a value is written in place.
 use Rattle.std.proofs.Common.{◌≡◌, ℕ, ◌<◌, zero, suc, length, Some, slice_get, slice_set, refl, ap, ◌∙◌, sym, arith}
 use Rattle.std.specs.Option.{option_map_or}
-use Rattle.litemap_store.specs.VecStore.{vec_room}
 use Rattle.litemap_short.specs.Contents.{Contents, with_value}
 use Rattle.litemap_short.specs.Held.{held_items, held_room, held_with_item}
 use Rattle.litemap_short.specs.declared.held.Held.{Held}

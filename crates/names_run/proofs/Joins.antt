@@ -9,7 +9,7 @@ use Rattle.std.specs.declared.string.String.{String}
 use Rattle.names_run.specs.Texts.{pair_bytes}
 use Rattle.std.specs.Ordering.{nat_cmp}
 use Rattle.std.specs.Cmp.Lexicographic.{slice_cmp, nat_list_cmp_total}
-use Rattle.litemap_store.specs.Pairs.{Rising, above, at, below, cut, index_of, key_or, place, put}
+use Rattle.litemap_store.specs.Pairs.{Rising, above, at, below, index_of, key_or, place}
 use Rattle.litemap_store.proofs.Lookups.{cut-absent}
 use Rattle.litemap.specs.declared.calls.Call.TheVariants.{Insert, Remove}
 use Rattle.names_run.specs.Runs.{AreRunsOf, Changes, body, change_at, closing, held, joint, opening}

@@ -1,5 +1,5 @@
 -- Commands that leave the pairs as they are.
-use Rattle.std.proofs.Common.{◌≡◌, List, [], ◌∷◌, ◌++◌, ℕ, Bool, true, false, not, map, arith, Option, Some, None, is_some, option_map, Result, Ok, Err, IfOk, OnOk, inl, inr, refl, sym, ap, ◌∙◌}
+use Rattle.std.proofs.Common.{◌≡◌, List, [], ◌∷◌, ◌++◌, ℕ, Bool, true, not, map, arith, Option, Some, None, is_some, option_map, Result, Ok, Err, IfOk, OnOk, inl, inr, refl, sym, ap, ◌∙◌}
 use Rattle.std.specs.Prelude.{flat_map, string_bytes, string_cmp}
 use Rattle.std.specs.Borrow.{Bor}
 use Rattle.std.specs.Ordering.{nat_cmp}
@@ -10,7 +10,7 @@ use Rattle.std.specs.declared.alloc.Global.{Global}
 use Rattle.std.specs.declared.string.String.{String}
 use Rattle.std.specs.declared.cmp.Ordering.{Ordering}
 use Rattle.std.specs.declared.cmp.Ordering.TheVariants.{Less, Equal, Greater}
-use Rattle.litemap_store.specs.Pairs.{BelowAll, Rising, above, at, below, cut, put, value_at}
+use Rattle.litemap_store.specs.Pairs.{BelowAll, Rising, above, at, below, put, value_at}
 use Rattle.litemap_store.specs.Queries.{by_text, key_one_side}
 use Rattle.litemap_store.specs.Splits.{IsFoundAt}
 use Rattle.litemap_store.proofs.Lookups.{cut-absent}

@@ -1,8 +1,7 @@
-use Rattle.std.proofs.Common.{◌≡◌, [], drop, take, length, map, arith, ap, ◌∙◌, take_all, length-drop}
-use Rattle.std.specs.Prelude.{flat_map}
+use Rattle.std.proofs.Common.{[], drop, take, arith, ap, ◌∙◌}
 use Rattle.json.specs.Print.{print}
 use Rattle.names_run.specs.Told.{later_members}
-use Rattle.names_run.specs.Texts.{names_of, pair_bytes}
+use Rattle.names_run.specs.Texts.{names_of}
 use Rattle.names_run.specs.Tokens.{pair_tokens}
 use Rattle.names_run.proofs.Calls.{flat_map-one_more}
 use Rattle.names_run.proofs.Joins.{step_view, step_within}

@@ -1,8 +1,4 @@
-use Rattle.std.proofs.Common.{◌≡◌, ap, ◌∙◌, sym, subst}
-use Rattle.std.specs.Ordering.{nat_cmp}
-use Rattle.std.specs.Cmp.Lexicographic.{slice_cmp}
 use Rattle.names_run.specs.Texts.{names_of}
-use Rattle.names_run.specs.Runs.{Changes, change_at}
 use Rattle.names_run.proofs.Calls.{index-bytes}
 use Rattle.names_run.proofs.Joins.{del_changes, put_changes}
 use Rattle.names_run.proofs.Unchanged.{rising-bytes}

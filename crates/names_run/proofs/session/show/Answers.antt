@@ -1,8 +1,6 @@
-use Rattle.std.proofs.Common.{◌≡◌, [], drop, length, map, arith, ap, ◌∙◌, take_all, length-drop}
-use Rattle.std.specs.Prelude.{flat_map}
-use Rattle.std.proofs.lemmas.List.{length-map}
+use Rattle.std.proofs.Common.{[], drop, arith}
 use Rattle.names_run.specs.Told.{pair_text}
-use Rattle.names_run.specs.Texts.{names_of, pair_bytes}
+use Rattle.names_run.specs.Texts.{names_of}
 use Rattle.names_run.proofs.Calls.{flat_map-one_more}
 use Rattle.names_run.proofs.Joins.{step_view, step_within}
 use Rattle.names_run.proofs.session.show.Goals as goal
