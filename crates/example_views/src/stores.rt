@@ -42,8 +42,15 @@ fn lm_get_range(alloc: Global) -> Result<bool, AllocError> {
 
 fn lm_try_clone(alloc: Global) -> Result<bool, AllocError> {
     let pairs = [(1, "Monday"), (5, "Friday")].to_vec(alloc)?;
-    let copy = pairs.lm_try_clone(alloc)?;
+    let copy = copy_of(alloc, &pairs)?;
     Ok(copy.as_slice() == pairs.as_slice())
+}
+
+fn copy_of<S: StoreMut<u32, &'static str> + Drop>(
+    alloc: Global,
+    pairs: &S,
+) -> Result<S, AllocError> {
+    pairs.lm_try_clone(alloc)
 }
 
 fn lm_extend(alloc: Global) -> Result<bool, AllocError> {
