@@ -1,7 +1,8 @@
 //! The bodies behind `lm_extend` and `lm_sort_from_iter`.
 //!
 //! The new pairs are gathered in a vector of their own before a store changes. Where they rise no sort is made.
-ghost use Rattle.std.specs.Prelude.{◌≡◌, ◌+◌, ◌-◌, ◌*◌, ◌≤◌, ◌++◌, ◌↔◌, IsTrue, IfOk, OnOk, OnErr, length};
+ghost use Rattle.std.specs.Prelude.{◌≡◌, ◌+◌, ◌-◌, ◌*◌, ◌≤◌, ◌<◌, ◌++◌, ◌↔◌, IsTrue, IfOk, OnOk, OnErr, length};
+ghost use Rattle.std.specs.Prelude.{vec_capacity, vec_len};
 ghost use Rattle.std.specs.Iterator.{IsFiniteIterable};
 ghost use Rattle.litemap_store.specs.Bulk.{Gives};
 ghost use Rattle.litemap_store.specs.Counts.{RisesByAtMost};
@@ -19,7 +20,7 @@ use crate::reserved::append_each;
 use crate::store::{Store, StoreMut};
 use std::alloc::{AllocError, Global};
 
-// Room for so many items is taken with the first one, and then four times as much until there is room for many.
+// Room for so many items is taken with the first one, then four times as much until there are many, and then twice as much.
 const FIRST: usize = 8;
 
 const MANY: usize = 512;
@@ -34,13 +35,23 @@ pub fn gather<T: Drop, I: IntoIterator<Item = T>>(
 {
     let mut items = Vec::new(alloc);
     for item in iter {
-        let len = items.len();
-        if len == items.capacity() && len < MANY {
-            items.reserve(FIRST.max(3 * len))?;
+        if items.len() == items.capacity() {
+            make_room(&mut items)?;
         }
-        items.push(item)?;
+        items.push_reserved(item);
     }
     Ok(items)
+}
+
+// Makes room in a vector that is full. It stands apart, so that the loop over the items stays short.
+#[cold]
+#[inline(never)]
+fn make_room<T>(items: &mut Vec<T>) -> Result<(), AllocError>
+    ensures items { items.new.items ≡ items.old.items }
+    ensures room { OnOk result (vec_len items.new < vec_capacity items.new) }
+{
+    let len = items.len();
+    items.reserve(if len < MANY { FIRST.max(3 * len) } else { 1 })
 }
 
 /// The last pair of each key, in rising order. No sort is made where the pairs rise.
