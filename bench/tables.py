@@ -109,7 +109,7 @@ def shown(picos):
 
 
 def found_there(theirs, measure):
-    """What came of the measure in the Rust crate, which has one store and none of the formats."""
+    """What came of the measure in the Rust crate, which has one store, and JSON where it was built with serde."""
     return (theirs or {}).get(measure.over("vec"))
 
 

@@ -3,6 +3,8 @@ mod calls;
 mod cases;
 mod consts;
 mod few;
+#[cfg(feature = "json")]
+mod json;
 mod keys;
 mod measure;
 
@@ -23,9 +25,13 @@ fn main() {
         let numbers = Data::new::<u64>(size);
         measure_keys::<u64>(&numbers);
         consts::measure_numbers(&numbers);
+        #[cfg(feature = "json")]
+        json::measure_json::<u64>(&numbers);
         let texts = Data::new::<String>(size);
         measure_keys::<String>(&texts);
         consts::measure_texts(&texts);
+        #[cfg(feature = "json")]
+        json::measure_json::<String>(&texts);
     }
     few::measure_few();
 }

@@ -1,0 +1,60 @@
+//! Maps as JSON texts, by serde and serde_json.
+use crate::keys::{self, Data, Key};
+use crate::measure::{nanos_used, rounds, Round};
+use litemap::LiteMap;
+use serde::{de::DeserializeOwned, Serialize};
+
+/// Writes the lines of JSON: a map written as a text, by a value and with none, and read from it.
+pub fn measure_json<K: Key + Serialize + DeserializeOwned>(data: &Data) {
+    for (call, work) in [
+        ("to_json", printed::<K> as fn(&Json<K>) -> usize),
+        ("write_json", written::<K>),
+        ("from_json", read::<K>),
+    ] {
+        let found = rounds(|round| json_round(data, work, round));
+        let pairs = (keys::maps_of(data.size) * data.size) as u128;
+        let each = found.nanos * 1000 / pairs;
+        println!("{call} {} vec {} {each} {}", K::NAME, data.size, found.answer);
+    }
+}
+
+/// A map, and its text as JSON.
+struct Json<K> {
+    map: LiteMap<K, u64>,
+    text: String,
+}
+
+fn json_round<K: Key + Serialize>(data: &Data, work: fn(&Json<K>) -> usize, round: usize) -> Round {
+    let cases: Vec<Json<K>> = (0..keys::maps_of(data.size))
+        .map(|map| {
+            let pairs = keys::pairs(&data.draw(round, map).rising, 0);
+            let map: LiteMap<K, u64> = pairs.into_iter().collect();
+            let text = serde_json::to_string(&map).expect("a text");
+            Json { map, text }
+        })
+        .collect();
+    let start = nanos_used();
+    let answer = cases.iter().map(|case| work(case) as u64).sum();
+    let nanos = nanos_used() - start;
+    Round { nanos, answer }
+}
+
+/// The length of a map's text, which is printed of its value.
+#[inline(never)]
+fn printed<K: Serialize + Key>(case: &Json<K>) -> usize {
+    let value = serde_json::to_value(&case.map).expect("a value");
+    value.to_string().len()
+}
+
+/// The length of a map's text, which is written pair by pair.
+#[inline(never)]
+fn written<K: Serialize + Key>(case: &Json<K>) -> usize {
+    serde_json::to_string(&case.map).expect("a text").len()
+}
+
+/// How many pairs the map has that is read from a text.
+#[inline(never)]
+fn read<K: DeserializeOwned + Key>(case: &Json<K>) -> usize {
+    let map: LiteMap<K, u64> = serde_json::from_str(&case.text).expect("a map");
+    map.len()
+}
