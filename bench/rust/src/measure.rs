@@ -7,7 +7,10 @@ use litemap::LiteMap;
 /// How often a measure is made at most.
 pub const ROUNDS: usize = 30;
 
-/// How long a measure goes on: no round begins after that.
+/// How often a measure is made at least: what a first round takes hangs on the memory that is at hand by then.
+const FEWEST_ROUNDS: usize = 3;
+
+/// How long a measure goes on: no further round begins after that.
 const LONGEST_NANOS: u128 = 20_000_000;
 
 /// The time of a round, and a number that stands for what was answered and left.
@@ -47,7 +50,7 @@ pub fn rounds(mut round: impl FnMut(usize) -> Round) -> Round {
     let began = nanos_used();
     let mut found = round(0);
     for turn in 1..ROUNDS {
-        if nanos_used() - began > LONGEST_NANOS {
+        if turn >= FEWEST_ROUNDS && nanos_used() - began > LONGEST_NANOS {
             break;
         }
         found.nanos = found.nanos.min(round(turn).nanos);
