@@ -1,5 +1,5 @@
 //! A vector of keys and a vector of values as a store. Its room is the smaller of theirs.
-ghost use Rattle.std.specs.Prelude.{◌≡◌, ◌+◌, ◌-◌, ◌≤◌, ◌<◌, ◌++◌, IfOk, OnErr, OnOk, insert, length, min, refl, vec_capacity, vec_len};
+ghost use Rattle.std.specs.Prelude.{◌≡◌, ◌+◌, ◌-◌, ◌≤◌, ◌<◌, ◌++◌, IfOk, insert, length, min, refl, vec_capacity, vec_len};
 ghost use Rattle.std.specs.Map.{keys_of, values_of};
 ghost use Rattle.litemap_store.specs.Columns.{columns, columns_with_value};
 ghost use Rattle.litemap_store.specs.Counts.{RisesByAtMost};
@@ -84,31 +84,6 @@ impl<K, V> ColumnStore<K, V> {
         let ColumnStore { keys, values } = self;
         (keys, values)
     }
-
-    // Room for one pair more.
-    fn reserve_one(&mut self) -> Result<(), AllocError>
-        ensures pairs { self.new.pairs ≡ self.old.pairs }
-        ensures room { OnOk result (1 ≤ self.new.room) }
-        ensures room_not_lowered { self.old.room ≤ self.new.room }
-        ensures full { OnErr result (self.old.room < 1) }
-    {
-        if self.keys.len() < self.keys.capacity() && self.values.len() < self.values.capacity() {
-            return Ok(());
-        }
-        self.make_room()
-    }
-
-    // Makes room for one pair more. It stands apart, so that what calls it where there is none stays short.
-    #[cold]
-    #[inline(never)]
-    fn make_room(&mut self) -> Result<(), AllocError>
-        ensures pairs { self.new.pairs ≡ self.old.pairs }
-        ensures room { OnOk result (1 ≤ self.new.room) }
-        ensures room_not_lowered { self.old.room ≤ self.new.room }
-        ensures full { OnErr result (self.old.room < 1) }
-    {
-        self.lm_reserve(1)
-    }
 }
 
 impl<K, V> Store<K, V> for ColumnStore<K, V> {
@@ -178,7 +153,7 @@ impl<K, V> StoreMut<K, V> for ColumnStore<K, V> {
     }
 
     fn lm_push(&mut self, key: K, value: V) -> Result<(), NoRoom<(K, V)>> {
-        if self.reserve_one().is_err() {
+        if self.lm_reserve(1).is_err() {
             return Err(NoRoom { back: (key, value) });
         }
         self.keys.push_reserved(key);
@@ -187,7 +162,7 @@ impl<K, V> StoreMut<K, V> for ColumnStore<K, V> {
     }
 
     fn lm_insert(&mut self, index: usize, key: K, value: V) -> Result<(), NoRoom<(K, V)>> {
-        if self.reserve_one().is_err() {
+        if self.lm_reserve(1).is_err() {
             return Err(NoRoom { back: (key, value) });
         }
         insert_reserved(&mut self.keys, index, key);
