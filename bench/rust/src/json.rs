@@ -2,14 +2,16 @@
 use crate::keys::{self, Data, Key};
 use crate::measure::{nanos_used, rounds, Round};
 use litemap::LiteMap;
-use serde::{de::DeserializeOwned, Serialize};
+use serde::{de::DeserializeOwned, Deserialize, Serialize};
+use serde_json::Value;
 
-/// Writes the lines of JSON: a map written as a text, by a value and with none, and read from it.
+/// Writes the lines of JSON: a map written as a text, by a value and with none, and read from a value and from a text.
 pub fn measure_json<K: Key + Serialize + DeserializeOwned>(data: &Data) {
     for (call, work) in [
         ("to_json", printed::<K> as fn(&Json<K>) -> usize),
         ("write_json", written::<K>),
-        ("from_json", read::<K>),
+        ("from_json", spelled::<K>),
+        ("read_json", read::<K>),
     ] {
         let found = rounds(|round| json_round(data, work, round));
         let pairs = (keys::maps_of(data.size) * data.size) as u128;
@@ -18,9 +20,10 @@ pub fn measure_json<K: Key + Serialize + DeserializeOwned>(data: &Data) {
     }
 }
 
-/// A map, and its text as JSON.
+/// A map, and its value and text as JSON.
 struct Json<K> {
     map: LiteMap<K, u64>,
+    value: Value,
     text: String,
 }
 
@@ -29,8 +32,9 @@ fn json_round<K: Key + Serialize>(data: &Data, work: fn(&Json<K>) -> usize, roun
         .map(|map| {
             let pairs = keys::pairs(&data.draw(round, map).rising, 0);
             let map: LiteMap<K, u64> = pairs.into_iter().collect();
+            let value = serde_json::to_value(&map).expect("a value");
             let text = serde_json::to_string(&map).expect("a text");
-            Json { map, text }
+            Json { map, value, text }
         })
         .collect();
     let start = nanos_used();
@@ -50,6 +54,13 @@ fn printed<K: Serialize + Key>(case: &Json<K>) -> usize {
 #[inline(never)]
 fn written<K: Serialize + Key>(case: &Json<K>) -> usize {
     serde_json::to_string(&case.map).expect("a text").len()
+}
+
+/// How many pairs the map has that a value spells.
+#[inline(never)]
+fn spelled<K: DeserializeOwned + Key>(case: &Json<K>) -> usize {
+    let map: LiteMap<K, u64> = LiteMap::deserialize(&case.value).expect("a map");
+    map.len()
 }
 
 /// How many pairs the map has that is read from a text.
