@@ -7,8 +7,8 @@ import tables
 COLOURS = ["#9ecae1", "#4292c6", "#08519c", "#e6550d"]
 # The scale is by powers of two, from a quarter to eight times; what lies outside of it is an arrow at its end.
 LOWEST, HIGHEST = -2, 3
-# Two panels beside one another are as wide as a page; one stands below the other for each type of keys.
-NAMES_WIDTH, PANEL_WIDTH, GAP, ROW, TOP, HEAD, BOTTOM = 320, 250, 30, 28, 56, 44, 34
+# The panels of a type of keys stand beside one another, one for each store or format, and below them those of the next type.
+NAMES_WIDTH, PANEL_WIDTH, GAP, ROW, TOP, HEAD, BOTTOM = 340, 250, 30, 28, 56, 44, 34
 TEXT = 'font-family="sans-serif" font-size="13" fill="#222"'
 
 
