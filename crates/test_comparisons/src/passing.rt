@@ -144,62 +144,30 @@ fn a_walk_compares_nothing(rt: HostRuntime) -> Result<(), Fail> {
     Ok(())
 }
 
-// The length of what a map becomes over a kind of store, `None` where the call is no conversion.
-macro_rules! converted_len {
-    ($store:ident, $alloc:expr, $map:expr, $call:expr) => {{
-        let (alloc, map) = ($alloc, $map);
-        match $call {
-            Call::BoxedBoth => {
-                let made: LiteMap<_, _, $store<_, _>> = map.to_boxed_keys_values(alloc)?;
-                Ok(Some(made.len()))
-            }
-            Call::BoxedKeys => {
-                let made: LiteMap<_, _, $store<_, _>> = map.to_boxed_keys(alloc)?;
-                Ok(Some(made.len()))
-            }
-            Call::BoxedValues => {
-                let made: LiteMap<_, _, $store<_, _>> = map.to_boxed_values(alloc)?;
-                Ok(Some(made.len()))
-            }
-            Call::LentBoth => {
-                let made: LiteMap<_, _, $store<_, _>> = map.to_borrowed_keys_values(alloc)?;
-                Ok(Some(made.len()))
-            }
-            Call::LentKeys => {
-                let made: LiteMap<_, _, $store<_, _>> = map.to_borrowed_keys(alloc)?;
-                Ok(Some(made.len()))
-            }
-            Call::LentValues => {
-                let made: LiteMap<_, _, $store<_, _>> = map.to_borrowed_values(alloc)?;
-                Ok(Some(made.len()))
-            }
-            Call::KeysBy => {
-                let made: LiteMap<_, _, $store<_, _>> = map.to_keys_by(alloc, |key| *key)?;
-                Ok(Some(made.len()))
-            }
-            _ => Ok(None),
-        }
-    }};
+// How many pairs a map over a vector has.
+fn vector_len<K: Ord + Drop, V: Drop>(map: LiteMap<K, V, Pairs<K, V>>) -> usize {
+    map.len()
 }
 
-fn into_vectors<K: Ord + Copy, S: Store<K, u32>>(
+// The length of what a map becomes, `None` where the call is no conversion. A conversion pushes its pairs, and a push knows no
+// order of keys: so it is tried into a vector alone.
+fn converted_len<K: Ord + Copy, S: Store<K, u32>>(
     alloc: Global,
     map: &LiteMap<K, u32, S>,
     call: Call,
 ) -> Result<Option<usize>, AllocError>
     requires { ClonesCompareEqual K.cmp K.is_clone map.now.pairs }
 {
-    converted_len!(Pairs, alloc, map, call)
-}
-
-fn into_columns<K: Ord + Copy, S: Store<K, u32>>(
-    alloc: Global,
-    map: &LiteMap<K, u32, S>,
-    call: Call,
-) -> Result<Option<usize>, AllocError>
-    requires { ClonesCompareEqual K.cmp K.is_clone map.now.pairs }
-{
-    converted_len!(ColumnStore, alloc, map, call)
+    match call {
+        Call::BoxedBoth => Ok(Some(vector_len(map.to_boxed_keys_values(alloc)?))),
+        Call::BoxedKeys => Ok(Some(vector_len(map.to_boxed_keys(alloc)?))),
+        Call::BoxedValues => Ok(Some(vector_len(map.to_boxed_values(alloc)?))),
+        Call::LentBoth => Ok(Some(vector_len(map.to_borrowed_keys_values(alloc)?))),
+        Call::LentKeys => Ok(Some(vector_len(map.to_borrowed_keys(alloc)?))),
+        Call::LentValues => Ok(Some(vector_len(map.to_borrowed_values(alloc)?))),
+        Call::KeysBy => Ok(Some(vector_len(map.to_keys_by(alloc, |key| *key)?))),
+        _ => Ok(None),
+    }
 }
 
 // Whether a map that is handed over gives so many pairs.
@@ -238,11 +206,7 @@ fn answers<K: Ord + Copy + Hash, S: StoreIntoIterator<K, u32> + StoreFromIterato
         Call::FromPairs => {
             Ok(S::lm_from_pairs(alloc, pairs.iter().copied())?.lm_len() == pairs.len())
         }
-        _ => {
-            let in_vectors = into_vectors(alloc, &map, call)?;
-            let in_columns = into_columns(alloc, &map, call)?;
-            Ok(in_vectors == Some(len) && in_columns == Some(len))
-        }
+        _ => Ok(converted_len(alloc, &map, call)? == Some(len)),
     }
 }
 

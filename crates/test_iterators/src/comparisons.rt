@@ -93,25 +93,44 @@ fn compare_all<K: Copy + Ord + Hash, V: Copy + Ord + Hash, S: StoreMut<K, V> + D
     Ok(())
 }
 
+fn compare_numbers<S: StoreMut<u8, u32> + Drop>(
+    rt: &impl Abort,
+    alloc: Global,
+) -> Result<(), Fail> {
+    compare_all::<u8, u32, S>(rt, alloc, &NUMBERS, &NUMBERS)
+}
+
+fn compare_texts<S: StoreMut<u8, &'static str> + Drop>(
+    rt: &impl Abort,
+    alloc: Global,
+) -> Result<(), Fail> {
+    compare_all::<u8, &'static str, S>(rt, alloc, &TEXTS, &TEXTS)
+}
+
+fn compare_letters<S: StoreMut<Letter, u8> + Drop>(
+    rt: &impl Abort,
+    alloc: Global,
+) -> Result<(), Fail> {
+    compare_all::<Letter, u8, S>(rt, alloc, &UPPER_LETTERS, &LOWER_LETTERS)
+}
+
 #[test]
 fn by_the_first_difference(rt: HostRuntime) -> Result<(), Fail> {
-    let alloc = rt.alloc();
-    compare_all::<u8, u32, Vec<(u8, u32)>>(&rt, alloc, &NUMBERS, &NUMBERS)?;
-    compare_all::<u8, u32, FixedRoom<u8, u32>>(&rt, alloc, &NUMBERS, &NUMBERS)?;
-    compare_all::<u8, u32, ColumnStore<u8, u32>>(&rt, alloc, &NUMBERS, &NUMBERS)?;
-    compare_all::<u8, u32, ShortStore<u8, u32>>(&rt, alloc, &NUMBERS, &NUMBERS)?;
-    compare_all::<u8, &str, Vec<(u8, &str)>>(&rt, alloc, &TEXTS, &TEXTS)?;
-    compare_all::<u8, &str, FixedRoom<u8, &str>>(&rt, alloc, &TEXTS, &TEXTS)
+    compare_numbers::<Vec<(u8, u32)>>(&rt, rt.alloc())?;
+    compare_numbers::<FixedRoom<u8, u32>>(&rt, rt.alloc())?;
+    compare_numbers::<ColumnStore<u8, u32>>(&rt, rt.alloc())?;
+    compare_numbers::<ShortStore<u8, u32>>(&rt, rt.alloc())?;
+    compare_texts::<Vec<(u8, &'static str)>>(&rt, rt.alloc())?;
+    compare_texts::<FixedRoom<u8, &'static str>>(&rt, rt.alloc())
 }
 
 // Equal keys may be two values: the maps are equal then, too.
 #[test]
 fn by_equal_keys(rt: HostRuntime) -> Result<(), Fail> {
-    let alloc = rt.alloc();
-    compare_all::<Letter, u8, Vec<(Letter, u8)>>(&rt, alloc, &UPPER_LETTERS, &LOWER_LETTERS)?;
-    compare_all::<Letter, u8, FixedRoom<Letter, u8>>(&rt, alloc, &UPPER_LETTERS, &LOWER_LETTERS)?;
-    compare_all::<Letter, u8, ColumnStore<Letter, u8>>(&rt, alloc, &UPPER_LETTERS, &LOWER_LETTERS)?;
-    compare_all::<Letter, u8, ShortStore<Letter, u8>>(&rt, alloc, &UPPER_LETTERS, &LOWER_LETTERS)
+    compare_letters::<Vec<(Letter, u8)>>(&rt, rt.alloc())?;
+    compare_letters::<FixedRoom<Letter, u8>>(&rt, rt.alloc())?;
+    compare_letters::<ColumnStore<Letter, u8>>(&rt, rt.alloc())?;
+    compare_letters::<ShortStore<Letter, u8>>(&rt, rt.alloc())
 }
 
 // The same of views.
