@@ -1,7 +1,6 @@
 //! What keeps an example from its end.
 use litemap::store::NoRoom;
-use litemap_json::{JsonFault, WriteFault};
-use litemap_json_items::ItemFault;
+use litemap_json::{ItemFault, JsonFault, WriteFault};
 use litemap_read::ReadFault;
 use name_table::{NameFault, NameWriteFault};
 use std::alloc::AllocError;

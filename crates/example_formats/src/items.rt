@@ -1,7 +1,7 @@
 //! Items and keys as JSON.
 use crate::Shown;
 use crate::fault::Fault;
-use litemap_json_items::{
+use litemap_json::{
     ItemFault, JsonItem, JsonKey, Writer, array_of_two, two_items, write_value,
 };
 use serde_json::Value;

@@ -1,7 +1,7 @@
 -- The keys that even numbers' texts spell.
 use Rattle.std.specs.Prelude.{ℕ, ◌%◌, ◌==◌, List, Option, pos, negsuc, option_map}
 use Rattle.serde_json.specs.Data.{Data}
-use Rattle.litemap_json_items.specs.Item.{kept, unsigned_fits, whole_json, whole_of_text}
+use Rattle.litemap_json.specs.Item.{kept, unsigned_fits, whole_json, whole_of_text}
 use Rattle.std.specs.Prelude.{Bool, ℤ, false}
 
 abbrev is_even : ℤ → Bool

@@ -4,8 +4,8 @@ use Rattle.std.specs.Prelude.{ok_or, option_and_then}
 use Rattle.std.specs.Str.{bytes_eq}
 use Rattle.serde_json.specs.Data.{Data, string}
 use Rattle.serde_json.specs.Find.{as_str}
-use Rattle.litemap_json_items.specs.declared.item.ItemFault.{ItemFault}
-use Rattle.litemap_json_items.specs.declared.item.ItemFault.TheVariants.{Shape}
+use Rattle.litemap_json.specs.declared.item.ItemFault.{ItemFault}
+use Rattle.litemap_json.specs.declared.item.ItemFault.TheVariants.{Shape}
 use Rattle.example_json.specs.declared.levels.Level.{Level}
 use Rattle.example_json.specs.declared.levels.Level.TheVariants.{Low, Middle, High}
 

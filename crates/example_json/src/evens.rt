@@ -1,7 +1,7 @@
 //! A type of keys of which some have a text and some have none.
 ghost use Rattle.std.specs.Prelude.{◌==◌, ◌%◌, if◌then◌else◌, None, Some, decimal, pos};
-ghost use Rattle.litemap_json_items.specs.Item.{unsigned_fits, whole_item, whole_json};
-ghost use Rattle.litemap_json_items.specs.OneTree.{unsigned_one_tree};
+ghost use Rattle.litemap_json.specs.Item.{unsigned_fits, whole_item, whole_json};
+ghost use Rattle.litemap_json.specs.OneTree.{unsigned_one_tree};
 ghost use Rattle.example_json.specs.Evens.{even_key};
 
 use litemap_json::{ItemFault, JsonItem, JsonKey};

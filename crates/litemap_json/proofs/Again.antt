@@ -10,7 +10,7 @@ use Rattle.litemap_store.specs.Last.{In, StandsLast, Last}
 use Rattle.litemap_store.specs.Pairs.{Rising}
 use Rattle.litemap_store.proofs.LastPairs.{In-from_last, Last-rising}
 use Rattle.litemap_store.proofs.Membership.{each, from_each}
-use Rattle.litemap_json_items.specs.declared.item.ItemFault.{ItemFault}
+use Rattle.litemap_json.specs.declared.item.ItemFault.{ItemFault}
 use Rattle.litemap_json.specs.Json.{rows, row_pairs, member_pairs}
 use Rattle.litemap_json.specs.Reading.{AllReadBack, ReadsAs, ReadsBack, seen}
 

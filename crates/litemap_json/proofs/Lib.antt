@@ -1,7 +1,10 @@
 -- Lemmas of the crate. Callers' proofs cite `Floats`, and `OneMap` for what is read back.
 pub mod Again
+pub mod ArraysOfTwo
 pub mod ByPlace
 pub mod Floats
 pub mod OneMap
 pub mod Joined
+pub mod Printed
 pub mod Texts
+pub mod Tokens

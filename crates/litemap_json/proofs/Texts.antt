@@ -10,9 +10,8 @@ use Rattle.json.specs.Tree.{items_tokens, json_tokens, members_tokens}
 use Rattle.serde_json.specs.Data.{Data, array, object, Items, Members, no_members, member}
 use Rattle.serde_json.specs.Written.{blank_items, blank_members, IsInOrder, items_outline, members_outline}
 use Rattle.serde_json.proofs.Texts.{print-outline, tokens_from_order}
-use Rattle.litemap_json_items.specs.Written.{WritesTree}
 use Rattle.litemap_json.specs.Json.{object_with, row, rows}
-use Rattle.litemap_json.specs.Written.{IsTextOf}
+use Rattle.litemap_json.specs.Written.{IsTextOf, WritesTree}
 use Rattle.litemap_json.proofs.ByPlace.{made_step, next}
 use Rattle.litemap_json.proofs.Joined.{IsAbove, above, above-joined, below, joined, joined-none, joined-one, put-above}
 

@@ -4,8 +4,8 @@ use Rattle.std.specs.Prelude.{ℕ, ◌+◌, List, [], ◌∷◌, map, cond, is_s
 use Rattle.serde_json.specs.Data.{Data, null, boolean, number, string, array, object}
 use Rattle.serde_json.specs.Data.{Items, no_items, item, Members, no_members, member, put}
 use Rattle.serde_json.specs.View.{items_of}
-use Rattle.litemap_json_items.specs.Item.{pair_json, two_of}
-use Rattle.litemap_json_items.specs.declared.item.ItemFault.{ItemFault}
+use Rattle.litemap_json.specs.Item.{pair_json, two_of}
+use Rattle.litemap_json.specs.declared.item.ItemFault.{ItemFault}
 use Rattle.litemap_json.specs.declared.fault.WriteFault.{WriteFault}
 use Rattle.litemap_json.specs.declared.fault.WriteFault.TheVariants.{KeyWithoutText}
 use Rattle.litemap_json.specs.declared.fault.JsonFault.{JsonFault}

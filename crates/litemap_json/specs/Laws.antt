@@ -2,7 +2,7 @@
 use Rattle.std.specs.Prelude.{◌≡◌, ℕ, List, Option, Result}
 use Rattle.std.specs.declared.cmp.Ordering.{Ordering}
 use Rattle.serde_json.specs.Data.{Data}
-use Rattle.litemap_json_items.specs.declared.item.ItemFault.{ItemFault}
+use Rattle.litemap_json.specs.declared.item.ItemFault.{ItemFault}
 use Rattle.litemap_json.specs.Reading.{ReadsAs, seen}
 
 module _ {K V : Type 0} (cmp : K → K → Ordering) (key : List ℕ → Option Data) (key_item json_item : Data → Result Data ItemFault)

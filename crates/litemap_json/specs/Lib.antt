@@ -1,6 +1,9 @@
--- The definitions that the contracts cite. `Json` is the page to read first.
+-- The definitions that the contracts cite. `Item` and `Json` are the pages to read first.
+pub mod Item
 pub mod Json
 pub mod Reading
 pub mod Laws
 pub mod Kinds
+pub mod OneTree
+pub mod Widths
 pub mod Written

@@ -4,7 +4,7 @@ use Rattle.std.specs.declared.cmp.Ordering.{Ordering}
 use Rattle.std.specs.List.{AllByRecursion}
 use Rattle.serde_json.specs.Data.{Data}
 use Rattle.litemap_store.specs.Last.{Last}
-use Rattle.litemap_json_items.specs.declared.item.ItemFault.{ItemFault}
+use Rattle.litemap_json.specs.declared.item.ItemFault.{ItemFault}
 use Rattle.litemap_json.specs.Json.{pairs}
 use Rattle.litemap_json.specs.declared.fault.JsonFault.{JsonFault}
 use Rattle.litemap_json.specs.declared.fault.JsonFault.TheVariants.{Memory}

@@ -1,9 +1,17 @@
--- Which text is written for a tree.
-use Rattle.std.specs.Prelude.{◌≡◌, ℕ, false, List, Option, Some, slice_get}
+-- What is written of a tree: token by token, and as a text.
+use Rattle.std.specs.Prelude.{◌≡◌, ◌++◌, ℕ, false, List, Option, Some, slice_get}
+use Rattle.json.specs.Json.{Json}
 use Rattle.json.specs.Lex.{tokens}
 use Rattle.json.specs.Print.{print}
+use Rattle.json.specs.Token.{Token}
+use Rattle.json.specs.Tree.{json_tokens}
 use Rattle.serde_json.specs.Data.{Data}
-use Rattle.serde_json.specs.Written.{compact_text, has_float, IsInOrder}
+use Rattle.serde_json.specs.Written.{blank, compact_text, has_float, IsInOrder, outline}
+
+-- The new tokens are those of the tree, in its order: its items and members, each once, and its whole numbers in decimal. Of
+-- its floats alone the digits are not told.
+abbrev pub WritesTree : Data → List Token → List Token → Type 0
+WritesTree d old new = (j : Json) × (new ≡ old ++ json_tokens j) × (blank j ≡ outline d)
 
 -- The text is the tree's compact one. Of a tree with a float, whose digits the definitions do not tell, it is a text with no
 -- space that has the tree's items and members, each once and in order.

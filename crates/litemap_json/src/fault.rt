@@ -3,7 +3,7 @@ ghost use Rattle.std.specs.Prelude.{◌≡◌};
 ghost use Rattle.litemap_json.specs.declared.fault.WriteFault.TheVariants as writing;
 ghost use Rattle.litemap_json.specs.declared.fault.JsonFault.TheVariants as reading;
 
-use litemap_json_items::ItemFault;
+use crate::item::ItemFault;
 use std::alloc::AllocError;
 use std::io;
 use thiserror::Error;

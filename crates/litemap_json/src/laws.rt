@@ -1,7 +1,7 @@
 //! A law over the definitions of `specs/`. The function does nothing: its contract is the law.
 ghost use Rattle.litemap_json.specs.Laws.{OneReading};
 
-use litemap_json_items::{JsonItem, JsonKey};
+use crate::item::{JsonItem, JsonKey};
 
 /// The maps that a JSON value is read as have the same keys and items, pair by pair: those of one tree. So what
 /// `from_json` reads of what `to_json` made is the map that was written.

@@ -1,16 +1,25 @@
-//! Maps as JSON, both ways.
+//! Maps as JSON, both ways: what a type needs to be an item or a key there, and the types that come with it.
 #![tactic(auto)]
 
 mod fault;
+mod item;
 pub mod laws;
+mod numbers;
+mod pairs;
 mod read;
+mod simple;
 mod text;
 mod told;
+mod whole;
 mod write;
+mod written;
 
 pub use fault::{JsonFault, WriteFault};
-pub use litemap_json_items::{ItemFault, JsonItem, JsonKey};
+pub use item::{ItemFault, JsonItem, JsonKey};
+pub use json::Writer;
+pub use pairs::{array_of_two, two_items};
 pub use read::from_json;
 pub use text::write_json;
 pub use told::Told;
 pub use write::to_json;
+pub use written::write_value;

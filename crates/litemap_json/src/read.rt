@@ -1,16 +1,17 @@
 //! A JSON value as a map.
 ghost use Rattle.std.specs.Prelude.{◌≡◌, ◌≢◌, Err, IfErr, IfOk, OnOk, string_bytes, ◌++◌, ◌∷◌, []};
 ghost use Rattle.serde_json.specs.View.{items_view, members_view, view};
-ghost use Rattle.litemap_json_items.specs.Item.{two_of};
+ghost use Rattle.litemap_json.specs.Item.{two_of};
 ghost use Rattle.litemap_json.specs.Json.{member_at, member_pairs, pairs, row_at, row_pairs};
 ghost use Rattle.litemap_json.specs.Reading.{Reads, ReadsAs, pair_seen, seen};
 ghost use Rattle.litemap_json.specs.declared.fault.JsonFault.TheVariants as reading;
-ghost use Rattle.litemap_json_items.specs.declared.item.ItemFault.TheVariants as of_item;
+ghost use Rattle.litemap_json.specs.declared.item.ItemFault.TheVariants as of_item;
 
 use crate::fault::JsonFault;
+use crate::item::{ItemFault, JsonItem, JsonKey};
+use crate::pairs::two_items;
 use litemap::LiteMap;
 use litemap::store::StoreBulkMut;
-use litemap_json_items::{ItemFault, JsonItem, JsonKey, two_items};
 use serde_json::{Map, Value};
 use std::alloc::Global;
 

@@ -7,17 +7,16 @@ ghost use Rattle.json.specs.Lex.{tokens};
 ghost use Rattle.json.specs.Print.{print};
 ghost use Rattle.json.specs.Token.{key as key_token};
 ghost use Rattle.serde_json.specs.Data.{Data, array, no_members};
-ghost use Rattle.litemap_json_items.specs.Written.{WritesTree};
 ghost use Rattle.litemap_json.specs.Json.{object_with, row, rows, tree};
-ghost use Rattle.litemap_json.specs.Written.{IsTextOf};
+ghost use Rattle.litemap_json.specs.Written.{IsTextOf, WritesTree};
 ghost use Rattle.litemap_json.specs.declared.fault.WriteFault.TheVariants.{Memory};
 
 use crate::fault::WriteFault;
+use crate::item::{JsonItem, JsonKey};
 use crate::write::to_json;
 use json::Writer;
 use litemap::LiteMap;
 use litemap::store::Store;
-use litemap_json_items::{JsonItem, JsonKey};
 use std::alloc::{AllocError, Global};
 
 /// The map as a JSON text with no space: that of the value that `to_json` makes, with the same faults, and without that value.

@@ -1,6 +1,7 @@
 //! A fault as it is shown to people: with the name that it stands at, what is wanted there and what stands there.
 use crate::fault::JsonFault;
-use litemap_json_items::{JsonItem, two_items};
+use crate::item::JsonItem;
+use crate::pairs::two_items;
 use serde_json::Value;
 use std::fmt::{self, Display, Formatter, Write};
 

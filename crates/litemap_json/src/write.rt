@@ -3,16 +3,17 @@ ghost use Rattle.std.specs.Prelude.{◌≡◌, ◌≢◌, Ok, Err, IfOk, IfErr, 
 ghost use Rattle.serde_json.specs.Data.{array, no_members, put};
 ghost use Rattle.serde_json.specs.View.{members_view, view};
 ghost use Rattle.litemap_store.specs.Pairs.{Rising};
-ghost use Rattle.litemap_json_items.specs.Item.{pair_json};
+ghost use Rattle.litemap_json.specs.Item.{pair_json};
 ghost use Rattle.litemap_json.specs.Json.{object_with, rows, tree};
 ghost use Rattle.litemap_json.specs.Reading.{AllReadBack, ReadsAs, ReadsBack};
 ghost use Rattle.litemap_json.specs.Written.{IsFirst};
 ghost use Rattle.litemap_json.specs.declared.fault.WriteFault.TheVariants.{Memory};
 
 use crate::fault::WriteFault;
+use crate::item::{JsonItem, JsonKey};
+use crate::pairs::array_of_two;
 use litemap::LiteMap;
 use litemap::store::Store;
-use litemap_json_items::{JsonItem, JsonKey, array_of_two};
 use serde_json::{Map, Value};
 use std::alloc::{AllocError, Global};
 

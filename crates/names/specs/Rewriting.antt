@@ -4,7 +4,7 @@ use Rattle.std.specs.Ordering.{bool_cmp}
 use Rattle.serde_json.specs.Data.{Data, boolean}
 use Rattle.serde_json.specs.Read.{read as read_text}
 use Rattle.serde_json.specs.Written.{compact_text}
-use Rattle.litemap_json_items.specs.Item.{bool_item, bool_key, bool_text, unsigned_fits, whole_item, whole_json}
+use Rattle.litemap_json.specs.Item.{bool_item, bool_key, bool_text, unsigned_fits, whole_item, whole_json}
 use Rattle.litemap_json.specs.Json.{pairs, tree}
 use Rattle.litemap_json.specs.Reading.{ReadsAs}
 use Rattle.litemap_json.specs.declared.fault.WriteFault.{WriteFault}

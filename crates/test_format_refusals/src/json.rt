@@ -2,9 +2,9 @@
 use litemap::LiteMap;
 use litemap::store::{ColumnStore, StoreBulkMut};
 use litemap_json::{
-    ItemFault, JsonFault, JsonItem, JsonKey, WriteFault, from_json, to_json, write_json,
+    ItemFault, JsonFault, JsonItem, JsonKey, WriteFault, Writer, array_of_two, from_json, to_json,
+    write_json, write_value,
 };
-use litemap_json_items::{Writer, array_of_two, write_value};
 use names::{FlagsFault, rewrite_flags};
 use serde_json::Value;
 use std::alloc::Global;

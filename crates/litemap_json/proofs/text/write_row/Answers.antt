@@ -1,5 +1,5 @@
 use Rattle.std.proofs.lemmas.Result.{on_ok_weaker}
-use Rattle.litemap_json_items.proofs.Tokens.{writes_two}
+use Rattle.litemap_json.proofs.Tokens.{writes_two}
 use Rattle.litemap_json.proofs.text.write_row.Goals as goal
 
 pub returns-clause-tree : goal.returns-clause-tree

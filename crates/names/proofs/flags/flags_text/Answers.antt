@@ -1,7 +1,7 @@
 use Rattle.std.proofs.Common.{Some, refl, ℕ, Bool, pos}
 use Rattle.serde_json.specs.Data.{boolean}
 use Rattle.serde_json.specs.View.{view}
-use Rattle.litemap_json_items.specs.Item.{bool_text, whole_json}
+use Rattle.litemap_json.specs.Item.{bool_text, whole_json}
 use Rattle.litemap_json.proofs.Floats.{tree_no_float}
 use Rattle.names.proofs.flags.flags_text.Goals as goal
 

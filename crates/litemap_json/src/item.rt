@@ -1,0 +1,160 @@
+//! What a type needs to be an item or a key of a map that is written as JSON.
+ghost use Rattle.std.specs.Prelude.{◌≡◌, ℕ, List, Option, Some, Result, Ok, IfOk, IfSome, OnOk};
+ghost use Rattle.std.specs.Prelude.{option_map, string_bytes};
+ghost use Rattle.std.specs.declared.cmp.Ordering.TheVariants.{Equal};
+ghost use Rattle.serde_json.specs.Data.{Data};
+ghost use Rattle.serde_json.specs.View.{view};
+ghost use Rattle.litemap_json.specs.Item.{Answers};
+ghost use Rattle.litemap_json.specs.Written.{WritesTree};
+ghost use Rattle.litemap_json.specs.declared.item.ItemFault.{ItemFault};
+
+use crate::written::write_value;
+use json::Writer;
+use serde_json::Value;
+use std::alloc::{AllocError, Global};
+use thiserror::Error;
+
+/// Why a JSON value is no item of a type.
+///
+/// ```rust
+/// let value = Value::from_str(alloc, "300")?;
+/// Ok(u8::from_value(alloc, &value) == Err(ItemFault::Range))
+/// ```
+#[derive(Debug, PartialEq, Drop, Error)]
+pub enum ItemFault {
+    /// Memory was refused.
+    #[error("there is not enough memory")]
+    Memory,
+    /// It is a value of another kind.
+    #[error("it is a JSON value of another kind than the type's")]
+    Shape,
+    /// It is a whole number that the type doesn't have.
+    #[error("it is a whole number outside of the type's range")]
+    Range,
+    /// It is a number with a fraction or an exponent, or one that is held as such: `-0`, or past 64 bits.
+    #[error("it is a number with a fraction or an exponent, `-0`, or a number of more than 64 bits")]
+    Float,
+}
+
+/// A type whose values are written as JSON, and read back.
+///
+/// A contract tells a value by its tree, `json x`, and what a tree spells by the tree of that value, `item d`.
+///
+/// ```rust
+/// impl JsonItem for Level {
+///     ghost json = { json_of };
+///
+///     ghost item = { level_item };
+///
+///     fn to_value(&self, alloc: Global) -> Result<Value, AllocError> {
+///         Value::try_from_str(alloc, word(*self))
+///     }
+///     // ...
+/// }
+/// ```
+pub trait JsonItem {
+    /// The tree of a value. Values with one tree are the same to a reader.
+    ghost json: { Self → Data };
+
+    /// The tree of the value that a tree spells, or why it spells none.
+    ghost item: { Data → Result Data ItemFault };
+
+    /// The value as JSON, or a refusal for want of memory. What is made reads as the same value.
+    ///
+    /// ```rust
+    /// let value = (3u32, true).to_value(alloc)?;
+    /// Ok(value.to_string(alloc)?.as_str() == "[3,true]")
+    /// ```
+    fn to_value(&self, alloc: Global) -> Result<Value, AllocError>
+        ensures tree { IfOk result (λ value. view value ≡ json self.now) }
+        ensures reads_back { OnOk result (item (json self.now) ≡ Ok (json self.now)) };
+
+    /// The value that a JSON value spells. `Memory` may come in place of any answer.
+    ///
+    /// ```rust
+    /// let value = Value::from_str(alloc, "[3,true]")?;
+    /// Ok(<(u32, bool)>::from_value(alloc, &value)? == (3, true))
+    /// ```
+    fn from_value(alloc: Global, value: &Value) -> Result<Self, ItemFault>
+        ensures { Answers json (item (view value.now)) result };
+
+    /// Writes the value behind what a writer has: the text of what `to_value` makes, without that value where a type has a
+    /// body of its own for it. A type that has none makes the value, writes it, and drops it.
+    ///
+    /// A refusal for want of memory may leave some of the value written.
+    ///
+    /// ```rust
+    /// let mut out = Writer::new(Vec::new(alloc));
+    /// (3u32, true).write_to(alloc, &mut out)?;
+    /// Ok(out.into_inner().as_slice() == b"[3,true]".as_slice())
+    /// ```
+    fn write_to(&self, alloc: Global, out: &mut Writer) -> Result<(), AllocError>
+        ensures tree { OnOk result (WritesTree (json self.now) out.old.tokens out.new.tokens) }
+        ensures before { out.new.before ≡ out.old.before }
+    {
+        let value = self.to_value(alloc)?;
+        write_value(alloc, &value, out)
+    }
+
+    /// What a JSON value has to be to spell a value of the type, in words that `is wanted` can follow: for a fault that is
+    /// shown to people. A type that says nothing of it has the words here.
+    ///
+    /// ```rust
+    /// Ok(u16::wanted() == "a whole number of 16 bits")
+    /// ```
+    fn wanted() -> &'static str {
+        "a value of the type"
+    }
+}
+
+/// A type whose values are written as the keys of a map: as the names of an object's members where they have texts, else
+/// as JSON values.
+///
+/// A contract tells a key's text by `text k`, and the key that a text spells by that key's tree, `key s`.
+///
+/// ```rust
+/// impl JsonKey for Level {
+///     ghost text = { λ level. Some (word_of level) };
+///
+///     ghost key = { level_key };
+///
+///     fn key_text(&self, alloc: Global) -> Result<Option<String>, AllocError> {
+///         Ok(Some(String::from_str(alloc, word(*self))?))
+///     }
+///     // ...
+/// }
+/// ```
+pub trait JsonKey: JsonItem + Ord {
+    /// The text that stands for a key as a member's name, if it has one.
+    ghost text: { Self → Option (List ℕ) };
+
+    /// The tree of the key that has this text, if there is one.
+    ghost key: { List ℕ → Option Data };
+
+    /// The key's text, `None` where it has none, or a refusal for want of memory. What is made reads as the same key.
+    ///
+    /// ```rust
+    /// let text = 7u32.key_text(alloc)?;
+    /// let none = (7u32, true).key_text(alloc)?;
+    /// Ok(text.as_deref() == Some("7") && none.is_none())
+    /// ```
+    fn key_text(&self, alloc: Global) -> Result<Option<String>, AllocError>
+        ensures text { IfOk result (λ name. option_map string_bytes name ≡ text self.now) }
+        ensures reads_back { OnOk result (IfSome (text self.now)
+            (λ name. key name ≡ Some (Self.json self.now))) };
+
+    /// The key that has this text, `None` where no key has it, or a refusal for want of memory. A key has one text, so
+    /// another spelling is no key's.
+    ///
+    /// ```rust
+    /// let seven = u32::from_key_text(alloc, "7")?;
+    /// let other_spelling = u32::from_key_text(alloc, "07")?;
+    /// Ok(seven == Some(7) && other_spelling.is_none())
+    /// ```
+    fn from_key_text(alloc: Global, name: &str) -> Result<Option<Self>, AllocError>
+        ensures key { IfOk result (λ found. option_map Self.json found ≡ key name.now) }
+        ensures one_spelling { IfOk result (λ found. IfSome found (λ k. text k ≡ Some name.now)) };
+
+    /// Keys with one tree are equal.
+    ghost one_tree: { (x y : Self) → Self.json x ≡ Self.json y → Self.cmp x y ≡ Equal };
+}

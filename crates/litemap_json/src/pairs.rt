@@ -1,0 +1,91 @@
+//! Pairs of items, as arrays of two.
+ghost use Rattle.std.specs.Prelude.{◌≡◌, IfOk, None, option_map};
+ghost use Rattle.serde_json.specs.View.{view};
+ghost use Rattle.litemap_json.specs.Item.{pair_item, pair_json, two_of};
+ghost use Rattle.litemap_json.specs.OneTree.{pair_one_tree};
+
+use crate::item::{ItemFault, JsonItem, JsonKey};
+use json::Writer;
+use serde_json::Value;
+use std::alloc::{AllocError, Global};
+
+/// The two items of an array of exactly two, `None` for any other value.
+///
+/// ```rust
+/// let value = Value::from_str(alloc, "[3,true]")?;
+/// match two_items(&value) {
+///     Some((first, second)) => Ok(first.as_u64() == Some(3) && second.as_bool() == Some(true)),
+///     None => Ok(false),
+/// }
+/// ```
+pub fn two_items(value: &Value) -> Option<(&Value, &Value)>
+    ensures { option_map (λ p. (view p.0.now, view p.1.now)) result ≡ two_of (view value.now) }
+{
+    match value.as_array() {
+        Some(parts) if parts.len() == 2 => Some((&parts[0], &parts[1])),
+        _ => None,
+    }
+}
+
+/// The array of two values, or a refusal for want of memory.
+///
+/// ```rust
+/// let value = array_of_two(alloc, Value::from(3u32), Value::from(true))?;
+/// Ok(value.to_string(alloc)?.as_str() == "[3,true]")
+/// ```
+pub fn array_of_two(alloc: Global, first: Value, second: Value) -> Result<Value, AllocError>
+    ensures { IfOk result (λ pair. view pair ≡ pair_json (view first) (view second)) }
+{
+    let mut parts = Vec::with_capacity(alloc, 2)?;
+    parts.push(first)?;
+    parts.push(second)?;
+    Ok(Value::from(parts))
+}
+
+impl<A: JsonItem + Drop, B: JsonItem + Drop> JsonItem for (A, B) {
+    ghost json = { λ p. pair_json (A.json p.0) (B.json p.1) };
+
+    ghost item = { pair_item A.item B.item };
+
+    fn to_value(&self, alloc: Global) -> Result<Value, AllocError> {
+        let first = self.0.to_value(alloc)?;
+        let second = self.1.to_value(alloc)?;
+        array_of_two(alloc, first, second)
+    }
+
+    fn from_value(alloc: Global, value: &Value) -> Result<(A, B), ItemFault> {
+        let Some((first, second)) = two_items(value) else {
+            return Err(ItemFault::Shape);
+        };
+        let a = A::from_value(alloc, first)?;
+        let b = B::from_value(alloc, second)?;
+        Ok((a, b))
+    }
+
+    fn write_to(&self, alloc: Global, out: &mut Writer) -> Result<(), AllocError> {
+        out.begin_array()?;
+        self.0.write_to(alloc, out)?;
+        self.1.write_to(alloc, out)?;
+        out.end_array()
+    }
+
+    fn wanted() -> &'static str {
+        "an array of exactly two, each of its type,"
+    }
+}
+
+impl<A: JsonKey + Drop, B: JsonKey + Drop> JsonKey for (A, B) {
+    ghost text = { λ _. None };
+
+    ghost key = { λ _. None };
+
+    fn key_text(&self, _alloc: Global) -> Result<Option<String>, AllocError> {
+        Ok(None)
+    }
+
+    fn from_key_text(_alloc: Global, _name: &str) -> Result<Option<(A, B)>, AllocError> {
+        Ok(None)
+    }
+
+    ghost one_tree = { pair_one_tree A.json B.json A.cmp B.cmp A.one_tree B.one_tree };
+}

@@ -1,0 +1,308 @@
+//! Whole numbers of eight types, as items and as keys.
+ghost use Rattle.std.specs.Prelude.{◌≡◌, ◌≢◌, ℕ, ℤ, pos, Bool, true, Option, Some, Err, IfOk, IfSome, IsOk, OnOk, Ok};
+ghost use Rattle.std.specs.Prelude.{option_map, refl, string_bytes};
+ghost use Rattle.std.specs.Fmt.{signed_decimal};
+ghost use Rattle.std.specs.declared.cmp.Ordering.TheVariants.{Equal};
+ghost use Rattle.serde_json.specs.View.{view};
+ghost use Rattle.litemap_json.specs.Item.{Answers, kept, signed_fits, unsigned_fits, whole_item, whole_json, whole_key};
+ghost use Rattle.litemap_json.specs.OneTree.{signed_one_tree, unsigned_one_tree};
+ghost use Rattle.litemap_json.specs.Widths.{signed_is_held, unsigned_is_held};
+ghost use Rattle.litemap_json.specs.declared.item.ItemFault.TheVariants.{Memory};
+
+use crate::item::{ItemFault, JsonItem, JsonKey};
+use crate::numbers::{decimal_text, printed, whole};
+use serde_json::Value;
+use std::alloc::{AllocError, Global};
+
+/// A type of whole numbers, each of which 128 bits with a sign hold.
+pub trait Whole: Copy + Ord {
+    /// The number.
+    ghost number: { Self → ℤ };
+
+    /// Which numbers the type has.
+    ghost fits: { ℤ → Bool };
+
+    /// The number as JSON.
+    fn value(self) -> Value
+        ensures { view result ≡ whole_json (number self) };
+
+    /// The number in 128 bits.
+    fn wide(self) -> i128
+        ensures is { result ≡ number self }
+        ensures fits { fits (number self) ≡ true };
+
+    /// What the type has for a number, if it has it.
+    fn narrow(wide: i128) -> Option<Self>
+        ensures { option_map number result ≡ kept fits (Some wide) };
+
+    /// Which numbers the type has, in words.
+    fn named() -> &'static str;
+
+    /// Each is held.
+    ghost held: { (z : ℤ) → fits z ≡ true → signed_fits 127 z ≡ true };
+
+    /// One number is one key.
+    ghost one_number: { (x y : Self) → whole_json (number x) ≡ whole_json (number y) → Self.cmp x y ≡ Equal };
+}
+
+/// No call takes memory but the writer's, so none else is refused.
+impl<T: Whole> JsonItem for T {
+    ghost json = { λ x. whole_json (T.number x) };
+
+    ghost item = { whole_item T.fits };
+
+    fn to_value(&self, _alloc: Global) -> Result<Value, AllocError>
+        ensures tree { IfOk result (λ value. view value ≡ whole_json (T.number self.now)) }
+        ensures reads_back { OnOk result
+            (whole_item T.fits (whole_json (T.number self.now)) ≡ Ok (whole_json (T.number self.now))) }
+        ensures succeeds { IsOk result }
+    {
+        let number = *self;
+        let _fits = number.wide();
+        Ok(number.value())
+    }
+
+    fn from_value(_alloc: Global, value: &Value) -> Result<T, ItemFault>
+        ensures answers { Answers (λ x. whole_json (T.number x)) (whole_item T.fits (view value.now)) result }
+        ensures no_memory { result ≢ Err Memory }
+    {
+        T::narrow(whole(value)?).ok_or(ItemFault::Range)
+    }
+
+    fn wanted() -> &'static str {
+        T::named()
+    }
+}
+
+/// Only `key_text` takes memory; `from_key_text` is never refused.
+impl<T: Whole> JsonKey for T {
+    ghost text = { λ x. Some (signed_decimal (T.number x)) };
+
+    ghost key = { whole_key T.fits };
+
+    #[tactic(auto, using(crate::proofs::Printed::read_whole))]
+    fn key_text(&self, alloc: Global) -> Result<Option<String>, AllocError> {
+        Ok(Some(decimal_text(alloc, self.wide())?))
+    }
+
+    fn from_key_text(_alloc: Global, name: &str) -> Result<Option<T>, AllocError>
+        ensures key { IfOk result (λ found. option_map (λ x. whole_json (T.number x)) found ≡ whole_key T.fits name.now) }
+        ensures one_spelling { IfOk result (λ found. IfSome found (λ k. Some (signed_decimal (T.number k)) ≡ Some name.now)) }
+        ensures succeeds { IsOk result }
+    {
+        let Some(number) = printed(name) else {
+            return Ok(None);
+        };
+        Ok(T::narrow(number))
+    }
+
+    ghost one_tree = { T.one_number };
+}
+
+impl Whole for u8 {
+    ghost number = { pos };
+
+    ghost fits = { unsigned_fits 8 };
+
+    fn value(self) -> Value {
+        Value::from(self)
+    }
+
+    fn wide(self) -> i128 {
+        i128::from(self)
+    }
+
+    fn narrow(wide: i128) -> Option<u8> {
+        u8::try_from(wide).ok()
+    }
+
+    fn named() -> &'static str {
+        "a whole number of 8 bits"
+    }
+
+    ghost held = { unsigned_is_held 8 56 refl };
+
+    ghost one_number = { unsigned_one_tree };
+}
+
+impl Whole for u16 {
+    ghost number = { pos };
+
+    ghost fits = { unsigned_fits 16 };
+
+    fn value(self) -> Value {
+        Value::from(self)
+    }
+
+    fn wide(self) -> i128 {
+        i128::from(self)
+    }
+
+    fn narrow(wide: i128) -> Option<u16> {
+        u16::try_from(wide).ok()
+    }
+
+    fn named() -> &'static str {
+        "a whole number of 16 bits"
+    }
+
+    ghost held = { unsigned_is_held 16 48 refl };
+
+    ghost one_number = { unsigned_one_tree };
+}
+
+impl Whole for u32 {
+    ghost number = { pos };
+
+    ghost fits = { unsigned_fits 32 };
+
+    fn value(self) -> Value {
+        Value::from(self)
+    }
+
+    fn wide(self) -> i128 {
+        i128::from(self)
+    }
+
+    fn narrow(wide: i128) -> Option<u32> {
+        u32::try_from(wide).ok()
+    }
+
+    fn named() -> &'static str {
+        "a whole number of 32 bits"
+    }
+
+    ghost held = { unsigned_is_held 32 32 refl };
+
+    ghost one_number = { unsigned_one_tree };
+}
+
+impl Whole for u64 {
+    ghost number = { pos };
+
+    ghost fits = { unsigned_fits 64 };
+
+    fn value(self) -> Value {
+        Value::from(self)
+    }
+
+    fn wide(self) -> i128 {
+        i128::from(self)
+    }
+
+    fn narrow(wide: i128) -> Option<u64> {
+        u64::try_from(wide).ok()
+    }
+
+    fn named() -> &'static str {
+        "a whole number of 64 bits"
+    }
+
+    ghost held = { unsigned_is_held 64 0 refl };
+
+    ghost one_number = { unsigned_one_tree };
+}
+
+impl Whole for i8 {
+    ghost number = { λ x. x };
+
+    ghost fits = { signed_fits 7 };
+
+    fn value(self) -> Value {
+        Value::from(self)
+    }
+
+    fn wide(self) -> i128 {
+        i128::from(self)
+    }
+
+    fn narrow(wide: i128) -> Option<i8> {
+        i8::try_from(wide).ok()
+    }
+
+    fn named() -> &'static str {
+        "a whole number of 8 bits with a sign"
+    }
+
+    ghost held = { signed_is_held 7 56 refl };
+
+    ghost one_number = { signed_one_tree };
+}
+
+impl Whole for i16 {
+    ghost number = { λ x. x };
+
+    ghost fits = { signed_fits 15 };
+
+    fn value(self) -> Value {
+        Value::from(self)
+    }
+
+    fn wide(self) -> i128 {
+        i128::from(self)
+    }
+
+    fn narrow(wide: i128) -> Option<i16> {
+        i16::try_from(wide).ok()
+    }
+
+    fn named() -> &'static str {
+        "a whole number of 16 bits with a sign"
+    }
+
+    ghost held = { signed_is_held 15 48 refl };
+
+    ghost one_number = { signed_one_tree };
+}
+
+impl Whole for i32 {
+    ghost number = { λ x. x };
+
+    ghost fits = { signed_fits 31 };
+
+    fn value(self) -> Value {
+        Value::from(self)
+    }
+
+    fn wide(self) -> i128 {
+        i128::from(self)
+    }
+
+    fn narrow(wide: i128) -> Option<i32> {
+        i32::try_from(wide).ok()
+    }
+
+    fn named() -> &'static str {
+        "a whole number of 32 bits with a sign"
+    }
+
+    ghost held = { signed_is_held 31 32 refl };
+
+    ghost one_number = { signed_one_tree };
+}
+
+impl Whole for i64 {
+    ghost number = { λ x. x };
+
+    ghost fits = { signed_fits 63 };
+
+    fn value(self) -> Value {
+        Value::from(self)
+    }
+
+    fn wide(self) -> i128 {
+        i128::from(self)
+    }
+
+    fn narrow(wide: i128) -> Option<i64> {
+        i64::try_from(wide).ok()
+    }
+
+    fn named() -> &'static str {
+        "a whole number of 64 bits with a sign"
+    }
+
+    ghost held = { signed_is_held 63 0 refl };
+
+    ghost one_number = { signed_one_tree };
+}

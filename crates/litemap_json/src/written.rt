@@ -1,0 +1,66 @@
+//! A value's tokens, written behind those that a writer has.
+ghost use Rattle.std.specs.Prelude.{◌≡◌, ◌++◌, ◌∷◌, [], OnOk};
+ghost use Rattle.std.specs.Fmt.{signed_decimal};
+ghost use Rattle.json.specs.Lex.{tokens};
+ghost use Rattle.json.specs.Token.{number as number_token};
+ghost use Rattle.serde_json.specs.View.{view};
+ghost use Rattle.serde_json.specs.Written.{unless_float};
+ghost use Rattle.litemap_json.specs.Written.{WritesTree};
+
+use json::{Reader, Scratch, Token, Writer};
+use serde_json::Value;
+use std::alloc::{AllocError, Global};
+
+/// Writes a JSON value. Only an array, an object and a float take memory beside the writer's: their text is made first.
+///
+/// A refusal may leave some of the value written.
+///
+/// ```rust
+/// let mut out = Writer::new(Vec::new(alloc));
+/// write_value(alloc, &Value::from(true), &mut out)?;
+/// Ok(out.into_inner().as_slice() == b"true".as_slice())
+/// ```
+pub fn write_value(alloc: Global, value: &Value, out: &mut Writer) -> Result<(), AllocError>
+    ensures tree { OnOk result (WritesTree (view value.now) out.old.tokens out.new.tokens) }
+    ensures before { out.new.before ≡ out.old.before }
+{
+    if let Some(text) = value.as_str() {
+        return out.string(text);
+    }
+    if let Some(flag) = value.as_bool() {
+        return out.boolean(flag);
+    }
+    if let Some(number) = value.as_u64() {
+        return out.u64(number);
+    }
+    if let Some(number) = value.as_i64() {
+        return write_signed(number, out);
+    }
+    let text = value.to_string(alloc)?;
+    write_tokens(alloc, text.as_str(), out)
+}
+
+// Writes a number below zero; its text is no float's.
+fn write_signed(number: i64, out: &mut Writer) -> Result<(), AllocError>
+    ensures token { OnOk result (out.new.tokens ≡ out.old.tokens ++ number_token (signed_decimal number) ∷ []) }
+    ensures kept { unless_float (signed_decimal number) ≡ signed_decimal number }
+    ensures before { out.new.before ≡ out.old.before }
+{
+    out.i64(number)
+}
+
+// Writes the tokens of a text; one that is no JSON is not written.
+fn write_tokens(alloc: Global, text: &str, out: &mut Writer) -> Result<(), AllocError>
+    ensures tokens { OnOk result (out.new.tokens ≡ out.old.tokens ++ tokens text.now) }
+    ensures before { out.new.before ≡ out.old.before }
+{
+    let mut scratch = Scratch::new(alloc);
+    let mut reader = Reader::new(text, &mut scratch)?;
+    while let Some(token) = reader.next() {
+        if let Token::Bad = token {
+            return Err(AllocError);
+        }
+        out.token(token)?;
+    }
+    Ok(())
+}

@@ -1,3 +1,0 @@
-pub mod ArraysOfTwo
-pub mod Printed
-pub mod Tokens
