@@ -1,0 +1,62 @@
+-- Keywords, written one by one.
+use Rattle.std.proofs.Common.{◌≡◌, ℕ, zero, suc, ◌+◌, ◌<◌, List, [], ◌∷◌, ◌++◌, Some, String, map, take, get_or, sym, ap, ◌∙◌, subst, append_assoc, append-nil, IsTrue, add-one, slice_get, string_bytes}
+use Rattle.std.proofs.lemmas.List.{map-append}
+use Rattle.std.specs.Char.{to_ascii_lowercase}
+use Rattle.example_keywords.specs.Keywords.{AreCanonical, IsKeyword, Keyword, is_key, joined, pair_of}
+use Rattle.example_keywords.specs.Reading.{shown}
+use Rattle.example_keywords.specs.Written.{if_some, printed, printed_on, with_part}
+use Rattle.example_keywords.proofs.Cases.{key_ascii}
+use Rattle.example_keywords.proofs.Splitting.{FirstSome, with_part-joined}
+
+-- the pair of some keyword
+abbrev IsPair : List ℕ × List ℕ → Type 0
+IsPair p = (k : Keyword) × IsKeyword k × (pair_of k ≡ p)
+
+lowered_first : (key : List ℕ) (rest : List (List ℕ)) → IsTrue (is_key key) → FirstSome (map to_ascii_lowercase key ∷ rest)
+lowered_first [] rest h = cc
+lowered_first (b ∷ key) rest h = tt
+
+key_first : (p : List ℕ × List ℕ) (rest : List (List ℕ)) → IsPair p → FirstSome (p.0 ∷ rest)
+key_first p rest h = subst (λ (q : List ℕ × List ℕ). FirstSome (q.0 ∷ rest)) h.2 (lowered_first h.0.key rest h.1.0)
+
+printed-append : (J : List (List ℕ × List ℕ)) (p : List ℕ × List ℕ) → printed (J ++ p ∷ []) ≡ printed J ++ p.0 ∷ if_some p.1
+printed-append [] p = ap (λ t. p.0 ∷ t) (append-nil (if_some p.1))
+printed-append (q ∷ J) p =
+    ap (λ t. q.0 ∷ (if_some q.1 ++ t)) (printed-append J p) ∙ ap (λ t. q.0 ∷ t) (sym (append_assoc (if_some q.1) (printed J) (p.0 ∷ if_some p.1)))
+
+printed_on-joined : (parts : List (List ℕ)) (key value : List ℕ) → FirstSome parts → FirstSome (parts ++ key ∷ []) → printed_on (joined parts) (key, value) ≡ joined (parts ++ key ∷ if_some value)
+printed_on-joined parts key [] f g = with_part-joined parts key f
+printed_on-joined parts key (b ∷ value) f g =
+    ap (λ t. with_part t (b ∷ value)) (with_part-joined parts key f) ∙ with_part-joined (parts ++ key ∷ []) (b ∷ value) g
+    ∙ ap joined (append_assoc parts (key ∷ []) ((b ∷ value) ∷ []))
+
+module _ {Z : Type 0} where
+  take_next : (L : List (List ℕ × String Z)) (i : ℕ) (p : List ℕ × String Z) → slice_get L i ≡ Some p → take (suc i) L ≡ take i L ++ p ∷ []
+  take_next [] i p e = cc
+  take_next (q ∷ L) zero p e = let f : q ≡ p = cc in ap (λ x. x ∷ []) f
+  take_next (q ∷ L) (suc i) p e = ap (λ t. q ∷ t) (take_next L i p e)
+
+  firsts : (L : List (List ℕ × String Z)) (i : ℕ) (p : List ℕ × String Z) → AreCanonical (map shown L) → slice_get L i ≡ Some p → FirstSome (printed (map shown (take i L))) × FirstSome (printed (map shown (take i L)) ++ p.0 ∷ [])
+  firsts [] i p h e = cc
+  firsts (q ∷ L) zero p h e = let f : q ≡ p = cc in (tt, subst (λ (x : List ℕ × String Z). FirstSome (x.0 ∷ [])) f (key_first (shown q) [] h.0))
+  firsts (q ∷ L) (suc i) p h e =
+      (key_first (shown q) (if_some (string_bytes q.1) ++ printed (map shown (take i L))) h.0, key_first (shown q) ((if_some (string_bytes q.1) ++ printed (map shown (take i L))) ++ p.0 ∷ []) h.0)
+
+  -- the bytes of a key
+  pub ascii_at : (L : List (List ℕ × String Z)) (i : ℕ) (p : List ℕ × String Z) → AreCanonical (map shown L) → slice_get L i ≡ Some p → (get_or p.0 0 0 < 128) × (get_or p.0 1 0 < 128)
+  ascii_at [] i p h e = cc
+  ascii_at (q ∷ L) zero p h e =
+      let f : q ≡ p = cc in
+      let g : (pair_of h.0.0).0 ≡ p.0 = ap (λ (x : List ℕ × List ℕ). x.0) h.0.2 ∙ ap (λ (x : List ℕ × String Z). x.0) f in
+      subst (λ key. (get_or key 0 0 < 128) × (get_or key 1 0 < 128)) g (key_ascii h.0.0.key h.0.1.0)
+  ascii_at (q ∷ L) (suc i) p h e = ascii_at L i p h.1 e
+
+  -- one more keyword is written
+  pub printed_more : (L : List (List ℕ × String Z)) (i : ℕ) (p : List ℕ × String Z) (text new : List ℕ) → AreCanonical (map shown L) → slice_get L i ≡ Some p → text ≡ joined (printed (map shown (take i L))) → new ≡ printed_on text (p.0, string_bytes p.1) → new ≡ joined (printed (map shown (take (i + 1) L)))
+  printed_more L i p text new h e t n =
+      let f = firsts L i p h e in
+      let taken : take (i + 1) L ≡ take i L ++ p ∷ [] = rw add-one (take_next L i p e) in
+      n ∙ ap (λ x. printed_on x (p.0, string_bytes p.1)) t ∙ printed_on-joined (printed (map shown (take i L))) p.0 (string_bytes p.1) f.0 f.1
+      ∙ ap joined (sym (printed-append (map shown (take i L)) (shown p)))
+      ∙ ap (λ M. joined (printed M)) (sym (map-append shown (take i L) (p ∷ [])))
+      ∙ ap (λ M. joined (printed (map shown M))) (sym taken)

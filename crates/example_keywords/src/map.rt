@@ -1,0 +1,82 @@
+//! The keywords of an extension, as a map.
+ghost use Rattle.std.specs.Prelude.{◌≡◌, ◌==◌, IfErr, IfOk, length, string_bytes};
+ghost use Rattle.std.specs.Option.{option_copied};
+ghost use Rattle.example_keywords.specs.Keywords.{AreCanonical, IsFault, IsRead, Rise, joined, value_of};
+ghost use Rattle.example_keywords.specs.Reading.{IfPart};
+ghost use Rattle.example_keywords.specs.Written.{IsReadAgain, printed};
+
+use crate::fault::KeywordFault;
+use crate::parts::Key;
+use crate::read::{Pairs, read_pairs};
+use crate::write::write_pairs;
+use std::alloc::{AllocError, Global};
+use std::marker::Model;
+
+/// The keywords of a locale's extension: values by their keys, both in lower case.
+///
+/// A contract sees the list of its pairs, in the order of their keys. A value is the text of its parts, with a `-` between
+/// each two; it is empty where there is none, and for `true`. Where there is one keyword the map itself takes no memory.
+#[derive(Drop)]
+pub struct Keywords {
+    pairs: Pairs,
+}
+
+impl Model for Keywords {
+    ghost use Rattle.std.specs.Prelude.{List, map, ℕ};
+    ghost use Rattle.example_keywords.specs.Keywords.{AreCanonical};
+    ghost use Rattle.example_keywords.specs.Reading.{shown};
+
+    ghost Value = { List (List ℕ × List ℕ) };
+
+    ghost view = { λ k. map shown k.pairs.pairs };
+
+    ghost invariant = { λ k. AreCanonical (map shown k.pairs.pairs) };
+}
+
+impl Keywords {
+    /// The keywords that a text spells, in either case. Of two equal keys the first counts.
+    ///
+    /// The fault is the place of the first part that is no key, and no part of the value of a key before it, or want of
+    /// memory. Keys are compared at most once for each binary digit of the number of keys that were read, for each keyword.
+    pub fn read(alloc: Global, text: &str) -> Result<Self, KeywordFault>
+        ensures read { IfOk result (λ keywords. IsRead text.now keywords) }
+        ensures fault { IfErr result (λ fault. IfPart fault (IsFault text.now)) }
+    {
+        let pairs = read_pairs(alloc, text)?;
+        Ok(Keywords { pairs })
+    }
+
+    /// The number of keywords.
+    pub fn len(&self) -> usize
+        ensures len { result ≡ length self.now }
+        ensures rise { Rise self.now }
+        ensures canonical { AreCanonical self.now }
+    {
+        self.pairs.len()
+    }
+
+    /// Whether there is none.
+    pub fn is_empty(&self) -> bool
+        ensures { result ≡ (length self.now == 0) }
+    {
+        self.pairs.is_empty()
+    }
+
+    /// The value of a key, which is given in lower case. It is empty where the key has none, and where it is `true`.
+    pub fn get(&self, key: &Key) -> Option<&str>
+        ensures { option_copied result ≡ value_of self.now key.now }
+    {
+        let value = self.pairs.get(key)?;
+        Some(value.as_str())
+    }
+
+    /// The text of the keywords in its canonical form: keys rise, all is in lower case, and `true` is left out. It is read as
+    /// the same keywords. It is refused only for want of memory.
+    pub fn to_text(&self, alloc: Global) -> Result<String, AllocError>
+        ensures text { IfOk result (λ text. string_bytes text ≡ joined (printed self.now)) }
+        ensures read_again { IfOk result (λ text. IsReadAgain (string_bytes text) self.now) }
+    {
+        self.pairs.keys_rise();
+        write_pairs(alloc, &self.pairs)
+    }
+}
