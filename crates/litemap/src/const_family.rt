@@ -35,7 +35,7 @@ impl<'a, K: Ord, V> LiteMap<K, V, SliceStore<'a, K, V>> {
     /// const DAYS: &[(u32, &str)] = &[(1, "Monday"), (3, "Wednesday"), (5, "Friday")];
     /// // ...
     /// let days = LiteMap::from_sorted_store_unchecked(SliceStore::new(DAYS));
-    /// days.const_len() == 3
+    /// days.const_len() == 3 && !days.const_is_empty()
     /// ```
     pub fn const_len(&self) -> usize
         ensures { result ≡ length self.now.pairs }
@@ -49,7 +49,7 @@ impl<'a, K: Ord, V> LiteMap<K, V, SliceStore<'a, K, V>> {
     /// const DAYS: &[(u32, &str)] = &[(1, "Monday"), (3, "Wednesday"), (5, "Friday")];
     /// // ...
     /// let days = LiteMap::from_sorted_store_unchecked(SliceStore::new(DAYS));
-    /// !days.const_is_empty()
+    /// days.const_len() == 3 && !days.const_is_empty()
     /// ```
     pub fn const_is_empty(&self) -> bool
         ensures { result ≡ (length self.now.pairs == 0) }

@@ -35,11 +35,13 @@ use std::marker::{Model, PhantomData};
 /// The examples of the calls look at this map, `three_days`:
 ///
 /// ```rust
-/// let mut days = LiteMap::new_vec(alloc);
-/// days.insert(5, "Friday")?;
-/// days.insert(1, "Monday")?;
-/// days.insert(3, "Wednesday")?;
-/// Ok(days)
+/// pub fn three_days(alloc: Global) -> Result<Days, AllocError> {
+///     let mut days = LiteMap::new_vec(alloc);
+///     days.insert(5, "Friday")?;
+///     days.insert(1, "Monday")?;
+///     days.insert(3, "Wednesday")?;
+///     Ok(days)
+/// }
 /// ```
 #[derive(Drop)]
 pub struct LiteMap<K: Ord, V, S: Store<K, V>> {
@@ -122,7 +124,11 @@ impl<K: Ord, V, S: Store<K, V>> LiteMap<K, V, S> {
     ///
     /// ```rust
     /// let pairs = [(1, "Monday"), (3, "Wednesday")].to_vec(alloc)?;
-    /// Ok(Days::is_sorted_store(&pairs))
+    /// if !Days::is_sorted_store(&pairs) {
+    ///     return Ok(false);
+    /// }
+    /// let days: Days = LiteMap::from_sorted_store_unchecked(pairs);
+    /// Ok(days.get(&3) == Some(&"Wednesday"))
     /// ```
     pub fn is_sorted_store(store: &S) -> bool
         ensures { IsTrue result ↔ Rising K.cmp (S.pairs store.now) }
@@ -185,9 +191,8 @@ impl<K: Ord, V, S: StoreMut<K, V>> LiteMap<K, V, S> {
     /// here.
     ///
     /// ```rust
-    /// let days = three_days(alloc)?;
-    /// let copy = days.try_clone(alloc)?;
-    /// Ok(copy == days)
+    /// // days: 1 Monday, 3 Wednesday, 5 Friday
+    /// Ok(days.try_clone(alloc)? == days)
     /// ```
     pub fn try_clone(&self, alloc: Global) -> Result<Self, AllocError>
     where

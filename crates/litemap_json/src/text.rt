@@ -28,7 +28,7 @@ use std::alloc::{AllocError, Global};
 ///
 /// ```rust
 /// // hours: 1 8, 3 10
-/// Ok(write_json(alloc, hours)?.as_str() == r#"{"1":8,"3":10}"#)
+/// Ok(write_json(alloc, &hours)?.as_str() == r#"{"1":8,"3":10}"#)
 /// ```
 pub fn write_json<K: JsonKey, V: JsonItem, S: Store<K, V>>(
     alloc: Global,

@@ -26,7 +26,7 @@ use std::alloc::{AllocError, Global};
 ///
 /// ```rust
 /// // hours: 1 8, 3 10
-/// let value = to_json(alloc, hours)?;
+/// let value = to_json(alloc, &hours)?;
 /// Ok(value.to_string(alloc)?.as_str() == r#"{"1":8,"3":10}"#)
 /// ```
 pub fn to_json<K: JsonKey, V: JsonItem, S: Store<K, V>>(

@@ -27,7 +27,10 @@ const MOST_HINTED: usize = 65_536;
 /// The Rust crate reads by serde's `Deserialize` here.
 ///
 /// ```rust
-///     read_pairs(alloc, &mut Fields { rest: fields })
+/// const LANGUAGES: &[u8] = b"\x02\x02de\x06German\x02fr\x06French";
+/// // ...
+/// let languages: NameMap = read_pairs(alloc, &mut NameBytes::new(LANGUAGES)?)?;
+/// Ok(languages.get("fr") == Some(&"French"))
 /// ```
 pub fn read_pairs<K: Ord + Drop, V: Drop, S: StoreBulkMut<K, V>, P: PairSource<K, V>>(
     alloc: Global,

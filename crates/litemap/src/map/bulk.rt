@@ -36,8 +36,8 @@ impl<K: Ord + Drop, V: Drop, S: StoreFromIterable<K, V>> LiteMap<K, V, S> {
     /// The Rust crate has no such call.
     ///
     /// ```rust
-    /// let mut count = Count::new();
-    /// let days = Days::from_iter_counted(alloc, [(2, "Tue"), (1, "Mon")], &mut count)?;
+    /// let pairs = [(2, "Tue"), (1, "Mon")];
+    /// let days = Days::from_iter_counted(alloc, pairs, &mut Count::new())?;
     /// Ok(days.len() == 2)
     /// ```
     pub fn from_iter_counted<I: IntoIterator<Item = (K, V)>>(

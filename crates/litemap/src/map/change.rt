@@ -30,9 +30,7 @@ impl<K: Ord, V, S: StoreMut<K, V>> LiteMap<K, V, S> {
     ///
     /// ```rust
     /// let mut days = three_days(alloc)?;
-    /// let tuesday = days.insert(2, "Tuesday")?;
-    /// let friday = days.insert(5, "Fri")?;
-    /// Ok(tuesday.is_none() && friday == Some("Friday"))
+    /// Ok(days.insert(2, "Tuesday")?.is_none() && days.insert(5, "Fri")? == Some("Friday"))
     /// ```
     pub fn insert(&mut self, key: K, value: V) -> Result<Option<V>, NoRoom<(K, V)>>
     where
@@ -46,8 +44,7 @@ impl<K: Ord, V, S: StoreMut<K, V>> LiteMap<K, V, S> {
     ///
     /// ```rust
     /// let mut days = three_days(alloc)?;
-    /// let friday = days.insert_counted(5, "Fri", &mut Count::new())?;
-    /// Ok(friday == Some("Friday"))
+    /// Ok(days.insert_counted(5, "Fri", &mut Count::new())? == Some("Friday"))
     /// ```
     pub fn insert_counted(
         &mut self,
@@ -252,8 +249,7 @@ impl<K: Ord, V, S: StoreMut<K, V>> LiteMap<K, V, S> {
     ///
     /// ```rust
     /// let mut days = three_days(alloc)?;
-    /// let wednesday = days.remove(&3);
-    /// Ok(wednesday == Some("Wednesday") && days.remove(&3).is_none())
+    /// Ok(days.remove(&3) == Some("Wednesday") && days.remove(&3).is_none())
     /// ```
     pub fn remove<Q: Query<K>>(&mut self, key: Q) -> Option<V>
     where
@@ -269,8 +265,7 @@ impl<K: Ord, V, S: StoreMut<K, V>> LiteMap<K, V, S> {
     ///
     /// ```rust
     /// let mut days = three_days(alloc)?;
-    /// let monday = days.remove_counted(&1, &mut Count::new());
-    /// Ok(monday == Some("Monday"))
+    /// Ok(days.remove_counted(&1, &mut Count::new()) == Some("Monday"))
     /// ```
     pub fn remove_counted<Q: Query<K>>(&mut self, key: Q, count: &mut Count) -> Option<V>
     where

@@ -16,8 +16,8 @@ use std::hash::{Hash, Hasher};
 /// Maps are equal where they have as many pairs, and equal keys and equal values at each place.
 ///
 /// ```rust
-/// let copy = days.try_clone(alloc)?;
-/// Ok(copy == *days)
+/// // days: 1 Monday, 3 Wednesday, 5 Friday
+/// Ok(days.try_clone(alloc)? == days)
 /// ```
 impl<K: Ord, V: PartialEq, S: Store<K, V>> PartialEq for LiteMap<K, V, S> {
     ghost eq = { λ m n. equal_pairs K.eq V.eq m.pairs n.pairs };
@@ -40,10 +40,8 @@ impl<K: Ord, V: Eq, S: Store<K, V>> Eq for LiteMap<K, V, S> {
 /// ```rust
 /// // days: 1 Monday, 3 Wednesday, 5 Friday
 /// let all = days.as_sliced();
-/// match days.get_indexed_range(0..2) {
-///     Some(begins) => begins < all && begins.cmp(&all).is_lt(),
-///     None => false,
-/// }
+/// let begin = days.range(Bound::Unbounded, Bound::Excluded(&5));
+/// begin < all && begin.cmp(&all).is_lt()
 /// ```
 impl<K: Ord, V: PartialOrd, S: Store<K, V>> PartialOrd for LiteMap<K, V, S> {
     ghost partial_cmp = { λ m n. pairs_partial_cmp K.partial_cmp V.partial_cmp m.pairs n.pairs };
@@ -61,10 +59,8 @@ impl<K: Ord, V: PartialOrd, S: Store<K, V>> PartialOrd for LiteMap<K, V, S> {
 /// ```rust
 /// // days: 1 Monday, 3 Wednesday, 5 Friday
 /// let all = days.as_sliced();
-/// match days.get_indexed_range(0..2) {
-///     Some(begins) => begins < all && begins.cmp(&all).is_lt(),
-///     None => false,
-/// }
+/// let begin = days.range(Bound::Unbounded, Bound::Excluded(&5));
+/// begin < all && begin.cmp(&all).is_lt()
 /// ```
 impl<K: Ord, V: Ord, S: Store<K, V>> Ord for LiteMap<K, V, S> {
     ghost cmp = { λ m n. pairs_cmp K.cmp V.cmp m.pairs n.pairs };
@@ -90,6 +86,7 @@ impl<K: Ord, V: Ord, S: Store<K, V>> Ord for LiteMap<K, V, S> {
 /// The length, then each key and its value in turn: so equal maps hash alike.
 ///
 /// ```rust
+/// // days: 1 Monday, 3 Wednesday, 5 Friday
 /// let mut hasher = FoldHasher::default();
 /// days.hash(&mut hasher);
 /// let mut again = FoldHasher::default();

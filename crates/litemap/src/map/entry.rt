@@ -51,8 +51,8 @@ impl<K: Ord, V, S: StoreMut<K, V>> LiteMap<K, V, S> {
     /// ```rust
     /// // days: 1 Monday, 3 Wednesday, 5 Friday
     /// match days.entry(1) {
-    ///     Entry::Occupied(_) => true,
-    ///     Entry::Vacant(_) => false,
+    ///     Entry::Occupied(_) => Ok(true),
+    ///     Entry::Vacant(_) => Ok(false),
     /// }
     /// ```
     pub fn entry(&mut self, key: K) -> Entry<'_, K, V, S>
@@ -98,8 +98,7 @@ impl<'a, K: Ord, V, S: StoreMut<K, V>> Entry<'a, K, V, S> {
     ///
     /// ```rust
     /// // days: 1 Monday, 3 Wednesday, 5 Friday
-    /// let name = days.entry(1).or_insert("Mon")?;
-    /// Ok(*name == "Monday")
+    /// Ok(*days.entry(1).or_insert("Mon")? == "Monday")
     /// ```
     pub fn or_insert(self, default: V) -> Result<&'a mut V, NoRoom<(K, V)>>
     where
@@ -127,8 +126,7 @@ impl<'a, K: Ord, V, S: StoreMut<K, V>> Entry<'a, K, V, S> {
     ///
     /// ```rust
     /// // days: 1 Monday, 3 Wednesday, 5 Friday
-    /// let name = days.entry(7).or_default()?;
-    /// Ok(*name == "")
+    /// Ok(*days.entry(7).or_default()? == "")
     /// ```
     pub fn or_default(self) -> Result<&'a mut V, NoRoom<(K, V)>>
     where
@@ -153,8 +151,7 @@ impl<'a, K: Ord, V, S: StoreMut<K, V>> Entry<'a, K, V, S> {
     ///
     /// ```rust
     /// // days: 1 Monday, 3 Wednesday, 5 Friday
-    /// let name = days.entry(6).or_insert_with(|| "Saturday")?;
-    /// Ok(*name == "Saturday")
+    /// Ok(*days.entry(6).or_insert_with(|| "Saturday")? == "Saturday")
     /// ```
     pub fn or_insert_with<F: FnOnce() -> V>(self, default: F) -> Result<&'a mut V, NoRoom<(K, V)>>
         requires { entry_value self ≡ None → F.pre default }

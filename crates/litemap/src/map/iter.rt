@@ -81,7 +81,7 @@ impl<'a, K: Ord + 'a, V: 'a, S: StoreIterable<'a, K, V>> LiteMap<K, V, S> {
 /// ```rust
 /// // days: 1 Monday, 3 Wednesday, 5 Friday
 /// let mut sum = 0u32;
-/// for (number, _name) in days {
+/// for (number, _name) in &days {
 ///     sum = sum.wrapping_add(*number);
 /// }
 /// sum == 9
@@ -101,8 +101,8 @@ impl<'a, K: Ord + 'a, V: 'a, S: StoreIterable<'a, K, V>> IntoIterator for &'a Li
 /// All pairs once, in the order of their keys, handed over.
 ///
 /// ```rust
-/// // days: 3 W, 4 Thursday, 5 Fri, 6 Saturday, and 7 with no name
-/// days.into_iter().next() == Some((3, "W"))
+/// // days: 1 Monday, 3 Wednesday, 5 Friday
+/// days.into_iter().next() == Some((1, "Monday"))
 /// ```
 impl<K: Ord + Drop, V: Drop, S: StoreIntoIterator<K, V>> IntoIterator for LiteMap<K, V, S> {
     type Item = (K, V);

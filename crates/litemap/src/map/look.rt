@@ -33,8 +33,10 @@ impl<K: Ord, V, S: Store<K, V>> LiteMap<K, V, S> {
     /// The Rust crate has no such call.
     ///
     /// ```rust
-    /// map.keys_rise();
-    /// Ok(LiteMap::from_iter(alloc, map)?)
+    /// // days: 1 Monday, 3 Wednesday, 5 Friday
+    /// days.keys_rise();
+    /// let same: Days = LiteMap::from_iter(alloc, days)?;
+    /// Ok(same.len() == 3)
     /// ```
     pub fn keys_rise(&self)
         ensures { Rising K.cmp self.now.pairs }
@@ -109,8 +111,7 @@ impl<K: Ord, V, S: Store<K, V>> LiteMap<K, V, S> {
     ///
     /// ```rust
     /// // days: 1 Monday, 3 Wednesday, 5 Friday
-    /// let mut count = Count::new();
-    /// days.get_counted(&3, &mut count) == Some(&"Wednesday")
+    /// days.get_counted(&3, &mut Count::new()) == Some(&"Wednesday")
     /// ```
     pub fn get_counted<Q: Query<K>>(&self, key: Q, count: &mut Count) -> Option<&V>
         ensures value { option_copied result ≡ value_at Q.order self.now.pairs (Q.sought key) }
@@ -215,8 +216,7 @@ impl<K: Ord, V, S: Store<K, V>> LiteMap<K, V, S> {
     ///
     /// ```rust
     /// // days: 1 Monday, 3 Wednesday, 5 Friday
-    /// let mut count = Count::new();
-    /// days.find_index_counted(&3, &mut count) == Ok(1)
+    /// days.find_index_counted(&3, &mut Count::new()) == Ok(1)
     /// ```
     pub fn find_index_counted<Q: Query<K>>(&self, key: Q, count: &mut Count) -> Result<usize, usize>
         ensures place { result ≡ index_of Q.order self.now.pairs (Q.sought key) }

@@ -40,9 +40,8 @@ impl<K: Ord, V, S: Store<K, V>> LiteMap<K, V, S> {
     ///
     /// ```rust
     /// // days: 1 Monday, 3 Wednesday, 5 Friday
-    /// let mut count = Count::new();
-    /// let places = days.places_counted(Bound::Included(&2), Bound::Excluded(&9), &mut count);
-    /// places == (1..3)
+    /// let (from, to) = (Bound::Included(&2), Bound::Excluded(&9));
+    /// days.places_counted(from, to, &mut Count::new()) == (1..3)
     /// ```
     pub fn places_counted<Q: Query<K>>(
         &self,

@@ -15,8 +15,8 @@ impl<K: Ord, V, S: StoreSlice<K, V>> LiteMap<K, V, S> {
     /// ```rust
     /// // days: 1 Monday, 3 Wednesday, 5 Friday
     /// match days.get_indexed_range(1..3) {
-    ///     Some(part) => part.find_index(&3) == Ok(0) && part.get(&1).is_none(),
-    ///     None => false,
+    ///     Some(part) => Ok(part.find_index(&3) == Ok(0) && part.get(&1).is_none()),
+    ///     None => Ok(false),
     /// }
     /// ```
     pub fn get_indexed_range(

@@ -17,8 +17,7 @@ impl<K: Ord, V, S: StoreMut<K, V>> LiteMap<K, V, S> {
     ///
     /// ```rust
     /// let mut days = three_days(alloc)?;
-    /// let wednesday = days.remove_entry(&3);
-    /// Ok(wednesday == Some((3, "Wednesday")) && days.remove_entry(&3).is_none())
+    /// Ok(days.remove_entry(&3) == Some((3, "Wednesday")) && days.remove_entry(&3).is_none())
     /// ```
     pub fn remove_entry<Q: Query<K>>(&mut self, key: Q) -> Option<(K, V)>
         ensures pair { result ≡ at Q.order self.old.pairs (Q.sought key) }
@@ -35,8 +34,7 @@ impl<K: Ord, V, S: StoreMut<K, V>> LiteMap<K, V, S> {
     ///
     /// ```rust
     /// let mut days = three_days(alloc)?;
-    /// let monday = days.pop_first();
-    /// Ok(monday == Some((1, "Monday")) && days.first() == Some((&3, &"Wednesday")))
+    /// Ok(days.pop_first() == Some((1, "Monday")) && days.first() == Some((&3, &"Wednesday")))
     /// ```
     pub fn pop_first(&mut self) -> Option<(K, V)>
         ensures first { result ≡ slice_get self.old.pairs 0 }
@@ -56,8 +54,7 @@ impl<K: Ord, V, S: StoreMut<K, V>> LiteMap<K, V, S> {
     ///
     /// ```rust
     /// let mut days = three_days(alloc)?;
-    /// let friday = days.pop_last();
-    /// Ok(friday == Some((5, "Friday")) && days.last() == Some((&3, &"Wednesday")))
+    /// Ok(days.pop_last() == Some((5, "Friday")) && days.last() == Some((&3, &"Wednesday")))
     /// ```
     pub fn pop_last(&mut self) -> Option<(K, V)>
         ensures last { result ≡ slice_get self.old.pairs (length self.old.pairs - 1) }

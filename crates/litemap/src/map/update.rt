@@ -15,12 +15,8 @@ impl<K: Ord, V, S: StoreMut<K, V>> LiteMap<K, V, S> {
     ///
     /// ```rust
     /// let mut days = three_days(alloc)?;
-    /// days.update(|number, name| {
-    ///     if *number > 1 {
-    ///         *name = "later";
-    ///     }
-    /// });
-    /// Ok(days.as_slice() == [(1, "Monday"), (3, "later"), (5, "later")].as_slice())
+    /// days.update(|_number, name| *name = "open");
+    /// Ok(days.as_slice() == [(1, "open"), (3, "open"), (5, "open")].as_slice())
     /// ```
     pub fn update<F: FnMut(&K, &mut V)>(&mut self, f: F)
         requires { CallableOnValues F.FnMut f self.old.pairs }

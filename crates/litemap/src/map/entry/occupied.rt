@@ -15,8 +15,8 @@ impl<'a, K: Ord, V, S: StoreMut<K, V>> OccupiedEntry<'a, K, V, S> {
     /// ```rust
     /// // days: 1 Monday, 3 Wednesday, 5 Friday
     /// match days.entry(1) {
-    ///     Entry::Occupied(entry) => *entry.key() == 1,
-    ///     Entry::Vacant(_) => false,
+    ///     Entry::Occupied(entry) => Ok(*entry.key() == 1),
+    ///     Entry::Vacant(_) => Ok(false),
     /// }
     /// ```
     pub fn key(&self) -> &K
@@ -33,8 +33,8 @@ impl<'a, K: Ord, V, S: StoreMut<K, V>> OccupiedEntry<'a, K, V, S> {
     /// ```rust
     /// // days: 1 Monday, 3 Wednesday, 5 Friday
     /// match days.entry(1) {
-    ///     Entry::Occupied(entry) => *entry.get() == "Monday",
-    ///     Entry::Vacant(_) => false,
+    ///     Entry::Occupied(entry) => Ok(*entry.get() == "Monday"),
+    ///     Entry::Vacant(_) => Ok(false),
     /// }
     /// ```
     pub fn get(&self) -> &V
@@ -85,8 +85,8 @@ impl<'a, K: Ord, V, S: StoreMut<K, V>> OccupiedEntry<'a, K, V, S> {
     /// ```rust
     /// // days: 1 Monday, 3 Wednesday, 5 Friday
     /// match days.entry(1) {
-    ///     Entry::Occupied(mut entry) => entry.insert("Mon") == "Monday",
-    ///     Entry::Vacant(_) => false,
+    ///     Entry::Occupied(mut entry) => Ok(entry.insert("Mon") == "Monday"),
+    ///     Entry::Vacant(_) => Ok(false),
     /// }
     /// ```
     pub fn insert(&mut self, value: V) -> V

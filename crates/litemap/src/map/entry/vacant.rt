@@ -13,8 +13,8 @@ impl<'a, K: Ord, V, S: StoreMut<K, V>> VacantEntry<'a, K, V, S> {
     /// ```rust
     /// // days: 1 Monday, 3 Wednesday, 5 Friday
     /// match days.entry(2) {
-    ///     Entry::Occupied(_) => false,
-    ///     Entry::Vacant(entry) => *entry.key() == 2,
+    ///     Entry::Occupied(_) => Ok(false),
+    ///     Entry::Vacant(entry) => Ok(*entry.key() == 2),
     /// }
     /// ```
     pub fn key(&self) -> &K

@@ -1,0 +1,215 @@
+//! Written by `bin/examples`.
+use crate::Shown;
+use crate::days::{Days, three_days};
+use litemap::store::Count;
+use litemap::{LiteMap, TryFault};
+use std::alloc::{AllocError, Global};
+
+/// How the examples came out, by their calls.
+pub(crate) fn examples(alloc: Global) -> [Shown; 31] {
+    shown! { alloc;
+        from_iter, from_iter_counted, from_vec, from_vec_counted, extend, extend_counted,
+        extend_from_vec, extend_from_vec_counted, insert, insert_counted, try_insert,
+        try_append, try_get_or_insert, try_find_or_insert, remove, remove_counted, remove_by,
+        clear, reserve, retain, extend_from_litemap, extend_from_litemap_counted, split_off,
+        remove_entry, pop_first, pop_last, update, get_mut, get_mut_by, index_mut,
+        get_indexed_mut
+    }
+}
+
+fn from_iter(alloc: Global) -> anyhow::Result<bool> {
+    let days: Days = LiteMap::from_iter(alloc, [(2, "Tue"), (1, "Mon"), (2, "Tuesday")])?;
+    Ok(days.as_slice() == [(1, "Mon"), (2, "Tuesday")].as_slice())
+}
+
+fn from_iter_counted(alloc: Global) -> anyhow::Result<bool> {
+    let pairs = [(2, "Tue"), (1, "Mon")];
+    let days = Days::from_iter_counted(alloc, pairs, &mut Count::new())?;
+    Ok(days.len() == 2)
+}
+
+fn from_vec(alloc: Global) -> anyhow::Result<bool> {
+    let pairs = [(2, "Tue"), (1, "Mon"), (2, "Tuesday")].to_vec(alloc)?;
+    let days: Days = LiteMap::from_vec(alloc, pairs)?;
+    Ok(days.as_slice() == [(1, "Mon"), (2, "Tuesday")].as_slice())
+}
+
+fn from_vec_counted(alloc: Global) -> anyhow::Result<bool> {
+    let pairs = [(2, "Tue"), (1, "Mon")].to_vec(alloc)?;
+    let days = Days::from_vec_counted(alloc, pairs, &mut Count::new())?;
+    Ok(days.len() == 2)
+}
+
+fn extend(alloc: Global) -> anyhow::Result<bool> {
+    let mut days = three_days(alloc)?;
+    days.extend(alloc, [(5, "Fri"), (2, "Tue"), (5, "Freitag")])?;
+    Ok(days.get(&5) == Some(&"Freitag") && days.len() == 4)
+}
+
+fn extend_counted(alloc: Global) -> anyhow::Result<bool> {
+    let mut days = three_days(alloc)?;
+    days.extend_counted(alloc, [(6, "Sat"), (7, "Sun")], &mut Count::new())?;
+    Ok(days.len() == 5)
+}
+
+fn extend_from_vec(alloc: Global) -> anyhow::Result<bool> {
+    let mut days = three_days(alloc)?;
+    let more = [(5, "Fri"), (2, "Tue"), (5, "Freitag")].to_vec(alloc)?;
+    days.extend_from_vec(alloc, more)?;
+    Ok(days.get(&5) == Some(&"Freitag") && days.len() == 4)
+}
+
+fn extend_from_vec_counted(alloc: Global) -> anyhow::Result<bool> {
+    let mut days = three_days(alloc)?;
+    let more = [(6, "Sat"), (7, "Sun")].to_vec(alloc)?;
+    days.extend_from_vec_counted(alloc, more, &mut Count::new())?;
+    Ok(days.len() == 5)
+}
+
+fn insert(alloc: Global) -> anyhow::Result<bool> {
+    let mut days = three_days(alloc)?;
+    Ok(days.insert(2, "Tuesday")?.is_none() && days.insert(5, "Fri")? == Some("Friday"))
+}
+
+fn insert_counted(alloc: Global) -> anyhow::Result<bool> {
+    let mut days = three_days(alloc)?;
+    Ok(days.insert_counted(5, "Fri", &mut Count::new())? == Some("Friday"))
+}
+
+fn try_insert(alloc: Global) -> anyhow::Result<bool> {
+    let mut days = three_days(alloc)?;
+    let tuesday = days.try_insert(2, "Tuesday")?;
+    let friday = days.try_insert(5, "Fri")?;
+    Ok(tuesday.is_none() && friday == Some((5, "Fri")))
+}
+
+fn try_append(alloc: Global) -> anyhow::Result<bool> {
+    let mut days = three_days(alloc)?;
+    let saturday = days.try_append(6, "Saturday")?;
+    let tuesday = days.try_append(2, "Tuesday")?;
+    Ok(saturday.is_none() && tuesday == Some((2, "Tuesday")))
+}
+
+fn try_get_or_insert(alloc: Global) -> anyhow::Result<bool> {
+    let mut days = three_days(alloc)?;
+    match days.try_get_or_insert(7, |_number| Err("closed")) {
+        Err(TryFault::Closure(fault)) => Ok(fault == "closed"),
+        _ => Ok(false),
+    }
+}
+
+fn try_find_or_insert(alloc: Global) -> anyhow::Result<bool> {
+    let mut days = three_days(alloc)?;
+    match days.try_find_or_insert(7, |_number| Ok::<_, AllocError>("Sunday")) {
+        Ok(place) => Ok(days.get_indexed(place) == Some((&7, &"Sunday"))),
+        _ => Ok(false),
+    }
+}
+
+fn remove(alloc: Global) -> anyhow::Result<bool> {
+    let mut days = three_days(alloc)?;
+    Ok(days.remove(&3) == Some("Wednesday") && days.remove(&3).is_none())
+}
+
+fn remove_counted(alloc: Global) -> anyhow::Result<bool> {
+    let mut days = three_days(alloc)?;
+    Ok(days.remove_counted(&1, &mut Count::new()) == Some("Monday"))
+}
+
+fn remove_by(alloc: Global) -> anyhow::Result<bool> {
+    let mut days = three_days(alloc)?;
+    Ok(days.remove_by(|number| number.cmp(&3)) == Some("Wednesday"))
+}
+
+fn clear(alloc: Global) -> anyhow::Result<bool> {
+    let mut days = three_days(alloc)?;
+    days.clear();
+    Ok(days.is_empty())
+}
+
+fn reserve(alloc: Global) -> anyhow::Result<bool> {
+    let mut days = three_days(alloc)?;
+    days.reserve(1)?;
+    Ok(days.insert(7, "Sunday") == Ok(None))
+}
+
+fn retain(alloc: Global) -> anyhow::Result<bool> {
+    let mut days = three_days(alloc)?;
+    days.retain(|number, _name| *number < 4);
+    Ok(days.as_slice() == [(1, "Monday"), (3, "Wednesday")].as_slice())
+}
+
+fn extend_from_litemap(alloc: Global) -> anyhow::Result<bool> {
+    let mut days = three_days(alloc)?;
+    let short: Days = LiteMap::from_iter(alloc, [(4, "Thu"), (5, "Fri")])?;
+    match days.extend_from_litemap(alloc, short)? {
+        Some(old) => Ok(old.as_slice() == [(5, "Friday")].as_slice() && days.len() == 4),
+        None => Ok(false),
+    }
+}
+
+fn extend_from_litemap_counted(alloc: Global) -> anyhow::Result<bool> {
+    let mut days = three_days(alloc)?;
+    let later: Days = LiteMap::from_iter(alloc, [(6, "Saturday"), (7, "Sunday")])?;
+    let none_common = days.extend_from_litemap_counted(alloc, later, &mut Count::new())?;
+    Ok(none_common.is_none() && days.len() == 5)
+}
+
+fn split_off(alloc: Global) -> anyhow::Result<bool> {
+    let mut days = three_days(alloc)?;
+    let later = days.split_off(alloc, &2)?;
+    Ok(days.len() == 1 && later.as_slice() == [(3, "Wednesday"), (5, "Friday")].as_slice())
+}
+
+fn remove_entry(alloc: Global) -> anyhow::Result<bool> {
+    let mut days = three_days(alloc)?;
+    Ok(days.remove_entry(&3) == Some((3, "Wednesday")) && days.remove_entry(&3).is_none())
+}
+
+fn pop_first(alloc: Global) -> anyhow::Result<bool> {
+    let mut days = three_days(alloc)?;
+    Ok(days.pop_first() == Some((1, "Monday")) && days.first() == Some((&3, &"Wednesday")))
+}
+
+fn pop_last(alloc: Global) -> anyhow::Result<bool> {
+    let mut days = three_days(alloc)?;
+    Ok(days.pop_last() == Some((5, "Friday")) && days.last() == Some((&3, &"Wednesday")))
+}
+
+fn update(alloc: Global) -> anyhow::Result<bool> {
+    let mut days = three_days(alloc)?;
+    days.update(|_number, name| *name = "open");
+    Ok(days.as_slice() == [(1, "open"), (3, "open"), (5, "open")].as_slice())
+}
+
+fn get_mut(alloc: Global) -> anyhow::Result<bool> {
+    let mut days = three_days(alloc)?;
+    if let Some(name) = days.get_mut(&3) {
+        *name = "Wed";
+    }
+    Ok(days.get(&3) == Some(&"Wed"))
+}
+
+fn get_mut_by(alloc: Global) -> anyhow::Result<bool> {
+    let mut days = three_days(alloc)?;
+    if let Some(name) = days.get_mut_by(|number| number.cmp(&3)) {
+        *name = "Wed";
+    }
+    Ok(days.get(&3) == Some(&"Wed"))
+}
+
+fn index_mut(alloc: Global) -> anyhow::Result<bool> {
+    let mut days = three_days(alloc)?;
+    if days.contains_key(&3) {
+        *days.index_mut(&3) = "Wed";
+    }
+    Ok(days.get(&3) == Some(&"Wed"))
+}
+
+fn get_indexed_mut(alloc: Global) -> anyhow::Result<bool> {
+    let mut days = three_days(alloc)?;
+    if let Some(name) = days.get_indexed_mut(0) {
+        *name = "Mon";
+    }
+    Ok(days.first() == Some((&1, &"Mon")))
+}
