@@ -1,11 +1,9 @@
 //! Tests of the entries of a map: each call on each kind of entry, over a vector, over two columns and over
-//! a store with a fixed room, and the proved caller that counts words.
+//! a store with a fixed room.
 #![tactic(auto)]
 
 #[cfg(test)]
 mod calls;
-#[cfg(test)]
-mod counting;
 #[cfg(test)]
 mod kinds;
 #[cfg(test)]

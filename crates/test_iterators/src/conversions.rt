@@ -1,5 +1,4 @@
 //! Maps made of the pairs of another, and maps that hand over their pairs.
-use example_uses::moved::moved;
 use litemap::LiteMap;
 use litemap::store::{ColumnStore, Store, StoreFromIterable, StoreIntoIterator, StoreMut};
 use litemap_short::ShortStore;
@@ -213,7 +212,8 @@ where
     S: StoreIntoIterator<u8, V>,
     T: StoreIntoIterator<u8, V> + StoreFromIterable<u8, V> + Drop,
 {
-    let other: LiteMap<u8, V, T> = moved(alloc, map)?;
+    map.keys_rise();
+    let other: LiteMap<u8, V, T> = LiteMap::from_iter(alloc, map)?;
     Ok(hands_over(other, list))
 }
 

@@ -1,5 +1,4 @@
 //! What goes through the pairs, the keys and the values of a map, from both ends.
-use example_uses::totals::total;
 use litemap::LiteMap;
 use litemap::store::{ColumnStore, StoreIterable, StoreMut};
 use litemap_short::ShortStore;
@@ -153,33 +152,6 @@ fn keys_of_three(alloc: Global) -> Result<[SomeKeys; 2], AllocError> {
 fn keys_until_there_are_none(rt: HostRuntime) -> Result<(), Fail> {
     let met = (3, [Some(1), Some(3), Some(2), None, None], 0);
     assert!(rt; keys_of_three(rt.alloc())? == [met; 2]);
-    Ok(())
-}
-
-// The totals of the map of a list: over a vector, and over a slice of it.
-fn totals_in_vector(alloc: Global, list: &[(u8, u32)]) -> Result<[Option<u32>; 2], AllocError> {
-    let map: LiteMap<u8, u32, Vec<(u8, u32)>> = map_of(alloc, list, 5)?;
-    let sliced = map.as_sliced();
-    Ok([total(&map), total(&sliced)])
-}
-
-// Over a store with a fixed room.
-fn total_in_fixed(alloc: Global, list: &[(u8, u32)]) -> Result<Option<u32>, AllocError> {
-    let map: LiteMap<u8, u32, FixedRoom<u8, u32>> = map_of(alloc, list, 5)?;
-    Ok(total(&map))
-}
-
-#[test]
-fn totals(rt: HostRuntime) -> Result<(), Fail> {
-    for (list, expected) in [
-        (MAPS[0], Some(0)),
-        (MAPS[1], Some(70)),
-        (MAPS[3], Some(298)),
-        (&[(1, u32::MAX), (2, 1)], None),
-    ] {
-        assert_eq!(rt; totals_in_vector(rt.alloc(), list)?, [expected; 2]);
-        assert_eq!(rt; total_in_fixed(rt.alloc(), list)?, expected);
-    }
     Ok(())
 }
 

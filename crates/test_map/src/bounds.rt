@@ -1,7 +1,5 @@
 //! Ranges of keys and ends of maps where the input is bad or odd: bounds that cross, keys past the end, maps with no pair, and
-//! equal keys that differ, over each store that grows; and the proved callers of the crate `example_uses` that call these.
-use example_uses::log::{Log, keep_newest};
-use example_uses::prices::{self, Prices};
+//! equal keys that differ, over each store that grows.
 use litemap::LiteMap;
 use litemap::store::{ColumnStore, StoreIntoIterator, StoreMut};
 use litemap_short::ShortStore;
@@ -99,45 +97,5 @@ fn the_key_that_was_put_in_is_taken_out(rt: HostRuntime) -> Result<(), Fail> {
     let in_fixed = takes_out::<FixedRoom<Letter, u32>>(rt.alloc())?;
     let in_short = takes_out::<ShortStore<Letter, u32>>(rt.alloc())?;
     assert!(rt; in_vector && in_columns && in_fixed && in_short);
-    Ok(())
-}
-
-#[test]
-fn prices_of_a_range_are_found_and_all_are_raised(rt: HostRuntime) -> Result<(), Fail> {
-    let mut prices = Prices::new_vec(rt.alloc());
-    for (name, price) in [("abc", 1), ("ab", 2), ("ac", 3), ("aa", u32::MAX)] {
-        prices.insert(name.to_string(rt.alloc())?, price)?;
-    }
-    prices::raise(&mut prices, 5);
-    assert!(rt; prices.get("aa") == Some(&u32::MAX) && prices.get("ab") == Some(&7));
-    let between = prices::between(&prices, "ab", "ac");
-    assert!(rt; between.len() == 2 && between.get("abc") == Some(&6));
-    for (text, len) in [
-        ("ab", 2),
-        ("abc", 1),
-        ("", 4),
-        ("a", 4),
-        ("b", 0),
-        ("aab", 0),
-    ] {
-        assert_eq!(rt; prices::beginning_with(&prices, text).len(), len, "{text}");
-    }
-    assert!(rt; prices::between(&prices, "b", "a").is_empty());
-    assert!(rt; prices::from(&prices, "ac").len() == 1 && prices::from(&prices, "x").is_empty());
-    Ok(())
-}
-
-#[test]
-fn the_oldest_entries_are_dropped(rt: HostRuntime) -> Result<(), Fail> {
-    let mut log = Log::new_vec(rt.alloc());
-    for time in [3, 1, 2] {
-        log.insert(time, "entry".to_string(rt.alloc())?)?;
-    }
-    keep_newest(&mut log, 3);
-    assert!(rt; log.len() == 3);
-    keep_newest(&mut log, 1);
-    assert!(rt; log.len() == 1 && log.contains_key(&3));
-    keep_newest(&mut log, 0);
-    assert!(rt; log.is_empty());
     Ok(())
 }

@@ -14,13 +14,9 @@ mod bulk_comparisons;
 #[cfg(test)]
 mod bulk_counts;
 #[cfg(test)]
-mod callers;
-#[cfg(test)]
 mod clones;
 #[cfg(test)]
 mod closures;
-#[cfg(test)]
-mod configuration;
 #[cfg(test)]
 mod counts;
 #[cfg(test)]
@@ -31,7 +27,5 @@ mod kept;
 mod languages;
 #[cfg(test)]
 mod made;
-#[cfg(test)]
-mod numbers;
 #[cfg(test)]
 mod printing;

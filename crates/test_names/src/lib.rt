@@ -1,11 +1,8 @@
-//! Tests of the program, over readers and writers in memory, with its names kept in one vector and in two columns; and of callers
-//! that pages show.
+//! Tests of the program, over readers and writers in memory, with its names kept in one vector and in two columns.
 #![tactic(auto)]
 
 #[cfg(test)]
 mod answers;
-#[cfg(test)]
-mod callers;
 #[cfg(test)]
 mod each_call;
 #[cfg(test)]

@@ -5,8 +5,6 @@
 #[cfg(test)]
 mod asked;
 #[cfg(test)]
-mod callers;
-#[cfg(test)]
 mod kinds;
 #[cfg(test)]
 mod slices;

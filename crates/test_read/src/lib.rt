@@ -16,8 +16,6 @@ mod faults;
 #[cfg(test)]
 mod long_runs;
 #[cfg(test)]
-mod message;
-#[cfg(test)]
 mod results;
 #[cfg(test)]
 mod rising;

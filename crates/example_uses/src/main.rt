@@ -1,0 +1,32 @@
+//! Callers of a map, as a user would write them. Each states its answer by the sorted list. The program calls each on a few pairs
+//! (`shown`), and writes what it answers.
+#![tactic(auto)]
+
+pub mod borrowed;
+pub mod config;
+pub mod counting;
+pub mod headers;
+pub mod log;
+pub mod made;
+pub mod message;
+pub mod moved;
+pub mod names;
+pub mod numbers;
+pub mod people;
+pub mod prices;
+pub mod reserved;
+pub mod scores;
+mod shown;
+pub mod texts;
+pub mod totals;
+
+fn main(rt: HostRuntime) -> anyhow::Result<()> {
+    let alloc = rt.alloc();
+    shown::numbers::show(&rt, alloc)?;
+    shown::texts::show(&rt, alloc)?;
+    shown::asked::show(&rt, alloc)?;
+    shown::headers::show(&rt, alloc)?;
+    shown::settings::show(&rt, alloc)?;
+    shown::counts::show(&rt, alloc)?;
+    shown::pairs::show(&rt, alloc)
+}
