@@ -7,6 +7,7 @@ use std::alloc::{AllocError, Global};
 use std::test::Fail;
 use test_support::fixed_room::FixedRoom;
 use test_support::lists::{list_of, map_of};
+use test_support::scan;
 
 #[derive(Clone, Copy, Debug, PartialEq)]
 enum End {
@@ -34,8 +35,8 @@ fn call<S: StoreMut<u32, u32>>(map: &mut LiteMap<u32, u32, S>, case: Case) -> En
 
 // The end that the call has to have.
 fn end_of(list: &[(u32, u32)], case: Case, grows: bool) -> End {
-    let place = test_scan::place(list, &case.key);
-    if let Some(pair) = test_scan::at(list, &case.key) {
+    let place = scan::place(list, &case.key);
+    if let Some(pair) = scan::at(list, &case.key) {
         return End::There(place, pair.1);
     }
     match case.answer {
@@ -58,7 +59,7 @@ fn list_at_end(
     end: End,
 ) -> Result<Vec<(u32, u32)>, AllocError> {
     match end {
-        End::There(_, value) => test_scan::put(alloc, list, case.key, value),
+        End::There(_, value) => scan::put(alloc, list, case.key, value),
         _ => list.to_vec(alloc),
     }
 }

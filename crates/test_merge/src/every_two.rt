@@ -9,6 +9,7 @@ use std::alloc::{AllocError, Global};
 use std::test::Fail;
 use test_support::fixed_room::FixedRoom;
 use test_support::keys::Letter;
+use test_support::scan;
 
 // How many sets of four keys there are.
 const SETS: u32 = 16;
@@ -60,7 +61,7 @@ fn pairs_of(alloc: Global, letters: u32, first: u8, value: u8) -> Result<Pairs, 
 fn merged(alloc: Global, old: &[(Letter, u8)], new: &[(Letter, u8)]) -> Result<Pairs, AllocError> {
     let mut all = Vec::from_slice(alloc, old)?;
     for (key, value) in new {
-        all = test_scan::put(alloc, &all, *key, *value)?;
+        all = scan::put(alloc, &all, *key, *value)?;
     }
     Ok(all)
 }
@@ -73,7 +74,7 @@ fn left_over(
 ) -> Result<Pairs, AllocError> {
     let mut left = Vec::new(alloc);
     for (key, _) in new {
-        if let Some((_, value)) = test_scan::at(old, key) {
+        if let Some((_, value)) = scan::at(old, key) {
             left.push((*key, *value))?;
         }
     }

@@ -6,6 +6,7 @@ use std::alloc::{AllocError, Global};
 use std::test::Fail;
 use test_support::fixed_room::FixedRoom;
 use test_support::lists::{list_of, map_of};
+use test_support::scan;
 
 type Pairs = Vec<(u32, u32)>;
 
@@ -58,10 +59,10 @@ fn is_merged<S: StoreIntoIterator<u32, u32> + Drop>(
     let mut all = Vec::from_slice(alloc, old)?;
     let mut left = Vec::new(alloc);
     for (key, value) in new {
-        if let Some((_, value)) = test_scan::at(old, key) {
+        if let Some((_, value)) = scan::at(old, key) {
             left.push((*key, *value))?;
         }
-        all = test_scan::put(alloc, &all, *key, *value)?;
+        all = scan::put(alloc, &all, *key, *value)?;
     }
     let mut map: LiteMap<u32, u32, S> = map_of(alloc, old, room)?;
     let other: LiteMap<u32, u32, S> = map_of(alloc, new, room)?;

@@ -12,6 +12,7 @@ use std::process::Abort;
 use std::rc::RcStr;
 use std::sync::ArcStr;
 use std::test::Fail;
+use test_support::scan;
 
 // Numbers at keys.
 type Numbers<K> = LiteMap<K, u32, Vec<(K, u32)>>;
@@ -100,14 +101,14 @@ fn changed<K: Ord + Drop, Q: Query<K>>(
 
 // The number at a text in a list, by the scan.
 fn number_at(list: &[Pair], text: &'static str) -> Option<u32> {
-    let pair = test_scan::at(list, &text)?;
+    let pair = scan::at(list, &text)?;
     Some(pair.1)
 }
 
 // The same of a list whose keys rise, by the scans.
 fn scanned(list: &[Pair], text: &'static str) -> Found {
     let value = number_at(list, text);
-    let place = test_scan::index_of(list, &text);
+    let place = scan::index_of(list, &text);
     (value.is_some(), (value, value, value), (place, place))
 }
 
@@ -151,12 +152,12 @@ fn left(
     text: &'static str,
     number: Option<u32>,
 ) -> Result<Vec<Pair>, AllocError> {
-    if test_scan::at(list, &text).is_none() {
+    if scan::at(list, &text).is_none() {
         return Vec::from_slice(alloc, list);
     }
     match number {
-        Some(number) => test_scan::put(alloc, list, text, number),
-        None => test_scan::cut(alloc, list, &text),
+        Some(number) => scan::put(alloc, list, text, number),
+        None => scan::cut(alloc, list, &text),
     }
 }
 

@@ -1,6 +1,7 @@
 //! Calls by number, and what slow scans answer to them.
 use litemap_read::laws::{Answer, Call};
 use std::alloc::{AllocError, Global};
+use test_support::scan;
 
 type Pairs = Vec<(u8, u8)>;
 
@@ -45,12 +46,12 @@ pub(crate) fn calls_of(
 
 // The value of a key.
 fn value_of(pairs: &[(u8, u8)], key: u8) -> Option<u8> {
-    Some(test_scan::at(pairs, &key)?.1)
+    Some(scan::at(pairs, &key)?.1)
 }
 
 // Whether a key is above all others.
 fn is_above(pairs: &[(u8, u8)], key: u8) -> bool {
-    test_scan::place(pairs, &key) == pairs.len()
+    scan::place(pairs, &key) == pairs.len()
 }
 
 // Places a pair where this says so, else hands it back.
@@ -63,7 +64,7 @@ fn place_where(
     if !is_placed {
         return Ok(Answer::Back(Some((key, value))));
     }
-    *pairs = test_scan::put(alloc, pairs, key, value)?;
+    *pairs = scan::put(alloc, pairs, key, value)?;
     Ok(Answer::Back(None))
 }
 
@@ -71,7 +72,7 @@ fn place_where(
 fn last_of(alloc: Global, pairs: &[(u8, u8)], more: &[(u8, u8)]) -> Result<Pairs, AllocError> {
     let mut all = Vec::from_slice(alloc, pairs)?;
     all.extend_from_slice(more)?;
-    test_scan::last(alloc, &all)
+    scan::last(alloc, &all)
 }
 
 /// Does a call to a list by slow scans, and answers it as a map does that isn't refused.
@@ -84,11 +85,11 @@ pub(crate) fn answer_by_scan(
         Call::Get(key) => Answer::Value(value_of(pairs, *key)),
         Call::ValueAt(index) => Answer::Value(pairs.get(*index).map(|pair| pair.1)),
         Call::Contains(key) => Answer::Flag(value_of(pairs, *key).is_some()),
-        Call::Find(key) => Answer::Place(test_scan::index_of(pairs, key)),
+        Call::Find(key) => Answer::Place(scan::index_of(pairs, key)),
         Call::Len => Answer::Number(pairs.len()),
         Call::Insert(key, value) => {
             let old = value_of(pairs, *key);
-            *pairs = test_scan::put(alloc, pairs, *key, *value)?;
+            *pairs = scan::put(alloc, pairs, *key, *value)?;
             Answer::Value(old)
         }
         Call::TryInsert(key, value) => {
@@ -101,7 +102,7 @@ pub(crate) fn answer_by_scan(
         }
         Call::Remove(key) => {
             let old = value_of(pairs, *key);
-            *pairs = test_scan::cut(alloc, pairs, key)?;
+            *pairs = scan::cut(alloc, pairs, key)?;
             Answer::Value(old)
         }
         Call::Extend(more) => {

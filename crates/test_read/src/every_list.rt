@@ -11,6 +11,7 @@ use std::test::Fail;
 use test_support::fixed_room::FixedRoom;
 use test_support::keys::Letter;
 use test_support::lists::list_of;
+use test_support::scan;
 
 // The pairs of a number: its last digits to the base 3 are the keys.
 fn pairs_of(alloc: Global, number: u32, len: u32) -> Result<Vec<(Letter, u32)>, AllocError> {
@@ -32,7 +33,7 @@ fn read_each<S: StoreBulkMut<Letter, u32>>(rt: &impl Abort, alloc: Global) -> Re
     for len in 0..=5u32 {
         for number in 0..3u32.wrapping_pow(len) {
             let given = pairs_of(alloc, number, len)?;
-            let last = test_scan::last(alloc, &given)?;
+            let last = scan::last(alloc, &given)?;
             let mut source = VecSource::new(Vec::from_slice(alloc, &given)?);
             let Ok::<LiteMap<Letter, u32, S>, _>(map) = read_pairs(alloc, &mut source) else {
                 return Err(AllocError.into());

@@ -5,6 +5,7 @@ use std::alloc::{AllocError, Global};
 use std::ops::Range;
 use test_replay_lines::answers::{Answer, Asked, Placed, Tried};
 use test_replay_lines::calls::{Bulk, Call, Change, Look, Make, Put};
+use test_support::scan;
 
 /// A list of pairs whose contents the slow scans make, with a limit or none.
 #[derive(Drop)]
@@ -43,7 +44,7 @@ impl<K: Ord + Copy> Scans<K> {
             Call::Bulk(Bulk::Extend, pairs) => Ok(Answer::Room(self.extend(&pairs)?)),
             Call::SplitOff(key) => Ok(Answer::List(self.split_off(key)?)),
             Call::Bulk(Bulk::FromIter, pairs) => {
-                self.pairs = test_scan::last(self.alloc, &pairs)?;
+                self.pairs = scan::last(self.alloc, &pairs)?;
                 Ok(Answer::Room(Ok(())))
             }
         }
@@ -57,14 +58,14 @@ impl<K: Ord + Copy> Scans<K> {
             Look::Last => Answer::Pair(self.pairs.last().copied()),
             Look::GetIndexed(index) => Answer::Pair(self.pairs.get(index).copied()),
             Look::Get(key) => Answer::Value(self.value(key)),
-            Look::GetKeyValue(key) => Answer::Pair(test_scan::at(&self.pairs, &key).copied()),
+            Look::GetKeyValue(key) => Answer::Pair(scan::at(&self.pairs, &key).copied()),
             Look::Places(from, to) => Answer::Places(between(self.below(from), self.below(to))),
             Look::PlacesTo(from, to) => Answer::Places(between(self.below(from), self.up_to(to))),
             Look::PlacesBehind(from, to) => {
                 Answer::Places(between(self.up_to(from), self.up_to(to)))
             }
             Look::ContainsKey(key) => Answer::Truth(self.value(key).is_some()),
-            Look::FindIndex(key) => Answer::Place(test_scan::index_of(&self.pairs, &key)),
+            Look::FindIndex(key) => Answer::Place(scan::index_of(&self.pairs, &key)),
             Look::Index(key) => Answer::There(self.value(key)),
             Look::List => Answer::List(self.pairs.as_slice().to_vec(self.alloc)?),
         })
@@ -78,7 +79,7 @@ impl<K: Ord + Copy> Scans<K> {
                 Answer::Back(self.place_where(is_free, key, value)?)
             }
             Put::TryAppend => {
-                let is_above = test_scan::place(&self.pairs, &key) == self.pairs.len();
+                let is_above = scan::place(&self.pairs, &key) == self.pairs.len();
                 Answer::Back(self.place_where(is_above, key, value)?)
             }
             Put::TryGetOrInsert => Answer::Found(self.try_get_or_insert(key, Ok(value))?),
@@ -164,35 +165,35 @@ impl<K: Ord + Copy> Scans<K> {
 
     // The value at a key.
     fn value(&self, key: K) -> Option<u32> {
-        Some(test_scan::at(&self.pairs, &key)?.1)
+        Some(scan::at(&self.pairs, &key)?.1)
     }
 
     // Puts a value at a key.
     fn put(&mut self, key: K, value: u32) -> Result<(), AllocError> {
-        self.pairs = test_scan::put(self.alloc, &self.pairs, key, value)?;
+        self.pairs = scan::put(self.alloc, &self.pairs, key, value)?;
         Ok(())
     }
 
     // Takes out a key.
     fn cut(&mut self, key: K) -> Result<(), AllocError> {
-        self.pairs = test_scan::cut(self.alloc, &self.pairs, &key)?;
+        self.pairs = scan::cut(self.alloc, &self.pairs, &key)?;
         Ok(())
     }
 
     // How many keys are smaller.
     fn below(&self, key: K) -> usize {
-        test_scan::place(&self.pairs, &key)
+        scan::place(&self.pairs, &key)
     }
 
     // How many keys are smaller or equal.
     fn up_to(&self, key: K) -> usize {
-        let equal = test_scan::at(&self.pairs, &key).is_some() as usize;
+        let equal = scan::at(&self.pairs, &key).is_some() as usize;
         self.below(key).saturating_add(equal)
     }
 
     // Takes out a key, and answers its pair.
     fn take_out(&mut self, key: K) -> Result<Option<(K, u32)>, AllocError> {
-        let old = test_scan::at(&self.pairs, &key).copied();
+        let old = scan::at(&self.pairs, &key).copied();
         self.cut(key)?;
         Ok(old)
     }
@@ -216,7 +217,7 @@ impl<K: Ord + Copy> Scans<K> {
             later.push(*pair)?;
         }
         if place < self.pairs.len() {
-            self.pairs = test_scan::below(self.alloc, &self.pairs, &key)?;
+            self.pairs = scan::below(self.alloc, &self.pairs, &key)?;
             self.set_limit(place);
         }
         Ok(later)
@@ -267,7 +268,7 @@ impl<K: Ord + Copy> Scans<K> {
         key: K,
         made: Result<u32, u32>,
     ) -> Result<Asked<Tried<K, (usize, u32)>>, AllocError> {
-        let place = test_scan::place(&self.pairs, &key);
+        let place = scan::place(&self.pairs, &key);
         if let Some(value) = self.value(key) {
             let outcome = Ok((place, value));
             return Ok(Asked { outcome, times: 0 });
@@ -310,7 +311,7 @@ impl<K: Ord + Copy> Scans<K> {
     fn extend(&mut self, pairs: &[(K, u32)]) -> Result<Result<(), AllocError>, AllocError> {
         let mut all = self.pairs.as_slice().to_vec(self.alloc)?;
         all.extend_from_slice(pairs)?;
-        let last = test_scan::last(self.alloc, &all)?;
+        let last = scan::last(self.alloc, &all)?;
         let more = last.len().saturating_sub(self.pairs.len());
         if self.are_above(pairs) && !self.has_room(more) {
             return Ok(Err(AllocError));
@@ -322,7 +323,7 @@ impl<K: Ord + Copy> Scans<K> {
     // Whether the keys of the pairs lie above all keys.
     fn are_above(&self, pairs: &[(K, u32)]) -> bool {
         for (key, _) in pairs {
-            if test_scan::place(&self.pairs, key) != self.pairs.len() {
+            if scan::place(&self.pairs, key) != self.pairs.len() {
                 return false;
             }
         }

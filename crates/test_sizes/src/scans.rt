@@ -1,6 +1,7 @@
 //! The slow scans that take memory.
 use crate::lists::{falling_twice, odd, odd_pair};
 use std::alloc::{AllocError, Global};
+use test_support::scan;
 
 /// The names of the scans.
 pub(crate) const SCANS: [&str; 5] = [
@@ -21,19 +22,19 @@ pub(crate) fn is_right(alloc: Global, name: &str, len: u32) -> Result<Option<boo
     let (low, high) = list.as_slice().split_at(half);
     let above = high.get(1..).unwrap_or(&[]);
     match name {
-        "scan_below" => Ok(Some(test_scan::below(alloc, &list, &key)?.as_slice() == low)),
-        "scan_above" => Ok(Some(test_scan::above(alloc, &list, &key)?.as_slice() == above)),
+        "scan_below" => Ok(Some(scan::below(alloc, &list, &key)?.as_slice() == low)),
+        "scan_above" => Ok(Some(scan::above(alloc, &list, &key)?.as_slice() == above)),
         "scan_put" => {
-            let put = test_scan::put(alloc, &list, key, 7)?;
+            let put = scan::put(alloc, &list, key, 7)?;
             Ok(Some(put.len() == list.len().max(1) && put.get(half) == Some(&(key, 7))))
         }
         "scan_cut" => {
-            let cut = test_scan::cut(alloc, &list, &key)?;
+            let cut = scan::cut(alloc, &list, &key)?;
             let is_cut = cut.get(..half) == Some(low) && cut.get(half..) == Some(above);
             Ok(Some(is_cut))
         }
         "scan_last" => {
-            let last = test_scan::last(alloc, &falling_twice(alloc, len)?)?;
+            let last = scan::last(alloc, &falling_twice(alloc, len)?)?;
             Ok(Some(last.as_slice() == list.as_slice()))
         }
         _ => Ok(None),

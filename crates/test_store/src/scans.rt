@@ -1,5 +1,6 @@
 //! The slow scans by which other tests judge the fast calls.
 use std::test::Fail;
+use test_support::scan;
 
 const PAIRS: [(u32, u32); 3] = [(1, 10), (3, 30), (5, 50)];
 
@@ -19,9 +20,9 @@ fn scans_tell_where_a_key_stands(rt: HostRuntime) {
             None => (Err(place), None),
         };
         assert!(rt;
-            test_scan::place(&PAIRS, &key) == place
-                && test_scan::index_of(&PAIRS, &key) == index
-                && test_scan::at(&PAIRS, &key).copied() == pair,
+            scan::place(&PAIRS, &key) == place
+                && scan::index_of(&PAIRS, &key) == index
+                && scan::at(&PAIRS, &key).copied() == pair,
             "of {key}"
         );
     }
@@ -71,10 +72,10 @@ const PARTS: &[Row] = &[
 fn scans_part_and_change_a_list(rt: HostRuntime) -> Result<(), Fail> {
     let alloc = rt.alloc();
     for (key, below, above, put, cut) in PARTS {
-        let is_parted = test_scan::below(alloc, &PAIRS, key)?.as_slice() == *below
-            && test_scan::above(alloc, &PAIRS, key)?.as_slice() == *above;
-        let is_changed = test_scan::put(alloc, &PAIRS, *key, 99)?.as_slice() == *put
-            && test_scan::cut(alloc, &PAIRS, key)?.as_slice() == *cut;
+        let is_parted = scan::below(alloc, &PAIRS, key)?.as_slice() == *below
+            && scan::above(alloc, &PAIRS, key)?.as_slice() == *above;
+        let is_changed = scan::put(alloc, &PAIRS, *key, 99)?.as_slice() == *put
+            && scan::cut(alloc, &PAIRS, key)?.as_slice() == *cut;
         assert!(rt; is_parted && is_changed, "of {key}");
     }
     Ok(())

@@ -9,6 +9,7 @@ use std::alloc::Global;
 use std::process::Abort;
 use std::test::Fail;
 use test_support::fixed_room::FixedRoom;
+use test_support::scan;
 
 // What the search for a key answers, and how many questions its closure counts itself.
 fn questions_of<S: Store<u32, u32>>(store: &S, key: u32) -> (Result<usize, usize>, u32)
@@ -56,11 +57,7 @@ fn search_each<S: Store<u32, u32>>(rt: &impl Abort, store: &S, pairs: &[(u32, u3
     );
     for key in 0..len.wrapping_mul(2).wrapping_add(1) {
         let (found, asked) = questions_of(store, key);
-        assert_eq!(rt;
-            found,
-            test_scan::index_of(pairs, &key),
-            "{key} among {len}"
-        );
+        assert_eq!(rt; found, scan::index_of(pairs, &key), "{key} among {len}");
         assert!(rt;
             asked <= digits(len),
             "{asked} questions for {key} among {len}"

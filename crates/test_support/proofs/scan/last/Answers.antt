@@ -3,7 +3,7 @@ use Rattle.std.proofs.lemmas.List.{take_more}
 use Rattle.litemap_store.specs.Last.{Last}
 use Rattle.litemap_store.specs.Pairs.{above, below}
 use Rattle.litemap_store.proofs.LastPairs.{Last-put}
-use Rattle.test_scan.proofs.last.Goals as goal
+use Rattle.test_support.proofs.scan.last.Goals as goal
 
 pub loop-pair-preserved : goal.loop-pair-preserved
 loop-pair-preserved g c =
