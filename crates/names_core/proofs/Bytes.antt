@@ -9,11 +9,16 @@ use Rattle.std.specs.Ordering.{is_lt, is_eq, is_gt, nat_cmp}
 use Rattle.std.specs.Cmp.Lexicographic.{slice_cmp}
 use Rattle.litemap_store.specs.Pairs.{above, at, below, cut, index_of, key_or, put, value_at}
 use Rattle.litemap_store.specs.Queries.{by_text}
+use Rattle.litemap.specs.Seen.{Seen}
 use Rattle.names_core.specs.Names.{pair_bytes}
 
 -- the texts of a map
 abbrev pub Strings : Type 0
 Strings = List (String Global × String Global)
+
+-- what is seen of a map of texts
+abbrev pub Names : Type 0
+Names = Seen (String Global) (String Global)
 
 -- the order of texts by their bytes
 abbrev pub by_bytes : List ℕ → List ℕ → Ordering

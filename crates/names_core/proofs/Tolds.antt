@@ -1,7 +1,7 @@
 -- Lemmas on what a run tells.
 use Rattle.std.proofs.Common.{◌≡◌, ◌≤◌, ◌+◌, ◌++◌, ◌∷◌, ◌⊎◌, ℕ, Bool, true, false, List, [], length, inl, inr, refl, sym, ap, ◌∙◌, append_assoc, append-nil, ◌<◌, Option, Some, None, IfSome, Bor, subst, arith, length-append}
 use Rattle.std.specs.Io.KnownBytes.{Appends}
-use Rattle.std.proofs.KnownBytes.{Appends-trans}
+use Rattle.std.proofs.KnownBytes.{Appends-nil, Appends-trans}
 use Rattle.std.proofs.lemmas.Bool.{true≢false}
 use Rattle.names_core.specs.Line.{IsBad, lines_of}
 use Rattle.names_core.specs.Told.{Does, DoesEach, TextMap, Told, AllDone, BadLine, NoMemory, no_memory, bad_line, most_bytes}
@@ -95,5 +95,4 @@ module _ (a b c : Option (List ℕ)) (bytes text last : List ℕ) (first : Appen
 
 -- a last line that is all that a run writes was cut short
 pub cut_alone : (a b : Option (List ℕ)) (bytes last : List ℕ) (status : ℕ) → Told bytes last status → AppendsFront a b last → (front : List ℕ) × Appends a b front × ToldFront bytes front
-cut_alone a b bytes last status told (front, rest, split, some, appended) =
-    (front, appended, (rest, status, some, subst (λ out. Told bytes out status) split told))
+cut_alone a b bytes last status told front = cut_last a a b bytes [] last (Appends-nil a) status told front

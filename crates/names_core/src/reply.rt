@@ -82,8 +82,8 @@ fn put<S: StoreMut<String, String>>(
 
 // What answers `put`, by the value before.
 fn old_text(alloc: Global, old: Option<String>) -> Result<String, AllocError>
-    ensures { IfOk result (λ text. (key value : List ℕ)
-        → answer_text (Insert key value) (Value (option_map string_bytes old)) ≡ Some (string_bytes text)) }
+    ensures { (key value : List ℕ) → IfOk result
+        (λ text. answer_text (Insert key value) (Value (option_map string_bytes old)) ≡ Some (string_bytes text)) }
 {
     match old {
         None => String::from_str(alloc, "new\n"),
@@ -104,8 +104,8 @@ fn value_text(alloc: Global, value: Option<&String>) -> Result<String, AllocErro
 
 // What answers `find`, by the place.
 fn place_text(alloc: Global, place: Result<usize, usize>) -> Result<String, AllocError>
-    ensures { IfOk result
-        (λ text. (key : List ℕ) → answer_text (Find key) (Place place) ≡ Some (string_bytes text)) }
+    ensures { (key : List ℕ) → IfOk result
+        (λ text. answer_text (Find key) (Place place) ≡ Some (string_bytes text)) }
 {
     match place {
         Ok(index) => format!(in alloc; "ok {index}\n"),
