@@ -51,12 +51,6 @@ fn lines_and_their_answers(rt: HostRuntime) -> Result<(), Fail> {
             b"none\n[]\nnew\nnew\n{\"a\":\"1\",\"b\":\"2\"}\n= 2\nnone\n",
         ),
         (
-            b"put b 2\njson\njson\nget b\nfind a\n\nall\njson\nput a 1\njson\nput a 3\njson\ndel b\njson\ndel b\njson",
-            0,
-            b"new\n{\"b\":\"2\"}\n{\"b\":\"2\"}\n= 2\nerr 0\nb 2\n{\"b\":\"2\"}\nnew\n{\"a\":\"1\",\"b\":\"2\"}\nold 1\n\
-              {\"a\":\"3\",\"b\":\"2\"}\n= 2\n{\"a\":\"3\"}\nnone\n{\"a\":\"3\"}\n",
-        ),
-        (
             b"put a \"\nput b \\\njson",
             0,
             b"new\nnew\n{\"a\":\"\\\"\",\"b\":\"\\\\\"}\n",
