@@ -1,5 +1,5 @@
 -- The sorted list of strings by their bytes: each word of `Pairs` gives the bytes of what it gives for the strings.
-use Rattle.std.proofs.Common.{◌≡◌, ◌++◌, ◌∷◌, ℕ, Bool, true, false, List, [], length, map, Option, Some, None, Ok, Err, IsNone, IsSome, cond, filter, find, is_some, option_map, refl, sym, ap, ◌∙◌}
+use Rattle.std.proofs.Common.{◌≡◌, ◌++◌, ◌∷◌, ℕ, Bool, true, false, List, [], length, map, Some, None, Ok, Err, IsNone, IsSome, cond, filter, find, is_some, option_map, refl, sym}
 use Rattle.std.specs.Prelude.{string_bytes, string_cmp}
 use Rattle.std.proofs.lemmas.List.{length-map, map-append}
 use Rattle.std.specs.declared.alloc.Global.{Global}

@@ -1,5 +1,5 @@
 -- The calls of the map are steps of the sorted list, by the bytes of its strings.
-use Rattle.std.proofs.Common.{◌≡◌, ◌+◌, ◌<◌, ◌≤◌, ◌++◌, ◌∷◌, ℕ, List, [], length, take, Option, Some, Result, IsNone, IsSome, IfSome, IfOk, option_map, slice_get, inl, inr, refl, sym, ap, ◌∙◌, subst, arith, add-one, append-nil, append_assoc}
+use Rattle.std.proofs.Common.{◌≡◌, ◌+◌, ◌<◌, ◌≤◌, ◌++◌, ◌∷◌, ℕ, List, [], length, take, Option, Some, Result, IsNone, IsSome, IfSome, IfOk, option_map, slice_get, inl, inr, refl, sym, ap, ◌∙◌, arith, add-one, append-nil, append_assoc}
 use Rattle.std.specs.Prelude.{flat_map, map, string_bytes, string_cmp}
 use Rattle.std.proofs.Math.Seq.{take-suc}
 use Rattle.std.proofs.lemmas.Grind.{flat_map-append}
@@ -9,7 +9,6 @@ use Rattle.std.specs.declared.alloc.Global.{Global}
 use Rattle.std.specs.declared.string.String.{String}
 use Rattle.litemap_store.specs.Pairs.{at, cut, index_of, put, value_at}
 use Rattle.litemap_store.specs.Queries.{by_text}
-use Rattle.litemap.specs.Seen.{Seen}
 use Rattle.litemap.specs.Steps.{Step}
 use Rattle.litemap.specs.declared.calls.Answer.{Answer}
 use Rattle.litemap.specs.declared.calls.Call.{Call}

@@ -3,7 +3,7 @@ use Rattle.std.proofs.KnownBytes.{Appends-nil, Appends-trans}
 use Rattle.names_core.specs.Names.{names_of}
 use Rattle.names_core.specs.Told.{Does}
 use Rattle.names_core.specs.Rest.{bytes_left}
-use Rattle.names_core.proofs.Tolds.{IsDone, cut_answer, cut_last, done_more, fewer_left, told_bad, told_last, told_no_memory}
+use Rattle.names_core.proofs.Tolds.{cut_answer, cut_last, done_more, fewer_left, told_bad, told_last, told_no_memory}
 use Rattle.names_core.proofs.Notes.{from_err, from_ok, then_nothing_after}
 use Rattle.names_core.proofs.program.answer_lines.Goals as goal
 

@@ -27,5 +27,5 @@ pub returns : goal.returns
 returns g c =
     let L = c.args.names.now.pairs in
     let tokens = c.in_ok-end_object.ensures.ok ∙ ap (λ ts. ts ++ (end_object ∷ [])) (c.loop-index.invariant.1
-        ∙ ap (λ ps. begin_object ∷ flat_map (λ pair. pair_tokens (pair_bytes pair)) ps) (take_all c.loop-index.index L (omega arith)) ∙ ap (λ ts. begin_object ∷ ts) (sym (flat_map-map pair_tokens pair_bytes L))) in
+    ∙ ap (λ ps. begin_object ∷ flat_map (λ pair. pair_tokens (pair_bytes pair)) ps) (take_all c.loop-index.index L (omega arith)) ∙ ap (λ ts. begin_object ∷ ts) (sym (flat_map-map pair_tokens pair_bytes L))) in
     c.in_ok-push_str.ensures.bytes ∙ ap line (c.written-text.ensures ∙ ap print tokens ∙ print-object (map pair_bytes L) (ap (λ n. n == 0) (length-map L pair_bytes) ∙ sym c.is_empty.ensures ∙ c.if-is_empty.false))
