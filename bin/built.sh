@@ -52,7 +52,8 @@ build() {
     far="$1 is proved and built, in $((SECONDS - start)) s"
     wait "$running" || status=1
     [ "$status" -eq 0 ] || far="$(< "$log")"$'\n'"$1 was not proved and built"
-    printf "$line\n" "$far" >&2
+    printf "$line" "$far" >&2
+    [ ! -t 2 ] || echo >&2
     trap - EXIT INT TERM HUP
     rm -f "$log"
     [ "$status" -eq 0 ] && { [ "$1" != names_main ] || keep_sum "$sum"; }
