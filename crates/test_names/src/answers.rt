@@ -14,7 +14,7 @@ fn status_and_out(alloc: Global, kept: Kept, input: &[u8]) -> (u8, Vec<u8>) {
 
 #[test]
 fn lines_and_their_answers(rt: HostRuntime) -> Result<(), Fail> {
-    let runs: [(&[u8], u8, &[u8]); 13] = [
+    let runs: [(&[u8], u8, &[u8]); 12] = [
         (LINES, 0, b"new\nnew\nold 2\nerr 2\na 1\nb 3\n"),
         (b"put a 1\n\nput a\nall\n", 2, b"new\nbad line 3\n"),
         (
