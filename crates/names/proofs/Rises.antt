@@ -7,8 +7,8 @@ use Rattle.litemap_store.proofs.Splitting.{Rising-put}
 use Rattle.litemap_store.proofs.Lookups.{Rising-cut}
 use Rattle.litemap.specs.declared.calls.Call.{Call}
 use Rattle.litemap.specs.declared.calls.Call.TheVariants.{Find, Get, Insert, Remove, ValueAt, Contains, Len, TryInsert, TryAppend, Extend, Reserve, Clear}
-use Rattle.names_run.specs.Line.{Spells}
-use Rattle.names_run.specs.Told.{Answers, Calls, Does, DoesEach, Nothing, ShowsAll, ShowsJson, TextMap}
+use Rattle.names_core.specs.Line.{Spells}
+use Rattle.names_core.specs.Told.{Answers, Calls, Does, DoesEach, Nothing, ShowsAll, ShowsJson, TextMap}
 
 -- the texts rise by their bytes
 abbrev pub TextsRise : List (List ℕ × List ℕ) → Type 0

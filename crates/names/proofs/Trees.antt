@@ -9,7 +9,7 @@ use Rattle.litemap_store.specs.Last.{In}
 use Rattle.litemap_store.specs.Pairs.{Rising}
 use Rattle.litemap_store.proofs.Membership.{each}
 use Rattle.litemap_json.specs.Json.{object_with, tree}
-use Rattle.names_run.specs.Told.{json_text, later_members, member_text}
+use Rattle.names_core.specs.Told.{json_text, later_members, member_text}
 
 -- pairs of texts, by their bytes
 abbrev Texts : Type 0

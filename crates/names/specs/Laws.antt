@@ -8,8 +8,8 @@ use Rattle.litemap_json.specs.Json.{tree}
 use Rattle.litemap.specs.Steps.{Run}
 use Rattle.litemap.specs.declared.calls.Answer.{Answer}
 use Rattle.litemap.specs.declared.calls.Call.{Call}
-use Rattle.names_run.specs.Line.{Spells, SpellsAll, SpellsJson}
-use Rattle.names_run.specs.Told.{DoesEach, TextMap, json_text}
+use Rattle.names_core.specs.Line.{Spells, SpellsAll, SpellsJson}
+use Rattle.names_core.specs.Told.{DoesEach, TextMap, json_text}
 
 -- the calls are those that the lines spell, in order: an empty line, `all` and `json` spell none
 abbrev pub SpellEach : List (List ℕ) → List (Call (List ℕ) (List ℕ)) → Type 0

@@ -1,5 +1,5 @@
 //! Keeps names and their values, as the lines of standard input say, and answers each line on standard output. The runs are
-//! those of `names_run`, the name tables those of `name_table`.
+//! those of `names_core`, the name tables those of `name_table`.
 #![tactic(auto)]
 
 mod fail_at;
@@ -11,4 +11,4 @@ pub use flags::{FlagsFault, rewrite_flags};
 pub use name_table::{
     NameBytes, NameFault, NameMap, NameWriteFault, find_name, read_names, write_names,
 };
-pub use names_run::{Watch, run, run_with};
+pub use names_core::{Watch, run, run_with};

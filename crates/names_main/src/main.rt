@@ -1,7 +1,7 @@
-//! The program: `names_run::run` from standard input to standard output.
+//! The program: `names_core::run` from standard input to standard output.
 #![tactic(auto)]
 
-use names_run::{Watch, run};
+use names_core::{Watch, run};
 use std::process::ExitCode;
 
 fn main(rt: HostRuntime) -> ExitCode {

@@ -14,7 +14,7 @@ fn status_and_out(alloc: Global, kept: Kept, input: &[u8]) -> (u8, Vec<u8>) {
 
 #[test]
 fn lines_and_their_answers(rt: HostRuntime) -> Result<(), Fail> {
-    let runs: [(&[u8], u8, &[u8]); 13] = [
+    let runs: [(&[u8], u8, &[u8]); 12] = [
         (LINES, 0, b"new\nnew\nold 2\nerr 2\na 1\nb 3\n"),
         (b"put a 1\n\nput a\nall\n", 2, b"new\nbad line 3\n"),
         (
@@ -49,12 +49,6 @@ fn lines_and_their_answers(rt: HostRuntime) -> Result<(), Fail> {
             b"del a\njson\nput b 2\nput a 1\njson\ndel b\nget b\n",
             0,
             b"none\n[]\nnew\nnew\n{\"a\":\"1\",\"b\":\"2\"}\n= 2\nnone\n",
-        ),
-        (
-            b"put b 2\njson\njson\nget b\nfind a\n\nall\njson\nput a 1\njson\nput a 3\njson\ndel b\njson\ndel b\njson",
-            0,
-            b"new\n{\"b\":\"2\"}\n{\"b\":\"2\"}\n= 2\nerr 0\nb 2\n{\"b\":\"2\"}\nnew\n{\"a\":\"1\",\"b\":\"2\"}\nold 1\n\
-              {\"a\":\"3\",\"b\":\"2\"}\n= 2\n{\"a\":\"3\"}\nnone\n{\"a\":\"3\"}\n",
         ),
         (
             b"put a \"\nput b \\\njson",

@@ -2,7 +2,7 @@ use Rattle.std.proofs.Common.{[], ◌∷◌, inl, inr, refl, subst}
 use Rattle.std.specs.Ordering.{nat_cmp}
 use Rattle.std.specs.Cmp.Lexicographic.{slice_cmp}
 use Rattle.litemap.specs.Steps.{Run}
-use Rattle.names_run.specs.Told.{Nothing, ShowsAll, ShowsJson, Calls, TextMap}
+use Rattle.names_core.specs.Told.{Nothing, ShowsAll, ShowsJson, Calls, TextMap}
 use Rattle.names.specs.Laws.{LinesAreARun}
 use Rattle.names.proofs.laws.lines_are_a_run.Goals as goal
 

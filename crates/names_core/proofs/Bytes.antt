@@ -1,0 +1,69 @@
+-- The sorted list of strings by their bytes: each word of `Pairs` gives the bytes of what it gives for the strings.
+use Rattle.std.proofs.Common.{◌≡◌, ◌++◌, ◌∷◌, ℕ, Bool, true, false, List, [], length, map, Some, None, Ok, Err, IsNone, IsSome, cond, filter, find, is_some, option_map, refl, sym}
+use Rattle.std.specs.Prelude.{string_bytes, string_cmp}
+use Rattle.std.proofs.lemmas.List.{length-map, map-append}
+use Rattle.std.specs.declared.alloc.Global.{Global}
+use Rattle.std.specs.declared.cmp.Ordering.{Ordering}
+use Rattle.std.specs.declared.string.String.{String}
+use Rattle.std.specs.Ordering.{is_lt, is_eq, is_gt, nat_cmp}
+use Rattle.std.specs.Cmp.Lexicographic.{slice_cmp}
+use Rattle.litemap_store.specs.Pairs.{above, at, below, cut, index_of, key_or, put, value_at}
+use Rattle.litemap_store.specs.Queries.{by_text}
+use Rattle.litemap.specs.Seen.{Seen}
+use Rattle.names_core.specs.Names.{pair_bytes}
+
+-- the texts of a map
+abbrev pub Strings : Type 0
+Strings = List (String Global × String Global)
+
+-- what is seen of a map of texts
+abbrev pub Names : Type 0
+Names = Seen (String Global) (String Global)
+
+-- the order of texts by their bytes
+abbrev pub by_bytes : List ℕ → List ℕ → Ordering
+by_bytes = slice_cmp nat_cmp
+
+module _ {A B : Type 0} (v : A → B) (q : B → Bool) where
+  filter-map : (xs : List A) → filter q (map v xs) ≡ map v (filter (λ x. q (v x)) xs)
+  filter-map [] = refl
+  filter-map (x ∷ xs) = rw (filter-map xs) (elim (q (v x)) as (λ b. cond b (v x ∷ map v (filter (λ x. q (v x)) xs)) (map v (filter (λ x. q (v x)) xs)) ≡ map v (cond b (x ∷ filter (λ x. q (v x)) xs) (filter (λ x. q (v x)) xs))) [ true ↦ refl | false ↦ refl ])
+
+  find-map : (xs : List A) → find q (map v xs) ≡ option_map v (find (λ x. q (v x)) xs)
+  find-map [] = refl
+  find-map (x ∷ xs) = rw (find-map xs) (elim (q (v x)) as (λ b. cond b (Some (v x)) (option_map v (find (λ x. q (v x)) xs)) ≡ option_map v (cond b (Some x) (find (λ x. q (v x)) xs))) [ true ↦ refl | false ↦ refl ])
+
+module _ (L : Strings) (k : List ℕ) where
+  below-bytes : below by_bytes (map pair_bytes L) k ≡ map pair_bytes (below by_text L k)
+  below-bytes = filter-map pair_bytes (λ p. is_lt (by_bytes p.0 k)) L
+
+  above-bytes : above by_bytes (map pair_bytes L) k ≡ map pair_bytes (above by_text L k)
+  above-bytes = filter-map pair_bytes (λ p. is_gt (by_bytes p.0 k)) L
+
+  pub at-bytes : at by_bytes (map pair_bytes L) k ≡ option_map pair_bytes (at by_text L k)
+  at-bytes = find-map pair_bytes (λ p. is_eq (by_bytes p.0 k)) L
+
+  pub value-bytes : value_at by_bytes (map pair_bytes L) k ≡ option_map string_bytes (value_at by_text L k)
+  value-bytes = rw at-bytes (elim (at by_text L k) as (λ o. option_map (λ p. p.1) (option_map pair_bytes o) ≡ option_map string_bytes (option_map (λ p. p.1) o)) [ None ↦ refl | Some p ↦ refl ])
+
+  pub index-bytes : index_of by_bytes (map pair_bytes L) k ≡ index_of by_text L k
+  index-bytes =
+      rw (at-bytes, below-bytes, length-map (below by_text L k) pair_bytes)
+      (elim (at by_text L k) as (λ o. cond (is_some (option_map pair_bytes o)) (Ok (length (below by_text L k))) (Err (length (below by_text L k))) ≡ cond (is_some o) (Ok (length (below by_text L k))) (Err (length (below by_text L k)))) [ None ↦ refl | Some p ↦ refl ])
+
+  pub cut-bytes : cut by_bytes (map pair_bytes L) k ≡ map pair_bytes (cut by_text L k)
+  cut-bytes = rw (below-bytes, above-bytes) (sym (map-append pair_bytes (below by_text L k) (above by_text L k)))
+
+  -- a key that is there by its bytes is there, and one that is not there by them is not there
+  pub there : IsSome (at by_bytes (map pair_bytes L) k) → IsSome (at by_text L k)
+  there h = (elim (at by_text L k) as (λ o. IsSome (option_map pair_bytes o) → IsSome o) [ None ↦ λ h. h | Some p ↦ λ h. h ]) (rw at-bytes at h)
+
+  pub absent : IsNone (at by_bytes (map pair_bytes L) k) → IsNone (at by_text L k)
+  absent h = (elim (at by_text L k) as (λ o. IsNone (option_map pair_bytes o) → IsNone o) [ None ↦ λ h. h | Some p ↦ λ h. h ]) (rw at-bytes at h)
+
+pub put-bytes : (L : Strings) (k v : String Global) → put by_bytes (map pair_bytes L) (string_bytes k) (string_bytes v) ≡ map pair_bytes (put string_cmp L k v)
+put-bytes L k v =
+    rw (below-bytes L (string_bytes k), above-bytes L (string_bytes k), at-bytes L (string_bytes k))
+    (elim (at by_text L (string_bytes k)) as
+    (λ o. map pair_bytes (below by_text L (string_bytes k)) ++ ((key_or (option_map pair_bytes o) (string_bytes k), string_bytes v) ∷ map pair_bytes (above by_text L (string_bytes k))) ≡ map pair_bytes (below by_text L (string_bytes k) ++ ((key_or o k, v) ∷ above by_text L (string_bytes k))))
+    [ None ↦ sym (map-append pair_bytes (below by_text L (string_bytes k)) ((k, v) ∷ above by_text L (string_bytes k))) | Some p ↦ sym (map-append pair_bytes (below by_text L (string_bytes k)) ((p.0, v) ∷ above by_text L (string_bytes k))) ])

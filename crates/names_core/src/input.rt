@@ -1,0 +1,72 @@
+//! Reads the whole input, up to one byte more than a run takes.
+ghost use Rattle.std.specs.Prelude.{◌≡◌, ◌+◌, ◌++◌, ◌<◌, ◌≤◌, List, ℕ, [], vec_len, IfSome, IfNone};
+ghost use Rattle.std.specs.Io.KnownBytes.{Consumes};
+ghost use Rattle.names_core.specs.ReadsUntil.{ReadsUntil};
+ghost use Rattle.names_core.specs.Watched.{NoCallAfterFault, met_fault};
+
+use crate::watch::Watch;
+use std::io::Read;
+
+/// The most bytes that a run takes.
+pub const MOST_BYTES: usize = 1_048_576;
+
+// The most bytes that one read asks for.
+const CHUNK: usize = 4096;
+
+/// How reading ended.
+#[derive(Clone, Copy, Debug, PartialEq, Eq)]
+pub enum InputEnd {
+    /// The reader has nothing left.
+    Whole,
+    /// There is more than a run takes.
+    TooLong,
+    /// Memory for the next read was refused.
+    NoMemory,
+    /// A read met a fault.
+    Fault,
+}
+
+/// Reads to the end of the input, or until there is more than a run takes. Room is made before each read, so that no byte
+/// is lost.
+pub fn read_input<R: Read>(reader: &mut Watch<R>, input: &mut Vec<u8>) -> InputEnd
+    requires { input.old.items ≡ [] }
+    ensures consumed { Consumes (R.remaining reader.old.inner) (R.remaining reader.new.inner) input.new.items }
+    ensures bounded { vec_len input.new ≤ MOST_BYTES + 1 }
+    ensures ended { ReadsUntil result reader.old.failed reader.new.failed (R.remaining reader.new.inner) input.new.items }
+    ensures nothing_after { NoCallAfterFault reader.old reader.new }
+{
+    while input.len() <= MOST_BYTES {
+        if let Some(ending) = read_some(reader, input) {
+            return ending;
+        }
+    }
+    InputEnd::TooLong
+}
+
+// One read, onto the end of the input.
+fn read_some<R: Read>(reader: &mut Watch<R>, input: &mut Vec<u8>) -> Option<InputEnd>
+    requires { vec_len input.old ≤ MOST_BYTES }
+    ensures consumed { (more : List ℕ) × (input.new.items ≡ input.old.items ++ more)
+        × Consumes (R.remaining reader.old.inner) (R.remaining reader.new.inner) more }
+    ensures bounded { vec_len input.new ≤ MOST_BYTES + 1 }
+    ensures ended { IfSome result
+        (λ ending. ReadsUntil ending reader.old.failed reader.new.failed (R.remaining reader.new.inner) input.new.items) }
+    ensures more { IfNone result ((vec_len input.old < vec_len input.new)
+        × (reader.new.failed ≡ reader.old.failed)) }
+    ensures unmet { IfNone result (met_fault reader.new ≡ met_fault reader.old) }
+    ensures nothing_after { NoCallAfterFault reader.old reader.new }
+{
+    let mut chunk = [0u8; CHUNK];
+    let most = CHUNK.min(MOST_BYTES + 1 - input.len());
+    if input.reserve(most).is_err() {
+        return Some(InputEnd::NoMemory);
+    }
+    match reader.read(&mut chunk[..most]) {
+        Ok(0) => Some(InputEnd::Whole),
+        Ok(n) => {
+            input.extend_from_slice(&chunk[..n]).unwrap();
+            None
+        }
+        Err(_) => Some(InputEnd::Fault),
+    }
+}

@@ -1,0 +1,97 @@
+//! A run of the program: it reads the lines, and writes what answers them.
+ghost use Rattle.std.specs.Prelude.{◌≡◌, ◌≤◌, ◌⊎◌, ◌↔◌, ℕ, List, false, true, length};
+ghost use Rattle.std.specs.Io.KnownBytes.{Appends};
+ghost use Rattle.names_core.specs.Fault.{AppendsFront};
+ghost use Rattle.names_core.specs.Run.{IsRun, ToldFront};
+ghost use Rattle.names_core.specs.Told.{Told, most_bytes};
+ghost use Rattle.names_core.specs.Watched.{NoCallAfterFault};
+
+use crate::input::{InputEnd, read_input};
+use crate::line::first_line;
+use crate::reply::{Answer, Names, reply};
+use crate::watch::Watch;
+use litemap::store::{StoreConstEmpty, StoreMut};
+use std::alloc::Global;
+use std::io::{Read, Write};
+
+/// Reads all input, at most one byte more than 1,048,576, then does its lines in order, writes the answer of each as the
+/// line is done, and gives the exit status.
+///
+/// The status is 0 where all lines are done. It is 2 where a line is bad, after `bad line N`, and where the input is too
+/// long, after `input too long` alone. It is 3 where memory is refused, after `no memory`. It is 4 where a read met a
+/// fault, after `read fault` alone, and where a write met one.
+///
+/// The names are kept in a vector.
+pub fn run<R: Read, W: Write>(alloc: Global, reader: &mut Watch<R>, writer: &mut Watch<W>) -> u8
+    ensures run { IsRun R.remaining W.contents reader.old reader.new writer.old writer.new result }
+{
+    run_with::<Vec<(String, String)>, R, W>(alloc, reader, writer)
+}
+
+/// Does what `run` does, with the names kept in a store of another type.
+pub fn run_with<S, R: Read, W: Write>(
+    alloc: Global,
+    reader: &mut Watch<R>,
+    writer: &mut Watch<W>,
+) -> u8
+where
+    S: StoreConstEmpty<String, String> + StoreMut<String, String> + Drop,
+    ensures run { IsRun R.remaining W.contents reader.old reader.new writer.old writer.new result }
+{
+    let mut input = Vec::new(alloc);
+    let ending = read_input(reader, &mut input);
+    reader.settle_before(writer);
+    match ending {
+        InputEnd::Whole => answer_lines::<S, W>(alloc, &input, writer),
+        InputEnd::TooLong => finish(writer, b"input too long\n", 2),
+        InputEnd::NoMemory => finish(writer, b"no memory\n", 3),
+        InputEnd::Fault => finish(writer, b"read fault\n", 4),
+    }
+}
+
+// Does the lines in order, writes their answers and the last line, and gives the status.
+fn answer_lines<S, W: Write>(alloc: Global, input: &[u8], writer: &mut Watch<W>) -> u8
+where
+    S: StoreConstEmpty<String, String> + StoreMut<String, String> + Drop,
+    requires { length input.now ≤ most_bytes }
+    ensures told { writer.new.failed ≡ false → (out : List ℕ)
+        × Appends (W.contents writer.old.inner) (W.contents writer.new.inner) out × Told input.now out result }
+    ensures failed { writer.old.failed ≡ false → (result ≡ 4) ↔ (writer.new.failed ≡ true) }
+    ensures cut { writer.old.failed ≡ false → writer.new.failed ≡ true → (front : List ℕ)
+        × Appends (W.contents writer.old.inner) (W.contents writer.new.inner) front × ToldFront input.now front }
+    ensures nothing_after { NoCallAfterFault writer.old writer.new }
+{
+    let mut names = Names::<S>::new(alloc);
+    let mut rest = Some(input);
+    let mut done = 0;
+    while let Some(bytes) = rest {
+        let (line, more) = first_line(bytes);
+        match reply(alloc, &mut names, done + 1, line) {
+            Ok(Answer::Done(text)) => {
+                if writer.write_all(text.as_bytes()).is_err() {
+                    return 4;
+                }
+            }
+            Ok(Answer::Bad(text)) => return finish(writer, text.as_bytes(), 2),
+            Err(_) => return finish(writer, b"no memory\n", 3),
+        }
+        done += 1;
+        rest = more;
+    }
+    0
+}
+
+// Writes the last line, and gives the status, or that of a fault.
+fn finish<W: Write>(writer: &mut Watch<W>, text: &[u8], status: u8) -> u8
+    ensures ended { ((writer.new.failed ≡ true) × (result ≡ 4))
+        ⊎ ((writer.new.failed ≡ writer.old.failed) × (result ≡ status)
+        × Appends (W.contents writer.old.inner) (W.contents writer.new.inner) text.now) }
+    ensures cut { writer.old.failed ≡ false → writer.new.failed ≡ true
+        → AppendsFront (W.contents writer.old.inner) (W.contents writer.new.inner) text.now }
+    ensures nothing_after { NoCallAfterFault writer.old writer.new }
+{
+    match writer.write_all(text) {
+        Ok(()) => status,
+        Err(_) => 4,
+    }
+}

@@ -1,0 +1,187 @@
+//! What answers a line, and what the line does to the names.
+ghost use Rattle.std.specs.Prelude.{◌≡◌, ◌≤◌, ◌<◌, ◌+◌, ◌++◌, ℕ, List, Some, [], IfOk, IfSome, OnOk, flat_map};
+ghost use Rattle.std.specs.Prelude.{option_copied, option_map, slice_get, string_bytes};
+ghost use Rattle.json.specs.Print.{print};
+ghost use Rattle.litemap.specs.declared.calls.Answer.TheVariants.{Place, Value};
+ghost use Rattle.litemap.specs.declared.calls.Call.TheVariants.{Find, Get, Insert, Remove};
+ghost use Rattle.names_core.specs.Told.{Answers, answer_text, json_answer, line, pair_text, value_text};
+ghost use Rattle.names_core.specs.Command.{DoesCommand, IsAnswer};
+ghost use Rattle.names_core.specs.Names.{names_of, pair_bytes, pair_tokens};
+
+use crate::line::{Command, parse};
+use json::Writer;
+use litemap::LiteMap;
+use litemap::store::{Store, StoreMut};
+use std::alloc::{AllocError, Global};
+
+/// The names and their values, kept in a store.
+pub type Names<S> = LiteMap<String, String, S>;
+
+/// What answers a line.
+pub enum Answer {
+    /// The line is done, and this text answers it.
+    Done(String),
+    /// The line is bad, and this text says so.
+    Bad(String),
+}
+
+/// Does the line of this number, and gives what answers it.
+pub fn reply<S: StoreMut<String, String>>(
+    alloc: Global,
+    names: &mut Names<S>,
+    number: usize,
+    line: &[u8],
+) -> Result<Answer, AllocError>
+    ensures { IfOk result (IsAnswer (names_of names.old) number line.now (names_of names.new)) }
+{
+    if line.is_empty() {
+        return Ok(Answer::Done(String::new(alloc)));
+    }
+    match parse(line) {
+        Some(command) => Ok(Answer::Done(do_command(alloc, names, command)?)),
+        None => Ok(Answer::Bad(format!(in alloc; "bad line {number}\n")?)),
+    }
+}
+
+// Does a command, and gives the text that answers it.
+fn do_command<S: StoreMut<String, String>>(
+    alloc: Global,
+    names: &mut Names<S>,
+    command: Command<'_>,
+) -> Result<String, AllocError>
+    ensures { IfOk result
+        (λ text. DoesCommand (names_of names.old) command.entry (string_bytes text) (names_of names.new)) }
+{
+    match command {
+        Command::Put(key, value) => put(alloc, names, key, value),
+        Command::Get(key) => value_text(alloc, names.get(key)),
+        Command::Del(key) => value_text(alloc, names.remove(key).as_ref()),
+        Command::Find(key) => place_text(alloc, names.find_index(key)),
+        Command::All => all(alloc, names),
+        Command::Json => json(alloc, names),
+    }
+}
+
+// Puts a value at a key.
+fn put<S: StoreMut<String, String>>(
+    alloc: Global,
+    names: &mut Names<S>,
+    key: &str,
+    value: &str,
+) -> Result<String, AllocError>
+    ensures { IfOk result
+        (λ text. Answers (names_of names.old) (Insert key.now value.now) (string_bytes text) (names_of names.new)) }
+{
+    let key = String::from_str(alloc, key)?;
+    let value = String::from_str(alloc, value)?;
+    match names.insert(key, value) {
+        Ok(old) => old_text(alloc, old),
+        Err(_) => Err(AllocError),
+    }
+}
+
+// What answers `put`, by the value before.
+fn old_text(alloc: Global, old: Option<String>) -> Result<String, AllocError>
+    ensures { (key value : List ℕ) → IfOk result
+        (λ text. answer_text (Insert key value) (Value (option_map string_bytes old)) ≡ Some (string_bytes text)) }
+{
+    match old {
+        None => String::from_str(alloc, "new\n"),
+        Some(old) => format!(in alloc; "old {old}\n"),
+    }
+}
+
+// What answers `get` and `del`, by the value.
+fn value_text(alloc: Global, value: Option<&String>) -> Result<String, AllocError>
+    ensures { IfOk result
+        (λ text. string_bytes text ≡ value_text (option_map string_bytes (option_copied value.entry))) }
+{
+    match value {
+        Some(value) => format!(in alloc; "= {value}\n"),
+        None => String::from_str(alloc, "none\n"),
+    }
+}
+
+// What answers `find`, by the place.
+fn place_text(alloc: Global, place: Result<usize, usize>) -> Result<String, AllocError>
+    ensures { (key : List ℕ) → IfOk result
+        (λ text. answer_text (Find key) (Place place) ≡ Some (string_bytes text)) }
+{
+    match place {
+        Ok(index) => format!(in alloc; "ok {index}\n"),
+        Err(index) => format!(in alloc; "err {index}\n"),
+    }
+}
+
+// All pairs, each on a line.
+fn all<S: Store<String, String>>(alloc: Global, names: &Names<S>) -> Result<String, AllocError>
+    ensures { IfOk result (λ text. string_bytes text ≡ flat_map pair_text (names_of names.now).pairs) }
+{
+    let mut text = String::new(alloc);
+    for index in 0..names.len() {
+        push_pair(&mut text, names, index)?;
+    }
+    Ok(text)
+}
+
+// Adds the pair at a place to the text.
+fn push_pair<S: Store<String, String>>(
+    text: &mut String,
+    names: &Names<S>,
+    index: usize,
+) -> Result<(), AllocError>
+    ensures { OnOk result (IfSome (slice_get names.now.pairs index)
+        (λ pair. string_bytes text.new ≡ string_bytes text.old ++ pair_text (pair_bytes pair))) }
+{
+    let Some((key, value)) = names.get_indexed(index) else {
+        return Ok(());
+    };
+    text.push_str(key.as_str())?;
+    text.push_str(" ")?;
+    text.push_str(value.as_str())?;
+    text.push_str("\n")
+}
+
+// The map as JSON, on one line. It is written pair by pair: the tree of all pairs, which `to_json` makes, would take forty
+// times as long.
+fn json<S: Store<String, String>>(alloc: Global, names: &Names<S>) -> Result<String, AllocError>
+    ensures { IfOk result (λ text. string_bytes text ≡ json_answer (names_of names.now).pairs) }
+{
+    if names.is_empty() {
+        return String::from_str(alloc, "[]\n");
+    }
+    let mut writer = Writer::new(Vec::new(alloc));
+    writer.begin_object()?;
+    for index in 0..names.len() {
+        write_pair(&mut writer, names, index)?;
+    }
+    writer.end_object()?;
+    let mut text = written(writer);
+    text.push_str("\n")?;
+    Ok(text)
+}
+
+// Writes the pair at a place as a member of an object.
+fn write_pair<S: Store<String, String>>(
+    writer: &mut Writer,
+    names: &Names<S>,
+    index: usize,
+) -> Result<(), AllocError>
+    ensures before { writer.new.before ≡ writer.old.before }
+    ensures tokens { OnOk result (IfSome (slice_get names.now.pairs index)
+        (λ pair. writer.new.tokens ≡ writer.old.tokens ++ pair_tokens (pair_bytes pair))) }
+{
+    let Some((key, value)) = names.get_indexed(index) else {
+        return Ok(());
+    };
+    writer.key(key.as_str())?;
+    writer.string(value.as_str())
+}
+
+// What was written.
+fn written(writer: Writer) -> String
+    requires { writer.before ≡ [] }
+    ensures { string_bytes result ≡ print writer.tokens }
+{
+    String::from_utf8(writer.into_inner()).unwrap()
+}

@@ -1,0 +1,155 @@
+//! A reader or a writer that notes whether a call through it met a fault, and whether one was made after.
+ghost use Rattle.std.specs.Prelude.{◌≡◌, ◌≢◌, ◌||◌, true, false, ◌==◌, ◌&&◌, not, ◌+◌, ◌<◌, ◌≤◌, length};
+ghost use Rattle.std.specs.Prelude.{take, IfOk, OnOk, OnErr, IsOk, is_err};
+ghost use Rattle.std.specs.Io.{ReadsAtMost, WritesAtMost};
+ghost use Rattle.std.specs.Io.KnownBytes.{Appends, Keeps, ReadConsumes, WriteAppends};
+ghost use Rattle.names_core.specs.Fault.{AppendsFront, is_write_fault};
+
+use std::io;
+use std::io::{ErrorKind, Read, Write};
+
+/// A reader or a writer, with a note of whether a call through it met a fault.
+///
+/// A fault is a read or a write that answers an error, or a write that takes nothing of a text that isn't empty. An
+/// interrupted call is a fault like any other, and isn't tried again.
+#[derive(Drop)]
+pub struct Watch<T> {
+    /// Whether a call met a fault. It is false at first, and no call sets it but one that meets a fault.
+    pub failed: bool,
+    inner: T,
+    // Whether a call met a fault. Nothing sets it back.
+    has_met_fault: bool,
+    // Whether a call was made after one had met a fault. Nothing sets it back.
+    has_late_call: bool,
+    // Whether a call was made that may have followed a fault of the watch beside this one.
+    has_open_call: bool,
+}
+
+impl<T> Watch<T> {
+    ghost use Rattle.names_core.specs.Watched.{watched, met_fault, called_after_fault, is_unsettled};
+
+    /// Watches a reader or a writer.
+    pub fn new(inner: T) -> Watch<T>
+        ensures failed { result.failed ≡ false }
+        ensures watched { watched result ≡ inner }
+        ensures met_fault { met_fault result ≡ false }
+        ensures called_after { called_after_fault result ≡ false }
+        ensures settled { is_unsettled result ≡ false }
+    {
+        Watch {
+            failed: false,
+            inner,
+            has_met_fault: false,
+            has_late_call: false,
+            has_open_call: false,
+        }
+    }
+
+    // Settles the calls so far: they came before any fault of `other`, if that has met none until now.
+    pub(crate) fn settle_before<U>(&mut self, other: &Watch<U>)
+        ensures { self.new ≡ record self.old { has_open_call = self.old.has_open_call && other.now.has_met_fault } }
+    {
+        if !other.has_met_fault {
+            self.has_open_call = false;
+        }
+    }
+
+    // Notes that a call is made now.
+    fn note_call(&mut self)
+        ensures { self.new ≡ record self.old {
+          has_late_call = self.old.has_late_call || self.old.has_met_fault;
+          has_open_call = true;
+        } }
+    {
+        if self.has_met_fault {
+            self.has_late_call = true;
+        }
+        self.has_open_call = true;
+    }
+
+    // Notes that a call met a fault.
+    fn note_fault(&mut self)
+        ensures { self.new ≡ record self.old { failed = true; has_met_fault = true } }
+    {
+        self.failed = true;
+        self.has_met_fault = true;
+    }
+}
+
+impl<R: Read> Read for Watch<R> {
+    ghost use Rattle.names_core.specs.Watched.{NotesCall};
+
+    ghost remaining = { λ w. R.remaining w.inner };
+
+    fn read(&mut self, buf: &mut [u8]) -> io::Result<usize>
+        ensures bound { ReadsAtMost result buf.new }
+        ensures bytes { ReadConsumes (R.remaining self.old.inner) (R.remaining self.new.inner) result buf.new }
+        ensures failed { self.new.failed ≡ (self.old.failed || is_err result) }
+        ensures noted { NotesCall self.old self.new (is_err result) }
+    {
+        self.note_call();
+        let result = self.inner.read(buf);
+        if result.is_err() {
+            self.note_fault();
+        }
+        result
+    }
+}
+
+impl<W: Write> Write for Watch<W> {
+    ghost use Rattle.names_core.specs.Watched.{NoCallAfterFault, NotesCall, called_after_fault, met_fault};
+    ghost use Rattle.names_core.specs.Watched.{watched};
+
+    ghost contents = { λ w. W.contents w.inner };
+
+    fn write(&mut self, buf: &[u8]) -> io::Result<usize>
+        ensures bound { WritesAtMost result buf.now }
+        ensures bytes { WriteAppends (W.contents self.old.inner) (W.contents self.new.inner) result buf.now }
+        ensures failed { self.new.failed ≡ (self.old.failed || is_write_fault result buf.now) }
+        ensures noted { NotesCall self.old self.new (is_write_fault result buf.now) }
+    {
+        self.note_call();
+        let result = self.inner.write(buf);
+        let is_fault = match &result {
+            Ok(n) => *n == 0 && !buf.is_empty(),
+            Err(_) => true,
+        };
+        if is_fault {
+            self.note_fault();
+        }
+        result
+    }
+
+    /// Passes the flush on. It is a call, and never a fault: it sets `failed` in no case.
+    fn flush(&mut self) -> io::Result<()>
+        ensures bytes { Keeps (W.contents self.old.inner) (W.contents self.new.inner) }
+        ensures failed { self.new.failed ≡ self.old.failed }
+        ensures noted { NotesCall self.old self.new false }
+    {
+        self.note_call();
+        self.inner.flush()
+    }
+
+    /// Writes the whole text, or answers the first fault.
+    ///
+    /// After a fault the front of the text was taken, and not all of it, and no call was made after the fault.
+    fn write_all(&mut self, buf: &[u8]) -> io::Result<()>
+        ensures bytes { OnOk result (Appends (W.contents self.old.inner) (W.contents self.new.inner) buf.now) }
+        ensures ok { OnOk result (self.new.failed ≡ self.old.failed) }
+        ensures err { OnErr result (self.new.failed ≡ true) }
+        ensures front { OnErr result (AppendsFront (W.contents (watched self.old)) (W.contents (watched self.new)) buf.now) }
+        ensures unmet { OnOk result (met_fault self.new ≡ met_fault self.old) }
+        ensures met { OnErr result (met_fault self.new ≡ true) }
+        ensures nothing_after { NoCallAfterFault self.old self.new }
+    {
+        let mut rest = buf;
+        while !rest.is_empty() {
+            let n = self.write(rest)?;
+            if n == 0 {
+                return Err(io::Error::from(ErrorKind::WriteZero));
+            }
+            rest = &rest[n..];
+        }
+        Ok(())
+    }
+}
