@@ -1,6 +1,7 @@
 //! The lines that a program reads, each of which runs a scenario or all of them.
 ghost use Rattle.std.specs.Prelude.{◌≤◌, IfOk, length};
 
+use crate::calls::{NAMES, run};
 use crate::outcome::Outcome;
 use std::alloc::Global;
 use std::io::{self, Read};
@@ -8,15 +9,6 @@ use std::str;
 
 /// The number of the request that is refused.
 const LEAD: usize = 200;
-
-/// The scenarios of a program, by their names.
-pub trait Scenarios {
-    /// The names, in the order in which `all` goes over them.
-    fn names(&self) -> &[&'static str];
-
-    /// Runs the scenario of a name, if there is one.
-    fn run(&self, alloc: Global, name: &str) -> Option<Outcome>;
-}
 
 /// Does the lines of standard input.
 ///
@@ -26,10 +18,9 @@ pub trait Scenarios {
 /// Where there is a PLACE, from 1 on, small requests for memory go before the scenario, so many that its request number
 /// PLACE is request number `LEAD` of the program. `rt try --fail-alloc` refuses that one: see `bin/refusals`. Nothing
 /// else here takes memory.
-pub fn run_lines<R: Read, S: Scenarios>(
+pub(crate) fn run_lines<R: Read>(
     rt: &(impl Print + AllocGlobal),
     reader: &mut R,
-    scenarios: &S,
 ) -> io::Result<()> {
     let mut space = [0u8; 256];
     let len = read_input(reader, &mut space)?;
@@ -37,7 +28,7 @@ pub fn run_lines<R: Read, S: Scenarios>(
         return println!(rt; "the input is no text");
     };
     for line in text.lines() {
-        do_line(rt, line, scenarios)?;
+        do_line(rt, line)?;
     }
     Ok(())
 }
@@ -58,24 +49,20 @@ fn read_input<R: Read>(reader: &mut R, space: &mut [u8]) -> io::Result<usize>
 }
 
 // Does a line of the input.
-fn do_line<S: Scenarios>(
-    rt: &(impl Print + AllocGlobal),
-    line: &str,
-    scenarios: &S,
-) -> io::Result<()> {
+fn do_line(rt: &(impl Print + AllocGlobal), line: &str) -> io::Result<()> {
     if line == "all" {
-        for name in scenarios.names() {
-            report(rt, name, scenarios)?;
+        for name in NAMES {
+            report(rt, name)?;
         }
         return Ok(());
     }
     let Some((name, place)) = line.split_once(' ') else {
-        return report(rt, line, scenarios);
+        return report(rt, line);
     };
     match place.parse::<usize>() {
         Ok(place) => {
             lead_to(rt.alloc(), place);
-            report(rt, name, scenarios)
+            report(rt, name)
         }
         Err(_) => println!(rt; "{line}: unknown"),
     }
@@ -90,12 +77,8 @@ fn lead_to(alloc: Global, place: usize) {
 }
 
 // Runs the scenario of a name, and writes how it ended.
-fn report<S: Scenarios>(
-    rt: &(impl Print + AllocGlobal),
-    name: &str,
-    scenarios: &S,
-) -> io::Result<()> {
-    match scenarios.run(rt.alloc(), name) {
+fn report(rt: &(impl Print + AllocGlobal), name: &str) -> io::Result<()> {
+    match run(rt.alloc(), name) {
         Some(Outcome::Answered) => println!(rt; "{name}: answered"),
         Some(Outcome::AnsweredWithRoom(room)) => println!(rt; "{name}: answered, room {room}"),
         Some(Outcome::Refused) => println!(rt; "{name}: refused"),

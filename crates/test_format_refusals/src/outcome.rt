@@ -54,8 +54,8 @@ impl Outcome {
     }
 }
 
-/// For how many pairs more a map has or gets room, asked for one after the other until it is refused.
-pub fn room_left<K: Ord, V, S: StoreMut<K, V>>(map: &mut LiteMap<K, V, S>) -> usize {
+// For how many pairs more a map has or gets room, asked for one after the other until it is refused.
+fn room_left<K: Ord, V, S: StoreMut<K, V>>(map: &mut LiteMap<K, V, S>) -> usize {
     let mut room = 0;
     for more in 1..MOST_ROOM {
         if map.reserve(more).is_err() {
