@@ -1,8 +1,8 @@
 //! The scenarios, by name.
+use crate::outcome::Outcome;
 use crate::{json, json_faults, read, session, tables};
 use litemap::store::ColumnStore;
 use std::alloc::Global;
-use test_refusal_support::{Outcome, Scenarios};
 
 type Numbers = Vec<(u32, u32)>;
 
@@ -12,11 +12,8 @@ type Texts = Vec<(String, String)>;
 
 type TextColumns = ColumnStore<String, String>;
 
-/// The scenarios of calls that read and write.
-pub struct Calls;
-
-/// The names of the scenarios.
-const NAMES: [&str; 44] = [
+/// The names of the scenarios, in the order in which `all` goes over them.
+pub(crate) const NAMES: [&str; 44] = [
     "read_pairs",
     "read_pairs_hinted",
     "extend_from_source",
@@ -63,36 +60,29 @@ const NAMES: [&str; 44] = [
     "from_json_no_map",
 ];
 
-impl Scenarios for Calls {
-    fn names(&self) -> &[&'static str] {
-        &NAMES
-    }
-
-    fn run(&self, alloc: Global, name: &str) -> Option<Outcome> {
-        match name {
-            "read_pairs" => Some(read::read_pairs::<Numbers>(alloc)),
-            "read_pairs_in_columns" => Some(read::read_pairs::<NumberColumns>(alloc)),
-            "read_pairs_hinted" => Some(read::read_pairs_hinted::<Numbers>(alloc)),
-            "read_pairs_hinted_in_columns" => {
-                Some(read::read_pairs_hinted::<NumberColumns>(alloc))
-            }
-            "extend_from_source" => Some(read::extend_from_source::<Numbers>(alloc)),
-            "extend_from_source_in_columns" => {
-                Some(read::extend_from_source::<NumberColumns>(alloc))
-            }
-            "read_results" => Some(read::read_results::<Numbers>(alloc)),
-            "read_results_in_columns" => Some(read::read_results::<NumberColumns>(alloc)),
-            "run_calls" => Some(read::run_calls::<Numbers>(alloc)),
-            "run_calls_in_columns" => Some(read::run_calls::<NumberColumns>(alloc)),
-            "names" => Some(session::run_lines::<Texts>(alloc)),
-            "names_in_columns" => Some(session::run_lines::<TextColumns>(alloc)),
-            "names_json" => Some(session::run_json::<Texts>(alloc)),
-            "names_json_in_columns" => Some(session::run_json::<TextColumns>(alloc)),
-            _ => {
-                run_tables(alloc, name)
-                    .or_else(|| json::run(alloc, name))
-                    .or_else(|| json_faults::run(alloc, name))
-            }
+/// Runs the scenario of a name, if there is one.
+pub(crate) fn run(alloc: Global, name: &str) -> Option<Outcome> {
+    match name {
+        "read_pairs" => Some(read::read_pairs::<Numbers>(alloc)),
+        "read_pairs_in_columns" => Some(read::read_pairs::<NumberColumns>(alloc)),
+        "read_pairs_hinted" => Some(read::read_pairs_hinted::<Numbers>(alloc)),
+        "read_pairs_hinted_in_columns" => { Some(read::read_pairs_hinted::<NumberColumns>(alloc)) }
+        "extend_from_source" => Some(read::extend_from_source::<Numbers>(alloc)),
+        "extend_from_source_in_columns" => {
+            Some(read::extend_from_source::<NumberColumns>(alloc))
+        }
+        "read_results" => Some(read::read_results::<Numbers>(alloc)),
+        "read_results_in_columns" => Some(read::read_results::<NumberColumns>(alloc)),
+        "run_calls" => Some(read::run_calls::<Numbers>(alloc)),
+        "run_calls_in_columns" => Some(read::run_calls::<NumberColumns>(alloc)),
+        "names" => Some(session::run_lines::<Texts>(alloc)),
+        "names_in_columns" => Some(session::run_lines::<TextColumns>(alloc)),
+        "names_json" => Some(session::run_json::<Texts>(alloc)),
+        "names_json_in_columns" => Some(session::run_json::<TextColumns>(alloc)),
+        _ => {
+            run_tables(alloc, name)
+                .or_else(|| json::run(alloc, name))
+                .or_else(|| json_faults::run(alloc, name))
         }
     }
 }

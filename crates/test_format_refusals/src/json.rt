@@ -1,4 +1,5 @@
 //! The calls that write JSON and read it.
+use crate::outcome::Outcome;
 use litemap::LiteMap;
 use litemap::store::{ColumnStore, StoreBulkMut};
 use litemap_json::{
@@ -8,7 +9,6 @@ use litemap_json::{
 use names::{FlagsFault, rewrite_flags};
 use serde_json::Value;
 use std::alloc::Global;
-use test_refusal_support::Outcome;
 
 type Words<S> = LiteMap<u32, String, S>;
 

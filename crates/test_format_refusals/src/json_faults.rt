@@ -1,10 +1,10 @@
 //! JSON values that spell no map, each with its fault at one place: `from_json` tells that fault, and where one of its requests
 //! is refused in front of it or in that place, want of memory. Behind the place it makes none.
+use crate::outcome::Outcome;
 use litemap::LiteMap;
 use litemap_json::{ItemFault, JsonFault, JsonItem, JsonKey, from_json};
 use serde_json::Value;
 use std::alloc::Global;
-use test_refusal_support::Outcome;
 
 // Texts at the names 10 to 29, but for a number at the place 17.
 const BAD_ITEM: &str =

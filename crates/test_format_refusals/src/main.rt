@@ -1,20 +1,21 @@
 //! Shows what each call that reads or writes answers where one of its requests for memory is refused.
 //!
 //! A scenario whose name ends in `_in_columns` has its pairs in two columns, and the others in a vector. The lines that it
-//! reads are those of `test_refusal_support::run_lines`.
+//! reads are those of `lines::run_lines`.
 #![tactic(auto)]
 
 mod calls;
 mod json;
 mod json_faults;
+mod lines;
+mod outcome;
 mod read;
 mod session;
 mod tables;
 
-use calls::Calls;
+use lines::run_lines;
 use std::io;
-use test_refusal_support::run_lines;
 
 fn main(rt: HostRuntime) -> io::Result<()> {
-    run_lines(&rt, &mut rt.stdin(), &Calls)
+    run_lines(&rt, &mut rt.stdin())
 }

@@ -1,8 +1,8 @@
 //! A run of the program `names` over a reader and a writer in memory.
+use crate::outcome::Outcome;
 use litemap::store::{StoreConstEmpty, StoreMut};
 use names::{Watch, run_with};
 use std::alloc::Global;
-use test_refusal_support::Outcome;
 
 const LINES: &[u8] = b"put b 2\nput a 1\nput b 3\nfind c\nall\n";
 

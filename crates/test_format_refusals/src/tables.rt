@@ -1,10 +1,10 @@
 //! Name tables that are read and written.
+use crate::outcome::Outcome;
 use litemap::LiteMap;
 use litemap_read::ReadFault;
 use name_index::{IndexedNames, NameIndex, NameTable};
 use names::{NameFault, NameMap, NameWriteFault};
 use std::alloc::{AllocError, Global};
-use test_refusal_support::Outcome;
 
 /// Keys in no order, one of them twice.
 const TABLE: &[u8] = b"\x05\x01c\x011\x01a\x012\x01b\x013\x01a\x014\x01d\x015";

@@ -1,62 +1,85 @@
-//! Iterators that say another number of pairs than they give: nothing is taken from what they say.
+//! Iterators that say another number of pairs than they give, and that give none, a few or very many.
 ghost use Rattle.std.specs.Iterator.{at_most};
 
 use litemap::LiteMap;
+use litemap::store::{ColumnStore, Store, StoreBulkMut, StoreFromIterable};
+use litemap_short::ShortStore;
 use std::alloc::{AllocError, Global};
 use std::test::Fail;
-use test_support::fixed_room::FixedRoom;
 
-const PAIRS: [(u32, u32); 4] = [(3, 30), (1, 10), (3, 31), (2, 20)];
-
-// Gives pairs, as many as there are and as it says at most, and says a number that it may not keep.
+// Gives so many pairs: each number below, from the last one on, behind its half.
 #[derive(Clone, Copy, Debug, Drop)]
-struct Promises {
-    given: usize,
+struct Halves {
+    number: u32,
+    // Not fewer than there are.
     promised: usize,
+    // Whether it says the promised number as the least, and as the most.
+    tells: (bool, bool),
 }
 
-impl Iterator for Promises {
+impl Iterator for Halves {
     type Item = (u32, u32);
 
     ghost remaining = { λ s. at_most s.promised };
 
     fn next(&mut self) -> Option<(u32, u32)> {
         self.promised = self.promised.checked_sub(1)?;
-        let pair = *PAIRS.get(self.given)?;
-        self.given += 1;
-        Some(pair)
+        self.number = self.number.checked_sub(1)?;
+        Some((self.number / 2, self.number))
     }
 
     fn size_hint(&self) -> (usize, Option<usize>) {
-        (self.promised, Some(self.promised))
+        let (least, most) = self.tells;
+        let least = if least { self.promised } else { 0 };
+        (least, most.then_some(self.promised))
     }
 }
 
-// Whether a map of what the iterator gives has these pairs.
-fn is_made(alloc: Global, iter: Promises, left: &[(u32, u32)]) -> Result<bool, AllocError> {
-    let made: LiteMap<u32, u32, Vec<(u32, u32)>> = LiteMap::from_iter(alloc, iter)?;
-    Ok(made.as_slice() == left)
+// Whether a map has each half of an even number of numbers once, with the lesser number.
+fn has_last<S: Store<u32, u32>>(map: &LiteMap<u32, u32, S>, number: u32) -> bool {
+    for half in 0..number / 2 {
+        if map.get_indexed(half as usize) != Some((&half, &half.wrapping_mul(2))) {
+            return false;
+        }
+    }
+    map.len() == number as usize / 2
 }
 
-// Whether a map with no room is extended by what the iterator gives, and how many pairs it has then.
-fn extended(alloc: Global, iter: Promises) -> Result<(bool, usize), AllocError> {
-    let mut map: LiteMap<u32, u32, FixedRoom<u32, u32>> = LiteMap::with_capacity(alloc, 0)?;
-    let is_extended = map.extend(alloc, iter).is_ok();
-    Ok((is_extended, map.len()))
+// Whether a map that is made of so many pairs has the last ones, and one of a greater key that is extended by them too.
+fn keeps_last<S: StoreBulkMut<u32, u32> + StoreFromIterable<u32, u32>>(
+    alloc: Global,
+    pairs: Halves,
+) -> Result<bool, AllocError> {
+    let number = pairs.number;
+    let made: LiteMap<u32, u32, S> = LiteMap::from_iter(alloc, pairs)?;
+    let mut extended: LiteMap<u32, u32, S> = LiteMap::with_capacity(alloc, 0)?;
+    extended.insert(number, 7)?;
+    extended.extend(alloc, pairs)?;
+    let last = extended.remove(&number);
+    Ok(has_last(&made, number) && has_last(&extended, number) && last == Some(7))
 }
 
 #[test]
-fn what_an_iterator_promises_changes_nothing(rt: HostRuntime) -> Result<(), Fail> {
-    for (promised, left) in [
-        (usize::MAX, [(1, 10), (2, 20), (3, 31)].as_slice()),
-        (5, [(1, 10), (2, 20), (3, 31)].as_slice()),
-        (2, [(1, 10), (3, 30)].as_slice()),
-        (0, [].as_slice()),
-    ] {
-        let iter = Promises { given: 0, promised };
-        let is_made = is_made(rt.alloc(), iter, left)?;
-        let extended = extended(rt.alloc(), iter)?;
-        assert!(rt; is_made && extended == (left.is_empty(), 0), "{promised}");
+fn the_size_hint_is_no_matter(rt: HostRuntime) -> Result<(), Fail> {
+    for (number, promised) in [(0, 1 << 63), (2, 2), (16, 17), (1000, usize::MAX)] {
+        for tells in [(false, false), (false, true), (true, false), (true, true)] {
+            let pairs = Halves {
+                number,
+                promised,
+                tells,
+            };
+            let in_vector = keeps_last::<Vec<(u32, u32)>>(rt.alloc(), pairs)?;
+            let in_columns = keeps_last::<ColumnStore<u32, u32>>(rt.alloc(), pairs)?;
+            let in_short = keeps_last::<ShortStore<u32, u32>>(rt.alloc(), pairs)?;
+            assert!(rt; in_vector && in_columns && in_short, "{pairs:?}");
+        }
     }
+    let many = Halves {
+        number: 1_000_000,
+        promised: 1_000_000,
+        tells: (false, false),
+    };
+    let made: LiteMap<u32, u32, Vec<(u32, u32)>> = LiteMap::from_iter(rt.alloc(), many)?;
+    assert!(rt; has_last(&made, 1_000_000));
     Ok(())
 }

@@ -1,31 +1,25 @@
-//! Tests that call a map as a user would, of what neither a contract nor a line of `test_replay` says: over a vector, over a
-//! store with a fixed room, and some over two columns. Of the calls that change a map or take many pairs these are: that room is
-//! there where memory is ample, what `try_get_or_insert` leaves, how often bulk input compares, the counted calls at some
-//! lengths, that nothing is taken from what an iterator promises, stores that are made of pairs, and ranges of keys and ends
-//! of maps where the input is odd.
+//! Tests of what neither a contract nor a line of `test_replay` says: closures that call several keys equal, queries of each
+//! kind, constant tables, iterators that lie, the greatest rooms, stores with a limit, what maps become, hashes, what is
+//! printed, and reading.
 #![tactic(auto)]
 
 #[cfg(test)]
-mod ample;
-#[cfg(test)]
-mod bounds;
-#[cfg(test)]
-mod bulk_comparisons;
-#[cfg(test)]
-mod bulk_counts;
-#[cfg(test)]
-mod clones;
-#[cfg(test)]
 mod closures;
 #[cfg(test)]
-mod counts;
+mod constants;
+#[cfg(test)]
+mod conversions;
+#[cfg(test)]
+mod ends;
+#[cfg(test)]
+mod hashes;
 #[cfg(test)]
 mod hints;
 #[cfg(test)]
-mod kept;
-#[cfg(test)]
-mod languages;
-#[cfg(test)]
-mod made;
+mod limits;
 #[cfg(test)]
 mod printing;
+#[cfg(test)]
+mod queries;
+#[cfg(test)]
+mod reading;

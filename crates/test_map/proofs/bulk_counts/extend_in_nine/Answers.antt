@@ -1,9 +1,0 @@
-use Rattle.std.proofs.Common.{◌≡◌, ◌+◌, ◌*◌, length, arith}
-use Rattle.std.proofs.lemmas.Result.{on_ok_weaker}
-use Rattle.std.specs.Cmp.{nat_cmp_total}
-use Rattle.litemap_store.proofs.Counting.{at_most}
-use Rattle.litemap_store.proofs.Extended.{cost_rising}
-use Rattle.test_map.proofs.bulk_counts.extend_in_nine.Goals as goal
-
-pub returns : goal.returns
-returns c = on_ok_weaker c.extend_counted.result (λ e rising new old. at_most (length c.args.map.now.pairs + 2 * length c.args.pairs.items) 9 (omega arith) (cost_rising nat_cmp_total _ (λ v it h. h.0) c.args.pairs _ _ _ _ e rising)) c.extend_counted.ensures.extended
