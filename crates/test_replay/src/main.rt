@@ -1,28 +1,40 @@
-//! Replays calls of maps: reads lines of standard input, a call each, and writes what answers each.
+//! Makes the calls of lines of data over each kind of store, and writes each line that is not answered as it says.
 //!
-//! A line is `STORE KEYS CALL ARGS`, words parted by one space. An empty line, or one that begins with `#`,
-//! is passed over and not answered; a line that says no call is answered `bad line`. For each store and each
-//! type of keys there is one map at a time, at first empty. The calls and what answers them stand in the library
-//! `test_replay_lines`.
+//! Standard input names files, a line each; they lie where the program runs. In a file, empty lines and lines that begin with
+//! `#` are passed over, and the others are:
 //!
-//! The stores `vec` and `fixed` are maps. The stores `scan` and `scan_fixed` stand in their places: lists
-//! that are changed by slow scans alone, whose contracts are the definitions of the sorted list. So the same
-//! lines with these names tell what the maps have to answer.
+//! - `on STORE ..`: the stores over which the next lines are made, of `vec`, `columns`, `short` and `fixed`;
+//! - `with ORDER LEN ROOM`: the map, or the store, that each of the next lines begins with: the order of its keys, how many
+//!   pairs it has (`2:20`, `4:40` and so on), and for how many more it is made with room;
+//! - `CALL WORD .. = ANSWER | PAIRS | COMPARED`: a call, what it answers, the pairs after it (`same`, if they are as before),
+//!   and how often it compares two keys at most (`*`: as often as it likes). With `+` in front it is made of what the line
+//!   before left.
+//!
+//! What a line leaves alive are the keys and values of its map, or of its store, and no others.
+//!
+//! After a line `marked` of the input every line is written with what it answers, and requests of three sizes tell a watcher
+//! of the allocator when each call begins and ends (`bin/requests`). Lines with `+` are left out. After a line `lines` the rest
+//! of the input is the text of a file.
 #![tactic(auto)]
 
-mod scans;
-mod stores;
+mod bench;
+mod line;
+mod run;
 
 use std::io;
-use stores::FourStores;
-use test_replay_lines::tables::answers;
-use test_support::keys::Letter;
 
 fn main(rt: HostRuntime) -> io::Result<()> {
     let input = io::read_to_string(rt.alloc(), rt.stdin())?;
-    let output = answers::<FourStores<u32>, FourStores<&str>, FourStores<Letter>>(
-        rt.alloc(),
-        input.as_str(),
-    )?;
-    rt.print(output.as_str())
+    if let Some(text) = input.strip_prefix("lines\n") {
+        return run::lines(&rt, "input", text, false);
+    }
+    let mut is_marked = false;
+    for name in input.lines() {
+        if name == "marked" {
+            is_marked = true;
+        } else {
+            run::file(&rt, name, is_marked)?;
+        }
+    }
+    Ok(())
 }

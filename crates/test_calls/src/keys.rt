@@ -1,0 +1,225 @@
+//! Keys that count their comparisons and themselves, in one of several orders.
+ghost use Rattle.std.specs.Prelude.{◌==◌, ◌≡◌};
+ghost use Rattle.std.specs.Hash as fed;
+ghost use Rattle.std.proofs.Common.{rules};
+ghost use Rattle.std.specs.Ordering.{nat_cmp, on, as_partial_cmp};
+ghost use Rattle.std.specs.Cmp.Rules.{comparing, hashing};
+ghost use Rattle.std.specs.Cmp.{partial_order_from_own_ties};
+
+use crate::seen::{Seen, lower, raise};
+use std::alloc::AllocError;
+use std::cmp::Ordering;
+use std::fmt::{self, Debug, Formatter, Write};
+use std::hash::{Hash, Hasher};
+use std::rc::Rc;
+
+/// How keys are written, and in which order they lie.
+#[derive(Clone, Copy, Debug, PartialEq)]
+pub enum Order {
+    /// Numbers.
+    Number,
+    /// Numbers, the greatest one first.
+    Falling,
+    /// Numbers that are all equal.
+    Same,
+    /// Letters, whose case is ignored.
+    Letter,
+    /// Texts of up to eight bytes, by their bytes.
+    Text,
+    /// Such texts, by their lengths alone.
+    Length,
+}
+
+impl Order {
+    /// The order of a name, if there is one.
+    pub fn of_name(name: &str) -> Option<Order> {
+        Some(match name {
+            "number" => Order::Number,
+            "falling" => Order::Falling,
+            "same" => Order::Same,
+            "letter" => Order::Letter,
+            "text" => Order::Text,
+            "length" => Order::Length,
+            _ => return None,
+        })
+    }
+
+    // What a word tells: a number, or the bytes of a text from the highest one on.
+    pub(crate) fn code(self, word: &str) -> Option<u64> {
+        match self {
+            Order::Number | Order::Falling | Order::Same => word.parse().ok(),
+            Order::Letter | Order::Text | Order::Length => code_of_text(word),
+        }
+    }
+
+    // Where a key stands among all keys.
+    fn rank(self, code: u64) -> u64 {
+        match self {
+            Order::Number | Order::Text => code,
+            Order::Falling => !code,
+            Order::Same => 0,
+            Order::Letter => code | LOWER_CASE,
+            Order::Length => length_of_code(code),
+        }
+    }
+
+    fn is_text(self) -> bool {
+        matches!(self, Order::Letter | Order::Text | Order::Length)
+    }
+}
+
+// The bit that parts a small letter from a large one.
+const LOWER_CASE: u64 = 1 << 61;
+
+fn code_of_text(word: &str) -> Option<u64> {
+    let mut bytes = [0u8; 8];
+    if word.len() > 8 || word.is_empty() {
+        return None;
+    }
+    for (place, byte) in word.bytes().enumerate() {
+        if let Some(slot) = bytes.get_mut(place) {
+            *slot = byte;
+        }
+    }
+    Some(u64::from_be_bytes(bytes))
+}
+
+// How many bytes stand in front of the zeros.
+fn length_of_code(code: u64) -> u64 {
+    (71 - (code.trailing_zeros().min(64)) as u64) / 8
+}
+
+/// A key, which counts how often it is compared and how many there are.
+pub struct Key {
+    code: u64,
+    rank: u64,
+    order: Order,
+    seen: Rc<Seen>,
+}
+
+impl Key {
+    /// The key of a code.
+    pub fn new(order: Order, code: u64, seen: &Rc<Seen>) -> Result<Self, AllocError> {
+        raise(&seen.keys);
+        Ok(Key {
+            code,
+            rank: order.rank(code),
+            order,
+            seen: seen.clone()?,
+        })
+    }
+
+    /// How it is written.
+    pub fn order(&self) -> Order {
+        self.order
+    }
+
+    /// Where it stands among all keys.
+    pub fn rank(&self) -> u64
+        ensures { result ≡ self.now.rank }
+    {
+        self.rank
+    }
+
+    /// What tells the key from others, equal ones too.
+    pub fn code(&self) -> u64 {
+        self.code
+    }
+}
+
+impl Drop for Key {
+    fn drop(self) {
+        let Key {
+            code: _,
+            rank: _,
+            order: _,
+            seen,
+        } = self;
+        lower(&seen.keys);
+    }
+}
+
+impl Clone for Key {
+    ghost is_clone = { λ s t. t.rank ≡ s.rank };
+
+    fn clone(&self) -> Result<Self, AllocError> {
+        raise(&self.seen.cloned);
+        raise(&self.seen.keys);
+        Ok(Key {
+            code: self.code,
+            rank: self.rank,
+            order: self.order,
+            seen: self.seen.clone()?,
+        })
+    }
+}
+
+impl PartialEq for Key {
+    ghost eq = { λ a b. a.rank == b.rank };
+
+    ghost laws = { Prim.search (comparing, rules) };
+
+    fn eq(&self, other: &Self) -> bool {
+        raise(&self.seen.compared);
+        self.rank == other.rank
+    }
+}
+
+impl Eq for Key {
+    ghost laws = { Prim.search (comparing, rules) };
+}
+
+impl PartialOrd for Key {
+    ghost partial_cmp = { as_partial_cmp (on (λ a. a.rank) nat_cmp) };
+
+    ghost laws = { partial_order_from_own_ties (Prim.search (comparing, rules)) (Prim.search (comparing, rules)) };
+
+    fn partial_cmp(&self, other: &Self) -> Option<Ordering> {
+        Some(self.cmp(other))
+    }
+}
+
+impl Ord for Key {
+    ghost cmp = { on (λ a. a.rank) nat_cmp };
+
+    ghost total = { Prim.search (comparing, rules) };
+
+    ghost matches_partial_cmp = { Prim.search (comparing, rules) };
+
+    ghost matches_eq = { Prim.search (comparing, rules) };
+
+    fn cmp(&self, other: &Self) -> Ordering {
+        raise(&self.seen.compared);
+        self.rank.cmp(&other.rank)
+    }
+}
+
+impl Hash for Key {
+    ghost hash_input = { λ a. fed.u64 a.rank };
+
+    ghost respects_eq = { Prim.search (hashing, rules) };
+
+    fn hash<H: Hasher>(&self, state: &mut H) {
+        self.rank.hash(state);
+    }
+}
+
+/// Printed as it is written.
+impl Debug for Key {
+    fn fmt<W: Write>(&self, f: &mut Formatter<W>) -> fmt::Result {
+        write_code(f, self.order, self.code)
+    }
+}
+
+/// Writes the word of a key.
+pub(crate) fn write_code<W: Write>(f: &mut W, order: Order, code: u64) -> fmt::Result {
+    if !order.is_text() {
+        return write!(f, "{code}");
+    }
+    for byte in code.to_be_bytes() {
+        if byte != 0 {
+            f.write_char(char::from(byte))?;
+        }
+    }
+    Ok(())
+}

@@ -1,0 +1,788 @@
+#!/usr/bin/env python3
+"""A model of a map as a plain list of pairs, and the lines of data that `test_replay` reads.
+
+It writes data/*.calls: each call of a map and of a store, at lengths around every limit, at each kind of place, with what it
+answers, the pairs after it, and how often it compares two keys at most. Nothing here runs the code under test. The cases of
+data/rows are written by hand there, without answers. With --check it writes nothing, and says whether the files are as they
+would be written.
+"""
+import argparse
+import itertools
+import pathlib
+import re
+import sys
+
+FOLDER = pathlib.Path(__file__).resolve().parent
+STEP = 1099511628211
+# Around what the libraries treat in another way: none, one, a sort without memory, a vector's first room, and more.
+LENGTHS = [0, 1, 2, 3, 4, 5, 8, 9, 16, 17, 20, 21, 30, 33, 100, 1000]
+GROWING = "vec columns short"
+ALL = GROWING + " fixed"
+
+
+def digits(number):
+    """How often a search compares at most."""
+    return number.bit_length()
+
+
+class Order:
+    """How the words of keys are read, and where they stand."""
+
+    def __init__(self, name):
+        self.name = name
+
+    def code(self, word):
+        if self.name in ("number", "falling", "same"):
+            return int(word)
+        return int.from_bytes(word.encode().ljust(8, b"\0"), "big")
+
+    def rank(self, word):
+        if self.name == "falling":
+            return -int(word)
+        if self.name == "same":
+            return 0
+        if self.name == "letter":
+            return ord(word.lower())
+        if self.name == "length":
+            return len(word.encode())
+        return int(word) if self.name == "number" else word.encode()
+
+
+class Model:
+    """A map: its pairs as words, and how many more a fixed room takes (None: as many as come)."""
+
+    def __init__(self, order, pairs=(), room=None):
+        self.order, self.pairs, self.room = order, list(pairs), room
+
+    def text(self, pairs):
+        """Pairs as they are written."""
+        pairs = list(pairs)
+        if len(pairs) <= 6:
+            return " ".join(f"{key}:{value}" for key, value in pairs) or "-"
+        total = 0
+        for key, value in pairs:
+            total = (total ^ self.order.code(key)) * STEP % 2**64
+            total = (total ^ value) * STEP % 2**64
+            total ^= total >> 29
+        return f"#{len(pairs)}:{total % 10**9}"
+
+    def place(self, key):
+        """How many keys are smaller, and whether an equal one is there."""
+        rank = self.order.rank
+        below = sum(rank(k) < rank(key) for k, _ in self.pairs)
+        return below, below < len(self.pairs) and rank(self.pairs[below][0]) == rank(key)
+
+    def last(self, pairs):
+        """Of each key the last pair, in order."""
+        kept = {}
+        for key, value in pairs:
+            kept[self.order.rank(key)] = (key, value)
+        return [kept[rank] for rank in sorted(kept)]
+
+    def rises(self, pairs):
+        ranks = [self.order.rank(key) for key, _ in pairs]
+        return all(low < high for low, high in zip(ranks, ranks[1:]))
+
+    def taken(self, count=1):
+        """Takes room for so many, if it is there."""
+        if self.room is not None and self.room < count:
+            return False
+        if self.room is not None:
+            self.room -= count
+        return True
+
+    def put(self, key, value):
+        """Puts an absent key in, if there is room: what is answered where there isn't."""
+        place, _ = self.place(key)
+        if not self.taken():
+            return f"refused {key}:{value}"
+        self.pairs.insert(place, (key, value))
+        return None
+
+    def freed(self, count=1):
+        if self.room is not None:
+            self.room += count
+
+    def bounds(self, words):
+        """The indices that two bounds part."""
+        low, first, high, last = words
+        start, end = 0, len(self.pairs)
+        if low != "-":
+            place, there = self.place(first)
+            start = place + (there and low == "out")
+        if high != "-":
+            place, there = self.place(last)
+            end = place + (there and high == "in")
+        return start, max(start, end)
+
+    def given(self, words):
+        """The pairs that words spell."""
+        pairs = []
+        for word in words:
+            if ":" in word:
+                key, value = word.split(":")
+                pairs.append((key, int(value)))
+            else:
+                first, count, step = map(int, word.split(","))
+                pairs += [(str(first + place * step), place) for place in range(count)]
+        return pairs
+
+    def make(self, call):
+        """Makes a call: what it answers, and how often it compares at most (None: as often as it likes)."""
+        name, *words = call.split(" ")
+        search = digits(len(self.pairs))
+        for group in [self.look, self.by_key, self.put_in, self.enter, self.take, self.walk, self.many]:
+            answer = group(name, words, search)
+            if answer is not None:
+                return answer if isinstance(answer, tuple) else (answer, 0)
+        raise ValueError(call)
+
+    def pair_at(self, index):
+        return self.text([self.pairs[index]]) if -1 <= index < len(self.pairs) and self.pairs else "none"
+
+    def look(self, name, words, search):
+        size = len(self.pairs)
+        if name in ("len", "lm_len"):
+            return str(size)
+        if name in ("is_empty", "lm_is_empty"):
+            return "false" if size else "true"
+        if name == "first":
+            return self.pair_at(0)
+        if name in ("last", "lm_last"):
+            return self.pair_at(-1)
+        if name in ("get_indexed", "lm_get"):
+            return self.pair_at(int(words[0]))
+        if name in ("keys_rise",):
+            return "ok"
+        if name == "debug":
+            return "{" + ", ".join(f"{key}: {value}" for key, value in self.pairs) + "}"
+        if name in ("as_slice",):
+            return self.text(self.pairs)
+        if name == "as_sliced":
+            tail = f" {self.pair_at(0)}" if size else ""
+            return f"{self.text(self.pairs)} {size} {'false' if size else 'true'}{tail}"
+        if name == "into_tuple_vec":
+            text, self.pairs = self.text(self.pairs), []
+            return text
+        if name == "is_sorted_store":
+            return ("true" if self.rises(self.pairs) else "false"), max(size - 1, 0)
+        if name == "get_indexed_range":
+            start, end = map(int, words)
+            return self.text(self.pairs[start:end]) if start <= end <= size else "none"
+        if name in ("places", "places_counted"):
+            start, end = self.bounds(words)
+            return f"{start} {end}", 2 * search
+        if name == "range":
+            start, end = self.bounds(words)
+            return self.text(self.pairs[start:end]), 2 * search
+        return None
+
+    def by_key(self, name, words, search):
+        if len(words) != 1 and name not in ("get_mut", "get_mut_by", "index_mut", "get_indexed_mut", "lm_get_mut", "lm_pair_mut"):
+            return None
+        if name in ("get_indexed_mut", "lm_get_mut", "lm_pair_mut"):
+            index, value = int(words[0]), int(words[1])
+            if index >= len(self.pairs):
+                return "none"
+            key, old = self.pairs[index]
+            self.pairs[index] = (key, value)
+            return str(old) if name == "get_indexed_mut" else f"{key}:{old}"
+        if name not in LOOK_UPS:
+            return None
+        place, there = self.place(words[0])
+        pair = self.pairs[place] if there else None
+        if name in ("find_index", "find_index_counted", "find_index_by", "lm_binary_search_by"):
+            return f"{'ok' if there else 'err'} {place}", search
+        if name == "contains_key":
+            return ("true" if there else "false"), search
+        if name == "get_key_value":
+            return (self.text([pair]) if there else "none"), search
+        if name in ("index", "index_mut") and not there:
+            return "absent", search
+        if not there:
+            return "none", search
+        if name in ("get_mut", "get_mut_by", "index_mut"):
+            self.pairs[place] = (pair[0], int(words[1]))
+        return str(pair[1]), search
+
+    def put_in(self, name, words, search):
+        if name not in PUTS:
+            return None
+        key, value = words[0], int(words[1])
+        place, there = self.place(key)
+        old = self.pairs[place] if there else None
+        if name == "try_append":
+            if place < len(self.pairs):
+                return f"back {key}:{value}", 1
+            return self.put(key, value) or "placed", min(len(self.pairs), 1) if self.room is None else 1
+        if name in ("insert", "insert_counted"):
+            if there:
+                self.pairs[place] = (old[0], value)
+                return str(old[1]), search
+            return self.put(key, value) or "none", search
+        if name == "try_insert":
+            return (f"back {key}:{value}" if there else self.put(key, value) or "placed"), search
+        if there:
+            return (f"{place} {old[1]} asked 0" if "get" in name else f"{place} asked 0"), search
+        if name.endswith("fail"):
+            return f"closure {value} asked 1", search
+        refused = self.put(key, value)
+        return (f"{refused or (f'{place} {value}' if 'get' in name else place)} asked 1"), search
+
+    def enter(self, name, words, search):
+        if name not in ENTRIES:
+            return None
+        key, value = words[0], int(words[1]) if len(words) > 1 else 0
+        place, there = self.place(key)
+        if name == "entry":
+            return (f"occupied {self.pairs[place][0]}" if there else f"vacant {key}"), search
+        if name in ("entry_get", "entry_remove") and not there:
+            return "vacant", search
+        if name == "entry_get":
+            return str(self.pairs[place][1]), search
+        if name == "entry_remove":
+            self.freed()
+            return str(self.pairs.pop(place)[1]), search
+        asked = ""
+        if name in ("or_insert", "or_insert_with", "and_modify"):
+            asked = f" asked {int(name == 'or_insert_with' and not there or name == 'and_modify' and there)}"
+        if not there:
+            refused = self.put(key, value)
+            if refused:
+                return refused + asked, search
+            self.pairs[place] = (key, value + 1)
+            return f"{value}{asked}", search
+        stored, old = self.pairs[place]
+        if name in ("entry_insert", "entry_get_mut", "entry_into_mut"):
+            self.pairs[place] = (stored, value)
+            return str(old), search
+        old = value if name == "and_modify" else old
+        self.pairs[place] = (stored, old + 1)
+        return f"{old}{asked}", search
+
+    def take(self, name, words, search):
+        if name in ("remove", "remove_counted", "remove_by", "remove_entry"):
+            place, there = self.place(words[0])
+            if not there:
+                return "none", search
+            key, value = self.pairs.pop(place)
+            self.freed()
+            return (f"{key}:{value}" if name == "remove_entry" else str(value)), search
+        if name in ("pop_first", "pop_last", "lm_remove"):
+            if not self.pairs:
+                return "none"
+            self.freed()
+            index = {"pop_first": 0, "pop_last": -1}.get(name)
+            return self.text([self.pairs.pop(int(words[0]) if index is None else index)])
+        if name in ("clear", "lm_clear"):
+            self.freed(len(self.pairs))
+            self.pairs = []
+            return "ok"
+        if name in ("retain", "lm_retain"):
+            bits, size = int(words[0]), len(self.pairs)
+            self.pairs = [pair for place, pair in enumerate(self.pairs) if bits >> place % 64 & 1]
+            self.freed(size - len(self.pairs))
+            return str(size)
+        if name == "update":
+            more = int(words[0])
+            self.pairs = [(key, value + more + place) for place, (key, value) in enumerate(self.pairs)]
+            return str(len(self.pairs))
+        return None
+
+    def walk(self, name, words, search):
+        if name in ("iter", "keys", "values"):
+            front, back = map(int, words)
+            ahead, behind = self.pairs[:front], self.pairs[max(front, len(self.pairs) - back) :][::-1]
+            return self.text(part(name, pair) for pair in ahead + behind) + " exact"
+        if name == "into_iter":
+            text, self.pairs = self.text(self.pairs[: int(words[0])]), []
+            return text + " exact"
+        if name in ("for", "iter_keys", "iter_values"):
+            pairs = self.pairs if name == "for" else self.pairs[:1]
+            return self.text(part(name[5:], pair) for pair in pairs) + " exact"
+        if name in CONVERSIONS:
+            cloned = len(self.pairs) * CONVERSIONS[name]
+            return f"{self.text(self.pairs)} cloned {cloned}"
+        if name == "lm_try_clone":
+            return self.text(self.pairs)
+        return None
+
+    def cost(self, pairs):
+        """How often bulk input is compared at most: None where it has to be sorted."""
+        if not self.rises(pairs):
+            return None
+        above = not self.pairs or not pairs or self.order.rank(self.pairs[-1][0]) < self.order.rank(pairs[0][0])
+        return len(pairs) if above else len(self.pairs) + 2 * len(pairs)
+
+    def many(self, name, words, search):
+        if name in ("new", "lm_empty"):
+            self.pairs, self.room = [], None if self.room is None else 0
+            return "ok"
+        if name in ("with_capacity", "lm_with_capacity"):
+            self.pairs, self.room = [], None if self.room is None else int(words[0])
+            return "ok"
+        if name in ("reserve", "lm_reserve"):
+            return "ok" if self.room is None or self.room >= int(words[0]) else "refused"
+        if name == "lm_push":
+            return self.placed(len(self.pairs), words)
+        if name == "lm_insert":
+            return self.placed(int(words[0]), words[1:])
+        if name == "lm_replace":
+            index, pair = int(words[0]), (words[1], int(words[2]))
+            old, self.pairs[index] = self.pairs[index], pair
+            return self.text([old])
+        if name in ("read_pairs", "extend_from_source"):
+            return self.read(name, words)
+        if name == "split_off":
+            place, _ = self.place(words[0])
+            self.pairs, later = self.pairs[:place], self.pairs[place:]
+            return self.text(later), search
+        pairs = self.given(words)
+        if name in ("from_iter", "from_iter_counted", "from_vec", "from_vec_counted", "lm_sort_from_iter", "lm_sort_from_vec"):
+            cost = len(pairs) if self.rises(pairs) else None
+            self.pairs = self.last(pairs)
+            return "ok", cost
+        if name == "lm_from_pairs":
+            self.pairs = pairs
+            return "ok"
+        if name in EXTENSIONS:
+            return self.extend(pairs)
+        if name in ("extend_from_litemap", "extend_from_litemap_counted"):
+            return self.merge(self.last(pairs))
+        if name in ("lm_extend_end", "lm_extend_start"):
+            self.pairs = self.pairs + pairs if name.endswith("end") else pairs + self.pairs
+            return "ok"
+        if name in ("eq", "cmp", "partial_cmp"):
+            return self.compare(name, self.last(pairs))
+        return None
+
+    def placed(self, index, words):
+        if not self.taken():
+            return f"refused {words[0]}:{words[1]}"
+        self.pairs.insert(index, (words[0], int(words[1])))
+        return "ok"
+
+    def extend(self, pairs):
+        cost = self.cost(pairs)
+        fresh = self.last(pairs)
+        above = not self.pairs or not fresh or self.order.rank(self.pairs[-1][0]) < self.order.rank(fresh[0][0])
+        if above and not self.taken(len(fresh)):
+            return "refused", cost
+        self.pairs = self.last(self.pairs + pairs)
+        return "ok", cost
+
+    def merge(self, pairs):
+        old, rank = self.pairs, self.order.rank
+        there, came = {rank(key) for key, _ in old}, {rank(key): value for key, value in pairs}
+        cost = 2 + len(pairs) * digits(len(old) + len(pairs))
+        apart = bool(old and pairs) and (rank(old[-1][0]) < rank(pairs[0][0]) or rank(pairs[-1][0]) < rank(old[0][0]))
+        values = {rank(key): value for key, value in old}
+        left = [(key, values[rank(key)]) for key, _ in pairs if rank(key) in there]
+        kept = [(key, came.get(rank(key), value)) for key, value in old]
+        self.pairs = sorted(kept + [pair for pair in pairs if rank(pair[0]) not in there], key=lambda pair: rank(pair[0]))
+        cost = 0 if not old or not pairs else 2 if apart else cost
+        return (f"left {self.text(left)}" if left else "none"), cost
+
+    def read(self, name, words):
+        pairs, error = self.given(words[2:]), None if words[1] == "-" else int(words[1])
+        if error is not None and error <= len(pairs):
+            return f"error {error + 1} asked {error + 1}", None
+        start = self.pairs if name == "extend_from_source" else []
+        cost = self.cost(pairs) if start else len(pairs) if self.rises(pairs) else None
+        self.pairs = self.last(start + pairs)
+        return f"ok asked {len(pairs) + 1}", cost
+
+    def compare(self, name, other):
+        mine = [(self.order.rank(key), value) for key, value in self.pairs]
+        theirs = [(self.order.rank(key), value) for key, value in other]
+        most = min(len(mine), len(theirs))
+        if name == "eq":
+            return ("true" if mine == theirs else "false"), most if len(mine) == len(theirs) else 0
+        return ("equal" if mine == theirs else "less" if mine < theirs else "greater"), most
+
+
+LOOK_UPS = {"find_index", "find_index_counted", "find_index_by", "lm_binary_search_by", "contains_key", "get_key_value"}
+LOOK_UPS |= {"get", "get_counted", "get_by", "index", "get_mut", "get_mut_by", "index_mut"}
+PUTS = ["insert", "insert_counted", "try_insert", "try_append", "try_get_or_insert", "try_find_or_insert"]
+PUTS += ["try_get_or_fail", "try_find_or_fail"]
+ENTRIES = ["or_insert", "or_insert_with", "and_modify", "entry_insert", "entry_get_mut", "entry_into_mut"]
+ENTRIES += ["or_default", "entry", "entry_get", "entry_remove"]
+EXTENSIONS = ["extend", "extend_counted", "extend_from_vec", "extend_from_vec_counted", "lm_extend", "lm_extend_from_vec"]
+# How many clones each conversion makes of a pair.
+CONVERSIONS = {"try_clone": 2, "to_boxed_keys_values": 2, "to_boxed_keys": 2, "to_boxed_values": 2, "to_keys_by": 1}
+CONVERSIONS |= {"to_borrowed_keys_values": 0, "to_borrowed_keys": 1, "to_borrowed_values": 1}
+
+
+def part(name, pair):
+    """What a walk over keys or values shows of a pair."""
+    return (pair[0], 0) if name == "keys" else (0, pair[1]) if name == "values" else pair
+
+
+def line(model, call, mark=""):
+    """The line of a call, which changes the model."""
+    before = list(model.pairs)
+    answer, cost = model.make(call)
+    after = "same" if model.pairs == before else model.text(model.pairs)
+    return f"{mark}{call} = {answer} | {after} | {'*' if cost is None else cost}"
+
+
+def block(stores, length, room, calls, order="number", is_fixed=False):
+    """Calls that each begin with the same pairs."""
+    yield f"on {stores}"
+    yield f"with {order} {length} {room}"
+    for call in calls:
+        pairs = [(str(2 * place), 20 * place) for place in range(1, length + 1)]
+        yield line(Model(Order(order), pairs, room if is_fixed else None), call)
+
+
+def chain(stores, calls, order="number", room=None, is_fixed=False):
+    """Calls that go on from one another, from an empty map with this room."""
+    yield f"on {stores}"
+    yield f"with {order} 0 {room or 0}"
+    model = Model(Order(order), [], room if is_fixed else None)
+    for place, call in enumerate(calls):
+        yield line(model, call, "+ " if place else "")
+
+
+def present(length):
+    """The first key, the middle one and the last one."""
+    return sorted({2, length // 2 * 2 + 2 * (length % 2), 2 * length} - {0}) if length else []
+
+
+def absent(length):
+    """A key below all, two between others, and one above all."""
+    return sorted({1, length // 2 * 2 + 1, max(2 * length - 1, 1), 2 * length + 1})
+
+
+def keys(length):
+    """Each key and each gap of a short list, and of a longer one those at the ends and in the middle."""
+    return list(range(1, 2 * length + 2)) if length <= 9 else present(length) + absent(length)
+
+
+def looks():
+    """What changes nothing, by keys, indices and bounds."""
+    for length in LENGTHS + [3000]:
+        indices = sorted({0, length // 2, max(length - 1, 0), length, length + 1, 2**64 - 1})
+        calls = ["len", "is_empty", "first", "last", "keys_rise"] + (["debug"] if length <= 100 else [])
+        calls += [f"get_indexed {index}" for index in indices]
+        calls += [f"{name} {key}" for name in LOOK_KEYS for key in keys(length)]
+        some = [1, *present(length), 2 * length + 1]
+        ends = [(low, high) for low in ("in", "out", "-") for high in ("in", "out", "-")]
+        pairs = [(first, last) for first in some for last in some]
+        calls += [f"places {low} {first} {high} {last}" for low, high in ends for first, last in pairs]
+        calls += [f"places_counted {low} {some[0]} {high} {some[-1]}" for low, high in ends]
+        yield from block(ALL, length, 1, calls)
+        parts = [f"get_indexed_range {start} {end}" for start in indices for end in indices]
+        parts += [f"range {low} {first} {high} {last}" for low, high in ends for first, last in pairs[::3]]
+        yield from block("vec short", length, 1, ["as_slice", "as_sliced", *parts])
+        yield from block("vec", length, 1, ["into_tuple_vec"])
+
+
+LOOK_KEYS = ["get", "get_counted", "get_key_value", "get_by", "contains_key", "find_index", "find_index_counted"]
+LOOK_KEYS += ["find_index_by", "index"]
+
+
+def walks():
+    """Walks from both ends, conversions and comparisons."""
+    for length in LENGTHS:
+        steps = sorted({0, 1, 2, length // 2, max(length - 1, 0), length, length + 2})
+        calls = [f"{name} {front} {back}" for name in ("iter", "keys", "values") for front in steps for back in steps]
+        calls += [f"into_iter {steps}" for steps in steps]
+        calls += ["for 0 0", "iter_keys 0 0", "iter_values 0 0", *CONVERSIONS]
+        mine = [f"{2 * place}:{20 * place}" for place in range(1, length + 1)]
+        others = [mine, mine[:-1], mine + [f"{2 * length + 2}:0"]]
+        if length:
+            others += [mine[:-1] + [f"{2 * length}:{value}"] for value in (20 * length - 1, 20 * length + 1)]
+            others += [mine[:-1] + [f"{2 * length + change}:{20 * length}"] for change in (-1, 1)]
+            others += [["1:1"] + mine[1:], ["2:21"] + mine[1:], ["2:19"] + mine[1:-1] + [f"{2 * length + 5}:1"]]
+        if length <= 100:
+            calls += [" ".join([name, *other]) for name in ("eq", "cmp", "partial_cmp") for other in others]
+        yield from block(ALL, length, 1, calls)
+
+
+def changes():
+    """What places, writes or takes out one pair, or goes over all."""
+    for length in LENGTHS + [3000]:
+        indices = sorted({0, length // 2, max(length - 1, 0), length, 2**64 - 1})
+        calls = [f"{name} {key} 7" for name in PUTS + ENTRIES[:6] for key in keys(length)]
+        calls += [f"{name} {key}" for name in ENTRIES[6:] for key in keys(length)]
+        writes = [f"{name} {key} 7" for name in ("get_mut", "get_mut_by", "index_mut") for key in keys(length)]
+        writes += [f"get_indexed_mut {index} 7" for index in indices]
+        writes += [f"{name} {key}" for name in TAKES for key in keys(length)]
+        writes += ["pop_first", "pop_last", "clear", "update 5", "reserve 0", "reserve 1"]
+        writes += [f"retain {bits}" for bits in RETAINED]
+        yield from block(ALL, length, 1, calls + writes, is_fixed=False)
+        yield from block(GROWING, length, 0, calls + writes + [f"reserve {more}" for more in (2, 8, 100)])
+        yield from block("fixed", length, 0, calls + writes[:-8] + ["reserve 0", "reserve 1"], is_fixed=True)
+
+
+TAKES = ["remove", "remove_counted", "remove_by", "remove_entry"]
+# Which pairs are kept, by the bits of a number: none, all, the first, all but the first, in turns, the last of 64, and others.
+RETAINED = [0, 2**64 - 1, 1, 2**64 - 2, 0x5555555555555555, 0xAAAAAAAAAAAAAAAA, 2**63, 0xFFFF0000FFFF0000, 6, 2**64 - 7]
+
+
+def inputs(length):
+    """Bulk input of each kind: none, above, below, between, equal, falling, doubled, scattered."""
+    end = 2 * length
+    yield ""
+    for count in (1, 2, 5, 17, 40):
+        yield f"{end + 1},{count},1"
+        yield f"{end + 1 + 3 * count},{count},-3"
+        yield f"1,{count},2"
+        yield f"2,{count},2"
+        yield f"{max(end - 2 * count, 0)},{count},1"
+    yield f"{end},1,1"
+    yield f"{end + 1},3,1 {end + 1},3,1"
+    yield f"{end + 5},1,1 {end + 3},1,1 {end + 5},1,1"
+    yield f"1,30,7 3,30,5"
+    yield f"{end + 2},1,1 1,1,1"
+    yield "5,9,0"
+
+
+def bulk():
+    """What takes or makes many pairs at once, merges, parts and reads."""
+    for length in [0, 1, 2, 3, 5, 16, 17, 30, 33, 100, 1000]:
+        given = list(inputs(length)) + ([f"{2 * length + 1},1000,1", "1,1000,2", "4000,1000,-4"] if length in (0, 17, 1000) else [])
+        calls = [f"{name} {pairs}".strip() for name in EXTENSIONS[:4] + MERGES for pairs in given]
+        calls += [f"split_off {key}" for key in keys(length)]
+        yield from block(GROWING, length, 0, [*calls, *(f"{name} - - {pairs}".strip() for name in READS for pairs in given)])
+        yield from block(ALL, length, 3000, [call for call in calls if not length or call not in BEFORE_ALL])
+        if length in (0, 5, 30):
+            made = [f"{name} {pairs}".strip() for name in MAKES for pairs in given]
+            yield from block(ALL, length, 0, made + ["new", "with_capacity 0", "with_capacity 1", "with_capacity 16", "with_capacity 100"])
+            hints = [0, 1, 3, 17, 2**40, 2**63, 2**64 - 1]
+            errors = [f"{name} {hint} {error} 1,5,2" for name in READS for hint in hints for error in ("-", 0, 1, 4, 5)]
+            yield from block(GROWING, length, 0, errors)
+    above = [f"{name} 1001,{count},1" for name in EXTENSIONS[:4] for count in (0, 1, 2, 40)]
+    for room in (0, 1, 2, 39):
+        yield from block("fixed", 20, room, above + ["reserve 3", f"reserve {room}"], is_fixed=True)
+
+
+# A store with a fixed room takes no pairs before its own: it would have to move into the other one, which has no room.
+BEFORE_ALL = ["extend_from_litemap 1,1,2", "extend_from_litemap_counted 1,1,2"]
+MERGES = ["extend_from_litemap", "extend_from_litemap_counted"]
+READS = ["read_pairs", "extend_from_source"]
+MAKES = ["from_iter", "from_iter_counted", "from_vec", "from_vec_counted"]
+
+
+def stores():
+    """The calls of a store itself."""
+    for length in LENGTHS:
+        indices = sorted({0, length // 2, max(length - 1, 0)})
+        looks = ["lm_len", "lm_is_empty", "lm_last", "lm_try_clone", "lm_clear", "is_sorted_store"]
+        looks += [f"lm_get {index}" for index in [*indices, length, 2**64 - 1]]
+        looks += [f"lm_get_mut {index} 7" for index in [*indices, length]]
+        looks += [f"lm_binary_search_by {key}" for key in keys(length)]
+        looks += [f"lm_retain {bits}" for bits in RETAINED]
+        if length:
+            looks += [f"{name} {index}{tail}" for name, tail in STORED for index in indices]
+        puts = ["lm_push 9999 7", *(f"lm_insert {index} 1 7" for index in {*indices, length})]
+        yield from block(ALL, length, 1, looks + puts + ["lm_reserve 0", "lm_reserve 1"])
+        yield from block(GROWING, length, 0, looks + puts + ["lm_reserve 0", "lm_reserve 1", "lm_reserve 8"])
+        yield from block("fixed", length, 0, puts + ["lm_reserve 0", "lm_reserve 1"], is_fixed=True)
+        given = list(inputs(length))
+        many = [f"{name} {pairs}".strip() for name in ("lm_extend", "lm_extend_from_vec") for pairs in given]
+        if length <= 33:
+            many += [f"{name} {pairs}".strip() for name in ("lm_extend_end", "lm_extend_start") for pairs in given]
+        yield from block(GROWING, length, 0, many)
+        yield from block(ALL, length, 100, many)
+    made = [f"{name} {pairs}".strip() for name in ("lm_sort_from_iter", "lm_sort_from_vec", "lm_from_pairs") for pairs in inputs(20)]
+    yield from block(ALL, 5, 0, made + ["lm_empty 0", "lm_with_capacity 0", "lm_with_capacity 1", "lm_with_capacity 17"])
+
+
+STORED = [("lm_pair_mut", " 7"), ("lm_replace", " 1 7"), ("lm_remove", "")]
+
+
+def scattered():
+    """Input in no order around the length that a sort takes with no memory, and every short list into every short map."""
+    for count in (19, 20, 21, 40, 41, 1000):
+        pairs = " ".join(f"{place * 7919 % (count // 3 + 1)}:{place}" for place in range(count))
+        yield from chain(ALL, [f"from_iter {pairs}", f"extend {pairs}", f"from_vec {pairs}"], room=4000)
+    letters = ["".join(it) for length in range(5) for it in itertools.product("abc", repeat=length)]
+    olds = ["".join(it) for length in range(4) for it in itertools.combinations("abc", length)]
+    for new in letters:
+        pairs = " ".join(f"{key if place % 2 else key.upper()}:{place}" for place, key in enumerate(new))
+        for old in olds:
+            calls = ["from_vec " + " ".join(f"{key}:99" for key in old) if old else "from_vec", f"extend {pairs}".strip()]
+            yield from chain("vec", calls, "letter")
+        yield from chain(ALL, [f"from_iter {pairs}".strip()], "letter")
+
+
+def merged():
+    """Every two maps over four letters, and longer maps at each length where one way of merging gives place to another."""
+    sets = ["".join(it) for length in range(5) for it in itertools.combinations("abcd", length)]
+    for old in sets:
+        for new in sets:
+            calls = ["from_vec" + "".join(f" {key}:{place}" for place, key in enumerate(old))]
+            calls += ["extend_from_litemap" + "".join(f" {key.upper()}:{9 - place}" for place, key in enumerate(new))]
+            yield from chain(ALL if len(old) == 2 else "vec columns", calls, "letter", 8)
+    for length in (5, 20, 60, 100, 400, 6000):
+        for count in sorted({1, 2, 3, length // 8, length // 3, length, 3 * length} - {0}):
+            if length < 6000 or count < 100:
+                step = max(2 * length // count, 1)
+                calls = [f"extend_from_litemap {start},{count},{step}" for start in (1, 2)]
+                yield from block(ALL, length, 0, calls)
+
+
+# Ten pairs that rise, and ten that don't, of which none lies above the last of those.
+RISING = "106:4816 147:9864 188:8588 252:6031 434:2518 574:8500 607:3756 619:4965 663:2669 724:9211".split()
+OTHERS = "546:7490 273:4999 167:8078 176:2101 373:1304 339:9613 561:3620 301:1214 483:4453 704:5359".split()
+
+
+def twenty():
+    """Twenty pairs through the calls that append, put, keep, merge and take out, and each key and gap after each step."""
+    every = sorted(RISING + OTHERS)
+    around = sorted({int(pair.split(":")[0]) + more for pair in every for more in (0, 1)} | {0})
+    look = [f"find_index {key}" for key in around]
+    put = [f"insert {pair.replace(':', ' ')}" for pair in OTHERS]
+    append = [f"try_append {pair.replace(':', ' ')}" for pair in RISING]
+    back = [f"try_append {pair.replace(':', ' ')}" for pair in OTHERS]
+    steps = ["try_clone", f"retain {0xB6DB6}", *look, "extend " + " ".join(every), *look, "remove 175", "remove 176", *look]
+    merges = ["extend_from_litemap " + " ".join(every[::2]), *look, "extend_from_litemap 900:1 901:2", *look]
+    merges += ["extend_from_litemap 1:1 2:2", *look, "extend_from_litemap " + " ".join(reversed(OTHERS)), *look]
+    chained = ["retain 699050", *look, *merges, "retain 1048575", *look, "extend " + " ".join(OTHERS), "try_clone", *look]
+    calls = ["with_capacity 64", *append, *look, *back, *look, *put, *look, *steps, *chained, "clear", *look]
+    yield from chain("vec columns short", calls)
+    yield from chain("fixed", calls[: calls.index("try_clone")], room=64, is_fixed=True)
+
+
+class Generator:
+    """Numbers that only look random, the same ones in each run."""
+
+    def __init__(self, seed):
+        self.state = seed
+
+    def below(self, limit):
+        self.state = (self.state * 6364136223846793005 + 1442695040888963407) % 2**64
+        return (self.state >> 33) % limit
+
+    def pick(self, items):
+        return items[self.below(len(items))]
+
+
+WORDS = {
+    "number": [str(number) for number in range(30)],
+    "falling": [str(number) for number in range(30)],
+    "same": ["1", "2", "3"],
+    "letter": list("AbCdEfGhIjKlMnOpQrStUvWxYzaBcD"),
+    "text": "a aa ab aba b ba bab c ca d de def e f fa faa fab g h ha i j k l m n é ä ж 0".split(),
+    "length": "a z aa zz é long longer texts".split(),
+}
+
+
+def picked_call(generator, order):
+    """A call that a generator picks."""
+    key, value, kind = generator.pick(WORDS[order]), generator.below(1000), generator.below(50)
+    if kind < 24:
+        return f"{generator.pick(PUTS + ENTRIES[:6])} {key} {value}"
+    if kind < 34:
+        return f"{generator.pick(LOOK_KEYS + TAKES[:1] + ENTRIES[6:])} {key}"
+    if kind < 40:
+        return f"{generator.pick(['get_mut', 'get_mut_by', 'index_mut'])} {key} {value}"
+    if kind < 43:
+        return f"get_indexed_mut {generator.below(30)} {value}"
+    if kind < 45:
+        return generator.pick(["pop_first", "pop_last", f"remove_by {key}", f"remove_entry {key}"])
+    if kind < 47:
+        return f"retain {2**64 - 1 - (1 << generator.below(8))}"
+    more = " ".join(f"{generator.pick(WORDS[order])}:{generator.below(1000)}" for _ in range(generator.below(5)))
+    return f"{generator.pick(['extend', 'extend_from_vec', 'extend_from_litemap'])} {more}".strip()
+
+
+def picked():
+    """Runs of calls that a generator picks, in each order of keys."""
+    generator = Generator(1)
+    for order in WORDS:
+        for _ in range(4):
+            calls = [picked_call(generator, order) for _ in range(150)]
+            yield from chain(GROWING, calls, order)
+            calls = [call for call in calls if not call.startswith(("extend", "reserve"))]
+            yield from chain("fixed", calls, order, generator.below(12), is_fixed=True)
+
+
+def rows():
+    """The cases written by hand, each a paragraph: comments, its stores, order and room, and its calls."""
+    for case in (FOLDER / "rows").read_text(encoding="utf-8").strip().split("\n\n"):
+        lines = case.split("\n")
+        yield from (text for text in lines if text.startswith("#"))
+        lines = [text for text in lines if not text.startswith("#")]
+        if not lines:
+            continue
+        names, order, room = lines[0].split()
+        for name in ALL.split() if names == "all" else names.split(","):
+            is_fixed = name == "fixed"
+            yield from chain(name, lines[1:], order, int(room), is_fixed)
+
+
+# Calls that no line makes, and what runs them.
+ELSEWHERE = {
+    "const_get_with_index": "test_map: each type of keys",
+    "const_len": "as_sliced",
+    "const_is_empty": "as_sliced",
+    "const_get_indexed_or_panic": "as_sliced",
+    "new_vec": "test_map",
+    "from_sorted_store_unchecked": "test_map",
+    "key": "entry",
+    "read_results": "test_map",
+    "run_calls": "test_map",
+    "same_answers": "a law",
+    "lm_get_range": "get_indexed_range",
+    "lm_iter": "iter",
+    "lm_into_iter": "into_iter",
+    "into_mut": "entry_into_mut",
+}
+SOURCES = ["litemap/src/map.rt", "litemap/src/map", "litemap/src/const_family.rt", "litemap_read/src/read.rt"]
+SOURCES += ["litemap_read/src/laws.rt", "litemap_store/src/store.rt", "litemap_store/src/into_iter.rt"]
+
+
+def unmade(made):
+    """The calls of maps and stores that no line makes."""
+    names = set()
+    for path in SOURCES:
+        place = FOLDER.parent / path
+        for source in sorted(place.rglob("*.rt")) if place.is_dir() else [place]:
+            names |= set(re.findall(r"^ *(?:pub fn|(?:final )?fn(?= lm_)) (\w+)", source.read_text(encoding="utf-8"), re.MULTILINE))
+    return sorted(names - made - set(ELSEWHERE))
+
+
+FILES = {"looks": looks, "walks": walks, "changes": changes, "bulk": bulk, "stores": stores, "scattered": scattered}
+FILES |= {"merged": merged, "twenty": twenty, "picked": picked, "rows": rows}
+
+
+def calls_of(lines):
+    """How many calls lines make, over all their stores."""
+    made = stores = 0
+    for text in lines:
+        if text.startswith("on "):
+            stores = len(text.split(" ")) - 1
+        elif " = " in text:
+            made += stores
+    return made
+
+
+def main():
+    parser = argparse.ArgumentParser(description=__doc__, formatter_class=argparse.RawDescriptionHelpFormatter)
+    parser.add_argument("--check", action="store_true", help="write nothing, and compare")
+    words = parser.parse_args()
+    files = {f"data/{name}.calls": list(lines()) for name, lines in FILES.items()}
+    made = {found for lines in files.values() for text in lines for found in re.findall(r"^(?:\+ )?(\w+)(?= .*= )", text)}
+    status = 0
+    for call in unmade(made):
+        print(f"no line makes {call}")
+        status = 1
+    totals = [f"{pathlib.Path(name).name}: {calls_of(lines)} calls" for name, lines in files.items()]
+    files |= {"stdin": [pathlib.Path(name).name for name in files], "stdout": totals}
+    for name, lines in files.items():
+        text = "".join(text + "\n" for text in lines)
+        path = FOLDER / name
+        if not words.check:
+            path.parent.mkdir(exist_ok=True)
+            path.write_text(text, encoding="utf-8")
+        elif not path.exists() or path.read_text(encoding="utf-8") != text:
+            print(f"{name} is not as it would be written")
+            status = 1
+    return status
+
+
+if __name__ == "__main__":
+    sys.exit(main())

@@ -1,0 +1,139 @@
+//! A map and a store of one kind, of which lines make calls.
+use crate::line::Line;
+use litemap::LiteMap;
+use std::alloc::{AllocError, Global};
+use test_calls::answer::{Answer, Pairs};
+use test_calls::bulk::Map;
+use test_calls::given::Given;
+use test_calls::keys::Key;
+use test_calls::stores;
+use test_calls::tested::{self, Tested, map_of, store_of};
+use test_calls::values::Value;
+
+/// With how many pairs a line begins, and with how much room in all.
+#[derive(Clone, Copy)]
+pub struct Start {
+    /// How many pairs there are.
+    pub len: u64,
+    /// For how many pairs there is room, those that are there among them.
+    pub capacity: usize,
+}
+
+/// What was there before a call.
+#[derive(Clone, Copy)]
+pub struct Before {
+    pairs: Pairs,
+    keys: u32,
+    values: u32,
+}
+
+/// What came of a line.
+#[derive(Clone, Copy)]
+pub struct Outcome {
+    /// Whether all was as the line says.
+    pub is_right: bool,
+    /// How often two keys were compared.
+    pub compared: u32,
+    /// Whether other keys and values were alive than those that were left.
+    pub leaks: bool,
+}
+
+/// The map, and the store, as the last line left them.
+#[derive(Drop)]
+pub struct Bench<S: Tested<Key, Value>> {
+    /// The map.
+    pub map: Map<S>,
+    store: S,
+}
+
+impl<S: Tested<Key, Value>> Bench<S> {
+    /// Both empty.
+    pub fn new(alloc: Global) -> Self {
+        Bench {
+            map: LiteMap::new(alloc),
+            store: S::lm_empty(alloc),
+        }
+    }
+
+    /// What a line begins with.
+    pub fn begin(
+        &mut self,
+        line: &Line<'_>,
+        start: Start,
+        given: &Given<'_>,
+    ) -> Result<Before, AllocError> {
+        if !line.goes_on {
+            self.renew(line.is_of_store(), start, given)?;
+        }
+        Ok(Before {
+            pairs: self.pairs(line.is_of_store()),
+            keys: given.seen.keys.get(),
+            values: given.seen.values.get(),
+        })
+    }
+
+    /// Makes the call of a line, if every store has it.
+    pub fn call(&mut self, line: &Line<'_>, given: &Given<'_>, answer: &mut Answer) -> Option<()> {
+        if line.is_of_store() {
+            stores::call(&mut self.store, line.name, given, answer)
+        } else {
+            tested::call(&mut self.map, line.name, given, answer)
+        }
+    }
+
+    /// Writes what a line leaves behind its answer, and compares all with what it says.
+    pub fn end(
+        &mut self,
+        line: &Line<'_>,
+        before: Before,
+        given: &Given<'_>,
+        answer: &mut Answer,
+    ) -> Outcome {
+        let compared = given.seen.compared.get();
+        let after = self.pairs(line.is_of_store());
+        answer.word("|");
+        if before.pairs == after {
+            answer.word("same");
+        } else {
+            answer.pairs(&after);
+        }
+        let more = (after.len() as u32).wrapping_sub(before.pairs.len() as u32);
+        let keys = given.seen.keys.get().wrapping_sub(before.keys);
+        let values = given.seen.values.get().wrapping_sub(before.values);
+        // The value that `or_default` makes is not counted.
+        let leaks = keys != more || (values != more && line.name != "or_default");
+        if given.is_marked {
+            *self = Bench::new(given.alloc);
+            given.idle();
+        }
+        let is_bounded = line.most.is_none_or(|most| compared <= most);
+        Outcome {
+            is_right: answer.text() == line.wanted && is_bounded && !leaks,
+            compared,
+            leaks,
+        }
+    }
+
+    // The map, or the store, with which a line begins.
+    fn renew(
+        &mut self,
+        is_of_store: bool,
+        start: Start,
+        given: &Given<'_>,
+    ) -> Result<(), AllocError> {
+        if is_of_store {
+            self.store = store_of(given, start.len, start.capacity)?;
+        } else {
+            self.map = map_of(given, start.len, start.capacity)?;
+        }
+        Ok(())
+    }
+
+    fn pairs(&self, is_of_store: bool) -> Pairs {
+        if is_of_store {
+            Pairs::of_store(&self.store)
+        } else {
+            Pairs::of_map(&self.map)
+        }
+    }
+}

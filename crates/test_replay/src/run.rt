@@ -1,0 +1,180 @@
+//! The lines of a file, over each store.
+use crate::bench::{Bench, Outcome, Start};
+use crate::line::{self, Line};
+use litemap::store::ColumnStore;
+use litemap_short::ShortStore;
+use std::alloc::{AllocError, Global};
+use std::rc::Rc;
+use std::{fs, io};
+use test_calls::answer::Answer;
+use test_calls::given::Given;
+use test_calls::keys::{Key, Order};
+use test_calls::seen::Seen;
+use test_calls::tested::{call_of_columns, call_of_fixed, call_of_short, call_of_vec};
+use test_calls::values::Value;
+use test_support::fixed_room::FixedRoom;
+
+// The names of the stores, in their order below.
+const STORES: [&str; 4] = ["vec", "columns", "short", "fixed"];
+
+// How many bytes an answer takes at most.
+const LONGEST: usize = 1 << 14;
+
+// Makes the call of a line over a store, which has some calls of its own.
+macro_rules! make_over {
+    ($bench:expr, $call:path, $line:ident, $start:ident, $given:ident, $answer:ident) => {{
+        let before = $bench.begin($line, $start, &$given)?;
+        let made = match $bench.call($line, &$given, $answer) {
+            None => $call(&mut $bench.map, $line.name, &$given, $answer),
+            made => made,
+        };
+        if made.is_none() {
+            $answer.word("no call");
+        }
+        Ok($bench.end($line, before, &$given, $answer))
+    }};
+}
+
+// The maps, and how the next lines begin.
+#[derive(Drop)]
+struct Replay {
+    vec: Bench<Vec<(Key, Value)>>,
+    columns: Bench<ColumnStore<Key, Value>>,
+    short: Bench<ShortStore<Key, Value>>,
+    fixed: Bench<FixedRoom<Key, Value>>,
+    is_on: [bool; 4],
+    order: Order,
+    start: Start,
+    seen: Rc<Seen>,
+    answer: Answer,
+    made: u64,
+    is_marked: bool,
+}
+
+impl Replay {
+    fn new(alloc: Global, is_marked: bool) -> Result<Self, AllocError> {
+        Ok(Replay {
+            vec: Bench::new(alloc),
+            columns: Bench::new(alloc),
+            short: Bench::new(alloc),
+            fixed: Bench::new(alloc),
+            is_on: [false; 4],
+            order: Order::Number,
+            start: Start {
+                len: 0,
+                capacity: 0,
+            },
+            seen: Rc::new(alloc, Seen::new())?,
+            answer: Answer::with_capacity(alloc, LONGEST)?,
+            made: 0,
+            is_marked,
+        })
+    }
+
+    // Does a line that makes no call: whether it is one.
+    fn settle(&mut self, text: &str) -> bool {
+        if text.is_empty() || text.starts_with('#') {
+            return true;
+        }
+        if let Some(names) = text.strip_prefix("on ") {
+            for (is_on, store) in self.is_on.iter_mut().zip(STORES) {
+                *is_on = names.split(' ').any(|name| name == store);
+            }
+            return true;
+        }
+        match text.strip_prefix("with ") {
+            Some(words) => self.begin_with(words).is_some(),
+            None => false,
+        }
+    }
+
+    // How the next lines begin, by three words.
+    fn begin_with(&mut self, words: &str) -> Option<()> {
+        let (order, rest) = words.split_once(' ')?;
+        let (len, room) = rest.split_once(' ')?;
+        self.order = Order::of_name(order)?;
+        let capacity = len.parse::<usize>().ok()?.checked_add(room.parse().ok()?)?;
+        self.start = Start {
+            len: len.parse().ok()?,
+            capacity,
+        };
+        Some(())
+    }
+
+    // Makes the call of a line over the store at a place.
+    fn make(
+        &mut self,
+        place: usize,
+        line: &Line<'_>,
+        words: &[&str],
+        alloc: Global,
+    ) -> Result<Outcome, AllocError> {
+        let given = Given {
+            alloc,
+            seen: &self.seen,
+            order: self.order,
+            is_marked: self.is_marked,
+            words: words.get(1..).unwrap_or(&[]),
+        };
+        let (start, answer) = (self.start, &mut self.answer);
+        answer.clear();
+        self.made = self.made.wrapping_add(1);
+        match place {
+            0 => make_over!(self.vec, call_of_vec, line, start, given, answer),
+            1 => make_over!(self.columns, call_of_columns, line, start, given, answer),
+            2 => make_over!(self.short, call_of_short, line, start, given, answer),
+            _ => make_over!(self.fixed, call_of_fixed, line, start, given, answer),
+        }
+    }
+}
+
+/// Makes the calls of a file, and writes the lines that are answered otherwise.
+pub fn file(rt: &HostRuntime, name: &str, is_marked: bool) -> io::Result<()> {
+    let text = fs::read_to_string(rt, name)?;
+    lines(rt, name, text.as_str(), is_marked)
+}
+
+/// Makes the calls of the lines of a text, which has a name, and writes those that are answered otherwise.
+pub fn lines(rt: &HostRuntime, name: &str, text: &str, is_marked: bool) -> io::Result<()> {
+    let mut replay = Replay::new(rt.alloc(), is_marked)?;
+    for (place, text) in text.lines().enumerate() {
+        if replay.settle(text) {
+            continue;
+        }
+        match line::parse(text) {
+            Some(line) if line.goes_on && is_marked => {}
+            Some(line) => each_store(rt, &mut replay, (name, place), &line)?,
+            None => println!(rt; "{name}:{}: bad line", place.wrapping_add(1))?,
+        }
+    }
+    println!(rt; "{name}: {} calls", replay.made)
+}
+
+// Makes the call of a line over each store that is on.
+fn each_store(
+    rt: &HostRuntime,
+    replay: &mut Replay,
+    (file, place): (&str, usize),
+    line: &Line<'_>,
+) -> io::Result<()> {
+    let words: Vec<&str> = line.call.split(' ').collect(rt.alloc())?;
+    for (store, name) in STORES.iter().enumerate() {
+        if !replay.is_on.get(store).copied().unwrap_or(false) {
+            continue;
+        }
+        let outcome = replay.make(store, line, &words, rt.alloc())?;
+        if replay.is_marked || !outcome.is_right {
+            let (number, made, text) = (
+                place.wrapping_add(1),
+                outcome.compared,
+                replay.answer.text(),
+            );
+            let leaks = if outcome.leaks { ", leaks" } else { "" };
+            println!(rt;
+                "{file}:{number} {name} {} = {text} | {made}{leaks}",
+                line.call
+            )?;
+        }
+    }
+    Ok(())
+}
