@@ -546,7 +546,8 @@ def bulk():
         calls = [f"{name} {pairs}".strip() for name in EXTENSIONS[:4] + MERGES for pairs in given]
         calls += [f"split_off {key}" for key in keys(length)]
         yield from block(GROWING, length, 0, [*calls, *(f"{name} - - {pairs}".strip() for name in READS for pairs in given)])
-        yield from block(ALL, length, 3000, [call for call in calls if not length or call not in BEFORE_ALL])
+        yield from block(GROWING, length, 3000, [call for call in calls if is_before(call)])
+        yield from block(ALL, length, 3000, [call for call in calls if not is_before(call)])
         if length in (0, 5, 30):
             made = [f"{name} {pairs}".strip() for name in MAKES for pairs in given]
             yield from block(ALL, length, 0, made + ["new", "with_capacity 0", "with_capacity 1", "with_capacity 16", "with_capacity 100"])
@@ -558,8 +559,13 @@ def bulk():
         yield from block("fixed", 20, room, above + ["reserve 3", f"reserve {room}"], is_fixed=True)
 
 
-# A store with a fixed room takes no pairs before its own: it would have to move into the other one, which has no room.
-BEFORE_ALL = ["extend_from_litemap 1,1,2", "extend_from_litemap_counted 1,1,2"]
+def is_before(call):
+    """Whether it merges pairs before all others: a store with a fixed room would have to move into the other one, without room."""
+    name, *words = call.split(" ")
+    codes = [int(key) for key, _ in Model(Order("number")).given(words)] if name in MERGES else []
+    return bool(codes) and max(codes) < 2
+
+
 MERGES = ["extend_from_litemap", "extend_from_litemap_counted"]
 READS = ["read_pairs", "extend_from_source"]
 MAKES = ["from_iter", "from_iter_counted", "from_vec", "from_vec_counted"]
@@ -585,7 +591,7 @@ def stores():
         if length <= 33:
             many += [f"{name} {pairs}".strip() for name in ("lm_extend_end", "lm_extend_start") for pairs in given]
         yield from block(GROWING, length, 0, many)
-        yield from block(ALL, length, 100, many)
+        yield from block(ALL, length, 100, [call for call in many if not call.startswith("lm_extend_start")])
     made = [f"{name} {pairs}".strip() for name in ("lm_sort_from_iter", "lm_sort_from_vec", "lm_from_pairs") for pairs in inputs(20)]
     yield from block(ALL, 5, 0, made + ["lm_empty 0", "lm_with_capacity 0", "lm_with_capacity 1", "lm_with_capacity 17"])
 
@@ -615,13 +621,13 @@ def merged():
         for new in sets:
             calls = ["from_vec" + "".join(f" {key}:{place}" for place, key in enumerate(old))]
             calls += ["extend_from_litemap" + "".join(f" {key.upper()}:{9 - place}" for place, key in enumerate(new))]
-            yield from chain(ALL if len(old) == 2 else "vec columns", calls, "letter", 8)
+            yield from chain(GROWING, calls, "letter", 8)
     for length in (5, 20, 60, 100, 400, 6000):
         for count in sorted({1, 2, 3, length // 8, length // 3, length, 3 * length} - {0}):
             if length < 6000 or count < 100:
                 step = max(2 * length // count, 1)
                 calls = [f"extend_from_litemap {start},{count},{step}" for start in (1, 2)]
-                yield from block(ALL, length, 0, calls)
+                yield from block(GROWING, length, 0, calls)
 
 
 # Ten pairs that rise, and ten that don't, of which none lies above the last of those.
@@ -676,7 +682,7 @@ def picked_call(generator, order):
     if kind < 24:
         return f"{generator.pick(PUTS + ENTRIES[:6])} {key} {value}"
     if kind < 34:
-        return f"{generator.pick(LOOK_KEYS + TAKES[:1] + ENTRIES[6:])} {key}"
+        return f"{generator.pick(LOOK_KEYS + TAKES[:1] + ENTRIES[7:])} {key}"
     if kind < 40:
         return f"{generator.pick(['get_mut', 'get_mut_by', 'index_mut'])} {key} {value}"
     if kind < 43:

@@ -12,6 +12,7 @@ use std::cmp::Ordering;
 use std::fmt::{self, Debug, Formatter, Write};
 use std::hash::{Hash, Hasher};
 use std::rc::Rc;
+use std::str;
 
 /// How keys are written, and in which order they lie.
 #[derive(Clone, Copy, Debug, PartialEq)]
@@ -216,10 +217,8 @@ pub(crate) fn write_code<W: Write>(f: &mut W, order: Order, code: u64) -> fmt::R
     if !order.is_text() {
         return write!(f, "{code}");
     }
-    for byte in code.to_be_bytes() {
-        if byte != 0 {
-            f.write_char(char::from(byte))?;
-        }
+    match str::from_utf8(&code.to_be_bytes()) {
+        Ok(text) => f.write_str(text.trim_end_matches('\0')),
+        Err(_) => f.write_str("?"),
     }
-    Ok(())
 }

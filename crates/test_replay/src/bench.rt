@@ -97,9 +97,9 @@ impl<S: Tested<Key, Value>> Bench<S> {
         } else {
             answer.pairs(&after);
         }
-        let more = (after.len() as u32).wrapping_sub(before.pairs.len() as u32);
-        let keys = given.seen.keys.get().wrapping_sub(before.keys);
-        let values = given.seen.values.get().wrapping_sub(before.values);
+        let more = after.len().wrapping_sub(before.pairs.len());
+        let keys = (given.seen.keys.get() as u64).wrapping_sub(before.keys as u64);
+        let values = (given.seen.values.get() as u64).wrapping_sub(before.values as u64);
         // The value that `or_default` makes is not counted.
         let leaks = keys != more || (values != more && line.name != "or_default");
         if given.is_marked {
