@@ -52,7 +52,7 @@ pub fn make(map: &mut Map, name: &str, given: &Given) -> String {
         .or_else(|| enter(map, name, given))
         .or_else(|| write(map, name, given))
         .or_else(|| many(map, name, given))
-        .unwrap_or_else(|| "no call".to_string())
+        .unwrap_or_else(|| panic!("no call: {name}"))
 }
 
 fn or_none(answer: Option<impl ToString>) -> String {
