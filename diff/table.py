@@ -1,16 +1,17 @@
-"""The table of all calls, diff/calls.txt, compared with docs/API.md and with the Rust crate.
-
-A line is `OURS | CALL | THEIRS`: a call of docs/API.md, the call of the programs that makes it, and the crate's one that stands
-beside it. Where CALL is `-` none does, and THEIRS says why. `group NAME` as OURS stands for all calls of a group of docs/API.md.
-Where OURS is `-` the crate has a call that is left out here.
-"""
+"""The table of all calls, diff/calls.txt, compared with docs/API.md, with the calls of lines, and with the Rust crate."""
 import re
+
+import lines
 
 
 def rows(top):
-    """The rows of the table."""
-    lines = (top / "diff" / "calls.txt").read_text().splitlines()
-    return [[part.strip() for part in line.split("|")] for line in lines if line and not line.startswith("#")]
+    """Each call of ours, the calls of lines that make it, and what the table says of the crate's."""
+    for line in (top / "diff" / "calls.txt").read_text().splitlines():
+        if line and not line.startswith("#"):
+            ours, made, theirs = (part.strip() for part in line.split("|"))
+            owner, colons, names = ours.rpartition("::")
+            for name in names.split(" ") if colons else [ours]:
+                yield f"{owner}{colons}{name}", made.replace("=", name).split(" "), theirs.replace("=", name)
 
 
 def listed(top):
@@ -27,22 +28,15 @@ def listed(top):
 
 def missing(top, crate):
     """What the table lacks, and what it has and isn't there."""
-    table = rows(top)
+    table, calls = list(rows(top)), dict(listed(top))
     named = {ours for ours, _, _ in table}
-    calls = dict(listed(top))
-    lines = [f"diff/calls.txt has no row for {it}, which docs/API.md lists" for it, group in calls.items()
-             if it not in named and f"group {group}" not in named]
-    there = {*calls, *(f"group {group}" for group in calls.values()), "-"}
-    lines += [f"diff/calls.txt names {it}, and docs/API.md does not list it" for it in sorted(named - there)]
+    lacks = [f"{it}, which docs/API.md lists" for it, group in calls.items() if not {it, f"group {group}"} & named]
     theirs = set(re.findall(r"\bpub (?:const )?fn (\w+)", (crate / "src" / "map.rs").read_text()))
-    words = set(re.findall(r"\w+", " ".join(row[2] for row in table)))
-    lines += [f"diff/calls.txt has no row for the Rust crate's {it}" for it in sorted(theirs - words)]
-    return lines
-
-
-def not_made(top, made):
-    """The calls of the programs that the table lacks, or that were made over no store."""
-    named = {call for _, call, _ in rows(top)} - {"-"}
-    times = {name: sum(many for (_, call), many in made.items() if call == name) for name in {call for _, call in made}}
-    lines = [f"the programs make {it}, and diff/calls.txt does not name it" for it in sorted(set(times) - named - {"refused"})]
-    return lines + [f"no {it} was made" for it in sorted(named) if not times.get(it)]
+    lacks += [f"the Rust crate's {it}" for it in sorted(theirs - set(re.findall(r"\w+", " ".join(row[2] for row in table))))]
+    made = {call for _, calls_of_lines, _ in table for call in calls_of_lines} - {"-"}
+    picked = {name for groups in lines.CALLS_OVER.values() for _, _, names in groups for name in names.split(" ")}
+    lacks += [f"{it}, which lines call" for it in sorted(picked - made)]
+    there = {*calls, *(f"group {group}" for group in calls.values()), "-"}
+    spare = [f"{it}, which docs/API.md does not list" for it in sorted(named - there)]
+    spare += [f"{it}, which no line calls" for it in sorted(made - picked)]
+    return [f"diff/calls.txt has no row for {it}" for it in lacks] + [f"diff/calls.txt names {it}" for it in spare]

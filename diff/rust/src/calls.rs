@@ -1,451 +1,341 @@
-//! The calls, how often each is picked, and how one is made. What a store with a fixed room refuses stands in `room`.
-use crate::keys::Key;
-use crate::note::Note;
-use crate::picks::Picks;
-use crate::room;
-use crate::setting::{note_map, note_pair, note_pair_or_none, note_refused, value, Setting};
-use crate::{copies, walks};
+//! The calls that lines make.
+use crate::keys::{pair, pairs, text, Key, Order, Pair, Value, CLONED, NO_KEY};
 use litemap::{Entry, LiteMap};
+use std::cmp::Ordering;
 use std::mem;
 
-/// A call, or some that are made together.
-#[derive(Clone, Copy)]
-pub enum Call {
-    Insert,
-    TryInsert,
-    TryAppend,
-    TryGetOrInsert,
-    TryFindOrInsert,
-    GetMut,
-    GetMutBy,
-    IndexMut,
-    GetIndexedMut,
-    Remove,
-    Retain,
-    Clear,
-    Reserve,
-    New,
-    WithCapacity,
-    Sizes,
-    Get,
-    FindIndex,
-    OrInsert,
-    OrDefault,
-    OrInsertWith,
-    AndModify,
-    Entry,
-    EntryRemove,
-    FromPairs,
-    Extend,
-    Merge,
-    Walk,
-    Clone,
-    Compare,
-    Boxed,
-    Lent,
-    Views,
+/// A map whose calls are made.
+pub type Map = LiteMap<Key, Value>;
+
+/// The words behind the name of a call.
+pub struct Given<'w> {
+    order: Order,
+    words: Vec<&'w str>,
 }
 
-/// The calls, their names, and how often each is picked among 103.
-pub const CALLS: [(Call, &str, u64); 33] = [
-    (Call::Insert, "insert", 9),
-    (Call::TryInsert, "try_insert", 4),
-    (Call::TryAppend, "try_append", 4),
-    (Call::TryGetOrInsert, "try_get_or_insert", 4),
-    (Call::TryFindOrInsert, "try_find_or_insert", 4),
-    (Call::GetMut, "get_mut", 2),
-    (Call::GetMutBy, "get_mut_by", 1),
-    (Call::IndexMut, "index_mut", 2),
-    (Call::GetIndexedMut, "get_indexed_mut", 2),
-    (Call::Remove, "remove", 7),
-    (Call::Retain, "retain", 2),
-    (Call::Clear, "clear", 1),
-    (Call::Reserve, "reserve", 1),
-    (Call::New, "new", 1),
-    (Call::WithCapacity, "with_capacity", 1),
-    (Call::Sizes, "sizes", 3),
-    (Call::Get, "get", 4),
-    (Call::FindIndex, "find_index", 4),
-    (Call::OrInsert, "or_insert", 3),
-    (Call::OrDefault, "or_default", 2),
-    (Call::OrInsertWith, "or_insert_with", 2),
-    (Call::AndModify, "and_modify", 3),
-    (Call::Entry, "entry", 4),
-    (Call::EntryRemove, "entry_remove", 3),
-    (Call::FromPairs, "from_pairs", 2),
-    (Call::Extend, "extend", 6),
-    (Call::Merge, "merge", 7),
-    (Call::Walk, "walk", 5),
-    (Call::Clone, "clone", 2),
-    (Call::Compare, "compare", 3),
-    (Call::Boxed, "boxed", 1),
-    (Call::Lent, "lent", 1),
-    (Call::Views, "views", 3),
-];
-
-/// Picks a call: its place among the calls.
-pub fn pick(picks: &mut Picks) -> usize {
-    let mut left = picks.below(103);
-    for (place, (_, _, often)) in CALLS.iter().enumerate() {
-        if left < *often {
-            return place;
-        }
-        left -= often;
+impl<'w> Given<'w> {
+    /// The words of a text.
+    pub fn new(order: Order, words: &'w str) -> Self {
+        let words = words.split(' ').filter(|word| !word.is_empty()).collect();
+        Given { order, words }
     }
-    0
-}
 
-/// Makes a call of a map, and notes what it picks and what it answers.
-pub fn make<K: Key>(
-    call: Call,
-    map: &mut LiteMap<K, u32>,
-    setting: &mut Setting,
-    picks: &mut Picks,
-    note: &mut Note,
-) {
-    match call {
-        Call::Insert
-        | Call::TryInsert
-        | Call::TryAppend
-        | Call::TryGetOrInsert
-        | Call::TryFindOrInsert => put(call, map, setting, picks, note),
-        Call::GetMut | Call::GetMutBy | Call::IndexMut | Call::Remove => {
-            change(call, map, setting, picks, note)
-        }
-        Call::OrInsert
-        | Call::OrDefault
-        | Call::OrInsertWith
-        | Call::AndModify
-        | Call::Entry
-        | Call::EntryRemove => enter(call, map, setting, picks, note),
-        Call::GetIndexedMut | Call::Retain | Call::Clear | Call::Reserve | Call::Sizes => {
-            change_by_place(call, map, setting, picks, note)
-        }
-        Call::New
-        | Call::WithCapacity
-        | Call::FromPairs
-        | Call::Extend
-        | Call::Merge
-        | Call::Clone => {
-            renew(call, map, setting, picks, note);
-            setting.limit = setting.limit.max(map.len());
-        }
-        Call::Get
-        | Call::FindIndex
-        | Call::Walk
-        | Call::Compare
-        | Call::Boxed
-        | Call::Lent
-        | Call::Views => look(call, map, setting, picks, note),
+    fn key(&self) -> Key {
+        Key::new(self.order, self.words[0])
+    }
+
+    fn number(&self, place: usize) -> u64 {
+        self.words[place].parse().expect("a number")
+    }
+
+    fn index(&self, place: usize) -> usize {
+        self.number(place) as usize
+    }
+
+    fn pairs(&self) -> impl Iterator<Item = (Key, Value)> + '_ {
+        self.words.iter().map(|word| {
+            let (key, value) = word.split_once(':').expect("a pair");
+            let value = value.parse().expect("a number");
+            (Key::new(self.order, key), Value::new(value))
+        })
     }
 }
 
-fn note_back<K: Key>(back: Option<(K, u32)>, note: &mut Note) {
-    match back {
-        None => note.word("none"),
-        Some((key, value)) => {
-            note.word("back");
-            note_pair(&key, value, note);
-        }
-    }
+/// Makes a call: what it answers.
+pub fn make(map: &mut Map, name: &str, given: &Given) -> String {
+    look(map, name, given)
+        .or_else(|| find(map, name, given))
+        .or_else(|| walk(map, name, given))
+        .or_else(|| copy(map, name))
+        .or_else(|| compare(map, name, given))
+        .or_else(|| put(map, name, given))
+        .or_else(|| enter(map, name, given))
+        .or_else(|| write(map, name, given))
+        .or_else(|| many(map, name, given))
+        .unwrap_or_else(|| panic!("no call: {name}"))
 }
 
-fn put<K: Key>(
-    call: Call,
-    map: &mut LiteMap<K, u32>,
-    setting: &Setting,
-    picks: &mut Picks,
-    note: &mut Note,
-) {
-    let key: K = setting.key(picks, note);
-    let value = value(picks, note);
-    let made = if picks.below(4) == 0 {
-        Err(value)
-    } else {
-        Ok(value)
+fn or_none(answer: Option<impl ToString>) -> String {
+    answer.map_or("none".to_string(), |answer| answer.to_string())
+}
+
+fn pair_or_none(found: Option<(&Key, &Value)>) -> String {
+    or_none(found.map(|found| text([pair(found)])))
+}
+
+fn look(map: &Map, name: &str, given: &Given) -> Option<String> {
+    Some(match name {
+        "len" => map.len().to_string(),
+        "is_empty" => map.is_empty().to_string(),
+        "first" => pair_or_none(map.first()),
+        "last" => pair_or_none(map.last()),
+        "get_indexed" => pair_or_none(map.get_indexed(given.index(0))),
+        "as_slice" => text(map.as_slice().iter().map(|(key, value)| pair((key, value)))),
+        "as_sliced" => table(&map.as_sliced()),
+        "get_indexed_range" => {
+            let part = map.get_indexed_range(given.index(0)..given.index(1));
+            or_none(part.map(|part| text(part.iter().map(pair))))
+        }
+        _ => return None,
+    })
+}
+
+/// What the calls of a constant table answer.
+fn table(table: &LiteMap<Key, Value, &[(Key, Value)]>) -> String {
+    let (len, is_empty) = (table.const_len(), table.const_is_empty());
+    let answer = format!("{} {len} {is_empty}", text(table.iter().map(pair)));
+    if is_empty {
+        return answer;
+    }
+    let (key, value) = table.const_get_indexed_or_panic(0);
+    format!("{answer} {}", text([pair((key, value))]))
+}
+
+fn find(map: &Map, name: &str, given: &Given) -> Option<String> {
+    Some(match name {
+        "get" | "get_counted" => or_none(map.get(&given.key())),
+        "get_by" => or_none(map.get_by(|there| there.cmp(&given.key()))),
+        "contains_key" => map.contains_key(&given.key()).to_string(),
+        "index" if map.contains_key(&given.key()) => map[&given.key()].to_string(),
+        "index" => "absent".to_string(),
+        "find_index" | "find_index_counted" | "find_index_by" => {
+            match map.find_index(&given.key()) {
+                Ok(index) => format!("ok {index}"),
+                Err(index) => format!("err {index}"),
+            }
+        }
+        _ => return None,
+    })
+}
+
+#[allow(deprecated)]
+fn walk(map: &mut Map, name: &str, given: &Given) -> Option<String> {
+    let len = map.len();
+    let whole = |met: String| format!("{met} exact");
+    Some(match name {
+        "iter" => steps(map.iter(), len, given, pair),
+        "keys" => steps(map.keys(), len, given, key),
+        "values" => steps(map.values(), len, given, value),
+        "into_iter" => steps(mem::take(map).into_iter(), len, given, pair),
+        "for" => whole(text((&*map).into_iter().map(pair))),
+        "iter_keys" => whole(text(map.iter_keys().map(key).take(1))),
+        "iter_values" => whole(text(map.iter_values().map(value).take(1))),
+        _ => return None,
+    })
+}
+
+/// What a walk over keys shows.
+fn key(key: &Key) -> Pair {
+    (key.code, 0)
+}
+
+/// What a walk over values shows.
+fn value(value: &Value) -> Pair {
+    (NO_KEY, value.0)
+}
+
+/// Goes steps from the front, and then from the back: what is met, and whether each hint tells exactly how many are left.
+fn steps<I: DoubleEndedIterator>(
+    mut rest: I,
+    mut left: usize,
+    given: &Given,
+    pair: impl Fn(I::Item) -> Pair,
+) -> String {
+    let front = given.index(0);
+    let back = given.words.get(1).map_or(0, |_| given.index(1));
+    let mut met = Vec::new();
+    let mut is_exact = true;
+    for step in 0..front + back {
+        let item = if step < front {
+            rest.next()
+        } else {
+            rest.next_back()
+        };
+        if let Some(item) = item {
+            left -= 1;
+            met.push(pair(item));
+        }
+        is_exact &= rest.size_hint() == (left, Some(left));
+    }
+    let hints = if is_exact { "exact" } else { "inexact" };
+    format!("{} {hints}", text(met))
+}
+
+/// Makes another map: its pairs, and how many keys and values were cloned.
+fn copy(map: &Map, name: &str) -> Option<String> {
+    CLONED.set(0);
+    let made = match name {
+        "try_clone" => pairs(&map.clone()),
+        "to_boxed_keys_values" => pairs::<Box<Key>, Box<Value>>(&map.to_boxed_keys_values()),
+        "to_boxed_keys" => pairs::<Box<Key>, Value>(&map.to_boxed_keys()),
+        "to_boxed_values" => pairs::<Key, Box<Value>>(&map.to_boxed_values()),
+        "to_borrowed_keys_values" => pairs::<&Key, &Value>(&map.to_borrowed_keys_values()),
+        "to_borrowed_keys" => pairs::<&Key, Value>(&map.to_borrowed_keys()),
+        "to_borrowed_values" => pairs::<Key, &Value>(&map.to_borrowed_values()),
+        _ => return None,
     };
-    note.word("=");
-    let is_above = map.last().is_none_or(|(last, _)| *last < key);
-    let is_refused = room::refuses(map, setting, &key);
-    match call {
-        Call::TryInsert if is_refused => note_refused(&key, value, note),
-        Call::TryInsert => note_back(map.try_insert(key, value), note),
-        Call::TryAppend if is_refused && is_above => note_refused(&key, value, note),
-        Call::TryAppend => note_back(map.try_append(key, value), note),
-        Call::TryGetOrInsert => try_get_or_insert(map, key, made, is_refused, true, note),
-        // The crate has no call that answers the place alone.
-        Call::TryFindOrInsert => try_get_or_insert(map, key, made, is_refused, false, note),
-        _ if is_refused => note_refused(&key, value, note),
-        _ => note.value_or_none(map.insert(key, value)),
-    }
+    Some(format!("{} cloned {}", text(made), CLONED.get()))
 }
 
-fn try_get_or_insert<K: Key>(
-    map: &mut LiteMap<K, u32>,
-    key: K,
-    made: Result<u32, u32>,
-    is_refused: bool,
-    with_value: bool,
-    note: &mut Note,
-) {
+fn compare(map: &Map, name: &str, given: &Given) -> Option<String> {
+    let word = |ordering| match ordering {
+        Ordering::Less => "less",
+        Ordering::Equal => "equal",
+        Ordering::Greater => "greater",
+    };
+    let other = || given.pairs().collect::<Map>();
+    Some(match name {
+        "eq" => (*map == other()).to_string(),
+        "cmp" => word(map.cmp(&other())).to_string(),
+        "partial_cmp" => map.partial_cmp(&other()).map_or("none", word).to_string(),
+        _ => return None,
+    })
+}
+
+fn put(map: &mut Map, name: &str, given: &Given) -> Option<String> {
+    let value = || Value::new(given.number(1));
+    let back = |back: Option<(Key, Value)>| match back {
+        None => "placed".to_string(),
+        Some(back) => format!("back {}", text([pair(back)])),
+    };
+    Some(match name {
+        "insert" | "insert_counted" => or_none(map.insert(given.key(), value())),
+        "try_insert" => back(map.try_insert(given.key(), value())),
+        "try_append" => back(map.try_append(given.key(), value())),
+        "try_get_or_insert" => try_get(map, given, Ok(value()), true),
+        "try_get_or_fail" => try_get(map, given, Err(value()), true),
+        "try_find_or_insert" => try_get(map, given, Ok(value()), false),
+        "try_find_or_fail" => try_get(map, given, Err(value()), false),
+        _ => return None,
+    })
+}
+
+/// `try_get_or_insert`, with the value or without it.
+fn try_get(map: &mut Map, given: &Given, made: Result<Value, Value>, with_value: bool) -> String {
     let mut times = 0;
-    if let (true, Ok(value)) = (is_refused, made) {
-        note_refused(&key, value, note);
-        note.value(1);
-        return;
-    }
-    let answer = map.try_get_or_insert(key, |_| {
+    let found = map.try_get_or_insert(given.key(), |_| {
         times += 1;
         made
     });
-    match answer {
-        Ok((place, value)) => {
-            note.size(place);
-            if with_value {
-                note.value(*value);
-            }
-        }
-        Err(fault) => {
-            note.word("fault");
-            note.value(fault);
-        }
+    let answer = match found {
+        Ok((index, value)) if with_value => format!("{index} {value}"),
+        Ok((index, _)) => index.to_string(),
+        Err(fault) => format!("closure {fault}"),
+    };
+    format!("{answer} asked {times}")
+}
+
+/// Adds one to the value that is lent: what it was.
+fn raised(slot: &mut Value) -> u64 {
+    slot.0 += 1;
+    slot.0 - 1
+}
+
+fn enter(map: &mut Map, name: &str, given: &Given) -> Option<String> {
+    let heads = ["entry", "or_", "and_modify"];
+    if !heads.iter().any(|head| name.starts_with(head)) {
+        return None;
     }
-    note.value(times);
-}
-
-fn note_written(slot: Option<&mut u32>, value: u32, note: &mut Note) {
-    note.value_or_none(slot.map(|slot| mem::replace(slot, value)));
-}
-
-fn change<K: Key>(
-    call: Call,
-    map: &mut LiteMap<K, u32>,
-    setting: &Setting,
-    picks: &mut Picks,
-    note: &mut Note,
-) {
-    let key: K = setting.key(picks, note);
-    let value = value(picks, note);
-    note.word("=");
-    match call {
-        Call::GetMut | Call::GetMutBy => note_written(map.get_mut(&key), value, note),
-        Call::IndexMut if map.contains_key(&key) => {
-            note.value(mem::replace(&mut map[&key], value));
-        }
-        Call::IndexMut => note.word("none"),
-        _ => note.value_or_none(map.remove(&key)),
-    }
-}
-
-/// Notes the value that an entry lends, and writes another one.
-fn note_lent(slot: &mut u32, note: &mut Note) {
-    note.value(*slot);
-    *slot = slot.wrapping_add(1);
-}
-
-fn enter<K: Key>(
-    call: Call,
-    map: &mut LiteMap<K, u32>,
-    setting: &Setting,
-    picks: &mut Picks,
-    note: &mut Note,
-) {
-    let key: K = setting.key(picks, note);
-    let value = value(picks, note);
-    note.word("=");
-    if room::refuses(map, setting, &key) && !matches!(call, Call::EntryRemove) {
-        if let Call::Entry = call {
-            note.word("vacant");
-            key.note(note);
-        }
-        let made = if let Call::OrDefault = call { 0 } else { value };
-        note_refused(&key, made, note);
-        if let Call::OrInsertWith = call {
-            note.value(1);
-        }
-        return;
-    }
-    match call {
-        Call::OrInsert => note_lent(map.entry(key).or_insert(value), note),
-        Call::OrDefault => note_lent(map.entry(key).or_default(), note),
-        Call::OrInsertWith => {
-            let mut times = 0;
-            let slot = map.entry(key).or_insert_with(|| {
+    let entry = map.entry(given.key());
+    let value = || given.number(1);
+    let mut times = 0;
+    let old = match name {
+        "or_default" => return Some(raised(entry.or_default()).to_string()),
+        "or_insert" => raised(entry.or_insert(Value::new(value()))),
+        "or_insert_with" => raised(entry.or_insert_with(|| {
+            times += 1;
+            Value::new(value())
+        })),
+        "and_modify" => {
+            let entry = entry.and_modify(|there| {
                 times += 1;
-                value
+                there.0 = value();
             });
-            note_lent(slot, note);
-            note.value(times);
+            raised(entry.or_insert(Value::new(value())))
         }
-        Call::AndModify => {
-            let entry = map.entry(key);
-            let modified = entry.and_modify(|there| *there = there.wrapping_add(7));
-            note_lent(modified.or_insert(value), note);
+        _ => return Some(of_one_kind(entry, name, value)),
+    };
+    Some(format!("{old} asked {times}"))
+}
+
+/// The calls that one kind of entry has; of the other one `insert`, or that it is vacant.
+fn of_one_kind(
+    entry: Entry<'_, Key, Value, Vec<(Key, Value)>>,
+    name: &str,
+    value: impl Fn() -> u64,
+) -> String {
+    match (entry, name) {
+        (Entry::Occupied(entry), "entry") => format!("occupied {}", entry.key().code),
+        (Entry::Occupied(entry), "entry_get") => entry.get().to_string(),
+        (Entry::Occupied(entry), "entry_remove") => entry.remove().to_string(),
+        (Entry::Occupied(mut entry), "entry_insert") => {
+            entry.insert(Value::new(value())).to_string()
         }
-        _ => entry(call, map, key, value, note),
+        (Entry::Occupied(mut entry), "entry_get_mut") => {
+            mem::replace(&mut entry.get_mut().0, value()).to_string()
+        }
+        (Entry::Occupied(entry), _) => mem::replace(&mut entry.into_mut().0, value()).to_string(),
+        (Entry::Vacant(entry), "entry") => format!("vacant {}", entry.key().code),
+        (Entry::Vacant(_), "entry_get" | "entry_remove") => "vacant".to_string(),
+        (Entry::Vacant(entry), _) => raised(entry.insert(Value::new(value()))).to_string(),
     }
 }
 
-fn entry<K: Key>(call: Call, map: &mut LiteMap<K, u32>, key: K, value: u32, note: &mut Note) {
-    let is_removal = matches!(call, Call::EntryRemove);
-    match map.entry(key) {
-        Entry::Occupied(entry) if is_removal => note.value(entry.remove()),
-        Entry::Occupied(mut entry) => {
-            entry.key().note(note);
-            note.value(*entry.get());
-            *entry.get_mut() = value.wrapping_add(1);
-            note.value(entry.insert(value));
-            let slot = entry.into_mut();
-            note.value(*slot);
-            *slot = slot.wrapping_add(2);
+fn write(map: &mut Map, name: &str, given: &Given) -> Option<String> {
+    let replace = |slot: &mut Value| mem::replace(&mut slot.0, given.number(1));
+    Some(match name {
+        "get_mut" | "get_mut_by" => or_none(map.get_mut(&given.key()).map(replace)),
+        "get_indexed_mut" => {
+            let slot = map.iter_mut().nth(given.index(0));
+            or_none(slot.map(|(_, slot)| replace(slot)))
         }
-        Entry::Vacant(entry) => {
-            note.word("vacant");
-            entry.key().note(note);
-            if !is_removal {
-                note_lent(entry.insert(value), note);
+        "index_mut" if map.contains_key(&given.key()) => {
+            replace(&mut map[&given.key()]).to_string()
+        }
+        "index_mut" => "absent".to_string(),
+        "remove" | "remove_counted" | "remove_by" => or_none(map.remove(&given.key())),
+        "update" => {
+            for (place, (_, slot)) in map.into_iter().enumerate() {
+                slot.0 += given.number(0) + place as u64;
             }
+            map.len().to_string()
         }
-    }
-}
-
-fn note_room(is_refused: bool, note: &mut Note) {
-    if is_refused {
-        note.refuse();
-    } else {
-        note.word("ok");
-    }
-}
-
-fn change_by_place<K: Key>(
-    call: Call,
-    map: &mut LiteMap<K, u32>,
-    setting: &Setting,
-    picks: &mut Picks,
-    note: &mut Note,
-) {
-    let place = picks.place(map.len() + 2);
-    note.size(place);
-    let value = value(picks, note);
-    note.word("=");
-    match call {
-        // The crate lends no single value by place.
-        Call::GetIndexedMut => {
-            note_written(map.iter_mut().nth(place).map(|(_, slot)| slot), value, note)
-        }
-        Call::Retain => {
-            let divisor = picks.below(4) as u32 + 1;
+        "retain" => {
             let mut times = 0;
-            map.retain(|_, there| {
+            let bits = given.number(0);
+            map.retain(|_, _| {
                 times += 1;
-                *there % divisor == value % 2
+                bits >> ((times - 1) % 64) & 1 == 1
             });
-            note.value(times);
+            times.to_string()
         }
-        Call::Clear => map.clear(),
-        Call::Reserve => {
-            map.reserve(place);
-            note_room(room::lacks(map, setting, place), note);
-        }
-        _ => {
-            note.size(map.len());
-            note.truth(map.is_empty());
-            note_pair_or_none(map.first(), note);
-            note_pair_or_none(map.last(), note);
-            note_pair_or_none(map.get_indexed(place), note);
-        }
-    }
+        _ => return None,
+    })
 }
 
-fn renew<K: Key>(
-    call: Call,
-    map: &mut LiteMap<K, u32>,
-    setting: &mut Setting,
-    picks: &mut Picks,
-    note: &mut Note,
-) {
-    let form = picks.below(4);
-    note.number(form);
-    match call {
-        Call::New => *map = LiteMap::new(),
-        Call::WithCapacity => {
-            setting.limit = picks.place(40);
-            note.size(setting.limit);
-            *map = LiteMap::with_capacity(setting.limit);
+fn many(map: &mut Map, name: &str, given: &Given) -> Option<String> {
+    match name {
+        "new" => *map = LiteMap::new(),
+        "with_capacity" => *map = LiteMap::with_capacity(given.index(0)),
+        "clear" => map.clear(),
+        "reserve" => map.reserve(given.index(0)),
+        "from_iter" | "from_iter_counted" | "from_vec" | "from_vec_counted" => {
+            *map = given.pairs().collect()
         }
-        Call::FromPairs => *map = setting.pairs(picks, note).into_iter().collect(),
-        Call::Extend => {
-            let pairs = setting.pairs(picks, note);
-            let is_refused = room::refuses_all(map, setting, &pairs);
-            if !is_refused {
-                map.extend(pairs);
-            }
-            note_room(is_refused, note);
+        "extend" | "extend_counted" | "extend_from_vec" | "extend_from_vec_counted" => {
+            map.extend(given.pairs())
         }
-        Call::Merge => {
-            let other: LiteMap<K, u32> = setting.pairs(picks, note).into_iter().collect();
-            merge(map, setting, other, note);
+        "extend_from_litemap" | "extend_from_litemap_counted" => {
+            let left = map.extend_from_litemap(given.pairs().collect());
+            return Some(or_none(
+                left.map(|left| format!("left {}", text(pairs(&left)))),
+            ));
         }
-        _ => copies::clone(map, picks, note),
+        "into_tuple_vec" => {
+            let vector = mem::take(map).into_tuple_vec();
+            return Some(text(vector.into_iter().map(pair)));
+        }
+        _ => return None,
     }
-}
-
-fn merge<K: Key>(
-    map: &mut LiteMap<K, u32>,
-    setting: &Setting,
-    other: LiteMap<K, u32>,
-    note: &mut Note,
-) {
-    if room::refuses_merge(map, setting, &other) {
-        note.refuse();
-        note_map(&other, note);
-        return;
-    }
-    match map.extend_from_litemap(other) {
-        None => note.word("none"),
-        Some(left) => {
-            note.word("left");
-            note_map(&left, note);
-        }
-    }
-}
-
-fn look<K: Key>(
-    call: Call,
-    map: &LiteMap<K, u32>,
-    setting: &Setting,
-    picks: &mut Picks,
-    note: &mut Note,
-) {
-    let key: K = setting.key(picks, note);
-    let form = picks.below(3);
-    note.number(form);
-    note.word("=");
-    match call {
-        Call::Get => {
-            note.value_or_none(map.get(&key).copied());
-            note.value_or_none(map.get(&key).copied());
-            note.value_or_none(map.get_by(|there| there.cmp(&key)).copied());
-            if map.contains_key(&key) {
-                note.value(map[&key]);
-            }
-        }
-        Call::FindIndex => {
-            note.index(map.find_index(&key));
-            note.index(map.find_index(&key));
-            note.index(map.find_index(&key));
-        }
-        Call::Walk => walks::walk(map, picks, note),
-        Call::Compare => copies::compare(map, setting, picks, note),
-        Call::Boxed => copies::boxed(map, form, note),
-        Call::Lent => copies::lent(map, form, note),
-        _ if setting.has_slice => {
-            walks::parts(map, &key, picks, note);
-            walks::slices(map, &key, picks, note);
-            if setting.is_vector {
-                walks::vector(map, note);
-            }
-        }
-        _ => {}
-    }
+    Some("ok".to_string())
 }

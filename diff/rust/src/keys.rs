@@ -1,133 +1,179 @@
-//! The types of keys: numbers, texts, and words whose equal ones can be told apart.
-use crate::note::Note;
+//! Keys and values, whose clones are counted, and the words that spell them, as `test_calls` reads and writes them.
 use litemap::LiteMap;
+use std::borrow::Borrow;
+use std::cell::Cell;
 use std::cmp::Ordering;
-use std::hash::{Hash, Hasher};
+use std::fmt::{self, Display, Formatter};
 
-/// A map over a borrowed slice.
-pub type Table<'a, K> = LiteMap<K, u32, &'a [(K, u32)]>;
+thread_local! {
+    /// How many keys and values were cloned.
+    pub static CLONED: Cell<u64> = const { Cell::new(0) };
+}
 
-/// A type of keys. They rise as their numbers do, but for equal ones.
-pub trait Key: Ord + Hash + Clone {
-    /// The key of a number.
-    fn of(number: u64) -> Self;
+/// How keys are written, and in which order they lie.
+#[derive(Clone, Copy, PartialEq)]
+pub enum Order {
+    /// Numbers.
+    Number,
+    /// Texts of up to eight bytes, by their bytes.
+    Text,
+    /// Such texts, the case of whose first letter is ignored.
+    Letter,
+}
 
-    /// Notes the key.
-    fn note(&self, note: &mut Note);
+/// What a word of a key spells: a number, or the bytes of a text from the highest one on.
+#[derive(Clone, Copy, PartialEq)]
+pub struct Code {
+    is_text: bool,
+    number: u64,
+}
 
-    /// Notes what the calls by a key on a constant table answer.
-    fn note_constant(map: &Table<'_, Self>, key: &Self, note: &mut Note);
+/// What a walk over values shows in the place of a key.
+pub const NO_KEY: Code = Code {
+    is_text: false,
+    number: 0,
+};
 
-    /// Notes the pairs of a map with boxed keys. The crate boxes what has its `From` for a reference, as texts have, and
-    /// no number: of these the pairs are boxed by hand.
-    fn note_boxed_keys(map: &LiteMap<Self, u32>, note: &mut Note) {
-        let made: LiteMap<Box<Self>, u32> = map
-            .iter()
-            .map(|(key, value)| (Box::new(key.clone()), *value))
-            .collect();
-        for (key, value) in &made {
-            key.note(note);
-            note.value(*value);
+impl Display for Code {
+    fn fmt(&self, f: &mut Formatter) -> fmt::Result {
+        if !self.is_text {
+            return write!(f, "{}", self.number);
         }
+        let bytes = self.number.to_be_bytes();
+        f.write_str(String::from_utf8_lossy(&bytes).trim_end_matches('\0'))
     }
 }
 
-fn note_place(found: Option<(usize, &u32)>, note: &mut Note) {
-    match found {
-        Some((place, value)) => {
-            note.size(place);
-            note.value(*value);
+/// Lets a type lie in the order of one of its parts.
+macro_rules! order_by {
+    ($type:ty, $part:tt) => {
+        impl PartialEq for $type {
+            fn eq(&self, other: &Self) -> bool {
+                self.$part == other.$part
+            }
         }
-        None => note.word("none"),
-    }
-}
 
-impl Key for u32 {
-    fn of(number: u64) -> Self {
-        number as u32
-    }
+        impl Eq for $type {}
 
-    fn note(&self, note: &mut Note) {
-        note.value(*self);
-    }
-
-    fn note_constant(map: &Table<'_, u32>, key: &u32, note: &mut Note) {
-        note_place(map.const_get_with_index(*key), note);
-    }
-}
-
-impl Key for String {
-    fn of(number: u64) -> Self {
-        let tail = ["", "a", "ab"][(number % 3) as usize];
-        format!("{}{tail}", (number / 3).wrapping_add(1_000_000))
-    }
-
-    fn note(&self, note: &mut Note) {
-        note.text(self);
-    }
-
-    fn note_constant(map: &Table<'_, String>, key: &String, note: &mut Note) {
-        let lent: LiteMap<&str, u32> = map.to_borrowed_keys();
-        note_place(lent.as_sliced().const_get_with_index(key), note);
-    }
-
-    fn note_boxed_keys(map: &LiteMap<String, u32>, note: &mut Note) {
-        let made: LiteMap<Box<str>, u32> = map.to_boxed_keys::<str, Vec<(Box<str>, u32)>>();
-        for (key, value) in &made {
-            note.text(key);
-            note.value(*value);
+        impl PartialOrd for $type {
+            fn partial_cmp(&self, other: &Self) -> Option<Ordering> {
+                Some(self.cmp(other))
+            }
         }
-    }
-}
 
-/// A word of letters, whose order, equality and hash ignore case: its number among all words, and whether it is written
-/// large.
-#[derive(Clone)]
-pub struct Caseless {
-    number: u32,
-    is_large: bool,
-}
-
-impl PartialEq for Caseless {
-    fn eq(&self, other: &Self) -> bool {
-        self.number == other.number
-    }
-}
-
-impl Eq for Caseless {}
-
-impl PartialOrd for Caseless {
-    fn partial_cmp(&self, other: &Self) -> Option<Ordering> {
-        Some(self.cmp(other))
-    }
-}
-
-impl Ord for Caseless {
-    fn cmp(&self, other: &Self) -> Ordering {
-        self.number.cmp(&other.number)
-    }
-}
-
-impl Hash for Caseless {
-    fn hash<H: Hasher>(&self, state: &mut H) {
-        self.number.hash(state);
-    }
-}
-
-impl Key for Caseless {
-    fn of(number: u64) -> Self {
-        Caseless {
-            number: (number / 2) as u32,
-            is_large: number % 2 == 1,
+        impl Ord for $type {
+            fn cmp(&self, other: &Self) -> Ordering {
+                self.$part.cmp(&other.$part)
+            }
         }
-    }
+    };
+}
 
-    fn note(&self, note: &mut Note) {
-        note.word(if self.is_large { "LARGE" } else { "small" });
-        note.value(self.number);
-    }
+order_by!(Key, rank);
+order_by!(Value, 0);
 
-    fn note_constant(map: &Table<'_, Caseless>, key: &Caseless, note: &mut Note) {
-        note.index(map.find_index(key));
+/// A key: its code, and where it stands among all keys.
+pub struct Key {
+    pub code: Code,
+    rank: u64,
+}
+
+impl Key {
+    /// The key that a word spells.
+    pub fn new(order: Order, word: &str) -> Self {
+        let is_text = order != Order::Number;
+        let number = if is_text {
+            let mut bytes = [0; 8];
+            bytes[..word.len()].copy_from_slice(word.as_bytes());
+            u64::from_be_bytes(bytes)
+        } else {
+            word.parse().expect("a number")
+        };
+        let rank = match order {
+            Order::Letter => number | 1 << 61,
+            _ => number,
+        };
+        let code = Code { is_text, number };
+        Key { code, rank }
     }
 }
+
+impl Clone for Key {
+    fn clone(&self) -> Self {
+        CLONED.set(CLONED.get() + 1);
+        Key { ..*self }
+    }
+}
+
+/// A value, and whether its clones are counted: those of one that `or_default` makes are not.
+#[derive(Default)]
+pub struct Value(pub u64, bool);
+
+impl Value {
+    /// The value of a number.
+    pub fn new(number: u64) -> Self {
+        Value(number, true)
+    }
+}
+
+impl Display for Value {
+    fn fmt(&self, f: &mut Formatter) -> fmt::Result {
+        self.0.fmt(f)
+    }
+}
+
+impl Clone for Value {
+    fn clone(&self) -> Self {
+        CLONED.set(CLONED.get() + self.1 as u64);
+        Value(self.0, self.1)
+    }
+}
+
+impl From<&Key> for Box<Key> {
+    fn from(key: &Key) -> Self {
+        Box::new(key.clone())
+    }
+}
+
+impl From<&Value> for Box<Value> {
+    fn from(value: &Value) -> Self {
+        Box::new(value.clone())
+    }
+}
+
+/// A pair as it is written.
+pub type Pair = (Code, u64);
+
+/// A key and a value as they are written.
+pub fn pair<K: Borrow<Key>, V: Borrow<Value>>((key, value): (K, V)) -> Pair {
+    (key.borrow().code, value.borrow().0)
+}
+
+/// The pairs of a map.
+pub fn pairs<K: Borrow<Key>, V: Borrow<Value>>(map: &LiteMap<K, V>) -> Vec<Pair> {
+    map.iter()
+        .map(|(key, value)| pair((key.borrow(), value.borrow())))
+        .collect()
+}
+
+/// Pairs as they are written: a few by themselves, and many by their number and a sum.
+pub fn text(pairs: impl IntoIterator<Item = Pair>) -> String {
+    let pairs: Vec<Pair> = pairs.into_iter().collect();
+    if pairs.is_empty() {
+        return "-".to_string();
+    }
+    if pairs.len() <= 6 {
+        let words = pairs.iter().map(|(code, value)| format!("{code}:{value}"));
+        return words.collect::<Vec<_>>().join(" ");
+    }
+    let mut sum = 0u64;
+    for (code, value) in &pairs {
+        sum = (sum ^ code.number).wrapping_mul(STEP);
+        sum = (sum ^ value).wrapping_mul(STEP);
+        sum ^= sum >> 29;
+    }
+    format!("#{}:{}", pairs.len(), sum % 1_000_000_000)
+}
+
+// What the sum is multiplied by.
+const STEP: u64 = 1_099_511_628_211;

@@ -1,49 +1,77 @@
-//! Answers the lines that diff/rattle answers, by maps of the Rust crate. Each store is a vector here: a map answers the same
-//! over any, but for what a fixed room refuses.
+//! Makes the calls of lines, as `test_replay` does, of a map of the Rust crate, and writes what each answers and leaves. Over
+//! each store the map is one over a vector.
 mod calls;
-mod copies;
 mod keys;
-mod note;
-mod picks;
-mod room;
-mod runs;
-mod setting;
-mod walks;
 
-use runs::{Counts, Job};
-use std::io::{self, Read};
+use calls::{Given, Map};
+use keys::{pairs, text, Order};
+use std::io::{self, Write};
+
+/// What is left of the lines before: the map, the store's name and the order of keys.
+struct Replay<'t> {
+    map: Map,
+    store: &'t str,
+    order: Order,
+}
+
+impl<'t> Replay<'t> {
+    /// Does a line that makes no call: whether it is one.
+    fn settle(&mut self, line: &'t str) -> bool {
+        if let Some(store) = line.strip_prefix("on ") {
+            self.store = store;
+            return true;
+        }
+        self.order = match line {
+            "with number 0 0" => Order::Number,
+            "with text 0 0" => Order::Text,
+            "with letter 0 0" => Order::Letter,
+            _ => return false,
+        };
+        true
+    }
+
+    /// Makes a call: what it answers, and what it leaves.
+    fn make(&mut self, call: &str) -> String {
+        let (name, words) = call.split_once(' ').unwrap_or((call, ""));
+        let given = Given::new(self.order, words);
+        let before = pairs(&self.map);
+        let answer = calls::make(&mut self.map, name, &given);
+        let after = pairs(&self.map);
+        let left = if before == after {
+            "same".to_string()
+        } else {
+            text(after)
+        };
+        format!("{answer} | {left}")
+    }
+}
 
 fn main() -> io::Result<()> {
-    let mut input = String::new();
-    io::stdin().read_to_string(&mut input)?;
-    for line in input.lines() {
-        let mut words = line.split(' ');
-        let kind = words.next().unwrap_or("");
-        let numbers: Vec<u64> = words.map(|word| word.parse().unwrap_or(0)).collect();
-        match (kind, &numbers[..]) {
-            ("digests", [seed, first, count, most]) => {
-                let mut counts = Counts::new();
-                for run in *first..first + count {
-                    let note = Job::whole(*seed, run, *most).done(&mut counts, false);
-                    println!("{run} {}", note.digest);
-                }
-                print!("{}", counts.text());
-            }
-            (_, [seed, run, most, places @ ..]) => {
-                let job = Job {
-                    seed: *seed,
-                    run: *run,
-                    most: *most,
-                    places: places.to_vec(),
-                };
-                let note = job.done(&mut Counts::new(), kind == "show");
-                match kind {
-                    "show" => println!("{}", note.text),
-                    _ => println!("{}", note.digest),
-                }
-            }
-            _ => println!("bad line"),
+    let input = io::read_to_string(io::stdin())?;
+    let mut output = io::BufWriter::new(io::stdout());
+    let mut replay = Replay {
+        map: Map::new(),
+        store: "",
+        order: Order::Number,
+    };
+    let mut made = 0;
+    for (place, line) in input.lines().enumerate() {
+        if replay.settle(line) {
+            continue;
         }
+        let call = line.strip_suffix(" = ? | *").unwrap_or(line);
+        let call = call.strip_prefix("+ ").unwrap_or_else(|| {
+            replay.map = Map::new();
+            call
+        });
+        let text = replay.make(call);
+        writeln!(
+            output,
+            "input:{} {} {call} = {text}",
+            place + 1,
+            replay.store
+        )?;
+        made += 1;
     }
-    Ok(())
+    writeln!(output, "input: {made} calls")
 }
