@@ -318,6 +318,8 @@ class Model:
         if name in ("new", "lm_empty"):
             self.pairs, self.room = [], None if self.room is None else 0
             return "ok"
+        if name in ("with_capacity", "lm_with_capacity", "reserve", "lm_reserve") and int(words[0]) > 2**48:
+            return "refused"
         if name in ("with_capacity", "lm_with_capacity"):
             self.pairs, self.room = [], None if self.room is None else int(words[0])
             return "ok"

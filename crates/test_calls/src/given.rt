@@ -87,8 +87,9 @@ impl Given<'_> {
     }
 
     /// The pairs that the words from a place on spell: `KEY:VALUE`, or `FIRST,COUNT,STEP` for as many keys from the first
-    /// one on by steps, each with its place as its value.
+    /// one on by steps, each with its place as its value. They are made before the call begins.
     pub fn pairs(&self, place: usize) -> Result<Option<Vec<Pair>>, AllocError> {
+        self.end();
         let mut pairs = Vec::new(self.alloc);
         for word in self.words.iter().skip(place) {
             let is_added = match word.split_once(':') {

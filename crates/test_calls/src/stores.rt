@@ -233,6 +233,7 @@ fn join<S: Tested<Key, Value>>(
     given: &Given<'_>,
     answer: &mut Answer,
 ) -> Option<()> {
+    given.end();
     let other = S::lm_from_pairs(given.alloc, pairs).ok()?;
     given.begin();
     let outcome = match name {

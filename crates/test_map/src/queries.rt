@@ -55,7 +55,8 @@ fn map_by<'t, K: Ord + Drop, F: Fn(&'t str) -> Result<K, AllocError>>(
 {
     let mut map = LiteMap::new_vec(alloc);
     for (text, number) in LIST {
-        map.insert(key_of(text)?, *number)?;
+        let key = key_of(text)?;
+        map.insert(key, *number)?;
     }
     Ok(map)
 }
