@@ -13,7 +13,7 @@ use std::test::Fail;
 type Numbers<K> = LiteMap<K, u32, Vec<(K, u32)>>;
 
 // The texts of the keys, and the number at each.
-const LIST: &[(&str, u32)] = &[("", 1), ("a", 2), ("aab", 3), ("ab", 4), ("b\u{e9}", 5)];
+const LIST: [(&str, u32); 5] = [("", 1), ("a", 2), ("aab", 3), ("ab", 4), ("b\u{e9}", 5)];
 
 // Texts that are asked for, with the number and the place of each.
 const ASKED: [(&str, Option<u32>, Result<usize, usize>); 8] = [
@@ -56,7 +56,7 @@ fn map_by<'t, K: Ord + Drop, F: Fn(&'t str) -> Result<K, AllocError>>(
     let mut map = LiteMap::new_vec(alloc);
     for (text, number) in LIST {
         let key = key_of(text)?;
-        map.insert(key, *number)?;
+        map.insert(key, number)?;
     }
     Ok(map)
 }
