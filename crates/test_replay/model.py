@@ -165,7 +165,8 @@ class Model:
             text, self.pairs = self.text(self.pairs), []
             return text
         if name == "is_sorted_store":
-            return ("true" if self.rises(self.pairs) else "false"), max(size - 1, 0)
+            falls = [place for place in range(1, size) if not self.rises(self.pairs[place - 1 : place + 1])]
+            return ("false" if falls else "true"), falls[0] if falls else max(size - 1, 0)
         if name == "get_indexed_range":
             start, end = map(int, words)
             return self.text(self.pairs[start:end]) if start <= end <= size else "none"
@@ -234,6 +235,9 @@ class Model:
             return None
         key, value = words[0], int(words[1]) if len(words) > 1 else 0
         place, there = self.place(key)
+        if name == "entry_debug":
+            stored, old = self.pairs[place] if there else (key, 0)
+            return (f"OccupiedEntry {{ key: {stored}, value: {old} }}" if there else f"VacantEntry {{ key: {key} }}"), search
         if name == "entry":
             return (f"occupied {self.pairs[place][0]}" if there else f"vacant {key}"), search
         if name in ("entry_get", "entry_remove") and not there:
@@ -351,6 +355,8 @@ class Model:
             return self.extend(pairs)
         if name in ("extend_from_litemap", "extend_from_litemap_counted"):
             return self.merge(self.last(pairs))
+        if name in ("lm_extend_end", "lm_extend_start") and not self.taken(len(pairs)):
+            return f"refused {self.text(pairs)}"
         if name in ("lm_extend_end", "lm_extend_start"):
             self.pairs = self.pairs + pairs if name.endswith("end") else pairs + self.pairs
             return "ok"
@@ -408,7 +414,7 @@ LOOK_UPS |= {"get", "get_counted", "get_by", "index", "get_mut", "get_mut_by", "
 PUTS = ["insert", "insert_counted", "try_insert", "try_append", "try_get_or_insert", "try_find_or_insert"]
 PUTS += ["try_get_or_fail", "try_find_or_fail"]
 ENTRIES = ["or_insert", "or_insert_with", "and_modify", "entry_insert", "entry_get_mut", "entry_into_mut"]
-ENTRIES += ["or_default", "entry", "entry_get", "entry_remove"]
+ENTRIES += ["or_default", "entry", "entry_get", "entry_remove", "entry_debug"]
 EXTENSIONS = ["extend", "extend_counted", "extend_from_vec", "extend_from_vec_counted", "lm_extend", "lm_extend_from_vec"]
 # How many clones each conversion makes of a pair.
 CONVERSIONS = {"try_clone": 2, "to_boxed_keys_values": 2, "to_boxed_keys": 2, "to_boxed_values": 2, "to_keys_by": 1}
@@ -552,7 +558,7 @@ def bulk():
         yield from block(ALL, length, 3000, [call for call in calls if not is_before(call)])
         if length in (0, 5, 30):
             made = [f"{name} {pairs}".strip() for name in MAKES for pairs in given]
-            yield from block(ALL, length, 0, made + ["new", "with_capacity 0", "with_capacity 1", "with_capacity 16", "with_capacity 100"])
+            yield from block(ALL, length, 0, made + ["new", "with_capacity 0", "with_capacity 1", "with_capacity 16", "with_capacity 100", "with_capacity 100000"])
             hints = [0, 1, 3, 17, 2**40, 2**63, 2**64 - 1]
             errors = [f"{name} {hint} {error} 1,5,2" for name in READS for hint in hints for error in ("-", 0, 1, 4, 5)]
             yield from block(GROWING, length, 0, errors)
@@ -588,12 +594,16 @@ def stores():
         yield from block(ALL, length, 1, looks + puts + ["lm_reserve 0", "lm_reserve 1"])
         yield from block(GROWING, length, 0, looks + puts + ["lm_reserve 0", "lm_reserve 1", "lm_reserve 8"])
         yield from block("fixed", length, 0, puts + ["lm_reserve 0", "lm_reserve 1"], is_fixed=True)
+        if length:
+            yield from block("fixed", length, 0, ["lm_extend_end 9999:1", "lm_extend_start 1:1"], is_fixed=True)
         given = list(inputs(length))
         many = [f"{name} {pairs}".strip() for name in ("lm_extend", "lm_extend_from_vec") for pairs in given]
         if length <= 33:
             many += [f"{name} {pairs}".strip() for name in ("lm_extend_end", "lm_extend_start") for pairs in given]
         yield from block(GROWING, length, 0, many)
         yield from block(ALL, length, 100, [call for call in many if not call.startswith("lm_extend_start")])
+    for pairs in ("1:1 1:2", "2:1 1:2", "1:1 3:2 2:3", "1:1 2:2 3:3", "1:1 2:2 2:3"):
+        yield from chain(ALL, [f"lm_from_pairs {pairs}", "is_sorted_store"])
     made = [f"{name} {pairs}".strip() for name in ("lm_sort_from_iter", "lm_sort_from_vec", "lm_from_pairs") for pairs in inputs(20)]
     yield from block(ALL, 5, 0, made + ["lm_empty 0", "lm_with_capacity 0", "lm_with_capacity 1", "lm_with_capacity 17"])
 
@@ -614,6 +624,7 @@ def scattered():
             calls = ["from_vec " + " ".join(f"{key}:99" for key in old) if old else "from_vec", f"extend {pairs}".strip()]
             yield from chain("vec", calls, "letter")
         yield from chain(ALL, [f"from_iter {pairs}".strip()], "letter")
+        yield from chain("vec columns", [f"read_pairs - - {pairs}".strip()], "letter")
 
 
 def merged():
