@@ -1,4 +1,4 @@
-//! Key types: one whose equal keys can be told apart, and one that counts its comparisons.
+//! Keys whose equal ones can be told apart.
 ghost use Rattle.std.specs.Prelude.{◌==◌};
 ghost use Rattle.std.specs.Char.{to_ascii_lowercase};
 ghost use Rattle.std.specs.Hash as fed;
@@ -7,7 +7,6 @@ ghost use Rattle.std.specs.Ordering.{nat_cmp, on, as_partial_cmp};
 ghost use Rattle.std.specs.Cmp.Rules.{comparing, hashing};
 ghost use Rattle.std.specs.Cmp.{partial_order_from_own_ties};
 
-use std::cell::Cell;
 use std::cmp::Ordering;
 use std::hash::{Hash, Hasher};
 
@@ -65,64 +64,5 @@ impl Hash for Letter {
 
     fn hash<H: Hasher>(&self, state: &mut H) {
         self.code.to_ascii_lowercase().hash(state);
-    }
-}
-
-/// A number, whose order and equality add one to a shared cell for each comparison.
-#[derive(Clone, Copy, Debug)]
-pub struct Counted<'a> {
-    /// The number.
-    pub number: u32,
-    /// How many comparisons were made.
-    pub made: &'a Cell<u32>,
-}
-
-impl PartialEq for Counted<'_> {
-    ghost eq = { λ a b. a.number == b.number };
-
-    ghost laws = { Prim.search (comparing, rules) };
-
-    fn eq(&self, other: &Self) -> bool {
-        self.made.set(self.made.get().wrapping_add(1));
-        self.number == other.number
-    }
-}
-
-impl Eq for Counted<'_> {
-    ghost laws = { Prim.search (comparing, rules) };
-}
-
-impl PartialOrd for Counted<'_> {
-    ghost partial_cmp = { as_partial_cmp (on (λ a. a.number) nat_cmp) };
-
-    ghost laws = { partial_order_from_own_ties (Prim.search (comparing, rules)) (Prim.search (comparing, rules)) };
-
-    fn partial_cmp(&self, other: &Self) -> Option<Ordering> {
-        Some(self.cmp(other))
-    }
-}
-
-impl Ord for Counted<'_> {
-    ghost cmp = { on (λ a. a.number) nat_cmp };
-
-    ghost total = { Prim.search (comparing, rules) };
-
-    ghost matches_partial_cmp = { Prim.search (comparing, rules) };
-
-    ghost matches_eq = { Prim.search (comparing, rules) };
-
-    fn cmp(&self, other: &Self) -> Ordering {
-        self.made.set(self.made.get().wrapping_add(1));
-        self.number.cmp(&other.number)
-    }
-}
-
-impl Hash for Counted<'_> {
-    ghost hash_input = { λ a. fed.u32 a.number };
-
-    ghost respects_eq = { Prim.search (hashing, rules) };
-
-    fn hash<H: Hasher>(&self, state: &mut H) {
-        self.number.hash(state);
     }
 }

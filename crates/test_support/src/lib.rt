@@ -1,9 +1,7 @@
-//! What several crates of tests share: a store of a user's own, types of keys, maps against lists, a source, and
-//! slow scans that judge the fast calls.
+//! What several crates of tests share: a store of a user's own, a type of keys, maps against lists, and a source.
 #![tactic(auto)]
 
 pub mod fixed_room;
 pub mod keys;
 pub mod lists;
-pub mod scan;
 pub mod sources;
