@@ -1,6 +1,6 @@
 //! Calls that make a map, take many pairs at once, merge and part.
 use crate::answer::{Answer, Pairs};
-use crate::given::{Given, Pair};
+use crate::given::Given;
 use crate::keys::Key;
 use crate::source::Script;
 use crate::values::Value;
@@ -9,7 +9,7 @@ use litemap::store::{
     Count, NoRoom, Store, StoreBulkMut, StoreConstEmpty, StoreFromIterable, StoreIntoIterator,
     StoreMut,
 };
-use litemap_read::{ReadFault, extend_from_source, read_pairs, read_results};
+use litemap_read::{ReadFault, extend_from_source, read_pairs};
 use std::alloc::AllocError;
 
 /// A map of counted pairs.

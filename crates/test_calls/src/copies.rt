@@ -4,7 +4,7 @@ use crate::given::Given;
 use crate::keys::{Key, Order};
 use crate::values::Value;
 use litemap::LiteMap;
-use litemap::store::{Store, StoreBulkMut, StoreFromIterable, StoreMut};
+use litemap::store::{Store, StoreFromIterable, StoreMut};
 use std::alloc::{AllocError, Global};
 use std::cmp::Ordering;
 

@@ -5,7 +5,6 @@ use crate::keys::Key;
 use crate::values::Value;
 use litemap::LiteMap;
 use litemap::store::{Count, Store};
-use std::fmt::Write;
 use std::hash::{FoldHasher, Hash, Hasher};
 use std::ops::Bound;
 
