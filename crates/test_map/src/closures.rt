@@ -34,7 +34,7 @@ fn finds_one<S: StoreMut<u32, u8> + Drop>(
         (Err(place), None, None) => equal.is_empty() && place == first && len == PAIRS.len(),
         (Ok(place), Some(got), Some(removed)) => {
             let are_equal = equal.contains(&got) && equal.contains(&removed);
-            are_equal && place >= first && place - first < equal.len() && len + 1 == PAIRS.len()
+            are_equal && place >= first && place - first < equal.len() && len == PAIRS.len() - 1
         }
         _ => false,
     })
