@@ -636,7 +636,7 @@ def merged():
             calls += ["extend_from_litemap" + "".join(f" {key.upper()}:{9 - place}" for place, key in enumerate(new))]
             yield from chain(GROWING, calls, "letter", 8)
     for length in (5, 20, 60, 100, 400, 6000):
-        for count in sorted({1, 2, 3, length // 8, length // 3, length, 3 * length} - {0}):
+        for count in sorted({1, 2, 3, 60, length // 8, length // 3, length, 3 * length} - {0}):
             if length < 6000 or count < 100:
                 step = max(2 * length // count, 1)
                 calls = [f"extend_from_litemap {start},{count},{step}" for start in (1, 2)]
