@@ -95,7 +95,7 @@ def ratios(ours, theirs):
         drawn += names(calls, top, width)
         for number, store in enumerate(stores):
             left = NAMES_WIDTH + (PANEL_WIDTH + GAP) * number
-            drawn += panel(left, top, f"{keys}s, {store}", bottom)
+            drawn += panel(left, top, f"{tables.PLOTTED[keys]}, {store}", bottom)
             drawn += dots(ours, theirs, left, top, (keys, store), calls, sizes)
         top = bottom + BOTTOM
     size = f'width="{width}" height="{top}" viewBox="0 0 {width} {top}"'

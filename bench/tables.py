@@ -3,59 +3,59 @@ import typing
 
 # What the lines of the programs call the calls. A measure that is added has a line here.
 TITLES = {
-    "get": "`get` of keys that are there",
-    "get_missing": "`get` of keys that are not",
+    "get": "`get`, present",
+    "get_missing": "`get`, absent",
     "iterate": "`iter`",
-    "insert": "`insert`, in no order",
+    "insert": "`insert`, no order",
     "append": "`try_append`",
-    "remove": "`remove`, in no order",
-    "retain": "`retain` of about half, by chance",
+    "remove": "`remove`, no order",
+    "retain": "`retain` of a random half",
     "retain_all": "`retain` of all",
     "retain_none": "`retain` of none",
-    "from_iter_rising": "`from_iter` of rising pairs",
-    "from_iter": "`from_iter`, in no order",
-    "extend_rising": "`extend` by rising pairs between the others",
-    "extend_above": "`extend` by rising pairs past the last key",
-    "extend": "`extend`, in no order",
-    "extend_few": "`extend` by 10 pairs, in no order",
-    "merge_apart": "`extend_from_litemap`, all keys above",
-    "merge_interleaved": "`extend_from_litemap`, keys between the others",
+    "from_iter_rising": "`from_iter`, ascending",
+    "from_iter": "`from_iter`, no order",
+    "extend_rising": "`extend`, ascending, between",
+    "extend_above": "`extend`, ascending, past the end",
+    "extend": "`extend`, no order",
+    "extend_few": "`extend` by 10, no order",
+    "merge_apart": "`extend_from_litemap`, keys above",
+    "merge_interleaved": "`extend_from_litemap`, keys between",
     "merge_equal": "`extend_from_litemap`, equal keys",
     "clone": "`try_clone`",
-    "const_get": "`const_get_with_index`, over a slice",
-    "to_json": "`to_json`, and its text",
+    "const_get": "`const_get_with_index`",
+    "to_json": "`to_json` and its text",
     "write_json": "`write_json`",
-    "from_json": "`from_json`, of a value",
-    "read_json": "a text read, and `from_json`",
-    "copy": "a copy of the bytes",
+    "from_json": "`from_json` of a value",
+    "read_json": "text read, `from_json`",
+    "copy": "copy of the bytes",
     "read_names": "`read_names`",
     "find_name": "`find_name`",
     "write_names": "`write_names`",
     "few_get": "`get`",
-    "few_insert": "`insert` of one more",
-    "few_iterate": "`iter`, of the whole map",
+    "few_insert": "`insert`",
+    "few_iterate": "`iter` to the end",
     "few_clone": "`try_clone`",
     "made_map": "`read_names`",
     "made_table": "`NameTable::new`",
     "made_index": "`NameIndex::new`",
     "opened": "`IndexedNames::open`, a call",
-    "in_map": "`get` of the map of `read_names`",
-    "in_table": "`get` of a `NameTable`",
-    "in_index": "`get` of a `NameIndex`",
-    "in_indexed": "`get` of an `IndexedNames`",
+    "in_map": "`get`, map of `read_names`",
+    "in_table": "`NameTable::get`",
+    "in_index": "`NameIndex::get`",
+    "in_indexed": "`IndexedNames::get`",
     "by_find_name": "`find_name`",
 }
 KEYS = {
-    "number": "numbers (`u64`)",
-    "text": "texts (`String`)",
-    "few": "few numbers, a call,",
+    "number": "`u64` keys",
+    "text": "`String` keys",
+    "few": "few `u64` keys, a call,",
     "name": "names of 50 bytes,",
 }
 # The calls whose bytes at the peak have a table, and the number of pairs there.
 HELD = ["from_iter_rising", "from_iter", "extend_rising", "extend", "merge_apart", "merge_interleaved", "merge_equal", "clone"]
 HELD_SIZE = 100_000
-# The keys whose rows the plot has.
-PLOTTED = ["number", "text"]
+# The keys whose rows the plot has, and what they are called there.
+PLOTTED = {"number": "numbers", "text": "strings"}
 # Where the pairs are kept, or the format that they are written in.
 STORES = {
     "vec": "over `Vec`",
@@ -63,8 +63,8 @@ STORES = {
     "short": "over `ShortStore`",
     "json": "as JSON",
     "table": "as a name table",
-    "made": "made ready, an entry",
-    "asked": "a look-up",
+    "made": "opened, an entry",
+    "asked": "a lookup",
 }
 
 
@@ -121,15 +121,11 @@ def ratio(ours, theirs, measure):
 
 
 def cell(ours, theirs, measure):
-    """The times of a measure, here and there, and their ratio."""
+    """The time of a measure, and where the Rust crate has it, too, how many times as long it takes here."""
     if measure not in ours:
         return ""
-    here = shown(ours[measure].lowest())
-    there = found_there(theirs, measure)
-    if there is None:
-        return here
-    times = ratio(ours, theirs, measure)
-    return f"{here} : {shown(there.lowest())} ({times:{'.2f' if times >= 0.1 else '.2g'}})"
+    here, times = shown(ours[measure].lowest()), ratio(ours, theirs, measure)
+    return here if times is None else f"{here} ({times:{'.2f' if times >= 0.1 else '.2g'}})"
 
 
 def parts(ours, theirs):
@@ -166,12 +162,13 @@ def every_table(ours, theirs, held):
     for title, sizes, rows in parts(ours, theirs):
         yield [[f"{title}, pairs", *(f"{size:,}" for size in sizes)], *rows]
     heads, rows = held_rows(*held)
-    yield [[f"bytes a pair at the peak, {HELD_SIZE:,} pairs", *heads], *rows]
+    there = " : there" if held[1:] else ""
+    yield [[f"bytes a pair at the peak, here{there}, {HELD_SIZE:,} pairs", *heads], *rows]
 
 
 def plain(ours, theirs, held):
     """The tables as text. What is held is that of both programs."""
-    there = ", in the Rust crate, and how many times as long it takes here" if theirs else ""
+    there = ", and how many times as long as in the Rust crate" if theirs else ""
     lines = [f"Nanoseconds a pair, or what a title says: here{there}.", ""]
     for rows in every_table(ours, theirs, held):
         widths = [max(len(row[column]) for row in rows) for column in range(len(rows[0]))]
@@ -201,6 +198,6 @@ def noise(ours, theirs):
     if passes == 1:
         return "From one pass, so nothing is known of how well it repeats.\n"
     return (
-        f"The lowest of {passes} passes. The lowest times of each second pass and of the other passes lie within "
-        f"{half:.0f} % of one another for half of the measures, and within {most:.0f} % for nine in ten.\n"
+        f"The lowest of {passes} passes. Even and odd passes differ by at most {half:.0f} % for half of the measures, "
+        f"by {most:.0f} % for nine in ten.\n"
     )
