@@ -35,14 +35,14 @@ pub fn configured(
     Ok(settings)
 }
 
-/// Puts more settings over those that are there, or leaves all as they are where memory is refused.
+/// Puts more settings over those that are there, or leaves all as they are if memory runs out.
 #[tactic(auto, using(litemap::proofs::Lists::string_lists))]
 pub fn override_with(
     settings: &mut Settings,
     alloc: Global,
     user: Vec<(String, String)>,
 ) -> Result<(), AllocError>
-    // The last setting of the user where there is one, else the one that was there.
+    // The last setting of the user if there is one, else the one that was there.
     ensures found { OnOk result ((name : _) → value_at string_cmp settings.new.pairs name
         ≡ option_or (value_at string_cmp (reverse user.items) name) (value_at string_cmp settings.old.pairs name)) }
     ensures refused { OnErr result (settings.new.pairs ≡ settings.old.pairs) }
@@ -51,18 +51,18 @@ pub fn override_with(
     settings.extend_from_vec(alloc, user)
 }
 
-/// Puts a user's settings over those that are there, and answers what they drove out: of each name that both have, the old
-/// value. Where memory is refused, both are as they were, and the user's come back.
+/// Puts a user's settings over those that are there, and returns what they displace: of each name that both have, the old
+/// value. If memory runs out, both are as they were, and the user's come back.
 #[tactic(auto, using(litemap::proofs::Texts::text_keys))]
 pub fn overlay(
     settings: &mut Settings,
     alloc: Global,
     user: Settings,
 ) -> Result<Option<Settings>, NoRoom<Settings>>
-    // The user's setting where there is one, else the one that was there.
+    // The user's setting if there is one, else the one that was there.
     ensures found { OnOk result ((name : _) → value_at by_text settings.new.pairs name
         ≡ option_or (value_at by_text user.pairs name) (value_at by_text settings.old.pairs name)) }
-    // What is driven out: the old setting where the user has one, else nothing.
+    // What is displaced: the old setting if the user has one, else nothing.
     ensures driven_out { IfOk result (λ rest. IfSome rest (λ old. (name : _) → value_at by_text old.pairs name
         ≡ cond (is_some (at by_text user.pairs name)) (value_at by_text settings.old.pairs name) None)) }
     ensures refused { OnErr result (settings.new.pairs ≡ settings.old.pairs) }

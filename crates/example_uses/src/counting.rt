@@ -1,4 +1,4 @@
-//! How often each word stands in a list.
+//! How often each word occurs in a list.
 ghost use Rattle.std.specs.Prelude.{◌≡◌, ◌≢◌, ◌==◌, ◌+◌, ◌<◌, IfOk, OnOk, OnErr, Some, filter, string_bytes, unwrap_or};
 ghost use Rattle.std.specs.List.{count_by};
 ghost use Rattle.std.specs.Ordering.{is_eq};
@@ -23,7 +23,7 @@ pub fn count_word<K: Ord + Drop, S: StoreMut<K, usize>>(
     Ok(())
 }
 
-/// How often each word stands in a list: the number of its words that are equal to it.
+/// How often each word occurs in a list: the number of its words that are equal to it.
 pub fn count_words<K: Ord + Copy>(
     alloc: Global,
     words: &[K],

@@ -1,6 +1,5 @@
 //! A header list: values by their names, in the order of the names' bytes.
-//! What look-ups find after a change follows from the lemmas that the attributes name. The one proof file names the
-//! lemma that clones of texts compare `Equal`.
+//! What lookups find after a change follows from the lemmas that the attributes name.
 ghost use Rattle.std.specs.Prelude.{◌≡◌, ◌≢◌, None, Some, IfOk, OnOk, OnErr, string_bytes};
 ghost use Rattle.std.specs.Option.{option_copied};
 ghost use Rattle.litemap_store.specs.Pairs.{value_at};
@@ -10,10 +9,10 @@ ghost use Rattle.litemap_store.specs.Clones.{PairsAreClones};
 use litemap::LiteMap;
 use std::alloc::{AllocError, Global};
 
-/// Headers that own their texts.
+/// Headers that own their strings.
 pub type Headers = LiteMap<String, String, Vec<(String, String)>>;
 
-/// Sets a header, and answers the value before. All others stay.
+/// Sets a header, and returns the value before. All others stay.
 #[tactic(auto, using(litemap::proofs::Texts::text_keys))]
 pub fn set(headers: &mut Headers, name: String, value: String) -> Result<Option<String>, AllocError>
     ensures old { IfOk result (λ old. old ≡ value_at by_text headers.old.pairs (string_bytes name)) }
@@ -43,7 +42,7 @@ pub fn remove(headers: &mut Headers, name: &str) -> Option<String>
     headers.remove(name)
 }
 
-/// A copy of the headers, with texts of its own that have the same bytes.
+/// A copy of the headers, with strings of its own that have the same bytes.
 #[tactic(auto, using(litemap::proofs::Texts::text_clones))]
 pub fn copy_of(alloc: Global, headers: &Headers) -> Result<Headers, AllocError>
     ensures { IfOk result (λ copy. PairsAreClones

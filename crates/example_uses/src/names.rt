@@ -7,10 +7,10 @@ ghost use Rattle.litemap.specs.ByBytes.{by_bytes};
 use litemap::LiteMap;
 use litemap::store::SliceStore;
 
-/// The place and the value of a name in a table whose names rise strictly by their bytes.
+/// The index and the value of a name in a table whose names strictly ascend by their bytes.
 ///
-/// The value is lent by the table: it outlives the map that is made here for the lookup. That a constant table rises is
-/// shown by computing it, so its user tests nothing.
+/// The value is lent by the table: it outlives the map that is made here for the lookup. That a constant table is sorted
+/// is shown by computing it, so its user tests nothing.
 pub fn find_in_table<'a, 'k, V>(table: &'a [(&'k str, V)], name: &str) -> Option<(usize, &'a V)>
     requires { Rising by_bytes table.now }
     ensures value { option_map (λ found. found.1.now) result ≡ value_at by_bytes table.now name.entry }
@@ -20,7 +20,7 @@ pub fn find_in_table<'a, 'k, V>(table: &'a [(&'k str, V)], name: &str) -> Option
     map.const_get_with_index(name)
 }
 
-/// The place and the value of a name in a map over a vector.
+/// The index and the value of a name in a map over a vector.
 pub fn find_in_map<'a, 'k, V>(
     map: &'a LiteMap<&'k str, V, Vec<(&'k str, V)>>,
     name: &str,

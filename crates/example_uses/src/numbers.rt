@@ -94,7 +94,7 @@ pub fn correct_at(ages: &mut Ages, index: usize, age: u8)
     }
 }
 
-/// Keeps those of an age, and of more.
+/// Keeps those of at least this age.
 pub fn keep_from(ages: &mut Ages, age: u8)
     ensures { ages.new.pairs ≡ filter (λ p. nat_le age p.1) ages.old.pairs }
 {

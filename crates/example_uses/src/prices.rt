@@ -48,7 +48,7 @@ fn does_begin(prices: &Prices, index: usize, text: &str) -> bool
     }
 }
 
-/// The prices of the names from a text to before another.
+/// The prices of the names from a string on, up to another, which is excluded.
 pub fn between<'m, 'q>(prices: &'m Prices, from: &'q str, to: &'q str) -> Part<'m>
     ensures { result.pairs ≡ within by_text prices.entry.now.pairs (Included from.now) (Excluded to.now) }
 {

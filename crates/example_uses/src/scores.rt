@@ -11,7 +11,7 @@ use std::alloc::{AllocError, Global};
 /// A map from names to scores, over a vector.
 pub type Scores = VecMap<String, u32>;
 
-/// Sets a score, which is then found at the name. A refusal leaves the map.
+/// Sets a score, which a lookup of the name then finds. An error leaves the map.
 #[tactic(auto, using(litemap::proofs::Texts::text_keys))]
 pub fn set(scores: &mut Scores, name: String, score: u32) -> Result<(), AllocError>
     ensures there { OnOk result (value_at by_text scores.new.pairs (string_bytes name) ≡ Some score) }
@@ -28,7 +28,7 @@ pub fn score_of(scores: &Scores, name: &str) -> Option<u32>
     scores.get(name).copied()
 }
 
-/// Where a name stands among the sorted names: `Ok` of its place, or `Err` of the place where it would go.
+/// The index of a name among the sorted names, or in `Err` the index at which it would go.
 pub fn place_of(scores: &Scores, name: &str) -> Result<usize, usize>
     ensures { result ≡ index_of by_text scores.now.pairs name.now }
 {

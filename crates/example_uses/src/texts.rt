@@ -100,7 +100,7 @@ pub fn take_key(map: &mut Numbers, key: &String) -> Option<u32>
     map.remove(key)
 }
 
-/// Writes the number at a name, where the name is there. All others stay.
+/// Writes the number at a name, if the name is there. All others stay.
 #[tactic(auto, using(litemap::proofs::Texts::text_keys))]
 pub fn set_number(map: &mut Numbers, name: &str, number: u32) -> bool
     ensures there { result ≡ is_some (at by_text map.old.pairs name.now) }
@@ -112,7 +112,7 @@ pub fn set_number(map: &mut Numbers, name: &str, number: u32) -> bool
     write_number(map, name, number)
 }
 
-// Writes the number at a name, where the name is there.
+// Writes the number at a name, if the name is there.
 fn write_number(map: &mut Numbers, name: &str, number: u32) -> bool
     ensures there { result ≡ is_some (at by_text map.old.pairs name.now) }
     ensures written { map.new.pairs ≡ write by_text map.old.pairs name.now number }
