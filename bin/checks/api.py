@@ -110,7 +110,7 @@ def words_of(*patterns):
 
 
 def check(report, write):
-    by_hand, text = TEXTS[PAGE].split(START)[0], written()
+    by_hand, text = re.split("<!-- The list below .*\n", TEXTS[PAGE])[0], written()
     if write:
         (TOP / PAGE).write_text(by_hand + text, encoding="utf-8")
         read(PAGE)
