@@ -19,9 +19,9 @@ def named_in(page, head):
 
 
 def lines_in(page):
-    """The lines of crates.txt that a page shows, in its text or in a block: for each crate what it uses."""
-    shown = re.findall(r"`(\w+):((?: \w+)*)`|^(\w+):((?: \w+)*)$", TEXTS[page], re.MULTILINE)
-    return {name or below: (uses or more).split() for name, uses, below, more in shown if (name or below) in CRATES}
+    """The lines of crates.txt that a page shows, in its text or in a block: the crate of each, and what it uses."""
+    shown = re.findall(r"`(\w+):((?: \w+)*)`|^ *(\w+):((?: \w+)*)$", TEXTS[page], re.MULTILINE)
+    return [(name or below, (uses or more).split()) for name, uses, below, more in shown if (name or below) in CRATES]
 
 
 def check(report, _):
@@ -37,10 +37,10 @@ def check(report, _):
             report.see(name in named, f"{where} does not name {name}")
     for page in TEXTS:
         shown = lines_in(page)
-        for name, uses in shown.items():
+        for name, uses in shown:
             report.see(uses == CRATES[name], f"{page}: the line of {name} is not that of crates.txt")
             for used in [it for it in uses if it in CRATES]:
-                report.see(used in shown, f"{page} has a line of {name}, and none of {used}, which it uses")
+                report.see(used in dict(shown), f"{page} has a line of {name}, and none of {used}, which it uses")
     report.see(lines_in("CALLING.md"), "CALLING.md shows no lines of crates.txt")
     packed = subprocess.run([TOP / "bin" / "release", "--list"], capture_output=True, text=True).stdout.split()
     for name in LIBRARIES:
