@@ -16,22 +16,25 @@ def rows(top):
 
 def listed(top):
     """The calls of docs/API.md, each with its group, and the traits of others that a map has."""
-    group = ""
+    group = call = ""
     for line in (top / "docs" / "API.md").read_text().splitlines():
         if line.startswith("### "):
             group = line.removeprefix("### ")
-        elif found := re.match(r"- \*\*`([\w:]+)`\*\* \(", line):
-            yield found[1], group
-        elif line.startswith("- Traits:"):
-            yield from ((f"trait {trait}", group) for trait in re.findall(r"> (\w+) for (?:&'a )?LiteMap", line))
+        elif found := re.match(r"\[([\w:]+)\]\(\.\./crates/", line):
+            call = found[1]
+            yield call, group
+        elif re.match(rf"(?:pub )?fn {call.split(':')[-1]}_counted\b", line):
+            yield f"{call}_counted", group
+        elif found := re.match(r"impl.*> (\w+) for (?:&'a )?LiteMap", line):
+            yield f"trait {found[1]}", group
 
 
-def missing(top, crate):
-    """What the table lacks, and what it has and isn't there."""
+def missing(top, crate=None):
+    """What the table lacks of ours, and of a Rust crate's, and what it has and isn't there."""
     table, calls = list(rows(top)), dict(listed(top))
     named = {ours for ours, _, _ in table}
     lacks = [f"{it}, which docs/API.md lists" for it, group in calls.items() if not {it, f"group {group}"} & named]
-    theirs = set(re.findall(r"\bpub (?:const )?fn (\w+)", (crate / "src" / "map.rs").read_text()))
+    theirs = set(re.findall(r"\bpub (?:const )?fn (\w+)", (crate / "src" / "map.rs").read_text() if crate else ""))
     lacks += [f"the Rust crate's {it}" for it in sorted(theirs - set(re.findall(r"\w+", " ".join(row[2] for row in table))))]
     made = {call for _, calls_of_lines, _ in table for call in calls_of_lines} - {"-"}
     picked = {name for groups in lines.CALLS_OVER.values() for _, _, names in groups for name in names.split(" ")}

@@ -1,16 +1,12 @@
-#!/usr/bin/env python3
-"""A model of a map as a plain list of pairs, and the lines of data that `test_replay` reads.
+"""A model of a map as a plain list of pairs, and the lines of data that `test_replay` reads, which bin/data writes.
 
-It writes data/*.calls: each call of a map and of a store, at lengths around every limit, at each kind of place, with what it
+The files data/*.calls have each call of a map and of a store, at lengths around every limit, at each kind of place, with what it
 answers, the pairs after it, and how often it compares two keys at most. Nothing here runs the code under test. The cases of
-data/rows are written by hand there, without answers. With --check it writes nothing, and says whether the files are as they
-would be written.
+data/rows are written by hand there, without answers.
 """
-import argparse
 import itertools
 import pathlib
 import re
-import sys
 
 FOLDER = pathlib.Path(__file__).resolve().parent
 STEP = 1099511628211
@@ -779,29 +775,16 @@ def calls_of(lines):
     return made
 
 
-def main():
-    parser = argparse.ArgumentParser(description=__doc__, formatter_class=argparse.RawDescriptionHelpFormatter)
-    parser.add_argument("--check", action="store_true", help="write nothing, and compare")
-    words = parser.parse_args()
-    files = {f"data/{name}.calls": list(lines()) for name, lines in FILES.items()}
-    made = {found for lines in files.values() for text in lines for found in re.findall(r"^(?:\+ )?(\w+)(?= .*= )", text)}
-    status = 0
-    for call in unmade(made):
-        print(f"no line makes {call}")
-        status = 1
-    totals = [f"{pathlib.Path(name).name}: {calls_of(lines)} calls" for name, lines in files.items()]
-    files |= {"stdin": [pathlib.Path(name).name for name in files], "stdout": totals}
-    for name, lines in files.items():
-        text = "".join(text + "\n" for text in lines)
-        path = FOLDER / name
-        if not words.check:
-            path.parent.mkdir(exist_ok=True)
-            path.write_text(text, encoding="utf-8")
-        elif not path.exists() or path.read_text(encoding="utf-8") != text:
-            print(f"{name} is not as it would be written")
-            status = 1
-    return status
+def files():
+    """The files of the crate, by their names."""
+    made = {name: list(lines()) for name, lines in FILES.items()}
+    files = {f"data/{name}.calls": lines for name, lines in made.items()}
+    files["stdin"] = [f"{name}.calls" for name in made]
+    files["stdout"] = [f"{name}.calls: {calls_of(lines)} calls" for name, lines in made.items()]
+    return {name: "".join(text + "\n" for text in lines) for name, lines in files.items()}
 
 
-if __name__ == "__main__":
-    sys.exit(main())
+def faults(files):
+    """What the files lack: a line of each call."""
+    made = {found for text in files.values() for found in re.findall(r"^(?:\+ )?(\w+)(?= .*= )", text, re.MULTILINE)}
+    return [f"no line makes {call}" for call in unmade(made)]

@@ -1,4 +1,4 @@
-//! Written by `bin/examples`.
+//! Written by `bin/data`.
 use crate::Shown;
 use crate::days::{Days, three_days};
 use litemap::LiteMap;

@@ -1,4 +1,4 @@
-//! The examples in the `///` of the libraries' calls: the program writes how each came out. `bin/examples` writes the modules but
+//! The examples in the `///` of the libraries' calls: the program writes how each came out. `bin/data` writes the modules but
 //! `days`, and the output that they have to have.
 #![tactic(auto)]
 #![allow(deprecated)]

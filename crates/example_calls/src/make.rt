@@ -1,4 +1,4 @@
-//! Written by `bin/examples`.
+//! Written by `bin/data`.
 use crate::Shown;
 use crate::days::{Days, opening_hours, three_days};
 use litemap::store::SliceStore;

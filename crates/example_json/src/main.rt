@@ -5,8 +5,7 @@
 //!
 //! A line `told TYPES TEXT` is answered by the fault as it is shown to people.
 //!
-//! `TYPES` names the types of the keys and of the items: see `rows`. `bin/json-rows` makes the input and tells the
-//! answers.
+//! `TYPES` names the types of the keys and of the items: see `rows`. `model.py` makes the input and tells the answers.
 #![tactic(auto)]
 
 mod evens;

@@ -6,7 +6,7 @@
 //! - `find KEY TEXT`: the value of a key, which is given in lower case, and `none` where it is not there.
 //! - `falling NUMBER`: what `read` answers for so many keywords, whose keys fall and begin anew behind the last one.
 //!
-//! `bin/keyword-rows` makes the input and tells the answers.
+//! `model.py` makes the input and tells the answers.
 #![tactic(auto)]
 
 mod fault;

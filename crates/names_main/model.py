@@ -1,10 +1,7 @@
-#!/usr/bin/env python3
-"""Writes the long inputs that `bin/program` runs the program on, and what it has to write for each.
+"""What the program `names` has to answer: its files stdout and status, which bin/data writes, and the inputs of bin/program.
 
-For each row the files NAME.in, NAME.out and NAME.status in the folder. The answers are those of a plain model: a dictionary
-that is sorted where all pairs are asked for. None is the program's own.
+The answers are those of a plain model: a dictionary that is sorted where all pairs are asked for. None is the program's own.
 """
-import argparse
 import pathlib
 import re
 
@@ -12,7 +9,7 @@ MOST = 1048576
 WORD = rb"[!-~]+"
 SHAPES = {name: re.compile(shape) for name, shape in [
     ("put", rb"put (%s) (%s)" % (WORD, WORD)), ("get", rb"get (%s)" % WORD), ("del", rb"del (%s)" % WORD),
-    ("find", rb"find (%s)" % WORD), ("all", rb"all"), ("json", rb"json"), ("", rb"")]}
+    ("find", rb"find (%s)" % WORD), ("all", rb"all"), ("json", rb"json")]}
 
 
 def quoted(text):
@@ -46,22 +43,20 @@ def answer(names, kind, words):
     pairs = sorted(names.items())
     if kind == "all":
         return b"".join(key + b" " + value + b"\n" for key, value in pairs)
-    if kind == "json":
-        members = b",".join(quoted(key) + b":" + quoted(value) for key, value in pairs)
-        return b"{" + members + b"}\n" if pairs else b"[]\n"
-    return b""
+    members = b",".join(quoted(key) + b":" + quoted(value) for key, value in pairs)
+    return b"{" + members + b"}\n" if pairs else b"[]\n"
 
 
-def told(lines):
-    """What a run writes for the lines, and its status."""
+def told(given):
+    """What a run writes for its input, and its status."""
+    if len(given) > MOST:
+        return b"input too long\n", 2
     names, out = {}, []
-    for number, line in enumerate(lines, 1):
-        for kind, shape in SHAPES.items():
-            if found := shape.fullmatch(line):
-                out.append(answer(names, kind, found.groups()))
-                break
-        else:
+    for number, line in enumerate(given.split(b"\n"), 1):
+        found = [(kind, it.groups()) for kind, shape in SHAPES.items() if (it := shape.fullmatch(line))] if line else ()
+        if line and not found:
             return b"".join(out) + b"bad line %d\n" % number, 2
+        out += [answer(names, *it) for it in found]
     return b"".join(out), 0
 
 
@@ -105,37 +100,45 @@ def removals():
     yield from [b"all", b"find 01000", b"json"]
 
 
-ROWS = {
-    "long-values": long_values(),
-    "long-keys": long_keys(),
+BAD = [b"put  a 1", b" get a", b"get a ", b"all x", b"all\r", b"put a \xc3\xa9"]
+LONGEST = b"put " + b"k" * (MOST - 6) + b" v"
+LINES = {
+    "each line": [b"put b 2", b"put a 1", b"put b 3", b"find c", b"all", b""],
+    "lines of each kind": b"put b 2,put a 1,get b,get c,del b,del b,,json,find a".split(b","),
+    "no input": [],
+    "a bad line": [b"put a 1", b"", b"put a", b"all"],
+    **{f"the bad line {line}": [line, b"all"] for line in BAD},
+    "the greatest input": [b""] * (MOST + 1),
+    "one byte more": [b""] * (MOST + 2),
+    "the longest line": [LONGEST],
+    "the longest line and a line feed": [LONGEST, b""],
+    "long values": long_values(),
+    "long keys": long_keys(),
     "places": puts(70000) + [b"find %05d" % key for key in [0, 9, 10, 11, 999, 1000, 1001, 65535, 65536, 69999, 70000]],
-    "65537-puts": puts(65537) + [b"put 65536 w", b"get 65536", b"find 65537"],
+    "65537 puts": puts(65537) + [b"put 65536 w", b"get 65536", b"find 65537"],
     "removals": removals(),
-    "few-names-twice": changes(3),
-    "2001-names-twice": changes(2001),
-    "20001-names-twice": changes(20001),
-    "a-bad-line-of-101-bytes": [b"put a 1", b"get " + b"a" * 96 + b" ", b"all"],
-    "a-bad-line-of-100000-bytes": [b"put a 1", b"find " + b"a" * 99994 + b"\x7f", b"all"],
-    "a-bad-line-with-a-nul": [b"put a 1", b"", b"put a\0b 1", b"all"],
-    "a-nul-behind-a-word": [b"get a\0"],
-    "a-bad-line-at-65537": [b""] * 65536 + [b"put"],
-    "a-bad-line-at-100000": [b"get a"] * 99999 + [b"all "],
+    "few names twice": changes(3),
+    "2001 names twice": changes(2001),
+    "20001 names twice": changes(20001),
+    "a bad line of 101 bytes": [b"put a 1", b"get " + b"a" * 96 + b" ", b"all"],
+    "a bad line of 100000 bytes": [b"put a 1", b"find " + b"a" * 99994 + b"\x7f", b"all"],
+    "a bad line with a nul": [b"put a 1", b"", b"put a\0b 1", b"all"],
+    "a nul behind a word": [b"get a\0"],
+    "a bad line at 65537": [b""] * 65536 + [b"put"],
+    "a bad line at 100000": [b"get a"] * 99999 + [b"all "],
+    "keys that fall": [b"put %06d v" % key for key in range(30000, 0, -1)],
+    "one key": [b"put a 1"] * 131072,
+    "put and del": [b"put a 1", b"del a"] * 70000,
+    **{f"{word} each time": [it for key in range(2000, 0, -1) for it in (b"put %04d v" % key, word.encode())] for word in ("all", "json")},
 }
 
 
-def main():
-    parser = argparse.ArgumentParser(description=__doc__, formatter_class=argparse.RawDescriptionHelpFormatter)
-    parser.add_argument("folder", type=pathlib.Path, metavar="FOLDER", help="the folder to write to")
-    folder = parser.parse_args().folder
-    for name, lines in ROWS.items():
-        lines = list(lines)
-        given = b"\n".join(lines)
-        assert len(given) <= MOST, name
-        out, status = told(lines)
-        (folder / f"{name}.in").write_bytes(given)
-        (folder / f"{name}.out").write_bytes(out)
-        (folder / f"{name}.status").write_text(f"{status}\n")
+def rows():
+    """The inputs, by their names."""
+    return {name: b"\n".join(lines) for name, lines in LINES.items()}
 
 
-if __name__ == "__main__":
-    main()
+def files():
+    """The files of the crate, by their names."""
+    out, status = told(pathlib.Path(__file__).with_name("stdin").read_bytes())
+    return {"stdout": out.decode(), "status": f"{status}\n"}

@@ -1,15 +1,9 @@
-#!/usr/bin/env python3
-"""Writes what the program `example_tables` is run on, and what it has to answer: stdin and stdout in crates/example_tables.
+"""What the program `example_tables` is run on, and what it has to answer: its files stdin and stdout, which bin/data writes.
 
-The answers are those of the reader below, which was written from the grammar of name tables alone
-(docs/NAME_TABLES.md) and shares nothing with the crates. With --check it writes nothing, and says whether both
-files are what it would write.
+The answers are those of the reader below, which was written from the grammar of name tables alone (docs/NAME_TABLES.md) and
+shares nothing with the crates.
 """
-import argparse
-import pathlib
-import sys
 
-CRATE = pathlib.Path(__file__).resolve().parent.parent / "crates/example_tables"
 PAIRS = [
     ("ar", "Arabic"), ("bn", "Bangla"), ("ccp", "Chakma"), ("en", "English"), ("es", "Spanish"), ("fr", "French"),
     ("ja", "Japanese"), ("ru", "Russian"), ("sr", "Serbian"), ("th", "Thai"), ("tr", "Turkish"),
@@ -374,24 +368,11 @@ def lines():
     yield "strings", ALPHABET, sweep(strings(ALPHABET))
 
 
-def main():
-    parser = argparse.ArgumentParser(description=__doc__, formatter_class=argparse.RawDescriptionHelpFormatter)
-    parser.add_argument("--check", action="store_true", help="write nothing, and compare")
-    words = parser.parse_args()
+def files():
+    """The files of the crate, by their names."""
     assert len(TABLE) == 117 and table(TABLE) == (PAIRS, 117)
-    made = list(lines())
-    files = {
+    made = [*lines()]
+    return {
         "stdin": "".join(f"{words} {data.hex() or '-'}\n" for words, data, _ in made),
         "stdout": "".join(f"{answer}\n" for _, _, answer in made),
     }
-    if words.check:
-        bad = [name for name, text in files.items() if (CRATE / name).read_text(encoding="utf-8") != text]
-        print(f"{len(files) - len(bad)} passed, {len(bad)} failed")
-        return 1 if bad else 0
-    for name, text in files.items():
-        (CRATE / name).write_text(text, encoding="utf-8")
-    return 0
-
-
-if __name__ == "__main__":
-    sys.exit(main())

@@ -1,19 +1,11 @@
-#!/usr/bin/env python3
-"""Writes what the program `example_json` is run on, and what it has to answer: stdin and stdout in crates/example_json.
+"""What the program `example_json` is run on, and what it has to answer: its files stdin and stdout, which bin/data writes.
 
 The rows are those below, written by hand with their answers; for each type of whole numbers its ends, one past
 each, and other spellings, as keys in arrays, as names in objects and as items; and long texts and maps of up to 1,000 pairs,
 with faults at early and late places. No answer is the program's own: those of whole numbers are told by Python's integers,
 and those of long maps by Python's order. The program reads each row over a vector and
 over two columns, but those of `limits`, which are the rows of `levels` again.
-
-With --check it writes nothing, and says whether both files are what it would write.
 """
-import argparse
-import os
-import sys
-
-CRATE = os.path.join(os.path.dirname(os.path.dirname(os.path.abspath(__file__))), "crates", "example_json")
 
 WHOLE = {f"{kind}{bits}": (0 if kind == "u" else -(2 ** (bits - 1)), 2 ** (bits if kind == "u" else bits - 1) - 1)
          for kind in "ui" for bits in (8, 16, 32, 64)}
@@ -282,28 +274,10 @@ def long_texts():
         yield "levels", object_of([("low" + "w" * length, 1)]), key_text(0)
 
 
-def main():
-    parser = argparse.ArgumentParser(description=__doc__, formatter_class=argparse.RawDescriptionHelpFormatter)
-    parser.add_argument("--check", action="store_true", help="write nothing, and compare")
-    words = parser.parse_args()
+def files():
+    """The files of the crate, by their names."""
     rows = [*ROWS, *bad_elements(), *whole_numbers(), *long_maps(), *late_faults(), *long_texts(), *told_faults()]
-    made = {
+    return {
         "stdin": "".join(f"{types} {text}\n" for types, text, _ in rows),
         "stdout": "".join(f"{text if answer is None else answer}\n" for _, text, answer in rows),
     }
-    same = True
-    for name, text in made.items():
-        path = os.path.join(CRATE, name)
-        if words.check:
-            with open(path, encoding="utf-8", newline="") as file:
-                same = file.read() == text and same
-        else:
-            with open(path, "w", encoding="utf-8", newline="") as file:
-                file.write(text)
-    if not same:
-        print("crates/example_json: stdin or stdout is not what bin/json-rows makes")
-    return 0 if same else 1
-
-
-if __name__ == "__main__":
-    sys.exit(main())

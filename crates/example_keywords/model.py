@@ -1,17 +1,10 @@
-#!/usr/bin/env python3
-"""Writes what the program `example_keywords` is run on, and what it has to answer: stdin and stdout in crates/example_keywords.
+"""What the program `example_keywords` is run on, and what it has to answer: its files stdin and stdout, which bin/data writes.
 
 The rows are those below. What answers them is told by a reader of keywords that is written here from UTS 35, with Python's
 expressions and dicts, and never by the program.
-
-With --check it writes nothing, and says whether both files are what it would write.
 """
-import argparse
-import pathlib
 import re
-import sys
 
-CRATE = pathlib.Path(__file__).resolve().parent.parent / "crates" / "example_keywords"
 KEY = re.compile(r"[0-9A-Za-z][A-Za-z]")
 VALUE = re.compile(r"[0-9A-Za-z]{3,8}")
 TEXTS = """
@@ -77,25 +70,10 @@ def falling(count):
     return "-".join(letters[number // 26 % 26] + letters[number % 26] + ("-abc" if number >= 676 else "") for number in range(count))
 
 
-def main():
-    parser = argparse.ArgumentParser(description=__doc__, formatter_class=argparse.RawDescriptionHelpFormatter)
-    parser.add_argument("--check", action="store_true", help="compare the files, and write nothing")
-    words = parser.parse_args()
+def files():
+    """The files of the crate, by their names."""
     rows = [("read " + text.replace("\0", "\\0"), answer(text)) for text in TEXTS]
     found = read(FOUND)
     rows += [(f"find {key} {FOUND}", f"value {found[key]}" if key in found else "none") for key in "ca kn nu NU kk".split()]
     rows += [(f"falling {count}", answer(falling(count))) for count in (700, 2000)]
-    same = True
-    for file, lines in zip([CRATE / "stdin", CRATE / "stdout"], zip(*rows)):
-        text = "".join(line + "\n" for line in lines)
-        if words.check:
-            same = file.read_bytes() == text.encode() and same
-        else:
-            file.write_bytes(text.encode())
-    if not same:
-        print("crates/example_keywords: stdin or stdout is not what bin/keyword-rows makes")
-    return 0 if same else 1
-
-
-if __name__ == "__main__":
-    sys.exit(main())
+    return {name: "".join(line + "\n" for line in lines) for name, lines in zip(["stdin", "stdout"], zip(*rows))}
