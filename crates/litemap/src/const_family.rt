@@ -4,7 +4,6 @@
 //! None takes memory.
 ghost use Rattle.std.specs.Prelude.{◌≡◌, ◌<◌, ◌==◌, length, slice_get, Some, Ok, IfSome};
 ghost use Rattle.std.specs.Option.{option_and_then, option_map};
-ghost use Rattle.std.specs.Ordering.{int_cmp, nat_cmp};
 ghost use Rattle.std.specs.Result.{result_ok};
 ghost use Rattle.litemap_store.specs.Counts.{RisesByAtMost};
 ghost use Rattle.litemap_store.specs.Digits.{digits};
@@ -134,33 +133,34 @@ impl<'a, 'k, V> LiteMap<&'k [u8], V, SliceStore<'a, &'k [u8], V>> {
     }
 }
 
-impl<'a, V> LiteMap<u8, V, SliceStore<'a, u8, V>> {
-    /// The place and the value of the key, if it is there. It compares at most once for each binary digit of the length.
-    /// Its example is that of `u32` keys, with this type in their place.
-    pub fn const_get_with_index(&self, key: u8) -> Option<(usize, &'a V)>
-        ensures value { option_map (λ found. found.1.now) result ≡ value_at nat_cmp self.now.pairs key }
-        ensures place { IfSome result (λ found. found.0 ≡ place nat_cmp self.now.pairs key) }
-        ensures within { IfSome result (λ found. found.0 < length self.now.pairs) }
-        ensures there { IfSome result (λ found. value_in self.now.pairs found.0 ≡ Some found.1.now) }
-    {
-        self.const_find(&key, &mut Count::new())
-    }
-}
+/// An integer, which is looked up by value.
+pub trait Integer: Ord + Copy {}
 
-impl<'a, V> LiteMap<u16, V, SliceStore<'a, u16, V>> {
-    /// The place and the value of the key, if it is there. It compares at most once for each binary digit of the length.
-    /// Its example is that of `u32` keys, with this type in their place.
-    pub fn const_get_with_index(&self, key: u16) -> Option<(usize, &'a V)>
-        ensures value { option_map (λ found. found.1.now) result ≡ value_at nat_cmp self.now.pairs key }
-        ensures place { IfSome result (λ found. found.0 ≡ place nat_cmp self.now.pairs key) }
-        ensures within { IfSome result (λ found. found.0 < length self.now.pairs) }
-        ensures there { IfSome result (λ found. value_in self.now.pairs found.0 ≡ Some found.1.now) }
-    {
-        self.const_find(&key, &mut Count::new())
-    }
-}
+impl Integer for u8 {}
 
-impl<'a, V> LiteMap<u32, V, SliceStore<'a, u32, V>> {
+impl Integer for u16 {}
+
+impl Integer for u32 {}
+
+impl Integer for u64 {}
+
+impl Integer for u128 {}
+
+impl Integer for usize {}
+
+impl Integer for i8 {}
+
+impl Integer for i16 {}
+
+impl Integer for i32 {}
+
+impl Integer for i64 {}
+
+impl Integer for i128 {}
+
+impl Integer for isize {}
+
+impl<'a, K: Integer, V> LiteMap<K, V, SliceStore<'a, K, V>> {
     /// The place and the value of the key, if it is there. It compares at most once for each binary digit of the length.
     ///
     /// ```rust
@@ -169,126 +169,9 @@ impl<'a, V> LiteMap<u32, V, SliceStore<'a, u32, V>> {
     /// let days = LiteMap::from_sorted_store_unchecked(SliceStore::new(DAYS));
     /// days.const_get_with_index(3) == Some((1, &"Wednesday"))
     /// ```
-    pub fn const_get_with_index(&self, key: u32) -> Option<(usize, &'a V)>
-        ensures value { option_map (λ found. found.1.now) result ≡ value_at nat_cmp self.now.pairs key }
-        ensures place { IfSome result (λ found. found.0 ≡ place nat_cmp self.now.pairs key) }
-        ensures within { IfSome result (λ found. found.0 < length self.now.pairs) }
-        ensures there { IfSome result (λ found. value_in self.now.pairs found.0 ≡ Some found.1.now) }
-    {
-        self.const_find(&key, &mut Count::new())
-    }
-}
-
-impl<'a, V> LiteMap<u64, V, SliceStore<'a, u64, V>> {
-    /// The place and the value of the key, if it is there. It compares at most once for each binary digit of the length.
-    /// Its example is that of `u32` keys, with this type in their place.
-    pub fn const_get_with_index(&self, key: u64) -> Option<(usize, &'a V)>
-        ensures value { option_map (λ found. found.1.now) result ≡ value_at nat_cmp self.now.pairs key }
-        ensures place { IfSome result (λ found. found.0 ≡ place nat_cmp self.now.pairs key) }
-        ensures within { IfSome result (λ found. found.0 < length self.now.pairs) }
-        ensures there { IfSome result (λ found. value_in self.now.pairs found.0 ≡ Some found.1.now) }
-    {
-        self.const_find(&key, &mut Count::new())
-    }
-}
-
-impl<'a, V> LiteMap<u128, V, SliceStore<'a, u128, V>> {
-    /// The place and the value of the key, if it is there. It compares at most once for each binary digit of the length.
-    /// Its example is that of `u32` keys, with this type in their place.
-    pub fn const_get_with_index(&self, key: u128) -> Option<(usize, &'a V)>
-        ensures value { option_map (λ found. found.1.now) result ≡ value_at nat_cmp self.now.pairs key }
-        ensures place { IfSome result (λ found. found.0 ≡ place nat_cmp self.now.pairs key) }
-        ensures within { IfSome result (λ found. found.0 < length self.now.pairs) }
-        ensures there { IfSome result (λ found. value_in self.now.pairs found.0 ≡ Some found.1.now) }
-    {
-        self.const_find(&key, &mut Count::new())
-    }
-}
-
-impl<'a, V> LiteMap<usize, V, SliceStore<'a, usize, V>> {
-    /// The place and the value of the key, if it is there. It compares at most once for each binary digit of the length.
-    /// Its example is that of `u32` keys, with this type in their place.
-    pub fn const_get_with_index(&self, key: usize) -> Option<(usize, &'a V)>
-        ensures value { option_map (λ found. found.1.now) result ≡ value_at nat_cmp self.now.pairs key }
-        ensures place { IfSome result (λ found. found.0 ≡ place nat_cmp self.now.pairs key) }
-        ensures within { IfSome result (λ found. found.0 < length self.now.pairs) }
-        ensures there { IfSome result (λ found. value_in self.now.pairs found.0 ≡ Some found.1.now) }
-    {
-        self.const_find(&key, &mut Count::new())
-    }
-}
-
-impl<'a, V> LiteMap<i8, V, SliceStore<'a, i8, V>> {
-    /// The place and the value of the key, if it is there. It compares at most once for each binary digit of the length.
-    /// Its example is that of `u32` keys, with this type in their place.
-    pub fn const_get_with_index(&self, key: i8) -> Option<(usize, &'a V)>
-        ensures value { option_map (λ found. found.1.now) result ≡ value_at int_cmp self.now.pairs key }
-        ensures place { IfSome result (λ found. found.0 ≡ place int_cmp self.now.pairs key) }
-        ensures within { IfSome result (λ found. found.0 < length self.now.pairs) }
-        ensures there { IfSome result (λ found. value_in self.now.pairs found.0 ≡ Some found.1.now) }
-    {
-        self.const_find(&key, &mut Count::new())
-    }
-}
-
-impl<'a, V> LiteMap<i16, V, SliceStore<'a, i16, V>> {
-    /// The place and the value of the key, if it is there. It compares at most once for each binary digit of the length.
-    /// Its example is that of `u32` keys, with this type in their place.
-    pub fn const_get_with_index(&self, key: i16) -> Option<(usize, &'a V)>
-        ensures value { option_map (λ found. found.1.now) result ≡ value_at int_cmp self.now.pairs key }
-        ensures place { IfSome result (λ found. found.0 ≡ place int_cmp self.now.pairs key) }
-        ensures within { IfSome result (λ found. found.0 < length self.now.pairs) }
-        ensures there { IfSome result (λ found. value_in self.now.pairs found.0 ≡ Some found.1.now) }
-    {
-        self.const_find(&key, &mut Count::new())
-    }
-}
-
-impl<'a, V> LiteMap<i32, V, SliceStore<'a, i32, V>> {
-    /// The place and the value of the key, if it is there. It compares at most once for each binary digit of the length.
-    /// Its example is that of `u32` keys, with this type in their place.
-    pub fn const_get_with_index(&self, key: i32) -> Option<(usize, &'a V)>
-        ensures value { option_map (λ found. found.1.now) result ≡ value_at int_cmp self.now.pairs key }
-        ensures place { IfSome result (λ found. found.0 ≡ place int_cmp self.now.pairs key) }
-        ensures within { IfSome result (λ found. found.0 < length self.now.pairs) }
-        ensures there { IfSome result (λ found. value_in self.now.pairs found.0 ≡ Some found.1.now) }
-    {
-        self.const_find(&key, &mut Count::new())
-    }
-}
-
-impl<'a, V> LiteMap<i64, V, SliceStore<'a, i64, V>> {
-    /// The place and the value of the key, if it is there. It compares at most once for each binary digit of the length.
-    /// Its example is that of `u32` keys, with this type in their place.
-    pub fn const_get_with_index(&self, key: i64) -> Option<(usize, &'a V)>
-        ensures value { option_map (λ found. found.1.now) result ≡ value_at int_cmp self.now.pairs key }
-        ensures place { IfSome result (λ found. found.0 ≡ place int_cmp self.now.pairs key) }
-        ensures within { IfSome result (λ found. found.0 < length self.now.pairs) }
-        ensures there { IfSome result (λ found. value_in self.now.pairs found.0 ≡ Some found.1.now) }
-    {
-        self.const_find(&key, &mut Count::new())
-    }
-}
-
-impl<'a, V> LiteMap<i128, V, SliceStore<'a, i128, V>> {
-    /// The place and the value of the key, if it is there. It compares at most once for each binary digit of the length.
-    /// Its example is that of `u32` keys, with this type in their place.
-    pub fn const_get_with_index(&self, key: i128) -> Option<(usize, &'a V)>
-        ensures value { option_map (λ found. found.1.now) result ≡ value_at int_cmp self.now.pairs key }
-        ensures place { IfSome result (λ found. found.0 ≡ place int_cmp self.now.pairs key) }
-        ensures within { IfSome result (λ found. found.0 < length self.now.pairs) }
-        ensures there { IfSome result (λ found. value_in self.now.pairs found.0 ≡ Some found.1.now) }
-    {
-        self.const_find(&key, &mut Count::new())
-    }
-}
-
-impl<'a, V> LiteMap<isize, V, SliceStore<'a, isize, V>> {
-    /// The place and the value of the key, if it is there. It compares at most once for each binary digit of the length.
-    /// Its example is that of `u32` keys, with this type in their place.
-    pub fn const_get_with_index(&self, key: isize) -> Option<(usize, &'a V)>
-        ensures value { option_map (λ found. found.1.now) result ≡ value_at int_cmp self.now.pairs key }
-        ensures place { IfSome result (λ found. found.0 ≡ place int_cmp self.now.pairs key) }
+    pub fn const_get_with_index(&self, key: K) -> Option<(usize, &'a V)>
+        ensures value { option_map (λ found. found.1.now) result ≡ value_at K.cmp self.now.pairs key }
+        ensures place { IfSome result (λ found. found.0 ≡ place K.cmp self.now.pairs key) }
         ensures within { IfSome result (λ found. found.0 < length self.now.pairs) }
         ensures there { IfSome result (λ found. value_in self.now.pairs found.0 ≡ Some found.1.now) }
     {

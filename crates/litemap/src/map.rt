@@ -184,7 +184,8 @@ impl<K: Ord, V, S: StoreMut<K, V>> LiteMap<K, V, S> {
         })
     }
 
-    /// A map of clones of the keys and values, in the same order, or a refusal for want of memory.
+    /// A map of clones of the keys and values, in the same order, or a refusal for want of memory. The empty map is never
+    /// refused.
     ///
     /// A clone of each key of the map has to compare `Equal` to it. Where keys are texts the caller's attribute
     /// `using(litemap::proofs::Texts::text_clones)` shows that. No keys are compared. The Rust crate has the trait `Clone`
@@ -203,6 +204,7 @@ impl<K: Ord, V, S: StoreMut<K, V>> LiteMap<K, V, S> {
         ensures clones { IfOk result (λ m. PairsAreClones K.is_clone V.is_clone self.now.pairs m.pairs) }
         ensures same { IfOk result
             (λ m. ClonesAreSame K.is_clone → ClonesAreSame V.is_clone → m.pairs ≡ self.now.pairs) }
+        ensures succeeds { self.now.pairs ≡ [] → IsOk result }
     {
         let store = self.store.lm_try_clone(alloc)?;
         Ok(LiteMap {

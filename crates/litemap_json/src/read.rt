@@ -15,7 +15,7 @@ use litemap::store::StoreBulkMut;
 use serde_json::{Map, Value};
 use std::alloc::Global;
 
-/// The map that a JSON value spells. An object is read for every type of keys, and so is an array, whose elements have to be
+/// The map that a JSON value spells: an object, whose names have to be texts of keys, or an array, whose elements have to be
 /// arrays of exactly a key and an item. Of equal keys the last pair stays, whole, in the order that the value holds.
 ///
 /// The fault is that of the first place that spells no pair; `Memory` may come in place of a fault at the same or a later

@@ -21,10 +21,10 @@ use std::alloc::{AllocError, Global};
 
 /// The map as a JSON text with no space: that of the value that `to_json` makes, with the same faults, and without that value.
 ///
-/// It is written pair by pair while the keys' texts rise in their byte order, as texts do, and numbers of one length. Where
-/// one doesn't rise, as `"10"` behind `"2"`, the members' order is not that of the keys: what was written is dropped, and the
-/// value is made and printed. `Memory` may come in place of any answer. No keys are compared, and each pair's name with the
-/// one before. The Rust crate has serde's `Serialize` here, whose members stand in the order of the keys.
+/// It is written pair by pair while the keys' texts rise in their byte order, as texts do, and unsigned numbers with equally
+/// many digits. Where one doesn't rise, as `"10"` behind `"2"`, the members' order is not that of the keys: what was written
+/// is dropped, and the value is made and printed. `Memory` may come in place of any answer. No keys are compared, and each
+/// pair's name with the one before. The Rust crate has serde's `Serialize` here, whose members stand in the order of the keys.
 ///
 /// ```rust
 /// // hours: 1 8, 3 10

@@ -11,7 +11,8 @@ use json::{Reader, Scratch, Token, Writer};
 use serde_json::Value;
 use std::alloc::{AllocError, Global};
 
-/// Writes a JSON value. Only an array, an object and a float take memory beside the writer's: their text is made first.
+/// Writes a JSON value. Only `null`, an array, an object and a float take memory beside the writer's: their text is made
+/// first.
 ///
 /// A refusal may leave some of the value written.
 ///

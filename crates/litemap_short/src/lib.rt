@@ -1,5 +1,4 @@
-//! A store for the sorted map of the crate `litemap` that keeps no pair or one in itself, and takes memory from the second
-//! pair on.
+//! A store for the sorted map of the crate `litemap` that keeps no pair or one in itself, and more in a vector.
 #![tactic(auto)]
 
 mod held;

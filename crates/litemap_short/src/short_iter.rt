@@ -10,7 +10,7 @@ use std::marker::Model;
 use std::vec::IntoIter;
 
 /// The pairs of a short store that are still to be handed over. A contract sees their list.
-#[derive(Drop)]
+#[derive(Debug, Drop)]
 pub struct ShortIntoIter<K, V> {
     first: Option<(K, V)>,
     others: IntoIter<(K, V)>,

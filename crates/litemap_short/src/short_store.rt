@@ -10,17 +10,19 @@ use litemap_store::store::{
 };
 use std::alloc::{AllocError, Global};
 use std::cmp::Ordering;
+use std::fmt::{self, Debug, Formatter, Write};
 use std::marker::Model;
 use std::mem;
 use std::ops::Range;
 
 /// Pairs of which none and one lie in the store itself, and more in a vector.
 ///
-/// It is for maps that mostly have no pair or one. As long as it never had more it takes no memory, and the first pair of one
-/// that `lm_empty` made is never refused. From the second pair on all lie in a vector, which stays where pairs are removed
-/// again. Where a second pair is refused for want of memory, the first stays and the new one comes back.
+/// It is for maps that mostly have no pair or one. As long as it never had more, `lm_push` and `lm_insert` take no memory, and
+/// the first pair of one that `lm_empty` made is never refused. Bulk calls (`lm_extend`, `lm_sort_from_iter`, `lm_from_pairs`)
+/// gather their pairs in a vector, one pair too. From the second pair on all lie in a vector, which stays where pairs are
+/// removed again. Where a second pair is refused for want of memory, the first stays and the new one comes back.
 ///
-/// The Rust crate has no such store.
+/// It prints as the list of its pairs. The Rust crate has no such store.
 #[derive(Drop)]
 pub struct ShortStore<K, V> {
     alloc: Global,
@@ -34,6 +36,12 @@ impl<K, V> Model for ShortStore<K, V> {
     ghost Value = { Contents K V };
 
     ghost view = { λ s. record { pairs = held_items s.held; room = held_room s.held } };
+}
+
+impl<K: Debug, V: Debug> Debug for ShortStore<K, V> {
+    fn fmt<W: Write>(&self, f: &mut Formatter<W>) -> fmt::Result {
+        self.held.as_slice().fmt(f)
+    }
 }
 
 impl<K, V> Store<K, V> for ShortStore<K, V> {

@@ -72,7 +72,7 @@ pub trait StoreIntoIterator<K: Drop, V: Drop>: StoreMut<K, V> + Sized {
     /// comes back whole; that is only where one of the two had less room than the other has pairs. Nothing is said of
     /// the room after it. A store that can grow in front may put the pairs in there, and take its own room.
     ///
-    /// The Rust crate's trait inserts pair by pair at the front, each of which moves all others; its vector has one
+    /// The Rust crate's trait inserts pair by pair at the front, each of which moves all old pairs; its vector has one
     /// `splice` in its place.
     ///
     /// ```rust

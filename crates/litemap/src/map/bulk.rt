@@ -60,8 +60,8 @@ impl<K: Ord + Drop, V: Drop, S: StoreFromIterable<K, V>> LiteMap<K, V, S> {
 
     /// The map of the pairs of a vector, or a refusal for want of memory. Of each key the last pair stays, whole.
     ///
-    /// It answers as `from_iter` does, but takes the vector as it is: over a vector no pair moves where they rise, and nothing
-    /// is gathered. What it leaves is told by the vector's list. The Rust crate has no such call.
+    /// It answers as `from_iter` does, but takes the vector as it is: over a vector no pair moves where they rise, and over it
+    /// and two columns nothing is gathered. What it leaves is told by the vector's list. The Rust crate has no such call.
     ///
     /// ```rust
     /// let pairs = [(2, "Tue"), (1, "Mon"), (2, "Tuesday")].to_vec(alloc)?;

@@ -24,7 +24,7 @@ impl<K: Ord, V, S: StoreMut<K, V>> LiteMap<K, V, S> {
     /// Puts a value at a key. Where an equal key is there, that key stays, the new one is given up, and the old value is
     /// answered; no memory is taken. Else the pair is placed.
     ///
-    /// It is refused only where the key is absent and there is no room: then the pair comes back and nothing is changed.
+    /// It is refused only where the key is absent and there is no room: then the pair comes back and the list stays.
     /// It compares at most once for each binary digit of the length, and moves the pairs with greater keys up by one
     /// where the key is absent.
     ///
@@ -106,7 +106,7 @@ impl<K: Ord, V, S: StoreMut<K, V>> LiteMap<K, V, S> {
     /// nothing is changed.
     ///
     /// It is refused only where the key is above all others and there is no room: then the pair comes back and the list
-    /// stays. It compares at most once, with the last key, and moves no pair.
+    /// stays. It compares at most once, with the last key, and moves no pair but where the store takes more memory.
     ///
     /// ```rust
     /// let mut days = three_days(alloc)?;

@@ -16,7 +16,8 @@ use std::cmp::Ordering;
 ///
 /// All room is taken first: a side vector and a fresh store, each for all pairs. Each pair then moves into the side
 /// vector and from there into the fresh store, which becomes the store. So at its peak it holds each pair once, in room
-/// for three pairs for each of the store and up to four for each new one, that which they were gathered in included.
+/// for three pairs for each of the store and up to four for each new one (six for up to 512), that which they were gathered
+/// in included.
 pub fn merge<K: Ord + Drop, V: Drop, S: StoreMut<K, V> + Drop>(
     alloc: Global,
     store: &mut S,

@@ -16,7 +16,7 @@ use std::mem;
 /// Merges a store's pairs into another's, by at most one comparison for each pair of both, and answers what is left over.
 ///
 /// All room is taken first: a fresh store for the pairs of both, which becomes the store, and one for what is left over. Each
-/// pair then moves once.
+/// pair then moves a constant number of times.
 pub fn merge_side_by_side<K: Ord + Drop, V: Drop, S: StoreIntoIterator<K, V> + Drop>(
     alloc: Global,
     store: &mut S,
