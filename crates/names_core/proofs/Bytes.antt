@@ -1,24 +1,10 @@
 -- The sorted list of strings by their bytes: each word of `Pairs` gives the bytes of what it gives for the strings.
-use Rattle.std.proofs.Common.{◌≡◌, ◌++◌, ◌∷◌, ℕ, Bool, true, false, List, [], length, map, Some, None, Ok, Err, IsNone, IsSome, cond, filter, find, is_some, option_map, refl, sym}
-use Rattle.std.specs.Prelude.{string_bytes, string_cmp}
+use Rattle.std.proofs.Common.{◌≡◌, ◌++◌, ◌∷◌, ℕ, Bool, true, false, List, [], length, map, Some, None, Ok, Err, IsSome, IsNone, Global, String, Ordering, cond, filter, find, is_some, is_lt, is_eq, is_gt, nat_cmp, option_map, string_bytes, string_cmp, refl, sym}
 use Rattle.std.proofs.lemmas.List.{length-map, map-append}
-use Rattle.std.specs.declared.alloc.Global.{Global}
-use Rattle.std.specs.declared.cmp.Ordering.{Ordering}
-use Rattle.std.specs.declared.string.String.{String}
-use Rattle.std.specs.Ordering.{is_lt, is_eq, is_gt, nat_cmp}
 use Rattle.std.specs.Cmp.Lexicographic.{slice_cmp}
 use Rattle.litemap_store.specs.Pairs.{above, at, below, cut, index_of, key_or, put, value_at}
 use Rattle.litemap_store.specs.Queries.{by_text}
-use Rattle.litemap.specs.Seen.{Seen}
-use Rattle.names_core.specs.Names.{pair_bytes}
-
--- the texts of a map
-abbrev pub Strings : Type 0
-Strings = List (String Global × String Global)
-
--- what is seen of a map of texts
-abbrev pub Names : Type 0
-Names = Seen (String Global) (String Global)
+use Rattle.names_core.specs.Reply.{pair_bytes}
 
 -- the order of texts by their bytes
 abbrev pub by_bytes : List ℕ → List ℕ → Ordering
@@ -33,7 +19,7 @@ module _ {A B : Type 0} (v : A → B) (q : B → Bool) where
   find-map [] = refl
   find-map (x ∷ xs) = rw (find-map xs) (elim (q (v x)) as (λ b. cond b (Some (v x)) (option_map v (find (λ x. q (v x)) xs)) ≡ option_map v (cond b (Some x) (find (λ x. q (v x)) xs))) [ true ↦ refl | false ↦ refl ])
 
-module _ (L : Strings) (k : List ℕ) where
+module _ (L : List (String Global × String Global)) (k : List ℕ) where
   below-bytes : below by_bytes (map pair_bytes L) k ≡ map pair_bytes (below by_text L k)
   below-bytes = filter-map pair_bytes (λ p. is_lt (by_bytes p.0 k)) L
 
@@ -61,9 +47,9 @@ module _ (L : Strings) (k : List ℕ) where
   pub absent : IsNone (at by_bytes (map pair_bytes L) k) → IsNone (at by_text L k)
   absent h = (elim (at by_text L k) as (λ o. IsNone (option_map pair_bytes o) → IsNone o) [ None ↦ λ h. h | Some p ↦ λ h. h ]) (rw at-bytes at h)
 
-pub put-bytes : (L : Strings) (k v : String Global) → put by_bytes (map pair_bytes L) (string_bytes k) (string_bytes v) ≡ map pair_bytes (put string_cmp L k v)
+pub put-bytes : (L : List (String Global × String Global)) (k v : String Global) → put by_bytes (map pair_bytes L) (string_bytes k) (string_bytes v) ≡ map pair_bytes (put string_cmp L k v)
 put-bytes L k v =
-    rw (below-bytes L (string_bytes k), above-bytes L (string_bytes k), at-bytes L (string_bytes k))
+    rw (below-bytes L (string_bytes k), above-bytes L (string_bytes k), at-bytes L (string_bytes k), map-append)
     (elim (at by_text L (string_bytes k)) as
-    (λ o. map pair_bytes (below by_text L (string_bytes k)) ++ ((key_or (option_map pair_bytes o) (string_bytes k), string_bytes v) ∷ map pair_bytes (above by_text L (string_bytes k))) ≡ map pair_bytes (below by_text L (string_bytes k) ++ ((key_or o k, v) ∷ above by_text L (string_bytes k))))
-    [ None ↦ sym (map-append pair_bytes (below by_text L (string_bytes k)) ((k, v) ∷ above by_text L (string_bytes k))) | Some p ↦ sym (map-append pair_bytes (below by_text L (string_bytes k)) ((p.0, v) ∷ above by_text L (string_bytes k))) ])
+    (λ o. map pair_bytes (below by_text L (string_bytes k)) ++ ((key_or (option_map pair_bytes o) (string_bytes k), string_bytes v) ∷ map pair_bytes (above by_text L (string_bytes k))) ≡ map pair_bytes (below by_text L (string_bytes k)) ++ (pair_bytes (key_or o k, v) ∷ map pair_bytes (above by_text L (string_bytes k))))
+    [ None ↦ refl | Some p ↦ refl ])

@@ -1,7 +1,6 @@
 -- Lemmas of the crate.
 pub mod Bytes
-pub mod Calls
+pub mod Pairs
 pub mod Cuts
-pub mod Notes
-pub mod Objects
+pub mod Writes
 pub mod Tolds

@@ -2,9 +2,7 @@
 pub mod Told
 pub mod Run
 pub mod Line
-pub mod Command
-pub mod Names
+pub mod Reply
 pub mod Watched
-pub mod Fault
+pub mod Writes
 pub mod ReadsUntil
-pub mod Rest

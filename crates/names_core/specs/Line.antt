@@ -1,5 +1,6 @@
 -- The lines of the input, and what a line says. A text is the list of its bytes.
-use Rattle.std.specs.Prelude.{◌≡◌, ◌≢◌, ◌<◌, ◌≤◌, ◌++◌, ◌==◌, ℕ, List, [], ◌∷◌, length, All, codes}
+use Rattle.std.specs.Prelude.{◌≡◌, ◌≢◌, ◌<◌, ◌≤◌, ◌++◌, ◌==◌, ℕ, List, [], ◌∷◌, length, All, codes, Option, Some, None}
+use Rattle.std.specs.Borrow.{Bor}
 use Rattle.std.specs.List.{slice_split}
 use Rattle.litemap.specs.declared.calls.Call.{Call}
 use Rattle.litemap.specs.declared.calls.Call.TheVariants.{Find, Get, Insert, Remove}
@@ -7,6 +8,11 @@ use Rattle.litemap.specs.declared.calls.Call.TheVariants.{Find, Get, Insert, Rem
 -- what stands between line feeds; behind a last line feed stands an empty line, which does nothing
 abbrev pub lines_of : List ℕ → List (List ℕ)
 lines_of bytes = slice_split (λ b. b == 10) bytes
+
+-- the lines that are left
+abbrev pub lines_left : Option (Bor (List ℕ)) → List (List ℕ)
+lines_left None = []
+lines_left (Some bytes) = lines_of bytes.now
 
 -- a byte from `!` to `~`
 abbrev pub IsGraphic : ℕ → Type 0

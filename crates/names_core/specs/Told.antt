@@ -82,34 +82,24 @@ DoesEach old (said ∷ more) text end =
     (first : List ℕ) × (rest : List ℕ) × (next : TextMap)
     × Does old said first next × DoesEach next more rest end × (text ≡ first ++ rest)
 
--- the lines, done from an empty map, write the text
-abbrev pub Writes : List (List ℕ) → List ℕ → Type 0
-Writes said text = (start : TextMap) × (end : TextMap) × (start.pairs ≡ []) × DoesEach start said text end
+-- the lines, done one after another from an empty map, write the text and leave the map `end`
+abbrev pub Leaves : List (List ℕ) → List ℕ → TextMap → Type 0
+Leaves said text end = (start : TextMap) × (start.pairs ≡ []) × DoesEach start said text end
 
--- the last line where line n is bad
+-- the last line where line n is bad, and where memory was refused
 abbrev pub bad_line : ℕ → List ℕ
 bad_line n = line (codes "bad line " ++ decimal n)
 
--- the last line where the input is too long
-abbrev pub too_long : List ℕ
-too_long = line (codes "input too long")
-
--- the last line where memory was refused
 abbrev pub no_memory : List ℕ
 no_memory = line (codes "no memory")
 
--- the last line where a read met a fault
-abbrev pub read_fault : List ℕ
-read_fault = line (codes "read fault")
-
 -- what a run wrote for the bytes that it read, and its status, where no read and no write met a fault
 pub data Told (bytes out : List ℕ) (status : ℕ) : Type 0 where
-  AllDone : length bytes ≤ most_bytes → Writes (lines_of bytes) out → status ≡ 0 → Told bytes out status
-  BadLine : (before later : List (List ℕ)) (bad text : List ℕ) → length bytes ≤ most_bytes
-      → lines_of bytes ≡ before ++ (bad ∷ later)
-      → Writes before text → IsBad bad → out ≡ text ++ bad_line (length before + 1)
-      → status ≡ 2 → Told bytes out status
-  TooLong : length bytes ≡ most_bytes + 1 → out ≡ too_long → status ≡ 2 → Told bytes out status
-  NoMemory : (before later : List (List ℕ)) (text : List ℕ) → length bytes ≤ most_bytes
-      → lines_of bytes ≡ before ++ later
-      → Writes before text → out ≡ text ++ no_memory → status ≡ 3 → Told bytes out status
+  TooLong : length bytes ≡ most_bytes + 1 → out ≡ line (codes "input too long") → status ≡ 2 → Told bytes out status
+  NotRead : length bytes ≤ most_bytes → out ≡ no_memory → status ≡ 3 → Told bytes out status
+  AllDone : (end : TextMap) → length bytes ≤ most_bytes → Leaves (lines_of bytes) out end → status ≡ 0 → Told bytes out status
+  BadLine : (before later : List (List ℕ)) (bad text : List ℕ) (end : TextMap) → length bytes ≤ most_bytes
+      → lines_of bytes ≡ before ++ (bad ∷ later) → Leaves before text end
+      → IsBad bad → out ≡ text ++ bad_line (length before + 1) → status ≡ 2 → Told bytes out status
+  NoMemory : (before later : List (List ℕ)) (text : List ℕ) (end : TextMap) → length bytes ≤ most_bytes
+      → lines_of bytes ≡ before ++ later → Leaves before text end → out ≡ text ++ no_memory → status ≡ 3 → Told bytes out status

@@ -22,8 +22,8 @@ is_unsettled watch = watch.has_open_call
 -- one call was made through it, and met a fault or none
 abbrev pub NotesCall : {T : Type 0} → Watch T → Watch T → Bool → Type 0
 NotesCall old new fault =
-    (met_fault new ≡ (met_fault old || fault))
-    × (called_after_fault new ≡ (called_after_fault old || met_fault old))
+    (met_fault new ≡ (fault || met_fault old))
+    × (called_after_fault new ≡ (met_fault old || called_after_fault old))
     × (is_unsettled new ≡ true)
 
 -- where it had met no fault before, no call was made through it after one met a fault

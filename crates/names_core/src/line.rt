@@ -1,34 +1,14 @@
-//! The lines of the input, and what each says.
-ghost use Rattle.std.specs.Prelude.{◌≡◌, ◌<◌, ◌≤◌, ◌+◌, ◌++◌, ◌∷◌, ◌↔◌, ℕ, List, [], length, IsTrue};
-ghost use Rattle.std.specs.Prelude.{MatchOption, All, false, IfSome, IfNone, ◌==◌};
-ghost use Rattle.litemap.specs.declared.calls.Call.{Call};
-ghost use Rattle.names_core.specs.Line.{IsWord, Spells, SpellsAll, SpellsJson, lines_of};
-ghost use Rattle.names_core.specs.Command.{Says};
-ghost use Rattle.names_core.specs.Rest.{lines_left};
+//! The lines of the input, and the words behind a name in one.
+ghost use Rattle.std.specs.Prelude.{◌≡◌, ◌<◌, ◌≤◌, ◌++◌, ◌∷◌, ◌↔◌, ◌==◌, ℕ, List, length};
+ghost use Rattle.std.specs.Prelude.{MatchOption, All, IsTrue, false};
+ghost use Rattle.names_core.specs.Line.{IsWord, lines_left, lines_of};
 
 use std::str;
 
-/// What a line asks for.
-#[derive(Clone, Copy)]
-pub enum Command<'a> {
-    /// To put a value at a key.
-    Put(&'a str, &'a str),
-    /// The value of a key.
-    Get(&'a str),
-    /// To remove a key, with its value.
-    Del(&'a str),
-    /// The place of a key.
-    Find(&'a str),
-    /// All pairs.
-    All,
-    /// The map as JSON.
-    Json,
-}
-
 /// The first line of the bytes, and what follows its line feed.
+#[tactic(auto, using(std::proofs::lemmas::List::Splits::slice_split_at, std::proofs::lemmas::List::Splits::slice_split_none))]
 pub fn first_line(bytes: &[u8]) -> (&[u8], Option<&[u8]>)
-    ensures cut { lines_of bytes.now ≡ result.0.now ∷ lines_left result.1 }
-    ensures shorter { IfSome result.1 (λ rest. length rest.now < length bytes.now) }
+    ensures { lines_of bytes.now ≡ result.0.now ∷ lines_left result.1 }
 {
     match cut_at(bytes, b'\n') {
         Some((line, rest)) => (line, Some(rest)),
@@ -38,38 +18,31 @@ pub fn first_line(bytes: &[u8]) -> (&[u8], Option<&[u8]>)
 
 // What stands before the first such byte, and what follows it.
 fn cut_at(bytes: &[u8], byte: u8) -> Option<(&[u8], &[u8])>
-    ensures found { IfSome result (λ parts. (bytes.now ≡ parts.0.now ++ (byte ∷ parts.1.now))
-        × All (λ b. (b == byte) ≡ false) parts.0.now) }
-    ensures none { IfNone result (All (λ b. (b == byte) ≡ false) bytes.now) }
+    ensures { MatchOption result (All (λ b. (b == byte) ≡ false) bytes.now)
+        (λ parts. (bytes.now ≡ parts.0.now ++ (byte ∷ parts.1.now)) × All (λ b. (b == byte) ≡ false) parts.0.now) }
 {
     let at = bytes.iter().position(|b| *b == byte)?;
     Some((&bytes[..at], &bytes[at + 1..]))
 }
 
-/// The command that a line says, if it says one.
-pub fn parse(line: &[u8]) -> Option<Command<'_>>
-    ensures spelled { IfSome result (λ command. Says line.now command) }
-    ensures none { IfNone result ((SpellsAll line.now → ⊥) × (SpellsJson line.now → ⊥)
-        × ((call : Call (List ℕ) (List ℕ)) → Spells line.now call → ⊥)) }
+/// What follows the name in the line, if that is a word.
+#[tactic(auto, using(std::proofs::lemmas::List::append_cancel_left))]
+pub fn word_behind<'a>(line: &'a [u8], name: &[u8]) -> Option<&'a str>
+    ensures { MatchOption result ((key : List ℕ) → line.now ≡ name.now ++ key → IsWord key → ⊥)
+        (λ key. (line.now ≡ name.now ++ key.now) × IsWord key.now) }
 {
-    if line == b"all".as_slice() {
-        return Some(Command::All);
-    }
-    if line == b"json".as_slice() {
-        return Some(Command::Json);
-    }
-    if let Some(rest) = behind(line, b"put ") {
-        let (key, value) = two_words(rest)?;
-        return Some(Command::Put(key, value));
-    }
-    if let Some(rest) = behind(line, b"get ") {
-        return Some(Command::Get(word(rest)?));
-    }
-    if let Some(rest) = behind(line, b"del ") {
-        return Some(Command::Del(word(rest)?));
-    }
-    let rest = behind(line, b"find ")?;
-    Some(Command::Find(word(rest)?))
+    Some(word(behind(line, name)?)?)
+}
+
+/// What follows the name in the line, if that is two words parted by one space.
+pub fn words_behind<'a>(line: &'a [u8], name: &[u8]) -> Option<(&'a str, &'a str)>
+    ensures { MatchOption result
+        ((key value : List ℕ) → line.now ≡ name.now ++ (key ++ (32 ∷ value)) → IsWord key → IsWord value → ⊥)
+        (λ pair. (line.now ≡ name.now ++ (pair.0.now ++ (32 ∷ pair.1.now)))
+        × IsWord pair.0.now × IsWord pair.1.now) }
+{
+    let (key, value) = cut_at(behind(line, name)?, b' ')?;
+    Some((word(key)?, word(value)?))
 }
 
 // What follows the name in the line.
@@ -81,6 +54,7 @@ fn behind<'a>(line: &'a [u8], name: &[u8]) -> Option<&'a [u8]>
 }
 
 // The bytes as a word.
+#[tactic(auto, using(crate::proofs::Cuts::IsUtf8_word))]
 fn word(bytes: &[u8]) -> Option<&str>
     ensures { MatchOption result (IsWord bytes.now → ⊥) (λ text. (text.now ≡ bytes.now) × IsWord bytes.now) }
 {
@@ -94,15 +68,4 @@ fn is_word(bytes: &[u8]) -> bool
     ensures { IsTrue result ↔ IsWord bytes.now }
 {
     !bytes.is_empty() && bytes.iter().all(|b| b.is_ascii_graphic())
-}
-
-// The bytes as two words parted by one space.
-fn two_words(bytes: &[u8]) -> Option<(&str, &str)>
-    ensures found { IfSome result
-        (λ pair. (bytes.now ≡ pair.0.now ++ (32 ∷ pair.1.now)) × IsWord pair.0.now × IsWord pair.1.now) }
-    ensures none { IfNone result ((key value : List ℕ)
-        → bytes.now ≡ key ++ (32 ∷ value) → IsWord key → IsWord value → ⊥) }
-{
-    let (key, value) = cut_at(bytes, b' ')?;
-    Some((word(key)?, word(value)?))
 }

@@ -1,10 +1,9 @@
 //! A run of the program: it reads the lines, and writes what answers them.
-ghost use Rattle.std.specs.Prelude.{◌≡◌, ◌≤◌, ◌⊎◌, ◌↔◌, ℕ, List, false, true, length};
-ghost use Rattle.std.specs.Io.KnownBytes.{Appends};
-ghost use Rattle.names_core.specs.Fault.{AppendsFront};
-ghost use Rattle.names_core.specs.Run.{IsRun, ToldFront};
+ghost use Rattle.std.specs.Prelude.{◌≡◌, ◌≤◌, ◌↔◌, ℕ, List, false, true, length};
+ghost use Rattle.names_core.specs.Run.{IsRun};
 ghost use Rattle.names_core.specs.Told.{Told, most_bytes};
 ghost use Rattle.names_core.specs.Watched.{NoCallAfterFault};
+ghost use Rattle.names_core.specs.Writes.{Ends};
 
 use crate::input::{InputEnd, read_input};
 use crate::line::first_line;
@@ -54,11 +53,9 @@ fn answer_lines<S, W: Write>(alloc: Global, input: &[u8], writer: &mut Watch<W>)
 where
     S: StoreConstEmpty<String, String> + StoreMut<String, String> + Drop,
     requires { length input.now ≤ most_bytes }
-    ensures told { writer.new.failed ≡ false → (out : List ℕ)
-        × Appends (W.contents writer.old.inner) (W.contents writer.new.inner) out × Told input.now out result }
+    ensures told { (out : List ℕ) × (told : ℕ) × Told input.now out told
+        × Ends W.contents writer.old writer.new out told result }
     ensures failed { writer.old.failed ≡ false → (result ≡ 4) ↔ (writer.new.failed ≡ true) }
-    ensures cut { writer.old.failed ≡ false → writer.new.failed ≡ true → (front : List ℕ)
-        × Appends (W.contents writer.old.inner) (W.contents writer.new.inner) front × ToldFront input.now front }
     ensures nothing_after { NoCallAfterFault writer.old writer.new }
 {
     let mut names = Names::<S>::new(alloc);
@@ -68,9 +65,9 @@ where
         let (line, more) = first_line(bytes);
         match reply(alloc, &mut names, done + 1, line) {
             Ok(Answer::Done(text)) => {
-                if writer.write_all(text.as_bytes()).is_err() {
+                let Ok(()) = writer.write_all(text.as_bytes()) else {
                     return 4;
-                }
+                };
             }
             Ok(Answer::Bad(text)) => return finish(writer, text.as_bytes(), 2),
             Err(_) => return finish(writer, b"no memory\n", 3),
@@ -83,12 +80,7 @@ where
 
 // Writes the last line, and gives the status, or that of a fault.
 fn finish<W: Write>(writer: &mut Watch<W>, text: &[u8], status: u8) -> u8
-    ensures ended { ((writer.new.failed ≡ true) × (result ≡ 4))
-        ⊎ ((writer.new.failed ≡ writer.old.failed) × (result ≡ status)
-        × Appends (W.contents writer.old.inner) (W.contents writer.new.inner) text.now) }
-    ensures cut { writer.old.failed ≡ false → writer.new.failed ≡ true
-        → AppendsFront (W.contents writer.old.inner) (W.contents writer.new.inner) text.now }
-    ensures nothing_after { NoCallAfterFault writer.old writer.new }
+    ensures { Ends W.contents writer.old writer.new text.now status result }
 {
     match writer.write_all(text) {
         Ok(()) => status,

@@ -1,14 +1,18 @@
 //! What answers a line, and what the line does to the names.
-ghost use Rattle.std.specs.Prelude.{◌≡◌, ◌≤◌, ◌<◌, ◌+◌, ◌++◌, ℕ, List, Some, [], IfOk, IfSome, OnOk, flat_map};
+ghost use Rattle.std.specs.Prelude.{◌≡◌, ◌++◌, ℕ, List, Some, [], IfOk, IfSome, OnOk, MatchOption, flat_map};
 ghost use Rattle.std.specs.Prelude.{option_copied, option_map, slice_get, string_bytes};
+ghost use Rattle.std.specs.Ordering.{nat_cmp};
+ghost use Rattle.std.specs.Cmp.Lexicographic.{slice_cmp};
 ghost use Rattle.json.specs.Print.{print};
+ghost use Rattle.litemap.specs.Steps.{Step};
 ghost use Rattle.litemap.specs.declared.calls.Answer.TheVariants.{Place, Value};
-ghost use Rattle.litemap.specs.declared.calls.Call.TheVariants.{Find, Get, Insert, Remove};
-ghost use Rattle.names_core.specs.Told.{Answers, answer_text, json_answer, line, pair_text, value_text};
-ghost use Rattle.names_core.specs.Command.{DoesCommand, IsAnswer};
-ghost use Rattle.names_core.specs.Names.{names_of, pair_bytes, pair_tokens};
+ghost use Rattle.litemap.specs.declared.calls.Call.{Call};
+ghost use Rattle.litemap.specs.declared.calls.Call.TheVariants.{Find, Insert};
+ghost use Rattle.names_core.specs.Line.{Spells};
+ghost use Rattle.names_core.specs.Reply.{IsAnswer, names_of, pair_bytes, pair_tokens};
+ghost use Rattle.names_core.specs.Told.{Answers, answer_text, json_answer, pair_text, value_text};
 
-use crate::line::{Command, parse};
+use crate::line::{word_behind, words_behind};
 use json::Writer;
 use litemap::LiteMap;
 use litemap::store::{Store, StoreMut};
@@ -37,45 +41,59 @@ pub fn reply<S: StoreMut<String, String>>(
     if line.is_empty() {
         return Ok(Answer::Done(String::new(alloc)));
     }
-    match parse(line) {
-        Some(command) => Ok(Answer::Done(do_command(alloc, names, command)?)),
+    if line == b"all".as_slice() {
+        return Ok(Answer::Done(all(alloc, names)?));
+    }
+    if line == b"json".as_slice() {
+        return Ok(Answer::Done(json(alloc, names)?));
+    }
+    match call(alloc, names, line)? {
+        Some(text) => Ok(Answer::Done(text)),
         None => Ok(Answer::Bad(format!(in alloc; "bad line {number}\n")?)),
     }
 }
 
-// Does a command, and gives the text that answers it.
-fn do_command<S: StoreMut<String, String>>(
+// Does the call that a line spells, if it spells one, and gives the text that answers it.
+fn call<S: StoreMut<String, String>>(
     alloc: Global,
     names: &mut Names<S>,
-    command: Command<'_>,
-) -> Result<String, AllocError>
-    ensures { IfOk result
-        (λ text. DoesCommand (names_of names.old) command.entry (string_bytes text) (names_of names.new)) }
+    line: &[u8],
+) -> Result<Option<String>, AllocError>
+    ensures { IfOk result (λ text. MatchOption text
+        ((call : Call (List ℕ) (List ℕ)) → Spells line.now call → ⊥)
+        (λ text. (call : Call (List ℕ) (List ℕ)) × Spells line.now call
+        × Answers (names_of names.old) call (string_bytes text) (names_of names.new))) }
 {
-    match command {
-        Command::Put(key, value) => put(alloc, names, key, value),
-        Command::Get(key) => value_text(alloc, names.get(key)),
-        Command::Del(key) => value_text(alloc, names.remove(key).as_ref()),
-        Command::Find(key) => place_text(alloc, names.find_index(key)),
-        Command::All => all(alloc, names),
-        Command::Json => json(alloc, names),
+    if let Some((key, value)) = words_behind(line, b"put ") {
+        let old = put(alloc, names, key, value)?;
+        return Ok(Some(old_text(alloc, old)?));
     }
+    if let Some(key) = word_behind(line, b"get ") {
+        return Ok(Some(value_text(alloc, names.get(key))?));
+    }
+    if let Some(key) = word_behind(line, b"del ") {
+        return Ok(Some(value_text(alloc, names.remove(key).as_ref())?));
+    }
+    if let Some(key) = word_behind(line, b"find ") {
+        return Ok(Some(place_text(alloc, names.find_index(key))?));
+    }
+    Ok(None)
 }
 
-// Puts a value at a key.
+// Puts a value at a key, and gives the one before.
 fn put<S: StoreMut<String, String>>(
     alloc: Global,
     names: &mut Names<S>,
     key: &str,
     value: &str,
-) -> Result<String, AllocError>
-    ensures { IfOk result
-        (λ text. Answers (names_of names.old) (Insert key.now value.now) (string_bytes text) (names_of names.new)) }
+) -> Result<Option<String>, AllocError>
+    ensures { IfOk result (λ old. Step (slice_cmp nat_cmp) (names_of names.old) (Insert key.now value.now)
+        (Value (option_map string_bytes old)) (names_of names.new)) }
 {
     let key = String::from_str(alloc, key)?;
     let value = String::from_str(alloc, value)?;
     match names.insert(key, value) {
-        Ok(old) => old_text(alloc, old),
+        Ok(old) => Ok(old),
         Err(_) => Err(AllocError),
     }
 }

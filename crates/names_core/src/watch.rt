@@ -1,9 +1,8 @@
 //! A reader or a writer that notes whether a call through it met a fault, and whether one was made after.
-ghost use Rattle.std.specs.Prelude.{◌≡◌, ◌≢◌, ◌||◌, true, false, ◌==◌, ◌&&◌, not, ◌+◌, ◌<◌, ◌≤◌, length};
-ghost use Rattle.std.specs.Prelude.{take, IfOk, OnOk, OnErr, IsOk, is_err};
+ghost use Rattle.std.specs.Prelude.{◌≡◌, ◌||◌, ◌&&◌, true, false, is_err, OnOk};
 ghost use Rattle.std.specs.Io.{ReadsAtMost, WritesAtMost};
 ghost use Rattle.std.specs.Io.KnownBytes.{Appends, Keeps, ReadConsumes, WriteAppends};
-ghost use Rattle.names_core.specs.Fault.{AppendsFront, is_write_fault};
+ghost use Rattle.names_core.specs.Writes.{Writes, is_write_fault};
 
 use std::io;
 use std::io::{ErrorKind, Read, Write};
@@ -57,7 +56,7 @@ impl<T> Watch<T> {
     // Notes that a call is made now.
     fn note_call(&mut self)
         ensures { self.new ≡ record self.old {
-          has_late_call = self.old.has_late_call || self.old.has_met_fault;
+          has_late_call = self.old.has_met_fault || self.old.has_late_call;
           has_open_call = true;
         } }
     {
@@ -84,7 +83,7 @@ impl<R: Read> Read for Watch<R> {
     fn read(&mut self, buf: &mut [u8]) -> io::Result<usize>
         ensures bound { ReadsAtMost result buf.new }
         ensures bytes { ReadConsumes (R.remaining self.old.inner) (R.remaining self.new.inner) result buf.new }
-        ensures failed { self.new.failed ≡ (self.old.failed || is_err result) }
+        ensures failed { self.new.failed ≡ (is_err result || self.old.failed) }
         ensures noted { NotesCall self.old self.new (is_err result) }
     {
         self.note_call();
@@ -97,15 +96,14 @@ impl<R: Read> Read for Watch<R> {
 }
 
 impl<W: Write> Write for Watch<W> {
-    ghost use Rattle.names_core.specs.Watched.{NoCallAfterFault, NotesCall, called_after_fault, met_fault};
-    ghost use Rattle.names_core.specs.Watched.{watched};
+    ghost use Rattle.names_core.specs.Watched.{NotesCall};
 
     ghost contents = { λ w. W.contents w.inner };
 
     fn write(&mut self, buf: &[u8]) -> io::Result<usize>
         ensures bound { WritesAtMost result buf.now }
         ensures bytes { WriteAppends (W.contents self.old.inner) (W.contents self.new.inner) result buf.now }
-        ensures failed { self.new.failed ≡ (self.old.failed || is_write_fault result buf.now) }
+        ensures failed { self.new.failed ≡ (is_write_fault result buf.now || self.old.failed) }
         ensures noted { NotesCall self.old self.new (is_write_fault result buf.now) }
     {
         self.note_call();
@@ -135,20 +133,15 @@ impl<W: Write> Write for Watch<W> {
     /// After a fault the front of the text was taken, and not all of it, and no call was made after the fault.
     fn write_all(&mut self, buf: &[u8]) -> io::Result<()>
         ensures bytes { OnOk result (Appends (W.contents self.old.inner) (W.contents self.new.inner) buf.now) }
-        ensures ok { OnOk result (self.new.failed ≡ self.old.failed) }
-        ensures err { OnErr result (self.new.failed ≡ true) }
-        ensures front { OnErr result (AppendsFront (W.contents (watched self.old)) (W.contents (watched self.new)) buf.now) }
-        ensures unmet { OnOk result (met_fault self.new ≡ met_fault self.old) }
-        ensures met { OnErr result (met_fault self.new ≡ true) }
-        ensures nothing_after { NoCallAfterFault self.old self.new }
+        ensures writes { Writes W.contents self.old self.new buf.now (is_err result) }
     {
-        let mut rest = buf;
-        while !rest.is_empty() {
-            let n = self.write(rest)?;
+        let mut done = 0;
+        while done < buf.len() {
+            let n = self.write(&buf[done..])?;
             if n == 0 {
                 return Err(io::Error::from(ErrorKind::WriteZero));
             }
-            rest = &rest[n..];
+            done += n;
         }
         Ok(())
     }

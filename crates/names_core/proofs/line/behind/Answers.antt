@@ -1,5 +1,6 @@
-use Rattle.names_core.proofs.Cuts.{behind_name}
+use Rattle.std.proofs.lemmas.Bool.Decides.{Decides-eqb}
+use Rattle.std.proofs.lemmas.Slice.Eq.{strip_prefix_is}
 use Rattle.names_core.proofs.line.behind.Goals as goal
 
 pub returns : goal.returns
-returns c = behind_name c.args.line.now c.args.name.now c.strip_prefix.result c.strip_prefix.ensures.cases
+returns c = strip_prefix_is Decides-eqb _ _ c.strip_prefix.result c.strip_prefix.ensures.cases

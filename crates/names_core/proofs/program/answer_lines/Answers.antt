@@ -1,66 +1,66 @@
-use Rattle.std.proofs.Common.{◌+◌, ◌≤◌, [], sym, ◌∙◌, subst, arith, rules, refl}
-use Rattle.std.proofs.KnownBytes.{Appends-nil, Appends-trans}
-use Rattle.names_core.specs.Names.{names_of}
-use Rattle.names_core.specs.Told.{Does}
-use Rattle.names_core.specs.Rest.{bytes_left}
-use Rattle.names_core.proofs.Tolds.{cut_answer, cut_last, done_more, fewer_left, told_bad, told_last, told_no_memory}
-use Rattle.names_core.proofs.Notes.{from_err, from_ok, then_nothing_after}
+use Rattle.std.proofs.Common.{◌==◌, ◌++◌, ◌∷◌, length, [], false, true, refl, inl, inr, sym, ◌∙◌, arith, rules, append_assoc, append-nil, length-append, ap, subst}
+use Rattle.std.proofs.lemmas.List.Splits.{length-slice_split}
+use Rattle.std.proofs.lemmas.List.Sums.{count_by-le-length}
+use Rattle.names_core.specs.Reply.{names_of}
+use Rattle.names_core.specs.Told.{Leaves, AllDone, BadLine, NoMemory, no_memory}
+use Rattle.names_core.proofs.Tolds.{DoesEach-more}
+use Rattle.names_core.proofs.Writes.{Ends-behind, Writes-behind, Writes-longer, Writes-nil}
 use Rattle.names_core.proofs.program.answer_lines.Goals as goal
 
 pub loop-rest-init : goal.loop-rest-init
 loop-rest-init g c = record {
-  passed = ([], Appends-nil _, record { before = []; start = names_of c.new-names.result; lines = refl; counted = refl; empty = search rules; each = (refl, refl) });
-  counted = omega arith;
-  unfailed = refl;
-  unmet = refl;
-  nothing_after = λ unmet. refl;
+  before = [];
+  text = [];
+  lines = refl;
+  counted = refl;
+  leaves = (names_of c.new-names.result, search rules, (refl, refl));
+  writes = Writes-nil _ _;
+  bounded = omega (arith, length-slice_split (λ b. b == 10) c.args.input.now, count_by-le-length (λ b. b == 10) c.args.input.now);
 }
 
 pub loop-rest-preserved : goal.loop-rest-preserved
 loop-rest-preserved g c =
-    let (text, appended, done) = c.loop-rest.invariant.passed in
-    let wrote = c.write_all.ensures in
-    let fine = sym c.is_err.ensures.value ∙ c.if-is_err.false in
-    let did = subst (λ t. Does (names_of c.loop-rest.names) c.first_line.result.0.now t (names_of c.reply.new.names)) (sym c.as_bytes.ensures.value) (rw c.in-Ok-Done.field-0-is at c.in-Ok-Done.ensures) in
-    let fewer : bytes_left c.first_line.result.1 + 1 ≤ bytes_left c.loop-rest.rest = fewer_left c.args.input.now _ c.first_line.result.1 c.in-Some.bytes c.in-Some.is _ c.first_line.ensures.cut c.first_line.ensures.shorter in
+    let was = c.loop-rest.invariant in
+    let said = c.first_line.result.0.now in
+    let lines = rw (c.in-Some.is, c.first_line.ensures) at was.lines in
+    let does = rw (c.in-Ok-Done.field-0-is, ← c.as_bytes.ensures.value) at c.in-Ok-Done.ensures in
     record {
-      passed = (_, Appends-trans _ _ _ text c.as_bytes.result.now appended (from_ok c.write_all.result fine wrote.bytes), done_more c.args.input.now _ c.first_line.result.1 c.in-Some.bytes c.in-Some.is _ c.first_line.ensures.cut _ _ _ text c.as_bytes.result.now done did);
-      counted = omega (arith, fewer, c.loop-rest.invariant.counted);
-      unfailed = from_ok c.write_all.result fine wrote.ok ∙ c.loop-rest.invariant.unfailed;
-      unmet = from_ok c.write_all.result fine wrote.unmet ∙ c.loop-rest.invariant.unmet;
-      nothing_after = then_nothing_after c.args.writer.now c.loop-rest.writer c.write_all.new.self c.loop-rest.invariant.unmet c.loop-rest.invariant.nothing_after wrote.nothing_after;
+      before = was.before ++ (said ∷ []);
+      text = was.text ++ c.as_bytes.result.now;
+      lines = lines ∙ sym (append_assoc was.before (said ∷ []) _);
+      counted = omega (arith, was.counted, length-append was.before (said ∷ []));
+      leaves = (was.leaves.0, was.leaves.1, DoesEach-more _ _ _ was.before said was.text _ was.leaves.2 does);
+      writes = Writes-behind _ _ _ _ was.text _ false was.writes c.in-Ok.ensures.writes;
+      bounded = omega (arith, was.bounded, simp length-append at (ap length lines), simp length-append at (ap length was.lines));
     }
+
+pub returns-clause-told : goal.returns-clause-told
+returns-clause-told g c =
+    let was = c.loop-rest.invariant in
+    (_, 0, AllDone _ c.requires (subst (λ l. Leaves l was.text (names_of c.loop-rest.names)) (sym (rw (c.in_default.is, append-nil) at was.lines)) was.leaves) refl, inl (refl, was.writes))
+
+pub returns-in_default-write_all-clause-told : goal.returns-in_default-write_all-clause-told
+returns-in_default-write_all-clause-told g c =
+    let was = c.loop-rest.invariant in
+    let said = c.first_line.result.0.now in
+    let lines = rw (c.in-Some.is, c.first_line.ensures) at was.lines in
+    let does = rw (c.in-Ok-Done.field-0-is, ← c.as_bytes.ensures.value) at c.in-Ok-Done.ensures in
+    let wrote = Writes-longer _ _ _ c.as_bytes.result.now no_memory c.in_default-write_all.ensures.writes in (
+      _,
+      3,
+      NoMemory (was.before ++ (said ∷ [])) _ (was.text ++ c.as_bytes.result.now) _ c.requires (lines ∙ sym (append_assoc was.before (said ∷ []) _))
+          (was.leaves.0, was.leaves.1, DoesEach-more _ _ _ was.before said was.text _ was.leaves.2 does) (sym (append_assoc was.text c.as_bytes.result.now no_memory)) refl,
+      inr (refl, Writes-behind _ _ _ _ was.text _ true was.writes wrote),
+    )
 
 pub returns-in-Ok-Bad-clause-told : goal.returns-in-Ok-Bad-clause-told
 returns-in-Ok-Bad-clause-told g c =
-    let (text, appended, done) = c.loop-rest.invariant.passed in
+    let was = c.loop-rest.invariant in
+    let lines = rw (c.in-Some.is, c.first_line.ensures) at was.lines in
     let bad = rw c.in-Ok-Bad.field-0-is at c.in-Ok-Bad.ensures in
-    told_last _ _ _ c.args.input.now text _ appended _ _ _ 2 c.finish.ensures.ended
-    (told_bad c.args.input.now _ c.first_line.result.1 c.in-Some.bytes c.in-Some.is _ c.first_line.ensures.cut _ _ text _ c.requires done bad.0 (c.as_bytes-in-Ok-Bad.ensures.value ∙ bad.1))
-
-pub returns-in-Ok-Bad-clause-cut : goal.returns-in-Ok-Bad-clause-cut
-returns-in-Ok-Bad-clause-cut g c = λ unfailed failed.
-    let (text, appended, done) = c.loop-rest.invariant.passed in
-    let bad = rw c.in-Ok-Bad.field-0-is at c.in-Ok-Bad.ensures in
-    cut_last _ _ _ c.args.input.now text _ appended 2
-    (told_bad c.args.input.now _ c.first_line.result.1 c.in-Some.bytes c.in-Some.is _ c.first_line.ensures.cut _ _ text _ c.requires done bad.0 (c.as_bytes-in-Ok-Bad.ensures.value ∙ bad.1))
-    (c.finish.ensures.cut (c.loop-rest.invariant.unfailed ∙ unfailed) failed)
+    (_, 2, BadLine was.before _ _ was.text _ c.requires lines was.leaves bad.0 (rw (c.as_bytes-in-Ok-Bad.ensures.value, bad.1, was.counted)) refl, Ends-behind _ _ _ _ was.text _ 2 _ was.writes c.finish.ensures)
 
 pub returns-in-Err-clause-told : goal.returns-in-Err-clause-told
 returns-in-Err-clause-told g c =
-    let (text, appended, done) = c.loop-rest.invariant.passed in
-    told_last _ _ _ c.args.input.now text _ appended _ _ _ 3 c.finish-in-Err.ensures.ended (told_no_memory c.args.input.now _ _ _ text c.requires done)
-
-pub returns-in-Err-clause-cut : goal.returns-in-Err-clause-cut
-returns-in-Err-clause-cut g c = λ unfailed failed.
-    let (text, appended, done) = c.loop-rest.invariant.passed in
-    cut_last _ _ _ c.args.input.now text _ appended 3 (told_no_memory c.args.input.now _ _ _ text c.requires done)
-    (c.finish-in-Err.ensures.cut (c.loop-rest.invariant.unfailed ∙ unfailed) failed)
-
-pub returns-then-is_err-clause-cut : goal.returns-then-is_err-clause-cut
-returns-then-is_err-clause-cut g c = λ unfailed failed.
-    let (text, appended, done) = c.loop-rest.invariant.passed in
-    let did = subst (λ t. Does (names_of c.loop-rest.names) c.first_line.result.0.now t (names_of c.reply.new.names)) (sym c.as_bytes.ensures.value) (rw c.in-Ok-Done.field-0-is at c.in-Ok-Done.ensures) in
-    let more = done_more c.args.input.now _ c.first_line.result.1 c.in-Some.bytes c.in-Some.is _ c.first_line.ensures.cut _ _ _ text c.as_bytes.result.now done did in
-    cut_answer _ _ _ c.args.input.now text c.as_bytes.result.now appended (told_no_memory c.args.input.now _ _ _ _ c.requires more)
-    (from_err c.write_all.result (sym c.is_err.ensures.value ∙ c.if-is_err.true) c.write_all.ensures.front)
+    let was = c.loop-rest.invariant in
+    (_, 3, NoMemory was.before _ was.text _ c.requires was.lines was.leaves refl refl, Ends-behind _ _ _ _ was.text _ 3 _ was.writes c.finish-in-Err.ensures)

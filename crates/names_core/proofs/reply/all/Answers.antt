@@ -1,16 +1,13 @@
-use Rattle.std.proofs.Common.{[], arith, ap, sym, ◌∙◌, take_all}
-use Rattle.std.specs.Prelude.{flat_map}
+use Rattle.std.proofs.Common.{[], arith, take_all}
 use Rattle.std.proofs.lemmas.List.Folds.{flat_map-map}
+use Rattle.names_core.specs.Reply.{pair_bytes}
 use Rattle.names_core.specs.Told.{pair_text}
-use Rattle.names_core.specs.Names.{pair_bytes}
-use Rattle.names_core.proofs.Calls.{flat_map-one_more}
+use Rattle.names_core.proofs.Pairs.{flat_map_one_more}
 use Rattle.names_core.proofs.reply.all.Goals as goal
 
 pub loop-index-preserved : goal.loop-index-preserved
 loop-index-preserved g c =
-    flat_map-one_more [] (λ pair. pair_text (pair_bytes pair)) c.args.names.now.pairs c.loop-index.index _ _ (omega arith) c.loop-index.invariant c.in_ok-push_pair.ensures
+    flat_map_one_more [] (λ pair. pair_text (pair_bytes pair)) c.args.names.now.pairs c.loop-index.index _ _ (omega arith) c.loop-index.invariant c.in_ok-push_pair.ensures
 
 pub returns : goal.returns
-returns g c =
-    c.loop-index.invariant ∙ ap (flat_map (λ pair. pair_text (pair_bytes pair))) (take_all c.loop-index.index c.args.names.now.pairs (omega arith))
-    ∙ sym (flat_map-map pair_text pair_bytes c.args.names.now.pairs)
+returns g c = rw (flat_map-map, ← take_all c.loop-index.index c.args.names.now.pairs (omega arith)) c.loop-index.invariant

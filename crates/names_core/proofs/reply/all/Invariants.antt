@@ -1,8 +1,7 @@
 -- the text so far is that of the pairs so far
-use Rattle.std.proofs.Common.{◌≡◌, take}
-use Rattle.std.specs.Prelude.{flat_map, string_bytes}
+use Rattle.std.proofs.Common.{◌≡◌, flat_map, string_bytes, take}
+use Rattle.names_core.specs.Reply.{pair_bytes}
 use Rattle.names_core.specs.Told.{pair_text}
-use Rattle.names_core.specs.Names.{pair_bytes}
 use Rattle.names_core.proofs.reply.all.Given as goal
 
 abbrev pub invariant-loop-index : goal.invariant-loop-index

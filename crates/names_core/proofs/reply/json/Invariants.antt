@@ -1,9 +1,7 @@
 -- the tokens so far are those of the pairs so far
-use Rattle.std.proofs.Common.{◌≡◌, ◌∷◌, [], take}
-use Rattle.std.specs.Prelude.{flat_map}
+use Rattle.std.proofs.Common.{◌≡◌, ◌∷◌, [], flat_map, take}
 use Rattle.json.specs.Token.{begin_object}
-use Rattle.names_core.specs.Names.{pair_bytes}
-use Rattle.names_core.specs.Names.{pair_tokens}
+use Rattle.names_core.specs.Reply.{pair_bytes, pair_tokens}
 use Rattle.names_core.proofs.reply.json.Given as goal
 
 abbrev pub invariant-loop-index : goal.invariant-loop-index
