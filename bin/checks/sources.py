@@ -87,7 +87,7 @@ def impls_of(text):
 
 
 RUST, SPECS, PROOFS = texts("*/src/**/*.rt"), texts("*/specs/**/*.antt"), texts("*/proofs/**/*.antt")
-OWN_TRAITS = {"Model", *re.findall(r"^pub trait (\w+)", "\n".join(RUST.values()), re.MULTILINE)}
+OWN_TRAITS = {"Model", *re.findall(r"^(?:pub(?:\([a-z]+\))? )?trait (\w+)", "\n".join(RUST.values()), re.MULTILINE)}
 # The sources of the libraries, as litemap/map/look: their functions, calls, and impls of others' traits.
 SOURCES = {it.replace("/src/", "/").removesuffix(".rt"): text for it, text in RUST.items() if it.split("/")[0] in LIBRARIES}
 FUNCTIONS = {source: [*functions_of(source, text)] for source, text in SOURCES.items()}
