@@ -1,10 +1,9 @@
 //! What a call answered, as it is written.
-use crate::keys::{Key, Order, write_code};
-use crate::values::Value;
+use crate::counted::{Key, Order, Value, write_code};
 use litemap::LiteMap;
 use litemap::store::{NoRoom, Store};
 use std::alloc::{AllocError, Global};
-use std::fmt::{Debug, Write};
+use std::fmt::{self, Debug, Formatter, Write};
 
 /// The text of an answer, whose memory is taken once.
 #[derive(Drop)]
@@ -16,10 +15,9 @@ pub struct Answer {
 impl Answer {
     /// No answer yet, with room for this many bytes.
     pub fn with_capacity(alloc: Global, capacity: usize) -> Result<Self, AllocError> {
-        Ok(Answer {
-            text: String::with_capacity(alloc, capacity)?,
-            is_lost: false,
-        })
+        let text = String::with_capacity(alloc, capacity)?;
+        let is_lost = false;
+        Ok(Answer { text, is_lost })
     }
 
     /// Forgets what was written.
@@ -37,65 +35,35 @@ impl Answer {
         }
     }
 
-    fn part(&mut self) {
-        if !self.text.is_empty() {
-            self.push(" ");
-        }
-    }
-
-    fn push(&mut self, text: &str) {
-        if self.text.push_str(text).is_err() {
-            self.is_lost = true;
-        }
+    fn space(&self) -> &'static str {
+        if self.text.is_empty() { "" } else { " " }
     }
 
     /// Writes a word.
     pub fn word(&mut self, word: &str) {
-        self.part();
-        self.push(word);
+        let space = self.space();
+        self.is_lost |= write!(self.text, "{space}{word}").is_err();
     }
 
-    /// Writes a number.
-    pub fn number(&mut self, number: u64) {
-        self.part();
-        if write!(self.text, "{number}").is_err() {
-            self.is_lost = true;
-        }
+    /// Writes what `{:?}` prints.
+    pub fn show<T: Debug + Drop>(&mut self, it: T) {
+        let space = self.space();
+        self.is_lost |= write!(self.text, "{space}{it:?}").is_err();
     }
 
-    /// Writes a length or an index.
-    pub fn size(&mut self, size: usize) {
-        self.number(size as u64);
-    }
-
-    /// Writes whether or not.
-    pub fn truth(&mut self, truth: bool) {
-        self.word(if truth { "true" } else { "false" });
-    }
-
-    /// Writes a key.
-    pub fn key(&mut self, key: &Key) {
-        self.part();
-        self.push_code(key.order(), key.code());
-    }
-
-    fn push_code(&mut self, order: Order, code: u64) {
-        if write_code(&mut self.text, order, code).is_err() {
-            self.is_lost = true;
-        }
-    }
-
-    fn pair_of(&mut self, order: Order, code: u64, value: u64) {
-        self.part();
-        self.push_code(order, code);
-        if write!(self.text, ":{value}").is_err() {
-            self.is_lost = true;
+    /// Writes what may be there.
+    pub fn some<T: Debug + Drop>(&mut self, it: Option<T>) {
+        match it {
+            Some(it) => self.show(it),
+            None => self.word("none"),
         }
     }
 
     /// Writes a pair.
     pub fn pair(&mut self, key: &Key, value: &Value) {
-        self.pair_of(key.order(), key.code(), value.number());
+        let mut pairs = Pairs::new();
+        pairs.add(key, value);
+        self.show(pairs);
     }
 
     /// Writes a pair that may be there.
@@ -106,34 +74,18 @@ impl Answer {
         }
     }
 
-    /// Writes a value that may be there.
-    pub fn value_or_none(&mut self, value: Option<&Value>) {
-        match value {
-            Some(value) => self.number(value.number()),
+    /// Writes a pair that was taken out, if there was one.
+    pub fn taken(&mut self, pair: Option<(Key, Value)>) {
+        match pair {
+            Some((key, value)) => self.pair(&key, &value),
             None => self.word("none"),
         }
     }
 
     /// Writes where a key is, or would go.
     pub fn index(&mut self, index: Result<usize, usize>) {
-        match index {
-            Ok(index) => {
-                self.word("ok");
-                self.size(index);
-            }
-            Err(index) => {
-                self.word("err");
-                self.size(index);
-            }
-        }
-    }
-
-    /// Writes what `{:?}` prints.
-    pub fn debug<T: Debug>(&mut self, value: &T) {
-        self.part();
-        if write!(self.text, "{value:?}").is_err() {
-            self.is_lost = true;
-        }
+        self.word(if index.is_ok() { "ok" } else { "err" });
+        self.show(index.unwrap_or_else(|index| index));
     }
 
     /// Writes whether there was room.
@@ -141,31 +93,19 @@ impl Answer {
         self.word(if outcome.is_ok() { "ok" } else { "refused" });
     }
 
+    /// Puts what was made in a place, and writes whether it was.
+    pub fn made<T: Drop>(&mut self, place: &mut T, made: Result<T, AllocError>) {
+        self.word(if made.is_ok() { "ok" } else { "refused" });
+        if let Ok(made) = made {
+            *place = made;
+        }
+    }
+
     /// Writes a pair that had no room.
     pub fn no_room(&mut self, refused: NoRoom<(Key, Value)>) {
         let (key, value) = refused.back;
         self.word("refused");
         self.pair(&key, &value);
-    }
-
-    /// Writes pairs.
-    pub fn pairs(&mut self, pairs: &Pairs) {
-        if pairs.len > SHOWN as u64 {
-            self.part();
-            let (len, sum) = (pairs.len, pairs.sum % 1_000_000_000);
-            if write!(self.text, "#{len}:{sum}").is_err() {
-                self.is_lost = true;
-            }
-            return;
-        }
-        if pairs.len == 0 {
-            self.word("-");
-        }
-        for (place, (code, value)) in pairs.first.iter().enumerate() {
-            if (place as u64) < pairs.len {
-                self.pair_of(pairs.order, *code, *value);
-            }
-        }
     }
 }
 
@@ -233,6 +173,15 @@ impl Pairs {
         pairs
     }
 
+    /// Those of a slice.
+    pub fn of_slice(slice: &[(Key, Value)]) -> Self {
+        let mut pairs = Pairs::new();
+        for (key, value) in slice {
+            pairs.add(key, value);
+        }
+        pairs
+    }
+
     /// How many there are.
     pub fn len(&self) -> u64 {
         self.len
@@ -241,3 +190,22 @@ impl Pairs {
 
 // What the sum is multiplied by.
 const STEP: u64 = 1_099_511_628_211;
+
+impl Debug for Pairs {
+    fn fmt<W: Write>(&self, f: &mut Formatter<W>) -> fmt::Result {
+        if self.len > SHOWN as u64 {
+            return write!(f, "#{}:{}", self.len, self.sum % 1_000_000_000);
+        }
+        if self.len == 0 {
+            return f.write_str("-");
+        }
+        for (place, (code, value)) in self.first.iter().enumerate() {
+            if (place as u64) < self.len {
+                f.write_str(if place == 0 { "" } else { " " })?;
+                write_code(f, self.order, *code)?;
+                write!(f, ":{value}")?;
+            }
+        }
+        Ok(())
+    }
+}

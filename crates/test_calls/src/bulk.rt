@@ -1,190 +1,169 @@
-//! Calls that make a map, take many pairs at once, merge and part.
+//! Calls that make a map, take many pairs at once, read, merge and part.
+ghost use Rattle.std.specs.Prelude.{◌≡◌, length, ⊤};
+ghost use Rattle.std.specs.Vec.Iter.{into_iter_items};
+
 use crate::answer::{Answer, Pairs};
-use crate::given::Given;
-use crate::keys::Key;
-use crate::source::Script;
-use crate::values::Value;
+use crate::call::{Call, Made, Map, Pair};
+use crate::counted::{Key, Value};
+use crate::tested::Tested;
 use litemap::LiteMap;
-use litemap::store::{
-    Count, NoRoom, Store, StoreBulkMut, StoreConstEmpty, StoreFromIterable, StoreIntoIterator,
-    StoreMut,
-};
-use litemap_read::{ReadFault, extend_from_source, read_pairs};
-use std::alloc::AllocError;
+use litemap::store::{Count, Store};
+use litemap_read::{PairSource, ReadFault, extend_from_source, read_pairs};
+use std::vec::IntoIter;
 
-/// A map of counted pairs.
-pub type Map<S> = LiteMap<Key, Value, S>;
+/// Makes a call of these, if the name is one.
+pub fn gather<S: Tested<Key, Value>>(map: &mut Map<S>, call: &Call<'_>, to: &mut Answer) -> bool {
+    renew(map, call, to).is_some()
+        || split_off(map, call, to).is_some()
+        || make(map, call, to).is_some()
+        || extend(map, call, to).is_some()
+        || merge(map, call, to).is_some()
+        || read(map, call, to).is_some()
+}
 
-/// Makes a call that makes a fresh map, if the name is one. The map becomes the fresh one.
-pub fn renew<
-    S: StoreConstEmpty<Key, Value> + StoreFromIterable<Key, Value> + StoreMut<Key, Value> + Drop,
->(map: &mut Map<S>, name: &str, given: &Given<'_>, answer: &mut Answer) -> Option<()> {
-    match name {
-        "new" => {
-            given.begin();
-            *map = LiteMap::new(given.alloc);
-            given.end();
-            answer.word("ok");
-            return Some(());
-        }
-        "with_capacity" => {
-            let capacity = given.size(0)?;
-            given.begin();
-            let made = LiteMap::with_capacity(given.alloc, capacity);
-            given.end();
-            answer.room(put_in_place(map, made));
-            return Some(());
-        }
-        _ => {}
-    }
-    let pairs = given.pairs(0).ok()??;
-    let mut count = Count::new();
-    given.begin();
-    let made = match name {
-        "from_iter" => LiteMap::from_iter(given.alloc, pairs),
-        "from_iter_counted" => LiteMap::from_iter_counted(given.alloc, pairs, &mut count),
-        "from_vec" => LiteMap::from_vec(given.alloc, pairs),
-        "from_vec_counted" => LiteMap::from_vec_counted(given.alloc, pairs, &mut count),
+// A map with no pair takes the place of the old one.
+fn renew<S: Tested<Key, Value>>(map: &mut Map<S>, call: &Call<'_>, to: &mut Answer) -> Made {
+    let made = match call.name {
+        "new" => Ok(LiteMap::new(call.alloc)),
+        "with_capacity" => LiteMap::with_capacity(call.alloc, call.size(0)?),
         _ => return None,
     };
-    given.end();
-    answer.room(put_in_place(map, made));
+    to.made(map, made);
     Some(())
 }
 
-// A map that was made takes the place of the old one.
-fn put_in_place<S: Store<Key, Value> + Drop>(
-    map: &mut Map<S>,
-    made: Result<Map<S>, AllocError>,
-) -> Result<(), AllocError> {
-    *map = made?;
-    Ok(())
-}
-
-/// Makes a call that puts many pairs in, if the name is one.
-pub fn extend<S: StoreBulkMut<Key, Value>>(
-    map: &mut Map<S>,
-    name: &str,
-    given: &Given<'_>,
-    answer: &mut Answer,
-) -> Option<()> {
-    let pairs = given.pairs(0).ok()??;
-    let mut count = Count::new();
-    given.begin();
-    let outcome = match name {
-        "extend" => map.extend(given.alloc, pairs),
-        "extend_counted" => map.extend_counted(given.alloc, pairs, &mut count),
-        "extend_from_vec" => map.extend_from_vec(given.alloc, pairs),
-        "extend_from_vec_counted" => map.extend_from_vec_counted(given.alloc, pairs, &mut count),
+// A map of these pairs takes the place of the old one.
+fn make<S: Tested<Key, Value>>(map: &mut Map<S>, call: &Call<'_>, to: &mut Answer) -> Made {
+    let (pairs, mut count) = (call.pairs(0)?, Count::new());
+    call.begin();
+    let made = match call.name {
+        "from_iter" => LiteMap::from_iter(call.alloc, pairs),
+        "from_iter_counted" => LiteMap::from_iter_counted(call.alloc, pairs, &mut count),
+        "from_vec" => LiteMap::from_vec(call.alloc, pairs),
+        "from_vec_counted" => LiteMap::from_vec_counted(call.alloc, pairs, &mut count),
         _ => return None,
     };
-    given.end();
-    answer.room(outcome);
+    to.made(map, made);
     Some(())
 }
 
-/// Makes a call that reads from a source, if the name is one. The first word is how many pairs the source promises, or `-`;
-/// the second one is after how many pairs it has an error, or `-`.
-pub fn read<S: StoreConstEmpty<Key, Value> + StoreBulkMut<Key, Value>>(
-    map: &mut Map<S>,
-    name: &str,
-    given: &Given<'_>,
-    answer: &mut Answer,
-) -> Option<()> {
-    let [_, _, ..] = given.words else {
-        return None;
-    };
-    let mut source = Script::new(given.pairs(2).ok()??, given.size(0), given.size(1));
-    given.begin();
-    let outcome = match name {
-        "read_pairs" => match read_pairs(given.alloc, &mut source) {
-            Ok(read) => {
-                *map = read;
-                Ok(())
-            }
-            Err(fault) => Err(fault),
-        },
-        "extend_from_source" => extend_from_source(given.alloc, map, &mut source),
+fn extend<S: Tested<Key, Value>>(map: &mut Map<S>, call: &Call<'_>, to: &mut Answer) -> Made {
+    let (pairs, mut count) = (call.pairs(0)?, Count::new());
+    call.begin();
+    to.room(match call.name {
+        "extend" => map.extend(call.alloc, pairs),
+        "extend_counted" => map.extend_counted(call.alloc, pairs, &mut count),
+        "extend_from_vec" => map.extend_from_vec(call.alloc, pairs),
+        "extend_from_vec_counted" => map.extend_from_vec_counted(call.alloc, pairs, &mut count),
         _ => return None,
-    };
-    given.end();
-    match outcome {
-        Ok(()) => answer.word("ok"),
-        Err(ReadFault::NoRoom) => answer.word("refused"),
-        Err(ReadFault::Source(fault)) => {
-            answer.word("error");
-            answer.size(fault);
+    });
+    Some(())
+}
+
+fn merge<S: Tested<Key, Value>>(map: &mut Map<S>, call: &Call<'_>, to: &mut Answer) -> Made {
+    let pairs = call.pairs(0)?;
+    let other: Map<S> = LiteMap::from_vec(call.alloc, pairs).ok()?;
+    call.begin();
+    let merged = match call.name {
+        "extend_from_litemap" => map.extend_from_litemap(call.alloc, other),
+        "extend_from_litemap_counted" => {
+            map.extend_from_litemap_counted(call.alloc, other, &mut Count::new())
         }
-    }
-    answer.word("asked");
-    answer.size(source.asked());
-    Some(())
-}
-
-/// Makes a call that merges or parts, if the name is one.
-pub fn join<S: StoreFromIterable<Key, Value> + StoreIntoIterator<Key, Value> + Drop>(
-    map: &mut Map<S>,
-    name: &str,
-    given: &Given<'_>,
-    answer: &mut Answer,
-) -> Option<()> {
-    match name {
-        "split_off" => split_off(map, given, answer),
-        "extend_from_litemap" => merge(map, false, given, answer),
-        "extend_from_litemap_counted" => merge(map, true, given, answer),
-        _ => None,
-    }
-}
-
-fn merge<S: StoreFromIterable<Key, Value> + StoreIntoIterator<Key, Value> + Drop>(
-    map: &mut Map<S>,
-    is_counted: bool,
-    given: &Given<'_>,
-    answer: &mut Answer,
-) -> Option<()> {
-    let pairs = given.pairs(0).ok()??;
-    let other: Map<S> = LiteMap::from_vec(given.alloc, pairs).ok()?;
-    given.begin();
-    let merged = if is_counted {
-        map.extend_from_litemap_counted(given.alloc, other, &mut Count::new())
-    } else {
-        map.extend_from_litemap(given.alloc, other)
+        _ => return None,
     };
-    given.end();
-    write_left(merged, answer);
-    Some(())
-}
-
-// What a merge leaves over, or the map that comes back.
-fn write_left<S: Store<Key, Value> + Drop>(
-    merged: Result<Option<Map<S>>, NoRoom<Map<S>>>,
-    answer: &mut Answer,
-) {
     match merged {
-        Ok(None) => answer.word("none"),
-        Ok(Some(left)) => {
-            answer.word("left");
-            answer.pairs(&Pairs::of_map(&left));
-        }
-        Err(refused) => {
-            answer.word("refused");
-            answer.pairs(&Pairs::of_map(&refused.back));
-        }
-    }
-}
-
-fn split_off<S: StoreIntoIterator<Key, Value> + Drop>(
-    map: &mut Map<S>,
-    given: &Given<'_>,
-    answer: &mut Answer,
-) -> Option<()> {
-    let key = given.key(0)?;
-    given.begin();
-    let later = map.split_off(given.alloc, &key);
-    given.end();
-    match later {
-        Ok(later) => answer.pairs(&Pairs::of_map(&later)),
-        Err(_) => answer.word("refused"),
+        Ok(None) => to.word("none"),
+        Ok(Some(left)) => show_map("left", &left, to),
+        Err(refused) => show_map("refused", &refused.back, to),
     }
     Some(())
+}
+
+fn show_map<S: Store<Key, Value>>(word: &str, map: &Map<S>, to: &mut Answer) {
+    to.word(word);
+    to.show(Pairs::of_map(map));
+}
+
+fn split_off<S: Tested<Key, Value>>(map: &mut Map<S>, call: &Call<'_>, to: &mut Answer) -> Made {
+    if call.name != "split_off" {
+        return None;
+    }
+    let key = call.key(0)?;
+    match map.split_off(call.alloc, &key) {
+        Ok(later) => to.show(Pairs::of_map(&later)),
+        Err(_) => to.word("refused"),
+    }
+    Some(())
+}
+
+// What a source gives takes the place of the map, or is put into it. The first word is how many pairs the source promises, or
+// `-`; the second one is after how many pairs it has an error, or `-`.
+fn read<S: Tested<Key, Value>>(map: &mut Map<S>, call: &Call<'_>, to: &mut Answer) -> Made {
+    let (hint, error) = (call.size(0), call.size(1));
+    let mut source = Script {
+        rest: call.pairs(2)?.into_iter(),
+        hint,
+        error,
+        asked: 0,
+    };
+    call.begin();
+    let outcome = match call.name {
+        "read_pairs" => read_pairs(call.alloc, &mut source).map(|read| *map = read),
+        "extend_from_source" => extend_from_source(call.alloc, map, &mut source),
+        _ => return None,
+    };
+    match outcome {
+        Ok(()) => to.word("ok"),
+        Err(ReadFault::NoRoom) => to.word("refused"),
+        Err(ReadFault::Source(fault)) => {
+            to.word("error");
+            to.show(fault);
+        }
+    }
+    to.word("asked");
+    to.show(source.asked);
+    Some(())
+}
+
+// The pairs of a vector, in their order, with a hint that may be wrong and an error, if they are wanted.
+#[derive(Drop)]
+struct Script {
+    rest: IntoIter<Pair>,
+    hint: Option<usize>,
+    // After how many pairs it has an error.
+    error: Option<usize>,
+    // How often it was asked.
+    asked: usize,
+}
+
+impl PairSource<Key, Value> for Script {
+    type Fault = usize;
+
+    ghost gives = { λ s pairs. pairs ≡ into_iter_items s.rest };
+
+    ghost left = { λ s. length (into_iter_items s.rest) };
+
+    ghost allows = { λ _ _. ⊤ };
+
+    ghost ends = { λ _. ⊤ };
+
+    ghost leads = { λ _ _. ⊤ };
+
+    fn hint(&self) -> Option<usize> {
+        self.hint
+    }
+
+    fn next_pair(&mut self) -> Result<Option<(Key, Value)>, usize> {
+        self.asked = self.asked.wrapping_add(1);
+        match self.error {
+            Some(0) => return Err(self.asked),
+            Some(pairs) => self.error = Some(pairs - 1),
+            None => {}
+        }
+        Ok(self.rest.next())
+    }
+
+    ghost leads_itself = { λ _. tt };
+
+    ghost leads_on = { λ _ _ _ _ _. tt };
 }

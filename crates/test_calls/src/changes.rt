@@ -1,106 +1,86 @@
 //! Calls that place a pair, write a value or take out pairs.
 use crate::answer::Answer;
-use crate::given::{Given, Pair};
-use crate::keys::Key;
-use crate::values::Value;
+use crate::call::{Call, Made, Map, Pair};
+use crate::counted::{Key, Value};
+use litemap::TryFault;
 use litemap::store::{Count, NoRoom, StoreBulkMut, StoreMut};
-use litemap::{LiteMap, TryFault};
 
 /// Makes a call of these, if the name is one.
 pub fn change<S: StoreBulkMut<Key, Value>>(
-    map: &mut LiteMap<Key, Value, S>,
-    name: &str,
-    given: &Given<'_>,
-    answer: &mut Answer,
-) -> Option<()> {
-    match given.words {
-        [] => whole(map, name, given, answer),
-        [_] => match take(map, name, given, answer) {
-            None => by_number(map, name, given, answer),
-            done => done,
-        },
-        _ => match put(map, name, given, answer) {
-            None => match make_where_absent(map, name, given, answer) {
-                None => write(map, name, given, answer),
-                done => done,
-            },
-            done => done,
-        },
-    }
+    map: &mut Map<S>,
+    call: &Call<'_>,
+    to: &mut Answer,
+) -> bool {
+    put(map, call, to).is_some()
+        || make_where_absent(map, call, to).is_some()
+        || write(map, call, to).is_some()
+        || take(map, call, to).is_some()
+        || whole(map, call, to).is_some()
+        || by_number(map, call, to).is_some()
 }
 
-fn put<S: StoreMut<Key, Value>>(
-    map: &mut LiteMap<Key, Value, S>,
-    name: &str,
-    given: &Given<'_>,
-    answer: &mut Answer,
-) -> Option<()> {
-    let (key, value) = given.pair(0)?;
-    given.begin();
-    match name {
-        "insert" => write_old(map.insert(key, value), answer),
-        "insert_counted" => {
-            let old = map.insert_counted(key, value, &mut Count::new());
-            write_old(old, answer);
-        }
-        "try_insert" => write_back(map.try_insert(key, value), answer),
-        "try_append" => write_back(map.try_append(key, value), answer),
+fn put<S: StoreMut<Key, Value>>(map: &mut Map<S>, call: &Call<'_>, to: &mut Answer) -> Made {
+    let (key, value) = call.pair(0)?;
+    match call.name {
+        "insert" => show_old(map.insert(key, value), to),
+        "insert_counted" => show_old(map.insert_counted(key, value, &mut Count::new()), to),
+        "try_insert" => show_back(map.try_insert(key, value), to),
+        "try_append" => show_back(map.try_append(key, value), to),
         _ => return None,
     }
-    given.end();
     Some(())
 }
 
 // What `insert` answers.
-fn write_old<'a>(outcome: Result<Option<Value>, NoRoom<Pair>>, answer: &mut Answer) {
+fn show_old<'a>(outcome: Result<Option<Value>, NoRoom<Pair>>, to: &mut Answer) {
     match outcome {
-        Ok(old) => answer.value_or_none(old.as_ref()),
-        Err(refused) => answer.no_room(refused),
+        Ok(old) => to.some(old.as_ref()),
+        Err(refused) => to.no_room(refused),
     }
 }
 
 // What `try_insert` and `try_append` answer.
-fn write_back<'a>(outcome: Result<Option<Pair>, NoRoom<Pair>>, answer: &mut Answer) {
+fn show_back<'a>(outcome: Result<Option<Pair>, NoRoom<Pair>>, to: &mut Answer) {
     match outcome {
-        Ok(None) => answer.word("placed"),
+        Ok(None) => to.word("placed"),
         Ok(Some((key, value))) => {
-            answer.word("back");
-            answer.pair(&key, &value);
+            to.word("back");
+            to.pair(&key, &value);
         }
-        Err(refused) => answer.no_room(refused),
+        Err(refused) => to.no_room(refused),
     }
 }
 
 // The calls that ask a closure for the value of an absent key. The last word of the answer tells how often.
 fn make_where_absent<S: StoreMut<Key, Value>>(
-    map: &mut LiteMap<Key, Value, S>,
-    name: &str,
-    given: &Given<'_>,
-    answer: &mut Answer,
-) -> Option<()> {
-    let (key, value) = given.pair(0)?;
+    map: &mut Map<S>,
+    call: &Call<'_>,
+    to: &mut Answer,
+) -> Made {
+    let (key, value) = call.pair(0)?;
+    let made = if call.name.ends_with("_insert") {
+        Ok(value)
+    } else {
+        Err(value)
+    };
     let mut times = 0u64;
-    given.begin();
-    match name {
-        "try_get_or_insert" => try_get(map, key, Ok(value), &mut times, answer),
-        "try_get_or_fail" => try_get(map, key, Err(value), &mut times, answer),
-        "try_find_or_insert" => try_find(map, key, Ok(value), &mut times, answer),
-        "try_find_or_fail" => try_find(map, key, Err(value), &mut times, answer),
+    match call.name {
+        "try_get_or_insert" | "try_get_or_fail" => try_get(map, key, made, &mut times, to),
+        "try_find_or_insert" | "try_find_or_fail" => try_find(map, key, made, &mut times, to),
         _ => return None,
     }
-    given.end();
-    answer.word("asked");
-    answer.number(times);
+    to.word("asked");
+    to.show(times);
     Some(())
 }
 
 // `try_get_or_insert`, whose closure answers `made`.
 fn try_get<S: StoreMut<Key, Value>>(
-    map: &mut LiteMap<Key, Value, S>,
+    map: &mut Map<S>,
     key: Key,
     made: Result<Value, Value>,
     times: &mut u64,
-    answer: &mut Answer,
+    to: &mut Answer,
 ) {
     let found = map.try_get_or_insert(key, |_| {
         *times = times.wrapping_add(1);
@@ -108,166 +88,120 @@ fn try_get<S: StoreMut<Key, Value>>(
     });
     match found {
         Ok((index, value)) => {
-            answer.size(index);
-            answer.number(value.number());
+            to.show(index);
+            to.show(value);
         }
-        Err(fault) => write_fault(fault, answer),
+        Err(fault) => show_fault(fault, to),
     }
 }
 
 // `try_find_or_insert`, whose closure answers `made`.
 fn try_find<S: StoreMut<Key, Value>>(
-    map: &mut LiteMap<Key, Value, S>,
+    map: &mut Map<S>,
     key: Key,
     made: Result<Value, Value>,
     times: &mut u64,
-    answer: &mut Answer,
+    to: &mut Answer,
 ) {
     let found = map.try_find_or_insert(key, |_| {
         *times = times.wrapping_add(1);
         made
     });
     match found {
-        Ok(index) => answer.size(index),
-        Err(fault) => write_fault(fault, answer),
+        Ok(index) => to.show(index),
+        Err(fault) => show_fault(fault, to),
     }
 }
 
-fn write_fault<'a>(fault: TryFault<Key, Value, Value>, answer: &mut Answer) {
+fn show_fault<'a>(fault: TryFault<Key, Value, Value>, to: &mut Answer) {
     match fault {
         TryFault::Closure(value) => {
-            answer.word("closure");
-            answer.number(value.number());
+            to.word("closure");
+            to.show(value);
         }
-        TryFault::NoRoom { key, value } => answer.no_room(NoRoom { back: (key, value) }),
+        TryFault::NoRoom { key, value } => to.no_room(NoRoom { back: (key, value) }),
     }
 }
 
 // The calls that lend a value, to which a number is written. They answer the old one.
-fn write<S: StoreMut<Key, Value>>(
-    map: &mut LiteMap<Key, Value, S>,
-    name: &str,
-    given: &Given<'_>,
-    answer: &mut Answer,
-) -> Option<()> {
-    let key = given.key(0)?;
-    let index = given.size(0);
-    let number = given.number(1)?;
-    given.begin();
-    match name {
-        "get_mut" => write_slot(map.get_mut(&key), number, answer),
-        "get_mut_by" => write_slot(map.get_mut_by(|there| there.cmp(&key)), number, answer),
-        "get_indexed_mut" => write_slot(map.get_indexed_mut(index?), number, answer),
+fn write<S: StoreMut<Key, Value>>(map: &mut Map<S>, call: &Call<'_>, to: &mut Answer) -> Made {
+    let (key, number) = (call.key(0)?, call.number(1)?);
+    match call.name {
+        "get_mut" => write_slot(map.get_mut(&key), number, to),
+        "get_mut_by" => write_slot(map.get_mut_by(|there| there.cmp(&key)), number, to),
+        "get_indexed_mut" => write_slot(map.get_indexed_mut(call.size(0)?), number, to),
         "index_mut" => {
             if !map.contains_key(&key) {
-                answer.word("absent");
+                to.word("absent");
             } else {
-                given.begin();
-                answer.number(map.index_mut(&key).write(number));
+                call.begin();
+                to.show(map.index_mut(&key).write(number));
             }
         }
         _ => return None,
     }
-    given.end();
     Some(())
 }
 
-fn write_slot(slot: Option<&mut Value>, number: u64, answer: &mut Answer) {
+fn write_slot(slot: Option<&mut Value>, number: u64, to: &mut Answer) {
     match slot {
-        Some(slot) => answer.number(slot.write(number)),
-        None => answer.word("none"),
+        Some(slot) => to.show(slot.write(number)),
+        None => to.word("none"),
     }
 }
 
-fn take<S: StoreMut<Key, Value>>(
-    map: &mut LiteMap<Key, Value, S>,
-    name: &str,
-    given: &Given<'_>,
-    answer: &mut Answer,
-) -> Option<()> {
-    let key = given.key(0)?;
-    given.begin();
-    match name {
-        "remove" => answer.value_or_none(map.remove(&key).as_ref()),
-        "remove_counted" => {
-            let old = map.remove_counted(&key, &mut Count::new());
-            answer.value_or_none(old.as_ref());
-        }
-        "remove_by" => answer.value_or_none(map.remove_by(|there| there.cmp(&key)).as_ref()),
-        "remove_entry" => write_taken(map.remove_entry(&key), answer),
+fn take<S: StoreMut<Key, Value>>(map: &mut Map<S>, call: &Call<'_>, to: &mut Answer) -> Made {
+    let key = call.key(0)?;
+    match call.name {
+        "remove" => to.some(map.remove(&key)),
+        "remove_counted" => to.some(map.remove_counted(&key, &mut Count::new())),
+        "remove_by" => to.some(map.remove_by(|there| there.cmp(&key))),
+        "remove_entry" => to.taken(map.remove_entry(&key)),
         _ => return None,
     }
-    given.end();
     Some(())
 }
 
-// The pair that was taken out, if there was one.
-fn write_taken(pair: Option<Pair>, answer: &mut Answer) {
-    match pair {
-        Some((key, value)) => answer.pair(&key, &value),
-        None => answer.word("none"),
-    }
-}
-
-fn whole<S: StoreBulkMut<Key, Value>>(
-    map: &mut LiteMap<Key, Value, S>,
-    name: &str,
-    given: &Given<'_>,
-    answer: &mut Answer,
-) -> Option<()> {
-    given.begin();
-    match name {
-        "pop_first" => write_taken(map.pop_first(), answer),
-        "pop_last" => write_taken(map.pop_last(), answer),
+fn whole<S: StoreMut<Key, Value>>(map: &mut Map<S>, call: &Call<'_>, to: &mut Answer) -> Made {
+    match call.name {
+        "pop_first" => to.taken(map.pop_first()),
+        "pop_last" => to.taken(map.pop_last()),
+        "reserve" => to.room(map.reserve(call.size(0)?)),
         "clear" => {
             map.clear();
-            answer.word("ok");
+            to.word("ok");
         }
         _ => return None,
     }
-    given.end();
     Some(())
 }
 
+// The calls with a closure that is asked of each pair. They answer how often. `update` adds to each value a number and how many
+// came before it. `retain` keeps, of the pairs in their order, those whose bit is set in the number, which is turned by one bit
+// after each.
 fn by_number<S: StoreBulkMut<Key, Value>>(
-    map: &mut LiteMap<Key, Value, S>,
-    name: &str,
-    given: &Given<'_>,
-    answer: &mut Answer,
-) -> Option<()> {
-    let number = given.number(0)?;
-    let additional = given.size(0)?;
-    given.begin();
-    match name {
-        "reserve" => answer.room(map.reserve(additional)),
-        "update" => answer.number(update(map, number)),
-        "retain" => answer.number(retain(map, number)),
+    map: &mut Map<S>,
+    call: &Call<'_>,
+    to: &mut Answer,
+) -> Made {
+    let number = call.number(0)?;
+    let mut times = 0u64;
+    match call.name {
+        "update" => map.update(|_, value| {
+            let more = value.number().wrapping_add(number).wrapping_add(times);
+            value.write(more);
+            times = times.wrapping_add(1);
+        }),
+        "retain" => map.retain(|_, _| is_kept(number, &mut times)),
         _ => return None,
     }
-    given.end();
+    to.show(times);
     Some(())
 }
 
-// Adds to each value a number and how many came before it, and answers how often the closure was asked.
-fn update<S: StoreMut<Key, Value>>(map: &mut LiteMap<Key, Value, S>, more: u64) -> u64 {
-    let mut times = 0u64;
-    map.update(|_, value| {
-        let number = value.number().wrapping_add(more).wrapping_add(times);
-        value.write(number);
-        times = times.wrapping_add(1);
-    });
-    times
-}
-
-// Keeps, of the pairs in their order, those whose bit is set in the number, which is turned by one bit after each. It answers
-// how often the closure was asked.
-fn retain<S: StoreBulkMut<Key, Value>>(map: &mut LiteMap<Key, Value, S>, kept: u64) -> u64 {
-    let mut times = 0u64;
-    let mut bits = kept;
-    map.retain(|_, _| {
-        times = times.wrapping_add(1);
-        bits = bits.rotate_right(1);
-        bits >> 63 == 1
-    });
-    times
+/// Whether a bit is set in a number, by how often this was asked before.
+pub(crate) fn is_kept(number: u64, times: &mut u64) -> bool {
+    let bit = (*times % 64) as u32;
+    *times = times.wrapping_add(1);
+    number >> bit & 1 == 1
 }

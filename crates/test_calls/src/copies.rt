@@ -1,131 +1,79 @@
 //! Calls that make another map of a map's pairs, or compare two maps.
 use crate::answer::{Answer, Pairs};
-use crate::given::Given;
-use crate::keys::{Key, Order};
-use crate::values::Value;
+use crate::call::{Call, Made, Map};
+use crate::counted::{Key, Order, Value};
+use crate::tested::Tested;
 use litemap::LiteMap;
-use litemap::store::{Store, StoreFromIterable, StoreMut};
+use litemap::store::Store;
 use std::alloc::{AllocError, Global};
 use std::cmp::Ordering;
+use std::hash::{FoldHasher, Hash, Hasher};
 
 /// Makes a call that copies, if the name is one. The last word of the answer tells how many keys and values were cloned.
-pub fn copy<S: StoreMut<Key, Value> + Drop>(
-    map: &LiteMap<Key, Value, S>,
-    name: &str,
-    given: &Given<'_>,
-    answer: &mut Answer,
-) -> Option<()> {
-    let [] = given.words else {
-        return None;
-    };
-    given.begin();
-    let made = match name {
-        "try_clone" => clone(map, given.alloc),
-        "to_boxed_keys_values" => boxed(map, given.alloc),
-        "to_boxed_keys" => boxed_keys(map, given.alloc),
-        "to_boxed_values" => boxed_values(map, given.alloc),
-        "to_borrowed_keys_values" => lent(map, given.alloc),
-        "to_borrowed_keys" => lent_keys(map, given.alloc),
-        "to_borrowed_values" => lent_values(map, given.alloc),
-        "to_keys_by" => keyed(map, given.alloc),
+pub fn copy<S: Tested<Key, Value>>(map: &Map<S>, call: &Call<'_>, to: &mut Answer) -> Made {
+    let alloc = call.alloc;
+    let made = match call.name {
+        "try_clone" => map.try_clone(alloc).map(|clone| Pairs::of_map(&clone)),
+        "to_boxed_keys_values" => pairs_of::<Box<Key>, Box<Value>>(map.to_boxed_keys_values(alloc)),
+        "to_boxed_keys" => pairs_of::<Box<Key>, Value>(map.to_boxed_keys(alloc)),
+        "to_boxed_values" => pairs_of::<Key, Box<Value>>(map.to_boxed_values(alloc)),
+        "to_borrowed_keys_values" => pairs_of::<&Key, &Value>(map.to_borrowed_keys_values(alloc)),
+        "to_borrowed_keys" => pairs_of::<&Key, Value>(map.to_borrowed_keys(alloc)),
+        "to_borrowed_values" => pairs_of::<Key, &Value>(map.to_borrowed_values(alloc)),
+        "to_keys_by" => keyed(map, alloc),
         _ => return None,
     };
-    given.end();
     match made {
-        Ok(pairs) => answer.pairs(&pairs),
-        Err(_) => answer.word("refused"),
+        Ok(pairs) => to.show(pairs),
+        Err(_) => to.word("refused"),
     }
-    answer.word("cloned");
-    answer.number(given.seen.cloned.get() as u64);
+    to.word("cloned");
+    to.show(call.seen.cloned.get());
     Some(())
 }
 
-fn clone<S: StoreMut<Key, Value> + Drop>(
-    map: &LiteMap<Key, Value, S>,
-    alloc: Global,
-) -> Result<Pairs, AllocError> {
-    Ok(Pairs::of_map(&map.try_clone(alloc)?))
+// What leads to a key or a value: itself, a box or a reference.
+trait LeadsTo<T> {
+    fn lead(&self) -> &T;
 }
 
-fn boxed<S: Store<Key, Value>>(
-    map: &LiteMap<Key, Value, S>,
-    alloc: Global,
-) -> Result<Pairs, AllocError> {
-    let made: LiteMap<Box<Key>, Box<Value>, Vec<(Box<Key>, Box<Value>)>> = map.to_boxed_keys_values(
-        alloc,
-    )?;
-    let mut pairs = Pairs::new();
-    for (key, value) in &made {
-        pairs.add(&**key, &**value);
+impl LeadsTo<Key> for Key {
+    fn lead(&self) -> &Key {
+        self
     }
-    Ok(pairs)
 }
 
-fn boxed_keys<S: Store<Key, Value>>(
-    map: &LiteMap<Key, Value, S>,
-    alloc: Global,
-) -> Result<Pairs, AllocError> {
-    let made: LiteMap<Box<Key>, Value, Vec<(Box<Key>, Value)>> = map.to_boxed_keys(alloc)?;
-    let mut pairs = Pairs::new();
-    for (key, value) in &made {
-        pairs.add(&**key, value);
+impl LeadsTo<Value> for Value {
+    fn lead(&self) -> &Value {
+        self
     }
-    Ok(pairs)
 }
 
-fn boxed_values<S: Store<Key, Value>>(
-    map: &LiteMap<Key, Value, S>,
-    alloc: Global,
-) -> Result<Pairs, AllocError> {
-    let made: LiteMap<Key, Box<Value>, Vec<(Key, Box<Value>)>> = map.to_boxed_values(alloc)?;
-    let mut pairs = Pairs::new();
-    for (key, value) in &made {
-        pairs.add(key, &**value);
+impl<T> LeadsTo<T> for Box<T> {
+    fn lead(&self) -> &T {
+        &**self
     }
-    Ok(pairs)
 }
 
-fn lent<S: Store<Key, Value>>(
-    map: &LiteMap<Key, Value, S>,
-    alloc: Global,
-) -> Result<Pairs, AllocError> {
-    let made: LiteMap<&Key, &Value, Vec<(&Key, &Value)>> = map.to_borrowed_keys_values(alloc)?;
-    let mut pairs = Pairs::new();
-    for (key, value) in &made {
-        pairs.add(*key, *value);
+impl<T> LeadsTo<T> for &T {
+    fn lead(&self) -> &T {
+        *self
     }
-    Ok(pairs)
 }
 
-fn lent_keys<S: Store<Key, Value>>(
-    map: &LiteMap<Key, Value, S>,
-    alloc: Global,
+fn pairs_of<K: Ord + LeadsTo<Key> + Drop, V: LeadsTo<Value> + Drop>(
+    made: Result<LiteMap<K, V, Vec<(K, V)>>, AllocError>,
 ) -> Result<Pairs, AllocError> {
-    let made: LiteMap<&Key, Value, Vec<(&Key, Value)>> = map.to_borrowed_keys(alloc)?;
+    let made = made?;
     let mut pairs = Pairs::new();
     for (key, value) in &made {
-        pairs.add(*key, value);
-    }
-    Ok(pairs)
-}
-
-fn lent_values<S: Store<Key, Value>>(
-    map: &LiteMap<Key, Value, S>,
-    alloc: Global,
-) -> Result<Pairs, AllocError> {
-    let made: LiteMap<Key, &Value, Vec<(Key, &Value)>> = map.to_borrowed_values(alloc)?;
-    let mut pairs = Pairs::new();
-    for (key, value) in &made {
-        pairs.add(key, *value);
+        pairs.add(key.lead(), value.lead());
     }
     Ok(pairs)
 }
 
 // The keys become their ranks, which lie in the same order.
-fn keyed<S: Store<Key, Value>>(
-    map: &LiteMap<Key, Value, S>,
-    alloc: Global,
-) -> Result<Pairs, AllocError> {
+fn keyed<S: Store<Key, Value>>(map: &Map<S>, alloc: Global) -> Result<Pairs, AllocError> {
     let made: LiteMap<u64, Value, Vec<(u64, Value)>> = map.to_keys_by(alloc, |key| key.rank())?;
     let mut pairs = Pairs::new();
     for (key, value) in &made {
@@ -134,26 +82,18 @@ fn keyed<S: Store<Key, Value>>(
     Ok(pairs)
 }
 
-/// `compare`: what the comparisons with a map of the given pairs answer.
-pub fn compare<S: StoreFromIterable<Key, Value> + Drop>(
-    map: &LiteMap<Key, Value, S>,
-    name: &str,
-    given: &Given<'_>,
-    answer: &mut Answer,
-) -> Option<()> {
-    let pairs = given.pairs(0).ok()??;
-    let other: LiteMap<Key, Value, S> = LiteMap::from_vec(given.alloc, pairs).ok()?;
-    given.begin();
-    match name {
-        "eq" => answer.truth(*map == other),
-        "cmp" => answer.word(word_of(map.cmp(&other))),
-        "partial_cmp" => match map.partial_cmp(&other) {
-            Some(ordering) => answer.word(word_of(ordering)),
-            None => answer.word("none"),
-        },
+/// Compares a map with one of the given pairs, if the name is such a call. `hash`: whether both are hashed alike.
+pub fn compare<S: Tested<Key, Value>>(map: &Map<S>, call: &Call<'_>, to: &mut Answer) -> Made {
+    let pairs = call.pairs(0)?;
+    let other: Map<S> = LiteMap::from_vec(call.alloc, pairs).ok()?;
+    call.begin();
+    match call.name {
+        "eq" => to.show(*map == other),
+        "hash" => to.show(hash_of(map) == hash_of(&other)),
+        "cmp" => to.word(word_of(map.cmp(&other))),
+        "partial_cmp" => to.word(map.partial_cmp(&other).map_or("none", word_of)),
         _ => return None,
     }
-    given.end();
     Some(())
 }
 
@@ -163,4 +103,10 @@ fn word_of(ordering: Ordering) -> &'static str {
         Ordering::Equal => "equal",
         Ordering::Greater => "greater",
     }
+}
+
+fn hash_of<T: Hash>(value: &T) -> u64 {
+    let mut hasher = FoldHasher::default();
+    value.hash(&mut hasher);
+    hasher.finish()
 }

@@ -1,75 +1,54 @@
 //! Calls through the entry of a key.
 use crate::answer::Answer;
-use crate::given::Given;
-use crate::keys::Key;
-use crate::values::Value;
+use crate::call::{Call, Made, Map};
+use crate::counted::{Key, Value};
+use litemap::Entry;
 use litemap::store::StoreMut;
-use litemap::{Entry, LiteMap};
 
 // Writes the value that is lent, to which one is added, or the pair that had no room.
-macro_rules! write_lent {
-    ($lent:expr, $answer:ident) => {
+macro_rules! show_lent {
+    ($lent:expr, $to:ident) => {
         match $lent {
-            Ok(slot) => $answer.number(raised(slot)),
-            Err(refused) => $answer.no_room(refused),
+            Ok(slot) => $to.show(raised(slot)),
+            Err(refused) => $to.no_room(refused),
         }
     };
 }
 
 /// Makes a call of these, if the name is one.
-pub fn enter<S: StoreMut<Key, Value>>(
-    map: &mut LiteMap<Key, Value, S>,
-    name: &str,
-    given: &Given<'_>,
-    answer: &mut Answer,
-) -> Option<()> {
-    match given.words {
-        [_] => one_key(map, name, given, answer),
-        _ => match put(map, name, given, answer) {
-            None => of_one_kind(map, name, given, answer),
-            done => done,
-        },
-    }
+pub fn enter<S: StoreMut<Key, Value>>(map: &mut Map<S>, call: &Call<'_>, to: &mut Answer) -> bool {
+    one_key(map, call, to).is_some()
+        || put(map, call, to).is_some()
+        || of_one_kind(map, call, to).is_some()
 }
 
-fn one_key<S: StoreMut<Key, Value>>(
-    map: &mut LiteMap<Key, Value, S>,
-    name: &str,
-    given: &Given<'_>,
-    answer: &mut Answer,
-) -> Option<()> {
-    let key = given.key(0)?;
-    given.begin();
-    match name {
-        "entry" => write_kind(&map.entry(key), answer),
-        "entry_debug" => answer.debug(&map.entry(key)),
-        "or_default" => write_lent!(map.entry(key).or_default(), answer),
+fn one_key<S: StoreMut<Key, Value>>(map: &mut Map<S>, call: &Call<'_>, to: &mut Answer) -> Made {
+    let key = call.key(0)?;
+    match call.name {
+        "entry" => show_kind(&map.entry(key), to),
+        "entry_debug" => to.show(map.entry(key)),
+        "or_default" => show_lent!(map.entry(key).or_default(), to),
         "entry_get" => match map.entry(key) {
-            Entry::Occupied(entry) => answer.number(entry.get().number()),
-            Entry::Vacant(_entry) => answer.word("vacant"),
+            Entry::Occupied(entry) => to.show(entry.get()),
+            Entry::Vacant(_entry) => to.word("vacant"),
         },
         "entry_remove" => match map.entry(key) {
-            Entry::Occupied(entry) => answer.number(entry.remove().number()),
-            Entry::Vacant(_entry) => answer.word("vacant"),
+            Entry::Occupied(entry) => to.show(entry.remove()),
+            Entry::Vacant(_entry) => to.word("vacant"),
         },
         _ => return None,
     }
-    given.end();
     Some(())
 }
 
 // Which kind of entry it is, and its key.
-fn write_kind<S: StoreMut<Key, Value>>(entry: &Entry<'_, Key, Value, S>, answer: &mut Answer) {
-    match entry {
-        Entry::Occupied(entry) => {
-            answer.word("occupied");
-            answer.key(entry.key());
-        }
-        Entry::Vacant(entry) => {
-            answer.word("vacant");
-            answer.key(entry.key());
-        }
-    }
+fn show_kind<S: StoreMut<Key, Value>>(entry: &Entry<'_, Key, Value, S>, to: &mut Answer) {
+    let (kind, key) = match entry {
+        Entry::Occupied(entry) => ("occupied", entry.key()),
+        Entry::Vacant(entry) => ("vacant", entry.key()),
+    };
+    to.word(kind);
+    to.show(key);
 }
 
 // Adds one to the value that is lent, and gives what it was.
@@ -78,37 +57,30 @@ fn raised(slot: &mut Value) -> u64 {
     slot.write(number.wrapping_add(1))
 }
 
-fn put<S: StoreMut<Key, Value>>(
-    map: &mut LiteMap<Key, Value, S>,
-    name: &str,
-    given: &Given<'_>,
-    answer: &mut Answer,
-) -> Option<()> {
-    let (key, value) = given.pair(0)?;
+fn put<S: StoreMut<Key, Value>>(map: &mut Map<S>, call: &Call<'_>, to: &mut Answer) -> Made {
+    let (key, value) = call.pair(0)?;
     let mut times = 0u64;
     let number = value.number();
-    given.begin();
-    match name {
-        "or_insert" => write_lent!(map.entry(key).or_insert(value), answer),
-        "or_insert_with" => write_lent!(
+    match call.name {
+        "or_insert" => show_lent!(map.entry(key).or_insert(value), to),
+        "or_insert_with" => show_lent!(
             map.entry(key).or_insert_with(|| {
                 times = times.wrapping_add(1);
                 value
             }),
-            answer
+            to
         ),
         "and_modify" => {
             let entry = map.entry(key).and_modify(|there| {
                 times = times.wrapping_add(1);
                 there.write(number);
             });
-            write_lent!(entry.or_insert(value), answer);
+            show_lent!(entry.or_insert(value), to);
         }
         _ => return None,
     }
-    given.end();
-    answer.word("asked");
-    answer.number(times);
+    to.word("asked");
+    to.show(times);
     Some(())
 }
 
@@ -116,24 +88,21 @@ const OF_ONE_KIND: [&str; 3] = ["entry_insert", "entry_get_mut", "entry_into_mut
 
 // The calls that one kind of entry has; `insert` of the other one.
 fn of_one_kind<S: StoreMut<Key, Value>>(
-    map: &mut LiteMap<Key, Value, S>,
-    name: &str,
-    given: &Given<'_>,
-    answer: &mut Answer,
-) -> Option<()> {
-    if !OF_ONE_KIND.contains(&name) {
+    map: &mut Map<S>,
+    call: &Call<'_>,
+    to: &mut Answer,
+) -> Made {
+    if !OF_ONE_KIND.contains(&call.name) {
         return None;
     }
-    let (key, value) = given.pair(0)?;
-    given.begin();
+    let (key, value) = call.pair(0)?;
     match map.entry(key) {
-        Entry::Vacant(entry) => write_lent!(entry.insert(value), answer),
-        Entry::Occupied(mut entry) => match name {
-            "entry_insert" => answer.number(entry.insert(value).number()),
-            "entry_get_mut" => answer.number(entry.get_mut().write(value.number())),
-            _ => answer.number(entry.into_mut().write(value.number())),
+        Entry::Vacant(entry) => show_lent!(entry.insert(value), to),
+        Entry::Occupied(mut entry) => match call.name {
+            "entry_insert" => to.show(entry.insert(value)),
+            "entry_get_mut" => to.show(entry.get_mut().write(value.number())),
+            _ => to.show(entry.into_mut().write(value.number())),
         },
     }
-    given.end();
     Some(())
 }

@@ -4,16 +4,12 @@
 
 pub mod answer;
 pub mod bulk;
+pub mod call;
 pub mod changes;
 pub mod copies;
+pub mod counted;
 pub mod entries;
-pub mod given;
-pub mod keys;
 pub mod looks;
-pub mod seen;
-pub mod source;
 pub mod stores;
 pub mod tested;
-pub mod values;
-pub mod views;
 pub mod walks;

@@ -1,145 +1,118 @@
 //! Calls that change nothing.
-use crate::answer::Answer;
-use crate::given::Given;
-use crate::keys::Key;
-use crate::values::Value;
+use crate::answer::{Answer, Pairs};
+use crate::call::{Call, Made, Map, Pair};
+use crate::counted::{Key, Value};
 use litemap::LiteMap;
-use litemap::store::{Count, Store};
-use std::hash::{FoldHasher, Hash, Hasher};
-use std::ops::Bound;
+use litemap::store::{Count, SliceStore, Store, StoreSlice};
+use std::mem;
 
 /// Makes a call of these, if the name is one.
-pub fn look<S: Store<Key, Value>>(
-    map: &LiteMap<Key, Value, S>,
-    name: &str,
-    given: &Given<'_>,
-    answer: &mut Answer,
-) -> Option<()> {
-    match given.words {
-        [] => whole(map, name, given, answer),
-        [_] => one_key(map, name, given, answer).or(by_index(map, name, given, answer)),
-        _ => bounds(map, name, given, answer),
-    }
+pub fn look<S: Store<Key, Value>>(map: &Map<S>, call: &Call<'_>, to: &mut Answer) -> bool {
+    with_no_key(map, call, to).is_some()
+        || by_key(map, call, to).is_some()
+        || index(map, call, to).is_some()
+        || bounds(map, call, to).is_some()
 }
 
-fn whole<S: Store<Key, Value>>(
-    map: &LiteMap<Key, Value, S>,
-    name: &str,
-    given: &Given<'_>,
-    answer: &mut Answer,
-) -> Option<()> {
-    given.begin();
-    match name {
-        "len" => answer.size(map.len()),
-        "is_empty" => answer.truth(map.is_empty()),
-        "first" => answer.pair_or_none(map.first()),
-        "last" => answer.pair_or_none(map.last()),
+fn with_no_key<S: Store<Key, Value>>(map: &Map<S>, call: &Call<'_>, to: &mut Answer) -> Made {
+    match call.name {
+        "len" => to.show(map.len()),
+        "is_empty" => to.show(map.is_empty()),
+        "first" => to.pair_or_none(map.first()),
+        "last" => to.pair_or_none(map.last()),
+        "get_indexed" => to.pair_or_none(map.get_indexed(call.size(0)?)),
         "keys_rise" => {
             map.keys_rise();
-            answer.word("ok");
+            to.word("ok");
         }
-        "debug" => answer.debug(map),
-        "hash" => answer.number(hash_of(map)),
+        "debug" => to.show(map),
         _ => return None,
     }
-    given.end();
     Some(())
 }
 
-fn hash_of<T: Hash>(value: &T) -> u64 {
-    let mut hasher = FoldHasher::default();
-    value.hash(&mut hasher);
-    hasher.finish()
-}
-
-fn one_key<S: Store<Key, Value>>(
-    map: &LiteMap<Key, Value, S>,
-    name: &str,
-    given: &Given<'_>,
-    answer: &mut Answer,
-) -> Option<()> {
-    let key = given.key(0)?;
+fn by_key<S: Store<Key, Value>>(map: &Map<S>, call: &Call<'_>, to: &mut Answer) -> Made {
+    let key = call.key(0)?;
     let mut count = Count::new();
-    given.begin();
-    match name {
-        "get" => answer.value_or_none(map.get(&key)),
-        "get_counted" => answer.value_or_none(map.get_counted(&key, &mut count)),
-        "get_key_value" => answer.pair_or_none(map.get_key_value(&key)),
-        "get_by" => answer.value_or_none(map.get_by(|there| there.cmp(&key))),
-        "contains_key" => answer.truth(map.contains_key(&key)),
-        "find_index" => answer.index(map.find_index(&key)),
-        "find_index_counted" => answer.index(map.find_index_counted(&key, &mut count)),
-        "find_index_by" => answer.index(map.find_index_by(|there| there.cmp(&key))),
-        "index" => index(map, &key, given, answer),
+    match call.name {
+        "get" => to.some(map.get(&key)),
+        "get_counted" => to.some(map.get_counted(&key, &mut count)),
+        "get_key_value" => to.pair_or_none(map.get_key_value(&key)),
+        "get_by" => to.some(map.get_by(|there| there.cmp(&key))),
+        "contains_key" => to.show(map.contains_key(&key)),
+        "find_index" => to.index(map.find_index(&key)),
+        "find_index_counted" => to.index(map.find_index_counted(&key, &mut count)),
+        "find_index_by" => to.index(map.find_index_by(|there| there.cmp(&key))),
         _ => return None,
     }
-    given.end();
     Some(())
 }
 
 // `index`, where the key is there. What tells that is no part of the call.
-fn index<S: Store<Key, Value>>(
-    map: &LiteMap<Key, Value, S>,
-    key: &Key,
-    given: &Given<'_>,
-    answer: &mut Answer,
-) {
-    if !map.contains_key(key) {
-        return answer.word("absent");
-    }
-    given.begin();
-    answer.number(map.index(key).number());
-}
-
-fn by_index<S: Store<Key, Value>>(
-    map: &LiteMap<Key, Value, S>,
-    name: &str,
-    given: &Given<'_>,
-    answer: &mut Answer,
-) -> Option<()> {
-    if name != "get_indexed" {
+fn index<S: Store<Key, Value>>(map: &Map<S>, call: &Call<'_>, to: &mut Answer) -> Made {
+    let key = call.key(0)?;
+    if call.name != "index" {
         return None;
     }
-    let index = given.size(0)?;
-    given.begin();
-    answer.pair_or_none(map.get_indexed(index));
-    given.end();
+    if map.contains_key(&key) {
+        call.begin();
+        to.show(map.index(&key));
+    } else {
+        to.word("absent");
+    }
     Some(())
 }
 
-// A bound that a key stands for: in it, out of it, or none.
-pub(crate) fn bound_of<'k>(key: Option<&'k Key>, word: &str) -> Option<Bound<&'k Key>> {
-    match word {
-        "in" => Some(Bound::Included(key?)),
-        "out" => Some(Bound::Excluded(key?)),
-        "-" => Some(Bound::Unbounded),
-        _ => None,
+// `places` and `places_counted`, whose words are a bound of either end and their keys.
+fn bounds<S: Store<Key, Value>>(map: &Map<S>, call: &Call<'_>, to: &mut Answer) -> Made {
+    let (first, last) = (call.key(1), call.key(3));
+    let (from, till) = (call.bound(0, &first)?, call.bound(2, &last)?);
+    let places = match call.name {
+        "places" => map.places(from, till),
+        "places_counted" => map.places_counted(from, till, &mut Count::new()),
+        _ => return None,
+    };
+    to.show(places.start);
+    to.show(places.end);
+    Some(())
+}
+
+/// Makes a call that lends the pairs as a slice, if the name is one.
+pub fn view<S: StoreSlice<Key, Value>>(map: &Map<S>, call: &Call<'_>, to: &mut Answer) -> Made {
+    match call.name {
+        "as_slice" => to.show(Pairs::of_slice(map.as_slice())),
+        "as_sliced" => show_table(&map.as_sliced(), to),
+        "get_indexed_range" => match map.get_indexed_range(call.size(0)?..call.size(1)?) {
+            Some(part) => to.show(Pairs::of_map(&part)),
+            None => to.word("none"),
+        },
+        "range" => {
+            let (first, last) = (call.key(1), call.key(3));
+            let part = map.range(call.bound(0, &first)?, call.bound(2, &last)?);
+            to.show(Pairs::of_map(&part));
+        }
+        _ => return None,
+    }
+    Some(())
+}
+
+// What the calls of a constant table answer, but for those by a key.
+fn show_table(table: &LiteMap<Key, Value, SliceStore<'_, Key, Value>>, to: &mut Answer) {
+    to.show(Pairs::of_map(table));
+    to.show(table.const_len());
+    to.show(table.const_is_empty());
+    if table.const_len() > 0 {
+        let (key, value) = table.const_get_indexed_or_panic(0);
+        to.pair(key, value);
     }
 }
 
-// `places` and `places_counted`, whose words are a bound of either end and their keys.
-fn bounds<S: Store<Key, Value>>(
-    map: &LiteMap<Key, Value, S>,
-    name: &str,
-    given: &Given<'_>,
-    answer: &mut Answer,
-) -> Option<()> {
-    let [low, _, high, ..] = given.words else {
+/// Makes `into_tuple_vec`, if that is the name.
+pub fn vector(map: &mut Map<Vec<Pair>>, call: &Call<'_>, to: &mut Answer) -> Made {
+    if call.name != "into_tuple_vec" {
         return None;
-    };
-    let (first, last) = (given.key(1), given.key(3));
-    let (from, to) = (
-        bound_of(first.as_ref(), low)?,
-        bound_of(last.as_ref(), high)?,
-    );
-    given.begin();
-    let places = match name {
-        "places" => map.places(from, to),
-        "places_counted" => map.places_counted(from, to, &mut Count::new()),
-        _ => return None,
-    };
-    given.end();
-    answer.size(places.start);
-    answer.size(places.end);
+    }
+    let vector = mem::replace(map, LiteMap::new(call.alloc)).into_tuple_vec();
+    to.show(Pairs::of_slice(vector.as_slice()));
     Some(())
 }

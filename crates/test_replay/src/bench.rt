@@ -3,12 +3,10 @@ use crate::line::Line;
 use litemap::LiteMap;
 use std::alloc::{AllocError, Global};
 use test_calls::answer::{Answer, Pairs};
-use test_calls::bulk::Map;
-use test_calls::given::Given;
-use test_calls::keys::Key;
+use test_calls::call::{Call, Map};
+use test_calls::counted::{Key, Value};
 use test_calls::stores;
 use test_calls::tested::{self, Tested, map_of, store_of};
-use test_calls::values::Value;
 
 /// With how many pairs a line begins, and with how much room in all.
 #[derive(Clone, Copy)]
@@ -55,29 +53,31 @@ impl<S: Tested<Key, Value>> Bench<S> {
         }
     }
 
-    /// What a line begins with.
+    /// Makes the map, or the store, with which a line begins.
     pub fn begin(
         &mut self,
         line: &Line<'_>,
         start: Start,
-        given: &Given<'_>,
+        call: &Call<'_>,
     ) -> Result<Before, AllocError> {
-        if !line.goes_on {
-            self.renew(line.is_of_store(), start, given)?;
+        if line.goes_on {} else if line.is_of_store() {
+            self.store = store_of(call, start.len, start.capacity)?;
+        } else {
+            self.map = map_of(call, start.len, start.capacity)?;
         }
         Ok(Before {
-            pairs: self.pairs(line.is_of_store()),
-            keys: given.seen.keys.get(),
-            values: given.seen.values.get(),
+            pairs: self.pairs(line),
+            keys: call.seen.keys.get(),
+            values: call.seen.values.get(),
         })
     }
 
     /// Makes the call of a line, if every store has it.
-    pub fn call(&mut self, line: &Line<'_>, given: &Given<'_>, answer: &mut Answer) -> Option<()> {
+    pub fn call(&mut self, line: &Line<'_>, call: &Call<'_>, to: &mut Answer) -> bool {
         if line.is_of_store() {
-            stores::call(&mut self.store, line.name, given, answer)
+            stores::call(&mut self.store, call, to)
         } else {
-            tested::call(&mut self.map, line.name, given, answer)
+            tested::call(&mut self.map, call, to)
         }
     }
 
@@ -86,51 +86,36 @@ impl<S: Tested<Key, Value>> Bench<S> {
         &mut self,
         line: &Line<'_>,
         before: Before,
-        given: &Given<'_>,
-        answer: &mut Answer,
+        call: &Call<'_>,
+        to: &mut Answer,
     ) -> Outcome {
-        let compared = given.seen.compared.get();
-        let after = self.pairs(line.is_of_store());
-        answer.word("|");
+        let compared = call.seen.compared.get();
+        let after = self.pairs(line);
+        to.word("|");
         if before.pairs == after {
-            answer.word("same");
+            to.word("same");
         } else {
-            answer.pairs(&after);
+            to.show(after);
         }
         let more = after.len().wrapping_sub(before.pairs.len());
-        let keys = (given.seen.keys.get() as u64).wrapping_sub(before.keys as u64);
-        let values = (given.seen.values.get() as u64).wrapping_sub(before.values as u64);
+        let keys = (call.seen.keys.get() as u64).wrapping_sub(before.keys as u64);
+        let values = (call.seen.values.get() as u64).wrapping_sub(before.values as u64);
         // The value that `or_default` makes is not counted.
-        let leaks = keys != more || (values != more && line.name != "or_default");
-        if given.is_marked {
-            *self = Bench::new(given.alloc);
-            given.idle();
+        let leaks = keys != more || (values != more && call.name != "or_default");
+        if call.is_marked {
+            *self = Bench::new(call.alloc);
+            call.idle();
         }
         let is_bounded = line.most.is_none_or(|most| compared <= most);
         Outcome {
-            is_right: answer.text() == line.wanted && is_bounded && !leaks,
+            is_right: to.text() == line.wanted && is_bounded && !leaks,
             compared,
             leaks,
         }
     }
 
-    // The map, or the store, with which a line begins.
-    fn renew(
-        &mut self,
-        is_of_store: bool,
-        start: Start,
-        given: &Given<'_>,
-    ) -> Result<(), AllocError> {
-        if is_of_store {
-            self.store = store_of(given, start.len, start.capacity)?;
-        } else {
-            self.map = map_of(given, start.len, start.capacity)?;
-        }
-        Ok(())
-    }
-
-    fn pairs(&self, is_of_store: bool) -> Pairs {
-        if is_of_store {
+    fn pairs(&self, line: &Line<'_>) -> Pairs {
+        if line.is_of_store() {
             Pairs::of_store(&self.store)
         } else {
             Pairs::of_map(&self.map)

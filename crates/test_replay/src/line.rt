@@ -7,8 +7,6 @@ pub struct Line<'t> {
     pub goes_on: bool,
     /// The call and its words.
     pub call: &'t str,
-    /// The name of the call.
-    pub name: &'t str,
     /// What it answers, and the pairs after it.
     pub wanted: &'t str,
     /// How often it compares two keys at most, if there is a bound.
@@ -18,30 +16,21 @@ pub struct Line<'t> {
 impl Line<'_> {
     /// Whether it is a call of a store, and not of a map.
     pub fn is_of_store(&self) -> bool {
-        self.name.starts_with("lm_") || self.name == "is_sorted_store"
+        self.call.starts_with("lm_") || self.call == "is_sorted_store"
     }
 }
 
 /// The call that a line makes, if it is one that does.
 pub fn parse(text: &str) -> Option<Line<'_>> {
-    let (goes_on, text) = match text.strip_prefix("+ ") {
-        Some(rest) => (true, rest),
-        None => (false, text),
-    };
     let (call, answer) = text.split_once(" = ")?;
     let (wanted, bound) = answer.rsplit_once(" | ")?;
     let most = match bound {
         "*" => None,
         number => Some(number.parse().ok()?),
     };
-    let name = match call.split_once(' ') {
-        Some((name, _)) => name,
-        None => call,
-    };
     Some(Line {
-        goes_on,
-        call,
-        name,
+        goes_on: call.starts_with("+ "),
+        call: call.strip_prefix("+ ").unwrap_or(call),
         wanted,
         most,
     })

@@ -7,11 +7,10 @@ use std::alloc::{AllocError, Global};
 use std::rc::Rc;
 use std::{fs, io};
 use test_calls::answer::Answer;
-use test_calls::given::Given;
-use test_calls::keys::{Key, Order};
-use test_calls::seen::Seen;
-use test_calls::tested::{call_of_columns, call_of_fixed, call_of_short, call_of_vec};
-use test_calls::values::Value;
+use test_calls::call::Call;
+use test_calls::counted::{Key, Order, Seen, Value};
+use test_calls::looks::{vector, view};
+use test_calls::walks::lent;
 use test_support::fixed_room::FixedRoom;
 
 // The names of the stores, in their order below.
@@ -20,18 +19,19 @@ const STORES: [&str; 4] = ["vec", "columns", "short", "fixed"];
 // How many bytes an answer takes at most.
 const LONGEST: usize = 1 << 14;
 
-// Makes the call of a line over a store, which has some calls of its own.
+// Makes the call of a line over a store, which may have some calls of its own.
 macro_rules! make_over {
-    ($bench:expr, $call:path, $line:ident, $start:ident, $given:ident, $answer:ident) => {{
-        let before = $bench.begin($line, $start, &$given)?;
-        let made = match $bench.call($line, &$given, $answer) {
-            None => $call(&mut $bench.map, $line.name, &$given, $answer),
-            made => made,
-        };
-        if made.is_none() {
-            $answer.word("no call");
+    ($bench:expr, $line:ident, $start:ident, $call:ident, $to:ident $(, $own:ident)*) => {{
+        let before = $bench.begin($line, $start, &$call)?;
+        $call.begin();
+        let is_made = $bench.call($line, &$call, $to)
+            || lent(&$bench.map, &$call, $to).is_some()
+            $(|| $own(&mut $bench.map, &$call, $to).is_some())*;
+        $call.end();
+        if !is_made {
+            $to.word("no call");
         }
-        Ok($bench.end($line, before, &$given, $answer))
+        Ok($bench.end($line, before, &$call, $to))
     }};
 }
 
@@ -64,7 +64,7 @@ impl Replay {
                 len: 0,
                 capacity: 0,
             },
-            seen: Rc::new(alloc, Seen::new())?,
+            seen: Rc::new(alloc, Seen::default())?,
             answer: Answer::with_capacity(alloc, LONGEST)?,
             made: 0,
             is_marked,
@@ -109,21 +109,22 @@ impl Replay {
         words: &[&str],
         alloc: Global,
     ) -> Result<Outcome, AllocError> {
-        let given = Given {
+        let call = Call {
             alloc,
             seen: &self.seen,
             order: self.order,
             is_marked: self.is_marked,
+            name: words.first().copied().unwrap_or(""),
             words: words.get(1..).unwrap_or(&[]),
         };
-        let (start, answer) = (self.start, &mut self.answer);
-        answer.clear();
+        let (start, to) = (self.start, &mut self.answer);
+        to.clear();
         self.made = self.made.wrapping_add(1);
         match place {
-            0 => make_over!(self.vec, call_of_vec, line, start, given, answer),
-            1 => make_over!(self.columns, call_of_columns, line, start, given, answer),
-            2 => make_over!(self.short, call_of_short, line, start, given, answer),
-            _ => make_over!(self.fixed, call_of_fixed, line, start, given, answer),
+            0 => make_over!(self.vec, line, start, call, to, view, vector),
+            1 => make_over!(self.columns, line, start, call, to),
+            2 => make_over!(self.short, line, start, call, to, view),
+            _ => make_over!(self.fixed, line, start, call, to),
         }
     }
 }

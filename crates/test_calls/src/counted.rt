@@ -1,4 +1,4 @@
-//! Keys that count their comparisons and themselves, in one of several orders.
+//! Keys and values that count themselves. Keys also count their comparisons, and lie in one of several orders.
 ghost use Rattle.std.specs.Prelude.{◌==◌, ◌≡◌};
 ghost use Rattle.std.specs.Hash as fed;
 ghost use Rattle.std.proofs.Common.{rules};
@@ -6,13 +6,36 @@ ghost use Rattle.std.specs.Ordering.{nat_cmp, on, as_partial_cmp};
 ghost use Rattle.std.specs.Cmp.Rules.{comparing, hashing};
 ghost use Rattle.std.specs.Cmp.{partial_order_from_own_ties};
 
-use crate::seen::{Seen, lower, raise};
 use std::alloc::AllocError;
+use std::cell::Cell;
 use std::cmp::Ordering;
 use std::fmt::{self, Debug, Formatter, Write};
 use std::hash::{Hash, Hasher};
 use std::rc::Rc;
 use std::str;
+
+/// How often keys were compared and clones made, and how many keys and values are alive.
+#[derive(Default, Drop)]
+pub struct Seen {
+    /// How often two keys were compared.
+    pub compared: Cell<u32>,
+    /// How many keys and values were cloned.
+    pub cloned: Cell<u32>,
+    /// How many keys are alive.
+    pub keys: Cell<u32>,
+    /// How many values are alive. Those that a type makes by itself are not among them.
+    pub values: Cell<u32>,
+}
+
+// Adds one to a number.
+fn raise(number: &Cell<u32>) {
+    number.set(number.get().wrapping_add(1));
+}
+
+// Takes one from a number.
+fn lower(number: &Cell<u32>) {
+    number.set(number.get().wrapping_sub(1));
+}
 
 /// How keys are written, and in which order they lie.
 #[derive(Clone, Copy, Debug, PartialEq)]
@@ -63,10 +86,6 @@ impl Order {
             Order::Length => length_of_code(code),
         }
     }
-
-    fn is_text(self) -> bool {
-        matches!(self, Order::Letter | Order::Text | Order::Length)
-    }
 }
 
 // The bit that parts a small letter from a large one.
@@ -74,15 +93,10 @@ const LOWER_CASE: u64 = 1 << 61;
 
 fn code_of_text(word: &str) -> Option<u64> {
     let mut bytes = [0u8; 8];
-    if word.len() > 8 || word.is_empty() {
-        return None;
-    }
     for (place, byte) in word.bytes().enumerate() {
-        if let Some(slot) = bytes.get_mut(place) {
-            *slot = byte;
-        }
+        *bytes.get_mut(place)? = byte;
     }
-    Some(u64::from_be_bytes(bytes))
+    (!word.is_empty()).then_some(u64::from_be_bytes(bytes))
 }
 
 // How many bytes stand in front of the zeros.
@@ -214,11 +228,127 @@ impl Debug for Key {
 
 /// Writes the word of a key.
 pub(crate) fn write_code<W: Write>(f: &mut W, order: Order, code: u64) -> fmt::Result {
-    if !order.is_text() {
+    if matches!(order, Order::Number | Order::Falling | Order::Same) {
         return write!(f, "{code}");
     }
     match str::from_utf8(&code.to_be_bytes()) {
         Ok(text) => f.write_str(text.trim_end_matches('\0')),
         Err(_) => f.write_str("?"),
+    }
+}
+
+/// A number, which is counted while it is alive.
+pub struct Value {
+    number: u64,
+    // Nothing of one that `or_default` makes, which is not counted.
+    seen: Option<Rc<Seen>>,
+}
+
+impl Value {
+    /// The value of a number.
+    pub fn new(number: u64, seen: &Rc<Seen>) -> Result<Self, AllocError> {
+        raise(&seen.values);
+        Ok(Value {
+            number,
+            seen: Some(seen.clone()?),
+        })
+    }
+
+    /// The number.
+    pub fn number(&self) -> u64 {
+        self.number
+    }
+
+    /// Writes another number, and gives the old one.
+    pub fn write(&mut self, number: u64) -> u64 {
+        let old = self.number;
+        self.number = number;
+        old
+    }
+}
+
+impl Default for Value {
+    fn default() -> Self {
+        Value {
+            number: 0,
+            seen: None,
+        }
+    }
+}
+
+impl Drop for Value {
+    fn drop(self) {
+        let Value { number: _, seen } = self;
+        if let Some(seen) = seen {
+            lower(&seen.values);
+        }
+    }
+}
+
+impl Clone for Value {
+    fn clone(&self) -> Result<Self, AllocError> {
+        if let Some(seen) = &self.seen {
+            raise(&seen.cloned);
+            raise(&seen.values);
+        }
+        Ok(Value {
+            number: self.number,
+            seen: self.seen.clone()?,
+        })
+    }
+}
+
+impl PartialEq for Value {
+    ghost eq = { λ a b. a.number == b.number };
+
+    ghost laws = { Prim.search (comparing, rules) };
+
+    fn eq(&self, other: &Self) -> bool {
+        self.number == other.number
+    }
+}
+
+impl Eq for Value {
+    ghost laws = { Prim.search (comparing, rules) };
+}
+
+impl PartialOrd for Value {
+    ghost partial_cmp = { as_partial_cmp (on (λ a. a.number) nat_cmp) };
+
+    ghost laws = { partial_order_from_own_ties (Prim.search (comparing, rules)) (Prim.search (comparing, rules)) };
+
+    fn partial_cmp(&self, other: &Self) -> Option<Ordering> {
+        Some(self.cmp(other))
+    }
+}
+
+impl Ord for Value {
+    ghost cmp = { on (λ a. a.number) nat_cmp };
+
+    ghost total = { Prim.search (comparing, rules) };
+
+    ghost matches_partial_cmp = { Prim.search (comparing, rules) };
+
+    ghost matches_eq = { Prim.search (comparing, rules) };
+
+    fn cmp(&self, other: &Self) -> Ordering {
+        self.number.cmp(&other.number)
+    }
+}
+
+impl Hash for Value {
+    ghost hash_input = { λ a. fed.u64 a.number };
+
+    ghost respects_eq = { Prim.search (hashing, rules) };
+
+    fn hash<H: Hasher>(&self, state: &mut H) {
+        self.number.hash(state);
+    }
+}
+
+/// Printed as its number.
+impl Debug for Value {
+    fn fmt<W: Write>(&self, f: &mut Formatter<W>) -> fmt::Result {
+        write!(f, "{}", self.number)
     }
 }
