@@ -14,8 +14,10 @@ WITHOUT = {
     "names_main": "the program, which bin/program runs",
 }
 OVER_STORES = ["litemap_read", "litemap_json"]
-# The calls that are shown by lines of another name.
+# The calls that are shown by lines of another name, or by those of `test_replay`, whose requests `bin/requests` refuses.
 SHOWN = {
+    "read_pairs": [],
+    "extend_from_source": [],
     # The types that take memory: texts, and numbers as keys.
     "JsonItem::to_value": ["text_item"],
     "JsonItem::from_value": ["text_item"],

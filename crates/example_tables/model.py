@@ -252,14 +252,18 @@ def index(data):
         return "no index"
 
 
-def sweep(cases, answer=read, first="read "):
+def sweep(cases, answer=read, first="read ", other=rising_table):
     answers = [answer(case) for case in cases]
     checksum = 0xCBF29CE484222325
-    for byte in "".join(answers).encode():
+    for byte in "".join(text + other(case) for text, case in zip(answers, cases)).encode():
         checksum = (checksum ^ byte) * 0x100000001B3 % (1 << 64)
     kinds = [(" read", first), (" truncated", "the bytes end"), (" not UTF-8", "not UTF-8"), (" too large", "too large")]
     counts = ",".join(f" {sum(words in it for it in answers)}{kind}" for kind, words in kinds)
     return f"{len(cases)} cases:{counts}, 0 different, checksum {checksum:016x}"
+
+
+def sweep_of_indexes(cases):
+    return sweep(cases, opened, "index ", lambda case: "")
 
 
 def changes(data):
@@ -363,8 +367,8 @@ def lines():
     yield "many 1000000", b"", "1000000 names: 16 there, 16 between"
     yield "prefixes", TABLE, sweep([TABLE[:size] for size in range(len(TABLE))])
     yield "changes", TABLE, sweep(changes(TABLE))
-    yield "cuts", indexed(PAIRS), sweep([indexed(PAIRS)[:size] for size in range(len(indexed(PAIRS)))], opened, "index ")
-    yield "damages", indexed(PAIRS), sweep(changes(indexed(PAIRS)), opened, "index ")
+    yield "cuts", indexed(PAIRS), sweep_of_indexes([indexed(PAIRS)[:size] for size in range(len(indexed(PAIRS)))])
+    yield "damages", indexed(PAIRS), sweep_of_indexes(changes(indexed(PAIRS)))
     yield "strings", ALPHABET, sweep(strings(ALPHABET))
 
 

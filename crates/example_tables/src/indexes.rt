@@ -28,10 +28,7 @@ pub fn write_digits(alloc: Global, bytes: &[u8], output: &mut String) -> Result<
 
 /// Writes each entry of an index, with a word more where its key isn't found, or the fault.
 pub fn write_opened(bytes: &[u8], output: &mut String) -> Result<(), AllocError> {
-    let names = match IndexedNames::open_checked(bytes) {
-        Ok(names) => names,
-        Err(fault) => return write!(output, "{fault}"),
-    };
+    let names = or_fault!(IndexedNames::open_checked(bytes), output);
     write!(output, "index {}:", names.len())?;
     for place in 0..names.len() {
         let Some((key, value)) = names.get_indexed(place) else {
@@ -50,14 +47,8 @@ pub fn write_opened(bytes: &[u8], output: &mut String) -> Result<(), AllocError>
 
 /// Writes what an index that wasn't read before answers for a key, or the fault.
 pub fn write_looked(key: &str, bytes: &[u8], output: &mut String) -> Result<(), AllocError> {
-    let names = match IndexedNames::open(bytes) {
-        Ok(names) => names,
-        Err(fault) => return write!(output, "{fault}"),
-    };
-    let place = match names.find_index(key) {
-        Ok(place) => place,
-        Err(fault) => return write!(output, "{fault}"),
-    };
+    let names = or_fault!(IndexedNames::open(bytes), output);
+    let place = or_fault!(names.find_index(key), output);
     match (names.get(key), place) {
         (Ok(Some(value)), Ok(index)) => write!(output, "found {index}: {value}"),
         (Ok(None), Err(index)) => write!(output, "none, it would be {index}"),

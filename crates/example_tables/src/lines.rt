@@ -2,6 +2,7 @@
 use crate::languages::language_name;
 use crate::sweeps::{self, Tally};
 use crate::{indexes, prefixes, tables, texts};
+use name_index::IndexedNames;
 use name_table::{read_names, write_names};
 use std::alloc::{AllocError, Global};
 
@@ -85,15 +86,17 @@ fn write_many(alloc: Global, number: &str, output: &mut String) -> Result<(), Al
     }
 }
 
-// Reads many cases, and writes what came of them.
+// Reads many cases, and writes what came of them. Those of an index are asked for its keys.
 fn sweep(alloc: Global, name: &str, bytes: &[u8], output: &mut String) -> Result<(), AllocError> {
-    let mut tally = Tally::new();
+    let keys = match name {
+        "cuts" | "damages" => IndexedNames::open_checked(bytes).ok(),
+        _ => None,
+    };
+    let mut tally = Tally::new(keys);
     match name {
-        "prefixes" => sweeps::prefixes(alloc, bytes, &mut tally)?,
-        "changes" => sweeps::changes(alloc, bytes, &mut tally)?,
+        "prefixes" | "cuts" => sweeps::prefixes(alloc, bytes, &mut tally)?,
+        "changes" | "damages" => sweeps::changes(alloc, bytes, &mut tally)?,
         "strings" => sweeps::strings(alloc, bytes, &mut tally)?,
-        "cuts" => sweeps::cuts(alloc, bytes, &mut tally)?,
-        "damages" => sweeps::damages(alloc, bytes, &mut tally)?,
         _ => return output.push_str("bad line"),
     }
     tally.write(output)

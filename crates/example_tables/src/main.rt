@@ -19,8 +19,9 @@
 //! - `changes BYTES`: the same with each byte changed into each other one.
 //! - `strings BYTES`: the same of every string of up to four of these bytes.
 //!
-//! These three read each case by the slow reader too, into a map and by a `NameTable`, and tell how often one of the two
-//! answered otherwise. A table is also written as an index, which is asked as it lies and read once.
+//! These three read each case into a map and by a `NameTable`: the texts of both are in the checksum, which another reader
+//! tells (`bin/table-data`). A map is also written and read again, and a table written as an index, which is asked as it
+//! lies and read once; a case of which two answers differ is `different`.
 //!
 //! - `index BYTES`: what `write_index` writes for the map that is read.
 //! - `opened BYTES`: each entry of an index that is read once, found again by its key.
@@ -28,11 +29,20 @@
 //! - `cuts BYTES`, `damages BYTES`: what is opened of each proper prefix of an index, and with each byte changed, by kinds.
 #![tactic(auto)]
 
+// What bytes are read as. Where they can't be, the fault is written, and no more.
+macro_rules! or_fault {
+    ($read:expr, $output:ident) => {
+        match $read {
+            Ok(read) => read,
+            Err(fault) => return write!($output, "{fault}"),
+        }
+    };
+}
+
 mod indexes;
 pub mod languages;
 mod lines;
 pub mod prefixes;
-mod slow;
 mod sweeps;
 mod tables;
 mod texts;

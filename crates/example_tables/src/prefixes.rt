@@ -21,10 +21,7 @@ pub fn write_beginning(
     bytes: &[u8],
     output: &mut String,
 ) -> Result<(), AllocError> {
-    let table = match NameTable::new(bytes) {
-        Ok(table) => table,
-        Err(fault) => return write!(output, "{fault}"),
-    };
+    let table = or_fault!(NameTable::new(bytes), output);
     let index = NameIndex::new(alloc, &table)?;
     let places = index.prefix_places(text);
     write!(output, "{} to {}:", places.start, places.end)?;

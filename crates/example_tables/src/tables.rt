@@ -9,10 +9,7 @@ use std::fmt::Write;
 
 /// Writes each entry of a `NameTable`, with a word more where its key isn't found in the table or its `NameIndex`.
 pub fn write_table(alloc: Global, bytes: &[u8], output: &mut String) -> Result<(), AllocError> {
-    let table = match NameTable::new(bytes) {
-        Ok(table) => table,
-        Err(fault) => return write!(output, "{fault}"),
-    };
+    let table = or_fault!(NameTable::new(bytes), output);
     let index = NameIndex::new(alloc, &table)?;
     write!(output, "table {}:", index.len())?;
     for place in 0..table.len() {
@@ -96,10 +93,7 @@ pub fn write_asked(
     bytes: &[u8],
     output: &mut String,
 ) -> Result<(), AllocError> {
-    let table = match NameTable::new(bytes) {
-        Ok(table) => table,
-        Err(fault) => return write!(output, "{fault}"),
-    };
+    let table = or_fault!(NameTable::new(bytes), output);
     let written = index_of(alloc, bytes)?;
     let Ok(both) = BothWays::open(written.as_slice()) else {
         return output.push_str("no index");
@@ -123,10 +117,7 @@ pub fn write_translated(
     bytes: &[u8],
     output: &mut String,
 ) -> Result<(), AllocError> {
-    let table = match NameTable::new(bytes) {
-        Ok(table) => table,
-        Err(fault) => return write!(output, "{fault}"),
-    };
+    let table = or_fault!(NameTable::new(bytes), output);
     let index = NameIndex::new(alloc, &table)?;
     let written = index_of(alloc, bytes)?;
     let Ok(both) = BothWays::open(written.as_slice()) else {

@@ -45,10 +45,7 @@ pub fn write_found(
 
 /// Writes what the source gives.
 pub fn write_walk(bytes: &[u8], output: &mut String) -> Result<(), AllocError> {
-    let mut names = match NameBytes::new(bytes) {
-        Ok(names) => names,
-        Err(fault) => return write!(output, "{fault}"),
-    };
+    let mut names = or_fault!(NameBytes::new(bytes), output);
     let most = names.hint().unwrap_or(0);
     for _ in 0..most {
         write_state(&names, output)?;

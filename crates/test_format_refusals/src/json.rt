@@ -1,16 +1,19 @@
 //! The calls that write JSON and read it.
-use crate::outcome::Outcome;
+use crate::outcome::{Ended, Outcome, answered, left};
 use litemap::LiteMap;
 use litemap::store::{ColumnStore, StoreBulkMut};
 use litemap_json::{
-    ItemFault, JsonFault, JsonItem, JsonKey, WriteFault, Writer, array_of_two, from_json, to_json,
-    write_json, write_value,
+    JsonItem, JsonKey, Writer, array_of_two, from_json, to_json, write_json, write_value,
 };
-use names::{FlagsFault, rewrite_flags};
+use names::rewrite_flags;
 use serde_json::Value;
 use std::alloc::Global;
 
 type Words<S> = LiteMap<u32, String, S>;
+
+type InVector = Vec<(u32, String)>;
+
+type InColumns = ColumnStore<u32, String>;
 
 type Pairs = LiteMap<(u32, bool), u32, Vec<((u32, bool), u32)>>;
 
@@ -20,203 +23,129 @@ const ARRAY: &str = "[[[1,false],10],[[1,true],11],[[2,true],12]]";
 
 const WORD: &str = "a word of more bytes than a block of memory for small texts might have";
 
-// The most bytes that the text of the object may have room for: a writer takes at least 128 ahead of what it writes.
-const MOST_BYTES: usize = 256;
-
-/// Runs the scenario of a call, if there is one of this name.
-pub(crate) fn run(alloc: Global, name: &str) -> Option<Outcome> {
-    match name {
-        "to_json" => Some(to_json_object::<Vec<(u32, String)>>(alloc)),
-        "to_json_in_columns" => Some(to_json_object::<ColumnStore<u32, String>>(alloc)),
-        "write_json" => Some(write_json_object::<Vec<(u32, String)>>(alloc)),
-        "write_json_in_columns" => Some(write_json_object::<ColumnStore<u32, String>>(alloc)),
-        "from_json" => Some(from_json_object::<Vec<(u32, String)>>(alloc)),
-        "from_json_in_columns" => Some(from_json_object::<ColumnStore<u32, String>>(alloc)),
-        "json_array" => Some(json_array(alloc)),
-        "array_of_two" => Some(two(alloc)),
-        "number_key" => Some(number_key(alloc)),
-        "write_to" => Some(item_text(alloc)),
-        "write_value" => Some(value_text(alloc)),
-        "text_item" => Some(text_item(alloc)),
-        "text_key" => Some(text_key(alloc)),
-        "rewrite_flags" => Some(flags(alloc)),
-        _ => None,
-    }
+/// Runs the scenario of a name, if it is one of these.
+pub(crate) fn run(alloc: Global, name: &str) -> Option<Ended> {
+    Some(match name {
+        "to_json" => to_json_object::<InVector>(alloc),
+        "to_json_in_columns" => to_json_object::<InColumns>(alloc),
+        "write_json" => write_json_object::<InVector>(alloc),
+        "write_json_in_columns" => write_json_object::<InColumns>(alloc),
+        "from_json" => from_json_object::<InVector>(alloc),
+        "from_json_in_columns" => from_json_object::<InColumns>(alloc),
+        "json_array" => json_array(alloc),
+        "array_of_two" => two(alloc),
+        "number_key" => number_key(alloc),
+        "write_to" => item_text(alloc),
+        "write_value" => value_text(alloc),
+        "text_item" => text_item(alloc),
+        "text_key" => text_key(alloc),
+        "rewrite_flags" => flags(alloc),
+        _ => return None,
+    })
 }
 
-// The map of words that a text spells; the value that it is read from takes the first requests.
-fn words<S: StoreBulkMut<u32, String>>(alloc: Global) -> Option<Words<S>> {
-    let value = Value::from_str(alloc, OBJECT).ok()?;
-    from_json(alloc, &value).ok()
+/// The value of a JSON text, or where that is refused, that outcome.
+pub(crate) fn value_of(alloc: Global, text: &str) -> Result<Value, Outcome> {
+    Value::from_str(alloc, text).map_err(|_| Outcome::Refused)
 }
 
-// Whether a value is written as this text, or where that is refused, nothing.
-fn is_text(alloc: Global, value: &Value, text: &str) -> Option<bool> {
-    let made = value.to_string(alloc).ok()?;
-    Some(made.as_str() == text)
+// The map of words that the object spells; the value that it is read from takes the first requests.
+fn words<S: StoreBulkMut<u32, String>>(alloc: Global) -> Result<Words<S>, Outcome> {
+    Ok(from_json(alloc, &value_of(alloc, OBJECT)?)?)
 }
 
-// How it ended, by whether there is the right answer.
-fn ended(is_right: Option<bool>) -> Outcome {
-    match is_right {
-        Some(is_right) => Outcome::answered(is_right),
-        None => Outcome::Refused,
-    }
+// Whether a value is written as this text.
+fn is_text(alloc: Global, value: &Value, text: &str) -> Ended {
+    let made = value.to_string(alloc).map_err(|_| Outcome::Refused)?;
+    answered(made.as_str() == text)
 }
 
-// For how many elements more the array has room that a value is.
-fn room_of_array(value: &Value) -> Option<usize> {
-    value
+fn to_json_object<S: StoreBulkMut<u32, String>>(alloc: Global) -> Ended {
+    let map = words::<S>(alloc)?;
+    is_text(alloc, &to_json(alloc, &map)?, OBJECT)
+}
+
+// The text may have room for more bytes than it takes: a writer takes at least 128 ahead of what it writes.
+fn write_json_object<S: StoreBulkMut<u32, String>>(alloc: Global) -> Ended {
+    let map = words::<S>(alloc)?;
+    let text = write_json(alloc, &map)?;
+    answered(text.as_str() == OBJECT && text.capacity() <= 256)
+}
+
+// A map with pairs as keys, read from an array and written as one, which has no room for more elements.
+fn json_array(alloc: Global) -> Ended {
+    let mut map: Pairs = from_json(alloc, &value_of(alloc, ARRAY)?)?;
+    let value = to_json(alloc, &map)?;
+    is_text(alloc, &value, ARRAY)?;
+    let is_full = value
         .as_array()
-        .map(|list| list.capacity().saturating_sub(list.len()))
+        .is_some_and(|list| list.capacity() == list.len());
+    left(&mut map, is_full)
 }
 
-// A map of words as an object.
-fn to_json_object<S: StoreBulkMut<u32, String>>(alloc: Global) -> Outcome {
-    let Some(map) = words::<S>(alloc) else {
-        return Outcome::Refused;
-    };
-    match to_json(alloc, &map) {
-        Ok(value) => ended(is_text(alloc, &value, OBJECT)),
-        Err(WriteFault::Memory) => Outcome::refused(true, map.len() == 3),
-        Err(_) => Outcome::Wrong("another fault"),
-    }
-}
-
-// A map of words as the text of an object.
-fn write_json_object<S: StoreBulkMut<u32, String>>(alloc: Global) -> Outcome {
-    let Some(map) = words::<S>(alloc) else {
-        return Outcome::Refused;
-    };
-    match write_json(alloc, &map) {
-        Ok(text) => Outcome::answered(text.as_str() == OBJECT && text.capacity() <= MOST_BYTES),
-        Err(WriteFault::Memory) => Outcome::refused(true, map.len() == 3),
-        Err(_) => Outcome::Wrong("another fault"),
-    }
-}
-
-// A map with pairs as keys, read from an array and written as one.
-fn json_array(alloc: Global) -> Outcome {
-    let Ok(value) = Value::from_str(alloc, ARRAY) else {
-        return Outcome::Refused;
-    };
-    let mut map: Pairs = match from_json(alloc, &value) {
-        Ok(map) => map,
-        Err(JsonFault::Memory) => return Outcome::Refused,
-        Err(_) => return Outcome::Wrong("another fault"),
-    };
-    let value = match to_json(alloc, &map) {
-        Ok(value) => value,
-        Err(WriteFault::Memory) => return Outcome::Refused,
-        Err(_) => return Outcome::Wrong("another fault"),
-    };
-    match is_text(alloc, &value, ARRAY) {
-        Some(is_right) => Outcome::left(&mut map, is_right && room_of_array(&value) == Some(0)),
-        None => Outcome::Refused,
-    }
-}
-
-// A map of words, read from an object.
-fn from_json_object<S: StoreBulkMut<u32, String>>(alloc: Global) -> Outcome {
-    let Ok(value) = Value::from_str(alloc, OBJECT) else {
-        return Outcome::Refused;
-    };
-    let mut map: Words<S> = match from_json(alloc, &value) {
-        Ok(map) => map,
-        Err(JsonFault::Memory) => return Outcome::Refused,
-        Err(_) => return Outcome::Wrong("another fault"),
-    };
+fn from_json_object<S: StoreBulkMut<u32, String>>(alloc: Global) -> Ended {
+    let mut map = words::<S>(alloc)?;
     let last = map.get(&3).map(|word| word.as_str());
     let is_right = map.len() == 3 && last == Some("three");
-    Outcome::left(&mut map, is_right)
+    left(&mut map, is_right)
 }
 
 // An array of two numbers.
-fn two(alloc: Global) -> Outcome {
-    match array_of_two(alloc, Value::from(1u64), Value::from(2u64)) {
-        Ok(value) => ended(is_text(alloc, &value, "[1,2]")),
-        Err(_) => Outcome::Refused,
-    }
+fn pair(alloc: Global) -> Result<Value, Outcome> {
+    array_of_two(alloc, Value::from(1u64), Value::from(2u64)).map_err(|_| Outcome::Refused)
 }
 
-// A number as a key's text and back.
-fn number_key(alloc: Global) -> Outcome {
-    let Ok(name) = 1234u32.key_text(alloc) else {
-        return Outcome::Refused;
-    };
-    let Some(name) = name else {
-        return Outcome::Wrong("no text");
-    };
-    match u32::from_key_text(alloc, name.as_str()) {
-        Ok(read) => Outcome::answered(name.as_str() == "1234" && read == Some(1234)),
-        Err(_) => Outcome::Refused,
-    }
+fn two(alloc: Global) -> Ended {
+    is_text(alloc, &pair(alloc)?, "[1,2]")
+}
+
+// That array, written.
+fn value_text(alloc: Global) -> Ended {
+    let value = pair(alloc)?;
+    let mut out = Writer::new(Vec::new(alloc));
+    write_value(alloc, &value, &mut out).map_err(|_| Outcome::Refused)?;
+    answered(out.into_inner().as_slice() == b"[1,2]".as_slice())
 }
 
 // A number and a text, written behind one another.
-fn item_text(alloc: Global) -> Outcome {
-    let Ok(text) = String::from_str(alloc, WORD) else {
-        return Outcome::Refused;
-    };
+fn item_text(alloc: Global) -> Ended {
+    let item = (7u32, String::from_str(alloc, WORD)?);
     let mut out = Writer::new(Vec::new(alloc));
-    match (7u32, text).write_to(alloc, &mut out) {
-        Ok(()) => Outcome::answered(out.into_inner().len() == WORD.len().wrapping_add(6)),
-        Err(_) => Outcome::Refused,
-    }
+    item.write_to(alloc, &mut out)
+        .map_err(|_| Outcome::Refused)?;
+    answered(out.into_inner().len() == WORD.len().wrapping_add(6))
 }
 
-// An array of two numbers, written.
-fn value_text(alloc: Global) -> Outcome {
-    let Ok(value) = array_of_two(alloc, Value::from(1u64), Value::from(2u64)) else {
-        return Outcome::Refused;
+// A number as a key's text and back.
+fn number_key(alloc: Global) -> Ended {
+    let Some(name) = 1234u32.key_text(alloc)? else {
+        return Err(Outcome::Wrong("no text"));
     };
-    let mut out = Writer::new(Vec::new(alloc));
-    match write_value(alloc, &value, &mut out) {
-        Ok(()) => Outcome::answered(out.into_inner().as_slice() == b"[1,2]".as_slice()),
-        Err(_) => Outcome::Refused,
-    }
+    let read = u32::from_key_text(alloc, name.as_str())?;
+    answered(name.as_str() == "1234" && read == Some(1234))
 }
 
 // A text as a value and back.
-fn text_item(alloc: Global) -> Outcome {
-    let Ok(text) = String::from_str(alloc, WORD) else {
-        return Outcome::Refused;
-    };
-    let Ok(value) = text.to_value(alloc) else {
-        return Outcome::Refused;
-    };
-    match String::from_value(alloc, &value) {
-        Ok(read) => Outcome::answered(read.as_str() == WORD && read.capacity() == WORD.len()),
-        Err(ItemFault::Memory) => Outcome::Refused,
-        Err(_) => Outcome::Wrong("another fault"),
-    }
+fn text_item(alloc: Global) -> Ended {
+    let value = String::from_str(alloc, WORD)?.to_value(alloc)?;
+    let read = String::from_value(alloc, &value)?;
+    answered(read.as_str() == WORD && read.capacity() == WORD.len())
 }
 
 // A text as a key's text and back.
-fn text_key(alloc: Global) -> Outcome {
-    let Ok(text) = String::from_str(alloc, WORD) else {
-        return Outcome::Refused;
+fn text_key(alloc: Global) -> Ended {
+    let text = String::from_str(alloc, WORD)?;
+    let Some(name) = text.key_text(alloc)? else {
+        return Err(Outcome::Wrong("no text"));
     };
-    let Ok(name) = text.key_text(alloc) else {
-        return Outcome::Refused;
-    };
-    let Some(name) = name else {
-        return Outcome::Wrong("no text");
-    };
-    match String::from_key_text(alloc, name.as_str()) {
-        Ok(Some(read)) => {
-            Outcome::answered(read.as_str() == WORD && read.capacity() == WORD.len())
-        }
-        Ok(None) => Outcome::Wrong("no key"),
-        Err(_) => Outcome::Refused,
+    match String::from_key_text(alloc, name.as_str())? {
+        Some(read) => answered(read.as_str() == WORD && read.capacity() == WORD.len()),
+        None => Err(Outcome::Wrong("no key")),
     }
 }
 
 // Flags that are brought over.
-fn flags(alloc: Global) -> Outcome {
-    match rewrite_flags(alloc, b"[[false,2],[true,1]]") {
-        Ok(text) => Outcome::answered(text.as_str() == "{\"false\":2,\"true\":1}"),
-        Err(FlagsFault::Memory) => Outcome::Refused,
-        Err(_) => Outcome::Wrong("another fault"),
-    }
+fn flags(alloc: Global) -> Ended {
+    let text = rewrite_flags(alloc, b"[[false,2],[true,1]]")?;
+    answered(text.as_str() == "{\"false\":2,\"true\":1}")
 }

@@ -1,9 +1,9 @@
 //! JSON values that spell no map, each with its fault at one place: `from_json` tells that fault, and where one of its requests
 //! is refused in front of it or in that place, want of memory. Behind the place it makes none.
-use crate::outcome::Outcome;
+use crate::json::value_of;
+use crate::outcome::{Ended, Outcome, answered};
 use litemap::LiteMap;
 use litemap_json::{ItemFault, JsonFault, JsonItem, JsonKey, from_json};
-use serde_json::Value;
 use std::alloc::Global;
 
 // Texts at the names 10 to 29, but for a number at the place 17.
@@ -32,47 +32,43 @@ const BAD_ITEM_OF_TEXT: &str =
 const BAD_ELEMENT: &str = r#"[["a",1],["b"],["c",3]]"#;
 
 /// Runs the scenario of a value that spells no map, if there is one of this name.
-pub(crate) fn run(alloc: Global, name: &str) -> Option<Outcome> {
-    let fault = ItemFault::Shape;
-    match name {
-        "from_json_bad_item" => {
-            let wanted = JsonFault::Item { place: 17, fault };
-            Some(told::<u32, String>(alloc, BAD_ITEM, wanted))
-        }
-        "from_json_bad_number" => {
-            let fault = ItemFault::Range;
-            Some(told::<u32, u8>(alloc, BAD_NUMBER, JsonFault::Item { place: 6, fault }))
-        }
+pub(crate) fn run(alloc: Global, name: &str) -> Option<Ended> {
+    let shape = |place| JsonFault::Item {
+        place,
+        fault: ItemFault::Shape,
+    };
+    let range = |place| JsonFault::Item {
+        place,
+        fault: ItemFault::Range,
+    };
+    let bad_key = JsonFault::Key {
+        place: 2,
+        fault: ItemFault::Shape,
+    };
+    let bad_element = JsonFault::NotAPair { place: 1 };
+    Some(match name {
+        "from_json_bad_item" => told::<u32, String>(alloc, BAD_ITEM, shape(17)),
+        "from_json_bad_number" => told::<u32, u8>(alloc, BAD_NUMBER, range(6)),
         "from_json_bad_name" => {
-            Some(told::<u32, String>(alloc, BAD_NAME, JsonFault::KeyText { place: 2 }))
+            told::<u32, String>(alloc, BAD_NAME, JsonFault::KeyText { place: 2 })
         }
-        "from_json_bad_key" => {
-            let wanted = JsonFault::Key { place: 2, fault };
-            Some(told::<(String, u32), String>(alloc, BAD_KEY, wanted))
-        }
-        "from_json_bad_item_of_text" => {
-            let wanted = JsonFault::Item { place: 5, fault };
-            Some(told::<String, u32>(alloc, BAD_ITEM_OF_TEXT, wanted))
-        }
-        "from_json_bad_element" => {
-            Some(told::<String, u32>(alloc, BAD_ELEMENT, JsonFault::NotAPair { place: 1 }))
-        }
-        "from_json_bad_first" => {
-            let fault = ItemFault::Range;
-            Some(told_at_once(alloc, BAD_FIRST, JsonFault::Item { place: 0, fault }))
-        }
-        "from_json_no_map" => Some(told_at_once(alloc, "\"a text\"", JsonFault::NotAMap)),
-        _ => None,
-    }
+        "from_json_bad_key" => told::<(String, u32), String>(alloc, BAD_KEY, bad_key),
+        "from_json_bad_item_of_text" => told::<String, u32>(alloc, BAD_ITEM_OF_TEXT, shape(5)),
+        "from_json_bad_element" => told::<String, u32>(alloc, BAD_ELEMENT, bad_element),
+        "from_json_bad_first" => told_at_once(alloc, BAD_FIRST, range(0)),
+        "from_json_no_map" => told_at_once(alloc, "\"a text\"", JsonFault::NotAMap),
+        _ => return None,
+    })
 }
 
 // The fault of a text's value as a map, if it has one.
-fn fault_of<K: JsonKey + Drop, V: JsonItem + Drop>(
-    alloc: Global,
-    value: &Value,
-) -> Option<JsonFault> {
-    let read: Result<LiteMap<K, V, Vec<(K, V)>>, JsonFault> = from_json(alloc, value);
-    read.err()
+fn fault_of<K, V>(alloc: Global, text: &str) -> Result<Option<JsonFault>, Outcome>
+where
+    K: JsonKey + Drop,
+    V: JsonItem + Drop,
+{
+    let read: Result<LiteMap<K, V, Vec<(K, V)>>, _> = from_json(alloc, &value_of(alloc, text)?);
+    Ok(read.err())
 }
 
 // Whether a text's value has this fault, or memory was refused.
@@ -80,21 +76,14 @@ fn told<K: JsonKey + Drop, V: JsonItem + Drop>(
     alloc: Global,
     text: &str,
     wanted: JsonFault,
-) -> Outcome {
-    let Ok(value) = Value::from_str(alloc, text) else {
-        return Outcome::Refused;
-    };
-    match fault_of::<K, V>(alloc, &value) {
-        None => Outcome::Wrong("a map"),
-        Some(JsonFault::Memory) => Outcome::Refused,
-        Some(fault) => Outcome::answered(fault == wanted),
+) -> Ended {
+    match fault_of::<K, V>(alloc, text)? {
+        Some(JsonFault::Memory) => Err(Outcome::Refused),
+        fault => answered(fault == Some(wanted)),
     }
 }
 
 // Whether a text's value has this fault as a map of numbers. Memory is wanted for the value alone.
-fn told_at_once(alloc: Global, text: &str, wanted: JsonFault) -> Outcome {
-    let Ok(value) = Value::from_str(alloc, text) else {
-        return Outcome::Refused;
-    };
-    Outcome::answered(fault_of::<u32, u8>(alloc, &value) == Some(wanted))
+fn told_at_once(alloc: Global, text: &str, wanted: JsonFault) -> Ended {
+    answered(fault_of::<u32, u8>(alloc, text)? == Some(wanted))
 }

@@ -1,8 +1,8 @@
-//! The lines that a program reads, each of which runs a scenario or all of them.
+//! The lines that a program reads, each of which runs a scenario.
 ghost use Rattle.std.specs.Prelude.{◌≤◌, IfOk, length};
 
-use crate::calls::{NAMES, run};
 use crate::outcome::Outcome;
+use crate::{json, json_faults, read, session, tables};
 use std::alloc::Global;
 use std::io::{self, Read};
 use std::str;
@@ -12,8 +12,8 @@ const LEAD: usize = 200;
 
 /// Does the lines of standard input.
 ///
-/// A line is `NAME`, `NAME PLACE` or `all`. It runs the scenario of that name, or each in turn, and writes a line for
-/// each: `NAME: answered`, `NAME: answered, room N`, `NAME: refused` or `NAME: WRONG: ..`, by `Outcome`.
+/// A line is `NAME` or `NAME PLACE`. It runs the scenario of that name, and writes how it ended: `NAME: answered`,
+/// `NAME: answered, room N`, `NAME: refused` or `NAME: WRONG: ..`, by `Outcome`.
 ///
 /// Where there is a PLACE, from 1 on, small requests for memory go before the scenario, so many that its request number
 /// PLACE is request number `LEAD` of the program. `rt try --fail-alloc` refuses that one: see `bin/refusals`. Nothing
@@ -22,13 +22,17 @@ pub(crate) fn run_lines<R: Read>(
     rt: &(impl Print + AllocGlobal),
     reader: &mut R,
 ) -> io::Result<()> {
-    let mut space = [0u8; 256];
+    let mut space = [0u8; 1024];
     let len = read_input(reader, &mut space)?;
     let Ok(text) = str::from_utf8(&space[..len]) else {
         return println!(rt; "the input is no text");
     };
     for line in text.lines() {
-        do_line(rt, line)?;
+        let (name, place) = line.split_once(' ').unwrap_or((line, ""));
+        if let Ok(place) = place.parse::<usize>() {
+            lead_to(rt.alloc(), place);
+        }
+        report(rt, name)?;
     }
     Ok(())
 }
@@ -48,26 +52,6 @@ fn read_input<R: Read>(reader: &mut R, space: &mut [u8]) -> io::Result<usize>
     Ok(len)
 }
 
-// Does a line of the input.
-fn do_line(rt: &(impl Print + AllocGlobal), line: &str) -> io::Result<()> {
-    if line == "all" {
-        for name in NAMES {
-            report(rt, name)?;
-        }
-        return Ok(());
-    }
-    let Some((name, place)) = line.split_once(' ') else {
-        return report(rt, line);
-    };
-    match place.parse::<usize>() {
-        Ok(place) => {
-            lead_to(rt.alloc(), place);
-            report(rt, name)
-        }
-        Err(_) => println!(rt; "{line}: unknown"),
-    }
-}
-
 // Makes and frees so many small requests for memory that the request number `place` from here on is number
 // `LEAD`.
 fn lead_to(alloc: Global, place: usize) {
@@ -78,7 +62,13 @@ fn lead_to(alloc: Global, place: usize) {
 
 // Runs the scenario of a name, and writes how it ended.
 fn report(rt: &(impl Print + AllocGlobal), name: &str) -> io::Result<()> {
-    match run(rt.alloc(), name) {
+    let alloc = rt.alloc();
+    let ended = read::run(alloc, name)
+        .or_else(|| session::run(alloc, name))
+        .or_else(|| tables::run(alloc, name))
+        .or_else(|| json::run(alloc, name))
+        .or_else(|| json_faults::run(alloc, name));
+    match ended.map(|ended| ended.unwrap_or_else(|outcome| outcome)) {
         Some(Outcome::Answered) => println!(rt; "{name}: answered"),
         Some(Outcome::AnsweredWithRoom(room)) => println!(rt; "{name}: answered, room {room}"),
         Some(Outcome::Refused) => println!(rt; "{name}: refused"),

@@ -4,7 +4,6 @@
 //! reads are those of `lines::run_lines`.
 #![tactic(auto)]
 
-mod calls;
 mod json;
 mod json_faults;
 mod lines;

@@ -1,10 +1,10 @@
 //! How a scenario ended, told by what came back and what is left.
-
 use litemap::LiteMap;
 use litemap::store::StoreMut;
-
-/// For how many pairs more room is asked for at most, one after the other.
-const MOST_ROOM: usize = 2000;
+use litemap_json::{ItemFault, JsonFault, WriteFault};
+use litemap_read::ReadFault;
+use names::{FlagsFault, NameWriteFault};
+use std::alloc::AllocError;
 
 /// How a scenario ended.
 #[derive(Clone, Copy)]
@@ -20,48 +20,80 @@ pub enum Outcome {
     Wrong(&'static str),
 }
 
-impl Outcome {
-    /// A refusal, where what came back and what is left are right.
-    pub fn refused(back: bool, left: bool) -> Outcome {
-        if !back {
-            Outcome::Wrong("something else came back")
-        } else if !left {
-            Outcome::Wrong("the refused call changed the list")
-        } else {
-            Outcome::Refused
-        }
-    }
+/// How a scenario ends. The error of a call in it is an outcome, too.
+pub type Ended = Result<Outcome, Outcome>;
 
-    /// An answer, where the list is right.
-    pub fn answered(left: bool) -> Outcome {
-        if left {
-            Outcome::Answered
-        } else {
-            Outcome::Wrong("another list")
-        }
-    }
-
-    /// An answer that left this map, where its list is right. Asks for room until it is refused.
-    pub fn left<K: Ord, V, S: StoreMut<K, V>>(
-        map: &mut LiteMap<K, V, S>,
-        is_right: bool,
-    ) -> Outcome {
-        if is_right {
-            Outcome::AnsweredWithRoom(room_left(map))
-        } else {
-            Outcome::Wrong("another list")
-        }
+/// An answer, where it is right.
+pub fn answered(is_right: bool) -> Ended {
+    if is_right {
+        Ok(Outcome::Answered)
+    } else {
+        Err(Outcome::Wrong("another answer"))
     }
 }
 
-// For how many pairs more a map has or gets room, asked for one after the other until it is refused.
-fn room_left<K: Ord, V, S: StoreMut<K, V>>(map: &mut LiteMap<K, V, S>) -> usize {
+/// An answer that left this map, where it is right. Asks for room until it is refused: for how many pairs more a map has or gets
+/// room, up to 1,999.
+pub fn left<K: Ord, V, S: StoreMut<K, V>>(map: &mut LiteMap<K, V, S>, is_right: bool) -> Ended {
+    answered(is_right)?;
     let mut room = 0;
-    for more in 1..MOST_ROOM {
+    for more in 1..2000 {
         if map.reserve(more).is_err() {
             break;
         }
         room = more;
     }
-    room
+    Ok(Outcome::AnsweredWithRoom(room))
+}
+
+impl Outcome {
+    fn of_fault(is_memory: bool) -> Self {
+        if is_memory {
+            Outcome::Refused
+        } else {
+            Outcome::Wrong("another fault")
+        }
+    }
+}
+
+impl From<AllocError> for Outcome {
+    fn from(_refused: AllocError) -> Self {
+        Outcome::Refused
+    }
+}
+
+impl From<JsonFault> for Outcome {
+    fn from(fault: JsonFault) -> Self {
+        Outcome::of_fault(fault == JsonFault::Memory)
+    }
+}
+
+impl From<ItemFault> for Outcome {
+    fn from(fault: ItemFault) -> Self {
+        Outcome::of_fault(fault == ItemFault::Memory)
+    }
+}
+
+impl From<WriteFault> for Outcome {
+    fn from(fault: WriteFault) -> Self {
+        Outcome::of_fault(fault == WriteFault::Memory)
+    }
+}
+
+impl From<FlagsFault> for Outcome {
+    fn from(fault: FlagsFault) -> Self {
+        Outcome::of_fault(fault == FlagsFault::Memory)
+    }
+}
+
+impl From<NameWriteFault> for Outcome {
+    fn from(fault: NameWriteFault) -> Self {
+        Outcome::of_fault(fault == NameWriteFault::NoRoom)
+    }
+}
+
+impl<F: Drop> From<ReadFault<F>> for Outcome {
+    fn from(fault: ReadFault<F>) -> Self {
+        Outcome::of_fault(matches!(fault, ReadFault::NoRoom))
+    }
 }

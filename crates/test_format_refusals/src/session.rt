@@ -1,53 +1,44 @@
 //! A run of the program `names` over a reader and a writer in memory.
-use crate::outcome::Outcome;
-use litemap::store::{StoreConstEmpty, StoreMut};
+use crate::outcome::{Ended, Outcome, answered};
+use litemap::store::{ColumnStore, StoreConstEmpty, StoreMut};
 use names::{Watch, run_with};
 use std::alloc::Global;
 
-const LINES: &[u8] = b"put b 2\nput a 1\nput b 3\nfind c\nall\n";
+// Lines, and what answers each of them.
+type Lines = (&'static [u8], &'static [&'static [u8]]);
 
-// What has been written once none of the lines is done, once the first is, and so on.
-const WRITTEN: [&[u8]; 6] = [
-    b"",
-    b"new\n",
-    b"new\nnew\n",
-    b"new\nnew\nold 2\n",
-    b"new\nnew\nold 2\nerr 2\n",
-    b"new\nnew\nold 2\nerr 2\na 1\nb 3\n",
-];
+const EACH: Lines = (
+    b"put b 2\nput a 1\nput b 3\nfind c\nall\n",
+    &[b"new\n", b"new\n", b"old 2\n", b"err 2\n", b"a 1\nb 3\n"],
+);
 
-const JSON_LINES: &[u8] = b"del a\njson\nput b 2\nput a 1\njson\ndel b\nget b\n";
+// Lines that remove a name and show the map as JSON.
+const JSON: Lines = (
+    b"del a\njson\nput b 2\nput a 1\njson\ndel b\nget b\n",
+    &[
+        b"none\n",
+        b"[]\n",
+        b"new\n",
+        b"new\n",
+        b"{\"a\":\"1\",\"b\":\"2\"}\n",
+        b"= 2\n",
+        b"none\n",
+    ],
+);
 
-const JSON_WRITTEN: [&[u8]; 8] = [
-    b"",
-    b"none\n",
-    b"none\n[]\n",
-    b"none\n[]\nnew\n",
-    b"none\n[]\nnew\nnew\n",
-    b"none\n[]\nnew\nnew\n{\"a\":\"1\",\"b\":\"2\"}\n",
-    b"none\n[]\nnew\nnew\n{\"a\":\"1\",\"b\":\"2\"}\n= 2\n",
-    b"none\n[]\nnew\nnew\n{\"a\":\"1\",\"b\":\"2\"}\n= 2\nnone\n",
-];
-
-/// The answers of all lines, or those of the lines done and then `no memory`.
-pub(crate) fn run_lines<S>(alloc: Global) -> Outcome
-where
-    S: StoreConstEmpty<String, String> + StoreMut<String, String> + Drop,
-{
-    run_all::<S>(alloc, LINES, &WRITTEN)
+/// Runs the scenario of a name, if it is one of these.
+pub(crate) fn run(alloc: Global, name: &str) -> Option<Ended> {
+    Some(match name {
+        "names" => run_all::<Vec<(String, String)>>(alloc, EACH),
+        "names_in_columns" => run_all::<ColumnStore<String, String>>(alloc, EACH),
+        "names_json" => run_all::<Vec<(String, String)>>(alloc, JSON),
+        "names_json_in_columns" => run_all::<ColumnStore<String, String>>(alloc, JSON),
+        _ => return None,
+    })
 }
 
-/// The same of lines that remove a name and show the map as JSON.
-pub(crate) fn run_json<S>(alloc: Global) -> Outcome
-where
-    S: StoreConstEmpty<String, String> + StoreMut<String, String> + Drop,
-{
-    run_all::<S>(alloc, JSON_LINES, &JSON_WRITTEN)
-}
-
-// The answers of all lines, or those of the lines done and then `no memory`; `written` has what was written once none of the
-// lines is done, once the first is, and so on.
-fn run_all<S>(alloc: Global, lines: &[u8], written: &[&[u8]]) -> Outcome
+// The answers of all lines, or those of the lines done and then `no memory`.
+fn run_all<S>(alloc: Global, (lines, answers): Lines) -> Ended
 where
     S: StoreConstEmpty<String, String> + StoreMut<String, String> + Drop,
 {
@@ -56,31 +47,25 @@ where
     let mut writer = Watch::new(space.as_mut_slice());
     let status = run_with::<S, _, _>(alloc, &mut reader, &mut writer);
     if reader.failed || writer.failed {
-        return Outcome::Wrong("a fault of the reader or the writer");
+        return Err(Outcome::Wrong("a fault of the reader or the writer"));
     }
-    match status {
-        0 => Outcome::answered(written.last().is_some_and(|text| holds(&space, text, b""))),
-        3 if holds_some(&space, written) => Outcome::Refused,
-        3 => Outcome::Wrong("other answers before the refusal"),
-        _ => Outcome::Wrong("another status"),
+    let (done, rest) = done_of(&space, answers);
+    let is_all = done == answers.len();
+    match (status, rest.strip_prefix(b"no memory\n".as_slice())) {
+        (0, None) => answered(is_all && rest.iter().all(|byte| *byte == 0)),
+        (3, Some(rest)) if !is_all && rest.iter().all(|byte| *byte == 0) => Err(Outcome::Refused),
+        _ => Err(Outcome::Wrong("another status, or other answers before it")),
     }
 }
 
-// Whether the space holds the answers of some of the lines, but not of all, and then the refusal.
-fn holds_some(space: &[u8], written: &[&[u8]]) -> bool {
-    let Some((_, some)) = written.split_last() else {
-        return false;
-    };
-    some.iter().any(|text| holds(space, text, b"no memory\n"))
-}
-
-// Whether the space holds the text, then the last line, then nothing.
-fn holds(space: &[u8], text: &[u8], last: &[u8]) -> bool {
-    let Some(rest) = space.strip_prefix(text) else {
-        return false;
-    };
-    let Some(rest) = rest.strip_prefix(last) else {
-        return false;
-    };
-    rest.iter().all(|b| *b == 0)
+// How many of the answers stand first, one behind the other, and what follows them.
+fn done_of<'s>(space: &'s [u8], answers: &[&[u8]]) -> (usize, &'s [u8]) {
+    let mut rest = space;
+    for (done, answer) in answers.iter().enumerate() {
+        match rest.strip_prefix(*answer) {
+            Some(behind) => rest = behind,
+            None => return (done, rest),
+        }
+    }
+    (answers.len(), rest)
 }

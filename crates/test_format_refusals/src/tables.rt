@@ -1,9 +1,8 @@
 //! Name tables that are read and written.
-use crate::outcome::Outcome;
+use crate::outcome::{Ended, Outcome, answered};
 use litemap::LiteMap;
-use litemap_read::ReadFault;
 use name_index::{IndexedNames, NameIndex, NameTable};
-use names::{NameFault, NameMap, NameWriteFault};
+use names::NameMap;
 use std::alloc::{AllocError, Global};
 
 /// Keys in no order, one of them twice.
@@ -15,110 +14,77 @@ const PAIRS: [(&str, &str); 4] = [("a", "4"), ("b", "3"), ("c", "1"), ("d", "5")
 /// That written.
 const WRITTEN: &[u8] = b"\x04\x01a\x014\x01b\x013\x01c\x011\x01d\x015";
 
-/// `read_names`.
-pub(crate) fn read_names(alloc: Global) -> Outcome {
-    match names::read_names(alloc, TABLE) {
-        Ok((map, size)) => {
-            Outcome::answered(size == TABLE.len() && map.as_slice() == PAIRS.as_slice())
-        }
-        Err(fault) => refused(&fault),
-    }
+/// Runs the scenario of a name, if it is one of these.
+pub(crate) fn run(alloc: Global, name: &str) -> Option<Ended> {
+    Some(match name {
+        "read_names" => read_names(alloc),
+        "find_name" => find_name(alloc),
+        "write_names" => write_names(alloc),
+        "name_index" => name_index(alloc),
+        "table_to_map" => table_to_map(alloc),
+        "index_to_map" => index_to_map(alloc),
+        "write_index" => write_index(alloc),
+        "write_index_of" => write_index_of(alloc),
+        _ => return None,
+    })
 }
 
-/// `find_name`.
-pub(crate) fn find_name(alloc: Global) -> Outcome {
-    match names::find_name(alloc, TABLE, "b") {
-        Ok(found) => Outcome::answered(found == Some((1, "3"))),
-        Err(fault) => refused(&fault),
-    }
+fn read_names(alloc: Global) -> Ended {
+    let (map, size) = names::read_names(alloc, TABLE)?;
+    answered(size == TABLE.len() && map.as_slice() == PAIRS.as_slice())
 }
 
-/// `write_names`, of a map made by insertions.
-pub(crate) fn write_names(alloc: Global) -> Outcome {
-    let mut map: NameMap = LiteMap::new_vec(alloc);
+fn find_name(alloc: Global) -> Ended {
+    let found = names::find_name(alloc, TABLE, "b")?;
+    answered(found == Some((1, "3")))
+}
+
+// The map of the pairs, made by insertions.
+fn inserted(alloc: Global) -> Result<NameMap<'static>, AllocError> {
+    let mut map = LiteMap::new_vec(alloc);
     for (key, value) in PAIRS {
-        if map.insert(key, value).is_err() {
-            return Outcome::Refused;
-        }
+        map.insert(key, value)?;
     }
-    match names::write_names(alloc, &map) {
-        Ok(bytes) => Outcome::answered(bytes.as_slice() == WRITTEN),
-        Err(NameWriteFault::NoRoom) => Outcome::refused(true, map.as_slice() == PAIRS.as_slice()),
-        Err(NameWriteFault::TooLarge) => Outcome::Wrong("another fault"),
-    }
+    Ok(map)
 }
 
-/// `NameIndex::new`, of a table whose keys rise.
-pub(crate) fn name_index(alloc: Global) -> Outcome {
-    let Ok(table) = NameTable::new(WRITTEN) else {
-        return Outcome::Wrong("no table");
+fn write_names(alloc: Global) -> Ended {
+    let bytes = names::write_names(alloc, &inserted(alloc)?)?;
+    answered(bytes.as_slice() == WRITTEN)
+}
+
+// The table of the pairs, whose keys rise.
+fn table() -> Result<NameTable<'static>, Outcome> {
+    NameTable::new(WRITTEN).map_err(|_| Outcome::Wrong("no table"))
+}
+
+fn name_index(alloc: Global) -> Ended {
+    let index = NameIndex::new(alloc, &table()?)?;
+    answered(index.get("b") == Some("3") && index.len() == PAIRS.len())
+}
+
+fn table_to_map(alloc: Global) -> Ended {
+    let map = table()?.to_map(alloc)?;
+    answered(map.as_slice() == PAIRS.as_slice())
+}
+
+fn index_to_map(alloc: Global) -> Ended {
+    let map = NameIndex::new(alloc, &table()?)?.to_map(alloc)?;
+    answered(map.as_slice() == PAIRS.as_slice())
+}
+
+fn write_index(alloc: Global) -> Ended {
+    is_index(&name_index::write_index(alloc, &inserted(alloc)?)?)
+}
+
+fn write_index_of(alloc: Global) -> Ended {
+    is_index(&name_index::write_index_of(alloc, &PAIRS)?)
+}
+
+// Whether these bytes are an index of the pairs.
+fn is_index(bytes: &[u8]) -> Ended {
+    let Ok(names) = IndexedNames::open_checked(bytes) else {
+        return Err(Outcome::Wrong("no index"));
     };
-    match NameIndex::new(alloc, &table) {
-        Ok(index) => Outcome::answered(index.get("b") == Some("3") && index.len() == PAIRS.len()),
-        Err(_) => Outcome::Refused,
-    }
-}
-
-/// `NameTable::to_map`.
-pub(crate) fn table_to_map(alloc: Global) -> Outcome {
-    let Ok(table) = NameTable::new(WRITTEN) else {
-        return Outcome::Wrong("no table");
-    };
-    is_pairs(table.to_map(alloc))
-}
-
-/// `NameIndex::to_map`.
-pub(crate) fn index_to_map(alloc: Global) -> Outcome {
-    let Ok(table) = NameTable::new(WRITTEN) else {
-        return Outcome::Wrong("no table");
-    };
-    match NameIndex::new(alloc, &table) {
-        Ok(index) => is_pairs(index.to_map(alloc)),
-        Err(_) => Outcome::Refused,
-    }
-}
-
-// Whether the pairs were made a map.
-fn is_pairs(made: Result<NameMap<'_>, AllocError>) -> Outcome {
-    match made {
-        Ok(map) => Outcome::answered(map.as_slice() == PAIRS.as_slice()),
-        Err(_) => Outcome::Refused,
-    }
-}
-
-/// `write_index`, of a map made by insertions, whose index is read again.
-pub(crate) fn write_index(alloc: Global) -> Outcome {
-    let mut map: NameMap = LiteMap::new_vec(alloc);
-    for (key, value) in PAIRS {
-        if map.insert(key, value).is_err() {
-            return Outcome::Refused;
-        }
-    }
-    is_index(&name_index::write_index(alloc, &map))
-}
-
-/// `write_index_of`, of pairs that rise.
-pub(crate) fn write_index_of(alloc: Global) -> Outcome {
-    is_index(&name_index::write_index_of(alloc, &PAIRS))
-}
-
-// Whether an index of the pairs was written.
-fn is_index(written: &Result<Vec<u8>, NameWriteFault>) -> Outcome {
-    match written {
-        Ok(bytes) => match IndexedNames::open_checked(bytes.as_slice()) {
-            Ok(names) => Outcome::answered(
-                names.len() == PAIRS.len() && names.get_indexed(3) == Some(("d", "5")),
-            ),
-            Err(_) => Outcome::Wrong("no index"),
-        },
-        Err(NameWriteFault::NoRoom) => Outcome::Refused,
-        Err(NameWriteFault::TooLarge) => Outcome::Wrong("another fault"),
-    }
-}
-
-fn refused(fault: &ReadFault<NameFault>) -> Outcome {
-    match fault {
-        ReadFault::NoRoom => Outcome::Refused,
-        ReadFault::Source(_) => Outcome::Wrong("a fault of the table"),
-    }
+    answered(names.len() == PAIRS.len() && names.get_indexed(3) == Some(("d", "5")))
 }

@@ -1,6 +1,6 @@
 //! What a map becomes over two columns and over a short store: boxes, references and keys made anew, and columns by themselves.
 use litemap::LiteMap;
-use litemap::store::{ColumnStore, StoreFromIterator, StoreIntoIterator, StoreMut};
+use litemap::store::{ColumnStore, StoreFromIterator, StoreMut};
 use litemap_short::ShortStore;
 use std::alloc::{AllocError, Global};
 use std::cell::Cell;
@@ -15,28 +15,21 @@ fn is_like<T: Debug>(alloc: Global, map: &Numbers, made: &T) -> Result<bool, All
     Ok(format!(in alloc; "{made:?}")? == format!(in alloc; "{map:?}")?)
 }
 
-fn boxes<S: StoreMut<Box<u32>, Box<u32>> + Drop>(
-    alloc: Global,
-    map: &Numbers,
-) -> Result<bool, AllocError> {
-    let made: LiteMap<Box<u32>, Box<u32>, S> = map.to_boxed_keys_values(alloc)?;
-    is_like(alloc, map, &made)
+// Whether what a call makes of a map over two columns, and over a short store, is like it.
+macro_rules! is_kept {
+    ($alloc:ident, $map:ident, $key:ty, $value:ty, $made:expr) => {{
+        let columns: LiteMap<$key, $value, ColumnStore<$key, $value>> = $made?;
+        let short: LiteMap<$key, $value, ShortStore<$key, $value>> = $made?;
+        is_like($alloc, $map, &columns)? && is_like($alloc, $map, &short)?
+    }};
 }
 
-fn boxes_keys<S: StoreMut<Box<u32>, u32> + Drop>(
-    alloc: Global,
-    map: &Numbers,
-) -> Result<bool, AllocError> {
-    let made: LiteMap<Box<u32>, u32, S> = map.to_boxed_keys(alloc)?;
-    is_like(alloc, map, &made)
-}
-
-fn boxes_values<S: StoreMut<u32, Box<u32>> + Drop>(
-    alloc: Global,
-    map: &Numbers,
-) -> Result<bool, AllocError> {
-    let made: LiteMap<u32, Box<u32>, S> = map.to_boxed_values(alloc)?;
-    is_like(alloc, map, &made)
+fn boxes(alloc: Global, map: &Numbers) -> Result<[bool; 3], AllocError> {
+    Ok([
+        is_kept!(alloc, map, Box<u32>, Box<u32>, map.to_boxed_keys_values(alloc)),
+        is_kept!(alloc, map, Box<u32>, u32, map.to_boxed_keys(alloc)),
+        is_kept!(alloc, map, u32, Box<u32>, map.to_boxed_values(alloc)),
+    ])
 }
 
 // Each key is asked for once.
@@ -50,20 +43,6 @@ fn makes_keys<S: StoreMut<u32, u32> + Drop>(
         *key
     })?;
     Ok(asked.get() == map.len() && is_like(alloc, map, &made)?)
-}
-
-// Whether what a map becomes over two columns, and over a short store, has its pairs.
-fn is_kept(alloc: Global, map: &Numbers) -> Result<bool, AllocError> {
-    Ok(
-        boxes::<ColumnStore<Box<u32>, Box<u32>>>(alloc, map)?
-            && boxes_keys::<ColumnStore<Box<u32>, u32>>(alloc, map)?
-            && boxes_values::<ColumnStore<u32, Box<u32>>>(alloc, map)?
-            && makes_keys::<ColumnStore<u32, u32>>(alloc, map)?
-            && boxes::<ShortStore<Box<u32>, Box<u32>>>(alloc, map)?
-            && boxes_keys::<ShortStore<Box<u32>, u32>>(alloc, map)?
-            && boxes_values::<ShortStore<u32, Box<u32>>>(alloc, map)?
-            && makes_keys::<ShortStore<u32, u32>>(alloc, map)?,
-    )
 }
 
 // Whether columns that rise make a map that grows, and are taken apart again.
@@ -87,7 +66,10 @@ fn what_a_map_becomes(rt: HostRuntime) -> Result<(), Fail> {
     let alloc = rt.alloc();
     for len in 0..4 {
         let map = map_of(alloc, &[(1, 10), (2, 20), (5, 0)][..len], 4)?;
-        assert!(rt; is_kept(alloc, &map)?, "{len}");
+        assert_eq!(rt; boxes(alloc, &map)?, [true; 3], "{len}");
+        let in_columns = makes_keys::<ColumnStore<u32, u32>>(alloc, &map)?;
+        let in_short = makes_keys::<ShortStore<u32, u32>>(alloc, &map)?;
+        assert!(rt; in_columns && in_short, "{len}");
     }
     assert!(rt; are_columns_kept(alloc)?);
     Ok(())

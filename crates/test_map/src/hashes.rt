@@ -3,26 +3,40 @@ use litemap::LiteMap;
 use litemap::store::{ColumnStore, StoreMut};
 use litemap_short::ShortStore;
 use std::alloc::{AllocError, Global};
+use std::borrow::CowStr;
 use std::hash::{FoldHasher, Hash, Hasher};
 use std::test::Fail;
-use test_support::keys::Letter;
-use test_support::lists::map_of;
 
-const LARGE: Letter = Letter { code: b'A' };
+type Text = CowStr<'static>;
 
-const SMALL: Letter = Letter { code: b'a' };
+type List = &'static [(&'static str, u32)];
 
-const LAST: Letter = Letter { code: b'b' };
-
-// Lists, each behind its number. Two have one: they differ in the case of a key.
-const LISTS: [(u8, &[(Letter, u32)]); 6] = [
-    (0, &[]),
-    (1, &[(LARGE, 0)]),
-    (2, &[(LARGE, 0), (LAST, 9)]),
-    (2, &[(SMALL, 0), (LAST, 9)]),
-    (3, &[(LARGE, 1)]),
-    (4, &[(LAST, 0)]),
+// Lists, each behind its number and whether its keys own their texts. Those of one number are equal.
+const LISTS: [(u8, bool, List); 6] = [
+    (0, false, &[]),
+    (1, false, &[("a", 0)]),
+    (2, false, &[("a", 0), ("b", 9)]),
+    (2, true, &[("a", 0), ("b", 9)]),
+    (3, true, &[("a", 1)]),
+    (4, true, &[("b", 0)]),
 ];
+
+fn map_of<S: StoreMut<Text, u32> + Drop>(
+    alloc: Global,
+    (_, owns, list): (u8, bool, List),
+    room: usize,
+) -> Result<LiteMap<Text, u32, S>, AllocError> {
+    let mut map = LiteMap::with_capacity(alloc, room)?;
+    for (text, value) in list {
+        let key = if owns {
+            CowStr::Owned(text.to_string(alloc)?)
+        } else {
+            CowStr::Borrowed(*text)
+        };
+        map.insert(key, *value)?;
+    }
+    Ok(map)
+}
 
 fn hash_of<T: Hash>(value: &T) -> u64 {
     let mut hasher = FoldHasher::default();
@@ -31,14 +45,14 @@ fn hash_of<T: Hash>(value: &T) -> u64 {
 }
 
 // Whether two maps are equal, and hash alike, exactly where their numbers are one.
-fn is_right<S: StoreMut<Letter, u32> + Drop>(
+fn is_right<S: StoreMut<Text, u32> + Drop>(
     alloc: Global,
-    (number, list): (u8, &[(Letter, u32)]),
-    (other_number, other): (u8, &[(Letter, u32)]),
+    first: (u8, bool, List),
+    second: (u8, bool, List),
 ) -> Result<bool, AllocError> {
-    let map: LiteMap<Letter, u32, S> = map_of(alloc, list, list.len())?;
-    let other: LiteMap<Letter, u32, S> = map_of(alloc, other, 9)?;
-    let is_equal = number == other_number;
+    let map: LiteMap<Text, u32, S> = map_of(alloc, first, 0)?;
+    let other: LiteMap<Text, u32, S> = map_of(alloc, second, 9)?;
+    let is_equal = first.0 == second.0;
     Ok((map == other) == is_equal && (hash_of(&map) == hash_of(&other)) == is_equal)
 }
 
@@ -46,9 +60,9 @@ fn is_right<S: StoreMut<Letter, u32> + Drop>(
 fn equal_maps_hash_alike(rt: HostRuntime) -> Result<(), Fail> {
     for first in LISTS {
         for second in LISTS {
-            let in_vector = is_right::<Vec<(Letter, u32)>>(rt.alloc(), first, second)?;
-            let in_columns = is_right::<ColumnStore<Letter, u32>>(rt.alloc(), first, second)?;
-            let in_short = is_right::<ShortStore<Letter, u32>>(rt.alloc(), first, second)?;
+            let in_vector = is_right::<Vec<(Text, u32)>>(rt.alloc(), first, second)?;
+            let in_columns = is_right::<ColumnStore<Text, u32>>(rt.alloc(), first, second)?;
+            let in_short = is_right::<ShortStore<Text, u32>>(rt.alloc(), first, second)?;
             assert!(rt;
                 in_vector && in_columns && in_short,
                 "{first:?}, {second:?}"

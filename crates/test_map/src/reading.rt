@@ -1,14 +1,15 @@
 //! What is read of an iterator of results, how much room a source's hint makes, and lists of calls with their answers.
+ghost use Rattle.std.specs.Prelude.{◌≡◌, length, ⊤};
+
 use litemap::LiteMap;
 use litemap::store::StoreBulkMut;
 use litemap_read::laws::{Answer, Call, run_calls};
-use litemap_read::{ReadFault, read_pairs, read_results};
+use litemap_read::{PairSource, ReadFault, read_pairs, read_results};
 use litemap_short::ShortStore;
 use std::alloc::{AllocError, Global};
 use std::test::Fail;
 use test_support::fixed_room::FixedRoom;
 use test_support::lists::list_of;
-use test_support::sources::Script;
 
 type Results = &'static [Result<(u32, u8), u8>];
 
@@ -51,6 +52,43 @@ fn results_are_read_up_to_the_first_fault(rt: HostRuntime) -> Result<(), Fail> {
     Ok(())
 }
 
+// The pairs of a slice, and how many they are said to be.
+#[derive(Clone, Copy)]
+struct Hinted<'a> {
+    rest: &'a [(u32, u8)],
+    hint: usize,
+}
+
+impl PairSource<u32, u8> for Hinted<'_> {
+    type Fault = u8;
+
+    ghost gives = { λ s pairs. pairs ≡ s.rest.now };
+
+    ghost left = { λ s. length s.rest.now };
+
+    ghost allows = { λ _ _. ⊤ };
+
+    ghost ends = { λ _. ⊤ };
+
+    ghost leads = { λ _ _. ⊤ };
+
+    fn hint(&self) -> Option<usize> {
+        Some(self.hint)
+    }
+
+    fn next_pair(&mut self) -> Result<Option<(u32, u8)>, u8> {
+        let Some((first, rest)) = self.rest.split_first() else {
+            return Ok(None);
+        };
+        self.rest = rest;
+        Ok(Some(*first))
+    }
+
+    ghost leads_itself = { λ _. tt };
+
+    ghost leads_on = { λ _ _ _ _ _. tt };
+}
+
 // What is left of the room that a hint makes, where a store takes what it was made with and no more.
 #[test]
 fn a_hint_is_used_up_to_a_limit(rt: HostRuntime) -> Result<(), Fail> {
@@ -60,8 +98,8 @@ fn a_hint_is_used_up_to_a_limit(rt: HostRuntime) -> Result<(), Fail> {
         (65_537, 65_535),
         (usize::MAX, 65_535),
     ] {
-        let mut source = Script::new(&[(1, b'a')]);
-        source.hint = Some(hint);
+        let rest = &[(1, b'a')];
+        let mut source = Hinted { rest, hint };
         let Ok(mut map) = read_pairs::<u32, u8, FixedRoom<u32, u8>, _>(rt.alloc(), &mut source)
         else {
             return Err(AllocError.into());

@@ -1,21 +1,26 @@
-//! What answers each line, and the exit status.
-use crate::runs::{Kept, LINES, STORES, run_kept};
+//! What answers each line, the exit status, and how much is read.
+use crate::runs::{STORES, run_kept};
 use names::Watch;
 use std::alloc::Global;
+use std::io::{self, Read};
 use std::test::Fail;
 
-fn status_and_out(alloc: Global, kept: Kept, input: &[u8]) -> (u8, Vec<u8>) {
-    let mut out = Vec::new(alloc);
-    let mut reader = Watch::new(input);
-    let mut writer = Watch::new(&mut out);
-    let status = run_kept(alloc, kept, &mut reader, &mut writer);
-    (status, out)
+// Whether an input is answered by this status and this text, wherever names are kept.
+fn is_answered(alloc: Global, input: &[u8], status: u8, text: &[u8]) -> bool {
+    for kept in STORES {
+        let mut out = Vec::new(alloc);
+        let mut reader = Watch::new(input);
+        let mut writer = Watch::new(&mut out);
+        if run_kept(alloc, kept, &mut reader, &mut writer) != status || out.as_slice() != text {
+            return false;
+        }
+    }
+    true
 }
 
 #[test]
-fn lines_and_their_answers(rt: HostRuntime) -> Result<(), Fail> {
-    let runs: [(&[u8], u8, &[u8]); 12] = [
-        (LINES, 0, b"new\nnew\nold 2\nerr 2\na 1\nb 3\n"),
+fn lines_and_their_answers(rt: HostRuntime) {
+    let runs: [(&[u8], u8, &[u8]); 10] = [
         (b"put a 1\n\nput a\nall\n", 2, b"new\nbad line 3\n"),
         (
             b"put a 1\nget a\ndel a\nget a\n",
@@ -46,125 +51,89 @@ fn lines_and_their_answers(rt: HostRuntime) -> Result<(), Fail> {
             b"new\nold 1\nold 2\na 2\n",
         ),
         (
-            b"del a\njson\nput b 2\nput a 1\njson\ndel b\nget b\n",
-            0,
-            b"none\n[]\nnew\nnew\n{\"a\":\"1\",\"b\":\"2\"}\n= 2\nnone\n",
-        ),
-        (
             b"put a \"\nput b \\\njson",
             0,
             b"new\nnew\n{\"a\":\"\\\"\",\"b\":\"\\\\\"}\n",
         ),
     ];
     for (input, status, out) in runs {
-        for kept in STORES {
-            let (found, text) = status_and_out(rt.alloc(), kept, input);
-            assert_eq!(rt; found, status, "{kept:?}");
-            assert_eq!(rt; text.as_slice(), out, "{kept:?}");
-        }
+        assert!(rt; is_answered(rt.alloc(), input, status, out), "{input:?}");
     }
-    Ok(())
 }
 
+// Bad lines of each kind.
+const BAD: &[u8] =
+    b" \nput\nput \nput a\nput a \nput  a 1\nput a  1\nput a 1 \nput a 1 2\n put a 1\nput a\t1\n\
+    put a \xc3\xa9\nput a \x7f\nPUT a 1\nputt a 1\nfind\nfind \nfind a \nfind  a\nfind a b\nget\nget a \n get a\nget a b\n\
+    del a \ndel\ta\n all\nall \nall x\nall\r\n json\njson \njson x\nJSON";
+
 #[test]
-fn bad_lines(rt: HostRuntime) -> Result<(), Fail> {
-    let lines: [&[u8]; 34] = [
-        b" ",
-        b"put",
-        b"put ",
-        b"put a",
-        b"put a ",
-        b"put  a 1",
-        b"put a  1",
-        b"put a 1 ",
-        b"put a 1 2",
-        b" put a 1",
-        b"put a\t1",
-        b"put a \xc3\xa9",
-        b"put a \x7f",
-        b"PUT a 1",
-        b"putt a 1",
-        b"find",
-        b"find ",
-        b"find a ",
-        b"find  a",
-        b"find a b",
-        b"get",
-        b"get a ",
-        b" get a",
-        b"get a b",
-        b"del a ",
-        b"del\ta",
-        b" all",
-        b"all ",
-        b"all x",
-        b"all\r",
-        b" json",
-        b"json ",
-        b"json x",
-        b"JSON",
-    ];
-    for line in lines {
-        for kept in STORES {
-            let (status, text) = status_and_out(rt.alloc(), kept, line);
-            assert_eq!(rt; status, 2, "{kept:?}");
-            assert_eq!(rt; text.as_slice(), b"bad line 1\n".as_slice());
-        }
+fn bad_lines(rt: HostRuntime) {
+    let mut lines = 0u32;
+    for line in BAD.split(|byte| *byte == b'\n') {
+        assert!(rt;
+            is_answered(rt.alloc(), line, 2, b"bad line 1\n"),
+            "{line:?}"
+        );
+        lines = lines.wrapping_add(1);
     }
-    Ok(())
+    assert_eq!(rt; lines, 34);
 }
 
 #[test]
 fn input_of_the_greatest_length(rt: HostRuntime) -> Result<(), Fail> {
     let input = vec![in rt.alloc(); b'\n'; 1_048_577]?;
-    for kept in STORES {
-        let (status, text) = status_and_out(rt.alloc(), kept, &input);
-        assert_eq!(rt; status, 2, "{kept:?}");
-        assert_eq!(rt; text.as_slice(), b"input too long\n".as_slice());
-        let (status, text) = status_and_out(rt.alloc(), kept, &input[1..]);
-        assert_eq!(rt; status, 0, "{kept:?}");
-        assert_eq!(rt; text.as_slice(), b"".as_slice());
-    }
-    Ok(())
-}
-
-#[test]
-fn the_longest_line(rt: HostRuntime) -> Result<(), Fail> {
-    // A line feed is one byte too many.
+    assert!(rt; is_answered(rt.alloc(), &input, 2, b"input too long\n"));
+    assert!(rt; is_answered(rt.alloc(), &input[1..], 0, b""));
+    // Of the longest line a line feed is one byte too many.
     let mut input = Vec::from_slice(rt.alloc(), b"put ")?;
     input.resize(1_048_574, b'k')?;
-    for (more, wanted, out) in [
-        (b" v".as_slice(), 0, b"new\n".as_slice()),
-        (b"\n".as_slice(), 2, b"input too long\n".as_slice()),
-    ] {
-        input.extend_from_slice(more)?;
-        for kept in STORES {
-            let (status, text) = status_and_out(rt.alloc(), kept, &input);
-            assert_eq!(rt; status, wanted, "{kept:?}");
-            assert_eq!(rt; text.as_slice(), out);
-        }
-    }
-    Ok(())
-}
-
-// A line that puts a key of three digits.
-fn push_put(alloc: Global, input: &mut Vec<u8>, key: usize) -> Result<(), Fail> {
-    let text = format!(in alloc; "put {key:03} 1\n")?;
-    input.extend_from_slice(text.as_bytes())?;
+    input.extend_from_slice(b" v")?;
+    assert!(rt; is_answered(rt.alloc(), &input, 0, b"new\n"));
+    input.push(b'\n')?;
+    assert!(rt; is_answered(rt.alloc(), &input, 2, b"input too long\n"));
     Ok(())
 }
 
 #[test]
 fn many_names_are_new(rt: HostRuntime) -> Result<(), Fail> {
-    let mut input = Vec::new(rt.alloc());
+    let (mut input, mut text) = (Vec::new(rt.alloc()), Vec::new(rt.alloc()));
     for key in 0..201 {
-        push_put(rt.alloc(), &mut input, key)?;
+        let line = format!(in rt.alloc(); "put {key:03} 1\n")?;
+        input.extend_from_slice(line.as_bytes())?;
+        text.extend_from_slice(b"new\n")?;
     }
-    for kept in STORES {
-        let (status, text) = status_and_out(rt.alloc(), kept, &input);
-        assert_eq!(rt; status, 0, "{kept:?}");
-        assert_eq!(rt; text.len(), 4 * 201);
-        assert!(rt; text.chunks(4).all(|line| line == b"new\n".as_slice()));
+    assert!(rt; is_answered(rt.alloc(), &input, 0, &text));
+    Ok(())
+}
+
+// Gives line feeds with no end, at most so many a call, and counts them.
+#[derive(Drop)]
+struct Endless {
+    most: usize,
+    given: u64,
+}
+
+impl Read for Endless {
+    fn read(&mut self, buf: &mut [u8]) -> io::Result<usize> {
+        let given = self.most.min(buf.len());
+        buf[..given].fill(b'\n');
+        self.given = self.given.saturating_add(given as u64);
+        Ok(given)
+    }
+}
+
+#[test]
+fn one_byte_too_many_is_read(rt: HostRuntime) -> Result<(), Fail> {
+    for most in [1, 7, 4096, usize::MAX] {
+        for kept in STORES {
+            let mut out = Vec::new(rt.alloc());
+            let mut source = Endless { most, given: 0 };
+            let mut reader = Watch::new(&mut source);
+            let status = run_kept(rt.alloc(), kept, &mut reader, &mut Watch::new(&mut out));
+            assert_eq!(rt; (status, source.given), (2, 1_048_577), "{most}, {kept:?}");
+            assert_eq!(rt; out.as_slice(), b"input too long\n".as_slice());
+        }
     }
     Ok(())
 }

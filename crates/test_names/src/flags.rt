@@ -4,67 +4,59 @@ use names::{FlagsFault, rewrite_flags};
 use std::alloc::{AllocError, Global};
 use std::test::Fail;
 
-// Whether the bytes are rewritten as this text.
-fn is_text(alloc: Global, bytes: &[u8], text: &str) -> bool {
-    match rewrite_flags(alloc, bytes) {
-        Ok(made) => made.as_str() == text,
-        Err(_) => false,
+// Whether the bytes are rewritten as this text, or for this fault are not.
+fn is_told(alloc: Global, bytes: &[u8], wanted: &Result<&str, FlagsFault>) -> bool {
+    match (rewrite_flags(alloc, bytes), wanted) {
+        (Ok(made), Ok(text)) => made.as_str() == *text,
+        (Err(found), Err(fault)) => found == *fault,
+        _ => false,
     }
 }
 
-#[test]
-fn rewritten(rt: HostRuntime) -> Result<(), Fail> {
-    let rows: [(&[u8], &str); 9] = [
-        (b"[[false,2],[true,1]]", "{\"false\":2,\"true\":1}"),
-        (b"{\"true\":1,\"false\":2}", "{\"false\":2,\"true\":1}"),
-        (b"[]", "[]"),
-        (b"{}", "[]"),
-        (b"[[true,1],[true,5]]", "{\"true\":5}"),
-        (b"[[true,1],[false,2],[true,3]]", "{\"false\":2,\"true\":3}"),
-        (b" [ [ false , 0 ] ] \n", "{\"false\":0}"),
-        (b"{\"true\":4294967295}", "{\"true\":4294967295}"),
-        (b"{\"\\u0074rue\":7}", "{\"true\":7}"),
-    ];
-    for (bytes, text) in rows {
-        assert!(rt; is_text(rt.alloc(), bytes, text), "{text}");
-    }
-    Ok(())
+fn no_key(place: usize) -> FlagsFault {
+    let fault = ItemFault::Shape;
+    FlagsFault::Json(JsonFault::Key { place, fault })
+}
+
+fn too_great(place: usize) -> FlagsFault {
+    let fault = ItemFault::Range;
+    FlagsFault::Json(JsonFault::Item { place, fault })
+}
+
+fn no_pair(place: usize) -> FlagsFault {
+    FlagsFault::Json(JsonFault::NotAPair { place })
 }
 
 #[test]
-fn refused(rt: HostRuntime) -> Result<(), Fail> {
-    let shape = |place| JsonFault::Key {
-        place,
-        fault: ItemFault::Shape,
-    };
-    let rows: [(&[u8], FlagsFault); 10] = [
+fn rewritten_or_refused(rt: HostRuntime) {
+    let no_name = FlagsFault::Json(JsonFault::KeyText { place: 0 });
+    let rows: [(&[u8], Result<&str, FlagsFault>); 19] = [
+        (b"[[false,2],[true,1]]", Ok("{\"false\":2,\"true\":1}")),
+        (b"{\"true\":1,\"false\":2}", Ok("{\"false\":2,\"true\":1}")),
+        (b"[]", Ok("[]")),
+        (b"{}", Ok("[]")),
+        (b"[[true,1],[true,5]]", Ok("{\"true\":5}")),
         (
-            b"{\"True\":1}",
-            FlagsFault::Json(JsonFault::KeyText { place: 0 }),
+            b"[[true,1],[false,2],[true,3]]",
+            Ok("{\"false\":2,\"true\":3}"),
         ),
-        (b"[[0,1]]", FlagsFault::Json(shape(0))),
-        (b"[[true,1],[\"true\",1]]", FlagsFault::Json(shape(1))),
-        (
-            b"[[true,1],[true]]",
-            FlagsFault::Json(JsonFault::NotAPair { place: 1 }),
-        ),
-        (
-            b"[[true,4294967296]]",
-            FlagsFault::Json(JsonFault::Item {
-                place: 0,
-                fault: ItemFault::Range,
-            }),
-        ),
-        (b"7", FlagsFault::Json(JsonFault::NotAMap)),
-        (b"[[true,1]", FlagsFault::NotJson),
-        (b"", FlagsFault::NotJson),
-        (b"[[true,1]]x", FlagsFault::NotJson),
-        (b"{\"\xff\":1}", FlagsFault::NotJson),
+        (b" [ [ false , 0 ] ] \n", Ok("{\"false\":0}")),
+        (b"{\"true\":4294967295}", Ok("{\"true\":4294967295}")),
+        (b"{\"\\u0074rue\":7}", Ok("{\"true\":7}")),
+        (b"{\"True\":1}", Err(no_name)),
+        (b"[[0,1]]", Err(no_key(0))),
+        (b"[[true,1],[\"true\",1]]", Err(no_key(1))),
+        (b"[[true,1],[true]]", Err(no_pair(1))),
+        (b"[[true,4294967296]]", Err(too_great(0))),
+        (b"7", Err(FlagsFault::Json(JsonFault::NotAMap))),
+        (b"[[true,1]", Err(FlagsFault::NotJson)),
+        (b"", Err(FlagsFault::NotJson)),
+        (b"[[true,1]]x", Err(FlagsFault::NotJson)),
+        (b"{\"\xff\":1}", Err(FlagsFault::NotJson)),
     ];
-    for (bytes, fault) in rows {
-        assert!(rt; rewrite_flags(rt.alloc(), bytes) == Err(fault));
+    for (bytes, wanted) in &rows {
+        assert!(rt; is_told(rt.alloc(), bytes, wanted), "{wanted:?}");
     }
-    Ok(())
 }
 
 // The text of an array of so many pairs, and one element more, behind so many spaces.
@@ -87,30 +79,16 @@ fn flags_text(
 #[test]
 fn long_texts(rt: HostRuntime) -> Result<(), Fail> {
     for (spaces, pairs) in [(246, 0), (0, 9), (0, 10), (0, 101), (5_000, 28), (0, 1_000)] {
-        let text = flags_text(rt.alloc(), spaces, pairs, b"[true,7]")?;
-        assert!(rt; is_text(rt.alloc(), &text, "{\"true\":7}"));
-        let place = pairs;
-        let faults: [(&[u8], FlagsFault); 4] = [
-            (
-                b"[1,1]",
-                FlagsFault::Json(JsonFault::Key {
-                    place,
-                    fault: ItemFault::Shape,
-                }),
-            ),
-            (b"[true]", FlagsFault::Json(JsonFault::NotAPair { place })),
-            (
-                b"[true,-1]",
-                FlagsFault::Json(JsonFault::Item {
-                    place,
-                    fault: ItemFault::Range,
-                }),
-            ),
-            (b"[true,", FlagsFault::NotJson),
+        let rows: [(&[u8], Result<&str, FlagsFault>); 5] = [
+            (b"[true,7]", Ok("{\"true\":7}")),
+            (b"[1,1]", Err(no_key(pairs))),
+            (b"[true]", Err(no_pair(pairs))),
+            (b"[true,-1]", Err(too_great(pairs))),
+            (b"[true,", Err(FlagsFault::NotJson)),
         ];
-        for (last, fault) in faults {
+        for (last, wanted) in &rows {
             let text = flags_text(rt.alloc(), spaces, pairs, last)?;
-            assert!(rt; rewrite_flags(rt.alloc(), &text) == Err(fault));
+            assert!(rt; is_told(rt.alloc(), &text, wanted), "{wanted:?}");
         }
     }
     Ok(())

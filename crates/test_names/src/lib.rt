@@ -4,10 +4,6 @@
 #[cfg(test)]
 mod answers;
 #[cfg(test)]
-mod each_call;
-#[cfg(test)]
-mod endless;
-#[cfg(test)]
 mod faults;
 #[cfg(test)]
 mod flags;
@@ -15,5 +11,3 @@ mod flags;
 mod runs;
 #[cfg(test)]
 mod watch;
-#[cfg(test)]
-mod watch_calls;

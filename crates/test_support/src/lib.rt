@@ -1,7 +1,5 @@
-//! What several crates of tests share: a store of a user's own, a type of keys, maps against lists, and a source.
+//! What several crates of tests share: a store of a user's own, and maps against lists.
 #![tactic(auto)]
 
 pub mod fixed_room;
-pub mod keys;
 pub mod lists;
-pub mod sources;
