@@ -1,14 +1,15 @@
 //! A map where serde's traits are wanted of the type itself.
-ghost use Rattle.std.specs.Prelude.{◌≡◌};
+ghost use Rattle.std.specs.Prelude.{◌≡◌, []};
 ghost use Rattle.serde.specs.Event.{WritesMap};
 
 use crate::{deserialize, deserialize_owned, serialize};
 use litemap::LiteMap;
-use litemap::store::{Store, StoreFromIterable};
+use litemap::store::{Store, StoreConstEmpty, StoreFromIterable};
 use serde::{
     Described, Deserialize, DeserializeOwned, Deserializer, Format, Serialize, Serializer,
 };
 use std::alloc::Global;
+use std::default::MadeWith;
 use std::ops::Deref;
 
 /// A map with serde's traits, for where no `#[serde(with = "litemap_serde")]` can stand, as in a vector or in another map.
@@ -16,6 +17,14 @@ use std::ops::Deref;
 /// The map is the field: `holder.0`.
 #[derive(Drop)]
 pub struct SerdeMap<K: Ord, V, S: Store<K, V>>(pub LiteMap<K, V, S>);
+
+impl<K: Ord, V, S: StoreConstEmpty<K, V>> MadeWith<Global> for SerdeMap<K, V, S> {
+    ghost is_made_with = { λ holder. holder.0.pairs ≡ [] };
+
+    fn made_with(alloc: Global) -> Self {
+        SerdeMap(LiteMap::new(alloc))
+    }
+}
 
 impl<K: Ord, V, S: Store<K, V>> Deref for SerdeMap<K, V, S> {
     type Target = LiteMap<K, V, S>;
