@@ -15,6 +15,11 @@ use std::ops::Deref;
 /// A map with serde's traits, for where no `#[serde(with = "litemap_serde")]` can stand, as in a vector or in another map.
 ///
 /// The map is the field: `holder.0`.
+///
+/// ```rust
+/// /// Counts by name.
+/// pub type Counts = SerdeMap<String, u32, Vec<(String, u32)>>;
+/// ```
 #[derive(Drop)]
 pub struct SerdeMap<K: Ord, V, S: Store<K, V>>(pub LiteMap<K, V, S>);
 

@@ -8,7 +8,13 @@ use litemap::LiteMap;
 use litemap::store::Store;
 use serde::{Serialize, Serializer};
 
-/// Writes a map as a sequence of pairs, each a sequence of a key and its value, in the order of the keys.
+/// Writes a map as a sequence of pairs, each a sequence of a key and its value, in the order of the keys. No keys are compared.
+///
+/// ```rust
+/// /// Names of points.
+/// #[serde(with = "litemap_serde::pairs")]
+/// pub at: VecMap<Point, String>,
+/// ```
 pub fn serialize<K: Serialize + Ord, V: Serialize, S: Store<K, V>, W: Serializer>(
     map: &LiteMap<K, V, S>,
     out: &mut W,

@@ -7,7 +7,13 @@ use litemap::store::Store;
 use serde::{Serialize, Serializer};
 
 /// Writes a map as a map of the format, its pairs in the order of the keys. A key that has no text in the format is that
-/// format's error. The Rust crate has serde's `Serialize` here.
+/// format's error. No keys are compared. The Rust crate has serde's `Serialize` here.
+///
+/// ```rust
+/// /// Names by their codes.
+/// #[serde(with = "litemap_serde")]
+/// pub names: VecMap<String, String>,
+/// ```
 pub fn serialize<K: Serialize + Ord, V: Serialize, S: Store<K, V>, W: Serializer>(
     map: &LiteMap<K, V, S>,
     out: &mut W,
