@@ -26,6 +26,7 @@ GROUPS = {
     "Tables in constants": "litemap: const_family",
     "Read from a source": "litemap_read: source vec_source read laws",
     "JSON": "litemap_json: write text read fault told laws item numbers pairs written",
+    "Through serde": "litemap_serde: write read pairs holder",
     "Name tables": "name_table: read write name_bytes cursor fault laws; "
     "name_index: table index name_entries indexed checked index_write fault laws",
     "What a call can be asked by": "litemap_store: query",
@@ -52,7 +53,7 @@ FREE = {
 }
 FREE = [f"{owner}::{name}" for owner, names in FREE.items() for name in names.split()]
 # The crates of tests, and the examples that are programs of rows too.
-TESTS = "crates/test_*/src crates/example_json/src crates/example_tables/src crates/example_uses/src".split()
+TESTS = "crates/test_*/src crates/example_json/src crates/example_serde/src crates/example_tables/src crates/example_uses/src".split()
 # The calls that no test names, and those that no wrong body names, beside laws, whose bodies do nothing: why.
 NOT_CALLED = {
     "ColumnStore::from_columns": "a line of example_calls, whose output is compared",
@@ -62,6 +63,8 @@ NOT_CALLED = {
     "StoreMut::lm_try_clone": "what `try_clone` hands on",
     "two_items": "a line of example_calls, whose output is compared, and what `from_json` asks",
     "extend_from_store": "what `extend_from_litemap` hands on",
+    "serialize": "what `with` of a field in example_serde asks",
+    "deserialize_owned": "what `with` of a field in example_serde asks",
     "write_index_of": "what `write_index` hands on",
     "NameIndex::prefix_places_counted": "what `prefix_places` hands on",
 }

@@ -24,6 +24,7 @@ pub use entry::{Entry, OccupiedEntry, VacantEntry};
 pub use iter::{KeysIterWrap, ValuesIterWrap};
 use litemap_store::store::{Store, StoreConstEmpty, StoreMut};
 use std::alloc::{AllocError, Global};
+use std::default::MadeWith;
 use std::fmt::{self, Debug, Formatter, Write};
 use std::marker::{Model, PhantomData};
 
@@ -162,6 +163,14 @@ impl<K: Ord, V, S: StoreConstEmpty<K, V>> LiteMap<K, V, S> {
             store: S::lm_empty(alloc),
             marker: PhantomData,
         }
+    }
+}
+
+impl<K: Ord, V, S: StoreConstEmpty<K, V>> MadeWith<Global> for LiteMap<K, V, S> {
+    ghost is_made_with = { λ m. m.pairs ≡ [] };
+
+    fn made_with(alloc: Global) -> Self {
+        LiteMap::new(alloc)
     }
 }
 

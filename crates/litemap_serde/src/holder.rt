@@ -1,0 +1,95 @@
+//! A map where serde's traits are wanted of the type itself.
+ghost use Rattle.std.specs.Prelude.{◌≡◌, []};
+ghost use Rattle.serde.specs.Event.{WritesMap};
+
+use crate::{deserialize, deserialize_owned, serialize};
+use litemap::LiteMap;
+use litemap::store::{Store, StoreConstEmpty, StoreFromIterable};
+use serde::{
+    Described, Deserialize, DeserializeOwned, Deserializer, Format, Serialize, Serializer,
+};
+use std::alloc::Global;
+use std::default::MadeWith;
+use std::ops::Deref;
+
+/// A map with serde's traits, for where no `#[serde(with = "litemap_serde")]` can stand, as in a vector or in another map.
+///
+/// The map is the field: `holder.0`.
+///
+/// ```rust
+/// /// Counts by name.
+/// pub type Counts = SerdeMap<String, u32, Vec<(String, u32)>>;
+/// ```
+#[derive(Drop)]
+pub struct SerdeMap<K: Ord, V, S: Store<K, V>>(pub LiteMap<K, V, S>);
+
+impl<K: Ord, V, S: StoreConstEmpty<K, V>> MadeWith<Global> for SerdeMap<K, V, S> {
+    ghost is_made_with = { λ holder. holder.0.pairs ≡ [] };
+
+    fn made_with(alloc: Global) -> Self {
+        SerdeMap(LiteMap::new(alloc))
+    }
+}
+
+impl<K: Ord, V, S: Store<K, V>> Deref for SerdeMap<K, V, S> {
+    type Target = LiteMap<K, V, S>;
+
+    ghost deref_gives = { λ holder map. map ≡ holder.0 };
+
+    fn deref(&self) -> &LiteMap<K, V, S> {
+        &self.0
+    }
+}
+
+impl<K: Ord, V, S: Store<K, V>> From<LiteMap<K, V, S>> for SerdeMap<K, V, S> {
+    ghost from_gives = { λ map holder. holder.0 ≡ map };
+
+    fn from(map: LiteMap<K, V, S>) -> Self {
+        SerdeMap(map)
+    }
+}
+
+impl<K: Ord, V, S: Store<K, V>> From<SerdeMap<K, V, S>> for LiteMap<K, V, S> {
+    ghost from_gives = { λ holder map. map ≡ holder.0 };
+
+    fn from(holder: SerdeMap<K, V, S>) -> Self {
+        holder.0
+    }
+}
+
+impl<K: Described + Ord, V: Described, S: Store<K, V>> Described for SerdeMap<K, V, S> {
+    ghost writes = { λ m. WritesMap K.writes V.writes m.0.pairs };
+}
+
+impl<K: Serialize + Ord, V: Serialize, S: Store<K, V>> Serialize for SerdeMap<K, V, S> {
+    fn serialize<W: Serializer>(&self, out: &mut W) -> Result<(), W::Error> {
+        serialize(&self.0, out)
+    }
+}
+
+impl<
+    'de,
+    K: Deserialize<'de> + Ord,
+    V: Deserialize<'de>,
+    S: StoreFromIterable<K, V> + Drop,
+> Deserialize<'de> for SerdeMap<K, V, S> {
+    fn deserialize<F: Format>(
+        alloc: Global,
+        from: &mut Deserializer<'de, '_, F>,
+    ) -> Result<Self, F::Error> {
+        Ok(SerdeMap(deserialize(alloc, from)?))
+    }
+}
+
+impl<
+    K: DeserializeOwned + Ord,
+    V: DeserializeOwned,
+    S: StoreFromIterable<K, V> + Drop,
+> DeserializeOwned for SerdeMap<K, V, S> {
+    fn deserialize_owned<F: Format>(
+        alloc: Global,
+        from: &mut Deserializer<'_, '_, F>,
+    ) -> Result<Self, F::Error> {
+        Ok(SerdeMap(deserialize_owned(alloc, from)?))
+    }
+}

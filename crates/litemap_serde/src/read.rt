@@ -1,0 +1,130 @@
+//! A map read from a format.
+ghost use Rattle.std.specs.Prelude.{IfOk, MatchOption, OnOk, ⊤};
+ghost use Rattle.litemap_store.specs.Last.{Last};
+ghost use Rattle.litemap_serde.specs.Read.{Ends, IsWhole};
+
+use litemap::LiteMap;
+use litemap::store::StoreFromIterable;
+use serde::{Deserialize, DeserializeOwned, Deserializer, Format};
+use std::alloc::Global;
+
+/// Reads a map: a map of the format or a sequence of pairs, whichever comes. Of equal keys the last pair stays, whole.
+///
+/// The pairs are gathered in a vector, which grows as they come, and made a map by `from_vec`: where they rise that is one
+/// comparison for each, else a sort. Out of memory is the format's `no_memory`. The Rust crate has serde's `Deserialize`
+/// here.
+pub fn deserialize<
+    'de,
+    K: Deserialize<'de> + Ord,
+    V: Deserialize<'de>,
+    S: StoreFromIterable<K, V>,
+    F: Format,
+>(alloc: Global, from: &mut Deserializer<'de, '_, F>) -> Result<LiteMap<K, V, S>, F::Error>
+    ensures whole { OnOk result (IsWhole F.gives F.stays from.old from.new) }
+{
+    read::<Lent, K, V, S, F>(alloc, from)
+}
+
+/// `deserialize` where nothing is borrowed from the input.
+pub fn deserialize_owned<
+    K: DeserializeOwned + Ord,
+    V: DeserializeOwned,
+    S: StoreFromIterable<K, V>,
+    F: Format,
+>(alloc: Global, from: &mut Deserializer<'_, '_, F>) -> Result<LiteMap<K, V, S>, F::Error>
+    ensures whole { OnOk result (IsWhole F.gives F.stays from.old from.new) }
+{
+    read::<Owned, K, V, S, F>(alloc, from)
+}
+
+// How a value is read: by one of serde's two traits.
+trait Way<'de, T> {
+    fn value<F: Format>(alloc: Global, from: &mut Deserializer<'de, '_, F>) -> Result<T, F::Error>;
+}
+
+// By `Deserialize`.
+struct Lent;
+
+impl<'de, T: Deserialize<'de>> Way<'de, T> for Lent {
+    #[inline(always)]
+    fn value<F: Format>(alloc: Global, from: &mut Deserializer<'de, '_, F>) -> Result<T, F::Error> {
+        T::deserialize(alloc, from)
+    }
+}
+
+// By `DeserializeOwned`.
+struct Owned;
+
+impl<'de, T: DeserializeOwned> Way<'de, T> for Owned {
+    #[inline(always)]
+    fn value<F: Format>(alloc: Global, from: &mut Deserializer<'de, '_, F>) -> Result<T, F::Error> {
+        T::deserialize_owned(alloc, from)
+    }
+}
+
+// The map that comes.
+fn read<
+    'de,
+    W: Way<'de, K> + Way<'de, V>,
+    K: Ord + Drop,
+    V: Drop,
+    S: StoreFromIterable<K, V>,
+    F: Format,
+>(alloc: Global, from: &mut Deserializer<'de, '_, F>) -> Result<LiteMap<K, V, S>, F::Error>
+    ensures whole { OnOk result (IsWhole F.gives F.stays from.old from.new) }
+{
+    let in_sequence = from.begin_struct()?;
+    let mut pairs = Vec::new(alloc);
+    for _ in 0..u64::MAX {
+        let Some(pair) = next_pair::<W, K, V, F>(alloc, from, in_sequence)? else {
+            return made(alloc, from, pairs);
+        };
+        if pairs.push(pair).is_err() {
+            break;
+        }
+    }
+    Err(from.no_memory())
+}
+
+// The next pair of a sequence, or of a map, or its end.
+#[inline(always)]
+fn next_pair<'de, W: Way<'de, K> + Way<'de, V>, K: Drop, V: Drop, F: Format>(
+    alloc: Global,
+    from: &mut Deserializer<'de, '_, F>,
+    in_sequence: bool,
+) -> Result<Option<(K, V)>, F::Error>
+    ensures ended { IfOk result (λ next. MatchOption next (Ends F.gives in_sequence from.new) (λ _. ⊤)) }
+{
+    if in_sequence {
+        if !from.next_item()? {
+            return Ok(None);
+        }
+        from.begin_seq()?;
+        from.expect_item()?;
+        let key = W::value(alloc, from)?;
+        from.expect_item()?;
+        let value = W::value(alloc, from)?;
+        from.expect_end()?;
+        return Ok(Some((key, value)));
+    }
+    if !from.next_entry()? {
+        return Ok(None);
+    }
+    let key = W::value(alloc, from)?;
+    let value = W::value(alloc, from)?;
+    Ok(Some((key, value)))
+}
+
+// The map of the pairs.
+fn made<K: Ord + Drop, V: Drop, S: StoreFromIterable<K, V>, F: Format>(
+    alloc: Global,
+    from: &Deserializer<'_, '_, F>,
+    pairs: Vec<(K, V)>,
+) -> Result<LiteMap<K, V, S>, F::Error>
+    ensures last { IfOk result (λ map. Last K.cmp pairs.items map.pairs) }
+{
+    match LiteMap::from_vec(alloc, pairs) {
+        Ok(map) => Ok(map),
+        Err(_) => Err(from.no_memory()),
+    }
+}
