@@ -1,5 +1,6 @@
 //! What bytes answer that are an index of names.
 use crate::words;
+use litemap_store::store::Count;
 use name_index::{CheckedNames, IndexFault, IndexedNames, NameTable, write_index};
 use name_table::read_names;
 use std::alloc::{AllocError, Global};
@@ -68,7 +69,7 @@ impl<'a> BothWays<'a> {
     /// The index that the bytes are.
     pub fn open(bytes: &'a [u8]) -> Result<Self, IndexFault> {
         let names = IndexedNames::open(bytes)?;
-        let checked = IndexedNames::open_checked(bytes)?;
+        let checked = IndexedNames::open_checked_counted(bytes, &mut Count::new())?;
         Ok(BothWays { names, checked })
     }
 

@@ -22,7 +22,7 @@ pub fn write_beginning(
     output: &mut String,
 ) -> Result<(), AllocError> {
     let table = or_fault!(NameTable::new(bytes), output);
-    let index = NameIndex::new(alloc, &table)?;
+    let index = or_fault!(NameIndex::new(alloc, &table), output);
     let places = index.prefix_places(text);
     write!(output, "{} to {}:", places.start, places.end)?;
     for (name, value) in index.entries_in(places) {

@@ -2,6 +2,7 @@
 use crate::indexes::{BothWays, index_of};
 use crate::prefixes::{is_cut, is_scanned};
 use crate::words;
+use litemap_store::store::Count;
 use name_index::{NameIndex, NameTable};
 use name_table::NameMap;
 use std::alloc::{AllocError, Global};
@@ -10,7 +11,7 @@ use std::fmt::Write;
 /// Writes each entry of a `NameTable`, with a word more where its key isn't found in the table or its `NameIndex`.
 pub fn write_table(alloc: Global, bytes: &[u8], output: &mut String) -> Result<(), AllocError> {
     let table = or_fault!(NameTable::new(bytes), output);
-    let index = NameIndex::new(alloc, &table)?;
+    let index = or_fault!(NameIndex::new(alloc, &table), output);
     write!(output, "table {}:", index.len())?;
     for place in 0..table.len() {
         let Some((key, value)) = table.get_indexed(place) else {
@@ -98,9 +99,8 @@ pub fn write_asked(
     let Ok(both) = BothWays::open(written.as_slice()) else {
         return output.push_str("no index");
     };
-    if !is_indexed(&table, &NameIndex::new(alloc, &table)?, key)
-        || !both.is_asked_alike(&table, key)
-    {
+    let index = or_fault!(NameIndex::new(alloc, &table), output);
+    if !is_indexed(&table, &index, key) || !both.is_asked_alike(&table, key) {
         return output.push_str("another answer");
     }
     match (table.get(key), table.find_index(key)) {
@@ -118,7 +118,7 @@ pub fn write_translated(
     output: &mut String,
 ) -> Result<(), AllocError> {
     let table = or_fault!(NameTable::new(bytes), output);
-    let index = NameIndex::new(alloc, &table)?;
+    let index = or_fault!(NameIndex::new(alloc, &table), output);
     let written = index_of(alloc, bytes)?;
     let Ok(both) = BothWays::open(written.as_slice()) else {
         return output.push_str("no index");
@@ -149,10 +149,10 @@ fn many(alloc: Global, number: u32) -> Result<Vec<u8>, AllocError> {
 /// each of these.
 pub fn write_many(alloc: Global, number: u32, output: &mut String) -> Result<(), AllocError> {
     let bytes = many(alloc, number)?;
-    let Ok(table) = NameTable::new(bytes.as_slice()) else {
+    let Ok(table) = NameTable::new_counted(bytes.as_slice(), &mut Count::new()) else {
         return output.push_str("no table");
     };
-    let index = NameIndex::new(alloc, &table)?;
+    let index = or_fault!(NameIndex::new(alloc, &table), output);
     let written = index_of(alloc, bytes.as_slice())?;
     let Ok(both) = BothWays::open(written.as_slice()) else {
         return output.push_str("no index");

@@ -1,6 +1,6 @@
 -- A list that is sifted in two parts.
 --     Sifted-joins      what was sifted from a list and then from another was sifted from both
-use Rattle.std.proofs.Common.{List, [], ◌∷◌, ◌++◌, Result, Ok, Err, OnErr, inl, inr}
+use Rattle.std.proofs.Common.{List, [], ◌∷◌, ◌++◌, inl, inr}
 use Rattle.std.specs.declared.cmp.Ordering.{Ordering}
 use Rattle.litemap_store.specs.Laws.{Sifted}
 
@@ -9,8 +9,3 @@ module _ {K V : Type 0} (cmp : K → K → Ordering) where
   Sifted-joins [] J₂ A B A₁ B₁ A₂ B₂ s t = rw (s.0, s.1) t
   Sifted-joins (p ∷ J₁) J₂ A B A₁ B₁ A₂ B₂ (inl s) t = inl (s.0, Sifted-joins J₁ J₂ (A ++ p ∷ []) B A₁ B₁ A₂ B₂ s.1 t)
   Sifted-joins (p ∷ J₁) J₂ A B A₁ B₁ A₂ B₂ (inr s) t = inr (s.0, Sifted-joins J₁ J₂ A (B ++ p ∷ []) A₁ B₁ A₂ B₂ s.1 t)
-
--- what holds holds where the call was refused
-pub always_on_err : {A E P : Type 0} (r : Result A E) → P → OnErr r P
-always_on_err (Ok y) p = tt
-always_on_err (Err y) p = p

@@ -63,10 +63,11 @@ pub fn read_pairs<K: Ord + Drop, V: Drop, S: StoreBulkMut<K, V>, P: PairSource<K
 /// counts as earlier than all new ones.
 ///
 /// The pairs are gathered before the map changes: a source's fault, which is handed on, and want of memory leave the map's
-/// list. The pairs read so far are then given up, and the source stays where it is: behind the pairs that it gave.
+/// list. The pairs read so far are then given up, and the source stays where it is: behind the pairs that it gave. Who wants
+/// them asks `next_pair` for each, and inserts it.
 ///
-/// The source's hint makes room for at most 65,536 pairs, and where that room is refused it is done without. It compares and
-/// moves as `extend_from_vec` does. The Rust crate has no such call.
+/// The source's hint makes room for at most 65,536 pairs, in the vector that gathers them and not in the map, and where that
+/// room is refused it is done without. It compares and moves as `extend_from_vec` does. The Rust crate has no such call.
 pub fn extend_from_source<K: Ord + Drop, V: Drop, S: StoreBulkMut<K, V>, P: PairSource<K, V>>(
     alloc: Global,
     map: &mut LiteMap<K, V, S>,

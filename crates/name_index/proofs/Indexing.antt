@@ -1,18 +1,21 @@
 -- What the bytes of an index have at a place, they have once; and what a search and a check know.
-use Rattle.std.proofs.Common.{◌≡◌, Bool, true, false, ℕ, zero, suc, ◌+◌, ◌*◌, ◌<◌, ◌≤◌, List, [], ◌∷◌, ◌++◌, length, take, drop, get_or, slice_get, Some, None, Result, Ok, Err, Option, Bor, refl, sym, ap, ◌∙◌, subst, arith, length-append}
+use Rattle.std.proofs.Common.{◌≡◌, Bool, true, false, ℕ, zero, suc, ◌+◌, ◌-◌, ◌*◌, ◌<◌, ◌≤◌, List, [], ◌∷◌, ◌++◌, length, take, drop, get_or, slice_get, Some, None, Result, Ok, Err, Option, Bor, refl, sym, ap, ◌∙◌, subst, arith, length-append}
 use Rattle.std.specs.Prelude.{IfErr, IfNone, IfSome, IsTrue}
 use Rattle.std.specs.Ordering.{is_lt}
 use Rattle.std.proofs.lemmas.List.{same_lists}
 use Rattle.std.proofs.lemmas.Option.{slice_get-get_or}
 use Rattle.std.specs.declared.cmp.Ordering.TheVariants.{Less, Equal, Greater}
+use Rattle.litemap_store.specs.Counts.{RisesByAtMost}
 use Rattle.litemap_store.specs.Pairs.{Rising}
 use Rattle.litemap_store.specs.Splits.{Splits}
+use Rattle.litemap_store.specs.declared.count.Count.{Count}
+use Rattle.litemap_store.proofs.Counting.{not_asked}
 use Rattle.litemap_store.proofs.Halving.{Narrowed, Narrowed-whole, Narrowed-less, Narrowed-greater, Finds-here, Finds-nowhere}
 use Rattle.litemap_store.proofs.Splitting.{Splits-from_Finds}
 use Rattle.name_index.specs.Index.{BeginsAt, HasKey, HasPlaces, IsEntry, IsIndex, IsNumberAt, IsPairAt, IsTextAt, NoEntry, NoIndex}
 use Rattle.name_index.specs.Tables.{text_order}
 use Rattle.name_index.proofs.Placing.{each_push}
-use Rattle.name_index.proofs.Rises.{IsAbove, LastKey, last_at, rises_on}
+use Rattle.name_index.proofs.Rises.{IsAbove, LastKey, asked_next, last_at, rises_on}
 use Rattle.name_index.proofs.Scanning.{ascends, one_side, to_key}
 
 -- what holds whatever the fault is
@@ -124,21 +127,22 @@ indexed_end bytes key count low high places h l narrowed pairs x =
 -- ---- a check's state
 
 -- the first entries were read, and their keys rise
-pub record Followed (bytes : List ℕ) (count : ℕ) (last : Option (Bor (List ℕ))) (index : ℕ) : Type 0 where
+pub record Followed (bytes : List ℕ) (count : ℕ) (last : Option (Bor (List ℕ))) (index : ℕ) (old new : Count) : Type 0 where
   pub pairs : List (List ℕ × List ℕ)
   pub number : length pairs ≡ index
   pub entries : (i : ℕ) (pair : List ℕ × List ℕ) → slice_get pairs i ≡ Some pair → IsEntry bytes count i pair
   pub rises : Rising text_order pairs
   pub last_is : LastKey last pairs
+  pub asked : RisesByAtMost (length pairs - 1) old new
 
-pub followed_start : (bytes : List ℕ) (count : ℕ) → Followed bytes count None 0
-followed_start bytes count = record { pairs = []; number = refl; entries = none; rises = tt; last_is = refl }
+pub followed_start : (bytes : List ℕ) (count : ℕ) (c : Count) → Followed bytes count None 0 c c
+followed_start bytes count c = record { pairs = []; number = refl; entries = none; rises = tt; last_is = refl; asked = not_asked c }
   where
     none : (i : ℕ) (pair : List ℕ × List ℕ) → slice_get [] i ≡ Some pair → IsEntry bytes count i pair
     none i pair e = absurd (cc)
 
-pub followed_next : (bytes : List ℕ) (count index : ℕ) (last : Option (Bor (List ℕ))) (key value : Bor (List ℕ)) → Followed bytes count last index → IsEntry bytes count index (key.now, value.now) → IsAbove last key.now → Followed bytes count (Some key) (index + 1)
-followed_next bytes count index last key value f r a =
+pub followed_next : (bytes : List ℕ) (count index : ℕ) (last : Option (Bor (List ℕ))) (key value : Bor (List ℕ)) (old middle new : Count) → Followed bytes count last index old middle → IsEntry bytes count index (key.now, value.now) → IsAbove last key.now → IfNone last (RisesByAtMost 0 middle new) → RisesByAtMost 1 middle new → Followed bytes count (Some key) (index + 1) old new
+followed_next bytes count index last key value old middle new f r a z o =
     let p : List ℕ × List ℕ = (key.now, value.now) in
     let P : ℕ → Type 0 = λ n. IsEntry bytes count n p in
     record {
@@ -147,10 +151,11 @@ followed_next bytes count index last key value f r a =
       entries = each_push (λ i q. IsEntry bytes count i q) f.pairs p f.entries (subst P (sym f.number) r);
       rises = rises_on last f.pairs p f.last_is f.rises a;
       last_is = (f.pairs, value.now, refl);
+      asked = asked_next last f.pairs p f.last_is f.asked z o;
     }
 
-pub followed_end : (bytes : List ℕ) (count index : ℕ) (last : Option (Bor (List ℕ))) → HasPlaces bytes count → Followed bytes count last index → index ≡ count → (pairs : List (List ℕ × List ℕ)) × IsIndex bytes pairs
-followed_end bytes count index last places f e =
+pub followed_end : (bytes : List ℕ) (count index : ℕ) (last : Option (Bor (List ℕ))) (old new : Count) → HasPlaces bytes count → Followed bytes count last index old new → index ≡ count → (pairs : List (List ℕ × List ℕ)) × IsIndex bytes pairs
+followed_end bytes count index last old new places f e =
     let n : count ≡ length f.pairs = sym e ∙ sym f.number in
     let P : ℕ → Type 0 = λ m. IsNumberAt bytes 0 m in (
       f.pairs,
@@ -171,8 +176,8 @@ rises_next (x ∷ y ∷ L) zero p q r e f =
 rises_next (x ∷ L) (suc i) p q r e f = rises_next L i p q r.1 e f
 
 -- where the next key isn't above the last one, the bytes are no index
-pub falls_there : (bytes : List ℕ) (count index : ℕ) (last : Bor (List ℕ)) (key value : List ℕ) → HasPlaces bytes count → index < count → Followed bytes count (Some last) index → IsEntry bytes count index (key, value) → (text_order last.now key ≡ Less → ⊥) → NoIndex bytes
-falls_there bytes count index last key value places l f r never pairs x =
+pub falls_there : (bytes : List ℕ) (count index : ℕ) (last : Bor (List ℕ)) (key value : List ℕ) (old new : Count) → HasPlaces bytes count → index < count → Followed bytes count (Some last) index old new → IsEntry bytes count index (key, value) → (text_order last.now key ≡ Less → ⊥) → NoIndex bytes
+falls_there bytes count index last key value old new places l f r never pairs x =
     let front = f.last_is.0 in
     let p : List ℕ × List ℕ = (last.now, f.last_is.1) in
     let G : List (List ℕ × List ℕ) → Type 0 = λ L. slice_get L (length front) ≡ Some p in
@@ -183,10 +188,10 @@ falls_there bytes count index last key value places l f r never pairs x =
     let Q : ℕ → Type 0 = λ i. slice_get pairs i ≡ Some (key, value) in
     never (rises_next pairs (length front) p (key, value) x.rises a (subst Q (sym n) b))
 
-pub falls : (bytes : List ℕ) (count index : ℕ) (last : Option (Bor (List ℕ))) (key value : List ℕ) (b : Bool) → HasPlaces bytes count → index < count → Followed bytes count last index → IsEntry bytes count index (key, value) → IfNone last (IsTrue b) → IfSome last (λ l. b ≡ is_lt (text_order l.now key)) → b ≡ false → NoIndex bytes
-falls bytes count index None key value b places l f r n s e = let h : b ≡ true = n in absurd (cc)
-falls bytes count index (Some last) key value b places l f r n s e =
-    falls_there bytes count index last key value places l f r (λ is. let h : b ≡ true = s ∙ ap is_lt is in absurd (cc))
+pub falls : (bytes : List ℕ) (count index : ℕ) (last : Option (Bor (List ℕ))) (key value : List ℕ) (b : Bool) (old new : Count) → HasPlaces bytes count → index < count → Followed bytes count last index old new → IsEntry bytes count index (key, value) → IfNone last (IsTrue b) → IfSome last (λ l. b ≡ is_lt (text_order l.now key)) → b ≡ false → NoIndex bytes
+falls bytes count index None key value b old new places l f r n s e = let h : b ≡ true = n in absurd (cc)
+falls bytes count index (Some last) key value b old new places l f r n s e =
+    falls_there bytes count index last key value old new places l f r (λ is. let h : b ≡ true = s ∙ ap is_lt is in absurd (cc))
 
 -- ---- bytes have one index at most
 

@@ -1,14 +1,25 @@
 -- What is read where it is known what stands there.
-use Rattle.std.proofs.Common.{◌≡◌, ℕ, List, [], ◌∷◌, ◌++◌, refl, sym, ◌∙◌, subst}
+use Rattle.std.proofs.Common.{◌≡◌, ℕ, List, [], ◌∷◌, ◌++◌, refl, sym, subst}
 use Rattle.name_table.specs.Faults.{AreOfText, Fault}
-use Rattle.name_table.specs.Parts.{Part, Begins, text_parts, pair_parts}
+use Rattle.name_table.specs.Parts.{Part, Begins, Number, text_parts, pair_parts}
 use Rattle.name_table.specs.declared.fault.NameFault.{NameFault}
 use Rattle.name_table.proofs.OneReading.{parts_no_fault}
 use Rattle.name_table.proofs.PartLemmas.{begins_split}
-use Rattle.name_table.proofs.Unique.{Agree, agree_pairs, agree_texts, pair_parts-inj, parts_unique, same_rest}
+use Rattle.name_table.proofs.Unique.{Agree, agree_pairs, agree_texts, begins_unique, pair_parts-inj}
 
 agree_text : (s t : List ℕ) → Agree (text_parts s) (text_parts t)
 agree_text s t = agree_texts s t [] [] (λ _ _. tt)
+
+pub agree_numbers : (n m : ℕ) → Agree (Number n ∷ []) (Number m ∷ [])
+agree_numbers n m = (tt, λ _. tt)
+
+-- the number that bytes begin with is one
+pub one_number : {n m : ℕ} {rest other : List ℕ} (bytes : List ℕ) → (p : Begins bytes (Number n ∷ []) rest) → (q : Begins bytes (Number m ∷ []) other) → (p.front ≡ q.front) × (n ≡ m) × (rest ≡ other)
+one_number {n} {m} bytes p q =
+    let u = begins_unique bytes (agree_numbers n m) p q in
+    let e : Number n ∷ [] ≡ Number m ∷ [] = u.1 in
+    let f : n ≡ m = cc in
+    (u.0, f, u.2)
 
 -- a text that is there has no fault
 pub text_no_fault : (bytes rest text : List ℕ) (place : ℕ) (fault : NameFault) → Begins bytes (text_parts text) rest → Fault AreOfText bytes place fault → ⊥
@@ -20,23 +31,21 @@ text_no_fault bytes rest text place fault b w =
 pub text_next : (bytes rest middle s t : List ℕ) (xs : List Part) → Begins bytes (text_parts t ++ xs) rest → Begins bytes (text_parts s) middle → (s ≡ t) × Begins middle xs rest
 text_next bytes rest middle s t xs p q =
     let d = begins_split bytes rest (text_parts t) xs p in
-    let e : q.front ++ middle ≡ d.1.front ++ d.0 = sym q.split ∙ d.1.split in
-    let u = parts_unique (text_parts s) (text_parts t) q.front d.1.front middle d.0 (agree_text s t) q.spelled d.1.spelled e in
+    let u = begins_unique bytes (agree_text s t) q d.1 in
     let f : text_parts s ≡ text_parts t = u.1 in
     let g : s ≡ t = cc in
     let P : List ℕ → Type 0 = λ c. Begins c xs rest in
-    (g, subst P (sym (same_rest q.front d.1.front middle d.0 u.0 e)) d.2)
+    (g, subst P (sym u.2) d.2)
 
 -- the same of a pair
 pub pair_next : (bytes rest behind : List ℕ) (p q : List ℕ × List ℕ) (J : List (List ℕ × List ℕ)) → Begins bytes (pair_parts (p ∷ J)) behind → Begins bytes (pair_parts (q ∷ [])) rest → (q ≡ p) × Begins rest (pair_parts J) behind
 pair_next bytes rest behind p q J b c =
     let d = begins_split bytes behind (pair_parts (p ∷ [])) (pair_parts J) b in
-    let e : c.front ++ rest ≡ d.1.front ++ d.0 = sym c.split ∙ d.1.split in
-    let u = parts_unique (pair_parts (q ∷ [])) (pair_parts (p ∷ [])) c.front d.1.front rest d.0 (agree_pairs (q ∷ []) (p ∷ []) refl) c.spelled d.1.spelled e in
+    let u = begins_unique bytes (agree_pairs (q ∷ []) (p ∷ []) refl) c d.1 in
     let f : q ∷ [] ≡ p ∷ [] = pair_parts-inj (q ∷ []) (p ∷ []) u.1 in
     let g : q ≡ p = cc in
     let P : List ℕ → Type 0 = λ s. Begins s (pair_parts J) behind in
-    (g, subst P (sym (same_rest c.front d.1.front rest d.0 u.0 e)) d.2)
+    (g, subst P (sym u.2) d.2)
 
 -- the first of some pairs is there
 pub pair_first : (bytes behind : List ℕ) (p : List ℕ × List ℕ) (J : List (List ℕ × List ℕ)) → Begins bytes (pair_parts (p ∷ J)) behind → (middle : List ℕ) × Begins bytes (pair_parts (p ∷ [])) middle × Begins middle (pair_parts J) behind

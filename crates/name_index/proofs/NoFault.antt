@@ -1,74 +1,126 @@
--- Bytes that begin with a table whose keys rise have no fault.
-use Rattle.std.proofs.Common.{◌≡◌, ⊎_elim, ℕ, ◌≤◌, List, [], ◌∷◌, ◌++◌, length, refl, sym, ap, ◌∙◌, subst, arith, length-append}
+-- Bytes that begin with a table whose keys rise have no fault, and others one at most.
+use Rattle.std.proofs.Common.{◌≡◌, ⊎_elim, ℕ, ◌+◌, ◌<◌, List, [], ◌∷◌, ◌++◌, length, refl, sym, ap, ◌∙◌, subst, arith, append_assoc}
+use Rattle.std.proofs.lemmas.Bool.{cases_lt}
 use Rattle.litemap_store.proofs.Taken.{Rising-left}
 use Rattle.litemap_store.specs.Pairs.{Rising}
-use Rattle.name_table.specs.Faults.{PairsFault, TableFault}
-use Rattle.name_table.specs.Parts.{Begins, Number, pair_parts}
-use Rattle.name_table.specs.ReadOn.{IsReadOn, pair_parts-append}
+use Rattle.name_table.specs.Faults.{AreOfPairs, NextFault}
+use Rattle.name_table.specs.Parts.{Part, Begins, Number, pair_parts}
+use Rattle.name_table.specs.ReadOn.{IsReadOn}
 use Rattle.name_table.specs.Remaining.{IsCounted, Remaining}
 use Rattle.name_table.specs.declared.fault.NameFault.{NameFault}
-use Rattle.name_table.proofs.FaultLemmas.{fault_behind, fault_where}
-use Rattle.name_table.proofs.OneReading.{table_no_fault}
-use Rattle.name_table.proofs.PartLemmas.{begins_pairs, begins_split}
-use Rattle.name_table.proofs.Unique.{parts_unique, same_rest}
-use Rattle.name_table.proofs.WholeTables.{count_fault, pairs_fault}
-use Rattle.name_index.specs.Faults.{IsFault}
+use Rattle.name_table.proofs.FaultLemmas.{fault_first}
+use Rattle.name_table.proofs.OneReading.{fault_unique, parts_no_fault, table_fault_unique}
+use Rattle.name_table.proofs.PartLemmas.{begins_split}
+use Rattle.name_table.proofs.Unique.{Agree, agree_pairs, begins_unique, pair_parts-inj}
+use Rattle.name_table.proofs.WholeTables.{count_fault}
+use Rattle.name_index.specs.Faults.{IsFault, NextStops, NumberStops, StopsAt}
 use Rattle.name_index.specs.Tables.{IsRisingTable, text_order}
 use Rattle.name_index.specs.declared.fault.NameTableFault.{NameTableFault}
 use Rattle.name_index.specs.declared.fault.NameTableFault.TheVariants.{Format, NotRising}
-use Rattle.name_index.proofs.KnownParts.{pair_next}
+use Rattle.name_index.proofs.KnownParts.{agree_numbers, one_number, pair_first, pair_next}
 
-abbrev begins_on : (s t : Remaining) (on : IsReadOn s t) → Begins s.rest (pair_parts on.pairs) t.rest
-begins_on s t on = record { front = on.front; split = on.split; spelled = on.spelled }
+-- ---- the number of entries
 
--- a fault behind pairs that were read is one of the bytes in front of them
-fault_in_front : (s t : Remaining) (f : NameFault) → IsReadOn s t → PairsFault t f → PairsFault s f
-fault_in_front s t f on w =
-    fault_behind s.rest s.place f (pair_parts on.pairs) t.rest (begins_on s t on) t.place on.place
-    (fault_where t.rest t.place f
-    (λ xs a. (on.pairs ++ a.0, omega (arith, a.1, on.count, length-append on.pairs a.0), ap (λ ys. pair_parts on.pairs ++ ys) a.2 ∙ sym (pair_parts-append on.pairs a.0))) w)
+number_stops_not : (bytes rest : List ℕ) (n : ℕ) (f : NameTableFault) → Begins bytes (Number n ∷ []) rest → NumberStops bytes f → ⊥
+number_stops_not bytes rest n (Format f) b w =
+    let A : List Part → Type 0 = λ ys. Agree (Number n ∷ []) ys in
+    parts_no_fault bytes rest (Number n ∷ []) 0 f (λ ys (e : Number n ∷ [] ≡ ys). subst A e (agree_numbers n n)) b (fault_first bytes 0 f (Number n) [] refl w)
+number_stops_not bytes rest n (NotRising at) b w = w
 
-table_fault : (bytes : List ℕ) (f : NameFault) → IsFault bytes (Format f) → TableFault bytes f
-table_fault bytes f w = ⊎_elim (λ h. count_fault bytes f h) (λ h. pairs_fault bytes h.0 f h.1 (fault_in_front h.0 h.2.0 f h.2.1.on h.2.2)) w
+number_stops_one : (bytes : List ℕ) (f g : NameTableFault) → NumberStops bytes f → NumberStops bytes g → f ≡ g
+number_stops_one bytes (Format f) (Format g) p q = ap (λ e. Format e) (table_fault_unique bytes f g (count_fault bytes f p) (count_fault bytes g q))
+number_stops_one bytes (Format f) (NotRising b) p q = absurd q
+number_stops_one bytes (NotRising a) g p q = absurd p
 
--- pairs that bytes begin with are the first ones of more that they begin with
-first_pairs : (J K : List (List ℕ × List ℕ)) (bytes middle behind : List ℕ) → Begins bytes (pair_parts J) middle → Begins bytes (pair_parts K) behind → length J ≤ length K → (more : List (List ℕ × List ℕ)) × (K ≡ J ++ more)
-first_pairs [] K bytes middle behind b k l = (K, refl)
-first_pairs (q ∷ J) [] bytes middle behind b k l = absurd (omega (arith, l))
+counted_one : (bytes : List ℕ) (s t : Remaining) → IsCounted bytes s → IsCounted bytes t → s ≡ t
+counted_one bytes s t c d =
+    let u = one_number bytes c.spelled d.spelled in
+    let p : s.place ≡ t.place = c.place ∙ ap length u.0 ∙ sym d.place in
+    λ i. record { rest = u.2 i; place = p i; left = u.1 i }
+
+-- ---- the entries behind it
+
+-- of pairs that bytes begin with and more of them, these are the first ones
+first_pairs : (J K : List (List ℕ × List ℕ)) (bytes middle behind : List ℕ) → Begins bytes (pair_parts J) middle → Begins bytes (pair_parts K) behind → length J < length K → (q : List ℕ × List ℕ) × (more : List (List ℕ × List ℕ)) × (K ≡ J ++ q ∷ more) × Begins middle (pair_parts (q ∷ more)) behind
+first_pairs J [] bytes middle behind b k l = absurd (omega (arith, l))
+first_pairs [] (p ∷ K) bytes middle behind b k l =
+    let P : List ℕ → Type 0 = λ c. Begins c (pair_parts (p ∷ K)) behind in
+    (p, K, refl, subst P (b.split ∙ ap (λ c. c ++ middle) b.spelled) k)
 first_pairs (q ∷ J) (p ∷ K) bytes middle behind b k l =
     let d = begins_split bytes middle (pair_parts (q ∷ [])) (pair_parts J) b in
     let n = pair_next bytes d.0 behind p q K k d.1 in
     let r = first_pairs J K d.0 middle behind d.2 n.1 (omega (arith, l)) in
-    (r.0, λ i. sym n.0 i ∷ r.1 i)
+    (r.0, r.1, (λ i. sym n.0 i ∷ r.2 i), r.3)
 
--- the pairs of a table are those behind its number
-record DuePairs (bytes rest : List ℕ) (pairs : List (List ℕ × List ℕ)) (s : Remaining) : Type 0 where
-  pub count : length pairs ≡ s.left
-  pub spelled : Begins s.rest (pair_parts pairs) rest
+agree_next : (xs ys : List Part) → AreOfPairs 1 xs → AreOfPairs 1 ys → Agree xs ys
+agree_next xs ys a b =
+    let A : List Part → Type 0 = λ zs. Agree zs ys in
+    let B : List Part → Type 0 = λ zs. Agree (pair_parts a.0) zs in
+    subst A (sym a.2) (subst B (sym b.2) (agree_pairs a.0 b.0 (a.1 ∙ sym b.1)))
 
-due_pairs : (bytes : List ℕ) (pairs : List (List ℕ × List ℕ)) (s : Remaining) → (t : IsRisingTable bytes pairs) → IsCounted bytes s → DuePairs bytes t.rest pairs s
-due_pairs bytes pairs s t c =
-    let d = begins_split bytes t.rest (Number (length pairs) ∷ []) (pair_parts pairs) t.table in
-    let e : d.1.front ++ d.0 ≡ c.spelled.front ++ s.rest = sym d.1.split ∙ c.spelled.split in
-    let u = parts_unique (Number (length pairs) ∷ []) (Number s.left ∷ []) d.1.front c.spelled.front d.0 s.rest (tt, λ _. tt) d.1.spelled c.spelled.spelled e in
-    let n : Number (length pairs) ∷ [] ≡ Number s.left ∷ [] = u.1 in
-    let P : List ℕ → Type 0 = λ b. Begins b (pair_parts pairs) t.rest in
-    record { count = cc; spelled = subst P (same_rest d.1.front c.spelled.front d.0 s.rest u.0 e) d.2 }
+-- a pair that is there can be read
+next_no_fault : (t : Remaining) (f : NameFault) (q : List ℕ × List ℕ) (rest : List ℕ) → Begins t.rest (pair_parts (q ∷ [])) rest → NextFault t f → ⊥
+next_no_fault t f q rest b w = parts_no_fault t.rest rest (pair_parts (q ∷ [])) t.place f (λ ys a. agree_next (pair_parts (q ∷ [])) ys (q ∷ [], refl, refl) a) b w.1
 
--- the keys of a table's first pairs rise
-rises_as_far : (bytes : List ℕ) (pairs : List (List ℕ × List ℕ)) (at : ℕ) → IsRisingTable bytes pairs → IsFault bytes (NotRising at) → ⊥
-rises_as_far bytes pairs at t w =
-    let s = w.0 in
-    let n = w.2.4 in
-    let on = w.2.3.on in
-    let u = w.2.1 in
-    let next = w.2.2 in
-    let due = due_pairs bytes pairs s t w.1 in
-    let b = begins_pairs s.rest w.2.0.rest u.rest on.pairs (next ∷ []) (begins_on s w.2.0 on) n.spelled in
-    let first = first_pairs (on.pairs ++ next ∷ []) pairs s.rest u.rest t.rest b due.spelled (omega (arith, due.count, on.count, n.count, length-append on.pairs (next ∷ []))) in
+-- nothing stops where a pair is the next one of some whose keys rise
+next_stops_not : (t : Remaining) (J more : List (List ℕ × List ℕ)) (q : List ℕ × List ℕ) (behind : List ℕ) (f : NameTableFault) → Rising text_order (J ++ q ∷ more) → Begins t.rest (pair_parts (q ∷ more)) behind → NextStops J t f → ⊥
+next_stops_not t J more q behind (Format f) r b w = let p = pair_first t.rest behind q more b in next_no_fault t f q p.0 p.1 w
+next_stops_not t J more q behind (NotRising at) r b w =
+    let n = pair_next t.rest w.0.rest behind q w.1 more b w.2.spelled in
     let P : List (List ℕ × List ℕ) → Type 0 = λ L. Rising text_order L in
-    w.2.6 (Rising-left text_order (on.pairs ++ next ∷ []) first.0 (subst P first.1 t.rises))
+    let e : J ++ q ∷ more ≡ (J ++ w.1 ∷ []) ++ more = sym (append_assoc J (q ∷ []) more) ∙ ap (λ p. (J ++ p ∷ []) ++ more) (sym n.0) in
+    w.4 (Rising-left text_order (J ++ w.1 ∷ []) more (subst P e r))
+
+next_stops_one : (t : Remaining) (J : List (List ℕ × List ℕ)) (f g : NameTableFault) → NextStops J t f → NextStops J t g → f ≡ g
+next_stops_one t J (Format f) (Format g) p q = ap (λ e. Format e) (fault_unique t.rest t.place f g agree_next p.1 q.1)
+next_stops_one t J (Format f) (NotRising b) p q = absurd (next_no_fault t f q.1 q.0.rest q.2.spelled p)
+next_stops_one t J (NotRising a) (Format g) p q = absurd (next_no_fault t g p.1 p.0.rest p.2.spelled q)
+next_stops_one t J (NotRising a) (NotRising b) p q = ap (λ i. NotRising i) (p.3 ∙ sym q.3)
+
+-- nor in front of the last of them
+abbrev begins_on : (s t : Remaining) (on : IsReadOn s t) → Begins s.rest (pair_parts on.pairs) t.rest
+begins_on s t on = record { front = on.front; split = on.split; spelled = on.spelled }
+
+stops_not : (s : Remaining) (K : List (List ℕ × List ℕ)) (behind : List ℕ) (f : NameTableFault) → Begins s.rest (pair_parts K) behind → Rising text_order K → (w : StopsAt s f) → length w.1.on.pairs < length K → ⊥
+stops_not s K behind f k r w l =
+    let on = w.1.on in
+    let n = first_pairs on.pairs K s.rest w.0.rest behind (begins_on s w.0 on) k l in
+    let P : List (List ℕ × List ℕ) → Type 0 = λ L. Rising text_order L in
+    next_stops_not w.0 on.pairs n.1 n.0 behind f (subst P n.2 r) n.3 w.2
+
+stops_one : (s : Remaining) (f g : NameTableFault) → StopsAt s f → StopsAt s g → f ≡ g
+stops_one s f g p q =
+    ⊎_elim (λ h. absurd (stops_not s q.1.on.pairs q.0.rest f (begins_on s q.0 q.1.on) q.1.rises p h))
+    (λ h. ⊎_elim (λ k. absurd (stops_not s p.1.on.pairs p.0.rest g (begins_on s p.0 p.1.on) p.1.rises q k)) (λ k. same (omega (arith, h, k))) (cases_lt (length q.1.on.pairs) (length p.1.on.pairs)))
+    (cases_lt (length p.1.on.pairs) (length q.1.on.pairs))
+  where
+    same : length p.1.on.pairs ≡ length q.1.on.pairs → f ≡ g
+    same l =
+        let u = begins_unique s.rest (agree_pairs p.1.on.pairs q.1.on.pairs l) (begins_on s p.0 p.1.on) (begins_on s q.0 q.1.on) in
+        let place : p.0.place ≡ q.0.place = p.1.on.place ∙ ap (λ c. s.place + length c) u.0 ∙ sym q.1.on.place in
+        let left : p.0.left ≡ q.0.left = omega (arith, l, p.1.on.count, q.1.on.count) in
+        let t : p.0 ≡ q.0 = λ i. record { rest = u.2 i; place = place i; left = left i } in
+        let P : Remaining → Type 0 = λ r. NextStops p.1.on.pairs r f in
+        let Q : List (List ℕ × List ℕ) → Type 0 = λ L. NextStops L q.0 f in
+        next_stops_one q.0 q.1.on.pairs f g (subst Q (pair_parts-inj p.1.on.pairs q.1.on.pairs u.1) (subst P t p.2)) q.2
+
+-- ---- bytes
+
+is_due : (t : Remaining) (J : List (List ℕ × List ℕ)) (f : NameTableFault) → NextStops J t f → 0 < t.left
+is_due t J (Format f) w = w.0
+is_due t J (NotRising at) w = omega (arith, w.2.count)
 
 pub rising_no_fault : (bytes : List ℕ) (pairs : List (List ℕ × List ℕ)) (fault : NameTableFault) → IsRisingTable bytes pairs → IsFault bytes fault → ⊥
-rising_no_fault bytes pairs (Format f) t w = table_no_fault bytes pairs t.rest f t.table (table_fault bytes f w)
-rising_no_fault bytes pairs (NotRising at) t w = rises_as_far bytes pairs at t w
+rising_no_fault bytes pairs fault t =
+    let d = begins_split bytes t.rest (Number (length pairs) ∷ []) (pair_parts pairs) t.table in
+    ⊎_elim (λ w. number_stops_not bytes d.0 (length pairs) fault d.1 w)
+    (λ w.
+    let u = one_number bytes d.1 w.1.spelled in
+    let P : List ℕ → Type 0 = λ b. Begins b (pair_parts pairs) t.rest in
+    stops_not w.0 pairs t.rest fault (subst P u.2 d.2) t.rises w.2 (omega (arith, u.1, w.2.1.on.count, is_due w.2.0 w.2.1.on.pairs fault w.2.2)))
+
+pub rising_fault_unique : (bytes : List ℕ) (f g : NameTableFault) → IsFault bytes f → IsFault bytes g → f ≡ g
+rising_fault_unique bytes f g p q =
+    ⊎_elim (λ h. ⊎_elim (λ k. number_stops_one bytes f g h k) (λ k. absurd (number_stops_not bytes k.0.rest k.0.left f k.1.spelled h)) q)
+    (λ h. ⊎_elim (λ k. absurd (number_stops_not bytes h.0.rest h.0.left g h.1.spelled k))
+    (λ k. let P : Remaining → Type 0 = λ s. StopsAt s f in stops_one k.0 f g (subst P (counted_one bytes h.0 k.0 h.1 k.1) h.2) k.2) q) p

@@ -1,22 +1,25 @@
 -- Places of entries: one more of them, and what is read at one.
-use Rattle.std.proofs.Common.{◌≡◌, ℕ, zero, suc, ◌+◌, ◌-◌, ◌<◌, ◌≤◌, List, [], ◌∷◌, ◌++◌, length, take, drop, get_or, slice_get, Some, None, Ok, Err, refl, sym, ap, ◌∙◌, subst, arith, append_assoc, length-append}
+use Rattle.std.proofs.Common.{◌≡◌, ⊎_elim, ℕ, zero, suc, ◌+◌, ◌-◌, ◌<◌, ◌≤◌, List, [], ◌∷◌, ◌++◌, length, take, drop, get_or, slice_get, Some, Ok, Err, refl, sym, ap, ◌∙◌, subst, arith, length-append}
 use Rattle.std.proofs.Math.Seq.{take-length}
-use Rattle.std.proofs.lemmas.List.{length-drop}
+use Rattle.std.proofs.lemmas.Bool.{cases_lt}
+use Rattle.std.proofs.lemmas.List.{drop_at, length-drop}
 use Rattle.std.proofs.lemmas.Option.{slice_get-get_or}
 use Rattle.std.specs.declared.cmp.Ordering.TheVariants.{Less, Equal, Greater}
 use Rattle.litemap_store.specs.Counts.{RisesByAtMost}
 use Rattle.litemap_store.specs.Digits.{digits}
-use Rattle.litemap_store.specs.Pairs.{at, value_at}
 use Rattle.litemap_store.specs.Splits.{Splits}
 use Rattle.litemap_store.specs.declared.count.Count.{Count}
 use Rattle.litemap_store.proofs.Halving.{Narrowed, Narrowed-whole, Narrowed-less, Narrowed-greater, Finds-here, Finds-nowhere}
-use Rattle.litemap_store.proofs.Splitting.{Splits-from_Finds, there-from_Splits}
-use Rattle.name_table.proofs.PartLemmas.{begins_split}
+use Rattle.litemap_store.proofs.Splitting.{Splits-from_Finds}
+use Rattle.name_table.proofs.PartLemmas.{begins_none, begins_pairs, begins_split}
+use Rattle.name_table.proofs.Unique.{agree_pairs, begins_unique}
 use Rattle.name_table.specs.Parts.{Begins, Number, pair_parts, text_parts}
 use Rattle.name_index.specs.Entries.{AreEntries, BeginsPair, BeginsText, IsOpened}
-use Rattle.name_index.specs.Placed.{ArePlaced, IsKeyAt}
-use Rattle.name_index.proofs.KnownParts.{text_next}
-use Rattle.name_index.specs.Tables.{IsRisingTable, text_order}
+use Rattle.name_index.specs.Placed.{AreFar, ArePlaced, AsPlaced, IfTooFar, IsFar, IsIndexed, IsKeyAt}
+use Rattle.name_index.specs.declared.fault.NameIndexFault.{NameIndexFault}
+use Rattle.name_index.specs.declared.fault.NameIndexFault.TheVariants.{NoRoom, TooFar}
+use Rattle.name_index.proofs.KnownParts.{one_number, text_next}
+use Rattle.name_index.specs.Tables.{IsRisingTable, OfTable, text_order}
 use Rattle.name_index.proofs.Rises.{rising_table}
 use Rattle.name_index.proofs.Scanning.{IsAt, ascends, begins_here, is_at_next, one_side, pair_here, to_key}
 
@@ -27,17 +30,15 @@ each_push P [] x each h (suc i) y e = absurd (cc)
 each_push P (z ∷ L) x each h zero y e = each zero y e
 each_push P (z ∷ L) x each h (suc i) y e = each_push (λ j w. P (suc j) w) L x (λ j w f. each (suc j) w f) h i y e
 
-drop_front : (front rest : List ℕ) → drop (length front) (front ++ rest) ≡ rest
-drop_front [] rest = refl
-drop_front (x ∷ front) rest = drop_front front rest
-
 -- so many places are noted, and the bytes from the next one on are the rest
 pub record Noted (entries : List ℕ) (count : ℕ) (places rest : List ℕ) (index : ℕ) : Type 0 where
   pub these : AreEntries entries count
   pub here : IsAt these.pairs these.rest rest index
   pub number : length places ≡ index
-  pub front : List ℕ
-  pub split : entries ≡ front ++ rest
+  pub before : List (List ℕ × List ℕ)
+  pub read : Begins entries (pair_parts before) rest
+  pub so_many : length before ≡ index
+  pub near : (f : AreFar entries index) → ⊥
   pub within : (i place : ℕ) → slice_get places i ≡ Some place → place ≤ length entries
   pub there : (i place : ℕ) → slice_get places i ≡ Some place → Begins (drop place entries) (pair_parts (drop i these.pairs)) these.rest
 
@@ -46,8 +47,10 @@ noted_start entries count these = record {
   these = these;
   here = these.spelled;
   number = refl;
-  front = [];
-  split = refl;
+  before = [];
+  read = begins_none entries;
+  so_many = refl;
+  near = λ f. omega (arith, f.due);
   within = λ i place e. absurd (none i place e);
   there = λ i place e. absurd (none i place e);
 }
@@ -56,24 +59,54 @@ noted_start entries count these = record {
     none zero place e = absurd (cc)
     none (suc i) place e = absurd (cc)
 
-pub noted_next : (entries : List ℕ) (count : ℕ) (places rest : List ℕ) (index place : ℕ) (pair : List ℕ × List ℕ) (behind : List ℕ) → (n : Noted entries count places rest index) → index < count → place ≡ length entries - length rest → Begins rest (pair_parts (pair ∷ [])) behind → Noted entries count (places ++ place ∷ []) behind (index + 1)
-noted_next entries count places rest index place pair behind n within e b =
+-- how far the rest stands behind the first entry
+pub place_is_front : (entries : List ℕ) (count : ℕ) (places rest : List ℕ) (index place : ℕ) → (n : Noted entries count places rest index) → place + length rest ≡ length entries → length n.read.front ≡ place
+place_is_front entries count places rest index place n e = omega (arith, e, ap length n.read.split, length-append n.read.front rest)
+
+pub far_here : (entries : List ℕ) (count : ℕ) (places rest : List ℕ) (index : ℕ) → Noted entries count places rest index → index < count → 4294967296 + length rest ≤ length entries → AreFar entries count
+far_here entries count places rest index n l h = record {
+  before = n.before;
+  rest = rest;
+  spelled = n.read;
+  due = omega (arith, n.so_many, l);
+  far = omega (arith, h, ap length n.read.split, length-append n.read.front rest);
+}
+
+pub noted_next : (entries : List ℕ) (count : ℕ) (places rest : List ℕ) (index place : ℕ) (pair : List ℕ × List ℕ) (behind : List ℕ) → (n : Noted entries count places rest index) → index < count → place + length rest ≡ length entries → place < 4294967296 → Begins rest (pair_parts (pair ∷ [])) behind → Noted entries count (places ++ place ∷ []) behind (index + 1)
+noted_next entries count places rest index place pair behind n within e small b =
     let l : index < length n.these.pairs = omega (arith, within, n.these.count_is) in
-    let f : length n.front ≡ place = omega (arith, e, ap length n.split, length-append n.front rest) in
-    let d : drop place entries ≡ rest = (λ i. drop (sym f i) (n.split i)) ∙ drop_front n.front rest in
+    let f = place_is_front entries count places rest index place n e in
+    let d : drop place entries ≡ rest = ap (λ c. drop place c) n.read.split ∙ drop_at n.read.front rest place f in
     let P : List ℕ → Type 0 = λ c. Begins c (pair_parts (drop index n.these.pairs)) n.these.rest in
     let Q : ℕ → Type 0 = λ j. Begins (drop place entries) (pair_parts (drop j n.these.pairs)) n.these.rest in
     record {
       these = n.these;
       here = is_at_next n.these.pairs n.these.rest rest index l n.here pair behind b;
       number = omega (arith, n.number, length-append places (place ∷ []));
-      front = n.front ++ b.front;
-      split = n.split ∙ ap (λ c. n.front ++ c) b.split ∙ sym (append_assoc n.front b.front behind);
+      before = n.before ++ pair ∷ [];
+      read = begins_pairs entries rest behind n.before (pair ∷ []) n.read b;
+      so_many = omega (arith, n.so_many, length-append n.before (pair ∷ []));
+      near = λ g. ⊎_elim
+          (λ h. n.near (record { before = g.before; rest = g.rest; spelled = g.spelled; due = h; far = g.far }))
+          (λ h. let u = begins_unique entries (agree_pairs g.before n.before (omega (arith, h, g.due, n.so_many))) g.spelled n.read in omega (arith, g.far, small, f, ap length u.0))
+          (cases_lt (length g.before) index);
       within = each_push (λ i p. p ≤ length entries) places place n.within (omega (arith, e));
       there =
           each_push (λ i p. Begins (drop p entries) (pair_parts (drop i n.these.pairs)) n.these.rest) places place n.there
           (subst Q (sym n.number) (subst P (sym d) n.here));
     }
+
+-- the bytes begin with one number
+pub near_table : (bytes entries : List ℕ) (count : ℕ) → Begins bytes (Number count ∷ []) entries → (AreFar entries count → ⊥) → IsFar bytes → ⊥
+near_table bytes entries count b near f =
+    let u = one_number bytes f.2 b in
+    let P : List ℕ → Type 0 = λ c. AreFar c f.1 in
+    let Q : ℕ → Type 0 = λ n. AreFar entries n in
+    near (subst Q u.1 (subst P u.2 f.3))
+
+pub too_far_weaker : {P Q : Type 0} (fault : NameIndexFault) → (P → Q) → IfTooFar fault P → IfTooFar fault Q
+too_far_weaker NoRoom h p = tt
+too_far_weaker TooFar h p = h p
 
 pub placed_end : (entries : List ℕ) (count : ℕ) (places rest : List ℕ) (index : ℕ) → Noted entries count places rest index → index ≡ count → ArePlaced entries places
 placed_end entries count places rest index n e =
@@ -172,13 +205,12 @@ placed_table bytes entries places counted placed =
     let o : IsOpened bytes entries (length places) = record { counted = counted; these = placed.these } in
     rising_table bytes entries (length places) o
 
-pub value_at_split : (pairs : List (List ℕ × List ℕ)) (key : List ℕ) (i : ℕ) (p : List ℕ × List ℕ) → Splits text_order pairs key (Ok i) → slice_get pairs i ≡ Some p → value_at text_order pairs key ≡ Some p.1
-value_at_split pairs key i p s e =
-    let a : at text_order pairs key ≡ Some p = sym (there-from_Splits text_order pairs key (Ok i) s) ∙ e in
-    rw a refl
-
-pub value_at_none : (pairs : List (List ℕ × List ℕ)) (key : List ℕ) (i : ℕ) → Splits text_order pairs key (Err i) → value_at text_order pairs key ≡ None
-value_at_none pairs key i s = rw s.missing refl
+-- what holds of placed entries holds of the table
+pub of_indexed : {P : List (List ℕ × List ℕ) → Type 0} (bytes entries items places : List ℕ) → IsIndexed bytes entries items → places ≡ items → AsPlaced entries places P → OfTable bytes P
+of_indexed bytes entries items places x e h =
+    let Q : List ℕ → Type 0 = λ p. IsIndexed bytes entries p in
+    let y = subst Q (sym e) x in
+    (y.placed.these.pairs, placed_table bytes entries places y.counted y.placed, h y.placed)
 
 -- a count of as many pairs as places
 pub cost_by_pairs : (entries places : List ℕ) (placed : ArePlaced entries places) (old new : Count) → RisesByAtMost (digits (length places)) old new → RisesByAtMost (digits (length placed.these.pairs)) old new

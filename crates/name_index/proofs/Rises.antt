@@ -1,17 +1,21 @@
 -- Reading on while the keys rise, and where they don't.
-use Rattle.std.proofs.Common.{◌≡◌, true, false, ℕ, List, [], ◌∷◌, ◌++◌, length, drop, Option, Some, None, slice_get, refl, sym, ap, ◌∙◌, subst, arith, append_assoc, length-append, Bor}
+use Rattle.std.proofs.Common.{◌≡◌, true, false, ℕ, ◌-◌, List, [], ◌∷◌, ◌++◌, length, drop, Option, Some, None, slice_get, refl, sym, ap, ◌∙◌, subst, arith, append_assoc, length-append, Bor}
+use Rattle.std.proofs.lemmas.List.{drop_at}
 use Rattle.std.specs.Ordering.{is_lt}
 use Rattle.std.specs.Prelude.{Bool, IfNone, IfSome, IsTrue}
 use Rattle.std.specs.declared.cmp.Ordering.{Ordering}
 use Rattle.std.specs.declared.cmp.Ordering.TheVariants.{Less, Equal, Greater}
+use Rattle.litemap_store.specs.Counts.{RisesByAtMost}
 use Rattle.litemap_store.specs.Pairs.{AllBelow, Rising}
+use Rattle.litemap_store.specs.declared.count.Count.{Count}
+use Rattle.litemap_store.proofs.Counting.{in_turn, not_asked}
 use Rattle.litemap_store.proofs.Ends.{AllBelow-from_last, Rising-push}
-use Rattle.name_table.specs.Parts.{Part, AreParts, Number, pair_parts}
+use Rattle.name_table.specs.Parts.{Part, AreParts, Begins, Number, pair_parts}
 use Rattle.name_table.specs.ReadOn.{AreParts-append, pair_parts-append}
 use Rattle.name_table.specs.Remaining.{IsCounted, IsNext, Remaining}
-use Rattle.name_index.specs.Entries.{IsOpened}
+use Rattle.name_index.specs.Entries.{IsOpened, OfEntries}
 use Rattle.name_index.specs.Faults.{AllRise, RisesTo}
-use Rattle.name_index.specs.Tables.{IsRisingTable, text_order}
+use Rattle.name_index.specs.Tables.{IsRisingTable, OfTable, text_order}
 use Rattle.name_index.proofs.Scanning.{text_order_total}
 
 -- the key of the last pair, if there is one
@@ -20,18 +24,26 @@ LastKey None pairs = pairs ≡ []
 LastKey (Some key) pairs = (front : List (List ℕ × List ℕ)) × (value : List ℕ) × (pairs ≡ front ++ (key.now, value) ∷ [])
 
 -- what the walk knows at t
-pub record Checked (s t : Remaining) (last : Option (Bor (List ℕ))) : Type 0 where
+pub record Checked (s t : Remaining) (last : Option (Bor (List ℕ))) (old new : Count) : Type 0 where
   pub to : RisesTo s t
   pub last_is : LastKey last to.on.pairs
+  pub asked : RisesByAtMost (length to.on.pairs - 1) old new
 
-pub checked_start : (s : Remaining) → Checked s s None
-checked_start s = record {
+pub checked_start : (s : Remaining) (count : Count) → Checked s s None count count
+checked_start s count = record {
   to = record {
     on = record { pairs = []; front = []; split = refl; spelled = refl; place = omega arith; count = omega arith };
     rises = tt;
   };
   last_is = refl;
+  asked = not_asked count;
 }
+
+-- one question more, but for the first key
+pub asked_next : {c d e : Count} (last : Option (Bor (List ℕ))) (L : List (List ℕ × List ℕ)) (p : List ℕ × List ℕ) → LastKey last L → RisesByAtMost (length L - 1) c d → IfNone last (RisesByAtMost 0 d e) → RisesByAtMost 1 d e → RisesByAtMost (length (L ++ p ∷ []) - 1) c e
+asked_next None L p l r z o = in_turn (length L - 1) 0 (length (L ++ p ∷ []) - 1) (omega (arith, length-append L (p ∷ []), ap length l)) r z
+asked_next (Some last) L p l r z o =
+    in_turn (length L - 1) 1 (length (L ++ p ∷ []) - 1) (omega (arith, length-append L (p ∷ []), ap length l.2, length-append l.0 ((last.now, l.1) ∷ []))) r o
 
 less_from_true : (o : Ordering) → IsTrue (is_lt o) → o ≡ Less
 less_from_true Less h = refl
@@ -76,8 +88,8 @@ above_false None L p b e n s f r = let h : b ≡ true = n in absurd (cc)
 above_false (Some last) L p b e n s f r = let h : b ≡ true = s ∙ ap is_lt (falls_on last L p e r) in absurd (cc)
 
 -- one more pair was read, and its key is above the last one
-pub checked_next : (s t u : Remaining) (last : Option (Bor (List ℕ))) (key value : Bor (List ℕ)) → Checked s t last → IsNext t u (key.now, value.now) → IsAbove last key.now → Checked s u (Some key)
-checked_next s t u last key value c n a =
+pub checked_next : (s t u : Remaining) (last : Option (Bor (List ℕ))) (key value : Bor (List ℕ)) (old middle new : Count) → Checked s t last old middle → IsNext t u (key.now, value.now) → IsAbove last key.now → IfNone last (RisesByAtMost 0 middle new) → RisesByAtMost 1 middle new → Checked s u (Some key) old new
+checked_next s t u last key value old middle new c n a z o =
     let on = c.to.on in
     let p : List ℕ × List ℕ = (key.now, value.now) in
     let P : List Part → Type 0 = λ xs. AreParts (on.front ++ n.spelled.front) xs in
@@ -96,6 +108,7 @@ checked_next s t u last key value c n a =
         rises = rises_on last on.pairs p c.last_is c.to.rises a;
       };
       last_is = (on.pairs, value.now, refl);
+      asked = asked_next last on.pairs p c.last_is c.asked z o;
     }
 
 -- the whole table was read
@@ -115,14 +128,7 @@ opened bytes entries s c e a =
 
 -- what stands behind the number of entries
 pub entries_behind : (bytes : List ℕ) (s : Remaining) → IsCounted bytes s → drop s.place bytes ≡ s.rest
-entries_behind bytes s c = let P : ℕ → List ℕ → Type 0 = λ n b. drop n b ≡ s.rest in rest_behind bytes c.spelled.front s.rest s.place c.spelled.split c.place
-  where
-    drop_front : (front rest : List ℕ) → drop (length front) (front ++ rest) ≡ rest
-    drop_front [] rest = refl
-    drop_front (x ∷ front) rest = drop_front front rest
-
-    rest_behind : (bytes front rest : List ℕ) (place : ℕ) → bytes ≡ front ++ rest → place ≡ length front → drop place bytes ≡ rest
-    rest_behind bytes front rest place e n = (λ i. drop (n i) (e i)) ∙ drop_front front rest
+entries_behind bytes s c = ap (λ b. drop s.place b) c.spelled.split ∙ drop_at c.spelled.front s.rest s.place (sym c.place)
 
 -- a table that was opened is one whose keys rise
 pub rising_table : (bytes entries : List ℕ) (count : ℕ) → (o : IsOpened bytes entries count) → IsRisingTable bytes o.these.pairs
@@ -139,3 +145,7 @@ rising_table bytes entries count o =
       };
       rises = o.these.rises;
     }
+
+-- what holds of its entries holds of the table
+pub of_entries : {P : List (List ℕ × List ℕ) → Type 0} (bytes entries : List ℕ) (count : ℕ) → Begins bytes (Number count ∷ []) entries → OfEntries entries count P → OfTable bytes P
+of_entries bytes entries count b e = (e.0.pairs, rising_table bytes entries count (record { counted = b; these = e.0 }), e.1)

@@ -1,16 +1,20 @@
 -- What a walk over entries knows: the pairs from a place on are still to be read, and those in front of it are below the key.
-use Rattle.std.proofs.Common.{◌≡◌, ℕ, ◌+◌, ◌<◌, ◌≤◌, List, [], ◌∷◌, length, drop, get_or, slice_get, Some, None, Result, Ok, Err, refl, sym, ap, ◌∙◌, subst, arith, Bor}
+use Rattle.std.proofs.Common.{◌≡◌, ℕ, ◌+◌, ◌<◌, ◌≤◌, List, [], ◌∷◌, length, drop, get_or, slice_get, Some, None, Ok, Err, refl, sym, ap, ◌∙◌, subst, arith, Bor}
 use Rattle.std.proofs.lemmas.List.{drop_more}
 use Rattle.std.proofs.lemmas.Option.{slice_get-get_or}
 use Rattle.std.specs.Cmp.{IsTotalOrder}
 use Rattle.std.specs.Cmp.Lexicographic.{on_texts}
 use Rattle.std.specs.declared.cmp.Ordering.{Ordering}
 use Rattle.std.specs.declared.cmp.Ordering.TheVariants.{Equal}
-use Rattle.litemap_store.specs.Pairs.{Rising, at, index_of, value_at}
+use Rattle.litemap_store.specs.Counts.{RisesByAtMost}
+use Rattle.litemap_store.specs.Pairs.{Rising, at, value_at}
 use Rattle.litemap_store.specs.Queries.{OneSide, key_one_side}
-use Rattle.litemap_store.specs.Search.{Ascends, Finds}
+use Rattle.litemap_store.specs.Search.{Ascends}
+use Rattle.litemap_store.specs.Splits.{Splits}
+use Rattle.litemap_store.specs.declared.count.Count.{Count}
+use Rattle.litemap_store.proofs.Counting.{not_asked}
 use Rattle.litemap_store.proofs.Halving.{Narrowed, Narrowed-whole, Finds-here, Finds-nowhere}
-use Rattle.litemap_store.proofs.Splitting.{Ascends-by_query, Splits-from_Finds, index_of-from_Splits, there-from_Splits}
+use Rattle.litemap_store.proofs.Splitting.{Ascends-by_query, Splits-from_Finds, there-from_Splits}
 use Rattle.name_table.specs.Parts.{Begins, pair_parts}
 use Rattle.name_index.specs.Entries.{AreEntries, BeginsPair, IsScanned}
 use Rattle.name_index.specs.Tables.{text_order}
@@ -50,42 +54,45 @@ module _ (pairs : List (List ℕ × List ℕ)) (behind rest : List ℕ) (index :
 
 -- ---- what a search's answers say
 
+pub value_at_split : (pairs : List (List ℕ × List ℕ)) (key : List ℕ) (i : ℕ) (p : List ℕ × List ℕ) → Splits text_order pairs key (Ok i) → slice_get pairs i ≡ Some p → value_at text_order pairs key ≡ Some p.1
+value_at_split pairs key i p s e =
+    let a : at text_order pairs key ≡ Some p = sym (there-from_Splits text_order pairs key (Ok i) s) ∙ e in
+    rw a refl
+
+pub value_at_none : (pairs : List (List ℕ × List ℕ)) (key : List ℕ) (i : ℕ) → Splits text_order pairs key (Err i) → value_at text_order pairs key ≡ None
+value_at_none pairs key i s = rw s.missing refl
+
 module _ (pairs : List (List ℕ × List ℕ)) (key : List ℕ) (rises : Rising text_order pairs) where
   pub ascends : Ascends (to_key key) pairs
   ascends = Ascends-by_query one_side pairs key rises
 
-  pub index_of_found : (r : Result ℕ ℕ) → Finds (to_key key) pairs r → r ≡ index_of text_order pairs key
-  index_of_found r f = index_of-from_Splits text_order pairs key r (Splits-from_Finds one_side pairs key rises r f)
-
-  pub value_at_found : (i : ℕ) (p : List ℕ × List ℕ) → Finds (to_key key) pairs (Ok i) → slice_get pairs i ≡ Some p → value_at text_order pairs key ≡ Some p.1
-  value_at_found i p f e =
-      let s = there-from_Splits text_order pairs key (Ok i) (Splits-from_Finds one_side pairs key rises (Ok i) f) in
-      let a : at text_order pairs key ≡ Some p = sym s ∙ e in
-      rw a refl
-
-  pub value_at_missing : (i : ℕ) → Finds (to_key key) pairs (Err i) → value_at text_order pairs key ≡ None
-  value_at_missing i f = let s = Splits-from_Finds one_side pairs key rises (Err i) f in rw s.missing refl
-
   -- a walk's end: at a pair whose key is equal, or between those below and those above
   pub scanned_found : (index : ℕ) (name : List ℕ) (value : Bor (List ℕ)) → slice_get pairs index ≡ Some (name, value.now) → text_order name key ≡ Equal → IsScanned pairs key (Ok (index, value))
   scanned_found index name value e is =
-      let f = Finds-here (to_key key) pairs index name value.now e is in
-      (sym (index_of_found (Ok index) f), value_at_found index (name, value.now) f e)
+      let s : Splits text_order pairs key (Ok index) = Splits-from_Finds one_side pairs key rises (Ok index) (Finds-here (to_key key) pairs index name value.now e is) in
+      (s, value_at_split pairs key index (name, value.now) s e)
 
   pub scanned_missing : (low high : ℕ) → high ≤ low → low ≤ length pairs → Narrowed (to_key key) pairs low high → IsScanned pairs key (Err low)
-  scanned_missing low high h l n =
-      let f = Finds-nowhere (to_key key) pairs low high h l n in
-      (sym (index_of_found (Err low) f), value_at_missing low f)
+  scanned_missing low high h l n = Splits-from_Finds one_side pairs key rises (Err low) (Finds-nowhere (to_key key) pairs low high h l n)
 
 -- ---- a scan's state
 
-pub record Scanned (entries : List ℕ) (count : ℕ) (key rest : List ℕ) (index : ℕ) : Type 0 where
-  pub these : AreEntries entries count
+pub asked_one : {old new : Count} → new.name ≡ old.name → new.total ≡ old.total + 1 → RisesByAtMost 1 old new
+asked_one same one = record { same = same; not_lowered = omega (arith, one); most = omega (arith, one) }
+
+pub record Scanned (entries : List ℕ) (size : ℕ) (key rest : List ℕ) (index : ℕ) (old new : Count) : Type 0 where
+  pub these : AreEntries entries size
   pub here : IsAt these.pairs these.rest rest index
   pub narrowed : Narrowed (to_key key) these.pairs index (length these.pairs)
+  pub asked : RisesByAtMost index old new
 
-pub scanned_start : (entries key : List ℕ) (count : ℕ) → AreEntries entries count → Scanned entries count key entries 0
-scanned_start entries key count these = record { these = these; here = these.spelled; narrowed = Narrowed-whole (to_key key) these.pairs (length these.pairs) (omega arith) }
+pub scanned_start : (entries key : List ℕ) (size : ℕ) (count : Count) → AreEntries entries size → Scanned entries size key entries 0 count count
+scanned_start entries key size count these = record {
+  these = these;
+  here = these.spelled;
+  narrowed = Narrowed-whole (to_key key) these.pairs (length these.pairs) (omega arith);
+  asked = not_asked count;
+}
 
 -- ---- a walk to a place
 

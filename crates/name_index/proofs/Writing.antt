@@ -1,17 +1,19 @@
 -- What is written of an index stays as it is, and further bytes stand behind it.
-use Rattle.std.proofs.Common.{◌≡◌, ℕ, zero, suc, ◌+◌, ◌*◌, ◌-◌, ◌<◌, ◌≤◌, List, [], ◌∷◌, ◌++◌, length, take, drop, map, get_or, slice_get, Some, Bor, refl, sym, ap, ◌∙◌, subst, arith, append_assoc, length-append, inl, inr, ◌⊎◌}
+use Rattle.std.proofs.Common.{◌≡◌, ℕ, ◌+◌, ◌*◌, ◌-◌, ◌<◌, ◌≤◌, List, [], ◌∷◌, ◌++◌, length, take, drop, map, get_or, slice_get, Some, Bor, refl, sym, ap, ◌∙◌, subst, arith, append_assoc, length-append, inl, inr}
 use Rattle.std.specs.Prelude.{IsUtf8}
 use Rattle.std.specs.Int.{from_le_bytes, to_le_bytes, w32}
+use Rattle.std.proofs.Math.Nat.{eq-or-lt_of_le}
 use Rattle.std.proofs.lemmas.Nat.{from_le_bytes-to_le_bytes_4}
-use Rattle.std.proofs.lemmas.List.{drop-append-le, drop_at, length-drop, take-append-le, take_all, append-nil, length-map}
+use Rattle.std.proofs.lemmas.List.{drop-append-le, drop_at, length-drop, length-take, take-append-le, take_all, append-nil, length-map}
 use Rattle.std.proofs.lemmas.List.Sums.{sum_by-cons, sum_by-take-le, sum_by_more}
 use Rattle.std.specs.Option.{option_map}
 use Rattle.std.proofs.lemmas.Option.{get_or_from_slice_get, slice_get-get_or, slice_get-map, slice_get_within}
 use Rattle.litemap.specs.ByBytes.{by_bytes}
-use Rattle.litemap_store.specs.Pairs.{BelowAll, Rising}
+use Rattle.litemap_store.specs.Pairs.{Rising}
 use Rattle.name_index.specs.Index.{BeginsAt, IsIndex, IsNumberAt, IsPairAt, IsTextAt}
 use Rattle.name_index.specs.Tables.{text_order}
 use Rattle.name_table.specs.Remaining.{shown}
+use Rattle.name_table.proofs.ReadAgain.{shown_rise}
 use Rattle.name_index.specs.Writes.{Adds, AddsPairs, ArePlaces, entries_size, pair_size}
 
 -- ---- bytes behind bytes
@@ -46,15 +48,8 @@ number_kept old new size at n a p =
     })
 
 pub text_within : (bytes : List ℕ) (at : ℕ) (text : List ℕ) → IsTextAt bytes at text → at + 4 + length text ≤ length bytes
-text_within bytes at text p = short (length text) (drop (at + 4) bytes) (ap length p.there) (length-drop (at + 4) bytes) p.size.within
-  where
-    taken : (n : ℕ) (xs : List ℕ) → length (take n xs) ≡ n → n ≤ length xs
-    taken zero xs e = omega arith
-    taken (suc n) [] e = absurd (cc)
-    taken (suc n) (x ∷ xs) e = let f : length (take n xs) ≡ n = omega (arith, e) in omega (arith, taken n xs f)
-
-    short : (n : ℕ) (xs : List ℕ) → length (take n xs) ≡ n → length xs ≡ length bytes - (at + 4) → at + 4 ≤ length bytes → at + 4 + n ≤ length bytes
-    short n xs e f h = omega (arith, taken n xs e, f, h)
+text_within bytes at text p =
+    omega (arith, ap length p.there, length-take (length text) (drop (at + 4) bytes), length-drop (at + 4) bytes, p.size.within)
 
 pub text_kept : (old new : List ℕ) (size at : ℕ) (text : List ℕ) → Adds old new size → IsTextAt old at text → IsTextAt new at text
 text_kept old new size at text a p = record {
@@ -123,12 +118,6 @@ module _ (pairs : List (List ℕ × List ℕ)) (index : ℕ) (pair : List ℕ ×
   pub size_within : entries_size (take index pairs) + pair_size pair ≤ entries_size pairs
   size_within = omega (arith, size_more, sum_by-take-le pair_size pairs (index + 1))
 
-below_next : (k index : ℕ) → k < index + 1 → (k < index) ⊎ (k ≡ index)
-below_next zero zero l = inr refl
-below_next zero (suc index) l = inl (omega arith)
-below_next (suc k) zero l = absurd (omega (arith, l))
-below_next (suc k) (suc index) l = elim (below_next k index (omega (arith, l))) [ inl h ↦ inl (omega (arith, h)) | inr h ↦ inr (ap suc h) ]
-
 pub places_start : (bytes : List ℕ) (pairs : List (List ℕ × List ℕ)) (n : ℕ) → Adds [] bytes 4 → IsNumberAt bytes 0 n → n ≡ length pairs → ArePlaces bytes pairs 0
 places_start bytes pairs n a number e = let P : ℕ → Type 0 = λ m. IsNumberAt bytes 0 m in record {
   number = subst P e number;
@@ -140,9 +129,9 @@ pub places_next : (old new : List ℕ) (pairs : List (List ℕ × List ℕ)) (in
 places_next old new pairs index place p e a n = record {
   number = number_kept old new 4 0 (length pairs) a p.number;
   size = omega (arith, adds_length old new 4 a, p.size);
-  noted = λ i l. elim (below_next i index l) [
-    | inl h ↦ number_kept old new 4 (4 + 4 * i) (entries_size (take i pairs)) a (p.noted i h)
-    | inr h ↦
+  noted = λ i l. elim (eq-or-lt_of_le {n = i} {m = index} (omega (arith, l))) [
+    | inr h ↦ number_kept old new 4 (4 + 4 * i) (entries_size (take i pairs)) a (p.noted i h)
+    | inl h ↦
         let P : ℕ → Type 0 = λ m. IsNumberAt new m place in
         let Q : ℕ → Type 0 = λ m. IsNumberAt new (4 + 4 * i) m in
         let w : length old ≡ 4 + 4 * i = omega (arith, p.size, h) in
@@ -159,9 +148,9 @@ pairs_next old middle new pairs index pair p e a here =
     let P : ℕ → Type 0 = λ n. Adds old new n in
     record {
       adds = subst P (sym (size_more pairs index pair e)) (adds_then old middle new (entries_size (take index pairs)) (pair_size pair) p.adds a);
-      there = λ i q l f. elim (below_next i index l) [
-        | inl h ↦ pair_kept middle new (pair_size pair) (length old + entries_size (take i pairs)) q a (p.there i q h f)
-        | inr h ↦
+      there = λ i q l f. elim (eq-or-lt_of_le {n = i} {m = index} (omega (arith, l))) [
+        | inr h ↦ pair_kept middle new (pair_size pair) (length old + entries_size (take i pairs)) q a (p.there i q h f)
+        | inl h ↦
             let G : ℕ → Type 0 = λ k. slice_get pairs k ≡ Some q in
             let g : slice_get pairs index ≡ Some q = subst G h f in
             let s : pair ≡ q = cc in
@@ -203,22 +192,6 @@ shown_at pairs index d l = slice_get-map shown pairs index ∙ ap (λ o. option_
 pub shown_length : (pairs : List (Text × Text)) → length (map shown pairs) ≡ length pairs
 shown_length pairs = length-map pairs shown
 
-below_shown : (key : Text) (pairs : List (Text × Text)) → BelowAll by_bytes key pairs → BelowAll text_order key.now (map shown pairs)
-below_shown key [] b = tt
-below_shown key (p ∷ pairs) b = (b.0, below_shown key pairs b.1)
-
-pub shown_rise : (pairs : List (Text × Text)) → Rising by_bytes pairs → Rising text_order (map shown pairs)
-shown_rise [] r = tt
-shown_rise (p ∷ pairs) r = (below_shown p.0 pairs r.0, shown_rise pairs r.1)
-
-shown_below : (key : Text) (pairs : List (Text × Text)) → BelowAll text_order key.now (map shown pairs) → BelowAll by_bytes key pairs
-shown_below key [] b = tt
-shown_below key (p ∷ pairs) b = (b.0, shown_below key pairs b.1)
-
-pub rise_shown : (pairs : List (Text × Text)) → Rising text_order (map shown pairs) → Rising by_bytes pairs
-rise_shown [] r = tt
-rise_shown (p ∷ pairs) r = (shown_below p.0 pairs r.0, rise_shown pairs r.1)
-
 length_less : (pairs : List (List ℕ × List ℕ)) → length pairs ≤ entries_size pairs
 length_less [] = omega arith
 length_less (p ∷ pairs) = omega (arith, sum_by-cons pair_size p pairs, length_less pairs)
@@ -237,6 +210,11 @@ module _ (pairs : List (Text × Text)) (index : ℕ) (d : Text × Text) (l : ind
 pub place_next : (pairs : List (Text × Text)) (index : ℕ) (d : Text × Text) (place next : ℕ) → index < length pairs → place ≡ entries_size (take index (map shown pairs)) → next ≡ place + pair_size (shown (get_or pairs index d)) → next ≡ entries_size (take (index + 1) (map shown pairs))
 place_next pairs index d place next l e n =
     n ∙ ap (λ k. k + pair_size (shown (get_or pairs index d))) e ∙ sym (size_more (map shown pairs) index (shown (get_or pairs index d)) (shown_at pairs index d l))
+
+pub all_small : (pairs : List (Text × Text)) (index place : ℕ) → index ≡ length pairs → place ≡ entries_size (take index (map shown pairs)) → place < 4294967296 → entries_size (map shown pairs) < 4294967296
+all_small pairs index place i e h =
+    let a : take index (map shown pairs) ≡ map shown pairs = take_all index (map shown pairs) (omega (arith, i, shown_length pairs)) in
+    omega (arith, h, e, ap entries_size a)
 
 pub shown_written : (old new : List ℕ) (pairs : List (Text × Text)) → ArePlaces old (map shown pairs) (length pairs) → AddsPairs old new (map shown pairs) (length pairs) → Rising by_bytes pairs → IsIndex new (map shown pairs)
 shown_written old new pairs p a rises =

@@ -1,6 +1,7 @@
 -- The entries of a table, behind their number.
-use Rattle.std.specs.Prelude.{◌≡◌, ℕ, List, [], ◌∷◌, length, Result, Ok, Err, Some, None}
-use Rattle.litemap_store.specs.Pairs.{Rising, index_of, value_at}
+use Rattle.std.specs.Prelude.{◌≡◌, ℕ, List, [], ◌∷◌, length, Result, Ok, Err, Some}
+use Rattle.litemap_store.specs.Pairs.{Rising, value_at}
+use Rattle.litemap_store.specs.Splits.{IsFoundAt, IsMissingAt}
 use Rattle.name_table.specs.Parts.{Begins, Number, pair_parts, text_parts}
 use Rattle.name_index.specs.Tables.{text_order}
 use denote.Ref.{Bor}
@@ -32,5 +33,5 @@ pub record IsOpened (bytes entries : List ℕ) (count : ℕ) : Type 0 where
 
 -- the place of the key, with its value, or the place where it would go
 abbrev pub IsScanned : List (List ℕ × List ℕ) → List ℕ → Result (ℕ × Bor (List ℕ)) ℕ → Type 0
-IsScanned pairs key (Ok found) = (index_of text_order pairs key ≡ Ok found.0) × (value_at text_order pairs key ≡ Some found.1.now)
-IsScanned pairs key (Err index) = (index_of text_order pairs key ≡ Err index) × (value_at text_order pairs key ≡ None)
+IsScanned pairs key (Ok found) = IsFoundAt text_order pairs key found.0 × (value_at text_order pairs key ≡ Some found.1.now)
+IsScanned pairs key (Err index) = IsMissingAt text_order pairs key index

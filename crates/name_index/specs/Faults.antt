@@ -2,7 +2,7 @@
 -- doesn't rise.
 use Rattle.std.specs.Prelude.{◌≡◌, ◌⊎◌, ℕ, List, [], ◌∷◌, ◌++◌}
 use Rattle.litemap_store.specs.Pairs.{Rising}
-use Rattle.name_table.specs.Faults.{NumberFault, PairsFault}
+use Rattle.name_table.specs.Faults.{NextFault, NumberFault}
 use Rattle.name_table.specs.ReadOn.{IsReadOn}
 use Rattle.name_table.specs.Remaining.{IsCounted, IsNext, Remaining}
 use Rattle.name_index.specs.Tables.{IsRisingTable, text_order}
@@ -18,17 +18,28 @@ pub record RisesTo (s t : Remaining) : Type 0 where
 abbrev pub AllRise : Remaining → Type 0
 AllRise s = (t : Remaining) × RisesTo s t × (t.left ≡ 0)
 
--- some pairs can be read, and their keys rise. The next one can't be read, or its key doesn't rise
+-- the next one of the pairs that are due, behind those that were read, can't be read, or its key doesn't rise
+abbrev pub NextStops : List (List ℕ × List ℕ) → Remaining → NameTableFault → Type 0
+NextStops pairs t (Format fault) = NextFault t fault
+NextStops pairs t (NotRising at) =
+    (u : Remaining) × (next : List ℕ × List ℕ) × IsNext t u next × (at ≡ t.place) × (Rising text_order (pairs ++ next ∷ []) → ⊥)
+
+-- some pairs can be read, and their keys rise. The next one stops
 abbrev pub StopsAt : Remaining → NameTableFault → Type 0
-StopsAt s (Format fault) = (t : Remaining) × RisesTo s t × PairsFault t fault
-StopsAt s (NotRising at) =
-    (t : Remaining) × (u : Remaining) × (next : List ℕ × List ℕ) × (read : RisesTo s t)
-    × IsNext t u next × (at ≡ t.place) × (Rising text_order (read.on.pairs ++ next ∷ []) → ⊥)
+StopsAt s fault = (t : Remaining) × (read : RisesTo s t) × NextStops read.on.pairs t fault
+
+-- the number of entries can't be read
+abbrev pub NumberStops : List ℕ → NameTableFault → Type 0
+NumberStops bytes (Format fault) = NumberFault bytes 0 fault
+NumberStops bytes (NotRising at) = ⊥
 
 -- the number of entries can't be read, or what is due behind it stops
 abbrev pub IsFault : List ℕ → NameTableFault → Type 0
-IsFault bytes (Format fault) = NumberFault bytes 0 fault ⊎ ((s : Remaining) × IsCounted bytes s × StopsAt s (Format fault))
-IsFault bytes (NotRising at) = (s : Remaining) × IsCounted bytes s × StopsAt s (NotRising at)
+IsFault bytes fault = NumberStops bytes fault ⊎ ((s : Remaining) × IsCounted bytes s × StopsAt s fault)
+
+-- bytes have one fault at most
+abbrev pub RisingFaultIsOne : Type 0
+RisingFaultIsOne = (bytes : List ℕ) (f g : NameTableFault) → IsFault bytes f → IsFault bytes g → f ≡ g
 
 -- bytes that begin with a table whose keys rise have no fault
 abbrev pub RisingHasNoFault : Type 0

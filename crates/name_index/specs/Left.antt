@@ -5,7 +5,7 @@ use Rattle.std.proofs.Common.{sym, ◌∙◌}
 use Rattle.std.proofs.Math.Logic.{∥∥₁_prop, ∥∥₁_elim}
 use mathlib.Core.HLevel.{Σ_prop_path}
 use Rattle.name_table.specs.Parts.{Begins, pair_parts}
-use Rattle.name_table.proofs.Unique.{agree_pairs, pair_parts-inj, parts_unique}
+use Rattle.name_table.proofs.Unique.{agree_pairs, begins_unique, pair_parts-inj}
 
 -- the bytes begin with the pairs, which are so many
 pub record AreLeft (bytes : List ℕ) (count : ℕ) (pairs : List (List ℕ × List ℕ)) : Type 0 where
@@ -19,8 +19,7 @@ Left bytes count = (pairs : List (List ℕ × List ℕ)) × ∥ AreLeft bytes co
 
 pub left_one : (bytes : List ℕ) (count : ℕ) (J K : List (List ℕ × List ℕ)) → AreLeft bytes count J → AreLeft bytes count K → J ≡ K
 left_one bytes count J K a b =
-    let u = parts_unique (pair_parts J) (pair_parts K) a.spelled.front b.spelled.front a.behind b.behind (agree_pairs J K (a.count_is ∙ sym b.count_is)) a.spelled.spelled b.spelled.spelled (sym a.spelled.split ∙ b.spelled.split) in
-    pair_parts-inj J K u.1
+    pair_parts-inj J K (begins_unique bytes (agree_pairs J K (a.count_is ∙ sym b.count_is)) a.spelled b.spelled).1
 
 pub pairs_set : (J K : List (List ℕ × List ℕ)) → IsProp (J ≡ K)
 pairs_set J K = Coded-set (coded_list (coded× (coded_list coded_ℕ) (coded_list coded_ℕ))) J K

@@ -1,7 +1,9 @@
 -- The places of the entries of a table.
-use Rattle.std.specs.Prelude.{◌≡◌, ℕ, ◌≤◌, List, drop, length, Some, slice_get}
+use Rattle.std.specs.Prelude.{◌≡◌, ℕ, ◌<◌, ◌≤◌, List, drop, length, Some, slice_get, ⊤}
 use Rattle.name_table.specs.Parts.{Begins, Number, pair_parts}
 use Rattle.name_index.specs.Entries.{AreEntries}
+use Rattle.name_index.specs.declared.fault.NameIndexFault.{NameIndexFault}
+use Rattle.name_index.specs.declared.fault.NameIndexFault.TheVariants.{NoRoom, TooFar}
 use Rattle.std.specs.Prelude.{[], ◌∷◌}
 
 -- the bytes are entries, one for each place, which is where the bytes of its pair and of the later ones begin
@@ -22,3 +24,20 @@ IsKeyAt pairs index key = (value : List ℕ) × (slice_get pairs index ≡ Some 
 pub record IsIndexed (bytes entries places : List ℕ) : Type 0 where
   pub counted : Begins bytes (Number (length places) ∷ []) entries
   pub placed : ArePlaced entries places
+
+-- of so many entries one begins 2^32 bytes or more behind the first
+pub record AreFar (entries : List ℕ) (count : ℕ) : Type 0 where
+  pub before : List (List ℕ × List ℕ)
+  pub rest : List ℕ
+  pub spelled : Begins entries (pair_parts before) rest
+  pub due : length before < count
+  pub far : 4294967296 ≤ length spelled.front
+
+-- the bytes begin with the number of such entries
+abbrev pub IsFar : List ℕ → Type 0
+IsFar bytes = (entries : List ℕ) × (count : ℕ) × Begins bytes (Number count ∷ []) entries × AreFar entries count
+
+-- where an entry is too far, P holds
+abbrev pub IfTooFar : NameIndexFault → Type 0 → Type 0
+IfTooFar NoRoom P = ⊤
+IfTooFar TooFar P = P

@@ -1,5 +1,5 @@
 //! An index of names that was read once.
-ghost use Rattle.std.specs.Prelude.{◌≡◌, ◌==◌, IfErr, IfOk, length, slice_get, ⊤};
+ghost use Rattle.std.specs.Prelude.{◌≡◌, ◌==◌, ◌-◌, IfErr, IfOk, OnOk, length, slice_get, ⊤};
 ghost use Rattle.std.specs.Option.{option_copied, option_map};
 ghost use Rattle.litemap_store.specs.Counts.{RisesByAtMost};
 ghost use Rattle.litemap_store.specs.Digits.{digits};
@@ -43,9 +43,22 @@ impl<'a> IndexedNames<'a> {
         ensures index { IfOk result (λ _. OfIndex bytes.now (λ _. ⊤)) }
         ensures fault { IfErr result (λ _. NoIndex bytes.now) }
     {
+        Self::open_checked_counted(bytes, &mut Count::new())
+    }
+
+    /// `open_checked`, with its comparisons counted.
+    pub fn open_checked_counted(
+        bytes: &'a [u8],
+        count: &mut Count,
+    ) -> Result<CheckedNames<'a>, IndexFault>
+        ensures bytes { IfOk result (λ names. names ≡ bytes.now) }
+        ensures index { IfOk result (λ _. OfIndex bytes.now (λ _. ⊤)) }
+        ensures fault { IfErr result (λ _. NoIndex bytes.now) }
+        ensures cost { OnOk result (OfIndex bytes.now (λ pairs. RisesByAtMost (length pairs - 1) count.old count.new)) }
+    {
         let names = IndexedNames::open(bytes)?;
         let (bytes, size) = names.opened();
-        follow(bytes, size)?;
+        follow(bytes, size, count)?;
         Ok(CheckedNames { names })
     }
 }

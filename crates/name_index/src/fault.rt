@@ -1,8 +1,10 @@
 //! Why a name table or an index of names can't be looked up in.
 ghost use Rattle.std.specs.Prelude.{◌≡◌};
+ghost use Rattle.name_index.specs.declared.fault.NameIndexFault.TheVariants.{NoRoom};
 ghost use Rattle.name_index.specs.declared.fault.NameTableFault.TheVariants.{Format};
 
 use name_table::NameFault;
+use std::alloc::AllocError;
 use thiserror::Error;
 
 /// Why bytes are no name table whose keys rise.
@@ -25,6 +27,26 @@ impl From<NameFault> for NameTableFault {
 
     fn from(fault: NameFault) -> Self {
         NameTableFault::Format(fault)
+    }
+}
+
+/// Why no `NameIndex` of a table was made.
+#[derive(Debug, PartialEq, Drop, Error)]
+pub enum NameIndexFault {
+    /// Want of memory.
+    #[error("out of memory")]
+    NoRoom,
+    /// An entry begins 4,294,967,296 bytes or more behind the first.
+    #[error("an entry of the name table begins too far behind the first")]
+    TooFar,
+}
+
+/// So that `?` hands want of memory on.
+impl From<AllocError> for NameIndexFault {
+    ghost from_gives = { λ _ fault. fault ≡ NoRoom };
+
+    fn from(_: AllocError) -> Self {
+        NameIndexFault::NoRoom
     }
 }
 

@@ -1,13 +1,15 @@
 //! A name table with the place of each entry.
-ghost use Rattle.std.specs.Prelude.{◌≡◌, ◌==◌, ◌*◌, ◌<◌, IfOk, OnErr, Some, filter, length, map, slice_get, slice_range};
+ghost use Rattle.std.specs.Prelude.{◌≡◌, ◌==◌, ◌*◌, ◌<◌, IfErr, IfOk, OnErr, OnOk, Some, filter, length, map, slice_get, slice_range};
 ghost use Rattle.std.specs.Option.{option_copied, option_map};
 ghost use Rattle.litemap_store.specs.Counts.{RisesByAtMost};
 ghost use Rattle.litemap_store.specs.Digits.{digits};
 ghost use Rattle.litemap_store.specs.Pairs.{index_of, place, sub, value_at};
+ghost use Rattle.name_index.specs.Placed.{IfTooFar, IsFar};
 ghost use Rattle.name_index.specs.Prefixes.{begins};
 ghost use Rattle.name_index.specs.Tables.{OfTable, text_order};
 ghost use Rattle.name_table.specs.Remaining.{shown};
 
+use crate::fault::NameIndexFault;
 use crate::maps::map_of;
 use crate::name_entries::NameEntries;
 use crate::places::{entries_between, pair_of, places_of, search};
@@ -43,11 +45,13 @@ impl<'a> Model for NameIndex<'a> {
 impl<'a> NameIndex<'a> {
     /// The index of a table: its entries are read once, with no comparison.
     ///
-    /// It is refused for want of memory, and where the place of an entry isn't below 4,294,967,296; that of a table with no
-    /// entry never is.
-    pub fn new(alloc: Global, table: &NameTable<'a>) -> Result<Self, AllocError>
+    /// It is refused for want of memory, that of a table with no entry never, and exactly where an entry begins 4,294,967,296
+    /// bytes or more behind the first.
+    pub fn new(alloc: Global, table: &NameTable<'a>) -> Result<Self, NameIndexFault>
         ensures bytes { IfOk result (λ index. index ≡ table.now) }
         ensures refused { OnErr result (OfTable table.now (λ pairs. 0 < length pairs)) }
+        ensures too_far { IfErr result (λ fault. IfTooFar fault (IsFar table.now)) }
+        ensures near { OnOk result (IsFar table.now → ⊥) }
     {
         let (bytes, entries, count) = table.opened();
         let places = places_of(alloc, entries, count)?;

@@ -1,22 +1,24 @@
 //! Indexes written from maps.
-ghost use Rattle.std.specs.Prelude.{◌≡◌, ◌+◌, ◌*◌, ◌≤◌, ◌<◌, IfErr, IfNone, IfOk, IfSome, OnOk, length, map};
+ghost use Rattle.std.specs.Prelude.{◌≡◌, ◌+◌, ◌*◌, ◌≤◌, ◌<◌, Err, IfErr, IfOk, OnOk, length, map};
 ghost use Rattle.litemap.specs.ByBytes.{by_bytes};
 ghost use Rattle.litemap_store.specs.Pairs.{Rising};
 ghost use Rattle.name_index.specs.Index.{IsIndex, IsNumberAt, IsPairAt, IsTextAt};
 ghost use Rattle.name_table.specs.Remaining.{shown};
 ghost use Rattle.name_index.specs.Writes.{Adds, AddsPairs, ArePlaces, entries_size, index_size, pair_size};
 ghost use Rattle.name_table.specs.Writes.{IfTooLarge};
+ghost use Rattle.name_table.specs.declared.fault.NameWriteFault.TheVariants.{TooLarge};
 
 use name_table::{NameMap, NameWriteFault};
 use std::alloc::Global;
 
 /// The index of a map.
 ///
-/// It is refused for want of memory, and where the entries take 4,294,967,296 bytes or more.
+/// It is refused for want of memory, and exactly where the entries take 4,294,967,296 bytes or more.
 pub fn write_index(alloc: Global, names: &NameMap<'_>) -> Result<Vec<u8>, NameWriteFault>
     ensures index { IfOk result (λ bytes. IsIndex bytes.items (map shown names.now.pairs)) }
     ensures size { IfOk result (λ bytes. length bytes.items ≡ index_size (map shown names.now.pairs)) }
     ensures too_large { IfErr result (λ fault. IfTooLarge fault (4294967296 ≤ entries_size (map shown names.now.pairs))) }
+    ensures small { OnOk result (entries_size (map shown names.now.pairs) < 4294967296) }
 {
     write_index_of(alloc, names.as_slice())
 }
@@ -27,6 +29,7 @@ pub fn write_index_of(alloc: Global, names: &[(&str, &str)]) -> Result<Vec<u8>, 
     ensures index { IfOk result (λ bytes. IsIndex bytes.items (map shown names.now)) }
     ensures size { IfOk result (λ bytes. length bytes.items ≡ index_size (map shown names.now)) }
     ensures too_large { IfErr result (λ fault. IfTooLarge fault (4294967296 ≤ entries_size (map shown names.now))) }
+    ensures small { OnOk result (entries_size (map shown names.now) < 4294967296) }
 {
     let mut bytes = put_places(alloc, names)?;
     put_entries(&mut bytes, names)?;
@@ -37,16 +40,14 @@ pub fn write_index_of(alloc: Global, names: &[(&str, &str)]) -> Result<Vec<u8>, 
 fn put_places(alloc: Global, pairs: &[(&str, &str)]) -> Result<Vec<u8>, NameWriteFault>
     ensures places { IfOk result (λ bytes. ArePlaces bytes.items (map shown pairs.now) (length pairs.now)) }
     ensures too_large { IfErr result (λ fault. IfTooLarge fault (4294967296 ≤ entries_size (map shown pairs.now))) }
+    ensures small { OnOk result (entries_size (map shown pairs.now) < 4294967296) }
 {
     let mut bytes = Vec::new(alloc);
     put_number(&mut bytes, pairs.len())?;
     let mut place = 0;
     for pair in pairs {
         put_number(&mut bytes, place)?;
-        let Some(next) = behind(place, pair.0, pair.1) else {
-            return Err(NameWriteFault::TooLarge);
-        };
-        place = next;
+        place = behind(place, pair.0, pair.1)?;
     }
     Ok(bytes)
 }
@@ -63,20 +64,20 @@ fn put_entries(bytes: &mut Vec<u8>, pairs: &[(&str, &str)]) -> Result<(), NameWr
 }
 
 // The place behind a pair, where it is one that can be noted.
-fn behind(place: usize, key: &str, value: &str) -> Option<usize>
+fn behind(place: usize, key: &str, value: &str) -> Result<usize, NameWriteFault>
     requires { place < 4294967296 }
-    ensures next { IfSome result (λ next. next ≡ place + pair_size (key.now, value.now)) }
-    ensures small { IfSome result (λ next. next < 4294967296) }
-    ensures none { IfNone result (4294967296 ≤ place + pair_size (key.now, value.now)) }
+    ensures next { IfOk result (λ next. next ≡ place + pair_size (key.now, value.now)) }
+    ensures small { IfOk result (λ next. next < 4294967296) }
+    ensures too_large { IfErr result (λ fault. (fault ≡ TooLarge) × (4294967296 ≤ place + pair_size (key.now, value.now))) }
 {
     if key.len() >= 4_294_967_296 || value.len() >= 4_294_967_296 {
-        return None;
+        return Err(NameWriteFault::TooLarge);
     }
     let next = place + 8 + key.len() + value.len();
     if next < 4_294_967_296 {
-        Some(next)
+        Ok(next)
     } else {
-        None
+        Err(NameWriteFault::TooLarge)
     }
 }
 
@@ -108,6 +109,7 @@ fn put_number(bytes: &mut Vec<u8>, number: usize) -> Result<(), NameWriteFault>
     ensures number { OnOk result (IsNumberAt bytes.new.items (length bytes.old.items) number) }
     ensures small { OnOk result (number < 4294967296) }
     ensures too_large { IfErr result (λ fault. IfTooLarge fault (4294967296 ≤ number)) }
+    ensures refused { 4294967296 ≤ number → result ≡ Err TooLarge }
 {
     if number >= 4_294_967_296 {
         return Err(NameWriteFault::TooLarge);

@@ -1,5 +1,5 @@
 //! What is found among the entries of an index, and whether they are all there.
-ghost use Rattle.std.specs.Prelude.{◌<◌, IfErr, IfOk, OnOk, ⊤};
+ghost use Rattle.std.specs.Prelude.{◌-◌, ◌<◌, IfErr, IfOk, OnOk, ⊤};
 ghost use Rattle.litemap_store.specs.Counts.{RisesByAtMost};
 ghost use Rattle.litemap_store.specs.Digits.{digits};
 ghost use Rattle.litemap_store.specs.Splits.{Splits};
@@ -40,15 +40,16 @@ pub fn find(
 }
 
 /// Reads all entries. The fault is that of the first one that can't be read, or whose key doesn't rise.
-pub fn follow(bytes: &[u8], size: usize) -> Result<(), IndexFault>
+pub fn follow(bytes: &[u8], size: usize, count: &mut Count) -> Result<(), IndexFault>
     requires { HasPlaces bytes.now size }
     ensures ok { OnOk result (OfIndex bytes.now (λ _. ⊤)) }
     ensures fault { IfErr result (λ _. NoIndex bytes.now) }
+    ensures cost { RisesByAtMost (size - 1) count.old count.new }
 {
     let mut last: Option<&str> = None;
     for index in 0..size {
         let (key, _) = entry_at(bytes, size, index)?;
-        if !is_above(last, key) {
+        if !is_above(last, key, count) {
             return Err(IndexFault::NotRising { index });
         }
         last = Some(key);

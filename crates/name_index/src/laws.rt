@@ -1,5 +1,5 @@
 //! Laws over the definitions of `specs/`. Each function does nothing: its contract is the law.
-ghost use Rattle.name_index.specs.Faults.{RisingHasNoFault};
+ghost use Rattle.name_index.specs.Faults.{RisingFaultIsOne, RisingHasNoFault};
 ghost use Rattle.name_index.specs.Tables.{WrittenIsOpened};
 ghost use Rattle.name_index.specs.Writes.{IndexIsOne};
 
@@ -18,4 +18,9 @@ pub fn written_is_opened()
 /// `write_names` writes (`written_is_opened`).
 pub fn rising_has_no_fault()
     ensures { RisingHasNoFault }
+{}
+
+/// Bytes have one fault at most: `NameTable::new` tells the first entry that can't be read or doesn't rise, and no later one.
+pub fn rising_fault_is_one()
+    ensures { RisingFaultIsOne }
 {}

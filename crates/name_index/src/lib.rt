@@ -21,7 +21,7 @@ mod rising;
 mod table;
 
 pub use checked::CheckedNames;
-pub use fault::{IndexFault, NameTableFault};
+pub use fault::{IndexFault, NameIndexFault, NameTableFault};
 pub use index::NameIndex;
 pub use index_write::{write_index, write_index_of};
 pub use indexed::IndexedNames;

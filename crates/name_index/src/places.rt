@@ -1,37 +1,58 @@
 //! The places of entries, and what is found by them.
-ghost use Rattle.std.specs.Prelude.{◌≡◌, ◌<◌, ◌≤◌, IfOk, OnErr, Some, length, slice_get, slice_range};
+ghost use Rattle.std.specs.Prelude.{◌≡◌, ◌+◌, ◌<◌, ◌≤◌, ◌∷◌, ◌++◌, [], IfErr, IfOk, OnErr, OnOk, Some, length, slice_get, slice_range};
 ghost use Rattle.litemap_store.specs.Counts.{RisesByAtMost};
 ghost use Rattle.litemap_store.specs.Digits.{digits};
 ghost use Rattle.litemap_store.specs.Splits.{Splits};
 ghost use Rattle.name_index.specs.Entries.{AreEntries};
-ghost use Rattle.name_index.specs.Placed.{ArePlaced, AsPlaced, IsKeyAt};
+ghost use Rattle.name_index.specs.Placed.{AreFar, ArePlaced, AsPlaced, IfTooFar, IsKeyAt};
 ghost use Rattle.name_index.specs.Tables.{text_order};
+ghost use Rattle.name_index.specs.declared.fault.NameIndexFault.TheVariants.{TooFar};
 ghost use Rattle.name_table.specs.Remaining.{shown};
 
+use crate::fault::NameIndexFault;
 use crate::known::{known_pair, known_text};
 use crate::name_entries::NameEntries;
 use litemap_store::store::Count;
 use std::alloc::{AllocError, Global};
 use std::cmp::Ordering;
 
-/// The places of so many entries, from the first one's on. It is refused where one isn't below 4,294,967,296.
-pub fn places_of(alloc: Global, entries: &[u8], count: usize) -> Result<Vec<u32>, AllocError>
+/// The places of so many entries, from the first one's on.
+pub fn places_of(alloc: Global, entries: &[u8], count: usize) -> Result<Vec<u32>, NameIndexFault>
     requires { AreEntries entries.now count }
     ensures number { IfOk result (λ places. length places.items ≡ count) }
     ensures placed { IfOk result (λ places. ArePlaced entries.now places.items) }
     ensures refused { OnErr result (0 < count) }
+    ensures too_far { IfErr result (λ fault. IfTooFar fault (AreFar entries.now count)) }
+    ensures near { OnOk result (AreFar entries.now count → ⊥) }
 {
     let mut places = Vec::with_capacity(alloc, count)?;
     let mut rest = entries;
     for _ in 0..count {
-        let Ok(place) = u32::try_from(entries.len() - rest.len()) else {
-            return Err(AllocError);
-        };
-        places.push(place)?;
+        put(&mut places, place_of(entries, rest)?)?;
         let (_, behind) = known_pair(rest);
         rest = behind;
     }
     Ok(places)
+}
+
+// Puts a place behind those that are there.
+fn put(places: &mut Vec<u32>, place: u32) -> Result<(), AllocError>
+    ensures { OnOk result (places.new.items ≡ places.old.items ++ place ∷ []) }
+{
+    places.push(place)?;
+    Ok(())
+}
+
+// How far the rest begins behind the first entry, where four bytes can note it.
+fn place_of(entries: &[u8], rest: &[u8]) -> Result<u32, NameIndexFault>
+    requires { length rest.now ≤ length entries.now }
+    ensures place { IfOk result (λ place. place + length rest.now ≡ length entries.now) }
+    ensures far { IfErr result (λ fault. (fault ≡ TooFar) × (4294967296 + length rest.now ≤ length entries.now)) }
+{
+    match u32::try_from(entries.len() - rest.len()) {
+        Ok(place) => Ok(place),
+        Err(_) => Err(NameIndexFault::TooFar),
+    }
 }
 
 /// The entry at a place.

@@ -1,7 +1,8 @@
 //! A name table that is scanned.
-ghost use Rattle.std.specs.Prelude.{◌≡◌, ◌==◌, ◌<◌, IfErr, IfOk, OnErr, length, map, slice_get, ⊤};
+ghost use Rattle.std.specs.Prelude.{◌≡◌, ◌==◌, ◌+◌, ◌-◌, ◌<◌, IfErr, IfOk, OnErr, OnOk, length, map, slice_get, ⊤};
 ghost use Rattle.std.specs.Option.{option_copied, option_map};
-ghost use Rattle.litemap_store.specs.Pairs.{index_of, value_at};
+ghost use Rattle.litemap_store.specs.Counts.{RisesByAtMost};
+ghost use Rattle.litemap_store.specs.Pairs.{index_of, place, value_at};
 ghost use Rattle.name_index.specs.Entries.{IsOpened};
 ghost use Rattle.name_index.specs.Faults.{IsFault};
 ghost use Rattle.name_index.specs.Tables.{OfTable, text_order};
@@ -13,6 +14,7 @@ use crate::maps::map_of;
 use crate::name_entries::NameEntries;
 use crate::rising::check;
 use litemap_read::PairSource;
+use litemap_store::store::Count;
 use name_table::{NameBytes, NameMap};
 use std::alloc::{AllocError, Global};
 use std::marker::Model;
@@ -50,14 +52,24 @@ impl<'a> NameTable<'a> {
         ensures table { IfOk result (λ _. OfTable bytes.now (λ _. ⊤)) }
         ensures fault { IfErr result (λ fault. IsFault bytes.now fault) }
     {
+        Self::new_counted(bytes, &mut Count::new())
+    }
+
+    /// `new`, with its comparisons counted.
+    pub fn new_counted(bytes: &'a [u8], count: &mut Count) -> Result<Self, NameTableFault>
+        ensures bytes { IfOk result (λ table. table ≡ bytes.now) }
+        ensures table { IfOk result (λ _. OfTable bytes.now (λ _. ⊤)) }
+        ensures fault { IfErr result (λ fault. IsFault bytes.now fault) }
+        ensures cost { OnOk result (OfTable bytes.now (λ pairs. RisesByAtMost (length pairs - 1) count.old count.new)) }
+    {
         let mut names = NameBytes::new(bytes)?;
         let entries = &bytes[names.place()..];
-        let count = names.hint().unwrap_or(0);
-        check(&mut names)?;
+        let size = names.hint().unwrap_or(0);
+        check(&mut names, count)?;
         Ok(NameTable {
             bytes,
             entries,
-            count,
+            count: size,
         })
     }
 
@@ -89,7 +101,15 @@ impl<'a> NameTable<'a> {
     pub fn get(&self, key: &str) -> Option<&'a str>
         ensures { OfTable self.now (λ pairs. option_copied result ≡ value_at text_order pairs key.now) }
     {
-        match scan(self.entries, self.count, key) {
+        self.get_counted(key, &mut Count::new())
+    }
+
+    /// `get`, with its comparisons counted.
+    pub fn get_counted(&self, key: &str, count: &mut Count) -> Option<&'a str>
+        ensures value { OfTable self.now (λ pairs. option_copied result ≡ value_at text_order pairs key.now) }
+        ensures cost { OfTable self.now (λ pairs. RisesByAtMost (place text_order pairs key.now + 1) count.old count.new) }
+    {
+        match scan(self.entries, self.count, key, count) {
             Ok((_, value)) => Some(value),
             Err(_) => None,
         }
@@ -99,7 +119,15 @@ impl<'a> NameTable<'a> {
     pub fn find_index(&self, key: &str) -> Result<usize, usize>
         ensures { OfTable self.now (λ pairs. result ≡ index_of text_order pairs key.now) }
     {
-        match scan(self.entries, self.count, key) {
+        self.find_index_counted(key, &mut Count::new())
+    }
+
+    /// `find_index`, with its comparisons counted.
+    pub fn find_index_counted(&self, key: &str, count: &mut Count) -> Result<usize, usize>
+        ensures place { OfTable self.now (λ pairs. result ≡ index_of text_order pairs key.now) }
+        ensures cost { OfTable self.now (λ pairs. RisesByAtMost (place text_order pairs key.now + 1) count.old count.new) }
+    {
+        match scan(self.entries, self.count, key, count) {
             Ok((index, _)) => Ok(index),
             Err(index) => Err(index),
         }

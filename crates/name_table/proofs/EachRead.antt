@@ -1,5 +1,6 @@
 -- Each list of bytes begins with a table, or has a fault.
 use Rattle.std.proofs.Common.{◌≡◌, ◌≢◌, ◌⊎◌, inl, inr, ℕ, zero, suc, ◌+◌, ◌-◌, ◌*◌, ◌%◌, ◌<◌, ◌≤◌, Bool, true, false, List, [], ◌∷◌, length, take, drop, refl, sym, subst, arith, ⊎_elim}
+use Rattle.std.proofs.lemmas.Bool.{cases_lt}
 use Rattle.std.proofs.lemmas.List.{length-take-le, take-append-drop}
 use Rattle.std.proofs.lemmas.Str.{IsUtf8-from_is_utf8, is_utf8-from_IsUtf8}
 use Rattle.std.specs.Str.{is_utf8}
@@ -15,13 +16,8 @@ use Rattle.name_table.specs.declared.number.Unread.TheVariants.{Ends, TooLong}
 use Rattle.name_table.proofs.FaultLemmas.{length_fault, text_fault}
 use Rattle.name_table.proofs.NumberLemmas.{begins_last, begins_more, begins_number, cut_fault, large_fault, long_fault, unread_more}
 use Rattle.name_table.proofs.PartLemmas.{begins_none, begins_pairs, begins_text, begins_then}
-use Rattle.name_table.proofs.Remains.{fault_later, is_next, key_fault, value_fault}
+use Rattle.name_table.proofs.Remains.{fault_later, is_next, key_fault, pairs_from_next, value_fault}
 use Rattle.name_table.proofs.WholeTables.{count_fault, pairs_fault}
-
-below_or : (k n : ℕ) → (k < n) ⊎ (n ≤ k)
-below_or k zero = inr (omega arith)
-below_or zero (suc n) = inl (omega arith)
-below_or (suc k) (suc n) = ⊎_elim (λ h. inl (omega (arith, h))) (λ h. inr (omega (arith, h))) (below_or k n)
 
 -- ---- a number
 
@@ -38,7 +34,7 @@ number_read (suc room) (b ∷ bytes) =
     ⊎_elim
     (λ r. let P : ℕ → Type 0 = λ m. BeginsNumber bytes m r.0 r.1 in inl (b % 128 + 128 * r.0, r.1, begins_more (b ∷ bytes) bytes b b (suc room) refl refl k r.0 r.1 h (subst P (sym less) r.2)))
     (λ w. let P : ℕ → Type 0 = λ m. WhyUnread w.0 m bytes in inr (w.0, unread_more (b ∷ bytes) bytes b b (suc room) refl refl k w.0 h (subst P (sym less) w.1))) in
-    ⊎_elim (λ h. inl (b, bytes, begins_last (b ∷ bytes) bytes b b (suc room) refl refl k h)) (λ h. more h (number_read room bytes)) (below_or b 128)
+    ⊎_elim (λ h. inl (b, bytes, begins_last (b ∷ bytes) bytes b b (suc room) refl refl k h)) (λ h. more h (number_read room bytes)) (cases_lt b 128)
 
 -- a number below 2^32
 abbrev LengthRead : List ℕ → ℕ → Type 0
@@ -54,7 +50,7 @@ length_read bytes place =
     (λ r. ⊎_elim
     (λ h. inl (r.0, r.1, begins_number bytes r.1 r.0 r.2 h))
     (λ h. inr (NumberTooLarge place, large_fault bytes r.1 r.0 place r.2 h))
-    (below_or r.0 4294967296))
+    (cases_lt r.0 4294967296))
     (λ w. inr (unread_fault w.0 bytes place w.1))
     (number_read 5 bytes)
 
@@ -77,7 +73,7 @@ text_read bytes place =
     ⊎_elim
     (λ h. inr (Truncated next, text_fault bytes r.1 place next r.0 (Truncated next) r.2 refl (refl, h)))
     (λ h. sized_read bytes r.1 place r.0 r.2 h (is_utf8 (take r.0 r.1)) refl)
-    (below_or (length r.1) r.0))
+    (cases_lt (length r.1) r.0))
     (λ w. inr (w.0, length_fault bytes place w.0 w.1))
     (length_read bytes place)
 
@@ -105,9 +101,9 @@ pairs_read (suc n) s e =
     let t : Remaining = record { rest = behind.rest; place = behind.place; left = s.left - 1 } in
     let next : IsNext s t (k.0, v.0) = is_next s k.0 v.0 middle behind (record { spelled = k.2; place = refl }) (record { spelled = v.2; place = refl }) h in
     one_more s t (k.0, v.0) next (pairs_read n t (omega (arith, e))))
-    (λ f. inr (f.0, value_fault s k.1 k.0 middle.place f.0 h k.2 refl f.1))
+    (λ f. inr (f.0, pairs_from_next s f.0 (value_fault s k.1 k.0 middle.place f.0 h k.2 refl f.1)))
     (text_read k.1 middle.place))
-    (λ f. inr (f.0, key_fault s f.0 h f.1))
+    (λ f. inr (f.0, pairs_from_next s f.0 (key_fault s f.0 h f.1)))
     (text_read s.rest s.place)
 
 -- ---- a table

@@ -1,21 +1,20 @@
 -- Bytes have one reading at most: one table, or one fault.
 use Rattle.std.proofs.Common.{◌≡◌, ℕ, ◌+◌, List, [], ◌∷◌, ◌++◌, length, refl, sym, ap, ◌∙◌, subst, arith, ⊎_elim, append_assoc, append-nil, length-append}
-use Rattle.name_table.specs.Faults.{Fault, NumberFault, TextFault, PartFault, AreOfTable, TableFault}
+use Rattle.name_table.specs.Faults.{Fault, NumberFault, TextFault, PartFault, TableFault}
 use Rattle.name_table.specs.Numbers.{GoesOn, EndsAtLast, IsCut, IsTooLarge}
 use Rattle.name_table.specs.Parts.{Part, Number, Text, AreParts, Begins, pair_parts, table_parts}
 use Rattle.name_table.specs.declared.fault.NameFault.{NameFault}
 use Rattle.name_table.specs.declared.fault.NameFault.TheVariants.{Truncated, NotUtf8, NumberTooLarge}
-use Rattle.name_table.proofs.Unique.{Agree, IsLike, agree_tables, ends_goes_on, fault_past, pair_parts-inj, part_clash, part_unique, parts_unique, regroup, same_rest}
+use Rattle.name_table.proofs.Unique.{Agree, IsLike, agree_tables, begins_unique, ends_goes_on, fault_past, pair_parts-inj, part_clash, part_unique, regroup, same_rest}
 
 -- ---- one table
 
 pub table_unique : (bytes : List ℕ) (J K : List (List ℕ × List ℕ)) (rest rest' : List ℕ) → Begins bytes (table_parts J) rest → Begins bytes (table_parts K) rest' → (J ≡ K) × (rest ≡ rest')
 table_unique bytes J K rest rest' p q =
-    let e : p.front ++ rest ≡ q.front ++ rest' = sym p.split ∙ q.split in
-    let u = parts_unique (table_parts J) (table_parts K) p.front q.front rest rest' (agree_tables J K) p.spelled q.spelled e in
+    let u = begins_unique bytes (agree_tables J K) p q in
     let f : table_parts J ≡ table_parts K = u.1 in
     let g : pair_parts J ≡ pair_parts K = cc in
-    (pair_parts-inj J K g, same_rest p.front q.front rest rest' u.0 e)
+    (pair_parts-inj J K g, u.2)
 
 -- ---- a table, and no fault
 
@@ -23,16 +22,13 @@ agree_longer : (xs ys : List Part) (y : Part) → Agree xs (xs ++ y ∷ ys) → 
 agree_longer [] ys y g = g
 agree_longer (x ∷ xs) ys y g = agree_longer xs ys y (g.1 refl)
 
-append_none : (xs : List Part) → xs ++ [] ≡ xs
-append_none xs = append-nil xs
-
 -- where bytes begin with parts that agree with all that are allowed, none of these has a fault
 pub parts_no_fault : {Allowed : List Part → Type 0} (bytes rest : List ℕ) (xs : List Part) (place : ℕ) (fault : NameFault) → ((ys : List Part) → Allowed ys → Agree xs ys) → Begins bytes xs rest → Fault Allowed bytes place fault → ⊥
 parts_no_fault bytes rest xs place fault agrees p w =
     let A : List Part → Type 0 = λ ys. Agree xs ys in
     let B : List Part → Type 0 = λ ys. Agree ys (w.done ++ w.due ∷ w.more) in
     let g : Agree xs (w.done ++ w.due ∷ w.more) = agrees (w.done ++ w.due ∷ w.more) w.allowed in
-    let i = fault_past xs [] w.done w.due w.more p.front rest w.front w.rest (place + length w.front) fault (subst B (sym (append_none xs)) g) p.spelled w.spelled (sym p.split ∙ w.split) w.why in
+    let i = fault_past xs [] w.done w.due w.more p.front rest w.front w.rest (place + length w.front) fault (subst B (sym (append-nil xs)) g) p.spelled w.spelled (sym p.split ∙ w.split) w.why in
     let h : w.done ++ w.due ∷ w.more ≡ xs ++ (i.parts ++ w.due ∷ w.more) = ap (λ ys. ys ++ w.due ∷ w.more) i.is_done ∙ append_assoc xs i.parts (w.due ∷ w.more) in
     longer xs i.parts w.more w.due (subst A h g)
   where
@@ -110,11 +106,11 @@ first_fault (z ∷ d) (o ∷ e') x y m n a u b v place f g h p q e i j =
     first_fault d e' x y m n p.1 u q.1 v (place + length p.0) f g (h.1 w.1) p.4 q.4 (same_rest p.0 q.0 (p.1 ++ u) (q.1 ++ v) w.0 k)
     (subst P (omega (arith, ap length p.2, length-append p.0 p.1)) i) (subst Q (omega (arith, ap length q.2, length-append q.0 q.1, ap length w.0)) j)
 
-pub fault_unique : (bytes : List ℕ) (f g : NameFault) → TableFault bytes f → TableFault bytes g → f ≡ g
-fault_unique bytes f g p q =
-    let h : Agree (p.done ++ p.due ∷ p.more) (q.done ++ q.due ∷ q.more) = agreed (p.done ++ p.due ∷ p.more) (q.done ++ q.due ∷ q.more) p.allowed q.allowed in
-    first_fault p.done q.done p.due q.due p.more q.more p.front p.rest q.front q.rest 0 f g h p.spelled q.spelled (sym p.split ∙ q.split) p.why q.why
-  where
-    agreed : (xs ys : List Part) → AreOfTable xs → AreOfTable ys → Agree xs ys
-    agreed xs ys a b = let A : List Part → Type 0 = λ zs. Agree zs ys in let B : List Part → Type 0 = λ zs. Agree (table_parts a.0) zs in
-        subst A (sym a.1) (subst B (sym b.1) (agree_tables a.0 b.0))
+-- where all lists of parts that are allowed agree
+pub fault_unique : {Allowed : List Part → Type 0} (bytes : List ℕ) (place : ℕ) (f g : NameFault) → ((xs ys : List Part) → Allowed xs → Allowed ys → Agree xs ys) → Fault Allowed bytes place f → Fault Allowed bytes place g → f ≡ g
+fault_unique bytes place f g agreed p q =
+    first_fault p.done q.done p.due q.due p.more q.more p.front p.rest q.front q.rest place f g (agreed (p.done ++ p.due ∷ p.more) (q.done ++ q.due ∷ q.more) p.allowed q.allowed) p.spelled q.spelled (sym p.split ∙ q.split) p.why q.why
+
+pub table_fault_unique : (bytes : List ℕ) (f g : NameFault) → TableFault bytes f → TableFault bytes g → f ≡ g
+table_fault_unique bytes f g p q =
+    fault_unique bytes 0 f g (λ xs ys a b. let A : List Part → Type 0 = λ zs. Agree zs ys in let B : List Part → Type 0 = λ zs. Agree (table_parts a.0) zs in subst A (sym a.1) (subst B (sym b.1) (agree_tables a.0 b.0))) p q

@@ -1,5 +1,5 @@
 -- A table is read as what was written.
-use Rattle.std.proofs.Common.{◌≡◌, ℕ, List, [], ◌∷◌, ◌++◌, length, map, sym, ap, ◌∙◌, append-nil}
+use Rattle.std.proofs.Common.{◌≡◌, ℕ, List, [], ◌∷◌, ◌++◌, length, map, sym, ap, ◌∙◌, subst, append-nil}
 use Rattle.std.specs.Cmp.{IsTotalOrder}
 use Rattle.std.specs.Cmp.Lexicographic.{slice_cmp, on_texts}
 use Rattle.std.specs.Ordering.{nat_cmp}
@@ -12,26 +12,22 @@ use Rattle.name_table.specs.Remaining.{shown}
 use Rattle.name_table.specs.Writes.{IsReadAgain}
 use Rattle.name_table.proofs.OneReading.{table_no_fault, table_unique}
 
-below_shown : (k l : Text) (L M : List (Text × Text)) → k.now ≡ l.now → map shown L ≡ map shown M → BelowAll by_bytes k L → BelowAll by_bytes l M
-below_shown k l [] [] e f b = tt
-below_shown k l [] (q ∷ M) e f b = absurd cc
-below_shown k l (p ∷ L) [] e f b = absurd cc
-below_shown k l (p ∷ L) (q ∷ M) e f b =
-    let s : shown p ≡ shown q = cc in
-    let h : p.0.now ≡ q.0.now = ap (λ u. u.0) s in
-    let r : map shown L ≡ map shown M = cc in
-    ((λ i. slice_cmp nat_cmp (sym e i) (sym h i)) ∙ b.0, below_shown k l L M e r b.1)
+-- the keys rise in what pairs show as they do in the pairs
+below_shown : (key : Text) (pairs : List (Text × Text)) → BelowAll by_bytes key pairs → BelowAll (slice_cmp nat_cmp) key.now (map shown pairs)
+below_shown key [] b = tt
+below_shown key (p ∷ pairs) b = (b.0, below_shown key pairs b.1)
 
--- pairs that show the same rise alike
-rising_shown : (L M : List (Text × Text)) → map shown L ≡ map shown M → Rising by_bytes L → Rising by_bytes M
-rising_shown [] [] f r = tt
-rising_shown [] (q ∷ M) f r = absurd cc
-rising_shown (p ∷ L) [] f r = absurd cc
-rising_shown (p ∷ L) (q ∷ M) f r =
-    let s : shown p ≡ shown q = cc in
-    let h : p.0.now ≡ q.0.now = ap (λ u. u.0) s in
-    let t : map shown L ≡ map shown M = cc in
-    (below_shown p.0 q.0 L M h t r.0, rising_shown L M t r.1)
+pub shown_rise : (pairs : List (Text × Text)) → Rising by_bytes pairs → Rising (slice_cmp nat_cmp) (map shown pairs)
+shown_rise [] r = tt
+shown_rise (p ∷ pairs) r = (below_shown p.0 pairs r.0, shown_rise pairs r.1)
+
+shown_below : (key : Text) (pairs : List (Text × Text)) → BelowAll (slice_cmp nat_cmp) key.now (map shown pairs) → BelowAll by_bytes key pairs
+shown_below key [] b = tt
+shown_below key (p ∷ pairs) b = (b.0, shown_below key pairs b.1)
+
+pub rise_shown : (pairs : List (Text × Text)) → Rising (slice_cmp nat_cmp) (map shown pairs) → Rising by_bytes pairs
+rise_shown [] r = tt
+rise_shown (p ∷ pairs) r = (shown_below p.0 pairs r.0, rise_shown pairs r.1)
 
 by_bytes_total : IsTotalOrder by_bytes
 by_bytes_total = on_texts (λ (a : Text). a.now)
@@ -42,7 +38,8 @@ read_again bytes pairs table rising =
     record {
       same = λ M size r.
           let u = table_unique bytes (map shown r.pairs) (map shown pairs) r.rest [] r.table whole in
-          let rises : Rising by_bytes r.pairs = rising_shown pairs r.pairs (sym u.0) rising in
+          let P : List (List ℕ × List ℕ) → Type 0 = λ L. Rising (slice_cmp nat_cmp) L in
+          let rises : Rising by_bytes r.pairs = rise_shown r.pairs (subst P (sym u.0) (shown_rise pairs rising)) in
           let m : M ≡ r.pairs = Last-unique by_bytes by_bytes_total r.pairs M r.pairs r.last (Last-rising by_bytes r.pairs rises) in
           let e : bytes ≡ r.table.front = r.table.split ∙ ap (λ c. r.table.front ++ c) u.1 ∙ append-nil r.table.front in
           (ap (λ L. map shown L) m ∙ u.0, r.size_is ∙ sym (ap length e));

@@ -2,15 +2,15 @@
 use Rattle.std.proofs.Common.{◌≡◌, ◌≢◌, ℕ, ◌+◌, ◌-◌, List, [], ◌∷◌, ◌++◌, length, map, refl, sym, ap, ◌∙◌, subst, arith, inl, length-append, Bor}
 use Rattle.std.proofs.Math.ListN.{replicate}
 use Rattle.std.proofs.lemmas.List.{length-replicate}
-use Rattle.name_table.specs.Faults.{Fault, PartFault, AreOfPairs, AreOfText}
+use Rattle.name_table.specs.Faults.{Fault, PartFault, AreOfPairs, AreOfText, NextFault, PairsFault}
 use Rattle.name_table.specs.Parts.{Part, Begins, text_parts, pair_parts}
 use Rattle.name_table.specs.Position.{IsPast, Position}
-use Rattle.name_table.specs.ReadOn.{IsReadOn}
+use Rattle.name_table.specs.ReadOn.{IsReadOn, pair_parts-append}
 use Rattle.name_table.specs.Remaining.{Remaining, shown, CanBeRead, AllCanBeRead, IsNext}
 use Rattle.name_table.specs.declared.fault.NameFault.{NameFault}
 use Rattle.name_table.proofs.FaultLemmas.{fault_behind, fault_where, fault_wider}
 use Rattle.name_table.proofs.PartLemmas.{begins_none, begins_pair, begins_pairs, begins_split}
-use Rattle.name_table.proofs.Unique.{Agree, agree_pairs, fault_past, parts_unique, same_rest}
+use Rattle.name_table.proofs.Unique.{Agree, agree_pairs, begins_unique, fault_past}
 
 -- ---- none is due
 
@@ -22,20 +22,25 @@ all_none_can_be_read s e = record { pairs = []; behind = s.rest; spelled = begin
 
 -- ---- the next one can't be read
 
-pub key_fault : (s : Remaining) (f : NameFault) → s.left ≢ 0 → Fault AreOfText s.rest s.place f → Fault (AreOfPairs s.left) s.rest s.place f
+pub key_fault : (s : Remaining) (f : NameFault) → s.left ≢ 0 → Fault AreOfText s.rest s.place f → NextFault s f
 key_fault s f h w =
+    (omega (arith, h), fault_wider s.rest s.place f (λ xs a. (text_parts [], ((a.0, []) ∷ [], refl, ap (λ ys. ys ++ text_parts []) a.1))) w)
+
+pub value_fault : (s : Remaining) (middle key : List ℕ) (place : ℕ) (f : NameFault) → s.left ≢ 0 → (b : Begins s.rest (text_parts key) middle) → place ≡ s.place + length b.front → Fault AreOfText middle place f → NextFault s f
+value_fault s middle key place f h b e w =
+    let none : List Part = [] in (
+      omega (arith, h),
+      fault_behind s.rest s.place f (text_parts key) middle b place e
+          (fault_wider middle place f (λ xs a. (none, ((key, a.0) ∷ [], refl, ap (λ ys. text_parts key ++ (ys ++ none)) a.1))) w),
+    )
+
+-- the fault of the next one is that of all that are due
+pub pairs_from_next : (s : Remaining) (f : NameFault) → NextFault s f → PairsFault s f
+pairs_from_next s f w =
     let more : List (List ℕ × List ℕ) = replicate (s.left - 1) ([], []) in
     let l : length more ≡ s.left - 1 = length-replicate (s.left - 1) ([], []) in
     fault_wider s.rest s.place f
-    (λ xs a. (text_parts [] ++ pair_parts more, ((a.0, []) ∷ more, omega (arith, l, h), ap (λ ys. ys ++ (text_parts [] ++ pair_parts more)) a.1))) w
-
-pub value_fault : (s : Remaining) (middle key : List ℕ) (place : ℕ) (f : NameFault) → s.left ≢ 0 → (b : Begins s.rest (text_parts key) middle) → place ≡ s.place + length b.front → Fault AreOfText middle place f → Fault (AreOfPairs s.left) s.rest s.place f
-value_fault s middle key place f h b e w =
-    let more : List (List ℕ × List ℕ) = replicate (s.left - 1) ([], []) in
-    let l : length more ≡ s.left - 1 = length-replicate (s.left - 1) ([], []) in
-    fault_behind s.rest s.place f (text_parts key) middle b place e
-    (fault_wider middle place f
-    (λ xs a. (pair_parts more, ((key, a.0) ∷ more, omega (arith, l, h), ap (λ ys. text_parts key ++ (ys ++ pair_parts more)) a.1))) w)
+    (λ xs a. (pair_parts more, (a.0 ++ more, omega (arith, l, w.0, a.1, length-append a.0 more), ap (λ ys. ys ++ pair_parts more) a.2 ∙ sym (pair_parts-append a.0 more)))) w.1
 
 -- ---- t is s once the next pair p is read
 
@@ -109,10 +114,9 @@ module _ (s t : Remaining) (p : List ℕ × List ℕ) (n : IsNext s t p) where
   rest_of [] behind c l = absurd (omega (arith, n.count, l))
   rest_of (q ∷ J) behind c l =
       let d = begins_split s.rest behind (pair_parts (q ∷ [])) (pair_parts J) c in
-      let e : n.spelled.front ++ t.rest ≡ d.1.front ++ d.0 = sym n.spelled.split ∙ d.1.split in
-      let u = parts_unique (pair_parts (p ∷ [])) (pair_parts (q ∷ [])) n.spelled.front d.1.front t.rest d.0 (agree_pairs (p ∷ []) (q ∷ []) refl) n.spelled.spelled d.1.spelled e in
+      let u = begins_unique s.rest (agree_pairs (p ∷ []) (q ∷ []) refl) n.spelled d.1 in
       let P : List ℕ → Type 0 = λ bytes. Begins bytes (pair_parts J) behind in
-      record { pairs = J; behind = behind; spelled = subst P (sym (same_rest n.spelled.front d.1.front t.rest d.0 u.0 e)) d.2; count = omega (arith, l, n.count) }
+      record { pairs = J; behind = behind; spelled = subst P (sym u.2) d.2; count = omega (arith, l, n.count) }
 
   pub all_earlier : AllCanBeRead s → AllCanBeRead t
   all_earlier r = rest_of r.pairs r.behind r.spelled r.count

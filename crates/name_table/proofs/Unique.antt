@@ -4,7 +4,7 @@ use Rattle.std.proofs.lemmas.List.{append_cancel_left, take_at}
 use Rattle.std.specs.Prelude.{IsUtf8}
 use Rattle.name_table.specs.Faults.{NumberFault, TextFault, PartFault}
 use Rattle.name_table.specs.Numbers.{value_of, GoesOn, EndsAtLast, IsNumber}
-use Rattle.name_table.specs.Parts.{Part, Number, Text, IsPart, AreParts, text_parts, pair_parts, table_parts}
+use Rattle.name_table.specs.Parts.{Part, Number, Text, IsPart, AreParts, Begins, text_parts, pair_parts, table_parts}
 use Rattle.name_table.specs.declared.fault.NameFault.{NameFault}
 use Rattle.name_table.specs.declared.fault.NameFault.TheVariants.{Truncated, NotUtf8, NumberTooLarge}
 
@@ -113,6 +113,13 @@ parts_unique (x ∷ xs) (y ∷ ys) a b u v g p q e =
     let h = part_unique x y p.0 q.0 _ _ p.3 q.3 g.0 f in
     let i = parts_unique xs ys p.1 q.1 u v (g.1 h.1) p.4 q.4 (same_rest p.0 q.0 _ _ h.0 f) in
     (p.2 ∙ (λ l. h.0 l ++ i.0 l) ∙ sym q.2, λ l. h.1 l ∷ i.1 l)
+
+-- the same of bytes that begin with them
+pub begins_unique : {xs ys : List Part} {u v : List ℕ} (bytes : List ℕ) → Agree xs ys → (p : Begins bytes xs u) → (q : Begins bytes ys v) → (p.front ≡ q.front) × (xs ≡ ys) × (u ≡ v)
+begins_unique {xs} {ys} {u} {v} bytes g p q =
+    let e : p.front ++ u ≡ q.front ++ v = sym p.split ∙ q.split in
+    let h = parts_unique xs ys p.front q.front u v g p.spelled q.spelled e in
+    (h.0, h.1, same_rest p.front q.front u v h.0 e)
 
 -- what a fault behind the parts xs leaves to be read behind them
 pub record Behind (xs done : List Part) (front rest front' rest' : List ℕ) : Type 0 where

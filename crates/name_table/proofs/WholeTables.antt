@@ -11,7 +11,7 @@ use Rattle.name_table.specs.Remaining.{Remaining, shown, NoPair, CanBeRead, AllC
 use Rattle.name_table.specs.declared.fault.NameFault.{NameFault}
 use Rattle.name_table.proofs.FaultLemmas.{fault_behind, fault_first, fault_where}
 use Rattle.name_table.proofs.PartLemmas.{begins_split}
-use Rattle.name_table.proofs.Unique.{agree_pairs, parts_unique, same_rest}
+use Rattle.name_table.proofs.Unique.{agree_pairs, begins_unique}
 
 -- ---- faults
 
@@ -42,10 +42,8 @@ none_due (p ∷ P) [] bytes middle end due b k l stops = absurd (omega (arith, l
 none_due (p ∷ P) (q ∷ K) bytes middle end due b k l stops =
     let d = begins_split bytes middle (pair_parts (p ∷ [])) (pair_parts P) b in
     let e = begins_split bytes end (pair_parts (q ∷ [])) (pair_parts K) k in
-    let f : d.1.front ++ d.0 ≡ e.1.front ++ e.0 = sym d.1.split ∙ e.1.split in
-    let u = parts_unique (pair_parts (p ∷ [])) (pair_parts (q ∷ [])) d.1.front e.1.front d.0 e.0 (agree_pairs (p ∷ []) (q ∷ []) refl) d.1.spelled e.1.spelled f in
     let A : List ℕ → Type 0 = λ c. Begins c (pair_parts P) middle in
-    none_due P K e.0 middle end due (subst A (same_rest d.1.front e.1.front d.0 e.0 u.0 f) d.2) e.2 (omega (arith, l)) stops
+    none_due P K e.0 middle end due (subst A (begins_unique bytes (agree_pairs (p ∷ []) (q ∷ []) refl) d.1 e.1).2 d.2) e.2 (omega (arith, l)) stops
 
 -- ---- from the number of pairs on, all were read
 
@@ -60,18 +58,20 @@ module _ (bytes : List ℕ) (s t : Remaining) (given : List (Bor (List ℕ) × B
       let l : length (map shown given) ≡ length given = length-map given shown in
       omega (arith, none_due (map shown given) all.pairs s.rest gives.behind all.behind gives.due gives.spelled all.spelled (omega (arith, gives.count, all.count, l)) gives.stops, gives.count)
 
+  abbrev on_begins : Begins s.rest (pair_parts on.pairs) t.rest
+  on_begins = record { front = on.front; split = on.split; spelled = on.spelled }
+
   on_all : length on.pairs ≡ s.left
   on_all =
       let A : List ℕ → Type 0 = λ c. (empty.due ≡ 0) ⊎ NoPair c in
       let stops : (empty.due ≡ 0) ⊎ NoPair t.rest = subst A (sym (begins_nothing t.rest empty.behind empty.spelled)) empty.stops in
-      let b : Begins s.rest (pair_parts on.pairs) t.rest = record { front = on.front; split = on.split; spelled = on.spelled } in
-      let e : empty.due ≡ 0 = none_due on.pairs all.pairs s.rest t.rest all.behind empty.due b all.spelled (omega (arith, on.count, all.count, empty.count)) stops in
+      let e : empty.due ≡ 0 = none_due on.pairs all.pairs s.rest t.rest all.behind empty.due on_begins all.spelled (omega (arith, on.count, all.count, empty.count)) stops in
       omega (arith, e, on.count, empty.count)
 
   same_bytes : gives.spelled.front ≡ on.front
   same_bytes =
       let l : length (map shown given) ≡ length on.pairs = length-map given shown ∙ given_all ∙ sym on_all in
-      (parts_unique (pair_parts (map shown given)) (pair_parts on.pairs) gives.spelled.front on.front gives.behind t.rest (agree_pairs (map shown given) on.pairs l) gives.spelled.spelled on.spelled (sym gives.spelled.split ∙ on.split)).0
+      (begins_unique s.rest (agree_pairs (map shown given) on.pairs l) gives.spelled on_begins).0
 
   pub whole_table : WholeTable bytes (map shown given) t.place
   whole_table =

@@ -47,6 +47,10 @@ AreOfPairs n parts = (pairs : List (List ℕ × List ℕ)) × (length pairs ≡ 
 abbrev pub PairsFault : Remaining → NameFault → Type 0
 PairsFault s fault = Fault (AreOfPairs s.left) s.rest s.place fault
 
+-- the next one of the pairs that are due can't be read: this is why
+abbrev pub NextFault : Remaining → NameFault → Type 0
+NextFault s fault = (0 < s.left) × Fault (AreOfPairs 1) s.rest s.place fault
+
 -- the parts are those of a table
 abbrev pub AreOfTable : List Part → Type 0
 AreOfTable parts = (pairs : List (List ℕ × List ℕ)) × (parts ≡ table_parts pairs)

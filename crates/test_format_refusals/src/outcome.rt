@@ -3,6 +3,7 @@ use litemap::LiteMap;
 use litemap::store::StoreMut;
 use litemap_json::{ItemFault, JsonFault, WriteFault};
 use litemap_read::ReadFault;
+use name_index::NameIndexFault;
 use names::{FlagsFault, NameWriteFault};
 use std::alloc::AllocError;
 
@@ -89,6 +90,12 @@ impl From<FlagsFault> for Outcome {
 impl From<NameWriteFault> for Outcome {
     fn from(fault: NameWriteFault) -> Self {
         Outcome::of_fault(fault == NameWriteFault::NoRoom)
+    }
+}
+
+impl From<NameIndexFault> for Outcome {
+    fn from(fault: NameIndexFault) -> Self {
+        Outcome::of_fault(fault == NameIndexFault::NoRoom)
     }
 }
 

@@ -1,6 +1,7 @@
 use Rattle.std.proofs.Common.{[], ◌∷◌, ◌++◌, append-nil, append_assoc}
 use Rattle.litemap_store.proofs.Sifting.{Last-sifted}
-use Rattle.litemap_read.proofs.Sifted.{Sifted-joins, always_on_err}
+use Rattle.litemap_store.proofs.Counting.{always_on_err}
+use Rattle.litemap_read.proofs.Sifted.{Sifted-joins}
 use Rattle.litemap_read.proofs.read.read_pairs.Goals as goal
 
 pub loop-key-preserved : goal.loop-key-preserved

@@ -1,10 +1,11 @@
 use Rattle.std.proofs.Common.{◌≡◌, ◌∙◌, ℕ, arith, length, subst, sym}
+use Rattle.litemap_store.proofs.Counting.{at_most, in_turn}
 use Rattle.litemap_store.proofs.Halving.{Narrowed, Narrowed-greater, Narrowed-less}
-use Rattle.name_index.proofs.Scanning.{ascends, begins_here, is_at_next, pair_here, scanned_found, scanned_missing, scanned_start, to_key}
+use Rattle.name_index.proofs.Scanning.{ascends, asked_one, begins_here, is_at_next, pair_here, scanned_found, scanned_missing, scanned_start, to_key}
 use Rattle.name_index.proofs.entries.scan.Goals as goal
 
 pub loop-index-init : goal.loop-index-init
-loop-index-init c = scanned_start c.args.entries.now c.args.key.now c.args.count c.requires
+loop-index-init c = scanned_start c.args.entries.now c.args.key.now c.args.size _ c.requires
 
 pub known_pair-requires : goal.known_pair-requires
 known_pair-requires c =
@@ -16,7 +17,8 @@ returns-in-Equal c =
     let inv = c.loop-index.invariant in
     let pair = c.known_pair.result.0 in
     let e = pair_here inv.these.pairs inv.these.rest _ c.loop-index.index (omega (arith, inv.these.count_is)) inv.here (pair.0.now, pair.1.now) _ c.known_pair.ensures in
-    (inv.these, scanned_found inv.these.pairs c.args.key.now inv.these.rises c.loop-index.index pair.0.now pair.1 e (sym c.cmp.ensures ∙ c.in-Equal.is))
+    let s = scanned_found inv.these.pairs c.args.key.now inv.these.rises c.loop-index.index pair.0.now pair.1 e (sym c.cmp.ensures.answer ∙ c.in-Equal.is) in
+    (inv.these, (s, in_turn c.loop-index.index 1 _ (omega (arith, s.0.place)) inv.asked (asked_one c.cmp.ensures.same c.cmp.ensures.counted)))
 
 pub returns-in-Greater : goal.returns-in-Greater
 returns-in-Greater c =
@@ -24,8 +26,9 @@ returns-in-Greater c =
     let pair = c.known_pair.result.0 in
     let pairs = inv.these.pairs in
     let e = pair_here pairs inv.these.rest _ c.loop-index.index (omega (arith, inv.these.count_is)) inv.here (pair.0.now, pair.1.now) _ c.known_pair.ensures in
-    let n = Narrowed-greater (to_key c.args.key.now) pairs (ascends pairs c.args.key.now inv.these.rises) _ _ c.loop-index.index _ _ e inv.narrowed (sym c.cmp.ensures ∙ c.in-Greater.is) in
-    (inv.these, scanned_missing pairs c.args.key.now inv.these.rises c.loop-index.index c.loop-index.index (omega arith) (omega (arith, inv.these.count_is)) n)
+    let n = Narrowed-greater (to_key c.args.key.now) pairs (ascends pairs c.args.key.now inv.these.rises) _ _ c.loop-index.index _ _ e inv.narrowed (sym c.cmp.ensures.answer ∙ c.in-Greater.is) in
+    let s = scanned_missing pairs c.args.key.now inv.these.rises c.loop-index.index c.loop-index.index (omega arith) (omega (arith, inv.these.count_is)) n in
+    (inv.these, (s, in_turn c.loop-index.index 1 _ (omega (arith, s.place)) inv.asked (asked_one c.cmp.ensures.same c.cmp.ensures.counted)))
 
 pub loop-index-preserved : goal.loop-index-preserved
 loop-index-preserved c =
@@ -36,13 +39,15 @@ loop-index-preserved c =
     record {
       these = inv.these;
       here = is_at_next pairs inv.these.rest _ c.loop-index.index (omega (arith, inv.these.count_is)) inv.here (pair.0.now, pair.1.now) _ c.known_pair.ensures;
-      narrowed = Narrowed-less (to_key c.args.key.now) pairs (ascends pairs c.args.key.now inv.these.rises) _ _ c.loop-index.index _ _ e inv.narrowed (sym c.cmp.ensures ∙ c.in-Less.is);
+      narrowed = Narrowed-less (to_key c.args.key.now) pairs (ascends pairs c.args.key.now inv.these.rises) _ _ c.loop-index.index _ _ e inv.narrowed (sym c.cmp.ensures.answer ∙ c.in-Less.is);
+      asked = in_turn c.loop-index.index 1 _ (omega arith) inv.asked (asked_one c.cmp.ensures.same c.cmp.ensures.counted);
     }
 
 pub returns : goal.returns
 returns c =
     let inv = c.loop-index.invariant in
     let pairs = inv.these.pairs in
-    let end : c.loop-index.index ≡ c.args.count = omega arith in
+    let end : c.loop-index.index ≡ c.args.size = omega arith in
     let P : ℕ → Type 0 = λ n. Narrowed (to_key c.args.key.now) pairs n (length pairs) in
-    (inv.these, scanned_missing pairs c.args.key.now inv.these.rises c.args.count (length pairs) (omega (arith, inv.these.count_is)) (omega (arith, inv.these.count_is)) (subst P end inv.narrowed))
+    let s = scanned_missing pairs c.args.key.now inv.these.rises c.args.size (length pairs) (omega (arith, inv.these.count_is)) (omega (arith, inv.these.count_is)) (subst P end inv.narrowed) in
+    (inv.these, (s, at_most c.loop-index.index _ (omega (arith, s.place, end)) inv.asked))

@@ -1,6 +1,6 @@
 use Rattle.std.proofs.Common.{[], append-nil, map, refl, sym}
 use Rattle.name_table.specs.Remaining.{shown}
-use Rattle.name_index.proofs.Writing.{shown_rise}
+use Rattle.name_table.proofs.ReadAgain.{shown_rise}
 use Rattle.name_index.proofs.laws.written_is_opened.Goals as goal
 
 pub returns : goal.returns

@@ -2,7 +2,7 @@ use Rattle.std.proofs.Common.{◌≡◌, List, ℕ, map, rules, subst, sym}
 use Rattle.litemap_store.specs.Pairs.{Rising}
 use Rattle.name_table.specs.Remaining.{shown}
 use Rattle.name_index.specs.Tables.{text_order}
-use Rattle.name_index.proofs.Writing.{rise_shown}
+use Rattle.name_table.proofs.ReadAgain.{rise_shown}
 use Rattle.name_index.proofs.maps.map_of.Goals as goal
 
 pub from_sorted_store_unchecked-requires : goal.from_sorted_store_unchecked-requires

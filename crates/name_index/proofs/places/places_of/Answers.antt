@@ -1,5 +1,7 @@
-use Rattle.std.proofs.Common.{◌+◌, ℕ, List, arith, subst, sym}
-use Rattle.name_index.proofs.Placing.{Noted, noted_next, noted_start, placed_end}
+use Rattle.std.proofs.Common.{◌≡◌, ◌+◌, ℕ, List, arith, subst, sym}
+use Rattle.std.proofs.lemmas.Result.{err_from_is_err_and}
+use Rattle.name_index.specs.Placed.{AreFar}
+use Rattle.name_index.proofs.Placing.{Noted, far_here, noted_next, noted_start, placed_end}
 use Rattle.name_index.proofs.Scanning.{begins_here}
 use Rattle.name_index.proofs.places.places_of.Goals as goal
 
@@ -18,8 +20,19 @@ loop-preserved c =
     let inv = c.loop.invariant in
     let pair = c.known_pair.result.0 in
     let P : List ℕ → Type 0 = λ places. Noted c.args.entries.now c.args.count places c.known_pair.result.1.now (c.loop.counter + 1) in
-    subst P (sym c.in_ok-push.ensures.items)
-    (noted_next c.args.entries.now c.args.count _ _ c.loop.counter _ (pair.0.now, pair.1.now) c.known_pair.result.1.now inv (omega arith) (omega arith) c.known_pair.ensures)
+    subst P (sym c.in_ok-put.ensures)
+    (noted_next c.args.entries.now c.args.count _ _ c.loop.counter _ (pair.0.now, pair.1.now) c.known_pair.result.1.now inv (omega arith) c.in_ok-place_of.ensures.place (omega arith) c.known_pair.ensures)
 
 pub returns-clause-placed : goal.returns-clause-placed
 returns-clause-placed c = placed_end c.args.entries.now c.args.count _ _ c.loop.counter c.loop.invariant (omega arith)
+
+pub returns-in_err-place_of-clause-too_far : goal.returns-in_err-place_of-clause-too_far
+returns-in_err-place_of-clause-too_far c =
+    let p = err_from_is_err_and c.from_residual-in_err-place_of.result c.from_residual-in_err-place_of.ensures.1 in
+    rw (p.1, p.2, c.in_err-place_of.ensures.far.0) (far_here _ _ _ _ c.loop.counter c.loop.invariant (omega arith) c.in_err-place_of.ensures.far.1)
+
+pub returns-clause-near : goal.returns-clause-near
+returns-clause-near c =
+    let end : c.loop.counter ≡ c.args.count = omega arith in
+    let P : ℕ → Type 0 = λ n. AreFar c.args.entries.now n → ⊥ in
+    subst P end c.loop.invariant.near

@@ -5,7 +5,7 @@ use Rattle.name_index.proofs.Rises.{above_false, above_true, checked_next, check
 use Rattle.name_index.proofs.rising.check.Goals as goal
 
 pub loop-key-init : goal.loop-key-init
-loop-key-init c = checked_start _
+loop-key-init c = checked_start _ _
 
 pub returns-then-not-is_above-clause-fault : goal.returns-then-not-is_above-clause-fault
 returns-then-not-is_above-clause-fault c =
@@ -13,17 +13,19 @@ returns-then-not-is_above-clause-fault c =
     let Read : Option (Bor (List ℕ) × Bor (List ℕ)) → Type 0 = λ o. IfSome o (λ pair. IsNext c.loop-key.names c.next_pair.new.self (shown pair)) in
     let n = subst Read c.in-Some.is c.in_ok-key.ensures.read in (
       c.loop-key.names,
-      c.next_pair.new.self,
-      (c.in-Some.key.now, c.in-Some.field-0-1.now),
       inv.to,
-      n,
-      c.place-at.ensures,
-      above_false c.loop-key.last inv.to.on.pairs (c.in-Some.key.now, c.in-Some.field-0-1.now) c.is_above.result inv.last_is c.is_above.ensures.first c.is_above.ensures.later c.if-not-is_above.true,
+      (
+        c.next_pair.new.self,
+        (c.in-Some.key.now, c.in-Some.field-0-1.now),
+        n,
+        c.place-at.ensures,
+        above_false c.loop-key.last inv.to.on.pairs (c.in-Some.key.now, c.in-Some.field-0-1.now) c.is_above.result inv.last_is c.is_above.ensures.first c.is_above.ensures.later c.if-not-is_above.true,
+      ),
     )
 
 pub loop-key-preserved : goal.loop-key-preserved
 loop-key-preserved c =
     let Read : Option (Bor (List ℕ) × Bor (List ℕ)) → Type 0 = λ o. IfSome o (λ pair. IsNext c.loop-key.names c.next_pair.new.self (shown pair)) in
     let n = subst Read c.in-Some.is c.in_ok-key.ensures.read in
-    checked_next _ c.loop-key.names c.next_pair.new.self c.loop-key.last c.in-Some.key c.in-Some.field-0-1 c.loop-key.invariant n
-    (above_true c.loop-key.last c.in-Some.key.now c.is_above.result c.is_above.ensures.later c.if-not-is_above.false)
+    checked_next _ c.loop-key.names c.next_pair.new.self c.loop-key.last c.in-Some.key c.in-Some.field-0-1 _ _ _ c.loop-key.invariant n
+    (above_true c.loop-key.last c.in-Some.key.now c.is_above.result c.is_above.ensures.later c.if-not-is_above.false) c.is_above.ensures.unasked c.is_above.ensures.cost

@@ -1,4 +1,4 @@
-use Rattle.name_table.proofs.OneReading.{fault_unique, table_no_fault, table_unique}
+use Rattle.name_table.proofs.OneReading.{table_fault_unique, table_no_fault, table_unique}
 use Rattle.name_table.proofs.laws.reading_is_one.Goals as goal
 
 pub returns-clause-table : goal.returns-clause-table
@@ -8,4 +8,4 @@ pub returns-clause-no_fault : goal.returns-clause-no_fault
 returns-clause-no_fault c = table_no_fault
 
 pub returns-clause-fault : goal.returns-clause-fault
-returns-clause-fault c = fault_unique
+returns-clause-fault c = table_fault_unique

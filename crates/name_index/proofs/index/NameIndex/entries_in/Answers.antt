@@ -1,8 +1,7 @@
-use Rattle.std.proofs.Common.{◌≡◌, ◌≤◌, ◌∙◌, ℕ, List, [], arith, length, min, refl, slice_range, subst, sym}
+use Rattle.std.proofs.Common.{◌≡◌, ◌≤◌, ◌∙◌, ℕ, [], arith, length, min, refl, slice_range, subst, sym}
 use Rattle.name_table.proofs.PartLemmas.{begins_none}
-use Rattle.name_index.specs.Placed.{IsIndexed}
 use Rattle.name_index.proofs.Between.{none_of, slice_clamped, slice_none}
-use Rattle.name_index.proofs.Placing.{placed_table}
+use Rattle.name_index.proofs.Placing.{of_indexed}
 use Rattle.name_index.proofs.index.NameIndex.entries_in.Goals as goal
 
 pub new-requires : goal.new-requires
@@ -10,20 +9,18 @@ new-requires c = record { pairs = []; rest = c.self.inside.entries.now; spelled 
 
 pub returns-then-range-end : goal.returns-then-range-end
 returns-then-range-end c =
-    let P : List ℕ → Type 0 = λ places. IsIndexed c.self.inside.bytes.now c.self.inside.entries.now places in
-    let indexed = subst P (sym c.as_slice-places.ensures.value) c.self.invariant in
-    let placed = indexed.placed in
-    let L = placed.these.pairs in
+    rw (← c.self.view_is)
+    (of_indexed _ _ _ _ c.self.invariant c.as_slice-places.ensures.value (λ p.
+    let L = p.these.pairs in
     let Q : ℕ → Type 0 = λ end. c.entries_between.result ≡ slice_range L c.args.range.start end in
-    let e : c.min-end.result ≡ min c.args.range.end (length L) = omega (arith, c.min-end.ensures, c.as_slice-places.ensures.len, placed.these.count_is) in
-    rw (← c.self.view_is) (L, placed_table _ _ _ indexed.counted placed, subst Q e (c.entries_between.ensures placed) ∙ slice_clamped L c.args.range.start c.args.range.end)
+    let e : c.min-end.result ≡ min c.args.range.end (length L) = omega (arith, c.min-end.ensures, c.as_slice-places.ensures.len, p.these.count_is) in
+    subst Q e (c.entries_between.ensures p) ∙ slice_clamped L c.args.range.start c.args.range.end))
 
 pub returns-else-range-end : goal.returns-else-range-end
 returns-else-range-end c =
-    let P : List ℕ → Type 0 = λ places. IsIndexed c.self.inside.bytes.now c.self.inside.entries.now places in
-    let indexed = subst P (sym c.as_slice-places.ensures.value) c.self.invariant in
-    let placed = indexed.placed in
-    let L = placed.these.pairs in
+    rw (← c.self.view_is)
+    (of_indexed _ _ _ _ c.self.invariant c.as_slice-places.ensures.value (λ p.
+    let L = p.these.pairs in
     let e = c.new.ensures in
-    let none : min c.args.range.end (length L) ≤ c.args.range.start = omega (arith, c.if-range-end.false, c.min-end.ensures, placed.these.count_is) in
-    rw (← c.self.view_is) (L, placed_table _ _ _ indexed.counted placed, e.1 ∙ none_of e.0.pairs e.0.count_is ∙ sym (slice_none L c.args.range.start c.args.range.end none))
+    let none : min c.args.range.end (length L) ≤ c.args.range.start = omega (arith, c.if-range-end.false, c.min-end.ensures, p.these.count_is) in
+    e.1 ∙ none_of e.0.pairs e.0.count_is ∙ sym (slice_none L c.args.range.start c.args.range.end none)))

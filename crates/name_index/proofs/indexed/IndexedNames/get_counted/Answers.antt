@@ -4,7 +4,7 @@ use Rattle.litemap_store.specs.Splits.{Splits}
 use Rattle.name_index.specs.Index.{IfIndex}
 use Rattle.name_index.specs.Tables.{text_order}
 use Rattle.name_index.proofs.Indexing.{entry_is, no_index, whatever_fault}
-use Rattle.name_index.proofs.Placing.{value_at_split}
+use Rattle.name_index.proofs.Scanning.{value_at_split}
 use Rattle.name_index.proofs.indexed.IndexedNames.get_counted.Goals as goal
 
 pub returns-in_err-value-in-Ok-clause-fault : goal.returns-in_err-value-in-Ok-clause-fault

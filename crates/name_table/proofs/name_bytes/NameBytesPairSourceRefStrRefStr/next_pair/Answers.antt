@@ -1,7 +1,7 @@
 use Rattle.std.proofs.Common.{refl}
 use Rattle.std.proofs.lemmas.Result.{err_from_is_err_and}
 use Rattle.name_table.specs.Remaining.{Remaining}
-use Rattle.name_table.proofs.Remains.{none_can_be_read, all_none_can_be_read, key_fault, value_fault, is_next, read_on_one, gives_one_more, fault_later, fault_earlier, all_later, all_earlier}
+use Rattle.name_table.proofs.Remains.{none_can_be_read, all_none_can_be_read, key_fault, pairs_from_next, value_fault, is_next, read_on_one, gives_one_more, fault_later, fault_earlier, all_later, all_earlier}
 use Rattle.name_table.proofs.name_bytes.NameBytesPairSourceRefStrRefStr.next_pair.Goals as goal
 
 pub returns-then-self-eq0-clause-next : goal.returns-then-self-eq0-clause-next
@@ -15,7 +15,7 @@ returns-in_err-key-clause-next c =
     let s : Remaining = record { rest = c.self.inside.cursor.rest; place = c.self.inside.cursor.place; left = c.self.inside.left } in
     let p = err_from_is_err_and c.from_residual.result c.from_residual.ensures.1 in
     rw (p.1, p.2, ← c.self.view_is)
-    (key_fault s c.in_err-key.field-0.0 c.if-self-eq0.false c.in_err-key.ensures.err, ((λ L. ((λ h. h), (λ h. h))), refl))
+    (pairs_from_next s c.in_err-key.field-0.0 (key_fault s c.in_err-key.field-0.0 c.if-self-eq0.false c.in_err-key.ensures.err), ((λ L. ((λ h. h), (λ h. h))), refl))
 
 pub returns-in_err-value-clause-next : goal.returns-in_err-value-clause-next
 returns-in_err-value-clause-next c =
@@ -23,7 +23,21 @@ returns-in_err-value-clause-next c =
     let p = err_from_is_err_and c.from_residual-in_err-value.result c.from_residual-in_err-value.ensures.1 in
     let k = c.in_ok-key.ensures.ok in
     rw (p.1, p.2, ← c.self.view_is)
-    (value_fault s c.in_ok-key.middle.rest c.in_ok-key.key.now c.in_ok-key.middle.place c.in_err-value.field-0.0 c.if-self-eq0.false k.spelled k.place c.in_err-value.ensures.err, ((λ L. ((λ h. h), (λ h. h))), refl))
+    (pairs_from_next s c.in_err-value.field-0.0 (value_fault s c.in_ok-key.middle.rest c.in_ok-key.key.now c.in_ok-key.middle.place c.in_err-value.field-0.0 c.if-self-eq0.false k.spelled k.place c.in_err-value.ensures.err), ((λ L. ((λ h. h), (λ h. h))), refl))
+
+pub returns-in_err-key-clause-fault : goal.returns-in_err-key-clause-fault
+returns-in_err-key-clause-fault c =
+    let s : Remaining = record { rest = c.self.inside.cursor.rest; place = c.self.inside.cursor.place; left = c.self.inside.left } in
+    let p = err_from_is_err_and c.from_residual.result c.from_residual.ensures.1 in
+    rw (p.1, p.2, ← c.self.view_is) (key_fault s c.in_err-key.field-0.0 c.if-self-eq0.false c.in_err-key.ensures.err)
+
+pub returns-in_err-value-clause-fault : goal.returns-in_err-value-clause-fault
+returns-in_err-value-clause-fault c =
+    let s : Remaining = record { rest = c.self.inside.cursor.rest; place = c.self.inside.cursor.place; left = c.self.inside.left } in
+    let p = err_from_is_err_and c.from_residual-in_err-value.result c.from_residual-in_err-value.ensures.1 in
+    let k = c.in_ok-key.ensures.ok in
+    rw (p.1, p.2, ← c.self.view_is)
+    (value_fault s c.in_ok-key.middle.rest c.in_ok-key.key.now c.in_ok-key.middle.place c.in_err-value.field-0.0 c.if-self-eq0.false k.spelled k.place c.in_err-value.ensures.err)
 
 pub returns-clause-next : goal.returns-clause-next
 returns-clause-next c =
