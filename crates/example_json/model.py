@@ -222,10 +222,15 @@ def told_faults():
     yield "told elsewhere", '[[1,1],[2,300,3]]', not_a_pair(1)
     yield "told elsewhere", '{"x":0}', key_text(0)
     yield "told elsewhere", '[[null,0]]', key(0, SHAPE)
-    for place in (1, 19, 20, 999):
+    for place in (1, 19, 20, 51, 101, 999):
         good = [(str(number), f'"{number}"') for number in range(1000, 1002 + place)]
         members = [(text, value if text < str(1000 + place) else "0") for text, value in good]
         yield "told words", object_of(members), told("a text", "0", f'"{1000 + place}": ')
+        members = [(text if text < str(1000 + place) else text + "x", value) for text, value in good]
+        yield "told words", object_of(members), told_name(WANTED["words"][1], f'"{1000 + place}x"')
+        elements = [f"[{text},{value}]" for text, value in good[:place]]
+        for element, wanted, part in (("[0]", ROW, "element"), ("[[0],0]", WANTED["words"][1], "key"), ("[0,[0]]", "a text", "item")):
+            yield "told words", array([*elements, *[element] * 2]), told(wanted, "an array", told_at(part, place))
 
 
 def array(elements):
@@ -249,7 +254,7 @@ def long_maps():
 
 def late_faults():
     """A fault at an early place and at late ones, and at the place behind it."""
-    for place in (9, 101, 999):
+    for place in (9, 51, 101, 999):
         good = [(str(number), f'"{number}"') for number in range(1000, 1002 + place)]
         elements = [f"[{name},{value}]" for name, value in good]
         for element, fault in (("[0]", not_a_pair(place)), ('["0","0"]', key(place, SHAPE)), ("[-1,0]", key(place, RANGE)),
