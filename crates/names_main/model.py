@@ -100,13 +100,19 @@ def removals():
     yield from [b"all", b"find 01000", b"json"]
 
 
-BAD = [b"put  a 1", b" get a", b"get a ", b"all x", b"all\r", b"put a \xc3\xa9"]
+BAD = [
+    b" ", b"put", b"put ", b"put a", b"put a ", b"put  a 1", b"put a  1", b"put a 1 ", b"put a 1 2", b" put a 1", b"put a\t1",
+    b"put a \xc3\xa9", b"put a \x7f", b"PUT a 1", b"putt a 1", b"find", b"find ", b"find a ", b"find  a", b"find a b", b"get", b"get a ", b" get a",
+    b"get a b", b"del a ", b"del\ta", b" all", b"all ", b"all x", b"all\r", b" json", b"json ", b"json x", b"JSON", b"get a\0"]
+SHORT = [
+    b"put a 1,,put a,all", b"put a 1,get a,del a,get a,", b"put b 2,put c 3,put a 1,del b,del b,find c,get c,all", b"all", b",,,all",
+    b"put a 1,find a,find 0,find b", b"put ! ~,put B b,put a A,all", b"put a 1,put a 2,put a 2,all", b'put a ",put b \\,json']
 LONGEST = b"put " + b"k" * (MOST - 6) + b" v"
 LINES = {
     "each line": [b"put b 2", b"put a 1", b"put b 3", b"find c", b"all", b""],
     "lines of each kind": b"put b 2,put a 1,get b,get c,del b,del b,,json,find a".split(b","),
     "no input": [],
-    "a bad line": [b"put a 1", b"", b"put a", b"all"],
+    **{f"the lines {lines}": lines.split(b",") for lines in SHORT},
     **{f"the bad line {line}": [line, b"all"] for line in BAD},
     "the greatest input": [b""] * (MOST + 1),
     "one byte more": [b""] * (MOST + 2),
@@ -123,7 +129,6 @@ LINES = {
     "a bad line of 101 bytes": [b"put a 1", b"get " + b"a" * 96 + b" ", b"all"],
     "a bad line of 100000 bytes": [b"put a 1", b"find " + b"a" * 99994 + b"\x7f", b"all"],
     "a bad line with a nul": [b"put a 1", b"", b"put a\0b 1", b"all"],
-    "a nul behind a word": [b"get a\0"],
     "a bad line at 65537": [b""] * 65536 + [b"put"],
     "a bad line at 100000": [b"get a"] * 99999 + [b"all "],
     "keys that fall": [b"put %06d v" % key for key in range(30000, 0, -1)],

@@ -6,7 +6,7 @@ use litemap::store::NoRoom;
 use std::alloc::{AllocError, Global};
 use std::test::Fail;
 use test_support::fixed_room::FixedRoom;
-use test_support::lists::{list_of, map_of};
+use test_support::lists::map_of;
 
 const LIMIT: usize = 20;
 
@@ -70,44 +70,6 @@ fn a_limit_goes_with_the_store_that_is_replaced(rt: HostRuntime) -> Result<(), F
     ] {
         let left = room_after(rt.alloc(), merges, first, count)?;
         assert_eq!(rt; left, room, "{merges}, {count} from {first}");
-    }
-    Ok(())
-}
-
-const OLD: [(u32, u32); 2] = [(2, 20), (4, 40)];
-
-// The room of a map of those pairs, the pairs and the room of another, and whether they are merged: nothing is asked of a
-// store where the other map is empty. Pairs behind the last one need its room, pairs before the first one the other's, and one
-// between needs its own. For more a fresh store has the room.
-const MERGES: &[(usize, &[(u32, u32)], usize, bool)] = &[
-    (2, &[], 0, true),
-    (2, &[(5, 50)], 3, false),
-    (3, &[(5, 50)], 1, true),
-    (3, &[(1, 10)], 1, false),
-    (2, &[(1, 10)], 3, true),
-    (2, &[(3, 30)], 1, false),
-    (3, &[(3, 30)], 1, true),
-    (2, &[(1, 10), (3, 30)], 2, true),
-];
-
-// Whether a map is merged into one of the old pairs, or that is refused and both are as they were.
-fn is_merged(
-    alloc: Global,
-    (room, new, other_room, is_taken): (usize, &[(u32, u32)], usize, bool),
-) -> Result<bool, AllocError> {
-    let mut map: Fixed = map_of(alloc, &OLD, room)?;
-    let other: Fixed = map_of(alloc, new, other_room)?;
-    let Err(refused) = map.extend_from_litemap(alloc, other) else {
-        return Ok(is_taken);
-    };
-    let (back, left) = (list_of(alloc, &refused.back)?, list_of(alloc, &map)?);
-    Ok(!is_taken && left.as_slice() == OLD.as_slice() && back.as_slice() == new)
-}
-
-#[test]
-fn a_refused_merge_leaves_both_maps(rt: HostRuntime) -> Result<(), Fail> {
-    for row in MERGES {
-        assert!(rt; is_merged(rt.alloc(), *row)?, "{row:?}");
     }
     Ok(())
 }

@@ -2,7 +2,7 @@
 #![tactic(auto)]
 
 #[cfg(test)]
-mod answers;
+mod endless;
 #[cfg(test)]
 mod faults;
 #[cfg(test)]
