@@ -1,19 +1,16 @@
 //! Written by `bin/data`.
 use crate::Shown;
 use crate::days::{Days, three_days};
-use litemap::store::Count;
 use litemap::{LiteMap, TryFault};
 use std::alloc::{AllocError, Global};
 
 /// How the examples came out, by their calls.
-pub(crate) fn examples(alloc: Global) -> [Shown; 31] {
+pub(crate) fn examples(alloc: Global) -> [Shown; 24] {
     shown! { alloc;
-        from_iter, from_iter_counted, from_vec, from_vec_counted, extend, extend_counted,
-        extend_from_vec, extend_from_vec_counted, insert, insert_counted, try_insert,
-        try_append, try_get_or_insert, try_find_or_insert, remove, remove_counted, remove_by,
-        clear, reserve, retain, extend_from_litemap, extend_from_litemap_counted, split_off,
-        remove_entry, pop_first, pop_last, update, get_mut, get_mut_by, index_mut,
-        get_indexed_mut
+        from_iter, from_vec, extend, extend_from_vec, insert, try_insert, try_append,
+        try_get_or_insert, try_find_or_insert, remove, remove_by, clear, reserve, retain,
+        extend_from_litemap, split_off, remove_entry, pop_first, pop_last, update, get_mut,
+        get_mut_by, index_mut, get_indexed_mut
     }
 }
 
@@ -22,34 +19,16 @@ fn from_iter(alloc: Global) -> anyhow::Result<bool> {
     Ok(days.as_slice() == [(1, "Mon"), (2, "Tuesday")].as_slice())
 }
 
-fn from_iter_counted(alloc: Global) -> anyhow::Result<bool> {
-    let pairs = [(2, "Tue"), (1, "Mon")];
-    let days = Days::from_iter_counted(alloc, pairs, &mut Count::new())?;
-    Ok(days.len() == 2)
-}
-
 fn from_vec(alloc: Global) -> anyhow::Result<bool> {
     let pairs = [(2, "Tue"), (1, "Mon"), (2, "Tuesday")].to_vec(alloc)?;
     let days: Days = LiteMap::from_vec(alloc, pairs)?;
     Ok(days.as_slice() == [(1, "Mon"), (2, "Tuesday")].as_slice())
 }
 
-fn from_vec_counted(alloc: Global) -> anyhow::Result<bool> {
-    let pairs = [(2, "Tue"), (1, "Mon")].to_vec(alloc)?;
-    let days = Days::from_vec_counted(alloc, pairs, &mut Count::new())?;
-    Ok(days.len() == 2)
-}
-
 fn extend(alloc: Global) -> anyhow::Result<bool> {
     let mut days = three_days(alloc)?;
     days.extend(alloc, [(5, "Fri"), (2, "Tue"), (5, "Freitag")])?;
     Ok(days.get(&5) == Some(&"Freitag") && days.len() == 4)
-}
-
-fn extend_counted(alloc: Global) -> anyhow::Result<bool> {
-    let mut days = three_days(alloc)?;
-    days.extend_counted(alloc, [(6, "Sat"), (7, "Sun")], &mut Count::new())?;
-    Ok(days.len() == 5)
 }
 
 fn extend_from_vec(alloc: Global) -> anyhow::Result<bool> {
@@ -59,21 +38,9 @@ fn extend_from_vec(alloc: Global) -> anyhow::Result<bool> {
     Ok(days.get(&5) == Some(&"Freitag") && days.len() == 4)
 }
 
-fn extend_from_vec_counted(alloc: Global) -> anyhow::Result<bool> {
-    let mut days = three_days(alloc)?;
-    let more = [(6, "Sat"), (7, "Sun")].to_vec(alloc)?;
-    days.extend_from_vec_counted(alloc, more, &mut Count::new())?;
-    Ok(days.len() == 5)
-}
-
 fn insert(alloc: Global) -> anyhow::Result<bool> {
     let mut days = three_days(alloc)?;
     Ok(days.insert(2, "Tuesday")?.is_none() && days.insert(5, "Fri")? == Some("Friday"))
-}
-
-fn insert_counted(alloc: Global) -> anyhow::Result<bool> {
-    let mut days = three_days(alloc)?;
-    Ok(days.insert_counted(5, "Fri", &mut Count::new())? == Some("Friday"))
 }
 
 fn try_insert(alloc: Global) -> anyhow::Result<bool> {
@@ -111,11 +78,6 @@ fn remove(alloc: Global) -> anyhow::Result<bool> {
     Ok(days.remove(&3) == Some("Wednesday") && days.remove(&3).is_none())
 }
 
-fn remove_counted(alloc: Global) -> anyhow::Result<bool> {
-    let mut days = three_days(alloc)?;
-    Ok(days.remove_counted(&1, &mut Count::new()) == Some("Monday"))
-}
-
 fn remove_by(alloc: Global) -> anyhow::Result<bool> {
     let mut days = three_days(alloc)?;
     Ok(days.remove_by(|number| number.cmp(&3)) == Some("Wednesday"))
@@ -146,13 +108,6 @@ fn extend_from_litemap(alloc: Global) -> anyhow::Result<bool> {
         Some(old) => Ok(old.as_slice() == [(5, "Friday")].as_slice() && days.len() == 4),
         None => Ok(false),
     }
-}
-
-fn extend_from_litemap_counted(alloc: Global) -> anyhow::Result<bool> {
-    let mut days = three_days(alloc)?;
-    let later: Days = LiteMap::from_iter(alloc, [(6, "Saturday"), (7, "Sunday")])?;
-    let none_common = days.extend_from_litemap_counted(alloc, later, &mut Count::new())?;
-    Ok(none_common.is_none() && days.len() == 5)
 }
 
 fn split_off(alloc: Global) -> anyhow::Result<bool> {

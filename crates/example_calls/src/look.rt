@@ -2,18 +2,17 @@
 use crate::Shown;
 use crate::days::{Days, three_days};
 use litemap::LiteMap;
-use litemap::store::Count;
 use std::alloc::Global;
 use std::hash::{FoldHasher, Hash, Hasher};
 use std::ops::Bound;
 
 /// How the examples came out, by their calls.
-pub(crate) fn examples(alloc: Global) -> [Shown; 30] {
+pub(crate) fn examples(alloc: Global) -> [Shown; 27] {
     shown! { alloc;
         partial_ord, hash, iter, iter_keys, iter_values, keys, values, into_iterator,
         into_iterator_of_iter, len, keys_rise, is_empty, get_indexed, first, last, get,
-        get_counted, get_key_value, get_by, contains_key, index, find_index, find_index_counted,
-        find_index_by, places, places_counted, range, get_indexed_range, as_sliced, as_slice
+        get_key_value, get_by, contains_key, index, find_index, find_index_by, places, range,
+        get_indexed_range, as_sliced, as_slice
     }
 }
 
@@ -112,11 +111,6 @@ fn get(alloc: Global) -> anyhow::Result<bool> {
     Ok(days.get(&3) == Some(&"Wednesday") && days.get(&4).is_none())
 }
 
-fn get_counted(alloc: Global) -> anyhow::Result<bool> {
-    let days = three_days(alloc)?;
-    Ok(days.get_counted(&3, &mut Count::new()) == Some(&"Wednesday"))
-}
-
 fn get_key_value(alloc: Global) -> anyhow::Result<bool> {
     let days = three_days(alloc)?;
     Ok(days.get_key_value(&3) == Some((&3, &"Wednesday")) && days.get_key_value(&4).is_none())
@@ -142,11 +136,6 @@ fn find_index(alloc: Global) -> anyhow::Result<bool> {
     Ok(days.find_index(&3) == Ok(1) && days.find_index(&4) == Err(2))
 }
 
-fn find_index_counted(alloc: Global) -> anyhow::Result<bool> {
-    let days = three_days(alloc)?;
-    Ok(days.find_index_counted(&3, &mut Count::new()) == Ok(1))
-}
-
 fn find_index_by(alloc: Global) -> anyhow::Result<bool> {
     let days = three_days(alloc)?;
     Ok(days.find_index_by(|number| number.cmp(&4)) == Err(2))
@@ -157,12 +146,6 @@ fn places(alloc: Global) -> anyhow::Result<bool> {
     let later = days.places(Bound::Excluded(&1), Bound::Unbounded);
     let crossing = days.places(Bound::Included(&5), Bound::Excluded(&2));
     Ok(later == (1..3) && crossing == (2..2))
-}
-
-fn places_counted(alloc: Global) -> anyhow::Result<bool> {
-    let days = three_days(alloc)?;
-    let (from, to) = (Bound::Included(&2), Bound::Excluded(&9));
-    Ok(days.places_counted(from, to, &mut Count::new()) == (1..3))
 }
 
 fn range(alloc: Global) -> anyhow::Result<bool> {

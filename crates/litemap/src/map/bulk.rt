@@ -34,12 +34,6 @@ impl<K: Ord + Drop, V: Drop, S: StoreFromIterable<K, V>> LiteMap<K, V, S> {
 
     /// `from_iter`, with its comparisons counted: at most one for each pair where the pairs rise, also where it is refused.
     /// The Rust crate has no such call.
-    ///
-    /// ```rust
-    /// let pairs = [(2, "Tue"), (1, "Mon")];
-    /// let days = Days::from_iter_counted(alloc, pairs, &mut Count::new())?;
-    /// Ok(days.len() == 2)
-    /// ```
     pub fn from_iter_counted<I: IntoIterator<Item = (K, V)>>(
         alloc: Global,
         iter: I,
@@ -76,12 +70,6 @@ impl<K: Ord + Drop, V: Drop, S: StoreFromIterable<K, V>> LiteMap<K, V, S> {
 
     /// `from_vec`, with its comparisons counted: at most one for each pair where the pairs rise, refused or not. The Rust crate
     /// has no such call.
-    ///
-    /// ```rust
-    /// let pairs = [(2, "Tue"), (1, "Mon")].to_vec(alloc)?;
-    /// let days = Days::from_vec_counted(alloc, pairs, &mut Count::new())?;
-    /// Ok(days.len() == 2)
-    /// ```
     pub fn from_vec_counted(
         alloc: Global,
         mut pairs: Vec<(K, V)>,
@@ -131,12 +119,6 @@ impl<K: Ord + Drop, V: Drop, S: StoreBulkMut<K, V>> LiteMap<K, V, S> {
 
     /// `extend`, with its comparisons counted, but for those of the sort. A refused call compares no more than an answered
     /// one. The Rust crate has no such call.
-    ///
-    /// ```rust
-    /// let mut days = three_days(alloc)?;
-    /// days.extend_counted(alloc, [(6, "Sat"), (7, "Sun")], &mut Count::new())?;
-    /// Ok(days.len() == 5)
-    /// ```
     pub fn extend_counted<I: IntoIterator<Item = (K, V)>>(
         &mut self,
         alloc: Global,
@@ -176,13 +158,6 @@ impl<K: Ord + Drop, V: Drop, S: StoreBulkMut<K, V>> LiteMap<K, V, S> {
 
     /// `extend_from_vec`, with its comparisons counted, but for those of a sort: the bounds hold where it is refused too. The
     /// Rust crate has no such call.
-    ///
-    /// ```rust
-    /// let mut days = three_days(alloc)?;
-    /// let more = [(6, "Sat"), (7, "Sun")].to_vec(alloc)?;
-    /// days.extend_from_vec_counted(alloc, more, &mut Count::new())?;
-    /// Ok(days.len() == 5)
-    /// ```
     pub fn extend_from_vec_counted(
         &mut self,
         alloc: Global,

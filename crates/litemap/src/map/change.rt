@@ -41,11 +41,6 @@ impl<K: Ord, V, S: StoreMut<K, V>> LiteMap<K, V, S> {
     }
 
     /// `insert`, with its comparisons counted. The Rust crate has no such call.
-    ///
-    /// ```rust
-    /// let mut days = three_days(alloc)?;
-    /// Ok(days.insert_counted(5, "Fri", &mut Count::new())? == Some("Friday"))
-    /// ```
     pub fn insert_counted(
         &mut self,
         key: K,
@@ -262,11 +257,6 @@ impl<K: Ord, V, S: StoreMut<K, V>> LiteMap<K, V, S> {
     }
 
     /// `remove`, with its comparisons counted. The Rust crate has no such call.
-    ///
-    /// ```rust
-    /// let mut days = three_days(alloc)?;
-    /// Ok(days.remove_counted(&1, &mut Count::new()) == Some("Monday"))
-    /// ```
     pub fn remove_counted<Q: Query<K>>(&mut self, key: Q, count: &mut Count) -> Option<V>
     where
         K: Drop,

@@ -108,11 +108,6 @@ impl<K: Ord, V, S: Store<K, V>> LiteMap<K, V, S> {
     }
 
     /// `get`, with its comparisons counted. The Rust crate has no such call.
-    ///
-    /// ```rust
-    /// // days: 1 Monday, 3 Wednesday, 5 Friday
-    /// days.get_counted(&3, &mut Count::new()) == Some(&"Wednesday")
-    /// ```
     pub fn get_counted<Q: Query<K>>(&self, key: Q, count: &mut Count) -> Option<&V>
         ensures value { option_copied result ≡ value_at Q.order self.now.pairs (Q.sought key) }
         ensures cost { RisesByAtMost (digits (length self.now.pairs)) count.old count.new }
@@ -213,11 +208,6 @@ impl<K: Ord, V, S: Store<K, V>> LiteMap<K, V, S> {
     }
 
     /// `find_index`, with its comparisons counted. The Rust crate has no such call.
-    ///
-    /// ```rust
-    /// // days: 1 Monday, 3 Wednesday, 5 Friday
-    /// days.find_index_counted(&3, &mut Count::new()) == Ok(1)
-    /// ```
     pub fn find_index_counted<Q: Query<K>>(&self, key: Q, count: &mut Count) -> Result<usize, usize>
         ensures place { result ≡ index_of Q.order self.now.pairs (Q.sought key) }
         ensures within { IfOk result (λ index. index < length self.now.pairs) }

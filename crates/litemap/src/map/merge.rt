@@ -56,13 +56,6 @@ impl<K: Ord + Drop, V: Drop, S: StoreIntoIterator<K, V> + Drop> LiteMap<K, V, S>
     }
 
     /// `extend_from_litemap`, with its comparisons counted. The Rust crate has no such call.
-    ///
-    /// ```rust
-    /// let mut days = three_days(alloc)?;
-    /// let later: Days = LiteMap::from_iter(alloc, [(6, "Saturday"), (7, "Sunday")])?;
-    /// let none_common = days.extend_from_litemap_counted(alloc, later, &mut Count::new())?;
-    /// Ok(none_common.is_none() && days.len() == 5)
-    /// ```
     pub fn extend_from_litemap_counted(
         &mut self,
         alloc: Global,

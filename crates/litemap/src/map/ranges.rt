@@ -37,12 +37,6 @@ impl<K: Ord, V, S: Store<K, V>> LiteMap<K, V, S> {
     }
 
     /// `places`, with its comparisons counted. The Rust crate has no such call.
-    ///
-    /// ```rust
-    /// // days: 1 Monday, 3 Wednesday, 5 Friday
-    /// let (from, to) = (Bound::Included(&2), Bound::Excluded(&9));
-    /// days.places_counted(from, to, &mut Count::new()) == (1..3)
-    /// ```
     pub fn places_counted<Q: Query<K>>(
         &self,
         from: Bound<Q>,
