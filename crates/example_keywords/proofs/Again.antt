@@ -57,12 +57,10 @@ NoValueFirst-keywords (k ∷ ks) h = no_value_key k.key h.0.0
 -- where values end is one place
 values_end : (v w r s : List (List ℕ)) → AreParts v → AreParts w → NoValueFirst r → NoValueFirst s → v ++ r ≡ w ++ s → (v ≡ w) × (r ≡ s)
 values_end [] [] r s p q m n e = (refl, e)
-values_end [] (y ∷ w) [] s p q m n e = cc
 values_end [] (y ∷ w) (x ∷ r) s p q m n e =
     let f : x ≡ y = cc in
     let t : is_value_part x ≡ true = subst (λ z. is_value_part z ≡ true) (sym f) q.0 in
     cc
-values_end (x ∷ v) [] r [] p q m n e = cc
 values_end (x ∷ v) [] r (y ∷ s) p q m n e =
     let f : y ≡ x = cc in
     let t : is_value_part y ≡ true = subst (λ z. is_value_part z ≡ true) (sym f) p.0 in
@@ -72,17 +70,17 @@ values_end (x ∷ v) (y ∷ w) r s p q m n e =
     let g : v ++ r ≡ w ++ s = cc in
     let h = values_end v w r s p.1 q.1 m n g in
     (ap (λ t. x ∷ t) h.0 ∙ ap (λ z. z ∷ w) f, h.1)
+values_end _ _ _ _ p q m n e = cc
 
 keywords_unique : (ks ls : List Keyword) → AllByRecursion IsKeyword ks → AllByRecursion IsKeyword ls → keyword_parts ks ≡ keyword_parts ls → ks ≡ ls
 keywords_unique [] [] h i e = refl
-keywords_unique [] (l ∷ ls) h i e = cc
-keywords_unique (k ∷ ks) [] h i e = cc
 keywords_unique (k ∷ ks) (l ∷ ls) h i e =
     let f : k.key ≡ l.key = cc in
     let g : k.value ++ keyword_parts ks ≡ l.value ++ keyword_parts ls = cc in
     let v = values_end k.value l.value (keyword_parts ks) (keyword_parts ls) h.0.1 i.0.1 (NoValueFirst-keywords ks h.1) (NoValueFirst-keywords ls i.1) g in
     let same : k ≡ l = ap (λ (x : List ℕ). record k { key = x }) f ∙ ap (λ (x : List (List ℕ)). record l { value = x }) v.0 in
     ap (λ x. x ∷ ks) same ∙ ap (λ t. l ∷ t) (keywords_unique ks ls h.1 i.1 v.1)
+keywords_unique _ _ h i e = cc
 
 pub spelled_unique : (text : List ℕ) (ks ls : List Keyword) → Spells text ks → Spells text ls → ks ≡ ls
 spelled_unique text [] [] s t = refl

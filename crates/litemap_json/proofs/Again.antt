@@ -44,15 +44,13 @@ module _ {K V : Type 0} (cmp : K → K → Ordering) (total : IsTotalOrder cmp) 
   -- the members spell the pairs, one by one
   abbrev pub Spells : List (K × V) → Members → Type 0
   Spells [] no_members = Unit {0}
-  Spells [] (member s d ms) = ⊥
-  Spells (p ∷ ps) no_members = ⊥
   Spells (p ∷ ps) (member s d ms) = (text p.0 ≡ Some s) × (key s ≡ Some (key_json p.0)) × (d ≡ json p.1) × (json_item d ≡ Ok d) × Spells ps ms
+  Spells _ _ = ⊥
 
   pub members_read : (place : ℕ) (J : List (K × V)) (ms : Members) → Spells J ms → member_pairs key key_item json_item place ms ≡ Ok (seen key_json json J)
   members_read place [] no_members h = refl
-  members_read place [] (member s d ms) h = absurd h
-  members_read place (p ∷ ps) no_members h = absurd h
   members_read place (p ∷ ps) (member s d ms) h = rw (h.1, h.3, members_read (place + 1) ps ms h.4, h.2)
+  members_read place _ _ h = absurd h
 
   -- J has x and the pairs of I, and no two equal keys
   abbrev pub Adds : K × V → List (K × V) → Members → Type 0
@@ -83,9 +81,8 @@ module _ {K V : Type 0} (cmp : K → K → Ordering) (total : IsTotalOrder cmp) 
 
     pub adds : (I : List (K × V)) (ms : Members) → Spells I ms → Distinct I → ((q : K × V) → In q I → cmp x.0 q.0 ≢ Equal) → Adds x I (put s (json x.1) ms)
     adds [] no_members h d a = (x ∷ [], (named, known, refl, read, tt), λ p. (λ i. i, λ i. i), (λ r i. absurd i, tt))
-    adds [] (member l e ms) h d a = absurd h
-    adds (q ∷ I) no_members h d a = absurd h
     adds (q ∷ I) (member l e ms) h d a = adds_at (slice_cmp nat_cmp s l) q I l e ms refl h d a (adds I ms h.4 d.1 (λ r i. a r (inr i)))
+    adds _ _ h d a = absurd h
 
   -- the members spell the pairs of `done`, each once
   abbrev pub Gathered : Members → List (K × V) → Type 0

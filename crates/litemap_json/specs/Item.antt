@@ -83,18 +83,12 @@ pair_json d e = array (item d (item e no_items))
 
 -- the two items of an array of exactly two
 abbrev pub two_items : Items → Option (Data × Data)
-two_items no_items = None
-two_items (item d no_items) = None
 two_items (item d (item e no_items)) = Some (d, e)
-two_items (item d (item e (item f more))) = None
+two_items _ = None
 
 abbrev pub two_of : Data → Option (Data × Data)
 two_of (array ds) = two_items ds
-two_of null = None
-two_of (boolean b) = None
-two_of (number n) = None
-two_of (string s) = None
-two_of (object ms) = None
+two_of _ = None
 
 abbrev both : Result Data ItemFault → Result Data ItemFault → Result Data ItemFault
 both (Err f) r = Err f

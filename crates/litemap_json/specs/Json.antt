@@ -73,7 +73,4 @@ module _ (key : List ℕ → Option Data) (key_item json_item : Data → Result 
   abbrev pub pairs : Data → Result (List (Data × Data)) JsonFault
   pairs (array ds) = row_pairs 0 ds
   pairs (object ms) = member_pairs 0 ms
-  pairs null = Err NotAMap
-  pairs (boolean b) = Err NotAMap
-  pairs (number n) = Err NotAMap
-  pairs (string s) = Err NotAMap
+  pairs _ = Err NotAMap

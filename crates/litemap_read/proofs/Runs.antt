@@ -11,6 +11,5 @@ module _ {K V : Type 0} (cmp : K → K → Ordering) (call : Call K V) (answer :
   pub Run-push : (start between end : Seen K V) (calls : List (Call K V)) (answers : List (Answer K V)) → Run cmp start calls answers between
       → Step cmp between call answer end → Run cmp start (calls ++ call ∷ []) (answers ++ answer ∷ []) end
   Run-push start between end [] [] run step = (end, subst (λ (m : Seen K V). Step cmp m call answer end) run step, refl)
-  Run-push start between end [] (a ∷ answers) run step = absurd run
-  Run-push start between end (c ∷ calls) [] run step = absurd run
   Run-push start between end (c ∷ calls) (a ∷ answers) run step = (run.0, run.1, Run-push run.0 between end calls answers run.2 step)
+  Run-push start between end _ _ run step = absurd run

@@ -26,13 +26,7 @@ module _ {K V : Type 0} (cmp : K → K → Ordering) (o : IsTotalOrder cmp) wher
   refused_so old (call.TryAppend k v) a new h = (Some (k, v), h.1.0)
   refused_so old (call.Extend v) a new h = (None, h.0)
   refused_so old (call.Reserve n) a new h = (None, h.0)
-  refused_so old (call.Get k) a new h = absurd h
-  refused_so old (call.ValueAt i) a new h = absurd h
-  refused_so old (call.Contains k) a new h = absurd h
-  refused_so old (call.Find k) a new h = absurd h
-  refused_so old call.Len a new h = absurd h
-  refused_so old (call.Remove k) a new h = absurd h
-  refused_so old call.Clear a new h = absurd h
+  refused_so old _ a new h = absurd h
 
   done : (old : Seen K V) (c : Call K V) (a : Answer K V) (new : Seen K V) → Step cmp old c a new → ((back : Option (K × V)) → a ≡ NoRoom back → ⊥) → IsDone cmp old c a new
   done old c a new (inl d) not = d
@@ -75,11 +69,10 @@ module _ {K V : Type 0} (cmp : K → K → Ordering) (o : IsTotalOrder cmp) wher
 
   pub runs_agree : SameAnswers cmp V
   runs_agree s₁ s₂ e₁ e₂ [] [] [] e r₁ r₂ n₁ n₂ = (refl, ap (λ (m : Seen K V). m.pairs) r₁ ∙ e ∙ sym (ap (λ (m : Seen K V). m.pairs) r₂))
-  runs_agree s₁ s₂ e₁ e₂ [] [] (a₂ ∷ as₂) e r₁ r₂ n₁ n₂ = absurd r₂
   runs_agree s₁ s₂ e₁ e₂ [] (a₁ ∷ as₁) as₂ e r₁ r₂ n₁ n₂ = absurd r₁
   runs_agree s₁ s₂ e₁ e₂ (c ∷ cs) [] as₂ e r₁ r₂ n₁ n₂ = absurd r₁
-  runs_agree s₁ s₂ e₁ e₂ (c ∷ cs) (a₁ ∷ as₁) [] e r₁ r₂ n₁ n₂ = absurd r₂
   runs_agree s₁ s₂ e₁ e₂ (c ∷ cs) (a₁ ∷ as₁) (a₂ ∷ as₂) e r₁ r₂ n₁ n₂ =
       let one = done_agree s₁ s₂ r₁.0 r₂.0 c a₁ a₂ e (done s₁ c a₁ r₁.0 r₁.1 n₁.0) (done s₂ c a₂ r₂.0 r₂.1 n₂.0) in
       let rest = runs_agree r₁.0 r₂.0 e₁ e₂ cs as₁ as₂ one.1 r₁.2 r₂.2 n₁.1 n₂.1 in
       (ap (λ a. a ∷ as₁) one.0 ∙ ap (λ more. a₂ ∷ more) rest.0, rest.1)
+  runs_agree s₁ s₂ e₁ e₂ _ _ _ e r₁ r₂ n₁ n₂ = absurd r₂

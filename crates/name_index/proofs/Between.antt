@@ -27,10 +27,9 @@ module _ (entries places : List ℕ) (from to d : ℕ) (placed : ArePlaced entri
       let n = to - from in
       let first : from < length places = omega (arith, l, h) in
       let long : to ≤ length L = omega (arith, h, placed.these.count_is) in
-      let P : List Part → Type 0 = λ xs. Begins bytes xs placed.these.rest in
       let s =
       begins_split bytes placed.these.rest (pair_parts (take n K)) (pair_parts (drop n K))
-      (subst P (ap pair_parts (sym (take-append-drop n K)) ∙ pair_parts-append (take n K) (drop n K)) (at_place entries places from d placed first)) in
+      (rw (← (ap pair_parts (sym (take-append-drop n K)) ∙ pair_parts-append (take n K) (drop n K))) (at_place entries places from d placed first)) in
       record {
         pairs = slice_range L from to;
         rest = s.0;

@@ -77,8 +77,6 @@ noted_next entries count places rest index place pair behind n within e small b 
     let l : index < length n.these.pairs = omega (arith, within, n.these.count_is) in
     let f = place_is_front entries count places rest index place n e in
     let d : drop place entries ≡ rest = ap (λ c. drop place c) n.read.split ∙ drop_at n.read.front rest place f in
-    let P : List ℕ → Type 0 = λ c. Begins c (pair_parts (drop index n.these.pairs)) n.these.rest in
-    let Q : ℕ → Type 0 = λ j. Begins (drop place entries) (pair_parts (drop j n.these.pairs)) n.these.rest in
     record {
       these = n.these;
       here = is_at_next n.these.pairs n.these.rest rest index l n.here pair behind b;
@@ -93,16 +91,14 @@ noted_next entries count places rest index place pair behind n within e small b 
       within = each_push (λ i p. p ≤ length entries) places place n.within (omega (arith, e));
       there =
           each_push (λ i p. Begins (drop p entries) (pair_parts (drop i n.these.pairs)) n.these.rest) places place n.there
-          (subst Q (sym n.number) (subst P (sym d) n.here));
+          (rw n.number (rw d n.here));
     }
 
 -- the bytes begin with one number
 pub near_table : (bytes entries : List ℕ) (count : ℕ) → Begins bytes (Number count ∷ []) entries → (AreFar entries count → ⊥) → IsFar bytes → ⊥
 near_table bytes entries count b near f =
     let u = one_number bytes f.2 b in
-    let P : List ℕ → Type 0 = λ c. AreFar c f.1 in
-    let Q : ℕ → Type 0 = λ n. AreFar entries n in
-    near (subst Q u.1 (subst P u.2 f.3))
+    near (rw (← u.1) (rw (← u.2) f.3))
 
 pub too_far_weaker : {P Q : Type 0} (fault : NameIndexFault) → (P → Q) → IfTooFar fault P → IfTooFar fault Q
 too_far_weaker NoRoom h p = tt
@@ -208,10 +204,9 @@ placed_table bytes entries places counted placed =
 -- what holds of placed entries holds of the table
 pub of_indexed : {P : List (List ℕ × List ℕ) → Type 0} (bytes entries items places : List ℕ) → IsIndexed bytes entries items → places ≡ items → AsPlaced entries places P → OfTable bytes P
 of_indexed bytes entries items places x e h =
-    let Q : List ℕ → Type 0 = λ p. IsIndexed bytes entries p in
-    let y = subst Q (sym e) x in
+    let y = rw (sym e) at x in
     (y.placed.these.pairs, placed_table bytes entries places y.counted y.placed, h y.placed)
 
 -- a count of as many pairs as places
 pub cost_by_pairs : (entries places : List ℕ) (placed : ArePlaced entries places) (old new : Count) → RisesByAtMost (digits (length places)) old new → RisesByAtMost (digits (length placed.these.pairs)) old new
-cost_by_pairs entries places placed old new r = let P : ℕ → Type 0 = λ n. RisesByAtMost (digits n) old new in subst P (sym placed.these.count_is) r
+cost_by_pairs entries places placed old new r = rw placed.these.count_is r

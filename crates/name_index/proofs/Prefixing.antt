@@ -22,8 +22,6 @@ two_at_most Equal = omega arith
 two_at_most Greater = omega arith
 
 head_rises : (text a b : List ℕ) → text_order a b ≡ Less → ordering_index (head_order a text) ≤ ordering_index (head_order b text)
-head_rises [] a b e = omega arith
-head_rises (t ∷ text) [] b e = omega arith
 head_rises (t ∷ text) (x ∷ a) [] e = absurd (cc)
 head_rises (t ∷ text) (x ∷ a) (y ∷ b) e = by (λ f. head_rises text a b f) (nat_cmp x y) refl (nat_cmp y t) refl
   where
@@ -39,6 +37,7 @@ head_rises (t ∷ text) (x ∷ a) (y ∷ b) e = by (λ f. head_rises text a b f)
         let below : text_order a b ≡ Less = sym (ap (λ o. ordering_then o (text_order a b)) d) ∙ e in
         rw (l, f) (rest below)
     by rest Greater d u f = let g : Greater ≡ Less = sym (ap (λ o. ordering_then o (text_order a b)) d) ∙ e in absurd (cc)
+head_rises _ _ b e = omega arith
 
 -- it is below the text where the name is
 pub head_below : (text name : List ℕ) → is_lt (head_order name text) ≡ is_lt (text_order name text)
@@ -62,8 +61,6 @@ unequal x t o e n = by (t == x) refl
 
 -- it is neither below nor above it where the name begins with it
 pub head_begins : (text name : List ℕ) → not (is_lt (head_order name text)) && is_le (head_order name text) ≡ begins name text
-head_begins [] name = refl
-head_begins (t ∷ text) [] = refl
 head_begins (t ∷ text) (x ∷ name) = by (head_begins text name) (nat_cmp x t) refl
   where
     by : not (is_lt (head_order name text)) && is_le (head_order name text) ≡ begins name text → (o : Ordering) → nat_cmp x t ≡ o
@@ -72,23 +69,20 @@ head_begins (t ∷ text) (x ∷ name) = by (head_begins text name) (nat_cmp x t)
     by rest Less e = rw (e, unequal x t Less e (λ d. cc)) refl
     by rest Equal e = let s : (t == x) ≡ true = eq-eqb t x (sym (ranked x t Equal (sym e))) in rw (e, s) rest
     by rest Greater e = rw (e, unequal x t Greater e (λ d. cc)) refl
+head_begins _ _ = refl
 
 -- ---- names that rise
 lower_lt : (o u : Ordering) → ordering_index o ≤ ordering_index u → is_lt u ≡ true → is_lt o ≡ true
 lower_lt Less u l h = refl
 lower_lt Equal Less l h = absurd (omega (arith, l))
-lower_lt Equal Equal l h = h
-lower_lt Equal Greater l h = h
 lower_lt Greater Less l h = absurd (omega (arith, l))
-lower_lt Greater Equal l h = h
-lower_lt Greater Greater l h = h
+lower_lt _ _ l h = h
 
 lower_le : (o u : Ordering) → ordering_index o ≤ ordering_index u → is_le u ≡ true → is_le o ≡ true
-lower_le Less u l h = refl
-lower_le Equal u l h = refl
 lower_le Greater Less l h = absurd (omega (arith, l))
 lower_le Greater Equal l h = absurd (omega (arith, l))
 lower_le Greater Greater l h = h
+lower_le _ u l h = refl
 
 led_before : (behind : Bool) (text a b : List ℕ) → text_order a b ≡ Less → leads_to behind text b ≡ true → leads_to behind text a ≡ true
 led_before false text a b e h = lower_lt (head_order a text) (head_order b text) (head_rises text a b e) h
@@ -102,10 +96,9 @@ unled_behind behind text a b e h = by (leads_to behind text b) refl
     by true d = absurd (true≢false (sym (led_before behind text a b e d) ∙ h))
 
 below_at : (key : List ℕ) (L : List (List ℕ × List ℕ)) (i : ℕ) (p : List ℕ × List ℕ) → BelowAll text_order key L → slice_get L i ≡ Some p → text_order key p.0 ≡ Less
-below_at key [] zero p b e = absurd (cc)
-below_at key [] (suc i) p b e = absurd (cc)
 below_at key (q ∷ L) zero p b e = let s : q ≡ p = cc in subst (λ (r : List ℕ × List ℕ). text_order key r.0 ≡ Less) s b.0
 below_at key (q ∷ L) (suc i) p b e = below_at key L i p b.1 e
+below_at key _ _ p b e = absurd (cc)
 
 module _ (behind : Bool) (text : List ℕ) where
   -- all of them lie before, or none does
@@ -113,10 +106,9 @@ module _ (behind : Bool) (text : List ℕ) where
   AllLed L b = AllByRecursion (λ (p : List ℕ × List ℕ). leads_to behind text p.0 ≡ b) L
 
   up_to : (L : List (List ℕ × List ℕ)) (i : ℕ) (p : List ℕ × List ℕ) → Rising text_order L → slice_get L i ≡ Some p → leads_to behind text p.0 ≡ true → AllLed (take (suc i) L) true
-  up_to [] zero p r e h = absurd (cc)
-  up_to [] (suc i) p r e h = absurd (cc)
   up_to (q ∷ L) zero p r e h = let s : q ≡ p = cc in (subst (λ (u : List ℕ × List ℕ). leads_to behind text u.0 ≡ true) (sym s) h, tt)
   up_to (q ∷ L) (suc i) p r e h = (led_before behind text q.0 p.0 (below_at q.0 L i p r.0 e) h, up_to L i p r.1 e h)
+  up_to _ _ p r e h = absurd (cc)
 
   -- the names up to one that lies before do
   pub led_up_to : (L : List (List ℕ × List ℕ)) (i : ℕ) (p : List ℕ × List ℕ) → Rising text_order L → slice_get L i ≡ Some p → leads_to behind text p.0 ≡ true → AllLed (take (i + 1) L) true
@@ -128,13 +120,12 @@ module _ (behind : Bool) (text : List ℕ) where
 
   -- those from one on that doesn't lie before don't
   pub led_from : (L : List (List ℕ × List ℕ)) (i : ℕ) (p : List ℕ × List ℕ) → Rising text_order L → slice_get L i ≡ Some p → leads_to behind text p.0 ≡ false → AllLed (drop i L) false
-  led_from [] zero p r e h = absurd (cc)
-  led_from [] (suc i) p r e h = absurd (cc)
   led_from (q ∷ L) zero p r e h =
       let s : q ≡ p = cc in
       let g : leads_to behind text q.0 ≡ false = subst (λ (u : List ℕ × List ℕ). leads_to behind text u.0 ≡ false) (sym s) h in
       (g, above q.0 L r.0 g)
   led_from (q ∷ L) (suc i) p r e h = led_from L i p r.1 e h
+  led_from _ _ p r e h = absurd (cc)
 
   -- nothing stands behind the last one
   pub led_past : (L : List (List ℕ × List ℕ)) (n : ℕ) → length L ≤ n → AllLed (drop n L) false

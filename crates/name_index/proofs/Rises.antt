@@ -47,8 +47,7 @@ asked_next (Some last) L p l r z o =
 
 less_from_true : (o : Ordering) → IsTrue (is_lt o) → o ≡ Less
 less_from_true Less h = refl
-less_from_true Equal h = absurd (cc)
-less_from_true Greater h = absurd (cc)
+less_from_true _ h = absurd (cc)
 
 -- the key is above the last one
 abbrev pub IsAbove : Option (Bor (List ℕ)) → List ℕ → Type 0
@@ -63,11 +62,9 @@ pub rises_on : (last : Option (Bor (List ℕ))) (L : List (List ℕ × List ℕ)
 rises_on None L p e r a = let P : List (List ℕ × List ℕ) → Type 0 = λ M. Rising text_order (M ++ p ∷ []) in subst P (sym e) (tt, tt)
 rises_on (Some last) L p e r a =
     let M = e.0 ++ (last.now, e.1) ∷ [] in
-    let R : List (List ℕ × List ℕ) → Type 0 = λ M. Rising text_order M in
-    let P : List (List ℕ × List ℕ) → Type 0 = λ M. Rising text_order (M ++ p ∷ []) in
-    let s : Rising text_order M = subst R e.2 r in
+    let s : Rising text_order M = rw (← e.2) r in
     let b : AllBelow text_order M p.0 = AllBelow-from_last text_order_total M p.0 (length e.0) (last.now, e.1) s (omega (arith, length-append e.0 ((last.now, e.1) ∷ []))) (last_at e.0 (last.now, e.1)) a in
-    subst P (sym e.2) (Rising-push text_order M p.0 p.1 s b)
+    rw e.2 (Rising-push text_order M p.0 p.1 s b)
 
 rising_last : (L : List (List ℕ × List ℕ)) (x y : List ℕ × List ℕ) → Rising text_order ((L ++ x ∷ []) ++ y ∷ []) → text_order x.0 y.0 ≡ Less
 rising_last [] x y r = r.0.0
@@ -75,8 +72,7 @@ rising_last (z ∷ L) x y r = rising_last L x y r.1
 
 pub falls_on : (last : Bor (List ℕ)) (L : List (List ℕ × List ℕ)) (p : List ℕ × List ℕ) → LastKey (Some last) L → Rising text_order (L ++ p ∷ []) → text_order last.now p.0 ≡ Less
 falls_on last L p e r =
-    let P : List (List ℕ × List ℕ) → Type 0 = λ M. Rising text_order (M ++ p ∷ []) in
-    rising_last e.0 (last.now, e.1) p (subst P e.2 r)
+    rising_last e.0 (last.now, e.1) p (rw (← e.2) r)
 
 -- what the test of a key says
 pub above_true : (last : Option (Bor (List ℕ))) (key : List ℕ) (b : Bool) → IfSome last (λ l. b ≡ is_lt (text_order l.now key)) → IsTrue b → IsAbove last key
@@ -92,7 +88,6 @@ pub checked_next : (s t u : Remaining) (last : Option (Bor (List ℕ))) (key val
 checked_next s t u last key value old middle new c n a z o =
     let on = c.to.on in
     let p : List ℕ × List ℕ = (key.now, value.now) in
-    let P : List Part → Type 0 = λ xs. AreParts (on.front ++ n.spelled.front) xs in
     record {
       to = record {
         on = record {
@@ -100,8 +95,7 @@ checked_next s t u last key value old middle new c n a z o =
           front = on.front ++ n.spelled.front;
           split = on.split ∙ ap (λ b. on.front ++ b) n.spelled.split ∙ sym (append_assoc on.front n.spelled.front u.rest);
           spelled =
-              subst P (sym (pair_parts-append on.pairs (p ∷ [])))
-              (AreParts-append on.front n.spelled.front (pair_parts on.pairs) (pair_parts (p ∷ [])) on.spelled n.spelled.spelled);
+              rw (pair_parts-append on.pairs (p ∷ [])) (AreParts-append on.front n.spelled.front (pair_parts on.pairs) (pair_parts (p ∷ [])) on.spelled n.spelled.spelled);
           place = omega (arith, on.place, n.place, length-append on.front n.spelled.front);
           count = omega (arith, on.count, n.count, length-append on.pairs (p ∷ []));
         };
@@ -114,8 +108,7 @@ checked_next s t u last key value old middle new c n a z o =
 -- the whole table was read
 pub opened : (bytes entries : List ℕ) (s : Remaining) → IsCounted bytes s → entries ≡ s.rest → AllRise s → IsOpened bytes entries s.left
 opened bytes entries s c e a =
-    let P : List ℕ → Type 0 = λ t. IsOpened bytes t s.left in
-    subst P (sym e) (record {
+    rw e (record {
       counted = c.spelled;
       these = record {
         pairs = a.1.on.pairs;
@@ -135,13 +128,12 @@ pub rising_table : (bytes entries : List ℕ) (count : ℕ) → (o : IsOpened by
 rising_table bytes entries count o =
     let b = o.counted in
     let p = o.these.spelled in
-    let A : ℕ → Type 0 = λ n. AreParts (b.front ++ p.front) (Number n ∷ pair_parts o.these.pairs) in
     record {
       rest = o.these.rest;
       table = record {
         front = b.front ++ p.front;
         split = b.split ∙ ap (λ c. b.front ++ c) p.split ∙ sym (append_assoc b.front p.front o.these.rest);
-        spelled = subst A (sym o.these.count_is) (AreParts-append b.front p.front (Number count ∷ []) (pair_parts o.these.pairs) b.spelled p.spelled);
+        spelled = rw o.these.count_is (AreParts-append b.front p.front (Number count ∷ []) (pair_parts o.these.pairs) b.spelled p.spelled);
       };
       rises = o.these.rises;
     }

@@ -41,8 +41,7 @@ prefix_kept old more at n l =
 
 pub number_kept : (old new : List ℕ) (size at n : ℕ) → Adds old new size → IsNumberAt old at n → IsNumberAt new at n
 number_kept old new size at n a p =
-    let P : List ℕ → Type 0 = λ c. IsNumberAt c at n in
-    subst P (sym a.added) (record {
+    rw a.added (record {
       within = omega (arith, p.within, length-append old a.more);
       value = ap (λ c. from_le_bytes w32 c) (prefix_kept old a.more at 4 p.within) ∙ p.value;
     })
@@ -66,9 +65,8 @@ pair_kept old new size at pair a p =
 
 pub number_written : (old new : List ℕ) (n : ℕ) → n < 4294967296 → new ≡ old ++ to_le_bytes w32 n → IsNumberAt new (length old) n
 number_written old new n l e =
-    let P : List ℕ → Type 0 = λ c. IsNumberAt c (length old) n in
     let four : length (to_le_bytes w32 n) ≡ 4 = refl in
-    subst P (sym e) (record {
+    rw e (record {
       within = omega (arith, length-append old (to_le_bytes w32 n), four);
       value =
           ap (λ c. from_le_bytes w32 (take 4 c)) (drop_at old (to_le_bytes w32 n) (length old) refl)
@@ -99,8 +97,7 @@ text_adds old middle new text a e =
 pub pair_written : (old middle new key value : List ℕ) → Adds old middle (4 + length key) → IsTextAt middle (length old) key → Adds middle new (4 + length value) → IsTextAt new (length middle) value → IsPairAt new (length old) (key, value)
 pair_written old middle new key value a k b v =
     let l : length middle ≡ length old + 4 + length key = omega (arith, adds_length old middle (4 + length key) a) in
-    let P : ℕ → Type 0 = λ n. IsTextAt new n value in
-    (text_kept middle new (4 + length value) (length old) key b k, subst P l v)
+    (text_kept middle new (4 + length value) (length old) key b k, rw (← l) v)
 
 pub pair_adds : (old middle new key value : List ℕ) → Adds old middle (4 + length key) → Adds middle new (4 + length value) → Adds old new (pair_size (key, value))
 pair_adds old middle new key value a b =
@@ -119,8 +116,8 @@ module _ (pairs : List (List ℕ × List ℕ)) (index : ℕ) (pair : List ℕ ×
   size_within = omega (arith, size_more, sum_by-take-le pair_size pairs (index + 1))
 
 pub places_start : (bytes : List ℕ) (pairs : List (List ℕ × List ℕ)) (n : ℕ) → Adds [] bytes 4 → IsNumberAt bytes 0 n → n ≡ length pairs → ArePlaces bytes pairs 0
-places_start bytes pairs n a number e = let P : ℕ → Type 0 = λ m. IsNumberAt bytes 0 m in record {
-  number = subst P e number;
+places_start bytes pairs n a number e = record {
+  number = rw (← e) number;
   size = omega (arith, adds_length [] bytes 4 a);
   noted = λ i l. absurd (omega (arith, l));
 }
@@ -132,11 +129,9 @@ places_next old new pairs index place p e a n = record {
   noted = λ i l. elim (eq-or-lt_of_le {n = i} {m = index} (omega (arith, l))) [
     | inr h ↦ number_kept old new 4 (4 + 4 * i) (entries_size (take i pairs)) a (p.noted i h)
     | inl h ↦
-        let P : ℕ → Type 0 = λ m. IsNumberAt new m place in
-        let Q : ℕ → Type 0 = λ m. IsNumberAt new (4 + 4 * i) m in
         let w : length old ≡ 4 + 4 * i = omega (arith, p.size, h) in
         let s : place ≡ entries_size (take i pairs) = e ∙ ap (λ k. entries_size (take k pairs)) (sym h) in
-        subst Q s (subst P w n)
+        rw (← s) (rw (← w) n)
   ];
 }
 
@@ -145,20 +140,16 @@ pairs_start old pairs = record { adds = adds_none old; there = λ i pair l e. ab
 
 pub pairs_next : (old middle new : List ℕ) (pairs : List (List ℕ × List ℕ)) (index : ℕ) (pair : List ℕ × List ℕ) → AddsPairs old middle pairs index → slice_get pairs index ≡ Some pair → Adds middle new (pair_size pair) → IsPairAt new (length middle) pair → AddsPairs old new pairs (index + 1)
 pairs_next old middle new pairs index pair p e a here =
-    let P : ℕ → Type 0 = λ n. Adds old new n in
     record {
-      adds = subst P (sym (size_more pairs index pair e)) (adds_then old middle new (entries_size (take index pairs)) (pair_size pair) p.adds a);
+      adds = rw (size_more pairs index pair e) (adds_then old middle new (entries_size (take index pairs)) (pair_size pair) p.adds a);
       there = λ i q l f. elim (eq-or-lt_of_le {n = i} {m = index} (omega (arith, l))) [
         | inr h ↦ pair_kept middle new (pair_size pair) (length old + entries_size (take i pairs)) q a (p.there i q h f)
         | inl h ↦
-            let G : ℕ → Type 0 = λ k. slice_get pairs k ≡ Some q in
-            let g : slice_get pairs index ≡ Some q = subst G h f in
+            let g : slice_get pairs index ≡ Some q = rw (← h) f in
             let s : pair ≡ q = cc in
             let w : length middle ≡ length old + entries_size (take i pairs) = adds_length old middle (entries_size (take index pairs)) p.adds ∙ ap (λ k. length old + entries_size (take k pairs)) (sym h) in
             let Q : ℕ → List ℕ × List ℕ → Type 0 = λ n r. IsPairAt new n r in
-            let R : List ℕ × List ℕ → Type 0 = λ r. IsPairAt new (length middle) r in
-            let T : ℕ → Type 0 = λ n. IsPairAt new n q in
-            subst T w (subst R s here)
+            rw (← w) (rw (← s) here)
       ];
     }
 
@@ -171,13 +162,12 @@ index_written old new pairs p a rises = record {
       let l : i < length pairs = slice_get_within pairs i pair e in
       let far = entries_size (take i pairs) in
       let w : length old + far ≡ 4 + 4 * length pairs + far = omega (arith, p.size) in
-      let P : ℕ → Type 0 = λ n. IsPairAt new n pair in
       let b : BeginsAt new (length pairs) i (4 + 4 * length pairs + far) = record {
         far = far;
         noted = number_kept old new (entries_size (take (length pairs) pairs)) (4 + 4 * i) far a.adds (p.noted i l);
         at_is = refl;
       } in
-      (4 + 4 * length pairs + far, b, subst P w (a.there i pair l e));
+      (4 + 4 * length pairs + far, b, rw (← w) (a.there i pair l e));
   rises = rises;
 }
 
@@ -218,7 +208,5 @@ all_small pairs index place i e h =
 
 pub shown_written : (old new : List ℕ) (pairs : List (Text × Text)) → ArePlaces old (map shown pairs) (length pairs) → AddsPairs old new (map shown pairs) (length pairs) → Rising by_bytes pairs → IsIndex new (map shown pairs)
 shown_written old new pairs p a rises =
-    let P : ℕ → Type 0 = λ n. ArePlaces old (map shown pairs) n in
-    let Q : ℕ → Type 0 = λ n. AddsPairs old new (map shown pairs) n in
     let e : length pairs ≡ length (map shown pairs) = sym (shown_length pairs) in
-    index_written old new (map shown pairs) (subst P e p) (subst Q e a) (shown_rise pairs rises)
+    index_written old new (map shown pairs) (rw (← e) p) (rw (← e) a) (shown_rise pairs rises)

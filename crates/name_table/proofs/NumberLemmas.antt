@@ -43,8 +43,8 @@ module _ (bytes tail : List ℕ) (b low room : ℕ) (e : bytes ≡ b ∷ tail) (
   }
 
   pub unread_more : (why : Unread) → 128 ≤ low → WhyUnread why (room - 1) tail → WhyUnread why room bytes
-  unread_more Ends h w = let P : List ℕ → Type 0 = λ bs. WhyUnread Ends room bs in
-      subst P (sym e) ((omega (arith, h, l), w.0), omega (arith, w.1, k))
+  unread_more Ends h w =
+      rw e ((omega (arith, h, l), w.0), omega (arith, w.1, k))
   unread_more TooLong h w = (b ∷ w.0, w.1, e ∙ ap (λ bs. b ∷ bs) w.2, (omega (arith, h, l), w.3), omega (arith, w.4, k))
 
 -- a number below 2^32

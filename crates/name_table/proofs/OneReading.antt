@@ -25,12 +25,10 @@ agree_longer (x ∷ xs) ys y g = agree_longer xs ys y (g.1 refl)
 -- where bytes begin with parts that agree with all that are allowed, none of these has a fault
 pub parts_no_fault : {Allowed : List Part → Type 0} (bytes rest : List ℕ) (xs : List Part) (place : ℕ) (fault : NameFault) → ((ys : List Part) → Allowed ys → Agree xs ys) → Begins bytes xs rest → Fault Allowed bytes place fault → ⊥
 parts_no_fault bytes rest xs place fault agrees p w =
-    let A : List Part → Type 0 = λ ys. Agree xs ys in
-    let B : List Part → Type 0 = λ ys. Agree ys (w.done ++ w.due ∷ w.more) in
     let g : Agree xs (w.done ++ w.due ∷ w.more) = agrees (w.done ++ w.due ∷ w.more) w.allowed in
-    let i = fault_past xs [] w.done w.due w.more p.front rest w.front w.rest (place + length w.front) fault (subst B (sym (append-nil xs)) g) p.spelled w.spelled (sym p.split ∙ w.split) w.why in
+    let i = fault_past xs [] w.done w.due w.more p.front rest w.front w.rest (place + length w.front) fault (rw (append-nil xs) g) p.spelled w.spelled (sym p.split ∙ w.split) w.why in
     let h : w.done ++ w.due ∷ w.more ≡ xs ++ (i.parts ++ w.due ∷ w.more) = ap (λ ys. ys ++ w.due ∷ w.more) i.is_done ∙ append_assoc xs i.parts (w.due ∷ w.more) in
-    longer xs i.parts w.more w.due (subst A h g)
+    longer xs i.parts w.more w.due (rw (← h) g)
   where
     longer : (xs parts more : List Part) (due : Part) → Agree xs (xs ++ (parts ++ due ∷ more)) → ⊥
     longer xs [] more due g = agree_longer xs more due g
@@ -38,13 +36,12 @@ parts_no_fault bytes rest xs place fault agrees p w =
 
 pub table_no_fault : (bytes : List ℕ) (J : List (List ℕ × List ℕ)) (rest : List ℕ) (fault : NameFault) → Begins bytes (table_parts J) rest → TableFault bytes fault → ⊥
 table_no_fault bytes J rest fault p w =
-    let A : List Part → Type 0 = λ ys. Agree (table_parts J) ys in
-    parts_no_fault bytes rest (table_parts J) 0 fault (λ ys a. subst A (sym a.1) (agree_tables J a.0)) p w
+    parts_no_fault bytes rest (table_parts J) 0 fault (λ ys a. rw a.1 (agree_tables J a.0)) p w
 
 -- ---- one fault
 
 goes_on_front : (bytes front rest : List ℕ) → bytes ≡ front ++ rest → EndsAtLast front → GoesOn bytes → ⊥
-goes_on_front bytes front rest e s g = let P : List ℕ → Type 0 = λ c. GoesOn c in ends_goes_on front rest s (subst P e g)
+goes_on_front bytes front rest e s g = ends_goes_on front rest s (rw (← e) g)
 
 cut_not_large : (bytes : List ℕ) → IsCut bytes → IsTooLarge bytes → ⊥
 cut_not_large bytes c l =
@@ -53,43 +50,37 @@ cut_not_large bytes c l =
 
 number_fault_unique : (bytes : List ℕ) (place : ℕ) (f g : NameFault) → NumberFault bytes place f → NumberFault bytes place g → f ≡ g
 number_fault_unique bytes place (Truncated a) (Truncated b) p q = ap (λ i. Truncated i) (p.0 ∙ sym q.0)
-number_fault_unique bytes place (Truncated a) (NotUtf8 b) p q = absurd q
 number_fault_unique bytes place (Truncated a) (NumberTooLarge b) p q = absurd (cut_not_large bytes p.1 q.1)
 number_fault_unique bytes place (NotUtf8 a) g p q = absurd p
 number_fault_unique bytes place (NumberTooLarge a) (Truncated b) p q = absurd (cut_not_large bytes q.1 p.1)
-number_fault_unique bytes place (NumberTooLarge a) (NotUtf8 b) p q = absurd q
 number_fault_unique bytes place (NumberTooLarge a) (NumberTooLarge b) p q = ap (λ i. NumberTooLarge i) (p.0 ∙ sym q.0)
+number_fault_unique bytes place _ _ p q = absurd q
 
 text_fault_unique : (size : ℕ) (bytes : List ℕ) (place : ℕ) (f g : NameFault) → TextFault size bytes place f → TextFault size bytes place g → f ≡ g
 text_fault_unique size bytes place (Truncated a) (Truncated b) p q = ap (λ i. Truncated i) (p.0 ∙ sym q.0)
-text_fault_unique size bytes place (Truncated a) (NotUtf8 b) p q = absurd (omega (arith, p.1, q.1))
 text_fault_unique size bytes place (Truncated a) (NumberTooLarge b) p q = absurd q
-text_fault_unique size bytes place (NotUtf8 a) (Truncated b) p q = absurd (omega (arith, p.1, q.1))
 text_fault_unique size bytes place (NotUtf8 a) (NotUtf8 b) p q = ap (λ i. NotUtf8 i) (p.0 ∙ sym q.0)
 text_fault_unique size bytes place (NotUtf8 a) (NumberTooLarge b) p q = absurd q
 text_fault_unique size bytes place (NumberTooLarge a) g p q = absurd p
+text_fault_unique size bytes place _ _ p q = absurd (omega (arith, p.1, q.1))
 
 part_fault_unique : (x y : Part) (bytes : List ℕ) (place : ℕ) (f g : NameFault) → IsLike x y → PartFault x bytes place f → PartFault y bytes place g → f ≡ g
 part_fault_unique (Number n) (Number m) bytes place f g l p q = number_fault_unique bytes place f g p q
-part_fault_unique (Number n) (Text t) bytes place f g l p q = absurd l
-part_fault_unique (Text s) (Number m) bytes place f g l p q = absurd l
 part_fault_unique (Text s) (Text t) bytes place f g l p q =
-    let P : ℕ → Type 0 = λ i. TextFault i bytes place f in
-    text_fault_unique (length t) bytes place f g (subst P l p) q
+    text_fault_unique (length t) bytes place f g (rw (← l) p) q
+part_fault_unique _ _ bytes place f g l p q = absurd l
 
 like_sym : (x y : Part) → IsLike x y → IsLike y x
 like_sym (Number n) (Number m) l = tt
-like_sym (Number n) (Text t) l = l
-like_sym (Text s) (Number m) l = l
 like_sym (Text s) (Text t) l = sym l
+like_sym _ _ l = l
 
 first_fault : (d e : List Part) (x y : Part) (m n : List Part) (a u b v : List ℕ) (place : ℕ) (f g : NameFault) → Agree (d ++ x ∷ m) (e ++ y ∷ n) → AreParts a d → AreParts b e → a ++ u ≡ b ++ v → PartFault x u (place + length a) f → PartFault y v (place + length b) g → f ≡ g
 first_fault [] [] x y m n a u b v place f g h p q e i j =
     let P : ℕ → Type 0 = λ k. PartFault x u k f in
     let Q : ℕ → Type 0 = λ k. PartFault y v k g in
-    let R : List ℕ → Type 0 = λ c. PartFault y c place g in
     let w : v ≡ u = ap (λ c. c ++ v) (sym q) ∙ sym e ∙ ap (λ c. c ++ u) p in
-    part_fault_unique x y u place f g h.0 (subst P (omega (arith, ap length p)) i) (subst R w (subst Q (omega (arith, ap length q)) j))
+    part_fault_unique x y u place f g h.0 (subst P (omega (arith, ap length p)) i) (rw (← w) (subst Q (omega (arith, ap length q)) j))
 first_fault [] (z ∷ e') x y m n a u b v place f g h p q e i j =
     let P : List ℕ → Type 0 = λ c. PartFault x c (place + length a) f in
     let w : u ≡ q.0 ++ (q.1 ++ v) = ap (λ c. c ++ u) (sym p) ∙ e ∙ regroup b q.0 q.1 v q.2 in

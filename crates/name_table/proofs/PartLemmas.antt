@@ -38,8 +38,7 @@ begins_then bytes middle rest xs ys p q = record {
 -- a text of so many bytes behind their number
 pub begins_text : (bytes tail rest text : List ℕ) (size : ℕ) → Begins bytes (Number size ∷ []) tail → tail ≡ text ++ rest → length text ≡ size → IsUtf8 text → Begins bytes (text_parts text) rest
 begins_text bytes tail rest text size p e l u =
-    let P : ℕ → Type 0 = λ n. Begins bytes (Number n ∷ []) tail in
-    begins_then bytes tail rest (Number (length text) ∷ []) (Text text ∷ []) (subst P (sym l) p)
+    begins_then bytes tail rest (Number (length text) ∷ []) (Text text ∷ []) (rw l p)
     (record { front = text; split = e; spelled = AreParts-one text (Text text) (refl, u) })
 
 -- the same from place to place
@@ -62,7 +61,7 @@ begins_pairs bytes middle rest J K p q =
     record {
       front = r.front;
       split = r.split;
-      spelled = let P : List Part → Type 0 = λ xs. AreParts r.front xs in subst P (sym (pair_parts-append J K)) r.spelled;
+      spelled = rw (pair_parts-append J K) r.spelled;
     }
 
 -- no parts

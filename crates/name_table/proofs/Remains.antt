@@ -81,8 +81,7 @@ module _ (s t : Remaining) (p : List ℕ × List ℕ) (n : IsNext s t p) where
   earlier : (f : NameFault) (pairs : List (List ℕ × List ℕ)) (w : Fault (AreOfPairs s.left) s.rest s.place f) → length pairs ≡ s.left → w.done ++ w.due ∷ w.more ≡ pair_parts pairs → Fault (AreOfPairs t.left) t.rest t.place f
   earlier f [] w l e = absurd (omega (arith, n.count, l))
   earlier f (q ∷ J) w l e =
-      let A : List Part → Type 0 = λ ys. Agree (pair_parts (p ∷ J)) ys in
-      let g : Agree (pair_parts (p ∷ J)) (w.done ++ w.due ∷ w.more) = subst A (sym e) (agree_pairs (p ∷ J) (q ∷ J) refl) in
+      let g : Agree (pair_parts (p ∷ J)) (w.done ++ w.due ∷ w.more) = rw e (agree_pairs (p ∷ J) (q ∷ J) refl) in
       let i = fault_past (pair_parts (p ∷ [])) (pair_parts J) w.done w.due w.more n.spelled.front t.rest w.front w.rest (s.place + length w.front) f g n.spelled.spelled w.spelled (sym n.spelled.split ∙ w.split) w.why in
       let h : pair_parts (p ∷ []) ++ (i.parts ++ w.due ∷ w.more) ≡ pair_parts (q ∷ J) = ap (λ c. c ++ w.due ∷ w.more) (sym i.is_done) ∙ e in
       let k : i.parts ++ w.due ∷ w.more ≡ pair_parts J = cc in
@@ -115,8 +114,7 @@ module _ (s t : Remaining) (p : List ℕ × List ℕ) (n : IsNext s t p) where
   rest_of (q ∷ J) behind c l =
       let d = begins_split s.rest behind (pair_parts (q ∷ [])) (pair_parts J) c in
       let u = begins_unique s.rest (agree_pairs (p ∷ []) (q ∷ []) refl) n.spelled d.1 in
-      let P : List ℕ → Type 0 = λ bytes. Begins bytes (pair_parts J) behind in
-      record { pairs = J; behind = behind; spelled = subst P (sym u.2) d.2; count = omega (arith, l, n.count) }
+      record { pairs = J; behind = behind; spelled = rw u.2 d.2; count = omega (arith, l, n.count) }
 
   pub all_earlier : AllCanBeRead s → AllCanBeRead t
   all_earlier r = rest_of r.pairs r.behind r.spelled r.count

@@ -42,8 +42,7 @@ none_due (p ∷ P) [] bytes middle end due b k l stops = absurd (omega (arith, l
 none_due (p ∷ P) (q ∷ K) bytes middle end due b k l stops =
     let d = begins_split bytes middle (pair_parts (p ∷ [])) (pair_parts P) b in
     let e = begins_split bytes end (pair_parts (q ∷ [])) (pair_parts K) k in
-    let A : List ℕ → Type 0 = λ c. Begins c (pair_parts P) middle in
-    none_due P K e.0 middle end due (subst A (begins_unique bytes (agree_pairs (p ∷ []) (q ∷ []) refl) d.1 e.1).2 d.2) e.2 (omega (arith, l)) stops
+    none_due P K e.0 middle end due (rw (← ((begins_unique bytes (agree_pairs (p ∷ []) (q ∷ []) refl) d.1 e.1).2)) d.2) e.2 (omega (arith, l)) stops
 
 -- ---- from the number of pairs on, all were read
 
@@ -63,8 +62,7 @@ module _ (bytes : List ℕ) (s t : Remaining) (given : List (Bor (List ℕ) × B
 
   on_all : length on.pairs ≡ s.left
   on_all =
-      let A : List ℕ → Type 0 = λ c. (empty.due ≡ 0) ⊎ NoPair c in
-      let stops : (empty.due ≡ 0) ⊎ NoPair t.rest = subst A (sym (begins_nothing t.rest empty.behind empty.spelled)) empty.stops in
+      let stops : (empty.due ≡ 0) ⊎ NoPair t.rest = rw (begins_nothing t.rest empty.behind empty.spelled) empty.stops in
       let e : empty.due ≡ 0 = none_due on.pairs all.pairs s.rest t.rest all.behind empty.due on_begins all.spelled (omega (arith, on.count, all.count, empty.count)) stops in
       omega (arith, e, on.count, empty.count)
 
@@ -76,13 +74,12 @@ module _ (bytes : List ℕ) (s t : Remaining) (given : List (Bor (List ℕ) × B
   pub whole_table : WholeTable bytes (map shown given) t.place
   whole_table =
       let l : s.left ≡ length (map shown given) = sym given_all ∙ sym (length-map given shown) in
-      let A : ℕ → Type 0 = λ n. AreParts (counted.spelled.front ++ gives.spelled.front) (Number n ∷ pair_parts (map shown given)) in
       record {
         rest = gives.behind;
         table = record {
           front = counted.spelled.front ++ gives.spelled.front;
           split = counted.spelled.split ∙ ap (λ c. counted.spelled.front ++ c) gives.spelled.split ∙ sym (append_assoc counted.spelled.front gives.spelled.front gives.behind);
-          spelled = subst A l (AreParts-append counted.spelled.front gives.spelled.front (Number s.left ∷ []) (pair_parts (map shown given)) counted.spelled.spelled gives.spelled.spelled);
+          spelled = rw (← l) (AreParts-append counted.spelled.front gives.spelled.front (Number s.left ∷ []) (pair_parts (map shown given)) counted.spelled.spelled gives.spelled.spelled);
         };
         size_is = omega (arith, on.place, counted.place, ap length same_bytes, length-append counted.spelled.front gives.spelled.front);
       }

@@ -14,7 +14,7 @@ pub record IsReadOn (s t : Remaining) : Type 0 where
   pub count : s.left ≡ length pairs + t.left
 
 pub AreParts-append : (a b : List ℕ) (xs ys : List Part) → AreParts a xs → AreParts b ys → AreParts (a ++ b) (xs ++ ys)
-AreParts-append a b [] ys p q = let P : List ℕ → Type 0 = λ c. AreParts (c ++ b) ys in subst P (sym p) q
+AreParts-append a b [] ys p q = rw p q
 AreParts-append a b (x ∷ xs) ys p q =
     (p.0, p.1 ++ b, ap (λ c. c ++ b) p.2 ∙ append_assoc p.0 p.1 b, p.3, AreParts-append p.1 b xs ys p.4 q)
 
@@ -31,9 +31,8 @@ read_on_further s t u p q = record {
   pairs = p.pairs ++ q.pairs;
   front = p.front ++ q.front;
   split = p.split ∙ ap (λ c. p.front ++ c) q.split ∙ sym (append_assoc p.front q.front u.rest);
-  spelled = let P : List Part → Type 0 = λ xs. AreParts (p.front ++ q.front) xs in
-      subst P (sym (pair_parts-append p.pairs q.pairs))
-      (AreParts-append p.front q.front (pair_parts p.pairs) (pair_parts q.pairs) p.spelled q.spelled);
+  spelled =
+      rw (pair_parts-append p.pairs q.pairs) (AreParts-append p.front q.front (pair_parts p.pairs) (pair_parts q.pairs) p.spelled q.spelled);
   place =
       q.place ∙ ap (λ n. n + length q.front) p.place ∙ add_assoc s.place (length p.front) (length q.front)
       ∙ ap (λ n. s.place + n) (sym (length-append p.front q.front));

@@ -27,14 +27,7 @@ module _ (old next : TextMap) (said text : List ℕ) (rises : TextsRise old.pair
   call_rises (Remove k) s (answer, inr none, e) = absurd none
   call_rises (Find k) s (answer, inl (told, same), e) = same_rises same
   call_rises (Find k) s (answer, inr none, e) = absurd none
-  call_rises (ValueAt i) s a = absurd s
-  call_rises (Contains k) s a = absurd s
-  call_rises Len s a = absurd s
-  call_rises (TryInsert k v) s a = absurd s
-  call_rises (TryAppend k v) s a = absurd s
-  call_rises (Extend v) s a = absurd s
-  call_rises (Reserve n) s a = absurd s
-  call_rises Clear s a = absurd s
+  call_rises _ s a = absurd s
 
   line_rises : Does old said text next → TextsRise next.pairs
   line_rises does = elim does [

@@ -29,7 +29,7 @@ returns c =
     let inv = c.loop.invariant in
     let pair = c.known_pair-2.result.0 in
     let end : c.loop.counter ≡ c.args.index = omega arith in
-    let P : ℕ → Type 0 = λ n. slice_get inv.these.pairs n ≡ Some (pair.0.now, pair.1.now) in (
+    (
       inv.these,
-      subst P end (pair_here inv.these.pairs inv.these.rest _ c.loop.counter (omega (arith, inv.these.count_is, c.requires.within)) inv.here (pair.0.now, pair.1.now) _ c.known_pair-2.ensures),
+      rw (← end) (pair_here inv.these.pairs inv.these.rest _ c.loop.counter (omega (arith, inv.these.count_is, c.requires.within)) inv.here (pair.0.now, pair.1.now) _ c.known_pair-2.ensures),
     )

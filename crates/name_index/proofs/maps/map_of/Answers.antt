@@ -7,6 +7,5 @@ use Rattle.name_index.proofs.maps.map_of.Goals as goal
 
 pub from_sorted_store_unchecked-requires : goal.from_sorted_store_unchecked-requires
 from_sorted_store_unchecked-requires c =
-    let P : List (List ℕ × List ℕ) → Type 0 = λ L. Rising text_order L in
     let all : map shown c.loop-pair.pairs.items ≡ c.args.entries = search rules in
-    rise_shown c.loop-pair.pairs.items (subst P (sym all) c.requires)
+    rise_shown c.loop-pair.pairs.items (rw all c.requires)

@@ -12,9 +12,8 @@ returns-then-range-end c =
     rw (← c.self.view_is)
     (of_indexed _ _ _ _ c.self.invariant c.as_slice-places.ensures.value (λ p.
     let L = p.these.pairs in
-    let Q : ℕ → Type 0 = λ end. c.entries_between.result ≡ slice_range L c.args.range.start end in
     let e : c.min-end.result ≡ min c.args.range.end (length L) = omega (arith, c.min-end.ensures, c.as_slice-places.ensures.len, p.these.count_is) in
-    subst Q e (c.entries_between.ensures p) ∙ slice_clamped L c.args.range.start c.args.range.end))
+    rw (← e) (c.entries_between.ensures p) ∙ slice_clamped L c.args.range.start c.args.range.end))
 
 pub returns-else-range-end : goal.returns-else-range-end
 returns-else-range-end c =

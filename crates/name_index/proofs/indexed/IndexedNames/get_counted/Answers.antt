@@ -15,7 +15,6 @@ returns-in_err-value-in-Ok-clause-fault c =
 pub returns-in_ok-value-in-Ok-clause-value : goal.returns-in_ok-value-in-Ok-clause-value
 returns-in_ok-value-in-Ok-clause-value c =
     let l : c.in-Ok.index < c.self.inside.size = IfOk-at_ok (λ i. i < c.self.inside.size) c.in-Ok.is c.in_ok-index.ensures.within in
-    let P : Result ℕ ℕ → Type 0 = λ r. IfIndex c.self.inside.bytes.now (λ pairs. Splits text_order pairs c.args.key.now r) in
-    let s = subst P c.in-Ok.is c.in_ok-index.ensures.splits in
+    let s = rw c.in-Ok.is at c.in_ok-index.ensures.splits in
     rw (← c.self.view_is)
     (λ pairs x. sym (value_at_split pairs c.args.key.now c.in-Ok.index _ (s pairs x) (entry_is _ _ c.self.invariant pairs x c.in-Ok.index _ l c.in_ok-value-in-Ok.ensures.entry)))
