@@ -36,7 +36,7 @@ IsAt pairs behind rest index = Begins rest (pair_parts (drop index pairs)) behin
 
 module _ (pairs : List (List ℕ × List ℕ)) (behind rest : List ℕ) (index : ℕ) (within : index < length pairs) (here : IsAt pairs behind rest index) where
   cut_here : Begins rest (pair_parts (get_or pairs index ([], []) ∷ drop (index + 1) pairs)) behind
-  cut_here = rw (← (drop_more pairs index ([], []) within)) here
+  cut_here = let P : List (List ℕ × List ℕ) → Type 0 = λ L. Begins rest (pair_parts L) behind in subst P (drop_more pairs index ([], []) within) here
 
   pub begins_here : BeginsPair rest
   begins_here = let f = pair_first rest behind (get_or pairs index ([], [])) (drop (index + 1) pairs) cut_here in (get_or pairs index ([], []), f.0, f.1)

@@ -10,4 +10,4 @@ known_text-requires c =
 
 pub returns : goal.returns
 returns c =
-    λ placed. key_there c.args.entries.now c.args.places.now c.args.index 0 placed c.requires.within c.known_text.result.0.now _ (rw (← (tail_is c.args.entries.now (get_or c.args.places.now c.args.index 0))) c.known_text.ensures)
+    λ placed. key_there c.args.entries.now c.args.places.now c.args.index 0 placed c.requires.within c.known_text.result.0.now c.known_text.result.1.now (rw (← (tail_is c.args.entries.now (get_or c.args.places.now c.args.index 0))) c.known_text.ensures)

@@ -11,4 +11,4 @@ known_pair-requires c =
 pub returns : goal.returns
 returns c =
     let pair = c.known_pair.result.0 in
-    λ placed. pair_there c.args.entries.now c.args.places.now c.args.index 0 placed c.requires.within (pair.0.now, pair.1.now) _ (rw (← (tail_is c.args.entries.now (get_or c.args.places.now c.args.index 0))) c.known_pair.ensures)
+    λ placed. pair_there c.args.entries.now c.args.places.now c.args.index 0 placed c.requires.within (pair.0.now, pair.1.now) c.known_pair.result.1.now (rw (← (tail_is c.args.entries.now (get_or c.args.places.now c.args.index 0))) c.known_pair.ensures)
