@@ -5,7 +5,6 @@ use Rattle.litemap_store.proofs.Taken.{Rising-left}
 use Rattle.litemap_store.specs.Pairs.{Rising}
 use Rattle.name_table.specs.Faults.{AreOfPairs, NextFault}
 use Rattle.name_table.specs.Parts.{Part, Begins, Number, pair_parts}
-use Rattle.name_table.specs.ReadOn.{IsReadOn}
 use Rattle.name_table.specs.Remaining.{IsCounted, Remaining}
 use Rattle.name_table.specs.declared.fault.NameFault.{NameFault}
 use Rattle.name_table.proofs.FaultLemmas.{fault_first}
@@ -73,24 +72,21 @@ next_stops_one t J (NotRising a) (Format g) p q = absurd (next_no_fault t g p.1 
 next_stops_one t J (NotRising a) (NotRising b) p q = ap (λ i. NotRising i) (p.3 ∙ sym q.3)
 
 -- nor in front of the last of them
-abbrev begins_on : (s t : Remaining) (on : IsReadOn s t) → Begins s.rest (pair_parts on.pairs) t.rest
-begins_on s t on = record { front = on.front; split = on.split; spelled = on.spelled }
-
 stops_not : (s : Remaining) (K : List (List ℕ × List ℕ)) (behind : List ℕ) (f : NameTableFault) → Begins s.rest (pair_parts K) behind → Rising text_order K → (w : StopsAt s f) → length w.1.on.pairs < length K → ⊥
 stops_not s K behind f k r w l =
     let on = w.1.on in
-    let n = first_pairs on.pairs K s.rest w.0.rest behind (begins_on s w.0 on) k l in
+    let n = first_pairs on.pairs K s.rest w.0.rest behind on.spelled k l in
     next_stops_not w.0 on.pairs n.1 n.0 behind f (rw (← n.2) r) n.3 w.2
 
 stops_one : (s : Remaining) (f g : NameTableFault) → StopsAt s f → StopsAt s g → f ≡ g
 stops_one s f g p q =
-    ⊎_elim (λ h. absurd (stops_not s q.1.on.pairs q.0.rest f (begins_on s q.0 q.1.on) q.1.rises p h))
-    (λ h. ⊎_elim (λ k. absurd (stops_not s p.1.on.pairs p.0.rest g (begins_on s p.0 p.1.on) p.1.rises q k)) (λ k. same (omega (arith, h, k))) (cases_lt (length q.1.on.pairs) (length p.1.on.pairs)))
+    ⊎_elim (λ h. absurd (stops_not s q.1.on.pairs q.0.rest f q.1.on.spelled q.1.rises p h))
+    (λ h. ⊎_elim (λ k. absurd (stops_not s p.1.on.pairs p.0.rest g p.1.on.spelled p.1.rises q k)) (λ k. same (omega (arith, h, k))) (cases_lt (length q.1.on.pairs) (length p.1.on.pairs)))
     (cases_lt (length p.1.on.pairs) (length q.1.on.pairs))
   where
     same : length p.1.on.pairs ≡ length q.1.on.pairs → f ≡ g
     same l =
-        let u = begins_unique s.rest (agree_pairs p.1.on.pairs q.1.on.pairs l) (begins_on s p.0 p.1.on) (begins_on s q.0 q.1.on) in
+        let u = begins_unique s.rest (agree_pairs p.1.on.pairs q.1.on.pairs l) p.1.on.spelled q.1.on.spelled in
         let place : p.0.place ≡ q.0.place = p.1.on.place ∙ ap (λ c. s.place + length c) u.0 ∙ sym q.1.on.place in
         let left : p.0.left ≡ q.0.left = omega (arith, l, p.1.on.count, q.1.on.count) in
         let t : p.0 ≡ q.0 = λ i. record { rest = u.2 i; place = place i; left = left i } in

@@ -11,7 +11,8 @@ use Rattle.litemap_store.specs.Splits.{Splits}
 use Rattle.litemap_store.specs.declared.count.Count.{Count}
 use Rattle.litemap_store.proofs.Halving.{Narrowed, Narrowed-whole, Narrowed-less, Narrowed-greater, Finds-here, Finds-nowhere}
 use Rattle.litemap_store.proofs.Splitting.{Splits-from_Finds}
-use Rattle.name_table.proofs.PartLemmas.{begins_none, begins_pairs, begins_split}
+use Rattle.name_table.proofs.PartLemmas.{begins_split}
+use Rattle.name_table.specs.ReadOn.{begins_none, begins_pairs}
 use Rattle.name_table.proofs.Unique.{agree_pairs, begins_unique}
 use Rattle.name_table.specs.Parts.{Begins, Number, pair_parts, text_parts}
 use Rattle.name_index.specs.Entries.{AreEntries, BeginsPair, BeginsText, IsOpened}

@@ -11,7 +11,7 @@ use Rattle.litemap_store.specs.declared.count.Count.{Count}
 use Rattle.litemap_store.proofs.Counting.{in_turn, not_asked}
 use Rattle.litemap_store.proofs.Ends.{AllBelow-from_last, Rising-push}
 use Rattle.name_table.specs.Parts.{Part, AreParts, Begins, Number, pair_parts}
-use Rattle.name_table.specs.ReadOn.{AreParts-append, pair_parts-append}
+use Rattle.name_table.specs.ReadOn.{begins_none, begins_pairs, begins_then}
 use Rattle.name_table.specs.Remaining.{IsCounted, IsNext, Remaining}
 use Rattle.name_index.specs.Entries.{IsOpened, OfEntries}
 use Rattle.name_index.specs.Faults.{AllRise, RisesTo}
@@ -32,7 +32,7 @@ pub record Checked (s t : Remaining) (last : Option (Bor (List ℕ))) (old new :
 pub checked_start : (s : Remaining) (count : Count) → Checked s s None count count
 checked_start s count = record {
   to = record {
-    on = record { pairs = []; front = []; split = refl; spelled = refl; place = omega arith; count = omega arith };
+    on = record { pairs = []; spelled = begins_none s.rest; place = omega arith; count = omega arith };
     rises = tt;
   };
   last_is = refl;
@@ -92,11 +92,8 @@ checked_next s t u last key value old middle new c n a z o =
       to = record {
         on = record {
           pairs = on.pairs ++ p ∷ [];
-          front = on.front ++ n.spelled.front;
-          split = on.split ∙ ap (λ b. on.front ++ b) n.spelled.split ∙ sym (append_assoc on.front n.spelled.front u.rest);
-          spelled =
-              rw (pair_parts-append on.pairs (p ∷ [])) (AreParts-append on.front n.spelled.front (pair_parts on.pairs) (pair_parts (p ∷ [])) on.spelled n.spelled.spelled);
-          place = omega (arith, on.place, n.place, length-append on.front n.spelled.front);
+          spelled = begins_pairs s.rest t.rest u.rest on.pairs (p ∷ []) on.spelled n.spelled;
+          place = omega (arith, on.place, n.place, length-append on.spelled.front n.spelled.front);
           count = omega (arith, on.count, n.count, length-append on.pairs (p ∷ []));
         };
         rises = rises_on last on.pairs p c.last_is c.to.rises a;
@@ -113,7 +110,7 @@ opened bytes entries s c e a =
       these = record {
         pairs = a.1.on.pairs;
         rest = a.0.rest;
-        spelled = record { front = a.1.on.front; split = a.1.on.split; spelled = a.1.on.spelled };
+        spelled = a.1.on.spelled;
         count_is = omega (arith, a.1.on.count, a.2);
         rises = a.1.rises;
       };
@@ -125,18 +122,11 @@ entries_behind bytes s c = ap (λ b. drop s.place b) c.spelled.split ∙ drop_at
 
 -- a table that was opened is one whose keys rise
 pub rising_table : (bytes entries : List ℕ) (count : ℕ) → (o : IsOpened bytes entries count) → IsRisingTable bytes o.these.pairs
-rising_table bytes entries count o =
-    let b = o.counted in
-    let p = o.these.spelled in
-    record {
-      rest = o.these.rest;
-      table = record {
-        front = b.front ++ p.front;
-        split = b.split ∙ ap (λ c. b.front ++ c) p.split ∙ sym (append_assoc b.front p.front o.these.rest);
-        spelled = rw o.these.count_is (AreParts-append b.front p.front (Number count ∷ []) (pair_parts o.these.pairs) b.spelled p.spelled);
-      };
-      rises = o.these.rises;
-    }
+rising_table bytes entries count o = record {
+  rest = o.these.rest;
+  table = begins_then bytes entries o.these.rest (Number (length o.these.pairs) ∷ []) (pair_parts o.these.pairs) (rw o.these.count_is o.counted) o.these.spelled;
+  rises = o.these.rises;
+}
 
 -- what holds of its entries holds of the table
 pub of_entries : {P : List (List ℕ × List ℕ) → Type 0} (bytes entries : List ℕ) (count : ℕ) → Begins bytes (Number count ∷ []) entries → OfEntries entries count P → OfTable bytes P

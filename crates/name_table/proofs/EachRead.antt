@@ -15,7 +15,8 @@ use Rattle.name_table.specs.declared.number.Unread.{Unread}
 use Rattle.name_table.specs.declared.number.Unread.TheVariants.{Ends, TooLong}
 use Rattle.name_table.proofs.FaultLemmas.{length_fault, text_fault}
 use Rattle.name_table.proofs.NumberLemmas.{begins_last, begins_more, begins_number, cut_fault, large_fault, long_fault, unread_more}
-use Rattle.name_table.proofs.PartLemmas.{begins_none, begins_pairs, begins_text, begins_then}
+use Rattle.name_table.proofs.PartLemmas.{begins_text}
+use Rattle.name_table.specs.ReadOn.{begins_none, begins_pairs, begins_then}
 use Rattle.name_table.proofs.Remains.{fault_later, is_next, key_fault, pairs_from_next, value_fault}
 use Rattle.name_table.proofs.WholeTables.{count_fault, pairs_fault}
 
@@ -115,8 +116,7 @@ table_read bytes =
     let s : Remaining = record { rest = r.1; place = length r.2.front; left = r.0 } in
     let c : IsCounted bytes s = record { spelled = r.2; place = refl } in
     ⊎_elim
-    (λ p. let P : ℕ → Type 0 = λ n. Begins bytes (Number n ∷ []) r.1 in
-    inl (p.0, p.1, begins_then bytes r.1 p.1 (Number (length p.0) ∷ []) (pair_parts p.0) (subst P (sym p.3) r.2) p.2))
+    (λ p. inl (p.0, p.1, begins_then bytes r.1 p.1 (Number (length p.0) ∷ []) (pair_parts p.0) (rw p.3 r.2) p.2))
     (λ f. inr (f.0, pairs_fault bytes s f.0 c f.1))
     (pairs_read r.0 s refl))
     (λ w. inr (w.0, count_fault bytes w.0 w.1))

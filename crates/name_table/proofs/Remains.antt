@@ -5,11 +5,11 @@ use Rattle.std.proofs.lemmas.List.{length-replicate}
 use Rattle.name_table.specs.Faults.{Fault, PartFault, AreOfPairs, AreOfText, NextFault, PairsFault}
 use Rattle.name_table.specs.Parts.{Part, Begins, text_parts, pair_parts}
 use Rattle.name_table.specs.Position.{IsPast, Position}
-use Rattle.name_table.specs.ReadOn.{IsReadOn, pair_parts-append}
+use Rattle.name_table.specs.ReadOn.{IsReadOn, begins_none, begins_pairs, pair_parts-append}
 use Rattle.name_table.specs.Remaining.{Remaining, shown, CanBeRead, AllCanBeRead, IsNext}
 use Rattle.name_table.specs.declared.fault.NameFault.{NameFault}
 use Rattle.name_table.proofs.FaultLemmas.{fault_behind, fault_where, fault_wider}
-use Rattle.name_table.proofs.PartLemmas.{begins_none, begins_pair, begins_pairs, begins_split}
+use Rattle.name_table.proofs.PartLemmas.{begins_pair, begins_split}
 use Rattle.name_table.proofs.Unique.{Agree, agree_pairs, begins_unique, fault_past}
 
 -- ---- none is due
@@ -59,7 +59,7 @@ is_next s key value middle behind k v h =
 
 module _ (s t : Remaining) (p : List ℕ × List ℕ) (n : IsNext s t p) where
   pub read_on_one : IsReadOn s t
-  read_on_one = record { pairs = p ∷ []; front = n.spelled.front; split = n.spelled.split; spelled = n.spelled.spelled; place = n.place; count = omega (arith, n.count) }
+  read_on_one = record { pairs = p ∷ []; spelled = n.spelled; place = n.place; count = omega (arith, n.count) }
 
   pub gives_one_more : (q : Bor (List ℕ) × Bor (List ℕ)) (L : List (Bor (List ℕ) × Bor (List ℕ))) → shown q ≡ p → CanBeRead t L → CanBeRead s (q ∷ L)
   gives_one_more q L e r =

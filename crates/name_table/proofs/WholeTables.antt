@@ -6,7 +6,7 @@ use Rattle.litemap_read.specs.declared.source.ReadFault.{ReadFault}
 use Rattle.litemap_read.specs.declared.source.ReadFault.TheVariants.{NoRoom, Source}
 use Rattle.name_table.specs.Faults.{NumberFault, Fault, AreOfPairs, TableFault}
 use Rattle.name_table.specs.Parts.{Number, AreParts, Begins, pair_parts, table_parts}
-use Rattle.name_table.specs.ReadOn.{IsReadOn, AreParts-append}
+use Rattle.name_table.specs.ReadOn.{IsReadOn, begins_then}
 use Rattle.name_table.specs.Remaining.{Remaining, shown, NoPair, CanBeRead, AllCanBeRead, IsCounted}
 use Rattle.name_table.specs.declared.fault.NameFault.{NameFault}
 use Rattle.name_table.proofs.FaultLemmas.{fault_behind, fault_first, fault_where}
@@ -57,29 +57,22 @@ module _ (bytes : List ℕ) (s t : Remaining) (given : List (Bor (List ℕ) × B
       let l : length (map shown given) ≡ length given = length-map given shown in
       omega (arith, none_due (map shown given) all.pairs s.rest gives.behind all.behind gives.due gives.spelled all.spelled (omega (arith, gives.count, all.count, l)) gives.stops, gives.count)
 
-  abbrev on_begins : Begins s.rest (pair_parts on.pairs) t.rest
-  on_begins = record { front = on.front; split = on.split; spelled = on.spelled }
-
   on_all : length on.pairs ≡ s.left
   on_all =
       let stops : (empty.due ≡ 0) ⊎ NoPair t.rest = rw (begins_nothing t.rest empty.behind empty.spelled) empty.stops in
-      let e : empty.due ≡ 0 = none_due on.pairs all.pairs s.rest t.rest all.behind empty.due on_begins all.spelled (omega (arith, on.count, all.count, empty.count)) stops in
+      let e : empty.due ≡ 0 = none_due on.pairs all.pairs s.rest t.rest all.behind empty.due on.spelled all.spelled (omega (arith, on.count, all.count, empty.count)) stops in
       omega (arith, e, on.count, empty.count)
 
-  same_bytes : gives.spelled.front ≡ on.front
+  same_bytes : gives.spelled.front ≡ on.spelled.front
   same_bytes =
       let l : length (map shown given) ≡ length on.pairs = length-map given shown ∙ given_all ∙ sym on_all in
-      (begins_unique s.rest (agree_pairs (map shown given) on.pairs l) gives.spelled on_begins).0
+      (begins_unique s.rest (agree_pairs (map shown given) on.pairs l) gives.spelled on.spelled).0
 
   pub whole_table : WholeTable bytes (map shown given) t.place
   whole_table =
       let l : s.left ≡ length (map shown given) = sym given_all ∙ sym (length-map given shown) in
       record {
         rest = gives.behind;
-        table = record {
-          front = counted.spelled.front ++ gives.spelled.front;
-          split = counted.spelled.split ∙ ap (λ c. counted.spelled.front ++ c) gives.spelled.split ∙ sym (append_assoc counted.spelled.front gives.spelled.front gives.behind);
-          spelled = rw (← l) (AreParts-append counted.spelled.front gives.spelled.front (Number s.left ∷ []) (pair_parts (map shown given)) counted.spelled.spelled gives.spelled.spelled);
-        };
+        table = begins_then bytes s.rest gives.behind (Number (length (map shown given)) ∷ []) (pair_parts (map shown given)) (record { front = counted.spelled.front; split = counted.spelled.split; spelled = rw (← l) counted.spelled.spelled }) gives.spelled;
         size_is = omega (arith, on.place, counted.place, ap length same_bytes, length-append counted.spelled.front gives.spelled.front);
       }

@@ -1,5 +1,5 @@
 use Rattle.std.proofs.Common.{◌≡◌, ◌≤◌, ◌∙◌, ℕ, [], arith, length, min, refl, slice_range, subst, sym}
-use Rattle.name_table.proofs.PartLemmas.{begins_none}
+use Rattle.name_table.specs.ReadOn.{begins_none}
 use Rattle.name_index.proofs.Between.{none_of, slice_clamped, slice_none}
 use Rattle.name_index.proofs.Placing.{of_indexed}
 use Rattle.name_index.proofs.index.NameIndex.entries_in.Goals as goal
