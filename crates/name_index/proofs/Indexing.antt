@@ -7,16 +7,16 @@ use Rattle.std.proofs.lemmas.Option.{slice_get-get_or}
 use Rattle.std.specs.declared.cmp.Ordering.TheVariants.{Less, Equal, Greater}
 use Rattle.litemap_store.specs.Counts.{RisesByAtMost}
 use Rattle.litemap_store.specs.Pairs.{Rising}
-use Rattle.litemap_store.specs.Splits.{Splits}
 use Rattle.litemap_store.specs.declared.count.Count.{Count}
 use Rattle.litemap_store.proofs.Counting.{not_asked}
-use Rattle.litemap_store.proofs.Halving.{Narrowed, Narrowed-whole, Narrowed-less, Narrowed-greater, Finds-here, Finds-nowhere}
-use Rattle.litemap_store.proofs.Splitting.{Splits-from_Finds}
+use Rattle.litemap_store.proofs.Parts.{Less-from_Rising}
+use Rattle.litemap_store.specs.Search.{Ascends}
 use Rattle.name_index.specs.Index.{BeginsAt, HasKey, HasPlaces, IsEntry, IsIndex, IsNumberAt, IsPairAt, IsTextAt, NoEntry, NoIndex}
 use Rattle.name_index.specs.Tables.{text_order}
 use Rattle.name_index.proofs.Placing.{each_push}
 use Rattle.name_index.proofs.Rises.{IsAbove, LastKey, asked_next, last_at, rises_on}
-use Rattle.name_index.proofs.Scanning.{ascends, one_side, to_key}
+use Rattle.name_index.proofs.Scanning.{ascends, to_key}
+use Rattle.name_index.specs.Placed.{IsKeyAt}
 
 -- what holds whatever the fault is
 pub whatever_fault : {T E Q : Type 0} (r : Result T E) → Q → IfErr r (λ _. Q)
@@ -95,30 +95,18 @@ no_room bytes count number l pairs x =
         let t = x.entries n (get_or pairs n ([], [])) s in
         omega (arith, t.1.noted.within, l, e)
 
--- ---- a search's state
+-- ---- what a search knows
 
-module _ (bytes key name : List ℕ) (count low high middle : ℕ) (places : HasPlaces bytes count) (within : middle < count) (there : HasKey bytes count middle name) (narrowed : (pairs : List (List ℕ × List ℕ)) → IsIndex bytes pairs → Narrowed (to_key key) pairs low high) where
-  pub indexed_less : text_order name key ≡ Less → (pairs : List (List ℕ × List ℕ)) → IsIndex bytes pairs → Narrowed (to_key key) pairs (middle + 1) high
-  indexed_less is pairs x =
-      let at = key_is bytes count places pairs x middle name within there in
-      Narrowed-less (to_key key) pairs (ascends pairs key x.rises) low high middle name at.0 at.1 (narrowed pairs x) is
+-- the pairs of an index
+abbrev pub pairs_of : {bytes : List ℕ} → (pairs : List (List ℕ × List ℕ)) × IsIndex bytes pairs → List (List ℕ × List ℕ)
+pairs_of x = x.0
 
-  pub indexed_greater : text_order name key ≡ Greater → (pairs : List (List ℕ × List ℕ)) → IsIndex bytes pairs → Narrowed (to_key key) pairs low middle
-  indexed_greater is pairs x =
-      let at = key_is bytes count places pairs x middle name within there in
-      Narrowed-greater (to_key key) pairs (ascends pairs key x.rises) low high middle name at.0 at.1 (narrowed pairs x) is
+module _ {bytes : List ℕ} {count : ℕ} (places : HasPlaces bytes count) (x : (pairs : List (List ℕ × List ℕ)) × IsIndex bytes pairs) where
+  pub known_of : (key : List ℕ) → (length (pairs_of x) ≡ count) × Ascends (to_key key) (pairs_of x)
+  known_of key = (count_is bytes count places x.0 x.1, ascends x.0 key x.1.rises)
 
-  pub indexed_equal : text_order name key ≡ Equal → (pairs : List (List ℕ × List ℕ)) → IsIndex bytes pairs → Splits text_order pairs key (Ok middle)
-  indexed_equal is pairs x =
-      let at = key_is bytes count places pairs x middle name within there in
-      Splits-from_Finds one_side pairs key x.rises (Ok middle) (Finds-here (to_key key) pairs middle name at.0 at.1 is)
-
-pub indexed_start : (bytes key : List ℕ) (count : ℕ) → HasPlaces bytes count → (pairs : List (List ℕ × List ℕ)) → IsIndex bytes pairs → Narrowed (to_key key) pairs 0 count
-indexed_start bytes key count places pairs x = Narrowed-whole (to_key key) pairs count (omega (arith, count_is bytes count places pairs x))
-
-pub indexed_end : (bytes key : List ℕ) (count low high : ℕ) → HasPlaces bytes count → high ≤ low → low ≤ count → ((pairs : List (List ℕ × List ℕ)) → IsIndex bytes pairs → Narrowed (to_key key) pairs low high) → (pairs : List (List ℕ × List ℕ)) → IsIndex bytes pairs → Splits text_order pairs key (Err low)
-indexed_end bytes key count low high places h l narrowed pairs x =
-    Splits-from_Finds one_side pairs key x.rises (Err low) (Finds-nowhere (to_key key) pairs low high h (omega (arith, l, count_is bytes count places pairs x)) (narrowed pairs x))
+  pub key_of : (index : ℕ) (key : List ℕ) → index < count → HasKey bytes count index key → IsKeyAt (pairs_of x) index key
+  key_of index key l k = key_is bytes count places x.0 x.1 index key l k
 
 -- ---- a check's state
 
@@ -161,24 +149,16 @@ followed_end bytes count index last old new places f e =
       },
     )
 
-rises_next : (L : List (List ℕ × List ℕ)) (i : ℕ) (p q : List ℕ × List ℕ) → Rising text_order L → slice_get L i ≡ Some p → slice_get L (suc i) ≡ Some q → text_order p.0 q.0 ≡ Less
-rises_next (x ∷ y ∷ L) zero p q r e f =
-    let s : x ≡ p = cc in
-    let t : y ≡ q = cc in
-    (λ i. text_order (sym s i).0 (sym t i).0) ∙ r.0.0
-rises_next (x ∷ L) (suc i) p q r e f = rises_next L i p q r.1 e f
-rises_next _ _ p q r e f = absurd (cc)
-
 -- where the next key isn't above the last one, the bytes are no index
 pub falls_there : (bytes : List ℕ) (count index : ℕ) (last : Bor (List ℕ)) (key value : List ℕ) (old new : Count) → HasPlaces bytes count → index < count → Followed bytes count (Some last) index old new → IsEntry bytes count index (key, value) → (text_order last.now key ≡ Less → ⊥) → NoIndex bytes
 falls_there bytes count index last key value old new places l f r never pairs x =
     let front = f.last_is.0 in
     let p : List ℕ × List ℕ = (last.now, f.last_is.1) in
     let g : slice_get f.pairs (length front) ≡ Some p = rw f.last_is.2 (last_at front p) in
-    let n : suc (length front) ≡ index = omega (arith, f.number, ap length f.last_is.2, length-append front (p ∷ [])) in
+    let n : index - 1 ≡ length front = omega (arith, f.number, ap length f.last_is.2, length-append front (p ∷ [])) in
+    let more : 1 ≤ index = omega (arith, f.number, ap length f.last_is.2, length-append front (p ∷ [])) in
     let a = entry_is bytes count places pairs x (length front) p (omega (arith, n, l)) (f.entries (length front) p g) in
-    let b = entry_is bytes count places pairs x index (key, value) l r in
-    never (rises_next pairs (length front) p (key, value) x.rises a (rw n b))
+    never (Less-from_Rising text_order pairs index p (key, value) more x.rises (rw n a) (entry_is bytes count places pairs x index (key, value) l r))
 
 pub falls : (bytes : List ℕ) (count index : ℕ) (last : Option (Bor (List ℕ))) (key value : List ℕ) (b : Bool) (old new : Count) → HasPlaces bytes count → index < count → Followed bytes count last index old new → IsEntry bytes count index (key, value) → IfNone last (IsTrue b) → IfSome last (λ l. b ≡ is_lt (text_order l.now key)) → b ≡ false → NoIndex bytes
 falls bytes count index None key value b old new places l f r n s e = let h : b ≡ true = n in absurd (cc)

@@ -1,5 +1,5 @@
 -- Places of entries: one more of them, and what is read at one.
-use Rattle.std.proofs.Common.{◌≡◌, ⊎_elim, ℕ, zero, suc, ◌+◌, ◌-◌, ◌<◌, ◌≤◌, List, [], ◌∷◌, ◌++◌, length, take, drop, get_or, slice_get, Some, Ok, Err, refl, sym, ap, ◌∙◌, subst, arith, length-append}
+use Rattle.std.proofs.Common.{◌≡◌, ⊎_elim, ℕ, zero, suc, ◌+◌, ◌-◌, ◌<◌, ◌≤◌, List, [], ◌∷◌, ◌++◌, length, take, drop, get_or, slice_get, Some, Result, refl, sym, ap, ◌∙◌, subst, arith, length-append}
 use Rattle.std.proofs.Math.Seq.{take-length}
 use Rattle.std.proofs.lemmas.Bool.{cases_lt}
 use Rattle.std.proofs.lemmas.List.{drop_at, length-drop}
@@ -9,7 +9,7 @@ use Rattle.litemap_store.specs.Counts.{RisesByAtMost}
 use Rattle.litemap_store.specs.Digits.{digits}
 use Rattle.litemap_store.specs.Splits.{Splits}
 use Rattle.litemap_store.specs.declared.count.Count.{Count}
-use Rattle.litemap_store.proofs.Halving.{Narrowed, Narrowed-whole, Narrowed-less, Narrowed-greater, Finds-here, Finds-nowhere}
+use Rattle.litemap_store.specs.Search.{Ascends, Finds}
 use Rattle.litemap_store.proofs.Splitting.{Splits-from_Finds}
 use Rattle.name_table.proofs.PartLemmas.{begins_split}
 use Rattle.name_table.specs.ReadOn.{begins_none, begins_pairs}
@@ -152,48 +152,17 @@ module _ (entries places : List ℕ) (index : ℕ) (d : ℕ) (placed : ArePlaced
       let e = pair_there f.0 f.1 f.2 in
       (f.0.1, e ∙ ap (λ k. Some (k, f.0.1)) (sym n.0))
 
--- ---- a search's state
+-- ---- what a search knows
 
-pub record Searched (entries places key : List ℕ) (low high : ℕ) : Type 0 where
-  pub ordered : low ≤ high
-  pub within : high ≤ length places
-  pub narrowed : (placed : ArePlaced entries places) → Narrowed (to_key key) placed.these.pairs low high
+-- the pairs at the places
+abbrev pub pairs_at : {entries places : List ℕ} → ArePlaced entries places → List (List ℕ × List ℕ)
+pairs_at placed = placed.these.pairs
 
-pub searched_start : (entries places key : List ℕ) (high : ℕ) → high ≡ length places → Searched entries places key 0 high
-searched_start entries places key high e = record {
-  ordered = omega arith;
-  within = omega (arith, e);
-  narrowed = λ placed. Narrowed-whole (to_key key) placed.these.pairs high (omega (arith, e, placed.these.count_is));
-}
+pub known_at : {entries places : List ℕ} (key : List ℕ) (placed : ArePlaced entries places) → (length (pairs_at placed) ≡ length places) × Ascends (to_key key) (pairs_at placed)
+known_at key placed = (placed.these.count_is, ascends placed.these.pairs key placed.these.rises)
 
-module _ (entries places key name : List ℕ) (low high middle : ℕ) (s : Searched entries places key low high) (l : low ≤ middle) (h : middle < high) (there : (placed : ArePlaced entries places) → IsKeyAt placed.these.pairs middle name) where
-  pub searched_less : text_order name key ≡ Less → Searched entries places key (middle + 1) high
-  searched_less is = record {
-    ordered = omega (arith, h);
-    within = s.within;
-    narrowed = λ placed. let pairs = placed.these.pairs in let at = there placed in
-        Narrowed-less (to_key key) pairs (ascends pairs key placed.these.rises) low high middle name at.0 at.1 (s.narrowed placed) is;
-  }
-
-  pub searched_greater : text_order name key ≡ Greater → Searched entries places key low middle
-  searched_greater is = record {
-    ordered = l;
-    within = omega (arith, h, s.within);
-    narrowed = λ placed. let pairs = placed.these.pairs in let at = there placed in
-        Narrowed-greater (to_key key) pairs (ascends pairs key placed.these.rises) low high middle name at.0 at.1 (s.narrowed placed) is;
-  }
-
-  pub searched_equal : text_order name key ≡ Equal → (placed : ArePlaced entries places) → Splits text_order placed.these.pairs key (Ok middle)
-  searched_equal is placed =
-      let pairs = placed.these.pairs in
-      let at = there placed in
-      Splits-from_Finds one_side pairs key placed.these.rises (Ok middle) (Finds-here (to_key key) pairs middle name at.0 at.1 is)
-
-pub searched_end : (entries places key : List ℕ) (low high : ℕ) → Searched entries places key low high → high ≤ low → (placed : ArePlaced entries places) → Splits text_order placed.these.pairs key (Err low)
-searched_end entries places key low high s h placed =
-    let pairs = placed.these.pairs in
-    Splits-from_Finds one_side pairs key placed.these.rises (Err low)
-    (Finds-nowhere (to_key key) pairs low high h (omega (arith, h, s.ordered, s.within, placed.these.count_is)) (s.narrowed placed))
+pub splits_at : {entries places : List ℕ} (key : List ℕ) (r : Result ℕ ℕ) (placed : ArePlaced entries places) → Finds (to_key key) (pairs_at placed) r → Splits text_order (pairs_at placed) key r
+splits_at key r placed f = Splits-from_Finds one_side placed.these.pairs key placed.these.rises r f
 
 -- ---- what is found
 
