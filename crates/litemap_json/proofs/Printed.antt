@@ -30,10 +30,6 @@ fits_w128 : (z : ℤ) → signed_fits 127 z ≡ true → FitsSigned w128 z
 fits_w128 (pos n) h = let below = ltb-true n (2 ^ 127) h in omega (arith, ints)
 fits_w128 (negsuc n) h = let below = ltb-true n (2 ^ 127) h in omega (arith, ints)
 
-w128_fits : (z : ℤ) → FitsSigned w128 z → signed_fits 127 z ≡ true
-w128_fits (pos n) h = lt-ltb n (2 ^ 127) (omega (arith, ints))
-w128_fits (negsuc n) h = lt-ltb n (2 ^ 127) (omega (arith, ints))
-
 -- what is printed spells its number
 value_at : (t : Bool) (z : ℤ) → int_eq (signed_digits_value 10 (signed_decimal z)) z ≡ t → FitsSigned w128 z → signed_digits_value 10 (signed_decimal z) ≡ z
 value_at true z e f = (Decides-int_eq _ z).0 e

@@ -1,13 +1,13 @@
 -- The entries between two places, and parts of a list.
 --     between_are, between_is      at the first place stand so many entries, which are those between;  slice_none, slice_clamped      what a range past the end has
-use Rattle.std.proofs.Common.{◌≡◌, ℕ, zero, suc, ◌-◌, ◌<◌, ◌≤◌, List, [], ◌∷◌, length, min, take, drop, get_or, slice_range, Some, refl, sym, ap, ◌∙◌, subst, arith}
+use Rattle.std.proofs.Common.{◌≡◌, ℕ, zero, suc, ◌-◌, ◌<◌, ◌≤◌, List, [], ◌∷◌, length, min, take, drop, get_or, slice_range, Some, refl, sym, ap, ◌∙◌, arith}
 use Rattle.std.proofs.lemmas.Bool.{le-leb}
 use Rattle.std.proofs.lemmas.List.{length-drop, length-take-le, take-append-drop, take_min}
 use Rattle.litemap_store.specs.Pairs.{sub}
 use Rattle.litemap_store.proofs.Parts.{Rising-sub}
 use Rattle.name_table.proofs.PartLemmas.{begins_split}
 use Rattle.name_table.specs.ReadOn.{pair_parts-append}
-use Rattle.name_table.specs.Parts.{Begins, Part, pair_parts}
+use Rattle.name_table.specs.Parts.{pair_parts}
 use Rattle.name_index.specs.Entries.{AreEntries}
 use Rattle.name_index.specs.Left.{left_one}
 use Rattle.name_index.specs.Placed.{ArePlaced}

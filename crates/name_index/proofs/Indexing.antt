@@ -4,7 +4,7 @@ use Rattle.std.specs.Prelude.{IfErr, IfNone, IfSome, IsTrue}
 use Rattle.std.specs.Ordering.{is_lt}
 use Rattle.std.proofs.lemmas.List.{same_lists}
 use Rattle.std.proofs.lemmas.Option.{slice_get-get_or}
-use Rattle.std.specs.declared.cmp.Ordering.TheVariants.{Less, Equal, Greater}
+use Rattle.std.specs.declared.cmp.Ordering.TheVariants.{Less}
 use Rattle.litemap_store.specs.Counts.{RisesByAtMost}
 use Rattle.litemap_store.specs.Pairs.{Rising}
 use Rattle.litemap_store.specs.declared.count.Count.{Count}
@@ -139,8 +139,7 @@ followed_next bytes count index last key value old middle new f r a z o =
 
 pub followed_end : (bytes : List ℕ) (count index : ℕ) (last : Option (Bor (List ℕ))) (old new : Count) → HasPlaces bytes count → Followed bytes count last index old new → index ≡ count → (pairs : List (List ℕ × List ℕ)) × IsIndex bytes pairs
 followed_end bytes count index last old new places f e =
-    let n : count ≡ length f.pairs = sym e ∙ sym f.number in
-    (
+    let n : count ≡ length f.pairs = sym e ∙ sym f.number in (
       f.pairs,
       record {
         number = rw (← n) places.number;

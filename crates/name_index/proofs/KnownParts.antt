@@ -1,5 +1,5 @@
 -- What is read where it is known what stands there.
-use Rattle.std.proofs.Common.{◌≡◌, ℕ, List, [], ◌∷◌, ◌++◌, refl, sym, subst}
+use Rattle.std.proofs.Common.{◌≡◌, ℕ, List, [], ◌∷◌, ◌++◌, refl}
 use Rattle.name_table.specs.Faults.{AreOfText, Fault}
 use Rattle.name_table.specs.Parts.{Part, Begins, Number, text_parts, pair_parts}
 use Rattle.name_table.specs.declared.fault.NameFault.{NameFault}

@@ -1,5 +1,5 @@
 -- The entries that are still to come: which they are, and one of them read.
-use Rattle.std.proofs.Common.{◌≡◌, ℕ, ◌-◌, ◌<◌, List, [], ◌∷◌, length, Some, arith, ap, sym, subst}
+use Rattle.std.proofs.Common.{◌≡◌, ℕ, ◌-◌, ◌<◌, List, [], ◌∷◌, length, Some, arith, ap, sym}
 use Rattle.std.proofs.Math.Logic.{∥∥₁_elim}
 use Rattle.std.specs.Iterator.{MakesProgress, at_most}
 use Rattle.name_table.specs.Parts.{Begins, pair_parts}

@@ -1,16 +1,16 @@
 -- Reading on while the keys rise, and where they don't.
-use Rattle.std.proofs.Common.{◌≡◌, true, false, ℕ, ◌-◌, List, [], ◌∷◌, ◌++◌, length, drop, Option, Some, None, slice_get, refl, sym, ap, ◌∙◌, subst, arith, append_assoc, length-append, Bor}
+use Rattle.std.proofs.Common.{◌≡◌, true, false, ℕ, ◌-◌, List, [], ◌∷◌, ◌++◌, length, drop, Option, Some, None, slice_get, refl, sym, ap, ◌∙◌, subst, arith, length-append, Bor}
 use Rattle.std.proofs.lemmas.List.{drop_at}
 use Rattle.std.specs.Ordering.{is_lt}
 use Rattle.std.specs.Prelude.{Bool, IfNone, IfSome, IsTrue}
 use Rattle.std.specs.declared.cmp.Ordering.{Ordering}
-use Rattle.std.specs.declared.cmp.Ordering.TheVariants.{Less, Equal, Greater}
+use Rattle.std.specs.declared.cmp.Ordering.TheVariants.{Less}
 use Rattle.litemap_store.specs.Counts.{RisesByAtMost}
 use Rattle.litemap_store.specs.Pairs.{AllBelow, Rising}
 use Rattle.litemap_store.specs.declared.count.Count.{Count}
 use Rattle.litemap_store.proofs.Counting.{in_turn, not_asked}
 use Rattle.litemap_store.proofs.Ends.{AllBelow-from_last, Rising-push}
-use Rattle.name_table.specs.Parts.{Part, AreParts, Begins, Number, pair_parts}
+use Rattle.name_table.specs.Parts.{Begins, Number, pair_parts}
 use Rattle.name_table.specs.ReadOn.{begins_none, begins_pairs, begins_then}
 use Rattle.name_table.specs.Remaining.{IsCounted, IsNext, Remaining}
 use Rattle.name_index.specs.Entries.{IsOpened, OfEntries}
@@ -115,10 +115,6 @@ opened bytes entries s c e a =
         rises = a.1.rises;
       };
     })
-
--- what stands behind the number of entries
-pub entries_behind : (bytes : List ℕ) (s : Remaining) → IsCounted bytes s → drop s.place bytes ≡ s.rest
-entries_behind bytes s c = ap (λ b. drop s.place b) c.spelled.split ∙ drop_at c.spelled.front s.rest s.place (sym c.place)
 
 -- a table that was opened is one whose keys rise
 pub rising_table : (bytes entries : List ℕ) (count : ℕ) → (o : IsOpened bytes entries count) → IsRisingTable bytes o.these.pairs

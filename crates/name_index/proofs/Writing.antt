@@ -1,5 +1,5 @@
 -- What is written of an index stays as it is, and further bytes stand behind it.
-use Rattle.std.proofs.Common.{◌≡◌, ℕ, ◌+◌, ◌*◌, ◌-◌, ◌<◌, ◌≤◌, List, [], ◌∷◌, ◌++◌, length, take, drop, map, get_or, slice_get, Some, Bor, refl, sym, ap, ◌∙◌, subst, arith, append_assoc, length-append, inl, inr}
+use Rattle.std.proofs.Common.{◌≡◌, ℕ, ◌+◌, ◌*◌, ◌<◌, ◌≤◌, List, [], ◌∷◌, ◌++◌, length, take, drop, map, get_or, slice_get, Some, Bor, refl, sym, ap, ◌∙◌, subst, arith, append_assoc, length-append, inl, inr}
 use Rattle.std.specs.Prelude.{IsUtf8}
 use Rattle.std.specs.Int.{from_le_bytes, to_le_bytes, w32}
 use Rattle.std.proofs.Math.Nat.{eq-or-lt_of_le}
@@ -17,9 +17,6 @@ use Rattle.name_table.proofs.ReadAgain.{shown_rise}
 use Rattle.name_index.specs.Writes.{Adds, AddsPairs, ArePlaces, entries_size, pair_size}
 
 -- ---- bytes behind bytes
-
-pub adds_none : (old : List ℕ) → Adds old old 0
-adds_none old = record { more = []; added = sym (append-nil old); size_is = refl }
 
 pub adds_length : (old new : List ℕ) (n : ℕ) → Adds old new n → length new ≡ length old + n
 adds_length old new n a = omega (arith, ap length a.added, length-append old a.more, a.size_is)
@@ -63,47 +60,6 @@ pair_kept old new size at pair a p =
 
 -- ---- what is written stands at the end
 
-pub number_written : (old new : List ℕ) (n : ℕ) → n < 4294967296 → new ≡ old ++ to_le_bytes w32 n → IsNumberAt new (length old) n
-number_written old new n l e =
-    let four : length (to_le_bytes w32 n) ≡ 4 = refl in
-    rw e (record {
-      within = omega (arith, length-append old (to_le_bytes w32 n), four);
-      value =
-          ap (λ c. from_le_bytes w32 (take 4 c)) (drop_at old (to_le_bytes w32 n) (length old) refl)
-          ∙ ap (λ c. from_le_bytes w32 c) (take_all 4 (to_le_bytes w32 n) (omega (arith, four)))
-          ∙ from_le_bytes-to_le_bytes_4 n (omega (arith, l));
-    })
-
-pub number_adds : (old new : List ℕ) (n : ℕ) → new ≡ old ++ to_le_bytes w32 n → Adds old new 4
-number_adds old new n e = record { more = to_le_bytes w32 n; added = e; size_is = refl }
-
-pub text_written : (old middle new text : List ℕ) → Adds old middle 4 → IsNumberAt middle (length old) (length text) → new ≡ middle ++ text → IsUtf8 text → IsTextAt new (length old) text
-text_written old middle new text a n e u =
-    let l : length middle ≡ length old + 4 = adds_length old middle 4 a in
-    let b : Adds middle new (length text) = record { more = text; added = e; size_is = refl } in
-    record {
-      size = number_kept middle new (length text) (length old) (length text) b n;
-      there =
-          ap (λ c. take (length text) (drop (length old + 4) c)) e ∙ ap (λ c. take (length text) c) (drop_at middle text (length old + 4) l)
-          ∙ take_all (length text) text (omega arith);
-      utf8 = u;
-    }
-
-pub text_adds : (old middle new text : List ℕ) → Adds old middle 4 → new ≡ middle ++ text → Adds old new (4 + length text)
-text_adds old middle new text a e =
-    let b : Adds middle new (length text) = record { more = text; added = e; size_is = refl } in
-    adds_then old middle new 4 (length text) a b
-
-pub pair_written : (old middle new key value : List ℕ) → Adds old middle (4 + length key) → IsTextAt middle (length old) key → Adds middle new (4 + length value) → IsTextAt new (length middle) value → IsPairAt new (length old) (key, value)
-pair_written old middle new key value a k b v =
-    let l : length middle ≡ length old + 4 + length key = omega (arith, adds_length old middle (4 + length key) a) in
-    (text_kept middle new (4 + length value) (length old) key b k, rw (← l) v)
-
-pub pair_adds : (old middle new key value : List ℕ) → Adds old middle (4 + length key) → Adds middle new (4 + length value) → Adds old new (pair_size (key, value))
-pair_adds old middle new key value a b =
-    let P : ℕ → Type 0 = λ n. Adds old new n in
-    subst P (omega arith) (adds_then old middle new (4 + length key) (4 + length value) a b)
-
 -- ---- the first pairs, and one more
 
 module _ (pairs : List (List ℕ × List ℕ)) (index : ℕ) (pair : List ℕ × List ℕ) (e : slice_get pairs index ≡ Some pair) where
@@ -114,13 +70,6 @@ module _ (pairs : List (List ℕ × List ℕ)) (index : ℕ) (pair : List ℕ ×
 
   pub size_within : entries_size (take index pairs) + pair_size pair ≤ entries_size pairs
   size_within = omega (arith, size_more, sum_by-take-le pair_size pairs (index + 1))
-
-pub places_start : (bytes : List ℕ) (pairs : List (List ℕ × List ℕ)) (n : ℕ) → Adds [] bytes 4 → IsNumberAt bytes 0 n → n ≡ length pairs → ArePlaces bytes pairs 0
-places_start bytes pairs n a number e = record {
-  number = rw (← e) number;
-  size = omega (arith, adds_length [] bytes 4 a);
-  noted = λ i l. absurd (omega (arith, l));
-}
 
 pub places_next : (old new : List ℕ) (pairs : List (List ℕ × List ℕ)) (index place : ℕ) → ArePlaces old pairs index → place ≡ entries_size (take index pairs) → Adds old new 4 → IsNumberAt new (length old) place → ArePlaces new pairs (index + 1)
 places_next old new pairs index place p e a n = record {
@@ -134,9 +83,6 @@ places_next old new pairs index place p e a n = record {
         rw (← s) (rw (← w) n)
   ];
 }
-
-pub pairs_start : (old : List ℕ) (pairs : List (List ℕ × List ℕ)) → AddsPairs old old pairs 0
-pairs_start old pairs = record { adds = adds_none old; there = λ i pair l e. absurd (omega (arith, l)) }
 
 pub pairs_next : (old middle new : List ℕ) (pairs : List (List ℕ × List ℕ)) (index : ℕ) (pair : List ℕ × List ℕ) → AddsPairs old middle pairs index → slice_get pairs index ≡ Some pair → Adds middle new (pair_size pair) → IsPairAt new (length middle) pair → AddsPairs old new pairs (index + 1)
 pairs_next old middle new pairs index pair p e a here =

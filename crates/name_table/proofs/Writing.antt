@@ -105,17 +105,6 @@ module _ {X : Type 0} (view : X → List ℕ × List ℕ) (pairs : List X) (i : 
       let one : IsNumber (1 ∷ []) 1 = record { ends = omega arith; value = omega arith; short = omega arith; small = omega arith } in
       none ((1 ∷ []) ++ t.first) (AreParts-append (1 ∷ []) t.first (Number 1 ∷ []) (pair_parts (view next ∷ [])) (AreParts-one (1 ∷ []) (Number 1) one) t.of_first)
 
--- too many pairs
-pub no_table_of : (pairs : List (List ℕ × List ℕ)) (n : ℕ) → length pairs ≡ n → 4294967296 ≤ n → NoTable pairs
-no_table_of pairs n e h bytes p = omega (arith, e, h, p.3.small)
-
--- too long a text
-pub no_table_key : (key value : List ℕ) → 4294967296 ≤ length key → NoTable ((key, value) ∷ [])
-no_table_key key value h bytes p = omega (arith, h, p.4.3.small)
-
-pub no_table_value : (key value : List ℕ) → 4294967296 ≤ length value → NoTable ((key, value) ∷ [])
-no_table_value key value h bytes p = omega (arith, h, p.4.4.4.3.small)
-
 pub if_too_large_weaker : {P Q : Type 0} (fault : NameWriteFault) → (P → Q) → IfTooLarge fault P → IfTooLarge fault Q
 if_too_large_weaker NoRoom h p = tt
 if_too_large_weaker TooLarge h p = h p

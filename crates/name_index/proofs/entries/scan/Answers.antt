@@ -1,6 +1,6 @@
-use Rattle.std.proofs.Common.{◌≡◌, ◌∙◌, ℕ, arith, length, subst, sym}
+use Rattle.std.proofs.Common.{◌≡◌, ◌∙◌, arith, length, sym}
 use Rattle.litemap_store.proofs.Counting.{at_most, in_turn}
-use Rattle.litemap_store.proofs.Halving.{Narrowed, Narrowed-greater, Narrowed-less}
+use Rattle.litemap_store.proofs.Halving.{Narrowed-greater, Narrowed-less}
 use Rattle.name_index.proofs.Scanning.{ascends, asked_one, begins_here, is_at_next, pair_here, scanned_found, scanned_missing, scanned_start, to_key}
 use Rattle.name_index.proofs.entries.scan.Goals as goal
 

@@ -1,5 +1,3 @@
-use Rattle.std.proofs.Common.{ℕ, List, subst}
-use Rattle.name_table.specs.Faults.{AreOfText, Fault}
 use Rattle.name_index.proofs.KnownParts.{text_no_fault}
 use Rattle.name_index.proofs.known.known_text.Goals as goal
 

@@ -1,7 +1,5 @@
-use Rattle.std.proofs.Common.{◌≡◌, List, ℕ, map, rules, subst, sym}
-use Rattle.litemap_store.specs.Pairs.{Rising}
+use Rattle.std.proofs.Common.{◌≡◌, map, rules}
 use Rattle.name_table.specs.Remaining.{shown}
-use Rattle.name_index.specs.Tables.{text_order}
 use Rattle.name_table.proofs.ReadAgain.{rise_shown}
 use Rattle.name_index.proofs.maps.map_of.Goals as goal
 

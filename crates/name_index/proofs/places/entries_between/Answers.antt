@@ -1,5 +1,4 @@
-use Rattle.std.proofs.Common.{◌≡◌, ◌-◌, ◌∙◌, ℕ, List, get_or, subst, sym}
-use Rattle.name_index.specs.Entries.{AreEntries, OfEntries}
+use Rattle.std.proofs.Common.{◌∙◌, get_or}
 use Rattle.name_index.proofs.Between.{between_are, between_is}
 use Rattle.name_index.proofs.Placing.{tail_is}
 use Rattle.name_index.proofs.places.entries_between.Goals as goal

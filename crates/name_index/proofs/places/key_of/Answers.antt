@@ -1,6 +1,4 @@
-use Rattle.std.proofs.Common.{ℕ, List, get_or, subst, sym}
-use Rattle.name_table.specs.Parts.{Begins, text_parts}
-use Rattle.name_index.specs.Entries.{BeginsText}
+use Rattle.std.proofs.Common.{get_or}
 use Rattle.name_index.proofs.Placing.{key_there, tail_is, text_begins}
 use Rattle.name_index.proofs.places.key_of.Goals as goal
 

@@ -1,6 +1,4 @@
-use Rattle.std.proofs.Common.{ℕ, List, [], ◌∷◌, get_or, subst, sym}
-use Rattle.name_table.specs.Parts.{Begins, pair_parts}
-use Rattle.name_index.specs.Entries.{BeginsPair}
+use Rattle.std.proofs.Common.{get_or}
 use Rattle.name_index.proofs.Placing.{pair_begins, pair_there, tail_is}
 use Rattle.name_index.proofs.places.pair_of.Goals as goal
 

@@ -1,7 +1,6 @@
-use Rattle.std.proofs.Common.{◌≡◌, ◌+◌, ℕ, List, arith, subst, sym}
+use Rattle.std.proofs.Common.{◌≡◌, arith}
 use Rattle.std.proofs.lemmas.Result.{err_from_is_err_and}
-use Rattle.name_index.specs.Placed.{AreFar}
-use Rattle.name_index.proofs.Placing.{Noted, far_here, noted_next, noted_start, placed_end}
+use Rattle.name_index.proofs.Placing.{far_here, noted_next, noted_start, placed_end}
 use Rattle.name_index.proofs.Scanning.{begins_here}
 use Rattle.name_index.proofs.places.places_of.Goals as goal
 

@@ -1,6 +1,3 @@
-use Rattle.std.proofs.Common.{Bor, ℕ, List, Option, subst}
-use Rattle.std.specs.Prelude.{IfSome}
-use Rattle.name_table.specs.Remaining.{IsNext, shown}
 use Rattle.name_index.proofs.Rises.{above_false, above_true, checked_next, checked_start}
 use Rattle.name_index.proofs.rising.check.Goals as goal
 

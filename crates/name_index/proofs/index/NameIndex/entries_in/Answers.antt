@@ -1,4 +1,4 @@
-use Rattle.std.proofs.Common.{◌≡◌, ◌≤◌, ◌∙◌, ℕ, [], arith, length, min, refl, slice_range, subst, sym}
+use Rattle.std.proofs.Common.{◌≡◌, ◌≤◌, ◌∙◌, [], arith, length, min, refl, sym}
 use Rattle.name_table.specs.ReadOn.{begins_none}
 use Rattle.name_index.proofs.Between.{none_of, slice_clamped, slice_none}
 use Rattle.name_index.proofs.Placing.{of_indexed}

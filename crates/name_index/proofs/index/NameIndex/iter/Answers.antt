@@ -1,5 +1,4 @@
-use Rattle.std.proofs.Common.{◌≡◌, ℕ, [], ◌∷◌, arith, length, subst}
-use Rattle.name_table.specs.Parts.{Begins, Number}
+use Rattle.std.proofs.Common.{◌≡◌, arith, length}
 use Rattle.name_index.proofs.Rises.{of_entries}
 use Rattle.name_index.proofs.index.NameIndex.iter.Goals as goal
 

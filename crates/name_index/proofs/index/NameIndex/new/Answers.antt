@@ -1,11 +1,8 @@
-use Rattle.std.proofs.Common.{◌<◌, ℕ, List, [], ◌∷◌, arith, length, subst, sym}
+use Rattle.std.proofs.Common.{◌<◌, arith, length}
 use Rattle.std.proofs.lemmas.Result.{err_from_is_err_and}
 use Rattle.litemap_store.proofs.Counting.{always_on_err}
-use Rattle.name_index.specs.Tables.{OfTable}
 use Rattle.name_index.proofs.Placing.{near_table, too_far_weaker}
 use Rattle.name_index.proofs.Rises.{rising_table}
-use Rattle.name_index.specs.Placed.{IfTooFar, IsFar}
-use Rattle.name_table.specs.Parts.{Begins, Number}
 use Rattle.name_index.proofs.index.NameIndex.new.Goals as goal
 
 pub invariant_of-result : goal.invariant_of-result

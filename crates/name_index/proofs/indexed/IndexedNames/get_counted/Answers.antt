@@ -1,8 +1,5 @@
-use Rattle.std.proofs.Common.{◌<◌, ℕ, Result, subst, sym}
+use Rattle.std.proofs.Common.{◌<◌, sym}
 use Rattle.std.proofs.lemmas.Result.{IfOk-at_ok}
-use Rattle.litemap_store.specs.Splits.{Splits}
-use Rattle.name_index.specs.Index.{IfIndex}
-use Rattle.name_index.specs.Tables.{text_order}
 use Rattle.name_index.proofs.Indexing.{entry_is, no_index, whatever_fault}
 use Rattle.name_index.proofs.Scanning.{value_at_split}
 use Rattle.name_index.proofs.indexed.IndexedNames.get_counted.Goals as goal
