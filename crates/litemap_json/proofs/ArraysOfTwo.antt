@@ -1,6 +1,6 @@
 -- What is no array of two.
 use Rattle.std.proofs.Common.{◌≡◌, List, [], ◌∷◌, length, None, Some, refl}
-use Rattle.serde_json.specs.Data.{Data, null, boolean, number, string, array, object}
+use Rattle.serde_json.specs.Data.{Data, array}
 use Rattle.serde_json.specs.Find.{as_array}
 use Rattle.serde_json.specs.View.{items_view}
 use Rattle.serde_json.specs.declared.value.Value.{Value}

@@ -1,6 +1,6 @@
 -- Whole numbers as they are printed: each is read back, and in that one spelling.
 use Rattle.std.proofs.Common.{◌≡◌, ℕ, suc, ◌^◌, if◌then◌else◌, ℤ, pos, negsuc, neg_ℤ, List, ◌∷◌, Bool, true, false, Some, None, Result, Ok, Err, decimal, arith, refl, sym, ap, subst, ◌∙◌}
-use Rattle.std.proofs.lemmas.Bool.{lt-ltb, ltb-true, both_ways}
+use Rattle.std.proofs.lemmas.Bool.{ltb-true, both_ways}
 use Rattle.std.proofs.lemmas.Bool.Decides.{Decides-int_eq}
 use Rattle.std.proofs.lemmas.Fmt.{decimal_is_IsNumeral_wide}
 use Rattle.std.proofs.lemmas.Int.{ints}

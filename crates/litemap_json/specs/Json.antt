@@ -1,7 +1,7 @@
 -- A map as JSON: the tree of a list of pairs, and the pairs that a tree spells. Keys and items are told by their trees, and
 -- keys by their texts too.
 use Rattle.std.specs.Prelude.{ℕ, ◌+◌, List, [], ◌∷◌, map, cond, is_some, Option, Some, None, Result, Ok, Err}
-use Rattle.serde_json.specs.Data.{Data, null, boolean, number, string, array, object}
+use Rattle.serde_json.specs.Data.{Data, array, object}
 use Rattle.serde_json.specs.Data.{Items, no_items, item, Members, no_members, member, put}
 use Rattle.serde_json.specs.View.{items_of}
 use Rattle.litemap_json.specs.Item.{pair_json, two_of}

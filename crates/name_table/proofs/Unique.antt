@@ -1,5 +1,5 @@
 -- Bytes begin with one spelling at most, and what they begin with has no fault.
-use Rattle.std.proofs.Common.{◌≡◌, ℕ, ◌≤◌, List, [], ◌∷◌, ◌++◌, length, refl, sym, ap, ◌∙◌, subst, arith, ⊎_elim, append_assoc, length-append}
+use Rattle.std.proofs.Common.{◌≡◌, ℕ, ◌≤◌, List, [], ◌∷◌, ◌++◌, length, refl, sym, ap, ◌∙◌, arith, ⊎_elim, append_assoc, length-append}
 use Rattle.std.proofs.lemmas.List.{append_cancel_left, take_at}
 use Rattle.std.specs.Prelude.{IsUtf8}
 use Rattle.name_table.specs.Faults.{NumberFault, TextFault, PartFault}

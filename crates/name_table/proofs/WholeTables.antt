@@ -1,11 +1,11 @@
 -- A whole table: its number of pairs, and the pairs that are due by it.
-use Rattle.std.proofs.Common.{◌≡◌, ℕ, ◌+◌, ◌⊎◌, List, [], ◌∷◌, ◌++◌, length, map, refl, sym, ap, ◌∙◌, subst, arith, ⊎_elim, append_assoc, length-append, Bor}
+use Rattle.std.proofs.Common.{◌≡◌, ℕ, ◌+◌, ◌⊎◌, List, [], ◌∷◌, ◌++◌, length, map, refl, sym, ap, ◌∙◌, subst, arith, ⊎_elim, length-append, Bor}
 use Rattle.std.proofs.lemmas.List.{length-map}
 use Rattle.litemap_read.specs.ReadFault.{IfSource}
 use Rattle.litemap_read.specs.declared.source.ReadFault.{ReadFault}
 use Rattle.litemap_read.specs.declared.source.ReadFault.TheVariants.{NoRoom, Source}
 use Rattle.name_table.specs.Faults.{NumberFault, Fault, AreOfPairs, TableFault}
-use Rattle.name_table.specs.Parts.{Number, AreParts, Begins, pair_parts, table_parts}
+use Rattle.name_table.specs.Parts.{Number, Begins, pair_parts, table_parts}
 use Rattle.name_table.specs.ReadOn.{IsReadOn, begins_then}
 use Rattle.name_table.specs.Remaining.{Remaining, shown, NoPair, CanBeRead, AllCanBeRead, IsCounted}
 use Rattle.name_table.specs.declared.fault.NameFault.{NameFault}

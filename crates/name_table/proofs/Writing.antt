@@ -1,10 +1,10 @@
 -- Shortest spellings, one behind another, and what no bytes spell.
-use Rattle.std.proofs.Common.{◌≡◌, ℕ, zero, suc, ◌+◌, ◌/◌, ◌%◌, ◌^◌, ◌<◌, ◌≤◌, List, [], ◌∷◌, ◌++◌, length, map, take, drop, get_or, refl, sym, ap, ◌∙◌, subst, arith, append_assoc, length-append}
+use Rattle.std.proofs.Common.{◌≡◌, ℕ, zero, suc, ◌+◌, ◌/◌, ◌%◌, ◌^◌, ◌<◌, ◌≤◌, List, [], ◌∷◌, ◌++◌, length, map, take, drop, get_or, refl, sym, ap, ◌∙◌, arith, append_assoc, length-append}
 use Rattle.std.proofs.Math.Nat.{pow-succ'}
 use Rattle.std.proofs.lemmas.List.{drop_more, map-append, take_more, take-append-drop}
 use Rattle.std.specs.Prelude.{IsUtf8}
 use Rattle.name_table.specs.Numbers.{value_of, EndsAtLast, IsNumber}
-use Rattle.name_table.specs.Parts.{Part, Number, Text, AreParts, text_parts, pair_parts}
+use Rattle.name_table.specs.Parts.{Part, Number, Text, text_parts, pair_parts}
 use Rattle.name_table.specs.ReadOn.{AreParts-append, pair_parts-append}
 use Rattle.name_table.specs.Writes.{Appends, AppendsNumber, IfTooLarge, IsShortest, NoTable}
 use Rattle.name_table.specs.declared.fault.NameWriteFault.{NameWriteFault}

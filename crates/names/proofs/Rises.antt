@@ -6,7 +6,7 @@ use Rattle.litemap_store.specs.Pairs.{Rising}
 use Rattle.litemap_store.proofs.Splitting.{Rising-put}
 use Rattle.litemap_store.proofs.Lookups.{Rising-cut}
 use Rattle.litemap.specs.declared.calls.Call.{Call}
-use Rattle.litemap.specs.declared.calls.Call.TheVariants.{Find, Get, Insert, Remove, ValueAt, Contains, Len, TryInsert, TryAppend, Extend, Reserve, Clear}
+use Rattle.litemap.specs.declared.calls.Call.TheVariants.{Find, Get, Insert, Remove}
 use Rattle.names_core.specs.Line.{Spells}
 use Rattle.names_core.specs.Told.{Answers, Calls, Does, DoesEach, Nothing, ShowsAll, ShowsJson, TextMap}
 

@@ -1,9 +1,8 @@
 -- The JSON value of rising texts is an object of the pairs in their order, and its text that of the pairs one by one.
-use Rattle.std.proofs.Common.{◌≡◌, ℕ, ◌+◌, List, [], ◌∷◌, ◌++◌, true, Some, Ok, Less, Greater, inl, inr, nat_cmp, refl, sym, ap, ◌∙◌, append_assoc}
-use Rattle.std.specs.Cmp.Lexicographic.{slice_cmp, nat_list_cmp_total}
-use Rattle.std.specs.Ordering.{ordering_reverse}
+use Rattle.std.proofs.Common.{◌≡◌, ℕ, ◌+◌, List, [], ◌∷◌, ◌++◌, true, Some, Ok, Less, inl, inr, nat_cmp, refl, sym, ap, ◌∙◌, append_assoc}
+use Rattle.std.specs.Cmp.Lexicographic.{slice_cmp}
 use Rattle.json.specs.Print.{quoted}
-use Rattle.serde_json.specs.Data.{Data, string, array, object, no_items, Members, no_members, member, put}
+use Rattle.serde_json.specs.Data.{Data, string, array, object, no_items, Members, no_members, member}
 use Rattle.serde_json.specs.Written.{compact_text, members_text}
 use Rattle.litemap_store.specs.Last.{In}
 use Rattle.litemap_store.specs.Pairs.{Rising}

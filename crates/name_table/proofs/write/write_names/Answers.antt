@@ -1,8 +1,4 @@
-use Rattle.std.proofs.Common.{List, map, subst}
 use Rattle.std.proofs.lemmas.Result.{err_from_is_err_and}
-use Rattle.name_table.specs.Reads.{Text}
-use Rattle.name_table.specs.Remaining.{shown}
-use Rattle.name_table.specs.Writes.{IfTooLarge, IsReadAgain, NoTable}
 use Rattle.name_table.proofs.ReadAgain.{read_again}
 use Rattle.name_table.proofs.write.write_names.Goals as goal
 

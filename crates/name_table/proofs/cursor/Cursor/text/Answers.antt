@@ -1,9 +1,6 @@
-use Rattle.std.proofs.Common.{◌≡◌, ℕ, List, [], ◌∷◌, ◌++◌, length, sym, ap, ◌∙◌, subst, arith, refl}
-use Rattle.std.specs.Prelude.{IsUtf8}
+use Rattle.std.proofs.Common.{◌≡◌, ◌++◌, length, sym, ap, ◌∙◌, arith, refl}
 use Rattle.std.proofs.lemmas.List.{take-append-drop}
 use Rattle.std.proofs.lemmas.Result.{err_from_is_err_and}
-use Rattle.name_table.specs.Parts.{Number}
-use Rattle.name_table.specs.Position.{IsPast, Position}
 use Rattle.name_table.proofs.PartLemmas.{past_text}
 use Rattle.name_table.proofs.FaultLemmas.{length_fault, text_fault}
 use Rattle.name_table.proofs.cursor.Cursor.text.Goals as goal
