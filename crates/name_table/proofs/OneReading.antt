@@ -5,7 +5,7 @@ use Rattle.name_table.specs.Numbers.{GoesOn, EndsAtLast, IsCut, IsTooLarge}
 use Rattle.name_table.specs.Parts.{Part, Number, Text, AreParts, Begins, pair_parts, table_parts}
 use Rattle.name_table.specs.declared.fault.NameFault.{NameFault}
 use Rattle.name_table.specs.declared.fault.NameFault.TheVariants.{Truncated, NotUtf8, NumberTooLarge}
-use Rattle.name_table.proofs.Unique.{Agree, IsLike, agree_tables, begins_unique, ends_goes_on, fault_past, pair_parts-inj, part_clash, part_unique, regroup, same_rest}
+use Rattle.name_table.proofs.Unique.{Agree, IsLike, agree_tables, Behind, begins_unique, ends_goes_on, fault_past, pair_parts-inj, part_clash, regroup}
 
 -- ---- one table
 
@@ -75,32 +75,31 @@ like_sym (Number n) (Number m) l = tt
 like_sym (Text s) (Text t) l = sym l
 like_sym _ _ l = l
 
-first_fault : (d e : List Part) (x y : Part) (m n : List Part) (a u b v : List ℕ) (place : ℕ) (f g : NameFault) → Agree (d ++ x ∷ m) (e ++ y ∷ n) → AreParts a d → AreParts b e → a ++ u ≡ b ++ v → PartFault x u (place + length a) f → PartFault y v (place + length b) g → f ≡ g
-first_fault [] [] x y m n a u b v place f g h p q e i j =
-    let P : ℕ → Type 0 = λ k. PartFault x u k f in
-    let Q : ℕ → Type 0 = λ k. PartFault y v k g in
-    let w : v ≡ u = ap (λ c. c ++ v) (sym q) ∙ sym e ∙ ap (λ c. c ++ u) p in
-    part_fault_unique x y u place f g h.0 (subst P (omega (arith, ap length p)) i) (rw (← w) (subst Q (omega (arith, ap length q)) j))
-first_fault [] (z ∷ e') x y m n a u b v place f g h p q e i j =
-    let P : List ℕ → Type 0 = λ c. PartFault x c (place + length a) f in
-    let w : u ≡ q.0 ++ (q.1 ++ v) = ap (λ c. c ++ u) (sym p) ∙ e ∙ regroup b q.0 q.1 v q.2 in
-    absurd (part_clash z x q.0 (q.1 ++ v) (place + length a) f q.3 (like_sym x z h.0) (subst P w i))
-first_fault (z ∷ d) [] x y m n a u b v place f g h p q e i j =
-    let P : List ℕ → Type 0 = λ c. PartFault y c (place + length b) g in
-    let w : v ≡ p.0 ++ (p.1 ++ u) = ap (λ c. c ++ v) (sym q) ∙ sym e ∙ regroup a p.0 p.1 u p.2 in
-    absurd (part_clash z y p.0 (p.1 ++ u) (place + length b) g p.3 h.0 (subst P w j))
-first_fault (z ∷ d) (o ∷ e') x y m n a u b v place f g h p q e i j =
-    let k : p.0 ++ (p.1 ++ u) ≡ q.0 ++ (q.1 ++ v) = sym (regroup a p.0 p.1 u p.2) ∙ e ∙ regroup b q.0 q.1 v q.2 in
-    let w = part_unique z o p.0 q.0 (p.1 ++ u) (q.1 ++ v) p.3 q.3 h.0 k in
-    let P : ℕ → Type 0 = λ c. PartFault x u c f in
-    let Q : ℕ → Type 0 = λ c. PartFault y v c g in
-    first_fault d e' x y m n p.1 u q.1 v (place + length p.0) f g (h.1 w.1) p.4 q.4 (same_rest p.0 q.0 (p.1 ++ u) (q.1 ++ v) w.0 k)
-    (subst P (omega (arith, ap length p.2, length-append p.0 p.1)) i) (subst Q (omega (arith, ap length q.2, length-append q.0 q.1, ap length w.0)) j)
+agree_rest : (xs ys zs : List Part) → Agree (xs ++ ys) (xs ++ zs) → Agree ys zs
+agree_rest [] ys zs g = g
+agree_rest (x ∷ xs) ys zs g = agree_rest xs ys zs (g.1 refl)
 
--- where all lists of parts that are allowed agree
+-- where all lists of parts that are allowed agree: neither fault is behind the other
 pub fault_unique : {Allowed : List Part → Type 0} (bytes : List ℕ) (place : ℕ) (f g : NameFault) → ((xs ys : List Part) → Allowed xs → Allowed ys → Agree xs ys) → Fault Allowed bytes place f → Fault Allowed bytes place g → f ≡ g
-fault_unique bytes place f g agreed p q =
-    first_fault p.done q.done p.due q.due p.more q.more p.front p.rest q.front q.rest place f g (agreed (p.done ++ p.due ∷ p.more) (q.done ++ q.due ∷ q.more) p.allowed q.allowed) p.spelled q.spelled (sym p.split ∙ q.split) p.why q.why
+fault_unique bytes place f g agreed p q = by b.parts b.bytes b.is_front b.is_rest b.spelled (agree_rest p.done (p.due ∷ p.more) (b.parts ++ q.due ∷ q.more) h)
+  where
+    both : Agree (p.done ++ p.due ∷ p.more) (q.done ++ q.due ∷ q.more)
+    both = agreed (p.done ++ p.due ∷ p.more) (q.done ++ q.due ∷ q.more) p.allowed q.allowed
+
+    b : Behind p.done q.done p.front p.rest q.front q.rest
+    b = fault_past p.done (p.due ∷ p.more) q.done q.due q.more p.front p.rest q.front q.rest (place + length q.front) g both p.spelled q.spelled (sym p.split ∙ q.split) q.why
+
+    h : Agree (p.done ++ p.due ∷ p.more) (p.done ++ (b.parts ++ q.due ∷ q.more))
+    h = rw (← append_assoc p.done b.parts (q.due ∷ q.more)) (rw b.is_done at both)
+
+    by : (parts : List Part) (more : List ℕ) → q.front ≡ p.front ++ more → p.rest ≡ more ++ q.rest → AreParts more parts → Agree (p.due ∷ p.more) (parts ++ q.due ∷ q.more) → f ≡ g
+    by [] more i r s a =
+        let e : q.rest ≡ p.rest = sym (r ∙ ap (λ c. c ++ q.rest) s) in
+        let l : q.front ≡ p.front = i ∙ ap (λ c. p.front ++ c) s ∙ append-nil p.front in
+        part_fault_unique p.due q.due p.rest (place + length p.front) f g a.0 p.why (subst (λ c. PartFault q.due c (place + length p.front) g) e (subst (λ c. PartFault q.due q.rest (place + length c) g) l q.why))
+    by (z ∷ parts) more i r s a =
+        let e : p.rest ≡ s.0 ++ (s.1 ++ q.rest) = r ∙ regroup more s.0 s.1 q.rest s.2 in
+        absurd (part_clash z p.due s.0 (s.1 ++ q.rest) (place + length p.front) f s.3 (like_sym p.due z a.0) (subst (λ c. PartFault p.due c (place + length p.front) f) e p.why))
 
 pub table_fault_unique : (bytes : List ℕ) (f g : NameFault) → TableFault bytes f → TableFault bytes g → f ≡ g
 table_fault_unique bytes f g p q =
