@@ -14,7 +14,7 @@ use Rattle.litemap_store.specs.Last.{In}
 use Rattle.litemap_store.specs.Pairs.{at}
 use Rattle.litemap_store.proofs.LastLookups.{at-Rising}
 use Rattle.litemap_store.proofs.LastPairs.{same_rising}
-use Rattle.litemap_store.proofs.Splitting.{each-append}
+use Rattle.litemap_store.proofs.Splitting.{each-append, each-weaker}
 use Rattle.example_keywords.specs.Keywords.{AreCanonical, IsFault, IsKeyword, IsRead, Keyword, Rise, Spells, canonical, is_key, is_value_part, joined, keyword_parts, pair_of, parts_of, size_of, value_of}
 use Rattle.example_keywords.specs.Reading.{NoValueFirst}
 use Rattle.example_keywords.specs.Written.{IsReadAgain, if_some, printed}
@@ -27,14 +27,10 @@ AreParts value = AllByRecursion (λ part. IsTrue (is_value_part part)) value
 
 -- ---- one list of keywords
 
-NoDash-value : (value : List (List ℕ)) → AreParts value → AllByRecursion NoDash value
-NoDash-value [] h = tt
-NoDash-value (part ∷ value) h = (NoDash-part part h.0, NoDash-value value h.1)
-
 NoDash-keywords : (ks : List Keyword) → AllByRecursion IsKeyword ks → AllByRecursion NoDash (keyword_parts ks)
 NoDash-keywords [] h = tt
 NoDash-keywords (k ∷ ks) h =
-    (NoDash-key k.key h.0.0, each-append NoDash k.value (keyword_parts ks) (NoDash-value k.value h.0.1) (NoDash-keywords ks h.1))
+    (NoDash-key k.key h.0.0, each-append NoDash k.value (keyword_parts ks) (each-weaker NoDash-part k.value h.0.1) (NoDash-keywords ks h.1))
 
 -- the parts of a text that spells some keywords
 parts_spelled : (text : List ℕ) (k : Keyword) (ks : List Keyword) → Spells text (k ∷ ks) → parts_of text ≡ keyword_parts (k ∷ ks)
@@ -117,13 +113,9 @@ read_unique text J K r s =
 abbrev IsGood : List ℕ → Type 0
 IsGood part = (is_key part ≡ true) ⊎ (is_value_part part ≡ true)
 
-good_value : (value : List (List ℕ)) → AreParts value → AllByRecursion IsGood value
-good_value [] h = tt
-good_value (part ∷ value) h = (inr h.0, good_value value h.1)
-
 good_keywords : (ks : List Keyword) → AllByRecursion IsKeyword ks → AllByRecursion IsGood (keyword_parts ks)
 good_keywords [] h = tt
-good_keywords (k ∷ ks) h = (inl h.0.0, each-append IsGood k.value (keyword_parts ks) (good_value k.value h.0.1) (good_keywords ks h.1))
+good_keywords (k ∷ ks) h = (inl h.0.0, each-append IsGood k.value (keyword_parts ks) (each-weaker (λ part v. inr v) k.value h.0.1) (good_keywords ks h.1))
 
 good_behind : (front : List (List ℕ)) (part : List ℕ) (behind : List (List ℕ)) → AllByRecursion IsGood (front ++ part ∷ behind) → IsGood part
 good_behind [] part behind h = h.0

@@ -9,7 +9,7 @@ use Rattle.serde_json.specs.Data.{Data, array, object, Members, no_members, memb
 use Rattle.litemap_store.specs.Last.{In, StandsLast, Last}
 use Rattle.litemap_store.specs.Pairs.{Rising}
 use Rattle.litemap_store.proofs.LastPairs.{In-from_last, Last-rising}
-use Rattle.litemap_store.proofs.Membership.{each, from_each}
+use Rattle.litemap_store.proofs.Membership.{In-get_or, each, from_each}
 use Rattle.litemap_json.specs.declared.item.ItemFault.{ItemFault}
 use Rattle.litemap_json.specs.Json.{rows, row_pairs, member_pairs}
 use Rattle.litemap_json.specs.Reading.{AllReadBack, ReadsAs, ReadsBack, seen}
@@ -115,17 +115,12 @@ module _ {K V : Type 0} (cmp : K → K → Ordering) (total : IsTotalOrder cmp) 
   pub object_again : (ms : Members) (L : List (K × V)) → Rising cmp L → Gathered ms L → ReadsAs cmp key key_item json_item key_json json (object ms) L
   object_again ms L r g = record { spelled = g.0; spells = members_read 0 g.0 ms g.1; last = leaves g.0 L r g.3 g.2 }
 
-  in_get_or : (L : List (K × V)) (i : ℕ) (x : K × V) → i < length L → x ≡ get_or L i x → In x L
-  in_get_or [] i x h e = absurd (omega arith)
-  in_get_or (p ∷ ps) zero x h e = inl (sym e)
-  in_get_or (p ∷ ps) (suc i) x h e = inr (in_get_or ps i x (omega arith) e)
-
   -- no pair before x has an equal key
   pub apart_before : (L : List (K × V)) (i : ℕ) (x : K × V) → i < length L → x ≡ get_or L i x → Rising cmp L → (q : K × V) → In q (take i L) → cmp x.0 q.0 ≢ Equal
   apart_before [] i x h e r q j = absurd (omega arith)
   apart_before (p ∷ ps) zero x h e r q j = absurd j
   apart_before (p ∷ ps) (suc i) x h e r q (inl same) =
-      let less : cmp p.0 x.0 ≡ Less = each (λ (y : K × V). cmp p.0 y.0 ≡ Less) ps r.0 x (in_get_or ps i x (omega arith) e) in
+      let less : cmp p.0 x.0 ≡ Less = each (λ (y : K × V). cmp p.0 y.0 ≡ Less) ps r.0 x (subst (λ y. In y ps) (sym e) (In-get_or ps i x (omega arith))) in
       λ equal. (
       let there : cmp x.0 p.0 ≡ Equal = rw same equal in
       let back : cmp p.0 x.0 ≡ Equal = total.antisymm p.0 x.0 ∙ ap ordering_reverse there in

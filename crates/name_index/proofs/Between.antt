@@ -46,10 +46,6 @@ module _ (entries places : List ℕ) (from to d : ℕ) (placed : ArePlaced entri
       (entries_left (drop (get_or places from d) entries) (to - from) between_are)
 
 -- ---- parts of a list
-pub none_of : {X : Type 0} (L : List X) → length L ≡ 0 → L ≡ []
-none_of [] e = refl
-none_of (x ∷ L) e = absurd (omega (arith, e))
-
 take_none : {X : Type 0} (n : ℕ) → take {A = X} n [] ≡ []
 take_none zero = refl
 take_none (suc n) = refl

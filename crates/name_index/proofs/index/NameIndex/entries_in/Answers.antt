@@ -1,6 +1,7 @@
 use Rattle.std.proofs.Common.{◌≡◌, ◌≤◌, ◌∙◌, [], arith, length, min, refl, sym}
 use Rattle.name_table.specs.ReadOn.{begins_none}
-use Rattle.name_index.proofs.Between.{none_of, slice_clamped, slice_none}
+use Rattle.name_index.proofs.Between.{slice_clamped, slice_none}
+use Rattle.std.proofs.lemmas.List.{nil_from_length}
 use Rattle.name_index.proofs.Placing.{of_indexed}
 use Rattle.name_index.proofs.index.NameIndex.entries_in.Goals as goal
 
@@ -22,4 +23,4 @@ returns-else-range-end c =
     let L = p.these.pairs in
     let e = c.new.ensures in
     let none : min c.args.range.end (length L) ≤ c.args.range.start = omega (arith, c.if-range-end.false, c.min-end.ensures, p.these.count_is) in
-    e.1 ∙ none_of e.0.pairs e.0.count_is ∙ sym (slice_none L c.args.range.start c.args.range.end none)))
+    e.1 ∙ nil_from_length e.0.pairs e.0.count_is ∙ sym (slice_none L c.args.range.start c.args.range.end none)))
