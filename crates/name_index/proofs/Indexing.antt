@@ -18,11 +18,6 @@ use Rattle.name_index.proofs.Rises.{IsAbove, LastKey, asked_next, last_at, rises
 use Rattle.name_index.proofs.Scanning.{ascends, to_key}
 use Rattle.name_index.specs.Placed.{IsKeyAt}
 
--- what holds whatever the fault is
-pub whatever_fault : {T E Q : Type 0} (r : Result T E) → Q → IfErr r (λ _. Q)
-whatever_fault (Ok x) q = tt
-whatever_fault (Err e) q = q
-
 -- ---- one number, one text, one entry
 
 pub number_unique : (bytes : List ℕ) (at n m : ℕ) → IsNumberAt bytes at n → IsNumberAt bytes at m → n ≡ m

@@ -165,16 +165,11 @@ splits_at key r placed f = Splits-from_Finds one_side placed.these.pairs key pla
 
 -- ---- what is found
 
-pub placed_table : (bytes entries places : List ℕ) → Begins bytes (Number (length places) ∷ []) entries → (placed : ArePlaced entries places) → IsRisingTable bytes placed.these.pairs
-placed_table bytes entries places counted placed =
-    let o : IsOpened bytes entries (length places) = record { counted = counted; these = placed.these } in
-    rising_table bytes entries (length places) o
-
 -- what holds of placed entries holds of the table
 pub of_indexed : {P : List (List ℕ × List ℕ) → Type 0} (bytes entries items places : List ℕ) → IsIndexed bytes entries items → places ≡ items → AsPlaced entries places P → OfTable bytes P
 of_indexed bytes entries items places x e h =
     let y = rw (sym e) at x in
-    (y.placed.these.pairs, placed_table bytes entries places y.counted y.placed, h y.placed)
+    (y.placed.these.pairs, rising_table bytes entries (length places) (record { counted = y.counted; these = y.placed.these }), h y.placed)
 
 -- a count of as many pairs as places
 pub cost_by_pairs : (entries places : List ℕ) (placed : ArePlaced entries places) (old new : Count) → RisesByAtMost (digits (length places)) old new → RisesByAtMost (digits (length placed.these.pairs)) old new

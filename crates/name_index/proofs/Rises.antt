@@ -8,6 +8,7 @@ use Rattle.litemap_store.specs.Counts.{RisesByAtMost}
 use Rattle.litemap_store.specs.Pairs.{AllBelow, Rising}
 use Rattle.litemap_store.specs.declared.count.Count.{Count}
 use Rattle.litemap_store.proofs.Counting.{in_turn, not_asked}
+use Rattle.litemap_store.proofs.Parts.{Less-from_is_lt}
 use Rattle.litemap_store.proofs.Ends.{AllBelow-from_last, Rising-push}
 use Rattle.name_table.specs.Parts.{Begins, Number, pair_parts}
 use Rattle.name_table.specs.ReadOn.{begins_none, begins_pairs, begins_then}
@@ -44,10 +45,6 @@ asked_next None L p l r z o = in_turn (length L - 1) 0 (length (L ++ p ∷ []) -
 asked_next (Some last) L p l r z o =
     in_turn (length L - 1) 1 (length (L ++ p ∷ []) - 1) (omega (arith, length-append L (p ∷ []), ap length l.2, length-append l.0 ((last.now, l.1) ∷ []))) r o
 
-less_from_true : (o : Ordering) → IsTrue (is_lt o) → o ≡ Less
-less_from_true Less h = refl
-less_from_true _ h = absurd (cc)
-
 -- the key is above the last one
 abbrev pub IsAbove : Option (Bor (List ℕ)) → List ℕ → Type 0
 IsAbove None key = Unit {0}
@@ -76,7 +73,7 @@ falls_on last L p e r =
 -- what the test of a key says
 pub above_true : (last : Option (Bor (List ℕ))) (key : List ℕ) (b : Bool) → IfSome last (λ l. b ≡ is_lt (text_order l.now key)) → IsTrue b → IsAbove last key
 above_true None key b s t = tt
-above_true (Some last) key b s t = less_from_true (text_order last.now key) (sym s ∙ t)
+above_true (Some last) key b s t = Less-from_is_lt (text_order last.now key) (sym t ∙ s)
 
 pub above_false : (last : Option (Bor (List ℕ))) (L : List (List ℕ × List ℕ)) (p : List ℕ × List ℕ) (b : Bool) → LastKey last L → IfNone last (IsTrue b) → IfSome last (λ l. b ≡ is_lt (text_order l.now p.0)) → b ≡ false → Rising text_order (L ++ p ∷ []) → ⊥
 above_false None L p b e n s f r = let h : b ≡ true = n in absurd (cc)

@@ -10,6 +10,7 @@ use Rattle.litemap.specs.ByBytes.{by_bytes}
 use Rattle.litemap_store.specs.Pairs.{Rising}
 use Rattle.name_index.specs.Index.{BeginsAt, IsIndex, IsNumberAt, IsPairAt, IsTextAt}
 use Rattle.name_index.specs.Tables.{text_order}
+use Rattle.name_table.specs.Reads.{Text}
 use Rattle.name_table.specs.Remaining.{shown}
 use Rattle.name_table.proofs.ReadAgain.{shown_rise}
 use Rattle.name_index.specs.Writes.{Adds, AddsPairs, ArePlaces, entries_size, pair_size}
@@ -117,21 +118,15 @@ index_written old new pairs p a rises = record {
 
 -- ---- a map's pairs, as what they show
 
-abbrev Text : Type 0
-Text = Bor (List ℕ)
-
 pub shown_at : (pairs : List (Text × Text)) (index : ℕ) (d : Text × Text) → index < length pairs → slice_get (map shown pairs) index ≡ Some (shown (get_or pairs index d))
 shown_at pairs index d l = slice_get-map shown pairs index ∙ ap (λ o. option_map shown o) (slice_get-get_or pairs index d l)
-
-pub shown_length : (pairs : List (Text × Text)) → length (map shown pairs) ≡ length pairs
-shown_length pairs = length-map pairs shown
 
 length_less : (pairs : List (List ℕ × List ℕ)) → length pairs ≤ entries_size pairs
 length_less [] = omega arith
 length_less (p ∷ pairs) = omega (arith, sum_by-cons pair_size p pairs, length_less pairs)
 
 pub too_many : (pairs : List (Text × Text)) → 4294967296 ≤ length pairs → 4294967296 ≤ entries_size (map shown pairs)
-too_many pairs h = omega (arith, h, length_less (map shown pairs), shown_length pairs)
+too_many pairs h = omega (arith, h, length_less (map shown pairs), length-map pairs shown)
 
 -- where a pair is too large, all are
 module _ (pairs : List (Text × Text)) (index : ℕ) (d : Text × Text) (l : index < length pairs) where
@@ -147,10 +142,10 @@ place_next pairs index d place next l e n =
 
 pub all_small : (pairs : List (Text × Text)) (index place : ℕ) → index ≡ length pairs → place ≡ entries_size (take index (map shown pairs)) → place < 4294967296 → entries_size (map shown pairs) < 4294967296
 all_small pairs index place i e h =
-    let a : take index (map shown pairs) ≡ map shown pairs = take_all index (map shown pairs) (omega (arith, i, shown_length pairs)) in
+    let a : take index (map shown pairs) ≡ map shown pairs = take_all index (map shown pairs) (omega (arith, i, length-map pairs shown)) in
     omega (arith, h, e, ap entries_size a)
 
 pub shown_written : (old new : List ℕ) (pairs : List (Text × Text)) → ArePlaces old (map shown pairs) (length pairs) → AddsPairs old new (map shown pairs) (length pairs) → Rising by_bytes pairs → IsIndex new (map shown pairs)
 shown_written old new pairs p a rises =
-    let e : length pairs ≡ length (map shown pairs) = sym (shown_length pairs) in
+    let e : length pairs ≡ length (map shown pairs) = sym (length-map pairs shown) in
     index_written old new (map shown pairs) (rw (← e) p) (rw (← e) a) (shown_rise pairs rises)

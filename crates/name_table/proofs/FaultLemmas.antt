@@ -1,5 +1,5 @@
 -- Faults of the parts in front, and of those behind what was read.
-use Rattle.std.proofs.Common.{◌≡◌, ℕ, ◌+◌, List, [], ◌∷◌, ◌++◌, length, refl, sym, ap, ◌∙◌, subst, arith, append_assoc, length-append}
+use Rattle.std.proofs.Common.{◌≡◌, ℕ, ◌+◌, List, [], ◌∷◌, ◌++◌, length, refl, sym, ap, ◌∙◌, subst, arith, append-nil, append_assoc, length-append}
 use Rattle.std.proofs.Math.ListN.{replicate}
 use Rattle.std.proofs.lemmas.List.{length-replicate}
 use Rattle.name_table.specs.Faults.{NumberFault, TextFault, PartFault, Fault, AreOfText}
@@ -48,17 +48,7 @@ fault_wider {A} {B} bytes place fault wider w =
     }
 
 pub fault_where : {A B : List Part → Type 0} (bytes : List ℕ) (place : ℕ) (fault : NameFault) → ((xs : List Part) → A xs → B xs) → Fault A bytes place fault → Fault B bytes place fault
-fault_where {A} {B} bytes place fault wider w = record {
-  done = w.done;
-  due = w.due;
-  more = w.more;
-  allowed = wider (w.done ++ w.due ∷ w.more) w.allowed;
-  front = w.front;
-  rest = w.rest;
-  split = w.split;
-  spelled = w.spelled;
-  why = w.why;
-}
+fault_where {A} {B} bytes place fault wider w = fault_wider bytes place fault (λ xs a. ([], rw (append-nil xs) (wider xs a))) w
 
 -- ---- a text behind its length
 

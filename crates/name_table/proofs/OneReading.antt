@@ -40,13 +40,10 @@ table_no_fault bytes J rest fault p w =
 
 -- ---- one fault
 
-goes_on_front : (bytes front rest : List ℕ) → bytes ≡ front ++ rest → EndsAtLast front → GoesOn bytes → ⊥
-goes_on_front bytes front rest e s g = ends_goes_on front rest s (rw (← e) g)
-
 cut_not_large : (bytes : List ℕ) → IsCut bytes → IsTooLarge bytes → ⊥
 cut_not_large bytes c l =
     ⊎_elim (λ g. omega (arith, c.short, g.1, ap length l.split, length-append l.front l.rest))
-    (λ g. goes_on_front bytes l.front l.rest l.split g.0 c.goes_on) l.large
+    (λ g. ends_goes_on l.front l.rest g.0 (rw (← l.split) c.goes_on)) l.large
 
 number_fault_unique : (bytes : List ℕ) (place : ℕ) (f g : NameFault) → NumberFault bytes place f → NumberFault bytes place g → f ≡ g
 number_fault_unique bytes place (Truncated a) (Truncated b) p q = ap (λ i. Truncated i) (p.0 ∙ sym q.0)

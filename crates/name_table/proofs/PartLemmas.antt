@@ -43,10 +43,6 @@ past_text s tail rest text place size p e l u =
       place = omega (arith, p.place, l, ap length p.spelled.split, length-append p.spelled.front tail, ap length b.split, length-append b.front rest, ap length e, length-append text rest);
     }
 
--- one pair, its key and its value
-pub begins_pair : (bytes middle rest : List ℕ) (pair : List ℕ × List ℕ) → Begins bytes (text_parts pair.0) middle → Begins middle (text_parts pair.1) rest → Begins bytes (pair_parts (pair ∷ [])) rest
-begins_pair bytes middle rest pair p q = begins_then bytes middle rest (text_parts pair.0) (text_parts pair.1) p q
-
 -- what follows some parts begins where these end
 pub begins_split : (bytes rest : List ℕ) (xs ys : List Part) → Begins bytes (xs ++ ys) rest → (middle : List ℕ) × Begins bytes xs middle × Begins middle ys rest
 begins_split bytes rest xs ys p =

@@ -5,11 +5,11 @@ use Rattle.std.proofs.lemmas.List.{length-replicate}
 use Rattle.name_table.specs.Faults.{Fault, PartFault, AreOfPairs, AreOfText, NextFault, PairsFault}
 use Rattle.name_table.specs.Parts.{Part, Begins, text_parts, pair_parts}
 use Rattle.name_table.specs.Position.{IsPast, Position}
-use Rattle.name_table.specs.ReadOn.{IsReadOn, begins_none, begins_pairs, pair_parts-append}
+use Rattle.name_table.specs.ReadOn.{IsReadOn, begins_none, begins_pairs, begins_then, pair_parts-append}
 use Rattle.name_table.specs.Remaining.{Remaining, shown, CanBeRead, AllCanBeRead, IsNext}
 use Rattle.name_table.specs.declared.fault.NameFault.{NameFault}
 use Rattle.name_table.proofs.FaultLemmas.{fault_behind, fault_where, fault_wider}
-use Rattle.name_table.proofs.PartLemmas.{begins_pair, begins_split}
+use Rattle.name_table.proofs.PartLemmas.{begins_split}
 use Rattle.name_table.proofs.Unique.{Agree, agree_pairs, begins_unique, fault_past}
 
 -- ---- none is due
@@ -50,7 +50,7 @@ position s = record { rest = s.rest; place = s.place }
 -- from the texts of its key and its value
 pub is_next : (s : Remaining) (key value : List ℕ) (middle behind : Position) → IsPast (position s) middle (text_parts key) → IsPast middle behind (text_parts value) → s.left ≢ 0 → IsNext s (record { rest = behind.rest; place = behind.place; left = s.left - 1 }) (key, value)
 is_next s key value middle behind k v h =
-    let b = begins_pair s.rest middle.rest behind.rest (key, value) k.spelled v.spelled in
+    let b = begins_then s.rest middle.rest behind.rest (text_parts key) (text_parts value) k.spelled v.spelled in
     record {
       spelled = b;
       place = omega (arith, k.place, v.place, ap length b.split, length-append b.front behind.rest, ap length k.spelled.split, length-append k.spelled.front middle.rest, ap length v.spelled.split, length-append v.spelled.front behind.rest);

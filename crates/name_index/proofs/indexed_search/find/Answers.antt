@@ -1,7 +1,8 @@
+use Rattle.litemap_store.proofs.Counting.{always_on_err}
 use Rattle.std.proofs.Common.{◌+◌, ◌-◌, ◌/◌, ◌∙◌, Ok, Err, arith, sym}
 use Rattle.litemap_store.proofs.Splitting.{Splits-from_Finds}
 use Rattle.name_index.proofs.Halving.{halved_asked, halved_cost, halved_end, halved_equal, halved_greater, halved_less, halved_start}
-use Rattle.name_index.proofs.Indexing.{key_of, known_of, no_index, whatever_fault}
+use Rattle.name_index.proofs.Indexing.{key_of, known_of, no_index}
 use Rattle.name_index.proofs.Scanning.{one_side}
 use Rattle.name_index.proofs.indexed_search.find.Goals as goal
 
@@ -11,7 +12,7 @@ loop-low-init c = halved_start _ _ _ _ (λ x. known_of c.requires x c.args.key.n
 pub returns-in_err-name-clause-fault : goal.returns-in_err-name-clause-fault
 returns-in_err-name-clause-fault c =
     let middle = c.loop-low.low + (c.loop-low.high - c.loop-low.low) / 2 in
-    whatever_fault c.from_residual.result (no_index _ _ middle c.requires (omega arith) c.in_err-name.ensures.fault)
+    always_on_err c.from_residual.result (no_index _ _ middle c.requires (omega arith) c.in_err-name.ensures.fault)
 
 pub loop-low-preserved-in-Less : goal.loop-low-preserved-in-Less
 loop-low-preserved-in-Less c =

@@ -1,13 +1,14 @@
+use Rattle.litemap_store.proofs.Counting.{always_on_err}
 use Rattle.std.proofs.Common.{◌<◌, sym}
 use Rattle.std.proofs.lemmas.Result.{IfOk-at_ok}
-use Rattle.name_index.proofs.Indexing.{entry_is, no_index, whatever_fault}
+use Rattle.name_index.proofs.Indexing.{entry_is, no_index}
 use Rattle.name_index.proofs.Scanning.{value_at_split}
 use Rattle.name_index.proofs.indexed.IndexedNames.get_counted.Goals as goal
 
 pub returns-in_err-value-in-Ok-clause-fault : goal.returns-in_err-value-in-Ok-clause-fault
 returns-in_err-value-in-Ok-clause-fault c =
     let l : c.in-Ok.index < c.self.inside.size = IfOk-at_ok (λ i. i < c.self.inside.size) c.in-Ok.is c.in_ok-index.ensures.within in
-    whatever_fault c.from_residual-in_err-value-in-Ok.result (rw (← c.self.view_is) (no_index _ _ c.in-Ok.index c.self.invariant l c.in_err-value-in-Ok.ensures.fault))
+    always_on_err c.from_residual-in_err-value-in-Ok.result (rw (← c.self.view_is) (no_index _ _ c.in-Ok.index c.self.invariant l c.in_err-value-in-Ok.ensures.fault))
 
 pub returns-in_ok-value-in-Ok-clause-value : goal.returns-in_ok-value-in-Ok-clause-value
 returns-in_ok-value-in-Ok-clause-value c =
