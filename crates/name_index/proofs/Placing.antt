@@ -10,6 +10,7 @@ use Rattle.litemap_store.specs.Splits.{Splits}
 use Rattle.litemap_store.specs.declared.count.Count.{Count}
 use Rattle.litemap_store.specs.Search.{Ascends, Finds}
 use Rattle.litemap_store.proofs.Splitting.{Splits-from_Finds}
+use Rattle.name_table.specs.Numbers.{number_limit}
 use Rattle.name_table.proofs.PartLemmas.{begins_split}
 use Rattle.name_table.specs.ReadOn.{begins_none, begins_pairs}
 use Rattle.name_table.proofs.Unique.{agree_pairs, begins_unique}
@@ -63,7 +64,7 @@ noted_start entries count these = record {
 pub place_is_front : (entries : List ℕ) (count : ℕ) (places rest : List ℕ) (index place : ℕ) → (n : Noted entries count places rest index) → place + length rest ≡ length entries → length n.read.front ≡ place
 place_is_front entries count places rest index place n e = omega (arith, e, ap length n.read.split, length-append n.read.front rest)
 
-pub far_here : (entries : List ℕ) (count : ℕ) (places rest : List ℕ) (index : ℕ) → Noted entries count places rest index → index < count → 4294967296 + length rest ≤ length entries → AreFar entries count
+pub far_here : (entries : List ℕ) (count : ℕ) (places rest : List ℕ) (index : ℕ) → Noted entries count places rest index → index < count → number_limit + length rest ≤ length entries → AreFar entries count
 far_here entries count places rest index n l h = record {
   before = n.before;
   rest = rest;
@@ -72,7 +73,7 @@ far_here entries count places rest index n l h = record {
   far = omega (arith, h, ap length n.read.split, length-append n.read.front rest);
 }
 
-pub noted_next : (entries : List ℕ) (count : ℕ) (places rest : List ℕ) (index place : ℕ) (pair : List ℕ × List ℕ) (behind : List ℕ) → (n : Noted entries count places rest index) → index < count → place + length rest ≡ length entries → place < 4294967296 → Begins rest (pair_parts (pair ∷ [])) behind → Noted entries count (places ++ place ∷ []) behind (index + 1)
+pub noted_next : (entries : List ℕ) (count : ℕ) (places rest : List ℕ) (index place : ℕ) (pair : List ℕ × List ℕ) (behind : List ℕ) → (n : Noted entries count places rest index) → index < count → place + length rest ≡ length entries → place < number_limit → Begins rest (pair_parts (pair ∷ [])) behind → Noted entries count (places ++ place ∷ []) behind (index + 1)
 noted_next entries count places rest index place pair behind n within e small b =
     let l : index < length n.these.pairs = omega (arith, within, n.these.count_is) in
     let f = place_is_front entries count places rest index place n e in

@@ -8,6 +8,7 @@ use Rattle.std.specs.Option.{option_map}
 use Rattle.std.proofs.lemmas.Option.{get_or_from_slice_get, slice_get-get_or, slice_get-map, slice_get_within}
 use Rattle.litemap.specs.ByBytes.{by_bytes}
 use Rattle.litemap_store.specs.Pairs.{Rising}
+use Rattle.name_table.specs.Numbers.{number_limit}
 use Rattle.name_index.specs.Index.{BeginsAt, IsIndex, IsNumberAt, IsPairAt, IsTextAt}
 use Rattle.name_index.specs.Tables.{text_order}
 use Rattle.name_table.specs.Reads.{Text}
@@ -125,22 +126,22 @@ length_less : (pairs : List (List ℕ × List ℕ)) → length pairs ≤ entries
 length_less [] = omega arith
 length_less (p ∷ pairs) = omega (arith, sum_by-cons pair_size p pairs, length_less pairs)
 
-pub too_many : (pairs : List (Text × Text)) → 4294967296 ≤ length pairs → 4294967296 ≤ entries_size (map shown pairs)
+pub too_many : (pairs : List (Text × Text)) → number_limit ≤ length pairs → number_limit ≤ entries_size (map shown pairs)
 too_many pairs h = omega (arith, h, length_less (map shown pairs), length-map pairs shown)
 
 -- where a pair is too large, all are
 module _ (pairs : List (Text × Text)) (index : ℕ) (d : Text × Text) (l : index < length pairs) where
-  pub too_large_at : 4294967296 ≤ pair_size (shown (get_or pairs index d)) → 4294967296 ≤ entries_size (map shown pairs)
+  pub too_large_at : number_limit ≤ pair_size (shown (get_or pairs index d)) → number_limit ≤ entries_size (map shown pairs)
   too_large_at h = omega (arith, h, size_within (map shown pairs) index (shown (get_or pairs index d)) (shown_at pairs index d l))
 
-  pub too_far_at : (place : ℕ) → place ≡ entries_size (take index (map shown pairs)) → 4294967296 ≤ place + pair_size (shown (get_or pairs index d)) → 4294967296 ≤ entries_size (map shown pairs)
+  pub too_far_at : (place : ℕ) → place ≡ entries_size (take index (map shown pairs)) → number_limit ≤ place + pair_size (shown (get_or pairs index d)) → number_limit ≤ entries_size (map shown pairs)
   too_far_at place e h = omega (arith, e, h, size_within (map shown pairs) index (shown (get_or pairs index d)) (shown_at pairs index d l))
 
 pub place_next : (pairs : List (Text × Text)) (index : ℕ) (d : Text × Text) (place next : ℕ) → index < length pairs → place ≡ entries_size (take index (map shown pairs)) → next ≡ place + pair_size (shown (get_or pairs index d)) → next ≡ entries_size (take (index + 1) (map shown pairs))
 place_next pairs index d place next l e n =
     n ∙ ap (λ k. k + pair_size (shown (get_or pairs index d))) e ∙ sym (size_more (map shown pairs) index (shown (get_or pairs index d)) (shown_at pairs index d l))
 
-pub all_small : (pairs : List (Text × Text)) (index place : ℕ) → index ≡ length pairs → place ≡ entries_size (take index (map shown pairs)) → place < 4294967296 → entries_size (map shown pairs) < 4294967296
+pub all_small : (pairs : List (Text × Text)) (index place : ℕ) → index ≡ length pairs → place ≡ entries_size (take index (map shown pairs)) → place < number_limit → entries_size (map shown pairs) < number_limit
 all_small pairs index place i e h =
     let a : take index (map shown pairs) ≡ map shown pairs = take_all index (map shown pairs) (omega (arith, i, length-map pairs shown)) in
     omega (arith, h, e, ap entries_size a)

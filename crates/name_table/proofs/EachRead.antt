@@ -5,7 +5,7 @@ use Rattle.std.proofs.lemmas.List.{length-take-le, take-append-drop}
 use Rattle.std.proofs.lemmas.Str.{IsUtf8-from_is_utf8, is_utf8-from_IsUtf8}
 use Rattle.std.specs.Str.{is_utf8}
 use Rattle.name_table.specs.Faults.{AreOfPairs, AreOfText, Fault, NumberFault, TableFault}
-use Rattle.name_table.specs.Numbers.{BeginsNumber, WhyUnread}
+use Rattle.name_table.specs.Numbers.{BeginsNumber, WhyUnread, number_limit}
 use Rattle.name_table.specs.Parts.{Begins, Number, pair_parts, table_parts, text_parts}
 use Rattle.name_table.specs.Position.{Position}
 use Rattle.name_table.specs.Remaining.{IsCounted, IsNext, Remaining}
@@ -33,8 +33,8 @@ number_read (suc room) (b ∷ bytes) =
     let less : suc room - 1 ≡ room = omega arith in
     let more : 128 ≤ b → NumberRead room bytes → NumberRead (suc room) (b ∷ bytes) = λ h.
     ⊎_elim
-    (λ r. let P : ℕ → Type 0 = λ m. BeginsNumber bytes m r.0 r.1 in inl (b % 128 + 128 * r.0, r.1, begins_more (b ∷ bytes) bytes b b (suc room) refl refl k r.0 r.1 h (subst P (sym less) r.2)))
-    (λ w. let P : ℕ → Type 0 = λ m. WhyUnread w.0 m bytes in inr (w.0, unread_more (b ∷ bytes) bytes b b (suc room) refl refl k w.0 h (subst P (sym less) w.1))) in
+    (λ r. inl (b % 128 + 128 * r.0, r.1, begins_more (b ∷ bytes) bytes b b (suc room) refl refl k r.0 r.1 h (rw less r.2)))
+    (λ w. inr (w.0, unread_more (b ∷ bytes) bytes b b (suc room) refl refl k w.0 h (rw less w.1))) in
     ⊎_elim (λ h. inl (b, bytes, begins_last (b ∷ bytes) bytes b b (suc room) refl refl k h)) (λ h. more h (number_read room bytes)) (cases_lt b 128)
 
 -- a number below 2^32
@@ -51,7 +51,7 @@ length_read bytes place =
     (λ r. ⊎_elim
     (λ h. inl (r.0, r.1, begins_number bytes r.1 r.0 r.2 h))
     (λ h. inr (NumberTooLarge place, large_fault bytes r.1 r.0 place r.2 h))
-    (cases_lt r.0 4294967296))
+    (cases_lt r.0 number_limit))
     (λ w. inr (unread_fault w.0 bytes place w.1))
     (number_read 5 bytes)
 

@@ -2,7 +2,7 @@
 use Rattle.std.proofs.Common.{◌≡◌, ◌≢◌, ℕ, ◌+◌, ◌-◌, ◌*◌, ◌%◌, ◌^◌, ◌<◌, ◌≤◌, List, [], ◌∷◌, length, refl, sym, ap, ◌∙◌, arith, inl, inr, append-nil}
 use Rattle.std.proofs.Math.Nat.{pow-succ', pow-le-pow_right}
 use Rattle.name_table.specs.Faults.{NumberFault}
-use Rattle.name_table.specs.Numbers.{value_of, EndsAtLast, BeginsNumber, WhyUnread}
+use Rattle.name_table.specs.Numbers.{value_of, EndsAtLast, BeginsNumber, WhyUnread, number_limit}
 use Rattle.name_table.specs.Parts.{Begins, Number}
 use Rattle.name_table.specs.declared.fault.NameFault.TheVariants.{Truncated, NumberTooLarge}
 use Rattle.name_table.specs.declared.number.Unread.{Unread}
@@ -48,14 +48,14 @@ module _ (bytes tail : List ℕ) (b low room : ℕ) (e : bytes ≡ b ∷ tail) (
   unread_more TooLong h w = (b ∷ w.0, w.1, e ∙ ap (λ bs. b ∷ bs) w.2, (omega (arith, h, l), w.3), omega (arith, w.4, k))
 
 -- a number below 2^32
-pub begins_number : (bytes rest : List ℕ) (n : ℕ) → BeginsNumber bytes 5 n rest → n < 4294967296 → Begins bytes (Number n ∷ []) rest
+pub begins_number : (bytes rest : List ℕ) (n : ℕ) → BeginsNumber bytes 5 n rest → n < number_limit → Begins bytes (Number n ∷ []) rest
 begins_number bytes rest n r h = record {
   front = r.front;
   split = r.split;
   spelled = (r.front, [], sym (append-nil r.front), record { ends = r.ends; value = r.value; short = r.short; small = h }, refl);
 }
 
-pub large_fault : (bytes rest : List ℕ) (n place : ℕ) → BeginsNumber bytes 5 n rest → 4294967296 ≤ n → NumberFault bytes place (NumberTooLarge place)
+pub large_fault : (bytes rest : List ℕ) (n place : ℕ) → BeginsNumber bytes 5 n rest → number_limit ≤ n → NumberFault bytes place (NumberTooLarge place)
 large_fault bytes rest n place r h =
     (refl, record { front = r.front; rest = rest; split = r.split; large = inr (r.ends, r.short, omega (arith, r.value, h)) })
 
