@@ -9,7 +9,8 @@ use Rattle.serde_json.specs.Data.{Data, array, object, Members, no_members, memb
 use Rattle.litemap_store.specs.Last.{In, StandsLast, Last}
 use Rattle.litemap_store.specs.Pairs.{Rising}
 use Rattle.litemap_store.proofs.LastPairs.{In-from_last, Last-rising}
-use Rattle.litemap_store.proofs.Membership.{In-get_or, each, from_each}
+use Rattle.litemap_store.proofs.Membership.{In-cases, In-get_or, In-left, In-right, each, from_each}
+use Rattle.litemap_store.proofs.Splitting.{each-append}
 use Rattle.litemap_json.specs.declared.item.ItemFault.{ItemFault}
 use Rattle.litemap_json.specs.Json.{rows, row_pairs, member_pairs}
 use Rattle.litemap_json.specs.Reading.{AllReadBack, ReadsAs, ReadsBack, seen}
@@ -92,12 +93,10 @@ module _ {K V : Type 0} (cmp : K → K → Ordering) (total : IsTotalOrder cmp) 
   gathered_none = ([], tt, λ p. (λ i. i, λ i. i), tt)
 
   in_end : (x p : K × V) (done : List (K × V)) → ((x ≡ p) ⊎ In p done) ↔ In p (done ++ x ∷ [])
-  in_end x p [] = (λ i. i, λ i. i)
-  in_end x p (q ∷ done) =
-      let more = in_end x p done in (
-        λ i. elim i [ inl e ↦ inr (more.0 (inl e)) | inr j ↦ elim j [ inl e ↦ inl e | inr k ↦ inr (more.0 (inr k)) ] ],
-        λ i. elim i [ inl e ↦ inr (inl e) | inr j ↦ elim (more.1 j) [ inl e ↦ inl e | inr k ↦ inr (inr k) ] ],
-      )
+  in_end x p done = (
+    λ i. elim i [ inl e ↦ In-right done (x ∷ []) p (inl e) | inr j ↦ In-left done (x ∷ []) p j ],
+    λ i. elim (In-cases done (x ∷ []) p i) [ inl j ↦ inr j | inr j ↦ elim j [ inl e ↦ inl e | inr k ↦ absurd k ] ],
+  )
 
   pub gathered_more : (told : (x y : K) → key_json x ≡ key_json y → cmp x y ≡ Equal) (x : K × V) (s : List ℕ) → text x.0 ≡ Some s → key s ≡ Some (key_json x.0) → json_item (json x.1) ≡ Ok (json x.1)
       → (ms : Members) (done : List (K × V)) → Gathered ms done → ((q : K × V) → In q done → cmp x.0 q.0 ≢ Equal) → Gathered (put s (json x.1) ms) (done ++ x ∷ [])
@@ -140,10 +139,6 @@ module _ {K V : Type 0} (cmp : K → K → Ordering) (total : IsTotalOrder cmp) 
   pub object_end : (L : List (K × V)) (i : ℕ) (ms : Members) (d : Data) → length L ≤ i → Rising cmp L → d ≡ object ms → Gathered ms (take i L) → ReadsAs cmp key key_item json_item key_json json d L
   object_end L i ms d h r e g = rw e (object_again ms L r (subst (λ done. Gathered ms done) (take_all i L h) g))
 
-  readable_end : (x : K × V) (done : List (K × V)) → AllReadBack key_item json_item key_json json done → ReadsBack key_item json_item key_json json x → AllReadBack key_item json_item key_json json (done ++ x ∷ [])
-  readable_end x [] all here = (here, tt)
-  readable_end x (p ∷ done) all here = (all.0, readable_end x done all.1 here)
-
   pub array_step : (L : List (K × V)) (i : ℕ) (x : K × V) → i < length L → x ≡ get_or L i x → AllReadBack key_item json_item key_json json (take i L) → ReadsBack key_item json_item key_json json x
       → AllReadBack key_item json_item key_json json (take (i + 1) L)
-  array_step L i x h e all here = subst (λ done. AllReadBack key_item json_item key_json json done) (sym (take_next L i x h e)) (readable_end x (take i L) all here)
+  array_step L i x h e all here = subst (λ done. AllReadBack key_item json_item key_json json done) (sym (take_next L i x h e)) (each-append (ReadsBack key_item json_item key_json json) (take i L) (x ∷ []) all (here, tt))
