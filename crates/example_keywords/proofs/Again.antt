@@ -14,7 +14,7 @@ use Rattle.litemap_store.specs.Last.{In}
 use Rattle.litemap_store.specs.Pairs.{at}
 use Rattle.litemap_store.proofs.LastLookups.{at-Rising}
 use Rattle.litemap_store.proofs.LastPairs.{same_rising}
-use Rattle.litemap_store.proofs.Splitting.{each-append}
+use Rattle.litemap_store.proofs.Splitting.{each-append, each-weaker}
 use Rattle.example_keywords.specs.Keywords.{AreCanonical, IsFault, IsKeyword, IsRead, Keyword, Rise, Spells, canonical, is_key, is_value_part, joined, keyword_parts, pair_of, parts_of, size_of, value_of}
 use Rattle.example_keywords.specs.Reading.{NoValueFirst}
 use Rattle.example_keywords.specs.Written.{IsReadAgain, if_some, printed}
@@ -27,14 +27,10 @@ AreParts value = AllByRecursion (λ part. IsTrue (is_value_part part)) value
 
 -- ---- one list of keywords
 
-NoDash-value : (value : List (List ℕ)) → AreParts value → AllByRecursion NoDash value
-NoDash-value [] h = tt
-NoDash-value (part ∷ value) h = (NoDash-part part h.0, NoDash-value value h.1)
-
 NoDash-keywords : (ks : List Keyword) → AllByRecursion IsKeyword ks → AllByRecursion NoDash (keyword_parts ks)
 NoDash-keywords [] h = tt
 NoDash-keywords (k ∷ ks) h =
-    (NoDash-key k.key h.0.0, each-append NoDash k.value (keyword_parts ks) (NoDash-value k.value h.0.1) (NoDash-keywords ks h.1))
+    (NoDash-key k.key h.0.0, each-append NoDash k.value (keyword_parts ks) (each-weaker NoDash-part k.value h.0.1) (NoDash-keywords ks h.1))
 
 -- the parts of a text that spells some keywords
 parts_spelled : (text : List ℕ) (k : Keyword) (ks : List Keyword) → Spells text (k ∷ ks) → parts_of text ≡ keyword_parts (k ∷ ks)
@@ -57,12 +53,10 @@ NoValueFirst-keywords (k ∷ ks) h = no_value_key k.key h.0.0
 -- where values end is one place
 values_end : (v w r s : List (List ℕ)) → AreParts v → AreParts w → NoValueFirst r → NoValueFirst s → v ++ r ≡ w ++ s → (v ≡ w) × (r ≡ s)
 values_end [] [] r s p q m n e = (refl, e)
-values_end [] (y ∷ w) [] s p q m n e = cc
 values_end [] (y ∷ w) (x ∷ r) s p q m n e =
     let f : x ≡ y = cc in
     let t : is_value_part x ≡ true = subst (λ z. is_value_part z ≡ true) (sym f) q.0 in
     cc
-values_end (x ∷ v) [] r [] p q m n e = cc
 values_end (x ∷ v) [] r (y ∷ s) p q m n e =
     let f : y ≡ x = cc in
     let t : is_value_part y ≡ true = subst (λ z. is_value_part z ≡ true) (sym f) p.0 in
@@ -72,17 +66,17 @@ values_end (x ∷ v) (y ∷ w) r s p q m n e =
     let g : v ++ r ≡ w ++ s = cc in
     let h = values_end v w r s p.1 q.1 m n g in
     (ap (λ t. x ∷ t) h.0 ∙ ap (λ z. z ∷ w) f, h.1)
+values_end _ _ _ _ p q m n e = cc
 
 keywords_unique : (ks ls : List Keyword) → AllByRecursion IsKeyword ks → AllByRecursion IsKeyword ls → keyword_parts ks ≡ keyword_parts ls → ks ≡ ls
 keywords_unique [] [] h i e = refl
-keywords_unique [] (l ∷ ls) h i e = cc
-keywords_unique (k ∷ ks) [] h i e = cc
 keywords_unique (k ∷ ks) (l ∷ ls) h i e =
     let f : k.key ≡ l.key = cc in
     let g : k.value ++ keyword_parts ks ≡ l.value ++ keyword_parts ls = cc in
     let v = values_end k.value l.value (keyword_parts ks) (keyword_parts ls) h.0.1 i.0.1 (NoValueFirst-keywords ks h.1) (NoValueFirst-keywords ls i.1) g in
     let same : k ≡ l = ap (λ (x : List ℕ). record k { key = x }) f ∙ ap (λ (x : List (List ℕ)). record l { value = x }) v.0 in
     ap (λ x. x ∷ ks) same ∙ ap (λ t. l ∷ t) (keywords_unique ks ls h.1 i.1 v.1)
+keywords_unique _ _ h i e = cc
 
 pub spelled_unique : (text : List ℕ) (ks ls : List Keyword) → Spells text ks → Spells text ls → ks ≡ ls
 spelled_unique text [] [] s t = refl
@@ -119,13 +113,9 @@ read_unique text J K r s =
 abbrev IsGood : List ℕ → Type 0
 IsGood part = (is_key part ≡ true) ⊎ (is_value_part part ≡ true)
 
-good_value : (value : List (List ℕ)) → AreParts value → AllByRecursion IsGood value
-good_value [] h = tt
-good_value (part ∷ value) h = (inr h.0, good_value value h.1)
-
 good_keywords : (ks : List Keyword) → AllByRecursion IsKeyword ks → AllByRecursion IsGood (keyword_parts ks)
 good_keywords [] h = tt
-good_keywords (k ∷ ks) h = (inl h.0.0, each-append IsGood k.value (keyword_parts ks) (good_value k.value h.0.1) (good_keywords ks h.1))
+good_keywords (k ∷ ks) h = (inl h.0.0, each-append IsGood k.value (keyword_parts ks) (each-weaker (λ part v. inr v) k.value h.0.1) (good_keywords ks h.1))
 
 good_behind : (front : List (List ℕ)) (part : List ℕ) (behind : List (List ℕ)) → AllByRecursion IsGood (front ++ part ∷ behind) → IsGood part
 good_behind [] part behind h = h.0

@@ -32,12 +32,10 @@ lowered_twice (b ∷ bytes) =
     ap (λ x. x ∷ map to_ascii_lowercase (map to_ascii_lowercase bytes)) (lower_twice b) ∙ ap (λ t. to_ascii_lowercase b ∷ t) (lowered_twice bytes)
 
 pub lowered_key : (key : List ℕ) → IsTrue (is_key key) → IsTrue (is_key (map to_ascii_lowercase key))
-lowered_key [] h = h
-lowered_key (a ∷ []) h = h
 lowered_key (a ∷ b ∷ []) h =
     let p = and_parts (is_ascii_alphanumeric a) (is_ascii_alphabetic b) h in
     rw (lower a p.0, lower_letter b p.1) refl
-lowered_key (a ∷ b ∷ c ∷ key) h = h
+lowered_key _ h = h
 
 lowered_all : (part : List ℕ) → list_all is_ascii_alphanumeric part ≡ true → list_all is_ascii_alphanumeric (map to_ascii_lowercase part) ≡ true
 lowered_all [] h = h
@@ -57,11 +55,10 @@ lowered_parts [] h = tt
 lowered_parts (part ∷ parts) h = (lowered_part part h.0, lowered_parts parts h.1)
 
 pub joined-lowered : (parts : List (List ℕ)) → joined (map (map to_ascii_lowercase) parts) ≡ map to_ascii_lowercase (joined parts)
-joined-lowered [] = refl
-joined-lowered (part ∷ []) = refl
 joined-lowered (part ∷ next ∷ parts) =
     ap (λ t. map to_ascii_lowercase part ++ 45 ∷ t) (joined-lowered (next ∷ parts))
     ∙ sym (map-append to_ascii_lowercase part (45 ∷ joined (next ∷ parts)))
+joined-lowered _ = refl
 
 -- ---- no `-` is in a key or a part of a value
 
@@ -81,24 +78,18 @@ letter : (b : ℕ) → is_ascii_alphabetic b ≡ true → is_ascii_alphanumeric 
 letter b h = grind (arith, nat_tests)
 
 pub NoDash-key : (key : List ℕ) → IsTrue (is_key key) → NoDash key
-NoDash-key [] h = cc
-NoDash-key (a ∷ []) h = cc
 NoDash-key (a ∷ b ∷ []) h =
     let p = and_parts (is_ascii_alphanumeric a) (is_ascii_alphabetic b) h in
     (no_dash a p.0, (no_dash b (letter b p.1), tt))
-NoDash-key (a ∷ b ∷ c ∷ key) h = cc
+NoDash-key _ h = cc
 
 pub no_value_key : (key : List ℕ) → IsTrue (is_key key) → is_value_part key ≡ false
-no_value_key [] h = refl
-no_value_key (a ∷ []) h = refl
-no_value_key (a ∷ b ∷ []) h = refl
 no_value_key (a ∷ b ∷ c ∷ key) h = cc
+no_value_key _ h = refl
 
 -- the bytes of a key in lower case
 pub key_ascii : (key : List ℕ) → IsTrue (is_key key) → (get_or (map to_ascii_lowercase key) 0 0 < 128) × (get_or (map to_ascii_lowercase key) 1 0 < 128)
-key_ascii [] h = cc
-key_ascii (a ∷ []) h = cc
 key_ascii (a ∷ b ∷ []) h =
     let p = and_parts (is_ascii_alphanumeric a) (is_ascii_alphabetic b) h in
     (ascii _ (lower a p.0), ascii _ (lower b (letter b p.1)))
-key_ascii (a ∷ b ∷ c ∷ key) h = cc
+key_ascii _ h = cc

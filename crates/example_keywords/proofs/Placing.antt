@@ -70,8 +70,7 @@ module _ {Z : Type 0} where
         found key Equal e =
             let same : key ≡ k = exact_bytes key k e in
             let s : value_of (map shown L) key ≡ option_or (value_of (map shown L) key) (value_of (pair ∷ []) key) = rw (value_of-shown L key) (some (at by L key) (value_of (pair ∷ []) key) (subst (λ x. IsSome (at by L x)) (sym same) there)) in s
-        found key Less e = rw (other_key key (apart key (λ f. cc))) (sym (option_or-none (value_of (map shown L) key)))
-        found key Greater e = rw (other_key key (apart key (λ f. cc))) (sym (option_or-none (value_of (map shown L) key)))
+        found key _ e = rw (other_key key (apart key (λ f. cc))) (sym (option_or-none (value_of (map shown L) key)))
 
     -- it is not, and the pair is put
     placed : at by L k ≡ None → IsPutFirst (map shown L) pair (map shown (put by L k v))
@@ -88,8 +87,7 @@ module _ {Z : Type 0} where
             let there : value_of (map shown (put by L k v)) key ≡ Some (string_bytes v) = value_of-shown (put by L k v) key ∙ ap (option_map (λ w. string_bytes w)) (subst (λ x. value_at by (put by L k v) x ≡ Some v) same (value_at-put nat_list_cmp_total k L v)) in
             let none : value_of (map shown L) key ≡ None = value_of-shown L key ∙ subst (λ x. option_map (λ w. string_bytes w) (option_map (λ p. p.1) (at by L x)) ≡ None) same (ap (λ o. option_map (λ w. string_bytes w) (option_map (λ p. p.1) o)) absent) in
             there ∙ sym (same_key key (alike key e)) ∙ ap (λ o. option_or o (value_of (pair ∷ []) key)) (sym none)
-        found key Less e = others key (λ f. cc)
-        found key Greater e = others key (λ f. cc)
+        found key _ e = others key (λ f. cc)
 
         known : (p : List ℕ × List ℕ) → In p (map shown (put by L k v)) → In p (map shown L) ⊎ (p ≡ pair)
         known p i =

@@ -1,11 +1,15 @@
 -- Keywords, written one by one.
 use Rattle.std.proofs.Common.{◌≡◌, ℕ, zero, suc, ◌+◌, ◌<◌, List, [], ◌∷◌, ◌++◌, Some, String, map, take, get_or, sym, ap, ◌∙◌, subst, append_assoc, append-nil, IsTrue, add-one, slice_get, string_bytes}
-use Rattle.std.proofs.lemmas.List.{map-append}
+use Rattle.std.proofs.lemmas.List.{map-append, take_more}
+use Rattle.std.proofs.lemmas.Option.{get_or_from_slice_get, slice_get_within}
+use Rattle.litemap_store.proofs.Joined.{In-slice_get}
+use Rattle.litemap_store.proofs.Membership.{each}
 use Rattle.std.specs.Char.{to_ascii_lowercase}
 use Rattle.example_keywords.specs.Keywords.{AreCanonical, IsKeyword, Keyword, is_key, joined, pair_of}
 use Rattle.example_keywords.specs.Reading.{shown}
 use Rattle.example_keywords.specs.Written.{if_some, printed, printed_on, with_part}
 use Rattle.example_keywords.proofs.Cases.{key_ascii}
+use Rattle.example_keywords.proofs.Placing.{shown-In}
 use Rattle.example_keywords.proofs.Splitting.{FirstSome, with_part-joined}
 
 -- the pair of some keyword
@@ -31,11 +35,6 @@ printed_on-joined parts key (b ∷ value) f g =
     ∙ ap joined (append_assoc parts (key ∷ []) ((b ∷ value) ∷ []))
 
 module _ {Z : Type 0} where
-  take_next : (L : List (List ℕ × String Z)) (i : ℕ) (p : List ℕ × String Z) → slice_get L i ≡ Some p → take (suc i) L ≡ take i L ++ p ∷ []
-  take_next [] i p e = cc
-  take_next (q ∷ L) zero p e = let f : q ≡ p = cc in ap (λ x. x ∷ []) f
-  take_next (q ∷ L) (suc i) p e = ap (λ t. q ∷ t) (take_next L i p e)
-
   firsts : (L : List (List ℕ × String Z)) (i : ℕ) (p : List ℕ × String Z) → AreCanonical (map shown L) → slice_get L i ≡ Some p → FirstSome (printed (map shown (take i L))) × FirstSome (printed (map shown (take i L)) ++ p.0 ∷ [])
   firsts [] i p h e = cc
   firsts (q ∷ L) zero p h e = let f : q ≡ p = cc in (tt, subst (λ (x : List ℕ × String Z). FirstSome (x.0 ∷ [])) f (key_first (shown q) [] h.0))
@@ -44,18 +43,15 @@ module _ {Z : Type 0} where
 
   -- the bytes of a key
   pub ascii_at : (L : List (List ℕ × String Z)) (i : ℕ) (p : List ℕ × String Z) → AreCanonical (map shown L) → slice_get L i ≡ Some p → (get_or p.0 0 0 < 128) × (get_or p.0 1 0 < 128)
-  ascii_at [] i p h e = cc
-  ascii_at (q ∷ L) zero p h e =
-      let f : q ≡ p = cc in
-      let g : (pair_of h.0.0).0 ≡ p.0 = ap (λ (x : List ℕ × List ℕ). x.0) h.0.2 ∙ ap (λ (x : List ℕ × String Z). x.0) f in
-      subst (λ key. (get_or key 0 0 < 128) × (get_or key 1 0 < 128)) g (key_ascii h.0.0.key h.0.1.0)
-  ascii_at (q ∷ L) (suc i) p h e = ascii_at L i p h.1 e
+  ascii_at L i p h e =
+      let k = each IsPair (map shown L) h (shown p) (shown-In L p (In-slice_get L i p e)) in
+      subst (λ (x : List ℕ × List ℕ). (get_or x.0 0 0 < 128) × (get_or x.0 1 0 < 128)) k.2 (key_ascii k.0.key k.1.0)
 
   -- one more keyword is written
   pub printed_more : (L : List (List ℕ × String Z)) (i : ℕ) (p : List ℕ × String Z) (text new : List ℕ) → AreCanonical (map shown L) → slice_get L i ≡ Some p → text ≡ joined (printed (map shown (take i L))) → new ≡ printed_on text (p.0, string_bytes p.1) → new ≡ joined (printed (map shown (take (i + 1) L)))
   printed_more L i p text new h e t n =
       let f = firsts L i p h e in
-      let taken : take (i + 1) L ≡ take i L ++ p ∷ [] = rw add-one (take_next L i p e) in
+      let taken : take (i + 1) L ≡ take i L ++ p ∷ [] = take_more L i p (slice_get_within L i p e) ∙ ap (λ x. take i L ++ x ∷ []) (get_or_from_slice_get L i p p e) in
       n ∙ ap (λ x. printed_on x (p.0, string_bytes p.1)) t ∙ printed_on-joined (printed (map shown (take i L))) p.0 (string_bytes p.1) f.0 f.1
       ∙ ap joined (sym (printed-append (map shown (take i L)) (shown p)))
       ∙ ap (λ M. joined (printed M)) (sym (map-append shown (take i L) (p ∷ [])))

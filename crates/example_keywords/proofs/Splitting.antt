@@ -52,9 +52,8 @@ tailed-append (x ∷ xs) ys = ap (λ t. 45 ∷ (x ++ t)) (tailed-append xs ys) �
 
 -- the first part, if there is one, is not empty
 abbrev pub FirstSome : List (List ℕ) → Type 0
-FirstSome [] = Unit {0}
 FirstSome ([] ∷ parts) = ⊥
-FirstSome ((b ∷ part) ∷ parts) = Unit {0}
+FirstSome _ = Unit {0}
 
 pub with_part-joined : (parts : List (List ℕ)) (part : List ℕ) → FirstSome parts → with_part (joined parts) part ≡ joined (parts ++ part ∷ [])
 with_part-joined [] part h = refl
@@ -82,9 +81,8 @@ size_of-append [] ys = omega arith
 size_of-append (x ∷ xs) ys = omega (arith, size_of-append xs ys)
 
 size_of-onto : (b : ℕ) (t : Bool) (parts : List (List ℕ)) (n : ℕ) → size_of parts ≡ n + 1 → size_of (cond t ([] ∷ parts) (onto_first b parts)) ≡ suc n + 1
-size_of-onto b true parts n e = omega (arith, e)
 size_of-onto b false [] n e = absurd (omega (arith, e))
-size_of-onto b false (part ∷ parts) n e = omega (arith, e)
+size_of-onto b _ _ n e = omega (arith, e)
 
 pub size_of-parts : (text : List ℕ) → size_of (parts_of text) ≡ length text + 1
 size_of-parts [] = omega arith

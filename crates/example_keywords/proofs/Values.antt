@@ -8,9 +8,8 @@ use Rattle.example_keywords.specs.Written.{with_part}
 use Rattle.example_keywords.proofs.Splitting.{FirstSome, with_part-joined}
 
 pub FirstSome-value : (parts : List (List ℕ)) → AllByRecursion (λ part. IsTrue (is_value_part part)) parts → FirstSome parts
-FirstSome-value [] h = tt
 FirstSome-value ([] ∷ parts) h = cc
-FirstSome-value ((b ∷ part) ∷ parts) h = tt
+FirstSome-value _ h = tt
 
 pub joined_more : (due : Option (List ℕ)) (text rest part new : List ℕ) (more : Option (List ℕ)) → AreJoined due text (Some rest) → parts_of rest ≡ part ∷ parts_in more → is_value_part part ≡ true → new ≡ with_part text part → AreJoined due new more
 joined_more due text rest part new more r e v n = record {

@@ -9,7 +9,8 @@ use Rattle.serde_json.specs.Data.{Data, array, object, Members, no_members, memb
 use Rattle.litemap_store.specs.Last.{In, StandsLast, Last}
 use Rattle.litemap_store.specs.Pairs.{Rising}
 use Rattle.litemap_store.proofs.LastPairs.{In-from_last, Last-rising}
-use Rattle.litemap_store.proofs.Membership.{each, from_each}
+use Rattle.litemap_store.proofs.Membership.{In-cases, In-get_or, In-left, In-right, each, from_each}
+use Rattle.litemap_store.proofs.Splitting.{each-append}
 use Rattle.litemap_json.specs.declared.item.ItemFault.{ItemFault}
 use Rattle.litemap_json.specs.Json.{rows, row_pairs, member_pairs}
 use Rattle.litemap_json.specs.Reading.{AllReadBack, ReadsAs, ReadsBack, seen}
@@ -44,15 +45,13 @@ module _ {K V : Type 0} (cmp : K → K → Ordering) (total : IsTotalOrder cmp) 
   -- the members spell the pairs, one by one
   abbrev pub Spells : List (K × V) → Members → Type 0
   Spells [] no_members = Unit {0}
-  Spells [] (member s d ms) = ⊥
-  Spells (p ∷ ps) no_members = ⊥
   Spells (p ∷ ps) (member s d ms) = (text p.0 ≡ Some s) × (key s ≡ Some (key_json p.0)) × (d ≡ json p.1) × (json_item d ≡ Ok d) × Spells ps ms
+  Spells _ _ = ⊥
 
   pub members_read : (place : ℕ) (J : List (K × V)) (ms : Members) → Spells J ms → member_pairs key key_item json_item place ms ≡ Ok (seen key_json json J)
   members_read place [] no_members h = refl
-  members_read place [] (member s d ms) h = absurd h
-  members_read place (p ∷ ps) no_members h = absurd h
   members_read place (p ∷ ps) (member s d ms) h = rw (h.1, h.3, members_read (place + 1) ps ms h.4, h.2)
+  members_read place _ _ h = absurd h
 
   -- J has x and the pairs of I, and no two equal keys
   abbrev pub Adds : K × V → List (K × V) → Members → Type 0
@@ -83,9 +82,8 @@ module _ {K V : Type 0} (cmp : K → K → Ordering) (total : IsTotalOrder cmp) 
 
     pub adds : (I : List (K × V)) (ms : Members) → Spells I ms → Distinct I → ((q : K × V) → In q I → cmp x.0 q.0 ≢ Equal) → Adds x I (put s (json x.1) ms)
     adds [] no_members h d a = (x ∷ [], (named, known, refl, read, tt), λ p. (λ i. i, λ i. i), (λ r i. absurd i, tt))
-    adds [] (member l e ms) h d a = absurd h
-    adds (q ∷ I) no_members h d a = absurd h
     adds (q ∷ I) (member l e ms) h d a = adds_at (slice_cmp nat_cmp s l) q I l e ms refl h d a (adds I ms h.4 d.1 (λ r i. a r (inr i)))
+    adds _ _ h d a = absurd h
 
   -- the members spell the pairs of `done`, each once
   abbrev pub Gathered : Members → List (K × V) → Type 0
@@ -95,12 +93,10 @@ module _ {K V : Type 0} (cmp : K → K → Ordering) (total : IsTotalOrder cmp) 
   gathered_none = ([], tt, λ p. (λ i. i, λ i. i), tt)
 
   in_end : (x p : K × V) (done : List (K × V)) → ((x ≡ p) ⊎ In p done) ↔ In p (done ++ x ∷ [])
-  in_end x p [] = (λ i. i, λ i. i)
-  in_end x p (q ∷ done) =
-      let more = in_end x p done in (
-        λ i. elim i [ inl e ↦ inr (more.0 (inl e)) | inr j ↦ elim j [ inl e ↦ inl e | inr k ↦ inr (more.0 (inr k)) ] ],
-        λ i. elim i [ inl e ↦ inr (inl e) | inr j ↦ elim (more.1 j) [ inl e ↦ inl e | inr k ↦ inr (inr k) ] ],
-      )
+  in_end x p done = (
+    λ i. elim i [ inl e ↦ In-right done (x ∷ []) p (inl e) | inr j ↦ In-left done (x ∷ []) p j ],
+    λ i. elim (In-cases done (x ∷ []) p i) [ inl j ↦ inr j | inr j ↦ elim j [ inl e ↦ inl e | inr k ↦ absurd k ] ],
+  )
 
   pub gathered_more : (told : (x y : K) → key_json x ≡ key_json y → cmp x y ≡ Equal) (x : K × V) (s : List ℕ) → text x.0 ≡ Some s → key s ≡ Some (key_json x.0) → json_item (json x.1) ≡ Ok (json x.1)
       → (ms : Members) (done : List (K × V)) → Gathered ms done → ((q : K × V) → In q done → cmp x.0 q.0 ≢ Equal) → Gathered (put s (json x.1) ms) (done ++ x ∷ [])
@@ -118,17 +114,12 @@ module _ {K V : Type 0} (cmp : K → K → Ordering) (total : IsTotalOrder cmp) 
   pub object_again : (ms : Members) (L : List (K × V)) → Rising cmp L → Gathered ms L → ReadsAs cmp key key_item json_item key_json json (object ms) L
   object_again ms L r g = record { spelled = g.0; spells = members_read 0 g.0 ms g.1; last = leaves g.0 L r g.3 g.2 }
 
-  in_get_or : (L : List (K × V)) (i : ℕ) (x : K × V) → i < length L → x ≡ get_or L i x → In x L
-  in_get_or [] i x h e = absurd (omega arith)
-  in_get_or (p ∷ ps) zero x h e = inl (sym e)
-  in_get_or (p ∷ ps) (suc i) x h e = inr (in_get_or ps i x (omega arith) e)
-
   -- no pair before x has an equal key
   pub apart_before : (L : List (K × V)) (i : ℕ) (x : K × V) → i < length L → x ≡ get_or L i x → Rising cmp L → (q : K × V) → In q (take i L) → cmp x.0 q.0 ≢ Equal
   apart_before [] i x h e r q j = absurd (omega arith)
   apart_before (p ∷ ps) zero x h e r q j = absurd j
   apart_before (p ∷ ps) (suc i) x h e r q (inl same) =
-      let less : cmp p.0 x.0 ≡ Less = each (λ (y : K × V). cmp p.0 y.0 ≡ Less) ps r.0 x (in_get_or ps i x (omega arith) e) in
+      let less : cmp p.0 x.0 ≡ Less = each (λ (y : K × V). cmp p.0 y.0 ≡ Less) ps r.0 x (subst (λ y. In y ps) (sym e) (In-get_or ps i x (omega arith))) in
       λ equal. (
       let there : cmp x.0 p.0 ≡ Equal = rw same equal in
       let back : cmp p.0 x.0 ≡ Equal = total.antisymm p.0 x.0 ∙ ap ordering_reverse there in
@@ -148,10 +139,6 @@ module _ {K V : Type 0} (cmp : K → K → Ordering) (total : IsTotalOrder cmp) 
   pub object_end : (L : List (K × V)) (i : ℕ) (ms : Members) (d : Data) → length L ≤ i → Rising cmp L → d ≡ object ms → Gathered ms (take i L) → ReadsAs cmp key key_item json_item key_json json d L
   object_end L i ms d h r e g = rw e (object_again ms L r (subst (λ done. Gathered ms done) (take_all i L h) g))
 
-  readable_end : (x : K × V) (done : List (K × V)) → AllReadBack key_item json_item key_json json done → ReadsBack key_item json_item key_json json x → AllReadBack key_item json_item key_json json (done ++ x ∷ [])
-  readable_end x [] all here = (here, tt)
-  readable_end x (p ∷ done) all here = (all.0, readable_end x done all.1 here)
-
   pub array_step : (L : List (K × V)) (i : ℕ) (x : K × V) → i < length L → x ≡ get_or L i x → AllReadBack key_item json_item key_json json (take i L) → ReadsBack key_item json_item key_json json x
       → AllReadBack key_item json_item key_json json (take (i + 1) L)
-  array_step L i x h e all here = subst (λ done. AllReadBack key_item json_item key_json json done) (sym (take_next L i x h e)) (readable_end x (take i L) all here)
+  array_step L i x h e all here = subst (λ done. AllReadBack key_item json_item key_json json done) (sym (take_next L i x h e)) (each-append (ReadsBack key_item json_item key_json json) (take i L) (x ∷ []) all (here, tt))

@@ -25,9 +25,7 @@ module _ {K V : Type 0} (cmp : K → K → Ordering) (total : IsTotalOrder cmp) 
       total.congr x a y (told x a e) ∙ total.antisymm a y ∙ ap ordering_reverse (total.congr y b a (told y b f)) ∙ sym (total.antisymm a b)
 
   in_seen : (qs rs : List (K × V)) (r : K × V) → Sees qs ≡ Sees rs → In r rs → (q : K × V) × In q qs × Alike q r
-  in_seen [] [] r e i = absurd i
   in_seen [] (s ∷ rs) r e i = absurd cc
-  in_seen (q ∷ qs) [] r e i = absurd i
   in_seen (q ∷ qs) (s ∷ rs) r e (inl same) =
       let pair : pair_seen key_json json q ≡ pair_seen key_json json s = cc in
       let keys : key_json q.0 ≡ key_json s.0 = ap (λ (d : Data × Data). d.0) pair in
@@ -37,6 +35,7 @@ module _ {K V : Type 0} (cmp : K → K → Ordering) (total : IsTotalOrder cmp) 
       let rest : Sees qs ≡ Sees rs = cc in
       let found = in_seen qs rs r rest i in
       (found.0, inr found.1, found.2)
+  in_seen _ _ r e i = absurd i
 
   stands : (J I : List (K × V)) (p : K × V) → Sees J ≡ Sees I → StandsLast cmp p J → (q : K × V) × StandsLast cmp q I × Alike p q
   stands [] I p e h = absurd h
@@ -129,11 +128,10 @@ module _ {K V : Type 0} (key_json : K → Data) (json : V → Data) (keys : (x y
 
   pub same_pairs : (L M : List (K × V)) → seen key_json json L ≡ seen key_json json M → L ≡ M
   same_pairs [] [] e = refl
-  same_pairs [] (q ∷ M) e = absurd cc
-  same_pairs (p ∷ L) [] e = absurd cc
   same_pairs (p ∷ L) (q ∷ M) e =
       let here : pair_seen key_json json p ≡ pair_seen key_json json q = cc in
       let rest : seen key_json json L ≡ seen key_json json M = cc in
       let first = same_pair p q here in
       let others = same_pairs L M rest in
       λ i. first i ∷ others i
+  same_pairs _ _ e = absurd cc

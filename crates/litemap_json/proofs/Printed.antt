@@ -1,6 +1,6 @@
 -- Whole numbers as they are printed: each is read back, and in that one spelling.
 use Rattle.std.proofs.Common.{◌≡◌, ℕ, suc, ◌^◌, if◌then◌else◌, ℤ, pos, negsuc, neg_ℤ, List, ◌∷◌, Bool, true, false, Some, None, Result, Ok, Err, decimal, arith, refl, sym, ap, subst, ◌∙◌}
-use Rattle.std.proofs.lemmas.Bool.{lt-ltb, ltb-true, both_ways}
+use Rattle.std.proofs.lemmas.Bool.{ltb-true, both_ways}
 use Rattle.std.proofs.lemmas.Bool.Decides.{Decides-int_eq}
 use Rattle.std.proofs.lemmas.Fmt.{decimal_is_IsNumeral_wide}
 use Rattle.std.proofs.lemmas.Int.{ints}
@@ -29,10 +29,6 @@ parse_printed (negsuc n) s r fits is h =
 fits_w128 : (z : ℤ) → signed_fits 127 z ≡ true → FitsSigned w128 z
 fits_w128 (pos n) h = let below = ltb-true n (2 ^ 127) h in omega (arith, ints)
 fits_w128 (negsuc n) h = let below = ltb-true n (2 ^ 127) h in omega (arith, ints)
-
-w128_fits : (z : ℤ) → FitsSigned w128 z → signed_fits 127 z ≡ true
-w128_fits (pos n) h = lt-ltb n (2 ^ 127) (omega (arith, ints))
-w128_fits (negsuc n) h = lt-ltb n (2 ^ 127) (omega (arith, ints))
 
 -- what is printed spells its number
 value_at : (t : Bool) (z : ℤ) → int_eq (signed_digits_value 10 (signed_decimal z)) z ≡ t → FitsSigned w128 z → signed_digits_value 10 (signed_decimal z) ≡ z

@@ -5,7 +5,7 @@ use Rattle.json.specs.Json as json
 use Rattle.json.specs.Tree.{json_tokens}
 use Rattle.json.specs.Token as token
 use Rattle.json.specs.Token.{Token}
-use Rattle.serde_json.specs.Data.{Num, unsigned, negative, float, Data, null, boolean, number, string, array, object}
+use Rattle.serde_json.specs.Data.{Num, unsigned, negative, float, Data, boolean, number, string}
 use Rattle.serde_json.specs.Find.{as_bool, as_i64, as_number, as_str, as_u64, is_float}
 use Rattle.serde_json.specs.Read.{number_of}
 use Rattle.serde_json.specs.Written.{unless_float}
@@ -15,20 +15,12 @@ use Rattle.litemap_json.specs.Item.{pair_json}
 use Rattle.litemap_json.specs.Written.{WritesTree}
 
 pub writes_text : (d : Data) (s : List ℕ) (old new : List Token) → as_str d ≡ Some s → new ≡ old ++ token.string s ∷ [] → WritesTree d old new
-writes_text null s old new e t = absurd cc
-writes_text (boolean b) s old new e t = absurd cc
-writes_text (number n) s old new e t = absurd cc
 writes_text (string r) s old new e t = let same : s ≡ r = cc in (json.string s, t, ap json.string same)
-writes_text (array ds) s old new e t = absurd cc
-writes_text (object ms) s old new e t = absurd cc
+writes_text _ s old new e t = absurd cc
 
 pub writes_flag : (d : Data) (b : Bool) (old new : List Token) → as_bool d ≡ Some b → new ≡ old ++ token.boolean b ∷ [] → WritesTree d old new
-writes_flag null b old new e t = absurd cc
 writes_flag (boolean c) b old new e t = let same : b ≡ c = cc in (json.boolean b, t, ap json.boolean same)
-writes_flag (number n) b old new e t = absurd cc
-writes_flag (string r) b old new e t = absurd cc
-writes_flag (array ds) b old new e t = absurd cc
-writes_flag (object ms) b old new e t = absurd cc
+writes_flag _ b old new e t = absurd cc
 
 -- a number's text, which is no float's, is kept
 kept : (s : List ℕ) (n : Num) → number_of s ≡ Some n → is_float n ≡ false → unless_float s ≡ s
@@ -41,16 +33,11 @@ kept_signed (negsuc n) fits = kept (signed_decimal (negsuc n)) (negative (negsuc
 of_unsigned : (m : Num) (n : ℕ) (old new : List Token) → n < 2 ^ 64 → as_u64 m ≡ Some n → new ≡ old ++ token.number (decimal n) ∷ [] → WritesTree (number m) old new
 of_unsigned (unsigned m) n old new h e t =
     let same : n ≡ m = cc in (json.number (decimal n), t, ap json.number (kept (decimal n) (unsigned n) (number_of-decimal n h) refl ∙ ap decimal same))
-of_unsigned (negative z) n old new h e t = absurd cc
-of_unsigned (float x) n old new h e t = absurd cc
+of_unsigned _ n old new h e t = absurd cc
 
 pub writes_unsigned : (d : Data) (n : ℕ) (old new : List Token) → n < 2 ^ 64 → option_and_then as_u64 (as_number d) ≡ Some n → new ≡ old ++ token.number (decimal n) ∷ [] → WritesTree d old new
-writes_unsigned null n old new h e t = absurd cc
-writes_unsigned (boolean b) n old new h e t = absurd cc
 writes_unsigned (number m) n old new h e t = of_unsigned m n old new h e t
-writes_unsigned (string r) n old new h e t = absurd cc
-writes_unsigned (array ds) n old new h e t = absurd cc
-writes_unsigned (object ms) n old new h e t = absurd cc
+writes_unsigned _ n old new h e t = absurd cc
 
 -- the text is no float's
 abbrev Kept : ℤ → Type 0
@@ -67,12 +54,8 @@ of_signed (negative y) z old new h e t = let same : z ≡ y = cc in (json.number
 of_signed (float x) z old new h e t = absurd cc
 
 pub writes_signed : (d : Data) (z : ℤ) (old new : List Token) → Kept z → option_and_then as_i64 (as_number d) ≡ Some z → new ≡ old ++ token.number (signed_decimal z) ∷ [] → WritesTree d old new
-writes_signed null z old new h e t = absurd cc
-writes_signed (boolean b) z old new h e t = absurd cc
 writes_signed (number m) z old new h e t = of_signed m z old new h e t
-writes_signed (string r) z old new h e t = absurd cc
-writes_signed (array ds) z old new h e t = absurd cc
-writes_signed (object ms) z old new h e t = absurd cc
+writes_signed _ z old new h e t = absurd cc
 
 -- the tokens of two trees between brackets
 pub writes_two : (d e : Data) (old opened first second new : List Token) → opened ≡ old ++ token.begin_array ∷ [] → WritesTree d opened first → WritesTree e first second → new ≡ second ++ token.end_array ∷ []

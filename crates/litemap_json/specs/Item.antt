@@ -4,7 +4,7 @@ use Rattle.std.specs.Prelude.{Option, Some, None, Result, Ok, Err, ok_or, option
 use Rattle.std.specs.Fmt.{signed_decimal}
 use Rattle.std.specs.Str.{bytes_eq}
 use Rattle.std.specs.Str.Parse.{true_text, false_text, signed_digits_value}
-use Rattle.serde_json.specs.Data.{Num, Data, null, boolean, number, string, array, object, Items, no_items, item}
+use Rattle.serde_json.specs.Data.{Num, Data, boolean, number, string, array, Items, no_items, item}
 use Rattle.serde_json.specs.Find.{as_number, as_integer, as_bool, as_str, of_integer}
 use Rattle.litemap_json.specs.declared.item.ItemFault.{ItemFault}
 use Rattle.litemap_json.specs.declared.item.ItemFault.TheVariants.{Memory, Shape, Range, Float}
@@ -83,18 +83,12 @@ pair_json d e = array (item d (item e no_items))
 
 -- the two items of an array of exactly two
 abbrev pub two_items : Items → Option (Data × Data)
-two_items no_items = None
-two_items (item d no_items) = None
 two_items (item d (item e no_items)) = Some (d, e)
-two_items (item d (item e (item f more))) = None
+two_items _ = None
 
 abbrev pub two_of : Data → Option (Data × Data)
 two_of (array ds) = two_items ds
-two_of null = None
-two_of (boolean b) = None
-two_of (number n) = None
-two_of (string s) = None
-two_of (object ms) = None
+two_of _ = None
 
 abbrev both : Result Data ItemFault → Result Data ItemFault → Result Data ItemFault
 both (Err f) r = Err f

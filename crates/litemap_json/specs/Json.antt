@@ -1,7 +1,7 @@
 -- A map as JSON: the tree of a list of pairs, and the pairs that a tree spells. Keys and items are told by their trees, and
 -- keys by their texts too.
 use Rattle.std.specs.Prelude.{ℕ, ◌+◌, List, [], ◌∷◌, map, cond, is_some, Option, Some, None, Result, Ok, Err}
-use Rattle.serde_json.specs.Data.{Data, null, boolean, number, string, array, object}
+use Rattle.serde_json.specs.Data.{Data, array, object}
 use Rattle.serde_json.specs.Data.{Items, no_items, item, Members, no_members, member, put}
 use Rattle.serde_json.specs.View.{items_of}
 use Rattle.litemap_json.specs.Item.{pair_json, two_of}
@@ -73,7 +73,4 @@ module _ (key : List ℕ → Option Data) (key_item json_item : Data → Result 
   abbrev pub pairs : Data → Result (List (Data × Data)) JsonFault
   pairs (array ds) = row_pairs 0 ds
   pairs (object ms) = member_pairs 0 ms
-  pairs null = Err NotAMap
-  pairs (boolean b) = Err NotAMap
-  pairs (number n) = Err NotAMap
-  pairs (string s) = Err NotAMap
+  pairs _ = Err NotAMap

@@ -12,8 +12,4 @@ write_kind (writing.KeyWithoutText place) = InvalidData
 
 abbrev pub read_kind : JsonFault → ErrorKind
 read_kind reading.Memory = OutOfMemory
-read_kind reading.NotAMap = InvalidData
-read_kind (reading.NotAPair place) = InvalidData
-read_kind (reading.KeyText place) = InvalidData
-read_kind (reading.Key place fault) = InvalidData
-read_kind (reading.Item place fault) = InvalidData
+read_kind _ = InvalidData

@@ -30,10 +30,9 @@ signed_one_tree x y e =
     same_tied int_cmp_total x y (of_integer_injective x y inner)
 
 pub bool_one_tree : (x y : Bool) → boolean x ≡ boolean y → bool_cmp x y ≡ Equal
-bool_one_tree true true e = refl
 bool_one_tree true false e = cc
 bool_one_tree false true e = cc
-bool_one_tree false false e = refl
+bool_one_tree _ _ e = refl
 
 pub text_one_tree : (x y : String Global) → string (string_bytes x) ≡ string (string_bytes y) → string_cmp x y ≡ Equal
 text_one_tree x y e =

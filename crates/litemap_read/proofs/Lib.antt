@@ -1,5 +1,4 @@
 -- Lemmas of the proofs.
 pub mod Sifted
 pub mod Runs
-pub mod SameRuns
 pub mod ReadLookups

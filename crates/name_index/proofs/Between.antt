@@ -1,13 +1,13 @@
 -- The entries between two places, and parts of a list.
 --     between_are, between_is      at the first place stand so many entries, which are those between;  slice_none, slice_clamped      what a range past the end has
-use Rattle.std.proofs.Common.{◌≡◌, ℕ, zero, suc, ◌-◌, ◌<◌, ◌≤◌, List, [], ◌∷◌, length, min, take, drop, get_or, slice_range, Some, refl, sym, ap, ◌∙◌, subst, arith}
+use Rattle.std.proofs.Common.{◌≡◌, ℕ, zero, suc, ◌-◌, ◌<◌, ◌≤◌, List, [], ◌∷◌, length, min, take, drop, get_or, slice_range, Some, refl, sym, ap, ◌∙◌, arith}
 use Rattle.std.proofs.lemmas.Bool.{le-leb}
 use Rattle.std.proofs.lemmas.List.{length-drop, length-take-le, take-append-drop, take_min}
 use Rattle.litemap_store.specs.Pairs.{sub}
 use Rattle.litemap_store.proofs.Parts.{Rising-sub}
 use Rattle.name_table.proofs.PartLemmas.{begins_split}
 use Rattle.name_table.specs.ReadOn.{pair_parts-append}
-use Rattle.name_table.specs.Parts.{Begins, Part, pair_parts}
+use Rattle.name_table.specs.Parts.{pair_parts}
 use Rattle.name_index.specs.Entries.{AreEntries}
 use Rattle.name_index.specs.Left.{left_one}
 use Rattle.name_index.specs.Placed.{ArePlaced}
@@ -27,10 +27,9 @@ module _ (entries places : List ℕ) (from to d : ℕ) (placed : ArePlaced entri
       let n = to - from in
       let first : from < length places = omega (arith, l, h) in
       let long : to ≤ length L = omega (arith, h, placed.these.count_is) in
-      let P : List Part → Type 0 = λ xs. Begins bytes xs placed.these.rest in
       let s =
       begins_split bytes placed.these.rest (pair_parts (take n K)) (pair_parts (drop n K))
-      (subst P (ap pair_parts (sym (take-append-drop n K)) ∙ pair_parts-append (take n K) (drop n K)) (at_place entries places from d placed first)) in
+      (rw (← (ap pair_parts (sym (take-append-drop n K)) ∙ pair_parts-append (take n K) (drop n K))) (at_place entries places from d placed first)) in
       record {
         pairs = slice_range L from to;
         rest = s.0;
@@ -47,10 +46,6 @@ module _ (entries places : List ℕ) (from to d : ℕ) (placed : ArePlaced entri
       (entries_left (drop (get_or places from d) entries) (to - from) between_are)
 
 -- ---- parts of a list
-pub none_of : {X : Type 0} (L : List X) → length L ≡ 0 → L ≡ []
-none_of [] e = refl
-none_of (x ∷ L) e = absurd (omega (arith, e))
-
 take_none : {X : Type 0} (n : ℕ) → take {A = X} n [] ≡ []
 take_none zero = refl
 take_none (suc n) = refl

@@ -4,24 +4,19 @@ use Rattle.std.specs.Prelude.{IfErr, IfNone, IfSome, IsTrue}
 use Rattle.std.specs.Ordering.{is_lt}
 use Rattle.std.proofs.lemmas.List.{same_lists}
 use Rattle.std.proofs.lemmas.Option.{slice_get-get_or}
-use Rattle.std.specs.declared.cmp.Ordering.TheVariants.{Less, Equal, Greater}
+use Rattle.std.specs.declared.cmp.Ordering.TheVariants.{Less}
 use Rattle.litemap_store.specs.Counts.{RisesByAtMost}
 use Rattle.litemap_store.specs.Pairs.{Rising}
-use Rattle.litemap_store.specs.Splits.{Splits}
 use Rattle.litemap_store.specs.declared.count.Count.{Count}
 use Rattle.litemap_store.proofs.Counting.{not_asked}
-use Rattle.litemap_store.proofs.Halving.{Narrowed, Narrowed-whole, Narrowed-less, Narrowed-greater, Finds-here, Finds-nowhere}
-use Rattle.litemap_store.proofs.Splitting.{Splits-from_Finds}
+use Rattle.litemap_store.proofs.Parts.{Less-from_Rising}
+use Rattle.litemap_store.specs.Search.{Ascends}
 use Rattle.name_index.specs.Index.{BeginsAt, HasKey, HasPlaces, IsEntry, IsIndex, IsNumberAt, IsPairAt, IsTextAt, NoEntry, NoIndex}
 use Rattle.name_index.specs.Tables.{text_order}
 use Rattle.name_index.proofs.Placing.{each_push}
 use Rattle.name_index.proofs.Rises.{IsAbove, LastKey, asked_next, last_at, rises_on}
-use Rattle.name_index.proofs.Scanning.{ascends, one_side, to_key}
-
--- what holds whatever the fault is
-pub whatever_fault : {T E Q : Type 0} (r : Result T E) → Q → IfErr r (λ _. Q)
-whatever_fault (Ok x) q = tt
-whatever_fault (Err e) q = q
+use Rattle.name_index.proofs.Scanning.{ascends, to_key}
+use Rattle.name_index.specs.Placed.{IsKeyAt}
 
 -- ---- one number, one text, one entry
 
@@ -36,8 +31,7 @@ text_unique bytes at s t p q =
 pub pair_unique : (bytes : List ℕ) (at : ℕ) (p q : List ℕ × List ℕ) → IsPairAt bytes at p → IsPairAt bytes at q → p ≡ q
 pair_unique bytes at p q a b =
     let k : p.0 ≡ q.0 = text_unique bytes at p.0 q.0 a.0 b.0 in
-    let P : List ℕ → Type 0 = λ t. IsTextAt bytes (at + 4 + length t) p.1 in
-    let v : p.1 ≡ q.1 = text_unique bytes (at + 4 + length q.0) p.1 q.1 (subst P k a.1) b.1 in
+    let v : p.1 ≡ q.1 = text_unique bytes (at + 4 + length q.0) p.1 q.1 (rw (← k) a.1) b.1 in
     λ i. (k i, v i)
 
 pub begins_unique : (bytes : List ℕ) (count index a b : ℕ) → BeginsAt bytes count index a → BeginsAt bytes count index b → a ≡ b
@@ -48,8 +42,7 @@ begins_unique bytes count index a b p q =
 pub entry_unique : (bytes : List ℕ) (count index : ℕ) (p q : List ℕ × List ℕ) → IsEntry bytes count index p → IsEntry bytes count index q → p ≡ q
 entry_unique bytes count index p q a b =
     let e : a.0 ≡ b.0 = begins_unique bytes count index a.0 b.0 a.1 b.1 in
-    let P : ℕ → Type 0 = λ at. IsPairAt bytes at p in
-    pair_unique bytes b.0 p q (subst P e a.2) b.2
+    pair_unique bytes b.0 p q (rw (← e) a.2) b.2
 
 -- ---- an index, and what is read of it
 
@@ -62,8 +55,7 @@ module _ (bytes : List ℕ) (count : ℕ) (places : HasPlaces bytes count) (pair
       let k : index < length pairs = omega (arith, count_is) in
       let pair = get_or pairs index ([], []) in
       let e : slice_get pairs index ≡ Some pair = slice_get-get_or pairs index ([], []) k in
-      let P : ℕ → Type 0 = λ n. IsEntry bytes n index pair in
-      (pair, e, subst P count_is (x.entries index pair e))
+      (pair, e, rw (← count_is) (x.entries index pair e))
 
   -- an entry that is read is the one of the list
   pub entry_is : (index : ℕ) (pair : List ℕ × List ℕ) → index < count → IsEntry bytes count index pair → slice_get pairs index ≡ Some pair
@@ -76,8 +68,7 @@ module _ (bytes : List ℕ) (count : ℕ) (places : HasPlaces bytes count) (pair
   key_is index key l r =
       let t = entry_there index l in
       let e : t.2.0 ≡ r.0 = begins_unique bytes count index t.2.0 r.0 t.2.1 r.1 in
-      let P : ℕ → Type 0 = λ at. IsTextAt bytes at t.0.0 in
-      let k : t.0.0 ≡ key = text_unique bytes r.0 t.0.0 key (subst P e t.2.2.0) r.2 in
+      let k : t.0.0 ≡ key = text_unique bytes r.0 t.0.0 key (rw (← e) t.2.2.0) r.2 in
       (t.0.1, t.1 ∙ ap (λ s. Some (s, t.0.1)) k)
 
 -- where an entry is missing, the bytes are no index
@@ -99,30 +90,18 @@ no_room bytes count number l pairs x =
         let t = x.entries n (get_or pairs n ([], [])) s in
         omega (arith, t.1.noted.within, l, e)
 
--- ---- a search's state
+-- ---- what a search knows
 
-module _ (bytes key name : List ℕ) (count low high middle : ℕ) (places : HasPlaces bytes count) (within : middle < count) (there : HasKey bytes count middle name) (narrowed : (pairs : List (List ℕ × List ℕ)) → IsIndex bytes pairs → Narrowed (to_key key) pairs low high) where
-  pub indexed_less : text_order name key ≡ Less → (pairs : List (List ℕ × List ℕ)) → IsIndex bytes pairs → Narrowed (to_key key) pairs (middle + 1) high
-  indexed_less is pairs x =
-      let at = key_is bytes count places pairs x middle name within there in
-      Narrowed-less (to_key key) pairs (ascends pairs key x.rises) low high middle name at.0 at.1 (narrowed pairs x) is
+-- the pairs of an index
+abbrev pub pairs_of : {bytes : List ℕ} → (pairs : List (List ℕ × List ℕ)) × IsIndex bytes pairs → List (List ℕ × List ℕ)
+pairs_of x = x.0
 
-  pub indexed_greater : text_order name key ≡ Greater → (pairs : List (List ℕ × List ℕ)) → IsIndex bytes pairs → Narrowed (to_key key) pairs low middle
-  indexed_greater is pairs x =
-      let at = key_is bytes count places pairs x middle name within there in
-      Narrowed-greater (to_key key) pairs (ascends pairs key x.rises) low high middle name at.0 at.1 (narrowed pairs x) is
+module _ {bytes : List ℕ} {count : ℕ} (places : HasPlaces bytes count) (x : (pairs : List (List ℕ × List ℕ)) × IsIndex bytes pairs) where
+  pub known_of : (key : List ℕ) → (length (pairs_of x) ≡ count) × Ascends (to_key key) (pairs_of x)
+  known_of key = (count_is bytes count places x.0 x.1, ascends x.0 key x.1.rises)
 
-  pub indexed_equal : text_order name key ≡ Equal → (pairs : List (List ℕ × List ℕ)) → IsIndex bytes pairs → Splits text_order pairs key (Ok middle)
-  indexed_equal is pairs x =
-      let at = key_is bytes count places pairs x middle name within there in
-      Splits-from_Finds one_side pairs key x.rises (Ok middle) (Finds-here (to_key key) pairs middle name at.0 at.1 is)
-
-pub indexed_start : (bytes key : List ℕ) (count : ℕ) → HasPlaces bytes count → (pairs : List (List ℕ × List ℕ)) → IsIndex bytes pairs → Narrowed (to_key key) pairs 0 count
-indexed_start bytes key count places pairs x = Narrowed-whole (to_key key) pairs count (omega (arith, count_is bytes count places pairs x))
-
-pub indexed_end : (bytes key : List ℕ) (count low high : ℕ) → HasPlaces bytes count → high ≤ low → low ≤ count → ((pairs : List (List ℕ × List ℕ)) → IsIndex bytes pairs → Narrowed (to_key key) pairs low high) → (pairs : List (List ℕ × List ℕ)) → IsIndex bytes pairs → Splits text_order pairs key (Err low)
-indexed_end bytes key count low high places h l narrowed pairs x =
-    Splits-from_Finds one_side pairs key x.rises (Err low) (Finds-nowhere (to_key key) pairs low high h (omega (arith, l, count_is bytes count places pairs x)) (narrowed pairs x))
+  pub key_of : (index : ℕ) (key : List ℕ) → index < count → HasKey bytes count index key → IsKeyAt (pairs_of x) index key
+  key_of index key l k = key_is bytes count places x.0 x.1 index key l k
 
 -- ---- a check's state
 
@@ -144,11 +123,10 @@ followed_start bytes count c = record { pairs = []; number = refl; entries = non
 pub followed_next : (bytes : List ℕ) (count index : ℕ) (last : Option (Bor (List ℕ))) (key value : Bor (List ℕ)) (old middle new : Count) → Followed bytes count last index old middle → IsEntry bytes count index (key.now, value.now) → IsAbove last key.now → IfNone last (RisesByAtMost 0 middle new) → RisesByAtMost 1 middle new → Followed bytes count (Some key) (index + 1) old new
 followed_next bytes count index last key value old middle new f r a z o =
     let p : List ℕ × List ℕ = (key.now, value.now) in
-    let P : ℕ → Type 0 = λ n. IsEntry bytes count n p in
     record {
       pairs = f.pairs ++ p ∷ [];
       number = omega (arith, f.number, length-append f.pairs (p ∷ []));
-      entries = each_push (λ i q. IsEntry bytes count i q) f.pairs p f.entries (subst P (sym f.number) r);
+      entries = each_push (λ i q. IsEntry bytes count i q) f.pairs p f.entries (rw f.number r);
       rises = rises_on last f.pairs p f.last_is f.rises a;
       last_is = (f.pairs, value.now, refl);
       asked = asked_next last f.pairs p f.last_is f.asked z o;
@@ -156,37 +134,25 @@ followed_next bytes count index last key value old middle new f r a z o =
 
 pub followed_end : (bytes : List ℕ) (count index : ℕ) (last : Option (Bor (List ℕ))) (old new : Count) → HasPlaces bytes count → Followed bytes count last index old new → index ≡ count → (pairs : List (List ℕ × List ℕ)) × IsIndex bytes pairs
 followed_end bytes count index last old new places f e =
-    let n : count ≡ length f.pairs = sym e ∙ sym f.number in
-    let P : ℕ → Type 0 = λ m. IsNumberAt bytes 0 m in (
+    let n : count ≡ length f.pairs = sym e ∙ sym f.number in (
       f.pairs,
       record {
-        number = subst P n places.number;
+        number = rw (← n) places.number;
         entries = λ i pair g. let Q : ℕ → Type 0 = λ m. IsEntry bytes m i pair in subst Q n (f.entries i pair g);
         rises = f.rises;
       },
     )
-
-rises_next : (L : List (List ℕ × List ℕ)) (i : ℕ) (p q : List ℕ × List ℕ) → Rising text_order L → slice_get L i ≡ Some p → slice_get L (suc i) ≡ Some q → text_order p.0 q.0 ≡ Less
-rises_next [] i p q r e f = absurd (cc)
-rises_next (x ∷ []) zero p q r e f = absurd (cc)
-rises_next (x ∷ y ∷ L) zero p q r e f =
-    let s : x ≡ p = cc in
-    let t : y ≡ q = cc in
-    (λ i. text_order (sym s i).0 (sym t i).0) ∙ r.0.0
-rises_next (x ∷ L) (suc i) p q r e f = rises_next L i p q r.1 e f
 
 -- where the next key isn't above the last one, the bytes are no index
 pub falls_there : (bytes : List ℕ) (count index : ℕ) (last : Bor (List ℕ)) (key value : List ℕ) (old new : Count) → HasPlaces bytes count → index < count → Followed bytes count (Some last) index old new → IsEntry bytes count index (key, value) → (text_order last.now key ≡ Less → ⊥) → NoIndex bytes
 falls_there bytes count index last key value old new places l f r never pairs x =
     let front = f.last_is.0 in
     let p : List ℕ × List ℕ = (last.now, f.last_is.1) in
-    let G : List (List ℕ × List ℕ) → Type 0 = λ L. slice_get L (length front) ≡ Some p in
-    let g : slice_get f.pairs (length front) ≡ Some p = subst G (sym f.last_is.2) (last_at front p) in
-    let n : suc (length front) ≡ index = omega (arith, f.number, ap length f.last_is.2, length-append front (p ∷ [])) in
+    let g : slice_get f.pairs (length front) ≡ Some p = rw f.last_is.2 (last_at front p) in
+    let n : index - 1 ≡ length front = omega (arith, f.number, ap length f.last_is.2, length-append front (p ∷ [])) in
+    let more : 1 ≤ index = omega (arith, f.number, ap length f.last_is.2, length-append front (p ∷ [])) in
     let a = entry_is bytes count places pairs x (length front) p (omega (arith, n, l)) (f.entries (length front) p g) in
-    let b = entry_is bytes count places pairs x index (key, value) l r in
-    let Q : ℕ → Type 0 = λ i. slice_get pairs i ≡ Some (key, value) in
-    never (rises_next pairs (length front) p (key, value) x.rises a (subst Q (sym n) b))
+    never (Less-from_Rising text_order pairs index p (key, value) more x.rises (rw n a) (entry_is bytes count places pairs x index (key, value) l r))
 
 pub falls : (bytes : List ℕ) (count index : ℕ) (last : Option (Bor (List ℕ))) (key value : List ℕ) (b : Bool) (old new : Count) → HasPlaces bytes count → index < count → Followed bytes count last index old new → IsEntry bytes count index (key, value) → IfNone last (IsTrue b) → IfSome last (λ l. b ≡ is_lt (text_order l.now key)) → b ≡ false → NoIndex bytes
 falls bytes count index None key value b old new places l f r n s e = let h : b ≡ true = n in absurd (cc)
@@ -199,6 +165,5 @@ pub index_unique : (bytes : List ℕ) (J K : List (List ℕ × List ℕ)) → Is
 index_unique bytes J K x y =
     let e : length K ≡ length J = number_unique bytes 0 (length K) (length J) y.number x.number in
     same_lists J K (sym e) (λ k d l.
-    let P : ℕ → Type 0 = λ n. IsEntry bytes n k (get_or K k d) in
     let h : k < length K = omega (arith, e, l) in
-    entry_unique bytes (length J) k (get_or J k d) (get_or K k d) (x.entries k (get_or J k d) (slice_get-get_or J k d l)) (subst P e (y.entries k (get_or K k d) (slice_get-get_or K k d h))))
+    entry_unique bytes (length J) k (get_or J k d) (get_or K k d) (x.entries k (get_or J k d) (slice_get-get_or J k d l)) (rw (← e) (y.entries k (get_or K k d) (slice_get-get_or K k d h))))

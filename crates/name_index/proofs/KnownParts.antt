@@ -1,5 +1,5 @@
 -- What is read where it is known what stands there.
-use Rattle.std.proofs.Common.{◌≡◌, ℕ, List, [], ◌∷◌, ◌++◌, refl, sym, subst}
+use Rattle.std.proofs.Common.{◌≡◌, ℕ, List, [], ◌∷◌, ◌++◌, refl}
 use Rattle.name_table.specs.Faults.{AreOfText, Fault}
 use Rattle.name_table.specs.Parts.{Part, Begins, Number, text_parts, pair_parts}
 use Rattle.name_table.specs.declared.fault.NameFault.{NameFault}
@@ -24,8 +24,7 @@ one_number {n} {m} bytes p q =
 -- a text that is there has no fault
 pub text_no_fault : (bytes rest text : List ℕ) (place : ℕ) (fault : NameFault) → Begins bytes (text_parts text) rest → Fault AreOfText bytes place fault → ⊥
 text_no_fault bytes rest text place fault b w =
-    let A : List Part → Type 0 = λ ys. Agree (text_parts text) ys in
-    parts_no_fault bytes rest (text_parts text) place fault (λ ys a. subst A (sym a.1) (agree_text text a.0)) b w
+    parts_no_fault bytes rest (text_parts text) place fault (λ ys a. rw a.1 (agree_text text a.0)) b w
 
 -- the text that is read is the one that is there, and what follows it stands behind
 pub text_next : (bytes rest middle s t : List ℕ) (xs : List Part) → Begins bytes (text_parts t ++ xs) rest → Begins bytes (text_parts s) middle → (s ≡ t) × Begins middle xs rest
@@ -34,8 +33,7 @@ text_next bytes rest middle s t xs p q =
     let u = begins_unique bytes (agree_text s t) q d.1 in
     let f : text_parts s ≡ text_parts t = u.1 in
     let g : s ≡ t = cc in
-    let P : List ℕ → Type 0 = λ c. Begins c xs rest in
-    (g, subst P (sym u.2) d.2)
+    (g, rw u.2 d.2)
 
 -- the same of a pair
 pub pair_next : (bytes rest behind : List ℕ) (p q : List ℕ × List ℕ) (J : List (List ℕ × List ℕ)) → Begins bytes (pair_parts (p ∷ J)) behind → Begins bytes (pair_parts (q ∷ [])) rest → (q ≡ p) × Begins rest (pair_parts J) behind
@@ -44,8 +42,7 @@ pair_next bytes rest behind p q J b c =
     let u = begins_unique bytes (agree_pairs (q ∷ []) (p ∷ []) refl) c d.1 in
     let f : q ∷ [] ≡ p ∷ [] = pair_parts-inj (q ∷ []) (p ∷ []) u.1 in
     let g : q ≡ p = cc in
-    let P : List ℕ → Type 0 = λ s. Begins s (pair_parts J) behind in
-    (g, subst P (sym u.2) d.2)
+    (g, rw u.2 d.2)
 
 -- the first of some pairs is there
 pub pair_first : (bytes behind : List ℕ) (p : List ℕ × List ℕ) (J : List (List ℕ × List ℕ)) → Begins bytes (pair_parts (p ∷ J)) behind → (middle : List ℕ) × Begins bytes (pair_parts (p ∷ [])) middle × Begins middle (pair_parts J) behind

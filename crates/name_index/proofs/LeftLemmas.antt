@@ -1,5 +1,5 @@
 -- The entries that are still to come: which they are, and one of them read.
-use Rattle.std.proofs.Common.{◌≡◌, ℕ, ◌-◌, ◌<◌, List, [], ◌∷◌, length, Some, arith, ap, sym, subst}
+use Rattle.std.proofs.Common.{◌≡◌, ℕ, ◌-◌, ◌<◌, List, [], ◌∷◌, length, Some, arith, ap, sym}
 use Rattle.std.proofs.Math.Logic.{∥∥₁_elim}
 use Rattle.std.specs.Iterator.{MakesProgress, at_most}
 use Rattle.name_table.specs.Parts.{Begins, pair_parts}
@@ -15,7 +15,7 @@ pub left_is : (bytes : List ℕ) (count : ℕ) (s : Left bytes count) (J : List 
 left_is bytes count s J a = ∥∥₁_elim s.1 (pairs_set s.0 J) (λ b. left_one bytes count s.0 J b a)
 
 pub left_holds : (bytes : List ℕ) (count : ℕ) (s : Left bytes count) (J : List (List ℕ × List ℕ)) → AreLeft bytes count J → AreLeft bytes count s.0
-left_holds bytes count s J a = let P : List (List ℕ × List ℕ) → Type 0 = λ L. AreLeft bytes count L in subst P (sym (left_is bytes count s J a)) a
+left_holds bytes count s J a = rw (left_is bytes count s J a) a
 
 -- an entry stands there while some are left
 pub left_begins : (bytes : List ℕ) (count : ℕ) (J : List (List ℕ × List ℕ)) → AreLeft bytes count J → 0 < count → BeginsPair bytes

@@ -2,6 +2,7 @@ pub mod KnownParts
 pub mod Placing
 pub mod Prefixing
 pub mod Between
+pub mod Halving
 pub mod Indexing
 pub mod Writing
 pub mod Scanning

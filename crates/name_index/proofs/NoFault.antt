@@ -5,7 +5,6 @@ use Rattle.litemap_store.proofs.Taken.{Rising-left}
 use Rattle.litemap_store.specs.Pairs.{Rising}
 use Rattle.name_table.specs.Faults.{AreOfPairs, NextFault}
 use Rattle.name_table.specs.Parts.{Part, Begins, Number, pair_parts}
-use Rattle.name_table.specs.ReadOn.{IsReadOn}
 use Rattle.name_table.specs.Remaining.{IsCounted, Remaining}
 use Rattle.name_table.specs.declared.fault.NameFault.{NameFault}
 use Rattle.name_table.proofs.FaultLemmas.{fault_first}
@@ -23,8 +22,7 @@ use Rattle.name_index.proofs.KnownParts.{agree_numbers, one_number, pair_first, 
 
 number_stops_not : (bytes rest : List ℕ) (n : ℕ) (f : NameTableFault) → Begins bytes (Number n ∷ []) rest → NumberStops bytes f → ⊥
 number_stops_not bytes rest n (Format f) b w =
-    let A : List Part → Type 0 = λ ys. Agree (Number n ∷ []) ys in
-    parts_no_fault bytes rest (Number n ∷ []) 0 f (λ ys (e : Number n ∷ [] ≡ ys). subst A e (agree_numbers n n)) b (fault_first bytes 0 f (Number n) [] refl w)
+    parts_no_fault bytes rest (Number n ∷ []) 0 f (λ ys (e : Number n ∷ [] ≡ ys). rw (← e) (agree_numbers n n)) b (fault_first bytes 0 f (Number n) [] refl w)
 number_stops_not bytes rest n (NotRising at) b w = w
 
 number_stops_one : (bytes : List ℕ) (f g : NameTableFault) → NumberStops bytes f → NumberStops bytes g → f ≡ g
@@ -44,8 +42,7 @@ counted_one bytes s t c d =
 first_pairs : (J K : List (List ℕ × List ℕ)) (bytes middle behind : List ℕ) → Begins bytes (pair_parts J) middle → Begins bytes (pair_parts K) behind → length J < length K → (q : List ℕ × List ℕ) × (more : List (List ℕ × List ℕ)) × (K ≡ J ++ q ∷ more) × Begins middle (pair_parts (q ∷ more)) behind
 first_pairs J [] bytes middle behind b k l = absurd (omega (arith, l))
 first_pairs [] (p ∷ K) bytes middle behind b k l =
-    let P : List ℕ → Type 0 = λ c. Begins c (pair_parts (p ∷ K)) behind in
-    (p, K, refl, subst P (b.split ∙ ap (λ c. c ++ middle) b.spelled) k)
+    (p, K, refl, rw (← (b.split ∙ ap (λ c. c ++ middle) b.spelled)) k)
 first_pairs (q ∷ J) (p ∷ K) bytes middle behind b k l =
     let d = begins_split bytes middle (pair_parts (q ∷ [])) (pair_parts J) b in
     let n = pair_next bytes d.0 behind p q K k d.1 in
@@ -54,9 +51,7 @@ first_pairs (q ∷ J) (p ∷ K) bytes middle behind b k l =
 
 agree_next : (xs ys : List Part) → AreOfPairs 1 xs → AreOfPairs 1 ys → Agree xs ys
 agree_next xs ys a b =
-    let A : List Part → Type 0 = λ zs. Agree zs ys in
-    let B : List Part → Type 0 = λ zs. Agree (pair_parts a.0) zs in
-    subst A (sym a.2) (subst B (sym b.2) (agree_pairs a.0 b.0 (a.1 ∙ sym b.1)))
+    rw a.2 (rw b.2 (agree_pairs a.0 b.0 (a.1 ∙ sym b.1)))
 
 -- a pair that is there can be read
 next_no_fault : (t : Remaining) (f : NameFault) (q : List ℕ × List ℕ) (rest : List ℕ) → Begins t.rest (pair_parts (q ∷ [])) rest → NextFault t f → ⊥
@@ -67,9 +62,8 @@ next_stops_not : (t : Remaining) (J more : List (List ℕ × List ℕ)) (q : Lis
 next_stops_not t J more q behind (Format f) r b w = let p = pair_first t.rest behind q more b in next_no_fault t f q p.0 p.1 w
 next_stops_not t J more q behind (NotRising at) r b w =
     let n = pair_next t.rest w.0.rest behind q w.1 more b w.2.spelled in
-    let P : List (List ℕ × List ℕ) → Type 0 = λ L. Rising text_order L in
     let e : J ++ q ∷ more ≡ (J ++ w.1 ∷ []) ++ more = sym (append_assoc J (q ∷ []) more) ∙ ap (λ p. (J ++ p ∷ []) ++ more) (sym n.0) in
-    w.4 (Rising-left text_order (J ++ w.1 ∷ []) more (subst P e r))
+    w.4 (Rising-left text_order (J ++ w.1 ∷ []) more (rw (← e) r))
 
 next_stops_one : (t : Remaining) (J : List (List ℕ × List ℕ)) (f g : NameTableFault) → NextStops J t f → NextStops J t g → f ≡ g
 next_stops_one t J (Format f) (Format g) p q = ap (λ e. Format e) (fault_unique t.rest t.place f g agree_next p.1 q.1)
@@ -78,31 +72,25 @@ next_stops_one t J (NotRising a) (Format g) p q = absurd (next_no_fault t g p.1 
 next_stops_one t J (NotRising a) (NotRising b) p q = ap (λ i. NotRising i) (p.3 ∙ sym q.3)
 
 -- nor in front of the last of them
-abbrev begins_on : (s t : Remaining) (on : IsReadOn s t) → Begins s.rest (pair_parts on.pairs) t.rest
-begins_on s t on = record { front = on.front; split = on.split; spelled = on.spelled }
-
 stops_not : (s : Remaining) (K : List (List ℕ × List ℕ)) (behind : List ℕ) (f : NameTableFault) → Begins s.rest (pair_parts K) behind → Rising text_order K → (w : StopsAt s f) → length w.1.on.pairs < length K → ⊥
 stops_not s K behind f k r w l =
     let on = w.1.on in
-    let n = first_pairs on.pairs K s.rest w.0.rest behind (begins_on s w.0 on) k l in
-    let P : List (List ℕ × List ℕ) → Type 0 = λ L. Rising text_order L in
-    next_stops_not w.0 on.pairs n.1 n.0 behind f (subst P n.2 r) n.3 w.2
+    let n = first_pairs on.pairs K s.rest w.0.rest behind on.spelled k l in
+    next_stops_not w.0 on.pairs n.1 n.0 behind f (rw (← n.2) r) n.3 w.2
 
 stops_one : (s : Remaining) (f g : NameTableFault) → StopsAt s f → StopsAt s g → f ≡ g
 stops_one s f g p q =
-    ⊎_elim (λ h. absurd (stops_not s q.1.on.pairs q.0.rest f (begins_on s q.0 q.1.on) q.1.rises p h))
-    (λ h. ⊎_elim (λ k. absurd (stops_not s p.1.on.pairs p.0.rest g (begins_on s p.0 p.1.on) p.1.rises q k)) (λ k. same (omega (arith, h, k))) (cases_lt (length q.1.on.pairs) (length p.1.on.pairs)))
+    ⊎_elim (λ h. absurd (stops_not s q.1.on.pairs q.0.rest f q.1.on.spelled q.1.rises p h))
+    (λ h. ⊎_elim (λ k. absurd (stops_not s p.1.on.pairs p.0.rest g p.1.on.spelled p.1.rises q k)) (λ k. same (omega (arith, h, k))) (cases_lt (length q.1.on.pairs) (length p.1.on.pairs)))
     (cases_lt (length p.1.on.pairs) (length q.1.on.pairs))
   where
     same : length p.1.on.pairs ≡ length q.1.on.pairs → f ≡ g
     same l =
-        let u = begins_unique s.rest (agree_pairs p.1.on.pairs q.1.on.pairs l) (begins_on s p.0 p.1.on) (begins_on s q.0 q.1.on) in
+        let u = begins_unique s.rest (agree_pairs p.1.on.pairs q.1.on.pairs l) p.1.on.spelled q.1.on.spelled in
         let place : p.0.place ≡ q.0.place = p.1.on.place ∙ ap (λ c. s.place + length c) u.0 ∙ sym q.1.on.place in
         let left : p.0.left ≡ q.0.left = omega (arith, l, p.1.on.count, q.1.on.count) in
         let t : p.0 ≡ q.0 = λ i. record { rest = u.2 i; place = place i; left = left i } in
-        let P : Remaining → Type 0 = λ r. NextStops p.1.on.pairs r f in
-        let Q : List (List ℕ × List ℕ) → Type 0 = λ L. NextStops L q.0 f in
-        next_stops_one q.0 q.1.on.pairs f g (subst Q (pair_parts-inj p.1.on.pairs q.1.on.pairs u.1) (subst P t p.2)) q.2
+        next_stops_one q.0 q.1.on.pairs f g (rw (← (pair_parts-inj p.1.on.pairs q.1.on.pairs u.1)) (rw (← t) p.2)) q.2
 
 -- ---- bytes
 
@@ -116,8 +104,7 @@ rising_no_fault bytes pairs fault t =
     ⊎_elim (λ w. number_stops_not bytes d.0 (length pairs) fault d.1 w)
     (λ w.
     let u = one_number bytes d.1 w.1.spelled in
-    let P : List ℕ → Type 0 = λ b. Begins b (pair_parts pairs) t.rest in
-    stops_not w.0 pairs t.rest fault (subst P u.2 d.2) t.rises w.2 (omega (arith, u.1, w.2.1.on.count, is_due w.2.0 w.2.1.on.pairs fault w.2.2)))
+    stops_not w.0 pairs t.rest fault (rw (← u.2) d.2) t.rises w.2 (omega (arith, u.1, w.2.1.on.count, is_due w.2.0 w.2.1.on.pairs fault w.2.2)))
 
 pub rising_fault_unique : (bytes : List ℕ) (f g : NameTableFault) → IsFault bytes f → IsFault bytes g → f ≡ g
 rising_fault_unique bytes f g p q =

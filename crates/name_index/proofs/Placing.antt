@@ -1,17 +1,18 @@
 -- Places of entries: one more of them, and what is read at one.
-use Rattle.std.proofs.Common.{◌≡◌, ⊎_elim, ℕ, zero, suc, ◌+◌, ◌-◌, ◌<◌, ◌≤◌, List, [], ◌∷◌, ◌++◌, length, take, drop, get_or, slice_get, Some, Ok, Err, refl, sym, ap, ◌∙◌, subst, arith, length-append}
+use Rattle.std.proofs.Common.{◌≡◌, ⊎_elim, ℕ, zero, suc, ◌+◌, ◌-◌, ◌<◌, ◌≤◌, List, [], ◌∷◌, ◌++◌, length, take, drop, get_or, slice_get, Some, Result, refl, sym, ap, ◌∙◌, subst, arith, length-append}
 use Rattle.std.proofs.Math.Seq.{take-length}
 use Rattle.std.proofs.lemmas.Bool.{cases_lt}
 use Rattle.std.proofs.lemmas.List.{drop_at, length-drop}
 use Rattle.std.proofs.lemmas.Option.{slice_get-get_or}
-use Rattle.std.specs.declared.cmp.Ordering.TheVariants.{Less, Equal, Greater}
 use Rattle.litemap_store.specs.Counts.{RisesByAtMost}
 use Rattle.litemap_store.specs.Digits.{digits}
 use Rattle.litemap_store.specs.Splits.{Splits}
 use Rattle.litemap_store.specs.declared.count.Count.{Count}
-use Rattle.litemap_store.proofs.Halving.{Narrowed, Narrowed-whole, Narrowed-less, Narrowed-greater, Finds-here, Finds-nowhere}
+use Rattle.litemap_store.specs.Search.{Ascends, Finds}
 use Rattle.litemap_store.proofs.Splitting.{Splits-from_Finds}
-use Rattle.name_table.proofs.PartLemmas.{begins_none, begins_pairs, begins_split}
+use Rattle.name_table.specs.Numbers.{number_limit}
+use Rattle.name_table.proofs.PartLemmas.{begins_split}
+use Rattle.name_table.specs.ReadOn.{begins_none, begins_pairs}
 use Rattle.name_table.proofs.Unique.{agree_pairs, begins_unique}
 use Rattle.name_table.specs.Parts.{Begins, Number, pair_parts, text_parts}
 use Rattle.name_index.specs.Entries.{AreEntries, BeginsPair, BeginsText, IsOpened}
@@ -63,7 +64,7 @@ noted_start entries count these = record {
 pub place_is_front : (entries : List ℕ) (count : ℕ) (places rest : List ℕ) (index place : ℕ) → (n : Noted entries count places rest index) → place + length rest ≡ length entries → length n.read.front ≡ place
 place_is_front entries count places rest index place n e = omega (arith, e, ap length n.read.split, length-append n.read.front rest)
 
-pub far_here : (entries : List ℕ) (count : ℕ) (places rest : List ℕ) (index : ℕ) → Noted entries count places rest index → index < count → 4294967296 + length rest ≤ length entries → AreFar entries count
+pub far_here : (entries : List ℕ) (count : ℕ) (places rest : List ℕ) (index : ℕ) → Noted entries count places rest index → index < count → number_limit + length rest ≤ length entries → AreFar entries count
 far_here entries count places rest index n l h = record {
   before = n.before;
   rest = rest;
@@ -72,13 +73,11 @@ far_here entries count places rest index n l h = record {
   far = omega (arith, h, ap length n.read.split, length-append n.read.front rest);
 }
 
-pub noted_next : (entries : List ℕ) (count : ℕ) (places rest : List ℕ) (index place : ℕ) (pair : List ℕ × List ℕ) (behind : List ℕ) → (n : Noted entries count places rest index) → index < count → place + length rest ≡ length entries → place < 4294967296 → Begins rest (pair_parts (pair ∷ [])) behind → Noted entries count (places ++ place ∷ []) behind (index + 1)
+pub noted_next : (entries : List ℕ) (count : ℕ) (places rest : List ℕ) (index place : ℕ) (pair : List ℕ × List ℕ) (behind : List ℕ) → (n : Noted entries count places rest index) → index < count → place + length rest ≡ length entries → place < number_limit → Begins rest (pair_parts (pair ∷ [])) behind → Noted entries count (places ++ place ∷ []) behind (index + 1)
 noted_next entries count places rest index place pair behind n within e small b =
     let l : index < length n.these.pairs = omega (arith, within, n.these.count_is) in
     let f = place_is_front entries count places rest index place n e in
     let d : drop place entries ≡ rest = ap (λ c. drop place c) n.read.split ∙ drop_at n.read.front rest place f in
-    let P : List ℕ → Type 0 = λ c. Begins c (pair_parts (drop index n.these.pairs)) n.these.rest in
-    let Q : ℕ → Type 0 = λ j. Begins (drop place entries) (pair_parts (drop j n.these.pairs)) n.these.rest in
     record {
       these = n.these;
       here = is_at_next n.these.pairs n.these.rest rest index l n.here pair behind b;
@@ -93,16 +92,14 @@ noted_next entries count places rest index place pair behind n within e small b 
       within = each_push (λ i p. p ≤ length entries) places place n.within (omega (arith, e));
       there =
           each_push (λ i p. Begins (drop p entries) (pair_parts (drop i n.these.pairs)) n.these.rest) places place n.there
-          (subst Q (sym n.number) (subst P (sym d) n.here));
+          (rw n.number (rw d n.here));
     }
 
 -- the bytes begin with one number
 pub near_table : (bytes entries : List ℕ) (count : ℕ) → Begins bytes (Number count ∷ []) entries → (AreFar entries count → ⊥) → IsFar bytes → ⊥
 near_table bytes entries count b near f =
     let u = one_number bytes f.2 b in
-    let P : List ℕ → Type 0 = λ c. AreFar c f.1 in
-    let Q : ℕ → Type 0 = λ n. AreFar entries n in
-    near (subst Q u.1 (subst P u.2 f.3))
+    near (rw (← u.1) (rw (← u.2) f.3))
 
 pub too_far_weaker : {P Q : Type 0} (fault : NameIndexFault) → (P → Q) → IfTooFar fault P → IfTooFar fault Q
 too_far_weaker NoRoom h p = tt
@@ -155,63 +152,26 @@ module _ (entries places : List ℕ) (index : ℕ) (d : ℕ) (placed : ArePlaced
       let e = pair_there f.0 f.1 f.2 in
       (f.0.1, e ∙ ap (λ k. Some (k, f.0.1)) (sym n.0))
 
--- ---- a search's state
+-- ---- what a search knows
 
-pub record Searched (entries places key : List ℕ) (low high : ℕ) : Type 0 where
-  pub ordered : low ≤ high
-  pub within : high ≤ length places
-  pub narrowed : (placed : ArePlaced entries places) → Narrowed (to_key key) placed.these.pairs low high
+-- the pairs at the places
+abbrev pub pairs_at : {entries places : List ℕ} → ArePlaced entries places → List (List ℕ × List ℕ)
+pairs_at placed = placed.these.pairs
 
-pub searched_start : (entries places key : List ℕ) (high : ℕ) → high ≡ length places → Searched entries places key 0 high
-searched_start entries places key high e = record {
-  ordered = omega arith;
-  within = omega (arith, e);
-  narrowed = λ placed. Narrowed-whole (to_key key) placed.these.pairs high (omega (arith, e, placed.these.count_is));
-}
+pub known_at : {entries places : List ℕ} (key : List ℕ) (placed : ArePlaced entries places) → (length (pairs_at placed) ≡ length places) × Ascends (to_key key) (pairs_at placed)
+known_at key placed = (placed.these.count_is, ascends placed.these.pairs key placed.these.rises)
 
-module _ (entries places key name : List ℕ) (low high middle : ℕ) (s : Searched entries places key low high) (l : low ≤ middle) (h : middle < high) (there : (placed : ArePlaced entries places) → IsKeyAt placed.these.pairs middle name) where
-  pub searched_less : text_order name key ≡ Less → Searched entries places key (middle + 1) high
-  searched_less is = record {
-    ordered = omega (arith, h);
-    within = s.within;
-    narrowed = λ placed. let pairs = placed.these.pairs in let at = there placed in
-        Narrowed-less (to_key key) pairs (ascends pairs key placed.these.rises) low high middle name at.0 at.1 (s.narrowed placed) is;
-  }
-
-  pub searched_greater : text_order name key ≡ Greater → Searched entries places key low middle
-  searched_greater is = record {
-    ordered = l;
-    within = omega (arith, h, s.within);
-    narrowed = λ placed. let pairs = placed.these.pairs in let at = there placed in
-        Narrowed-greater (to_key key) pairs (ascends pairs key placed.these.rises) low high middle name at.0 at.1 (s.narrowed placed) is;
-  }
-
-  pub searched_equal : text_order name key ≡ Equal → (placed : ArePlaced entries places) → Splits text_order placed.these.pairs key (Ok middle)
-  searched_equal is placed =
-      let pairs = placed.these.pairs in
-      let at = there placed in
-      Splits-from_Finds one_side pairs key placed.these.rises (Ok middle) (Finds-here (to_key key) pairs middle name at.0 at.1 is)
-
-pub searched_end : (entries places key : List ℕ) (low high : ℕ) → Searched entries places key low high → high ≤ low → (placed : ArePlaced entries places) → Splits text_order placed.these.pairs key (Err low)
-searched_end entries places key low high s h placed =
-    let pairs = placed.these.pairs in
-    Splits-from_Finds one_side pairs key placed.these.rises (Err low)
-    (Finds-nowhere (to_key key) pairs low high h (omega (arith, h, s.ordered, s.within, placed.these.count_is)) (s.narrowed placed))
+pub splits_at : {entries places : List ℕ} (key : List ℕ) (r : Result ℕ ℕ) (placed : ArePlaced entries places) → Finds (to_key key) (pairs_at placed) r → Splits text_order (pairs_at placed) key r
+splits_at key r placed f = Splits-from_Finds one_side placed.these.pairs key placed.these.rises r f
 
 -- ---- what is found
-
-pub placed_table : (bytes entries places : List ℕ) → Begins bytes (Number (length places) ∷ []) entries → (placed : ArePlaced entries places) → IsRisingTable bytes placed.these.pairs
-placed_table bytes entries places counted placed =
-    let o : IsOpened bytes entries (length places) = record { counted = counted; these = placed.these } in
-    rising_table bytes entries (length places) o
 
 -- what holds of placed entries holds of the table
 pub of_indexed : {P : List (List ℕ × List ℕ) → Type 0} (bytes entries items places : List ℕ) → IsIndexed bytes entries items → places ≡ items → AsPlaced entries places P → OfTable bytes P
 of_indexed bytes entries items places x e h =
-    let Q : List ℕ → Type 0 = λ p. IsIndexed bytes entries p in
-    let y = subst Q (sym e) x in
-    (y.placed.these.pairs, placed_table bytes entries places y.counted y.placed, h y.placed)
+    let y = rw (sym e) at x in
+    (y.placed.these.pairs, rising_table bytes entries (length places) (record { counted = y.counted; these = y.placed.these }), h y.placed)
 
 -- a count of as many pairs as places
 pub cost_by_pairs : (entries places : List ℕ) (placed : ArePlaced entries places) (old new : Count) → RisesByAtMost (digits (length places)) old new → RisesByAtMost (digits (length placed.these.pairs)) old new
-cost_by_pairs entries places placed old new r = let P : ℕ → Type 0 = λ n. RisesByAtMost (digits n) old new in subst P (sym placed.these.count_is) r
+cost_by_pairs entries places placed old new r = rw placed.these.count_is r

@@ -1,44 +1,42 @@
 -- How the fronts of names that rise stand to a text, and where this cuts the names.
---     head_rises      of two names the front of the greater one doesn't stand lower;  head_below, head_begins      what its answers say of the name
---     led_before      who lies before a name that lies before, does;  cut_at, led_up_to, led_from      what a search knows of the names in front of a place, and from it on
-use Rattle.std.proofs.Common.{◌≡◌, ◌==◌, ◌&&◌, ℕ, zero, suc, ◌+◌, ◌-◌, ◌<◌, ◌≤◌, Bool, true, false, not, cond, List, [], ◌∷◌, length, take, drop, filter, eqb-true, eq-eqb, true≢false, Some, slice_get, refl, sym, ap, ◌∙◌, subst, arith}
+--     head_below, head_begins      what the answers of its front say of a name;  side      how it answers a search
+--     edge_place, edges_part      what the two edges say
+use Rattle.std.proofs.Common.{◌≡◌, ◌==◌, ◌&&◌, ◌⊎◌, inl, inr, ℕ, zero, suc, ◌+◌, ◌-◌, ◌≤◌, Bool, true, false, not, cond, List, [], ◌∷◌, length, filter, eqb-true, eq-eqb, true≢false, Some, Err, refl, sym, ap, ◌∙◌, arith}
 use Rattle.std.proofs.lemmas.Cmp.{ranked, tied_itself}
 use Rattle.std.specs.Cmp.{nat_cmp_total}
-use Rattle.std.specs.List.{AllByRecursion}
-use Rattle.std.specs.Ordering.{is_le, is_lt, nat_cmp, ordering_index, ordering_then}
+use Rattle.std.specs.Ordering.{is_le, is_lt, nat_cmp, ordering_then}
 use Rattle.std.specs.declared.cmp.Ordering.{Ordering}
 use Rattle.std.specs.declared.cmp.Ordering.TheVariants.{Less, Equal, Greater}
 use Rattle.litemap.specs.Within.{IsCut}
-use Rattle.litemap.proofs.Cuts.{length-before, sub_between}
-use Rattle.litemap_store.specs.Pairs.{BelowAll, Rising, place, sub}
-use Rattle.name_index.specs.Placed.{ArePlaced, IsKeyAt}
+use Rattle.litemap.proofs.Cuts.{before_missing, length-before, sub_between}
+use Rattle.litemap_store.specs.Pairs.{place, sub}
+use Rattle.litemap_store.specs.Queries.{OneSide}
+use Rattle.litemap_store.specs.Search.{Ascends, Finds}
+use Rattle.litemap_store.proofs.Parts.{Less-from_is_lt}
+use Rattle.litemap_store.proofs.Splitting.{Ascends-by_query, Splits-from_Finds, each-weaker}
+use Rattle.name_index.specs.Placed.{ArePlaced}
 use Rattle.name_index.specs.Prefixes.{begins, head_order, leads_to}
 use Rattle.name_index.specs.Tables.{text_order}
+use Rattle.name_index.proofs.Placing.{pairs_at}
+use Rattle.name_index.proofs.Scanning.{text_order_total}
 
 -- ---- the front of one name
-two_at_most : (o : Ordering) → ordering_index o ≤ 2
-two_at_most Less = omega arith
-two_at_most Equal = omega arith
-two_at_most Greater = omega arith
-
-head_rises : (text a b : List ℕ) → text_order a b ≡ Less → ordering_index (head_order a text) ≤ ordering_index (head_order b text)
-head_rises [] a b e = omega arith
-head_rises (t ∷ text) [] b e = omega arith
-head_rises (t ∷ text) (x ∷ a) [] e = absurd (cc)
-head_rises (t ∷ text) (x ∷ a) (y ∷ b) e = by (λ f. head_rises text a b f) (nat_cmp x y) refl (nat_cmp y t) refl
+-- where the front of a name is not behind the text, those of the names below it are not
+head_le : (text a b : List ℕ) → text_order a b ≡ Less → is_le (head_order b text) ≡ true → is_le (head_order a text) ≡ true
+head_le (t ∷ text) (x ∷ a) [] e h = absurd (cc)
+head_le (t ∷ text) (x ∷ a) (y ∷ b) e h = by (head_le text a b) (nat_cmp x y) refl (nat_cmp y t) refl h
   where
-    by : (text_order a b ≡ Less → ordering_index (head_order a text) ≤ ordering_index (head_order b text))
-        → (o : Ordering) → nat_cmp x y ≡ o → (u : Ordering) → nat_cmp y t ≡ u
-        → ordering_index (ordering_then (nat_cmp x t) (head_order a text)) ≤ ordering_index (ordering_then (nat_cmp y t) (head_order b text))
-    by rest o d Greater f = rw f (two_at_most (ordering_then (nat_cmp x t) (head_order a text)))
-    by rest Less d Less f = let l : nat_cmp x t ≡ Less = nat_cmp_total.trans x y t d f in rw l (omega arith)
-    by rest Less d Equal f = let l : nat_cmp x t ≡ Less = ap (nat_cmp x) (sym (ranked y t Equal (sym f))) ∙ d in rw l (omega arith)
-    by rest Equal d Less f = let l : nat_cmp x t ≡ Less = ap (λ n. nat_cmp n t) (ranked x y Equal (sym d)) ∙ f in rw l (omega arith)
-    by rest Equal d Equal f =
+    by : (text_order a b ≡ Less → is_le (head_order b text) ≡ true → is_le (head_order a text) ≡ true) → (o : Ordering) → nat_cmp x y ≡ o → (u : Ordering) → nat_cmp y t ≡ u
+        → is_le (ordering_then (nat_cmp y t) (head_order b text)) ≡ true → is_le (ordering_then (nat_cmp x t) (head_order a text)) ≡ true
+    by rest Less d Less f g = rw (nat_cmp_total.trans x y t d f)
+    by rest Less d Equal f g = rw (ap (nat_cmp x) (sym (ranked y t Equal (sym f))) ∙ d)
+    by rest Equal d Less f g = rw (ap (λ n. nat_cmp n t) (ranked x y Equal (sym d)) ∙ f)
+    by rest Equal d Equal f g =
         let l : nat_cmp x t ≡ Equal = ap (λ n. nat_cmp n t) (ranked x y Equal (sym d)) ∙ f in
-        let below : text_order a b ≡ Less = sym (ap (λ o. ordering_then o (text_order a b)) d) ∙ e in
-        rw (l, f) (rest below)
-    by rest Greater d u f = let g : Greater ≡ Less = sym (ap (λ o. ordering_then o (text_order a b)) d) ∙ e in absurd (cc)
+        rw l (rest (sym (ap (λ o. ordering_then o (text_order a b)) d) ∙ e) (rw f at g))
+    by rest Greater d u f g = let k : Greater ≡ Less = sym (ap (λ o. ordering_then o (text_order a b)) d) ∙ e in absurd (cc)
+    by rest _ d Greater f g = let k : false ≡ true = rw f at g in absurd (cc)
+head_le _ _ b e h = refl
 
 -- it is below the text where the name is
 pub head_below : (text name : List ℕ) → is_lt (head_order name text) ≡ is_lt (text_order name text)
@@ -62,8 +60,6 @@ unequal x t o e n = by (t == x) refl
 
 -- it is neither below nor above it where the name begins with it
 pub head_begins : (text name : List ℕ) → not (is_lt (head_order name text)) && is_le (head_order name text) ≡ begins name text
-head_begins [] name = refl
-head_begins (t ∷ text) [] = refl
 head_begins (t ∷ text) (x ∷ name) = by (head_begins text name) (nat_cmp x t) refl
   where
     by : not (is_lt (head_order name text)) && is_le (head_order name text) ≡ begins name text → (o : Ordering) → nat_cmp x t ≡ o
@@ -72,129 +68,50 @@ head_begins (t ∷ text) (x ∷ name) = by (head_begins text name) (nat_cmp x t)
     by rest Less e = rw (e, unequal x t Less e (λ d. cc)) refl
     by rest Equal e = let s : (t == x) ≡ true = eq-eqb t x (sym (ranked x t Equal (sym e))) in rw (e, s) rest
     by rest Greater e = rw (e, unequal x t Greater e (λ d. cc)) refl
+head_begins _ _ = refl
 
 -- ---- names that rise
-lower_lt : (o u : Ordering) → ordering_index o ≤ ordering_index u → is_lt u ≡ true → is_lt o ≡ true
-lower_lt Less u l h = refl
-lower_lt Equal Less l h = absurd (omega (arith, l))
-lower_lt Equal Equal l h = h
-lower_lt Equal Greater l h = h
-lower_lt Greater Less l h = absurd (omega (arith, l))
-lower_lt Greater Equal l h = h
-lower_lt Greater Greater l h = h
-
-lower_le : (o u : Ordering) → ordering_index o ≤ ordering_index u → is_le u ≡ true → is_le o ≡ true
-lower_le Less u l h = refl
-lower_le Equal u l h = refl
-lower_le Greater Less l h = absurd (omega (arith, l))
-lower_le Greater Equal l h = absurd (omega (arith, l))
-lower_le Greater Greater l h = h
-
 led_before : (behind : Bool) (text a b : List ℕ) → text_order a b ≡ Less → leads_to behind text b ≡ true → leads_to behind text a ≡ true
-led_before false text a b e h = lower_lt (head_order a text) (head_order b text) (head_rises text a b e) h
-led_before true text a b e h = lower_le (head_order a text) (head_order b text) (head_rises text a b e) h
+led_before false text a b e h =
+    let l : text_order b text ≡ Less = Less-from_is_lt (text_order b text) (sym h ∙ head_below text b) in
+    head_below text a ∙ ap is_lt (text_order_total.trans a b text e l)
+led_before true text a b e h = head_le text a b e h
 
-unled_behind : (behind : Bool) (text a b : List ℕ) → text_order a b ≡ Less → leads_to behind text a ≡ false → leads_to behind text b ≡ false
-unled_behind behind text a b e h = by (leads_to behind text b) refl
+-- how a name answers: that it lies before, or behind
+abbrev pub side : Bool → List ℕ → List ℕ → Ordering
+side behind text name = cond (leads_to behind text name) Less Greater
+
+-- of two names that rise the lower one lies before, or the higher one behind
+side_one : (behind : Bool) → OneSide text_order (λ name text. side behind text name)
+side_one behind text a b l = by (leads_to behind text b) refl
   where
-    by : (c : Bool) → leads_to behind text b ≡ c → leads_to behind text b ≡ false
-    by false d = d
-    by true d = absurd (true≢false (sym (led_before behind text a b e d) ∙ h))
+    by : (c : Bool) → leads_to behind text b ≡ c → (side behind text a ≡ Less) ⊎ (side behind text b ≡ Greater)
+    by true e = inl (ap (λ d. cond d Less Greater) (led_before behind text a b l e))
+    by false e = inr (ap (λ d. cond d Less Greater) e)
 
-below_at : (key : List ℕ) (L : List (List ℕ × List ℕ)) (i : ℕ) (p : List ℕ × List ℕ) → BelowAll text_order key L → slice_get L i ≡ Some p → text_order key p.0 ≡ Less
-below_at key [] zero p b e = absurd (cc)
-below_at key [] (suc i) p b e = absurd (cc)
-below_at key (q ∷ L) zero p b e = let s : q ≡ p = cc in subst (λ (r : List ℕ × List ℕ). text_order key r.0 ≡ Less) s b.0
-below_at key (q ∷ L) (suc i) p b e = below_at key L i p b.1 e
+side_is : (b : Bool) → is_lt (cond b Less Greater) ≡ b
+side_is true = refl
+side_is false = refl
 
-module _ (behind : Bool) (text : List ℕ) where
-  -- all of them lie before, or none does
-  abbrev pub AllLed : List (List ℕ × List ℕ) → Bool → Type 0
-  AllLed L b = AllByRecursion (λ (p : List ℕ × List ℕ). leads_to behind text p.0 ≡ b) L
+same_cut : {X : Type 0} (f g : X → Bool) (L : List X) (n : ℕ) → ((x : X) → f x ≡ g x) → IsCut f L n → IsCut g L n
+same_cut f g [] n e h = h
+same_cut f g (x ∷ L) zero e h = each-weaker (λ y d. sym (e y) ∙ d) (x ∷ L) h
+same_cut f g (x ∷ L) (suc n) e h = (sym (e x) ∙ h.0, same_cut f g L n e h.1)
 
-  up_to : (L : List (List ℕ × List ℕ)) (i : ℕ) (p : List ℕ × List ℕ) → Rising text_order L → slice_get L i ≡ Some p → leads_to behind text p.0 ≡ true → AllLed (take (suc i) L) true
-  up_to [] zero p r e h = absurd (cc)
-  up_to [] (suc i) p r e h = absurd (cc)
-  up_to (q ∷ L) zero p r e h = let s : q ≡ p = cc in (subst (λ (u : List ℕ × List ℕ). leads_to behind text u.0 ≡ true) (sym s) h, tt)
-  up_to (q ∷ L) (suc i) p r e h = (led_before behind text q.0 p.0 (below_at q.0 L i p r.0 e) h, up_to L i p r.1 e h)
+module _ {entries places : List ℕ} (behind : Bool) (text : List ℕ) (placed : ArePlaced entries places) where
+  pub known_sides : (length (pairs_at placed) ≡ length places) × Ascends (side behind text) (pairs_at placed)
+  known_sides = (placed.these.count_is, Ascends-by_query (side_one behind) placed.these.pairs text placed.these.rises)
 
-  -- the names up to one that lies before do
-  pub led_up_to : (L : List (List ℕ × List ℕ)) (i : ℕ) (p : List ℕ × List ℕ) → Rising text_order L → slice_get L i ≡ Some p → leads_to behind text p.0 ≡ true → AllLed (take (i + 1) L) true
-  led_up_to L i p r e h = let s : suc i ≡ i + 1 = omega arith in subst (λ n. AllLed (take n L) true) s (up_to L i p r e h)
-
-  above : (key : List ℕ) (L : List (List ℕ × List ℕ)) → BelowAll text_order key L → leads_to behind text key ≡ false → AllLed L false
-  above key [] b h = tt
-  above key (q ∷ L) b h = (unled_behind behind text key q.0 b.0 h, above key L b.1 h)
-
-  -- those from one on that doesn't lie before don't
-  pub led_from : (L : List (List ℕ × List ℕ)) (i : ℕ) (p : List ℕ × List ℕ) → Rising text_order L → slice_get L i ≡ Some p → leads_to behind text p.0 ≡ false → AllLed (drop i L) false
-  led_from [] zero p r e h = absurd (cc)
-  led_from [] (suc i) p r e h = absurd (cc)
-  led_from (q ∷ L) zero p r e h =
-      let s : q ≡ p = cc in
-      let g : leads_to behind text q.0 ≡ false = subst (λ (u : List ℕ × List ℕ). leads_to behind text u.0 ≡ false) (sym s) h in
-      (g, above q.0 L r.0 g)
-  led_from (q ∷ L) (suc i) p r e h = led_from L i p r.1 e h
-
-  -- nothing stands behind the last one
-  pub led_past : (L : List (List ℕ × List ℕ)) (n : ℕ) → length L ≤ n → AllLed (drop n L) false
-  led_past [] zero h = tt
-  led_past [] (suc n) h = tt
-  led_past (q ∷ L) zero h = absurd (omega (arith, h))
-  led_past (q ∷ L) (suc n) h = led_past L n (omega (arith, h))
-
-  pub cut_at : (L : List (List ℕ × List ℕ)) (n : ℕ) → n ≤ length L → AllLed (take n L) true → AllLed (drop n L) false → IsCut (λ p. leads_to behind text p.0) L n
-  cut_at [] zero h a b = refl
-  cut_at [] (suc n) h a b = absurd (omega (arith, h))
-  cut_at (q ∷ L) zero h a b = b
-  cut_at (q ∷ L) (suc n) h a b = (a.0, cut_at L n (omega (arith, h)) a.1 b)
+  pub cut_sides : (n : ℕ) → Finds (side behind text) (pairs_at placed) (Err n) → IsCut (λ p. leads_to behind text p.0) placed.these.pairs n
+  cut_sides n f =
+      same_cut (λ p. is_lt (side behind text p.0)) (λ p. leads_to behind text p.0) placed.these.pairs n (λ p. side_is (leads_to behind text p.0))
+      (before_missing (λ name text. side behind text name) text placed.these.pairs n (Splits-from_Finds (side_one behind) placed.these.pairs text placed.these.rises (Err n) f))
 
 -- ---- what is filtered
 
 pub same_filter : {X : Type 0} (f g : X → Bool) (L : List X) → ((x : X) → f x ≡ g x) → filter f L ≡ filter g L
 same_filter f g [] e = refl
 same_filter f g (x ∷ L) e = (λ i. cond (e x i) (x ∷ same_filter f g L e i) (same_filter f g L e i))
-
--- ---- a search's state
-pub record Edged (entries places : List ℕ) (behind : Bool) (text : List ℕ) (low high : ℕ) : Type 0 where
-  pub ordered : low ≤ high
-  pub within : high ≤ length places
-  pub front : (placed : ArePlaced entries places) → AllLed behind text (take low placed.these.pairs) true
-  pub back : (placed : ArePlaced entries places) → AllLed behind text (drop high placed.these.pairs) false
-
-module _ (entries places : List ℕ) (behind : Bool) (text : List ℕ) where
-  pub edged_start : (high : ℕ) → high ≡ length places → Edged entries places behind text 0 high
-  edged_start high e = record {
-    ordered = omega arith;
-    within = omega (arith, e);
-    front = λ placed. tt;
-    back = λ placed. led_past behind text placed.these.pairs high (omega (arith, e, placed.these.count_is));
-  }
-
-  module _ (name : List ℕ) (low high middle : ℕ) (s : Edged entries places behind text low high) (l : low ≤ middle) (h : middle < high)
-      (there : (placed : ArePlaced entries places) → IsKeyAt placed.these.pairs middle name) where
-    pub edged_led : leads_to behind text name ≡ true → Edged entries places behind text (middle + 1) high
-    edged_led is = record {
-      ordered = omega (arith, h);
-      within = s.within;
-      front = λ placed. let at = there placed in led_up_to behind text placed.these.pairs middle (name, at.0) placed.these.rises at.1 is;
-      back = s.back;
-    }
-
-    pub edged_unled : leads_to behind text name ≡ false → Edged entries places behind text low middle
-    edged_unled is = record {
-      ordered = l;
-      within = omega (arith, h, s.within);
-      front = s.front;
-      back = λ placed. let at = there placed in led_from behind text placed.these.pairs middle (name, at.0) placed.these.rises at.1 is;
-    }
-
-  pub edged_end : (low high : ℕ) → Edged entries places behind text low high → high ≤ low → (placed : ArePlaced entries places)
-      → IsCut (λ p. leads_to behind text p.0) placed.these.pairs low
-  edged_end low high s h placed =
-      let e : high ≡ low = omega (arith, h, s.ordered) in
-      cut_at behind text placed.these.pairs low (omega (arith, e, s.within, placed.these.count_is)) (s.front placed)
-      (subst (λ n. AllLed behind text (drop n placed.these.pairs) false) e (s.back placed))
 
 -- ---- what the two edges say
 

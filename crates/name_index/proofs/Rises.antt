@@ -1,17 +1,17 @@
 -- Reading on while the keys rise, and where they don't.
-use Rattle.std.proofs.Common.{◌≡◌, true, false, ℕ, ◌-◌, List, [], ◌∷◌, ◌++◌, length, drop, Option, Some, None, slice_get, refl, sym, ap, ◌∙◌, subst, arith, append_assoc, length-append, Bor}
-use Rattle.std.proofs.lemmas.List.{drop_at}
+use Rattle.std.proofs.Common.{◌≡◌, true, false, ℕ, ◌-◌, List, [], ◌∷◌, ◌++◌, length, Option, Some, None, slice_get, refl, sym, ap, ◌∙◌, subst, arith, length-append, Bor}
 use Rattle.std.specs.Ordering.{is_lt}
 use Rattle.std.specs.Prelude.{Bool, IfNone, IfSome, IsTrue}
 use Rattle.std.specs.declared.cmp.Ordering.{Ordering}
-use Rattle.std.specs.declared.cmp.Ordering.TheVariants.{Less, Equal, Greater}
+use Rattle.std.specs.declared.cmp.Ordering.TheVariants.{Less}
 use Rattle.litemap_store.specs.Counts.{RisesByAtMost}
 use Rattle.litemap_store.specs.Pairs.{AllBelow, Rising}
 use Rattle.litemap_store.specs.declared.count.Count.{Count}
 use Rattle.litemap_store.proofs.Counting.{in_turn, not_asked}
+use Rattle.litemap_store.proofs.Parts.{Less-from_is_lt}
 use Rattle.litemap_store.proofs.Ends.{AllBelow-from_last, Rising-push}
-use Rattle.name_table.specs.Parts.{Part, AreParts, Begins, Number, pair_parts}
-use Rattle.name_table.specs.ReadOn.{AreParts-append, pair_parts-append}
+use Rattle.name_table.specs.Parts.{Begins, Number, pair_parts}
+use Rattle.name_table.specs.ReadOn.{begins_none, begins_pairs, begins_then}
 use Rattle.name_table.specs.Remaining.{IsCounted, IsNext, Remaining}
 use Rattle.name_index.specs.Entries.{IsOpened, OfEntries}
 use Rattle.name_index.specs.Faults.{AllRise, RisesTo}
@@ -32,7 +32,7 @@ pub record Checked (s t : Remaining) (last : Option (Bor (List ℕ))) (old new :
 pub checked_start : (s : Remaining) (count : Count) → Checked s s None count count
 checked_start s count = record {
   to = record {
-    on = record { pairs = []; front = []; split = refl; spelled = refl; place = omega arith; count = omega arith };
+    on = record { pairs = []; spelled = begins_none s.rest; place = omega arith; count = omega arith };
     rises = tt;
   };
   last_is = refl;
@@ -44,11 +44,6 @@ pub asked_next : {c d e : Count} (last : Option (Bor (List ℕ))) (L : List (Lis
 asked_next None L p l r z o = in_turn (length L - 1) 0 (length (L ++ p ∷ []) - 1) (omega (arith, length-append L (p ∷ []), ap length l)) r z
 asked_next (Some last) L p l r z o =
     in_turn (length L - 1) 1 (length (L ++ p ∷ []) - 1) (omega (arith, length-append L (p ∷ []), ap length l.2, length-append l.0 ((last.now, l.1) ∷ []))) r o
-
-less_from_true : (o : Ordering) → IsTrue (is_lt o) → o ≡ Less
-less_from_true Less h = refl
-less_from_true Equal h = absurd (cc)
-less_from_true Greater h = absurd (cc)
 
 -- the key is above the last one
 abbrev pub IsAbove : Option (Bor (List ℕ)) → List ℕ → Type 0
@@ -63,11 +58,9 @@ pub rises_on : (last : Option (Bor (List ℕ))) (L : List (List ℕ × List ℕ)
 rises_on None L p e r a = let P : List (List ℕ × List ℕ) → Type 0 = λ M. Rising text_order (M ++ p ∷ []) in subst P (sym e) (tt, tt)
 rises_on (Some last) L p e r a =
     let M = e.0 ++ (last.now, e.1) ∷ [] in
-    let R : List (List ℕ × List ℕ) → Type 0 = λ M. Rising text_order M in
-    let P : List (List ℕ × List ℕ) → Type 0 = λ M. Rising text_order (M ++ p ∷ []) in
-    let s : Rising text_order M = subst R e.2 r in
+    let s : Rising text_order M = rw (← e.2) r in
     let b : AllBelow text_order M p.0 = AllBelow-from_last text_order_total M p.0 (length e.0) (last.now, e.1) s (omega (arith, length-append e.0 ((last.now, e.1) ∷ []))) (last_at e.0 (last.now, e.1)) a in
-    subst P (sym e.2) (Rising-push text_order M p.0 p.1 s b)
+    rw e.2 (Rising-push text_order M p.0 p.1 s b)
 
 rising_last : (L : List (List ℕ × List ℕ)) (x y : List ℕ × List ℕ) → Rising text_order ((L ++ x ∷ []) ++ y ∷ []) → text_order x.0 y.0 ≡ Less
 rising_last [] x y r = r.0.0
@@ -75,13 +68,12 @@ rising_last (z ∷ L) x y r = rising_last L x y r.1
 
 pub falls_on : (last : Bor (List ℕ)) (L : List (List ℕ × List ℕ)) (p : List ℕ × List ℕ) → LastKey (Some last) L → Rising text_order (L ++ p ∷ []) → text_order last.now p.0 ≡ Less
 falls_on last L p e r =
-    let P : List (List ℕ × List ℕ) → Type 0 = λ M. Rising text_order (M ++ p ∷ []) in
-    rising_last e.0 (last.now, e.1) p (subst P e.2 r)
+    rising_last e.0 (last.now, e.1) p (rw (← e.2) r)
 
 -- what the test of a key says
 pub above_true : (last : Option (Bor (List ℕ))) (key : List ℕ) (b : Bool) → IfSome last (λ l. b ≡ is_lt (text_order l.now key)) → IsTrue b → IsAbove last key
 above_true None key b s t = tt
-above_true (Some last) key b s t = less_from_true (text_order last.now key) (sym s ∙ t)
+above_true (Some last) key b s t = Less-from_is_lt (text_order last.now key) (sym t ∙ s)
 
 pub above_false : (last : Option (Bor (List ℕ))) (L : List (List ℕ × List ℕ)) (p : List ℕ × List ℕ) (b : Bool) → LastKey last L → IfNone last (IsTrue b) → IfSome last (λ l. b ≡ is_lt (text_order l.now p.0)) → b ≡ false → Rising text_order (L ++ p ∷ []) → ⊥
 above_false None L p b e n s f r = let h : b ≡ true = n in absurd (cc)
@@ -92,17 +84,12 @@ pub checked_next : (s t u : Remaining) (last : Option (Bor (List ℕ))) (key val
 checked_next s t u last key value old middle new c n a z o =
     let on = c.to.on in
     let p : List ℕ × List ℕ = (key.now, value.now) in
-    let P : List Part → Type 0 = λ xs. AreParts (on.front ++ n.spelled.front) xs in
     record {
       to = record {
         on = record {
           pairs = on.pairs ++ p ∷ [];
-          front = on.front ++ n.spelled.front;
-          split = on.split ∙ ap (λ b. on.front ++ b) n.spelled.split ∙ sym (append_assoc on.front n.spelled.front u.rest);
-          spelled =
-              subst P (sym (pair_parts-append on.pairs (p ∷ [])))
-              (AreParts-append on.front n.spelled.front (pair_parts on.pairs) (pair_parts (p ∷ [])) on.spelled n.spelled.spelled);
-          place = omega (arith, on.place, n.place, length-append on.front n.spelled.front);
+          spelled = begins_pairs s.rest t.rest u.rest on.pairs (p ∷ []) on.spelled n.spelled;
+          place = omega (arith, on.place, n.place, length-append on.spelled.front n.spelled.front);
           count = omega (arith, on.count, n.count, length-append on.pairs (p ∷ []));
         };
         rises = rises_on last on.pairs p c.last_is c.to.rises a;
@@ -114,37 +101,24 @@ checked_next s t u last key value old middle new c n a z o =
 -- the whole table was read
 pub opened : (bytes entries : List ℕ) (s : Remaining) → IsCounted bytes s → entries ≡ s.rest → AllRise s → IsOpened bytes entries s.left
 opened bytes entries s c e a =
-    let P : List ℕ → Type 0 = λ t. IsOpened bytes t s.left in
-    subst P (sym e) (record {
+    rw e (record {
       counted = c.spelled;
       these = record {
         pairs = a.1.on.pairs;
         rest = a.0.rest;
-        spelled = record { front = a.1.on.front; split = a.1.on.split; spelled = a.1.on.spelled };
+        spelled = a.1.on.spelled;
         count_is = omega (arith, a.1.on.count, a.2);
         rises = a.1.rises;
       };
     })
 
--- what stands behind the number of entries
-pub entries_behind : (bytes : List ℕ) (s : Remaining) → IsCounted bytes s → drop s.place bytes ≡ s.rest
-entries_behind bytes s c = ap (λ b. drop s.place b) c.spelled.split ∙ drop_at c.spelled.front s.rest s.place (sym c.place)
-
 -- a table that was opened is one whose keys rise
 pub rising_table : (bytes entries : List ℕ) (count : ℕ) → (o : IsOpened bytes entries count) → IsRisingTable bytes o.these.pairs
-rising_table bytes entries count o =
-    let b = o.counted in
-    let p = o.these.spelled in
-    let A : ℕ → Type 0 = λ n. AreParts (b.front ++ p.front) (Number n ∷ pair_parts o.these.pairs) in
-    record {
-      rest = o.these.rest;
-      table = record {
-        front = b.front ++ p.front;
-        split = b.split ∙ ap (λ c. b.front ++ c) p.split ∙ sym (append_assoc b.front p.front o.these.rest);
-        spelled = subst A (sym o.these.count_is) (AreParts-append b.front p.front (Number count ∷ []) (pair_parts o.these.pairs) b.spelled p.spelled);
-      };
-      rises = o.these.rises;
-    }
+rising_table bytes entries count o = record {
+  rest = o.these.rest;
+  table = begins_then bytes entries o.these.rest (Number (length o.these.pairs) ∷ []) (pair_parts o.these.pairs) (rw o.these.count_is o.counted) o.these.spelled;
+  rises = o.these.rises;
+}
 
 -- what holds of its entries holds of the table
 pub of_entries : {P : List (List ℕ × List ℕ) → Type 0} (bytes entries : List ℕ) (count : ℕ) → Begins bytes (Number count ∷ []) entries → OfEntries entries count P → OfTable bytes P

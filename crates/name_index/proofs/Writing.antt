@@ -1,25 +1,22 @@
 -- What is written of an index stays as it is, and further bytes stand behind it.
-use Rattle.std.proofs.Common.{◌≡◌, ℕ, ◌+◌, ◌*◌, ◌-◌, ◌<◌, ◌≤◌, List, [], ◌∷◌, ◌++◌, length, take, drop, map, get_or, slice_get, Some, Bor, refl, sym, ap, ◌∙◌, subst, arith, append_assoc, length-append, inl, inr}
-use Rattle.std.specs.Prelude.{IsUtf8}
-use Rattle.std.specs.Int.{from_le_bytes, to_le_bytes, w32}
+use Rattle.std.proofs.Common.{◌≡◌, ℕ, ◌+◌, ◌*◌, ◌<◌, ◌≤◌, List, [], ◌∷◌, ◌++◌, length, take, drop, map, get_or, slice_get, Some, Bor, refl, sym, ap, ◌∙◌, arith, append_assoc, length-append, inl, inr}
+use Rattle.std.specs.Int.{from_le_bytes, w32}
 use Rattle.std.proofs.Math.Nat.{eq-or-lt_of_le}
-use Rattle.std.proofs.lemmas.Nat.{from_le_bytes-to_le_bytes_4}
-use Rattle.std.proofs.lemmas.List.{drop-append-le, drop_at, length-drop, length-take, take-append-le, take_all, append-nil, length-map}
+use Rattle.std.proofs.lemmas.List.{drop-append-le, length-drop, length-take, take-append-le, take_all, length-map}
 use Rattle.std.proofs.lemmas.List.Sums.{sum_by-cons, sum_by-take-le, sum_by_more}
 use Rattle.std.specs.Option.{option_map}
 use Rattle.std.proofs.lemmas.Option.{get_or_from_slice_get, slice_get-get_or, slice_get-map, slice_get_within}
 use Rattle.litemap.specs.ByBytes.{by_bytes}
 use Rattle.litemap_store.specs.Pairs.{Rising}
+use Rattle.name_table.specs.Numbers.{number_limit}
 use Rattle.name_index.specs.Index.{BeginsAt, IsIndex, IsNumberAt, IsPairAt, IsTextAt}
 use Rattle.name_index.specs.Tables.{text_order}
+use Rattle.name_table.specs.Reads.{Text}
 use Rattle.name_table.specs.Remaining.{shown}
 use Rattle.name_table.proofs.ReadAgain.{shown_rise}
 use Rattle.name_index.specs.Writes.{Adds, AddsPairs, ArePlaces, entries_size, pair_size}
 
 -- ---- bytes behind bytes
-
-pub adds_none : (old : List ℕ) → Adds old old 0
-adds_none old = record { more = []; added = sym (append-nil old); size_is = refl }
 
 pub adds_length : (old new : List ℕ) (n : ℕ) → Adds old new n → length new ≡ length old + n
 adds_length old new n a = omega (arith, ap length a.added, length-append old a.more, a.size_is)
@@ -41,8 +38,7 @@ prefix_kept old more at n l =
 
 pub number_kept : (old new : List ℕ) (size at n : ℕ) → Adds old new size → IsNumberAt old at n → IsNumberAt new at n
 number_kept old new size at n a p =
-    let P : List ℕ → Type 0 = λ c. IsNumberAt c at n in
-    subst P (sym a.added) (record {
+    rw a.added (record {
       within = omega (arith, p.within, length-append old a.more);
       value = ap (λ c. from_le_bytes w32 c) (prefix_kept old a.more at 4 p.within) ∙ p.value;
     })
@@ -64,49 +60,6 @@ pair_kept old new size at pair a p =
 
 -- ---- what is written stands at the end
 
-pub number_written : (old new : List ℕ) (n : ℕ) → n < 4294967296 → new ≡ old ++ to_le_bytes w32 n → IsNumberAt new (length old) n
-number_written old new n l e =
-    let P : List ℕ → Type 0 = λ c. IsNumberAt c (length old) n in
-    let four : length (to_le_bytes w32 n) ≡ 4 = refl in
-    subst P (sym e) (record {
-      within = omega (arith, length-append old (to_le_bytes w32 n), four);
-      value =
-          ap (λ c. from_le_bytes w32 (take 4 c)) (drop_at old (to_le_bytes w32 n) (length old) refl)
-          ∙ ap (λ c. from_le_bytes w32 c) (take_all 4 (to_le_bytes w32 n) (omega (arith, four)))
-          ∙ from_le_bytes-to_le_bytes_4 n (omega (arith, l));
-    })
-
-pub number_adds : (old new : List ℕ) (n : ℕ) → new ≡ old ++ to_le_bytes w32 n → Adds old new 4
-number_adds old new n e = record { more = to_le_bytes w32 n; added = e; size_is = refl }
-
-pub text_written : (old middle new text : List ℕ) → Adds old middle 4 → IsNumberAt middle (length old) (length text) → new ≡ middle ++ text → IsUtf8 text → IsTextAt new (length old) text
-text_written old middle new text a n e u =
-    let l : length middle ≡ length old + 4 = adds_length old middle 4 a in
-    let b : Adds middle new (length text) = record { more = text; added = e; size_is = refl } in
-    record {
-      size = number_kept middle new (length text) (length old) (length text) b n;
-      there =
-          ap (λ c. take (length text) (drop (length old + 4) c)) e ∙ ap (λ c. take (length text) c) (drop_at middle text (length old + 4) l)
-          ∙ take_all (length text) text (omega arith);
-      utf8 = u;
-    }
-
-pub text_adds : (old middle new text : List ℕ) → Adds old middle 4 → new ≡ middle ++ text → Adds old new (4 + length text)
-text_adds old middle new text a e =
-    let b : Adds middle new (length text) = record { more = text; added = e; size_is = refl } in
-    adds_then old middle new 4 (length text) a b
-
-pub pair_written : (old middle new key value : List ℕ) → Adds old middle (4 + length key) → IsTextAt middle (length old) key → Adds middle new (4 + length value) → IsTextAt new (length middle) value → IsPairAt new (length old) (key, value)
-pair_written old middle new key value a k b v =
-    let l : length middle ≡ length old + 4 + length key = omega (arith, adds_length old middle (4 + length key) a) in
-    let P : ℕ → Type 0 = λ n. IsTextAt new n value in
-    (text_kept middle new (4 + length value) (length old) key b k, subst P l v)
-
-pub pair_adds : (old middle new key value : List ℕ) → Adds old middle (4 + length key) → Adds middle new (4 + length value) → Adds old new (pair_size (key, value))
-pair_adds old middle new key value a b =
-    let P : ℕ → Type 0 = λ n. Adds old new n in
-    subst P (omega arith) (adds_then old middle new (4 + length key) (4 + length value) a b)
-
 -- ---- the first pairs, and one more
 
 module _ (pairs : List (List ℕ × List ℕ)) (index : ℕ) (pair : List ℕ × List ℕ) (e : slice_get pairs index ≡ Some pair) where
@@ -118,13 +71,6 @@ module _ (pairs : List (List ℕ × List ℕ)) (index : ℕ) (pair : List ℕ ×
   pub size_within : entries_size (take index pairs) + pair_size pair ≤ entries_size pairs
   size_within = omega (arith, size_more, sum_by-take-le pair_size pairs (index + 1))
 
-pub places_start : (bytes : List ℕ) (pairs : List (List ℕ × List ℕ)) (n : ℕ) → Adds [] bytes 4 → IsNumberAt bytes 0 n → n ≡ length pairs → ArePlaces bytes pairs 0
-places_start bytes pairs n a number e = let P : ℕ → Type 0 = λ m. IsNumberAt bytes 0 m in record {
-  number = subst P e number;
-  size = omega (arith, adds_length [] bytes 4 a);
-  noted = λ i l. absurd (omega (arith, l));
-}
-
 pub places_next : (old new : List ℕ) (pairs : List (List ℕ × List ℕ)) (index place : ℕ) → ArePlaces old pairs index → place ≡ entries_size (take index pairs) → Adds old new 4 → IsNumberAt new (length old) place → ArePlaces new pairs (index + 1)
 places_next old new pairs index place p e a n = record {
   number = number_kept old new 4 0 (length pairs) a p.number;
@@ -132,33 +78,24 @@ places_next old new pairs index place p e a n = record {
   noted = λ i l. elim (eq-or-lt_of_le {n = i} {m = index} (omega (arith, l))) [
     | inr h ↦ number_kept old new 4 (4 + 4 * i) (entries_size (take i pairs)) a (p.noted i h)
     | inl h ↦
-        let P : ℕ → Type 0 = λ m. IsNumberAt new m place in
-        let Q : ℕ → Type 0 = λ m. IsNumberAt new (4 + 4 * i) m in
         let w : length old ≡ 4 + 4 * i = omega (arith, p.size, h) in
         let s : place ≡ entries_size (take i pairs) = e ∙ ap (λ k. entries_size (take k pairs)) (sym h) in
-        subst Q s (subst P w n)
+        rw (← s) (rw (← w) n)
   ];
 }
 
-pub pairs_start : (old : List ℕ) (pairs : List (List ℕ × List ℕ)) → AddsPairs old old pairs 0
-pairs_start old pairs = record { adds = adds_none old; there = λ i pair l e. absurd (omega (arith, l)) }
-
 pub pairs_next : (old middle new : List ℕ) (pairs : List (List ℕ × List ℕ)) (index : ℕ) (pair : List ℕ × List ℕ) → AddsPairs old middle pairs index → slice_get pairs index ≡ Some pair → Adds middle new (pair_size pair) → IsPairAt new (length middle) pair → AddsPairs old new pairs (index + 1)
 pairs_next old middle new pairs index pair p e a here =
-    let P : ℕ → Type 0 = λ n. Adds old new n in
     record {
-      adds = subst P (sym (size_more pairs index pair e)) (adds_then old middle new (entries_size (take index pairs)) (pair_size pair) p.adds a);
+      adds = rw (size_more pairs index pair e) (adds_then old middle new (entries_size (take index pairs)) (pair_size pair) p.adds a);
       there = λ i q l f. elim (eq-or-lt_of_le {n = i} {m = index} (omega (arith, l))) [
         | inr h ↦ pair_kept middle new (pair_size pair) (length old + entries_size (take i pairs)) q a (p.there i q h f)
         | inl h ↦
-            let G : ℕ → Type 0 = λ k. slice_get pairs k ≡ Some q in
-            let g : slice_get pairs index ≡ Some q = subst G h f in
+            let g : slice_get pairs index ≡ Some q = rw (← h) f in
             let s : pair ≡ q = cc in
             let w : length middle ≡ length old + entries_size (take i pairs) = adds_length old middle (entries_size (take index pairs)) p.adds ∙ ap (λ k. length old + entries_size (take k pairs)) (sym h) in
             let Q : ℕ → List ℕ × List ℕ → Type 0 = λ n r. IsPairAt new n r in
-            let R : List ℕ × List ℕ → Type 0 = λ r. IsPairAt new (length middle) r in
-            let T : ℕ → Type 0 = λ n. IsPairAt new n q in
-            subst T w (subst R s here)
+            rw (← w) (rw (← s) here)
       ];
     }
 
@@ -171,54 +108,45 @@ index_written old new pairs p a rises = record {
       let l : i < length pairs = slice_get_within pairs i pair e in
       let far = entries_size (take i pairs) in
       let w : length old + far ≡ 4 + 4 * length pairs + far = omega (arith, p.size) in
-      let P : ℕ → Type 0 = λ n. IsPairAt new n pair in
       let b : BeginsAt new (length pairs) i (4 + 4 * length pairs + far) = record {
         far = far;
         noted = number_kept old new (entries_size (take (length pairs) pairs)) (4 + 4 * i) far a.adds (p.noted i l);
         at_is = refl;
       } in
-      (4 + 4 * length pairs + far, b, subst P w (a.there i pair l e));
+      (4 + 4 * length pairs + far, b, rw (← w) (a.there i pair l e));
   rises = rises;
 }
 
 -- ---- a map's pairs, as what they show
 
-abbrev Text : Type 0
-Text = Bor (List ℕ)
-
 pub shown_at : (pairs : List (Text × Text)) (index : ℕ) (d : Text × Text) → index < length pairs → slice_get (map shown pairs) index ≡ Some (shown (get_or pairs index d))
 shown_at pairs index d l = slice_get-map shown pairs index ∙ ap (λ o. option_map shown o) (slice_get-get_or pairs index d l)
-
-pub shown_length : (pairs : List (Text × Text)) → length (map shown pairs) ≡ length pairs
-shown_length pairs = length-map pairs shown
 
 length_less : (pairs : List (List ℕ × List ℕ)) → length pairs ≤ entries_size pairs
 length_less [] = omega arith
 length_less (p ∷ pairs) = omega (arith, sum_by-cons pair_size p pairs, length_less pairs)
 
-pub too_many : (pairs : List (Text × Text)) → 4294967296 ≤ length pairs → 4294967296 ≤ entries_size (map shown pairs)
-too_many pairs h = omega (arith, h, length_less (map shown pairs), shown_length pairs)
+pub too_many : (pairs : List (Text × Text)) → number_limit ≤ length pairs → number_limit ≤ entries_size (map shown pairs)
+too_many pairs h = omega (arith, h, length_less (map shown pairs), length-map pairs shown)
 
 -- where a pair is too large, all are
 module _ (pairs : List (Text × Text)) (index : ℕ) (d : Text × Text) (l : index < length pairs) where
-  pub too_large_at : 4294967296 ≤ pair_size (shown (get_or pairs index d)) → 4294967296 ≤ entries_size (map shown pairs)
+  pub too_large_at : number_limit ≤ pair_size (shown (get_or pairs index d)) → number_limit ≤ entries_size (map shown pairs)
   too_large_at h = omega (arith, h, size_within (map shown pairs) index (shown (get_or pairs index d)) (shown_at pairs index d l))
 
-  pub too_far_at : (place : ℕ) → place ≡ entries_size (take index (map shown pairs)) → 4294967296 ≤ place + pair_size (shown (get_or pairs index d)) → 4294967296 ≤ entries_size (map shown pairs)
+  pub too_far_at : (place : ℕ) → place ≡ entries_size (take index (map shown pairs)) → number_limit ≤ place + pair_size (shown (get_or pairs index d)) → number_limit ≤ entries_size (map shown pairs)
   too_far_at place e h = omega (arith, e, h, size_within (map shown pairs) index (shown (get_or pairs index d)) (shown_at pairs index d l))
 
 pub place_next : (pairs : List (Text × Text)) (index : ℕ) (d : Text × Text) (place next : ℕ) → index < length pairs → place ≡ entries_size (take index (map shown pairs)) → next ≡ place + pair_size (shown (get_or pairs index d)) → next ≡ entries_size (take (index + 1) (map shown pairs))
 place_next pairs index d place next l e n =
     n ∙ ap (λ k. k + pair_size (shown (get_or pairs index d))) e ∙ sym (size_more (map shown pairs) index (shown (get_or pairs index d)) (shown_at pairs index d l))
 
-pub all_small : (pairs : List (Text × Text)) (index place : ℕ) → index ≡ length pairs → place ≡ entries_size (take index (map shown pairs)) → place < 4294967296 → entries_size (map shown pairs) < 4294967296
+pub all_small : (pairs : List (Text × Text)) (index place : ℕ) → index ≡ length pairs → place ≡ entries_size (take index (map shown pairs)) → place < number_limit → entries_size (map shown pairs) < number_limit
 all_small pairs index place i e h =
-    let a : take index (map shown pairs) ≡ map shown pairs = take_all index (map shown pairs) (omega (arith, i, shown_length pairs)) in
+    let a : take index (map shown pairs) ≡ map shown pairs = take_all index (map shown pairs) (omega (arith, i, length-map pairs shown)) in
     omega (arith, h, e, ap entries_size a)
 
 pub shown_written : (old new : List ℕ) (pairs : List (Text × Text)) → ArePlaces old (map shown pairs) (length pairs) → AddsPairs old new (map shown pairs) (length pairs) → Rising by_bytes pairs → IsIndex new (map shown pairs)
 shown_written old new pairs p a rises =
-    let P : ℕ → Type 0 = λ n. ArePlaces old (map shown pairs) n in
-    let Q : ℕ → Type 0 = λ n. AddsPairs old new (map shown pairs) n in
-    let e : length pairs ≡ length (map shown pairs) = sym (shown_length pairs) in
-    index_written old new (map shown pairs) (subst P e p) (subst Q e a) (shown_rise pairs rises)
+    let e : length pairs ≡ length (map shown pairs) = sym (length-map pairs shown) in
+    index_written old new (map shown pairs) (rw (← e) p) (rw (← e) a) (shown_rise pairs rises)

@@ -1,5 +1,6 @@
 -- The places of the entries of a table.
 use Rattle.std.specs.Prelude.{◌≡◌, ℕ, ◌<◌, ◌≤◌, List, drop, length, Some, slice_get, ⊤}
+use Rattle.name_table.specs.Numbers.{number_limit}
 use Rattle.name_table.specs.Parts.{Begins, Number, pair_parts}
 use Rattle.name_index.specs.Entries.{AreEntries}
 use Rattle.name_index.specs.declared.fault.NameIndexFault.{NameIndexFault}
@@ -31,7 +32,7 @@ pub record AreFar (entries : List ℕ) (count : ℕ) : Type 0 where
   pub rest : List ℕ
   pub spelled : Begins entries (pair_parts before) rest
   pub due : length before < count
-  pub far : 4294967296 ≤ length spelled.front
+  pub far : number_limit ≤ length spelled.front
 
 -- the bytes begin with the number of such entries
 abbrev pub IsFar : List ℕ → Type 0

@@ -3,6 +3,7 @@ ghost use Rattle.std.specs.Prelude.{◌≡◌, ◌+◌, ◌*◌, ◌≤◌, ◌<
 ghost use Rattle.litemap.specs.ByBytes.{by_bytes};
 ghost use Rattle.litemap_store.specs.Pairs.{Rising};
 ghost use Rattle.name_index.specs.Index.{IsIndex, IsNumberAt, IsPairAt, IsTextAt};
+ghost use Rattle.name_table.specs.Numbers.{number_limit};
 ghost use Rattle.name_table.specs.Remaining.{shown};
 ghost use Rattle.name_index.specs.Writes.{Adds, AddsPairs, ArePlaces, entries_size, index_size, pair_size};
 ghost use Rattle.name_table.specs.Writes.{IfTooLarge};
@@ -17,8 +18,8 @@ use std::alloc::Global;
 pub fn write_index(alloc: Global, names: &NameMap<'_>) -> Result<Vec<u8>, NameWriteFault>
     ensures index { IfOk result (λ bytes. IsIndex bytes.items (map shown names.now.pairs)) }
     ensures size { IfOk result (λ bytes. length bytes.items ≡ index_size (map shown names.now.pairs)) }
-    ensures too_large { IfErr result (λ fault. IfTooLarge fault (4294967296 ≤ entries_size (map shown names.now.pairs))) }
-    ensures small { OnOk result (entries_size (map shown names.now.pairs) < 4294967296) }
+    ensures too_large { IfErr result (λ fault. IfTooLarge fault (number_limit ≤ entries_size (map shown names.now.pairs))) }
+    ensures small { OnOk result (entries_size (map shown names.now.pairs) < number_limit) }
 {
     write_index_of(alloc, names.as_slice())
 }
@@ -28,8 +29,8 @@ pub fn write_index_of(alloc: Global, names: &[(&str, &str)]) -> Result<Vec<u8>, 
     requires { Rising by_bytes names.now }
     ensures index { IfOk result (λ bytes. IsIndex bytes.items (map shown names.now)) }
     ensures size { IfOk result (λ bytes. length bytes.items ≡ index_size (map shown names.now)) }
-    ensures too_large { IfErr result (λ fault. IfTooLarge fault (4294967296 ≤ entries_size (map shown names.now))) }
-    ensures small { OnOk result (entries_size (map shown names.now) < 4294967296) }
+    ensures too_large { IfErr result (λ fault. IfTooLarge fault (number_limit ≤ entries_size (map shown names.now))) }
+    ensures small { OnOk result (entries_size (map shown names.now) < number_limit) }
 {
     let mut bytes = put_places(alloc, names)?;
     put_entries(&mut bytes, names)?;
@@ -39,8 +40,8 @@ pub fn write_index_of(alloc: Global, names: &[(&str, &str)]) -> Result<Vec<u8>, 
 // Writes the number of pairs, and the place of each.
 fn put_places(alloc: Global, pairs: &[(&str, &str)]) -> Result<Vec<u8>, NameWriteFault>
     ensures places { IfOk result (λ bytes. ArePlaces bytes.items (map shown pairs.now) (length pairs.now)) }
-    ensures too_large { IfErr result (λ fault. IfTooLarge fault (4294967296 ≤ entries_size (map shown pairs.now))) }
-    ensures small { OnOk result (entries_size (map shown pairs.now) < 4294967296) }
+    ensures too_large { IfErr result (λ fault. IfTooLarge fault (number_limit ≤ entries_size (map shown pairs.now))) }
+    ensures small { OnOk result (entries_size (map shown pairs.now) < number_limit) }
 {
     let mut bytes = Vec::new(alloc);
     put_number(&mut bytes, pairs.len())?;
@@ -55,7 +56,7 @@ fn put_places(alloc: Global, pairs: &[(&str, &str)]) -> Result<Vec<u8>, NameWrit
 // Writes the pairs.
 fn put_entries(bytes: &mut Vec<u8>, pairs: &[(&str, &str)]) -> Result<(), NameWriteFault>
     ensures pairs { OnOk result (AddsPairs bytes.old.items bytes.new.items (map shown pairs.now) (length pairs.now)) }
-    ensures too_large { IfErr result (λ fault. IfTooLarge fault (4294967296 ≤ entries_size (map shown pairs.now))) }
+    ensures too_large { IfErr result (λ fault. IfTooLarge fault (number_limit ≤ entries_size (map shown pairs.now))) }
 {
     for pair in pairs {
         put_pair(bytes, pair.0, pair.1)?;
@@ -65,10 +66,10 @@ fn put_entries(bytes: &mut Vec<u8>, pairs: &[(&str, &str)]) -> Result<(), NameWr
 
 // The place behind a pair, where it is one that can be noted.
 fn behind(place: usize, key: &str, value: &str) -> Result<usize, NameWriteFault>
-    requires { place < 4294967296 }
+    requires { place < number_limit }
     ensures next { IfOk result (λ next. next ≡ place + pair_size (key.now, value.now)) }
-    ensures small { IfOk result (λ next. next < 4294967296) }
-    ensures too_large { IfErr result (λ fault. (fault ≡ TooLarge) × (4294967296 ≤ place + pair_size (key.now, value.now))) }
+    ensures small { IfOk result (λ next. next < number_limit) }
+    ensures too_large { IfErr result (λ fault. (fault ≡ TooLarge) × (number_limit ≤ place + pair_size (key.now, value.now))) }
 {
     if key.len() >= 4_294_967_296 || value.len() >= 4_294_967_296 {
         return Err(NameWriteFault::TooLarge);
@@ -85,7 +86,7 @@ fn behind(place: usize, key: &str, value: &str) -> Result<usize, NameWriteFault>
 fn put_pair(bytes: &mut Vec<u8>, key: &str, value: &str) -> Result<(), NameWriteFault>
     ensures adds { OnOk result (Adds bytes.old.items bytes.new.items (pair_size (key.now, value.now))) }
     ensures pair { OnOk result (IsPairAt bytes.new.items (length bytes.old.items) (key.now, value.now)) }
-    ensures too_large { IfErr result (λ fault. IfTooLarge fault (4294967296 ≤ pair_size (key.now, value.now))) }
+    ensures too_large { IfErr result (λ fault. IfTooLarge fault (number_limit ≤ pair_size (key.now, value.now))) }
 {
     put_text(bytes, key)?;
     put_text(bytes, value)?;
@@ -96,7 +97,7 @@ fn put_pair(bytes: &mut Vec<u8>, key: &str, value: &str) -> Result<(), NameWrite
 fn put_text(bytes: &mut Vec<u8>, text: &str) -> Result<(), NameWriteFault>
     ensures adds { OnOk result (Adds bytes.old.items bytes.new.items (4 + length text.now)) }
     ensures text { OnOk result (IsTextAt bytes.new.items (length bytes.old.items) text.now) }
-    ensures too_large { IfErr result (λ fault. IfTooLarge fault (4294967296 ≤ length text.now)) }
+    ensures too_large { IfErr result (λ fault. IfTooLarge fault (number_limit ≤ length text.now)) }
 {
     put_number(bytes, text.len())?;
     bytes.extend_from_slice(text.as_bytes())?;
@@ -107,9 +108,9 @@ fn put_text(bytes: &mut Vec<u8>, text: &str) -> Result<(), NameWriteFault>
 fn put_number(bytes: &mut Vec<u8>, number: usize) -> Result<(), NameWriteFault>
     ensures adds { OnOk result (Adds bytes.old.items bytes.new.items 4) }
     ensures number { OnOk result (IsNumberAt bytes.new.items (length bytes.old.items) number) }
-    ensures small { OnOk result (number < 4294967296) }
-    ensures too_large { IfErr result (λ fault. IfTooLarge fault (4294967296 ≤ number)) }
-    ensures refused { 4294967296 ≤ number → result ≡ Err TooLarge }
+    ensures small { OnOk result (number < number_limit) }
+    ensures too_large { IfErr result (λ fault. IfTooLarge fault (number_limit ≤ number)) }
+    ensures refused { number_limit ≤ number → result ≡ Err TooLarge }
 {
     if number >= 4_294_967_296 {
         return Err(NameWriteFault::TooLarge);

@@ -7,6 +7,7 @@ ghost use Rattle.name_index.specs.Entries.{AreEntries};
 ghost use Rattle.name_index.specs.Placed.{AreFar, ArePlaced, AsPlaced, IfTooFar, IsKeyAt};
 ghost use Rattle.name_index.specs.Tables.{text_order};
 ghost use Rattle.name_index.specs.declared.fault.NameIndexFault.TheVariants.{TooFar};
+ghost use Rattle.name_table.specs.Numbers.{number_limit};
 ghost use Rattle.name_table.specs.Remaining.{shown};
 
 use crate::fault::NameIndexFault;
@@ -47,7 +48,7 @@ fn put(places: &mut Vec<u32>, place: u32) -> Result<(), AllocError>
 fn place_of(entries: &[u8], rest: &[u8]) -> Result<u32, NameIndexFault>
     requires { length rest.now ≤ length entries.now }
     ensures place { IfOk result (λ place. place + length rest.now ≡ length entries.now) }
-    ensures far { IfErr result (λ fault. (fault ≡ TooFar) × (4294967296 + length rest.now ≤ length entries.now)) }
+    ensures far { IfErr result (λ fault. (fault ≡ TooFar) × (number_limit + length rest.now ≤ length entries.now)) }
 {
     match u32::try_from(entries.len() - rest.len()) {
         Ok(place) => Ok(place),

@@ -1,11 +1,11 @@
 -- Each list of bytes begins with a table, or has a fault.
-use Rattle.std.proofs.Common.{◌≡◌, ◌≢◌, ◌⊎◌, inl, inr, ℕ, zero, suc, ◌+◌, ◌-◌, ◌*◌, ◌%◌, ◌<◌, ◌≤◌, Bool, true, false, List, [], ◌∷◌, length, take, drop, refl, sym, subst, arith, ⊎_elim}
+use Rattle.std.proofs.Common.{◌≡◌, ◌≢◌, ◌⊎◌, inl, inr, ℕ, zero, suc, ◌+◌, ◌-◌, ◌*◌, ◌%◌, ◌≤◌, Bool, true, false, List, [], ◌∷◌, length, take, drop, refl, sym, subst, arith, ⊎_elim}
 use Rattle.std.proofs.lemmas.Bool.{cases_lt}
 use Rattle.std.proofs.lemmas.List.{length-take-le, take-append-drop}
 use Rattle.std.proofs.lemmas.Str.{IsUtf8-from_is_utf8, is_utf8-from_IsUtf8}
 use Rattle.std.specs.Str.{is_utf8}
 use Rattle.name_table.specs.Faults.{AreOfPairs, AreOfText, Fault, NumberFault, TableFault}
-use Rattle.name_table.specs.Numbers.{BeginsNumber, WhyUnread}
+use Rattle.name_table.specs.Numbers.{BeginsNumber, WhyUnread, number_limit}
 use Rattle.name_table.specs.Parts.{Begins, Number, pair_parts, table_parts, text_parts}
 use Rattle.name_table.specs.Position.{Position}
 use Rattle.name_table.specs.Remaining.{IsCounted, IsNext, Remaining}
@@ -15,7 +15,8 @@ use Rattle.name_table.specs.declared.number.Unread.{Unread}
 use Rattle.name_table.specs.declared.number.Unread.TheVariants.{Ends, TooLong}
 use Rattle.name_table.proofs.FaultLemmas.{length_fault, text_fault}
 use Rattle.name_table.proofs.NumberLemmas.{begins_last, begins_more, begins_number, cut_fault, large_fault, long_fault, unread_more}
-use Rattle.name_table.proofs.PartLemmas.{begins_none, begins_pairs, begins_text, begins_then}
+use Rattle.name_table.proofs.PartLemmas.{begins_text}
+use Rattle.name_table.specs.ReadOn.{begins_none, begins_pairs, begins_then}
 use Rattle.name_table.proofs.Remains.{fault_later, is_next, key_fault, pairs_from_next, value_fault}
 use Rattle.name_table.proofs.WholeTables.{count_fault, pairs_fault}
 
@@ -32,8 +33,8 @@ number_read (suc room) (b ∷ bytes) =
     let less : suc room - 1 ≡ room = omega arith in
     let more : 128 ≤ b → NumberRead room bytes → NumberRead (suc room) (b ∷ bytes) = λ h.
     ⊎_elim
-    (λ r. let P : ℕ → Type 0 = λ m. BeginsNumber bytes m r.0 r.1 in inl (b % 128 + 128 * r.0, r.1, begins_more (b ∷ bytes) bytes b b (suc room) refl refl k r.0 r.1 h (subst P (sym less) r.2)))
-    (λ w. let P : ℕ → Type 0 = λ m. WhyUnread w.0 m bytes in inr (w.0, unread_more (b ∷ bytes) bytes b b (suc room) refl refl k w.0 h (subst P (sym less) w.1))) in
+    (λ r. inl (b % 128 + 128 * r.0, r.1, begins_more (b ∷ bytes) bytes b b (suc room) refl refl k r.0 r.1 h (rw less r.2)))
+    (λ w. inr (w.0, unread_more (b ∷ bytes) bytes b b (suc room) refl refl k w.0 h (rw less w.1))) in
     ⊎_elim (λ h. inl (b, bytes, begins_last (b ∷ bytes) bytes b b (suc room) refl refl k h)) (λ h. more h (number_read room bytes)) (cases_lt b 128)
 
 -- a number below 2^32
@@ -50,7 +51,7 @@ length_read bytes place =
     (λ r. ⊎_elim
     (λ h. inl (r.0, r.1, begins_number bytes r.1 r.0 r.2 h))
     (λ h. inr (NumberTooLarge place, large_fault bytes r.1 r.0 place r.2 h))
-    (cases_lt r.0 4294967296))
+    (cases_lt r.0 number_limit))
     (λ w. inr (unread_fault w.0 bytes place w.1))
     (number_read 5 bytes)
 
@@ -115,8 +116,7 @@ table_read bytes =
     let s : Remaining = record { rest = r.1; place = length r.2.front; left = r.0 } in
     let c : IsCounted bytes s = record { spelled = r.2; place = refl } in
     ⊎_elim
-    (λ p. let P : ℕ → Type 0 = λ n. Begins bytes (Number n ∷ []) r.1 in
-    inl (p.0, p.1, begins_then bytes r.1 p.1 (Number (length p.0) ∷ []) (pair_parts p.0) (subst P (sym p.3) r.2) p.2))
+    (λ p. inl (p.0, p.1, begins_then bytes r.1 p.1 (Number (length p.0) ∷ []) (pair_parts p.0) (rw p.3 r.2) p.2))
     (λ f. inr (f.0, pairs_fault bytes s f.0 c f.1))
     (pairs_read r.0 s refl))
     (λ w. inr (w.0, count_fault bytes w.0 w.1))

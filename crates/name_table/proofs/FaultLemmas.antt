@@ -1,5 +1,5 @@
 -- Faults of the parts in front, and of those behind what was read.
-use Rattle.std.proofs.Common.{◌≡◌, ℕ, ◌+◌, List, [], ◌∷◌, ◌++◌, length, refl, sym, ap, ◌∙◌, subst, arith, append_assoc, length-append}
+use Rattle.std.proofs.Common.{◌≡◌, ℕ, ◌+◌, List, [], ◌∷◌, ◌++◌, length, refl, sym, ap, ◌∙◌, subst, arith, append-nil, append_assoc, length-append}
 use Rattle.std.proofs.Math.ListN.{replicate}
 use Rattle.std.proofs.lemmas.List.{length-replicate}
 use Rattle.name_table.specs.Faults.{NumberFault, TextFault, PartFault, Fault, AreOfText}
@@ -11,14 +11,12 @@ module _ {Allowed : List Part → Type 0} (bytes : List ℕ) (place : ℕ) (faul
   -- the first part can't be read
   pub fault_first : (due : Part) (more : List Part) → Allowed (due ∷ more) → PartFault due bytes place fault → Fault Allowed bytes place fault
   fault_first due more a w =
-      let P : ℕ → Type 0 = λ n. PartFault due bytes n fault in
       let e : place ≡ place + 0 = omega arith in
-      record { done = []; due = due; more = more; allowed = a; front = []; rest = bytes; split = refl; spelled = refl; why = subst P e w }
+      record { done = []; due = due; more = more; allowed = a; front = []; rest = bytes; split = refl; spelled = refl; why = rw (← e) w }
 
   -- one of those behind what was read can't be read
   pub fault_behind : (xs : List Part) (middle : List ℕ) (b : Begins bytes xs middle) (next : ℕ) → next ≡ place + length b.front → Fault (λ ys. Allowed (xs ++ ys)) middle next fault → Fault Allowed bytes place fault
   fault_behind xs middle b next n w =
-      let P : ℕ → Type 0 = λ i. PartFault w.due w.rest i fault in
       let e : next + length w.front ≡ place + length (b.front ++ w.front) = simp length-append (omega (arith, n)) in
       let A : List Part → Type 0 = Allowed in
       record {
@@ -30,7 +28,7 @@ module _ {Allowed : List Part → Type 0} (bytes : List ℕ) (place : ℕ) (faul
         rest = w.rest;
         split = b.split ∙ ap (λ c. b.front ++ c) w.split ∙ sym (append_assoc b.front w.front w.rest);
         spelled = AreParts-append b.front w.front xs w.done b.spelled w.spelled;
-        why = subst P e w.why;
+        why = rw (← e) w.why;
       }
 
 -- where each list of parts that is allowed begins one that is allowed there too
@@ -50,17 +48,7 @@ fault_wider {A} {B} bytes place fault wider w =
     }
 
 pub fault_where : {A B : List Part → Type 0} (bytes : List ℕ) (place : ℕ) (fault : NameFault) → ((xs : List Part) → A xs → B xs) → Fault A bytes place fault → Fault B bytes place fault
-fault_where {A} {B} bytes place fault wider w = record {
-  done = w.done;
-  due = w.due;
-  more = w.more;
-  allowed = wider (w.done ++ w.due ∷ w.more) w.allowed;
-  front = w.front;
-  rest = w.rest;
-  split = w.split;
-  spelled = w.spelled;
-  why = w.why;
-}
+fault_where {A} {B} bytes place fault wider w = fault_wider bytes place fault (λ xs a. ([], rw (append-nil xs) (wider xs a))) w
 
 -- ---- a text behind its length
 
@@ -70,8 +58,7 @@ length_fault bytes place fault w = fault_first bytes place fault (Number 0) (Tex
 -- the text itself: some text is as long
 pub text_fault : (bytes tail : List ℕ) (place next size : ℕ) (fault : NameFault) → (b : Begins bytes (Number size ∷ []) tail) → next ≡ place + length b.front → TextFault size tail next fault → Fault AreOfText bytes place fault
 text_fault bytes tail place next size fault b n w =
-    let P : ℕ → Type 0 = λ i. TextFault i tail next fault in
     let text : List ℕ = replicate size 0 in
     let l : length text ≡ size = length-replicate size 0 in
     fault_behind bytes place fault (Number size ∷ []) tail b next n
-    (fault_first tail next fault (Text text) [] (text, ap (λ i. Number i ∷ Text text ∷ []) (sym l)) (subst P (sym l) w))
+    (fault_first tail next fault (Text text) [] (text, ap (λ i. Number i ∷ Text text ∷ []) (sym l)) (rw l w))

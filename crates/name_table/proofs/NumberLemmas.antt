@@ -1,8 +1,8 @@
 -- Numbers as bytes: one byte more in front, and what a reader of them tells.
-use Rattle.std.proofs.Common.{◌≡◌, ◌≢◌, ℕ, ◌+◌, ◌-◌, ◌*◌, ◌%◌, ◌^◌, ◌<◌, ◌≤◌, List, [], ◌∷◌, length, refl, sym, ap, ◌∙◌, subst, arith, inl, inr, append-nil}
+use Rattle.std.proofs.Common.{◌≡◌, ◌≢◌, ℕ, ◌+◌, ◌-◌, ◌*◌, ◌%◌, ◌^◌, ◌<◌, ◌≤◌, List, [], ◌∷◌, length, refl, sym, ap, ◌∙◌, arith, inl, inr, append-nil}
 use Rattle.std.proofs.Math.Nat.{pow-succ', pow-le-pow_right}
 use Rattle.name_table.specs.Faults.{NumberFault}
-use Rattle.name_table.specs.Numbers.{value_of, EndsAtLast, BeginsNumber, WhyUnread}
+use Rattle.name_table.specs.Numbers.{value_of, EndsAtLast, BeginsNumber, WhyUnread, number_limit}
 use Rattle.name_table.specs.Parts.{Begins, Number}
 use Rattle.name_table.specs.declared.fault.NameFault.TheVariants.{Truncated, NumberTooLarge}
 use Rattle.name_table.specs.declared.number.Unread.{Unread}
@@ -43,19 +43,19 @@ module _ (bytes tail : List ℕ) (b low room : ℕ) (e : bytes ≡ b ∷ tail) (
   }
 
   pub unread_more : (why : Unread) → 128 ≤ low → WhyUnread why (room - 1) tail → WhyUnread why room bytes
-  unread_more Ends h w = let P : List ℕ → Type 0 = λ bs. WhyUnread Ends room bs in
-      subst P (sym e) ((omega (arith, h, l), w.0), omega (arith, w.1, k))
+  unread_more Ends h w =
+      rw e ((omega (arith, h, l), w.0), omega (arith, w.1, k))
   unread_more TooLong h w = (b ∷ w.0, w.1, e ∙ ap (λ bs. b ∷ bs) w.2, (omega (arith, h, l), w.3), omega (arith, w.4, k))
 
 -- a number below 2^32
-pub begins_number : (bytes rest : List ℕ) (n : ℕ) → BeginsNumber bytes 5 n rest → n < 4294967296 → Begins bytes (Number n ∷ []) rest
+pub begins_number : (bytes rest : List ℕ) (n : ℕ) → BeginsNumber bytes 5 n rest → n < number_limit → Begins bytes (Number n ∷ []) rest
 begins_number bytes rest n r h = record {
   front = r.front;
   split = r.split;
   spelled = (r.front, [], sym (append-nil r.front), record { ends = r.ends; value = r.value; short = r.short; small = h }, refl);
 }
 
-pub large_fault : (bytes rest : List ℕ) (n place : ℕ) → BeginsNumber bytes 5 n rest → 4294967296 ≤ n → NumberFault bytes place (NumberTooLarge place)
+pub large_fault : (bytes rest : List ℕ) (n place : ℕ) → BeginsNumber bytes 5 n rest → number_limit ≤ n → NumberFault bytes place (NumberTooLarge place)
 large_fault bytes rest n place r h =
     (refl, record { front = r.front; rest = rest; split = r.split; large = inr (r.ends, r.short, omega (arith, r.value, h)) })
 

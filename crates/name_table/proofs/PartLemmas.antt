@@ -1,7 +1,7 @@
 -- Parts, one behind another.
-use Rattle.std.proofs.Common.{◌≡◌, ℕ, ◌+◌, List, [], ◌∷◌, ◌++◌, length, refl, sym, ap, ◌∙◌, subst, arith, append_assoc, append-nil, length-append}
+use Rattle.std.proofs.Common.{◌≡◌, ℕ, ◌+◌, List, [], ◌∷◌, ◌++◌, length, refl, sym, ap, ◌∙◌, arith, append_assoc, append-nil, length-append}
 use Rattle.std.specs.Prelude.{IsUtf8}
-use Rattle.name_table.specs.ReadOn.{AreParts-append, pair_parts-append}
+use Rattle.name_table.specs.ReadOn.{begins_then}
 use Rattle.name_table.specs.Parts.{Part, Number, Text, IsPart, AreParts, Begins, text_parts, pair_parts}
 use Rattle.name_table.specs.Position.{IsPast, Position}
 
@@ -28,18 +28,10 @@ AreParts-split bytes (x ∷ xs) ys p =
       of_second = s.of_second;
     }
 
-pub begins_then : (bytes middle rest : List ℕ) (xs ys : List Part) → Begins bytes xs middle → Begins middle ys rest → Begins bytes (xs ++ ys) rest
-begins_then bytes middle rest xs ys p q = record {
-  front = p.front ++ q.front;
-  split = p.split ∙ ap (λ c. p.front ++ c) q.split ∙ sym (append_assoc p.front q.front rest);
-  spelled = AreParts-append p.front q.front xs ys p.spelled q.spelled;
-}
-
 -- a text of so many bytes behind their number
 pub begins_text : (bytes tail rest text : List ℕ) (size : ℕ) → Begins bytes (Number size ∷ []) tail → tail ≡ text ++ rest → length text ≡ size → IsUtf8 text → Begins bytes (text_parts text) rest
 begins_text bytes tail rest text size p e l u =
-    let P : ℕ → Type 0 = λ n. Begins bytes (Number n ∷ []) tail in
-    begins_then bytes tail rest (Number (length text) ∷ []) (Text text ∷ []) (subst P (sym l) p)
+    begins_then bytes tail rest (Number (length text) ∷ []) (Text text ∷ []) (rw l p)
     (record { front = text; split = e; spelled = AreParts-one text (Text text) (refl, u) })
 
 -- the same from place to place
@@ -50,24 +42,6 @@ past_text s tail rest text place size p e l u =
       spelled = b;
       place = omega (arith, p.place, l, ap length p.spelled.split, length-append p.spelled.front tail, ap length b.split, length-append b.front rest, ap length e, length-append text rest);
     }
-
--- one pair, its key and its value
-pub begins_pair : (bytes middle rest : List ℕ) (pair : List ℕ × List ℕ) → Begins bytes (text_parts pair.0) middle → Begins middle (text_parts pair.1) rest → Begins bytes (pair_parts (pair ∷ [])) rest
-begins_pair bytes middle rest pair p q = begins_then bytes middle rest (text_parts pair.0) (text_parts pair.1) p q
-
--- more pairs behind pairs
-pub begins_pairs : (bytes middle rest : List ℕ) (J K : List (List ℕ × List ℕ)) → Begins bytes (pair_parts J) middle → Begins middle (pair_parts K) rest → Begins bytes (pair_parts (J ++ K)) rest
-begins_pairs bytes middle rest J K p q =
-    let r = begins_then bytes middle rest (pair_parts J) (pair_parts K) p q in
-    record {
-      front = r.front;
-      split = r.split;
-      spelled = let P : List Part → Type 0 = λ xs. AreParts r.front xs in subst P (sym (pair_parts-append J K)) r.spelled;
-    }
-
--- no parts
-pub begins_none : (bytes : List ℕ) → Begins bytes [] bytes
-begins_none bytes = record { front = []; split = refl; spelled = refl }
 
 -- what follows some parts begins where these end
 pub begins_split : (bytes rest : List ℕ) (xs ys : List Part) → Begins bytes (xs ++ ys) rest → (middle : List ℕ) × Begins bytes xs middle × Begins middle ys rest

@@ -1,5 +1,5 @@
 -- A table is read as what was written.
-use Rattle.std.proofs.Common.{◌≡◌, ℕ, List, [], ◌∷◌, ◌++◌, length, map, sym, ap, ◌∙◌, subst, append-nil}
+use Rattle.std.proofs.Common.{◌≡◌, ℕ, List, [], ◌∷◌, ◌++◌, length, map, sym, ap, ◌∙◌, append-nil}
 use Rattle.std.specs.Cmp.{IsTotalOrder}
 use Rattle.std.specs.Cmp.Lexicographic.{slice_cmp, on_texts}
 use Rattle.std.specs.Ordering.{nat_cmp}
@@ -38,8 +38,7 @@ read_again bytes pairs table rising =
     record {
       same = λ M size r.
           let u = table_unique bytes (map shown r.pairs) (map shown pairs) r.rest [] r.table whole in
-          let P : List (List ℕ × List ℕ) → Type 0 = λ L. Rising (slice_cmp nat_cmp) L in
-          let rises : Rising by_bytes r.pairs = rise_shown r.pairs (subst P (sym u.0) (shown_rise pairs rising)) in
+          let rises : Rising by_bytes r.pairs = rise_shown r.pairs (rw u.0 (shown_rise pairs rising)) in
           let m : M ≡ r.pairs = Last-unique by_bytes by_bytes_total r.pairs M r.pairs r.last (Last-rising by_bytes r.pairs rises) in
           let e : bytes ≡ r.table.front = r.table.split ∙ ap (λ c. r.table.front ++ c) u.1 ∙ append-nil r.table.front in
           (ap (λ L. map shown L) m ∙ u.0, r.size_is ∙ sym (ap length e));

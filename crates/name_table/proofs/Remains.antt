@@ -5,11 +5,11 @@ use Rattle.std.proofs.lemmas.List.{length-replicate}
 use Rattle.name_table.specs.Faults.{Fault, PartFault, AreOfPairs, AreOfText, NextFault, PairsFault}
 use Rattle.name_table.specs.Parts.{Part, Begins, text_parts, pair_parts}
 use Rattle.name_table.specs.Position.{IsPast, Position}
-use Rattle.name_table.specs.ReadOn.{IsReadOn, pair_parts-append}
+use Rattle.name_table.specs.ReadOn.{IsReadOn, begins_none, begins_pairs, begins_then, pair_parts-append}
 use Rattle.name_table.specs.Remaining.{Remaining, shown, CanBeRead, AllCanBeRead, IsNext}
 use Rattle.name_table.specs.declared.fault.NameFault.{NameFault}
 use Rattle.name_table.proofs.FaultLemmas.{fault_behind, fault_where, fault_wider}
-use Rattle.name_table.proofs.PartLemmas.{begins_none, begins_pair, begins_pairs, begins_split}
+use Rattle.name_table.proofs.PartLemmas.{begins_split}
 use Rattle.name_table.proofs.Unique.{Agree, agree_pairs, begins_unique, fault_past}
 
 -- ---- none is due
@@ -50,7 +50,7 @@ position s = record { rest = s.rest; place = s.place }
 -- from the texts of its key and its value
 pub is_next : (s : Remaining) (key value : List ℕ) (middle behind : Position) → IsPast (position s) middle (text_parts key) → IsPast middle behind (text_parts value) → s.left ≢ 0 → IsNext s (record { rest = behind.rest; place = behind.place; left = s.left - 1 }) (key, value)
 is_next s key value middle behind k v h =
-    let b = begins_pair s.rest middle.rest behind.rest (key, value) k.spelled v.spelled in
+    let b = begins_then s.rest middle.rest behind.rest (text_parts key) (text_parts value) k.spelled v.spelled in
     record {
       spelled = b;
       place = omega (arith, k.place, v.place, ap length b.split, length-append b.front behind.rest, ap length k.spelled.split, length-append k.spelled.front middle.rest, ap length v.spelled.split, length-append v.spelled.front behind.rest);
@@ -59,7 +59,7 @@ is_next s key value middle behind k v h =
 
 module _ (s t : Remaining) (p : List ℕ × List ℕ) (n : IsNext s t p) where
   pub read_on_one : IsReadOn s t
-  read_on_one = record { pairs = p ∷ []; front = n.spelled.front; split = n.spelled.split; spelled = n.spelled.spelled; place = n.place; count = omega (arith, n.count) }
+  read_on_one = record { pairs = p ∷ []; spelled = n.spelled; place = n.place; count = omega (arith, n.count) }
 
   pub gives_one_more : (q : Bor (List ℕ) × Bor (List ℕ)) (L : List (Bor (List ℕ) × Bor (List ℕ))) → shown q ≡ p → CanBeRead t L → CanBeRead s (q ∷ L)
   gives_one_more q L e r =
@@ -81,8 +81,7 @@ module _ (s t : Remaining) (p : List ℕ × List ℕ) (n : IsNext s t p) where
   earlier : (f : NameFault) (pairs : List (List ℕ × List ℕ)) (w : Fault (AreOfPairs s.left) s.rest s.place f) → length pairs ≡ s.left → w.done ++ w.due ∷ w.more ≡ pair_parts pairs → Fault (AreOfPairs t.left) t.rest t.place f
   earlier f [] w l e = absurd (omega (arith, n.count, l))
   earlier f (q ∷ J) w l e =
-      let A : List Part → Type 0 = λ ys. Agree (pair_parts (p ∷ J)) ys in
-      let g : Agree (pair_parts (p ∷ J)) (w.done ++ w.due ∷ w.more) = subst A (sym e) (agree_pairs (p ∷ J) (q ∷ J) refl) in
+      let g : Agree (pair_parts (p ∷ J)) (w.done ++ w.due ∷ w.more) = rw e (agree_pairs (p ∷ J) (q ∷ J) refl) in
       let i = fault_past (pair_parts (p ∷ [])) (pair_parts J) w.done w.due w.more n.spelled.front t.rest w.front w.rest (s.place + length w.front) f g n.spelled.spelled w.spelled (sym n.spelled.split ∙ w.split) w.why in
       let h : pair_parts (p ∷ []) ++ (i.parts ++ w.due ∷ w.more) ≡ pair_parts (q ∷ J) = ap (λ c. c ++ w.due ∷ w.more) (sym i.is_done) ∙ e in
       let k : i.parts ++ w.due ∷ w.more ≡ pair_parts J = cc in
@@ -115,8 +114,7 @@ module _ (s t : Remaining) (p : List ℕ × List ℕ) (n : IsNext s t p) where
   rest_of (q ∷ J) behind c l =
       let d = begins_split s.rest behind (pair_parts (q ∷ [])) (pair_parts J) c in
       let u = begins_unique s.rest (agree_pairs (p ∷ []) (q ∷ []) refl) n.spelled d.1 in
-      let P : List ℕ → Type 0 = λ bytes. Begins bytes (pair_parts J) behind in
-      record { pairs = J; behind = behind; spelled = subst P (sym u.2) d.2; count = omega (arith, l, n.count) }
+      record { pairs = J; behind = behind; spelled = rw u.2 d.2; count = omega (arith, l, n.count) }
 
   pub all_earlier : AllCanBeRead s → AllCanBeRead t
   all_earlier r = rest_of r.pairs r.behind r.spelled r.count

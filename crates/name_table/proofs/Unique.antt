@@ -1,5 +1,5 @@
 -- Bytes begin with one spelling at most, and what they begin with has no fault.
-use Rattle.std.proofs.Common.{◌≡◌, ℕ, ◌≤◌, List, [], ◌∷◌, ◌++◌, length, refl, sym, ap, ◌∙◌, subst, arith, ⊎_elim, append_assoc, length-append}
+use Rattle.std.proofs.Common.{◌≡◌, ℕ, ◌≤◌, List, [], ◌∷◌, ◌++◌, length, refl, sym, ap, ◌∙◌, arith, ⊎_elim, append_assoc, length-append}
 use Rattle.std.proofs.lemmas.List.{append_cancel_left, take_at}
 use Rattle.std.specs.Prelude.{IsUtf8}
 use Rattle.name_table.specs.Faults.{NumberFault, TextFault, PartFault}
@@ -12,13 +12,12 @@ use Rattle.name_table.specs.declared.fault.NameFault.TheVariants.{Truncated, Not
 
 same_front : (a b u v : List ℕ) → length a ≡ length b → a ++ u ≡ b ++ v → a ≡ b
 same_front [] [] u v h e = refl
-same_front [] (q ∷ bs) u v h e = absurd (omega arith)
-same_front (p ∷ ps) [] u v h e = absurd (omega arith)
 same_front (p ∷ ps) (q ∷ bs) u v h e =
     let k : ps ++ u ≡ bs ++ v = cc in
     let i : p ≡ q = cc in
     let j = same_front ps bs u v (omega (arith, h)) k in
     λ l. i l ∷ j l
+same_front _ _ u v h e = absurd (omega arith)
 
 pub same_rest : (a b u v : List ℕ) → a ≡ b → a ++ u ≡ b ++ v → u ≡ v
 same_rest a b u v h e = append_cancel_left b u v (ap (λ c. c ++ u) (sym h) ∙ e)
@@ -52,9 +51,8 @@ ends_long (p ∷ q ∷ ps) u (f ∷ front) rest s h g e = let k : (q ∷ ps) ++ 
 -- two parts of a kind: numbers, or texts of the same number of bytes
 abbrev pub IsLike : Part → Part → Type 0
 IsLike (Number n) (Number m) = Unit {0}
-IsLike (Number n) (Text t) = ⊥
-IsLike (Text s) (Number m) = ⊥
 IsLike (Text s) (Text t) = length s ≡ length t
+IsLike _ _ = ⊥
 
 -- what is spelled in two, with more behind it
 pub regroup : (whole a b u : List ℕ) → whole ≡ a ++ b → whole ++ u ≡ a ++ (b ++ u)
@@ -63,19 +61,17 @@ regroup whole a b u e = ap (λ c. c ++ u) e ∙ append_assoc a b u
 -- two lists of parts: as long as they are the same the next parts are of a kind, and both end together
 abbrev pub Agree : List Part → List Part → Type 0
 Agree [] [] = Unit {0}
-Agree [] (y ∷ ys) = ⊥
-Agree (x ∷ xs) [] = ⊥
 Agree (x ∷ xs) (y ∷ ys) = IsLike x y × (x ≡ y → Agree xs ys)
+Agree _ _ = ⊥
 
 pub part_unique : (x y : Part) (a b u v : List ℕ) → IsPart a x → IsPart b y → IsLike x y → a ++ u ≡ b ++ v → (a ≡ b) × (x ≡ y)
 part_unique (Number n) (Number m) a b u v p q l e =
     let h = ends_unique a b u v p.ends q.ends e in
     (h, ap (λ i. Number i) (sym p.value ∙ ap value_of h ∙ q.value))
-part_unique (Number n) (Text t) a b u v p q l e = absurd l
-part_unique (Text s) (Number m) a b u v p q l e = absurd l
 part_unique (Text s) (Text t) a b u v p q l e =
     let h = same_front a b u v (ap length p.0 ∙ l ∙ sym (ap length q.0)) e in
     (h, ap (λ i. Text i) (sym p.0 ∙ h ∙ q.0))
+part_unique _ _ a b u v p q l e = absurd l
 
 number_clash : (n : ℕ) (a u : List ℕ) (place : ℕ) (f : NameFault) → IsNumber a n → NumberFault (a ++ u) place f → ⊥
 number_clash n a u place (Truncated at) p w = ends_goes_on a u p.ends w.1.goes_on
@@ -89,30 +85,26 @@ number_clash n a u place (NumberTooLarge at) p w =
 text_clash : (size : ℕ) (a u : List ℕ) (place : ℕ) (f : NameFault) → IsUtf8 a → length a ≡ size → TextFault size (a ++ u) place f → ⊥
 text_clash size a u place (Truncated at) p l w = omega (arith, w.1, l, length-append a u)
 text_clash size a u place (NotUtf8 at) p l w =
-    let P : List ℕ → Type 0 = λ c. IsUtf8 c in
-    w.2 (subst P (sym (take_at a u size l)) p)
+    w.2 (rw (take_at a u size l) p)
 text_clash size a u place (NumberTooLarge at) p l w = w
 
 pub part_clash : (x due : Part) (a u : List ℕ) (place : ℕ) (f : NameFault) → IsPart a x → IsLike x due → PartFault due (a ++ u) place f → ⊥
 part_clash (Number n) (Number m) a u place f p l w = number_clash n a u place f p w
-part_clash (Number n) (Text t) a u place f p l w = l
-part_clash (Text s) (Number m) a u place f p l w = l
 part_clash (Text s) (Text t) a u place f p l w =
-    let P : List ℕ → Type 0 = λ c. IsUtf8 c in
-    text_clash (length t) a u place f (subst P (sym p.0) p.1) (ap length p.0 ∙ l) w
+    text_clash (length t) a u place f (rw p.0 p.1) (ap length p.0 ∙ l) w
+part_clash _ _ a u place f p l w = l
 
 -- ---- lists of parts
 
 -- two that agree, spelled where the same bytes begin, are one
 pub parts_unique : (xs ys : List Part) (a b u v : List ℕ) → Agree xs ys → AreParts a xs → AreParts b ys → a ++ u ≡ b ++ v → (a ≡ b) × (xs ≡ ys)
 parts_unique [] [] a b u v g p q e = (p ∙ sym q, refl)
-parts_unique [] (y ∷ ys) a b u v g p q e = absurd g
-parts_unique (x ∷ xs) [] a b u v g p q e = absurd g
 parts_unique (x ∷ xs) (y ∷ ys) a b u v g p q e =
     let f : p.0 ++ (p.1 ++ u) ≡ q.0 ++ (q.1 ++ v) = sym (regroup a p.0 p.1 u p.2) ∙ e ∙ regroup b q.0 q.1 v q.2 in
     let h = part_unique x y p.0 q.0 _ _ p.3 q.3 g.0 f in
     let i = parts_unique xs ys p.1 q.1 u v (g.1 h.1) p.4 q.4 (same_rest p.0 q.0 _ _ h.0 f) in
     (p.2 ∙ (λ l. h.0 l ++ i.0 l) ∙ sym q.2, λ l. h.1 l ∷ i.1 l)
+parts_unique _ _ a b u v g p q e = absurd g
 
 -- the same of bytes that begin with them
 pub begins_unique : {xs ys : List Part} {u v : List ℕ} (bytes : List ℕ) → Agree xs ys → (p : Begins bytes xs u) → (q : Begins bytes ys v) → (p.front ≡ q.front) × (xs ≡ ys) × (u ≡ v)
@@ -135,9 +127,8 @@ pub fault_past : (xs zs done : List Part) (due : Part) (more : List Part) (front
 fault_past [] zs done due more front rest front' rest' place f g p q e w =
     record { parts = done; bytes = front'; is_done = refl; is_front = ap (λ c. c ++ front') (sym p); is_rest = ap (λ c. c ++ rest) (sym p) ∙ e; spelled = q }
 fault_past (x ∷ xs) zs [] due more front rest front' rest' place f g p q e w =
-    let P : List ℕ → Type 0 = λ c. PartFault due c place f in
     let h : rest' ≡ p.0 ++ (p.1 ++ rest) = ap (λ c. c ++ rest') (sym q) ∙ sym e ∙ regroup front p.0 p.1 rest p.2 in
-    absurd (part_clash x due p.0 (p.1 ++ rest) place f p.3 g.0 (subst P h w))
+    absurd (part_clash x due p.0 (p.1 ++ rest) place f p.3 g.0 (rw (← h) w))
 fault_past (x ∷ xs) zs (y ∷ done) due more front rest front' rest' place f g p q e w =
     let k : p.0 ++ (p.1 ++ rest) ≡ q.0 ++ (q.1 ++ rest') = sym (regroup front p.0 p.1 rest p.2) ∙ e ∙ regroup front' q.0 q.1 rest' q.2 in
     let h = part_unique x y p.0 q.0 _ _ p.3 q.3 g.0 k in
@@ -158,9 +149,8 @@ agree_texts s t xs ys h = (tt, λ n. let l : length s ≡ length t = cc in (l, �
 
 pub agree_pairs : (J K : List (List ℕ × List ℕ)) → length J ≡ length K → Agree (pair_parts J) (pair_parts K)
 agree_pairs [] [] e = tt
-agree_pairs [] (q ∷ K) e = absurd (omega arith)
-agree_pairs (p ∷ J) [] e = absurd (omega arith)
 agree_pairs (p ∷ J) (q ∷ K) e = agree_texts p.0 q.0 (text_parts p.1 ++ pair_parts J) (text_parts q.1 ++ pair_parts K) (λ _ _. agree_texts p.1 q.1 (pair_parts J) (pair_parts K) (λ _ _. agree_pairs J K (omega (arith, e))))
+agree_pairs _ _ e = absurd (omega arith)
 
 pub agree_tables : (J K : List (List ℕ × List ℕ)) → Agree (table_parts J) (table_parts K)
 agree_tables J K = (tt, λ n. let l : length J ≡ length K = cc in agree_pairs J K l)
@@ -168,11 +158,10 @@ agree_tables J K = (tt, λ n. let l : length J ≡ length K = cc in agree_pairs 
 -- the parts of as many pairs tell the pairs
 pub pair_parts-inj : (J K : List (List ℕ × List ℕ)) → pair_parts J ≡ pair_parts K → J ≡ K
 pair_parts-inj [] [] e = refl
-pair_parts-inj [] (q ∷ K) e = absurd cc
-pair_parts-inj (p ∷ J) [] e = absurd cc
 pair_parts-inj (p ∷ J) (q ∷ K) e =
     let k : p.0 ≡ q.0 = cc in
     let v : p.1 ≡ q.1 = cc in
     let r : pair_parts J ≡ pair_parts K = cc in
     let i = pair_parts-inj J K r in
     λ l. (k l, v l) ∷ i l
+pair_parts-inj _ _ e = absurd cc

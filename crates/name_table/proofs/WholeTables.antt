@@ -1,12 +1,12 @@
 -- A whole table: its number of pairs, and the pairs that are due by it.
-use Rattle.std.proofs.Common.{◌≡◌, ℕ, ◌+◌, ◌⊎◌, List, [], ◌∷◌, ◌++◌, length, map, refl, sym, ap, ◌∙◌, subst, arith, ⊎_elim, append_assoc, length-append, Bor}
+use Rattle.std.proofs.Common.{◌≡◌, ℕ, ◌+◌, ◌⊎◌, List, [], ◌∷◌, ◌++◌, length, map, refl, sym, ap, ◌∙◌, subst, arith, ⊎_elim, length-append, Bor}
 use Rattle.std.proofs.lemmas.List.{length-map}
 use Rattle.litemap_read.specs.ReadFault.{IfSource}
 use Rattle.litemap_read.specs.declared.source.ReadFault.{ReadFault}
 use Rattle.litemap_read.specs.declared.source.ReadFault.TheVariants.{NoRoom, Source}
 use Rattle.name_table.specs.Faults.{NumberFault, Fault, AreOfPairs, TableFault}
-use Rattle.name_table.specs.Parts.{Number, AreParts, Begins, pair_parts, table_parts}
-use Rattle.name_table.specs.ReadOn.{IsReadOn, AreParts-append}
+use Rattle.name_table.specs.Parts.{Number, Begins, pair_parts, table_parts}
+use Rattle.name_table.specs.ReadOn.{IsReadOn, begins_then}
 use Rattle.name_table.specs.Remaining.{Remaining, shown, NoPair, CanBeRead, AllCanBeRead, IsCounted}
 use Rattle.name_table.specs.declared.fault.NameFault.{NameFault}
 use Rattle.name_table.proofs.FaultLemmas.{fault_behind, fault_first, fault_where}
@@ -42,8 +42,7 @@ none_due (p ∷ P) [] bytes middle end due b k l stops = absurd (omega (arith, l
 none_due (p ∷ P) (q ∷ K) bytes middle end due b k l stops =
     let d = begins_split bytes middle (pair_parts (p ∷ [])) (pair_parts P) b in
     let e = begins_split bytes end (pair_parts (q ∷ [])) (pair_parts K) k in
-    let A : List ℕ → Type 0 = λ c. Begins c (pair_parts P) middle in
-    none_due P K e.0 middle end due (subst A (begins_unique bytes (agree_pairs (p ∷ []) (q ∷ []) refl) d.1 e.1).2 d.2) e.2 (omega (arith, l)) stops
+    none_due P K e.0 middle end due (rw (← ((begins_unique bytes (agree_pairs (p ∷ []) (q ∷ []) refl) d.1 e.1).2)) d.2) e.2 (omega (arith, l)) stops
 
 -- ---- from the number of pairs on, all were read
 
@@ -58,31 +57,22 @@ module _ (bytes : List ℕ) (s t : Remaining) (given : List (Bor (List ℕ) × B
       let l : length (map shown given) ≡ length given = length-map given shown in
       omega (arith, none_due (map shown given) all.pairs s.rest gives.behind all.behind gives.due gives.spelled all.spelled (omega (arith, gives.count, all.count, l)) gives.stops, gives.count)
 
-  abbrev on_begins : Begins s.rest (pair_parts on.pairs) t.rest
-  on_begins = record { front = on.front; split = on.split; spelled = on.spelled }
-
   on_all : length on.pairs ≡ s.left
   on_all =
-      let A : List ℕ → Type 0 = λ c. (empty.due ≡ 0) ⊎ NoPair c in
-      let stops : (empty.due ≡ 0) ⊎ NoPair t.rest = subst A (sym (begins_nothing t.rest empty.behind empty.spelled)) empty.stops in
-      let e : empty.due ≡ 0 = none_due on.pairs all.pairs s.rest t.rest all.behind empty.due on_begins all.spelled (omega (arith, on.count, all.count, empty.count)) stops in
+      let stops : (empty.due ≡ 0) ⊎ NoPair t.rest = rw (begins_nothing t.rest empty.behind empty.spelled) empty.stops in
+      let e : empty.due ≡ 0 = none_due on.pairs all.pairs s.rest t.rest all.behind empty.due on.spelled all.spelled (omega (arith, on.count, all.count, empty.count)) stops in
       omega (arith, e, on.count, empty.count)
 
-  same_bytes : gives.spelled.front ≡ on.front
+  same_bytes : gives.spelled.front ≡ on.spelled.front
   same_bytes =
       let l : length (map shown given) ≡ length on.pairs = length-map given shown ∙ given_all ∙ sym on_all in
-      (begins_unique s.rest (agree_pairs (map shown given) on.pairs l) gives.spelled on_begins).0
+      (begins_unique s.rest (agree_pairs (map shown given) on.pairs l) gives.spelled on.spelled).0
 
   pub whole_table : WholeTable bytes (map shown given) t.place
   whole_table =
       let l : s.left ≡ length (map shown given) = sym given_all ∙ sym (length-map given shown) in
-      let A : ℕ → Type 0 = λ n. AreParts (counted.spelled.front ++ gives.spelled.front) (Number n ∷ pair_parts (map shown given)) in
       record {
         rest = gives.behind;
-        table = record {
-          front = counted.spelled.front ++ gives.spelled.front;
-          split = counted.spelled.split ∙ ap (λ c. counted.spelled.front ++ c) gives.spelled.split ∙ sym (append_assoc counted.spelled.front gives.spelled.front gives.behind);
-          spelled = subst A l (AreParts-append counted.spelled.front gives.spelled.front (Number s.left ∷ []) (pair_parts (map shown given)) counted.spelled.spelled gives.spelled.spelled);
-        };
+        table = begins_then bytes s.rest gives.behind (Number (length (map shown given)) ∷ []) (pair_parts (map shown given)) (record { front = counted.spelled.front; split = counted.spelled.split; spelled = rw (← l) counted.spelled.spelled }) gives.spelled;
         size_is = omega (arith, on.place, counted.place, ap length same_bytes, length-append counted.spelled.front gives.spelled.front);
       }

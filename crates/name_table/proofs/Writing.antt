@@ -1,10 +1,10 @@
 -- Shortest spellings, one behind another, and what no bytes spell.
-use Rattle.std.proofs.Common.{◌≡◌, ℕ, zero, suc, ◌+◌, ◌/◌, ◌%◌, ◌^◌, ◌<◌, ◌≤◌, List, [], ◌∷◌, ◌++◌, length, map, take, drop, get_or, refl, sym, ap, ◌∙◌, subst, arith, append_assoc, length-append}
+use Rattle.std.proofs.Common.{◌≡◌, ℕ, zero, suc, ◌+◌, ◌/◌, ◌%◌, ◌^◌, ◌<◌, ◌≤◌, List, [], ◌∷◌, ◌++◌, length, map, take, drop, get_or, refl, sym, ap, ◌∙◌, arith, append_assoc, length-append}
 use Rattle.std.proofs.Math.Nat.{pow-succ'}
 use Rattle.std.proofs.lemmas.List.{drop_more, map-append, take_more, take-append-drop}
 use Rattle.std.specs.Prelude.{IsUtf8}
-use Rattle.name_table.specs.Numbers.{value_of, EndsAtLast, IsNumber}
-use Rattle.name_table.specs.Parts.{Part, Number, Text, AreParts, text_parts, pair_parts}
+use Rattle.name_table.specs.Numbers.{value_of, EndsAtLast, IsNumber, number_limit}
+use Rattle.name_table.specs.Parts.{Part, Number, Text, text_parts, pair_parts}
 use Rattle.name_table.specs.ReadOn.{AreParts-append, pair_parts-append}
 use Rattle.name_table.specs.Writes.{Appends, AppendsNumber, IfTooLarge, IsShortest, NoTable}
 use Rattle.name_table.specs.declared.fault.NameWriteFault.{NameWriteFault}
@@ -58,10 +58,9 @@ appends_then old middle new xs ys p q = record {
 -- behind what is shortest
 pub shortest_more : (old new : List ℕ) (xs ys : List Part) → IsShortest old xs → Appends old new ys → IsShortest new (xs ++ ys)
 shortest_more old new xs ys p q =
-    let P : List ℕ → Type 0 = λ c. IsShortest c (xs ++ ys) in
-    subst P (sym q.appended) (shortest_append old q.bytes xs ys p q.shortest)
+    rw q.appended (shortest_append old q.bytes xs ys p q.shortest)
 
-pub appends_number : (old new : List ℕ) (n : ℕ) → n < 4294967296 → AppendsNumber old new n → Appends old new (Number n ∷ [])
+pub appends_number : (old new : List ℕ) (n : ℕ) → n < number_limit → AppendsNumber old new n → Appends old new (Number n ∷ [])
 appends_number old new n h r = record {
   bytes = r.bytes;
   appended = r.appended;
@@ -91,8 +90,7 @@ module _ {X : Type 0} (view : X → List ℕ × List ℕ) (pairs : List X) (i : 
       let front = take i pairs in
       let next = get_or pairs i d in
       let e : pair_parts (map view (take (i + 1) pairs)) ≡ pair_parts (map view (take i pairs)) ++ pair_parts (view next ∷ []) = ap (λ xs. pair_parts (map view xs)) (take_more pairs i d l) ∙ ap pair_parts (map-append view (take i pairs) (next ∷ [])) ∙ pair_parts-append (map view (take i pairs)) (view next ∷ []) in
-      let P : List Part → Type 0 = λ xs. IsShortest new (Number n ∷ xs) in
-      subst P (sym e) (shortest_more old new (Number n ∷ pair_parts (map view (take i pairs))) (pair_parts (view next ∷ [])) p q)
+      rw e (shortest_more old new (Number n ∷ pair_parts (map view (take i pairs))) (pair_parts (view next ∷ [])) p q)
 
   -- where one pair has no table, all have none
   pub no_table_at : NoTable (view (get_or pairs i d) ∷ []) → NoTable (map view pairs)
@@ -102,22 +100,10 @@ module _ {X : Type 0} (view : X → List ℕ × List ℕ) (pairs : List X) (i : 
       let back = drop (i + 1) pairs in
       let e : pairs ≡ front ++ next ∷ back = sym (take-append-drop i pairs) ∙ ap (λ xs. front ++ xs) (drop_more pairs i d l) in
       let f : pair_parts (map view pairs) ≡ pair_parts (map view front) ++ pair_parts (view next ∷ map view back) = ap (λ xs. pair_parts (map view xs)) e ∙ ap pair_parts (map-append view front (next ∷ back)) ∙ pair_parts-append (map view front) (view next ∷ map view back) in
-      let P : List Part → Type 0 = λ xs. AreParts p.1 xs in
-      let s = AreParts-split p.1 (pair_parts (map view front)) (pair_parts (view next ∷ map view back)) (subst P f p.4) in
+      let s = AreParts-split p.1 (pair_parts (map view front)) (pair_parts (view next ∷ map view back)) (rw (← f) p.4) in
       let t = AreParts-split s.second (pair_parts (view next ∷ [])) (pair_parts (map view back)) s.of_second in
       let one : IsNumber (1 ∷ []) 1 = record { ends = omega arith; value = omega arith; short = omega arith; small = omega arith } in
       none ((1 ∷ []) ++ t.first) (AreParts-append (1 ∷ []) t.first (Number 1 ∷ []) (pair_parts (view next ∷ [])) (AreParts-one (1 ∷ []) (Number 1) one) t.of_first)
-
--- too many pairs
-pub no_table_of : (pairs : List (List ℕ × List ℕ)) (n : ℕ) → length pairs ≡ n → 4294967296 ≤ n → NoTable pairs
-no_table_of pairs n e h bytes p = omega (arith, e, h, p.3.small)
-
--- too long a text
-pub no_table_key : (key value : List ℕ) → 4294967296 ≤ length key → NoTable ((key, value) ∷ [])
-no_table_key key value h bytes p = omega (arith, h, p.4.3.small)
-
-pub no_table_value : (key value : List ℕ) → 4294967296 ≤ length value → NoTable ((key, value) ∷ [])
-no_table_value key value h bytes p = omega (arith, h, p.4.4.4.3.small)
 
 pub if_too_large_weaker : {P Q : Type 0} (fault : NameWriteFault) → (P → Q) → IfTooLarge fault P → IfTooLarge fault Q
 if_too_large_weaker NoRoom h p = tt

@@ -4,6 +4,10 @@ use Rattle.std.specs.List.{AllByRecursion}
 use Rattle.name_table.specs.declared.number.Unread.{Unread}
 use Rattle.name_table.specs.declared.number.Unread.TheVariants.{Ends, TooLong}
 
+-- each number is below this, 2^32
+abbrev pub number_limit : ℕ
+number_limit = 4294967296
+
 -- the number in the low seven bits of each byte
 abbrev pub value_of : List ℕ → ℕ
 value_of [] = 0
@@ -24,7 +28,7 @@ pub record IsNumber (bytes : List ℕ) (n : ℕ) : Type 0 where
   pub ends : EndsAtLast bytes
   pub value : value_of bytes ≡ n
   pub short : length bytes ≤ 5
-  pub small : n < 4294967296
+  pub small : n < number_limit
 
 -- the bytes end within a number
 pub record IsCut (bytes : List ℕ) : Type 0 where
@@ -36,7 +40,7 @@ pub record IsTooLarge (bytes : List ℕ) : Type 0 where
   pub front : List ℕ
   pub rest : List ℕ
   pub split : bytes ≡ front ++ rest
-  pub large : (GoesOn front × (length front ≡ 5)) ⊎ (EndsAtLast front × (length front ≤ 5) × (4294967296 ≤ value_of front))
+  pub large : (GoesOn front × (length front ≡ 5)) ⊎ (EndsAtLast front × (length front ≤ 5) × (number_limit ≤ value_of front))
 
 -- ---- what a reader of at most so many bytes tells
 

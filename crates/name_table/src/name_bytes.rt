@@ -102,6 +102,7 @@ impl<'a> PairSource<&'a str, &'a str> for NameBytes<'a> {
     }
 
     /// The next entry, `None` at the end, or the fault of the first number or text that can't be read.
+    #[tactic(auto, using(crate::specs::ReadOn::read_on_itself))]
     fn next_pair(&mut self) -> Result<Option<(&'a str, &'a str)>, NameFault>
         ensures next { GivesNext CanBeRead (λ s. s.left) PairsFault AllCanBeRead self.old result self.new }
         ensures keeps_faults { (fault : _) → PairsFault self.new fault ↔ PairsFault self.old fault }

@@ -1,5 +1,6 @@
 //! Name tables written from maps.
 ghost use Rattle.std.specs.Prelude.{◌≡◌, Err, IfErr, IfOk, OnOk, ◌∷◌, [], ◌≤◌, length, map};
+ghost use Rattle.name_table.specs.Numbers.{number_limit};
 ghost use Rattle.name_table.specs.Parts.{Number, pair_parts, table_parts, text_parts};
 ghost use Rattle.name_table.specs.Remaining.{shown};
 ghost use Rattle.name_table.specs.declared.fault.NameWriteFault.TheVariants.{TooLarge};
@@ -55,7 +56,7 @@ fn put_pair(bytes: &mut Vec<u8>, pair: &(&str, &str)) -> Result<(), NameWriteFau
 // Writes a text behind its length.
 fn put_text(bytes: &mut Vec<u8>, text: &str) -> Result<(), NameWriteFault>
     ensures ok { OnOk result (Appends bytes.old.items bytes.new.items (text_parts text.now)) }
-    ensures too_large { IfErr result (λ fault. IfTooLarge fault (4294967296 ≤ length text.now)) }
+    ensures too_large { IfErr result (λ fault. IfTooLarge fault (number_limit ≤ length text.now)) }
 {
     put_length(bytes, text.len())?;
     bytes.extend_from_slice(text.as_bytes())?;
@@ -65,8 +66,8 @@ fn put_text(bytes: &mut Vec<u8>, text: &str) -> Result<(), NameWriteFault>
 // Writes a length.
 fn put_length(bytes: &mut Vec<u8>, size: usize) -> Result<(), NameWriteFault>
     ensures ok { OnOk result (Appends bytes.old.items bytes.new.items (Number size ∷ [])) }
-    ensures too_large { IfErr result (λ fault. IfTooLarge fault (4294967296 ≤ size)) }
-    ensures refused { 4294967296 ≤ size → result ≡ Err TooLarge }
+    ensures too_large { IfErr result (λ fault. IfTooLarge fault (number_limit ≤ size)) }
+    ensures refused { number_limit ≤ size → result ≡ Err TooLarge }
 {
     if size >= 4_294_967_296 {
         return Err(NameWriteFault::TooLarge);

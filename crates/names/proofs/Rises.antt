@@ -6,7 +6,7 @@ use Rattle.litemap_store.specs.Pairs.{Rising}
 use Rattle.litemap_store.proofs.Splitting.{Rising-put}
 use Rattle.litemap_store.proofs.Lookups.{Rising-cut}
 use Rattle.litemap.specs.declared.calls.Call.{Call}
-use Rattle.litemap.specs.declared.calls.Call.TheVariants.{Find, Get, Insert, Remove, ValueAt, Contains, Len, TryInsert, TryAppend, Extend, Reserve, Clear}
+use Rattle.litemap.specs.declared.calls.Call.TheVariants.{Find, Get, Insert, Remove}
 use Rattle.names_core.specs.Line.{Spells}
 use Rattle.names_core.specs.Told.{Answers, Calls, Does, DoesEach, Nothing, ShowsAll, ShowsJson, TextMap}
 
@@ -27,14 +27,7 @@ module _ (old next : TextMap) (said text : List ℕ) (rises : TextsRise old.pair
   call_rises (Remove k) s (answer, inr none, e) = absurd none
   call_rises (Find k) s (answer, inl (told, same), e) = same_rises same
   call_rises (Find k) s (answer, inr none, e) = absurd none
-  call_rises (ValueAt i) s a = absurd s
-  call_rises (Contains k) s a = absurd s
-  call_rises Len s a = absurd s
-  call_rises (TryInsert k v) s a = absurd s
-  call_rises (TryAppend k v) s a = absurd s
-  call_rises (Extend v) s a = absurd s
-  call_rises (Reserve n) s a = absurd s
-  call_rises Clear s a = absurd s
+  call_rises _ s a = absurd s
 
   line_rises : Does old said text next → TextsRise next.pairs
   line_rises does = elim does [

@@ -1,14 +1,14 @@
 -- The JSON value of rising texts is an object of the pairs in their order, and its text that of the pairs one by one.
-use Rattle.std.proofs.Common.{◌≡◌, ℕ, ◌+◌, List, [], ◌∷◌, ◌++◌, true, Some, Ok, Less, Greater, inl, inr, nat_cmp, refl, sym, ap, ◌∙◌, append_assoc}
-use Rattle.std.specs.Cmp.Lexicographic.{slice_cmp, nat_list_cmp_total}
-use Rattle.std.specs.Ordering.{ordering_reverse}
+use Rattle.std.proofs.Common.{◌≡◌, ℕ, ◌+◌, List, [], ◌∷◌, ◌++◌, true, Some, Ok, Less, inl, inr, nat_cmp, refl, sym, ap, ◌∙◌, append_assoc}
+use Rattle.std.specs.Cmp.Lexicographic.{slice_cmp}
 use Rattle.json.specs.Print.{quoted}
-use Rattle.serde_json.specs.Data.{Data, string, array, object, no_items, Members, no_members, member, put}
+use Rattle.serde_json.specs.Data.{Data, string, array, object, no_items, Members, no_members, member}
 use Rattle.serde_json.specs.Written.{compact_text, members_text}
 use Rattle.litemap_store.specs.Last.{In}
 use Rattle.litemap_store.specs.Pairs.{Rising}
 use Rattle.litemap_store.proofs.Membership.{each}
 use Rattle.litemap_json.specs.Json.{object_with, tree}
+use Rattle.litemap_json.proofs.Joined.{IsAbove, above, above-joined, joined, joined-none, joined-one, put-above}
 use Rattle.names_core.specs.Told.{json_text, later_members, member_text}
 
 -- pairs of texts, by their bytes
@@ -19,36 +19,6 @@ Texts = List (List ℕ × List ℕ)
 abbrev members_of : Texts → Members
 members_of [] = no_members
 members_of (p ∷ L) = member p.0 (string p.1) (members_of L)
-
--- the members, and others behind them
-abbrev joined : Members → Members → Members
-joined no_members ns = ns
-joined (member k d ms) ns = member k d (joined ms ns)
-
--- the name is above that of each member
-abbrev IsAbove : List ℕ → Members → Type 0
-IsAbove k no_members = Unit {0}
-IsAbove k (member l d ms) = (slice_cmp nat_cmp k l ≡ Greater) × IsAbove k ms
-
-joined-none : (ms : Members) → joined ms no_members ≡ ms
-joined-none no_members = refl
-joined-none (member k d ms) = ap (member k d) (joined-none ms)
-
-joined-one : (ms ns : Members) (k : List ℕ) (d : Data) → joined (joined ms (member k d no_members)) ns ≡ joined ms (member k d ns)
-joined-one no_members ns k d = refl
-joined-one (member l e ms) ns k d = ap (member l e) (joined-one ms ns k d)
-
-put-above : (k : List ℕ) (d : Data) (ms : Members) → IsAbove k ms → put k d ms ≡ joined ms (member k d no_members)
-put-above k d no_members h = refl
-put-above k d (member l e ms) h = rw (h.0, put-above k d ms h.1) refl
-
-above-joined : (k l : List ℕ) (d : Data) (ms : Members) → IsAbove k ms → slice_cmp nat_cmp k l ≡ Greater → IsAbove k (joined ms (member l d no_members))
-above-joined k l d no_members h g = (g, tt)
-above-joined k l d (member m e ms) h g = (h.0, above-joined k l d ms h.1 g)
-
--- a key above another, from the order the other way
-above : (k l : List ℕ) → slice_cmp nat_cmp k l ≡ Less → slice_cmp nat_cmp l k ≡ Greater
-above k l e = nat_list_cmp_total.antisymm l k ∙ ap ordering_reverse e
 
 -- what rising pairs leave where they are above all members
 object_with-rising : (place : ℕ) (ms : Members) (L : Texts) → Rising (slice_cmp nat_cmp) L → ((q : List ℕ × List ℕ) → In q L → IsAbove q.0 ms)

@@ -1,4 +1,4 @@
-use Rattle.litemap_read.proofs.SameRuns.{runs_agree}
+use Rattle.litemap_read.proofs.Runs.{runs_agree}
 use Rattle.litemap_read.proofs.laws.same_answers.Goals as goal
 
 pub returns : goal.returns

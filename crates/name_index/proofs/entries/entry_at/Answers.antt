@@ -1,4 +1,4 @@
-use Rattle.std.proofs.Common.{◌≡◌, ℕ, Some, arith, slice_get, subst}
+use Rattle.std.proofs.Common.{◌≡◌, arith}
 use Rattle.name_index.proofs.Scanning.{begins_here, is_at_next, pair_here}
 use Rattle.name_index.proofs.entries.entry_at.Goals as goal
 
@@ -28,8 +28,7 @@ pub returns : goal.returns
 returns c =
     let inv = c.loop.invariant in
     let pair = c.known_pair-2.result.0 in
-    let end : c.loop.counter ≡ c.args.index = omega arith in
-    let P : ℕ → Type 0 = λ n. slice_get inv.these.pairs n ≡ Some (pair.0.now, pair.1.now) in (
+    let end : c.loop.counter ≡ c.args.index = omega arith in (
       inv.these,
-      subst P end (pair_here inv.these.pairs inv.these.rest _ c.loop.counter (omega (arith, inv.these.count_is, c.requires.within)) inv.here (pair.0.now, pair.1.now) _ c.known_pair-2.ensures),
+      rw (← end) (pair_here inv.these.pairs inv.these.rest _ c.loop.counter (omega (arith, inv.these.count_is, c.requires.within)) inv.here (pair.0.now, pair.1.now) _ c.known_pair-2.ensures),
     )

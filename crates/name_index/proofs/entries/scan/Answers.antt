@@ -1,6 +1,6 @@
-use Rattle.std.proofs.Common.{◌≡◌, ◌∙◌, ℕ, arith, length, subst, sym}
+use Rattle.std.proofs.Common.{◌≡◌, ◌∙◌, arith, length, sym}
 use Rattle.litemap_store.proofs.Counting.{at_most, in_turn}
-use Rattle.litemap_store.proofs.Halving.{Narrowed, Narrowed-greater, Narrowed-less}
+use Rattle.litemap_store.proofs.Halving.{Narrowed-greater, Narrowed-less}
 use Rattle.name_index.proofs.Scanning.{ascends, asked_one, begins_here, is_at_next, pair_here, scanned_found, scanned_missing, scanned_start, to_key}
 use Rattle.name_index.proofs.entries.scan.Goals as goal
 
@@ -48,6 +48,5 @@ returns c =
     let inv = c.loop-index.invariant in
     let pairs = inv.these.pairs in
     let end : c.loop-index.index ≡ c.args.size = omega arith in
-    let P : ℕ → Type 0 = λ n. Narrowed (to_key c.args.key.now) pairs n (length pairs) in
-    let s = scanned_missing pairs c.args.key.now inv.these.rises c.args.size (length pairs) (omega (arith, inv.these.count_is)) (omega (arith, inv.these.count_is)) (subst P end inv.narrowed) in
+    let s = scanned_missing pairs c.args.key.now inv.these.rises c.args.size (length pairs) (omega (arith, inv.these.count_is)) (omega (arith, inv.these.count_is)) (rw (← end) inv.narrowed) in
     (inv.these, (s, at_most c.loop-index.index _ (omega (arith, s.place, end)) inv.asked))

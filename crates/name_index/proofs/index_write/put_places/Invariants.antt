@@ -1,4 +1,5 @@
 use Rattle.std.proofs.Common.{◌≡◌, ◌<◌, map, take}
+use Rattle.name_table.specs.Numbers.{number_limit}
 use Rattle.name_table.specs.Remaining.{shown}
 use Rattle.name_index.specs.Writes.{ArePlaces, entries_size}
 use Rattle.name_index.proofs.index_write.put_places.Given as goal
@@ -8,5 +9,5 @@ abbrev pub invariant-loop-pair : goal.invariant-loop-pair
 invariant-loop-pair l = record {
   places : ArePlaces l.bytes.items (map shown l.pairs) l.pair-index;
   place_is : l.place ≡ entries_size (take l.pair-index (map shown l.pairs));
-  small : l.place < 4294967296;
+  small : l.place < number_limit;
 }

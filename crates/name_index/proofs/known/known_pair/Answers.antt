@@ -1,5 +1,6 @@
 use Rattle.name_table.specs.Parts.{text_parts}
-use Rattle.name_table.proofs.PartLemmas.{begins_pair, begins_split}
+use Rattle.name_table.proofs.PartLemmas.{begins_split}
+use Rattle.name_table.specs.ReadOn.{begins_then}
 use Rattle.name_index.proofs.KnownParts.{text_next}
 use Rattle.name_index.proofs.known.known_pair.Goals as goal
 
@@ -15,4 +16,4 @@ known_text-requires-2 c =
 
 pub returns : goal.returns
 returns c =
-    begins_pair c.args.bytes.now c.known_text.result.1.now c.known_text-2.result.1.now (c.known_text.result.0.now, c.known_text-2.result.0.now) c.known_text.ensures c.known_text-2.ensures
+    begins_then c.args.bytes.now c.known_text.result.1.now c.known_text-2.result.1.now (text_parts c.known_text.result.0.now) (text_parts c.known_text-2.result.0.now) c.known_text.ensures c.known_text-2.ensures

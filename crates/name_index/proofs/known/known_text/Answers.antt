@@ -1,9 +1,6 @@
-use Rattle.std.proofs.Common.{ℕ, List, subst}
-use Rattle.name_table.specs.Faults.{AreOfText, Fault}
 use Rattle.name_index.proofs.KnownParts.{text_no_fault}
 use Rattle.name_index.proofs.known.known_text.Goals as goal
 
 pub unreachable-requires : goal.unreachable-requires
 unreachable-requires c =
-    let P : List ℕ → Type 0 = λ bytes. Fault AreOfText bytes c.new.result.place c.in-Err.field-0 in
-    text_no_fault c.args.bytes.now c.requires.1 c.requires.0 c.new.result.place c.in-Err.field-0 c.requires.2 (subst P c.new.ensures.rest c.in-Err.ensures.err)
+    text_no_fault c.args.bytes.now c.requires.1 c.requires.0 c.new.result.place c.in-Err.field-0 c.requires.2 (rw (← c.new.ensures.rest) c.in-Err.ensures.err)

@@ -1,12 +1,9 @@
-use Rattle.std.proofs.Common.{◌≡◌, List, ℕ, map, rules, subst, sym}
-use Rattle.litemap_store.specs.Pairs.{Rising}
+use Rattle.std.proofs.Common.{◌≡◌, map, rules}
 use Rattle.name_table.specs.Remaining.{shown}
-use Rattle.name_index.specs.Tables.{text_order}
 use Rattle.name_table.proofs.ReadAgain.{rise_shown}
 use Rattle.name_index.proofs.maps.map_of.Goals as goal
 
 pub from_sorted_store_unchecked-requires : goal.from_sorted_store_unchecked-requires
 from_sorted_store_unchecked-requires c =
-    let P : List (List ℕ × List ℕ) → Type 0 = λ L. Rising text_order L in
     let all : map shown c.loop-pair.pairs.items ≡ c.args.entries = search rules in
-    rise_shown c.loop-pair.pairs.items (subst P (sym all) c.requires)
+    rise_shown c.loop-pair.pairs.items (rw all c.requires)

@@ -1,16 +1,11 @@
-use Rattle.std.proofs.Common.{ℕ, List, get_or, subst, sym}
-use Rattle.name_table.specs.Parts.{Begins, text_parts}
-use Rattle.name_index.specs.Entries.{BeginsText}
+use Rattle.std.proofs.Common.{get_or}
 use Rattle.name_index.proofs.Placing.{key_there, tail_is, text_begins}
 use Rattle.name_index.proofs.places.key_of.Goals as goal
 
 pub known_text-requires : goal.known_text-requires
 known_text-requires c =
-    let P : List ℕ → Type 0 = λ b. BeginsText b in
-    subst P (sym (tail_is c.args.entries.now (get_or c.args.places.now c.args.index 0)))
-    (text_begins c.args.entries.now c.args.places.now c.args.index 0 c.requires.placed c.requires.within)
+    rw (tail_is c.args.entries.now (get_or c.args.places.now c.args.index 0)) (text_begins c.args.entries.now c.args.places.now c.args.index 0 c.requires.placed c.requires.within)
 
 pub returns : goal.returns
 returns c =
-    let P : List ℕ → Type 0 = λ b. Begins b (text_parts c.known_text.result.0.now) c.known_text.result.1.now in
-    λ placed. key_there c.args.entries.now c.args.places.now c.args.index 0 placed c.requires.within c.known_text.result.0.now _ (subst P (tail_is c.args.entries.now (get_or c.args.places.now c.args.index 0)) c.known_text.ensures)
+    λ placed. key_there c.args.entries.now c.args.places.now c.args.index 0 placed c.requires.within c.known_text.result.0.now c.known_text.result.1.now (rw (← (tail_is c.args.entries.now (get_or c.args.places.now c.args.index 0))) c.known_text.ensures)

@@ -1,17 +1,12 @@
-use Rattle.std.proofs.Common.{ℕ, List, [], ◌∷◌, get_or, subst, sym}
-use Rattle.name_table.specs.Parts.{Begins, pair_parts}
-use Rattle.name_index.specs.Entries.{BeginsPair}
+use Rattle.std.proofs.Common.{get_or}
 use Rattle.name_index.proofs.Placing.{pair_begins, pair_there, tail_is}
 use Rattle.name_index.proofs.places.pair_of.Goals as goal
 
 pub known_pair-requires : goal.known_pair-requires
 known_pair-requires c =
-    let P : List ℕ → Type 0 = λ b. BeginsPair b in
-    subst P (sym (tail_is c.args.entries.now (get_or c.args.places.now c.args.index 0)))
-    (pair_begins c.args.entries.now c.args.places.now c.args.index 0 c.requires.placed c.requires.within)
+    rw (tail_is c.args.entries.now (get_or c.args.places.now c.args.index 0)) (pair_begins c.args.entries.now c.args.places.now c.args.index 0 c.requires.placed c.requires.within)
 
 pub returns : goal.returns
 returns c =
     let pair = c.known_pair.result.0 in
-    let P : List ℕ → Type 0 = λ b. Begins b (pair_parts ((pair.0.now, pair.1.now) ∷ [])) c.known_pair.result.1.now in
-    λ placed. pair_there c.args.entries.now c.args.places.now c.args.index 0 placed c.requires.within (pair.0.now, pair.1.now) _ (subst P (tail_is c.args.entries.now (get_or c.args.places.now c.args.index 0)) c.known_pair.ensures)
+    λ placed. pair_there c.args.entries.now c.args.places.now c.args.index 0 placed c.requires.within (pair.0.now, pair.1.now) c.known_pair.result.1.now (rw (← (tail_is c.args.entries.now (get_or c.args.places.now c.args.index 0))) c.known_pair.ensures)

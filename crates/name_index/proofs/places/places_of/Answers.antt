@@ -1,14 +1,12 @@
-use Rattle.std.proofs.Common.{◌≡◌, ◌+◌, ℕ, List, arith, subst, sym}
+use Rattle.std.proofs.Common.{◌≡◌, arith}
 use Rattle.std.proofs.lemmas.Result.{err_from_is_err_and}
-use Rattle.name_index.specs.Placed.{AreFar}
-use Rattle.name_index.proofs.Placing.{Noted, far_here, noted_next, noted_start, placed_end}
+use Rattle.name_index.proofs.Placing.{far_here, noted_next, noted_start, placed_end}
 use Rattle.name_index.proofs.Scanning.{begins_here}
 use Rattle.name_index.proofs.places.places_of.Goals as goal
 
 pub loop-init : goal.loop-init
 loop-init c =
-    let P : List ℕ → Type 0 = λ places. Noted c.args.entries.now c.args.count places c.args.entries.now 0 in
-    subst P (sym c.in_ok-places.ensures.items) (noted_start c.args.entries.now c.args.count c.requires)
+    rw c.in_ok-places.ensures.items (noted_start c.args.entries.now c.args.count c.requires)
 
 pub known_pair-requires : goal.known_pair-requires
 known_pair-requires c =
@@ -19,9 +17,7 @@ pub loop-preserved : goal.loop-preserved
 loop-preserved c =
     let inv = c.loop.invariant in
     let pair = c.known_pair.result.0 in
-    let P : List ℕ → Type 0 = λ places. Noted c.args.entries.now c.args.count places c.known_pair.result.1.now (c.loop.counter + 1) in
-    subst P (sym c.in_ok-put.ensures)
-    (noted_next c.args.entries.now c.args.count _ _ c.loop.counter _ (pair.0.now, pair.1.now) c.known_pair.result.1.now inv (omega arith) c.in_ok-place_of.ensures.place (omega arith) c.known_pair.ensures)
+    rw c.in_ok-put.ensures (noted_next c.args.entries.now c.args.count _ _ c.loop.counter _ (pair.0.now, pair.1.now) c.known_pair.result.1.now inv (omega arith) c.in_ok-place_of.ensures.place (omega arith) c.known_pair.ensures)
 
 pub returns-clause-placed : goal.returns-clause-placed
 returns-clause-placed c = placed_end c.args.entries.now c.args.count _ _ c.loop.counter c.loop.invariant (omega arith)
@@ -34,5 +30,4 @@ returns-in_err-place_of-clause-too_far c =
 pub returns-clause-near : goal.returns-clause-near
 returns-clause-near c =
     let end : c.loop.counter ≡ c.args.count = omega arith in
-    let P : ℕ → Type 0 = λ n. AreFar c.args.entries.now n → ⊥ in
-    subst P end c.loop.invariant.near
+    rw (← end) c.loop.invariant.near

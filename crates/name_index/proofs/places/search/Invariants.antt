@@ -1,15 +1,11 @@
-use Rattle.std.proofs.Common.{◌≡◌, ◌+◌, ◌-◌, ◌≤◌, length}
-use Rattle.litemap_store.specs.Digits.{digits}
-use Rattle.name_index.proofs.Placing.{Searched}
+use Rattle.std.proofs.Common.{◌-◌, length}
+use Rattle.name_index.proofs.Halving.{Halved}
+use Rattle.name_index.proofs.Placing.{pairs_at}
+use Rattle.name_index.proofs.Scanning.{to_key}
 use Rattle.name_index.proofs.places.search.Given as goal
 
 abbrev pub invariant-loop-low : goal.invariant-loop-low
-invariant-loop-low l = record {
-  searched : Searched l.entries l.places l.key l.low l.high;
-  same : l.count.name ≡ l.fn.count.name;
-  not_lowered : l.fn.count.total ≤ l.count.total;
-  cost : l.count.total + digits (l.high - l.low) ≤ l.fn.count.total + digits (length l.places);
-}
+invariant-loop-low l = Halved (pairs_at {entries = l.entries} {places = l.places}) (to_key l.key) (length l.places) l.low l.high l.fn.count l.count
 
 abbrev pub decreases-loop-low : goal.decreases-loop-low
 decreases-loop-low l = l.high - l.low

@@ -1,6 +1,3 @@
-use Rattle.std.proofs.Common.{Bor, ℕ, List, Option, subst}
-use Rattle.std.specs.Prelude.{IfSome}
-use Rattle.name_table.specs.Remaining.{IsNext, shown}
 use Rattle.name_index.proofs.Rises.{above_false, above_true, checked_next, checked_start}
 use Rattle.name_index.proofs.rising.check.Goals as goal
 
@@ -10,8 +7,7 @@ loop-key-init c = checked_start _ _
 pub returns-then-not-is_above-clause-fault : goal.returns-then-not-is_above-clause-fault
 returns-then-not-is_above-clause-fault c =
     let inv = c.loop-key.invariant in
-    let Read : Option (Bor (List ℕ) × Bor (List ℕ)) → Type 0 = λ o. IfSome o (λ pair. IsNext c.loop-key.names c.next_pair.new.self (shown pair)) in
-    let n = subst Read c.in-Some.is c.in_ok-key.ensures.read in (
+    let n = rw c.in-Some.is at c.in_ok-key.ensures.read in (
       c.loop-key.names,
       inv.to,
       (
@@ -25,7 +21,6 @@ returns-then-not-is_above-clause-fault c =
 
 pub loop-key-preserved : goal.loop-key-preserved
 loop-key-preserved c =
-    let Read : Option (Bor (List ℕ) × Bor (List ℕ)) → Type 0 = λ o. IfSome o (λ pair. IsNext c.loop-key.names c.next_pair.new.self (shown pair)) in
-    let n = subst Read c.in-Some.is c.in_ok-key.ensures.read in
+    let n = rw c.in-Some.is at c.in_ok-key.ensures.read in
     checked_next _ c.loop-key.names c.next_pair.new.self c.loop-key.last c.in-Some.key c.in-Some.field-0-1 _ _ _ c.loop-key.invariant n
     (above_true c.loop-key.last c.in-Some.key.now c.is_above.result c.is_above.ensures.later c.if-not-is_above.false) c.is_above.ensures.unasked c.is_above.ensures.cost

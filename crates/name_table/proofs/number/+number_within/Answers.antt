@@ -1,4 +1,4 @@
-use Rattle.std.proofs.Common.{arith, ◌<◌}
+use Rattle.std.proofs.Common.{arith}
 use Rattle.std.proofs.Math.Facts.{Fits-of_lt}
 use Rattle.std.proofs.lemmas.Result.{err_from_is_err_and}
 use Rattle.name_table.proofs.NumberLemmas.{value_of-four, begins_last, begins_more, unread_more}
@@ -10,15 +10,11 @@ returns-then-low-lt128-clause-ok t c =
 
 pub overflow_mul-result : goal.overflow_mul-result
 overflow_mul-result t c =
-    let r = c.in_ok-high.ensures.ok in
-    let s : c.in_ok-high.high < 268435456 = omega (arith, value_of-four r.front (omega (arith, r.short, c.requires)), r.value) in
-    Fits-of_lt (omega (arith, s))
+    let r = c.in_ok-high.ensures.ok in Fits-of_lt (omega (arith, value_of-four r.front (omega (arith, r.short, c.requires)), r.value))
 
 pub overflow_add-result : goal.overflow_add-result
 overflow_add-result t c =
-    let r = c.in_ok-high.ensures.ok in
-    let s : c.in_ok-high.high < 268435456 = omega (arith, value_of-four r.front (omega (arith, r.short, c.requires)), r.value) in
-    Fits-of_lt (omega (arith, s))
+    let r = c.in_ok-high.ensures.ok in Fits-of_lt (omega (arith, value_of-four r.front (omega (arith, r.short, c.requires)), r.value))
 
 pub returns-clause-ok : goal.returns-clause-ok
 returns-clause-ok t c =

@@ -1,6 +1,7 @@
-use Rattle.std.proofs.Common.{◌≡◌, ◌≤◌, ◌∙◌, ℕ, [], arith, length, min, refl, slice_range, subst, sym}
-use Rattle.name_table.proofs.PartLemmas.{begins_none}
-use Rattle.name_index.proofs.Between.{none_of, slice_clamped, slice_none}
+use Rattle.std.proofs.Common.{◌≡◌, ◌≤◌, ◌∙◌, [], arith, length, min, refl, sym}
+use Rattle.name_table.specs.ReadOn.{begins_none}
+use Rattle.name_index.proofs.Between.{slice_clamped, slice_none}
+use Rattle.std.proofs.lemmas.List.{nil_from_length}
 use Rattle.name_index.proofs.Placing.{of_indexed}
 use Rattle.name_index.proofs.index.NameIndex.entries_in.Goals as goal
 
@@ -12,9 +13,8 @@ returns-then-range-end c =
     rw (← c.self.view_is)
     (of_indexed _ _ _ _ c.self.invariant c.as_slice-places.ensures.value (λ p.
     let L = p.these.pairs in
-    let Q : ℕ → Type 0 = λ end. c.entries_between.result ≡ slice_range L c.args.range.start end in
     let e : c.min-end.result ≡ min c.args.range.end (length L) = omega (arith, c.min-end.ensures, c.as_slice-places.ensures.len, p.these.count_is) in
-    subst Q e (c.entries_between.ensures p) ∙ slice_clamped L c.args.range.start c.args.range.end))
+    rw (← e) (c.entries_between.ensures p) ∙ slice_clamped L c.args.range.start c.args.range.end))
 
 pub returns-else-range-end : goal.returns-else-range-end
 returns-else-range-end c =
@@ -23,4 +23,4 @@ returns-else-range-end c =
     let L = p.these.pairs in
     let e = c.new.ensures in
     let none : min c.args.range.end (length L) ≤ c.args.range.start = omega (arith, c.if-range-end.false, c.min-end.ensures, p.these.count_is) in
-    e.1 ∙ none_of e.0.pairs e.0.count_is ∙ sym (slice_none L c.args.range.start c.args.range.end none)))
+    e.1 ∙ nil_from_length e.0.pairs e.0.count_is ∙ sym (slice_none L c.args.range.start c.args.range.end none)))

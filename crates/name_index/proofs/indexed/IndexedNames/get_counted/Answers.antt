@@ -1,21 +1,18 @@
-use Rattle.std.proofs.Common.{◌<◌, ℕ, Result, subst, sym}
+use Rattle.litemap_store.proofs.Counting.{always_on_err}
+use Rattle.std.proofs.Common.{◌<◌, sym}
 use Rattle.std.proofs.lemmas.Result.{IfOk-at_ok}
-use Rattle.litemap_store.specs.Splits.{Splits}
-use Rattle.name_index.specs.Index.{IfIndex}
-use Rattle.name_index.specs.Tables.{text_order}
-use Rattle.name_index.proofs.Indexing.{entry_is, no_index, whatever_fault}
+use Rattle.name_index.proofs.Indexing.{entry_is, no_index}
 use Rattle.name_index.proofs.Scanning.{value_at_split}
 use Rattle.name_index.proofs.indexed.IndexedNames.get_counted.Goals as goal
 
 pub returns-in_err-value-in-Ok-clause-fault : goal.returns-in_err-value-in-Ok-clause-fault
 returns-in_err-value-in-Ok-clause-fault c =
     let l : c.in-Ok.index < c.self.inside.size = IfOk-at_ok (λ i. i < c.self.inside.size) c.in-Ok.is c.in_ok-index.ensures.within in
-    whatever_fault c.from_residual-in_err-value-in-Ok.result (rw (← c.self.view_is) (no_index _ _ c.in-Ok.index c.self.invariant l c.in_err-value-in-Ok.ensures.fault))
+    always_on_err c.from_residual-in_err-value-in-Ok.result (rw (← c.self.view_is) (no_index _ _ c.in-Ok.index c.self.invariant l c.in_err-value-in-Ok.ensures.fault))
 
 pub returns-in_ok-value-in-Ok-clause-value : goal.returns-in_ok-value-in-Ok-clause-value
 returns-in_ok-value-in-Ok-clause-value c =
     let l : c.in-Ok.index < c.self.inside.size = IfOk-at_ok (λ i. i < c.self.inside.size) c.in-Ok.is c.in_ok-index.ensures.within in
-    let P : Result ℕ ℕ → Type 0 = λ r. IfIndex c.self.inside.bytes.now (λ pairs. Splits text_order pairs c.args.key.now r) in
-    let s = subst P c.in-Ok.is c.in_ok-index.ensures.splits in
+    let s = rw c.in-Ok.is at c.in_ok-index.ensures.splits in
     rw (← c.self.view_is)
     (λ pairs x. sym (value_at_split pairs c.args.key.now c.in-Ok.index _ (s pairs x) (entry_is _ _ c.self.invariant pairs x c.in-Ok.index _ l c.in_ok-value-in-Ok.ensures.entry)))

@@ -1,6 +1,5 @@
-use Rattle.std.proofs.Common.{◌-◌, ◌∙◌, ℕ, List, arith, length, subst}
+use Rattle.std.proofs.Common.{◌-◌, ◌∙◌, arith, length}
 use Rattle.litemap_store.proofs.Counting.{at_most}
-use Rattle.name_index.specs.Index.{IsIndex}
 use Rattle.name_index.proofs.Indexing.{count_is}
 use Rattle.name_index.proofs.indexed.IndexedNames.open_checked_counted.Goals as goal
 
@@ -8,5 +7,4 @@ pub returns-clause-cost : goal.returns-clause-cost
 returns-clause-cost c =
     let o = c.in_ok-follow.ensures.ok in
     let size = count_is _ _ c.opened-size.ensures.places o.0 o.1 in
-    let P : List ℕ → Type 0 = λ bytes. IsIndex bytes o.0 in
-    (o.0, subst P (c.opened-size.ensures.bytes ∙ c.in_ok-names.ensures.bytes) o.1, at_most _ (length o.0 - 1) (omega (arith, size)) c.in_ok-follow.ensures.cost)
+    (o.0, rw (← (c.opened-size.ensures.bytes ∙ c.in_ok-names.ensures.bytes)) o.1, at_most _ (length o.0 - 1) (omega (arith, size)) c.in_ok-follow.ensures.cost)

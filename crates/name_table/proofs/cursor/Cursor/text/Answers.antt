@@ -1,9 +1,6 @@
-use Rattle.std.proofs.Common.{◌≡◌, ℕ, List, [], ◌∷◌, ◌++◌, length, sym, ap, ◌∙◌, subst, arith, refl}
-use Rattle.std.specs.Prelude.{IsUtf8}
+use Rattle.std.proofs.Common.{◌≡◌, ◌++◌, length, sym, ap, ◌∙◌, arith, refl}
 use Rattle.std.proofs.lemmas.List.{take-append-drop}
 use Rattle.std.proofs.lemmas.Result.{err_from_is_err_and}
-use Rattle.name_table.specs.Parts.{Number}
-use Rattle.name_table.specs.Position.{IsPast, Position}
 use Rattle.name_table.proofs.PartLemmas.{past_text}
 use Rattle.name_table.proofs.FaultLemmas.{length_fault, text_fault}
 use Rattle.name_table.proofs.cursor.Cursor.text.Goals as goal
@@ -15,24 +12,19 @@ returns-in_err-size-clause-err c =
 
 pub returns-then-size-tail-clause-err : goal.returns-then-size-tail-clause-err
 returns-then-size-tail-clause-err c =
-    let P : Position → Type 0 = λ t. IsPast c.args.self.now t (Number c.in_ok-size.size ∷ []) in
-    let b = subst P (sym c.tail.view_is) c.in_ok-size.ensures.ok in
+    let b = rw (sym c.tail.view_is) at c.in_ok-size.ensures.ok in
     text_fault c.args.self.now.rest c.tail.inside.rest.now c.args.self.now.place c.tail.inside.place c.in_ok-size.size _ b.spelled b.place (refl, c.if-size-tail.true)
 
 pub returns-in-Ok-clause-ok : goal.returns-in-Ok-clause-ok
 returns-in-Ok-clause-ok c =
-    let P : Position → Type 0 = λ t. IsPast c.args.self.now t (Number c.in_ok-size.size ∷ []) in
-    let b = subst P (sym c.tail.view_is) c.in_ok-size.ensures.ok in
+    let b = rw (sym c.tail.view_is) at c.in_ok-size.ensures.ok in
     let tail = c.tail.inside.rest.now in
     let text = c.in-Ok.ensures.cases in
     let e : tail ≡ c.in-Ok.text.now ++ c.split_at.result.1.now = sym (take-append-drop c.in_ok-size.size tail) ∙ (λ i. (sym c.split_at.ensures.front ∙ sym text.0) i ++ sym c.split_at.ensures.back i) in
-    let U : List ℕ → Type 0 = λ t. IsUtf8 t in
-    past_text c.args.self.now tail c.split_at.result.1.now c.in-Ok.text.now c.tail.inside.place c.in_ok-size.size b e (ap length text.0 ∙ c.split_at.ensures.front_len) (subst U (sym text.0) text.1)
+    past_text c.args.self.now tail c.split_at.result.1.now c.in-Ok.text.now c.tail.inside.place c.in_ok-size.size b e (ap length text.0 ∙ c.split_at.ensures.front_len) (rw text.0 text.1)
 
 pub returns-in-Err-clause-err : goal.returns-in-Err-clause-err
 returns-in-Err-clause-err c =
-    let P : Position → Type 0 = λ t. IsPast c.args.self.now t (Number c.in_ok-size.size ∷ []) in
-    let b = subst P (sym c.tail.view_is) c.in_ok-size.ensures.ok in
-    let U : List ℕ → Type 0 = λ t. IsUtf8 t in
+    let b = rw (sym c.tail.view_is) at c.in_ok-size.ensures.ok in
     text_fault c.args.self.now.rest c.tail.inside.rest.now c.args.self.now.place c.tail.inside.place c.in_ok-size.size _ b.spelled b.place
-    (refl, omega (arith, c.if-size-tail.false), λ u. c.in-Err.ensures.cases.0 (subst U (sym c.split_at.ensures.front) u))
+    (refl, omega (arith, c.if-size-tail.false), λ u. c.in-Err.ensures.cases.0 (rw c.split_at.ensures.front u))

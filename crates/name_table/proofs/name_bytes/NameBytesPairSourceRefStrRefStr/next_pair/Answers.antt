@@ -6,65 +6,41 @@ use Rattle.name_table.proofs.name_bytes.NameBytesPairSourceRefStrRefStr.next_pai
 
 pub returns-then-self-eq0-clause-next : goal.returns-then-self-eq0-clause-next
 returns-then-self-eq0-clause-next c =
-    let s : Remaining = record { rest = c.self.inside.cursor.rest; place = c.self.inside.cursor.place; left = c.self.inside.left } in
     rw (← c.self.view_is)
-    (all_none_can_be_read s c.if-self-eq0.true, ((λ L. ((λ h. h), (λ h. h))), refl), none_can_be_read s c.if-self-eq0.true, c.if-self-eq0.true)
+    (all_none_can_be_read _ c.if-self-eq0.true, ((λ L. ((λ h. h), (λ h. h))), refl), none_can_be_read _ c.if-self-eq0.true, c.if-self-eq0.true)
 
 pub returns-in_err-key-clause-next : goal.returns-in_err-key-clause-next
 returns-in_err-key-clause-next c =
-    let s : Remaining = record { rest = c.self.inside.cursor.rest; place = c.self.inside.cursor.place; left = c.self.inside.left } in
     let p = err_from_is_err_and c.from_residual.result c.from_residual.ensures.1 in
-    rw (p.1, p.2, ← c.self.view_is)
-    (pairs_from_next s c.in_err-key.field-0.0 (key_fault s c.in_err-key.field-0.0 c.if-self-eq0.false c.in_err-key.ensures.err), ((λ L. ((λ h. h), (λ h. h))), refl))
-
-pub returns-in_err-value-clause-next : goal.returns-in_err-value-clause-next
-returns-in_err-value-clause-next c =
-    let s : Remaining = record { rest = c.self.inside.cursor.rest; place = c.self.inside.cursor.place; left = c.self.inside.left } in
-    let p = err_from_is_err_and c.from_residual-in_err-value.result c.from_residual-in_err-value.ensures.1 in
-    let k = c.in_ok-key.ensures.ok in
-    rw (p.1, p.2, ← c.self.view_is)
-    (pairs_from_next s c.in_err-value.field-0.0 (value_fault s c.in_ok-key.middle.rest c.in_ok-key.key.now c.in_ok-key.middle.place c.in_err-value.field-0.0 c.if-self-eq0.false k.spelled k.place c.in_err-value.ensures.err), ((λ L. ((λ h. h), (λ h. h))), refl))
+    rw (p.1, p.2, ← c.self.view_is) (pairs_from_next _ _ (key_fault _ _ c.if-self-eq0.false c.in_err-key.ensures.err), ((λ L. ((λ h. h), (λ h. h))), refl))
 
 pub returns-in_err-key-clause-fault : goal.returns-in_err-key-clause-fault
 returns-in_err-key-clause-fault c =
-    let s : Remaining = record { rest = c.self.inside.cursor.rest; place = c.self.inside.cursor.place; left = c.self.inside.left } in
     let p = err_from_is_err_and c.from_residual.result c.from_residual.ensures.1 in
-    rw (p.1, p.2, ← c.self.view_is) (key_fault s c.in_err-key.field-0.0 c.if-self-eq0.false c.in_err-key.ensures.err)
+    rw (p.1, p.2, ← c.self.view_is) (key_fault _ _ c.if-self-eq0.false c.in_err-key.ensures.err)
 
-pub returns-in_err-value-clause-fault : goal.returns-in_err-value-clause-fault
-returns-in_err-value-clause-fault c =
-    let s : Remaining = record { rest = c.self.inside.cursor.rest; place = c.self.inside.cursor.place; left = c.self.inside.left } in
+pub returns-in_err-value-clause-next : goal.returns-in_err-value-clause-next
+returns-in_err-value-clause-next c =
     let p = err_from_is_err_and c.from_residual-in_err-value.result c.from_residual-in_err-value.ensures.1 in
     let k = c.in_ok-key.ensures.ok in
     rw (p.1, p.2, ← c.self.view_is)
-    (value_fault s c.in_ok-key.middle.rest c.in_ok-key.key.now c.in_ok-key.middle.place c.in_err-value.field-0.0 c.if-self-eq0.false k.spelled k.place c.in_err-value.ensures.err)
+    (pairs_from_next _ _ (value_fault _ _ c.in_ok-key.key.now _ _ c.if-self-eq0.false k.spelled k.place c.in_err-value.ensures.err), ((λ L. ((λ h. h), (λ h. h))), refl))
 
-pub returns-clause-next : goal.returns-clause-next
-returns-clause-next c =
+pub returns-in_err-value-clause-fault : goal.returns-in_err-value-clause-fault
+returns-in_err-value-clause-fault c =
+    let p = err_from_is_err_and c.from_residual-in_err-value.result c.from_residual-in_err-value.ensures.1 in
+    let k = c.in_ok-key.ensures.ok in
+    rw (p.1, p.2, ← c.self.view_is) (value_fault _ _ c.in_ok-key.key.now _ _ c.if-self-eq0.false k.spelled k.place c.in_err-value.ensures.err)
+
+pub returns : goal.returns
+returns c =
     let s : Remaining = record { rest = c.self.inside.cursor.rest; place = c.self.inside.cursor.place; left = c.self.inside.left } in
     let n = is_next s c.in_ok-key.key.now c.in_ok-value.value.now c.in_ok-key.middle c.in_ok-value.behind c.in_ok-key.ensures.ok c.in_ok-value.ensures.ok c.if-self-eq0.false in
-    rw (← c.self.view_is) ((λ L r. gives_one_more s _ _ n (c.in_ok-key.key, c.in_ok-value.value) L refl r), n.count)
-
-pub returns-clause-keeps_faults : goal.returns-clause-keeps_faults
-returns-clause-keeps_faults c =
-    let s : Remaining = record { rest = c.self.inside.cursor.rest; place = c.self.inside.cursor.place; left = c.self.inside.left } in
-    let n = is_next s c.in_ok-key.key.now c.in_ok-value.value.now c.in_ok-key.middle c.in_ok-value.behind c.in_ok-key.ensures.ok c.in_ok-value.ensures.ok c.if-self-eq0.false in
-    rw (← c.self.view_is) (λ f. (fault_later s _ _ n f, fault_earlier s _ _ n f))
-
-pub returns-clause-keeps_end : goal.returns-clause-keeps_end
-returns-clause-keeps_end c =
-    let s : Remaining = record { rest = c.self.inside.cursor.rest; place = c.self.inside.cursor.place; left = c.self.inside.left } in
-    let n = is_next s c.in_ok-key.key.now c.in_ok-value.value.now c.in_ok-key.middle c.in_ok-value.behind c.in_ok-key.ensures.ok c.in_ok-value.ensures.ok c.if-self-eq0.false in
-    rw (← c.self.view_is) (all_later s _ _ n, all_earlier s _ _ n)
-
-pub returns-clause-leads : goal.returns-clause-leads
-returns-clause-leads c =
-    let s : Remaining = record { rest = c.self.inside.cursor.rest; place = c.self.inside.cursor.place; left = c.self.inside.left } in
-    let n = is_next s c.in_ok-key.key.now c.in_ok-value.value.now c.in_ok-key.middle c.in_ok-value.behind c.in_ok-key.ensures.ok c.in_ok-value.ensures.ok c.if-self-eq0.false in
-    rw (← c.self.view_is) (read_on_one s _ _ n)
-
-pub returns-clause-read : goal.returns-clause-read
-returns-clause-read c =
-    let s : Remaining = record { rest = c.self.inside.cursor.rest; place = c.self.inside.cursor.place; left = c.self.inside.left } in
-    let n = is_next s c.in_ok-key.key.now c.in_ok-value.value.now c.in_ok-key.middle c.in_ok-value.behind c.in_ok-key.ensures.ok c.in_ok-value.ensures.ok c.if-self-eq0.false in
-    rw (← c.self.view_is) n
+    rw (← c.self.view_is) (record {
+      next = ((λ L r. gives_one_more s _ _ n (c.in_ok-key.key, c.in_ok-value.value) L refl r), n.count);
+      keeps_faults = λ f. (fault_later s _ _ n f, fault_earlier s _ _ n f);
+      keeps_end = (all_later s _ _ n, all_earlier s _ _ n);
+      leads = read_on_one s _ _ n;
+      fault = tt;
+      read = n;
+    })

@@ -1,0 +1,78 @@
+-- A search that halves the places of pairs: what it knows of them, whichever they are, and what it asked.
+--     halved_start      at first;  halved_less, halved_greater, halved_equal, halved_asked      after an answer at the middle
+--     halved_end, halved_cost      where no place is left
+use Rattle.std.proofs.Common.{◌≡◌, ℕ, ◌+◌, ◌-◌, ◌/◌, ◌<◌, ◌≤◌, List, length, Ok, Err, refl, ◌∙◌, arith}
+use Rattle.std.specs.declared.cmp.Ordering.{Ordering}
+use Rattle.std.specs.declared.cmp.Ordering.TheVariants.{Less, Equal, Greater}
+use Rattle.litemap_store.specs.Counts.{RisesByAtMost}
+use Rattle.litemap_store.specs.Digits.{digits, digits-halved}
+use Rattle.litemap_store.specs.Search.{Ascends, Finds}
+use Rattle.litemap_store.specs.declared.count.Count.{Count}
+use Rattle.litemap_store.proofs.Halving.{Narrowed, Narrowed-whole, Narrowed-less, Narrowed-greater, Finds-here, Finds-nowhere}
+use Rattle.name_index.specs.Placed.{IsKeyAt}
+
+module _ {X : Type 0} (pairs : X → List (List ℕ × List ℕ)) (order : List ℕ → Ordering) where
+  -- the answers ascend over the pairs, those in front of the places that are left are less, and those behind them greater
+  pub record Halved (size low high : ℕ) (old new : Count) : Type 0 where
+    pub known : (x : X) → (length (pairs x) ≡ size) × Ascends order (pairs x)
+    pub ordered : low ≤ high
+    pub within : high ≤ size
+    pub narrowed : (x : X) → Narrowed order (pairs x) low high
+    pub same : new.name ≡ old.name
+    pub not_lowered : old.total ≤ new.total
+    pub cost : new.total + digits (high - low) ≤ old.total + digits size
+
+  pub halved_start : (size : ℕ) (count : Count) → ((x : X) → (length (pairs x) ≡ size) × Ascends order (pairs x)) → Halved size 0 size count count
+  halved_start size count known = record {
+    known = known;
+    ordered = omega arith;
+    within = omega arith;
+    narrowed = λ x. Narrowed-whole order (pairs x) size (omega (arith, (known x).0));
+    same = refl;
+    not_lowered = omega arith;
+    cost = let e : size - 0 ≡ size = omega arith in rw e (omega arith);
+  }
+
+  module _ {size low high : ℕ} {old now new : Count} (name : List ℕ) (h : Halved size low high old now) (l : low < high)
+      (there : (x : X) → IsKeyAt (pairs x) (low + (high - low) / 2) name) (same : new.name ≡ now.name) (asked : new.total ≡ now.total + 1) where
+    pub halved_less : order name ≡ Less → Halved size (low + (high - low) / 2 + 1) high old new
+    halved_less is =
+        let middle = low + (high - low) / 2 in
+        let m : digits (high - (middle + 1)) + 1 ≤ digits (high - low) = digits-halved _ _ (omega arith) (omega arith) in
+        record {
+          known = h.known;
+          ordered = omega arith;
+          within = h.within;
+          narrowed = λ x. let at = there x in Narrowed-less order (pairs x) (h.known x).1 low high middle name at.0 at.1 (h.narrowed x) is;
+          same = same ∙ h.same;
+          not_lowered = omega arith;
+          cost = omega arith;
+        }
+
+    pub halved_greater : order name ≡ Greater → Halved size low (low + (high - low) / 2) old new
+    halved_greater is =
+        let middle = low + (high - low) / 2 in
+        let m : digits (middle - low) + 1 ≤ digits (high - low) = digits-halved _ _ (omega arith) (omega arith) in
+        record {
+          known = h.known;
+          ordered = omega arith;
+          within = omega arith;
+          narrowed = λ x. let at = there x in Narrowed-greater order (pairs x) (h.known x).1 low high middle name at.0 at.1 (h.narrowed x) is;
+          same = same ∙ h.same;
+          not_lowered = omega arith;
+          cost = omega arith;
+        }
+
+    pub halved_equal : order name ≡ Equal → (x : X) → Finds order (pairs x) (Ok (low + (high - low) / 2))
+    halved_equal is x = let at = there x in Finds-here order (pairs x) (low + (high - low) / 2) name at.0 at.1 is
+
+    pub halved_asked : RisesByAtMost (digits size) old new
+    halved_asked =
+        let m : digits 0 + 1 ≤ digits (high - low) = digits-halved 0 _ (omega arith) (omega arith) in
+        record { same = same ∙ h.same; not_lowered = omega arith; most = omega arith }
+
+  pub halved_end : {size low high : ℕ} {old new : Count} → Halved size low high old new → high ≤ low → (x : X) → Finds order (pairs x) (Err low)
+  halved_end {low = low} {high = high} h l x = Finds-nowhere order (pairs x) low high l (omega (arith, h.ordered, h.within, (h.known x).0)) (h.narrowed x)
+
+  pub halved_cost : {size low high : ℕ} {old new : Count} → Halved size low high old new → RisesByAtMost (digits size) old new
+  halved_cost h = record { same = h.same; not_lowered = h.not_lowered; most = omega arith }
