@@ -1,5 +1,7 @@
 """What the scripts in Python share: the crates, the text of --help, and how cases are counted."""
 import argparse
+import functools
+import os
 import pathlib
 import re
 import shutil
@@ -44,6 +46,29 @@ def try_cases(folder, cases, refused):
     outputs = dict(re.findall(r"^== (\S+)\n((?:(?!== ).*\n)*)", run.stdout, re.MULTILINE))
     requests = re.findall(r"^allocations: (.*)\ncase=(\S+) ", run.stderr, re.MULTILINE)
     return outputs, {name: number for number, name in requests}, run.stdout + run.stderr
+
+
+@functools.cache
+def kit():
+    """The folder of the kit."""
+    return pathlib.Path(subprocess.run(["rt", "doc"], capture_output=True, text=True, check=True).stdout.strip()).parent
+
+
+class Watched:
+    """A program that makes the lines of `test_replay`, with bin/allocator.c loaded before the C library."""
+
+    def __init__(self, room, program):
+        self.program, self.library = program, f"{room}/allocator.so"
+        options = ["-O1", "-shared", "-fPIC", "-nostdlib", "-fuse-ld=lld", "-fno-builtin"]
+        clang = kit() / "toolchain" / "bin" / "clang"
+        subprocess.run([clang, *options, "-o", self.library, TOP / "bin" / "allocator.c"], check=True)
+
+    def run(self, is_marked, **more):
+        """How it ends, the lines that it writes, if it is marked all of them, and the numbers that stand beside each."""
+        folder, env = TOP / "crates" / "test_replay", os.environ | {"LD_PRELOAD": self.library} | more
+        given = "marked\n" * is_marked + (folder / "stdin").read_text(encoding="utf-8")
+        run = subprocess.run([self.program], cwd=folder / "data", env=env, input=given, capture_output=True, text=True)
+        return run.returncode, [line for line in run.stdout.splitlines() if " = " in line], run.stderr.splitlines()
 
 
 class Report:
