@@ -11,7 +11,6 @@ from shared import TOP
 # The libraries whose calls have no line: why.
 WITHOUT = {
     **dict.fromkeys(["litemap_store", "litemap", "litemap_short"], "bin/requests refuses what their calls ask for"),
-    "litemap_serde": "its errors are those of the format that is read; docs/PROVED.md says that no test refuses its requests",
     "names_main": "the program, which bin/program runs",
 }
 OVER_STORES = ["litemap_read", "litemap_json"]

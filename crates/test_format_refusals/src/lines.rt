@@ -2,7 +2,7 @@
 ghost use Rattle.std.specs.Prelude.{◌≤◌, IfOk, length};
 
 use crate::outcome::Outcome;
-use crate::{json, json_faults, read, session, tables};
+use crate::{derived, json, json_faults, read, session, tables};
 use std::alloc::Global;
 use std::io::{self, Read};
 use std::str;
@@ -67,7 +67,8 @@ fn report(rt: &(impl Print + AllocGlobal), name: &str) -> io::Result<()> {
         .or_else(|| session::run(alloc, name))
         .or_else(|| tables::run(alloc, name))
         .or_else(|| json::run(alloc, name))
-        .or_else(|| json_faults::run(alloc, name));
+        .or_else(|| json_faults::run(alloc, name))
+        .or_else(|| derived::run(alloc, name));
     match ended.map(|ended| ended.unwrap_or_else(|outcome| outcome)) {
         Some(Outcome::Answered) => println!(rt; "{name}: answered"),
         Some(Outcome::AnsweredWithRoom(room)) => println!(rt; "{name}: answered, room {room}"),

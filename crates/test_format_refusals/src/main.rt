@@ -4,6 +4,7 @@
 //! reads are those of `lines::run_lines`.
 #![tactic(auto)]
 
+mod derived;
 mod json;
 mod json_faults;
 mod lines;

@@ -5,6 +5,7 @@ use litemap_json::{ItemFault, JsonFault, WriteFault};
 use litemap_read::ReadFault;
 use name_index::NameIndexFault;
 use names::{FlagsFault, NameWriteFault};
+use serde_json::error::Category;
 use std::alloc::AllocError;
 
 /// How a scenario ended.
@@ -78,6 +79,24 @@ impl From<ItemFault> for Outcome {
 impl From<WriteFault> for Outcome {
     fn from(fault: WriteFault) -> Self {
         Outcome::of_fault(fault == WriteFault::Memory)
+    }
+}
+
+impl From<serde_json::Error> for Outcome {
+    fn from(fault: serde_json::Error) -> Self {
+        Outcome::of_fault(fault.classify() == Category::Memory)
+    }
+}
+
+impl From<toml::de::Error> for Outcome {
+    fn from(fault: toml::de::Error) -> Self {
+        Outcome::of_fault(fault.is_memory())
+    }
+}
+
+impl From<toml::ser::WriteError> for Outcome {
+    fn from(fault: toml::ser::WriteError) -> Self {
+        Outcome::of_fault(fault.is_memory())
     }
 }
 
