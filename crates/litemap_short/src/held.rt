@@ -105,6 +105,7 @@ impl<T> Held<T> {
         requires { index < length (held_items self.old) }
         ensures old { slice_get (held_items self.old) index ≡ Some result }
         ensures items { held_items self.new ≡ remove (held_items self.old) index }
+        ensures room { held_room self.old < held_room self.new }
     {
         match self {
             Held::Nothing => unreachable!(),
@@ -186,7 +187,8 @@ impl<T> Held<T> {
     pub(crate) fn clear(&mut self)
     where
         T: Drop,
-        ensures { held_items self.new ≡ [] }
+        ensures items { held_items self.new ≡ [] }
+        ensures room { held_room self.old + length (held_items self.old) ≤ held_room self.new }
     {
         match self {
             Held::Many(items) => items.clear(),
@@ -219,14 +221,16 @@ fn insert_reserved<T>(items: &mut Vec<T>, index: usize, item: T)
 }
 
 impl<K: Drop, V: Drop> Held<(K, V)> {
-    ghost use Rattle.litemap_short.specs.Held.{held_items, IsOne};
+    ghost use Rattle.litemap_short.specs.Held.{held_items, held_room, IsOne};
 
     // Keeps the pairs of which `f` answers yes. It asks once of each, in order.
     pub(crate) fn retain<F: FnMut(&K, &V) -> bool>(&mut self, f: F)
     where
         K: Ord,
         requires { CallableOnEach F.FnMut f (held_items self.old) }
-        ensures { Kept F.FnMut f (held_items self.old) (held_items self.new) }
+        ensures kept { Kept F.FnMut f (held_items self.old) (held_items self.new) }
+        ensures room { held_room self.old + length (held_items self.old)
+            ≤ held_room self.new + length (held_items self.new) }
     {
         match self {
             Held::Nothing => {}
@@ -239,7 +243,9 @@ impl<K: Drop, V: Drop> Held<(K, V)> {
     fn retain_one<F: FnMut(&K, &V) -> bool>(&mut self, mut f: F)
         requires one { IsOne self.old }
         requires callable { CallableOnEach F.FnMut f (held_items self.old) }
-        ensures { Kept F.FnMut f (held_items self.old) (held_items self.new) }
+        ensures kept { Kept F.FnMut f (held_items self.old) (held_items self.new) }
+        ensures room { held_room self.old + length (held_items self.old)
+            ≤ held_room self.new + length (held_items self.new) }
     {
         let (key, value) = self.take_one();
         let stays = is_kept(&mut f, &key, &value);

@@ -238,9 +238,9 @@ impl<K: Ord, V, S: StoreMut<K, V>> LiteMap<K, V, S> {
 
     /// Takes out the pair with an equal key, and answers its value. Its key is given up.
     ///
-    /// It is asked as `get` is. It takes no memory. It compares at most once for each binary digit of the length, and
-    /// moves the pairs with greater keys down by one. Where there is no such pair nothing is changed, and the room is
-    /// kept; else nothing is promised of the room.
+    /// It is asked as `get` is. It takes no memory and gives none back: there is room for another pair then. It compares at
+    /// most once for each binary digit of the length, and moves the pairs with greater keys down by one. Where there is no
+    /// such pair nothing is changed.
     ///
     /// ```rust
     /// let mut days = three_days(alloc)?;
@@ -252,6 +252,7 @@ impl<K: Ord, V, S: StoreMut<K, V>> LiteMap<K, V, S> {
         ensures value { result ≡ value_at Q.order self.old.pairs (Q.sought key) }
         ensures cut { self.new.pairs ≡ cut Q.order self.old.pairs (Q.sought key) }
         ensures unchanged { IsNone (at Q.order self.old.pairs (Q.sought key)) → self.new ≡ self.old }
+        ensures room { IsSome result → self.old.room < self.new.room }
     {
         self.remove_counted(key, &mut Count::new())
     }
@@ -263,6 +264,7 @@ impl<K: Ord, V, S: StoreMut<K, V>> LiteMap<K, V, S> {
         ensures value { result ≡ value_at Q.order self.old.pairs (Q.sought key) }
         ensures cut { self.new.pairs ≡ cut Q.order self.old.pairs (Q.sought key) }
         ensures unchanged { IsNone (at Q.order self.old.pairs (Q.sought key)) → self.new ≡ self.old }
+        ensures room { IsSome result → self.old.room < self.new.room }
         ensures cost { RisesByAtMost (digits (length self.old.pairs)) count.old count.new }
     {
         let (_, value) = self.take_out(key, count)?;
@@ -273,9 +275,9 @@ impl<K: Ord, V, S: StoreMut<K, V>> LiteMap<K, V, S> {
     ///
     /// It is for what no `Query` says, as `get_by` is. The answer of `f` should hang on the key alone, and over the keys be
     /// `Less`, then `Equal`, then `Greater`: else it means nothing which pair is taken, if one is. Where several keys
-    /// answer `Equal` any of them may be the one found. It takes no memory, and asks `f` at most once for each binary
-    /// digit of the length. Where no pair is taken nothing is changed, and the room is kept; else nothing is promised of
-    /// the room. The Rust crate has no such call.
+    /// answer `Equal` any of them may be the one found. It takes no memory and gives none back: there is room for another
+    /// pair then. It asks `f` at most once for each binary digit of the length. Where no pair is taken nothing is changed.
+    /// The Rust crate has no such call.
     ///
     /// ```rust
     /// let mut days = three_days(alloc)?;
@@ -287,6 +289,7 @@ impl<K: Ord, V, S: StoreMut<K, V>> LiteMap<K, V, S> {
         requires { CallableOnKeys F.FnMut self.old.pairs f }
         ensures found { RemovesFound F.FnMut self.old.pairs f result self.new.pairs }
         ensures unchanged { IsNone result → self.new ≡ self.old }
+        ensures room { IsSome result → self.old.room < self.new.room }
     {
         match self.find_index_by(f) {
             Ok(index) => Some(self.remove_at(index)),
@@ -294,7 +297,7 @@ impl<K: Ord, V, S: StoreMut<K, V>> LiteMap<K, V, S> {
         }
     }
 
-    /// Gives up all pairs. Nothing is promised of the room.
+    /// Gives up all pairs. It takes no memory and gives none back: there is room for as many pairs then.
     ///
     /// ```rust
     /// let mut days = three_days(alloc)?;
@@ -305,7 +308,8 @@ impl<K: Ord, V, S: StoreMut<K, V>> LiteMap<K, V, S> {
     where
         K: Drop,
         V: Drop,
-        ensures { self.new.pairs ≡ [] }
+        ensures pairs { self.new.pairs ≡ [] }
+        ensures room { self.old.room + length self.old.pairs ≤ self.new.room }
     {
         self.store.lm_clear();
     }
@@ -357,6 +361,7 @@ impl<K: Ord, V, S: StoreMut<K, V>> LiteMap<K, V, S> {
         requires { index < length self.old.pairs }
         ensures old { value_in self.old.pairs index ≡ Some result }
         ensures pairs { self.new.pairs ≡ remove self.old.pairs index }
+        ensures room { self.old.room < self.new.room }
     {
         let (_, value) = self.take_at(index);
         value
@@ -390,8 +395,8 @@ impl<K: Ord + Drop, V: Drop, S: StoreBulkMut<K, V>> LiteMap<K, V, S> {
     /// Keeps the pairs of which `f` answers yes, in their order, and gives up the others.
     ///
     /// `f` is asked once of each pair, in order, and has to take each as its earlier answers left it. Where it keeps no state
-    /// and its answers are those of a test, what is left is the list filtered by the test. It takes no memory, and compares
-    /// no keys. Nothing is promised of the room.
+    /// and its answers are those of a test, what is left is the list filtered by the test. It compares no keys, takes no memory
+    /// and gives none back: there is room for as many pairs as were given up.
     ///
     /// ```rust
     /// let mut days = three_days(alloc)?;
@@ -403,6 +408,7 @@ impl<K: Ord + Drop, V: Drop, S: StoreBulkMut<K, V>> LiteMap<K, V, S> {
         ensures kept { Kept F.FnMut f self.old.pairs self.new.pairs }
         ensures filtered { (test : K × V → Bool)
             → Tests F.FnMut f test → self.new.pairs ≡ filter test self.old.pairs }
+        ensures room { self.old.room + length self.old.pairs ≤ self.new.room + length self.new.pairs }
     {
         self.store.lm_retain(f);
     }

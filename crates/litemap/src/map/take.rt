@@ -1,5 +1,5 @@
 //! Calls that take out a pair whole, its key with its value. None takes memory.
-ghost use Rattle.std.specs.Prelude.{◌≡◌, ◌-◌, ◌<◌, IsNone, Some, drop, length, remove, slice_get, take};
+ghost use Rattle.std.specs.Prelude.{◌≡◌, ◌-◌, ◌<◌, IsNone, IsSome, Some, drop, length, remove, slice_get, take};
 ghost use Rattle.litemap_store.specs.Counts.{RisesByAtMost};
 ghost use Rattle.litemap_store.specs.Digits.{digits};
 ghost use Rattle.litemap_store.specs.Pairs.{at, cut};
@@ -11,9 +11,9 @@ use litemap_store::store::{Count, StoreMut};
 impl<K: Ord, V, S: StoreMut<K, V>> LiteMap<K, V, S> {
     /// Takes out the pair with an equal key, and answers it whole: the key that was there, where equal keys differ.
     ///
-    /// It is asked as `get` is. It takes no memory. It compares at most once for each binary digit of the length, and
-    /// moves the pairs with greater keys down by one. Where there is no such pair nothing is changed, and the room is
-    /// kept; else nothing is promised of the room. The Rust crate has no such call.
+    /// It is asked as `get` is. It takes no memory and gives none back: there is room for another pair then. It compares at
+    /// most once for each binary digit of the length, and moves the pairs with greater keys down by one. Where there is no
+    /// such pair nothing is changed. The Rust crate has no such call.
     ///
     /// ```rust
     /// let mut days = three_days(alloc)?;
@@ -23,14 +23,15 @@ impl<K: Ord, V, S: StoreMut<K, V>> LiteMap<K, V, S> {
         ensures pair { result ≡ at Q.order self.old.pairs (Q.sought key) }
         ensures cut { self.new.pairs ≡ cut Q.order self.old.pairs (Q.sought key) }
         ensures unchanged { IsNone (at Q.order self.old.pairs (Q.sought key)) → self.new ≡ self.old }
+        ensures room { IsSome result → self.old.room < self.new.room }
     {
         self.take_out(key, &mut Count::new())
     }
 
     /// Takes out the pair with the smallest key, and answers it; `None` where there is no pair.
     ///
-    /// It takes no memory and compares no keys, and moves all other pairs down by one. Nothing is promised of the room where
-    /// a pair is taken. The Rust crate has no such call.
+    /// It takes no memory and gives none back: there is room for another pair then. It compares no keys, and moves all other
+    /// pairs down by one. The Rust crate has no such call.
     ///
     /// ```rust
     /// let mut days = three_days(alloc)?;
@@ -40,6 +41,7 @@ impl<K: Ord, V, S: StoreMut<K, V>> LiteMap<K, V, S> {
         ensures first { result ≡ slice_get self.old.pairs 0 }
         ensures others { self.new.pairs ≡ drop 1 self.old.pairs }
         ensures unchanged { IsNone result → self.new ≡ self.old }
+        ensures room { IsSome result → self.old.room < self.new.room }
     {
         if self.is_empty() {
             return None;
@@ -49,8 +51,8 @@ impl<K: Ord, V, S: StoreMut<K, V>> LiteMap<K, V, S> {
 
     /// Takes out the pair with the greatest key, and answers it; `None` where there is no pair.
     ///
-    /// It takes no memory, compares no keys, and moves no other pair. Nothing is promised of the room where a pair is taken.
-    /// The Rust crate has no such call.
+    /// It takes no memory and gives none back: there is room for another pair then. It compares no keys, and moves no other
+    /// pair. The Rust crate has no such call.
     ///
     /// ```rust
     /// let mut days = three_days(alloc)?;
@@ -60,6 +62,7 @@ impl<K: Ord, V, S: StoreMut<K, V>> LiteMap<K, V, S> {
         ensures last { result ≡ slice_get self.old.pairs (length self.old.pairs - 1) }
         ensures others { self.new.pairs ≡ take (length self.old.pairs - 1) self.old.pairs }
         ensures unchanged { IsNone result → self.new ≡ self.old }
+        ensures room { IsSome result → self.old.room < self.new.room }
     {
         let len = self.len();
         if len == 0 {
@@ -73,6 +76,7 @@ impl<K: Ord, V, S: StoreMut<K, V>> LiteMap<K, V, S> {
         ensures pair { result ≡ at Q.order self.old.pairs (Q.sought key) }
         ensures cut { self.new.pairs ≡ cut Q.order self.old.pairs (Q.sought key) }
         ensures unchanged { IsNone (at Q.order self.old.pairs (Q.sought key)) → self.new ≡ self.old }
+        ensures room { IsSome result → self.old.room < self.new.room }
         ensures cost { RisesByAtMost (digits (length self.old.pairs)) count.old count.new }
     {
         match self.search(key, count) {
@@ -86,6 +90,7 @@ impl<K: Ord, V, S: StoreMut<K, V>> LiteMap<K, V, S> {
         requires { index < length self.old.pairs }
         ensures old { slice_get self.old.pairs index ≡ Some result }
         ensures pairs { self.new.pairs ≡ remove self.old.pairs index }
+        ensures room { self.old.room < self.new.room }
     {
         self.store.lm_remove(index)
     }
