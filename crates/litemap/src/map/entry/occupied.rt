@@ -1,7 +1,7 @@
 //! The calls on the entry of a key that is there. None takes memory, compares keys, or can be refused.
-ghost use Rattle.std.specs.Prelude.{◌≡◌, Some};
+ghost use Rattle.std.specs.Prelude.{◌≡◌, ◌<◌, Some};
 ghost use Rattle.std.specs.Borrow.{sem};
-ghost use Rattle.litemap.specs.Entries.{IntoLends, IsWritten, Occupied, OccupiedLends, entry_key};
+ghost use Rattle.litemap.specs.Entries.{IntoLends, IsWritten, Occupied, OccupiedLends, entry_key, entry_map};
 ghost use Rattle.litemap.specs.Entries.{entry_value, pairs_without, with_entry_value};
 
 use super::OccupiedEntry;
@@ -98,7 +98,7 @@ impl<'a, K: Ord, V, S: StoreMut<K, V>> OccupiedEntry<'a, K, V, S> {
 
     /// Takes out the pair, and answers its value. Its key is given up.
     ///
-    /// It moves the pairs with greater keys down by one. Nothing is promised of the room.
+    /// It moves the pairs with greater keys down by one. There is room for another pair then.
     ///
     /// ```rust
     /// // days: 1 Monday, 3 Wednesday, 5 Friday
@@ -112,6 +112,7 @@ impl<'a, K: Ord, V, S: StoreMut<K, V>> OccupiedEntry<'a, K, V, S> {
         K: Drop,
         ensures value { entry_value (Occupied self.entry) ≡ Some result }
         ensures removed { self.exit.0.now.pairs ≡ pairs_without (Occupied self.entry) }
+        ensures room { (entry_map (Occupied self.entry)).now.room < self.exit.0.now.room }
     {
         let index = self.index;
         self.map.remove_at(index)
