@@ -90,8 +90,7 @@ impl<'a, K: Ord, V> LiteMap<K, V, SliceStore<'a, K, V>> {
 impl<'a, 'k, V> LiteMap<&'k str, V, SliceStore<'a, &'k str, V>> {
     /// The place and the value of an equal key, if there is one. Texts compare by their bytes.
     ///
-    /// It compares at most once for each binary digit of the length. The key that is looked up may live shorter than those
-    /// of the map.
+    /// It makes O(log n) comparisons. The key that is looked up may live shorter than those of the map.
     ///
     /// ```rust
     /// const CAPITALS: &[(&str, u32)] = &[("Lima", 51), ("Oslo", 47), ("Rome", 39)];
@@ -113,8 +112,7 @@ impl<'a, 'k, V> LiteMap<&'k str, V, SliceStore<'a, &'k str, V>> {
 impl<'a, 'k, V> LiteMap<&'k [u8], V, SliceStore<'a, &'k [u8], V>> {
     /// The place and the value of an equal key, if there is one. A proper prefix is less.
     ///
-    /// It compares at most once for each binary digit of the length. The key that is looked up may live shorter than those
-    /// of the map.
+    /// It makes O(log n) comparisons. The key that is looked up may live shorter than those of the map.
     ///
     /// ```rust
     /// const MARKS: &[(&[u8], char)] = &[(b"lt", '<'), (b"ne", '!')];
@@ -161,7 +159,7 @@ impl Integer for i128 {}
 impl Integer for isize {}
 
 impl<'a, K: Integer, V> LiteMap<K, V, SliceStore<'a, K, V>> {
-    /// The place and the value of the key, if it is there. It compares at most once for each binary digit of the length.
+    /// The place and the value of the key, if it is there. It makes O(log n) comparisons.
     ///
     /// ```rust
     /// const DAYS: &[(u32, &str)] = &[(1, "Monday"), (3, "Wednesday"), (5, "Friday")];

@@ -1,4 +1,6 @@
 //! A key-value map kept as one flat list of pairs whose keys rise strictly, over stores that a user may plug in.
+//!
+//! The Rust crate has no call that is marked (own). Costs are told by the length of the map, n.
 #![tactic(auto)]
 
 pub mod calls;

@@ -119,9 +119,9 @@ impl<K: Ord, V, S: Store<K, V>> LiteMap<K, V, S> {
         }
     }
 
-    /// Whether the keys of a store rise strictly.
+    /// Whether the keys of a store rise strictly (own).
     ///
-    /// It compares each key with the one before it, until one doesn't rise. The Rust crate has no such call.
+    /// It compares each key with the one before it, until one doesn't rise.
     ///
     /// ```rust
     /// let pairs = [(1, "Monday"), (3, "Wednesday")].to_vec(alloc)?;

@@ -9,12 +9,11 @@ pub use litemap::calls::{Answer, Call};
 use litemap::store::{NoRoom, StoreBulkMut, StoreMut};
 use std::alloc::Global;
 
-/// Makes the calls of a list one after another, and answers what each of them answered.
+/// Makes the calls of a list one after another, and answers what each of them answered (own).
 ///
 /// A call that is refused for want of memory is answered `NoRoom`: it leaves the list of the map, and the run goes on.
 ///
-/// The room for the answers is taken before the first call. Where it is refused no call was made, and the calls come
-/// back. The Rust crate has no such call.
+/// The room for the answers is taken before the first call. Where it is refused no call was made, and the calls come back.
 pub fn run_calls<K: Ord + Drop, V: Copy, S: StoreBulkMut<K, V>>(
     alloc: Global,
     map: &mut LiteMap<K, V, S>,

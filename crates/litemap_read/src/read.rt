@@ -59,15 +59,15 @@ pub fn read_pairs<K: Ord + Drop, V: Drop, S: StoreBulkMut<K, V>, P: PairSource<K
     Ok(map)
 }
 
-/// Puts the pairs that a source gives, up to its end, into a map. Of each key the last pair stays, whole, where an old pair
-/// counts as earlier than all new ones.
+/// Puts the pairs that a source gives, up to its end, into a map (own). Of each key the last pair stays, whole, where an old
+/// pair counts as earlier than all new ones.
 ///
 /// The pairs are gathered before the map changes: a source's fault, which is handed on, and want of memory leave the map's
 /// list. The pairs read so far are then given up, and the source stays where it is: behind the pairs that it gave. Who wants
 /// them asks `next_pair` for each, and inserts it.
 ///
 /// The source's hint makes room for at most 65,536 pairs, in the vector that gathers them and not in the map, and where that
-/// room is refused it is done without. It compares and moves as `extend_from_vec` does. The Rust crate has no such call.
+/// room is refused it is done without. It compares and moves as `extend_from_vec` does.
 pub fn extend_from_source<K: Ord + Drop, V: Drop, S: StoreBulkMut<K, V>, P: PairSource<K, V>>(
     alloc: Global,
     map: &mut LiteMap<K, V, S>,
@@ -89,12 +89,12 @@ pub fn extend_from_source<K: Ord + Drop, V: Drop, S: StoreBulkMut<K, V>, P: Pair
     Ok(())
 }
 
-/// The map of the pairs that an iterator gives up to its end. Of each key the last pair stays, whole.
+/// The map of the pairs that an iterator gives up to its end (own). Of each key the last pair stays, whole.
 ///
 /// The first fault that the iterator gives in the place of a pair is handed on, and nothing is asked of it behind that; want
 /// of memory is `NoRoom`. In both cases the pairs read so far are given up. It compares and moves as `read_pairs` does.
 ///
-/// So what can be written as an iterator of `Result`s needs no `PairSource`. The Rust crate has no such call.
+/// So what can be written as an iterator of `Result`s needs no `PairSource`.
 pub fn read_results<
     K: Ord + Drop,
     V: Drop,

@@ -15,14 +15,14 @@ use std::marker::Model;
 use std::mem;
 use std::ops::Range;
 
-/// Pairs of which none and one lie in the store itself, and more in a vector.
+/// Pairs of which none and one lie in the store itself, and more in a vector (own).
 ///
 /// It is for maps that mostly have no pair or one. As long as it never had more, `lm_push` and `lm_insert` take no memory, and
 /// the first pair of one that `lm_empty` made is never refused. Bulk calls (`lm_extend`, `lm_sort_from_iter`, `lm_from_pairs`)
 /// gather their pairs in a vector, one pair too. From the second pair on all lie in a vector, which stays where pairs are
 /// removed again. Where a second pair is refused for want of memory, the first stays and the new one comes back.
 ///
-/// It prints as the list of its pairs. The Rust crate has no such store.
+/// It prints as the list of its pairs.
 #[derive(Drop)]
 pub struct ShortStore<K, V> {
     alloc: Global,

@@ -20,12 +20,10 @@ use std::cmp::Ordering;
 use std::marker::Model;
 use std::mem;
 
-/// A vector of keys, and a vector of the values that belong to them.
+/// A vector of keys, and a vector of the values that belong to them (own).
 ///
 /// A search touches the keys alone, which lie side by side whatever the size of the values: that is what it is for. An
 /// insertion or a removal moves the later keys and the later values.
-///
-/// The Rust crate has no such store.
 ///
 /// ```rust
 /// let mut days: LiteMap<u32, &str, ColumnStore<u32, &str>> = LiteMap::new(alloc);

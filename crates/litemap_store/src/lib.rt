@@ -1,5 +1,5 @@
 //! Stores of pairs for the sorted map of the crate `litemap`: the traits of a store, a vector, two columns and a
-//! borrowed slice as stores, and the count of comparisons.
+//! borrowed slice as stores, and the count of comparisons. What is marked (own) isn't in the Rust crate.
 #![tactic(auto)]
 
 mod column_impl;

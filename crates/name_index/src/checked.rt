@@ -78,7 +78,7 @@ impl<'a> CheckedNames<'a> {
         self.names.is_empty()
     }
 
-    /// The value of a key, if it is there. It compares at most once for each binary digit of the length.
+    /// The value of a key, if it is there. It makes O(log n) comparisons.
     pub fn get(&self, key: &str) -> Option<&'a str>
         ensures { OfIndex self.now (λ pairs. option_copied result ≡ value_at text_order pairs key.now) }
     {

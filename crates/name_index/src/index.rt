@@ -76,7 +76,7 @@ impl<'a> NameIndex<'a> {
         self.len() == 0
     }
 
-    /// The value of a key, if it is there. It compares at most once for each binary digit of the length.
+    /// The value of a key, if it is there. It makes O(log n) comparisons.
     pub fn get(&self, key: &str) -> Option<&'a str>
         ensures { OfTable self.now (λ pairs. option_copied result ≡ value_at text_order pairs key.now) }
     {
@@ -123,7 +123,7 @@ impl<'a> NameIndex<'a> {
     /// The places of the names that begin with a text. They start behind all names that are below the text, and where no name
     /// begins with it the range is empty there. An empty text begins each name.
     ///
-    /// It compares at most twice for each binary digit of the length, each time a name with the text, as far as this reaches.
+    /// It makes O(log n) comparisons, each of a name with the text, as far as this reaches.
     pub fn prefix_places(&self, prefix: &str) -> Range<usize>
         ensures start { OfTable self.now (λ pairs. result.start ≡ place text_order pairs prefix.now) }
         ensures names { OfTable self.now (λ pairs. sub pairs result.start result.end

@@ -73,7 +73,7 @@ impl<'a> IndexedNames<'a> {
         self.size == 0
     }
 
-    /// The value of a key, if it is there. It compares at most once for each binary digit of the length.
+    /// The value of a key, if it is there. It makes O(log n) comparisons.
     pub fn get(&self, key: &str) -> Result<Option<&'a str>, IndexFault>
         ensures value { IfOk result (λ found. IfIndex self.now
             (λ pairs. option_copied found ≡ value_at text_order pairs key.now)) }

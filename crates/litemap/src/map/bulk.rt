@@ -32,8 +32,8 @@ impl<K: Ord + Drop, V: Drop, S: StoreFromIterable<K, V>> LiteMap<K, V, S> {
         Self::from_iter_counted(alloc, iter, &mut Count::new())
     }
 
-    /// `from_iter`, with its comparisons counted: at most one for each pair where the pairs rise, also where it is refused.
-    /// The Rust crate has no such call.
+    /// `from_iter`, with its comparisons counted: at most one for each pair where the pairs rise, also where it is refused
+    /// (own).
     pub fn from_iter_counted<I: IntoIterator<Item = (K, V)>>(
         alloc: Global,
         iter: I,
@@ -52,10 +52,10 @@ impl<K: Ord + Drop, V: Drop, S: StoreFromIterable<K, V>> LiteMap<K, V, S> {
         })
     }
 
-    /// The map of the pairs of a vector, or a refusal for want of memory. Of each key the last pair stays, whole.
+    /// The map of the pairs of a vector, or a refusal for want of memory (own). Of each key the last pair stays, whole.
     ///
     /// It answers as `from_iter` does, but takes the vector as it is: over a vector no pair moves where they rise, and over it
-    /// and two columns nothing is gathered. What it leaves is told by the vector's list. The Rust crate has no such call.
+    /// and two columns nothing is gathered. What it leaves is told by the vector's list.
     ///
     /// ```rust
     /// let pairs = [(2, "Tue"), (1, "Mon"), (2, "Tuesday")].to_vec(alloc)?;
@@ -68,8 +68,7 @@ impl<K: Ord + Drop, V: Drop, S: StoreFromIterable<K, V>> LiteMap<K, V, S> {
         Self::from_vec_counted(alloc, pairs, &mut Count::new())
     }
 
-    /// `from_vec`, with its comparisons counted: at most one for each pair where the pairs rise, refused or not. The Rust crate
-    /// has no such call.
+    /// `from_vec`, with its comparisons counted: at most one for each pair where the pairs rise, refused or not (own).
     pub fn from_vec_counted(
         alloc: Global,
         mut pairs: Vec<(K, V)>,
@@ -117,8 +116,8 @@ impl<K: Ord + Drop, V: Drop, S: StoreBulkMut<K, V>> LiteMap<K, V, S> {
         self.extend_counted(alloc, iter, &mut Count::new())
     }
 
-    /// `extend`, with its comparisons counted, but for those of the sort. A refused call compares no more than an answered
-    /// one. The Rust crate has no such call.
+    /// `extend`, with its comparisons counted, but for those of the sort (own). A refused call compares no more than an
+    /// answered one.
     pub fn extend_counted<I: IntoIterator<Item = (K, V)>>(
         &mut self,
         alloc: Global,
@@ -136,12 +135,12 @@ impl<K: Ord + Drop, V: Drop, S: StoreBulkMut<K, V>> LiteMap<K, V, S> {
         self.store.lm_extend(alloc, iter, count)
     }
 
-    /// Puts the pairs of a vector in, or is refused for want of memory. Of each key the last pair stays, whole, where an old
-    /// pair counts as earlier than all new ones.
+    /// Puts the pairs of a vector in, or is refused for want of memory (own). Of each key the last pair stays, whole, where an
+    /// old pair counts as earlier than all new ones.
     ///
     /// It answers as `extend` does, by as many comparisons, but takes the vector as it is, and nothing is gathered. What it
     /// leaves is told by the vector's list. A refusal leaves the list, and the vector is given up. Nothing is promised of the
-    /// room. The Rust crate has no such call.
+    /// room.
     ///
     /// ```rust
     /// let mut days = three_days(alloc)?;
@@ -156,8 +155,7 @@ impl<K: Ord + Drop, V: Drop, S: StoreBulkMut<K, V>> LiteMap<K, V, S> {
         self.extend_from_vec_counted(alloc, pairs, &mut Count::new())
     }
 
-    /// `extend_from_vec`, with its comparisons counted, but for those of a sort: the bounds hold where it is refused too. The
-    /// Rust crate has no such call.
+    /// `extend_from_vec`, with its comparisons counted, but for those of a sort: the bounds hold where it is refused too (own).
     pub fn extend_from_vec_counted(
         &mut self,
         alloc: Global,

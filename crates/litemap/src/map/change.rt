@@ -24,9 +24,8 @@ impl<K: Ord, V, S: StoreMut<K, V>> LiteMap<K, V, S> {
     /// Puts a value at a key. Where an equal key is there, that key stays, the new one is given up, and the old value is
     /// answered; no memory is taken. Else the pair is placed.
     ///
-    /// It is refused only where the key is absent and there is no room: then the pair comes back and the list stays.
-    /// It compares at most once for each binary digit of the length, and moves the pairs with greater keys up by one
-    /// where the key is absent.
+    /// It is refused only where the key is absent and there is no room: then the pair comes back and the list stays. It makes
+    /// O(log n) comparisons, and moves the pairs with greater keys up by one where the key is absent.
     ///
     /// ```rust
     /// let mut days = three_days(alloc)?;
@@ -40,7 +39,7 @@ impl<K: Ord, V, S: StoreMut<K, V>> LiteMap<K, V, S> {
         self.insert_counted(key, value, &mut Count::new())
     }
 
-    /// `insert`, with its comparisons counted. The Rust crate has no such call.
+    /// `insert`, with its comparisons counted (own).
     pub fn insert_counted(
         &mut self,
         key: K,
@@ -63,9 +62,8 @@ impl<K: Ord, V, S: StoreMut<K, V>> LiteMap<K, V, S> {
 
     /// Places a pair whose key is absent. Where an equal key is there, the pair comes back and nothing is changed.
     ///
-    /// It is refused only where the key is absent and there is no room: then the pair comes back and the list stays. It
-    /// compares at most once for each binary digit of the length, and moves the pairs with greater keys up by one where
-    /// the key is absent.
+    /// It is refused only where the key is absent and there is no room: then the pair comes back and the list stays. It makes
+    /// O(log n) comparisons, and moves the pairs with greater keys up by one where the key is absent.
     ///
     /// ```rust
     /// let mut days = three_days(alloc)?;
@@ -175,11 +173,10 @@ impl<K: Ord, V, S: StoreMut<K, V>> LiteMap<K, V, S> {
 
     /// The place of a key. Where the key is absent, its value is what `f` answers for it, and is placed.
     ///
-    /// Where an equal key is there, `f` is not called and the key is given up. Where `f` answers a fault, that is the
-    /// answer, the key is given up, and nothing is changed. It is refused only where the key is absent and there is no
-    /// room: then the key and what `f` answered come back and the list stays. It compares at most once for each binary
-    /// digit of the length, and moves the pairs with greater keys up by one where a pair is placed. The Rust crate has
-    /// `try_get_or_insert` alone.
+    /// Where an equal key is there, `f` is not called and the key is given up. Where `f` answers a fault, that is the answer,
+    /// the key is given up, and nothing is changed. It is refused only where the key is absent and there is no room: then the
+    /// key and what `f` answered come back and the list stays. It makes O(log n) comparisons, and moves the pairs with greater
+    /// keys up by one where a pair is placed. The Rust crate has `try_get_or_insert` alone.
     ///
     /// ```rust
     /// let mut days = three_days(alloc)?;
@@ -238,9 +235,8 @@ impl<K: Ord, V, S: StoreMut<K, V>> LiteMap<K, V, S> {
 
     /// Takes out the pair with an equal key, and answers its value. Its key is given up.
     ///
-    /// It is asked as `get` is. It takes no memory and gives none back: there is room for another pair then. It compares at
-    /// most once for each binary digit of the length, and moves the pairs with greater keys down by one. Where there is no
-    /// such pair nothing is changed.
+    /// It is asked as `get` is. It takes no memory and gives none back: there is room for another pair then. It makes O(log n)
+    /// comparisons, and moves the pairs with greater keys down by one. Where there is no such pair nothing is changed.
     ///
     /// ```rust
     /// let mut days = three_days(alloc)?;
@@ -257,7 +253,7 @@ impl<K: Ord, V, S: StoreMut<K, V>> LiteMap<K, V, S> {
         self.remove_counted(key, &mut Count::new())
     }
 
-    /// `remove`, with its comparisons counted. The Rust crate has no such call.
+    /// `remove`, with its comparisons counted (own).
     pub fn remove_counted<Q: Query<K>>(&mut self, key: Q, count: &mut Count) -> Option<V>
     where
         K: Drop,
@@ -271,13 +267,12 @@ impl<K: Ord, V, S: StoreMut<K, V>> LiteMap<K, V, S> {
         Some(value)
     }
 
-    /// Takes out a pair for whose key `f` answers `Equal`, and answers its value. Its key is given up.
+    /// Takes out a pair for whose key `f` answers `Equal`, and answers its value (own). Its key is given up.
     ///
     /// It is for what no `Query` says, as `get_by` is. The answer of `f` should hang on the key alone, and over the keys be
-    /// `Less`, then `Equal`, then `Greater`: else it means nothing which pair is taken, if one is. Where several keys
-    /// answer `Equal` any of them may be the one found. It takes no memory and gives none back: there is room for another
-    /// pair then. It asks `f` at most once for each binary digit of the length. Where no pair is taken nothing is changed.
-    /// The Rust crate has no such call.
+    /// `Less`, then `Equal`, then `Greater`: else it means nothing which pair is taken, if one is. Where several keys answer
+    /// `Equal` any of them may be the one found. It takes no memory and gives none back: there is room for another pair then.
+    /// It asks `f` O(log n) times. Where no pair is taken nothing is changed.
     ///
     /// ```rust
     /// let mut days = three_days(alloc)?;

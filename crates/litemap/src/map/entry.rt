@@ -45,8 +45,8 @@ impl<K: Ord, V, S: StoreMut<K, V>> LiteMap<K, V, S> {
 
     /// The entry of a key. Where an equal key is there, that key stays, and the new one is given up.
     ///
-    /// It takes no memory, and changes nothing. It compares at most once for each binary digit of the length; what is
-    /// then done through the entry compares no keys.
+    /// It takes no memory, and changes nothing. It makes O(log n) comparisons; what is then done through the entry compares no
+    /// keys.
     ///
     /// ```rust
     /// // days: 1 Monday, 3 Wednesday, 5 Friday

@@ -28,9 +28,7 @@ impl<K: Ord, V, S: Store<K, V>> LiteMap<K, V, S> {
         self.store.lm_len()
     }
 
-    /// That the keys rise strictly, as those of every map do: for a caller whose proof needs it. It does nothing.
-    ///
-    /// The Rust crate has no such call.
+    /// That the keys rise strictly, as those of every map do: for a caller whose proof needs it (own). It does nothing.
     ///
     /// ```rust
     /// // days: 1 Monday, 3 Wednesday, 5 Friday
@@ -94,8 +92,8 @@ impl<K: Ord, V, S: Store<K, V>> LiteMap<K, V, S> {
 
     /// The value of the pair with an equal key, if there is one.
     ///
-    /// What is asked for is a `Query`: a key behind a `&`, a text where keys are texts, a slice where they are lists,
-    /// or a type of the caller's own. It compares at most once for each binary digit of the length.
+    /// What is asked for is a `Query`: a key behind a `&`, a text where keys are texts, a slice where they are lists, or a type
+    /// of the caller's own. It makes O(log n) comparisons.
     ///
     /// ```rust
     /// // days: 1 Monday, 3 Wednesday, 5 Friday
@@ -107,7 +105,7 @@ impl<K: Ord, V, S: Store<K, V>> LiteMap<K, V, S> {
         self.get_counted(key, &mut Count::new())
     }
 
-    /// `get`, with its comparisons counted. The Rust crate has no such call.
+    /// `get`, with its comparisons counted (own).
     pub fn get_counted<Q: Query<K>>(&self, key: Q, count: &mut Count) -> Option<&V>
         ensures value { option_copied result ≡ value_at Q.order self.now.pairs (Q.sought key) }
         ensures cost { RisesByAtMost (digits (length self.now.pairs)) count.old count.new }
@@ -118,9 +116,9 @@ impl<K: Ord, V, S: Store<K, V>> LiteMap<K, V, S> {
         }
     }
 
-    /// The pair with an equal key, if there is one: the key that is there, where equal keys differ.
+    /// The pair with an equal key, if there is one: the key that is there, where equal keys differ (own).
     ///
-    /// It is asked as `get` is. It compares at most once for each binary digit of the length. The Rust crate has no such call.
+    /// It is asked as `get` is. It makes O(log n) comparisons.
     ///
     /// ```rust
     /// // days: 1 Monday, 3 Wednesday, 5 Friday
@@ -139,8 +137,7 @@ impl<K: Ord, V, S: Store<K, V>> LiteMap<K, V, S> {
     ///
     /// It is for what no `Query` says: a closure that finds several keys, or that keeps a state. The answer of `f` should
     /// hang on the key alone, and over the keys be `Less`, then `Equal`, then `Greater`: else the value that is answered
-    /// means nothing. Where several keys answer `Equal` any of them may be the one found. It asks `f` at most once for
-    /// each binary digit of the length.
+    /// means nothing. Where several keys answer `Equal` any of them may be the one found. It asks `f` O(log n) times.
     ///
     /// ```rust
     /// // days: 1 Monday, 3 Wednesday, 5 Friday
@@ -158,7 +155,7 @@ impl<K: Ord, V, S: Store<K, V>> LiteMap<K, V, S> {
 
     /// Whether there is a pair with an equal key.
     ///
-    /// It is asked as `get` is. It compares at most once for each binary digit of the length.
+    /// It is asked as `get` is. It makes O(log n) comparisons.
     ///
     /// ```rust
     /// // days: 1 Monday, 3 Wednesday, 5 Friday
@@ -172,8 +169,8 @@ impl<K: Ord, V, S: Store<K, V>> LiteMap<K, V, S> {
 
     /// The value of the pair with an equal key, which has to be there.
     ///
-    /// It is asked as `get` is. It compares at most once for each binary digit of the length. The Rust crate has this
-    /// as the operator `[]`, which panics where there is no such pair.
+    /// It is asked as `get` is. It makes O(log n) comparisons. The Rust crate has this as the operator `[]`, which panics where
+    /// there is no such pair.
     ///
     /// ```rust
     /// // days: 1 Monday, 3 Wednesday, 5 Friday
@@ -192,7 +189,7 @@ impl<K: Ord, V, S: Store<K, V>> LiteMap<K, V, S> {
     /// `Ok` of the key's place where an equal key is there, else `Err` of the place where it would go: the number of
     /// smaller keys.
     ///
-    /// It is asked as `get` is. It compares at most once for each binary digit of the length.
+    /// It is asked as `get` is. It makes O(log n) comparisons.
     ///
     /// ```rust
     /// // days: 1 Monday, 3 Wednesday, 5 Friday
@@ -207,7 +204,7 @@ impl<K: Ord, V, S: Store<K, V>> LiteMap<K, V, S> {
         self.find_index_counted(key, &mut Count::new())
     }
 
-    /// `find_index`, with its comparisons counted. The Rust crate has no such call.
+    /// `find_index`, with its comparisons counted (own).
     pub fn find_index_counted<Q: Query<K>>(&self, key: Q, count: &mut Count) -> Result<usize, usize>
         ensures place { result ≡ index_of Q.order self.now.pairs (Q.sought key) }
         ensures within { IfOk result (λ index. index < length self.now.pairs) }
@@ -218,13 +215,12 @@ impl<K: Ord, V, S: Store<K, V>> LiteMap<K, V, S> {
         self.search(key, count)
     }
 
-    /// `Ok` of a place where `f` answers `Equal`, or `Err` of the number of keys that answer `Less` where it answers
-    /// `Equal` for none.
+    /// `Ok` of a place where `f` answers `Equal`, or `Err` of the number of keys that answer `Less` where it answers `Equal`
+    /// for none (own).
     ///
     /// It is for what no `Query` says, as `get_by` is. The answer of `f` should hang on the key alone, and over the keys be
-    /// `Less`, then `Equal`, then `Greater`: else the place means nothing, though an `Ok` has one of a pair. Where several
-    /// keys answer `Equal` any of them may be the one found. It asks at most once for each binary digit of the length. The
-    /// Rust crate has no such call.
+    /// `Less`, then `Equal`, then `Greater`: else the place means nothing, though an `Ok` has one of a pair. Where several keys
+    /// answer `Equal` any of them may be the one found. It asks O(log n) times.
     ///
     /// ```rust
     /// // days: 1 Monday, 3 Wednesday, 5 Friday

@@ -55,7 +55,7 @@ impl<K: Ord + Drop, V: Drop, S: StoreIntoIterator<K, V> + Drop> LiteMap<K, V, S>
         self.extend_from_litemap_counted(alloc, other, &mut Count::new())
     }
 
-    /// `extend_from_litemap`, with its comparisons counted. The Rust crate has no such call.
+    /// `extend_from_litemap`, with its comparisons counted (own).
     pub fn extend_from_litemap_counted(
         &mut self,
         alloc: Global,

@@ -13,11 +13,10 @@ use litemap_store::store::{Count, SliceStore, Store, StoreSlice};
 use std::ops::{Bound, Range};
 
 impl<K: Ord, V, S: Store<K, V>> LiteMap<K, V, S> {
-    /// The places of the keys within two bounds.
+    /// The places of the keys within two bounds (own).
     ///
     /// They start behind all keys that lie before the first bound. Where no key lies within, and where the bounds cross, the
-    /// range is empty there: it never faults. Each bound is asked as `get` is: for each it compares at most once for each
-    /// binary digit of the length. The Rust crate has no such call.
+    /// range is empty there: it never faults. Each bound is asked as `get` is: for each it makes O(log n) comparisons.
     ///
     /// ```rust
     /// // days: 1 Monday, 3 Wednesday, 5 Friday
@@ -36,7 +35,7 @@ impl<K: Ord, V, S: Store<K, V>> LiteMap<K, V, S> {
         self.places_counted(from, to, &mut Count::new())
     }
 
-    /// `places`, with its comparisons counted. The Rust crate has no such call.
+    /// `places`, with its comparisons counted (own).
     pub fn places_counted<Q: Query<K>>(
         &self,
         from: Bound<Q>,
@@ -106,10 +105,9 @@ impl<K: Ord, V, S: Store<K, V>> LiteMap<K, V, S> {
 }
 
 impl<K: Ord, V, S: StoreSlice<K, V>> LiteMap<K, V, S> {
-    /// The pairs whose keys lie within two bounds, as a map that borrows them.
+    /// The pairs whose keys lie within two bounds, as a map that borrows them (own).
     ///
-    /// The bounds are those of `places`: where they cross, the part is empty. For each bound it compares at most once for each
-    /// binary digit of the length. The Rust crate has no such call.
+    /// The bounds are those of `places`: where they cross, the part is empty. For each bound it makes O(log n) comparisons.
     ///
     /// ```rust
     /// // days: 1 Monday, 3 Wednesday, 5 Friday

@@ -11,12 +11,11 @@ use std::alloc::{AllocError, Global};
 use std::mem;
 
 impl<K: Ord + Drop, V: Drop, S: StoreIntoIterator<K, V> + Drop> LiteMap<K, V, S> {
-    /// Parts the map: the pairs with smaller keys stay, and those from the key on are answered as a map of their own.
+    /// Parts the map: the pairs with smaller keys stay, and those from the key on are answered as another map (own).
     ///
     /// It is asked as `get` is. Where one of the parts is empty no pair moves and no memory is taken. Else two fresh stores
     /// with room for the parts are made before anything changes, and each pair moves once; a limit that was set when the old
-    /// store was made goes with it. Refused for want of memory, the list stays as it was. It compares at most once for each
-    /// binary digit of the length. The Rust crate has no such call.
+    /// store was made goes with it. Refused for want of memory, the list stays as it was. It makes O(log n) comparisons.
     ///
     /// ```rust
     /// let mut days = three_days(alloc)?;

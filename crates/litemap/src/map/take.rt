@@ -9,11 +9,10 @@ use litemap_store::Query;
 use litemap_store::store::{Count, StoreMut};
 
 impl<K: Ord, V, S: StoreMut<K, V>> LiteMap<K, V, S> {
-    /// Takes out the pair with an equal key, and answers it whole: the key that was there, where equal keys differ.
+    /// Takes out the pair with an equal key, and answers it whole: the key that was there, where equal keys differ (own).
     ///
-    /// It is asked as `get` is. It takes no memory and gives none back: there is room for another pair then. It compares at
-    /// most once for each binary digit of the length, and moves the pairs with greater keys down by one. Where there is no
-    /// such pair nothing is changed. The Rust crate has no such call.
+    /// It is asked as `get` is. It takes no memory and gives none back: there is room for another pair then. It makes O(log n)
+    /// comparisons, and moves the pairs with greater keys down by one. Where there is no such pair nothing is changed.
     ///
     /// ```rust
     /// let mut days = three_days(alloc)?;
@@ -28,10 +27,10 @@ impl<K: Ord, V, S: StoreMut<K, V>> LiteMap<K, V, S> {
         self.take_out(key, &mut Count::new())
     }
 
-    /// Takes out the pair with the smallest key, and answers it; `None` where there is no pair.
+    /// Takes out the pair with the smallest key, and answers it; `None` where there is no pair (own).
     ///
     /// It takes no memory and gives none back: there is room for another pair then. It compares no keys, and moves all other
-    /// pairs down by one. The Rust crate has no such call.
+    /// pairs down by one.
     ///
     /// ```rust
     /// let mut days = three_days(alloc)?;
@@ -49,10 +48,10 @@ impl<K: Ord, V, S: StoreMut<K, V>> LiteMap<K, V, S> {
         Some(self.take_at(0))
     }
 
-    /// Takes out the pair with the greatest key, and answers it; `None` where there is no pair.
+    /// Takes out the pair with the greatest key, and answers it; `None` where there is no pair (own).
     ///
     /// It takes no memory and gives none back: there is room for another pair then. It compares no keys, and moves no other
-    /// pair. The Rust crate has no such call.
+    /// pair.
     ///
     /// ```rust
     /// let mut days = three_days(alloc)?;

@@ -17,7 +17,7 @@ use std::cmp::Ordering;
 impl<K: Ord, V, S: StoreMut<K, V>> LiteMap<K, V, S> {
     /// The value of a key, to be written; `None` where no equal key is there.
     ///
-    /// It is asked as `get` is. It compares at most once for each binary digit of the length.
+    /// It is asked as `get` is. It makes O(log n) comparisons.
     ///
     /// ```rust
     /// let mut days = three_days(alloc)?;
@@ -37,12 +37,11 @@ impl<K: Ord, V, S: StoreMut<K, V>> LiteMap<K, V, S> {
         }
     }
 
-    /// The value at a place where `f` answers `Equal`, to be written; `None` where it answers `Equal` for no key.
+    /// The value at a place where `f` answers `Equal`, to be written; `None` where it answers `Equal` for no key (own).
     ///
     /// It is for what no `Query` says, as `get_by` is. The answer of `f` should hang on the key alone, and over the keys be
-    /// `Less`, then `Equal`, then `Greater`: else it means nothing which value is lent, if one is. Where several keys
-    /// answer `Equal` any of them may be the one found. It asks at most once for each binary digit of the length. The Rust
-    /// crate has no such call.
+    /// `Less`, then `Equal`, then `Greater`: else it means nothing which value is lent, if one is. Where several keys answer
+    /// `Equal` any of them may be the one found. It asks O(log n) times.
     ///
     /// ```rust
     /// let mut days = three_days(alloc)?;
@@ -68,8 +67,8 @@ impl<K: Ord, V, S: StoreMut<K, V>> LiteMap<K, V, S> {
 
     /// The value of a key that is there, to be written.
     ///
-    /// It is asked as `get` is. It compares at most once for each binary digit of the length. The Rust crate has the
-    /// operator `IndexMut` here, which panics where the key isn't there.
+    /// It is asked as `get` is. It makes O(log n) comparisons. The Rust crate has the operator `IndexMut` here, which panics
+    /// where the key isn't there.
     ///
     /// ```rust
     /// let mut days = three_days(alloc)?;
