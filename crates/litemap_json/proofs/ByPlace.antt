@@ -1,5 +1,5 @@
 -- A list that is read by places.
-use Rattle.std.proofs.Common.{◌≡◌, ℕ, zero, suc, ◌+◌, ◌<◌, List, [], ◌∷◌, length, get_or, drop, slice_get, inl, inr, refl, Option, Some, None, option_map, IsSome, Err, Result, sym, ◌∙◌, ap, arith, add-one, drop-cons}
+use Rattle.std.proofs.Common.{◌≡◌, ℕ, suc, ◌+◌, ◌<◌, List, ◌∷◌, length, get_or, drop, slice_get, inl, inr, refl, Option, Some, None, option_map, IsSome, Err, Result, sym, ◌∙◌, ap, arith, add-one, drop-cons}
 use Rattle.std.proofs.lemmas.Option.{get_or_from_slice_get, slice_get_cases, slice_get_within}
 use Rattle.serde_json.specs.Data.{Data, Members, put}
 use Rattle.litemap_json.specs.Json.{object_with}

@@ -13,7 +13,7 @@ use Rattle.name_index.specs.Left.{left_one}
 use Rattle.name_index.specs.Placed.{ArePlaced}
 use Rattle.name_index.specs.Tables.{text_order}
 use Rattle.name_index.proofs.LeftLemmas.{entries_left}
-use Rattle.name_index.proofs.Placing.{at_place}
+use Rattle.name_index.proofs.Placing.{walked_at}
 
 sub_is : (L : List (List ℕ × List ℕ)) (a b : ℕ) → a ≤ b → b ≤ length L → Some (slice_range L a b) ≡ sub L a b
 sub_is L a b h k = rw (le-leb a b h) (rw (le-leb b (length L) k) refl)
@@ -29,7 +29,7 @@ module _ (entries places : List ℕ) (from to d : ℕ) (placed : ArePlaced entri
       let long : to ≤ length L = omega (arith, h, placed.these.count_is) in
       let s =
       begins_split bytes placed.these.rest (pair_parts (take n K)) (pair_parts (drop n K))
-      (rw (← (ap pair_parts (sym (take-append-drop n K)) ∙ pair_parts-append (take n K) (drop n K))) (at_place entries places from d placed first)) in
+      (rw (← (ap pair_parts (sym (take-append-drop n K)) ∙ pair_parts-append (take n K) (drop n K))) (walked_at entries places from d placed first).here) in
       record {
         pairs = slice_range L from to;
         rest = s.0;

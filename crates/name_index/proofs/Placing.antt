@@ -15,14 +15,14 @@ use Rattle.name_table.proofs.PartLemmas.{begins_split}
 use Rattle.name_table.specs.ReadOn.{begins_none, begins_pairs}
 use Rattle.name_table.proofs.Unique.{agree_pairs, begins_unique}
 use Rattle.name_table.specs.Parts.{Begins, Number, pair_parts, text_parts}
-use Rattle.name_index.specs.Entries.{AreEntries, BeginsPair, BeginsText, IsOpened}
+use Rattle.name_index.specs.Entries.{AreEntries, BeginsPair, BeginsText}
 use Rattle.name_index.specs.Placed.{AreFar, ArePlaced, AsPlaced, IfTooFar, IsFar, IsIndexed, IsKeyAt}
 use Rattle.name_index.specs.declared.fault.NameIndexFault.{NameIndexFault}
 use Rattle.name_index.specs.declared.fault.NameIndexFault.TheVariants.{NoRoom, TooFar}
 use Rattle.name_index.proofs.KnownParts.{one_number, text_next}
-use Rattle.name_index.specs.Tables.{IsRisingTable, OfTable, text_order}
+use Rattle.name_index.specs.Tables.{OfTable, text_order}
 use Rattle.name_index.proofs.Rises.{rising_table}
-use Rattle.name_index.proofs.Scanning.{IsAt, ascends, begins_here, is_at_next, one_side, pair_here, to_key}
+use Rattle.name_index.proofs.Scanning.{Walked, ascends, one_side, to_key, walked_begins, walked_next, walked_pair}
 
 -- what holds of each element by its place, and of one more
 pub each_push : {X : Type 0} (P : ℕ → X → Type 0) (L : List X) (x : X) → ((i : ℕ) (y : X) → slice_get L i ≡ Some y → P i y) → P (length L) x → (i : ℕ) (y : X) → slice_get (L ++ x ∷ []) i ≡ Some y → P i y
@@ -33,20 +33,18 @@ each_push P (z ∷ L) x each h (suc i) y e = each_push (λ j w. P (suc j) w) L x
 
 -- so many places are noted, and the bytes from the next one on are the rest
 pub record Noted (entries : List ℕ) (count : ℕ) (places rest : List ℕ) (index : ℕ) : Type 0 where
-  pub these : AreEntries entries count
-  pub here : IsAt these.pairs these.rest rest index
+  pub walked : Walked entries count rest index
   pub number : length places ≡ index
   pub before : List (List ℕ × List ℕ)
   pub read : Begins entries (pair_parts before) rest
   pub so_many : length before ≡ index
   pub near : (f : AreFar entries index) → ⊥
   pub within : (i place : ℕ) → slice_get places i ≡ Some place → place ≤ length entries
-  pub there : (i place : ℕ) → slice_get places i ≡ Some place → Begins (drop place entries) (pair_parts (drop i these.pairs)) these.rest
+  pub there : (i place : ℕ) → slice_get places i ≡ Some place → Begins (drop place entries) (pair_parts (drop i walked.these.pairs)) walked.these.rest
 
 pub noted_start : (entries : List ℕ) (count : ℕ) → AreEntries entries count → Noted entries count [] entries 0
 noted_start entries count these = record {
-  these = these;
-  here = these.spelled;
+  walked = record { these = these; here = these.spelled };
   number = refl;
   before = [];
   read = begins_none entries;
@@ -75,12 +73,10 @@ far_here entries count places rest index n l h = record {
 
 pub noted_next : (entries : List ℕ) (count : ℕ) (places rest : List ℕ) (index place : ℕ) (pair : List ℕ × List ℕ) (behind : List ℕ) → (n : Noted entries count places rest index) → index < count → place + length rest ≡ length entries → place < number_limit → Begins rest (pair_parts (pair ∷ [])) behind → Noted entries count (places ++ place ∷ []) behind (index + 1)
 noted_next entries count places rest index place pair behind n within e small b =
-    let l : index < length n.these.pairs = omega (arith, within, n.these.count_is) in
     let f = place_is_front entries count places rest index place n e in
     let d : drop place entries ≡ rest = ap (λ c. drop place c) n.read.split ∙ drop_at n.read.front rest place f in
     record {
-      these = n.these;
-      here = is_at_next n.these.pairs n.these.rest rest index l n.here pair behind b;
+      walked = walked_next n.walked within pair behind b;
       number = omega (arith, n.number, length-append places (place ∷ []));
       before = n.before ++ pair ∷ [];
       read = begins_pairs entries rest behind n.before (pair ∷ []) n.read b;
@@ -91,8 +87,8 @@ noted_next entries count places rest index place pair behind n within e small b 
           (cases_lt (length g.before) index);
       within = each_push (λ i p. p ≤ length entries) places place n.within (omega (arith, e));
       there =
-          each_push (λ i p. Begins (drop p entries) (pair_parts (drop i n.these.pairs)) n.these.rest) places place n.there
-          (rw n.number (rw d n.here));
+          each_push (λ i p. Begins (drop p entries) (pair_parts (drop i n.walked.these.pairs)) n.walked.these.rest) places place n.there
+          (rw n.number (rw d n.walked.here));
     }
 
 -- the bytes begin with one number
@@ -108,7 +104,7 @@ too_far_weaker TooFar h p = h p
 pub placed_end : (entries : List ℕ) (count : ℕ) (places rest : List ℕ) (index : ℕ) → Noted entries count places rest index → index ≡ count → ArePlaced entries places
 placed_end entries count places rest index n e =
     record {
-      these = record { pairs = n.these.pairs; rest = n.these.rest; spelled = n.these.spelled; count_is = omega (arith, n.these.count_is, n.number, e); rises = n.these.rises };
+      these = record { pairs = n.walked.these.pairs; rest = n.walked.these.rest; spelled = n.walked.these.spelled; count_is = omega (arith, n.walked.these.count_is, n.number, e); rises = n.walked.these.rises };
       within = n.within;
       there = n.there;
     }
@@ -120,23 +116,20 @@ pub tail_is : (l : List ℕ) (n : ℕ) → take (length l - n) (drop n l) ≡ dr
 tail_is l n = ap (λ k. take k (drop n l)) (sym (length-drop n l)) ∙ take-length (drop n l)
 
 module _ (entries places : List ℕ) (index : ℕ) (d : ℕ) (placed : ArePlaced entries places) (l : index < length places) where
-  place_is : slice_get places index ≡ Some (get_or places index d)
+  pub place_is : slice_get places index ≡ Some (get_or places index d)
   place_is = slice_get-get_or places index d l
 
   pub place_within : get_or places index d ≤ length entries
   place_within = placed.within index (get_or places index d) place_is
 
-  pub at_place : IsAt placed.these.pairs placed.these.rest (drop (get_or places index d) entries) index
-  at_place = placed.there index (get_or places index d) place_is
-
-  in_pairs : index < length placed.these.pairs
-  in_pairs = omega (arith, l, placed.these.count_is)
+  abbrev pub walked_at : Walked entries (length places) (drop (get_or places index d) entries) index
+  walked_at = record { these = placed.these; here = placed.there index (get_or places index d) place_is }
 
   pub pair_begins : BeginsPair (drop (get_or places index d) entries)
-  pair_begins = begins_here placed.these.pairs placed.these.rest (drop (get_or places index d) entries) index in_pairs at_place
+  pair_begins = walked_begins walked_at l
 
   pub pair_there : (pair : List ℕ × List ℕ) (behind : List ℕ) → Begins (drop (get_or places index d) entries) (pair_parts (pair ∷ [])) behind → slice_get placed.these.pairs index ≡ Some pair
-  pair_there pair behind b = pair_here placed.these.pairs placed.these.rest (drop (get_or places index d) entries) index in_pairs at_place pair behind b
+  pair_there pair behind b = walked_pair walked_at l pair behind b
 
   -- the key alone
   pub text_begins : BeginsText (drop (get_or places index d) entries)

@@ -2,7 +2,6 @@
 use Rattle.std.proofs.Common.{◌≡◌, true, false, ℕ, ◌-◌, List, [], ◌∷◌, ◌++◌, length, Option, Some, None, slice_get, refl, sym, ap, ◌∙◌, subst, arith, length-append, Bor}
 use Rattle.std.specs.Ordering.{is_lt}
 use Rattle.std.specs.Prelude.{Bool, IfNone, IfSome, IsTrue}
-use Rattle.std.specs.declared.cmp.Ordering.{Ordering}
 use Rattle.std.specs.declared.cmp.Ordering.TheVariants.{Less}
 use Rattle.litemap_store.specs.Counts.{RisesByAtMost}
 use Rattle.litemap_store.specs.Pairs.{AllBelow, Rising}

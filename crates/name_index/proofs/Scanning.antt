@@ -31,26 +31,30 @@ abbrev pub to_key : List ℕ → List ℕ → Ordering
 to_key key k = text_order k key
 
 -- the pairs from the place on stand at the rest
-abbrev pub IsAt : List (List ℕ × List ℕ) → List ℕ → List ℕ → ℕ → Type 0
-IsAt pairs behind rest index = Begins rest (pair_parts (drop index pairs)) behind
+pub record Walked (entries : List ℕ) (count : ℕ) (rest : List ℕ) (index : ℕ) : Type 0 where
+  pub these : AreEntries entries count
+  pub here : Begins rest (pair_parts (drop index these.pairs)) these.rest
 
-module _ (pairs : List (List ℕ × List ℕ)) (behind rest : List ℕ) (index : ℕ) (within : index < length pairs) (here : IsAt pairs behind rest index) where
-  cut_here : Begins rest (pair_parts (get_or pairs index ([], []) ∷ drop (index + 1) pairs)) behind
-  cut_here = let P : List (List ℕ × List ℕ) → Type 0 = λ L. Begins rest (pair_parts L) behind in subst P (drop_more pairs index ([], []) within) here
+module _ {entries : List ℕ} {count : ℕ} {rest : List ℕ} {index : ℕ} (w : Walked entries count rest index) (l : index < count) where
+  within : index < length w.these.pairs
+  within = omega (arith, l, w.these.count_is)
 
-  pub begins_here : BeginsPair rest
-  begins_here = let f = pair_first rest behind (get_or pairs index ([], [])) (drop (index + 1) pairs) cut_here in (get_or pairs index ([], []), f.0, f.1)
+  cut_here : Begins rest (pair_parts (get_or w.these.pairs index ([], []) ∷ drop (index + 1) w.these.pairs)) w.these.rest
+  cut_here = subst (λ L. Begins rest (pair_parts L) w.these.rest) (drop_more w.these.pairs index ([], []) within) w.here
+
+  pub walked_begins : BeginsPair rest
+  walked_begins = let f = pair_first rest w.these.rest (get_or w.these.pairs index ([], [])) (drop (index + 1) w.these.pairs) cut_here in (get_or w.these.pairs index ([], []), f.0, f.1)
 
   module _ (pair : List ℕ × List ℕ) (later : List ℕ) (read : Begins rest (pair_parts (pair ∷ [])) later) where
-    next_here : (pair ≡ get_or pairs index ([], [])) × Begins later (pair_parts (drop (index + 1) pairs)) behind
-    next_here = pair_next rest later behind (get_or pairs index ([], [])) pair (drop (index + 1) pairs) cut_here read
+    pub next_here : (pair ≡ get_or w.these.pairs index ([], [])) × Begins later (pair_parts (drop (index + 1) w.these.pairs)) w.these.rest
+    next_here = pair_next rest later w.these.rest (get_or w.these.pairs index ([], [])) pair (drop (index + 1) w.these.pairs) cut_here read
 
     -- the pair that is read stands there, and behind it the next ones
-    pub pair_here : slice_get pairs index ≡ Some pair
-    pair_here = slice_get-get_or pairs index ([], []) within ∙ ap Some (sym next_here.0)
+    pub walked_pair : slice_get w.these.pairs index ≡ Some pair
+    walked_pair = slice_get-get_or w.these.pairs index ([], []) within ∙ ap Some (sym next_here.0)
 
-    pub is_at_next : IsAt pairs behind later (index + 1)
-    is_at_next = next_here.1
+    abbrev pub walked_next : Walked entries count later (index + 1)
+    walked_next = record { these = w.these; here = next_here.1 }
 
 -- ---- what a search's answers say
 
@@ -81,21 +85,13 @@ pub asked_one : {old new : Count} → new.name ≡ old.name → new.total ≡ ol
 asked_one same one = record { same = same; not_lowered = omega (arith, one); most = omega (arith, one) }
 
 pub record Scanned (entries : List ℕ) (size : ℕ) (key rest : List ℕ) (index : ℕ) (old new : Count) : Type 0 where
-  pub these : AreEntries entries size
-  pub here : IsAt these.pairs these.rest rest index
-  pub narrowed : Narrowed (to_key key) these.pairs index (length these.pairs)
+  pub walked : Walked entries size rest index
+  pub narrowed : Narrowed (to_key key) walked.these.pairs index (length walked.these.pairs)
   pub asked : RisesByAtMost index old new
 
 pub scanned_start : (entries key : List ℕ) (size : ℕ) (count : Count) → AreEntries entries size → Scanned entries size key entries 0 count count
 scanned_start entries key size count these = record {
-  these = these;
-  here = these.spelled;
+  walked = record { these = these; here = these.spelled };
   narrowed = Narrowed-whole (to_key key) these.pairs (length these.pairs) (omega arith);
   asked = not_asked count;
 }
-
--- ---- a walk to a place
-
-pub record Walked (entries : List ℕ) (count : ℕ) (rest : List ℕ) (index : ℕ) : Type 0 where
-  pub these : AreEntries entries count
-  pub here : IsAt these.pairs these.rest rest index

@@ -1,52 +1,49 @@
 use Rattle.std.proofs.Common.{◌≡◌, ◌∙◌, arith, length, sym}
 use Rattle.litemap_store.proofs.Counting.{at_most, in_turn}
 use Rattle.litemap_store.proofs.Halving.{Narrowed-greater, Narrowed-less}
-use Rattle.name_index.proofs.Scanning.{ascends, asked_one, begins_here, is_at_next, pair_here, scanned_found, scanned_missing, scanned_start, to_key}
+use Rattle.name_index.proofs.Scanning.{ascends, asked_one, scanned_found, scanned_missing, scanned_start, to_key, walked_begins, walked_next, walked_pair}
 use Rattle.name_index.proofs.entries.scan.Goals as goal
 
 pub loop-index-init : goal.loop-index-init
 loop-index-init c = scanned_start c.args.entries.now c.args.key.now c.args.size _ c.requires
 
 pub known_pair-requires : goal.known_pair-requires
-known_pair-requires c =
-    let inv = c.loop-index.invariant in
-    begins_here inv.these.pairs inv.these.rest _ c.loop-index.index (omega (arith, inv.these.count_is)) inv.here
+known_pair-requires c = walked_begins c.loop-index.invariant.walked (omega arith)
 
 pub returns-in-Equal : goal.returns-in-Equal
 returns-in-Equal c =
     let inv = c.loop-index.invariant in
     let pair = c.known_pair.result.0 in
-    let e = pair_here inv.these.pairs inv.these.rest _ c.loop-index.index (omega (arith, inv.these.count_is)) inv.here (pair.0.now, pair.1.now) _ c.known_pair.ensures in
-    let s = scanned_found inv.these.pairs c.args.key.now inv.these.rises c.loop-index.index pair.0.now pair.1 e (sym c.cmp.ensures.answer ∙ c.in-Equal.is) in
-    (inv.these, (s, in_turn c.loop-index.index 1 _ (omega (arith, s.0.place)) inv.asked (asked_one c.cmp.ensures.same c.cmp.ensures.counted)))
+    let e = walked_pair inv.walked (omega arith) (pair.0.now, pair.1.now) _ c.known_pair.ensures in
+    let s = scanned_found inv.walked.these.pairs c.args.key.now inv.walked.these.rises c.loop-index.index pair.0.now pair.1 e (sym c.cmp.ensures.answer ∙ c.in-Equal.is) in
+    (inv.walked.these, (s, in_turn c.loop-index.index 1 _ (omega (arith, s.0.place)) inv.asked (asked_one c.cmp.ensures.same c.cmp.ensures.counted)))
 
 pub returns-in-Greater : goal.returns-in-Greater
 returns-in-Greater c =
     let inv = c.loop-index.invariant in
     let pair = c.known_pair.result.0 in
-    let pairs = inv.these.pairs in
-    let e = pair_here pairs inv.these.rest _ c.loop-index.index (omega (arith, inv.these.count_is)) inv.here (pair.0.now, pair.1.now) _ c.known_pair.ensures in
-    let n = Narrowed-greater (to_key c.args.key.now) pairs (ascends pairs c.args.key.now inv.these.rises) _ _ c.loop-index.index _ _ e inv.narrowed (sym c.cmp.ensures.answer ∙ c.in-Greater.is) in
-    let s = scanned_missing pairs c.args.key.now inv.these.rises c.loop-index.index c.loop-index.index (omega arith) (omega (arith, inv.these.count_is)) n in
-    (inv.these, (s, in_turn c.loop-index.index 1 _ (omega (arith, s.place)) inv.asked (asked_one c.cmp.ensures.same c.cmp.ensures.counted)))
+    let pairs = inv.walked.these.pairs in
+    let e = walked_pair inv.walked (omega arith) (pair.0.now, pair.1.now) _ c.known_pair.ensures in
+    let n = Narrowed-greater (to_key c.args.key.now) pairs (ascends pairs c.args.key.now inv.walked.these.rises) _ _ c.loop-index.index _ _ e inv.narrowed (sym c.cmp.ensures.answer ∙ c.in-Greater.is) in
+    let s = scanned_missing pairs c.args.key.now inv.walked.these.rises c.loop-index.index c.loop-index.index (omega arith) (omega (arith, inv.walked.these.count_is)) n in
+    (inv.walked.these, (s, in_turn c.loop-index.index 1 _ (omega (arith, s.place)) inv.asked (asked_one c.cmp.ensures.same c.cmp.ensures.counted)))
 
 pub loop-index-preserved : goal.loop-index-preserved
 loop-index-preserved c =
     let inv = c.loop-index.invariant in
     let pair = c.known_pair.result.0 in
-    let pairs = inv.these.pairs in
-    let e = pair_here pairs inv.these.rest _ c.loop-index.index (omega (arith, inv.these.count_is)) inv.here (pair.0.now, pair.1.now) _ c.known_pair.ensures in
+    let pairs = inv.walked.these.pairs in
+    let e = walked_pair inv.walked (omega arith) (pair.0.now, pair.1.now) _ c.known_pair.ensures in
     record {
-      these = inv.these;
-      here = is_at_next pairs inv.these.rest _ c.loop-index.index (omega (arith, inv.these.count_is)) inv.here (pair.0.now, pair.1.now) _ c.known_pair.ensures;
-      narrowed = Narrowed-less (to_key c.args.key.now) pairs (ascends pairs c.args.key.now inv.these.rises) _ _ c.loop-index.index _ _ e inv.narrowed (sym c.cmp.ensures.answer ∙ c.in-Less.is);
+      walked = walked_next inv.walked (omega arith) (pair.0.now, pair.1.now) _ c.known_pair.ensures;
+      narrowed = Narrowed-less (to_key c.args.key.now) pairs (ascends pairs c.args.key.now inv.walked.these.rises) _ _ c.loop-index.index _ _ e inv.narrowed (sym c.cmp.ensures.answer ∙ c.in-Less.is);
       asked = in_turn c.loop-index.index 1 _ (omega arith) inv.asked (asked_one c.cmp.ensures.same c.cmp.ensures.counted);
     }
 
 pub returns : goal.returns
 returns c =
     let inv = c.loop-index.invariant in
-    let pairs = inv.these.pairs in
+    let pairs = inv.walked.these.pairs in
     let end : c.loop-index.index ≡ c.args.size = omega arith in
-    let s = scanned_missing pairs c.args.key.now inv.these.rises c.args.size (length pairs) (omega (arith, inv.these.count_is)) (omega (arith, inv.these.count_is)) (rw (← end) inv.narrowed) in
-    (inv.these, (s, at_most c.loop-index.index _ (omega (arith, s.place, end)) inv.asked))
+    let s = scanned_missing pairs c.args.key.now inv.walked.these.rises c.args.size (length pairs) (omega (arith, inv.walked.these.count_is)) (omega (arith, inv.walked.these.count_is)) (rw (← end) inv.narrowed) in
+    (inv.walked.these, (s, at_most c.loop-index.index _ (omega (arith, s.place, end)) inv.asked))

@@ -1,7 +1,7 @@
 use Rattle.std.proofs.Common.{◌≡◌, arith}
 use Rattle.std.proofs.lemmas.Result.{err_from_is_err_and}
 use Rattle.name_index.proofs.Placing.{far_here, noted_next, noted_start, placed_end}
-use Rattle.name_index.proofs.Scanning.{begins_here}
+use Rattle.name_index.proofs.Scanning.{walked_begins}
 use Rattle.name_index.proofs.places.places_of.Goals as goal
 
 pub loop-init : goal.loop-init
@@ -9,9 +9,7 @@ loop-init c =
     rw c.in_ok-places.ensures.items (noted_start c.args.entries.now c.args.count c.requires)
 
 pub known_pair-requires : goal.known_pair-requires
-known_pair-requires c =
-    let inv = c.loop.invariant in
-    begins_here inv.these.pairs inv.these.rest _ c.loop.counter (omega (arith, inv.these.count_is)) inv.here
+known_pair-requires c = walked_begins c.loop.invariant.walked (omega arith)
 
 pub loop-preserved : goal.loop-preserved
 loop-preserved c =
