@@ -11,7 +11,7 @@ import re
 FOLDER = pathlib.Path(__file__).resolve().parent
 STEP = 1099511628211
 # Around what the libraries treat in another way: none, one, a sort without memory, a vector's first room, and more.
-LENGTHS = [0, 1, 2, 3, 4, 5, 8, 9, 16, 17, 20, 21, 30, 33, 100, 1000]
+LENGTHS = [0, 1, 2, 3, 4, 5, 8, 9, 12, 16, 17, 20, 21, 24, 30, 33, 64, 100, 1000]
 GROWING = "vec columns short"
 ALL = GROWING + " fixed"
 
@@ -356,7 +356,7 @@ class Model:
         if name in ("lm_extend_end", "lm_extend_start"):
             self.pairs = self.pairs + pairs if name.endswith("end") else pairs + self.pairs
             return "ok"
-        if name in ("eq", "cmp", "partial_cmp"):
+        if name in ("eq", "hash", "cmp", "partial_cmp"):
             return self.compare(name, self.last(pairs))
         return None
 
@@ -400,6 +400,8 @@ class Model:
         mine = [(self.order.rank(key), value) for key, value in self.pairs]
         theirs = [(self.order.rank(key), value) for key, value in other]
         most = min(len(mine), len(theirs))
+        if name == "hash":
+            return "true" if mine == theirs else "false"
         if name == "eq":
             return ("true" if mine == theirs else "false"), most if len(mine) == len(theirs) else 0
         return ("equal" if mine == theirs else "less" if mine < theirs else "greater"), most
@@ -499,9 +501,11 @@ def walks():
             others += [mine[:-1] + [f"{2 * length}:{value}"] for value in (20 * length - 1, 20 * length + 1)]
             others += [mine[:-1] + [f"{2 * length + change}:{20 * length}"] for change in (-1, 1)]
             others += [["1:1"] + mine[1:], ["2:21"] + mine[1:], ["2:19"] + mine[1:-1] + [f"{2 * length + 5}:1"]]
-        if length <= 100:
-            calls += [" ".join([name, *other]) for name in ("eq", "cmp", "partial_cmp") for other in others]
+        some = others if length <= 100 else others[:2]
+        calls += [" ".join([name, *other]) for name in ("eq", "hash", "cmp", "partial_cmp") for other in some]
         yield from block(ALL, length, 1, calls)
+    alike = ["from_vec a:0 B:9", "hash A:0 b:9", "hash a:0", "hash a:0 b:8", "hash a:0 c:9", "hash"]
+    yield from chain(ALL, alike, "letter", 8)
 
 
 def changes():
@@ -545,7 +549,7 @@ def inputs(length):
 
 def bulk():
     """What takes or makes many pairs at once, merges, parts and reads."""
-    for length in [0, 1, 2, 3, 5, 16, 17, 30, 33, 100, 1000]:
+    for length in [0, 1, 2, 3, 5, 12, 16, 17, 24, 30, 33, 64, 100, 1000]:
         given = list(inputs(length)) + ([f"{2 * length + 1},1000,1", "1,1000,2", "4000,1000,-4"] if length in (0, 17, 1000) else [])
         calls = [f"{name} {pairs}".strip() for name in EXTENSIONS[:4] + MERGES for pairs in given]
         calls += [f"split_off {key}" for key in keys(length)]

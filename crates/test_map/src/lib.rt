@@ -1,6 +1,6 @@
 //! Tests of what neither a contract nor a line of `test_replay` says: closures that call several keys equal, queries of each
-//! kind, constant tables, iterators that lie, the greatest rooms, stores with a limit, what maps become, hashes, what is
-//! printed, and reading.
+//! kind, constant tables, iterators that lie, the greatest rooms, stores with a limit, what maps become, what is printed, and
+//! reading.
 #![tactic(auto)]
 
 #[cfg(test)]
@@ -11,8 +11,6 @@ mod constants;
 mod conversions;
 #[cfg(test)]
 mod ends;
-#[cfg(test)]
-mod hashes;
 #[cfg(test)]
 mod hints;
 #[cfg(test)]
