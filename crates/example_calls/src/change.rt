@@ -5,12 +5,12 @@ use litemap::{LiteMap, TryFault};
 use std::alloc::{AllocError, Global};
 
 /// How the examples came out, by their calls.
-pub(crate) fn examples(alloc: Global) -> [Shown; 24] {
+pub(crate) fn examples(alloc: Global) -> [Shown; 21] {
     shown! { alloc;
         from_iter, from_vec, extend, extend_from_vec, insert, try_insert, try_append,
         try_get_or_insert, try_find_or_insert, remove, remove_by, clear, reserve, retain,
-        extend_from_litemap, split_off, remove_entry, pop_first, pop_last, update, get_mut,
-        get_mut_by, index_mut, get_indexed_mut
+        extend_from_litemap, split_off, remove_entry, pop_first, update, get_mut,
+        get_indexed_mut
     }
 }
 
@@ -126,11 +126,6 @@ fn pop_first(alloc: Global) -> anyhow::Result<bool> {
     Ok(days.pop_first() == Some((1, "Monday")) && days.first() == Some((&3, &"Wednesday")))
 }
 
-fn pop_last(alloc: Global) -> anyhow::Result<bool> {
-    let mut days = three_days(alloc)?;
-    Ok(days.pop_last() == Some((5, "Friday")) && days.last() == Some((&3, &"Wednesday")))
-}
-
 fn update(alloc: Global) -> anyhow::Result<bool> {
     let mut days = three_days(alloc)?;
     days.update(|_number, name| *name = "open");
@@ -141,22 +136,6 @@ fn get_mut(alloc: Global) -> anyhow::Result<bool> {
     let mut days = three_days(alloc)?;
     if let Some(name) = days.get_mut(&3) {
         *name = "Wed";
-    }
-    Ok(days.get(&3) == Some(&"Wed"))
-}
-
-fn get_mut_by(alloc: Global) -> anyhow::Result<bool> {
-    let mut days = three_days(alloc)?;
-    if let Some(name) = days.get_mut_by(|number| number.cmp(&3)) {
-        *name = "Wed";
-    }
-    Ok(days.get(&3) == Some(&"Wed"))
-}
-
-fn index_mut(alloc: Global) -> anyhow::Result<bool> {
-    let mut days = three_days(alloc)?;
-    if days.contains_key(&3) {
-        *days.index_mut(&3) = "Wed";
     }
     Ok(days.get(&3) == Some(&"Wed"))
 }

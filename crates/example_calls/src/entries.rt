@@ -5,25 +5,17 @@ use litemap::Entry;
 use std::alloc::Global;
 
 /// How the examples came out, by their calls.
-pub(crate) fn examples(alloc: Global) -> [Shown; 13] {
+pub(crate) fn examples(alloc: Global) -> [Shown; 10] {
     shown! { alloc;
-        key, get, get_mut, into_mut, insert, remove, key_of_vacant, insert_of_vacant, entry,
-        or_insert, or_default, or_insert_with, and_modify
+        key, get_mut, into_mut, insert, remove, insert_of_vacant, entry, or_insert,
+        or_insert_with, and_modify
     }
 }
 
 fn key(alloc: Global) -> anyhow::Result<bool> {
     let mut days = three_days(alloc)?;
     match days.entry(1) {
-        Entry::Occupied(entry) => Ok(*entry.key() == 1),
-        Entry::Vacant(_) => Ok(false),
-    }
-}
-
-fn get(alloc: Global) -> anyhow::Result<bool> {
-    let mut days = three_days(alloc)?;
-    match days.entry(1) {
-        Entry::Occupied(entry) => Ok(*entry.get() == "Monday"),
+        Entry::Occupied(entry) => Ok(*entry.key() == 1 && *entry.get() == "Monday"),
         Entry::Vacant(_) => Ok(false),
     }
 }
@@ -60,20 +52,12 @@ fn remove(alloc: Global) -> anyhow::Result<bool> {
     Ok(!days.contains_key(&1))
 }
 
-fn key_of_vacant(alloc: Global) -> anyhow::Result<bool> {
-    let mut days = three_days(alloc)?;
-    match days.entry(2) {
-        Entry::Occupied(_) => Ok(false),
-        Entry::Vacant(entry) => Ok(*entry.key() == 2),
-    }
-}
-
 fn insert_of_vacant(alloc: Global) -> anyhow::Result<bool> {
     let mut days = three_days(alloc)?;
     let Entry::Vacant(entry) = days.entry(4) else {
         return Ok(false);
     };
-    Ok(*entry.insert("Thursday")? == "Thursday")
+    Ok(*entry.key() == 4 && *entry.insert("Thursday")? == "Thursday")
 }
 
 fn entry(alloc: Global) -> anyhow::Result<bool> {
@@ -87,11 +71,6 @@ fn entry(alloc: Global) -> anyhow::Result<bool> {
 fn or_insert(alloc: Global) -> anyhow::Result<bool> {
     let mut days = three_days(alloc)?;
     Ok(*days.entry(1).or_insert("Mon")? == "Monday")
-}
-
-fn or_default(alloc: Global) -> anyhow::Result<bool> {
-    let mut days = three_days(alloc)?;
-    Ok(*days.entry(7).or_default()? == "")
 }
 
 fn or_insert_with(alloc: Global) -> anyhow::Result<bool> {

@@ -6,13 +6,12 @@ use litemap::{ColumnMap, LiteMap, VecMap};
 use std::alloc::Global;
 
 /// How the examples came out, by their calls.
-pub(crate) fn examples(alloc: Global) -> [Shown; 20] {
+pub(crate) fn examples(alloc: Global) -> [Shown; 15] {
     shown! { alloc;
-        const_len, const_get_indexed_or_panic, const_get_with_index,
-        const_get_with_index_of_const_family, const_get_with_index_2, column_map,
-        to_boxed_keys_values, to_boxed_keys, to_boxed_values, to_keys_by,
-        to_borrowed_keys_values, to_borrowed_keys, to_borrowed_values, new_vec, into_tuple_vec,
-        from_sorted_store_unchecked, new, with_capacity, try_clone, debug
+        const_len, const_get_with_index, const_get_with_index_of_const_family,
+        const_get_with_index_2, column_map, to_boxed_keys_values, to_keys_by,
+        to_borrowed_keys_values, new_vec, into_tuple_vec, from_sorted_store_unchecked, new,
+        with_capacity, try_clone, debug
     }
 }
 
@@ -24,12 +23,7 @@ const MARKS: &[(&[u8], char)] = &[(b"lt", '<'), (b"ne", '!')];
 
 fn const_len(_: Global) -> anyhow::Result<bool> {
     let days = LiteMap::from_sorted_store_unchecked(SliceStore::new(DAYS));
-    Ok(days.const_len() == 3 && !days.const_is_empty())
-}
-
-fn const_get_indexed_or_panic(_: Global) -> anyhow::Result<bool> {
-    let days = LiteMap::from_sorted_store_unchecked(SliceStore::new(DAYS));
-    Ok(days.const_len() == 3 && days.const_get_indexed_or_panic(2).0 == 5)
+    Ok(days.const_len() == 3 && !days.const_is_empty() && days.const_get_indexed_or_panic(2).0 == 5)
 }
 
 fn const_get_with_index(_: Global) -> anyhow::Result<bool> {
@@ -59,18 +53,6 @@ fn to_boxed_keys_values(alloc: Global) -> anyhow::Result<bool> {
     Ok(boxed.values().len() == 2)
 }
 
-fn to_boxed_keys(alloc: Global) -> anyhow::Result<bool> {
-    let hours = opening_hours(alloc)?;
-    let boxed: VecMap<Box<u32>, u8> = hours.to_boxed_keys(alloc)?;
-    Ok(boxed.values().next() == Some(&8))
-}
-
-fn to_boxed_values(alloc: Global) -> anyhow::Result<bool> {
-    let hours = opening_hours(alloc)?;
-    let boxed: VecMap<u32, Box<u8>> = hours.to_boxed_values(alloc)?;
-    Ok(boxed.contains_key(&3))
-}
-
 fn to_keys_by(alloc: Global) -> anyhow::Result<bool> {
     let hours = opening_hours(alloc)?;
     let later: VecMap<u64, u8> = hours.to_keys_by(alloc, |number| *number as u64 + 7)?;
@@ -81,18 +63,6 @@ fn to_borrowed_keys_values(alloc: Global) -> anyhow::Result<bool> {
     let hours = opening_hours(alloc)?;
     let lent: VecMap<&u32, &u8> = hours.to_borrowed_keys_values(alloc)?;
     Ok(lent.get(&&3) == Some(&&10))
-}
-
-fn to_borrowed_keys(alloc: Global) -> anyhow::Result<bool> {
-    let hours = opening_hours(alloc)?;
-    let lent: VecMap<&u32, u8> = hours.to_borrowed_keys(alloc)?;
-    Ok(lent.get(&&3) == Some(&10))
-}
-
-fn to_borrowed_values(alloc: Global) -> anyhow::Result<bool> {
-    let hours = opening_hours(alloc)?;
-    let lent: VecMap<u32, &u8> = hours.to_borrowed_values(alloc)?;
-    Ok(lent.get(&3) == Some(&&10))
 }
 
 fn new_vec(alloc: Global) -> anyhow::Result<bool> {

@@ -6,6 +6,5 @@ pub mod Numbers
 pub mod Outcomes
 pub mod Places
 pub mod Texts
-pub mod Tries
 pub mod Cuts
 pub mod Writing

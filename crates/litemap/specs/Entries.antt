@@ -1,5 +1,5 @@
 -- What an entry of a map shows: the map that it borrows, its key, its value, and what the calls on it make of the pairs.
-use Rattle.std.specs.Prelude.{◌≡◌, ◌+◌, ◌<◌, ◌≤◌, List, [], Option, Some, None, IsSome, Result, IsOk, OnErr}
+use Rattle.std.specs.Prelude.{◌≡◌, ◌+◌, ◌<◌, ◌≤◌, List, [], Option, Some, None, IsSome, Result, IfErr, IsOk, OnErr}
 use Rattle.std.specs.Prelude.{length, slice_get}
 use Rattle.std.proofs.Common.{subst, sym}
 use Rattle.std.specs.declared.cmp.Ord as ord
@@ -9,6 +9,7 @@ use Rattle.std.specs.Borrow.{Fml, RattleType, MutBor, follows, follows_so, name_
 use Rattle.std.specs.List.{remove}
 use Rattle.std.specs.Option.{option_map}
 use mir.Syntax.{named}
+use Rattle.litemap_store.specs.declared.no_room.NoRoom.{NoRoom}
 use Rattle.litemap_store.specs.declared.store.Store as store
 use Rattle.litemap_store.specs.Pairs.{put, set_value, value_in}
 use Rattle.litemap_store.proofs.Seams.{length-set_value}
@@ -82,6 +83,12 @@ module _ {K V S : Type 0} {g : ord.Ghosts K} {g' : eq.Ghosts K} {g'' : partial.G
     pub pairs : n.pairs ≡ pairs_with e v
     pub room : (entry_map e).now.room ≤ n.room + 1
     pub room_kept : IsSome (entry_value e) → n.room ≡ (entry_map e).now.room
+
+  -- refused only where the key is not there and there is no room: it comes back, with a value that P holds of
+  pub record EntryRefused (e : Entry K V S g g' g'' s) (P : V → Type 0) {A : Type 0} (result : Result A (NoRoom (K × V))) : Type 0 where
+    pub absent : OnErr result (entry_value e ≡ None)
+    pub full : OnErr result ((entry_map e).now.room ≡ 0)
+    pub back : IfErr result (λ refused. (entry_key e ≡ Some refused.back.0) × P refused.back.1)
 
 module _ (K V S : RattleType) {g : ord.Ghosts K.Denot} {g' : eq.Ghosts K.Denot} {g'' : partial.Ghosts K.Denot}
     {s : store.Ghosts S.Denot K.Denot V.Denot} where

@@ -1,8 +1,9 @@
--- What a call does with the place that a search by a closure found.
-use Rattle.std.specs.Prelude.{◌≡◌, ℕ, List, Option, None, Result, Ok, Err}
+-- What a call answers and leaves by the place that a search found.
+use Rattle.std.specs.Prelude.{◌≡◌, ◌<◌, ℕ, List, length, Option, Some, None, IfSome, Result, Ok, Err}
+use Rattle.std.specs.Option.{option_map}
 use Rattle.std.specs.declared.cmp.Ordering.{Ordering}
 use Rattle.std.specs.List.{remove}
-use Rattle.litemap_store.specs.Pairs.{value_in}
+use Rattle.litemap_store.specs.Pairs.{place, value_at, value_in}
 use Rattle.litemap_store.specs.Search.{Found}
 use denote.Param.Members.{Mut}
 use denote.Ref.{Bor}
@@ -31,3 +32,11 @@ module _ {F K V : Type 0} (g : Mut F (Bor K × Unit {0}) Ordering) (L : List (K 
     pub found : Found g L f place
     pub value : v ≡ value_found L place
     pub pairs : M ≡ without_found L place
+
+-- the index of the key that is equal to q, and the value there, where there is one
+module _ {K Q V : Type 0} (order : K → Q → Ordering) (L : List (K × V)) (q : Q) where
+  pub record GetsWithIndex (found : Option (ℕ × Bor V)) : Type 0 where
+    pub value : option_map (λ x. x.1.now) found ≡ value_at order L q
+    pub place : IfSome found (λ x. x.0 ≡ place order L q)
+    pub within : IfSome found (λ x. x.0 < length L)
+    pub there : IfSome found (λ x. value_in L x.0 ≡ Some x.1.now)

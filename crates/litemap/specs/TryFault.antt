@@ -1,7 +1,9 @@
 -- The two faults of `try_get_or_insert`.
-use Rattle.std.specs.Prelude.{Result, Ok, Err, ⊤}
+use Rattle.std.specs.Prelude.{◌≡◌, ℕ, Result, Ok, Err, ⊤}
+use Rattle.std.specs.Fn.{FnOnceReturnsAt, Once}
 use Rattle.litemap.specs.declared.try_fault.TryFault.{TryFault}
 use Rattle.litemap.specs.declared.try_fault.TryFault.TheVariants.{Closure, NoRoom}
+use denote.Ref.{Bor}
 
 module _ {A K V E : Type 0} where
   -- where the closure answered a fault, P holds of it
@@ -15,3 +17,10 @@ module _ {A K V E : Type 0} where
   IfNoRoom (Ok a) P = ⊤
   IfNoRoom (Err (Closure e)) P = ⊤
   IfNoRoom (Err (NoRoom k v)) P = P k v
+
+module _ {F K V E : Type 0} (g : Once F (Bor K × Unit {0}) (Result V E)) (f : F) (key : K) (room : ℕ) where
+  -- the closure's fault; or no room, and then the key and what the closure answered come back
+  pub record FailsAs {A : Type 0} (result : Result A (TryFault K V E)) : Type 0 where
+    pub closure : IfClosure result (λ fault. FnOnceReturnsAt g f key (Err fault))
+    pub full : IfNoRoom result (λ _ _. room ≡ 0)
+    pub back : IfNoRoom result (λ k v. (k ≡ key) × FnOnceReturnsAt g f key (Ok v))

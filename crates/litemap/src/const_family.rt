@@ -2,30 +2,15 @@
 //!
 //! In the Rust crate they are evaluated in constants, and have `const` in their names for that. Here they are plain calls.
 //! None takes memory.
-ghost use Rattle.std.specs.Prelude.{◌≡◌, ◌<◌, ◌==◌, length, slice_get, Some, Ok, IfSome};
-ghost use Rattle.std.specs.Option.{option_and_then, option_map};
-ghost use Rattle.std.specs.Result.{result_ok};
+ghost use Rattle.std.specs.Prelude.{◌≡◌, ◌<◌, ◌==◌, length, slice_get, Some};
 ghost use Rattle.litemap_store.specs.Counts.{RisesByAtMost};
 ghost use Rattle.litemap_store.specs.Digits.{digits};
-ghost use Rattle.litemap_store.specs.Pairs.{place, value_at, value_in};
 ghost use Rattle.litemap.specs.ByBytes.{by_bytes};
+ghost use Rattle.litemap.specs.FoundBy.{GetsWithIndex};
 
 use crate::LiteMap;
 use litemap_store::Query;
 use litemap_store::store::{Count, SliceStore};
-
-// The place that a search found, and the value there.
-fn const_found<'a, K, V>(pairs: &'a [(K, V)], index: Result<usize, usize>) -> Option<(usize, &'a V)>
-    ensures value { option_map
-        (λ found. found.1.now) result ≡ option_and_then (value_in pairs.now) (result_ok index) }
-    ensures place { IfSome result (λ found. index ≡ Ok found.0) }
-    ensures within { IfSome result (λ found. found.0 < length pairs.now) }
-    ensures there { IfSome result (λ found. value_in pairs.now found.0 ≡ Some found.1.now) }
-{
-    let index = index.ok()?;
-    let (_, value) = pairs.get(index)?;
-    Some((index, value))
-}
 
 impl<'a, K: Ord, V> LiteMap<K, V, SliceStore<'a, K, V>> {
     /// The number of pairs.
@@ -34,7 +19,7 @@ impl<'a, K: Ord, V> LiteMap<K, V, SliceStore<'a, K, V>> {
     /// const DAYS: &[(u32, &str)] = &[(1, "Monday"), (3, "Wednesday"), (5, "Friday")];
     /// // ...
     /// let days = LiteMap::from_sorted_store_unchecked(SliceStore::new(DAYS));
-    /// days.const_len() == 3 && !days.const_is_empty()
+    /// days.const_len() == 3 && !days.const_is_empty() && days.const_get_indexed_or_panic(2).0 == 5
     /// ```
     pub fn const_len(&self) -> usize
         ensures { result ≡ length self.now.pairs }
@@ -43,29 +28,13 @@ impl<'a, K: Ord, V> LiteMap<K, V, SliceStore<'a, K, V>> {
     }
 
     /// Whether there is no pair.
-    ///
-    /// ```rust
-    /// const DAYS: &[(u32, &str)] = &[(1, "Monday"), (3, "Wednesday"), (5, "Friday")];
-    /// // ...
-    /// let days = LiteMap::from_sorted_store_unchecked(SliceStore::new(DAYS));
-    /// days.const_len() == 3 && !days.const_is_empty()
-    /// ```
     pub fn const_is_empty(&self) -> bool
         ensures { result ≡ (length self.now.pairs == 0) }
     {
         self.borrowed().is_empty()
     }
 
-    /// The pair at a place.
-    ///
-    /// There has to be a pair at the place: the Rust crate panics there, and its name says so.
-    ///
-    /// ```rust
-    /// const DAYS: &[(u32, &str)] = &[(1, "Monday"), (3, "Wednesday"), (5, "Friday")];
-    /// // ...
-    /// let days = LiteMap::from_sorted_store_unchecked(SliceStore::new(DAYS));
-    /// days.const_len() == 3 && days.const_get_indexed_or_panic(2).0 == 5
-    /// ```
+    /// The pair at a place, where there has to be one: the Rust crate panics there, as the name says.
     pub fn const_get_indexed_or_panic(&self, index: usize) -> &'a (K, V)
         requires { index < length self.now.pairs }
         ensures { slice_get self.now.pairs index ≡ Some result.now }
@@ -76,14 +45,13 @@ impl<'a, K: Ord, V> LiteMap<K, V, SliceStore<'a, K, V>> {
     // The place and the value of the equal key. Its callers below only hand it a fresh count: numbers and texts can't count
     // how often they are compared.
     fn const_find<Q: Query<K>>(&self, key: Q, count: &mut Count) -> Option<(usize, &'a V)>
-        ensures value { option_map
-            (λ found. found.1.now) result ≡ value_at Q.order self.now.pairs (Q.sought key) }
-        ensures place { IfSome result (λ found. found.0 ≡ place Q.order self.now.pairs (Q.sought key)) }
-        ensures within { IfSome result (λ found. found.0 < length self.now.pairs) }
-        ensures there { IfSome result (λ found. value_in self.now.pairs found.0 ≡ Some found.1.now) }
+        ensures found { GetsWithIndex Q.order self.now.pairs (Q.sought key) result }
         ensures cost { RisesByAtMost (digits (length self.now.pairs)) count.old count.new }
     {
-        const_found(self.borrowed(), self.search(key, count))
+        match self.search(key, count) {
+            Ok(index) => Some((index, &self.const_get_indexed_or_panic(index).1)),
+            Err(_) => None,
+        }
     }
 }
 
@@ -99,11 +67,7 @@ impl<'a, 'k, V> LiteMap<&'k str, V, SliceStore<'a, &'k str, V>> {
     /// capitals.const_get_with_index("Oslo") == Some((1, &47))
     /// ```
     pub fn const_get_with_index(&self, key: &str) -> Option<(usize, &'a V)>
-        ensures value { option_map
-            (λ found. found.1.now) result ≡ value_at by_bytes self.now.pairs key.entry }
-        ensures place { IfSome result (λ found. found.0 ≡ place by_bytes self.now.pairs key.entry) }
-        ensures within { IfSome result (λ found. found.0 < length self.now.pairs) }
-        ensures there { IfSome result (λ found. value_in self.now.pairs found.0 ≡ Some found.1.now) }
+        ensures { GetsWithIndex by_bytes self.now.pairs key.entry result }
     {
         self.const_find::<&str>(key, &mut Count::new())
     }
@@ -121,11 +85,7 @@ impl<'a, 'k, V> LiteMap<&'k [u8], V, SliceStore<'a, &'k [u8], V>> {
     /// marks.const_get_with_index(b"ne".as_slice()) == Some((1, &'!'))
     /// ```
     pub fn const_get_with_index(&self, key: &[u8]) -> Option<(usize, &'a V)>
-        ensures value { option_map
-            (λ found. found.1.now) result ≡ value_at by_bytes self.now.pairs key.entry }
-        ensures place { IfSome result (λ found. found.0 ≡ place by_bytes self.now.pairs key.entry) }
-        ensures within { IfSome result (λ found. found.0 < length self.now.pairs) }
-        ensures there { IfSome result (λ found. value_in self.now.pairs found.0 ≡ Some found.1.now) }
+        ensures { GetsWithIndex by_bytes self.now.pairs key.entry result }
     {
         self.const_find::<&[u8]>(key, &mut Count::new())
     }
@@ -168,10 +128,7 @@ impl<'a, K: Integer, V> LiteMap<K, V, SliceStore<'a, K, V>> {
     /// days.const_get_with_index(3) == Some((1, &"Wednesday"))
     /// ```
     pub fn const_get_with_index(&self, key: K) -> Option<(usize, &'a V)>
-        ensures value { option_map (λ found. found.1.now) result ≡ value_at K.cmp self.now.pairs key }
-        ensures place { IfSome result (λ found. found.0 ≡ place K.cmp self.now.pairs key) }
-        ensures within { IfSome result (λ found. found.0 < length self.now.pairs) }
-        ensures there { IfSome result (λ found. value_in self.now.pairs found.0 ≡ Some found.1.now) }
+        ensures { GetsWithIndex K.cmp self.now.pairs key result }
     {
         self.const_find(&key, &mut Count::new())
     }

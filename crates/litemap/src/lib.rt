@@ -1,6 +1,7 @@
 //! A key-value map kept as one flat list of pairs whose keys rise strictly, over stores that a user may plug in.
 //!
-//! The Rust crate has no call that is marked (own). Costs are told by the length of the map, n.
+//! The Rust crate has no call that is marked (own). Costs are told by the length of the map, n. A call is refused only for want
+//! of memory, and then leaves the list. A removal gives no memory back: there is room for another pair then.
 #![tactic(auto)]
 
 pub mod calls;

@@ -30,8 +30,8 @@ use std::marker::{Model, PhantomData};
 
 /// A map whose keys rise strictly, over a store.
 ///
-/// A contract sees the list of its pairs and, where the store can grow, its room: how many further pairs it takes
-/// without refusal.
+/// A contract sees the list of its pairs and, where the store can grow, its room: how many further pairs it takes without
+/// refusal.
 ///
 /// The examples of the calls look at this map, `three_days`:
 ///
@@ -96,9 +96,8 @@ impl<K: Ord, V> LiteMap<K, V, Vec<(K, V)>> {
 }
 
 impl<K: Ord, V, S: Store<K, V>> LiteMap<K, V, S> {
-    /// The map over a store whose keys rise strictly, which `is_sorted_store` tests. It takes no memory.
-    ///
-    /// The Rust crate trusts its caller here, as the call's name says. Here the caller's proof shows it.
+    /// The map over a store whose keys rise strictly, which `is_sorted_store` tests. It takes no memory. The Rust crate trusts
+    /// its caller here, as the name says; here the caller's proof shows it.
     ///
     /// ```rust
     /// let pairs = [(1, "Monday"), (3, "Wednesday")].to_vec(alloc)?;
@@ -119,18 +118,7 @@ impl<K: Ord, V, S: Store<K, V>> LiteMap<K, V, S> {
         }
     }
 
-    /// Whether the keys of a store rise strictly (own).
-    ///
-    /// It compares each key with the one before it, until one doesn't rise.
-    ///
-    /// ```rust
-    /// let pairs = [(1, "Monday"), (3, "Wednesday")].to_vec(alloc)?;
-    /// if !Days::is_sorted_store(&pairs) {
-    ///     return Ok(false);
-    /// }
-    /// let days: Days = LiteMap::from_sorted_store_unchecked(pairs);
-    /// Ok(days.get(&3) == Some(&"Wednesday"))
-    /// ```
+    /// Whether the keys of a store rise strictly (own). It compares each key with the one before it, until one doesn't rise.
     pub fn is_sorted_store(store: &S) -> bool
         ensures { IsTrue result ↔ Rising K.cmp (S.pairs store.now) }
     {
@@ -196,7 +184,7 @@ impl<K: Ord, V, S: StoreMut<K, V>> LiteMap<K, V, S> {
     /// A map of clones of the keys and values, in the same order, or a refusal for want of memory. The empty map is never
     /// refused.
     ///
-    /// A clone of each key of the map has to compare `Equal` to it. Where keys are texts the caller's attribute
+    /// A clone of each key has to compare `Equal` to it: where keys are texts, the caller's attribute
     /// `using(litemap::proofs::Texts::text_clones)` shows that. No keys are compared. The Rust crate has the trait `Clone`
     /// here.
     ///

@@ -7,17 +7,7 @@ use std::error::Error;
 use std::fmt::{self, Debug, Display, Formatter, Write};
 use std::io;
 
-/// Why `try_get_or_insert` placed nothing.
-///
-/// In the Rust crate the closure's fault stands alone: want of memory ends the process.
-///
-/// ```rust
-/// let mut days = three_days(alloc)?;
-/// match days.try_get_or_insert(7, |_number| Err("closed")) {
-///     Err(TryFault::Closure(fault)) => Ok(fault == "closed"),
-///     _ => Ok(false),
-/// }
-/// ```
+/// Why `try_get_or_insert` placed nothing. In the Rust crate the closure's fault stands alone: want of memory ends the process.
 #[derive(Debug, PartialEq, Drop)]
 pub enum TryFault<K, V, E> {
     /// The closure's fault. The key is given up.

@@ -15,11 +15,6 @@ use std::alloc::{AllocError, Global};
 use thiserror::Error;
 
 /// Why a JSON value is no item of a type.
-///
-/// ```rust
-/// let value = Value::from_str(alloc, "300")?;
-/// Ok(u8::from_value(alloc, &value) == Err(ItemFault::Range))
-/// ```
 #[derive(Debug, PartialEq, Drop, Error)]
 pub enum ItemFault {
     /// Memory was refused.
@@ -60,11 +55,6 @@ pub trait JsonItem {
     ghost item: { Data → Result Data ItemFault };
 
     /// The value as JSON, or a refusal for want of memory. What is made reads as the same value.
-    ///
-    /// ```rust
-    /// let value = (3u32, true).to_value(alloc)?;
-    /// Ok(value.to_string(alloc)?.as_str() == "[3,true]")
-    /// ```
     fn to_value(&self, alloc: Global) -> Result<Value, AllocError>
         ensures tree { IfOk result (λ value. view value ≡ json self.now) }
         ensures reads_back { OnOk result (item (json self.now) ≡ Ok (json self.now)) };

@@ -11,9 +11,8 @@ use std::alloc::Global;
 
 /// Makes the calls of a list one after another, and answers what each of them answered (own).
 ///
-/// A call that is refused for want of memory is answered `NoRoom`: it leaves the list of the map, and the run goes on.
-///
-/// The room for the answers is taken before the first call. Where it is refused no call was made, and the calls come back.
+/// A call that is refused is answered `NoRoom`, and the run goes on. The room for the answers is taken before the first call:
+/// where it is refused no call was made, and the calls come back.
 pub fn run_calls<K: Ord + Drop, V: Copy, S: StoreBulkMut<K, V>>(
     alloc: Global,
     map: &mut LiteMap<K, V, S>,
@@ -34,8 +33,8 @@ pub fn run_calls<K: Ord + Drop, V: Copy, S: StoreBulkMut<K, V>>(
     Ok(answers)
 }
 
-/// Maps with the same list answer the same calls alike and end with the same list, whatever their stores, where no call
-/// is refused for want of memory.
+/// Maps with the same list answer the same calls alike and end with the same list, whatever their stores, where no call is
+/// refused.
 pub fn same_answers<K: Ord, V>()
     ensures { SameAnswers K.cmp V }
 {}

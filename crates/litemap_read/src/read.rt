@@ -4,7 +4,7 @@ ghost use Rattle.std.specs.Iterator.{IsFiniteIterable};
 ghost use Rattle.litemap_store.specs.Laws.{Sifted};
 ghost use Rattle.litemap_read.specs.ReadFault.{IfSource};
 ghost use Rattle.litemap_read.specs.Results.{GivesFault, IsReadOf};
-ghost use Rattle.litemap_read.specs.Source.{IsBehind, IsRead, IsReadBehind};
+ghost use Rattle.litemap_read.specs.Source.{IsAsked, IsBehind, IsRead, IsReadBehind};
 
 use crate::{PairSource, ReadFault};
 use litemap::LiteMap;
@@ -16,15 +16,12 @@ const MOST_HINTED: usize = 65_536;
 
 /// The map of the pairs that a source gives, up to its end. Of each key the last pair stays, whole.
 ///
-/// A source's fault is handed on; want of memory is `NoRoom`. In both cases the pairs read so far are given up, and the
-/// source stays where it is: behind the pairs that it gave.
+/// A source's fault is handed on; want of memory is `NoRoom`. In both cases the pairs read so far are given up, and the source
+/// stays behind the pairs that it gave.
 ///
-/// The source's hint makes room for at most 65,536 pairs, and where that room is refused it is done without. A pair whose key
-/// is above the last one is put behind it, by one comparison. Any other is put aside, and at the end the map is extended
-/// by these. So a source whose keys rise costs at most one comparison for each pair, and no sort; any other one comparison
-/// for each pair, and what `extend` costs for those put aside.
-///
-/// The Rust crate reads by serde's `Deserialize` here.
+/// The source's hint makes room for at most 65,536 pairs, if that isn't refused. A pair whose key is above the last one is put
+/// behind it, by one comparison. Others are put aside, and at the end the map is extended by these: so rising keys cost at most
+/// one comparison for each pair, and no sort. The Rust crate reads by serde's `Deserialize` here.
 ///
 /// ```rust
 /// const LANGUAGES: &[u8] = b"\x02\x02de\x06German\x02fr\x06French";
@@ -36,15 +33,8 @@ pub fn read_pairs<K: Ord + Drop, V: Drop, S: StoreBulkMut<K, V>, P: PairSource<K
     alloc: Global,
     source: &mut P,
 ) -> Result<LiteMap<K, V, S>, ReadFault<P::Fault>>
-    // The last pairs of the source's list, which is then empty.
     ensures read { IfOk result (λ map. IsRead K.cmp P.gives source.old map.pairs) }
-    ensures ends { OnOk result (P.ends source.old) }
-    ensures empty { OnOk result (P.gives source.new []) }
-
-    // A fault of the source's, or want of memory: what is left of its list stands behind what it gave.
-    ensures fault { IfErr result (λ fault. IfSource fault (P.allows source.old)) }
-    ensures rest { OnErr result (IsBehind P.gives source.old source.new) }
-    ensures leads { P.leads source.old source.new }
+    ensures asked { IsAsked P.gives P.allows P.ends P.leads source.old source.new result }
 {
     let mut map = with_hint(alloc, source.hint())?;
     let mut aside = Vec::new(alloc);
@@ -62,39 +52,28 @@ pub fn read_pairs<K: Ord + Drop, V: Drop, S: StoreBulkMut<K, V>, P: PairSource<K
 /// Puts the pairs that a source gives, up to its end, into a map (own). Of each key the last pair stays, whole, where an old
 /// pair counts as earlier than all new ones.
 ///
-/// The pairs are gathered before the map changes: a source's fault, which is handed on, and want of memory leave the map's
-/// list. The pairs read so far are then given up, and the source stays where it is: behind the pairs that it gave. Who wants
-/// them asks `next_pair` for each, and inserts it.
-///
-/// The source's hint makes room for at most 65,536 pairs, in the vector that gathers them and not in the map, and where that
-/// room is refused it is done without. It compares and moves as `extend_from_vec` does.
+/// The pairs are gathered before the map changes, in a vector with the room that `read_pairs` makes: a fault or want of memory
+/// leaves the map's list. The pairs read so far are then given up, and the source stays behind them. Who wants them asks
+/// `next_pair` for each, and inserts it. It compares and moves as `extend_from_vec` does.
 pub fn extend_from_source<K: Ord + Drop, V: Drop, S: StoreBulkMut<K, V>, P: PairSource<K, V>>(
     alloc: Global,
     map: &mut LiteMap<K, V, S>,
     source: &mut P,
 ) -> Result<(), ReadFault<P::Fault>>
-    // The last pairs of the map's and of the source's list behind them. The source's list is then empty.
     ensures read { OnOk result (IsReadBehind K.cmp P.gives source.old map.old.pairs map.new.pairs) }
-    ensures ends { OnOk result (P.ends source.old) }
-    ensures empty { OnOk result (P.gives source.new []) }
-
-    // A fault of the source's, or want of memory.
     ensures unchanged { OnErr result (map.new.pairs ≡ map.old.pairs) }
-    ensures fault { IfErr result (λ fault. IfSource fault (P.allows source.old)) }
-    ensures rest { OnErr result (IsBehind P.gives source.old source.new) }
-    ensures leads { P.leads source.old source.new }
+    ensures asked { IsAsked P.gives P.allows P.ends P.leads source.old source.new result }
 {
     let pairs = gather(alloc, source)?;
     map.extend_from_vec(alloc, pairs)?;
     Ok(())
 }
 
-/// The map of the pairs that an iterator gives up to its end (own). Of each key the last pair stays, whole.
+/// The map of the pairs that an iterator gives up to its end (own): what can be written as an iterator of `Result`s needs no
+/// `PairSource`. Of each key the last pair stays, whole.
 ///
-/// The first fault that the iterator gives in the place of a pair is handed on, and nothing is asked of it behind that; want
-/// of memory is `NoRoom`. In both cases the pairs read so far are given up. It compares and moves as `read_pairs` does.
-///
-/// So what can be written as an iterator of `Result`s needs no `PairSource`.
+/// The first fault that the iterator gives is handed on, and nothing is asked of it behind that; want of memory is `NoRoom`. In
+/// both cases the pairs read so far are given up. It compares and moves as `read_pairs` does.
 pub fn read_results<
     K: Ord + Drop,
     V: Drop,
@@ -125,11 +104,8 @@ fn gather<K: Drop, V: Drop, P: PairSource<K, V>>(
     source: &mut P,
 ) -> Result<Vec<(K, V)>, ReadFault<P::Fault>>
     ensures given { IfOk result (λ pairs. P.gives source.old pairs.items) }
-    ensures ends { OnOk result (P.ends source.old) }
-    ensures empty { OnOk result (P.gives source.new []) }
-    ensures fault { IfErr result (λ fault. IfSource fault (P.allows source.old)) }
     ensures rest { IsBehind P.gives source.old source.new }
-    ensures leads { P.leads source.old source.new }
+    ensures asked { IsAsked P.gives P.allows P.ends P.leads source.old source.new result }
 {
     let mut pairs = vec_with_hint(alloc, source.hint());
     loop {

@@ -1,5 +1,5 @@
 //! Sources of pairs.
-ghost use Rattle.std.specs.Prelude.{◌≡◌, ◌↔◌, ℕ, List, alloc_error};
+ghost use Rattle.std.specs.Prelude.{◌≡◌, ◌↔◌, ℕ, List};
 ghost use Rattle.litemap_read.specs.Source.{GivesNext};
 ghost use Rattle.litemap_read.specs.declared.source.ReadFault.TheVariants.{NoRoom};
 
@@ -8,14 +8,12 @@ use std::error::Error;
 use std::fmt::{self, Display, Formatter, Write};
 use std::io;
 
-/// What gives pairs one by one, and may answer a fault in the place of one.
+/// What gives pairs one by one, and may answer a fault in the place of one. The Rust crate reads by serde's `MapAccess` here.
 ///
-/// A contract sees a source by the list of pairs that it can still give, by the faults that it may answer, and by whether
-/// it may come to its end. Each call of `next_pair` gives the first pair and drops it from the list; or `None`, only where
-/// the list is empty and the source may come to its end; or a fault that it may answer, and then the list stays. Which
-/// faults it may answer, and whether it may come to its end, never changes.
-///
-/// The Rust crate reads by serde's `MapAccess` here.
+/// A contract sees a source by the list of pairs that it can still give, by the faults that it may answer, and by whether it
+/// may come to its end. Each call of `next_pair` gives the first pair and drops it from the list; or `None`, only where the
+/// list is empty and the source may come to its end; or a fault that it may answer, and then the list stays. Which faults it
+/// may answer, and whether it may come to its end, never changes.
 ///
 /// ```rust
 /// fn next_pair(&mut self) -> Result<Option<(&'a str, &'a str)>, Nameless> {

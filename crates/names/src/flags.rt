@@ -1,10 +1,10 @@
 //! Maps from flags to numbers as JSON, brought over from arrays to objects.
-ghost use Rattle.std.specs.Prelude.{◌≡◌, ◌≢◌, ◌↔◌, IfErr, IfOk, IsUtf8, None, Ok, Err, Some, string_bytes};
+ghost use Rattle.std.specs.Prelude.{◌≡◌, IfErr, IfOk, Ok, string_bytes};
 ghost use Rattle.serde_json.specs.Data.{Data};
 ghost use Rattle.serde_json.specs.View.{view};
 ghost use Rattle.serde_json.specs.Written.{compact_text};
 ghost use Rattle.litemap_json.specs.declared.fault.JsonFault.TheVariants.{Memory};
-ghost use Rattle.names.specs.Rewriting.{FlagsReadAs, IsFlagsFault, IsJsonText, IsRewritten, flag_pairs, flags_tree};
+ghost use Rattle.names.specs.Rewriting.{FlagsReadAs, IsFlagsFault, IsJsonText, IsRewritten, flags_tree};
 
 use litemap::LiteMap;
 use litemap_json::{JsonFault, from_json, to_json};

@@ -1,6 +1,5 @@
 //! The lines of the input, and the words behind a name in one.
-ghost use Rattle.std.specs.Prelude.{◌≡◌, ◌<◌, ◌≤◌, ◌++◌, ◌∷◌, ◌↔◌, ◌==◌, ℕ, List, length};
-ghost use Rattle.std.specs.Prelude.{MatchOption, All, IsTrue, false};
+ghost use Rattle.std.specs.Prelude.{◌≡◌, ◌++◌, ◌∷◌, ◌↔◌, ◌==◌, ℕ, List, MatchOption, All, IsTrue, false};
 ghost use Rattle.names_core.specs.Line.{IsWord, lines_left, lines_of};
 
 use std::str;

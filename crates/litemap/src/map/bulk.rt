@@ -11,11 +11,11 @@ use std::alloc::{AllocError, Global};
 use std::marker::PhantomData;
 
 impl<K: Ord + Drop, V: Drop, S: StoreFromIterable<K, V>> LiteMap<K, V, S> {
-    /// The map of the pairs that an iterator gives, or a refusal for want of memory. Of each key the last pair stays,
-    /// whole: its key is the last one's too.
+    /// The map of the pairs that an iterator gives, or a refusal for want of memory. Of each key the last pair stays, whole:
+    /// its key is the last one's too.
     ///
-    /// It is the empty map extended. Where the pairs rise it compares each key with the one before it, and makes no
-    /// sort; else it sorts. The iterator's size hint isn't used. The Rust crate has the trait `FromIterator` here.
+    /// It is the empty map extended: it compares each key with the one before it, and sorts only where one doesn't rise. The
+    /// Rust crate has the trait `FromIterator` here.
     ///
     /// ```rust
     /// let days: Days = LiteMap::from_iter(alloc, [(2, "Tue"), (1, "Mon"), (2, "Tuesday")])?;
@@ -85,18 +85,16 @@ impl<K: Ord + Drop, V: Drop, S: StoreFromIterable<K, V>> LiteMap<K, V, S> {
 }
 
 impl<K: Ord + Drop, V: Drop, S: StoreBulkMut<K, V>> LiteMap<K, V, S> {
-    /// Puts the pairs that an iterator gives in, or is refused for want of memory. Of each key the last pair stays,
-    /// whole, where an old pair counts as earlier than all new ones: a new key takes the place of an equal old one.
+    /// Puts the pairs that an iterator gives in, or is refused for want of memory. Of each key the last pair stays, whole,
+    /// where an old pair counts as earlier than all new ones: a new key takes the place of an equal old one.
     ///
-    /// The new pairs are gathered before the map changes. So a refusal leaves the list, and the pairs taken from the
-    /// iterator are given up. The iterator's size hint isn't used, and nothing is promised of the room: where a new pair
-    /// falls between others a fresh store takes the place of the map's, and a limit that was set when that was made goes
-    /// with it.
+    /// A refusal leaves the list, and the pairs taken from the iterator are given up. The iterator's size hint isn't used, and
+    /// nothing is promised of the room: where a new pair falls between others a fresh store takes the place of the map's, and a
+    /// limit that was set when that was made goes with it.
     ///
-    /// Where the new pairs rise past the last key they are put behind it, by at most one comparison for each. Where
-    /// they rise, wherever they belong, they are merged, by at most one comparison for each old and two for each new
-    /// pair, and each pair moves a constant number of times. Else they are sorted before that, by comparisons that
-    /// aren't counted. The Rust crate has the trait `Extend` here.
+    /// New pairs that rise past the last key are put behind it, by at most one comparison for each. Others that rise are
+    /// merged, by at most one comparison for each old and two for each new pair, and each pair moves a constant number of
+    /// times. Else they are sorted before that, by comparisons that aren't counted. The Rust crate has the trait `Extend` here.
     ///
     /// ```rust
     /// let mut days = three_days(alloc)?;

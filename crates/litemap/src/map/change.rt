@@ -1,7 +1,6 @@
 //! Calls that change a map.
-ghost use Rattle.std.specs.Prelude.{◌≡◌, ◌↔◌, ◌+◌, ◌≤◌, ◌<◌, [], ◌∷◌, ◌++◌, length, slice_get, None, Some};
-ghost use Rattle.std.specs.Prelude.{IsNone, IsSome, IfSome, IsTrue, remove, IsOk, Ok, Err, IfOk, IfErr, OnOk};
-ghost use Rattle.std.specs.Prelude.{Bool, OnErr, filter};
+ghost use Rattle.std.specs.Prelude.{◌≡◌, ◌↔◌, ◌+◌, ◌≤◌, ◌<◌, [], ◌∷◌, ◌++◌, length, slice_get, remove, filter, Bool, Some};
+ghost use Rattle.std.specs.Prelude.{IsNone, IsSome, IsTrue, IsOk, Ok, IfOk, OnOk, OnErr};
 ghost use Rattle.std.specs.Fn.{FnOnceReturnsAt, FnOnceTakesAt};
 ghost use Rattle.litemap_store.specs.Counts.{RisesByAtMost};
 ghost use Rattle.litemap_store.specs.Digits.{digits};
@@ -9,9 +8,9 @@ ghost use Rattle.litemap_store.specs.Pairs.{AllBelow, at, cut, place, put, set_v
 ghost use Rattle.litemap_store.specs.Retain.{CallableOnEach, Kept, Tests};
 ghost use Rattle.litemap_store.specs.Search.{CallableOnKeys};
 ghost use Rattle.litemap_store.specs.Splits.{IsMissingAt};
-ghost use Rattle.litemap.specs.Changes.{Inserts};
+ghost use Rattle.litemap.specs.Changes.{AddsIf, Inserts, RefusedFull};
 ghost use Rattle.litemap.specs.FoundBy.{RemovesFound};
-ghost use Rattle.litemap.specs.TryFault.{IfClosure, IfNoRoom};
+ghost use Rattle.litemap.specs.TryFault.{FailsAs, IfClosure};
 
 use crate::{LiteMap, TryFault};
 use litemap_store::Query;
@@ -21,11 +20,10 @@ use std::cmp::Ordering;
 use std::mem;
 
 impl<K: Ord, V, S: StoreMut<K, V>> LiteMap<K, V, S> {
-    /// Puts a value at a key. Where an equal key is there, that key stays, the new one is given up, and the old value is
-    /// answered; no memory is taken. Else the pair is placed.
+    /// Puts a value at a key. Where an equal key is there, that key stays, the old value is answered, and no memory is taken.
     ///
-    /// It is refused only where the key is absent and there is no room: then the pair comes back and the list stays. It makes
-    /// O(log n) comparisons, and moves the pairs with greater keys up by one where the key is absent.
+    /// It makes O(log n) comparisons. Where the key is absent the pairs with greater keys move up by one, and without room the
+    /// pair comes back and the list stays.
     ///
     /// ```rust
     /// let mut days = three_days(alloc)?;
@@ -60,10 +58,8 @@ impl<K: Ord, V, S: StoreMut<K, V>> LiteMap<K, V, S> {
         }
     }
 
-    /// Places a pair whose key is absent. Where an equal key is there, the pair comes back and nothing is changed.
-    ///
-    /// It is refused only where the key is absent and there is no room: then the pair comes back and the list stays. It makes
-    /// O(log n) comparisons, and moves the pairs with greater keys up by one where the key is absent.
+    /// Places a pair whose key is absent; else the pair comes back. It compares and moves as `insert`, and is refused where
+    /// that is.
     ///
     /// ```rust
     /// let mut days = three_days(alloc)?;
@@ -72,19 +68,8 @@ impl<K: Ord, V, S: StoreMut<K, V>> LiteMap<K, V, S> {
     /// Ok(tuesday.is_none() && friday == Some((5, "Fri")))
     /// ```
     pub fn try_insert(&mut self, key: K, value: V) -> Result<Option<(K, V)>, NoRoom<(K, V)>>
-        // Placed exactly where the key is absent. Else the pair comes back.
-        ensures added { IfOk result (λ back. IsNone back ↔ IsNone (at K.cmp self.old.pairs key)) }
-        ensures put { IfOk result
-            (λ back. IsNone back → self.new.pairs ≡ put K.cmp self.old.pairs key value) }
-        ensures present { IfOk result (λ back. IfSome back (λ pair. pair ≡ (key, value))) }
-        ensures unchanged { IfOk result (λ back. IsSome back → self.new ≡ self.old) }
-
-        // Refused only where the key is absent and there is no room. The pair comes back.
-        ensures refused { OnErr result (self.new.pairs ≡ self.old.pairs) }
-        ensures absent { OnErr result (at K.cmp self.old.pairs key ≡ None) }
-        ensures full { OnErr result (self.old.room ≡ 0) }
-        ensures back { IfErr result (λ refused. refused.back ≡ (key, value)) }
-        ensures room { self.old.room ≤ self.new.room + 1 }
+        ensures { AddsIf (IsNone (at K.cmp self.old.pairs key)) (put K.cmp self.old.pairs key value) (key, value)
+            self.old self.new result }
     {
         match self.search(&key, &mut Count::new()) {
             Ok(_) => Ok(Some((key, value))),
@@ -95,11 +80,8 @@ impl<K: Ord, V, S: StoreMut<K, V>> LiteMap<K, V, S> {
         }
     }
 
-    /// Puts a pair whose key is above all others behind them. Where some key is not below it, the pair comes back and
-    /// nothing is changed.
-    ///
-    /// It is refused only where the key is above all others and there is no room: then the pair comes back and the list
-    /// stays. It compares at most once, with the last key, and moves no pair but where the store takes more memory.
+    /// Puts a pair whose key is above all others behind them; else the pair comes back. It compares at most once, with the last
+    /// key, and moves no pair but where the store takes more memory. Without room the pair comes back and the list stays.
     ///
     /// ```rust
     /// let mut days = three_days(alloc)?;
@@ -108,19 +90,8 @@ impl<K: Ord, V, S: StoreMut<K, V>> LiteMap<K, V, S> {
     /// Ok(saturday.is_none() && tuesday == Some((2, "Tuesday")))
     /// ```
     pub fn try_append(&mut self, key: K, value: V) -> Result<Option<(K, V)>, NoRoom<(K, V)>>
-        // Put behind exactly where every key is below. Else the pair comes back.
-        ensures added { IfOk result (λ back. IsNone back ↔ AllBelow K.cmp self.old.pairs key) }
-        ensures appended { IfOk result
-            (λ back. IsNone back → self.new.pairs ≡ self.old.pairs ++ (key, value) ∷ []) }
-        ensures not_above { IfOk result (λ back. IfSome back (λ pair. pair ≡ (key, value))) }
-        ensures unchanged { IfOk result (λ back. IsSome back → self.new ≡ self.old) }
-
-        // Refused only where every key is below and there is no room. The pair comes back.
-        ensures refused { OnErr result (self.new.pairs ≡ self.old.pairs) }
-        ensures above { OnErr result (AllBelow K.cmp self.old.pairs key) }
-        ensures full { OnErr result (self.old.room ≡ 0) }
-        ensures back { IfErr result (λ refused. refused.back ≡ (key, value)) }
-        ensures room { self.old.room ≤ self.new.room + 1 }
+        ensures { AddsIf (AllBelow K.cmp self.old.pairs key) (self.old.pairs ++ (key, value) ∷ []) (key, value)
+            self.old self.new result }
     {
         if !self.is_above_all(&key) {
             return Ok(Some((key, value)));
@@ -129,12 +100,11 @@ impl<K: Ord, V, S: StoreMut<K, V>> LiteMap<K, V, S> {
         Ok(None)
     }
 
-    /// The place and the value of a key, for who only reads them: who goes on to use the map calls `try_find_or_insert`.
+    /// The place and the value of a key, for who only reads them: who goes on to use the map calls `try_find_or_insert`, after
+    /// which the place has the value.
     ///
-    /// Where the key is absent, its value is what `f` answers for it, and is placed. It is `try_find_or_insert` with the
-    /// value there, and leaves of the map what that call says. Callers can't learn it from a contract here: what a lender
-    /// ends as is told by an answer that holds shared references and plain data alone, and here a key, a value or a fault
-    /// may stand beside the reference. After `try_find_or_insert` the place has the value: there is no second search.
+    /// It is that call with the value there. It compares, moves and leaves of the map what that does; no contract can tell what
+    /// it leaves (docs/DECISIONS.md).
     ///
     /// ```rust
     /// let mut days = three_days(alloc)?;
@@ -162,10 +132,7 @@ impl<K: Ord, V, S: StoreMut<K, V>> LiteMap<K, V, S> {
         ensures answered { IsNone (at K.cmp self.old.pairs key)
             → IfOk result (λ there. FnOnceReturnsAt F.FnOnce f key (Ok there.1.now)) }
 
-        // The closure's fault, or no room: the key and what the closure answered come back.
-        ensures closure { IfClosure result (λ fault. FnOnceReturnsAt F.FnOnce f key (Err fault)) }
-        ensures full { IfNoRoom result (λ _ _. self.old.room ≡ 0) }
-        ensures back { IfNoRoom result (λ k v. (k ≡ key) × FnOnceReturnsAt F.FnOnce f key (Ok v)) }
+        ensures faults { FailsAs F.FnOnce f key self.old.room result }
     {
         let index = self.try_find_or_insert(key, f)?;
         Ok((index, self.value_there(index)))
@@ -173,10 +140,9 @@ impl<K: Ord, V, S: StoreMut<K, V>> LiteMap<K, V, S> {
 
     /// The place of a key. Where the key is absent, its value is what `f` answers for it, and is placed.
     ///
-    /// Where an equal key is there, `f` is not called and the key is given up. Where `f` answers a fault, that is the answer,
-    /// the key is given up, and nothing is changed. It is refused only where the key is absent and there is no room: then the
-    /// key and what `f` answered come back and the list stays. It makes O(log n) comparisons, and moves the pairs with greater
-    /// keys up by one where a pair is placed. The Rust crate has `try_get_or_insert` alone.
+    /// Where an equal key is there, `f` is not called. Where `f` answers a fault, nothing is changed. The key is given up in
+    /// both cases. Without room the key and what `f` answered come back and the list stays. It makes O(log n) comparisons, and
+    /// moves the pairs with greater keys up by one where a pair is placed. The Rust crate has `try_get_or_insert` alone.
     ///
     /// ```rust
     /// let mut days = three_days(alloc)?;
@@ -196,25 +162,19 @@ impl<K: Ord, V, S: StoreMut<K, V>> LiteMap<K, V, S> {
         requires { IsNone (at K.cmp self.old.pairs key) → FnOnceTakesAt F.FnOnce f key }
         // The place, and the pair that stands there after the call.
         ensures place { IfOk result (λ index. index ≡ place K.cmp self.old.pairs key) }
-        ensures present { IsSome (at K.cmp self.old.pairs key) → IsOk result }
         ensures within { IfOk result (λ index. index < length self.new.pairs) }
         ensures there { IfOk result (λ index. slice_get self.new.pairs index ≡ at K.cmp self.new.pairs key) }
 
-        // What is left of the map: as it was, or with what the closure answered.
-        ensures unchanged { IsSome (at K.cmp self.old.pairs key) → self.new ≡ self.old }
-        ensures value { IsSome (at K.cmp self.old.pairs key) → IfOk result
-            (λ index. value_in self.old.pairs index ≡ value_at K.cmp self.old.pairs key) }
+        // The map as it was where the key is there, and else with what the closure answered.
+        ensures present { IsSome (at K.cmp self.old.pairs key) → IsOk result × (self.new ≡ self.old) }
         ensures put { IsNone (at K.cmp self.old.pairs key) → OnOk result
             ((v : V) × FnOnceReturnsAt F.FnOnce f key (Ok v) × (self.new.pairs ≡ put K.cmp self.old.pairs key v)) }
-
-        // The closure's fault, or no room: the key and what the closure answered come back, and the list stays.
-        ensures closure { IfClosure result
-            (λ fault. FnOnceReturnsAt F.FnOnce f key (Err fault) × (self.new ≡ self.old)) }
-        ensures full { IfNoRoom result (λ _ _. self.old.room ≡ 0) }
-        ensures back { IfNoRoom result (λ k v. (k ≡ key) × FnOnceReturnsAt F.FnOnce f key (Ok v)) }
-        ensures refused { IfNoRoom result (λ _ _. self.new.pairs ≡ self.old.pairs) }
-
         ensures room { self.old.room ≤ self.new.room + 1 }
+
+        // The list stays where nothing is placed, and where the closure answers a fault the room, too.
+        ensures faults { FailsAs F.FnOnce f key self.old.room result }
+        ensures refused { OnErr result (self.new.pairs ≡ self.old.pairs) }
+        ensures unmoved { IfClosure result (λ _. self.new ≡ self.old) }
     {
         let index = match self.search(&key, &mut Count::new()) {
             Ok(index) => return Ok(index),
@@ -233,10 +193,8 @@ impl<K: Ord, V, S: StoreMut<K, V>> LiteMap<K, V, S> {
         }
     }
 
-    /// Takes out the pair with an equal key, and answers its value. Its key is given up.
-    ///
-    /// It is asked as `get` is. It takes no memory and gives none back: there is room for another pair then. It makes O(log n)
-    /// comparisons, and moves the pairs with greater keys down by one. Where there is no such pair nothing is changed.
+    /// Takes out the pair with an equal key, and answers its value. Its key is given up. It makes O(log n) comparisons, and
+    /// moves the pairs with greater keys down by one.
     ///
     /// ```rust
     /// let mut days = three_days(alloc)?;
@@ -267,12 +225,8 @@ impl<K: Ord, V, S: StoreMut<K, V>> LiteMap<K, V, S> {
         Some(value)
     }
 
-    /// Takes out a pair for whose key `f` answers `Equal`, and answers its value (own). Its key is given up.
-    ///
-    /// It is for what no `Query` says, as `get_by` is. The answer of `f` should hang on the key alone, and over the keys be
-    /// `Less`, then `Equal`, then `Greater`: else it means nothing which pair is taken, if one is. Where several keys answer
-    /// `Equal` any of them may be the one found. It takes no memory and gives none back: there is room for another pair then.
-    /// It asks `f` O(log n) times. Where no pair is taken nothing is changed.
+    /// Takes out a pair for whose key `f` answers `Equal`, and answers its value (own). Its key is given up. It asks `f` as
+    /// `get_by` does, and moves the pairs with greater keys down by one.
     ///
     /// ```rust
     /// let mut days = three_days(alloc)?;
@@ -292,7 +246,7 @@ impl<K: Ord, V, S: StoreMut<K, V>> LiteMap<K, V, S> {
         }
     }
 
-    /// Gives up all pairs. It takes no memory and gives none back: there is room for as many pairs then.
+    /// Gives up all pairs. There is room for as many then.
     ///
     /// ```rust
     /// let mut days = three_days(alloc)?;
@@ -309,9 +263,7 @@ impl<K: Ord, V, S: StoreMut<K, V>> LiteMap<K, V, S> {
         self.store.lm_clear();
     }
 
-    /// Takes this much room at least, or is refused for want of memory. The room is not lowered.
-    ///
-    /// It is refused only where there was less room.
+    /// Takes this much room at least, or is refused for want of memory where there was less. The room is not lowered.
     ///
     /// ```rust
     /// let mut days = three_days(alloc)?;
@@ -341,10 +293,7 @@ impl<K: Ord, V, S: StoreMut<K, V>> LiteMap<K, V, S> {
     fn append(&mut self, key: K, value: V) -> Result<(), NoRoom<(K, V)>>
         requires { AllBelow K.cmp self.old.pairs key }
         ensures appended { OnOk result (self.new.pairs ≡ self.old.pairs ++ (key, value) ∷ []) }
-        ensures unchanged { OnErr result (self.new.pairs ≡ self.old.pairs) }
-        ensures full { OnErr result (self.old.room ≡ 0) }
-        ensures back { IfErr result (λ refused. refused.back ≡ (key, value)) }
-        ensures room { self.old.room ≤ self.new.room + 1 }
+        ensures refused { RefusedFull (key, value) self.old self.new result }
     {
         self.store.lm_push(key, value)
     }
@@ -377,21 +326,17 @@ impl<K: Ord, V, S: StoreMut<K, V>> LiteMap<K, V, S> {
     pub(super) fn insert_at(&mut self, index: usize, key: K, value: V) -> Result<(), NoRoom<(K, V)>>
         requires { IsMissingAt K.cmp self.old.pairs key index }
         ensures put { OnOk result (self.new.pairs ≡ put K.cmp self.old.pairs key value) }
-        ensures unchanged { OnErr result (self.new.pairs ≡ self.old.pairs) }
-        ensures full { OnErr result (self.old.room ≡ 0) }
-        ensures back { IfErr result (λ refused. refused.back ≡ (key, value)) }
-        ensures room { self.old.room ≤ self.new.room + 1 }
+        ensures refused { RefusedFull (key, value) self.old self.new result }
     {
         self.store.lm_insert(index, key, value)
     }
 }
 
 impl<K: Ord + Drop, V: Drop, S: StoreBulkMut<K, V>> LiteMap<K, V, S> {
-    /// Keeps the pairs of which `f` answers yes, in their order, and gives up the others.
+    /// Keeps the pairs of which `f` answers yes, in their order, and gives up the others. There is room for as many then.
     ///
-    /// `f` is asked once of each pair, in order, and has to take each as its earlier answers left it. Where it keeps no state
-    /// and its answers are those of a test, what is left is the list filtered by the test. It compares no keys, takes no memory
-    /// and gives none back: there is room for as many pairs as were given up.
+    /// `f` is asked once of each pair, in order, and has to take each as its earlier answers left it. Where its answers are
+    /// those of a test, and it keeps no state, what is left is the list filtered by the test. No keys are compared.
     ///
     /// ```rust
     /// let mut days = three_days(alloc)?;

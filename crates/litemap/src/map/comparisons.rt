@@ -14,11 +14,6 @@ use std::cmp::Ordering;
 use std::hash::{Hash, Hasher};
 
 /// Maps are equal where they have as many pairs, and equal keys and equal values at each place.
-///
-/// ```rust
-/// // days: 1 Monday, 3 Wednesday, 5 Friday
-/// Ok(days.try_clone(alloc)? == days)
-/// ```
 impl<K: Ord, V: PartialEq, S: Store<K, V>> PartialEq for LiteMap<K, V, S> {
     ghost eq = { λ m n. equal_pairs K.eq V.eq m.pairs n.pairs };
 
@@ -55,13 +50,6 @@ impl<K: Ord, V: PartialOrd, S: Store<K, V>> PartialOrd for LiteMap<K, V, S> {
 }
 
 /// The same order, where all values have one.
-///
-/// ```rust
-/// // days: 1 Monday, 3 Wednesday, 5 Friday
-/// let all = days.as_sliced();
-/// let begin = days.range(Bound::Unbounded, Bound::Excluded(&5));
-/// begin < all && begin.cmp(&all).is_lt()
-/// ```
 impl<K: Ord, V: Ord, S: Store<K, V>> Ord for LiteMap<K, V, S> {
     ghost cmp = { λ m n. pairs_cmp K.cmp V.cmp m.pairs n.pairs };
 
@@ -84,15 +72,6 @@ impl<K: Ord, V: Ord, S: Store<K, V>> Ord for LiteMap<K, V, S> {
 }
 
 /// The length, then each key and its value in turn: so equal maps hash alike.
-///
-/// ```rust
-/// // days: 1 Monday, 3 Wednesday, 5 Friday
-/// let mut hasher = FoldHasher::default();
-/// days.hash(&mut hasher);
-/// let mut again = FoldHasher::default();
-/// days.hash(&mut again);
-/// hasher.finish() == again.finish()
-/// ```
 impl<K: Ord + Hash, V: Hash, S: Store<K, V>> Hash for LiteMap<K, V, S> {
     ghost hash_input = { λ m. pairs_hashed K.hash_input V.hash_input m.pairs };
 

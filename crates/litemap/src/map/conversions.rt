@@ -1,4 +1,7 @@
-//! Maps made of the pairs of another, in the same order, over any store that grows. All room is taken first.
+//! Maps made of the pairs of another, in the same order, over any store that grows, or a refusal for want of memory.
+//!
+//! All room is taken first. A clone of a key has to compare `Equal` to it. The Rust crate boxes and lends any type that keys and
+//! values borrow as, and has no `to_keys_by`.
 ghost use Rattle.std.specs.Prelude.{◌≡◌, IfOk};
 ghost use Rattle.std.specs.Fn.{FnReturnsAt};
 ghost use Rattle.litemap_store.specs.Last.{In};
@@ -13,10 +16,7 @@ use std::alloc::{AllocError, Global};
 use std::marker::PhantomData;
 
 impl<K: Ord, V, S: Store<K, V>> LiteMap<K, V, S> {
-    /// A map of boxes of clones of the keys and values, or a refusal for want of memory.
-    ///
-    /// A clone of each key of the map has to compare `Equal` to it. No keys are compared.
-    /// The Rust crate boxes any type that keys and values borrow as.
+    /// A map of boxes of clones of the keys and values, or a refusal for want of memory. No keys are compared.
     ///
     /// ```rust
     /// // hours: 1 8, 3 10
@@ -37,16 +37,7 @@ impl<K: Ord, V, S: Store<K, V>> LiteMap<K, V, S> {
         converted(&self.store, alloc, &Boxed, &Boxed)
     }
 
-    /// A map of boxes of clones of the keys, and clones of the values, or a refusal for want of memory.
-    ///
-    /// A clone of each key of the map has to compare `Equal` to it. No keys are compared.
-    /// The Rust crate boxes any type that keys borrow as.
-    ///
-    /// ```rust
-    /// // hours: 1 8, 3 10
-    /// let boxed: VecMap<Box<u32>, u8> = hours.to_boxed_keys(alloc)?;
-    /// Ok(boxed.values().next() == Some(&8))
-    /// ```
+    /// A map of boxes of clones of the keys, and clones of the values, or a refusal for want of memory. No keys are compared.
     pub fn to_boxed_keys<B: StoreMut<Box<K>, V> + Drop>(
         &self,
         alloc: Global,
@@ -55,22 +46,12 @@ impl<K: Ord, V, S: Store<K, V>> LiteMap<K, V, S> {
         K: Clone,
         V: Clone,
         requires { ClonesCompareEqual K.cmp K.is_clone self.now.pairs }
-        ensures { IfOk result (λ m. PairsBecame (λ k b. K.is_clone k b.value) V.is_clone
-            self.now.pairs m.pairs) }
+        ensures { IfOk result (λ m. PairsBecame (λ k b. K.is_clone k b.value) V.is_clone self.now.pairs m.pairs) }
     {
         converted(&self.store, alloc, &Boxed, &Cloned)
     }
 
-    /// A map of clones of the keys, and boxes of clones of the values, or a refusal for want of memory.
-    ///
-    /// A clone of each key of the map has to compare `Equal` to it. No keys are compared.
-    /// The Rust crate boxes any type that values borrow as.
-    ///
-    /// ```rust
-    /// // hours: 1 8, 3 10
-    /// let boxed: VecMap<u32, Box<u8>> = hours.to_boxed_values(alloc)?;
-    /// Ok(boxed.contains_key(&3))
-    /// ```
+    /// A map of clones of the keys, and boxes of clones of the values, or a refusal for want of memory. No keys are compared.
     pub fn to_boxed_values<B: StoreMut<K, Box<V>> + Drop>(
         &self,
         alloc: Global,
@@ -79,16 +60,13 @@ impl<K: Ord, V, S: Store<K, V>> LiteMap<K, V, S> {
         K: Clone,
         V: Clone,
         requires { ClonesCompareEqual K.cmp K.is_clone self.now.pairs }
-        ensures { IfOk result (λ m. PairsBecame K.is_clone (λ v b. V.is_clone v b.value)
-            self.now.pairs m.pairs) }
+        ensures { IfOk result (λ m. PairsBecame K.is_clone (λ v b. V.is_clone v b.value) self.now.pairs m.pairs) }
     {
         converted(&self.store, alloc, &Cloned, &Boxed)
     }
 
-    /// A map with the keys that `f` answers and clones of the values, or a refusal for want of memory.
-    ///
-    /// The answers have to rise as the keys do. `f` is called once for each key. No keys are compared. The Rust crate has
-    /// no such call: its conversions go by what keys borrow as.
+    /// A map with the keys that `f` answers, which have to rise as the keys do, and clones of the values (own), or a refusal
+    /// for want of memory. `f` is called once for each key. No keys are compared.
     ///
     /// ```rust
     /// // hours: 1 8, 3 10
@@ -106,15 +84,12 @@ impl<K: Ord, V, S: Store<K, V>> LiteMap<K, V, S> {
         requires rising { KeysKeepOrder K.cmp L.cmp (FnReturnsAt F.Fn f) self.now.pairs }
         ensures { IfOk result (λ m. PairsBecame (FnReturnsAt F.Fn f) V.is_clone self.now.pairs m.pairs) }
     {
-        keyed_by(&self.store, alloc, f)
+        converted(&self.store, alloc, &Answered { f }, &Cloned)
     }
 }
 
 impl<'a, K: Ord + 'a, V: 'a, S: Store<K, V>> LiteMap<K, V, S> {
-    /// A map of references to the keys and values, or a refusal for want of memory.
-    ///
-    /// No keys are compared.
-    /// The Rust crate lends any type that keys and values borrow as.
+    /// A map of references to the keys and values, or a refusal for want of memory. No keys are compared.
     ///
     /// ```rust
     /// // hours: 1 8, 3 10
@@ -125,44 +100,24 @@ impl<'a, K: Ord + 'a, V: 'a, S: Store<K, V>> LiteMap<K, V, S> {
         &'a self,
         alloc: Global,
     ) -> Result<LiteMap<&'a K, &'a V, B>, AllocError>
-        ensures { IfOk result (λ m. PairsBecame (λ k r. r.now ≡ k) (λ v r. r.now ≡ v)
-            self.now.pairs m.pairs) }
+        ensures { IfOk result (λ m. PairsBecame (λ k r. r.now ≡ k) (λ v r. r.now ≡ v) self.now.pairs m.pairs) }
     {
         converted(&self.store, alloc, &Lent, &Lent)
     }
 
-    /// A map of references to the keys, and clones of the values, or a refusal for want of memory.
-    ///
-    /// No keys are compared.
-    /// The Rust crate lends any type that keys borrow as.
-    ///
-    /// ```rust
-    /// // hours: 1 8, 3 10
-    /// let lent: VecMap<&u32, u8> = hours.to_borrowed_keys(alloc)?;
-    /// Ok(lent.get(&&3) == Some(&10))
-    /// ```
+    /// A map of references to the keys, and clones of the values, or a refusal for want of memory. No keys are compared.
     pub fn to_borrowed_keys<B: StoreMut<&'a K, V> + Drop>(
         &'a self,
         alloc: Global,
     ) -> Result<LiteMap<&'a K, V, B>, AllocError>
     where
         V: Clone,
-        ensures { IfOk result (λ m. PairsBecame (λ k r. r.now ≡ k) V.is_clone
-            self.now.pairs m.pairs) }
+        ensures { IfOk result (λ m. PairsBecame (λ k r. r.now ≡ k) V.is_clone self.now.pairs m.pairs) }
     {
         converted(&self.store, alloc, &Lent, &Cloned)
     }
 
-    /// A map of clones of the keys, and references to the values, or a refusal for want of memory.
-    ///
-    /// A clone of each key of the map has to compare `Equal` to it. No keys are compared.
-    /// The Rust crate lends any type that values borrow as.
-    ///
-    /// ```rust
-    /// // hours: 1 8, 3 10
-    /// let lent: VecMap<u32, &u8> = hours.to_borrowed_values(alloc)?;
-    /// Ok(lent.get(&3) == Some(&&10))
-    /// ```
+    /// A map of clones of the keys, and references to the values, or a refusal for want of memory. No keys are compared.
     pub fn to_borrowed_values<B: StoreMut<K, &'a V> + Drop>(
         &'a self,
         alloc: Global,
@@ -170,32 +125,10 @@ impl<'a, K: Ord + 'a, V: 'a, S: Store<K, V>> LiteMap<K, V, S> {
     where
         K: Clone,
         requires { ClonesCompareEqual K.cmp K.is_clone self.now.pairs }
-        ensures { IfOk result (λ m. PairsBecame K.is_clone (λ v r. r.now ≡ v)
-            self.now.pairs m.pairs) }
+        ensures { IfOk result (λ m. PairsBecame K.is_clone (λ v r. r.now ≡ v) self.now.pairs m.pairs) }
     {
         converted(&self.store, alloc, &Cloned, &Lent)
     }
-}
-
-// The map with the keys that a closure answers for those of a store, and clones of the values.
-fn keyed_by<'a, K, V, S, L, B, F>(
-    store: &'a S,
-    alloc: Global,
-    f: F,
-) -> Result<LiteMap<L, V, B>, AllocError>
-where
-    K: Ord + 'a,
-    V: Clone + 'a,
-    S: Store<K, V>,
-    L: Ord + Drop,
-    B: StoreMut<L, V> + Drop,
-    F: Fn(&K) -> L + Drop,
-    requires rises { Rising K.cmp (S.pairs store.now) }
-    requires callable { TakesKeys F.Fn f (S.pairs store.now) }
-    requires rising { KeysKeepOrder K.cmp L.cmp (FnReturnsAt F.Fn f) (S.pairs store.now) }
-    ensures { IfOk result (λ m. PairsBecame (FnReturnsAt F.Fn f) V.is_clone (S.pairs store.now) m.pairs) }
-{
-    converted(store, alloc, &Answered { f }, &Cloned)
 }
 
 // The map of what the pairs of a store become.

@@ -45,8 +45,7 @@ impl<K: Ord, V, S: StoreMut<K, V>> LiteMap<K, V, S> {
 
     /// The entry of a key. Where an equal key is there, that key stays, and the new one is given up.
     ///
-    /// It takes no memory, and changes nothing. It makes O(log n) comparisons; what is then done through the entry compares no
-    /// keys.
+    /// It takes no memory, and changes nothing. It makes O(log n) comparisons; what is then done through the entry makes none.
     ///
     /// ```rust
     /// // days: 1 Monday, 3 Wednesday, 5 Friday
@@ -84,17 +83,15 @@ impl<K: Ord, V, S: StoreMut<K, V>> LiteMap<K, V, S> {
 }
 
 impl<'a, K: Ord, V, S: StoreMut<K, V>> Entry<'a, K, V, S> {
-    ghost use Rattle.std.specs.Prelude.{◌≡◌, IfErr, IfOk, None, OnErr, Some, unwrap_or};
+    ghost use Rattle.std.specs.Prelude.{◌≡◌, IfOk, None, Some, unwrap_or};
     ghost use Rattle.std.specs.Borrow.{sem, MutBor};
     ghost use Rattle.std.specs.Map.Calls.{ModifiesValue};
     ghost use Rattle.std.specs.Option.{UnwrapsOrElse};
-    ghost use Rattle.litemap.specs.Entries.{EntryLends, entry_key, entry_map, entry_value, pairs_with};
-    ghost use Rattle.litemap.specs.Entries.{pairs_without};
+    ghost use Rattle.litemap.specs.Entries.{EntryLends, EntryRefused, entry_key, entry_map, entry_value};
+    ghost use Rattle.litemap.specs.Entries.{pairs_with, pairs_without};
 
-    /// The value, to be written. Where the key is not there, `default` is placed first; else `default` is given up.
-    ///
-    /// It is refused only where the key is not there and there is no room: then key and value come back and the list
-    /// stays. It compares no keys, and moves the pairs with greater keys up by one where the key is placed.
+    /// The value, to be written. Where the key is not there, `default` is placed first, and the pairs with greater keys move up
+    /// by one; without room key and value come back and the list stays.
     ///
     /// ```rust
     /// // days: 1 Monday, 3 Wednesday, 5 Friday
@@ -105,12 +102,7 @@ impl<'a, K: Ord, V, S: StoreMut<K, V>> Entry<'a, K, V, S> {
         V: Drop,
         ensures* writes_back { sem 𝓛 (EntryLends K.row V.row S.row self.entry result) }
         ensures value { IfOk result (λ slot. slot.now ≡ unwrap_or (entry_value self.entry) default) }
-
-        // Refused only where the key is not there and there is no room. Key and value come back.
-        ensures absent { OnErr result (entry_value self.entry ≡ None) }
-        ensures full { OnErr result ((entry_map self.entry).now.room ≡ 0) }
-        ensures back { IfErr result
-            (λ refused. (entry_key self.entry ≡ Some refused.back.0) × (refused.back.1 ≡ default)) }
+        ensures refused { EntryRefused self.entry (λ v. v ≡ default) result }
     {
         match self {
             Entry::Occupied(entry) => Ok(entry.into_mut()),
@@ -118,36 +110,20 @@ impl<'a, K: Ord, V, S: StoreMut<K, V>> Entry<'a, K, V, S> {
         }
     }
 
-    /// The value, to be written. Where the key is not there, `V::default()` is placed first.
-    ///
-    /// The default is made where the key is there, too. It is refused only where the key is not there and there is no
-    /// room: then key and value come back and the list stays. It compares no keys, and moves the pairs with greater keys
-    /// up by one where the key is placed.
-    ///
-    /// ```rust
-    /// // days: 1 Monday, 3 Wednesday, 5 Friday
-    /// Ok(*days.entry(7).or_default()? == "")
-    /// ```
+    /// The value, to be written. Where the key is not there, `V::default()`, which is made in each case, is placed first, with
+    /// the moves of `or_insert`.
     pub fn or_default(self) -> Result<&'a mut V, NoRoom<(K, V)>>
     where
         V: Default + Drop,
         ensures* writes_back { sem 𝓛 (EntryLends K.row V.row S.row self.entry result) }
         ensures value { IfOk result (λ slot. UnwrapsOrElse (entry_value self.entry) V.is_default slot.now) }
-
-        // Refused only where the key is not there and there is no room. Key and value come back.
-        ensures absent { OnErr result (entry_value self.entry ≡ None) }
-        ensures full { OnErr result ((entry_map self.entry).now.room ≡ 0) }
-        ensures back { IfErr result
-            (λ refused. (entry_key self.entry ≡ Some refused.back.0) × V.is_default refused.back.1) }
+        ensures refused { EntryRefused self.entry V.is_default result }
     {
         self.or_insert(V::default())
     }
 
-    /// The value, to be written. Where the key is not there, what `default` answers is placed first; else it is not
-    /// called.
-    ///
-    /// It is refused only where the key is not there and there is no room: then key and value come back and the list
-    /// stays. It compares no keys, and moves the pairs with greater keys up by one where the key is placed.
+    /// The value, to be written. Where the key is not there, what `default` answers is placed first, with the moves of
+    /// `or_insert`; else it is not called.
     ///
     /// ```rust
     /// // days: 1 Monday, 3 Wednesday, 5 Friday
@@ -158,12 +134,7 @@ impl<'a, K: Ord, V, S: StoreMut<K, V>> Entry<'a, K, V, S> {
         ensures* writes_back { sem 𝓛 (EntryLends K.row V.row S.row self.entry result) }
         ensures value { IfOk result
             (λ slot. UnwrapsOrElse (entry_value self.entry) (F.post default) slot.now) }
-
-        // Refused only where the key is not there and there is no room. Key and value come back.
-        ensures absent { OnErr result (entry_value self.entry ≡ None) }
-        ensures full { OnErr result ((entry_map self.entry).now.room ≡ 0) }
-        ensures back { IfErr result
-            (λ refused. (entry_key self.entry ≡ Some refused.back.0) × F.post default refused.back.1) }
+        ensures refused { EntryRefused self.entry (F.post default) result }
     {
         match self {
             Entry::Occupied(occupied) => Ok(occupied.into_mut()),

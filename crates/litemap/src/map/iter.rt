@@ -24,11 +24,6 @@ impl<'a, K: Ord + 'a, V: 'a, S: StoreIterable<'a, K, V>> LiteMap<K, V, S> {
     }
 
     /// All keys once, in their order, from both ends, then `None` for good.
-    ///
-    /// ```rust
-    /// // days: 1 Monday, 3 Wednesday, 5 Friday
-    /// days.iter_keys().next() == Some(&1)
-    /// ```
     #[deprecated = "use keys() instead"]
     pub fn iter_keys(&'a self) -> KeysIterWrap<'a, K, V, S::KeyValueIter>
         ensures { S.KeyValueIter.rest result ≡ self.now.pairs }
@@ -37,11 +32,6 @@ impl<'a, K: Ord + 'a, V: 'a, S: StoreIterable<'a, K, V>> LiteMap<K, V, S> {
     }
 
     /// All values once, in the order of their keys, from both ends, then `None` for good.
-    ///
-    /// ```rust
-    /// // days: 1 Monday, 3 Wednesday, 5 Friday
-    /// days.iter_values().next() == Some(&"Monday")
-    /// ```
     #[deprecated = "use values() instead"]
     pub fn iter_values(&'a self) -> ValuesIterWrap<'a, K, V, S::KeyValueIter>
         ensures { S.KeyValueIter.rest result ≡ self.now.pairs }
@@ -63,12 +53,6 @@ impl<'a, K: Ord + 'a, V: 'a, S: StoreIterable<'a, K, V>> LiteMap<K, V, S> {
     }
 
     /// All values once, in the order of their keys, from both ends, then `None` for good.
-    ///
-    /// ```rust
-    /// // days: 1 Monday, 3 Wednesday, 5 Friday
-    /// let mut names = days.values();
-    /// names.next() == Some(&"Monday") && names.next_back() == Some(&"Friday") && names.len() == 1
-    /// ```
     pub fn values(&'a self) -> ValuesIterWrap<'a, K, V, S::KeyValueIter>
         ensures { S.KeyValueIter.rest result ≡ self.now.pairs }
     {

@@ -16,11 +16,6 @@ use std::cmp::Ordering;
 
 impl<K: Ord, V, S: Store<K, V>> LiteMap<K, V, S> {
     /// The number of pairs.
-    ///
-    /// ```rust
-    /// // days: 1 Monday, 3 Wednesday, 5 Friday
-    /// days.len() == 3
-    /// ```
     pub fn len(&self) -> usize
         ensures len { result ≡ length self.now.pairs }
         ensures rising { Rising K.cmp self.now.pairs }
@@ -29,13 +24,6 @@ impl<K: Ord, V, S: Store<K, V>> LiteMap<K, V, S> {
     }
 
     /// That the keys rise strictly, as those of every map do: for a caller whose proof needs it (own). It does nothing.
-    ///
-    /// ```rust
-    /// // days: 1 Monday, 3 Wednesday, 5 Friday
-    /// days.keys_rise();
-    /// let same: Days = LiteMap::from_iter(alloc, days)?;
-    /// Ok(same.len() == 3)
-    /// ```
     pub fn keys_rise(&self)
         ensures { Rising K.cmp self.now.pairs }
     {
@@ -43,11 +31,6 @@ impl<K: Ord, V, S: Store<K, V>> LiteMap<K, V, S> {
     }
 
     /// Whether there is no pair.
-    ///
-    /// ```rust
-    /// // days: 1 Monday, 3 Wednesday, 5 Friday
-    /// !days.is_empty()
-    /// ```
     pub fn is_empty(&self) -> bool
         ensures { result ≡ (length self.now.pairs == 0) }
     {
@@ -67,11 +50,6 @@ impl<K: Ord, V, S: Store<K, V>> LiteMap<K, V, S> {
     }
 
     /// The pair with the smallest key, `None` where there is no pair.
-    ///
-    /// ```rust
-    /// // days: 1 Monday, 3 Wednesday, 5 Friday
-    /// days.first() == Some((&1, &"Monday"))
-    /// ```
     pub fn first(&self) -> Option<(&K, &V)>
         ensures { option_map deref_pair result ≡ slice_get self.now.pairs 0 }
     {
@@ -79,21 +57,16 @@ impl<K: Ord, V, S: Store<K, V>> LiteMap<K, V, S> {
     }
 
     /// The pair with the greatest key, `None` where there is no pair.
-    ///
-    /// ```rust
-    /// // days: 1 Monday, 3 Wednesday, 5 Friday
-    /// days.last() == Some((&5, &"Friday"))
-    /// ```
     pub fn last(&self) -> Option<(&K, &V)>
         ensures { option_map deref_pair result ≡ slice_get self.now.pairs (length self.now.pairs - 1) }
     {
         self.store.lm_last()
     }
 
-    /// The value of the pair with an equal key, if there is one.
+    /// The value of the pair with an equal key, if there is one. It makes O(log n) comparisons.
     ///
     /// What is asked for is a `Query`: a key behind a `&`, a text where keys are texts, a slice where they are lists, or a type
-    /// of the caller's own. It makes O(log n) comparisons.
+    /// of the caller's own.
     ///
     /// ```rust
     /// // days: 1 Monday, 3 Wednesday, 5 Friday
@@ -116,9 +89,8 @@ impl<K: Ord, V, S: Store<K, V>> LiteMap<K, V, S> {
         }
     }
 
-    /// The pair with an equal key, if there is one: the key that is there, where equal keys differ (own).
-    ///
-    /// It is asked as `get` is. It makes O(log n) comparisons.
+    /// The pair with an equal key, if there is one: the key that is there, where equal keys differ (own). It makes O(log n)
+    /// comparisons.
     ///
     /// ```rust
     /// // days: 1 Monday, 3 Wednesday, 5 Friday
@@ -133,15 +105,15 @@ impl<K: Ord, V, S: Store<K, V>> LiteMap<K, V, S> {
         }
     }
 
-    /// The value at a place that `f` answers `Equal` for, `None` where it answers `Equal` nowhere.
+    /// The value at a place that `f` answers `Equal` for, `None` where it answers `Equal` nowhere. It asks `f` O(log n) times.
     ///
-    /// It is for what no `Query` says: a closure that finds several keys, or that keeps a state. The answer of `f` should
-    /// hang on the key alone, and over the keys be `Less`, then `Equal`, then `Greater`: else the value that is answered
-    /// means nothing. Where several keys answer `Equal` any of them may be the one found. It asks `f` O(log n) times.
+    /// It is for what no `Query` says: a closure that finds several keys, or that keeps a state. The answer of `f` should hang
+    /// on the key alone, and over the keys be `Less`, then `Equal`, then `Greater`: else what is found means nothing. Where
+    /// several keys answer `Equal` any of them may be found.
     ///
     /// ```rust
     /// // days: 1 Monday, 3 Wednesday, 5 Friday
-    /// days.get_by(|number| number.cmp(&3)) == Some(&"Wednesday")
+    /// days.get_by(|number| number.cmp(&3)) == Some(&"Wednesday") && days.find_index_by(|number| number.cmp(&4)) == Err(2)
     /// ```
     pub fn get_by<F: FnMut(&K) -> Ordering>(&self, f: F) -> Option<&V>
         requires { CallableOnKeys F.FnMut self.now.pairs f }
@@ -153,24 +125,15 @@ impl<K: Ord, V, S: Store<K, V>> LiteMap<K, V, S> {
         }
     }
 
-    /// Whether there is a pair with an equal key.
-    ///
-    /// It is asked as `get` is. It makes O(log n) comparisons.
-    ///
-    /// ```rust
-    /// // days: 1 Monday, 3 Wednesday, 5 Friday
-    /// days.contains_key(&5) && !days.contains_key(&6)
-    /// ```
+    /// Whether there is a pair with an equal key. It makes O(log n) comparisons.
     pub fn contains_key<Q: Query<K>>(&self, key: Q) -> bool
         ensures { result ≡ is_some (at Q.order self.now.pairs (Q.sought key)) }
     {
         self.search(key, &mut Count::new()).is_ok()
     }
 
-    /// The value of the pair with an equal key, which has to be there.
-    ///
-    /// It is asked as `get` is. It makes O(log n) comparisons. The Rust crate has this as the operator `[]`, which panics where
-    /// there is no such pair.
+    /// The value of the pair with an equal key, which has to be there. It makes O(log n) comparisons. The Rust crate has the
+    /// operator `[]` here, which panics where there is no such pair.
     ///
     /// ```rust
     /// // days: 1 Monday, 3 Wednesday, 5 Friday
@@ -186,10 +149,8 @@ impl<K: Ord, V, S: Store<K, V>> LiteMap<K, V, S> {
         }
     }
 
-    /// `Ok` of the key's place where an equal key is there, else `Err` of the place where it would go: the number of
-    /// smaller keys.
-    ///
-    /// It is asked as `get` is. It makes O(log n) comparisons.
+    /// `Ok` of the key's place where an equal key is there, else `Err` of the place where it would go: the number of smaller
+    /// keys. It makes O(log n) comparisons.
     ///
     /// ```rust
     /// // days: 1 Monday, 3 Wednesday, 5 Friday
@@ -216,16 +177,7 @@ impl<K: Ord, V, S: Store<K, V>> LiteMap<K, V, S> {
     }
 
     /// `Ok` of a place where `f` answers `Equal`, or `Err` of the number of keys that answer `Less` where it answers `Equal`
-    /// for none (own).
-    ///
-    /// It is for what no `Query` says, as `get_by` is. The answer of `f` should hang on the key alone, and over the keys be
-    /// `Less`, then `Equal`, then `Greater`: else the place means nothing, though an `Ok` has one of a pair. Where several keys
-    /// answer `Equal` any of them may be the one found. It asks O(log n) times.
-    ///
-    /// ```rust
-    /// // days: 1 Monday, 3 Wednesday, 5 Friday
-    /// days.find_index_by(|number| number.cmp(&4)) == Err(2)
-    /// ```
+    /// for none (own). It asks `f` as `get_by` does.
     pub fn find_index_by<F: FnMut(&K) -> Ordering>(&self, f: F) -> Result<usize, usize>
         requires { CallableOnKeys F.FnMut self.now.pairs f }
         ensures found { Found F.FnMut self.now.pairs f result }

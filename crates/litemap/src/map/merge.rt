@@ -15,23 +15,17 @@ use std::alloc::Global;
 impl<K: Ord + Drop, V: Drop, S: StoreIntoIterator<K, V> + Drop> LiteMap<K, V, S> {
     /// Puts the pairs of another map in. Where an equal key is there, that key stays and takes the new value.
     ///
-    /// The answer is a map of what was driven out: for each key of the other map that was there, that key of the other
-    /// map with the old value. It is `None` exactly where no key is common.
+    /// The answer is a map of what was driven out: for each key of the other map that was there, that key of the other map with
+    /// the old value. It is `None` exactly where no key is common.
     ///
-    /// Where one map is empty, no memory is taken and no keys are compared: an empty other map changes nothing, and an
-    /// empty map takes the other's store whole. Where all keys of the other map lie above those of this one, or all lie
-    /// below, its pairs are put behind or before, by at most two comparisons: the pairs of one map move once, and those of
-    /// the other only where its store needs more memory. Else each pair of the other map takes one search, or one comparison
-    /// is made for each pair of both where these are no more; few pairs are put in one by one into many, and others are
-    /// merged through a fresh store, so that the moves grow as the sum of the lengths, but for a factor that grows as their
-    /// digits.
+    /// Where one map is empty nothing is compared, no memory is taken, and an empty map takes the other's store whole. Where
+    /// all keys of one map lie above the other's, it makes at most two comparisons, and the pairs of one map move once, those
+    /// of the other only where its store needs more memory. Else each pair of the other map takes one search, or one comparison
+    /// is made for each pair of both where these are no more, and the pairs move O((n + m) log(n + m)) times for m new ones.
     ///
-    /// All room, that of what is driven out included, is taken before the first change. Refused for want of memory, the
-    /// list stays as it was and the other map comes back whole. Nothing is promised of the room: where a fresh store takes
-    /// the place of the map's, a limit that was set when that was made goes with it.
-    ///
-    /// The Rust crate asks `StoreFromIterator` too. Where pairs fall between others it puts them in one by one: there its
-    /// moves grow as the product of the lengths.
+    /// Refused for want of memory, the list stays and the other map comes back whole: all room is taken before the first
+    /// change. Nothing is promised of the room, as by `extend`. The Rust crate asks `StoreFromIterator` too, and puts pairs
+    /// that fall between others in one by one.
     ///
     /// ```rust
     /// let mut days = three_days(alloc)?;

@@ -9,8 +9,8 @@ use litemap_store::store::{SliceStore, StoreSlice};
 use std::ops::Range;
 
 impl<K: Ord, V, S: StoreSlice<K, V>> LiteMap<K, V, S> {
-    /// The pairs from a place to before another as a map of their own, `None` where the start lies past the end or the end
-    /// past the length. Places count from the part's start there.
+    /// The pairs from a place to before another as a map of their own, whose places count from its start; `None` where the
+    /// start lies past the end or the end past the length.
     ///
     /// ```rust
     /// // days: 1 Monday, 3 Wednesday, 5 Friday
@@ -42,11 +42,6 @@ impl<K: Ord, V, S: StoreSlice<K, V>> LiteMap<K, V, S> {
     }
 
     /// All the pairs as a slice. Their keys rise strictly.
-    ///
-    /// ```rust
-    /// // days: 1 Monday, 3 Wednesday, 5 Friday
-    /// days.as_slice() == [(1, "Monday"), (3, "Wednesday"), (5, "Friday")].as_slice()
-    /// ```
     pub fn as_slice(&self) -> &[(K, V)]
         ensures pairs { result.now ≡ self.now.pairs }
         ensures rising { Rising K.cmp result.now }

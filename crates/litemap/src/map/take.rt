@@ -9,10 +9,8 @@ use litemap_store::Query;
 use litemap_store::store::{Count, StoreMut};
 
 impl<K: Ord, V, S: StoreMut<K, V>> LiteMap<K, V, S> {
-    /// Takes out the pair with an equal key, and answers it whole: the key that was there, where equal keys differ (own).
-    ///
-    /// It is asked as `get` is. It takes no memory and gives none back: there is room for another pair then. It makes O(log n)
-    /// comparisons, and moves the pairs with greater keys down by one. Where there is no such pair nothing is changed.
+    /// Takes out the pair with an equal key, and answers it whole: the key that was there, where equal keys differ (own). It
+    /// makes O(log n) comparisons, and moves the pairs with greater keys down by one.
     ///
     /// ```rust
     /// let mut days = three_days(alloc)?;
@@ -27,10 +25,8 @@ impl<K: Ord, V, S: StoreMut<K, V>> LiteMap<K, V, S> {
         self.take_out(key, &mut Count::new())
     }
 
-    /// Takes out the pair with the smallest key, and answers it; `None` where there is no pair (own).
-    ///
-    /// It takes no memory and gives none back: there is room for another pair then. It compares no keys, and moves all other
-    /// pairs down by one.
+    /// Takes out the pair with the smallest key, and answers it; `None` where there is no pair (own). It compares no keys, and
+    /// moves all other pairs down by one.
     ///
     /// ```rust
     /// let mut days = three_days(alloc)?;
@@ -48,15 +44,8 @@ impl<K: Ord, V, S: StoreMut<K, V>> LiteMap<K, V, S> {
         Some(self.take_at(0))
     }
 
-    /// Takes out the pair with the greatest key, and answers it; `None` where there is no pair (own).
-    ///
-    /// It takes no memory and gives none back: there is room for another pair then. It compares no keys, and moves no other
-    /// pair.
-    ///
-    /// ```rust
-    /// let mut days = three_days(alloc)?;
-    /// Ok(days.pop_last() == Some((5, "Friday")) && days.last() == Some((&3, &"Wednesday")))
-    /// ```
+    /// Takes out the pair with the greatest key, and answers it; `None` where there is no pair (own). It compares no keys, and
+    /// moves no other pair.
     pub fn pop_last(&mut self) -> Option<(K, V)>
         ensures last { result ≡ slice_get self.old.pairs (length self.old.pairs - 1) }
         ensures others { self.new.pairs ≡ take (length self.old.pairs - 1) self.old.pairs }

@@ -7,11 +7,10 @@ use crate::LiteMap;
 use litemap_store::store::StoreMut;
 
 impl<K: Ord, V, S: StoreMut<K, V>> LiteMap<K, V, S> {
-    /// Calls `f` once on each key and its value, in order: it may write the value (own).
+    /// Calls `f` once on each key and its value, in order: it may write the value (own). It stands in place of `iter_mut`.
     ///
     /// `f` has to take each pair as its earlier calls left it. Where it keeps no state and what it leaves hangs on the pair
-    /// alone, the list is that of the old pairs with the new values. All keys stay, and the room. It takes no memory,
-    /// compares no keys, and moves no pair. It stands in place of `iter_mut`.
+    /// alone, the list is that of the old pairs with the new values. It takes no memory, compares no keys, and moves no pair.
     ///
     /// ```rust
     /// let mut days = three_days(alloc)?;

@@ -2,9 +2,9 @@
 //!
 //! A reference that is lent starts at the value there, and the map ends with that one value replaced by what the
 //! reference holds at its end.
-ghost use Rattle.std.specs.Prelude.{◌≡◌, ◌<◌, length, slice_get, ℕ, Ok, Err, Some, IfNone, IfSome, IsSome};
+ghost use Rattle.std.specs.Prelude.{◌≡◌, ◌<◌, length, ℕ, Ok, Err, Some, IfNone, IfSome, IsSome};
 ghost use Rattle.std.specs.Borrow.{sem};
-ghost use Rattle.std.specs.Option.{option_map, option_copied_mut};
+ghost use Rattle.std.specs.Option.{option_copied_mut};
 ghost use Rattle.litemap_store.specs.Pairs.{at, value_at, value_in};
 ghost use Rattle.litemap_store.specs.Search.{CallableOnKeys, Found};
 ghost use Rattle.litemap.specs.Lends.{LendsThere, LendsFound, LendsKey, LendsPlace, LendsValue};
@@ -15,9 +15,7 @@ use litemap_store::store::{Count, StoreMut};
 use std::cmp::Ordering;
 
 impl<K: Ord, V, S: StoreMut<K, V>> LiteMap<K, V, S> {
-    /// The value of a key, to be written; `None` where no equal key is there.
-    ///
-    /// It is asked as `get` is. It makes O(log n) comparisons.
+    /// The value of a key, to be written; `None` where no equal key is there. It makes O(log n) comparisons.
     ///
     /// ```rust
     /// let mut days = three_days(alloc)?;
@@ -37,19 +35,8 @@ impl<K: Ord, V, S: StoreMut<K, V>> LiteMap<K, V, S> {
         }
     }
 
-    /// The value at a place where `f` answers `Equal`, to be written; `None` where it answers `Equal` for no key (own).
-    ///
-    /// It is for what no `Query` says, as `get_by` is. The answer of `f` should hang on the key alone, and over the keys be
-    /// `Less`, then `Equal`, then `Greater`: else it means nothing which value is lent, if one is. Where several keys answer
-    /// `Equal` any of them may be the one found. It asks O(log n) times.
-    ///
-    /// ```rust
-    /// let mut days = three_days(alloc)?;
-    /// if let Some(name) = days.get_mut_by(|number| number.cmp(&3)) {
-    ///     *name = "Wed";
-    /// }
-    /// Ok(days.get(&3) == Some(&"Wed"))
-    /// ```
+    /// The value at a place where `f` answers `Equal`, to be written; `None` where it answers `Equal` for no key (own). It asks
+    /// `f` as `get_by` does.
     pub fn get_mut_by<F: FnMut(&K) -> Ordering>(&mut self, f: F) -> Option<&mut V>
         requires { CallableOnKeys F.FnMut self.old.pairs f }
         ensures* writes_back { sem 𝓛
@@ -65,18 +52,8 @@ impl<K: Ord, V, S: StoreMut<K, V>> LiteMap<K, V, S> {
         }
     }
 
-    /// The value of a key that is there, to be written.
-    ///
-    /// It is asked as `get` is. It makes O(log n) comparisons. The Rust crate has the operator `IndexMut` here, which panics
-    /// where the key isn't there.
-    ///
-    /// ```rust
-    /// let mut days = three_days(alloc)?;
-    /// if days.contains_key(&3) {
-    ///     *days.index_mut(&3) = "Wed";
-    /// }
-    /// Ok(days.get(&3) == Some(&"Wed"))
-    /// ```
+    /// The value of a key that is there, to be written. It makes O(log n) comparisons. The Rust crate has the operator
+    /// `IndexMut` here, which panics where the key isn't there.
     pub fn index_mut<Q: Query<K>>(&mut self, key: Q) -> &mut V
         requires { IsSome (at Q.order self.old.pairs (Q.sought key)) }
         ensures* writes_back { sem 𝓛
@@ -89,9 +66,7 @@ impl<K: Ord, V, S: StoreMut<K, V>> LiteMap<K, V, S> {
         }
     }
 
-    /// The value at a place, to be written; `None` from the length on.
-    ///
-    /// It stands in place of the Rust crate's `iter_mut`.
+    /// The value at a place, to be written; `None` from the length on. It stands in place of the Rust crate's `iter_mut`.
     ///
     /// ```rust
     /// let mut days = three_days(alloc)?;

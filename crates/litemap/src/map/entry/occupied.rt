@@ -15,7 +15,7 @@ impl<'a, K: Ord, V, S: StoreMut<K, V>> OccupiedEntry<'a, K, V, S> {
     /// ```rust
     /// // days: 1 Monday, 3 Wednesday, 5 Friday
     /// match days.entry(1) {
-    ///     Entry::Occupied(entry) => Ok(*entry.key() == 1),
+    ///     Entry::Occupied(entry) => Ok(*entry.key() == 1 && *entry.get() == "Monday"),
     ///     Entry::Vacant(_) => Ok(false),
     /// }
     /// ```
@@ -29,14 +29,6 @@ impl<'a, K: Ord, V, S: StoreMut<K, V>> OccupiedEntry<'a, K, V, S> {
     }
 
     /// The value.
-    ///
-    /// ```rust
-    /// // days: 1 Monday, 3 Wednesday, 5 Friday
-    /// match days.entry(1) {
-    ///     Entry::Occupied(entry) => Ok(*entry.get() == "Monday"),
-    ///     Entry::Vacant(_) => Ok(false),
-    /// }
-    /// ```
     pub fn get(&self) -> &V
         ensures { entry_value (Occupied self.now) ≡ Some result.now }
     {
@@ -96,9 +88,8 @@ impl<'a, K: Ord, V, S: StoreMut<K, V>> OccupiedEntry<'a, K, V, S> {
         mem::replace(self.get_mut(), value)
     }
 
-    /// Takes out the pair, and answers its value. Its key is given up.
-    ///
-    /// It moves the pairs with greater keys down by one. There is room for another pair then.
+    /// Takes out the pair, and answers its value. Its key is given up. The pairs with greater keys move down by one, and there
+    /// is room for another pair then.
     ///
     /// ```rust
     /// // days: 1 Monday, 3 Wednesday, 5 Friday

@@ -1,4 +1,4 @@
-use Rattle.std.proofs.Common.{[], ◌∷◌, ◌++◌, append-nil, append_assoc}
+use Rattle.std.proofs.Common.{rules, [], ◌∷◌, ◌++◌, append-nil, append_assoc}
 use Rattle.litemap_store.proofs.Sifting.{Last-sifted}
 use Rattle.litemap_store.proofs.Counting.{always_on_err}
 use Rattle.litemap_read.proofs.Sifted.{Sifted-joins}
@@ -23,13 +23,29 @@ loop-key-preserved g c =
     }
 
 -- the pair that found no room stood before what is left
-pub returns-in_err-sift-in-Ok-Some-clause-rest : goal.returns-in_err-sift-in-Ok-Some-clause-rest
-returns-in_err-sift-in-Ok-Some-clause-rest g c =
+pub returns-in_err-sift-in-Ok-Some-clause-asked : goal.returns-in_err-sift-in-Ok-Some-clause-asked
+returns-in_err-sift-in-Ok-Some-clause-asked g c =
     let before = c.loop-key.invariant in
     let pair : g.row.K.Denot × g.row.V.Denot = (c.in-Ok-Some.key, c.in-Ok-Some.value) in
     let next = rw c.in-Ok-Some.field-0-is at c.in-Ok-Some.ensures.next in
-    always_on_err c.from_residual-in_err-sift-in-Ok-Some.result
-    (before.seen.0 ++ pair ∷ [], λ rest h. rw append_assoc (before.seen.1 (pair ∷ rest) (next.0 rest h)))
+    record {
+      ends = search rules;
+      empty = search rules;
+      fault = search rules;
+      rest = always_on_err c.from_residual-in_err-sift-in-Ok-Some.result
+          (before.seen.0 ++ pair ∷ [], λ rest h. rw append_assoc (before.seen.1 (pair ∷ rest) (next.0 rest h)));
+      leads = search rules;
+    }
+
+pub returns-in-Err-clause-asked : goal.returns-in-Err-clause-asked
+returns-in-Err-clause-asked g c =
+    let before = c.loop-key.invariant in record {
+      ends = search rules;
+      empty = search rules;
+      fault = search rules;
+      rest = (before.seen.0, λ rest h. before.seen.1 rest ((c.in-Err.ensures.next.1.0 rest).0 h));
+      leads = search rules;
+    }
 
 pub returns-clause-read : goal.returns-clause-read
 returns-clause-read g c =

@@ -9,10 +9,10 @@ pub returns-in_err-map-clause-fault : goal.returns-in_err-map-clause-fault
 returns-in_err-map-clause-fault c =
     let p = err_from_is_err_and c.from_residual.result c.from_residual.ensures.1 in
     rw (p.1, p.2)
-    (if_source_weaker c.in_err-map.field-0.0 (λ f w. pairs_fault c.args.bytes.now c.in-Ok.names f c.in-Ok.ensures.ok w) c.in_err-map.ensures.fault)
+    (if_source_weaker c.in_err-map.field-0.0 (λ f w. pairs_fault c.args.bytes.now c.in-Ok.names f c.in-Ok.ensures.ok w) c.in_err-map.ensures.asked.fault)
 
 pub returns-clause-read : goal.returns-clause-read
 returns-clause-read c =
     let r = c.in_ok-map.ensures in
-    let w = whole_table c.args.bytes.now c.in-Ok.names c.read_pairs.new.source r.read.given c.in-Ok.ensures.ok r.read.gives_it r.ends r.empty r.leads in
+    let w = whole_table c.args.bytes.now c.in-Ok.names c.read_pairs.new.source r.read.given c.in-Ok.ensures.ok r.read.gives_it r.asked.ends r.asked.empty r.asked.leads in
     rw c.place.ensures (record { pairs = r.read.given; rest = w.rest; table = w.table; size_is = w.size_is; last = r.read.last })

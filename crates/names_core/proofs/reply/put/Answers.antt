@@ -9,4 +9,4 @@ returns-in-Ok g c =
     let done = c.in-Ok.ensures.inserts in
     let L = c.args.names.now.pairs in
     rw (← c.in_ok-key.ensures.ok, ← c.in_ok-value.ensures.ok)
-    (inl (ap Value (ap (option_map string_bytes) done.old ∙ sym (value-bytes L _)), (ap (map pair_bytes) done.put ∙ sym (put-bytes L _ _), done.room), λ h. done.room_kept (there L _ h)))
+    (inl (ap Value (ap (option_map string_bytes) done.old ∙ sym (value-bytes L _)), (ap (map pair_bytes) done.put ∙ sym (put-bytes L _ _), done.refused.room), λ h. done.room_kept (there L _ h)))

@@ -1,7 +1,7 @@
 use Rattle.std.proofs.Common.{◌≡◌, Ok, refl, slice_get, subst, sym, ap, ◌∙◌}
 use Rattle.litemap_store.specs.Pairs.{at, put}
 use Rattle.litemap_store.proofs.Lookups.{at-put}
-use Rattle.litemap_store.proofs.Seams.{found_value, put_get}
+use Rattle.litemap_store.proofs.Seams.{put_get}
 use Rattle.litemap_store.proofs.Splitting.{there-from_Splits, within-from_Splits}
 use Rattle.litemap.proofs.Entries.{within-put}
 use Rattle.litemap.proofs.Outcomes.{not_missing}
@@ -15,17 +15,18 @@ returns-in-Ok-insert_at-clause-there g c =
     subst (λ M. slice_get M c.in-Err.index ≡ at g.K.Ord.cmp M key) (sym c.in-Ok-insert_at.ensures.put)
     (ap (slice_get (put g.K.Ord.cmp old key value)) c.in-Err.ensures.splits.place ∙ put_get g.K.Ord.cmp old key value ∙ sym (at-put g.met.K.Ord.total key old value))
 
-pub returns-in-Err-insert_at-clause-back : goal.returns-in-Err-insert_at-clause-back
-returns-in-Err-insert_at-clause-back g c = rw c.in-Err-insert_at.ensures.back (refl, (_, c.in-Ok-f.ensures, refl))
+pub returns-in-Err-insert_at-clause-faults : goal.returns-in-Err-insert_at-clause-faults
+returns-in-Err-insert_at-clause-faults g c = record {
+  closure = tt;
+  full = c.in-Err-insert_at.ensures.refused.full;
+  back = rw c.in-Err-insert_at.ensures.refused.back (refl, (_, c.in-Ok-f.ensures, refl));
+}
 
 pub returns-in-Ok-clause-within : goal.returns-in-Ok-clause-within
 returns-in-Ok-clause-within g c = within-from_Splits g.K.Ord.cmp c.args.self.now.pairs c.args.key (Ok c.in-Ok.index) c.in-Ok.ensures.splits
 
 pub returns-in-Ok-clause-there : goal.returns-in-Ok-clause-there
 returns-in-Ok-clause-there g c = there-from_Splits g.K.Ord.cmp c.args.self.now.pairs c.args.key (Ok c.in-Ok.index) c.in-Ok.ensures.splits
-
-pub returns-in-Ok-clause-value : goal.returns-in-Ok-clause-value
-returns-in-Ok-clause-value g c = λ _. found_value g.K.Ord.cmp c.args.self.now.pairs c.args.key c.in-Ok.index c.in-Ok.ensures.splits
 
 pub returns-in-Err-f-clause-present : goal.returns-in-Err-f-clause-present
 returns-in-Err-f-clause-present g c = λ there. absurd (not_missing g.K.Ord.cmp c.args.self.now.pairs c.args.key there c.in-Err.ensures.splits)
@@ -34,14 +35,8 @@ pub returns-in-Ok-insert_at-clause-within : goal.returns-in-Ok-insert_at-clause-
 returns-in-Ok-insert_at-clause-within g c =
     rw c.in-Ok-insert_at.ensures.put (within-put g.K.Ord.cmp c.args.self.now.pairs c.args.key c.in-Ok-f.value c.in-Err.index c.in-Err.ensures.splits.place)
 
-pub returns-in-Ok-insert_at-clause-unchanged : goal.returns-in-Ok-insert_at-clause-unchanged
-returns-in-Ok-insert_at-clause-unchanged g c = λ there. absurd (not_missing g.K.Ord.cmp c.args.self.now.pairs c.args.key there c.in-Err.ensures.splits)
-
-pub returns-in-Ok-insert_at-clause-value : goal.returns-in-Ok-insert_at-clause-value
-returns-in-Ok-insert_at-clause-value g c = λ there. absurd (not_missing g.K.Ord.cmp c.args.self.now.pairs c.args.key there c.in-Err.ensures.splits)
-
 pub returns-in-Err-insert_at-clause-present : goal.returns-in-Err-insert_at-clause-present
 returns-in-Err-insert_at-clause-present g c = λ there. absurd (not_missing g.K.Ord.cmp c.args.self.now.pairs c.args.key there c.in-Err.ensures.splits)
 
-pub returns-in-Err-insert_at-clause-unchanged : goal.returns-in-Err-insert_at-clause-unchanged
-returns-in-Err-insert_at-clause-unchanged g c = λ there. absurd (not_missing g.K.Ord.cmp c.args.self.now.pairs c.args.key there c.in-Err.ensures.splits)
+pub returns-in-Ok-insert_at-clause-present : goal.returns-in-Ok-insert_at-clause-present
+returns-in-Ok-insert_at-clause-present g c = λ there. absurd (not_missing g.K.Ord.cmp c.args.self.now.pairs c.args.key there c.in-Err.ensures.splits)

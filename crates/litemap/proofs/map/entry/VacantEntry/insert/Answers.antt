@@ -17,10 +17,10 @@ returns g c =
         refl,
         λ w ok. record {
           pairs = ap (λ M. set_value M e.index w) put ∙ set_value-put cmp L e.key c.args.value w e.index e.missing.place;
-          room = c.in_ok-insert_at.ensures.room;
+          room = c.in_ok-insert_at.ensures.refused.room;
           room_kept = from_false;
         },
         tt,
       ),
-      record { writes_back = tt; value = ap (λ o. unwrap_or o c.args.value) shown; full = tt; back = tt },
+      record { writes_back = tt; value = ap (λ o. unwrap_or o c.args.value) shown; refused = record { absent = tt; full = tt; back = tt } },
     )
