@@ -12,12 +12,12 @@ use serde_json::Value;
 use std::alloc::Global;
 
 /// How the examples came out, by their calls.
-pub(crate) fn examples(alloc: Global) -> [Shown; 21] {
+pub(crate) fn examples(alloc: Global) -> [Shown; 19] {
     shown! { alloc;
-        json_fault, item_fault, to_value, from_value, write_to, wanted, key_text, from_key_text,
-        two_items_of_pairs, array_of_two_of_pairs, from_json_of_read, write_json_of_text,
-        told_in, to_json_of_write, write_value_of_written, read_pairs_of_read, name_fault,
-        name_bytes, name_map, read_names_of_read, find_name_of_read
+        json_fault, from_value, write_to, wanted, key_text, from_key_text, two_items_of_pairs,
+        array_of_two_of_pairs, from_json_of_read, write_json_of_text, told_in, to_json_of_write,
+        write_value_of_written, read_pairs_of_read, name_fault, name_bytes, read_names_of_read,
+        find_name_of_read, write_names_of_write
     }
 }
 
@@ -28,16 +28,6 @@ fn json_fault(alloc: Global) -> anyhow::Result<bool> {
     let read: Result<Hours, JsonFault> = from_json(alloc, &value);
     let fault = ItemFault::Range;
     Ok(read.err() == Some(JsonFault::Item { place: 1, fault }))
-}
-
-fn item_fault(alloc: Global) -> anyhow::Result<bool> {
-    let value = Value::from_str(alloc, "300")?;
-    Ok(u8::from_value(alloc, &value) == Err(ItemFault::Range))
-}
-
-fn to_value(alloc: Global) -> anyhow::Result<bool> {
-    let value = (3u32, true).to_value(alloc)?;
-    Ok(value.to_string(alloc)?.as_str() == "[3,true]")
 }
 
 fn from_value(alloc: Global) -> anyhow::Result<bool> {
@@ -127,13 +117,6 @@ fn name_bytes(_: Global) -> anyhow::Result<bool> {
     Ok(first == Some(("de", "German")) && languages.hint() == Some(1) && languages.place() == 11)
 }
 
-fn name_map(alloc: Global) -> anyhow::Result<bool> {
-    let mut languages: NameMap = LiteMap::new_vec(alloc);
-    languages.insert("de", "German")?;
-    let bytes = write_names(alloc, &languages)?;
-    Ok(bytes.as_slice() == b"\x01\x02de\x06German".as_slice())
-}
-
 fn read_names_of_read(alloc: Global) -> anyhow::Result<bool> {
     let (languages, size) = read_names(alloc, LANGUAGES)?;
     Ok(languages.get("fr") == Some(&"French") && size == LANGUAGES.len())
@@ -142,4 +125,11 @@ fn read_names_of_read(alloc: Global) -> anyhow::Result<bool> {
 fn find_name_of_read(alloc: Global) -> anyhow::Result<bool> {
     let found = find_name(alloc, LANGUAGES, "fr")?;
     Ok(found == Some((1, "French")))
+}
+
+fn write_names_of_write(alloc: Global) -> anyhow::Result<bool> {
+    let mut languages: NameMap = LiteMap::new_vec(alloc);
+    languages.insert("de", "German")?;
+    let bytes = write_names(alloc, &languages)?;
+    Ok(bytes.as_slice() == b"\x01\x02de\x06German".as_slice())
 }

@@ -41,14 +41,6 @@ impl<'a> Model for NameBytes<'a> {
 
 impl<'a> NameBytes<'a> {
     /// The entries of a table. Its number of entries is read here, and a fault is that number's.
-    ///
-    /// ```rust
-    /// const LANGUAGES: &[u8] = b"\x02\x02de\x06German\x02fr\x06French";
-    /// // ...
-    /// let mut languages = NameBytes::new(LANGUAGES)?;
-    /// let first = languages.next_pair()?;
-    /// Ok(first == Some(("de", "German")) && languages.hint() == Some(1) && languages.place() == 11)
-    /// ```
     pub fn new(bytes: &'a [u8]) -> Result<Self, NameFault>
         ensures ok { IfOk result (λ names. IsCounted bytes.now names) }
         ensures err { IfErr result (λ fault. NumberFault bytes.now 0 fault) }
@@ -58,14 +50,6 @@ impl<'a> NameBytes<'a> {
     }
 
     /// How many bytes were read: those of the number of entries and of whole entries.
-    ///
-    /// ```rust
-    /// const LANGUAGES: &[u8] = b"\x02\x02de\x06German\x02fr\x06French";
-    /// // ...
-    /// let mut languages = NameBytes::new(LANGUAGES)?;
-    /// let first = languages.next_pair()?;
-    /// Ok(first == Some(("de", "German")) && languages.hint() == Some(1) && languages.place() == 11)
-    /// ```
     pub fn place(&self) -> usize
         ensures { result ≡ self.now.place }
     {
@@ -87,14 +71,6 @@ impl<'a> PairSource<&'a str, &'a str> for NameBytes<'a> {
     ghost leads = { IsReadOn };
 
     /// The number of entries that are due.
-    ///
-    /// ```rust
-    /// const LANGUAGES: &[u8] = b"\x02\x02de\x06German\x02fr\x06French";
-    /// // ...
-    /// let mut languages = NameBytes::new(LANGUAGES)?;
-    /// let first = languages.next_pair()?;
-    /// Ok(first == Some(("de", "German")) && languages.hint() == Some(1) && languages.place() == 11)
-    /// ```
     fn hint(&self) -> Option<usize>
         ensures { result ≡ Some self.now.left }
     {

@@ -11,22 +11,13 @@ use litemap_read::{ReadFault, read_pairs};
 use std::alloc::Global;
 
 /// A map of texts that lie in the bytes of a name table.
-///
-/// ```rust
-/// let mut languages: NameMap = LiteMap::new_vec(alloc);
-/// languages.insert("de", "German")?;
-/// let bytes = write_names(alloc, &languages)?;
-/// Ok(bytes.as_slice() == b"\x01\x02de\x06German".as_slice())
-/// ```
 pub type NameMap<'a> = LiteMap<&'a str, &'a str, Vec<(&'a str, &'a str)>>;
 
 /// The map of a name table that the bytes begin with, and how many bytes the table takes. Of each key the last entry stays.
 ///
 /// Keys and values are slices of the bytes. The fault is that of the first number or text that can't be read, or want of
-/// memory; bytes behind the table are left unread. Keys are compared by `read_pairs`, which reads the entries: in a table
-/// whose keys rise at most once for each.
-///
-/// The Rust crate reads by `postcard`'s `from_bytes` here.
+/// memory; bytes behind the table are left unread. It compares as `read_pairs`, which reads the entries: in a table whose keys
+/// rise at most once for each. The Rust crate reads by `postcard`'s `from_bytes` here.
 ///
 /// ```rust
 /// const LANGUAGES: &[u8] = b"\x02\x02de\x06German\x02fr\x06French";
@@ -51,10 +42,9 @@ pub fn read_names<'a>(
 
 /// The place and the value of a name in the map that `read_names` answers for the bytes, `None` where the name isn't there.
 ///
-/// The value is a slice of the bytes. Each call reads the whole table, all `n` entries, into a map that is given up again, with
-/// the comparisons and the memory of `read_names`; then the lookup compares at most once for each binary digit of the number of
-/// names, as `const_get_with_index` does. Where more than one name is sought, read the map once, or look a table whose keys rise
-/// up in its bytes, by the crate `name_index`.
+/// The value is a slice of the bytes. Each call reads the whole table into a map that is given up again, with the comparisons
+/// and the memory of `read_names`; then the lookup makes O(log n) comparisons. Where more than one name is sought, read the map
+/// once, or look a table whose keys rise up in its bytes, by the crate `name_index`.
 ///
 /// ```rust
 /// const LANGUAGES: &[u8] = b"\x02\x02de\x06German\x02fr\x06French";

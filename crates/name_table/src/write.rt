@@ -10,10 +10,7 @@ use crate::fault::NameWriteFault;
 use crate::read::NameMap;
 use std::alloc::{AllocError, Global};
 
-/// The name table of a map, in the fewest bytes that spell it.
-///
-/// `read_names` answers the same map for it, and all of its bytes.
-///
+/// The name table of a map, in the fewest bytes that spell it. `read_names` answers the same map for it, and all of its bytes.
 /// The Rust crate writes by `postcard`'s `to_stdvec` here.
 ///
 /// ```rust
