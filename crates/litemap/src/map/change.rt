@@ -318,8 +318,7 @@ impl<K: Ord, V, S: StoreMut<K, V>> LiteMap<K, V, S> {
         ensures pairs { self.new.pairs ≡ set_value self.old.pairs index value }
         ensures room { self.new.room ≡ self.old.room }
     {
-        let (_, slot) = self.store.lm_pair_mut(index);
-        mem::replace(slot, value)
+        mem::replace(self.value_in_mut(index), value)
     }
 
     // Puts a pair in at the place of its key, which is absent.

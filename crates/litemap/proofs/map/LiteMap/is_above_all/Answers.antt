@@ -1,15 +1,9 @@
-use Rattle.std.proofs.Common.{◌≡◌, Some, IsTrue, length, slice_get, ◌-◌, ◌<◌, refl, sym, ap, ◌∙◌, arith}
+use Rattle.std.proofs.Common.{◌≡◌, Some, length, slice_get, ◌-◌, ◌<◌, sym, ap, ◌∙◌, arith}
 use Rattle.std.specs.Ordering.{is_lt}
-use Rattle.std.specs.declared.cmp.Ordering.{Ordering}
-use Rattle.std.specs.declared.cmp.Ordering.TheVariants.{Less, Equal, Greater}
 use Rattle.std.proofs.lemmas.Option.{slice_get_within}
 use Rattle.litemap_store.proofs.Ends.{AllBelow-at, AllBelow-from_last}
+use Rattle.litemap_store.proofs.Parts.{Less-from_is_lt}
 use Rattle.litemap.proofs.map.LiteMap.is_above_all.Goals as goal
-
-Less-from_is_lt : (o : Ordering) → IsTrue (is_lt o) → o ≡ Less
-Less-from_is_lt Less h = refl
-Less-from_is_lt Equal h = absurd (cc)
-Less-from_is_lt Greater h = absurd (cc)
 
 pub returns-in-Some : goal.returns-in-Some
 returns-in-Some g c =
@@ -18,6 +12,6 @@ returns-in-Some g c =
     let within : length pairs - 1 < length pairs = slice_get_within _ _ _ is in
     let asked = c.is_lt.ensures ∙ ap is_lt c.cmp.ensures in
     rw (← c.self.view_is) (
-      λ t. AllBelow-from_last g.met.K.Ord.total pairs c.args.key.now (length pairs - 1) _ c.self.invariant (omega arith) is (Less-from_is_lt _ (sym asked ∙ t)),
+      λ t. AllBelow-from_last g.met.K.Ord.total pairs c.args.key.now (length pairs - 1) _ c.self.invariant (omega arith) is (Less-from_is_lt _ (sym t ∙ asked)),
       λ b. asked ∙ ap is_lt (AllBelow-at g.K.Ord.cmp pairs c.args.key.now (length pairs - 1) _ b is),
     )
