@@ -33,7 +33,8 @@ def item(place, fault):
 
 
 def no_text(place):
-    return f"the key at place {place} (from 0) has no text, and the first key has one: give all keys a text, or none"
+    fault = f"the key at place {place} (from 0) has no text, and the first key has one: give all keys a text, or none"
+    return f"{fault}; a key has no text in JSON, and the first key has one"
 
 
 TONGUES = ('[[[1,"en"],"one"],[[1,"zh"],"一"],[[2,"en"],"two"],[[2,"zh"],"二"],[[4,"en"],"four"],[[5,"en"],"five"],'
@@ -218,10 +219,11 @@ def told_faults():
     yield "told tongues", '[[7,"one"]]', told(two, "7", told_at("key", 0))
     yield "told tongues", '[[[1,"en"],"one"],[[1,7],"one"]]', told(two, "an array", told_at("key", 1))
     yield "told tongues", '{"1":"one"}', told_name(two, '"1"')
-    yield "told elsewhere", '{"1":null}', item(0, SHAPE)
-    yield "told elsewhere", '[[1,1],[2,300,3]]', not_a_pair(1)
-    yield "told elsewhere", '{"x":0}', key_text(0)
-    yield "told elsewhere", '[[null,0]]', key(0, SHAPE)
+    yield "told elsewhere", '{"1":null}', f"{item(0, SHAPE)}; an item in JSON is not of its type"
+    yield "told elsewhere", '[[1,1],[2,300,3]]', f"{not_a_pair(1)}; an element in JSON is not a key and an item"
+    yield "told elsewhere", '{"x":0}', f"{key_text(0)}; a name in JSON is not a key's text"
+    yield "told elsewhere", '[[null,0]]', f"{key(0, SHAPE)}; a key in JSON is not of its type"
+    yield "told elsewhere", "7", f"{told(MAP, 'null')}; a JSON value is no map"
     for place in (1, 19, 20, 51, 101, 999):
         good = [(str(number), f'"{number}"') for number in range(1000, 1002 + place)]
         members = [(text, value if text < str(1000 + place) else "0") for text, value in good]

@@ -75,5 +75,9 @@ def files():
     rows = [("read " + text.replace("\0", "\\0"), answer(text)) for text in TEXTS]
     found = read(FOUND)
     rows += [(f"find {key} {FOUND}", f"value {found[key]}" if key in found else "none") for key in "ca kn nu NU kk".split()]
-    rows += [(f"falling {count}", answer(falling(count))) for count in (700, 2000)]
+    for count in (15, 16, 30, 300):
+        value = "kn-" + "-".join(["ab1"] * count)
+        rows += [(f"read {text}", answer(text)) for text in (value, f"{value}-x", f"{value}-c1-nu", f"{value}-KN-thai--")]
+        rows += [(f"find nu {value}-nu-latn", "value latn"), (f"find nu {value}-nu-latn-{'a' * 9}", answer(f"{value}-nu-latn-{'a' * 9}"))]
+    rows += [(f"falling {count}", answer(falling(count))) for count in (700, 2000, 22000)]
     return {name: "".join(line + "\n" for line in lines) for name, lines in zip(["stdin", "stdout"], zip(*rows))}

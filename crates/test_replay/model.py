@@ -315,6 +315,8 @@ class Model:
         return len(pairs) if above else len(self.pairs) + 2 * len(pairs)
 
     def many(self, name, words, search):
+        if name == "clone":
+            return "ok"
         if name in ("new", "lm_empty"):
             self.pairs, self.room = [], None if self.room is None else 0
             return "ok"
@@ -469,7 +471,7 @@ def looks():
     """What changes nothing, by keys, indices and bounds."""
     for length in LENGTHS + [3000]:
         indices = sorted({0, length // 2, max(length - 1, 0), length, length + 1, 2**64 - 1})
-        calls = ["len", "is_empty", "first", "last", "keys_rise"] + (["debug"] if length <= 100 else [])
+        calls = ["len", "is_empty", "first", "last", "keys_rise"] + (["debug"] if length <= 1000 else [])
         calls += [f"get_indexed {index}" for index in indices]
         calls += [f"{name} {key}" for name in LOOK_KEYS for key in keys(length)]
         some = [1, *present(length), 2 * length + 1]
@@ -604,11 +606,27 @@ def stores():
         yield from block(ALL, length, 100, [call for call in many if not call.startswith("lm_extend_start")])
     for pairs in ("1:1 1:2", "2:1 1:2", "1:1 3:2 2:3", "1:1 2:2 3:3", "1:1 2:2 2:3"):
         yield from chain(ALL, [f"lm_from_pairs {pairs}", "is_sorted_store"])
-    made = [f"{name} {pairs}".strip() for name in ("lm_sort_from_iter", "lm_sort_from_vec", "lm_from_pairs") for pairs in inputs(20)]
+    made = [f"{name} {pairs}".strip() for name in MADE for pairs in inputs(20)]
     yield from block(ALL, 5, 0, made + ["lm_empty 0", "lm_with_capacity 0", "lm_with_capacity 1", "lm_with_capacity 17"])
 
 
+MADE = ["lm_sort_from_iter", "lm_sort_from_vec", "lm_from_pairs"]
 STORED = [("lm_pair_mut", " 7"), ("lm_replace", " 1 7"), ("lm_remove", "")]
+
+
+def refusable():
+    """Each call that may be refused, at the lengths up to 70 that no other file has."""
+    for length in sorted({*range(71)} - {*LENGTHS}):
+        end = 2 * length + 1
+        given = [f"{end},1,1", f"1,{length},2", f"{2 * end},{length},-1"]
+        calls = [f"{name} {end} 7" for name in PUTS + ENTRIES[:6]] + [f"or_default {end}", *CONVERSIONS, "lm_try_clone", "lm_push 9999 7"]
+        calls += [f"{name} {more}" for name in RESERVED for more in (1, length)] + [f"split_off {key}" for key in (2, length, end - 1)]
+        many = [name for name in EXTENSIONS + MERGES + MAKES + MADE if not name.endswith("counted")] + [f"{name} - -" for name in READS]
+        calls += ["lm_insert 0 1 7", *(f"{name} {pairs}" for name in many for pairs in given)]
+        yield from block(GROWING, length, 0, calls)
+
+
+RESERVED = ["reserve", "lm_reserve", "with_capacity", "lm_with_capacity"]
 
 
 def scattered():
@@ -635,9 +653,9 @@ def merged():
             calls = ["from_vec" + "".join(f" {key}:{place}" for place, key in enumerate(old))]
             calls += ["extend_from_litemap" + "".join(f" {key.upper()}:{9 - place}" for place, key in enumerate(new))]
             yield from chain(GROWING, calls, "letter", 8)
-    for length in (5, 20, 60, 100, 400, 6000):
+    for length in (5, 20, 60, 100, 400, 6000, 12000):
         for count in sorted({1, 2, 3, 60, length // 8, length // 3, length, 3 * length} - {0}):
-            if length < 6000 or count < 100:
+            if length < 6000 or count in (1, 2, 3, 60, 1500):
                 step = max(2 * length // count, 1)
                 calls = [f"extend_from_litemap {start},{count},{step}" for start in (1, 2)]
                 yield from block(GROWING, length, 0, calls)
@@ -649,20 +667,19 @@ OTHERS = "546:7490 273:4999 167:8078 176:2101 373:1304 339:9613 561:3620 301:121
 
 
 def twenty():
-    """Twenty pairs through the calls that append, put, keep, merge and take out, and each key and gap after each step."""
+    """Twenty pairs through the calls that append, put, merge, keep and take out, and each key and gap after each step and in a clone."""
     every = sorted(RISING + OTHERS)
-    around = sorted({int(pair.split(":")[0]) + more for pair in every for more in (0, 1)} | {0})
-    look = [f"find_index {key}" for key in around]
+    look = [f"find_index {key}" for key in sorted({int(pair.split(":")[0]) + more for pair in every for more in (0, 1)} | {0})]
+    append, back = ([f"try_append {pair.replace(':', ' ')}" for pair in pairs] for pairs in (RISING, OTHERS))
     put = [f"insert {pair.replace(':', ' ')}" for pair in OTHERS]
-    append = [f"try_append {pair.replace(':', ' ')}" for pair in RISING]
-    back = [f"try_append {pair.replace(':', ' ')}" for pair in OTHERS]
-    steps = ["try_clone", f"retain {0xB6DB6}", *look, "extend " + " ".join(every), *look, "remove 175", "remove 176", *look]
-    merges = ["extend_from_litemap " + " ".join(every[::2]), *look, "extend_from_litemap 900:1 901:2", *look]
-    merges += ["extend_from_litemap 1:1 2:2", *look, "extend_from_litemap " + " ".join(reversed(OTHERS)), *look]
-    chained = ["retain 699050", *look, *merges, "retain 1048575", *look, "extend " + " ".join(OTHERS), "try_clone", *look]
-    calls = ["with_capacity 64", *append, *look, *back, *look, *put, *look, *steps, *chained, "clear", *look]
-    yield from chain("vec columns short", calls)
-    yield from chain("fixed", calls[: calls.index("try_clone")], room=64, is_fixed=True)
+    steps = [*append, *look, *back, *look, *put, *look]
+    evens, whole, merge = f"retain {0xF697}", " ".join(every), "extend_from_litemap"
+    changes = [f"{merge} {whole}", evens, f"{merge} {whole}", evens, f"extend {whole}", "remove 175", "remove 176", f"retain {0xAAAAA}"]
+    changes += [" ".join([merge, *pairs]) for pairs in (every[::2], ["900:1", "901:2"], ["1:1", "2:2"], OTHERS[::-1], [])]
+    changes += ["retain 1048575", "extend " + " ".join(OTHERS), "try_clone", "clear"]
+    searched = itertools.chain.from_iterable([change, *look, "clone", *look] for change in changes)
+    yield from chain("vec columns short", ["with_capacity 64", *steps, *searched])
+    yield from chain("fixed", ["with_capacity 64", *steps], room=64, is_fixed=True)
 
 
 class Generator:
@@ -765,7 +782,7 @@ def unmade(made):
 
 
 FILES = {"looks": looks, "walks": walks, "changes": changes, "bulk": bulk, "stores": stores, "scattered": scattered}
-FILES |= {"merged": merged, "twenty": twenty, "picked": picked, "rows": rows}
+FILES |= {"refusable": refusable, "merged": merged, "twenty": twenty, "picked": picked, "rows": rows}
 
 
 def calls_of(lines):

@@ -5,10 +5,13 @@ use crate::limits::copied;
 use crate::told;
 use litemap::LiteMap;
 use litemap::store::{ColumnStore, Store, StoreBulkMut};
-use litemap_json::{JsonFault, JsonItem, JsonKey, from_json, to_json};
+use litemap_json::{
+    JsonFault, JsonItem, JsonKey, WriteFault, Writer, from_json, to_json, write_json, write_value,
+};
 use litemap_short::ShortStore;
 use serde_json::Value;
 use std::alloc::{AllocError, Global};
+use std::io;
 
 type Map<K, V> = LiteMap<K, V, Vec<(K, V)>>;
 
@@ -99,16 +102,56 @@ fn copied_limits(alloc: Global, text: &str) -> Result<String, AllocError> {
     shown(alloc, map.as_ref())
 }
 
-// The map as JSON, or why it was not read or not written.
+// The map as JSON, by `to_json` and `write_json`, or why it was not read or not written.
 fn shown<K: JsonKey, V: JsonItem, S: Store<K, V>>(
     alloc: Global,
     map: Result<&LiteMap<K, V, S>, &JsonFault>,
 ) -> Result<String, AllocError> {
     match map {
         Ok(map) => match to_json(alloc, map) {
-            Ok(value) => value.to_string(alloc),
-            Err(fault) => format!(in alloc; "{fault}"),
+            Ok(value) => one_text(alloc, &value, write_json(alloc, map)),
+            Err(fault) => one_fault(alloc, fault, write_json(alloc, map)),
         },
         Err(fault) => format!(in alloc; "{fault}"),
+    }
+}
+
+// The text of a value, which is also that of its members written by themselves, and which a map was written as.
+fn one_text(
+    alloc: Global,
+    value: &Value,
+    written: Result<String, WriteFault>,
+) -> Result<String, AllocError> {
+    let text = value.to_string(alloc)?;
+    let mut out = Writer::new(Vec::new(alloc));
+    write_parts(alloc, value, &mut out)?;
+    match written {
+        Ok(other) if other == text && out.into_inner().as_slice() == text.as_bytes() => Ok(text),
+        _ => format!(in alloc; "{text} is written otherwise"),
+    }
+}
+
+// Writes a value, and each member of an object by itself.
+fn write_parts(alloc: Global, value: &Value, out: &mut Writer) -> Result<(), AllocError> {
+    let Some(members) = value.as_object() else {
+        return write_value(alloc, value, out);
+    };
+    out.begin_object()?;
+    for (name, member) in members.iter() {
+        out.key(name.as_str())?;
+        write_value(alloc, member, out)?;
+    }
+    out.end_object()
+}
+
+// A fault, which a map was not written for, and what it says as one of std's.
+fn one_fault(
+    alloc: Global,
+    fault: WriteFault,
+    written: Result<String, WriteFault>,
+) -> Result<String, AllocError> {
+    match written {
+        Err(other) if other == fault => format!(in alloc; "{fault}; {}", io::Error::from(other)),
+        _ => format!(in alloc; "{fault}, and it is written"),
     }
 }

@@ -5,6 +5,7 @@ use litemap::VecMap;
 use litemap_json::{JsonFault, JsonItem, JsonKey, from_json};
 use serde_json::Value;
 use std::alloc::{AllocError, Global};
+use std::io;
 
 /// The answer of a line `TYPES TEXT`: why the text is no map of these types, or that it is one.
 pub fn answer(alloc: Global, line: &str) -> Result<String, AllocError> {
@@ -46,7 +47,7 @@ fn told<K: JsonKey + Drop, V: JsonItem + Drop>(
     }
 }
 
-// The same, told of a value that was not read, and has no places.
+// The same, told of a value that was not read, and has no places; and what it says as an error of std's.
 fn told_elsewhere(alloc: Global, text: &str) -> Result<String, AllocError> {
     let (Ok(value), Ok(other)) = (Value::from_str(alloc, text), Value::from_str(alloc, "null"))
     else {
@@ -55,6 +56,9 @@ fn told_elsewhere(alloc: Global, text: &str) -> Result<String, AllocError> {
     let map: Result<VecMap<u32, u32>, JsonFault> = from_json(alloc, &value);
     match map {
         Ok(_) => String::from_str(alloc, "a map"),
-        Err(fault) => format!(in alloc; "{}", fault.told_in::<u32, u32>(&other)),
+        Err(fault) => {
+            let told = format!(in alloc; "{}", fault.told_in::<u32, u32>(&other))?;
+            format!(in alloc; "{told}; {}", io::Error::from(fault))
+        }
     }
 }

@@ -1,6 +1,7 @@
--- What a text spells is one list of keywords, and what is written for keywords spells these.
-use Rattle.std.proofs.Common.{◌≡◌, ◌≢◌, ◌⊎◌, inl, inr, ℕ, Bool, true, false, cond, List, [], ◌∷◌, ◌++◌, Some, map, refl, sym, ap, ◌∙◌, subst, append-nil, IsTrue, option_map}
+-- Each text spells one list of keywords, or has one fault, and what is written for keywords spells these.
+use Rattle.std.proofs.Common.{◌≡◌, ◌≢◌, ◌⊎◌, inl, inr, ℕ, Bool, true, false, cond, List, [], ◌∷◌, ◌++◌, Some, map, refl, sym, ap, ◌∙◌, subst, append-nil, append_assoc, IsTrue, option_map}
 use Rattle.std.proofs.lemmas.Cmp.{tied_itself}
+use Rattle.std.proofs.lemmas.List.Splits.{join_with_byte-slice_split}
 use Rattle.std.proofs.lemmas.Map.Lookups.{exact_bytes}
 use Rattle.std.specs.Char.{to_ascii_lowercase}
 use Rattle.std.specs.Cmp.Lexicographic.{nat_list_cmp_total, slice_cmp}
@@ -16,6 +17,7 @@ use Rattle.litemap_store.proofs.LastLookups.{at-Rising}
 use Rattle.litemap_store.proofs.LastPairs.{same_rising}
 use Rattle.litemap_store.proofs.Splitting.{each-append, each-weaker}
 use Rattle.example_keywords.specs.Keywords.{AreCanonical, IsFault, IsKeyword, IsRead, Keyword, Rise, Spells, canonical, is_key, is_value_part, joined, keyword_parts, pair_of, parts_of, size_of, value_of}
+use Rattle.example_keywords.specs.Laws.{EachIsRead}
 use Rattle.example_keywords.specs.Reading.{NoValueFirst}
 use Rattle.example_keywords.specs.Written.{IsReadAgain, if_some, printed}
 use Rattle.example_keywords.proofs.Cases.{NoDash-key, NoDash-part, joined-lowered, lowered_key, lowered_parts, lowered_twice, no_value_key}
@@ -175,6 +177,53 @@ fault_unique text at other f g =
     f.place
     ∙ ap size_of (befores_same f.before g.before f.part g.part f.behind g.behind f.each g.each f.no_key g.no_key f.no_value g.no_value (sym f.parts ∙ g.parts))
     ∙ sym g.place
+
+-- ---- each text
+
+-- the parts end, or the first is neither a key nor part of a value
+abbrev Stops : List (List ℕ) → Type 0
+Stops [] = Unit {0}
+Stops (part ∷ parts) = (is_key part ≡ false) × (is_value_part part ≡ false)
+
+-- parts of a value, then keywords, and where they stop
+record Cut (parts : List (List ℕ)) : Type 0 where
+  value : List (List ℕ)
+  keywords : List Keyword
+  rest : List (List ℕ)
+  are_parts : AreParts value
+  each : AllByRecursion IsKeyword keywords
+  parts_are : parts ≡ value ++ (keyword_parts keywords ++ rest)
+  stops : Stops rest
+
+cut : (parts : List (List ℕ)) → Cut parts
+cut [] = record { value = []; keywords = []; rest = []; are_parts = tt; each = tt; parts_are = refl; stops = tt }
+cut (part ∷ parts) = by (cut parts) (is_key part) (is_value_part part) refl refl
+  where
+    by : Cut parts → (k v : Bool) → is_key part ≡ k → is_value_part part ≡ v → Cut (part ∷ parts)
+    by c true v e f = record {
+      value = [];
+      keywords = record { key = part; value = c.value } ∷ c.keywords;
+      rest = c.rest;
+      are_parts = tt;
+      each = ((e, c.are_parts), c.each);
+      parts_are = ap (λ t. part ∷ t) (c.parts_are ∙ sym (append_assoc c.value (keyword_parts c.keywords) c.rest));
+      stops = c.stops;
+    }
+    by c false true e f = record { value = part ∷ c.value; keywords = c.keywords; rest = c.rest; are_parts = (f, c.are_parts); each = c.each; parts_are = ap (λ t. part ∷ t) c.parts_are; stops = c.stops }
+    by c false false e f = record { value = []; keywords = []; rest = part ∷ parts; are_parts = tt; each = tt; parts_are = refl; stops = (e, f) }
+
+no_key_value : (part : List ℕ) → IsTrue (is_value_part part) → is_key part ≡ false
+no_key_value (a ∷ b ∷ []) h = cc
+no_key_value _ h = refl
+
+pub each_is_read : EachIsRead
+each_is_read [] = inl ([], record { each = tt; spelled = refl })
+each_is_read (b ∷ text) = let c = cut (parts_of (b ∷ text)) in by c.value c.keywords c.rest c.are_parts c.each c.parts_are c.stops
+  where
+    by : (value : List (List ℕ)) (ks : List Keyword) (rest : List (List ℕ)) → AreParts value → AllByRecursion IsKeyword ks → parts_of (b ∷ text) ≡ value ++ (keyword_parts ks ++ rest) → Stops rest → ((ks : List Keyword) × Spells (b ∷ text) ks) ⊎ ((at : ℕ) × IsFault (b ∷ text) at)
+    by [] ks [] p h e s = inl (ks, record { each = h; spelled = sym (join_with_byte-slice_split 45 (b ∷ text)) ∙ ap joined (e ∙ append-nil (keyword_parts ks)) })
+    by [] ks (part ∷ rest) p h e s = inr (size_of (keyword_parts ks), record { before = ks; part = part; behind = rest; some = λ n. cc; each = h; parts = e; no_key = s.0; no_value = inr s.1; place = refl })
+    by (part ∷ value) ks rest p h e s = inr (0, record { before = []; part = part; behind = value ++ (keyword_parts ks ++ rest); some = λ n. cc; each = tt; parts = e; no_key = no_key_value part p.0; no_value = inl refl; place = refl })
 
 -- ---- what is written
 

@@ -1,5 +1,5 @@
 -- The laws over the definitions, which the function of the module `laws` has as its contract.
-use Rattle.std.specs.Prelude.{◌≡◌, ℕ, List}
+use Rattle.std.specs.Prelude.{◌≡◌, ◌⊎◌, ℕ, List}
 use Rattle.example_keywords.specs.Keywords.{IsFault, IsRead, Keyword, Spells}
 
 -- a text spells one list of keywords at most
@@ -17,3 +17,7 @@ TextHasNoFault = (text : List ℕ) (keywords : List Keyword) (at : ℕ) → Spel
 -- a text has one fault at most
 abbrev pub FaultIsOne : Type 0
 FaultIsOne = (text : List ℕ) (at other : ℕ) → IsFault text at → IsFault text other → at ≡ other
+
+-- each text spells keywords, or has a fault
+abbrev pub EachIsRead : Type 0
+EachIsRead = (text : List ℕ) → ((keywords : List Keyword) × Spells text keywords) ⊎ ((at : ℕ) × IsFault text at)

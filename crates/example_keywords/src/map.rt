@@ -1,5 +1,5 @@
 //! The keywords of an extension, as a map.
-ghost use Rattle.std.specs.Prelude.{◌≡◌, ◌==◌, IfErr, IfOk, length, string_bytes};
+ghost use Rattle.std.specs.Prelude.{◌≡◌, ◌==◌, [], IfErr, IfOk, IsOk, length, string_bytes};
 ghost use Rattle.std.specs.Option.{option_copied};
 ghost use Rattle.example_keywords.specs.Keywords.{AreCanonical, IsFault, IsRead, Rise, joined, value_of};
 ghost use Rattle.example_keywords.specs.Reading.{IfPart};
@@ -37,10 +37,11 @@ impl Keywords {
     /// The keywords that a text spells, in either case. Of two equal keys the first counts.
     ///
     /// The fault is the place of the first part that is no key, and no part of the value of a key before it, or want of
-    /// memory. Keys are compared at most once for each binary digit of the number of keys that were read, for each keyword.
+    /// memory, for which an empty text is never refused. Keys are compared at most once for each binary digit of the number of keys that were read, for each keyword.
     pub fn read(alloc: Global, text: &str) -> Result<Self, KeywordFault>
         ensures read { IfOk result (λ keywords. IsRead text.now keywords) }
         ensures fault { IfErr result (λ fault. IfPart fault (IsFault text.now)) }
+        ensures succeeds { text.now ≡ [] → IsOk result }
     {
         let pairs = read_pairs(alloc, text)?;
         Ok(Keywords { pairs })

@@ -1,5 +1,5 @@
 //! Keywords read from a text, one by one.
-ghost use Rattle.std.specs.Prelude.{◌≡◌, ◌≢◌, [], IfErr, IfOk, None, OnOk, length, map, string_bytes, ◌≤◌};
+ghost use Rattle.std.specs.Prelude.{◌≡◌, ◌≢◌, [], IfErr, IfOk, IsOk, None, OnOk, length, map, string_bytes, ◌≤◌};
 ghost use Rattle.std.specs.Option.{option_copied};
 ghost use Rattle.example_keywords.specs.Keywords.{AreCanonical, IsFault, IsRead};
 ghost use Rattle.example_keywords.specs.Reading.{AreRead, IfPart, IsKeywordRead, IsNoKey, IsPutFirst, shown};
@@ -65,6 +65,7 @@ pub(crate) fn read_pairs(alloc: Global, text: &str) -> Result<Pairs, KeywordFaul
     ensures read { IfOk result (λ pairs. IsRead text.now (map shown pairs.pairs)) }
     ensures known { IfOk result (λ pairs. AreCanonical (map shown pairs.pairs)) }
     ensures fault { IfErr result (λ fault. IfPart fault (IsFault text.now)) }
+    ensures succeeds { text.now ≡ [] → IsOk result }
 {
     let mut pairs = LiteMap::new(alloc);
     if text.is_empty() {

@@ -21,11 +21,12 @@ pub fn gather<S: Tested<Key, Value>>(map: &mut Map<S>, call: &Call<'_>, to: &mut
         || read(map, call, to).is_some()
 }
 
-// A map with no pair takes the place of the old one.
+// A map with no pair takes the place of the old one, or its clone.
 fn renew<S: Tested<Key, Value>>(map: &mut Map<S>, call: &Call<'_>, to: &mut Answer) -> Made {
     let made = match call.name {
         "new" => Ok(LiteMap::new(call.alloc)),
         "with_capacity" => LiteMap::with_capacity(call.alloc, call.size(0)?),
+        "clone" => map.try_clone(call.alloc),
         _ => return None,
     };
     to.made(map, made);

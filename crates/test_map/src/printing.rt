@@ -68,6 +68,11 @@ fn are_written(alloc: Global) -> Result<bool, AllocError> {
                 of_std,
             )?
             && writes(alloc, &io::Error::from(full()), of_std)?
+            && writes(
+                alloc,
+                &io::Error::from(ReadFault::Source(fmt::Error)),
+                "the source of pairs has a fault",
+            )?
             && writes(alloc, &ReadFault::Source(fmt::Error), own)?
             && writes(alloc, &TryFault::<u8, u8, _>::Closure(fmt::Error), own)?,
     )

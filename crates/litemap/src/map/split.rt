@@ -1,5 +1,5 @@
 //! A call that parts a map in two.
-ghost use Rattle.std.specs.Prelude.{◌≡◌, ◌⊎◌, ◌++◌, ◌≤◌, [], IfOk, IsOk, OnErr, OnOk, drop, length, take};
+ghost use Rattle.std.specs.Prelude.{◌≡◌, ◌≢◌, ◌⊎◌, ◌++◌, ◌≤◌, [], IfOk, IsOk, OnErr, OnOk, drop, length, take};
 ghost use Rattle.std.specs.declared.ops.Bound.TheVariants.{Included, Unbounded};
 ghost use Rattle.litemap_store.specs.Pairs.{below};
 ghost use Rattle.litemap.specs.Within.{within};
@@ -13,9 +13,10 @@ use std::mem;
 impl<K: Ord + Drop, V: Drop, S: StoreIntoIterator<K, V> + Drop> LiteMap<K, V, S> {
     /// Parts the map: the pairs with smaller keys stay, and those from the key on are answered as another map (own).
     ///
-    /// It is asked as `get` is. Where one of the parts is empty no pair moves and no memory is taken. Else two fresh stores
-    /// with room for the parts are made before anything changes, and each pair moves once; a limit that was set when the old
-    /// store was made goes with it. Refused for want of memory, the list stays as it was. It makes O(log n) comparisons.
+    /// It is asked as `get` is, and makes O(log n) comparisons. Where no pair goes the map is untouched, and where all go they
+    /// go in the map's own store: neither takes memory. Else two fresh stores with room for the parts are made before anything
+    /// changes, and each pair moves once; what room is then left is not promised, and a limit that was set when the old store
+    /// was made goes with it. Only that is refused for want of memory, and the map stays.
     ///
     /// ```rust
     /// let mut days = three_days(alloc)?;
@@ -27,7 +28,10 @@ impl<K: Ord + Drop, V: Drop, S: StoreIntoIterator<K, V> + Drop> LiteMap<K, V, S>
         ensures from { IfOk result
             (λ m. m.pairs ≡ within Q.order self.old.pairs (Included (Q.sought key)) Unbounded) }
         ensures all { IfOk result (λ m. self.new.pairs ++ m.pairs ≡ self.old.pairs) }
-        ensures refused { OnErr result (self.new.pairs ≡ self.old.pairs) }
+        ensures refused { OnErr result (self.new ≡ self.old) }
+        ensures unchanged { within Q.order self.old.pairs (Included (Q.sought key)) Unbounded ≡ [] → self.new ≡ self.old }
+        ensures whole { below Q.order self.old.pairs (Q.sought key) ≡ [] → self.old.pairs ≢ []
+            → IfOk result (λ m. m ≡ self.old) }
         ensures succeeds { (below Q.order self.old.pairs (Q.sought key) ≡ [])
             ⊎ (within Q.order self.old.pairs (Included (Q.sought key)) Unbounded ≡ []) → IsOk result }
     {
@@ -46,7 +50,9 @@ fn part<K: Drop, V: Drop, S: StoreIntoIterator<K, V> + Drop>(
     requires { place ≤ length (S.pairs store.old) }
     ensures stays { OnOk result (S.pairs store.new ≡ take place (S.pairs store.old)) }
     ensures later { IfOk result (λ later. S.pairs later ≡ drop place (S.pairs store.old)) }
-    ensures refused { OnErr result (S.pairs store.new ≡ S.pairs store.old) }
+    ensures refused { OnErr result (store.new ≡ store.old) }
+    ensures unchanged { place ≡ length (S.pairs store.old) → store.new ≡ store.old }
+    ensures whole { place ≡ 0 → place ≢ length (S.pairs store.old) → IfOk result (λ later. later ≡ store.old) }
     ensures succeeds { (place ≡ 0) ⊎ (place ≡ length (S.pairs store.old)) → IsOk result }
 {
     let len = store.lm_len();

@@ -44,5 +44,10 @@ returns-clause-from g c =
 pub invariant_of-self : goal.invariant_of-self
 invariant_of-self g c = rw c.in_err-later.ensures.refused c.self.invariant
 
+pub returns-clause-unchanged : goal.returns-clause-unchanged
+returns-clause-unchanged g c = λ none.
+    let last = last_cut _ c.args.self.now.pairs c.place_before-place.result c.place_before-place.ensures.cut none in
+    rw (c.in_ok-later.ensures.unchanged (last ∙ ap length (sym (ap (λ m. m.pairs) c.self.view_is)))) c.self.view_is
+
 pub returns-clause-all : goal.returns-clause-all
 returns-clause-all g c = grind (arith, common_steps)
