@@ -5,13 +5,16 @@ use litemap::LiteMap;
 use serde::{de::DeserializeOwned, Deserialize, Serialize};
 use serde_json::Value;
 
-/// Writes the lines of JSON: a map written as a text, by a value and with none, and read from a value and from a text.
+/// Writes the lines of JSON: a map written as a text, by a value and with none, and read from a value and from a text. Here serde
+/// is how each is made, so that some calls stand twice.
 pub fn measure_json<K: Key + Serialize + DeserializeOwned>(data: &Data) {
     for (call, work) in [
         ("to_json", printed::<K> as fn(&Json<K>) -> usize),
         ("write_json", written::<K>),
+        ("serde_write", written::<K>),
         ("from_json", spelled::<K>),
         ("read_json", read::<K>),
+        ("serde_read", read::<K>),
     ] {
         let found = rounds(|round| json_round(data, work, round));
         let pairs = (keys::maps_of(data.size) * data.size) as u128;

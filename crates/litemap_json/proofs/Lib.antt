@@ -5,6 +5,7 @@ pub mod ByPlace
 pub mod Floats
 pub mod OneMap
 pub mod Joined
+pub mod NamedItems
 pub mod Printed
 pub mod Texts
 pub mod Tokens

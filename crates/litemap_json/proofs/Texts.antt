@@ -1,5 +1,5 @@
 -- The tokens of a map, pair by pair, and their text.
-use Rattle.std.proofs.Common.{◌≡◌, ℕ, ◌+◌, ◌<◌, ◌≤◌, List, [], ◌∷◌, ◌++◌, length, get_or, drop, Option, Some, Ok, Less, Greater, nat_cmp, refl, sym, ap, ap₂, subst, ◌∙◌, arith, append_assoc}
+use Rattle.std.proofs.Common.{◌≡◌, ℕ, ◌+◌, ◌<◌, ◌≤◌, List, [], ◌∷◌, ◌++◌, length, get_or, drop, Option, Some, Ok, String, string_bytes, Global, Less, Greater, nat_cmp, refl, sym, ap, ap₂, subst, ◌∙◌, arith, append_assoc}
 use Rattle.std.proofs.lemmas.List.{drop_all}
 use Rattle.std.specs.Cmp.Lexicographic.{slice_cmp, nat_list_cmp_total}
 use Rattle.json.specs.Json as json
@@ -11,7 +11,7 @@ use Rattle.serde_json.specs.Data.{Data, array, object, Items, Members, no_member
 use Rattle.serde_json.specs.Written.{blank_items, blank_members, IsInOrder, items_outline, members_outline}
 use Rattle.serde_json.proofs.Texts.{print-outline, tokens_from_order}
 use Rattle.litemap_json.specs.Json.{object_with, row, rows}
-use Rattle.litemap_json.specs.Written.{IsTextOf, WritesTree}
+use Rattle.litemap_json.specs.Written.{IsTextOf, named, WritesTree}
 use Rattle.litemap_json.proofs.ByPlace.{made_step, next}
 use Rattle.litemap_json.proofs.Joined.{IsAbove, above, above-joined, below, joined, joined-none, joined-one, put-above}
 
@@ -30,6 +30,30 @@ text_of_tree d ts text w e same =
       order = order;
       no_space = e ∙ ap print (sym same);
     }
+
+-- a member before others
+member_before : (s : List ℕ) (d : Data) (ms : Members) (mid named new end : List Token) → named ≡ mid ++ key s ∷ [] → WritesTree d named new → WritesMembers ms new end → WritesMembers (member s d ms) mid end
+member_before s d ms mid named new end k w more = (
+  json.member s w.0 more.0,
+  more.1 ∙ ap (λ ts. ts ++ members_tokens more.0) (w.1 ∙ ap (λ ts. ts ++ json_tokens w.0) k) ∙ append_assoc (mid ++ key s ∷ []) (json_tokens w.0) (members_tokens more.0)
+      ∙ append_assoc mid (key s ∷ []) (json_tokens w.0 ++ members_tokens more.0),
+  ap₂ (json.member s) w.2 more.2,
+)
+
+module _ {V : Type 0} (json_of : V → Data) where
+  -- the members of the named items before a place are written
+  abbrev pub NamedHeld : List (String Global × V) → ℕ → List Token → Type 0
+  NamedHeld M i mid = (end : List Token) → WritesMembers (named json_of (drop i M)) mid end → WritesMembers (named json_of M) (begin_object ∷ []) end
+
+  pub named_more : (M : List (String Global × V)) (i : ℕ) (x : String Global × V) (mid opened new : List Token) → i < length M → x ≡ get_or M i x → opened ≡ mid ++ key (string_bytes x.0) ∷ []
+      → WritesTree (json_of x.1) opened new → NamedHeld M i mid → NamedHeld M (i + 1) new
+  named_more M i x mid opened new h e k w held = λ end rest. held end (subst (λ N. WritesMembers (named json_of N) mid end) (sym (next M i x h e))
+      (member_before (string_bytes x.0) (json_of x.1) (named json_of (drop (i + 1) M)) mid opened new end k w rest))
+
+  pub named_end : (M : List (String Global × V)) (i : ℕ) (mid new : List Token) → length M ≤ i → new ≡ mid ++ end_object ∷ [] → NamedHeld M i mid → WritesTree (object (named json_of M)) [] new
+  named_end M i mid new h e held =
+      let all = held new (subst (λ N. WritesMembers (named json_of N) mid new) (sym (drop_all i M h)) (json.no_members, e, refl)) in
+      (json.object all.0, all.1, ap json.object all.2)
 
 module _ {K V : Type 0} (text : K → Option (List ℕ)) (key_json : K → Data) (json_of : V → Data) where
   -- the rows of the pairs before a place are written
@@ -70,12 +94,7 @@ module _ {K V : Type 0} (text : K → Option (List ℕ)) (key_json : K → Data)
         λ r up. above-joined r s d ms (held.1 r (λ later. above last r (nat_list_cmp_total.trans last s r (rises later) (below r s (up (omega arith)))))) (up (omega arith)),
         subst (λ m. object_with text key_json json_of (i + 1) m (drop (i + 1) L) ≡ object_with text key_json json_of 0 no_members L) behind
             (made_step text key_json json_of L i x s ms (object_with text key_json json_of 0 no_members L) h e is held.2),
-        λ rest end more. subst (λ m. WritesMembers m (begin_object ∷ []) end) (sym (joined-one ms rest s d)) (held.3 (member s d rest) end (
-          json.member s w.0 more.0,
-          more.1 ∙ ap (λ ts. ts ++ members_tokens more.0) (w.1 ∙ ap (λ ts. ts ++ json_tokens w.0) k) ∙ append_assoc (mid ++ key s ∷ []) (json_tokens w.0) (members_tokens more.0)
-              ∙ append_assoc mid (key s ∷ []) (json_tokens w.0 ++ members_tokens more.0),
-          ap₂ (json.member s) w.2 more.2,
-        )),
+        λ rest end more. subst (λ m. WritesMembers m (begin_object ∷ []) end) (sym (joined-one ms rest s d)) (held.3 (member s d rest) end (member_before s d rest mid named new end k w more)),
       )
 
   pub pairs_end : (L : List (K × V)) (i : ℕ) (last : List ℕ) (mid new : List Token) → length L ≤ i → new ≡ mid ++ end_object ∷ [] → PairsHeld L i last mid

@@ -1,11 +1,13 @@
 -- What is written of a tree: token by token, and as a text.
-use Rattle.std.specs.Prelude.{◌≡◌, ◌++◌, ℕ, false, List, Option, Some, slice_get}
+use Rattle.std.specs.Prelude.{◌≡◌, ◌++◌, ℕ, false, List, map, Option, Some, slice_get, String}
+use Rattle.std.specs.declared.alloc.Global.{Global}
 use Rattle.json.specs.Json.{Json}
 use Rattle.json.specs.Lex.{tokens}
 use Rattle.json.specs.Print.{print}
 use Rattle.json.specs.Token.{Token}
 use Rattle.json.specs.Tree.{json_tokens}
-use Rattle.serde_json.specs.Data.{Data}
+use Rattle.serde_json.specs.Data.{Data, Members}
+use Rattle.serde_json.specs.View.{members_of}
 use Rattle.serde_json.specs.Written.{blank, compact_text, has_float, IsInOrder, outline}
 
 -- The new tokens are those of the tree, in its order: its items and members, each once, and its whole numbers in decimal. Of
@@ -24,3 +26,7 @@ pub record IsTextOf (d : Data) (text : List ℕ) : Type 0 where
 abbrev pub IsFirst : {K V : Type 0} → (K → Option (List ℕ)) → (List ℕ → Option Data) → (K → Data) → List (K × V) → List ℕ → V → Type 0
 IsFirst {K} text key key_json L name item =
     (k : K) × (Some (k, item) ≡ slice_get L 0) × (text k ≡ Some name) × (key name ≡ Some (key_json k))
+
+-- for private clauses: the members of items that have names
+abbrev pub named : {V : Type 0} → (V → Data) → List (String Global × V) → Members
+named json L = members_of (map (λ p. (p.0, json p.1)) L)

@@ -4,6 +4,7 @@
 mod fault;
 mod item;
 pub mod laws;
+mod named;
 mod numbers;
 mod pairs;
 mod read;

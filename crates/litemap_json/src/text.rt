@@ -13,7 +13,7 @@ ghost use Rattle.litemap_json.specs.declared.fault.WriteFault.TheVariants.{Memor
 
 use crate::fault::WriteFault;
 use crate::item::{JsonItem, JsonKey};
-use crate::write::to_json;
+use crate::named::{by_name, named_text};
 use json::Writer;
 use litemap::LiteMap;
 use litemap::store::Store;
@@ -23,8 +23,9 @@ use std::alloc::{AllocError, Global};
 ///
 /// It is written pair by pair while the keys' texts rise in their byte order, as texts do, and unsigned numbers with equally
 /// many digits. Where one doesn't rise, as `"10"` behind `"2"`, the members' order is not that of the keys: what was written
-/// is dropped, and the value is made and printed. `Memory` may come in place of any answer. No keys are compared, and each
-/// pair's name with the one before. The Rust crate has serde's `Serialize` here, whose members stand in the order of the keys.
+/// is dropped, and the texts of all keys are made and sorted. `Memory` may come in place of any answer. No keys are compared,
+/// and each pair's name with the one before; the names that are sorted by O(n log n) comparisons. The Rust crate has serde's
+/// `Serialize` here, whose members stand in the order of the keys.
 ///
 /// ```rust
 /// // hours: 1 8, 3 10
@@ -46,7 +47,7 @@ pub fn write_json<K: JsonKey, V: JsonItem, S: Store<K, V>>(
     }
     match object_text(alloc, map)? {
         Some(text) => Ok(text),
-        None => Ok(to_json(alloc, map)?.to_string(alloc)?),
+        None => Ok(named_text(alloc, &by_name(alloc, map)?)?),
     }
 }
 
@@ -120,8 +121,8 @@ fn rises(place: usize, last: &String, name: &String) -> bool
     place == 0 || last < name
 }
 
-// What was written, as a text.
-fn text_of(out: Writer) -> String
+/// What was written, as a text.
+pub(crate) fn text_of(out: Writer) -> String
     requires { out.before ≡ [] }
     ensures text { string_bytes result ≡ print out.tokens }
     ensures tokens { tokens (string_bytes result) ≡ out.tokens }

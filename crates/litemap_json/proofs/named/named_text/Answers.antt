@@ -1,0 +1,22 @@
+use Rattle.std.proofs.Common.{◌++◌, ◌∷◌, [], arith, ◌∙◌, string_bytes, ap}
+use Rattle.json.specs.Token.{key}
+use Rattle.serde_json.specs.Data.{object}
+use Rattle.litemap_json.specs.Written.{named}
+use Rattle.litemap_json.proofs.ByPlace.{at_place}
+use Rattle.litemap_json.proofs.Texts.{named_end, named_more, text_of_tree}
+use Rattle.litemap_json.proofs.named.named_text.Goals as goal
+
+pub loop-place-preserved : goal.loop-place-preserved
+loop-place-preserved g c =
+    let M = c.args.items.now.pairs in
+    let found = at_place M c.loop-place.place _ (rw c.unwrap.ensures at c.get_indexed.ensures) in (
+      c.write_to.ensures.before ∙ c.key.ensures.room.0 ∙ c.loop-place.invariant.0,
+      named_more (λ r. g.V.JsonItem.json r.now) M c.loop-place.place _ c.loop-place.out.tokens c.key.new.self.tokens c.write_to.new.out.tokens found.0 found.1
+          (c.in_ok-key.ensures.ok ∙ ap (λ t. c.loop-place.out.tokens ++ key t ∷ []) c.as_str.ensures.value) c.in_ok-write_to.ensures.tree c.loop-place.invariant.1,
+    )
+
+pub returns : goal.returns
+returns g c =
+    let M = c.args.items.now.pairs in
+    let w = named_end (λ r. g.V.JsonItem.json r.now) M c.loop-place.place c.loop-place.out.tokens c.end_object.new.self.tokens (omega arith) c.in_ok-end_object.ensures.ok c.loop-place.invariant.1 in
+    text_of_tree (object (named (λ r. g.V.JsonItem.json r.now) M)) c.end_object.new.self.tokens (string_bytes c.text_of.result) w c.text_of.ensures.text c.text_of.ensures.tokens

@@ -1,0 +1,56 @@
+//! The items of a map in the order of their keys' names, and their text.
+ghost use Rattle.std.specs.Prelude.{◌≡◌, ◌≢◌, Ok, Err, IfOk, IfErr, string_bytes};
+ghost use Rattle.serde_json.specs.Data.{no_members, object};
+ghost use Rattle.litemap_json.specs.Json.{object_with};
+ghost use Rattle.litemap_json.specs.Written.{IsTextOf, named};
+ghost use Rattle.litemap_json.specs.declared.fault.WriteFault.TheVariants.{Memory};
+
+use crate::fault::WriteFault;
+use crate::item::{JsonItem, JsonKey};
+use crate::text::text_of;
+use json::Writer;
+use litemap::store::Store;
+use litemap::{LiteMap, VecMap};
+use std::alloc::{AllocError, Global};
+
+/// The items by their keys' names, or the fault of the first key that has none.
+pub(crate) fn by_name<'m, K: JsonKey, V: JsonItem, S: Store<K, V>>(
+    alloc: Global,
+    map: &'m LiteMap<K, V, S>,
+) -> Result<VecMap<String, &'m V>, WriteFault>
+    ensures named { IfOk result (λ items. object_with K.text K.json V.json 0 no_members map.now.pairs
+        ≡ Ok (object (named (λ item. V.json item.now) items.pairs))) }
+    ensures refused { IfErr result
+        (λ fault. fault ≢ Memory → object_with K.text K.json V.json 0 no_members map.now.pairs ≡ Err fault) }
+{
+    let mut items = Vec::with_capacity(alloc, map.len())?;
+    for place in 0..map.len() {
+        let (key, item) = map.get_indexed(place).unwrap();
+        let Some(name) = key.key_text(alloc)? else {
+            return Err(WriteFault::KeyWithoutText { place });
+        };
+        let Ok(()) = items.push((name, item)) else {
+            return Err(WriteFault::Memory);
+        };
+    }
+    Ok(LiteMap::from_vec(alloc, items)?)
+}
+
+/// The text of the object of such items.
+pub(crate) fn named_text<V: JsonItem>(
+    alloc: Global,
+    items: &VecMap<String, &V>,
+) -> Result<String, AllocError>
+    ensures { IfOk result
+        (λ text. IsTextOf (object (named (λ item. V.json item.now) items.now.pairs)) (string_bytes text)) }
+{
+    let mut out = Writer::new(Vec::new(alloc));
+    out.begin_object()?;
+    for place in 0..items.len() {
+        let (name, item) = items.get_indexed(place).unwrap();
+        out.key(name.as_str())?;
+        item.write_to(alloc, &mut out)?;
+    }
+    out.end_object()?;
+    Ok(text_of(out))
+}
