@@ -2,13 +2,10 @@
 ghost use Rattle.std.specs.Prelude.{◌≡◌, ◌+◌, ◌-◌, ◌≤◌, ◌<◌, ◌++◌, IfOk, insert, length, min, refl, vec_capacity, vec_len};
 ghost use Rattle.std.specs.Map.{keys_of, values_of};
 ghost use Rattle.litemap_store.specs.Columns.{columns, columns_with_value};
-ghost use Rattle.litemap_store.specs.Counts.{RisesByAtMost};
-ghost use Rattle.litemap_store.specs.Last.{Last};
 ghost use Rattle.litemap_store.specs.Retain.{CallableOnEach, Kept};
 ghost use Rattle.litemap_store.specs.VecStore.{vec_room};
 
 use crate::column_iter::{ColumnIntoIter, ColumnIter};
-use crate::extend::{gather, last_of};
 use crate::retain::is_kept;
 use crate::slice_search;
 use crate::store::{
@@ -238,8 +235,9 @@ impl<K: Ord + Drop, V: Drop> StoreFromIterable<K, V> for ColumnStore<K, V> {
         iter: I,
         count: &mut Count,
     ) -> Result<Self, AllocError> {
-        let pairs = gather(alloc, iter)?;
-        split_last(alloc, pairs, count)
+        let mut store = Self::lm_empty(alloc);
+        store.lm_extend(alloc, iter, count)?;
+        Ok(store)
     }
 
     fn lm_sort_from_vec(
@@ -247,8 +245,9 @@ impl<K: Ord + Drop, V: Drop> StoreFromIterable<K, V> for ColumnStore<K, V> {
         given: &mut Vec<(K, V)>,
         count: &mut Count,
     ) -> Result<Self, AllocError> {
-        let pairs = mem::replace(given, Vec::new(alloc));
-        split_last(alloc, pairs, count)
+        let mut store = Self::lm_empty(alloc);
+        store.lm_extend_from_vec(alloc, given, count)?;
+        Ok(store)
     }
 }
 
@@ -282,35 +281,6 @@ impl<K: Drop, V: Drop> StoreIntoIterator<K, V> for ColumnStore<K, V> {
         append_reserved(&mut self.values, &mut other.values);
         Ok(())
     }
-}
-
-// The last pair of each key in two columns, which have room for these alone.
-fn split_last<K: Ord + Drop, V: Drop>(
-    alloc: Global,
-    pairs: Vec<(K, V)>,
-    count: &mut Count,
-) -> Result<ColumnStore<K, V>, AllocError>
-    ensures last { IfOk result (λ s. Last K.cmp pairs.items s.pairs) }
-    ensures cost { RisesByAtMost (length pairs.items - 1) count.old count.new }
-{
-    let pairs = last_of(pairs, count)?;
-    split(alloc, pairs)
-}
-
-// The pairs in two columns that have room for them alone.
-fn split<K: Drop, V: Drop>(
-    alloc: Global,
-    pairs: Vec<(K, V)>,
-) -> Result<ColumnStore<K, V>, AllocError>
-    ensures { IfOk result (λ s. s.pairs ≡ pairs.items) }
-{
-    let mut keys = Vec::with_capacity(alloc, pairs.len())?;
-    let mut values = Vec::with_capacity(alloc, pairs.len())?;
-    for (key, value) in pairs {
-        keys.push_reserved(key);
-        values.push_reserved(value);
-    }
-    Ok(ColumnStore { keys, values })
 }
 
 // Puts the items of another vector behind, where there is room for them.
