@@ -1,12 +1,12 @@
 //! A vector of keys and a vector of values as a store. Its room is the smaller of theirs.
-ghost use Rattle.std.specs.Prelude.{◌≡◌, ◌+◌, ◌-◌, ◌≤◌, ◌<◌, ◌++◌, IfOk, insert, length, min, refl, vec_capacity, vec_len};
+ghost use Rattle.std.specs.Prelude.{◌≡◌, ◌+◌, ◌-◌, ◌≤◌, ◌<◌, ◌++◌, IfOk, length, min, refl, vec_capacity, vec_len};
 ghost use Rattle.std.specs.Map.{keys_of, values_of};
 ghost use Rattle.litemap_store.specs.Columns.{columns, columns_with_value};
 ghost use Rattle.litemap_store.specs.Retain.{CallableOnEach, Kept};
 ghost use Rattle.litemap_store.specs.VecStore.{vec_room};
 
 use crate::column_iter::{ColumnIntoIter, ColumnIter};
-use crate::retain::is_kept;
+use crate::shared::{insert_reserved, is_kept};
 use crate::slice_search;
 use crate::store::{
     Count, NoRoom, Store, StoreBulkMut, StoreConstEmpty, StoreFromIterable, StoreFromIterator,
@@ -209,12 +209,12 @@ impl<K: Ord + Drop, V: Drop> StoreBulkMut<K, V> for ColumnStore<K, V> {
         for index in 0..self.keys.len() {
             let key = &self.keys[index];
             let value = &self.values[index];
-            if !is_kept(&mut f, key, value) {
-                continue;
-            }
+            let stays = is_kept(&mut f, key, value);
             self.keys.swap(kept, index);
             self.values.swap(kept, index);
-            kept += 1;
+            if stays {
+                kept += 1;
+            }
         }
         self.keys.truncate(kept);
         self.values.truncate(kept);
@@ -292,16 +292,4 @@ fn append_reserved<T: Drop>(items: &mut Vec<T>, other: &mut Vec<T>)
     let Ok(()) = items.append(other) else {
         unreachable!()
     };
-}
-
-// Puts an item at a place, in a vector that has room, by one move of the later ones.
-fn insert_reserved<T>(items: &mut Vec<T>, index: usize, item: T)
-    requires index { index ≤ vec_len items.old }
-    requires room { vec_len items.old < vec_capacity items.old }
-    ensures items { items.new.items ≡ insert items.old.items index item }
-    ensures len { vec_len items.new ≡ vec_len items.old + 1 }
-    ensures capacity { vec_capacity items.new ≡ vec_capacity items.old }
-{
-    items.push_reserved(item);
-    items[index..].rotate_right(1);
 }

@@ -5,7 +5,7 @@ ghost use Rattle.litemap_store.specs.VecStore.{vec_room, vec_with_value, vec_wri
 
 use crate::extend::vector::{append_in_vec, settle};
 use crate::extend::{gather, gather_behind};
-use crate::retain::is_kept;
+use crate::shared::is_kept;
 use crate::slice_search;
 use crate::store::{
     Count, NoRoom, SliceIter, Store, StoreBulkMut, StoreConstEmpty, StoreFromIterable,
@@ -40,10 +40,7 @@ impl<K, V> Store<K, V> for Vec<(K, V)> {
 }
 
 impl<K, V> StoreConstEmpty<K, V> for Vec<(K, V)> {
-    fn lm_empty(alloc: Global) -> Self
-        ensures pairs { result.items ≡ [] }
-        ensures room { vec_room result ≡ 0 }
-    {
+    fn lm_empty(alloc: Global) -> Self {
         Vec::new(alloc)
     }
 }
