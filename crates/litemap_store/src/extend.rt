@@ -5,7 +5,7 @@
 ghost use Rattle.std.specs.Prelude.{◌≡◌, ◌+◌, ◌-◌, ◌*◌, ◌≤◌, ◌<◌, ◌++◌, ◌↔◌, IsTrue, IsOk, IfOk, OnOk, OnErr, length};
 ghost use Rattle.std.specs.Prelude.{drop, min, take, vec_capacity, vec_len};
 ghost use Rattle.std.specs.Iterator.{IsFiniteIterable};
-ghost use Rattle.litemap_store.specs.Bulk.{Gives};
+ghost use Rattle.litemap_store.specs.Bulk.{Gives, GivesSome};
 ghost use Rattle.litemap_store.specs.Counts.{RisesByAtMost};
 ghost use Rattle.litemap_store.specs.Last.{Last, Rises};
 ghost use Rattle.litemap_store.specs.Pairs.{Rising};
@@ -32,7 +32,8 @@ pub fn gather<T: Drop, I: IntoIterator<Item = T>>(
     iter: I,
 ) -> Result<Vec<T>, AllocError>
     requires { IsFiniteIterable I.into_iter_gives I.IntoIter.can_next I.IntoIter.remaining iter }
-    ensures { IfOk result (λ v. Gives I.into_iter_gives I.IntoIter.next_gives iter v.items) }
+    ensures gathered { IfOk result (λ v. Gives I.into_iter_gives I.IntoIter.next_gives iter v.items) }
+    ensures refused_some { OnErr result (GivesSome I.into_iter_gives I.IntoIter.next_gives iter) }
 {
     let mut items = Vec::new(alloc);
     gather_behind(&mut items, iter)?;
@@ -49,6 +50,7 @@ pub fn gather_behind<T: Drop, I: IntoIterator<Item = T>>(
     ensures gathered { OnOk result ((given : _) × (items.new.items ≡ items.old.items ++ given)
         × Gives I.into_iter_gives I.IntoIter.next_gives iter given) }
     ensures refused { OnErr result (items.new.items ≡ items.old.items) }
+    ensures refused_some { OnErr result (GivesSome I.into_iter_gives I.IntoIter.next_gives iter) }
 {
     let len = items.len();
     for item in iter {
