@@ -30,7 +30,7 @@ GROUPS = {
     "Name tables": "name_table: read write name_bytes cursor fault laws; "
     "name_index: table index name_entries indexed checked index_write fault laws",
     "What a call can be asked by": "litemap_store: query",
-    "Stores": "litemap_store: store into_iter vec_impl column_impl column_iter slice_impl slice_iter count no_room extend_store",
+    "Stores": "litemap_store: store into_iter vec_impl column_impl column_iter slice_impl slice_iter count no_room shared extend_store",
     "Laws, for proofs": "litemap_store: laws",
 }
 # The libraries with no call for the page: why.
@@ -63,6 +63,7 @@ NOT_CALLED = {
     "StoreMut::lm_try_clone": "what `try_clone` hands on",
     "two_items": "a line of example_calls, whose output is compared, and what `from_json` asks",
     "extend_from_store": "what `extend_from_litemap` hands on",
+    "insert_reserved": "what `lm_insert` hands on",
     "serialize": "what `with` of a field in example_serde asks",
     "deserialize_owned": "what `with` of a field in example_serde asks",
     "write_index_of": "what `write_index` hands on",
@@ -72,7 +73,6 @@ NOT_TURNED = {
     "extend_from_store": "what `extend_from_litemap` hands on",
     "JsonFault::told_in": "it promises nothing: its words are compared in example_json",
     "JsonItem::wanted": "it promises nothing: its words are compared in example_json",
-    "StoreConstEmpty::lm_empty": "no wrong body can be worded",
 }
 
 

@@ -138,14 +138,15 @@ impl<K: Ord, V, S: Store<K, V>> LiteMap<K, V, S> {
 }
 
 impl<K: Ord, V, S: StoreConstEmpty<K, V>> LiteMap<K, V, S> {
-    /// The empty map. It takes no memory.
+    /// The empty map. It takes no memory. Its room is the store's `empty_room`: 0 over a vector, 1 over a short store.
     ///
     /// ```rust
     /// let days: Days = LiteMap::new(alloc);
     /// Ok(days.is_empty())
     /// ```
     pub fn new(alloc: Global) -> Self
-        ensures { result.pairs ≡ [] }
+        ensures pairs { result.pairs ≡ [] }
+        ensures room { result.room ≡ S.empty_room }
     {
         LiteMap {
             store: S::lm_empty(alloc),
@@ -163,7 +164,8 @@ impl<K: Ord, V, S: StoreConstEmpty<K, V>> MadeWith<Global> for LiteMap<K, V, S> 
 }
 
 impl<K: Ord, V, S: StoreMut<K, V>> LiteMap<K, V, S> {
-    /// An empty map with this much room at least, or a refusal for want of memory. No room is never refused.
+    /// An empty map with this much room at least, or a refusal for want of memory. No room is never refused, nor is room for one
+    /// pair over a short store (the store's `free_room`).
     ///
     /// ```rust
     /// let mut days: Days = LiteMap::with_capacity(alloc, 7)?;
@@ -173,7 +175,7 @@ impl<K: Ord, V, S: StoreMut<K, V>> LiteMap<K, V, S> {
     pub fn with_capacity(alloc: Global, capacity: usize) -> Result<Self, AllocError>
         ensures empty { IfOk result (λ m. m.pairs ≡ []) }
         ensures room { IfOk result (λ m. capacity ≤ m.room) }
-        ensures succeeds { capacity ≡ 0 → IsOk result }
+        ensures succeeds { capacity ≤ S.free_room → IsOk result }
     {
         Ok(LiteMap {
             store: S::lm_with_capacity(alloc, capacity)?,

@@ -1,6 +1,6 @@
 //! No item, one, or a vector of items.
 ghost use Rattle.std.specs.Prelude.{◌≡◌, ◌+◌, ◌<◌, ◌≤◌, [], ◌∷◌, length, insert, remove, slice_get, slice_index_or};
-ghost use Rattle.std.specs.Prelude.{Some, IfOk, IfSome, IsOk, OnOk, OnErr, vec_len, vec_capacity};
+ghost use Rattle.std.specs.Prelude.{Some, IfOk, IfSome, IsOk, OnOk, OnErr};
 ghost use Rattle.std.specs.Borrow.{sem};
 ghost use Rattle.std.specs.List.{AllZip};
 ghost use Rattle.std.specs.Map.Iter.{deref_pair};
@@ -8,8 +8,9 @@ ghost use Rattle.std.specs.Vec.Iter.{into_iter_items};
 ghost use Rattle.litemap_short.specs.Left.{with_first};
 ghost use Rattle.std.specs.Option.{option_copied, option_map};
 ghost use Rattle.litemap_store.specs.Pairs.{sub};
-ghost use Rattle.litemap_store.specs.Retain.{CallableOnEach, CalledOnPair, Kept, TakesPair};
+ghost use Rattle.litemap_store.specs.Retain.{CallableOnEach, Kept};
 
+use litemap_store::shared::{insert_reserved, is_kept};
 use litemap_store::store::StoreBulkMut;
 use std::alloc::{AllocError, Global};
 use std::ops::Range;
@@ -58,11 +59,12 @@ impl<T> Held<T> {
     // Moves none or one to a vector that has room for so many more.
     fn move_to_vec(&mut self, alloc: Global, additional: usize) -> Result<(), AllocError>
         requires few { IsFew self.old }
+        requires more { held_room self.old < additional }
         ensures items { held_items self.new ≡ held_items self.old }
         ensures room { OnOk result (additional ≤ held_room self.new) }
         ensures room_not_lowered { held_room self.old ≤ held_room self.new }
     {
-        let Some(capacity) = additional.checked_add(1) else {
+        let Some(capacity) = self.as_slice().len().checked_add(additional) else {
             return Err(AllocError);
         };
         let items = Vec::with_capacity(alloc, capacity)?;
@@ -75,7 +77,7 @@ impl<T> Held<T> {
     fn keep_in(&mut self, few: Held<T>)
         requires few { IsFew few }
         requires empty { held_items self.old ≡ [] }
-        requires room { 0 < held_room self.old }
+        requires room { length (held_items few) ≤ held_room self.old }
         ensures items { held_items self.new ≡ held_items few }
         ensures room { held_room self.old ≤ held_room self.new + length (held_items few) }
     {
@@ -208,18 +210,6 @@ impl<T> Held<T> {
     }
 }
 
-// Puts an item at a place, in a vector that has room, by one move of the later ones.
-fn insert_reserved<T>(items: &mut Vec<T>, index: usize, item: T)
-    requires index { index ≤ vec_len items.old }
-    requires room { vec_len items.old < vec_capacity items.old }
-    ensures items { items.new.items ≡ insert items.old.items index item }
-    ensures len { vec_len items.new ≡ vec_len items.old + 1 }
-    ensures capacity { vec_capacity items.new ≡ vec_capacity items.old }
-{
-    items.push_reserved(item);
-    items[index..].rotate_right(1);
-}
-
 impl<K: Drop, V: Drop> Held<(K, V)> {
     ghost use Rattle.litemap_short.specs.Held.{held_items, held_room, IsOne};
 
@@ -253,14 +243,6 @@ impl<K: Drop, V: Drop> Held<(K, V)> {
             self.put_first((key, value));
         }
     }
-}
-
-// Whether a closure keeps a pair.
-fn is_kept<K, V, F: FnMut(&K, &V) -> bool>(f: &mut F, key: &K, value: &V) -> bool
-    requires { TakesPair F.FnMut f.old (key.now, value.now) }
-    ensures { CalledOnPair F.FnMut f.old (key.now, value.now) result f.new }
-{
-    f(key, value)
 }
 
 // The pair at a place, `None` from the length on.

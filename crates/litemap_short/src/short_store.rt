@@ -67,10 +67,9 @@ impl<K, V> Store<K, V> for ShortStore<K, V> {
 }
 
 impl<K, V> StoreConstEmpty<K, V> for ShortStore<K, V> {
-    fn lm_empty(alloc: Global) -> Self
-        ensures pairs { result.pairs ≡ [] }
-        ensures room { result.room ≡ 1 }
-    {
+    ghost empty_room = { 1 };
+
+    fn lm_empty(alloc: Global) -> Self {
         ShortStore {
             alloc,
             held: Held::Nothing,
@@ -94,6 +93,8 @@ impl<'a, K: 'a, V: 'a> StoreIterable<'a, K, V> for ShortStore<K, V> {
 
 impl<K, V> StoreMut<K, V> for ShortStore<K, V> {
     ghost with_value = { with_value };
+
+    ghost free_room = { 1 };
 
     fn lm_with_capacity(alloc: Global, capacity: usize) -> Result<Self, AllocError> {
         let held = if capacity <= 1 {

@@ -37,6 +37,14 @@ module _ {K V : Type 0} where
       let e : get_or (zip ks vs) i (k, v) ≡ (get_or ks i k, get_or vs i v) = get_or-zip ks vs i (k, v) u (omega arith) in
       ap (λ (j : K). (j, v)) a ∙ ap (λ (w : V). (get_or ks i k, w)) b ∙ sym e
 
+  -- and so in vectors of n items each
+  pub zip_at : {Y Z : Type 0} (keys : Vec K Y) (values : Vec V Z) (n i : ℕ) (k : K) (v : V) → vec_len keys ≡ n → vec_len values ≡ n → i < n → k ≡ get_or keys.items i k → v ≡ get_or values.items i v
+      → (i < length (zip keys.items values.items)) × ((k, v) ≡ get_or (zip keys.items values.items) i (k, v))
+  zip_at keys values n i k v a b h at_key at_value =
+      let same = same_length keys values (a ∙ sym b) in
+      let all = length-zip_same keys.items values.items same in
+      (omega (arith, all, keys.ok.0), get_or-zip_same keys.items values.items i k v same (omega (arith, keys.ok.0)) at_key at_value)
+
   -- there is a value beside the key at a place
   pub zip-key : (ks : List K) (vs : List V) (i : ℕ) (d : K) → length ks ≡ length vs → i < length ks → (v : V) × (slice_get (zip ks vs) i ≡ Some (get_or ks i d, v))
   zip-key [] vs i d h u = absurd (omega arith)

@@ -1,8 +1,6 @@
 -- How far a count rises over several calls.
-use Rattle.std.proofs.Common.{ℕ, ◌+◌, ◌*◌, ◌-◌, ◌≤◌, List, [], length, Result, Ok, Err, refl, ◌∙◌, arith}
+use Rattle.std.proofs.Common.{ℕ, ◌+◌, ◌≤◌, Result, Ok, Err, refl, ◌∙◌, arith}
 use Rattle.std.specs.Result.{OnErr}
-use Rattle.std.specs.declared.cmp.Ordering.{Ordering}
-use Rattle.litemap_store.specs.Bulk.{IsCountedFor}
 use Rattle.litemap_store.specs.declared.count.Count.{Count}
 use Rattle.litemap_store.specs.Counts.{RisesByAtMost}
 
@@ -18,13 +16,6 @@ pub in_turn : {c d e : Count} (a b n : ℕ) → a + b ≤ n → RisesByAtMost a 
 in_turn a b n h r s =
     let m = r.most in let k = s.most in let l = r.not_lowered in let u = s.not_lowered in
     record { same = s.same ∙ r.same; not_lowered = omega arith; most = omega arith }
-
--- fewer than the new pairs, where there were no old ones
-pub counted_for_none : {K V : Type 0} (cmp : K → K → Ordering) (given : List (K × V)) {c d : Count} → RisesByAtMost (length given - 1) c d → IsCountedFor cmp [] given c d
-counted_for_none cmp given r = record {
-  behind = λ _. at_most (length given - 1) (length given) (omega arith) r;
-  rising = λ _. at_most (length given - 1) (0 + 2 * length given) (omega arith) r;
-}
 
 -- what holds in each case holds where a call is refused
 pub always_on_err : {T E P : Type 0} (r : Result T E) → P → OnErr r P

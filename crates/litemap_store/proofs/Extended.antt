@@ -1,7 +1,6 @@
 -- What a look-up finds after an extension by a vector of pairs: lemmas for the proofs of callers.
 --     given_by_vec      what a vector gives;  Last-extended, Last_if_made      what is left of it;  value_at-extended, new_wins, old_stays      what is found after `extend`
 --     counted_in_each      how far a count rises, refused or not;  value_at-collected      what is found after `from_iter`;  cost_behind, cost_rising      how far a count rises
---     refused_cost_behind, refused_cost_rising      the same where the call was refused
 -- An answer shows `holds` by `λ v it h. h.0`.
 use Rattle.std.proofs.Common.{◌≡◌, ◌+◌, ◌*◌, List, [], ◌++◌, length, Some, None, option_map, reverse, ap, ◌∙◌, subst, inl, inr, arith, Vec, Result, Ok, Err, IfOk, OnErr}
 use Rattle.std.proofs.IntoIterSteps.{All-taken}
@@ -60,12 +59,6 @@ module _ {K V Z : Type 0} {cmp : K → K → Ordering} (o : IsTotalOrder cmp) (b
       | inl none ↦ record { behind = λ _. at_most 0 (length v.items) (omega arith) none; rising = λ _. at_most 0 (length old + 2 * length v.items) (omega arith) none }
       | inr all ↦ subst (λ J. IsCountedFor cmp old J before after) (given_by_vec becomes holds v all.0 all.1) all.2
     ]
-
-    pub refused_cost_behind : Rises cmp old v.items → RisesByAtMost (length v.items) before after
-    refused_cost_behind = counted.behind
-
-    pub refused_cost_rising : Rising cmp v.items → RisesByAtMost (length old + 2 * length v.items) before after
-    refused_cost_rising = counted.rising
 
   -- and so in each case
   pub counted_in_each : {T E : Type 0} (pairs : T → List (K × V)) (v : Vec (K × V) Z) (old : List (K × V)) (before after : Count) (r : Result T E)

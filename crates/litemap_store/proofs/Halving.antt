@@ -149,11 +149,6 @@ module _ {K V : Type 0} (ord : K → Ordering) (l : List (K × V)) where
     closed = seen.closed;
   }
 
-pub slice_get-at : {X : Type 0} (L : List X) (m : ℕ) (d : X) → m < length L → slice_get L m ≡ Some (slice_index_or L m d)
-slice_get-at [] m d h = absurd (omega arith)
-slice_get-at (x ∷ L) zero d h = refl
-slice_get-at (x ∷ L) (suc m) d h = slice_get-at L m d (omega arith)
-
 -- what is left after an answer lies within the list, and has a digit less
 pub left_next : (is_small : Bool) (answer : Ordering) (low left n : ℕ) → low + left ≤ n → 0 < left
     → (cond (is_lt answer) (low + (left - left / 2)) low + left_after is_small answer left ≤ n)

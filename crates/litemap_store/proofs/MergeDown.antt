@@ -1,6 +1,6 @@
 -- A merge from the last pair of B down to the first.
 --     Merge-one      one pair into another with an equal key;  parted, length-parts      a rising list is what lies below a key, its pair and what lies above
---     taken_found, found_drop, missing_take, missing_drop      the parts by the place that a search found
+--     taken_found, found_drop, missing_drop      the parts by the place that a search found
 --     Merge-down, left-down      one step: what is merged above the last key of B, and what is left over there
 --     length-behind, length-option      how long a list is that was read from its end
 use Rattle.std.proofs.Common.{◌≡◌, ℕ, ◌+◌, ◌≤◌, arith, List, [], ◌∷◌, ◌++◌, append_assoc, length, length-append, drop, take, Option, Some, None, option_map, inl, inr, refl, sym, ap, ◌∙◌, subst, reverse, Ordering, Less, Equal, Greater, is_lt, is_gt}
@@ -8,7 +8,7 @@ use Rattle.std.specs.Cmp.{IsTotalOrder}
 use Rattle.std.specs.List.{cons_option}
 use Rattle.std.proofs.lemmas.Cmp.{tied_back, alike_right}
 use Rattle.std.proofs.lemmas.List.{length-reverse, same_from_push}
-use Rattle.std.proofs.Math.Seq.{drop-append-add, drop-append_seam, take-append-add, take-append_seam}
+use Rattle.std.proofs.Math.Seq.{drop-append-add, drop-append_seam, take-append-add}
 use Rattle.std.proofs.lemmas.List.Elements.{filter_map-append}
 use Rattle.litemap_store.specs.Last.{In}
 use Rattle.litemap_store.specs.Merge.{IsMerged, Merge, left}
@@ -75,12 +75,6 @@ module _ {K V : Type 0} (cmp : K → K → Ordering) (o : IsTotalOrder cmp) wher
         ∙ take-append-add (below cmp L k) (f.pair ∷ above cmp L k) 1 in
         let same = same_from_push N (below cmp L k) p f.pair (sym s ∙ t ∙ upto) in
         (same.0, f.found ∙ ap Some (sym same.1))
-
-    pub missing_take : IsMissingAt cmp L k i → take i L ≡ below cmp L k
-    missing_take m =
-        ap (λ M. take i M) m.is
-        ∙ ap (λ j. take j (below cmp L k ++ above cmp L k)) m.place
-        ∙ take-append_seam (below cmp L k) (above cmp L k)
 
     pub missing_drop : IsMissingAt cmp L k i → drop i L ≡ above cmp L k
     missing_drop m =

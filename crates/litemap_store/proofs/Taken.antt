@@ -191,22 +191,3 @@ reverse_push L N x e = ap reverse e ∙ reverse-append L (x ∷ [])
 
 pub Last-of_none : {K V : Type 0} (cmp : K → K → Ordering) (A B : List (K × V)) → A ≡ [] → B ≡ [] → Last cmp (A ++ B) []
 Last-of_none cmp A B e f = rw (e, f) (Last-rising cmp [] tt)
-
-module _ {X : Type 0} where
-  got-length : (N : List X) (x : X) → slice_get (N ++ x ∷ []) (length N) ≡ Some x
-  got-length [] x = refl
-  got-length (y ∷ N) x = got-length N x
-
-  removed-length : (N : List X) (x : X) → remove (N ++ x ∷ []) (length N) ≡ N
-  removed-length [] x = refl
-  removed-length (y ∷ N) x = ap (λ L. y ∷ L) (removed-length N x)
-
-  before-last : (N : List X) (x : X) → length (N ++ x ∷ []) - 1 ≡ length N
-  before-last N x = let e = length-append N (x ∷ []) in omega arith
-
-  -- the last element, and the list without it
-  pub last_got : (N : List X) (x : X) → slice_get (N ++ x ∷ []) (length (N ++ x ∷ []) - 1) ≡ Some x
-  last_got N x = ap (λ n. slice_get (N ++ x ∷ []) n) (before-last N x) ∙ got-length N x
-
-  pub last_removed : (N : List X) (x : X) → remove (N ++ x ∷ []) (length (N ++ x ∷ []) - 1) ≡ N
-  last_removed N x = ap (λ n. remove (N ++ x ∷ []) n) (before-last N x) ∙ removed-length N x

@@ -1,5 +1,5 @@
 -- What bulk input leaves: the last pairs of the old ones followed by what an iterator gave.
-use Rattle.std.specs.Prelude.{◌⊎◌, ◌+◌, ◌*◌, List, ◌++◌, Option, length}
+use Rattle.std.specs.Prelude.{◌⊎◌, ◌+◌, ◌*◌, List, ◌++◌, Option, Some, length}
 use Rattle.std.specs.declared.cmp.Ordering.{Ordering}
 use Rattle.std.specs.Iterator.{Drains}
 use Rattle.litemap_store.specs.declared.count.Count.{Count}
@@ -10,6 +10,10 @@ use Rattle.litemap_store.specs.Pairs.{Rising}
 -- iter becomes an iterator that gives the items and then ends
 abbrev pub Gives : {U T X : Type 0} → (U → T → Type 0) → (T → Option X → T → Type 0) → U → List X → Type 0
 Gives {U} {T} becomes steps iter items = (it : T) × becomes iter it × Drains steps it items
+
+-- iter becomes an iterator that gives an item first
+abbrev pub GivesSome : {U T X : Type 0} → (U → T → Type 0) → (T → Option X → T → Type 0) → U → Type 0
+GivesSome {U} {T} {X} becomes steps iter = (it rest : T) × (x : X) × becomes iter it × steps it (Some x) rest
 
 -- how many comparisons are counted at most where the pairs `given` are put to the old ones
 pub record IsCountedFor {K V : Type 0} (cmp : K → K → Ordering) (old given : List (K × V)) (before after : Count) : Type 0 where

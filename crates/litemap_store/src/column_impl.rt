@@ -1,15 +1,12 @@
 //! A vector of keys and a vector of values as a store. Its room is the smaller of theirs.
-ghost use Rattle.std.specs.Prelude.{◌≡◌, ◌+◌, ◌-◌, ◌≤◌, ◌<◌, ◌++◌, IfOk, insert, length, min, refl, vec_capacity, vec_len};
+ghost use Rattle.std.specs.Prelude.{◌≡◌, ◌+◌, ◌-◌, ◌≤◌, ◌<◌, ◌++◌, IfOk, length, min, refl, vec_capacity, vec_len};
 ghost use Rattle.std.specs.Map.{keys_of, values_of};
 ghost use Rattle.litemap_store.specs.Columns.{columns, columns_with_value};
-ghost use Rattle.litemap_store.specs.Counts.{RisesByAtMost};
-ghost use Rattle.litemap_store.specs.Last.{Last};
 ghost use Rattle.litemap_store.specs.Retain.{CallableOnEach, Kept};
 ghost use Rattle.litemap_store.specs.VecStore.{vec_room};
 
 use crate::column_iter::{ColumnIntoIter, ColumnIter};
-use crate::extend::{gather, last_of};
-use crate::retain::is_kept;
+use crate::shared::{insert_reserved, is_kept};
 use crate::slice_search;
 use crate::store::{
     Count, NoRoom, Store, StoreBulkMut, StoreConstEmpty, StoreFromIterable, StoreFromIterator,
@@ -212,12 +209,12 @@ impl<K: Ord + Drop, V: Drop> StoreBulkMut<K, V> for ColumnStore<K, V> {
         for index in 0..self.keys.len() {
             let key = &self.keys[index];
             let value = &self.values[index];
-            if !is_kept(&mut f, key, value) {
-                continue;
-            }
+            let stays = is_kept(&mut f, key, value);
             self.keys.swap(kept, index);
             self.values.swap(kept, index);
-            kept += 1;
+            if stays {
+                kept += 1;
+            }
         }
         self.keys.truncate(kept);
         self.values.truncate(kept);
@@ -238,8 +235,9 @@ impl<K: Ord + Drop, V: Drop> StoreFromIterable<K, V> for ColumnStore<K, V> {
         iter: I,
         count: &mut Count,
     ) -> Result<Self, AllocError> {
-        let pairs = gather(alloc, iter)?;
-        split_last(alloc, pairs, count)
+        let mut store = Self::lm_empty(alloc);
+        store.lm_extend(alloc, iter, count)?;
+        Ok(store)
     }
 
     fn lm_sort_from_vec(
@@ -247,8 +245,9 @@ impl<K: Ord + Drop, V: Drop> StoreFromIterable<K, V> for ColumnStore<K, V> {
         given: &mut Vec<(K, V)>,
         count: &mut Count,
     ) -> Result<Self, AllocError> {
-        let pairs = mem::replace(given, Vec::new(alloc));
-        split_last(alloc, pairs, count)
+        let mut store = Self::lm_empty(alloc);
+        store.lm_extend_from_vec(alloc, given, count)?;
+        Ok(store)
     }
 }
 
@@ -284,35 +283,6 @@ impl<K: Drop, V: Drop> StoreIntoIterator<K, V> for ColumnStore<K, V> {
     }
 }
 
-// The last pair of each key in two columns, which have room for these alone.
-fn split_last<K: Ord + Drop, V: Drop>(
-    alloc: Global,
-    pairs: Vec<(K, V)>,
-    count: &mut Count,
-) -> Result<ColumnStore<K, V>, AllocError>
-    ensures last { IfOk result (λ s. Last K.cmp pairs.items s.pairs) }
-    ensures cost { RisesByAtMost (length pairs.items - 1) count.old count.new }
-{
-    let pairs = last_of(pairs, count)?;
-    split(alloc, pairs)
-}
-
-// The pairs in two columns that have room for them alone.
-fn split<K: Drop, V: Drop>(
-    alloc: Global,
-    pairs: Vec<(K, V)>,
-) -> Result<ColumnStore<K, V>, AllocError>
-    ensures { IfOk result (λ s. s.pairs ≡ pairs.items) }
-{
-    let mut keys = Vec::with_capacity(alloc, pairs.len())?;
-    let mut values = Vec::with_capacity(alloc, pairs.len())?;
-    for (key, value) in pairs {
-        keys.push_reserved(key);
-        values.push_reserved(value);
-    }
-    Ok(ColumnStore { keys, values })
-}
-
 // Puts the items of another vector behind, where there is room for them.
 fn append_reserved<T: Drop>(items: &mut Vec<T>, other: &mut Vec<T>)
     requires { vec_len items.old + vec_len other.old ≤ vec_capacity items.old }
@@ -322,16 +292,4 @@ fn append_reserved<T: Drop>(items: &mut Vec<T>, other: &mut Vec<T>)
     let Ok(()) = items.append(other) else {
         unreachable!()
     };
-}
-
-// Puts an item at a place, in a vector that has room, by one move of the later ones.
-fn insert_reserved<T>(items: &mut Vec<T>, index: usize, item: T)
-    requires index { index ≤ vec_len items.old }
-    requires room { vec_len items.old < vec_capacity items.old }
-    ensures items { items.new.items ≡ insert items.old.items index item }
-    ensures len { vec_len items.new ≡ vec_len items.old + 1 }
-    ensures capacity { vec_capacity items.new ≡ vec_capacity items.old }
-{
-    items.push_reserved(item);
-    items[index..].rotate_right(1);
 }

@@ -1,10 +1,11 @@
 //! The bodies behind `lm_extend` and `lm_sort_from_iter`.
 //!
-//! The new pairs are gathered in a vector of their own before a store changes. Where they rise no sort is made.
-ghost use Rattle.std.specs.Prelude.{◌≡◌, ◌+◌, ◌-◌, ◌*◌, ◌≤◌, ◌<◌, ◌++◌, ◌↔◌, IsTrue, IfOk, OnOk, OnErr, length};
-ghost use Rattle.std.specs.Prelude.{vec_capacity, vec_len};
+//! A vector pushes the new pairs behind its own. Other stores change once the new pairs are gathered in a vector. Where they rise
+//! no sort is made.
+ghost use Rattle.std.specs.Prelude.{◌≡◌, ◌+◌, ◌-◌, ◌*◌, ◌≤◌, ◌<◌, ◌++◌, ◌↔◌, IsTrue, IsOk, IfOk, OnOk, OnErr, length};
+ghost use Rattle.std.specs.Prelude.{drop, min, take, vec_capacity, vec_len};
 ghost use Rattle.std.specs.Iterator.{IsFiniteIterable};
-ghost use Rattle.litemap_store.specs.Bulk.{Gives};
+ghost use Rattle.litemap_store.specs.Bulk.{Gives, GivesSome};
 ghost use Rattle.litemap_store.specs.Counts.{RisesByAtMost};
 ghost use Rattle.litemap_store.specs.Last.{Last, Rises};
 ghost use Rattle.litemap_store.specs.Pairs.{Rising};
@@ -31,16 +32,35 @@ pub fn gather<T: Drop, I: IntoIterator<Item = T>>(
     iter: I,
 ) -> Result<Vec<T>, AllocError>
     requires { IsFiniteIterable I.into_iter_gives I.IntoIter.can_next I.IntoIter.remaining iter }
-    ensures { IfOk result (λ v. Gives I.into_iter_gives I.IntoIter.next_gives iter v.items) }
+    ensures gathered { IfOk result (λ v. Gives I.into_iter_gives I.IntoIter.next_gives iter v.items) }
+    ensures refused_some { OnErr result (GivesSome I.into_iter_gives I.IntoIter.next_gives iter) }
 {
     let mut items = Vec::new(alloc);
+    gather_behind(&mut items, iter)?;
+    Ok(items)
+}
+
+/// Pushes the items of an iterator behind those of a vector, in order. No size hint is used. Where one is refused, all of them are
+/// given up.
+pub fn gather_behind<T: Drop, I: IntoIterator<Item = T>>(
+    items: &mut Vec<T>,
+    iter: I,
+) -> Result<(), AllocError>
+    requires { IsFiniteIterable I.into_iter_gives I.IntoIter.can_next I.IntoIter.remaining iter }
+    ensures gathered { OnOk result ((given : _) × (items.new.items ≡ items.old.items ++ given)
+        × Gives I.into_iter_gives I.IntoIter.next_gives iter given) }
+    ensures refused { OnErr result (items.new.items ≡ items.old.items) }
+    ensures refused_some { OnErr result (GivesSome I.into_iter_gives I.IntoIter.next_gives iter) }
+{
+    let len = items.len();
     for item in iter {
-        if items.len() == items.capacity() {
-            make_room(&mut items)?;
+        if items.len() == items.capacity() && make_room(items).is_err() {
+            items.truncate(len);
+            return Err(AllocError);
         }
         items.push_reserved(item);
     }
-    Ok(items)
+    Ok(())
 }
 
 // Makes room in a vector that is full. It stands apart, so that the loop over the items stays short.
@@ -54,28 +74,11 @@ fn make_room<T>(items: &mut Vec<T>) -> Result<(), AllocError>
     items.reserve(if len < MANY { FIRST.max(3 * len) } else { 1 })
 }
 
-/// The last pair of each key, in rising order. No sort is made where the pairs rise.
-pub fn last_of<K: Ord + Drop, V: Drop>(
-    mut pairs: Vec<(K, V)>,
-    count: &mut Count,
-) -> Result<Vec<(K, V)>, AllocError>
-    ensures last { IfOk result (λ v. Last K.cmp pairs.items v.items) }
-    ensures shorter { IfOk result (λ v. length v.items ≤ length pairs.items) }
-    ensures same { Rising K.cmp pairs.items → IfOk result (λ v. v.items ≡ pairs.items) }
-    ensures cost { RisesByAtMost (length pairs.items - 1) count.old count.new }
-{
-    if is_rising(&pairs, count) {
-        return Ok(pairs);
-    }
-    sort_last(&mut pairs)?;
-    Ok(pairs)
-}
-
 /// Puts pairs in: of each key the last pair stays.
 pub fn put_pairs<K: Ord + Drop, V: Drop, S: StoreMut<K, V> + Drop>(
     alloc: Global,
     store: &mut S,
-    pairs: Vec<(K, V)>,
+    mut pairs: Vec<(K, V)>,
     count: &mut Count,
 ) -> Result<(), AllocError>
     requires { Rising K.cmp (S.pairs store.old) }
@@ -84,35 +87,38 @@ pub fn put_pairs<K: Ord + Drop, V: Drop, S: StoreMut<K, V> + Drop>(
     ensures behind { Rises K.cmp (S.pairs store.old) pairs.items
         → RisesByAtMost (length pairs.items) count.old count.new }
     ensures cost { RisesByAtMost (length (S.pairs store.old) + 2 * length pairs.items) count.old count.new }
+    ensures succeeds { Rises K.cmp (S.pairs store.old) pairs.items → length pairs.items ≤ S.room store.old → IsOk result }
 {
-    let pairs = last_of(pairs, count)?;
-    put_rising(alloc, store, pairs, count)
-}
-
-// Puts pairs that rise in: behind the last one, or by one merge.
-fn put_rising<K: Ord + Drop, V: Drop, S: StoreMut<K, V> + Drop>(
-    alloc: Global,
-    store: &mut S,
-    pairs: Vec<(K, V)>,
-    count: &mut Count,
-) -> Result<(), AllocError>
-    requires store { Rising K.cmp (S.pairs store.old) }
-    requires pairs { Rising K.cmp pairs.items }
-    ensures last { OnOk result (Last K.cmp (S.pairs store.old ++ pairs.items) (S.pairs store.new)) }
-    ensures refused { OnErr result (S.pairs store.new ≡ S.pairs store.old) }
-    ensures none { length pairs.items ≡ 0 → RisesByAtMost 0 count.old count.new }
-    ensures behind { Rising K.cmp (S.pairs store.old ++ pairs.items) → RisesByAtMost 1 count.old count.new }
-    ensures cost { RisesByAtMost (1 + (length (S.pairs store.old) + length pairs.items)) count.old count.new }
-{
-    if pairs.is_empty() {
-        return Ok(());
-    }
-    if goes_behind(store, &pairs, count) {
+    keep_rising(alloc, &mut pairs, 0, count)?;
+    if lies_below(store, &pairs, count) {
         store.lm_reserve(pairs.len())?;
         append_each(store, pairs.into_iter());
         return Ok(());
     }
     merge(alloc, store, pairs, count)
+}
+
+/// Keeps the last pair of each key of those from an index on, in rising order. No sort is made where they rise.
+pub fn keep_rising<K: Ord + Drop, V: Drop>(
+    alloc: Global,
+    pairs: &mut Vec<(K, V)>,
+    from: usize,
+    count: &mut Count,
+) -> Result<(), AllocError>
+    requires { from ≤ vec_len pairs.old }
+    ensures before { take from pairs.new.items ≡ take from pairs.old.items }
+    ensures last { OnOk result (Last K.cmp (drop from pairs.old.items) (drop from pairs.new.items)) }
+    ensures shorter { (from ≤ vec_len pairs.new) × (vec_len pairs.new ≤ vec_len pairs.old) }
+    ensures same { Rising K.cmp (drop from pairs.old.items) → IsOk result × (pairs.new.items ≡ pairs.old.items) }
+    ensures cost { RisesByAtMost (vec_len pairs.old - from - 1) count.old count.new }
+{
+    let (_, given) = pairs.split_at(from);
+    if is_rising(given, count) {
+        return Ok(());
+    }
+    let kept = sort_last(alloc, &mut pairs[from..])?;
+    pairs.truncate(from + kept);
+    Ok(())
 }
 
 // Whether the keys rise strictly. It compares each with the one before it, until one doesn't rise.
@@ -128,21 +134,21 @@ fn is_rising<K: Ord, V>(pairs: &[(K, V)], count: &mut Count) -> bool
     true
 }
 
-// Whether pairs that rise lie above those of the store. It compares the first with the last one.
-pub(crate) fn goes_behind<K: Ord, V, S: Store<K, V>>(
-    store: &S,
-    pairs: &[(K, V)],
+// Whether all keys of one store lie below those of another. It compares the last of the one with the first of the other.
+pub(crate) fn lies_below<K: Ord, V, S: Store<K, V>, T: Store<K, V>>(
+    low: &S,
+    high: &T,
     count: &mut Count,
 ) -> bool
-    requires store { Rising K.cmp (S.pairs store.now) }
-    requires pairs { Rising K.cmp pairs.now }
-    ensures behind { IsTrue result ↔ Rising K.cmp (S.pairs store.now ++ pairs.now) }
-    ensures cost { RisesByAtMost 1 count.old count.new }
+    requires low { Rising K.cmp (S.pairs low.now) }
+    requires high { Rising K.cmp (T.pairs high.now) }
+    ensures below { IsTrue result ↔ Rising K.cmp (S.pairs low.now ++ T.pairs high.now) }
+    ensures cost { RisesByAtMost (min 1 (length (T.pairs high.now))) count.old count.new }
 {
-    let Some((last, _)) = store.lm_last() else {
+    let Some((last, _)) = low.lm_last() else {
         return true;
     };
-    let Some((first, _)) = pairs.first() else {
+    let Some((first, _)) = high.lm_get(0) else {
         return true;
     };
     count.cmp(last, first).is_lt()

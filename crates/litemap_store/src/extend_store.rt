@@ -12,6 +12,7 @@ mod in_one_pass;
 mod one_by_one;
 mod side_by_side;
 
+use crate::extend::lies_below;
 use crate::extend_store::in_one_pass::merge_in_one_pass;
 use crate::extend_store::one_by_one::merge_each;
 use crate::extend_store::side_by_side::merge_side_by_side;
@@ -159,22 +160,6 @@ fn unless_empty<K, V, S: Store<K, V> + Drop>(rest: S) -> Option<S>
     ensures some { IfSome result (λ s. S.pairs s ≡ S.pairs rest) }
 {
     if rest.lm_is_empty() { None } else { Some(rest) }
-}
-
-// Whether all keys of one store lie below those of another. It compares the last of the one with the first of the other.
-fn lies_below<K: Ord, V, S: Store<K, V>>(low: &S, high: &S, count: &mut Count) -> bool
-    requires low { Rising K.cmp (S.pairs low.now) }
-    requires high { Rising K.cmp (S.pairs high.now) }
-    ensures below { IsTrue result ↔ Rising K.cmp (S.pairs low.now ++ S.pairs high.now) }
-    ensures cost { RisesByAtMost 1 count.old count.new }
-{
-    let Some((last, _)) = low.lm_last() else {
-        return true;
-    };
-    let Some((first, _)) = high.lm_get(0) else {
-        return true;
-    };
-    count.cmp(last, first).is_lt()
 }
 
 // The place where a key splits the pairs.

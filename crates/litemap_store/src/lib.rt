@@ -12,7 +12,7 @@ pub mod laws;
 mod no_room;
 mod query;
 mod reserved;
-mod retain;
+pub mod shared;
 mod slice_impl;
 mod slice_iter;
 mod slice_search;

@@ -3,9 +3,9 @@ ghost use Rattle.std.specs.Prelude.{◌≡◌, ◌<◌, ◌≤◌, ◌-◌, [], 
 ghost use Rattle.litemap_store.specs.Retain.{CallableOnEach, Kept};
 ghost use Rattle.litemap_store.specs.VecStore.{vec_room, vec_with_value, vec_writes, vec_keeps_room};
 
-use crate::extend::vector::put_pairs_in_vec;
-use crate::extend::{gather, last_of};
-use crate::retain::is_kept;
+use crate::extend::vector::{append_in_vec, settle};
+use crate::extend::{gather, gather_behind};
+use crate::shared::is_kept;
 use crate::slice_search;
 use crate::store::{
     Count, NoRoom, SliceIter, Store, StoreBulkMut, StoreConstEmpty, StoreFromIterable,
@@ -40,10 +40,7 @@ impl<K, V> Store<K, V> for Vec<(K, V)> {
 }
 
 impl<K, V> StoreConstEmpty<K, V> for Vec<(K, V)> {
-    fn lm_empty(alloc: Global) -> Self
-        ensures pairs { result.items ≡ [] }
-        ensures room { vec_room result ≡ 0 }
-    {
+    fn lm_empty(alloc: Global) -> Self {
         Vec::new(alloc)
     }
 }
@@ -149,8 +146,9 @@ impl<K: Ord + Drop, V: Drop> StoreBulkMut<K, V> for Vec<(K, V)> {
         iter: I,
         count: &mut Count,
     ) -> Result<(), AllocError> {
-        let pairs = gather(alloc, iter)?;
-        put_pairs_in_vec(alloc, self, pairs, count)
+        let len = self.len();
+        gather_behind(self, iter)?;
+        settle(alloc, self, len, count)
     }
 
     fn lm_extend_from_vec(
@@ -159,8 +157,9 @@ impl<K: Ord + Drop, V: Drop> StoreBulkMut<K, V> for Vec<(K, V)> {
         given: &mut Vec<(K, V)>,
         count: &mut Count,
     ) -> Result<(), AllocError> {
-        let pairs = mem::replace(given, Vec::new(alloc));
-        put_pairs_in_vec(alloc, self, pairs, count)
+        let len = self.len();
+        append_in_vec(self, mem::replace(given, Vec::new(alloc)))?;
+        settle(alloc, self, len, count)
     }
 }
 
@@ -178,8 +177,9 @@ impl<K: Ord + Drop, V: Drop> StoreFromIterable<K, V> for Vec<(K, V)> {
         iter: I,
         count: &mut Count,
     ) -> Result<Self, AllocError> {
-        let pairs = gather(alloc, iter)?;
-        last_of(pairs, count)
+        let mut pairs = Self::new(alloc);
+        pairs.lm_extend(alloc, iter, count)?;
+        Ok(pairs)
     }
 
     fn lm_sort_from_vec(
@@ -187,8 +187,9 @@ impl<K: Ord + Drop, V: Drop> StoreFromIterable<K, V> for Vec<(K, V)> {
         given: &mut Vec<(K, V)>,
         count: &mut Count,
     ) -> Result<Self, AllocError> {
-        let pairs = mem::replace(given, Vec::new(alloc));
-        last_of(pairs, count)
+        let mut pairs = Self::new(alloc);
+        pairs.lm_extend_from_vec(alloc, given, count)?;
+        Ok(pairs)
     }
 }
 

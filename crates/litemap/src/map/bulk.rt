@@ -1,9 +1,9 @@
 //! Calls that take many pairs at once. Of each key the last pair stays.
-ghost use Rattle.std.specs.Prelude.{◌≡◌, ◌++◌, [], IfOk, OnOk, OnErr};
+ghost use Rattle.std.specs.Prelude.{◌≡◌, ◌≤◌, ◌++◌, [], IfOk, IsOk, OnOk, OnErr, length};
 ghost use Rattle.std.specs.Iterator.{IsFiniteIterable};
-ghost use Rattle.litemap_store.specs.Bulk.{IsCountedFor, IsExtended, IsExtendedCounted, IsRefusedCounted};
+ghost use Rattle.litemap_store.specs.Bulk.{GivesSome, IsCountedFor, IsExtended, IsExtendedCounted, IsRefusedCounted};
 ghost use Rattle.litemap_store.specs.Counts.{GoesOn};
-ghost use Rattle.litemap_store.specs.Last.{Last};
+ghost use Rattle.litemap_store.specs.Last.{Last, Rises};
 
 use crate::LiteMap;
 use litemap_store::store::{Count, StoreBulkMut, StoreFromIterable};
@@ -26,8 +26,9 @@ impl<K: Ord + Drop, V: Drop, S: StoreFromIterable<K, V>> LiteMap<K, V, S> {
         iter: I,
     ) -> Result<Self, AllocError>
         requires { IsFiniteIterable I.into_iter_gives I.IntoIter.can_next I.IntoIter.remaining iter }
-        ensures { IfOk result
+        ensures made { IfOk result
             (λ m. IsExtended K.cmp I.into_iter_gives I.IntoIter.next_gives iter [] m.pairs) }
+        ensures refused_some { OnErr result (GivesSome I.into_iter_gives I.IntoIter.next_gives iter) }
     {
         Self::from_iter_counted(alloc, iter, &mut Count::new())
     }
@@ -44,6 +45,7 @@ impl<K: Ord + Drop, V: Drop, S: StoreFromIterable<K, V>> LiteMap<K, V, S> {
             iter [] m.pairs count.old count.new) }
         ensures refused_cost { OnErr result
             (IsRefusedCounted K.cmp I.into_iter_gives I.IntoIter.next_gives iter [] count.old count.new) }
+        ensures refused_some { OnErr result (GivesSome I.into_iter_gives I.IntoIter.next_gives iter) }
         ensures counted { GoesOn count.old count.new }
     {
         Ok(LiteMap {
@@ -55,7 +57,7 @@ impl<K: Ord + Drop, V: Drop, S: StoreFromIterable<K, V>> LiteMap<K, V, S> {
     /// The map of the pairs of a vector, or a refusal for want of memory (own). Of each key the last pair stays, whole.
     ///
     /// It answers as `from_iter` does, but takes the vector as it is: over a vector no pair moves where they rise, and over it
-    /// and two columns nothing is gathered. What it leaves is told by the vector's list.
+    /// and two columns nothing is gathered. What it leaves is told by the vector's list. No pair is never refused.
     ///
     /// ```rust
     /// let pairs = [(2, "Tue"), (1, "Mon"), (2, "Tuesday")].to_vec(alloc)?;
@@ -63,7 +65,8 @@ impl<K: Ord + Drop, V: Drop, S: StoreFromIterable<K, V>> LiteMap<K, V, S> {
     /// Ok(days.as_slice() == [(1, "Mon"), (2, "Tuesday")].as_slice())
     /// ```
     pub fn from_vec(alloc: Global, pairs: Vec<(K, V)>) -> Result<Self, AllocError>
-        ensures { IfOk result (λ m. Last K.cmp pairs.items m.pairs) }
+        ensures made { IfOk result (λ m. Last K.cmp pairs.items m.pairs) }
+        ensures succeeds { pairs.items ≡ [] → IsOk result }
     {
         Self::from_vec_counted(alloc, pairs, &mut Count::new())
     }
@@ -75,6 +78,7 @@ impl<K: Ord + Drop, V: Drop, S: StoreFromIterable<K, V>> LiteMap<K, V, S> {
         count: &mut Count,
     ) -> Result<Self, AllocError>
         ensures made { IfOk result (λ m. Last K.cmp pairs.items m.pairs) }
+        ensures succeeds { pairs.items ≡ [] → IsOk result }
         ensures counted { IsCountedFor K.cmp [] pairs.items count.old count.new }
     {
         Ok(LiteMap {
@@ -110,6 +114,7 @@ impl<K: Ord + Drop, V: Drop, S: StoreBulkMut<K, V>> LiteMap<K, V, S> {
         ensures extended { OnOk result
             (IsExtended K.cmp I.into_iter_gives I.IntoIter.next_gives iter self.old.pairs self.new.pairs) }
         ensures refused { OnErr result (self.new.pairs ≡ self.old.pairs) }
+        ensures refused_some { OnErr result (GivesSome I.into_iter_gives I.IntoIter.next_gives iter) }
     {
         self.extend_counted(alloc, iter, &mut Count::new())
     }
@@ -128,6 +133,7 @@ impl<K: Ord + Drop, V: Drop, S: StoreBulkMut<K, V>> LiteMap<K, V, S> {
         ensures refused { OnErr result (self.new.pairs ≡ self.old.pairs) }
         ensures refused_cost { OnErr result (IsRefusedCounted K.cmp I.into_iter_gives I.IntoIter.next_gives
             iter self.old.pairs count.old count.new) }
+        ensures refused_some { OnErr result (GivesSome I.into_iter_gives I.IntoIter.next_gives iter) }
         ensures counted { GoesOn count.old count.new }
     {
         self.store.lm_extend(alloc, iter, count)
@@ -137,8 +143,8 @@ impl<K: Ord + Drop, V: Drop, S: StoreBulkMut<K, V>> LiteMap<K, V, S> {
     /// old pair counts as earlier than all new ones.
     ///
     /// It answers as `extend` does, by as many comparisons, but takes the vector as it is, and nothing is gathered. What it
-    /// leaves is told by the vector's list. A refusal leaves the list, and the vector is given up. Nothing is promised of the
-    /// room.
+    /// leaves is told by the vector's list. A refusal leaves the list, and the vector is given up. Where its keys rise past the
+    /// last one, and there is room for all, it is never refused. Nothing is promised of the room after it.
     ///
     /// ```rust
     /// let mut days = three_days(alloc)?;
@@ -149,6 +155,7 @@ impl<K: Ord + Drop, V: Drop, S: StoreBulkMut<K, V>> LiteMap<K, V, S> {
     pub fn extend_from_vec(&mut self, alloc: Global, pairs: Vec<(K, V)>) -> Result<(), AllocError>
         ensures last { OnOk result (Last K.cmp (self.old.pairs ++ pairs.items) self.new.pairs) }
         ensures refused { OnErr result (self.new.pairs ≡ self.old.pairs) }
+        ensures succeeds { Rises K.cmp self.old.pairs pairs.items → length pairs.items ≤ self.old.room → IsOk result }
     {
         self.extend_from_vec_counted(alloc, pairs, &mut Count::new())
     }
@@ -162,6 +169,7 @@ impl<K: Ord + Drop, V: Drop, S: StoreBulkMut<K, V>> LiteMap<K, V, S> {
     ) -> Result<(), AllocError>
         ensures last { OnOk result (Last K.cmp (self.old.pairs ++ pairs.items) self.new.pairs) }
         ensures refused { OnErr result (self.new.pairs ≡ self.old.pairs) }
+        ensures succeeds { Rises K.cmp self.old.pairs pairs.items → length pairs.items ≤ self.old.room → IsOk result }
         ensures counted { IsCountedFor K.cmp self.old.pairs pairs.items count.old count.new }
     {
         self.store.lm_extend_from_vec(alloc, &mut pairs, count)

@@ -1,62 +1,54 @@
-//! The bodies behind a vector's `lm_extend`: pairs behind the last one move at once, and a merge turns its side vector round,
-//! which becomes the store.
-ghost use Rattle.std.specs.Prelude.{◌≡◌, ◌+◌, ◌*◌, ◌++◌, OnOk, OnErr, length};
+//! The bodies behind a vector's `lm_extend`: new pairs behind its own become part of it where they stand, and a merge turns its
+//! side vector round, which becomes the store.
+ghost use Rattle.std.specs.Prelude.{◌≡◌, ◌≤◌, ◌+◌, ◌*◌, ◌++◌, IsOk, OnOk, OnErr, drop, length, take, vec_len};
 ghost use Rattle.litemap_store.specs.Counts.{RisesByAtMost};
 ghost use Rattle.litemap_store.specs.Last.{Last, Rises};
 ghost use Rattle.litemap_store.specs.Pairs.{Rising};
+ghost use Rattle.litemap_store.specs.VecStore.{vec_room};
 
 use crate::count::Count;
 use crate::extend::merge::take_down;
-use crate::extend::{goes_behind, last_of};
+use crate::extend::{keep_rising, lies_below};
+use crate::slice_impl::SliceStore;
 use std::alloc::{AllocError, Global};
 
-/// Puts pairs in: of each key the last pair stays.
-pub fn put_pairs_in_vec<K: Ord + Drop, V: Drop>(
+/// Makes the pairs from an index on, below which the keys rise, part of the store: of each key the last pair stays. Where it is
+/// refused they are given up.
+pub fn settle<K: Ord + Drop, V: Drop>(
     alloc: Global,
     store: &mut Vec<(K, V)>,
-    pairs: Vec<(K, V)>,
+    from: usize,
     count: &mut Count,
 ) -> Result<(), AllocError>
-    requires { Rising K.cmp store.old.items }
-    ensures last { OnOk result (Last K.cmp (store.old.items ++ pairs.items) store.new.items) }
-    ensures refused { OnErr result (store.new.items ≡ store.old.items) }
-    ensures behind { Rises K.cmp store.old.items pairs.items
-        → RisesByAtMost (length pairs.items) count.old count.new }
-    ensures cost { RisesByAtMost (length store.old.items + 2 * length pairs.items) count.old count.new }
+    requires from { from ≤ vec_len store.old }
+    requires rising { Rising K.cmp (take from store.old.items) }
+    ensures last { OnOk result (Last K.cmp store.old.items store.new.items) }
+    ensures refused { OnErr result (store.new.items ≡ take from store.old.items) }
+    ensures behind { Rises K.cmp (take from store.old.items) (drop from store.old.items)
+        → RisesByAtMost (length (drop from store.old.items)) count.old count.new }
+    ensures cost { RisesByAtMost (from + 2 * length (drop from store.old.items)) count.old count.new }
+    ensures succeeds { Rises K.cmp (take from store.old.items) (drop from store.old.items) → IsOk result }
 {
-    let pairs = last_of(pairs, count)?;
-    put_rising_in_vec(alloc, store, pairs, count)
-}
-
-// Puts pairs that rise in: behind the last one, or by one merge.
-fn put_rising_in_vec<K: Ord + Drop, V: Drop>(
-    alloc: Global,
-    store: &mut Vec<(K, V)>,
-    pairs: Vec<(K, V)>,
-    count: &mut Count,
-) -> Result<(), AllocError>
-    requires store { Rising K.cmp store.old.items }
-    requires pairs { Rising K.cmp pairs.items }
-    ensures last { OnOk result (Last K.cmp (store.old.items ++ pairs.items) store.new.items) }
-    ensures refused { OnErr result (store.new.items ≡ store.old.items) }
-    ensures none { length pairs.items ≡ 0 → RisesByAtMost 0 count.old count.new }
-    ensures behind { Rising K.cmp (store.old.items ++ pairs.items) → RisesByAtMost 1 count.old count.new }
-    ensures cost { RisesByAtMost (1 + (length store.old.items + length pairs.items)) count.old count.new }
-{
-    if pairs.is_empty() {
+    let Ok(()) = keep_rising(alloc, store, from, count) else {
+        store.truncate(from);
+        return Err(AllocError);
+    };
+    let (old, given) = store.split_at(from);
+    if lies_below(&SliceStore::new(old), &SliceStore::new(given), count) {
         return Ok(());
     }
-    if goes_behind(store, &pairs, count) {
-        append_in_vec(store, pairs)?;
-        return Ok(());
-    }
-    merge_in_vec(alloc, store, pairs, count)
+    let Ok(given) = store.split_off(from) else {
+        store.truncate(from);
+        return Err(AllocError);
+    };
+    merge_in_vec(alloc, store, given, count)
 }
 
-// Puts pairs behind the others, all at once. Where there are none, and no room for the new ones, their vector becomes the store.
-fn append_in_vec<T: Drop>(store: &mut Vec<T>, mut items: Vec<T>) -> Result<(), AllocError>
+/// Puts items behind the others, all at once. Where there are none, and no room for the new ones, their vector takes the place.
+pub fn append_in_vec<T: Drop>(store: &mut Vec<T>, mut items: Vec<T>) -> Result<(), AllocError>
     ensures behind { OnOk result (store.new.items ≡ store.old.items ++ items.items) }
     ensures refused { OnErr result (store.new.items ≡ store.old.items) }
+    ensures succeeds { length items.items ≤ vec_room store.old → IsOk result }
 {
     if store.is_empty() && store.capacity() < items.len() {
         *store = items;

@@ -1,20 +1,28 @@
-use Rattle.std.proofs.Common.{◌≡◌, ◌-◌, length, arith, ap, ◌∙◌, inl, inr}
-use Rattle.std.proofs.lemmas.Bool.{cases_eq}
+use Rattle.std.proofs.Common.{◌≡◌, ◌++◌, sym, ◌∙◌}
 use Rattle.std.proofs.lemmas.Result.{on_ok_weaker}
-use Rattle.litemap_store.proofs.Counting.{in_turn}
+use mathlib.Core.Bool.{true≢false}
+use Rattle.litemap_store.specs.Last.{Rises}
 use Rattle.litemap_store.proofs.Joined.{Rising-from_Rises}
-use Rattle.litemap_store.proofs.LastPairs.{Last-join_right}
+use Rattle.litemap_store.proofs.LastPairs.{Last-join_right, Last-rising}
+use Rattle.litemap_store.proofs.extend.put_pairs.Given.{Over}
 use Rattle.litemap_store.proofs.extend.put_pairs.Goals as goal
 
+-- new pairs that rise past the last old key go behind
+not_behind : (g : Over) (c : goal.After-merge g) → Rises g.K.Ord.cmp (g.S.Store.pairs c.args.store.now) c.args.pairs.items → ⊥
+not_behind g c h =
+    let up = Rising-from_Rises g.K.Ord.cmp _ _ c.requires h in
+    true≢false (sym (c.lies_below.ensures.below.1 (rw (c.keep_rising.ensures.same h.rising).1 up)) ∙ c.if-lies_below.false)
+
 pub returns-clause-last : goal.returns-clause-last
-returns-clause-last g c = on_ok_weaker c.put_rising.result (λ d. Last-join_right g.K.Ord.cmp g.met.K.Ord.total _ _ _ _ c.in_ok-pairs.ensures.last d) c.put_rising.ensures.last
+returns-clause-last g c = on_ok_weaker c.merge.result (λ d. Last-join_right g.K.Ord.cmp g.met.K.Ord.total _ _ _ _ c.in_ok-keep_rising.ensures.last d) c.merge.ensures.last
 
 pub returns-clause-behind : goal.returns-clause-behind
-returns-clause-behind g c = λ h.
-    let given = c.args.pairs.items in
-    let same : c.in_ok-pairs.pairs.items ≡ given = c.in_ok-pairs.ensures.same h.rising in
-    let up = Rising-from_Rises g.K.Ord.cmp _ _ c.requires h in
-    elim (cases_eq (length given) 0) [
-      | inl none ↦ in_turn (length given - 1) 0 (length given) (omega arith) c.in_ok-pairs.ensures.cost (c.put_rising.ensures.none (ap length same ∙ none))
-      | inr some ↦ in_turn (length given - 1) 1 (length given) (omega arith) c.in_ok-pairs.ensures.cost (c.put_rising.ensures.behind (rw same up))
-    ]
+returns-clause-behind g c = λ h. absurd (not_behind g c h)
+
+pub returns-clause-succeeds : goal.returns-clause-succeeds
+returns-clause-succeeds g c = λ h r. absurd (not_behind g c h)
+
+pub returns-then-lies_below-clause-last : goal.returns-then-lies_below-clause-last
+returns-then-lies_below-clause-last g c =
+    let all : g.S.Store.pairs c.append_each.new.store ≡ g.S.Store.pairs c.args.store.now ++ c.keep_rising.new.pairs.items = cc in
+    rw all (Last-join_right g.K.Ord.cmp g.met.K.Ord.total _ _ _ _ c.in_ok-keep_rising.ensures.last (Last-rising g.K.Ord.cmp _ (c.lies_below.ensures.below.0 c.if-lies_below.true)))

@@ -1,4 +1,4 @@
-use Rattle.std.proofs.Common.{◌≡◌, length, ap, arith}
+use Rattle.std.proofs.Common.{◌≡◌, length, arith}
 use Rattle.std.specs.List.{zip}
 use Rattle.litemap_store.proofs.Columns.{length-zip_same, same_length}
 use Rattle.litemap_store.proofs.column_impl.ColumnStoreStoreMut.lm_clear.Goals as goal

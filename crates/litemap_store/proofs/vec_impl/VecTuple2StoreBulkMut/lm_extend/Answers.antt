@@ -1,17 +1,36 @@
-use Rattle.std.proofs.Common.{inr}
+use Rattle.std.proofs.Common.{rules, ◌≡◌, ◌++◌, inr, length, take, drop}
+use Rattle.std.proofs.Math.Seq.{drop-append_seam, take-append_seam}
 use Rattle.std.proofs.lemmas.Result.{on_ok_weaker}
+use Rattle.litemap_store.specs.Bulk.{IsCountedFor}
 use Rattle.litemap_store.proofs.Counting.{always_on_err}
+use Rattle.litemap_store.proofs.FirstGiven.{GivesSome-from_refused}
+use Rattle.litemap_store.proofs.vec_impl.VecTuple2StoreBulkMut.lm_extend.Given.{Over}
 use Rattle.litemap_store.proofs.vec_impl.VecTuple2StoreBulkMut.lm_extend.Goals as goal
+
+-- the old pairs, and behind them those that were pushed
+parts : (g : Over) (c : goal.After-settle g) → let given = c.in_ok-gather_behind.ensures.gathered.0 in (take c.len-len.result c.gather_behind.new.items.items ≡ c.args.self.now.items) × (drop c.len-len.result c.gather_behind.new.items.items ≡ given)
+parts g c =
+    let old = c.args.self.now.items in
+    let given = c.in_ok-gather_behind.ensures.gathered.0 in
+    let all : c.gather_behind.new.items.items ≡ old ++ given = c.in_ok-gather_behind.ensures.gathered.1 in
+    let len : c.len-len.result ≡ length old = search rules in
+    (rw (all, len) (take-append_seam old given), rw (all, len) (drop-append_seam old given))
+
+counted : (g : Over) (c : goal.After-settle g) → IsCountedFor g.K.Ord.cmp c.args.self.now.items c.in_ok-gather_behind.ensures.gathered.0 c.args.count.now c.settle.new.count
+counted g c =
+    let part = parts g c in
+    let len : c.len-len.result ≡ length c.args.self.now.items = search rules in
+    record { behind = rw (part.0, part.1) at c.settle.ensures.behind; rising = λ _. rw (part.1, len) at c.settle.ensures.cost }
 
 pub returns-clause-extended : goal.returns-clause-extended
 returns-clause-extended g c =
-    let put = c.put_pairs_in_vec.ensures in
-    on_ok_weaker c.put_pairs_in_vec.result (λ last. record {
-      extended = record { given = c.in_ok-pairs.pairs.items; gives = c.in_ok-pairs.ensures; last = last };
-      counted = record { behind = put.behind; rising = λ _. put.cost };
-    }) put.last
+    let gathered = c.in_ok-gather_behind.ensures.gathered in
+    on_ok_weaker c.settle.result (λ last. record { extended = record { given = gathered.0; gives = gathered.2; last = rw gathered.1 at last }; counted = counted g c }) c.settle.ensures.last
 
 pub returns-clause-refused_cost : goal.returns-clause-refused_cost
-returns-clause-refused_cost g c =
-    let put = c.put_pairs_in_vec.ensures in
-    always_on_err c.put_pairs_in_vec.result (inr (c.in_ok-pairs.pairs.items, c.in_ok-pairs.ensures, record { behind = put.behind; rising = λ _. put.cost }))
+returns-clause-refused_cost g c = always_on_err c.settle.result (inr (c.in_ok-gather_behind.ensures.gathered.0, c.in_ok-gather_behind.ensures.gathered.2, counted g c))
+
+pub returns-clause-refused_some : goal.returns-clause-refused_some
+returns-clause-refused_some g c =
+    let part = parts g c in
+    GivesSome-from_refused g.K.Ord.cmp g.I.IntoIterator.into_iter_gives g.I.IntoIter.Iterator.next_gives c.args.iter c.settle.result c.args.self.now.items _ 0 c.in_ok-gather_behind.ensures.gathered.2 (λ h _. (rw (part.0, part.1) at c.settle.ensures.succeeds) h)

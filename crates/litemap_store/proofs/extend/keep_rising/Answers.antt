@@ -1,0 +1,26 @@
+use Rattle.std.proofs.Common.{◌≡◌, ℕ, ◌+◌, ◌-◌, List, ◌++◌, length, take, drop, append_assoc, arith, length-drop}
+use Rattle.std.proofs.Math.Seq.{drop-append_seam, take-append-add, take-append_seam}
+use Rattle.std.proofs.lemmas.List.{take_all}
+use Rattle.std.proofs.lemmas.Grind.{common_steps}
+use Rattle.litemap_store.proofs.LastPairs.{Last-rising}
+use Rattle.litemap_store.proofs.extend.keep_rising.Goals as goal
+
+pub returns-then-is_rising-clause-last : goal.returns-then-is_rising-clause-last
+returns-then-is_rising-clause-last g c =
+    Last-rising g.K.Ord.cmp _ (rw (c.split_at.ensures.back, c.deref.ensures.value) at (c.is_rising.ensures.rising.0 c.if-is_rising.true))
+
+-- the first of those that are written behind A
+kept_behind : {X : Type 0} (A S R₁ R₂ : List X) (from len kept : ℕ) → length A ≡ from → from + length S ≡ len → drop from (take (from + kept) (take len ((A ++ (S ++ R₁)) ++ R₂))) ≡ take kept S
+kept_behind A S R₁ R₂ from len kept a all =
+    rw (← all, ← a, append_assoc A (S ++ R₁) R₂, append_assoc S R₁ R₂, take-append-add A (S ++ (R₁ ++ R₂)) (length S), take-append_seam S (R₁ ++ R₂), take-append-add A S kept)
+    (drop-append_seam A (take kept S))
+
+pub returns-clause-last : goal.returns-clause-last
+returns-clause-last g c =
+    let from = c.args.from in
+    let old = c.deref_mut.result.now in
+    let sorted = c.sort_last.new.pairs in
+    let front : length (take from old) ≡ from = grind (arith, common_steps) in
+    let all : from + length sorted ≡ c.args.pairs.now.len = grind (arith, common_steps) in
+    rw (c.truncate.ensures.items, kept_behind (take from old) sorted _ _ from c.args.pairs.now.len c.in_ok-kept.kept front all)
+    (rw (c.deref_mut.ensures.value, take_all (length c.args.pairs.now.items - from) (drop from c.args.pairs.now.items) (grind (arith, length-drop))) at c.in_ok-kept.ensures.last)
