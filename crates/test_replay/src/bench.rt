@@ -1,12 +1,12 @@
 //! A map and a store of one kind, of which lines make calls.
+use crate::answer::{Answer, Pairs};
+use crate::call::{Call, Map};
+use crate::counted::{Key, Value};
 use crate::line::Line;
+use crate::stores;
+use crate::tested::{self, Tested, map_of, store_of};
 use litemap::LiteMap;
 use std::alloc::{AllocError, Global};
-use test_calls::answer::{Answer, Pairs};
-use test_calls::call::{Call, Map};
-use test_calls::counted::{Key, Value};
-use test_calls::stores;
-use test_calls::tested::{self, Tested, map_of, store_of};
 
 /// With how many pairs a line begins, and with how much room in all.
 #[derive(Clone, Copy)]

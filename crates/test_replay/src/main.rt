@@ -17,9 +17,20 @@
 //! of the input is the text of a file.
 #![tactic(auto)]
 
+mod answer;
 mod bench;
+mod bulk;
+mod call;
+mod changes;
+mod copies;
+mod counted;
+mod entries;
 mod line;
+mod looks;
 mod run;
+mod stores;
+mod tested;
+mod walks;
 
 use std::io;
 

@@ -1,16 +1,16 @@
 //! The lines of a file, over each store.
+use crate::answer::Answer;
 use crate::bench::{Bench, Outcome, Start};
+use crate::call::Call;
+use crate::counted::{Key, Order, Seen, Value};
 use crate::line::{self, Line};
+use crate::looks::{vector, view};
+use crate::walks::lent;
 use litemap::store::ColumnStore;
 use litemap_short::ShortStore;
 use std::alloc::{AllocError, Global};
 use std::rc::Rc;
 use std::{fs, io};
-use test_calls::answer::Answer;
-use test_calls::call::Call;
-use test_calls::counted::{Key, Order, Seen, Value};
-use test_calls::looks::{vector, view};
-use test_calls::walks::lent;
 use test_support::fixed_room::FixedRoom;
 
 // The names of the stores, in their order below.

@@ -1,4 +1,4 @@
-//! Keys and values, whose clones are counted, and the words that spell them, as `test_calls` reads and writes them.
+//! Keys and values, whose clones are counted, and the words that spell them, as `test_replay` reads and writes them.
 use litemap::LiteMap;
 use std::borrow::Borrow;
 use std::cell::Cell;
