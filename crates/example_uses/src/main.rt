@@ -16,6 +16,7 @@ pub mod people;
 pub mod prices;
 pub mod reserved;
 pub mod scores;
+pub mod sets;
 mod shown;
 pub mod texts;
 pub mod totals;

@@ -100,6 +100,26 @@ pub fn take_key(map: &mut Numbers, key: &String) -> Option<u32>
     map.remove(key)
 }
 
+/// Moves the number at a name to another name, and returns whether there was one. The removal leaves room for it, so that no
+/// memory is needed.
+#[tactic(auto, using(litemap::proofs::Texts::text_keys))]
+pub fn rename(map: &mut Numbers, old: &str, new: String) -> bool
+    ensures there { result ≡ is_some (at by_text map.old.pairs old.now) }
+    ensures moved { IsTrue result
+        → value_at by_text map.new.pairs (string_bytes new) ≡ value_at by_text map.old.pairs old.now }
+    ensures gone { old.now ≢ string_bytes new → value_at by_text map.new.pairs old.now ≡ None }
+    ensures others { (other : _) → other ≢ old.now → other ≢ string_bytes new
+        → value_at by_text map.new.pairs other ≡ value_at by_text map.old.pairs other }
+{
+    let Some(number) = map.remove(old) else {
+        return false;
+    };
+    let Ok(_) = map.insert(new, number) else {
+        unreachable!()
+    };
+    true
+}
+
 /// Writes the number at a name, if the name is there. All others stay.
 #[tactic(auto, using(litemap::proofs::Texts::text_keys))]
 pub fn set_number(map: &mut Numbers, name: &str, number: u32) -> bool

@@ -1,8 +1,9 @@
-//! Values that are made, a log, prices, and maps that move and are summed.
+//! Values that are made, a log, prices, sets, and maps that move and are summed.
 use crate::log::{Log, keep_newest};
 use crate::made::value_or_made;
 use crate::moved::moved;
 use crate::prices::{self, Prices};
+use crate::sets::{self, Set};
 use crate::totals::total;
 use litemap::{ColumnMap, LiteMap, TryFault, VecMap};
 use std::alloc::{AllocError, Global};
@@ -13,6 +14,7 @@ pub(crate) fn show(rt: &impl Print, alloc: Global) -> anyhow::Result<()> {
     show_made(rt, alloc)?;
     show_log(rt, &mut three_entries(alloc)?)?;
     show_prices(rt, &mut four_prices(alloc)?)?;
+    show_sets(rt, alloc)?;
     show_totals(rt, alloc, 98)?;
     show_totals(rt, alloc, u32::MAX)
 }
@@ -67,6 +69,23 @@ fn show_prices(rt: &impl Print, prices: &mut Prices) -> io::Result<()> {
     println!(rt; "between b and a {:?}", prices::between(prices, "b", "a"))?;
     println!(rt; "from ac {:?}", prices::from(prices, "ac"))?;
     println!(rt; "from x {:?}", prices::from(prices, "x"))
+}
+
+fn show_sets(rt: &impl Print, alloc: Global) -> anyhow::Result<()> {
+    let mut set: Set = LiteMap::from_iter(alloc, [(1, ()), (3, ()), (5, ())])?;
+    let other: Set = LiteMap::from_iter(alloc, [(3, ()), (5, ()), (7, ())])?;
+    let before = sets::is_subset(&set, &other);
+    sets::intersect(&mut set, &other);
+    println!(rt;
+        "common {set:?}, a subset {:?}",
+        [before, sets::is_subset(&set, &other)]
+    )?;
+    sets::subtract(&mut set, &other);
+    println!(rt;
+        "without them {set:?}, a subset {}",
+        sets::is_subset(&set, &other)
+    )?;
+    Ok(())
 }
 
 // The totals of a map of two pairs, over a vector, a slice of it, and two columns that it moves to.

@@ -9,6 +9,7 @@ pub(crate) fn show(rt: &impl Print, alloc: Global) -> anyhow::Result<()> {
     for name in ["", "one", "ones", "two"] {
         show_name(rt, alloc, name)?;
     }
+    show_renamed(rt, alloc)?;
     show_bytes(rt, &mut one_at_bytes(alloc)?, &[1])?;
     show_bytes(rt, &mut one_at_bytes(alloc)?, &[1, 2])?;
     show_bytes(rt, &mut one_at_bytes(alloc)?, &[2])?;
@@ -59,6 +60,21 @@ fn show_written(rt: &impl Print, map: &mut Numbers, key: &String) -> io::Result<
     println!(rt; "at its place {:?}", texts::number_of(map, name))?;
     let is_set = texts::set_number(map, name, 7);
     println!(rt; "set {is_set}, {:?}", texts::copied_at(map, key))
+}
+
+// A number that moves to another name: to a new one, to one that is there, to its own, and one that isn't there.
+fn show_renamed(rt: &impl Print, alloc: Global) -> anyhow::Result<()> {
+    let mut map = two_names(alloc)?;
+    for (old, new) in [
+        ("one", "ace"),
+        ("two", "ace"),
+        ("ace", "ace"),
+        ("two", "one"),
+    ] {
+        let there = texts::rename(&mut map, old, new.to_string(alloc)?);
+        println!(rt; "{old} is {new}: {there}, {map:?}")?;
+    }
+    Ok(())
 }
 
 fn one_at_bytes(alloc: Global) -> Result<ByteNumbers, AllocError> {
