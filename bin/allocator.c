@@ -1,8 +1,9 @@
-// Loaded before the C library into `test_replay`: counts the requests for memory of each call, and refuses one of them.
+// Loaded before the C library into a program of tests: counts the requests for memory of each call, and refuses one of them.
 //
 // The program makes a request of BEGIN bytes before each call, one of END bytes after it, and one of IDLE bytes once all that
 // the call was given and left is dropped. Then a line of three numbers goes to standard error: the requests between the first
-// two, their bytes, and how many blocks are held. With REFUSE=N in the environment the Nth request of each call is refused.
+// two (up to the third, if there is no second), their bytes, and how many blocks are held. With REFUSE=N in the environment the
+// Nth request of each call is refused.
 typedef unsigned long size_t;
 
 enum { BEGIN = 1000003, END = 1000033, IDLE = 1000063 };

@@ -7,7 +7,6 @@ import re
 import shutil
 import subprocess
 import sys
-import tempfile
 
 TOP = pathlib.Path(__file__).resolve().parent.parent
 # What each crate uses, by the lines of crates.txt, in their order.
@@ -36,18 +35,6 @@ def copy_crates(room, *names, ignored=("out", "must-fail")):
     shutil.copy(TOP / "HANDLES", room)
 
 
-def try_cases(folder, cases, refused):
-    """What a program writes on each case, how many requests for memory it makes, of which one is refused, and the log of `rt try`."""
-    with tempfile.TemporaryDirectory() as room:
-        for name, text in cases.items():
-            pathlib.Path(room, name).write_text(text, encoding="utf-8")
-        command = ["rt", "try", "--fail-alloc", str(refused), "--cases", room]
-        run = subprocess.run(command, cwd=folder, stdin=subprocess.DEVNULL, capture_output=True, text=True)
-    outputs = dict(re.findall(r"^== (\S+)\n((?:(?!== ).*\n)*)", run.stdout, re.MULTILINE))
-    requests = re.findall(r"^allocations: (.*)\ncase=(\S+) ", run.stderr, re.MULTILINE)
-    return outputs, {name: number for number, name in requests}, run.stdout + run.stderr
-
-
 @functools.cache
 def kit():
     """The folder of the kit."""
@@ -55,20 +42,22 @@ def kit():
 
 
 class Watched:
-    """A program that makes the lines of `test_replay`, with bin/allocator.c loaded before the C library."""
+    """A program of tests, with bin/allocator.c loaded before the C library; each line that tells of a call has a sign in it."""
 
-    def __init__(self, room, program):
-        self.program, self.library = program, f"{room}/allocator.so"
+    def __init__(self, room, crate, sign, program=None):
+        self.folder, self.sign, self.library = TOP / "crates" / crate, sign, f"{room}/allocator.so"
+        self.program = program or self.folder / "out" / crate
         options = ["-O1", "-shared", "-fPIC", "-nostdlib", "-fuse-ld=lld", "-fno-builtin"]
         clang = kit() / "toolchain" / "bin" / "clang"
         subprocess.run([clang, *options, "-o", self.library, TOP / "bin" / "allocator.c"], check=True)
 
-    def run(self, is_marked, **more):
-        """How it ends, the lines that it writes, if it is marked all of them, and the numbers that stand beside each."""
-        folder, env = TOP / "crates" / "test_replay", os.environ | {"LD_PRELOAD": self.library} | more
-        given = "marked\n" * is_marked + (folder / "stdin").read_text(encoding="utf-8")
-        run = subprocess.run([self.program], cwd=folder / "data", env=env, input=given, capture_output=True, text=True)
-        return run.returncode, [line for line in run.stdout.splitlines() if " = " in line], run.stderr.splitlines()
+    def run(self, before="", **more):
+        """How it ends on its input behind this text, the lines that tell of calls, and the numbers that stand beside each."""
+        env, given = os.environ | {"LD_PRELOAD": self.library} | more, before + (self.folder / "stdin").read_text(encoding="utf-8")
+        data = self.folder / "data"
+        how = {"cwd": data if data.is_dir() else self.folder, "env": env, "input": given, "capture_output": True, "text": True}
+        run = subprocess.run([self.program], **how)
+        return run.returncode, [line for line in run.stdout.splitlines() if self.sign in line], run.stderr.splitlines()
 
 
 class Report:

@@ -1,21 +1,55 @@
 //! Shows what each call that reads or writes answers where one of its requests for memory is refused.
 //!
-//! A scenario whose name ends in `_in_columns` has its pairs in two columns, and the others in a vector. The lines that it
-//! reads are those of `lines::run_lines`.
+//! Standard input names scenarios, a line each. The program runs them, and writes how each ended: `NAME: answered`,
+//! `NAME: answered, room N`, `NAME: refused` or `NAME: WRONG: ..`, by `Outcome`. A scenario whose name ends in `_in_columns`
+//! has its pairs in two columns, and the others in a vector. Requests of two sizes tell a watcher of the allocator when each
+//! begins, and when all of it is dropped (`bin/refusals`).
 #![tactic(auto)]
 
 mod derived;
 mod json;
 mod json_faults;
-mod lines;
 mod outcome;
 mod read;
 mod session;
 mod tables;
 
-use lines::run_lines;
+use outcome::{Ended, Outcome};
+use std::alloc::Global;
 use std::io;
 
+// The sizes of the requests that tell where a scenario begins, and where all of it is dropped.
+const BEGIN: usize = 1_000_003;
+
+const IDLE: usize = 1_000_063;
+
 fn main(rt: HostRuntime) -> io::Result<()> {
-    run_lines(&rt, &mut rt.stdin())
+    let input = io::read_to_string(rt.alloc(), rt.stdin())?;
+    for name in input.lines() {
+        mark(rt.alloc(), BEGIN);
+        let ended = run(rt.alloc(), name);
+        mark(rt.alloc(), IDLE);
+        match ended.map(|ended| ended.unwrap_or_else(|outcome| outcome)) {
+            Some(Outcome::Answered) => println!(rt; "{name}: answered")?,
+            Some(Outcome::AnsweredWithRoom(room)) => println!(rt; "{name}: answered, room {room}")?,
+            Some(Outcome::Refused) => println!(rt; "{name}: refused")?,
+            Some(Outcome::Wrong(what)) => println!(rt; "{name}: WRONG: {what}")?,
+            None => println!(rt; "{name}: unknown")?,
+        }
+    }
+    Ok(())
+}
+
+fn mark(alloc: Global, size: usize) {
+    let _ = Vec::<u8>::with_capacity(alloc, size);
+}
+
+// Runs the scenario of a name, if there is one.
+fn run(alloc: Global, name: &str) -> Option<Ended> {
+    read::run(alloc, name)
+        .or_else(|| session::run(alloc, name))
+        .or_else(|| tables::run(alloc, name))
+        .or_else(|| json::run(alloc, name))
+        .or_else(|| json_faults::run(alloc, name))
+        .or_else(|| derived::run(alloc, name))
 }
