@@ -250,6 +250,8 @@ def long_maps():
         answer = object_of(sorted((str(number), f'"{number}"') for number in numbers))
         yield "words", array(f'[{number},"{number}"]' for number in numbers), answer
         yield "words", object_of((str(number), f'"{number}"') for number in numbers), answer
+        rising = array(f'[{number + 1000},"{number}"]' for number in numbers)
+        yield "words", rising, object_of((str(number + 1000), f'"{number}"') for number in range(count))
         pairs = [f'[[{number},"k"],"{number}"]' for number in range(count)]
         yield "tongues", array(reversed(pairs)), array(pairs)
 
