@@ -6,7 +6,8 @@ use litemap::LiteMap;
 use litemap::store::{ColumnStore, Count, Store, StoreIntoIterator, StoreMut};
 use litemap_short::ShortStore;
 use std::alloc::{AllocError, Global};
-use std::{io, mem};
+use std::mem;
+use std::test::Fail;
 use test_support::fixed_room::FixedRoom;
 
 // A value that takes no memory.
@@ -25,6 +26,20 @@ fn is_refused<S: StoreMut<Unit, Unit> + Drop>(alloc: Global) -> Result<bool, All
         is_right &= map.reserve(room).is_err();
     }
     Ok(is_right && map.len() == 1)
+}
+
+#[test]
+fn room_past_the_end_is_refused(rt: HostRuntime) -> Result<(), Fail> {
+    let refused = [
+        is_refused::<Vec<(Unit, Unit)>>(rt.alloc())?,
+        is_refused::<ColumnStore<Unit, Unit>>(rt.alloc())?,
+        is_refused::<FixedRoom<Unit, Unit>>(rt.alloc())?,
+        is_refused::<ShortStore<Unit, Unit>>(rt.alloc())?,
+    ];
+    assert_eq!(rt; refused, [true; 4]);
+    let most = LiteMap::<Unit, Unit, Vec<(Unit, Unit)>>::with_capacity(rt.alloc(), MOST);
+    assert!(rt; most.is_ok());
+    Ok(())
 }
 
 // The longest vector there is, of pairs that take no memory: it is doubled again and again.
@@ -52,18 +67,15 @@ fn longest_is_right(alloc: Global) -> Result<[bool; 4], AllocError> {
     Ok([shows, reserves, !takes && !joins, len == MOST])
 }
 
-/// Writes what is refused, and the sizes of a count and of a map over a short store of small pairs: none, and a word beside a
-/// vector's three.
-pub(crate) fn show(rt: &impl Print, alloc: Global) -> io::Result<()> {
-    let refused = [
-        is_refused::<Vec<(Unit, Unit)>>(alloc)?,
-        is_refused::<ColumnStore<Unit, Unit>>(alloc)?,
-        is_refused::<FixedRoom<Unit, Unit>>(alloc)?,
-        is_refused::<ShortStore<Unit, Unit>>(alloc)?,
-    ];
-    let most = LiteMap::<Unit, Unit, Vec<(Unit, Unit)>>::with_capacity(alloc, MOST).is_ok();
-    println!(rt; "past the end {refused:?}, up to it {most}")?;
-    println!(rt; "longest {:?}", longest_is_right(alloc)?)?;
+#[test]
+fn the_longest_store_grows_no_more(rt: HostRuntime) -> Result<(), Fail> {
+    assert_eq!(rt; longest_is_right(rt.alloc())?, [true; 4]);
+    Ok(())
+}
+
+// A count takes no memory, and a short store of small pairs a word beside a vector's three.
+#[test]
+fn what_counts_and_short_stores_take(rt: HostRuntime) {
     let short = size_of::<LiteMap<[u8; 2], [u8; 8], ShortStore<[u8; 2], [u8; 8]>>>();
-    println!(rt; "sizes {} {}", size_of::<Count>(), short)
+    assert_eq!(rt; (size_of::<Count>(), short), (0, 4 * size_of::<usize>()));
 }

@@ -5,7 +5,7 @@ use litemap::LiteMap;
 use litemap::store::{ColumnStore, Store, StoreBulkMut, StoreFromIterable};
 use litemap_short::ShortStore;
 use std::alloc::{AllocError, Global};
-use std::io;
+use std::test::Fail;
 
 // Gives so many pairs: each number below, from the last one on, behind its half.
 #[derive(Clone, Copy, Debug, Drop)]
@@ -59,8 +59,8 @@ fn keeps_last<S: StoreBulkMut<u32, u32> + StoreFromIterable<u32, u32>>(
     Ok(has_last(&made, number) && has_last(&extended, number) && last == Some(7))
 }
 
-/// Writes of which iterators the pairs were all taken, whatever they said.
-pub(crate) fn show(rt: &impl Print, alloc: Global) -> io::Result<()> {
+#[test]
+fn the_size_hint_is_no_matter(rt: HostRuntime) -> Result<(), Fail> {
     for (number, promised) in [(0, 1 << 63), (2, 2), (16, 17), (1000, usize::MAX)] {
         for tells in [(false, false), (false, true), (true, false), (true, true)] {
             let pairs = Halves {
@@ -68,13 +68,18 @@ pub(crate) fn show(rt: &impl Print, alloc: Global) -> io::Result<()> {
                 promised,
                 tells,
             };
-            let kept = [
-                keeps_last::<Vec<(u32, u32)>>(alloc, pairs)?,
-                keeps_last::<ColumnStore<u32, u32>>(alloc, pairs)?,
-                keeps_last::<ShortStore<u32, u32>>(alloc, pairs)?,
-            ];
-            println!(rt; "{number} of {promised}, told {tells:?}: {kept:?}")?;
+            let in_vector = keeps_last::<Vec<(u32, u32)>>(rt.alloc(), pairs)?;
+            let in_columns = keeps_last::<ColumnStore<u32, u32>>(rt.alloc(), pairs)?;
+            let in_short = keeps_last::<ShortStore<u32, u32>>(rt.alloc(), pairs)?;
+            assert!(rt; in_vector && in_columns && in_short, "{pairs:?}");
         }
     }
+    let many = Halves {
+        number: 1_000_000,
+        promised: 1_000_000,
+        tells: (false, false),
+    };
+    let made: LiteMap<u32, u32, Vec<(u32, u32)>> = LiteMap::from_iter(rt.alloc(), many)?;
+    assert!(rt; has_last(&made, 1_000_000));
     Ok(())
 }

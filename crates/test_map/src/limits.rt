@@ -4,7 +4,7 @@ use example_store::Bounded;
 use litemap::LiteMap;
 use litemap::store::NoRoom;
 use std::alloc::{AllocError, Global};
-use std::io;
+use std::test::Fail;
 use test_support::fixed_room::FixedRoom;
 use test_support::lists::map_of;
 
@@ -27,6 +27,18 @@ fn grows(alloc: Global, made: usize, reserved: usize) -> Result<bool, AllocError
     Ok(is_right && map.insert(30, 7) == Err(NoRoom { back: (30, 7) }) && map.len() == LIMIT)
 }
 
+#[test]
+fn a_bounded_store_grows_to_its_limit(rt: HostRuntime) -> Result<(), Fail> {
+    for room in [0, 1, 3, LIMIT] {
+        let grow = grows(rt.alloc(), room, 0)? && grows(rt.alloc(), 0, room)?;
+        assert!(rt; grow, "{room}");
+    }
+    for room in [LIMIT + 1, usize::MAX] {
+        assert!(rt; Few::with_capacity(rt.alloc(), room).is_err(), "{room}");
+    }
+    Ok(())
+}
+
 type Fixed = LiteMap<u32, u32, FixedRoom<u32, u32>>;
 
 // How many further pairs a map of two pairs takes, made with room for 1,000, once so many were put to it from this key on: by
@@ -46,28 +58,18 @@ fn room_after(alloc: Global, merges: bool, first: u32, count: u32) -> Result<usi
     Ok(map.len().saturating_sub(len))
 }
 
-/// Writes which maps with a limit grow up to it, and what room is left once pairs were put in.
-pub(crate) fn show(rt: &impl Print, alloc: Global) -> io::Result<()> {
-    for room in [0, 1, 3, LIMIT] {
-        let grow = [grows(alloc, room, 0)?, grows(alloc, 0, room)?];
-        println!(rt; "limit, from {room}: {grow:?}")?;
-    }
-    for room in [LIMIT + 1, usize::MAX] {
-        println!(rt;
-            "made with {room}: {}",
-            Few::with_capacity(alloc, room).is_ok()
-        )?;
-    }
-    for (merges, first, count) in [
-        (true, 1, 1),
-        (true, 1, 500),
-        (false, 1, 1),
-        (false, 1, 500),
-        (false, 10_000, 1),
-        (false, 10_000, 500),
+#[test]
+fn a_limit_goes_with_the_store_that_is_replaced(rt: HostRuntime) -> Result<(), Fail> {
+    for (merges, first, count, room) in [
+        (true, 1, 1, 997),
+        (true, 1, 500, 0),
+        (false, 1, 1, 0),
+        (false, 1, 500, 0),
+        (false, 10_000, 1, 997),
+        (false, 10_000, 500, 498),
     ] {
-        let left = room_after(alloc, merges, first, count)?;
-        println!(rt; "merged {merges}, {count} from {first}: room {left}")?;
+        let left = room_after(rt.alloc(), merges, first, count)?;
+        assert_eq!(rt; left, room, "{merges}, {count} from {first}");
     }
     Ok(())
 }

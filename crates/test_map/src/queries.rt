@@ -1,72 +1,107 @@
-//! Keys of each kind asked by what can stand for them: by a text or by a slice.
+//! Keys of each kind asked by what can stand for them: by a text, by a slice, and by the key itself.
+use litemap::store::Count;
 use litemap::{LiteMap, Query};
 use std::alloc::{AllocError, Global};
 use std::borrow::CowStr;
 use std::boxed::{BoxedSlice, BoxedStr};
-use std::io;
+use std::mem;
 use std::rc::RcStr;
 use std::sync::ArcStr;
+use std::test::Fail;
 
-// A key that is made of a text.
-trait Made: Ord + Drop {
-    fn made(alloc: Global, text: &'static str) -> Result<Self, AllocError>;
-}
+// Numbers at keys.
+type Numbers<K> = LiteMap<K, u32, Vec<(K, u32)>>;
 
-macro_rules! made {
-    ($($key:ty: $alloc:ident, $text:ident, $made:expr;)+) => {
-        $(impl Made for $key {
-            fn made($alloc: Global, $text: &'static str) -> Result<Self, AllocError> {
-                $made
-            }
-        })+
+// The texts of the keys, and the number at each.
+const LIST: [(&str, u32); 5] = [("", 1), ("a", 2), ("aab", 3), ("ab", 4), ("b\u{e9}", 5)];
+
+// Texts that are asked for, with the number and the place of each.
+const ASKED: [(&str, Option<u32>, Result<usize, usize>); 8] = [
+    ("", Some(1), Ok(0)),
+    (" ", None, Err(1)),
+    ("a", Some(2), Ok(1)),
+    ("aa", None, Err(2)),
+    ("aab", Some(3), Ok(2)),
+    ("aabc", None, Err(3)),
+    ("b\u{e9}", Some(5), Ok(4)),
+    ("c", None, Err(5)),
+];
+
+// Whether a key is found, written and taken out by what stands for it: its number and its place.
+fn is_answered<K: Ord + Drop, Q: Query<K>>(
+    map: &mut Numbers<K>,
+    query: Q,
+    number: Option<u32>,
+    index: Result<usize, usize>,
+) -> bool {
+    let is_found = map.contains_key(query) == number.is_some()
+        && map.get(query).copied() == number
+        && map.get_counted(query, &mut Count::new()).copied() == number
+        && map.find_index(query) == index
+        && map.find_index_counted(query, &mut Count::new()) == index;
+    let written = match map.get_mut(query) {
+        Some(slot) => Some(mem::replace(slot, 100)),
+        None => None,
     };
+    is_found && written == number && map.remove(query) == number.map(|_| 100)
 }
 
-made! {
-    String: alloc, text, String::from_str(alloc, text);
-    &'static str: _alloc, text, Ok(text);
-    BoxedStr: alloc, text, BoxedStr::from_str(alloc, text);
-    RcStr: alloc, text, RcStr::from_str(alloc, text);
-    ArcStr: alloc, text, ArcStr::from_str(alloc, text);
-    CowStr<'static>: _alloc, text, Ok(CowStr::Borrowed(text));
-    Vec<u8>: alloc, text, Vec::from_slice(alloc, text.as_bytes());
-    &'static [u8]: _alloc, text, Ok(text.as_bytes());
-    BoxedSlice<u8>: alloc, text, BoxedSlice::from_slice(alloc, text.as_bytes());
-}
-
-// Writes what a map answers for what stands for a key of a kind: the number and the place, and what is taken out.
-fn ask<K: Made, Q: Query<K>>(
-    rt: &impl Print,
+// The map of the list, by a key for each text.
+fn map_by<'t, K: Ord + Drop, F: Fn(&'t str) -> Result<K, AllocError>>(
     alloc: Global,
-    kind: &str,
-    queries: &[Q],
-) -> io::Result<()> {
-    let mut map: LiteMap<K, u32, Vec<(K, u32)>> = LiteMap::new_vec(alloc);
-    for (text, number) in [("b\u{e9}", 5), ("", 1), ("aab", 3)] {
-        map.insert(K::made(alloc, text)?, number)?;
+    key_of: &F,
+) -> Result<Numbers<K>, AllocError>
+    requires { F.IsAlwaysCallable key_of.now }
+{
+    let mut map = LiteMap::new_vec(alloc);
+    for (text, number) in LIST {
+        let key = key_of(text)?;
+        map.insert(key, number)?;
     }
-    for query in queries {
-        let number = map.get(*query).copied();
-        let place = map.find_index(*query);
-        println!(rt;
-            "{kind}: {number:?} at {place:?}, taken {:?}",
-            map.remove(*query)
-        )?;
-    }
-    Ok(())
+    Ok(map)
 }
 
-/// Writes what maps with keys of each kind answer.
-pub(crate) fn show(rt: &impl Print, alloc: Global) -> io::Result<()> {
-    let texts = ["aab", "aa", "b\u{e9}", "c"];
-    ask::<String, &str>(rt, alloc, "String", &texts)?;
-    ask::<&str, &str>(rt, alloc, "&str", &texts)?;
-    ask::<BoxedStr, &str>(rt, alloc, "BoxedStr", &texts)?;
-    ask::<RcStr, &str>(rt, alloc, "RcStr", &texts)?;
-    ask::<ArcStr, &str>(rt, alloc, "ArcStr", &texts)?;
-    ask::<CowStr<'static>, &str>(rt, alloc, "CowStr", &texts)?;
-    let slices = texts.map(|text| text.as_bytes());
-    ask::<Vec<u8>, &[u8]>(rt, alloc, "Vec", &slices)?;
-    ask::<&[u8], &[u8]>(rt, alloc, "&[u8]", &slices)?;
-    ask::<BoxedSlice<u8>, &[u8]>(rt, alloc, "BoxedSlice", &slices)
+// Whether the map is asked right for each text, by what stands for its key and by the key.
+fn is_asked<'t, K, Q, F, G>(alloc: Global, key_of: F, query_of: G) -> Result<bool, AllocError>
+where
+    K: Ord + Drop,
+    Q: Query<K>,
+    F: Fn(&'t str) -> Result<K, AllocError>,
+    G: Fn(&'t str) -> Q,
+    requires keys { F.IsAlwaysCallable key_of }
+    requires queries { G.IsAlwaysCallable query_of }
+{
+    for (text, number, index) in ASKED {
+        let key = key_of(text)?;
+        if !is_answered(&mut map_by(alloc, &key_of)?, query_of(text), number, index)
+            || !is_answered(&mut map_by(alloc, &key_of)?, &key, number, index)
+        {
+            return Ok(false);
+        }
+    }
+    Ok(true)
+}
+
+#[test]
+fn keys_are_asked_by_texts_and_slices(rt: HostRuntime) -> Result<(), Fail> {
+    let alloc = rt.alloc();
+    let by_texts = [
+        is_asked(alloc, |text| text.to_string(alloc), |text| text)?,
+        is_asked(alloc, |text| Ok(text), |text| text)?,
+        is_asked(alloc, |text| BoxedStr::from_str(alloc, text), |text| text)?,
+        is_asked(alloc, |text| RcStr::from_str(alloc, text), |text| text)?,
+        is_asked(alloc, |text| ArcStr::from_str(alloc, text), |text| text)?,
+        is_asked(alloc, |text| Ok(CowStr::Borrowed(text)), |text| text)?,
+    ];
+    let by_slices = [
+        is_asked(alloc, |it| it.as_bytes().to_vec(alloc), |it| it.as_bytes())?,
+        is_asked(alloc, |it| Ok(it.as_bytes()), |it| it.as_bytes())?,
+        is_asked(
+            alloc,
+            |text| BoxedSlice::from_slice(alloc, text.as_bytes()),
+            |text| text.as_bytes(),
+        )?,
+    ];
+    assert_eq!(rt; (by_texts, by_slices), ([true; 6], [true; 3]));
+    Ok(())
 }
