@@ -31,4 +31,4 @@ loop-place-preserved g c =
 pub returns-clause-named : goal.returns-clause-named
 returns-clause-named g c =
     name_end (λ r. g.V.JsonItem.json r.now) g.K.JsonKey.text g.K.JsonItem.json g.V.JsonItem.json c.args.map.now.pairs c.loop-place.place c.loop-place.items.items c.in_ok-from_vec.field-0.pairs
-    (omega arith) c.loop-place.invariant c.in_ok-from_vec.ensures
+    (omega arith) c.loop-place.invariant c.in_ok-from_vec.ensures.made
