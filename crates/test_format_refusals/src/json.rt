@@ -19,6 +19,9 @@ type Pairs = LiteMap<(u32, bool), u32, Vec<((u32, bool), u32)>>;
 
 const OBJECT: &str = "{\"1\":\"a long word\",\"2\":\"two\",\"3\":\"three\"}";
 
+// Its names don't ascend in the order of the keys.
+const SORTED: &str = "{\"10\":\"a long word\",\"2\":\"two\"}";
+
 const ARRAY: &str = "[[[1,false],10],[[1,true],11],[[2,true],12]]";
 
 const WORD: &str = "a word of more bytes than a block of memory for small texts might have";
@@ -28,8 +31,9 @@ pub(crate) fn run(alloc: Global, name: &str) -> Option<Ended> {
     Some(match name {
         "to_json" => to_json_object::<InVector>(alloc),
         "to_json_in_columns" => to_json_object::<InColumns>(alloc),
-        "write_json" => write_json_object::<InVector>(alloc),
-        "write_json_in_columns" => write_json_object::<InColumns>(alloc),
+        "write_json" => write_json_object::<InVector>(alloc, OBJECT),
+        "write_json_sorted" => write_json_object::<InVector>(alloc, SORTED),
+        "write_json_in_columns" => write_json_object::<InColumns>(alloc, OBJECT),
         "from_json" => from_json_object::<InVector>(alloc),
         "from_json_in_columns" => from_json_object::<InColumns>(alloc),
         "json_array" => json_array(alloc),
@@ -49,9 +53,9 @@ pub(crate) fn value_of(alloc: Global, text: &str) -> Result<Value, Outcome> {
     Value::from_str(alloc, text).map_err(|_| Outcome::Refused)
 }
 
-// The map of words that the object spells; the value that it is read from takes the first requests.
-fn words<S: StoreBulkMut<u32, String>>(alloc: Global) -> Result<Words<S>, Outcome> {
-    Ok(from_json(alloc, &value_of(alloc, OBJECT)?)?)
+// The map of words that an object spells; the value that it is read from takes the first requests.
+fn words<S: StoreBulkMut<u32, String>>(alloc: Global, text: &str) -> Result<Words<S>, Outcome> {
+    Ok(from_json(alloc, &value_of(alloc, text)?)?)
 }
 
 // Whether a value is written as this text.
@@ -61,15 +65,15 @@ fn is_text(alloc: Global, value: &Value, text: &str) -> Ended {
 }
 
 fn to_json_object<S: StoreBulkMut<u32, String>>(alloc: Global) -> Ended {
-    let map = words::<S>(alloc)?;
+    let map = words::<S>(alloc, OBJECT)?;
     is_text(alloc, &to_json(alloc, &map)?, OBJECT)
 }
 
 // The text may have room for more bytes than it takes: a writer takes at least 128 ahead of what it writes.
-fn write_json_object<S: StoreBulkMut<u32, String>>(alloc: Global) -> Ended {
-    let map = words::<S>(alloc)?;
-    let text = write_json(alloc, &map)?;
-    answered(text.as_str() == OBJECT && text.capacity() <= 256)
+fn write_json_object<S: StoreBulkMut<u32, String>>(alloc: Global, text: &str) -> Ended {
+    let map = words::<S>(alloc, text)?;
+    let made = write_json(alloc, &map)?;
+    answered(made.as_str() == text && made.capacity() <= 256)
 }
 
 // A map with pairs as keys, read from an array and written as one, which has no room for more elements.
@@ -84,7 +88,7 @@ fn json_array(alloc: Global) -> Ended {
 }
 
 fn from_json_object<S: StoreBulkMut<u32, String>>(alloc: Global) -> Ended {
-    let mut map = words::<S>(alloc)?;
+    let mut map = words::<S>(alloc, OBJECT)?;
     let last = map.get(&3).map(|word| word.as_str());
     let is_right = map.len() == 3 && last == Some("three");
     left(&mut map, is_right)
