@@ -1,6 +1,7 @@
 //! Maps asked by what can stand for a key: texts and bytes that are borrowed, and keys.
 ghost use Rattle.std.specs.Prelude.{◌≡◌, ◌≢◌, [], ◌∷◌, IsSome, IsTrue, None, OnOk, Some};
 ghost use Rattle.std.specs.Prelude.{IfSome, is_some, slice_get, string_bytes};
+ghost use Rattle.std.specs.Bool.{IsFalse};
 ghost use Rattle.std.specs.Cmp.Lexicographic.{slice_cmp};
 ghost use Rattle.std.specs.Ordering.{int_cmp, nat_cmp};
 ghost use Rattle.std.specs.String.{string_cmp};
@@ -110,6 +111,7 @@ pub fn rename(map: &mut Numbers, old: &str, new: String) -> bool
     ensures gone { old.now ≢ string_bytes new → value_at by_text map.new.pairs old.now ≡ None }
     ensures others { (other : _) → other ≢ old.now → other ≢ string_bytes new
         → value_at by_text map.new.pairs other ≡ value_at by_text map.old.pairs other }
+    ensures unchanged { IsFalse result → map.new.pairs ≡ map.old.pairs }
 {
     let Some(number) = map.remove(old) else {
         return false;
