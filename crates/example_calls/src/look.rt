@@ -62,7 +62,8 @@ fn get_key_value(alloc: Global) -> anyhow::Result<bool> {
 
 fn get_by(alloc: Global) -> anyhow::Result<bool> {
     let days = three_days(alloc)?;
-    Ok(days.get_by(|number| number.cmp(&3)) == Some(&"Wednesday") && days.find_index_by(|number| number.cmp(&4)) == Err(2))
+    let place = days.find_index_by(|number| number.cmp(&4));
+    Ok(days.get_by(|number| number.cmp(&3)) == Some(&"Wednesday") && place == Err(2))
 }
 
 fn index(alloc: Global) -> anyhow::Result<bool> {

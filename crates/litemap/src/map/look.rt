@@ -113,7 +113,8 @@ impl<K: Ord, V, S: Store<K, V>> LiteMap<K, V, S> {
     ///
     /// ```rust
     /// // days: 1 Monday, 3 Wednesday, 5 Friday
-    /// days.get_by(|number| number.cmp(&3)) == Some(&"Wednesday") && days.find_index_by(|number| number.cmp(&4)) == Err(2)
+    /// let place = days.find_index_by(|number| number.cmp(&4));
+    /// days.get_by(|number| number.cmp(&3)) == Some(&"Wednesday") && place == Err(2)
     /// ```
     pub fn get_by<F: FnMut(&K) -> Ordering>(&self, f: F) -> Option<&V>
         requires { CallableOnKeys F.FnMut self.now.pairs f }
