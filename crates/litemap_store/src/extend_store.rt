@@ -72,35 +72,13 @@ pub fn extend_from_store<K: Ord + Drop, V: Drop, S: StoreIntoIterator<K, V> + Dr
         store.lm_extend_start(other)?;
         return Ok(None);
     }
-    merge_mixed(alloc, store, other, count)
-}
-
-// Merges stores whose pairs lie mixed.
-fn merge_mixed<K: Ord + Drop, V: Drop, S: StoreIntoIterator<K, V> + Drop>(
-    alloc: Global,
-    store: &mut S,
-    other: S,
-    count: &mut Count,
-) -> Result<Option<S>, NoRoom<S>>
-    requires store { Rising K.cmp (S.pairs store.old) }
-    requires other { Rising K.cmp (S.pairs other) }
-    ensures merged { OnOk result (Merge K.cmp (S.pairs store.old) (S.pairs other) (S.pairs store.new)) }
-    ensures none { IfOk result (λ rest. IsNone rest ↔ (left K.cmp (S.pairs store.old) (S.pairs other) ≡ [])) }
-    ensures left { IfOk result
-        (λ rest. IfSome rest (λ s. S.pairs s ≡ left K.cmp (S.pairs store.old) (S.pairs other))) }
-    ensures refused { OnErr result (S.pairs store.new ≡ S.pairs store.old) }
-    ensures back { IfErr result (λ refused. S.pairs refused.back ≡ S.pairs other) }
-    ensures cost { RisesByAtMost
-        (length (S.pairs other) * digits (length (S.pairs store.old) + length (S.pairs other)))
-        count.old count.new }
-{
-    let rest = merge_by_lengths(alloc, store, other, count)?;
+    let rest = merge_mixed(alloc, store, other, count)?;
     Ok(unless_empty(rest))
 }
 
-// Merges stores, and answers what is left over: side by side where the other one has many pairs, pair by pair where it has few,
-// else by one search for each of its pairs in one pass.
-fn merge_by_lengths<K: Ord + Drop, V: Drop, S: StoreIntoIterator<K, V> + Drop>(
+// Merges stores whose pairs lie mixed, and answers what is left over: side by side where the other one has many pairs, pair by
+// pair where it has few, else by one search for each of its pairs in one pass.
+fn merge_mixed<K: Ord + Drop, V: Drop, S: StoreIntoIterator<K, V> + Drop>(
     alloc: Global,
     store: &mut S,
     other: S,
@@ -122,12 +100,12 @@ fn merge_by_lengths<K: Ord + Drop, V: Drop, S: StoreIntoIterator<K, V> + Drop>(
     };
     let steps = binary_digits(total);
     if is_walked(total, len, steps) {
-        return merge_side_by_side(alloc, store, other, count);
+        return merge_side_by_side(alloc, store, other, total, count);
     }
     if len / FEW < steps {
         return merge_each(alloc, store, other, count);
     }
-    merge_in_one_pass(alloc, store, other, count)
+    merge_in_one_pass(alloc, store, other, total, count)
 }
 
 // Whether a step for each of a total of pairs is no more than what so many searches ask, each of so many steps.

@@ -21,10 +21,12 @@ pub fn merge_in_one_pass<K: Ord + Drop, V: Drop, S: StoreMut<K, V> + Drop>(
     alloc: Global,
     store: &mut S,
     other: S,
+    total: usize,
     count: &mut Count,
 ) -> Result<S, NoRoom<S>>
     requires store { Rising K.cmp (S.pairs store.old) }
     requires other { Rising K.cmp (S.pairs other) }
+    requires total { total ≡ length (S.pairs store.old) + length (S.pairs other) }
     ensures merged { OnOk result (Merge K.cmp (S.pairs store.old) (S.pairs other) (S.pairs store.new)) }
     ensures left { IfOk result (λ rest. S.pairs rest ≡ left K.cmp (S.pairs store.old) (S.pairs other)) }
     ensures refused { OnErr result (S.pairs store.new ≡ S.pairs store.old) }
@@ -33,9 +35,6 @@ pub fn merge_in_one_pass<K: Ord + Drop, V: Drop, S: StoreMut<K, V> + Drop>(
         (length (S.pairs other) * digits (length (S.pairs store.old) + length (S.pairs other)))
         count.old count.new }
 {
-    let Some(total) = store.lm_len().checked_add(other.lm_len()) else {
-        return Err(NoRoom { back: other });
-    };
     let Ok((mut side, mut fresh)) = room_for(alloc, total) else {
         return Err(NoRoom { back: other });
     };

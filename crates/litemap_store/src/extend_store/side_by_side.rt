@@ -21,24 +21,22 @@ pub fn merge_side_by_side<K: Ord + Drop, V: Drop, S: StoreIntoIterator<K, V> + D
     alloc: Global,
     store: &mut S,
     other: S,
+    total: usize,
     count: &mut Count,
 ) -> Result<S, NoRoom<S>>
     requires store { Rising K.cmp (S.pairs store.old) }
     requires other { Rising K.cmp (S.pairs other) }
+    requires total { total ≡ length (S.pairs store.old) + length (S.pairs other) }
     ensures merged { OnOk result (Merge K.cmp (S.pairs store.old) (S.pairs other) (S.pairs store.new)) }
     ensures left { IfOk result (λ rest. S.pairs rest ≡ left K.cmp (S.pairs store.old) (S.pairs other)) }
     ensures refused { OnErr result (S.pairs store.new ≡ S.pairs store.old) }
     ensures back { IfErr result (λ refused. S.pairs refused.back ≡ S.pairs other) }
-    ensures cost { RisesByAtMost (length (S.pairs store.old) + length (S.pairs other)) count.old count.new }
+    ensures cost { RisesByAtMost total count.old count.new }
 {
-    let len = other.lm_len();
-    let Some(total) = store.lm_len().checked_add(len) else {
-        return Err(NoRoom { back: other });
-    };
     let Ok(fresh) = S::lm_with_capacity(alloc, total) else {
         return Err(NoRoom { back: other });
     };
-    let Ok(mut rest) = S::lm_with_capacity(alloc, len) else {
+    let Ok(mut rest) = S::lm_with_capacity(alloc, other.lm_len()) else {
         return Err(NoRoom { back: other });
     };
     let olds = Coming::new(mem::replace(store, fresh).lm_into_iter());

@@ -34,6 +34,12 @@ returns-clause-apart g c = λ apart.
     (λ r. true≢false (sym (c.lies_below.ensures.below.1 r) ∙ c.if-lies_below.false))
     (λ r. true≢false (sym (c.lies_below-2.ensures.below.1 r) ∙ c.if-lies_below-2.false)) apart)
 
+pub returns-in_err-rest-clause-apart : goal.returns-in_err-rest-clause-apart
+returns-in_err-rest-clause-apart g c = λ apart.
+    absurd (not_apart g.K.Ord.cmp g.met.K.Ord.total _ _ c.requires.store c.requires.other (sym c.lm_is_empty-2.ensures ∙ c.if-lm_is_empty-2.false) (sym c.lm_is_empty.ensures ∙ c.if-lm_is_empty.false)
+    (λ r. true≢false (sym (c.lies_below.ensures.below.1 r) ∙ c.if-lies_below.false))
+    (λ r. true≢false (sym (c.lies_below-2.ensures.below.1 r) ∙ c.if-lies_below-2.false)) apart)
+
 pub returns-then-lm_is_empty-clause-merged : goal.returns-then-lm_is_empty-clause-merged
 returns-then-lm_is_empty-clause-merged g c = grind (arith, common_steps)
 
@@ -45,3 +51,6 @@ returns-then-lm_is_empty-2-clause-merged g c = grind (arith, common_steps)
 
 pub returns-clause-uncounted : goal.returns-clause-uncounted
 returns-clause-uncounted g c = grind (arith, common_steps)
+
+pub returns-in_err-rest-clause-uncounted : goal.returns-in_err-rest-clause-uncounted
+returns-in_err-rest-clause-uncounted g c = grind (arith, common_steps)
