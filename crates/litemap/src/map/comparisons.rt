@@ -1,7 +1,7 @@
 //! Compares and hashes maps pair by pair, over every store.
 ghost use Rattle.std.specs.Prelude.{◌≡◌, ◌&&◌, fold};
 ghost use Rattle.std.specs.Cmp.Lexicographic.{lists_equiv, lists_agrees, lists_total, lists_ties, lists_per, lists_po};
-ghost use Rattle.std.specs.Ordering.{ordering_then, partial_ordering_then};
+ghost use Rattle.std.specs.Ordering.{partial_ordering_then, ordering_then};
 ghost use Rattle.std.specs.Cmp.{on_equiv, and_equiv, then_agrees, on_total, then_total, both_tied};
 ghost use Rattle.std.specs.Cmp.{on_per, and_per, on_po, then_po};
 ghost use Rattle.std.specs.Hash.{on_Alike, and-Alike, items_Alike};
@@ -67,7 +67,7 @@ impl<K: Ord, V: Ord, S: Store<K, V>> Ord for LiteMap<K, V, S> {
         m.pairs n.pairs };
 
     fn cmp(&self, other: &Self) -> Ordering {
-        order(Places::new(&self.store), Places::new(&other.store))
+        self.partial_cmp(other).unwrap()
     }
 }
 
@@ -106,36 +106,6 @@ fn are_equal<'a, 'b, K: PartialEq + 'a + 'b, V: PartialEq + 'a + 'b, S: Store<K,
         }
     }
     true
-}
-
-fn pair_order<K: Ord, V: Ord>(a: &K, x: &V, b: &K, y: &V) -> Ordering
-    ensures { result ≡ ordering_then (K.cmp a.now b.now) (V.cmp x.now y.now) }
-{
-    match a.cmp(b) {
-        Ordering::Equal => x.cmp(y),
-        decided => decided,
-    }
-}
-
-fn order<'a, 'b, K: Ord + 'a + 'b, V: Ord + 'a + 'b, S: Store<K, V>>(
-    mut left: Places<'a, K, V, S>,
-    mut right: Places<'b, K, V, S>,
-) -> Ordering
-    ensures { result ≡ pairs_cmp K.cmp V.cmp left.entry right.entry }
-{
-    while let Some((a, x)) = left.next() {
-        let Some((b, y)) = right.next() else {
-            return Ordering::Greater;
-        };
-        match pair_order(a, x, b, y) {
-            Ordering::Equal => {}
-            decided => return decided,
-        }
-    }
-    match right.next() {
-        Some(_) => Ordering::Less,
-        None => Ordering::Equal,
-    }
 }
 
 fn partial_pair_order<K: PartialOrd, V: PartialOrd>(a: &K, x: &V, b: &K, y: &V) -> Option<Ordering>
