@@ -35,9 +35,11 @@ module _ {K L V W : Type 0} (cmp : K → K → Ordering) (new_cmp : L → L → 
     Rising-became before after (λ s t a b i j. k s t a b (inr i) (inr j)) c.1 r.1,
   )
 
--- clones that compare Equal to their originals rise as these do
-module _ {K V : Type 0} {cmp : K → K → Ordering} (o : IsTotalOrder cmp) (C : K → K → Type 0) (D : V → V → Type 0) where
-  pub Rising-clones : (before after : List (K × V)) → ClonesCompareEqual cmp C before → PairsAreClones C D before after → Rising cmp before → Rising cmp after
-  Rising-clones before after equal =
-      Rising-became cmp cmp C D before after
-      (λ p q a b i j c d less. sym (o.congr p.0 a b (equal p a i c)) ∙ sym (alike_right o q.0 b p.0 (equal q b j d)) ∙ less)
+-- clones that compare Equal to their originals keep their order, and rise as these do
+module _ {K V : Type 0} {cmp : K → K → Ordering} (o : IsTotalOrder cmp) (C : K → K → Type 0) where
+  pub KeysKeepOrder-clones : (list : List (K × V)) → ClonesCompareEqual cmp C list → KeysKeepOrder cmp cmp C list
+  KeysKeepOrder-clones list equal p q a b i j c d less =
+      sym (o.congr p.0 a b (equal p a i c)) ∙ sym (alike_right o q.0 b p.0 (equal q b j d)) ∙ less
+
+  pub Rising-clones : (D : V → V → Type 0) (before after : List (K × V)) → ClonesCompareEqual cmp C before → PairsAreClones C D before after → Rising cmp before → Rising cmp after
+  Rising-clones D before after equal = Rising-became cmp cmp C D before after (KeysKeepOrder-clones before equal)
