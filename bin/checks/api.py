@@ -30,7 +30,7 @@ GROUPS = {
     "Name tables": "name_table: read write name_bytes cursor fault laws; "
     "name_index: table index name_entries indexed checked index_write fault laws",
     "What a call can be asked by": "litemap_store: query",
-    "Stores": "litemap_store: store into_iter vec_impl column_impl column_iter slice_impl slice_iter count no_room shared extend_store",
+    "Stores": "litemap_store: store into_iter vec_impl slice_impl slice_iter count no_room shared slice_search extend_store; litemap_columns: lib column_store column_iter",
     "Laws, for proofs": "litemap_store: laws",
 }
 # The libraries with no call for the page: why.
@@ -56,6 +56,7 @@ FREE = [f"{owner}::{name}" for owner, names in FREE.items() for name in names.sp
 TESTS = "crates/test_*/src crates/example_json/src crates/example_serde/src crates/example_tables/src crates/example_uses/src".split()
 # The calls that no test names, and those that no wrong body names, beside laws, whose bodies do nothing: why.
 NOT_CALLED = {
+    "Keys::key_count": "what the search over slices asks",
     "ColumnStore::from_columns": "a line of example_calls, whose output is compared",
     "ColumnStore::into_columns": "a line of example_calls, whose output is compared",
     "Query::compare_key": "what each look-up asks",

@@ -10,7 +10,7 @@ from shared import TOP
 
 # The libraries whose calls have no line: why.
 WITHOUT = {
-    **dict.fromkeys(["litemap_store", "litemap", "litemap_short"], "bin/requests refuses what their calls ask for"),
+    **dict.fromkeys(["litemap_store", "litemap", "litemap_short", "litemap_columns"], "bin/requests refuses what their calls ask for"),
     "names_main": "the program, which bin/program runs",
 }
 OVER_STORES = ["litemap_read", "litemap_json"]

@@ -12,20 +12,21 @@ from checks.sources import RUST, examples_of
 
 # The modules, and whose sources' blocks they have: the first that fits.
 MODULES = {
-    "make": r"litemap/src/(lib|map|const_family|map/conversions)\.",
+    "make": r"litemap_columns/src/lib|litemap/src/(lib|map|const_family|map/conversions)\.",
     "look": r"litemap/src/map/(look|ranges|slice|iter|comparisons)\.",
     "entries": "litemap/src/map/entry",
     "change": "litemap/",
-    "stores": "litemap_store/",
+    "stores": "litemap_store/|litemap_columns/",
     "formats": "litemap_read/|litemap_json/|name_",
 }
 # What is imported, with the words that need it where these are others.
 USES = {
     "crate::days": "Days Hours opening_hours three_days",
-    "litemap": "ColumnMap Entry LiteMap TryFault VecMap",
-    "litemap::store": "ColumnStore Count SliceStore Store=lm_get|lm_binary_search_by StoreBulkMut=lm_extend|lm_extend_from_vec"
+    "litemap": "Entry LiteMap TryFault VecMap",
+    "litemap::store": "Count SliceStore Store=lm_get|lm_binary_search_by StoreBulkMut=lm_extend|lm_extend_from_vec"
     " StoreFromIterable=lm_sort_from_vec StoreFromIterator=lm_from_pairs StoreIntoIterator=lm_extend_end|lm_extend_start"
     " StoreMut=lm_try_clone StoreSlice=lm_get_range",
+    "litemap_columns": "ColumnMap ColumnStore",
     "litemap_json": "ItemFault JsonFault JsonItem=to_value|from_value|write_to|wanted JsonKey=key_text|from_key_text Writer"
     " array_of_two from_json to_json two_items write_json write_value",
     "litemap_read": "PairSource=next_pair|hint ReadFault read_pairs",

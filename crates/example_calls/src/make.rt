@@ -2,16 +2,17 @@
 use crate::Shown;
 use crate::days::{Days, opening_hours, three_days};
 use litemap::store::SliceStore;
-use litemap::{ColumnMap, LiteMap, VecMap};
+use litemap::{LiteMap, VecMap};
+use litemap_columns::ColumnMap;
 use std::alloc::Global;
 
 /// How the examples came out, by their calls.
 pub(crate) fn examples(alloc: Global) -> [Shown; 15] {
     shown! { alloc;
         const_len, const_get_with_index, const_get_with_index_of_const_family,
-        const_get_with_index_2, column_map, to_boxed_keys_values, to_keys_by,
-        to_borrowed_keys_values, new_vec, into_tuple_vec, from_sorted_store_unchecked, new,
-        with_capacity, try_clone, debug
+        const_get_with_index_2, to_boxed_keys_values, to_keys_by, to_borrowed_keys_values,
+        new_vec, into_tuple_vec, from_sorted_store_unchecked, new, with_capacity, try_clone,
+        debug, column_map
     }
 }
 
@@ -39,12 +40,6 @@ fn const_get_with_index_of_const_family(_: Global) -> anyhow::Result<bool> {
 fn const_get_with_index_2(_: Global) -> anyhow::Result<bool> {
     let days = LiteMap::from_sorted_store_unchecked(SliceStore::new(DAYS));
     Ok(days.const_get_with_index(3) == Some((1, &"Wednesday")))
-}
-
-fn column_map(alloc: Global) -> anyhow::Result<bool> {
-    let mut days: ColumnMap<u32, &str> = LiteMap::new(alloc);
-    days.insert(1, "Monday")?;
-    Ok(days.get(&1) == Some(&"Monday"))
 }
 
 fn to_boxed_keys_values(alloc: Global) -> anyhow::Result<bool> {
@@ -106,4 +101,10 @@ fn debug(alloc: Global) -> anyhow::Result<bool> {
     let days = three_days(alloc)?;
     let text = format!(in alloc; "{days:?}")?;
     Ok(text.as_str() == r#"{1: "Monday", 3: "Wednesday", 5: "Friday"}"#)
+}
+
+fn column_map(alloc: Global) -> anyhow::Result<bool> {
+    let mut days: ColumnMap<u32, &str> = LiteMap::new(alloc);
+    days.insert(1, "Monday")?;
+    Ok(days.get(&1) == Some(&"Monday"))
 }

@@ -3,9 +3,10 @@ use crate::Shown;
 use crate::days::three_days;
 use litemap::LiteMap;
 use litemap::store::{
-    ColumnStore, Count, SliceStore, Store, StoreBulkMut, StoreFromIterable, StoreFromIterator,
-    StoreIntoIterator, StoreMut, StoreSlice,
+    Count, SliceStore, Store, StoreBulkMut, StoreFromIterable, StoreFromIterator, StoreIntoIterator,
+    StoreMut, StoreSlice,
 };
+use litemap_columns::ColumnStore;
 use std::alloc::{AllocError, Global};
 
 /// How the examples came out, by their calls.

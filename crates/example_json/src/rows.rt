@@ -4,7 +4,8 @@ use crate::levels::Level;
 use crate::limits::copied;
 use crate::told;
 use litemap::LiteMap;
-use litemap::store::{ColumnStore, Store, StoreBulkMut};
+use litemap::store::{Store, StoreBulkMut};
+use litemap_columns::ColumnStore;
 use litemap_json::{
     JsonFault, JsonItem, JsonKey, WriteFault, Writer, from_json, to_json, write_json, write_value,
 };

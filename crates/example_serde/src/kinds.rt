@@ -1,6 +1,7 @@
 //! A text that is read and written again.
 use crate::shapes::Counts;
-use litemap::store::{ColumnStore, StoreFromIterable};
+use litemap::store::StoreFromIterable;
+use litemap_columns::ColumnStore;
 use litemap_serde::SerdeMap;
 use litemap_short::ShortStore;
 use serde::{Deserialize, DeserializeOwned, Serialize};

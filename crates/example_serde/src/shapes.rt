@@ -1,5 +1,6 @@
 //! Types with maps in them, in each form that serde's derives give a type.
-use litemap::{ColumnMap, LiteMap, VecMap};
+use litemap::{LiteMap, VecMap};
+use litemap_columns::ColumnMap;
 use litemap_serde::SerdeMap;
 use serde::{Deserialize, Serialize};
 

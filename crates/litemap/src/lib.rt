@@ -9,7 +9,6 @@ mod const_family;
 mod map;
 mod try_fault;
 
-use litemap_store::store::ColumnStore;
 pub use litemap_store::{Query, store};
 pub use map::{Entry, KeysIterWrap, LiteMap, OccupiedEntry, VacantEntry, ValuesIterWrap};
 pub use try_fault::TryFault;
@@ -21,12 +20,3 @@ pub use try_fault::TryFault;
 /// pub type Days = VecMap<u32, &'static str>;
 /// ```
 pub type VecMap<K, V> = LiteMap<K, V, Vec<(K, V)>>;
-
-/// A map over two columns: a vector of the keys and one of the values.
-///
-/// ```rust
-/// let mut days: ColumnMap<u32, &str> = LiteMap::new(alloc);
-/// days.insert(1, "Monday")?;
-/// Ok(days.get(&1) == Some(&"Monday"))
-/// ```
-pub type ColumnMap<K, V> = LiteMap<K, V, ColumnStore<K, V>>;

@@ -1,9 +1,7 @@
-//! Stores of pairs for the sorted map of the crate `litemap`: the traits of a store, a vector, two columns and a
-//! borrowed slice as stores, and the count of comparisons. What is marked (own) isn't in the Rust crate.
+//! Stores of pairs for the sorted map of the crate `litemap`: the traits of a store, a vector and a borrowed
+//! slice as stores, and the count of comparisons. What is marked (own) isn't in the Rust crate.
 #![tactic(auto)]
 
-mod column_impl;
-mod column_iter;
 mod count;
 mod extend;
 pub mod extend_store;
@@ -15,7 +13,7 @@ mod reserved;
 pub mod shared;
 mod slice_impl;
 mod slice_iter;
-mod slice_search;
+pub mod slice_search;
 pub mod store;
 mod vec_impl;
 

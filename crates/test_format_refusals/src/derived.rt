@@ -1,6 +1,7 @@
 //! A type that derives serde's traits, with maps in it, read from JSON and TOML and written.
 use crate::outcome::{Ended, answered, left};
-use litemap::{ColumnMap, VecMap};
+use litemap::VecMap;
+use litemap_columns::ColumnMap;
 use serde::{Deserialize, Serialize};
 use std::alloc::Global;
 

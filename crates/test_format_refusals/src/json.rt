@@ -1,7 +1,8 @@
 //! The calls that write JSON and read it.
 use crate::outcome::{Ended, Outcome, answered, left};
 use litemap::LiteMap;
-use litemap::store::{ColumnStore, StoreBulkMut};
+use litemap::store::StoreBulkMut;
+use litemap_columns::ColumnStore;
 use litemap_json::{
     JsonItem, JsonKey, Writer, array_of_two, from_json, to_json, write_json, write_value,
 };

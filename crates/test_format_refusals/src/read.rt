@@ -1,7 +1,8 @@
 //! Results that are read, and lists of calls.
 use crate::outcome::{Ended, Outcome, answered};
 use litemap::LiteMap;
-use litemap::store::{ColumnStore, Store, StoreBulkMut};
+use litemap::store::{Store, StoreBulkMut};
+use litemap_columns::ColumnStore;
 use litemap_read::laws::{Answer, Call};
 use std::alloc::{AllocError, Global};
 

@@ -1,6 +1,7 @@
 //! A run of the program `names` over a reader and a writer in memory.
 use crate::outcome::{Ended, Outcome, answered};
-use litemap::store::{ColumnStore, StoreConstEmpty, StoreMut};
+use litemap::store::{StoreConstEmpty, StoreMut};
+use litemap_columns::ColumnStore;
 use names::{Watch, run_with};
 use std::alloc::Global;
 

@@ -1,6 +1,7 @@
 //! What a map becomes over two columns and over a short store: boxes, references and keys made anew, and columns by themselves.
 use litemap::LiteMap;
-use litemap::store::{ColumnStore, StoreFromIterator, StoreMut};
+use litemap::store::{StoreFromIterator, StoreMut};
+use litemap_columns::ColumnStore;
 use litemap_short::ShortStore;
 use std::alloc::{AllocError, Global};
 use std::cell::Cell;

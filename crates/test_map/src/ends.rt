@@ -3,7 +3,8 @@
 //! A map of keys that take no memory has one pair at most, since all of them are equal. So the greatest length is tried on a
 //! store.
 use litemap::LiteMap;
-use litemap::store::{ColumnStore, Count, Store, StoreIntoIterator, StoreMut};
+use litemap::store::{Count, Store, StoreIntoIterator, StoreMut};
+use litemap_columns::ColumnStore;
 use litemap_short::ShortStore;
 use std::alloc::{AllocError, Global};
 use std::mem;

@@ -2,7 +2,8 @@
 ghost use Rattle.std.specs.Iterator.{at_most};
 
 use litemap::LiteMap;
-use litemap::store::{ColumnStore, Store, StoreBulkMut, StoreFromIterable};
+use litemap::store::{Store, StoreBulkMut, StoreFromIterable};
+use litemap_columns::ColumnStore;
 use litemap_short::ShortStore;
 use std::alloc::{AllocError, Global};
 use std::test::Fail;

@@ -1,6 +1,7 @@
 //! What `{:?}` prints of maps, of what goes over them and of entries, and what is written of an error.
-use litemap::store::{ColumnStore, NoRoom};
+use litemap::store::NoRoom;
 use litemap::{LiteMap, TryFault};
+use litemap_columns::ColumnStore;
 use litemap_read::ReadFault;
 use std::alloc::{AllocError, Global};
 use std::error::Error;

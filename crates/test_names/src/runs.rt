@@ -1,5 +1,5 @@
 //! Runs with names kept in one vector or in two columns, where a read or a write meets a fault.
-use litemap_store::store::ColumnStore;
+use litemap_columns::ColumnStore;
 use names::{FailAt, Fault, Watch, run, run_with};
 use std::alloc::Global;
 use std::io::{ErrorKind, Read, Write};

@@ -6,7 +6,7 @@ use crate::counted::{Key, Order, Seen, Value};
 use crate::line::{self, Line};
 use crate::looks::{vector, view};
 use crate::walks::lent;
-use litemap::store::ColumnStore;
+use litemap_columns::ColumnStore;
 use litemap_short::ShortStore;
 use std::alloc::{AllocError, Global};
 use std::rc::Rc;

@@ -5,9 +5,9 @@ use crate::counted::{Key, Value};
 use crate::{bulk, changes, copies, entries, looks, walks};
 use litemap::LiteMap;
 use litemap::store::{
-    ColumnStore, StoreBulkMut, StoreConstEmpty, StoreFromIterable, StoreFromIterator,
-    StoreIntoIterator,
+    StoreBulkMut, StoreConstEmpty, StoreFromIterable, StoreFromIterator, StoreIntoIterator,
 };
+use litemap_columns::ColumnStore;
 use litemap_short::ShortStore;
 use std::alloc::AllocError;
 use test_support::fixed_room::FixedRoom;

@@ -5,7 +5,8 @@ use crate::moved::moved;
 use crate::prices::{self, Prices};
 use crate::sets::{self, Set};
 use crate::totals::total;
-use litemap::{ColumnMap, LiteMap, TryFault, VecMap};
+use litemap::{LiteMap, TryFault, VecMap};
+use litemap_columns::ColumnMap;
 use std::alloc::{AllocError, Global};
 use std::io;
 

@@ -13,6 +13,6 @@ invariant_of-result g c =
 pub returns-clause-same : goal.returns-clause-same
 returns-clause-same g c = λ keys values.
     same_from_all_zip _ _ _ c.in_ok-store.ensures.clones (λ p q clones.
-        ap (λ (k : g.row.K.Denot). let r : g.row.K.Denot × g.row.V.Denot = (k, q.1) in r) (keys p.0 q.0 clones.0)
-        ∙ ap (λ (v : g.row.V.Denot). let r : g.row.K.Denot × g.row.V.Denot = (p.0, v) in r) (values p.1 q.1 clones.1))
+    ap (λ (k : g.row.K.Denot). let r : g.row.K.Denot × g.row.V.Denot = (k, q.1) in r) (keys p.0 q.0 clones.0)
+    ∙ ap (λ (v : g.row.V.Denot). let r : g.row.K.Denot × g.row.V.Denot = (p.0, v) in r) (values p.1 q.1 clones.1))
     ∙ ap (λ m. m.pairs) c.self.view_is

@@ -1,0 +1,2 @@
+-- Lemmas of the proofs.
+pub mod Columns

@@ -1,0 +1,181 @@
+//! The iterators over the pairs of two columns.
+ghost use Rattle.std.specs.Prelude.{◌≡◌, length, Some, IfSome, refl};
+ghost use Rattle.std.specs.Iterator.{YieldsFirst, at_most, UpTo};
+ghost use Rattle.std.specs.Iterator.SizeHint.{IsWithinCount};
+ghost use Rattle.std.specs.List.{zip};
+ghost use Rattle.std.specs.Map.Iter.{TakesFirst, TakesLast, deref_pair};
+
+use litemap_store::slice_search::Keys;
+use litemap_store::store::{PairIntoIter, PairIter};
+use std::marker::Model;
+use std::vec::IntoIter;
+
+/// The pairs of two columns that are still to come. A contract sees their list.
+#[derive(Debug, Drop)]
+pub struct ColumnIter<'a, K, V> {
+    keys: &'a [K],
+    values: &'a [V],
+}
+
+impl<'a, K, V> Model for ColumnIter<'a, K, V> {
+    ghost use Rattle.std.specs.Prelude.{◌≡◌, List, length};
+    ghost use Rattle.std.specs.List.{zip};
+
+    ghost Value = { List (K × V) };
+
+    ghost view = { λ a. zip a.keys.now a.values.now };
+
+    ghost invariant = { λ a. length a.keys.now ≡ length a.values.now };
+}
+
+impl<'a, K, V> ColumnIter<'a, K, V> {
+    // The iterator over keys, each with the value at its place.
+    pub(crate) fn new(keys: &'a [K], values: &'a [V]) -> Self
+        requires { length keys.now ≡ length values.now }
+        ensures { result ≡ zip keys.now values.now }
+    {
+        ColumnIter { keys, values }
+    }
+}
+
+impl<'a, K, V> Iterator for ColumnIter<'a, K, V> {
+    type Item = (&'a K, &'a V);
+
+    ghost next_gives = { TakesFirst deref_pair };
+
+    ghost remaining = { λ s. at_most (length s) };
+
+    fn next(&mut self) -> Option<(&'a K, &'a V)> {
+        let (key, keys) = self.keys.split_first()?;
+        let (value, values) = self.values.split_first()?;
+        self.keys = keys;
+        self.values = values;
+        Some((key, value))
+    }
+
+    fn size_hint(&self) -> (usize, Option<usize>)
+        ensures lower { IsWithinCount result.0 (at_most (length self.now)) }
+        ensures upper { IfSome result.1 (UpTo (at_most (length self.now))) }
+        ensures exact { (result.0 ≡ length self.now) × (result.1 ≡ Some (length self.now)) }
+    {
+        let len = self.len();
+        (len, Some(len))
+    }
+}
+
+impl<'a, K, V> DoubleEndedIterator for ColumnIter<'a, K, V> {
+    ghost next_back_gives = { TakesLast deref_pair };
+
+    fn next_back(&mut self) -> Option<(&'a K, &'a V)> {
+        let (key, keys) = self.keys.split_last()?;
+        let (value, values) = self.values.split_last()?;
+        self.keys = keys;
+        self.values = values;
+        Some((key, value))
+    }
+}
+
+impl<'a, K, V> ExactSizeIterator for ColumnIter<'a, K, V> {
+    fn len(&self) -> usize {
+        self.keys.len()
+    }
+}
+
+impl<'a, K: 'a, V: 'a> PairIter<'a, K, V> for ColumnIter<'a, K, V> {
+    ghost rest = { λ s. s };
+
+    ghost goes_on = { λ _. tt };
+
+    ghost goes_back = { λ _. tt };
+
+    ghost first = { λ _ _ _ h. h };
+
+    ghost last = { λ _ _ _ h. h };
+
+    ghost count = { λ _. refl };
+}
+
+impl<'a, K, V> Keys<K, V> for ColumnIter<'a, K, V> {
+    ghost pairs = { λ s. s };
+
+    fn key_count(&self) -> usize {
+        self.len()
+    }
+
+    #[inline(always)]
+    fn key_at(&self, index: usize) -> &K {
+        let keys = self.keys;
+        &keys[index]
+    }
+}
+
+/// The pairs of two columns that are still to be handed over. A contract sees their list.
+#[derive(Debug, Drop)]
+pub struct ColumnIntoIter<K, V> {
+    keys: IntoIter<K>,
+    values: IntoIter<V>,
+}
+
+impl<K, V> Model for ColumnIntoIter<K, V> {
+    ghost use Rattle.std.specs.Prelude.{◌≡◌, List, length};
+    ghost use Rattle.std.specs.List.{zip};
+    ghost use Rattle.std.specs.Vec.Iter.{into_iter_items};
+
+    ghost Value = { List (K × V) };
+
+    ghost view = { λ a. zip (into_iter_items a.keys) (into_iter_items a.values) };
+
+    ghost invariant = { λ a. length (into_iter_items a.keys) ≡ length (into_iter_items a.values) };
+}
+
+impl<K, V> ColumnIntoIter<K, V> {
+    // The iterator over keys, each with the value at its place.
+    pub(crate) fn new(keys: Vec<K>, values: Vec<V>) -> Self
+        requires { length keys.items ≡ length values.items }
+        ensures { result ≡ zip keys.items values.items }
+    {
+        ColumnIntoIter {
+            keys: keys.into_iter(),
+            values: values.into_iter(),
+        }
+    }
+}
+
+impl<K: Drop, V: Drop> Iterator for ColumnIntoIter<K, V> {
+    type Item = (K, V);
+
+    ghost next_gives = { YieldsFirst (λ s. s) };
+
+    ghost remaining = { λ s. at_most (length s) };
+
+    fn next(&mut self) -> Option<(K, V)> {
+        let key = self.keys.next()?;
+        let value = self.values.next()?;
+        Some((key, value))
+    }
+
+    fn size_hint(&self) -> (usize, Option<usize>)
+        ensures lower { IsWithinCount result.0 (at_most (length self.now)) }
+        ensures upper { IfSome result.1 (UpTo (at_most (length self.now))) }
+        ensures exact { (result.0 ≡ length self.now) × (result.1 ≡ Some (length self.now)) }
+    {
+        let len = self.len();
+        (len, Some(len))
+    }
+}
+
+impl<K: Drop, V: Drop> ExactSizeIterator for ColumnIntoIter<K, V> {
+    fn len(&self) -> usize {
+        self.keys.len()
+    }
+}
+
+impl<K: Drop, V: Drop> PairIntoIter<K, V> for ColumnIntoIter<K, V> {
+    ghost owned = { λ s. s };
+
+    ghost can = { λ _. tt };
+
+    ghost first = { λ _ _ _ h. h };
+
+    ghost count = { λ _. refl };
+}

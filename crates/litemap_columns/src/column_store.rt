@@ -1,0 +1,295 @@
+//! A vector of keys and a vector of values as a store. Its room is the smaller of theirs.
+ghost use Rattle.std.specs.Prelude.{◌≡◌, ◌+◌, ◌-◌, ◌≤◌, ◌<◌, ◌++◌, IfOk, length, min, refl, vec_capacity, vec_len};
+ghost use Rattle.std.specs.Map.{keys_of, values_of};
+ghost use Rattle.litemap_columns.specs.Columns.{columns, columns_with_value};
+ghost use Rattle.litemap_store.specs.Retain.{CallableOnEach, Kept};
+ghost use Rattle.litemap_store.specs.VecStore.{vec_room};
+
+use crate::column_iter::{ColumnIntoIter, ColumnIter};
+use litemap_store::shared::{insert_reserved, is_kept};
+use litemap_store::slice_search;
+use litemap_store::store::{
+    Count, NoRoom, Store, StoreBulkMut, StoreConstEmpty, StoreFromIterable, StoreFromIterator,
+    StoreIntoIterator, StoreIterable, StoreMut,
+};
+use std::alloc::{AllocError, Global};
+use std::cmp::Ordering;
+use std::marker::Model;
+use std::mem;
+
+/// A vector of keys, and a vector of the values that belong to them (own).
+///
+/// A search touches the keys alone, which lie side by side whatever the size of the values: that is what it is for. An
+/// insertion or a removal moves the later keys and the later values.
+///
+/// ```rust
+/// let mut days: LiteMap<u32, &str, ColumnStore<u32, &str>> = LiteMap::new(alloc);
+/// days.insert(3, "Wednesday")?;
+/// Ok(days.get(&3) == Some(&"Wednesday"))
+/// ```
+#[derive(Debug, Drop)]
+pub struct ColumnStore<K, V> {
+    keys: Vec<K>,
+    values: Vec<V>,
+}
+
+impl<K, V> Model for ColumnStore<K, V> {
+    ghost use Rattle.std.specs.Prelude.{◌≡◌, vec_len};
+    ghost use Rattle.litemap_columns.specs.Columns.{Columns, columns};
+
+    ghost Value = { Columns K V };
+
+    ghost view = { λ s. columns s.keys s.values };
+
+    ghost invariant = { λ s. vec_len s.keys ≡ vec_len s.values };
+}
+
+impl<K, V> ColumnStore<K, V> {
+    /// The store of a vector of keys and a vector of as many values: each key with the value at its place. Its room is the
+    /// smaller of theirs. It takes no memory, and moves and compares no keys.
+    ///
+    /// For a map over it the keys have to rise, which `from_sorted_store_unchecked` asks for.
+    ///
+    /// ```rust
+    /// let numbers = [1, 3].to_vec(alloc)?;
+    /// let names = ["Monday", "Wednesday"].to_vec(alloc)?;
+    /// let days = ColumnStore::from_columns(numbers, names);
+    /// Ok(days.lm_get(1) == Some((&3, &"Wednesday")))
+    /// ```
+    pub fn from_columns(keys: Vec<K>, values: Vec<V>) -> Self
+        requires { vec_len keys ≡ vec_len values }
+        ensures { result ≡ columns keys values }
+    {
+        ColumnStore { keys, values }
+    }
+
+    /// The vector of the keys and that of the values, in the order of the pairs, with all their memory. It takes no memory,
+    /// and moves and compares no keys.
+    ///
+    /// ```rust
+    /// let days = ColumnStore::lm_from_pairs(alloc, [(1, "Monday"), (3, "Wednesday")])?;
+    /// let (numbers, names) = days.into_columns();
+    /// Ok(numbers.as_slice() == [1, 3].as_slice() && names.get(1) == Some(&"Wednesday"))
+    /// ```
+    pub fn into_columns(self) -> (Vec<K>, Vec<V>)
+        ensures keys { result.0.items ≡ keys_of self.pairs }
+        ensures values { result.1.items ≡ values_of self.pairs }
+        ensures room { min (vec_room result.0) (vec_room result.1) ≡ self.room }
+    {
+        let ColumnStore { keys, values } = self;
+        (keys, values)
+    }
+}
+
+impl<K, V> Store<K, V> for ColumnStore<K, V> {
+    ghost pairs = { λ s. s.pairs };
+
+    ghost room = { λ s. s.room };
+
+    fn lm_len(&self) -> usize {
+        self.keys.len()
+    }
+
+    fn lm_get(&self, index: usize) -> Option<(&K, &V)> {
+        if index < self.keys.len() {
+            Some((&self.keys[index], &self.values[index]))
+        } else {
+            None
+        }
+    }
+
+    fn lm_binary_search_by<F: FnMut(&K) -> Ordering>(
+        &self,
+        f: F,
+        count: &mut Count,
+    ) -> Result<usize, usize> {
+        slice_search::find(&self.lm_iter(), f, count)
+    }
+}
+
+impl<K, V> StoreConstEmpty<K, V> for ColumnStore<K, V> {
+    fn lm_empty(alloc: Global) -> Self {
+        ColumnStore {
+            keys: Vec::new(alloc),
+            values: Vec::new(alloc),
+        }
+    }
+}
+
+impl<K, V> StoreMut<K, V> for ColumnStore<K, V> {
+    ghost with_value = { columns_with_value };
+
+    fn lm_with_capacity(alloc: Global, capacity: usize) -> Result<Self, AllocError> {
+        let keys = Vec::with_capacity(alloc, capacity)?;
+        match Vec::with_capacity(alloc, capacity) {
+            Ok(values) => Ok(ColumnStore { keys, values }),
+            Err(refused) => {
+                keys.destroy_empty();
+                Err(refused)
+            }
+        }
+    }
+
+    fn lm_reserve(&mut self, additional: usize) -> Result<(), AllocError> {
+        self.keys.reserve(additional)?;
+        self.values.reserve(additional)
+    }
+
+    fn lm_pair_mut(&mut self, index: usize) -> (&K, &mut V) {
+        let key = &self.keys[index];
+        let value = &mut self.values[index];
+        (key, value)
+    }
+
+    fn lm_replace(&mut self, index: usize, key: K, value: V) -> (K, V) {
+        let old_key = mem::replace(&mut self.keys[index], key);
+        let old_value = mem::replace(&mut self.values[index], value);
+        (old_key, old_value)
+    }
+
+    fn lm_push(&mut self, key: K, value: V) -> Result<(), NoRoom<(K, V)>> {
+        if self.lm_reserve(1).is_err() {
+            return Err(NoRoom { back: (key, value) });
+        }
+        self.keys.push_reserved(key);
+        self.values.push_reserved(value);
+        Ok(())
+    }
+
+    fn lm_insert(&mut self, index: usize, key: K, value: V) -> Result<(), NoRoom<(K, V)>> {
+        if self.lm_reserve(1).is_err() {
+            return Err(NoRoom { back: (key, value) });
+        }
+        insert_reserved(&mut self.keys, index, key);
+        insert_reserved(&mut self.values, index, value);
+        Ok(())
+    }
+
+    fn lm_remove(&mut self, index: usize) -> (K, V) {
+        let key = self.keys.remove(index);
+        let value = self.values.remove(index);
+        (key, value)
+    }
+
+    fn lm_clear(&mut self)
+    where
+        K: Drop,
+        V: Drop,
+    {
+        self.keys.clear();
+        self.values.clear();
+    }
+
+    fn lm_try_clone(&self, alloc: Global) -> Result<Self, AllocError>
+    where
+        K: Clone,
+        V: Clone,
+        Self: Drop,
+    {
+        if self.lm_is_empty() {
+            return Ok(Self::lm_empty(alloc));
+        }
+        let keys = Vec::from_clones(alloc, self.keys.as_slice())?;
+        let values = Vec::from_clones(alloc, self.values.as_slice())?;
+        Ok(ColumnStore { keys, values })
+    }
+
+    ghost writes = { λ s i v. refl };
+
+    ghost keeps_room = { λ s i v. refl };
+}
+
+impl<K: Ord + Drop, V: Drop> StoreBulkMut<K, V> for ColumnStore<K, V> {
+    fn lm_retain<F: FnMut(&K, &V) -> bool>(&mut self, mut f: F)
+        requires { CallableOnEach F.FnMut f self.old.pairs }
+        ensures kept { Kept F.FnMut f self.old.pairs self.new.pairs }
+        ensures memory { self.new.room + length self.new.pairs ≡ self.old.room + length self.old.pairs }
+    {
+        let mut kept = 0;
+        for index in 0..self.keys.len() {
+            let key = &self.keys[index];
+            let value = &self.values[index];
+            let stays = is_kept(&mut f, key, value);
+            self.keys.swap(kept, index);
+            self.values.swap(kept, index);
+            if stays {
+                kept += 1;
+            }
+        }
+        self.keys.truncate(kept);
+        self.values.truncate(kept);
+    }
+}
+
+impl<'a, K: 'a, V: 'a> StoreIterable<'a, K, V> for ColumnStore<K, V> {
+    type KeyValueIter = ColumnIter<'a, K, V>;
+
+    fn lm_iter(&'a self) -> ColumnIter<'a, K, V> {
+        ColumnIter::new(self.keys.as_slice(), self.values.as_slice())
+    }
+}
+
+impl<K: Ord + Drop, V: Drop> StoreFromIterable<K, V> for ColumnStore<K, V> {
+    fn lm_sort_from_iter<I: IntoIterator<Item = (K, V)>>(
+        alloc: Global,
+        iter: I,
+        count: &mut Count,
+    ) -> Result<Self, AllocError> {
+        let mut store = Self::lm_empty(alloc);
+        store.lm_extend(alloc, iter, count)?;
+        Ok(store)
+    }
+
+    fn lm_sort_from_vec(
+        alloc: Global,
+        given: &mut Vec<(K, V)>,
+        count: &mut Count,
+    ) -> Result<Self, AllocError> {
+        let mut store = Self::lm_empty(alloc);
+        store.lm_extend_from_vec(alloc, given, count)?;
+        Ok(store)
+    }
+}
+
+impl<K: Drop, V: Drop> StoreFromIterator<K, V> for ColumnStore<K, V> {
+    fn lm_from_pairs<I: IntoIterator<Item = (K, V)>>(
+        alloc: Global,
+        iter: I,
+    ) -> Result<Self, AllocError> {
+        let mut keys = Vec::new(alloc);
+        let mut values = Vec::new(alloc);
+        for (key, value) in iter {
+            keys.push(key)?;
+            values.push(value)?;
+        }
+        Ok(ColumnStore { keys, values })
+    }
+}
+
+impl<K: Drop, V: Drop> StoreIntoIterator<K, V> for ColumnStore<K, V> {
+    type KeyValueIntoIter = ColumnIntoIter<K, V>;
+
+    fn lm_into_iter(self) -> ColumnIntoIter<K, V> {
+        ColumnIntoIter::new(self.keys, self.values)
+    }
+
+    fn lm_extend_end(&mut self, mut other: Self) -> Result<(), NoRoom<Self>> {
+        let Ok(()) = self.lm_reserve(other.keys.len()) else {
+            return Err(NoRoom { back: other });
+        };
+        append_reserved(&mut self.keys, &mut other.keys);
+        append_reserved(&mut self.values, &mut other.values);
+        Ok(())
+    }
+}
+
+// Puts the items of another vector behind, where there is room for them.
+fn append_reserved<T: Drop>(items: &mut Vec<T>, other: &mut Vec<T>)
+    requires { vec_len items.old + vec_len other.old ≤ vec_capacity items.old }
+    ensures items { items.new.items ≡ items.old.items ++ other.old.items }
+    ensures len { vec_len items.new ≡ vec_len items.old + vec_len other.old }
+{
+    let Ok(()) = items.append(other) else {
+        unreachable!()
+    };
+}

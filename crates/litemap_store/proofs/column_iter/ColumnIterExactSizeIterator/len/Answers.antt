@@ -1,6 +1,0 @@
-use Rattle.std.proofs.Common.{sym}
-use Rattle.litemap_store.proofs.Columns.{length-zip_same}
-use Rattle.litemap_store.proofs.column_iter.ColumnIterExactSizeIterator.len.Goals as goal
-
-pub returns-clause-value : goal.returns-clause-value
-returns-clause-value g c = rw (← c.self.view_is) (sym (length-zip_same c.self.inside.keys.now c.self.inside.values.now c.self.invariant))
