@@ -1,7 +1,9 @@
-use Rattle.std.proofs.Common.{◌≡◌, ℕ, ◌+◌, ◌-◌, List, ◌++◌, length, take, drop, append_assoc, arith, length-drop}
+use Rattle.std.proofs.Common.{◌≡◌, ℕ, ◌+◌, ◌-◌, List, ◌++◌, ap, length, take, drop, append_assoc, arith, length-drop, subst, sym, vec_len, ◌∙◌}
+use mathlib.Core.Bool.{true≢false}
 use Rattle.std.proofs.Math.Seq.{drop-append_seam, take-append-add, take-append_seam}
 use Rattle.std.proofs.lemmas.List.{take_all}
 use Rattle.std.proofs.lemmas.Grind.{common_steps}
+use Rattle.litemap_store.specs.Counts.{RisesByAtMost}
 use Rattle.litemap_store.proofs.LastPairs.{Last-rising}
 use Rattle.litemap_store.proofs.extend.keep_rising.Goals as goal
 
@@ -24,3 +26,24 @@ returns-clause-last g c =
     let all : from + length sorted ≡ c.args.pairs.now.len = grind (arith, common_steps) in
     rw (c.truncate.ensures.items, kept_behind (take from old) sorted _ _ from c.args.pairs.now.len c.in_ok-kept.kept front all)
     (rw (c.deref_mut.ensures.value, take_all (length c.args.pairs.now.items - from) (drop from c.args.pairs.now.items) (grind (arith, length-drop))) at c.in_ok-kept.ensures.last)
+
+pub returns-clause-same : goal.returns-clause-same
+returns-clause-same g c = λ r. absurd (true≢false (sym (c.is_rising.ensures.rising.1 (rw (c.split_at.ensures.back, c.deref.ensures.value) r)) ∙ c.if-is_rising.false))
+
+pub returns-in_err-kept-clause-same : goal.returns-in_err-kept-clause-same
+returns-in_err-kept-clause-same g c = λ r. absurd (true≢false (sym (c.is_rising.ensures.rising.1 (rw (c.split_at.ensures.back, c.deref.ensures.value) r)) ∙ c.if-is_rising.false))
+
+pub returns-clause-cost : goal.returns-clause-cost
+returns-clause-cost g c =
+    let given : length c.split_at.result.1.now ≡ vec_len c.args.pairs.now - c.args.from = ap length c.split_at.ensures.back ∙ length-drop c.args.from c.deref.result.now ∙ ap (λ n. n - c.args.from) c.deref.ensures.len in
+    subst (λ n. RisesByAtMost (n - 1) c.args.count.now c.is_rising.new.count) given c.is_rising.ensures.cost
+
+pub returns-in_err-kept-clause-cost : goal.returns-in_err-kept-clause-cost
+returns-in_err-kept-clause-cost g c =
+    let given : length c.split_at.result.1.now ≡ vec_len c.args.pairs.now - c.args.from = ap length c.split_at.ensures.back ∙ length-drop c.args.from c.deref.result.now ∙ ap (λ n. n - c.args.from) c.deref.ensures.len in
+    subst (λ n. RisesByAtMost (n - 1) c.args.count.now c.is_rising.new.count) given c.is_rising.ensures.cost
+
+pub returns-then-is_rising-clause-cost : goal.returns-then-is_rising-clause-cost
+returns-then-is_rising-clause-cost g c =
+    let given : length c.split_at.result.1.now ≡ vec_len c.args.pairs.now - c.args.from = ap length c.split_at.ensures.back ∙ length-drop c.args.from c.deref.result.now ∙ ap (λ n. n - c.args.from) c.deref.ensures.len in
+    subst (λ n. RisesByAtMost (n - 1) c.args.count.now c.is_rising.new.count) given c.is_rising.ensures.cost

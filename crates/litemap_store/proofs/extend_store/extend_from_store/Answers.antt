@@ -1,9 +1,22 @@
-use Rattle.std.proofs.Common.{◌≡◌, [], sym, ◌∙◌, refl, eqb-true, arith}
+use Rattle.std.proofs.Common.{◌≡◌, ℕ, ◌+◌, [], min, sym, ◌∙◌, refl, eqb-true, arith}
 use Rattle.std.proofs.lemmas.List.{nil_from_length}
 use Rattle.std.proofs.lemmas.Grind.{common_steps}
 use mathlib.Core.Bool.{true≢false}
+use Rattle.litemap_store.specs.Counts.{RisesByAtMost}
+use Rattle.litemap_store.specs.declared.count.Count.{Count}
+use Rattle.litemap_store.proofs.Counting.{at_most, in_turn}
 use Rattle.litemap_store.proofs.MergeJoins.{Merge-before, Merge-behind, left-before, left-behind, left-nil, not_apart}
 use Rattle.litemap_store.proofs.extend_store.extend_from_store.Goals as goal
+
+-- the ends are compared once or twice
+both_ends : {c d e : Count} (a b : ℕ) → RisesByAtMost (min 1 a) c d → RisesByAtMost (min 1 b) d e → RisesByAtMost 2 c e
+both_ends a b r s = in_turn (min 1 a) (min 1 b) 2 (omega arith) r s
+
+within_cost : {c d : Count} (n : ℕ) → RisesByAtMost 2 c d → RisesByAtMost (2 + n) c d
+within_cost n r = at_most 2 (2 + n) (omega arith) r
+
+merge_cost : {c d e : Count} (n : ℕ) → RisesByAtMost 2 c d → RisesByAtMost n d e → RisesByAtMost (2 + n) c e
+merge_cost n r s = in_turn 2 n (2 + n) (omega arith) r s
 
 pub returns-then-lm_is_empty-2-clause-none : goal.returns-then-lm_is_empty-2-clause-none
 returns-then-lm_is_empty-2-clause-none g c =
@@ -54,3 +67,30 @@ returns-clause-uncounted g c = grind (arith, common_steps)
 
 pub returns-in_err-rest-clause-uncounted : goal.returns-in_err-rest-clause-uncounted
 returns-in_err-rest-clause-uncounted g c = grind (arith, common_steps)
+
+pub returns-clause-cost : goal.returns-clause-cost
+returns-clause-cost g c = merge_cost _ (both_ends _ _ c.lies_below.ensures.cost c.lies_below-2.ensures.cost) c.merge_mixed.ensures.cost
+
+pub returns-in_err-rest-clause-cost : goal.returns-in_err-rest-clause-cost
+returns-in_err-rest-clause-cost g c = merge_cost _ (both_ends _ _ c.lies_below.ensures.cost c.lies_below-2.ensures.cost) c.merge_mixed.ensures.cost
+
+pub returns-then-lies_below-2-clause-cost : goal.returns-then-lies_below-2-clause-cost
+returns-then-lies_below-2-clause-cost g c = within_cost _ (both_ends _ _ c.lies_below.ensures.cost c.lies_below-2.ensures.cost)
+
+pub returns-in_err-lm_extend_start-clause-cost : goal.returns-in_err-lm_extend_start-clause-cost
+returns-in_err-lm_extend_start-clause-cost g c = within_cost _ (both_ends _ _ c.lies_below.ensures.cost c.lies_below-2.ensures.cost)
+
+pub returns-then-lies_below-2-clause-apart : goal.returns-then-lies_below-2-clause-apart
+returns-then-lies_below-2-clause-apart g c = λ apart. both_ends _ _ c.lies_below.ensures.cost c.lies_below-2.ensures.cost
+
+pub returns-in_err-lm_extend_start-clause-apart : goal.returns-in_err-lm_extend_start-clause-apart
+returns-in_err-lm_extend_start-clause-apart g c = λ apart. both_ends _ _ c.lies_below.ensures.cost c.lies_below-2.ensures.cost
+
+pub returns-clause-merged : goal.returns-clause-merged
+returns-clause-merged g c = c.in_ok-rest.ensures.merged
+
+pub returns-clause-none : goal.returns-clause-none
+returns-clause-none g c = rw (← c.in_ok-rest.ensures.left) c.unless_empty.ensures.none
+
+pub returns-clause-left : goal.returns-clause-left
+returns-clause-left g c = rw (← c.in_ok-rest.ensures.left) c.unless_empty.ensures.some

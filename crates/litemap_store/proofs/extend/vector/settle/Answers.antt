@@ -1,4 +1,4 @@
-use Rattle.std.proofs.Common.{◌≡◌, ℕ, Bool, false, List, ◌++◌, take, drop, sym, ◌∙◌, subst}
+use Rattle.std.proofs.Common.{◌≡◌, ℕ, ◌-◌, Bool, false, List, ◌++◌, ap, arith, length, length-drop, min, take, drop, sym, vec_len, ◌∙◌, subst}
 use Rattle.std.proofs.lemmas.List.{take-append-drop}
 use Rattle.std.proofs.lemmas.Result.{on_ok_weaker}
 use Rattle.std.specs.Bool.{IsTrue}
@@ -7,6 +7,7 @@ use Rattle.std.specs.declared.cmp.Ordering.{Ordering}
 use mathlib.Core.Bool.{true≢false}
 use Rattle.litemap_store.specs.Last.{Last, Rises}
 use Rattle.litemap_store.specs.Pairs.{Rising}
+use Rattle.litemap_store.proofs.Counting.{at_most, in_turn}
 use Rattle.litemap_store.proofs.Joined.{Rising-from_Rises}
 use Rattle.litemap_store.proofs.LastPairs.{Last-join_right, Last-rising}
 use Rattle.litemap_store.proofs.extend.vector.settle.Goals as goal
@@ -49,3 +50,41 @@ pub returns-in_default-split_off-clause-succeeds : goal.returns-in_default-split
 returns-in_default-split_off-clause-succeeds g c = λ h.
     let below = rw (c.new.ensures, c.new-2.ensures, ← c.split_at.ensures.by_index.0, c.deref.ensures.value) at c.lies_below.ensures.below.1 in
     absurd (not_behind g.K.Ord.cmp c.args.from _ _ _ c.requires.rising c.keep_rising.ensures.same below c.if-lies_below.false h)
+
+pub lies_below-requires-clause-low : goal.lies_below-requires-clause-low
+lies_below-requires-clause-low g c = rw (c.new.ensures, c.split_at.ensures.front, c.deref.ensures.value, c.keep_rising.ensures.before) c.requires.rising
+
+pub lies_below-requires-clause-high : goal.lies_below-requires-clause-high
+lies_below-requires-clause-high g c = rw (c.new-2.ensures, c.split_at.ensures.back, c.deref.ensures.value) c.in-Ok.ensures.last.rising
+
+pub merge_in_vec-requires-clause-store : goal.merge_in_vec-requires-clause-store
+merge_in_vec-requires-clause-store g c = rw (c.in-Ok-split_off.ensures.items, c.keep_rising.ensures.before) c.requires.rising
+
+pub merge_in_vec-requires-clause-pairs : goal.merge_in_vec-requires-clause-pairs
+merge_in_vec-requires-clause-pairs g c = rw c.in-Ok-split_off.ensures.tail c.in-Ok.ensures.last.rising
+
+pub returns-clause-refused : goal.returns-clause-refused
+returns-clause-refused g c = rw (c.in-Ok-split_off.ensures.items, c.keep_rising.ensures.before) at c.merge_in_vec.ensures.refused
+
+pub returns-in_default-clause-refused : goal.returns-in_default-clause-refused
+returns-in_default-clause-refused g c = c.truncate.ensures.items ∙ c.keep_rising.ensures.before
+
+pub returns-in_default-clause-behind : goal.returns-in_default-clause-behind
+returns-in_default-clause-behind g c = λ h.
+    let old = c.args.store.now in
+    at_most (vec_len old - c.args.from - 1) (length (drop c.args.from old.items)) (omega (arith, length-drop c.args.from old.items, old.ok.0)) c.keep_rising.ensures.cost
+
+pub returns-in_default-clause-succeeds : goal.returns-in_default-clause-succeeds
+returns-in_default-clause-succeeds g c = λ h. (c.in_default.ensures.same h.rising).0
+
+pub returns-in_default-split_off-clause-behind : goal.returns-in_default-split_off-clause-behind
+returns-in_default-split_off-clause-behind g c = λ h.
+    let below = rw (c.new.ensures, c.new-2.ensures, ← c.split_at.ensures.by_index.0, c.deref.ensures.value) at c.lies_below.ensures.below.1 in
+    absurd (not_behind g.K.Ord.cmp c.args.from _ _ _ c.requires.rising c.keep_rising.ensures.same below c.if-lies_below.false h)
+
+pub returns-then-lies_below-clause-behind : goal.returns-then-lies_below-clause-behind
+returns-then-lies_below-clause-behind g c = λ h.
+    let old = c.args.store.now in
+    let fewer = c.keep_rising.ensures.shorter in
+    let high : length c.new-2.result.pairs.now ≡ vec_len c.keep_rising.new.pairs - c.args.from = ap length (c.new-2.ensures ∙ c.split_at.ensures.back) ∙ length-drop c.args.from c.deref.result.now ∙ ap (λ n. n - c.args.from) c.deref.ensures.len in
+    in_turn (vec_len old - c.args.from - 1) (min 1 (length c.new-2.result.pairs.now)) (length (drop c.args.from old.items)) (omega (arith, high, fewer.1, length-drop c.args.from old.items, old.ok.0)) c.keep_rising.ensures.cost c.lies_below.ensures.cost
