@@ -1,7 +1,8 @@
-use Rattle.std.proofs.Common.{◌≡◌, ◌++◌, sym, ◌∙◌}
+use Rattle.std.proofs.Common.{◌≡◌, ◌+◌, ◌*◌, ◌-◌, ◌++◌, arith, length, min, sym, vec_len, ◌∙◌}
 use Rattle.std.proofs.lemmas.Result.{on_ok_weaker}
 use mathlib.Core.Bool.{true≢false}
 use Rattle.litemap_store.specs.Last.{Rises}
+use Rattle.litemap_store.proofs.Counting.{at_most, in_turn}
 use Rattle.litemap_store.proofs.Joined.{Rising-from_Rises}
 use Rattle.litemap_store.proofs.LastPairs.{Last-join_right, Last-rising}
 use Rattle.litemap_store.proofs.extend.put_pairs.Given.{Over}
@@ -26,3 +27,37 @@ pub returns-then-lies_below-clause-last : goal.returns-then-lies_below-clause-la
 returns-then-lies_below-clause-last g c =
     let all : g.S.Store.pairs c.append_each.new.store ≡ g.S.Store.pairs c.args.store.now ++ c.keep_rising.new.pairs.items = cc in
     rw all (Last-join_right g.K.Ord.cmp g.met.K.Ord.total _ _ _ _ c.in_ok-keep_rising.ensures.last (Last-rising g.K.Ord.cmp _ (c.lies_below.ensures.below.0 c.if-lies_below.true)))
+
+pub returns-in_err-keep_rising-clause-behind : goal.returns-in_err-keep_rising-clause-behind
+returns-in_err-keep_rising-clause-behind g c = λ h.
+    let given = c.args.pairs in
+    at_most (vec_len given - 0 - 1) (length given.items) (omega (arith, given.ok.0)) c.keep_rising.ensures.cost
+
+pub returns-in_err-keep_rising-clause-cost : goal.returns-in_err-keep_rising-clause-cost
+returns-in_err-keep_rising-clause-cost g c =
+    let given = c.args.pairs in
+    at_most (vec_len given - 0 - 1) (length (g.S.Store.pairs c.args.store.now) + 2 * length given.items) (omega (arith, given.ok.0)) c.keep_rising.ensures.cost
+
+pub returns-in_err-lm_reserve-clause-behind : goal.returns-in_err-lm_reserve-clause-behind
+returns-in_err-lm_reserve-clause-behind g c = λ h.
+    let given = c.args.pairs in
+    let kept = c.keep_rising.new.pairs in
+    in_turn (vec_len given - 0 - 1) (min 1 (length kept.items)) (length given.items) (omega (arith, given.ok.0, kept.ok.0, c.keep_rising.ensures.shorter.1)) c.keep_rising.ensures.cost c.lies_below.ensures.cost
+
+pub returns-in_err-lm_reserve-clause-cost : goal.returns-in_err-lm_reserve-clause-cost
+returns-in_err-lm_reserve-clause-cost g c =
+    let given = c.args.pairs in
+    let kept = c.keep_rising.new.pairs in
+    in_turn (vec_len given - 0 - 1) (min 1 (length kept.items)) (length (g.S.Store.pairs c.args.store.now) + 2 * length given.items) (omega (arith, given.ok.0, kept.ok.0, c.keep_rising.ensures.shorter.1)) c.keep_rising.ensures.cost c.lies_below.ensures.cost
+
+pub returns-then-lies_below-clause-behind : goal.returns-then-lies_below-clause-behind
+returns-then-lies_below-clause-behind g c = λ h.
+    let given = c.args.pairs in
+    let kept = c.keep_rising.new.pairs in
+    in_turn (vec_len given - 0 - 1) (min 1 (length kept.items)) (length given.items) (omega (arith, given.ok.0, kept.ok.0, c.keep_rising.ensures.shorter.1)) c.keep_rising.ensures.cost c.lies_below.ensures.cost
+
+pub returns-then-lies_below-clause-cost : goal.returns-then-lies_below-clause-cost
+returns-then-lies_below-clause-cost g c =
+    let given = c.args.pairs in
+    let kept = c.keep_rising.new.pairs in
+    in_turn (vec_len given - 0 - 1) (min 1 (length kept.items)) (length (g.S.Store.pairs c.args.store.now) + 2 * length given.items) (omega (arith, given.ok.0, kept.ok.0, c.keep_rising.ensures.shorter.1)) c.keep_rising.ensures.cost c.lies_below.ensures.cost
