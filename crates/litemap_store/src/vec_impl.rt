@@ -3,7 +3,7 @@ ghost use Rattle.std.specs.Prelude.{◌≡◌, ◌<◌, ◌≤◌, ◌-◌, [], 
 ghost use Rattle.litemap_store.specs.Retain.{CallableOnEach, Kept};
 ghost use Rattle.litemap_store.specs.VecStore.{vec_room, vec_with_value, vec_writes, vec_keeps_room};
 
-use crate::extend::vector::{append_in_vec, settle};
+use crate::extend::vector::{put_in_vec, settle};
 use crate::extend::{gather, gather_behind};
 use crate::shared::is_kept;
 use crate::slice_search;
@@ -157,9 +157,8 @@ impl<K: Ord + Drop, V: Drop> StoreBulkMut<K, V> for Vec<(K, V)> {
         given: &mut Vec<(K, V)>,
         count: &mut Count,
     ) -> Result<(), AllocError> {
-        let len = self.len();
-        append_in_vec(self, mem::replace(given, Vec::new(alloc)))?;
-        settle(alloc, self, len, count)
+        let pairs = mem::replace(given, Vec::new(alloc));
+        put_in_vec(alloc, self, pairs, count)
     }
 }
 
