@@ -6,7 +6,7 @@ ghost use Rattle.litemap_store.specs.Retain.{CallableOnEach, Kept};
 ghost use Rattle.litemap_store.specs.VecStore.{vec_room};
 
 use crate::column_iter::{ColumnIntoIter, ColumnIter};
-use crate::shared::{insert_reserved, is_kept};
+use crate::shared::{insert_reserved, is_kept, is_moving, swap_if};
 use crate::slice_search;
 use crate::store::{
     Count, NoRoom, Store, StoreBulkMut, StoreConstEmpty, StoreFromIterable, StoreFromIterator,
@@ -206,12 +206,14 @@ impl<K: Ord + Drop, V: Drop> StoreBulkMut<K, V> for ColumnStore<K, V> {
         ensures memory { self.new.room + length self.new.pairs ≡ self.old.room + length self.old.pairs }
     {
         let mut kept = 0;
+        let mut moves = false;
         for index in 0..self.keys.len() {
             let key = &self.keys[index];
             let value = &self.values[index];
             let stays = is_kept(&mut f, key, value);
-            self.keys.swap(kept, index);
-            self.values.swap(kept, index);
+            moves = is_moving(moves, stays, kept, index);
+            swap_if(moves, &mut self.keys, kept, index);
+            swap_if(moves, &mut self.values, kept, index);
             if stays {
                 kept += 1;
             }

@@ -5,7 +5,7 @@ ghost use Rattle.litemap_store.specs.VecStore.{vec_room, vec_with_value, vec_wri
 
 use crate::extend::vector::{put_in_vec, settle};
 use crate::extend::{gather, gather_behind};
-use crate::shared::is_kept;
+use crate::shared::{is_kept, is_moving, swap_if};
 use crate::slice_search;
 use crate::store::{
     Count, NoRoom, SliceIter, Store, StoreBulkMut, StoreConstEmpty, StoreFromIterable,
@@ -128,11 +128,12 @@ impl<K: Ord + Drop, V: Drop> StoreBulkMut<K, V> for Vec<(K, V)> {
         ensures capacity { vec_capacity self.new ≡ vec_capacity self.old }
     {
         let mut kept = 0;
+        let mut moves = false;
         for index in 0..self.len() {
             let pair = &self[index];
             let stays = is_kept(&mut f, &pair.0, &pair.1);
-            // It moves whatever the answer, so that no jump hangs on it.
-            self.swap(kept, index);
+            moves = is_moving(moves, stays, kept, index);
+            swap_if(moves, self, kept, index);
             if stays {
                 kept += 1;
             }

@@ -1,8 +1,8 @@
-use Rattle.std.proofs.Common.{◌≡◌, ◌<◌, length, take, refl, sym, ◌∙◌, subst, arith}
+use Rattle.std.proofs.Common.{◌≡◌, ◌<◌, length, take, inr, refl, sym, ◌∙◌, subst, arith}
 use Rattle.std.specs.List.{zip}
 use Rattle.litemap_store.specs.Retain.{Kept}
-use Rattle.litemap_store.proofs.Columns.{length-zip_same, same_length, zip-swapped, zip-take, zip_at}
-use Rattle.litemap_store.proofs.Retaining.{Kept-all, KeptSoFar-no, KeptSoFar-takes, KeptSoFar-yes}
+use Rattle.litemap_store.proofs.Columns.{length-zip_same, same_length, zip-swap_if, zip-take, zip_at}
+use Rattle.litemap_store.proofs.Retaining.{Kept-all, KeptSoFar-no, KeptSoFar-takes, KeptSoFar-yes, Moved_if}
 use Rattle.litemap_store.proofs.column_impl.ColumnStoreStoreBulkMut.lm_retain.Goals as goal
 use Rattle.litemap_store.proofs.column_impl.ColumnStoreStoreBulkMut.lm_retain.Goals.{then-stays, else-stays}
 
@@ -28,19 +28,18 @@ pub loop-index-preserved : goal.loop-index-preserved
 loop-index-preserved g c =
     let keys = c.loop-index.self-inside.keys in
     let values = c.loop-index.self-inside.values in
-    let keys' = c.swap.new.self in
-    let values' = c.swap-in-loop-index.new.self in
     let i = c.loop-index.index in
     let now = c.loop-index.invariant in
     let p : g.row.K.Denot × g.row.V.Denot = (c.index-key.result.now, c.index-value.result.now) in
     let at = zip_at keys values _ i p.0 p.1 now.keys now.values c.loop-index-test.true c.index-key.ensures c.index-value.ensures in
     let within : i < length keys.items = omega (arith, keys.ok.0, now.keys, c.loop-index-test.true) in
-    let swapped = λ (d : g.row.K.Denot × g.row.V.Denot). zip-swapped keys.items keys'.items values.items values'.items c.loop-index.kept i d (same_length keys values (now.keys ∙ sym now.values)) (let w = now.kept.within in omega arith) within (c.swap.ensures.by_index.3 d.0) (c.swap-in-loop-index.ensures.by_index.3 d.1) in
-    let both = c.swap.ensures.len ∙ now.keys in
-    let all = c.swap-in-loop-index.ensures.len ∙ now.values in
+    let swapped = zip-swap_if keys.items c.swap_if.new.items.items values.items c.swap_if-in-loop-index.new.items.items c.loop-index.kept i p c.is_moving-moves.result (same_length keys values (now.keys ∙ sym now.values)) (let w = now.kept.within in omega arith) within c.swap_if.ensures.items c.swap_if-in-loop-index.ensures.items in
+    let moved = Moved_if (zip keys.items values.items) (zip c.swap_if.new.items.items c.swap_if-in-loop-index.new.items.items) c.loop-index.kept i p c.is_kept-stays.result c.is_moving-moves.result now.kept.within at.0 at.1 (λ stay lt. c.is_moving-moves.ensures.1 (inr (stay, lt))) swapped in
+    let both = c.swap_if.ensures.len ∙ now.keys in
+    let all = c.swap_if-in-loop-index.ensures.len ∙ now.values in
     elim c.if-stays.branch [
-      | then-stays w ↦ record { keys = both; values = all; memory = rw (c.swap.ensures.capacity, c.swap-in-loop-index.ensures.capacity) now.memory; kept = rw w.kept-is (KeptSoFar-yes g.F.FnMut _ _ _ _ _ _ p now.kept at.0 at.1 _ _ c.is_kept-stays.ensures _ swapped w.if-stays.true) }
-      | else-stays w ↦ record { keys = both; values = all; memory = rw (c.swap.ensures.capacity, c.swap-in-loop-index.ensures.capacity) now.memory; kept = rw w.kept-is (KeptSoFar-no g.F.FnMut _ _ _ _ _ _ p now.kept at.0 at.1 _ _ c.is_kept-stays.ensures _ swapped w.if-stays.false) }
+      | then-stays w ↦ record { keys = both; values = all; memory = rw (c.swap_if.ensures.capacity, c.swap_if-in-loop-index.ensures.capacity) now.memory; kept = rw w.kept-is (KeptSoFar-yes g.F.FnMut _ _ _ _ _ _ p now.kept at.0 at.1 _ _ c.is_kept-stays.ensures _ moved w.if-stays.true) }
+      | else-stays w ↦ record { keys = both; values = all; memory = rw (c.swap_if.ensures.capacity, c.swap_if-in-loop-index.ensures.capacity) now.memory; kept = rw w.kept-is (KeptSoFar-no g.F.FnMut _ _ _ _ _ _ p now.kept at.0 at.1 _ _ c.is_kept-stays.ensures _ moved w.if-stays.false) }
     ]
 
 pub returns-clause-memory : goal.returns-clause-memory
