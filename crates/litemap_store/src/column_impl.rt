@@ -6,7 +6,7 @@ ghost use Rattle.litemap_store.specs.Retain.{CallableOnEach, Kept};
 ghost use Rattle.litemap_store.specs.VecStore.{vec_room};
 
 use crate::column_iter::{ColumnIntoIter, ColumnIter};
-use crate::shared::{insert_reserved, is_kept, is_moving, swap_if};
+use crate::shared::{insert_reserved, is_kept, is_moving, remove_at, swap_if};
 use crate::slice_search;
 use crate::store::{
     Count, NoRoom, Store, StoreBulkMut, StoreConstEmpty, StoreFromIterable, StoreFromIterator,
@@ -166,8 +166,8 @@ impl<K, V> StoreMut<K, V> for ColumnStore<K, V> {
     }
 
     fn lm_remove(&mut self, index: usize) -> (K, V) {
-        let key = self.keys.remove(index);
-        let value = self.values.remove(index);
+        let key = remove_at(&mut self.keys, index);
+        let value = remove_at(&mut self.values, index);
         (key, value)
     }
 

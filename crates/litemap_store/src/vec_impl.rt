@@ -5,7 +5,7 @@ ghost use Rattle.litemap_store.specs.VecStore.{vec_room, vec_with_value, vec_wri
 
 use crate::extend::vector::{put_in_vec, settle};
 use crate::extend::{gather, gather_behind};
-use crate::shared::{is_kept, is_moving, swap_if};
+use crate::shared::{is_kept, is_moving, remove_at, swap_if};
 use crate::slice_search;
 use crate::store::{
     Count, NoRoom, SliceIter, Store, StoreBulkMut, StoreConstEmpty, StoreFromIterable,
@@ -88,11 +88,7 @@ impl<K, V> StoreMut<K, V> for Vec<(K, V)> {
     }
 
     fn lm_remove(&mut self, index: usize) -> (K, V) {
-        if index == self.len() - 1 {
-            // The last pair leaves with no other to move.
-            return self.take_last();
-        }
-        self.remove(index)
+        remove_at(self, index)
     }
 
     fn lm_clear(&mut self)
