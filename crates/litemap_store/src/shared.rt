@@ -1,7 +1,5 @@
 //! What stores of several kinds have in common.
-ghost use Rattle.std.specs.Prelude.{◌≡◌, ◌⊎◌, ◌↔◌, ◌+◌, ◌<◌, ◌≤◌, IsTrue, insert, vec_capacity, vec_len};
-ghost use Rattle.std.specs.Prelude.{if◌then◌else◌, remove, slice_index_or};
-ghost use Rattle.std.specs.List.{swap};
+ghost use Rattle.std.specs.Prelude.{◌≡◌, ◌+◌, ◌<◌, ◌≤◌, insert, remove, slice_index_or, vec_capacity, vec_len};
 ghost use Rattle.litemap_store.specs.Retain.{CalledOnPair, TakesPair};
 
 /// Whether a closure keeps a pair (own). It is called once.
@@ -10,27 +8,6 @@ pub fn is_kept<K, V, F: FnMut(&K, &V) -> bool>(f: &mut F, key: &K, value: &V) ->
     ensures { CalledOnPair F.FnMut f.old (key.now, value.now) result f.new }
 {
     f(key, value)
-}
-
-/// Whether pairs move from here on, where those that stay are brought to the front: once one stays behind one that goes, each
-/// does, whatever the answer (own). So no jump hangs on an answer then, and none moves before.
-pub fn is_moving(before: bool, stays: bool, kept: usize, index: usize) -> bool
-    ensures { IsTrue result ↔ (IsTrue before ⊎ (IsTrue stays × (kept < index))) }
-{
-    before || (stays && kept < index)
-}
-
-/// Swaps two items, or leaves them (own).
-pub fn swap_if<T>(swaps: bool, items: &mut Vec<T>, a: usize, b: usize)
-    requires a { a < vec_len items.old }
-    requires b { b < vec_len items.old }
-    ensures items { items.new.items ≡ (if swaps then swap items.old.items a b else items.old.items) }
-    ensures len { vec_len items.new ≡ vec_len items.old }
-    ensures capacity { vec_capacity items.new ≡ vec_capacity items.old }
-{
-    if swaps {
-        items.swap(a, b);
-    }
 }
 
 /// Puts an item at an index, in a vector that has room, by one move of the later ones (own).
