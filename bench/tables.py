@@ -6,6 +6,7 @@ TITLES = {
     "get": "`get`, present",
     "get_missing": "`get`, absent",
     "iterate": "`iter`",
+    "equal": "`==`",
     "insert": "`insert`, no order",
     "append": "`try_append`",
     "remove": "`remove`, no order",

@@ -14,6 +14,8 @@ pub enum Call {
     GetMissing,
     /// To go through all pairs.
     Iterate,
+    /// To compare with a map of the same pairs.
+    Equal,
     /// To put pairs in one by one, in no order.
     Insert,
     /// To put pairs behind one by one.
@@ -50,10 +52,11 @@ pub enum Call {
 
 impl Call {
     /// All calls.
-    pub const ALL: [Call; 19] = [
+    pub const ALL: [Call; 20] = [
         Call::Get,
         Call::GetMissing,
         Call::Iterate,
+        Call::Equal,
         Call::Insert,
         Call::Append,
         Call::Remove,
@@ -79,6 +82,7 @@ impl Display for Call {
             Call::Get => "get",
             Call::GetMissing => "get_missing",
             Call::Iterate => "iterate",
+            Call::Equal => "equal",
             Call::Insert => "insert",
             Call::Append => "append",
             Call::Remove => "remove",
@@ -106,6 +110,7 @@ pub fn call_all<K: Key>(call: Call, cases: &mut [Case<K>]) -> u64 {
         match call {
             Call::Get | Call::GetMissing => sum = sum.wrapping_add(get(&case.map, &case.keys)),
             Call::Iterate => sum = sum.wrapping_add(total(&case.map)),
+            Call::Equal => sum = sum.wrapping_add(are_equal(&case.map, &case.other)),
             Call::Insert => insert(&mut case.map, take(&mut case.given)),
             Call::Append => append(&mut case.map, take(&mut case.given)),
             Call::Remove => sum = sum.wrapping_add(remove(&mut case.map, &case.keys)),
@@ -144,6 +149,11 @@ pub fn total<K: Key>(map: &LiteMap<K, u64>) -> u64 {
         sum = sum.wrapping_add(*value);
     }
     sum
+}
+
+#[inline(never)]
+fn are_equal<K: Key>(map: &LiteMap<K, u64>, other: &LiteMap<K, u64>) -> u64 {
+    u64::from(map == other)
 }
 
 #[inline(never)]

@@ -60,7 +60,7 @@ fn make_case<K: Key>(draw: &Draw, call: Call, round: usize) -> Case<K> {
     Case {
         map: LiteMap::from_iter(keys::pairs(parts.map, 0)),
         given: keys::pairs(parts.given, 0),
-        other: LiteMap::from_iter(keys::pairs(parts.other, 1)),
+        other: LiteMap::from_iter(keys::pairs(parts.other, more_of(call))),
         keys: match call {
             Call::Get => keys::keys(&draw.asked(round)),
             Call::GetMissing => keys::keys(&draw.missing(round)),
@@ -68,6 +68,14 @@ fn make_case<K: Key>(draw: &Draw, call: Call, round: usize) -> Case<K> {
             _ => Vec::new(),
         },
         made: None,
+    }
+}
+
+// How much larger the values of the map are that it is given.
+fn more_of(call: Call) -> u64 {
+    match call {
+        Call::Equal => 0,
+        _ => 1,
     }
 }
 
@@ -87,7 +95,7 @@ fn parts_of(draw: &Draw, call: Call) -> Parts<'_> {
         Call::ExtendFew => (rising, &draw.few, &[]),
         Call::MergeApart => (lower, &[], upper),
         Call::MergeInterleaved => (evens, &[], odds),
-        Call::MergeEqual => (rising, &[], rising),
+        Call::Equal | Call::MergeEqual => (rising, &[], rising),
         _ => (rising, &[], &[]),
     };
     Parts { map, given, other }

@@ -1,10 +1,11 @@
 -- Two lists of one length, one of keys and one of values: what is done to both is done to the pairs.
 --     length-zip_same, within-zip      as many pairs as keys;  zip-read, get_or-zip_same, zip-key, zip-none      the pair at a place, and past the end
 --     zip-append, zip-joined, zip-insert, zip-remove, zip-set, zip-set_value, zip-take      after a change of both, or of the values
---     zip-swapped      after a swap in both
-use Rattle.std.proofs.Common.{◌≡◌, ℕ, zero, suc, ◌<◌, ◌≤◌, List, [], ◌∷◌, ◌++◌, length, take, slice_get, slice_set, get_or, Some, None, Vec, vec_len, refl, sym, ap, ◌∙◌, arith}
+--     zip-swap      after a swap in both
+use Rattle.std.proofs.Common.{◌≡◌, ℕ, zero, suc, ◌<◌, ◌≤◌, List, [], ◌∷◌, ◌++◌, length, take, slice_get, slice_set, swap, get_or, Some, None, Vec, vec_len, refl, sym, ap, ◌∙◌, arith}
 use Rattle.std.specs.Option.{option_map_or}
 use Rattle.std.specs.List.{insert, remove, zip}
+use Rattle.std.proofs.lemmas.List.Edits.{swap_is}
 use Rattle.std.proofs.lemmas.Slice.Zip.{get_or-zip}
 use Rattle.litemap_store.specs.Pairs.{set_value}
 
@@ -107,11 +108,10 @@ module _ {K V : Type 0} where
   zip-take (j ∷ ks) (w ∷ vs) (suc n) = ap (λ L. (j, w) ∷ L) (zip-take ks vs n)
 
   -- two keys and their values in each other's place
-  pub zip-swapped : (ks ks' : List K) (vs vs' : List V) (k i : ℕ) (d : K × V) → length ks ≡ length vs → k < length ks → i < length ks
-      → ks' ≡ slice_set (slice_set ks k (get_or ks i d.0)) i (get_or ks k d.0) → vs' ≡ slice_set (slice_set vs k (get_or vs i d.1)) i (get_or vs k d.1)
-      → zip ks' vs' ≡ slice_set (slice_set (zip ks vs) k (get_or (zip ks vs) i d)) i (get_or (zip ks vs) k d)
-  zip-swapped ks ks' vs vs' k i d h u w is_keys is_values =
+  pub zip-swap : (ks : List K) (vs : List V) (k i : ℕ) (d : K × V) → length ks ≡ length vs → k < length ks → i < length ks → zip (swap ks k i) (swap vs k i) ≡ swap (zip ks vs) k i
+  zip-swap ks vs k i d h u w =
+      let all : length (zip ks vs) ≡ length ks = length-zip_same ks vs h in
       let at : get_or (zip ks vs) i d ≡ (get_or ks i d.0, get_or vs i d.1) = get_or-zip ks vs i d w (omega arith) in
       let front : get_or (zip ks vs) k d ≡ (get_or ks k d.0, get_or vs k d.1) = get_or-zip ks vs k d u (omega arith) in
       let once : zip (slice_set ks k (get_or ks i d.0)) (slice_set vs k (get_or vs i d.1)) ≡ slice_set (zip ks vs) k (get_or ks i d.0, get_or vs i d.1) = zip-set ks vs k _ _ in
-      rw (is_keys, is_values, at, front, zip-set, once) refl
+      rw (← swap_is ks k i d.0 u w, ← swap_is vs k i d.1 (omega arith) (omega arith), ← swap_is (zip ks vs) k i d (omega arith) (omega arith), at, front, zip-set, once) refl

@@ -1,12 +1,13 @@
 //! A vector of keys and a vector of values as a store. Its room is the smaller of theirs.
 ghost use Rattle.std.specs.Prelude.{◌≡◌, ◌+◌, ◌-◌, ◌≤◌, ◌<◌, ◌++◌, IfOk, length, min, refl, vec_capacity, vec_len};
+ghost use Rattle.std.specs.List.{zip};
 ghost use Rattle.std.specs.Map.{keys_of, values_of};
 ghost use Rattle.litemap_columns.specs.Columns.{columns, columns_with_value};
-ghost use Rattle.litemap_store.specs.Retain.{CallableOnEach, Kept};
+ghost use Rattle.litemap_store.specs.Retain.{CallableOnEach, Kept, KeptSoFar};
 ghost use Rattle.litemap_store.specs.VecStore.{vec_room};
 
 use crate::column_iter::{ColumnIntoIter, ColumnIter};
-use litemap_store::shared::{insert_reserved, is_kept};
+use litemap_store::shared::{insert_reserved, is_kept, remove_at};
 use litemap_store::slice_search;
 use litemap_store::store::{
     Count, NoRoom, Store, StoreBulkMut, StoreConstEmpty, StoreFromIterable, StoreFromIterator,
@@ -166,8 +167,8 @@ impl<K, V> StoreMut<K, V> for ColumnStore<K, V> {
     }
 
     fn lm_remove(&mut self, index: usize) -> (K, V) {
-        let key = self.keys.remove(index);
-        let value = self.values.remove(index);
+        let key = remove_at(&mut self.keys, index);
+        let value = remove_at(&mut self.values, index);
         (key, value)
     }
 
@@ -205,8 +206,8 @@ impl<K: Ord + Drop, V: Drop> StoreBulkMut<K, V> for ColumnStore<K, V> {
         ensures kept { Kept F.FnMut f self.old.pairs self.new.pairs }
         ensures memory { self.new.room + length self.new.pairs ≡ self.old.room + length self.old.pairs }
     {
-        let mut kept = 0;
-        for index in 0..self.keys.len() {
+        let (mut kept, asked) = keep_in_place(&mut self.keys, &mut self.values, &mut f);
+        for index in asked..self.keys.len() {
             let key = &self.keys[index];
             let value = &self.values[index];
             let stays = is_kept(&mut f, key, value);
@@ -219,6 +220,38 @@ impl<K: Ord + Drop, V: Drop> StoreBulkMut<K, V> for ColumnStore<K, V> {
         self.keys.truncate(kept);
         self.values.truncate(kept);
     }
+}
+
+// Asks of the pairs in turn, until one stays behind one that goes: that one is moved. It answers how many stay, and how many were
+// asked.
+fn keep_in_place<K, V, F: FnMut(&K, &V) -> bool>(
+    keys: &mut Vec<K>,
+    values: &mut Vec<V>,
+    f: &mut F,
+) -> (usize, usize)
+    requires same_length { vec_len keys.old ≡ vec_len values.old }
+    requires callable { CallableOnEach F.FnMut f.old (zip keys.old.items values.old.items) }
+    ensures kept { KeptSoFar F.FnMut f.old (zip keys.old.items values.old.items)
+        f.new (zip keys.new.items values.new.items) result.0 result.1 }
+    ensures asked { result.1 ≤ vec_len keys.old }
+    ensures keys { (vec_len keys.new ≡ vec_len keys.old) × (vec_capacity keys.new ≡ vec_capacity keys.old) }
+    ensures values { (vec_len values.new ≡ vec_len values.old) × (vec_capacity values.new ≡ vec_capacity values.old) }
+{
+    let mut kept = 0;
+    let len = keys.len();
+    for index in 0..len {
+        let key = &keys[index];
+        let value = &values[index];
+        if is_kept(f, key, value) {
+            if kept < index {
+                keys.swap(kept, index);
+                values.swap(kept, index);
+                return (kept + 1, index + 1);
+            }
+            kept += 1;
+        }
+    }
+    (kept, len)
 }
 
 impl<'a, K: 'a, V: 'a> StoreIterable<'a, K, V> for ColumnStore<K, V> {

@@ -1,11 +1,11 @@
 //! A vector of pairs as a store. Its room is its capacity less its length.
 ghost use Rattle.std.specs.Prelude.{◌≡◌, ◌<◌, ◌≤◌, ◌-◌, [], vec_capacity, vec_len, length, slice_get, remove, Some};
-ghost use Rattle.litemap_store.specs.Retain.{CallableOnEach, Kept};
+ghost use Rattle.litemap_store.specs.Retain.{CallableOnEach, Kept, KeptSoFar};
 ghost use Rattle.litemap_store.specs.VecStore.{vec_room, vec_with_value, vec_writes, vec_keeps_room};
 
-use crate::extend::vector::{append_in_vec, settle};
+use crate::extend::vector::{put_in_vec, settle};
 use crate::extend::{gather, gather_behind};
-use crate::shared::is_kept;
+use crate::shared::{is_kept, remove_at};
 use crate::slice_search;
 use crate::store::{
     Count, NoRoom, SliceIter, Store, StoreBulkMut, StoreConstEmpty, StoreFromIterable,
@@ -88,11 +88,7 @@ impl<K, V> StoreMut<K, V> for Vec<(K, V)> {
     }
 
     fn lm_remove(&mut self, index: usize) -> (K, V) {
-        if index == self.len() - 1 {
-            // The last pair leaves with no other to move.
-            return self.take_last();
-        }
-        self.remove(index)
+        remove_at(self, index)
     }
 
     fn lm_clear(&mut self)
@@ -127,8 +123,8 @@ impl<K: Ord + Drop, V: Drop> StoreBulkMut<K, V> for Vec<(K, V)> {
         ensures shorter { vec_len self.new ≤ vec_len self.old }
         ensures capacity { vec_capacity self.new ≡ vec_capacity self.old }
     {
-        let mut kept = 0;
-        for index in 0..self.len() {
+        let (mut kept, asked) = keep_in_place(self, &mut f);
+        for index in asked..self.len() {
             let pair = &self[index];
             let stays = is_kept(&mut f, &pair.0, &pair.1);
             // It moves whatever the answer, so that no jump hangs on it.
@@ -157,10 +153,36 @@ impl<K: Ord + Drop, V: Drop> StoreBulkMut<K, V> for Vec<(K, V)> {
         given: &mut Vec<(K, V)>,
         count: &mut Count,
     ) -> Result<(), AllocError> {
-        let len = self.len();
-        append_in_vec(self, mem::replace(given, Vec::new(alloc)))?;
-        settle(alloc, self, len, count)
+        let pairs = mem::replace(given, Vec::new(alloc));
+        put_in_vec(alloc, self, pairs, count)
     }
+}
+
+// Asks of the pairs in turn, until one stays behind one that goes: that one is moved. It answers how many stay, and how many were
+// asked.
+fn keep_in_place<K, V, F: FnMut(&K, &V) -> bool>(
+    pairs: &mut Vec<(K, V)>,
+    f: &mut F,
+) -> (usize, usize)
+    requires { CallableOnEach F.FnMut f.old pairs.old.items }
+    ensures kept { KeptSoFar F.FnMut f.old pairs.old.items f.new pairs.new.items result.0 result.1 }
+    ensures asked { result.1 ≤ vec_len pairs.old }
+    ensures len { vec_len pairs.new ≡ vec_len pairs.old }
+    ensures capacity { vec_capacity pairs.new ≡ vec_capacity pairs.old }
+{
+    let mut kept = 0;
+    let len = pairs.len();
+    for index in 0..len {
+        let pair = &pairs[index];
+        if is_kept(f, &pair.0, &pair.1) {
+            if kept < index {
+                pairs.swap(kept, index);
+                return (kept + 1, index + 1);
+            }
+            kept += 1;
+        }
+    }
+    (kept, len)
 }
 
 impl<'a, K: 'a, V: 'a> StoreIterable<'a, K, V> for Vec<(K, V)> {

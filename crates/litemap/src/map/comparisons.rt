@@ -21,7 +21,7 @@ impl<K: Ord, V: PartialEq, S: Store<K, V>> PartialEq for LiteMap<K, V, S> {
         (on_per (λ p. p.1) V.laws))) };
 
     fn eq(&self, other: &Self) -> bool {
-        are_equal(Places::new(&self.store), Places::new(&other.store))
+        are_equal(&self.store, &other.store)
     }
 }
 
@@ -90,17 +90,16 @@ fn is_equal_pair<K: PartialEq, V: PartialEq>(a: &K, x: &V, b: &K, y: &V) -> bool
     a.eq(b) && x.eq(y)
 }
 
-fn are_equal<'a, 'b, K: PartialEq + 'a + 'b, V: PartialEq + 'a + 'b, S: Store<K, V>>(
-    mut left: Places<'a, K, V, S>,
-    mut right: Places<'b, K, V, S>,
-) -> bool
-    ensures { result ≡ equal_pairs K.eq V.eq left.entry right.entry }
+fn are_equal<K: PartialEq, V: PartialEq, S: Store<K, V>>(left: &S, right: &S) -> bool
+    ensures { result ≡ equal_pairs K.eq V.eq (S.pairs left.now) (S.pairs right.now) }
 {
-    if left.len() != right.len() {
+    let len = left.lm_len();
+    if right.lm_len() != len {
         return false;
     }
-    while let Some((a, x)) = left.next() {
-        let (b, y) = right.next().unwrap();
+    for index in 0..len {
+        let (a, x) = left.lm_get(index).unwrap();
+        let (b, y) = right.lm_get(index).unwrap();
         if !is_equal_pair(a, x, b, y) {
             return false;
         }

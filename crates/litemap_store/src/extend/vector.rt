@@ -1,6 +1,6 @@
 //! The bodies behind a vector's `lm_extend`: new pairs behind its own become part of it where they stand, and a merge turns its
 //! side vector round, which becomes the store.
-ghost use Rattle.std.specs.Prelude.{◌≡◌, ◌≤◌, ◌+◌, ◌*◌, ◌++◌, IsOk, OnOk, OnErr, drop, length, take, vec_len};
+ghost use Rattle.std.specs.Prelude.{◌≡◌, ◌⊎◌, ◌≤◌, ◌+◌, ◌*◌, ◌++◌, [], IsOk, OnOk, OnErr, drop, length, take, vec_len};
 ghost use Rattle.litemap_store.specs.Counts.{RisesByAtMost};
 ghost use Rattle.litemap_store.specs.Last.{Last, Rises};
 ghost use Rattle.litemap_store.specs.Pairs.{Rising};
@@ -44,11 +44,35 @@ pub fn settle<K: Ord + Drop, V: Drop>(
     merge_in_vec(alloc, store, given, count)
 }
 
-/// Puts items behind the others, all at once. Where there are none, and no room for the new ones, their vector takes the place.
-pub fn append_in_vec<T: Drop>(store: &mut Vec<T>, mut items: Vec<T>) -> Result<(), AllocError>
+/// Puts pairs in: of each key the last pair stays. Where they rise past the last old key they are put behind in one move; where
+/// there is no old one, it is never refused then.
+pub fn put_in_vec<K: Ord + Drop, V: Drop>(
+    alloc: Global,
+    store: &mut Vec<(K, V)>,
+    mut pairs: Vec<(K, V)>,
+    count: &mut Count,
+) -> Result<(), AllocError>
+    requires { Rising K.cmp store.old.items }
+    ensures last { OnOk result (Last K.cmp (store.old.items ++ pairs.items) store.new.items) }
+    ensures refused { OnErr result (store.new.items ≡ store.old.items) }
+    ensures behind { Rises K.cmp store.old.items pairs.items
+        → RisesByAtMost (length pairs.items) count.old count.new }
+    ensures cost { RisesByAtMost (length store.old.items + 2 * length pairs.items) count.old count.new }
+    ensures succeeds { Rises K.cmp store.old.items pairs.items
+        → (store.old.items ≡ []) ⊎ (length pairs.items ≤ vec_room store.old) → IsOk result }
+{
+    keep_rising(alloc, &mut pairs, 0, count)?;
+    if lies_below(store, &pairs, count) {
+        return append_in_vec(store, pairs);
+    }
+    merge_in_vec(alloc, store, pairs, count)
+}
+
+// Puts items behind the others in one move. Where there are none, and no room for the new ones, their vector takes the place.
+fn append_in_vec<T: Drop>(store: &mut Vec<T>, mut items: Vec<T>) -> Result<(), AllocError>
     ensures behind { OnOk result (store.new.items ≡ store.old.items ++ items.items) }
     ensures refused { OnErr result (store.new.items ≡ store.old.items) }
-    ensures succeeds { length items.items ≤ vec_room store.old → IsOk result }
+    ensures succeeds { (store.old.items ≡ []) ⊎ (length items.items ≤ vec_room store.old) → IsOk result }
 {
     if store.is_empty() && store.capacity() < items.len() {
         *store = items;

@@ -1,7 +1,30 @@
-use Rattle.std.proofs.Common.{sym, ◌∙◌, ◌&&◌}
+use Rattle.std.proofs.Common.{◌&&◌, ap, arith, option_map, sym, ◌∙◌}
+use Rattle.std.proofs.lemmas.List.{drop_all}
 use Rattle.std.specs.Cmp.Lexicographic.{unequal}
+use Rattle.std.specs.Map.Iter.{deref_pair}
+use Rattle.litemap.proofs.Places.{is_there, pointwise_ends, pointwise_on}
 use Rattle.litemap.proofs.map.comparisons.are_equal.Goals as goal
 
-pub returns-then-len : goal.returns-then-len
-returns-then-len g c =
-    sym (unequal (λ p q. g.K.PartialEq.eq p.0 q.0 && g.V.PartialEq.eq p.1 q.1) c.args.left c.args.right (λ e. c.if-len.true (c.len.ensures ∙ e ∙ sym c.len-2.ensures)))
+pub unwrap-requires : goal.unwrap-requires
+unwrap-requires g c = is_there deref_pair c.lm_get.result (g.S.Store.pairs c.args.left.now) c.loop-index.index c.lm_get.ensures (omega (arith, c.loop-index-test.true, c.lm_len-len.ensures))
+
+pub unwrap-requires-in-loop-index : goal.unwrap-requires-in-loop-index
+unwrap-requires-in-loop-index g c = is_there deref_pair c.lm_get-in-loop-index.result (g.S.Store.pairs c.args.right.now) c.loop-index.index c.lm_get-in-loop-index.ensures (omega (arith, c.loop-index-test.true, c.if-lm_len-len.false, c.lm_len.ensures))
+
+pub returns-then-not-is_equal_pair : goal.returns-then-not-is_equal_pair
+returns-then-not-is_equal_pair g c =
+    let left = sym c.lm_get.ensures ∙ ap (option_map deref_pair) c.unwrap.ensures in
+    let right = sym c.lm_get-in-loop-index.ensures ∙ ap (option_map deref_pair) c.unwrap-in-loop-index.ensures in
+    sym (sym c.loop-index.invariant ∙ pointwise_ends (λ p q. g.K.PartialEq.eq p.0 q.0 && g.V.PartialEq.eq p.1 q.1) _ _ c.loop-index.index _ _ left right (sym c.is_equal_pair.ensures ∙ c.if-not-is_equal_pair.true))
+
+pub loop-index-preserved : goal.loop-index-preserved
+loop-index-preserved g c =
+    let left = sym c.lm_get.ensures ∙ ap (option_map deref_pair) c.unwrap.ensures in
+    let right = sym c.lm_get-in-loop-index.ensures ∙ ap (option_map deref_pair) c.unwrap-in-loop-index.ensures in
+    sym (pointwise_on (λ p q. g.K.PartialEq.eq p.0 q.0 && g.V.PartialEq.eq p.1 q.1) _ _ c.loop-index.index _ _ left right (sym c.is_equal_pair.ensures ∙ c.if-not-is_equal_pair.false)) ∙ c.loop-index.invariant
+
+pub returns : goal.returns
+returns g c =
+    let L = g.S.Store.pairs c.args.left.now in
+    let R = g.S.Store.pairs c.args.right.now in
+    rw (drop_all c.loop-index.index L (omega (arith, c.loop-index-test.false, c.lm_len-len.ensures)), drop_all c.loop-index.index R (omega (arith, c.loop-index-test.false, c.if-lm_len-len.false, c.lm_len.ensures))) at c.loop-index.invariant

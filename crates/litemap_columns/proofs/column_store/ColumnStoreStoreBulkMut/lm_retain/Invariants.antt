@@ -1,6 +1,6 @@
 use Rattle.std.proofs.Common.{◌≡◌, ◌+◌, length, min, vec_capacity, vec_len}
 use Rattle.std.specs.List.{zip}
-use Rattle.litemap_store.proofs.Retaining.{KeptSoFar}
+use Rattle.litemap_store.specs.Retain.{KeptSoFar}
 use Rattle.litemap_columns.proofs.column_store.ColumnStoreStoreBulkMut.lm_retain.Given as goal
 
 abbrev pub invariant-loop-index : goal.invariant-loop-index

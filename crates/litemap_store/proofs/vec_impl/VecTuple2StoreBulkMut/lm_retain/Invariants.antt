@@ -1,5 +1,5 @@
 use Rattle.std.proofs.Common.{◌≡◌, length, vec_capacity}
-use Rattle.litemap_store.proofs.Retaining.{KeptSoFar}
+use Rattle.litemap_store.specs.Retain.{KeptSoFar}
 use Rattle.litemap_store.proofs.vec_impl.VecTuple2StoreBulkMut.lm_retain.Given as goal
 
 abbrev pub invariant-loop-index : goal.invariant-loop-index
