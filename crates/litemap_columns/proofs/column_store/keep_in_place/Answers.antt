@@ -1,10 +1,10 @@
 use Rattle.std.proofs.Common.{◌≡◌, ◌<◌, length, swap, sym, ◌∙◌, refl, true, false, arith}
 use Rattle.std.specs.List.{zip}
 use mathlib.Core.Bool.{true≢false}
-use Rattle.litemap_store.proofs.Columns.{same_length, zip-swap, zip_at}
+use Rattle.litemap_columns.proofs.Columns.{same_length, zip-swap, zip_at}
 use Rattle.litemap_store.proofs.Retaining.{KeptSoFar-no, KeptSoFar-takes, KeptSoFar-yes, Moved_if}
-use Rattle.litemap_store.proofs.column_impl.keep_in_place.Goals as goal
-use Rattle.litemap_store.proofs.column_impl.keep_in_place.Goals.{then-is_kept+else-kept-index, else-is_kept}
+use Rattle.litemap_columns.proofs.column_store.keep_in_place.Goals as goal
+use Rattle.litemap_columns.proofs.column_store.keep_in_place.Goals.{then-is_kept+else-kept-index, else-is_kept}
 
 pub is_kept-requires : goal.is_kept-requires
 is_kept-requires g c =

@@ -1,7 +1,7 @@
 use Rattle.std.proofs.Common.{◌≡◌, vec_capacity, vec_len}
 use Rattle.std.specs.List.{zip}
 use Rattle.litemap_store.specs.Retain.{KeptSoFar}
-use Rattle.litemap_store.proofs.column_impl.keep_in_place.Given as goal
+use Rattle.litemap_columns.proofs.column_store.keep_in_place.Given as goal
 
 abbrev pub invariant-loop-index : goal.invariant-loop-index
 invariant-loop-index g l = record {
