@@ -2,6 +2,7 @@ use Rattle.std.proofs.Common.{◌≡◌, [], sym, ◌∙◌, refl, eqb-true, ari
 use Rattle.std.proofs.lemmas.List.{nil_from_length}
 use Rattle.std.proofs.lemmas.Grind.{common_steps}
 use mathlib.Core.Bool.{true≢false}
+use Rattle.litemap_store.proofs.Joined.{Rising-from_Rises}
 use Rattle.litemap_store.proofs.MergeJoins.{Merge-before, Merge-behind, left-before, left-behind, left-nil, not_apart}
 use Rattle.litemap_store.proofs.extend_store.extend_from_store.Goals as goal
 
@@ -45,3 +46,15 @@ returns-then-lm_is_empty-2-clause-merged g c = grind (arith, common_steps)
 
 pub returns-clause-uncounted : goal.returns-clause-uncounted
 returns-clause-uncounted g c = grind (arith, common_steps)
+
+pub returns-clause-behind : goal.returns-clause-behind
+returns-clause-behind g c = λ h r.
+    absurd (true≢false (sym (c.lies_below.ensures.below.1 (Rising-from_Rises g.K.Ord.cmp _ _ c.requires.store h)) ∙ c.if-lies_below.false))
+
+pub returns-clause-in_front : goal.returns-clause-in_front
+returns-clause-in_front g c = λ h r s.
+    absurd (true≢false (sym (c.lies_below-2.ensures.below.1 (Rising-from_Rises g.K.Ord.cmp _ _ c.requires.other h)) ∙ c.if-lies_below-2.false))
+
+pub returns-in_err-lm_extend_start-clause-behind : goal.returns-in_err-lm_extend_start-clause-behind
+returns-in_err-lm_extend_start-clause-behind g c = λ h r.
+    absurd (true≢false (sym (c.lies_below.ensures.below.1 (Rising-from_Rises g.K.Ord.cmp _ _ c.requires.store h)) ∙ c.if-lies_below.false))
