@@ -11,7 +11,9 @@ mod try_fault;
 
 use litemap_store::store::ColumnStore;
 pub use litemap_store::{Query, store};
-pub use map::{Entry, KeysIterWrap, LiteMap, OccupiedEntry, VacantEntry, ValuesIterWrap};
+pub use map::{
+    Entry, KeysIterWrap, LiteMap, OccupiedEntry, RangeIter, VacantEntry, ValuesIterWrap,
+};
 pub use try_fault::TryFault;
 
 /// A map over one vector of pairs.

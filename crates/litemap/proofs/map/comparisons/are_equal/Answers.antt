@@ -4,4 +4,4 @@ use Rattle.litemap.proofs.map.comparisons.are_equal.Goals as goal
 
 pub returns-then-len : goal.returns-then-len
 returns-then-len g c =
-    sym (unequal (λ p q. g.K.PartialEq.eq p.0 q.0 && g.V.PartialEq.eq p.1 q.1) c.args.left c.args.right (λ e. c.if-len.true (c.len.ensures ∙ e ∙ sym c.len-2.ensures)))
+    sym (unequal (λ p q. g.K.PartialEq.eq p.0 q.0 && g.V.PartialEq.eq p.1 q.1) c.args.left c.args.right (λ e. c.if-len.true (c.len.ensures.value ∙ e ∙ sym c.len-2.ensures.value)))
