@@ -3,7 +3,8 @@
 // The program makes a request of BEGIN bytes before each call, one of END bytes after it, and one of IDLE bytes once all that
 // the call was given and left is dropped. Then a line of three numbers goes to standard error: the requests between the first
 // two (up to the third, if there is no second), their bytes, and how many blocks are held. With REFUSE=N in the environment the
-// Nth request of each call is refused.
+// Nth request of each call is refused. With WHOLE in it the run of a program that makes no such requests is one call, and the
+// numbers follow its end.
 typedef unsigned long size_t;
 
 enum { BEGIN = 1000003, END = 1000033, IDLE = 1000063 };
@@ -24,6 +25,7 @@ static int refuses(size_t size) {
     if (refused < 0) {
         const char *number = getenv("REFUSE");
         refused = number ? atol(number) : 0;
+        is_counting = getenv("WHOLE") != 0;
     }
     if (size == BEGIN) {
         is_counting = 1;
@@ -38,6 +40,12 @@ static int refuses(size_t size) {
         return requests == refused;
     }
     return 0;
+}
+
+__attribute__((destructor)) static void end(void) {
+    if (getenv("WHOLE")) {
+        dprintf(2, "%ld %ld %ld\n", requests, bytes, held);
+    }
 }
 
 static void *counted(void *block) {

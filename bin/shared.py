@@ -47,13 +47,14 @@ class Watched:
     def __init__(self, room, crate, sign, program=None):
         self.folder, self.sign, self.library = TOP / "crates" / crate, sign, f"{room}/allocator.so"
         self.program = program or self.folder / "out" / crate
+        self.given = (self.folder / "stdin").read_text(encoding="utf-8")
         options = ["-O1", "-shared", "-fPIC", "-nostdlib", "-fuse-ld=lld", "-fno-builtin"]
         clang = kit() / "toolchain" / "bin" / "clang"
         subprocess.run([clang, *options, "-o", self.library, TOP / "bin" / "allocator.c"], check=True)
 
     def run(self, before="", **more):
         """How it ends on its input behind this text, the lines that tell of calls, and the numbers that stand beside each."""
-        env, given = os.environ | {"LD_PRELOAD": self.library} | more, before + (self.folder / "stdin").read_text(encoding="utf-8")
+        env, given = os.environ | {"LD_PRELOAD": self.library} | more, before + self.given
         data = self.folder / "data"
         how = {"cwd": data if data.is_dir() else self.folder, "env": env, "input": given, "capture_output": True, "text": True}
         run = subprocess.run([self.program], **how)

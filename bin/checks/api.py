@@ -20,7 +20,7 @@ GROUPS = {
     "Entries": "litemap: map/entry map/entry/occupied map/entry/vacant",
     "Many at once": "litemap: map/bulk",
     "Merge": "litemap: map/merge",
-    "Walk": "litemap: map/iter map/iter/keys map/iter/values",
+    "Walk": "litemap: map/iter map/iter/keys map/iter/range map/iter/values",
     "Compare and hash": "litemap: map/comparisons",
     "Convert and borrow": "litemap: map/conversions map/becomes map/slice",
     "Tables in constants": "litemap: const_family",

@@ -64,10 +64,42 @@ def answer(text):
     return f"{len(keywords)} " + "-".join(f"{key}-{value}" if value else key for key, value in keywords.items())
 
 
+def walked(text):
+    """The values of a text from the last key's on, and what Rattle prints of the keywords."""
+    keywords = read(text)
+    if isinstance(keywords, str):
+        return keywords
+    pairs = ", ".join(f'{[*key.encode()]}: "{value}"' for key, value in keywords.items())
+    return "".join(f"{value} " for value in reversed(keywords.values())) + f"Keywords {{ pairs: {{{pairs}}} }}"
+
+
 def falling(count):
     """So many keywords, whose keys fall: all pairs of letters, again and again, from the second time on with a value."""
     letters = "zyxwvutsrqponmlkjihgfedcba"
     return "-".join(letters[number // 26 % 26] + letters[number % 26] + ("-abc" if number >= 676 else "") for number in range(count))
+
+
+def put_count(text):
+    """How many keywords are put into the map: those before the fault of a text."""
+    count = 0
+    for part in text.split("-") if text else ():
+        if KEY.fullmatch(part):
+            count += 1
+        elif not count or not VALUE.fullmatch(part):
+            break
+    return count
+
+
+def searched():
+    """No further lines, and how often those of stdin search a map: once for each keyword that is put, and for each one looked up."""
+    count = 0
+    for line in files()["stdin"].splitlines():
+        word, rest = line.split(" ", 1)
+        key, text = rest.split(" ", 1) if word == "find" else ("", rest) if word == "walk" else ("", falling(int(rest)) if word == "falling" else rest.replace("\\0", "\0"))
+        keywords = read(text)
+        # What `read` has read is written, and read again.
+        count += put_count(text) + (0 if isinstance(keywords, str) or word == "walk" else 1 if key else len(keywords))
+    return "", count
 
 
 def files():
@@ -75,6 +107,7 @@ def files():
     rows = [("read " + text.replace("\0", "\\0"), answer(text)) for text in TEXTS]
     found = read(FOUND)
     rows += [(f"find {key} {FOUND}", f"value {found[key]}" if key in found else "none") for key in "ca kn nu NU kk".split()]
+    rows += [(f"walk {text}", walked(text)) for text in (FOUND, "ca", "ca-abc-c1")]
     for count in (15, 16, 30, 300):
         value = "kn-" + "-".join(["ab1"] * count)
         rows += [(f"read {text}", answer(text)) for text in (value, f"{value}-x", f"{value}-c1-nu", f"{value}-KN-thai--")]

@@ -143,6 +143,15 @@ def rows():
     return {name: b"\n".join(lines) for name, lines in LINES.items()}
 
 
+def searched():
+    """Lines that are done before those of stdin, and how often all of them search the names: each one that is a call does once."""
+    some = [b"%s %05d" % (word, key) for word in (b"get", b"find", b"del", b"get") for key in range(0, 400, 3)]
+    lines = [*puts(300), *puts(40, b"w", 100), *some, *long_values(), *long_keys(), b"json", b"all"]
+    given = b"\n".join([*lines, pathlib.Path(__file__).with_name("stdin").read_bytes()]).decode()
+    calls = len(re.findall("^(put|get|del|find) ", given, re.MULTILINE))
+    return "".join(line.decode() + "\n" for line in lines), calls
+
+
 def files():
     """The files of the crate, by their names."""
     out, status = told(pathlib.Path(__file__).with_name("stdin").read_bytes())

@@ -169,9 +169,11 @@ class Model:
         if name in ("places", "places_counted"):
             start, end = self.bounds(words)
             return f"{start} {end}", 2 * search
-        if name == "range":
+        if name in ("range", "iter_range"):
             start, end = self.bounds(words)
-            return self.text(self.pairs[start:end]), 2 * search
+            part = self.pairs[start:end]
+            last = [self.text(part[-1:]) if part else "none", self.text(part[:-1])]
+            return self.text(part) if name == "range" else " ".join(last), 2 * search
         return None
 
     def by_key(self, name, words, search):
@@ -479,6 +481,7 @@ def looks():
         pairs = [(first, last) for first in some for last in some]
         calls += [f"places {low} {first} {high} {last}" for low, high in ends for first, last in pairs]
         calls += [f"places_counted {low} {some[0]} {high} {some[-1]}" for low, high in ends]
+        calls += [f"iter_range {low} {first} {high} {last}" for low, high in ends for first, last in pairs[1::8]]
         yield from block(ALL, length, 1, calls)
         parts = [f"get_indexed_range {start} {end}" for start in indices for end in indices]
         parts += [f"range {low} {first} {high} {last}" for low, high in ends for first, last in pairs[::3]]

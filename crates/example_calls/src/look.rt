@@ -5,10 +5,11 @@ use std::alloc::Global;
 use std::ops::Bound;
 
 /// How the examples came out, by their calls.
-pub(crate) fn examples(alloc: Global) -> [Shown; 15] {
+pub(crate) fn examples(alloc: Global) -> [Shown; 16] {
     shown! { alloc;
         partial_ord, iter, keys, into_iterator, into_iterator_of_iter, get_indexed, get,
-        get_key_value, get_by, index, find_index, places, range, get_indexed_range, as_sliced
+        get_key_value, get_by, index, find_index, places, iter_range, range, get_indexed_range,
+        as_sliced
     }
 }
 
@@ -81,6 +82,12 @@ fn places(alloc: Global) -> anyhow::Result<bool> {
     let later = days.places(Bound::Excluded(&1), Bound::Unbounded);
     let crossing = days.places(Bound::Included(&5), Bound::Excluded(&2));
     Ok(later == (1..3) && crossing == (2..2))
+}
+
+fn iter_range(alloc: Global) -> anyhow::Result<bool> {
+    let days = three_days(alloc)?;
+    let mut early = days.iter_range(Bound::Unbounded, Bound::Excluded(&5));
+    Ok(early.next_back() == Some((&3, &"Wednesday")) && early.len() == 1)
 }
 
 fn range(alloc: Global) -> anyhow::Result<bool> {

@@ -1,5 +1,5 @@
 -- Keywords, written one by one.
-use Rattle.std.proofs.Common.{◌≡◌, ℕ, zero, suc, ◌+◌, ◌<◌, List, [], ◌∷◌, ◌++◌, Some, String, map, take, get_or, sym, ap, ◌∙◌, subst, append_assoc, append-nil, IsTrue, add-one, slice_get, string_bytes}
+use Rattle.std.proofs.Common.{◌≡◌, ℕ, zero, suc, ◌+◌, ◌<◌, List, [], ◌∷◌, ◌++◌, Some, String, map, take, get_or, sym, ap, ◌∙◌, subst, append_assoc, append-nil, IsTrue, slice_get, string_bytes}
 use Rattle.std.proofs.lemmas.List.{map-append, take_more}
 use Rattle.std.proofs.lemmas.Option.{get_or_from_slice_get, slice_get_within}
 use Rattle.litemap_store.proofs.Joined.{In-slice_get}

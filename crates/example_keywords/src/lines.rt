@@ -20,6 +20,7 @@ fn answer(alloc: Global, word: &str, rest: &str) -> Result<String, KeywordFault>
     match word {
         "read" => read(alloc, rest.replace(alloc, "\\0", "\0")?.as_str()),
         "find" => find(alloc, rest),
+        "walk" => walk(alloc, rest),
         "falling" => {
             let text = falling(alloc, rest.parse::<u32>().unwrap_or(0))?;
             read(alloc, text.as_str())
@@ -32,13 +33,27 @@ fn answer(alloc: Global, word: &str, rest: &str) -> Result<String, KeywordFault>
 fn read(alloc: Global, text: &str) -> Result<String, KeywordFault> {
     let keywords = Keywords::read(alloc, text)?;
     let printed = keywords.to_text(alloc)?;
-    let again = Keywords::read(alloc, printed.as_str())?.to_text(alloc)?;
+    let again = Keywords::read(alloc, printed.as_str())?;
+    if again != keywords {
+        return Ok(format!(in alloc; "{printed} is read as {again:?}")?);
+    }
     let count = if keywords.is_empty() {
         0
     } else {
         keywords.len()
     };
-    Ok(format!(in alloc; "{count} {again}")?)
+    Ok(format!(in alloc; "{count} {printed}")?)
+}
+
+// The values from the last keyword to the first, and what `{:?}` prints.
+fn walk(alloc: Global, text: &str) -> Result<String, KeywordFault> {
+    let keywords = Keywords::read(alloc, text)?;
+    let mut answer = String::new(alloc);
+    for (_, value) in keywords.iter().rev() {
+        answer.push_str(value.as_str())?;
+        answer.push(' ')?;
+    }
+    Ok(format!(in alloc; "{answer}{keywords:?}")?)
 }
 
 fn find(alloc: Global, rest: &str) -> Result<String, KeywordFault> {

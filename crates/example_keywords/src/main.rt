@@ -4,6 +4,7 @@
 //! - `read TEXT`: the number of keywords that a text spells and their text in canonical form, or why it spells none. `\0` stands
 //!   for a byte 0.
 //! - `find KEY TEXT`: the value of a key, which is given in lower case, and `none` where it is not there.
+//! - `walk TEXT`: the values from the last keyword to the first, and what `{:?}` prints of all.
 //! - `falling NUMBER`: what `read` answers for so many keywords, whose keys fall and begin anew behind the last one.
 //!
 //! `model.py` makes the input and tells the answers.

@@ -1,14 +1,18 @@
 //! The keywords of an extension, as a map.
-ghost use Rattle.std.specs.Prelude.{◌≡◌, ◌==◌, [], IfErr, IfOk, IsOk, length, string_bytes};
+ghost use Rattle.std.specs.Prelude.{◌≡◌, ◌==◌, [], IfErr, IfOk, IsOk, length, map, nat_eq, string_bytes};
+ghost use Rattle.std.specs.Cmp.Lexicographic.{lists_per, nat_list_eq_equiv, pointwise};
+ghost use Rattle.std.specs.Cmp.{and_per, on_per, partial_equiv_from_equiv};
 ghost use Rattle.std.specs.Option.{option_copied};
+ghost use Rattle.litemap.specs.Comparisons.{equal_pairs};
 ghost use Rattle.example_keywords.specs.Keywords.{AreCanonical, IsFault, IsRead, Rise, joined, value_of};
-ghost use Rattle.example_keywords.specs.Reading.{IfPart};
+ghost use Rattle.example_keywords.specs.Reading.{IfPart, shown};
 ghost use Rattle.example_keywords.specs.Written.{IsReadAgain, printed};
 
 use crate::fault::KeywordFault;
 use crate::parts::Key;
 use crate::read::{Pairs, read_pairs};
 use crate::write::write_pairs;
+use litemap::store::SliceIter;
 use std::alloc::{AllocError, Global};
 use std::marker::Model;
 
@@ -16,7 +20,7 @@ use std::marker::Model;
 ///
 /// A contract sees the list of its pairs, in the order of their keys. A value is the text of its parts, with a `-` between
 /// each two; it is empty where there is none, and for `true`. Where there is one keyword the map itself takes no memory.
-#[derive(Drop)]
+#[derive(Debug, Drop)]
 pub struct Keywords {
     pairs: Pairs,
 }
@@ -33,11 +37,24 @@ impl Model for Keywords {
     ghost invariant = { λ k. AreCanonical (map shown k.pairs.pairs) };
 }
 
+/// Equal where the keys and their values are.
+impl PartialEq for Keywords {
+    ghost eq = { equal_pairs (pointwise nat_eq) (pointwise nat_eq) };
+
+    ghost laws = { lists_per (and_per (on_per (λ p. p.0) (partial_equiv_from_equiv nat_list_eq_equiv))
+        (on_per (λ p. p.1) (partial_equiv_from_equiv nat_list_eq_equiv))) };
+
+    fn eq(&self, other: &Self) -> bool {
+        self.pairs == other.pairs
+    }
+}
+
 impl Keywords {
     /// The keywords that a text spells, in either case. Of two equal keys the first counts.
     ///
     /// The fault is the place of the first part that is no key, and no part of the value of a key before it, or want of
-    /// memory, for which an empty text is never refused. Keys are compared at most once for each binary digit of the number of keys that were read, for each keyword.
+    /// memory: for values, and from the second key on for the map. An empty text is never refused. Each keyword takes one
+    /// search among the keys that were read.
     pub fn read(alloc: Global, text: &str) -> Result<Self, KeywordFault>
         ensures read { IfOk result (λ keywords. IsRead text.now keywords) }
         ensures fault { IfErr result (λ fault. IfPart fault (IsFault text.now)) }
@@ -61,6 +78,13 @@ impl Keywords {
         ensures { result ≡ (length self.now == 0) }
     {
         self.pairs.is_empty()
+    }
+
+    /// The keys and their values, in the order of the keys, from both ends.
+    pub fn iter(&self) -> SliceIter<'_, Key, String>
+        ensures { map shown result ≡ self.now }
+    {
+        self.pairs.iter()
     }
 
     /// The value of a key, which is given in lower case. It is empty where the key has none, and where it is `true`.

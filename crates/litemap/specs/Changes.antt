@@ -1,8 +1,9 @@
 -- What an insertion and a merge answer and leave.
-use Rattle.std.specs.Prelude.{◌≡◌, ◌≢◌, ◌⊎◌, ◌↔◌, ◌+◌, ◌≤◌, List, [], Option, None, Result, IsNone, IsSome, IsOk}
+use Rattle.std.specs.Prelude.{◌≡◌, ◌≢◌, ◌⊎◌, ◌↔◌, ◌+◌, ◌≤◌, List, [], length, Option, None, Result, IsNone, IsSome, IsOk}
 use Rattle.std.specs.Prelude.{IfSome, IfOk, IfErr, OnOk, OnErr}
 use Rattle.std.specs.declared.cmp.Ordering.{Ordering}
 use Rattle.litemap_store.specs.declared.no_room.NoRoom.{NoRoom}
+use Rattle.litemap_store.specs.Last.{Rises}
 use Rattle.litemap_store.specs.Merge.{Merge, left}
 use Rattle.litemap_store.specs.Pairs.{at, put, value_at}
 use Rattle.litemap.specs.Seen.{Seen}
@@ -48,7 +49,10 @@ module _ {K V : Type 0} (cmp : K → K → Ordering) where
     -- refused: the list stays, and the other map comes back whole
     pub refused : OnErr result (after.pairs ≡ before.pairs)
     pub back : IfErr result (λ refused. refused.back.pairs ≡ other.pairs)
-    -- where a map is empty it is never refused
+    -- never refused: where a map is empty, and where the other's keys lie behind or in front, within the room
     pub succeeds : (before.pairs ≡ []) ⊎ (other.pairs ≡ []) → IsOk result
+    pub behind : Rises cmp before.pairs other.pairs → length other.pairs ≤ before.room → IsOk result
+    pub in_front : Rises cmp other.pairs before.pairs → length other.pairs ≤ before.room
+        → length before.pairs ≤ other.room → IsOk result
     pub unchanged : other.pairs ≡ [] → after ≡ before
     pub taken : before.pairs ≡ [] → other.pairs ≢ [] → after ≡ other

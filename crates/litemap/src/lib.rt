@@ -10,7 +10,9 @@ mod map;
 mod try_fault;
 
 pub use litemap_store::{Query, store};
-pub use map::{Entry, KeysIterWrap, LiteMap, OccupiedEntry, VacantEntry, ValuesIterWrap};
+pub use map::{
+    Entry, KeysIterWrap, LiteMap, OccupiedEntry, RangeIter, VacantEntry, ValuesIterWrap,
+};
 pub use try_fault::TryFault;
 
 /// A map over one vector of pairs.

@@ -12,7 +12,6 @@ mod entry;
 mod iter;
 mod look;
 mod merge;
-mod places;
 mod ranges;
 mod slice;
 mod split;
@@ -21,7 +20,7 @@ mod update;
 mod write;
 
 pub use entry::{Entry, OccupiedEntry, VacantEntry};
-pub use iter::{KeysIterWrap, ValuesIterWrap};
+pub use iter::{KeysIterWrap, RangeIter, ValuesIterWrap};
 use litemap_store::store::{Store, StoreConstEmpty, StoreMut};
 use std::alloc::{AllocError, Global};
 use std::default::MadeWith;

@@ -3,6 +3,7 @@ ghost use Rattle.std.specs.Prelude.{◌≡◌, ◌≢◌, ◌⊎◌, ◌↔◌, 
 ghost use Rattle.std.specs.Prelude.{IfSome, OnOk, OnErr};
 ghost use Rattle.litemap_store.specs.Counts.{RisesByAtMost};
 ghost use Rattle.litemap_store.specs.Digits.{digits};
+ghost use Rattle.litemap_store.specs.Last.{Rises};
 ghost use Rattle.litemap_store.specs.Merge.{Apart, Merge, left};
 ghost use Rattle.litemap_store.specs.Pairs.{Rising};
 ghost use Rattle.litemap_store.specs.Splits.{Splits};
@@ -33,7 +34,7 @@ const FEW: usize = 3;
 /// of times.
 ///
 /// All room, that of the old values included, is taken before the first change. Refused for want of memory, the list stays
-/// as it was and the other store comes back whole.
+/// as it was and the other store comes back whole. Pairs that come behind or in front are never refused within the room.
 pub fn extend_from_store<K: Ord + Drop, V: Drop, S: StoreIntoIterator<K, V> + Drop>(
     alloc: Global,
     store: &mut S,
@@ -49,6 +50,10 @@ pub fn extend_from_store<K: Ord + Drop, V: Drop, S: StoreIntoIterator<K, V> + Dr
     ensures refused { OnErr result (S.pairs store.new ≡ S.pairs store.old) }
     ensures back { IfErr result (λ refused. S.pairs refused.back ≡ S.pairs other) }
     ensures succeeds { (S.pairs store.old ≡ []) ⊎ (S.pairs other ≡ []) → IsOk result }
+    ensures behind { Rises K.cmp (S.pairs store.old) (S.pairs other)
+        → length (S.pairs other) ≤ S.room store.old → IsOk result }
+    ensures in_front { Rises K.cmp (S.pairs other) (S.pairs store.old)
+        → length (S.pairs other) ≤ S.room store.old → length (S.pairs store.old) ≤ S.room other → IsOk result }
     ensures unchanged { S.pairs other ≡ [] → store.new ≡ store.old }
     ensures taken { S.pairs store.old ≡ [] → S.pairs other ≢ [] → store.new ≡ other }
     ensures uncounted { (S.pairs store.old ≡ []) ⊎ (S.pairs other ≡ []) → RisesByAtMost 0 count.old count.new }

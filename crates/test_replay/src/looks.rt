@@ -63,10 +63,19 @@ fn index<S: Store<Key, Value>>(map: &Map<S>, call: &Call<'_>, to: &mut Answer) -
     Some(())
 }
 
-// `places` and `places_counted`, whose words are a bound of either end and their keys.
+// Calls whose words are a bound of either end and their keys. `iter_range` gives its last pair, and then the others.
 fn bounds<S: Store<Key, Value>>(map: &Map<S>, call: &Call<'_>, to: &mut Answer) -> Made {
     let (first, last) = (call.key(1), call.key(3));
     let (from, till) = (call.bound(0, &first)?, call.bound(2, &last)?);
+    if call.name == "iter_range" {
+        let (mut rest, mut pairs) = (map.iter_range(from, till), Pairs::new());
+        to.pair_or_none(rest.next_back());
+        for (key, value) in rest {
+            pairs.add(key, value);
+        }
+        to.show(pairs);
+        return Some(());
+    }
     let places = match call.name {
         "places" => map.places(from, till),
         "places_counted" => map.places_counted(from, till, &mut Count::new()),

@@ -7,7 +7,7 @@ ghost use Rattle.std.specs.Cmp.{on_per, and_per, on_po, then_po};
 ghost use Rattle.std.specs.Hash.{on_Alike, and-Alike, items_Alike};
 ghost use Rattle.litemap.specs.Comparisons.{equal_pairs, pairs_cmp, pairs_partial_cmp, pairs_hashed};
 
-use super::places::Places;
+use super::iter::RangeIter;
 use crate::LiteMap;
 use litemap_store::store::Store;
 use std::cmp::Ordering;
@@ -45,7 +45,7 @@ impl<K: Ord, V: PartialOrd, S: Store<K, V>> PartialOrd for LiteMap<K, V, S> {
         (on_po (λ p. p.1) V.PartialOrd.laws))) };
 
     fn partial_cmp(&self, other: &Self) -> Option<Ordering> {
-        partial_order(Places::new(&self.store), Places::new(&other.store))
+        partial_order(RangeIter::all(&self.store), RangeIter::all(&other.store))
     }
 }
 
@@ -80,7 +80,7 @@ impl<K: Ord + Hash, V: Hash, S: Store<K, V>> Hash for LiteMap<K, V, S> {
         (on_Alike (λ p. p.1) (record { fed = V.respects_eq }))))).fed };
 
     fn hash<H: Hasher>(&self, state: &mut H) {
-        feed(Places::new(&self.store), state);
+        feed(RangeIter::all(&self.store), state);
     }
 }
 
@@ -117,8 +117,8 @@ fn partial_pair_order<K: PartialOrd, V: PartialOrd>(a: &K, x: &V, b: &K, y: &V) 
 }
 
 fn partial_order<'a, 'b, K: PartialOrd + 'a + 'b, V: PartialOrd + 'a + 'b, S: Store<K, V>>(
-    mut left: Places<'a, K, V, S>,
-    mut right: Places<'b, K, V, S>,
+    mut left: RangeIter<'a, K, V, S>,
+    mut right: RangeIter<'b, K, V, S>,
 ) -> Option<Ordering>
     ensures { result ≡ pairs_partial_cmp K.partial_cmp V.partial_cmp left.entry right.entry }
 {
@@ -138,7 +138,7 @@ fn partial_order<'a, 'b, K: PartialOrd + 'a + 'b, V: PartialOrd + 'a + 'b, S: St
 }
 
 fn feed<'a, K: Hash + 'a, V: Hash + 'a, S: Store<K, V>, H: Hasher>(
-    mut rest: Places<'a, K, V, S>,
+    mut rest: RangeIter<'a, K, V, S>,
     state: &mut H,
 )
     ensures { state.new ≡ fold H.write state.old (pairs_hashed K.hash_input V.hash_input rest.entry) }

@@ -2,11 +2,13 @@
 ghost use Rattle.std.specs.Prelude.{◌≡◌};
 
 mod keys;
+mod range;
 mod values;
 
 use crate::LiteMap;
 pub use keys::KeysIterWrap;
 use litemap_store::store::{StoreIntoIterator, StoreIterable};
+pub use range::RangeIter;
 pub use values::ValuesIterWrap;
 
 impl<'a, K: Ord + 'a, V: 'a, S: StoreIterable<'a, K, V>> LiteMap<K, V, S> {

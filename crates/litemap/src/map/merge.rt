@@ -24,8 +24,9 @@ impl<K: Ord + Drop, V: Drop, S: StoreIntoIterator<K, V> + Drop> LiteMap<K, V, S>
     /// is made for each pair of both where these are no more, and the pairs move O((n + m) log(n + m)) times for m new ones.
     ///
     /// Refused for want of memory, the list stays and the other map comes back whole: all room is taken before the first
-    /// change. Nothing is promised of the room, as by `extend`. The Rust crate asks `StoreFromIterator` too, and puts pairs
-    /// that fall between others in one by one.
+    /// change. It is never refused where a map is empty, and where the maps lie apart and have room for each other's pairs; where
+    /// the other's keys lie above, this map's room will do. Nothing is promised of the room after it, as by `extend`. The Rust
+    /// crate asks `StoreFromIterator` too, and puts pairs that fall between others in one by one.
     ///
     /// ```rust
     /// let mut days = three_days(alloc)?;

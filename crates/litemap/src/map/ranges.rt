@@ -7,6 +7,7 @@ ghost use Rattle.litemap_store.specs.Digits.{digits};
 ghost use Rattle.litemap_store.specs.Pairs.{sub};
 ghost use Rattle.litemap.specs.Within.{IsCut, before, is_before, is_up_to, within};
 
+use super::iter::RangeIter;
 use crate::LiteMap;
 use litemap_store::Query;
 use litemap_store::store::{Count, SliceStore, Store, StoreSlice};
@@ -54,6 +55,22 @@ impl<K: Ord, V, S: Store<K, V>> LiteMap<K, V, S> {
         let end = self.end_of(to, count);
         // Where the bounds cross, no place lies between.
         start..start + end.saturating_sub(start)
+    }
+
+    /// The pairs whose keys lie within two bounds, in order, from both ends (own).
+    ///
+    /// The bounds are those of `places`: where they cross, there are none. For each bound it makes O(log n) comparisons.
+    ///
+    /// ```rust
+    /// // days: 1 Monday, 3 Wednesday, 5 Friday
+    /// let mut early = days.iter_range(Bound::Unbounded, Bound::Excluded(&5));
+    /// early.next_back() == Some((&3, &"Wednesday")) && early.len() == 1
+    /// ```
+    pub fn iter_range<Q: Query<K>>(&self, from: Bound<Q>, to: Bound<Q>) -> RangeIter<'_, K, V, S>
+        ensures { result ≡ within Q.order self.now.pairs
+            (bound_map Q.sought from) (bound_map Q.sought to) }
+    {
+        RangeIter::between(&self.store, self.places(from, to))
     }
 
     // How many keys lie before a lower bound.

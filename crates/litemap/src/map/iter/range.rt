@@ -1,0 +1,102 @@
+//! The pairs between two places of a store of any kind, from both ends.
+ghost use Rattle.std.specs.Prelude.{◌≡◌, ◌≤◌, Some, IfSome, length};
+ghost use Rattle.std.specs.Iterator.{at_most, UpTo};
+ghost use Rattle.std.specs.Iterator.SizeHint.{IsWithinCount};
+ghost use Rattle.std.specs.Map.Iter.{TakesFirst, TakesLast, deref_pair};
+ghost use Rattle.litemap_store.specs.Pairs.{sub};
+
+use litemap_store::store::Store;
+use std::iter::FusedIterator;
+use std::marker::{Model, PhantomData};
+use std::ops::Range;
+
+/// The pairs of a map that are still to come, of those whose keys lie within two bounds. A contract sees their list.
+#[derive(Drop)]
+pub struct RangeIter<'a, K, V, S: Store<K, V>> {
+    store: &'a S,
+    start: usize,
+    end: usize,
+    marker: PhantomData<(K, V)>,
+}
+
+impl<'a, K, V, S: Store<K, V>> Model for RangeIter<'a, K, V, S> {
+    ghost use Rattle.std.specs.Prelude.{◌-◌, ◌≤◌, List, drop, length, take};
+
+    ghost Value = { List (K × V) };
+
+    ghost view = { λ a. take (a.end - a.start) (drop a.start (S.pairs a.store.now)) };
+
+    ghost invariant = { λ a. (a.start ≤ a.end) × (a.end ≤ length (S.pairs a.store.now)) };
+}
+
+impl<'a, K, V, S: Store<K, V>> RangeIter<'a, K, V, S> {
+    // All pairs.
+    pub(in crate::map) fn all(store: &'a S) -> Self
+        ensures { result ≡ S.pairs store.now }
+    {
+        RangeIter::between(store, 0..store.lm_len())
+    }
+
+    // The pairs at these places.
+    pub(in crate::map) fn between(store: &'a S, places: Range<usize>) -> Self
+        requires ascend { places.start ≤ places.end }
+        requires inside { places.end ≤ length (S.pairs store.now) }
+        ensures { sub (S.pairs store.now) places.start places.end ≡ Some result }
+    {
+        RangeIter {
+            store,
+            start: places.start,
+            end: places.end,
+            marker: PhantomData,
+        }
+    }
+}
+
+impl<'a, K: 'a, V: 'a, S: Store<K, V>> Iterator for RangeIter<'a, K, V, S> {
+    type Item = (&'a K, &'a V);
+
+    ghost next_gives = { TakesFirst deref_pair };
+
+    ghost remaining = { λ s. at_most (length s) };
+
+    fn next(&mut self) -> Option<(&'a K, &'a V)> {
+        if self.start == self.end {
+            return None;
+        }
+        let store = self.store;
+        let pair = store.lm_get(self.start).unwrap();
+        self.start += 1;
+        Some(pair)
+    }
+
+    fn size_hint(&self) -> (usize, Option<usize>)
+        ensures lower { IsWithinCount result.0 (at_most (length self.now)) }
+        ensures upper { IfSome result.1 (UpTo (at_most (length self.now))) }
+        ensures exact { (result.0 ≡ length self.now) × (result.1 ≡ Some (length self.now)) }
+    {
+        let len = self.len();
+        (len, Some(len))
+    }
+}
+
+impl<'a, K: 'a, V: 'a, S: Store<K, V>> DoubleEndedIterator for RangeIter<'a, K, V, S> {
+    ghost next_back_gives = { TakesLast deref_pair };
+
+    fn next_back(&mut self) -> Option<(&'a K, &'a V)> {
+        if self.start == self.end {
+            return None;
+        }
+        let store = self.store;
+        let pair = store.lm_get(self.end - 1).unwrap();
+        self.end -= 1;
+        Some(pair)
+    }
+}
+
+impl<'a, K: 'a, V: 'a, S: Store<K, V>> ExactSizeIterator for RangeIter<'a, K, V, S> {
+    fn len(&self) -> usize {
+        self.end - self.start
+    }
+}
+
+impl<'a, K: 'a, V: 'a, S: Store<K, V>> FusedIterator for RangeIter<'a, K, V, S> {}
