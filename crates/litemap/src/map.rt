@@ -14,6 +14,7 @@ mod look;
 mod merge;
 mod places;
 mod ranges;
+mod sets;
 mod slice;
 mod split;
 mod take;

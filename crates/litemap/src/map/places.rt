@@ -1,6 +1,7 @@
 //! Goes through a store of any kind, place by place.
-ghost use Rattle.std.specs.Prelude.{◌≡◌, length};
+ghost use Rattle.std.specs.Prelude.{◌≡◌, length, slice_get};
 ghost use Rattle.std.specs.Map.Iter.{TakesFirst, deref_pair};
+ghost use Rattle.std.specs.Option.{option_map};
 
 use litemap_store::store::Store;
 use std::marker::{Model, PhantomData};
@@ -40,6 +41,13 @@ impl<'a, K, V, S: Store<K, V>> Places<'a, K, V, S> {
         ensures { result ≡ length self.now }
     {
         self.len - self.at
+    }
+
+    pub(super) fn first(&self) -> Option<(&'a K, &'a V)>
+        ensures { option_map deref_pair result ≡ slice_get self.now 0 }
+    {
+        let store = self.store;
+        store.lm_get(self.at)
     }
 
     pub(super) fn next(&mut self) -> Option<(&'a K, &'a V)>
