@@ -353,6 +353,8 @@ class Model:
             return self.extend(pairs)
         if name in ("extend_from_litemap", "extend_from_litemap_counted"):
             return self.merge(self.last(pairs))
+        if name in BESIDE:
+            return self.beside(name, self.last(pairs))
         if name in ("lm_extend_end", "lm_extend_start") and not self.taken(len(pairs)):
             return f"refused {self.text(pairs)}"
         if name in ("lm_extend_end", "lm_extend_start"):
@@ -388,6 +390,16 @@ class Model:
         self.pairs = sorted(kept + [pair for pair in pairs if rank(pair[0]) not in there], key=lambda pair: rank(pair[0]))
         cost = 0 if not old or not pairs else 2 if apart else cost
         return (f"left {self.text(left)}" if left else "none"), cost
+
+    def beside(self, name, pairs):
+        theirs = {self.order.rank(key) for key, _ in pairs}
+        found, old = [self.order.rank(key) in theirs for key, _ in self.pairs], len(self.pairs)
+        cost = old + len(pairs) - sum(found)
+        if name.startswith("is_subset"):
+            return ("true" if all(found) else "false"), cost
+        self.pairs = [pair for pair, there in zip(self.pairs, found) if there == (name == "keep_keys_of")]
+        self.freed(old - len(self.pairs))
+        return "ok", cost
 
     def read(self, name, words):
         pairs, error = self.given(words[2:]), None if words[1] == "-" else int(words[1])
@@ -577,6 +589,7 @@ def is_before(call):
 
 
 MERGES = ["extend_from_litemap", "extend_from_litemap_counted"]
+BESIDE = ["is_subset", "is_subset_counted", "keep_keys_of", "remove_keys_of"]
 READS = ["read_pairs", "extend_from_source"]
 MAKES = ["from_iter", "from_iter_counted", "from_vec", "from_vec_counted"]
 
@@ -646,13 +659,19 @@ def scattered():
 
 
 def merged():
-    """Every two maps over four letters, and longer maps at each length where one way of merging gives place to another."""
+    """Every two maps over four letters, merged and beside each other, and longer maps at each length where one way of merging gives
+    place to another."""
     sets = ["".join(it) for length in range(5) for it in itertools.combinations("abcd", length)]
     for old in sets:
         for new in sets:
             calls = ["from_vec" + "".join(f" {key}:{place}" for place, key in enumerate(old))]
             calls += ["extend_from_litemap" + "".join(f" {key.upper()}:{9 - place}" for place, key in enumerate(new))]
             yield from chain(GROWING, calls, "letter", 8)
+            for test, name in zip(BESIDE[:2], BESIDE[2:]):
+                theirs = " ".join(["", *(f"{key.upper()}:9" for key in new)])
+                yield from chain(ALL, [calls[0], test + theirs, name + theirs], "letter", 8)
+    for length in (0, 1, 5, 20, 1000):
+        yield from block(ALL, length, 0, [f"{name} {pairs}".strip() for name in BESIDE for pairs in inputs(length)])
     for length in (5, 20, 60, 100, 400, 6000, 12000):
         for count in sorted({1, 2, 3, 60, length // 8, length // 3, length, 3 * length} - {0}):
             if length < 6000 or count in (1, 2, 3, 60, 1500):
