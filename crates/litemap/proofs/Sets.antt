@@ -1,7 +1,8 @@
 -- Two rising lists, where one is gone through beside the other.
 --     list_all-past      whether each is found, after the first one
 --     at_end, at_equal, at_greater      what a key finds, and the pairs past it, by the first pair;  Kept-beside      what a closure keeps that goes through the other list
-use Rattle.std.proofs.Common.{◌≡◌, Bool, true, false, cond, List, [], ◌∷◌, length, filter, is_some, slice_get, Option, None, Some, refl, sym, ap, ◌∙◌, subst, arith}
+--     value_at-kept      what a look-up finds in it
+use Rattle.std.proofs.Common.{◌≡◌, Bool, true, false, cond, List, [], ◌∷◌, length, filter, is_some, slice_get, Option, None, Some, option_map, refl, sym, ap, ◌∙◌, subst, arith}
 use Rattle.std.specs.Cmp.{IsTotalOrder}
 use Rattle.std.specs.List.{AllByRecursion, items_where_true, list_all}
 use Rattle.std.specs.List.Retain.{ReturnsInTurn}
@@ -9,9 +10,10 @@ use Rattle.std.specs.Map.Iter.{TakesFirst, deref_pair}
 use Rattle.std.specs.Ordering.{is_eq}
 use Rattle.std.specs.declared.cmp.Ordering.{Ordering}
 use Rattle.std.specs.declared.cmp.Ordering.TheVariants.{Less, Equal, Greater}
-use Rattle.litemap_store.specs.Pairs.{BelowAll, Rising, above, at}
+use Rattle.litemap_store.specs.Pairs.{BelowAll, Rising, above, at, value_at}
 use Rattle.litemap_store.specs.Retain.{CalledOnPair, Kept}
 use Rattle.litemap_store.proofs.Splitting.{each-weaker, greater_back, less_back}
+use Rattle.litemap_store.proofs.Tallies.{value_at_equal}
 use Rattle.litemap.proofs.Cuts.{Rising-filter}
 use denote.Param.Members.{Called, Mut}
 use denote.Ref.{Bor}
@@ -96,3 +98,39 @@ module _ {K : Type 0} {cmp : K → K → Ordering} (o : IsTotalOrder cmp) {W : T
 
     pub Kept-beside : (f : F) (L L' M : List (K × V)) (R R' : List (K × W)) → Kept g f L M → Rising cmp L → L ≡ L' → rest f ≡ R → Rising cmp R → R ≡ R' → M ≡ filter (λ p. t (is_some (at cmp R' p.0))) L'
     Kept-beside f L L' M R R' k h is from r same = rw (← same) (rw (← is) (rw (← from) (k.4 ∙ kept k.0 L f k.1 k.2 h (subst (Rising cmp) (sym from) r) k.3)))
+
+-- ---- what a look-up finds where the keys of another list are kept, or go
+module _ {K : Type 0} {cmp : K → K → Ordering} (o : IsTotalOrder cmp) {W : Type 0} (t : Bool → Bool) (M : List (K × W)) (k : K) where
+  abbrev keeps : K → Bool
+  keeps x = t (is_some (at cmp M x))
+
+  is_some-value : (p : Option (K × W)) → is_some (option_map (λ q. q.1) p) ≡ is_some p
+  is_some-value None = refl
+  is_some-value (Some p) = refl
+
+  same_key : (x : K) → cmp x k ≡ Equal → keeps x ≡ keeps k
+  same_key x e = ap t (sym (is_some-value (at cmp M x)) ∙ ap is_some (sym (value_at_equal o M x k e)) ∙ is_some-value (at cmp M k))
+
+  module _ {V : Type 0} where
+    at-kept_by : (p : K × V) (L : List (K × V)) (r : Ordering) → cmp p.0 k ≡ r → at cmp (filter (λ q. keeps q.0) L) k ≡ cond (keeps k) (at cmp L k) None
+        → at cmp (filter (λ q. keeps q.0) (p ∷ L)) k ≡ cond (keeps k) (at cmp (p ∷ L) k) None
+    at-kept_by p L Equal e is =
+        let F = filter (λ (q : K × V). keeps q.0) L in
+        rw (same_key p.0 e) (rw e (elim (keeps k) as (λ b. at cmp F k ≡ cond b (at cmp L k) None → at cmp (cond b (p ∷ F) F) k ≡ cond b (Some p) None) [ true ↦ λ i. rw e refl | false ↦ λ i. i ] is))
+    at-kept_by p L Less e is =
+        let F = filter (λ (q : K × V). keeps q.0) L in
+        rw e (elim (keeps p.0) as (λ b. at cmp (cond b (p ∷ F) F) k ≡ cond (keeps k) (at cmp L k) None) [ true ↦ rw e is | false ↦ is ])
+    at-kept_by p L Greater e is =
+        let F = filter (λ (q : K × V). keeps q.0) L in
+        rw e (elim (keeps p.0) as (λ b. at cmp (cond b (p ∷ F) F) k ≡ cond (keeps k) (at cmp L k) None) [ true ↦ rw e is | false ↦ is ])
+
+    at-kept : (L : List (K × V)) → at cmp (filter (λ q. keeps q.0) L) k ≡ cond (keeps k) (at cmp L k) None
+    at-kept [] = elim (keeps k) as (λ b. at {V = V} cmp [] k ≡ cond b (at {V = V} cmp [] k) None) [ true ↦ refl | false ↦ refl ]
+    at-kept (p ∷ L) = at-kept_by p L (cmp p.0 k) refl (at-kept L)
+
+    value_at_by : (p : Option (K × V)) (b : Bool) → option_map (λ q. q.1) (cond b p None) ≡ cond b (option_map (λ q. q.1) p) None
+    value_at_by p true = refl
+    value_at_by p false = refl
+
+    pub value_at-kept : (L N : List (K × V)) → N ≡ filter (λ q. t (is_some (at cmp M q.0))) L → value_at cmp N k ≡ cond (t (is_some (at cmp M k))) (value_at cmp L k) None
+    value_at-kept L N is = rw is (ap (option_map (λ q. q.1)) (at-kept L) ∙ value_at_by (at cmp L k) (keeps k))

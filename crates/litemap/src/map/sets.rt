@@ -1,8 +1,8 @@
 //! The keys of two maps side by side: what both have, and what one lacks.
-ghost use Rattle.std.specs.Prelude.{◌≡◌, ◌+◌, ◌≤◌, filter, is_some, length, not};
+ghost use Rattle.std.specs.Prelude.{◌≡◌, ◌+◌, ◌≤◌, None, cond, filter, is_some, length, not};
 ghost use Rattle.std.specs.List.{list_all};
 ghost use Rattle.litemap_store.specs.Counts.{GoesOn, RisesByAtMost};
-ghost use Rattle.litemap_store.specs.Pairs.{Rising, above, at};
+ghost use Rattle.litemap_store.specs.Pairs.{Rising, above, at, value_at};
 
 use super::places::Places;
 use crate::LiteMap;
@@ -12,7 +12,8 @@ use std::cmp::Ordering;
 impl<K: Ord, V, S: Store<K, V>> LiteMap<K, V, S> {
     /// Whether another map has each key (own). Its values and its store may be of other types.
     ///
-    /// It goes through both side by side, up to the first key that the other lacks.
+    /// It goes through both side by side, up to the first key that the other lacks, and makes at most one comparison for each
+    /// key of both.
     ///
     /// ```rust
     /// // days: 1 Monday, 3 Wednesday, 5 Friday
@@ -52,6 +53,9 @@ impl<K: Ord + Drop, V: Drop, S: StoreBulkMut<K, V>> LiteMap<K, V, S> {
     /// ```
     pub fn keep_keys_of<W, T: Store<K, W>>(&mut self, other: &LiteMap<K, W, T>)
         ensures pairs { self.new.pairs ≡ filter (λ p. is_some (at K.cmp other.now.pairs p.0)) self.old.pairs }
+        // What a look-up finds: what it found, where the other map has the key.
+        ensures found { (key : K) → value_at K.cmp self.new.pairs key
+            ≡ cond (is_some (at K.cmp other.now.pairs key)) (value_at K.cmp self.old.pairs key) None }
         ensures room { self.old.room + length self.old.pairs ≤ self.new.room + length self.new.pairs }
     {
         let mut rest = Places::new(&other.store);
@@ -74,6 +78,9 @@ impl<K: Ord + Drop, V: Drop, S: StoreBulkMut<K, V>> LiteMap<K, V, S> {
     /// ```
     pub fn remove_keys_of<W, T: Store<K, W>>(&mut self, other: &LiteMap<K, W, T>)
         ensures pairs { self.new.pairs ≡ filter (λ p. not (is_some (at K.cmp other.now.pairs p.0))) self.old.pairs }
+        // What a look-up finds: what it found, where the other map lacks the key.
+        ensures found { (key : K) → value_at K.cmp self.new.pairs key
+            ≡ cond (is_some (at K.cmp other.now.pairs key)) None (value_at K.cmp self.old.pairs key) }
         ensures room { self.old.room + length self.old.pairs ≤ self.new.room + length self.new.pairs }
     {
         let mut rest = Places::new(&other.store);

@@ -1,0 +1,6 @@
+use Rattle.litemap_json.proofs.ByText.{values_seen}
+use Rattle.litemap_json.proofs.OneMap.{one_reading}
+use Rattle.litemap_json.proofs.laws.one_reading_by_text.Goals as goal
+
+pub returns : goal.returns
+returns g c = λ d L M l m text. values_seen g.V.JsonItem.json text L M (one_reading _ ? _ g.V.JsonItem.json ? _ _ g.V.JsonItem.item d L M l m)
