@@ -7,14 +7,14 @@ use Rattle.litemap_store.specs.Pairs.{at, value_at}
 use Rattle.litemap_store.specs.Queries.{by_text}
 use Rattle.litemap_json.specs.Reading.{pair_seen, seen}
 
+-- what the first pair gives, if its key is equal, else the others
+abbrev from_first : Bool → Data → Option Data → Option Data
+from_first b d others = cond b (Some d) others
+
+abbrev tree_of : {Z : Type 0} → String Z → Data
+tree_of s = string (string_bytes s)
+
 module _ {Z V : Type 0} (json : V → Data) (text : List ℕ) where
-  abbrev tree_of : String Z → Data
-  tree_of s = string (string_bytes s)
-
-  -- what the first pair gives, if its key is equal, else the others
-  abbrev from_first : Bool → Data → Option Data → Option Data
-  from_first b d others = cond b (Some d) others
-
   first_seen : (p : String Z × V) (L : List (String Z × V)) → option_map json (value_at by_text (p ∷ L) text) ≡ from_first (is_eq (by_text p.0 text)) (json p.1) (option_map json (value_at by_text L text))
   first_seen p L = elim (is_eq (by_text p.0 text)) as (λ b. option_map json (option_map (λ q. q.1) (cond b (Some p) (at by_text L text))) ≡ from_first b (json p.1) (option_map json (value_at by_text L text))) [ true ↦ refl | false ↦ refl ]
 
