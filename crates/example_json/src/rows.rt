@@ -1,7 +1,8 @@
 //! What answers a line.
 use crate::evens::Even;
 use crate::levels::Level;
-use crate::limits::copied;
+use crate::limits;
+use crate::names;
 use crate::told;
 use litemap::LiteMap;
 use litemap::store::{ColumnStore, Store, StoreBulkMut};
@@ -47,6 +48,7 @@ fn answer(alloc: Global, types: &str, text: &str) -> Result<String, AllocError> 
         ),
         "levels" => written::<Level, u32, ShortStore<Level, u32>>(alloc, text),
         "limits" => copied_limits(alloc, text),
+        "names" => copied_names(alloc, text),
         "told" => told::answer(alloc, text),
         "nested" => written::<
             ((u8, bool), String),
@@ -96,7 +98,19 @@ fn copied_limits(alloc: Global, text: &str) -> Result<String, AllocError> {
         return String::from_str(alloc, "no JSON");
     };
     let map = match from_json(alloc, &value) {
-        Ok(limits) => Ok(copied(alloc, &limits)?),
+        Ok(limits) => Ok(limits::copied(alloc, &limits)?),
+        Err(fault) => Err(fault),
+    };
+    shown(alloc, map.as_ref())
+}
+
+// The same of numbers by their names.
+fn copied_names(alloc: Global, text: &str) -> Result<String, AllocError> {
+    let Ok(value) = Value::from_str(alloc, text) else {
+        return String::from_str(alloc, "no JSON");
+    };
+    let map = match from_json(alloc, &value) {
+        Ok(numbers) => Ok(names::copied(alloc, &numbers)?),
         Err(fault) => Err(fault),
     };
     shown(alloc, map.as_ref())
