@@ -659,25 +659,29 @@ def scattered():
 
 
 def merged():
-    """Every two maps over four letters, merged and beside each other, and longer maps at each length where one way of merging gives
-    place to another."""
+    """Every two maps over four letters, and longer maps at each length where one way of merging gives place to another."""
     sets = ["".join(it) for length in range(5) for it in itertools.combinations("abcd", length)]
     for old in sets:
         for new in sets:
             calls = ["from_vec" + "".join(f" {key}:{place}" for place, key in enumerate(old))]
             calls += ["extend_from_litemap" + "".join(f" {key.upper()}:{9 - place}" for place, key in enumerate(new))]
             yield from chain(GROWING, calls, "letter", 8)
-            for test, name in zip(BESIDE[:2], BESIDE[2:]):
-                theirs = " ".join(["", *(f"{key.upper()}:9" for key in new)])
-                yield from chain(ALL, [calls[0], test + theirs, name + theirs], "letter", 8)
-    for length in (0, 1, 5, 20, 1000):
-        yield from block(ALL, length, 0, [f"{name} {pairs}".strip() for name in BESIDE for pairs in inputs(length)])
     for length in (5, 20, 60, 100, 400, 6000, 12000):
         for count in sorted({1, 2, 3, 60, length // 8, length // 3, length, 3 * length} - {0}):
             if length < 6000 or count in (1, 2, 3, 60, 1500):
                 step = max(2 * length // count, 1)
                 calls = [f"extend_from_litemap {start},{count},{step}" for start in (1, 2)]
                 yield from block(GROWING, length, 0, calls)
+
+
+def beside():
+    """Short maps beside each one of keys at their places and gaps, and longer ones."""
+    for length in range(4):
+        places = range(1, 2 * length + 2)
+        theirs = [" ".join(f"{key}:9" for key in keys) for count in range(len(places) + 1) for keys in itertools.combinations(places, count)]
+        yield from block(ALL, length, 0, [f"{name} {pairs}".strip() for name in BESIDE for pairs in theirs])
+    for length in (5, 20, 1000):
+        yield from block(ALL, length, 0, [f"{name} {pairs}".strip() for name in BESIDE for pairs in inputs(length)])
 
 
 # Ten pairs that rise, and ten that don't, of which none lies above the last of those.
@@ -801,7 +805,7 @@ def unmade(made):
 
 
 FILES = {"looks": looks, "walks": walks, "changes": changes, "bulk": bulk, "stores": stores, "scattered": scattered}
-FILES |= {"refusable": refusable, "merged": merged, "twenty": twenty, "picked": picked, "rows": rows}
+FILES |= {"refusable": refusable, "merged": merged, "beside": beside, "twenty": twenty, "picked": picked, "rows": rows}
 
 
 def calls_of(lines):
