@@ -1,9 +1,7 @@
 //! What answers a line.
 use crate::evens::Even;
 use crate::levels::Level;
-use crate::limits;
-use crate::names;
-use crate::told;
+use crate::{limits, names, told};
 use litemap::LiteMap;
 use litemap::store::{ColumnStore, Store, StoreBulkMut};
 use litemap_json::{
