@@ -19,7 +19,7 @@ GROUPS = {
     "Write a value in place": "litemap: map/write map/update",
     "Entries": "litemap: map/entry map/entry/occupied map/entry/vacant",
     "Many at once": "litemap: map/bulk",
-    "Merge": "litemap: map/merge",
+    "Merge and compare keys": "litemap: map/merge map/sets",
     "Walk": "litemap: map/iter map/iter/keys map/iter/range map/iter/values",
     "Compare and hash": "litemap: map/comparisons",
     "Convert and borrow": "litemap: map/conversions map/becomes map/slice",

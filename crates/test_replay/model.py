@@ -355,6 +355,8 @@ class Model:
             return self.extend(pairs)
         if name in ("extend_from_litemap", "extend_from_litemap_counted"):
             return self.merge(self.last(pairs))
+        if name in BESIDE:
+            return self.beside(name, self.last(pairs))
         if name in ("lm_extend_end", "lm_extend_start") and not self.taken(len(pairs)):
             return f"refused {self.text(pairs)}"
         if name in ("lm_extend_end", "lm_extend_start"):
@@ -390,6 +392,16 @@ class Model:
         self.pairs = sorted(kept + [pair for pair in pairs if rank(pair[0]) not in there], key=lambda pair: rank(pair[0]))
         cost = 0 if not old or not pairs else 2 if apart else cost
         return (f"left {self.text(left)}" if left else "none"), cost
+
+    def beside(self, name, pairs):
+        theirs = {self.order.rank(key) for key, _ in pairs}
+        found, old = [self.order.rank(key) in theirs for key, _ in self.pairs], len(self.pairs)
+        cost = old + len(pairs) - sum(found)
+        if name.startswith("is_subset"):
+            return ("true" if all(found) else "false"), cost
+        self.pairs = [pair for pair, there in zip(self.pairs, found) if there == (name == "keep_keys_of")]
+        self.freed(old - len(self.pairs))
+        return "ok", cost
 
     def read(self, name, words):
         pairs, error = self.given(words[2:]), None if words[1] == "-" else int(words[1])
@@ -580,6 +592,7 @@ def is_before(call):
 
 
 MERGES = ["extend_from_litemap", "extend_from_litemap_counted"]
+BESIDE = ["is_subset", "is_subset_counted", "keep_keys_of", "remove_keys_of"]
 READS = ["read_pairs", "extend_from_source"]
 MAKES = ["from_iter", "from_iter_counted", "from_vec", "from_vec_counted"]
 
@@ -662,6 +675,16 @@ def merged():
                 step = max(2 * length // count, 1)
                 calls = [f"extend_from_litemap {start},{count},{step}" for start in (1, 2)]
                 yield from block(GROWING, length, 0, calls)
+
+
+def beside():
+    """Short maps beside each one of keys at their places and gaps, and longer ones."""
+    for length in range(4):
+        places = range(1, 2 * length + 2)
+        theirs = [" ".join(f"{key}:9" for key in keys) for count in range(len(places) + 1) for keys in itertools.combinations(places, count)]
+        yield from block(ALL, length, 0, [f"{name} {pairs}".strip() for name in BESIDE for pairs in theirs])
+    for length in (5, 20, 1000):
+        yield from block(ALL, length, 0, [f"{name} {pairs}".strip() for name in BESIDE for pairs in inputs(length)])
 
 
 # Ten pairs that rise, and ten that don't, of which none lies above the last of those.
@@ -785,7 +808,7 @@ def unmade(made):
 
 
 FILES = {"looks": looks, "walks": walks, "changes": changes, "bulk": bulk, "stores": stores, "scattered": scattered}
-FILES |= {"refusable": refusable, "merged": merged, "twenty": twenty, "picked": picked, "rows": rows}
+FILES |= {"refusable": refusable, "merged": merged, "beside": beside, "twenty": twenty, "picked": picked, "rows": rows}
 
 
 def calls_of(lines):

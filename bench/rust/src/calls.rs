@@ -46,6 +46,8 @@ pub enum Call {
     MergeInterleaved,
     /// To put in a map with the same keys.
     MergeEqual,
+    /// Every second pair stays, by the keys of another map.
+    KeepKeys,
     /// A copy of the map.
     Clone,
 }
@@ -72,6 +74,7 @@ impl Call {
         Call::MergeApart,
         Call::MergeInterleaved,
         Call::MergeEqual,
+        Call::KeepKeys,
         Call::Clone,
     ];
 }
@@ -98,6 +101,7 @@ impl Display for Call {
             Call::MergeApart => "merge_apart",
             Call::MergeInterleaved => "merge_interleaved",
             Call::MergeEqual => "merge_equal",
+            Call::KeepKeys => "keep_keys",
             Call::Clone => "clone",
         })
     }
@@ -124,6 +128,7 @@ pub fn call_all<K: Key>(call: Call, cases: &mut [Case<K>]) -> u64 {
             Call::MergeApart | Call::MergeInterleaved | Call::MergeEqual => {
                 case.made = merge(&mut case.map, take(&mut case.other))
             }
+            Call::KeepKeys => keep_keys(&mut case.map, &case.other),
             Call::Clone => case.made = Some(clone(&case.map)),
         }
     }
@@ -195,6 +200,11 @@ fn retain_all<K: Key>(map: &mut LiteMap<K, u64>) {
 #[inline(never)]
 fn retain_none<K: Key>(map: &mut LiteMap<K, u64>) {
     map.retain(|_, value| *value & 1 == 1);
+}
+
+#[inline(never)]
+fn keep_keys<K: Key>(map: &mut LiteMap<K, u64>, other: &LiteMap<K, u64>) {
+    map.retain(|key, _| other.contains_key(key));
 }
 
 #[inline(never)]

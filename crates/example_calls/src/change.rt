@@ -1,16 +1,16 @@
 //! Written by `bin/data`.
 use crate::Shown;
 use crate::days::{Days, three_days};
-use litemap::{LiteMap, TryFault};
+use litemap::{LiteMap, TryFault, VecMap};
 use std::alloc::{AllocError, Global};
 
 /// How the examples came out, by their calls.
-pub(crate) fn examples(alloc: Global) -> [Shown; 21] {
+pub(crate) fn examples(alloc: Global) -> [Shown; 24] {
     shown! { alloc;
         from_iter, from_vec, extend, extend_from_vec, insert, try_insert, try_append,
         try_get_or_insert, try_find_or_insert, remove, remove_by, clear, reserve, retain,
-        extend_from_litemap, split_off, remove_entry, pop_first, update, get_mut,
-        get_indexed_mut
+        extend_from_litemap, is_subset, keep_keys_of, remove_keys_of, split_off, remove_entry,
+        pop_first, update, get_mut, get_indexed_mut
     }
 }
 
@@ -108,6 +108,26 @@ fn extend_from_litemap(alloc: Global) -> anyhow::Result<bool> {
         Some(old) => Ok(old.as_slice() == [(5, "Friday")].as_slice() && days.len() == 4),
         None => Ok(false),
     }
+}
+
+fn is_subset(alloc: Global) -> anyhow::Result<bool> {
+    let days = three_days(alloc)?;
+    let open: VecMap<u32, ()> = LiteMap::from_iter(alloc, [(1, ()), (5, ())])?;
+    Ok(open.is_subset(&days) && !days.is_subset(&open))
+}
+
+fn keep_keys_of(alloc: Global) -> anyhow::Result<bool> {
+    let mut days = three_days(alloc)?;
+    let open: VecMap<u32, ()> = LiteMap::from_iter(alloc, [(1, ()), (2, ()), (5, ())])?;
+    days.keep_keys_of(&open);
+    Ok(days.as_slice() == [(1, "Monday"), (5, "Friday")].as_slice())
+}
+
+fn remove_keys_of(alloc: Global) -> anyhow::Result<bool> {
+    let mut days = three_days(alloc)?;
+    let closed: VecMap<u32, ()> = LiteMap::from_iter(alloc, [(2, ()), (3, ())])?;
+    days.remove_keys_of(&closed);
+    Ok(days.as_slice() == [(1, "Monday"), (5, "Friday")].as_slice())
 }
 
 fn split_off(alloc: Global) -> anyhow::Result<bool> {

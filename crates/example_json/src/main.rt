@@ -1,7 +1,7 @@
 //! Types of a caller's own as keys of maps that are written as JSON, and a program that reads JSON texts as maps, and writes
 //! the maps as JSON: each line of standard input is `TYPES TEXT`, and the line that answers it is what the map is written as,
-//! or why it was not read or not written. Each text but those of `limits` is read as a map over a vector and as one over two
-//! columns, and the line shows both answers where they differ.
+//! or why it was not read or not written. Each text but those of `limits` and `names` is read as a map over a vector and as one
+//! over two columns, and the line shows both answers where they differ.
 //!
 //! A line `told TYPES TEXT` is answered by the fault as it is shown to people.
 //!
@@ -11,6 +11,7 @@
 mod evens;
 pub mod levels;
 pub mod limits;
+pub mod names;
 mod rows;
 mod told;
 

@@ -1,8 +1,7 @@
 //! What answers a line.
 use crate::evens::Even;
 use crate::levels::Level;
-use crate::limits::copied;
-use crate::told;
+use crate::{limits, names, told};
 use litemap::LiteMap;
 use litemap::store::{Store, StoreBulkMut};
 use litemap_columns::ColumnStore;
@@ -48,6 +47,7 @@ fn answer(alloc: Global, types: &str, text: &str) -> Result<String, AllocError> 
         ),
         "levels" => written::<Level, u32, ShortStore<Level, u32>>(alloc, text),
         "limits" => copied_limits(alloc, text),
+        "names" => copied_names(alloc, text),
         "told" => told::answer(alloc, text),
         "nested" => written::<
             ((u8, bool), String),
@@ -97,7 +97,19 @@ fn copied_limits(alloc: Global, text: &str) -> Result<String, AllocError> {
         return String::from_str(alloc, "no JSON");
     };
     let map = match from_json(alloc, &value) {
-        Ok(limits) => Ok(copied(alloc, &limits)?),
+        Ok(limits) => Ok(limits::copied(alloc, &limits)?),
+        Err(fault) => Err(fault),
+    };
+    shown(alloc, map.as_ref())
+}
+
+// The same of numbers by their names.
+fn copied_names(alloc: Global, text: &str) -> Result<String, AllocError> {
+    let Ok(value) = Value::from_str(alloc, text) else {
+        return String::from_str(alloc, "no JSON");
+    };
+    let map = match from_json(alloc, &value) {
+        Ok(numbers) => Ok(names::copied(alloc, &numbers)?),
         Err(fault) => Err(fault),
     };
     shown(alloc, map.as_ref())

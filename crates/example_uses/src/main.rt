@@ -18,6 +18,7 @@ pub mod reserved;
 pub mod scores;
 pub mod sets;
 mod shown;
+pub mod sums;
 pub mod texts;
 pub mod totals;
 

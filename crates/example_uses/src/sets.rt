@@ -13,21 +13,19 @@ pub type Set = VecMap<u32, ()>;
 pub fn intersect(set: &mut Set, other: &Set)
     ensures { set.new.pairs ≡ filter (λ p. is_some (at nat_cmp other.now.pairs p.0)) set.old.pairs }
 {
-    set.retain(|element, _| other.contains_key(element));
+    set.keep_keys_of(other);
 }
 
 /// Whether the other set has each element.
 pub fn is_subset(set: &Set, other: &Set) -> bool
     ensures { result ≡ list_all (λ p. is_some (at nat_cmp other.now.pairs p.0)) set.now.pairs }
 {
-    set.as_slice()
-        .iter()
-        .all(|(element, _)| other.contains_key(element))
+    set.is_subset(other)
 }
 
 /// Removes the elements that the other set has.
 pub fn subtract(set: &mut Set, other: &Set)
     ensures { set.new.pairs ≡ filter (λ p. not (is_some (at nat_cmp other.now.pairs p.0))) set.old.pairs }
 {
-    set.retain(|element, _| !other.contains_key(element));
+    set.remove_keys_of(other);
 }

@@ -13,6 +13,7 @@ mod iter;
 mod look;
 mod merge;
 mod ranges;
+mod sets;
 mod slice;
 mod split;
 mod take;

@@ -1,7 +1,8 @@
--- Lemmas of the crate. Callers' proofs cite `Floats`, and `OneMap` for what is read back.
+-- Lemmas of the crate. Callers' proofs cite `Floats`, and `OneMap` and `ByText` for what is read back.
 pub mod Again
 pub mod ArraysOfTwo
 pub mod ByPlace
+pub mod ByText
 pub mod Floats
 pub mod OneMap
 pub mod Joined

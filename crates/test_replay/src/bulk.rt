@@ -7,7 +7,7 @@ use crate::call::{Call, Made, Map, Pair};
 use crate::counted::{Key, Value};
 use crate::tested::Tested;
 use litemap::LiteMap;
-use litemap::store::{Count, Store};
+use litemap::store::{ColumnStore, Count, Store};
 use litemap_read::{PairSource, ReadFault, extend_from_source, read_pairs};
 use std::vec::IntoIter;
 
@@ -18,6 +18,7 @@ pub fn gather<S: Tested<Key, Value>>(map: &mut Map<S>, call: &Call<'_>, to: &mut
         || make(map, call, to).is_some()
         || extend(map, call, to).is_some()
         || merge(map, call, to).is_some()
+        || go_beside(map, call, to).is_some()
         || read(map, call, to).is_some()
 }
 
@@ -76,6 +77,27 @@ fn merge<S: Tested<Key, Value>>(map: &mut Map<S>, call: &Call<'_>, to: &mut Answ
         Ok(None) => to.word("none"),
         Ok(Some(left)) => show_map("left", &left, to),
         Err(refused) => show_map("refused", &refused.back, to),
+    }
+    Some(())
+}
+
+// The calls that go through another map, over two columns, beside this one.
+fn go_beside<S: Tested<Key, Value>>(map: &mut Map<S>, call: &Call<'_>, to: &mut Answer) -> Made {
+    let pairs = call.pairs(0)?;
+    let other: Map<ColumnStore<Key, Value>> = LiteMap::from_vec(call.alloc, pairs).ok()?;
+    call.begin();
+    match call.name {
+        "is_subset" => to.show(map.is_subset(&other)),
+        "is_subset_counted" => to.show(map.is_subset_counted(&other, &mut Count::new())),
+        "keep_keys_of" => {
+            map.keep_keys_of(&other);
+            to.word("ok");
+        }
+        "remove_keys_of" => {
+            map.remove_keys_of(&other);
+            to.word("ok");
+        }
+        _ => return None,
     }
     Some(())
 }

@@ -1,8 +1,9 @@
 //! The pairs between two places of a store of any kind, from both ends.
-ghost use Rattle.std.specs.Prelude.{◌≡◌, ◌≤◌, Some, IfSome, length};
+ghost use Rattle.std.specs.Prelude.{◌≡◌, ◌≤◌, Some, IfSome, length, slice_get};
 ghost use Rattle.std.specs.Iterator.{at_most, UpTo};
 ghost use Rattle.std.specs.Iterator.SizeHint.{IsWithinCount};
 ghost use Rattle.std.specs.Map.Iter.{TakesFirst, TakesLast, deref_pair};
+ghost use Rattle.std.specs.Option.{option_map};
 ghost use Rattle.litemap_store.specs.Pairs.{sub};
 
 use litemap_store::store::Store;
@@ -49,6 +50,17 @@ impl<'a, K, V, S: Store<K, V>> RangeIter<'a, K, V, S> {
             end: places.end,
             marker: PhantomData,
         }
+    }
+
+    // The first pair, which stays.
+    pub(in crate::map) fn first(&self) -> Option<(&'a K, &'a V)>
+        ensures { option_map deref_pair result ≡ slice_get self.now 0 }
+    {
+        if self.start == self.end {
+            return None;
+        }
+        let store = self.store;
+        store.lm_get(self.start)
     }
 }
 

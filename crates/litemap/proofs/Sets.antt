@@ -1,0 +1,136 @@
+-- Two rising lists, where one is gone through beside the other.
+--     list_all-past      whether each is found, after the first one
+--     at_end, at_equal, at_greater      what a key finds, and the pairs past it, by the first pair;  Kept-beside      what a closure keeps that goes through the other list
+--     value_at-kept      what a look-up finds in it
+use Rattle.std.proofs.Common.{◌≡◌, Bool, true, false, cond, List, [], ◌∷◌, length, filter, is_some, slice_get, Option, None, Some, option_map, refl, sym, ap, ◌∙◌, subst, arith}
+use Rattle.std.specs.Cmp.{IsTotalOrder}
+use Rattle.std.specs.List.{AllByRecursion, items_where_true, list_all}
+use Rattle.std.specs.List.Retain.{ReturnsInTurn}
+use Rattle.std.specs.Map.Iter.{TakesFirst, deref_pair}
+use Rattle.std.specs.Ordering.{is_eq}
+use Rattle.std.specs.declared.cmp.Ordering.{Ordering}
+use Rattle.std.specs.declared.cmp.Ordering.TheVariants.{Less, Equal, Greater}
+use Rattle.litemap_store.specs.Pairs.{BelowAll, Rising, above, at, value_at}
+use Rattle.litemap_store.specs.Retain.{CalledOnPair, Kept}
+use Rattle.litemap_store.proofs.Splitting.{each-weaker, greater_back, less_back}
+use Rattle.litemap_store.proofs.Tallies.{value_at_equal}
+use Rattle.litemap.proofs.Cuts.{Rising-filter}
+use denote.Param.Members.{Called, Mut}
+use denote.Ref.{Bor}
+
+module _ {K : Type 0} {cmp : K → K → Ordering} (o : IsTotalOrder cmp) {W : Type 0} where
+  -- past a key a greater one finds what it found
+  at-above_by : (k q : K) → cmp k q ≡ Less → (x : K × W) (R : List (K × W)) (r : Ordering) → cmp x.0 k ≡ r → at cmp (above cmp R k) q ≡ at cmp R q → at cmp (above cmp (x ∷ R) k) q ≡ at cmp (x ∷ R) q
+  at-above_by k q lower x R Less e is = let l : cmp x.0 q ≡ Less = o.trans x.0 k q e lower in rw e (rw l is)
+  at-above_by k q lower x R Equal e is = let l : cmp x.0 q ≡ Less = o.congr x.0 k q e ∙ lower in rw e (rw l is)
+  at-above_by k q lower x R Greater e is = rw e (elim (is_eq (cmp x.0 q)) as (λ b. cond b (Some x) (at cmp (above cmp R k) q) ≡ cond b (Some x) (at cmp R q)) [ true ↦ refl | false ↦ is ])
+
+  at-above : (k q : K) → cmp k q ≡ Less → (R : List (K × W)) → at cmp (above cmp R k) q ≡ at cmp R q
+  at-above k q lower [] = refl
+  at-above k q lower (x ∷ R) = at-above_by k q lower x R (cmp x.0 k) refl (at-above k q lower R)
+
+  module _ {V : Type 0} (k : K) (R : List (K × W)) where
+    filter-above : (t : Bool → Bool) (L : List (K × V)) → BelowAll cmp k L → filter (λ p. t (is_some (at cmp (above cmp R k) p.0))) L ≡ filter (λ p. t (is_some (at cmp R p.0))) L
+    filter-above t [] h = refl
+    filter-above t (q ∷ L) h = rw (at-above k q.0 h.0 R) (rw (filter-above t L h.1) refl)
+
+    list_all-above : (L : List (K × V)) → BelowAll cmp k L → list_all (λ p. is_some (at cmp (above cmp R k) p.0)) L ≡ list_all (λ p. is_some (at cmp R p.0)) L
+    list_all-above [] h = refl
+    list_all-above (q ∷ L) h = rw (at-above k q.0 h.0 R) (rw (list_all-above L h.1) refl)
+
+    -- the first key of a list was found, so the others decide, by what is past it
+    pub list_all-past : (R' : List (K × W)) (v : V) (L M : List (K × V)) → R' ≡ above cmp R k → is_some (at cmp R k) ≡ true → M ≡ (k, v) ∷ L → BelowAll cmp k L → list_all (λ p. is_some (at cmp R' p.0)) L ≡ list_all (λ p. is_some (at cmp R p.0)) M
+    list_all-past R' v L M past there first h = rw first (rw past (rw there (list_all-above L h)))
+
+  -- ---- the keys past k, where that of the first pair is not below it
+  module _ (k : K) where
+    past : (R : List (K × W)) → AllByRecursion (λ y. cmp k y.0 ≡ Less) R → (above cmp R k ≡ R) × (at cmp R k ≡ None)
+    past [] h = (refl, refl)
+    past (y ∷ R) h =
+        let g : cmp y.0 k ≡ Greater = less_back o k y.0 h.0 in
+        let i = past R h.1 in
+        rw g (ap (λ M. y ∷ M) i.0, i.1)
+
+    -- the list ends
+    pub at_end : (R : List (K × W)) → None ≡ slice_get R 0 → (R ≡ above cmp R k) × (false ≡ is_some (at cmp R k))
+    at_end [] e = (refl, refl)
+    at_end (x ∷ R) e = absurd (cc)
+
+    -- its first pair is equal to k, and is taken
+    pub at_equal : (x : K × W) (R R' : List (K × W)) (r : Option (Bor K × Bor W)) → Some x ≡ slice_get R 0 → TakesFirst deref_pair R r R' → Equal ≡ cmp x.0 k → Rising cmp R → (R' ≡ above cmp R k) × (true ≡ is_some (at cmp R k))
+    at_equal x [] R' r s t e h = absurd (cc)
+    at_equal x (y ∷ R) R' None s t e h = absurd (let n : y ∷ R ≡ [] = t.0 in cc)
+    at_equal x (y ∷ R) R' (Some z) s t e h =
+        let same : x ≡ y = (let u : Some x ≡ Some y = s in cc) in
+        let rest : R ≡ R' = (let u : y ∷ R ≡ deref_pair z ∷ R' = t in cc) in
+        let q : cmp y.0 k ≡ Equal = subst (λ (w : K × W). cmp w.0 k ≡ Equal) same (sym e) in
+        rw q (sym rest ∙ sym (past R (each-weaker (λ (z : K × W) l. sym (o.congr y.0 k z.0 q) ∙ l) R h.0)).0, refl)
+
+    -- or above it
+    pub at_greater : (x : K × W) (R : List (K × W)) → Some x ≡ slice_get R 0 → Greater ≡ cmp x.0 k → Rising cmp R → (R ≡ above cmp R k) × (false ≡ is_some (at cmp R k))
+    at_greater x [] s e h = absurd (cc)
+    at_greater x (y ∷ R) s e h =
+        let same : x ≡ y = (let u : Some x ≡ Some y = s in cc) in
+        let l : cmp k y.0 ≡ Less = greater_back o y.0 k (subst (λ (w : K × W). cmp w.0 k ≡ Greater) same (sym e)) in
+        let i = past (y ∷ R) (l, each-weaker (λ (z : K × W) m. o.trans k y.0 z.0 l m) R h.0) in
+        (sym i.0, ap is_some (sym i.1))
+
+  -- ---- what is kept by a closure that goes past each key in another list, and answers by whether it was there
+  module _ {V F : Type 0} (g : Mut F (Bor K × (Bor V × Unit {0})) Bool) (rest : F → List (K × W)) (t : Bool → Bool)
+      (steps : (f : F) (k : Bor K) (v : Bor V) (b : Bool) (f' : F) → Called g f (k, (v, tt)) b f' → Rising cmp (rest f) → (rest f' ≡ above cmp (rest f) k.now) × (b ≡ t (is_some (at cmp (rest f) k.now)))) where
+    step : (f : F) (p : K × V) (b : Bool) (f' : F) → CalledOnPair g f p b f' → Rising cmp (rest f) → (rest f' ≡ above cmp (rest f) p.0) × (b ≡ t (is_some (at cmp (rest f) p.0)))
+    step f p b f' c r = rw (← c.shows.0) (steps f c.key c.value b f' c.called r)
+
+    first_kept : (p : K × V) (b c : Bool) (bs : List Bool) (L N : List (K × V)) → b ≡ c → items_where_true bs L ≡ N → items_where_true (b ∷ bs) (p ∷ L) ≡ cond c (p ∷ N) N
+    first_kept p true c bs L N e is = rw (← e) (ap (λ M. p ∷ M) is)
+    first_kept p false c bs L N e is = rw (← e) is
+
+    kept : (bs : List Bool) (L : List (K × V)) (f f' : F) → length bs ≡ length L → Rising cmp L → Rising cmp (rest f) → ReturnsInTurn (CalledOnPair g) f bs L f' → items_where_true bs L ≡ filter (λ p. t (is_some (at cmp (rest f) p.0))) L
+    kept [] [] f f' e h r k = refl
+    kept [] (p ∷ L) f f' e h r k = absurd (omega arith)
+    kept (b ∷ bs) [] f f' e h r k = absurd k
+    kept (b ∷ bs) (p ∷ L) f f' e h r k =
+        let one = step f p b k.0 k.1 r in
+        let rises : Rising cmp (rest k.0) = subst (Rising cmp) (sym one.0) (Rising-filter cmp _ (rest f) r) in
+        let later = kept bs L k.0 f' (omega arith) h.1 rises k.2 in
+        let same = later ∙ ap (λ R. filter (λ (q : K × V). t (is_some (at cmp R q.0))) L) one.0 ∙ filter-above p.0 (rest f) t L h.0 in
+        first_kept p b (t (is_some (at cmp (rest f) p.0))) bs L _ one.1 same
+
+    pub Kept-beside : (f : F) (L L' M : List (K × V)) (R R' : List (K × W)) → Kept g f L M → Rising cmp L → L ≡ L' → rest f ≡ R → Rising cmp R → R ≡ R' → M ≡ filter (λ p. t (is_some (at cmp R' p.0))) L'
+    Kept-beside f L L' M R R' k h is from r same = rw (← same) (rw (← is) (rw (← from) (k.4 ∙ kept k.0 L f k.1 k.2 h (subst (Rising cmp) (sym from) r) k.3)))
+
+-- ---- what a look-up finds where the keys of another list are kept, or go
+module _ {K : Type 0} {cmp : K → K → Ordering} (o : IsTotalOrder cmp) {W : Type 0} (t : Bool → Bool) (M : List (K × W)) (k : K) where
+  abbrev keeps : K → Bool
+  keeps x = t (is_some (at cmp M x))
+
+  is_some-value : (p : Option (K × W)) → is_some (option_map (λ q. q.1) p) ≡ is_some p
+  is_some-value None = refl
+  is_some-value (Some p) = refl
+
+  same_key : (x : K) → cmp x k ≡ Equal → keeps x ≡ keeps k
+  same_key x e = ap t (sym (is_some-value (at cmp M x)) ∙ ap is_some (sym (value_at_equal o M x k e)) ∙ is_some-value (at cmp M k))
+
+  module _ {V : Type 0} where
+    at-kept_by : (p : K × V) (L : List (K × V)) (r : Ordering) → cmp p.0 k ≡ r → at cmp (filter (λ q. keeps q.0) L) k ≡ cond (keeps k) (at cmp L k) None
+        → at cmp (filter (λ q. keeps q.0) (p ∷ L)) k ≡ cond (keeps k) (at cmp (p ∷ L) k) None
+    at-kept_by p L Equal e is =
+        let F = filter (λ (q : K × V). keeps q.0) L in
+        rw (same_key p.0 e) (rw e (elim (keeps k) as (λ b. at cmp F k ≡ cond b (at cmp L k) None → at cmp (cond b (p ∷ F) F) k ≡ cond b (Some p) None) [ true ↦ λ i. rw e refl | false ↦ λ i. i ] is))
+    at-kept_by p L Less e is =
+        let F = filter (λ (q : K × V). keeps q.0) L in
+        rw e (elim (keeps p.0) as (λ b. at cmp (cond b (p ∷ F) F) k ≡ cond (keeps k) (at cmp L k) None) [ true ↦ rw e is | false ↦ is ])
+    at-kept_by p L Greater e is =
+        let F = filter (λ (q : K × V). keeps q.0) L in
+        rw e (elim (keeps p.0) as (λ b. at cmp (cond b (p ∷ F) F) k ≡ cond (keeps k) (at cmp L k) None) [ true ↦ rw e is | false ↦ is ])
+
+    at-kept : (L : List (K × V)) → at cmp (filter (λ q. keeps q.0) L) k ≡ cond (keeps k) (at cmp L k) None
+    at-kept [] = elim (keeps k) as (λ b. at {V = V} cmp [] k ≡ cond b (at {V = V} cmp [] k) None) [ true ↦ refl | false ↦ refl ]
+    at-kept (p ∷ L) = at-kept_by p L (cmp p.0 k) refl (at-kept L)
+
+    value_at_by : (p : Option (K × V)) (b : Bool) → option_map (λ q. q.1) (cond b p None) ≡ cond b (option_map (λ q. q.1) p) None
+    value_at_by p true = refl
+    value_at_by p false = refl
+
+    pub value_at-kept : (L N : List (K × V)) → N ≡ filter (λ q. t (is_some (at cmp M q.0))) L → value_at cmp N k ≡ cond (t (is_some (at cmp M k))) (value_at cmp L k) None
+    value_at-kept L N is = rw is (ap (option_map (λ q. q.1)) (at-kept L) ∙ value_at_by (at cmp L k) (keeps k))

@@ -1,0 +1,22 @@
+use Rattle.std.proofs.Common.{◌≡◌, ◌+◌, ◌∷◌, ◌∙◌, length, sym, ap, subst, arith}
+use Rattle.litemap_store.specs.Pairs.{Rising}
+use Rattle.litemap.proofs.Cuts.{Rising-filter}
+use Rattle.litemap.proofs.Sets.{list_all-past}
+use Rattle.litemap.proofs.map.sets.has_each.Goals as goal
+
+pub loop-key-preserved : goal.loop-key-preserved
+loop-key-preserved g c =
+    let cmp = g.K.Ord.cmp in
+    let inv = c.loop-key.invariant in
+    let first = c.in-Some.ensures in
+    let rises = subst (Rising cmp) first inv.keys_rise in
+    let passed = c.passes.ensures.passed inv.rest_rises in
+    let counted = c.passes.ensures.counted in
+    let long = ap length first in
+    record {
+      rest_rises = subst (Rising cmp) (sym passed.0) (Rising-filter cmp _ c.loop-key.rest inv.rest_rises);
+      keys_rise = rises.1;
+      all = list_all-past g.met.K.Ord.total _ _ _ _ _ _ passed.0 (sym passed.1 ∙ c.if-not-passes.false) first rises.0 ∙ inv.all;
+      counted = (counted.0 ∙ inv.counted.0, omega arith);
+      cost = omega arith;
+    }

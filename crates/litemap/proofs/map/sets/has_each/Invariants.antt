@@ -1,0 +1,19 @@
+use Rattle.std.proofs.Common.{◌≡◌, ◌+◌, ◌≤◌, is_some, length}
+use Rattle.std.specs.List.{list_all}
+use Rattle.litemap_store.specs.Counts.{GoesOn}
+use Rattle.litemap_store.specs.Pairs.{Rising, at}
+use Rattle.litemap.proofs.map.sets.has_each.Given as goal
+
+abbrev pub invariant-loop-key : goal.invariant-loop-key
+invariant-loop-key g l =
+    let cmp = g.K.Ord.cmp in
+    record {
+      rest_rises : Rising cmp l.rest;
+      keys_rise : Rising cmp l.keys;
+      all : list_all (λ p. is_some (at cmp l.rest p.0)) l.keys ≡ list_all (λ p. is_some (at cmp l.initial.rest p.0)) l.initial.keys;
+      counted : GoesOn l.fn.count l.count;
+      cost : l.count.total + (length l.keys + length l.rest) ≤ l.fn.count.total + (length l.initial.keys + length l.initial.rest);
+    }
+
+abbrev pub decreases-loop-key : goal.decreases-loop-key
+decreases-loop-key g l = length l.keys

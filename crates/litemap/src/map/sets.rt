@@ -1,0 +1,138 @@
+//! The keys of two maps side by side: what both have, and what one lacks.
+ghost use Rattle.std.specs.Prelude.{◌≡◌, ◌+◌, ◌≤◌, None, cond, filter, is_some, length, not};
+ghost use Rattle.std.specs.List.{list_all};
+ghost use Rattle.litemap_store.specs.Counts.{GoesOn, RisesByAtMost};
+ghost use Rattle.litemap_store.specs.Pairs.{Rising, above, at, value_at};
+
+use super::iter::RangeIter;
+use crate::LiteMap;
+use litemap_store::store::{Count, Store, StoreBulkMut};
+use std::cmp::Ordering;
+
+impl<K: Ord, V, S: Store<K, V>> LiteMap<K, V, S> {
+    /// Whether another map has each key (own). Its values and its store may be of other types.
+    ///
+    /// It goes through both side by side, up to the first key that the other lacks, and makes at most one comparison for each
+    /// key of both.
+    ///
+    /// ```rust
+    /// // days: 1 Monday, 3 Wednesday, 5 Friday
+    /// let open: VecMap<u32, ()> = LiteMap::from_iter(alloc, [(1, ()), (5, ())])?;
+    /// Ok(open.is_subset(&days) && !days.is_subset(&open))
+    /// ```
+    pub fn is_subset<W, T: Store<K, W>>(&self, other: &LiteMap<K, W, T>) -> bool
+        ensures { result ≡ list_all (λ p. is_some (at K.cmp other.now.pairs p.0)) self.now.pairs }
+    {
+        self.is_subset_counted(other, &mut Count::new())
+    }
+
+    /// `is_subset`, with its comparisons counted: at most one for each key of both (own).
+    pub fn is_subset_counted<W, T: Store<K, W>>(
+        &self,
+        other: &LiteMap<K, W, T>,
+        count: &mut Count,
+    ) -> bool
+        ensures all { result ≡ list_all (λ p. is_some (at K.cmp other.now.pairs p.0)) self.now.pairs }
+        ensures cost { RisesByAtMost (length self.now.pairs + length other.now.pairs) count.old count.new }
+    {
+        has_each(RangeIter::all(&other.store), RangeIter::all(&self.store), count)
+    }
+}
+
+impl<K: Ord + Drop, V: Drop, S: StoreBulkMut<K, V>> LiteMap<K, V, S> {
+    /// Keeps the pairs whose keys another map has, and gives up the others (own). There is room for as many then.
+    ///
+    /// It goes through both side by side, and makes at most one comparison for each key of both. The values and the store of
+    /// the other map may be of other types.
+    ///
+    /// ```rust
+    /// let mut days = three_days(alloc)?;
+    /// let open: VecMap<u32, ()> = LiteMap::from_iter(alloc, [(1, ()), (2, ()), (5, ())])?;
+    /// days.keep_keys_of(&open);
+    /// Ok(days.as_slice() == [(1, "Monday"), (5, "Friday")].as_slice())
+    /// ```
+    pub fn keep_keys_of<W, T: Store<K, W>>(&mut self, other: &LiteMap<K, W, T>)
+        ensures pairs { self.new.pairs ≡ filter (λ p. is_some (at K.cmp other.now.pairs p.0)) self.old.pairs }
+        // What a look-up finds: what it found, where the other map has the key.
+        ensures found { (key : K) → value_at K.cmp self.new.pairs key
+            ≡ cond (is_some (at K.cmp other.now.pairs key)) (value_at K.cmp self.old.pairs key) None }
+        ensures room { self.old.room + length self.old.pairs ≤ self.new.room + length self.new.pairs }
+    {
+        let mut rest = RangeIter::all(&other.store);
+        self.store.lm_retain(
+            move |key, _|
+                ensures { Rising K.cmp rest.entry → (rest.exit ≡ above K.cmp rest.entry key.now)
+                    × (result ≡ is_some (at K.cmp rest.entry key.now)) }
+            { passes(&mut rest, key, &mut Count::new()) },
+        );
+    }
+
+    /// Gives up the pairs whose keys another map has, and keeps the others (own). It compares as `keep_keys_of`, and leaves as
+    /// much room.
+    ///
+    /// ```rust
+    /// let mut days = three_days(alloc)?;
+    /// let closed: VecMap<u32, ()> = LiteMap::from_iter(alloc, [(2, ()), (3, ())])?;
+    /// days.remove_keys_of(&closed);
+    /// Ok(days.as_slice() == [(1, "Monday"), (5, "Friday")].as_slice())
+    /// ```
+    pub fn remove_keys_of<W, T: Store<K, W>>(&mut self, other: &LiteMap<K, W, T>)
+        ensures pairs { self.new.pairs ≡ filter (λ p. not (is_some (at K.cmp other.now.pairs p.0))) self.old.pairs }
+        // What a look-up finds: what it found, where the other map lacks the key.
+        ensures found { (key : K) → value_at K.cmp self.new.pairs key
+            ≡ cond (is_some (at K.cmp other.now.pairs key)) None (value_at K.cmp self.old.pairs key) }
+        ensures room { self.old.room + length self.old.pairs ≤ self.new.room + length self.new.pairs }
+    {
+        let mut rest = RangeIter::all(&other.store);
+        self.store.lm_retain(
+            move |key, _|
+                ensures { Rising K.cmp rest.entry → (rest.exit ≡ above K.cmp rest.entry key.now)
+                    × (result ≡ not (is_some (at K.cmp rest.entry key.now))) }
+            { !passes(&mut rest, key, &mut Count::new()) },
+        );
+    }
+}
+
+// Whether the first list has each key of the second.
+fn has_each<'a, 'b, K: Ord + 'a + 'b, V: 'b, W: 'a, S: Store<K, V>, T: Store<K, W>>(
+    mut rest: RangeIter<'a, K, W, T>,
+    mut keys: RangeIter<'b, K, V, S>,
+    count: &mut Count,
+) -> bool
+    requires rest { Rising K.cmp rest }
+    requires keys { Rising K.cmp keys }
+    ensures all { result ≡ list_all (λ p. is_some (at K.cmp rest.entry p.0)) keys.entry }
+    ensures cost { RisesByAtMost (length keys.entry + length rest.entry) count.old count.new }
+{
+    while let Some((key, _)) = keys.next() {
+        if !passes(&mut rest, key, count) {
+            return false;
+        }
+    }
+    true
+}
+
+// Goes past the pairs whose keys are not above this one, and answers whether one of them is equal.
+fn passes<'a, K: Ord + 'a, W: 'a, T: Store<K, W>>(
+    rest: &mut RangeIter<'a, K, W, T>,
+    key: &K,
+    count: &mut Count,
+) -> bool
+    ensures passed { Rising K.cmp rest.old
+        → (rest.new ≡ above K.cmp rest.old key.now) × (result ≡ is_some (at K.cmp rest.old key.now)) }
+    ensures counted { GoesOn count.old count.new }
+    ensures cost { count.new.total + length rest.new ≤ count.old.total + length rest.old + 1 }
+{
+    while let Some((there, _)) = rest.first() {
+        match count.cmp(there, key) {
+            Ordering::Less => {}
+            Ordering::Equal => {
+                rest.next();
+                return true;
+            }
+            Ordering::Greater => return false,
+        }
+        rest.next();
+    }
+    false
+}
