@@ -61,6 +61,8 @@ NOT_CALLED = {
     "Query::compare_key": "what each look-up asks",
     "StoreSlice::lm_get_range": "what `get_indexed_range` hands on",
     "StoreMut::lm_try_clone": "what `try_clone` hands on",
+    "StoreIterable::lm_iter": "what `iter` hands on",
+    "StoreIntoIterator::lm_into_iter": "what `into_iter` hands on",
     "two_items": "a line of example_calls, whose output is compared, and what `from_json` asks",
     "extend_from_store": "what `extend_from_litemap` hands on",
     "insert_reserved": "what `lm_insert` hands on",

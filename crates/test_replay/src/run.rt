@@ -6,12 +6,12 @@ use crate::counted::{Key, Order, Seen, Value};
 use crate::line::{self, Line};
 use crate::looks::{vector, view};
 use crate::walks::lent;
+use example_store::fixed_room::FixedRoom;
 use litemap::store::ColumnStore;
 use litemap_short::ShortStore;
 use std::alloc::{AllocError, Global};
 use std::rc::Rc;
 use std::{fs, io};
-use test_support::fixed_room::FixedRoom;
 
 // The names of the stores, in their order below.
 const STORES: [&str; 4] = ["vec", "columns", "short", "fixed"];
