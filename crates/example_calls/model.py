@@ -1,9 +1,9 @@
 """The examples in the `///` of the libraries' calls, as functions that are proved and run: the files here that bin/data writes.
 
-A block of Rust there is the body of a function that is handed `alloc` and answers `Ok(true)`. A first line `// days: ..` or
-`// hours: ..` stands for a map with these pairs, from the module `days`. What stands before a line `// ...` is put before the
-function, a last line that is no `Ok(..)` and no `}` into one, and a block that stands twice is taken once. A block that begins
-with an item shows what a user writes: `bin/check code` looks for it in a crate.
+A block of Rust there is the body of a function that answers `true` or `Ok(true)`, and is handed `alloc` where it names it. A
+first line `// days: ..` or `// hours: ..` stands for a map with these pairs, from the module `days`: one that is lent to all that
+only look at it. What stands before a line `// ...` is put before the function, and a block that stands twice is taken once. A
+block that begins with an item shows what a user writes: `bin/check code` looks for it in a crate.
 """
 import re
 import textwrap
@@ -46,15 +46,30 @@ def name_below(text, place):
     return re.sub(r"(?<=[a-z])(?=[A-Z])", "_", next(filter(None, CALL.search(head).groups()))).lower()
 
 
+MAPS = {"// days:": ("days", "Days", "three_days(alloc)?"), "// hours:": ("hours", "Hours", "opening_hours(alloc)?")}
+
+
 def function(name, lines):
-    """A block as a function."""
-    made = "let mut" if any(".entry(" in line for line in lines) else "let"
-    maps = {"// days:": f"{made} days = three_days(alloc)?;", "// hours:": "let hours = opening_hours(alloc)?;"}
-    body = [maps.get(" ".join(line.split()[:2]), line) for line in lines]
-    if not body[-1].startswith(("Ok(", "}")):
+    """A block as a function, and its entry in the list of a module."""
+    first, *body = lines
+    map_name, kind, made = MAPS.get(" ".join(first.split()[:2]), (None, None, None))
+    is_lent = map_name and not re.search(rf"\.entry\(|&{map_name}\b|{map_name}\.into", " ".join(body))
+    if not map_name:
+        body = lines
+    elif not is_lent:
+        body = [f"let {'mut ' * ('.entry(' in ' '.join(body))}{map_name} = {made};", *body]
+    text = "\n".join(body)
+    fails = "?" in text or re.search(r"^ *(?:return )?Ok\(|=> Ok\(", text, re.MULTILINE)
+    if fails and not body[-1].startswith(("Ok(", "}")):
         body[-1] = f"Ok({body[-1]})"
-    alloc = "alloc" if any("alloc" in line for line in body) else "_"
-    return "\n".join([f"fn {name}({alloc}: Global) -> anyhow::Result<bool> {{", *("    " + line for line in body), "}"])
+    taken = [("alloc", "alloc: Global")] * ("alloc" in text) + [(f"&{map_name}", f"{map_name}: &{kind}")] * bool(is_lent)
+    parameters = ", ".join(it for _, it in taken)
+    result = "anyhow::Result<bool>" if fails else "bool"
+    call = f"{name}({', '.join(it for it, _ in taken)})"
+    parts = f'"{name}"', call if fails else f"Ok({call})"
+    # In the layout of `rt fmt`.
+    entry = f"({', '.join(parts)})," if len(", ".join(parts)) <= 60 else f"(\n    {parts[0]},\n    {parts[1]},\n),"
+    return "\n".join([f"fn {name}({parameters}) -> {result} {{", *("    " + line for line in body), "}"]), entry
 
 
 def filled(words, width, indent):
@@ -97,12 +112,14 @@ def module(name, seen):
         names = [call, f"{call}_of_{path.split('/')[-1][:-3]}", *(f"{call}_{number}" for number in range(2, 9))]
         call = next(it for it in names if it not in functions and it not in IMPORTED)
         functions[call] = function(call, lines)
+    entries = textwrap.indent("\n".join(entry for _, entry in functions.values()), " " * 8)
+    lent = "".join(f"    let {it} = {made};\n" for it, _, made in MAPS.values() if f"&{it})" in entries)
     text = "\n\n".join([f"""/// How the examples came out, by their calls.
-pub(crate) fn examples(alloc: Global) -> [Shown; {len(functions)}] {{
-    shown! {{ alloc;
-{filled(', '.join(functions), 96, 8)}
-    }}
-}}""", *items, *functions.values()])
+pub(crate) fn examples(alloc: Global) -> Result<[Shown; {len(functions)}], AllocError> {{
+{lent}    Ok([
+{entries}
+    ])
+}}""", *items, *(text for text, _ in functions.values())])
     return f"//! Written by `bin/data`.\nuse crate::Shown;\n{imports(text)}\n\n{text}\n", functions
 
 

@@ -2,14 +2,18 @@
 use crate::Shown;
 use crate::days::three_days;
 use litemap::Entry;
-use std::alloc::Global;
+use std::alloc::{AllocError, Global};
 
 /// How the examples came out, by their calls.
-pub(crate) fn examples(alloc: Global) -> [Shown; 10] {
-    shown! { alloc;
-        key, get_mut, into_mut, insert, remove, insert_of_vacant, entry, or_insert,
-        or_insert_with, and_modify
-    }
+pub(crate) fn examples(alloc: Global) -> Result<[Shown; 6], AllocError> {
+    Ok([
+        ("key", key(alloc)),
+        ("insert", insert(alloc)),
+        ("remove", remove(alloc)),
+        ("insert_of_vacant", insert_of_vacant(alloc)),
+        ("or_insert", or_insert(alloc)),
+        ("and_modify", and_modify(alloc)),
+    ])
 }
 
 fn key(alloc: Global) -> anyhow::Result<bool> {
@@ -18,22 +22,6 @@ fn key(alloc: Global) -> anyhow::Result<bool> {
         Entry::Occupied(entry) => Ok(*entry.key() == 1 && *entry.get() == "Monday"),
         Entry::Vacant(_) => Ok(false),
     }
-}
-
-fn get_mut(alloc: Global) -> anyhow::Result<bool> {
-    let mut days = three_days(alloc)?;
-    if let Entry::Occupied(mut entry) = days.entry(3) {
-        *entry.get_mut() = "Wed";
-    }
-    Ok(days.get(&3) == Some(&"Wed"))
-}
-
-fn into_mut(alloc: Global) -> anyhow::Result<bool> {
-    let mut days = three_days(alloc)?;
-    if let Entry::Occupied(entry) = days.entry(3) {
-        *entry.into_mut() = "W";
-    }
-    Ok(days.get(&3) == Some(&"W"))
 }
 
 fn insert(alloc: Global) -> anyhow::Result<bool> {
@@ -60,22 +48,9 @@ fn insert_of_vacant(alloc: Global) -> anyhow::Result<bool> {
     Ok(*entry.key() == 4 && *entry.insert("Thursday")? == "Thursday")
 }
 
-fn entry(alloc: Global) -> anyhow::Result<bool> {
-    let mut days = three_days(alloc)?;
-    match days.entry(1) {
-        Entry::Occupied(_) => Ok(true),
-        Entry::Vacant(_) => Ok(false),
-    }
-}
-
 fn or_insert(alloc: Global) -> anyhow::Result<bool> {
     let mut days = three_days(alloc)?;
     Ok(*days.entry(1).or_insert("Mon")? == "Monday")
-}
-
-fn or_insert_with(alloc: Global) -> anyhow::Result<bool> {
-    let mut days = three_days(alloc)?;
-    Ok(*days.entry(6).or_insert_with(|| "Saturday")? == "Saturday")
 }
 
 fn and_modify(alloc: Global) -> anyhow::Result<bool> {

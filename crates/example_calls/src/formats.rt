@@ -3,22 +3,32 @@ use crate::Shown;
 use crate::days::{Hours, opening_hours};
 use litemap::LiteMap;
 use litemap_json::{
-    ItemFault, JsonFault, JsonItem, JsonKey, Writer, array_of_two, from_json, to_json, two_items,
-    write_json, write_value,
+    ItemFault, JsonFault, JsonItem, JsonKey, Writer, array_of_two, from_json, two_items, write_json,
 };
 use litemap_read::{PairSource, ReadFault, read_pairs};
 use name_table::{NameBytes, NameFault, NameMap, find_name, read_names, write_names};
 use serde_json::Value;
-use std::alloc::Global;
+use std::alloc::{AllocError, Global};
 
 /// How the examples came out, by their calls.
-pub(crate) fn examples(alloc: Global) -> [Shown; 19] {
-    shown! { alloc;
-        json_fault, from_value, write_to, wanted, key_text, from_key_text, two_items_of_pairs,
-        array_of_two_of_pairs, from_json_of_read, write_json_of_text, told_in, to_json_of_write,
-        write_value_of_written, read_pairs_of_read, name_fault, name_bytes, read_names_of_read,
-        find_name_of_read, write_names_of_write
-    }
+pub(crate) fn examples(alloc: Global) -> Result<[Shown; 15], AllocError> {
+    Ok([
+        ("json_fault", json_fault(alloc)),
+        ("from_value", from_value(alloc)),
+        ("write_to", write_to(alloc)),
+        ("key_text", key_text(alloc)),
+        ("from_key_text", from_key_text(alloc)),
+        ("two_items_of_pairs", two_items_of_pairs(alloc)),
+        ("array_of_two_of_pairs", array_of_two_of_pairs(alloc)),
+        ("from_json_of_read", from_json_of_read(alloc)),
+        ("write_json_of_text", write_json_of_text(alloc)),
+        ("told_in", told_in(alloc)),
+        ("read_pairs_of_read", read_pairs_of_read(alloc)),
+        ("name_fault", name_fault(alloc)),
+        ("name_bytes", name_bytes()),
+        ("find_name_of_read", find_name_of_read(alloc)),
+        ("write_names_of_write", write_names_of_write(alloc)),
+    ])
 }
 
 const LANGUAGES: &[u8] = b"\x02\x02de\x06German\x02fr\x06French";
@@ -39,10 +49,6 @@ fn write_to(alloc: Global) -> anyhow::Result<bool> {
     let mut out = Writer::new(Vec::new(alloc));
     (3u32, true).write_to(alloc, &mut out)?;
     Ok(out.into_inner().as_slice() == b"[3,true]".as_slice())
-}
-
-fn wanted(_: Global) -> anyhow::Result<bool> {
-    Ok(u16::wanted() == "a whole number of 16 bits")
 }
 
 fn key_text(alloc: Global) -> anyhow::Result<bool> {
@@ -89,18 +95,6 @@ fn told_in(alloc: Global) -> anyhow::Result<bool> {
     Ok(told.as_str() == r#""3": a whole number of 8 bits is wanted, and a text stands there"#)
 }
 
-fn to_json_of_write(alloc: Global) -> anyhow::Result<bool> {
-    let hours = opening_hours(alloc)?;
-    let value = to_json(alloc, &hours)?;
-    Ok(value.to_string(alloc)?.as_str() == r#"{"1":8,"3":10}"#)
-}
-
-fn write_value_of_written(alloc: Global) -> anyhow::Result<bool> {
-    let mut out = Writer::new(Vec::new(alloc));
-    write_value(alloc, &Value::from(true), &mut out)?;
-    Ok(out.into_inner().as_slice() == b"true".as_slice())
-}
-
 fn read_pairs_of_read(alloc: Global) -> anyhow::Result<bool> {
     let languages: NameMap = read_pairs(alloc, &mut NameBytes::new(LANGUAGES)?)?;
     Ok(languages.get("fr") == Some(&"French"))
@@ -111,15 +105,10 @@ fn name_fault(alloc: Global) -> anyhow::Result<bool> {
     Ok(fault == Some(ReadFault::Source(NameFault::Truncated { at: 5 })))
 }
 
-fn name_bytes(_: Global) -> anyhow::Result<bool> {
+fn name_bytes() -> anyhow::Result<bool> {
     let mut languages = NameBytes::new(LANGUAGES)?;
     let first = languages.next_pair()?;
     Ok(first == Some(("de", "German")) && languages.hint() == Some(1) && languages.place() == 11)
-}
-
-fn read_names_of_read(alloc: Global) -> anyhow::Result<bool> {
-    let (languages, size) = read_names(alloc, LANGUAGES)?;
-    Ok(languages.get("fr") == Some(&"French") && size == LANGUAGES.len())
 }
 
 fn find_name_of_read(alloc: Global) -> anyhow::Result<bool> {

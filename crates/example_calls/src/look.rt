@@ -1,34 +1,34 @@
 //! Written by `bin/data`.
 use crate::Shown;
-use crate::days::three_days;
-use std::alloc::Global;
+use crate::days::{Days, three_days};
+use std::alloc::{AllocError, Global};
 use std::ops::Bound;
 
 /// How the examples came out, by their calls.
-pub(crate) fn examples(alloc: Global) -> [Shown; 15] {
-    shown! { alloc;
-        partial_ord, iter, keys, into_iterator, into_iterator_of_iter, get_indexed, get,
-        get_key_value, get_by, index, find_index, places, range, get_indexed_range, as_sliced
-    }
+pub(crate) fn examples(alloc: Global) -> Result<[Shown; 9], AllocError> {
+    let days = three_days(alloc)?;
+    Ok([
+        ("partial_ord", Ok(partial_ord(&days))),
+        ("iter", Ok(iter(&days))),
+        ("into_iterator", into_iterator(alloc)),
+        ("get", Ok(get(&days))),
+        ("get_by", Ok(get_by(&days))),
+        ("find_index", Ok(find_index(&days))),
+        ("places", Ok(places(&days))),
+        ("range", Ok(range(&days))),
+        ("get_indexed_range", get_indexed_range(&days)),
+    ])
 }
 
-fn partial_ord(alloc: Global) -> anyhow::Result<bool> {
-    let days = three_days(alloc)?;
+fn partial_ord(days: &Days) -> bool {
     let all = days.as_sliced();
     let begin = days.range(Bound::Unbounded, Bound::Excluded(&5));
-    Ok(begin < all && begin.cmp(&all).is_lt())
+    begin < all && begin.cmp(&all).is_lt()
 }
 
-fn iter(alloc: Global) -> anyhow::Result<bool> {
-    let days = three_days(alloc)?;
+fn iter(days: &Days) -> bool {
     let mut pairs = days.iter();
-    Ok(pairs.next() == Some((&1, &"Monday")) && pairs.next_back() == Some((&5, &"Friday")))
-}
-
-fn keys(alloc: Global) -> anyhow::Result<bool> {
-    let days = three_days(alloc)?;
-    let mut numbers = days.keys();
-    Ok(numbers.next() == Some(&1) && numbers.next_back() == Some(&5) && numbers.len() == 1)
+    pairs.next() == Some((&1, &"Monday")) && pairs.next_back() == Some((&5, &"Friday"))
 }
 
 fn into_iterator(alloc: Global) -> anyhow::Result<bool> {
@@ -40,64 +40,33 @@ fn into_iterator(alloc: Global) -> anyhow::Result<bool> {
     Ok(sum == 9)
 }
 
-fn into_iterator_of_iter(alloc: Global) -> anyhow::Result<bool> {
-    let days = three_days(alloc)?;
-    Ok(days.into_iter().next() == Some((1, "Monday")))
+fn get(days: &Days) -> bool {
+    days.get(&3) == Some(&"Wednesday") && days.get(&4).is_none()
 }
 
-fn get_indexed(alloc: Global) -> anyhow::Result<bool> {
-    let days = three_days(alloc)?;
-    Ok(days.get_indexed(1) == Some((&3, &"Wednesday")) && days.get_indexed(3).is_none())
-}
-
-fn get(alloc: Global) -> anyhow::Result<bool> {
-    let days = three_days(alloc)?;
-    Ok(days.get(&3) == Some(&"Wednesday") && days.get(&4).is_none())
-}
-
-fn get_key_value(alloc: Global) -> anyhow::Result<bool> {
-    let days = three_days(alloc)?;
-    Ok(days.get_key_value(&3) == Some((&3, &"Wednesday")) && days.get_key_value(&4).is_none())
-}
-
-fn get_by(alloc: Global) -> anyhow::Result<bool> {
-    let days = three_days(alloc)?;
+fn get_by(days: &Days) -> bool {
     let place = days.find_index_by(|number| number.cmp(&4));
-    Ok(days.get_by(|number| number.cmp(&3)) == Some(&"Wednesday") && place == Err(2))
+    days.get_by(|number| number.cmp(&3)) == Some(&"Wednesday") && place == Err(2)
 }
 
-fn index(alloc: Global) -> anyhow::Result<bool> {
-    let days = three_days(alloc)?;
-    Ok(days.contains_key(&5) && *days.index(&5) == "Friday")
+fn find_index(days: &Days) -> bool {
+    days.find_index(&3) == Ok(1) && days.find_index(&4) == Err(2)
 }
 
-fn find_index(alloc: Global) -> anyhow::Result<bool> {
-    let days = three_days(alloc)?;
-    Ok(days.find_index(&3) == Ok(1) && days.find_index(&4) == Err(2))
-}
-
-fn places(alloc: Global) -> anyhow::Result<bool> {
-    let days = three_days(alloc)?;
+fn places(days: &Days) -> bool {
     let later = days.places(Bound::Excluded(&1), Bound::Unbounded);
     let crossing = days.places(Bound::Included(&5), Bound::Excluded(&2));
-    Ok(later == (1..3) && crossing == (2..2))
+    later == (1..3) && crossing == (2..2)
 }
 
-fn range(alloc: Global) -> anyhow::Result<bool> {
-    let days = three_days(alloc)?;
+fn range(days: &Days) -> bool {
     let part = days.range(Bound::Included(&2), Bound::Unbounded);
-    Ok(part.len() == 2 && part.first() == Some((&3, &"Wednesday")))
+    part.len() == 2 && part.first() == Some((&3, &"Wednesday"))
 }
 
-fn get_indexed_range(alloc: Global) -> anyhow::Result<bool> {
-    let days = three_days(alloc)?;
+fn get_indexed_range(days: &Days) -> anyhow::Result<bool> {
     match days.get_indexed_range(1..3) {
         Some(part) => Ok(part.find_index(&3) == Ok(0) && part.get(&1).is_none()),
         None => Ok(false),
     }
-}
-
-fn as_sliced(alloc: Global) -> anyhow::Result<bool> {
-    let days = three_days(alloc)?;
-    Ok(days.as_sliced().get(&3) == Some(&"Wednesday"))
 }

@@ -3,11 +3,6 @@
 #![tactic(auto)]
 #![allow(deprecated)]
 
-// The calls of examples by their names, each with how it came out.
-macro_rules! shown {
-    ($alloc:ident; $($name:ident),+) => { [$((stringify!($name), $name($alloc))),+] };
-}
-
 mod change;
 mod days;
 mod entries;
@@ -23,12 +18,12 @@ pub(crate) type Shown = (&'static str, anyhow::Result<bool>);
 
 fn main(rt: HostRuntime) -> io::Result<()> {
     let alloc = rt.alloc();
-    report(&rt, &make::examples(alloc))?;
-    report(&rt, &look::examples(alloc))?;
-    report(&rt, &entries::examples(alloc))?;
-    report(&rt, &change::examples(alloc))?;
-    report(&rt, &stores::examples(alloc))?;
-    report(&rt, &formats::examples(alloc))
+    report(&rt, &make::examples(alloc)?)?;
+    report(&rt, &look::examples(alloc)?)?;
+    report(&rt, &entries::examples(alloc)?)?;
+    report(&rt, &change::examples(alloc)?)?;
+    report(&rt, &stores::examples(alloc)?)?;
+    report(&rt, &formats::examples(alloc)?)
 }
 
 // Writes a line for each example.

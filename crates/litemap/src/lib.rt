@@ -23,10 +23,4 @@ pub use try_fault::TryFault;
 pub type VecMap<K, V> = LiteMap<K, V, Vec<(K, V)>>;
 
 /// A map over two columns: a vector of the keys and one of the values.
-///
-/// ```rust
-/// let mut days: ColumnMap<u32, &str> = LiteMap::new(alloc);
-/// days.insert(1, "Monday")?;
-/// Ok(days.get(&1) == Some(&"Monday"))
-/// ```
 pub type ColumnMap<K, V> = LiteMap<K, V, ColumnStore<K, V>>;
