@@ -56,14 +56,11 @@ FREE = [f"{owner}::{name}" for owner, names in FREE.items() for name in names.sp
 TESTS = "crates/test_*/src crates/example_formats/src crates/example_uses/src".split()
 # The calls that no test names, and those that no wrong body names, beside laws, whose bodies do nothing: why.
 NOT_CALLED = {
-    "ColumnStore::from_columns": "a line of example_calls, whose output is compared",
-    "ColumnStore::into_columns": "a line of example_calls, whose output is compared",
     "Query::compare_key": "what each look-up asks",
     "StoreSlice::lm_get_range": "what `get_indexed_range` hands on",
     "StoreMut::lm_try_clone": "what `try_clone` hands on",
     "StoreIterable::lm_iter": "what `iter` hands on",
     "StoreIntoIterator::lm_into_iter": "what `into_iter` hands on",
-    "two_items": "a line of example_calls, whose output is compared, and what `from_json` asks",
     "extend_from_store": "what `extend_from_litemap` hands on",
     "insert_reserved": "what `lm_insert` hands on",
     "serialize": "what `with` of a field in example_formats asks",

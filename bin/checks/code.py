@@ -8,7 +8,7 @@ from shared import CRATES
 # The lines that a block leaves out.
 LEFT_OUT = re.compile(r"^ *// \.\.\.\n", re.MULTILINE)
 # The crates whose items stand in comments, and those whose functions a program or a test has to call, by whatever way.
-SHOWN = ("example_calls", "example_uses", "example_formats", "example_store")
+SHOWN = ("example_uses", "example_formats", "example_store", "test_cases")
 CALLERS = ("example_uses", "example_formats", "example_store")
 # What is called by no name of its own: a program, and calls of traits.
 UNNAMED = {"main", "compare_key", "eq", "lm_iter", "lm_into_iter"}

@@ -1,8 +1,10 @@
-//! Cases of what neither a contract nor a line of `test_replay` says, in a program that writes how each came out.
+//! Cases: the examples in the `///` of the libraries' calls, and what neither a contract nor a line of `test_replay` says. The
+//! program writes how each came out.
 //!
-//! Of maps: closures that call several keys equal, queries of each kind, constant tables, iterators that lie, the greatest rooms,
-//! stores with a limit, what is printed, and reading. Of the program `names`, over readers and writers in memory, with its names
-//! kept in one vector and in two columns: how much it reads, and a fault at each read and each write.
+//! `bin/data` writes the modules of examples (`make`, `look`, `entries`, `change`, `stores`, `formats`). The other cases are of maps:
+//! closures that call several keys equal, queries of each kind, constant tables, iterators that lie, the greatest rooms, stores
+//! with a limit, what is printed, and reading; and of the program `names`, over readers and writers in memory, with its names kept
+//! in one vector and in two columns: how much it reads, and a fault at each read and each write.
 #![tactic(auto)]
 
 // Cases by their names, each with how it came out.
@@ -12,18 +14,25 @@ macro_rules! cases {
     };
 }
 
+mod change;
 mod closures;
 mod constants;
+mod days;
 mod endless;
 mod ends;
+mod entries;
 mod faults;
 mod flags;
+mod formats;
 mod hints;
 mod limits;
+mod look;
+mod make;
 mod printing;
 mod queries;
 mod reading;
 mod runs;
+mod stores;
 mod watch;
 
 use std::alloc::{AllocError, Global};
@@ -32,9 +41,19 @@ use std::io;
 // The name of a case, and whether all was as it has to be.
 type Case = (&'static str, Result<bool, AllocError>);
 
+/// The name of a call, and whether its example came out as it shows.
+pub(crate) type Shown = (&'static str, anyhow::Result<bool>);
+
 fn main(rt: HostRuntime) -> io::Result<()> {
-    report(&rt, &of_maps(rt.alloc()))?;
-    report(&rt, &of_the_program(rt.alloc()))
+    let alloc = rt.alloc();
+    report(&rt, &make::examples(alloc)?)?;
+    report(&rt, &look::examples(alloc)?)?;
+    report(&rt, &entries::examples(alloc)?)?;
+    report(&rt, &change::examples(alloc)?)?;
+    report(&rt, &stores::examples(alloc)?)?;
+    report(&rt, &formats::examples(alloc)?)?;
+    report(&rt, &of_maps(alloc))?;
+    report(&rt, &of_the_program(alloc))
 }
 
 fn of_maps(alloc: Global) -> [Case; 16] {
@@ -73,12 +92,12 @@ fn of_the_program(alloc: Global) -> [Case; 9] {
 }
 
 // Writes a line for each case.
-fn report(rt: &impl Print, cases: &[Case]) -> io::Result<()> {
+fn report<E>(rt: &impl Print, cases: &[(&'static str, Result<bool, E>)]) -> io::Result<()> {
     for (name, outcome) in cases {
         match outcome {
             Ok(true) => println!(rt; "{name}: right")?,
             Ok(false) => println!(rt; "{name}: WRONG")?,
-            Err(_) => println!(rt; "{name}: no memory")?,
+            Err(_) => println!(rt; "{name}: an error")?,
         }
     }
     Ok(())

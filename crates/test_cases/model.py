@@ -1,4 +1,5 @@
-"""The examples in the `///` of the libraries' calls, as functions that are proved and run: the files here that bin/data writes.
+"""The cases of the program `test_cases`, which bin/data writes: the examples in the `///` of the libraries' calls, as functions that
+are proved and run, and its output.
 
 A block of Rust there is the body of a function that answers `true` or `Ok(true)`, and is handed `alloc` where it names it. A
 first line `// days: ..` or `// hours: ..` stands for a map with these pairs, from the module `days`: one that is lent to all that
@@ -125,8 +126,9 @@ pub(crate) fn examples(alloc: Global) -> Result<[Shown; {len(functions)}], Alloc
 
 def files():
     """The files of the crate, by their names."""
-    made, seen, shown = {}, [], []
+    made, seen, cases = {}, [], []
     for name in MODULES:
         made[f"src/{name}.rt"], functions = module(name, seen)
-        shown += functions
-    return made | {"stdout": "".join(f"{it}: as shown\n" for it in shown)}
+        cases += functions
+    cases += re.findall(r"^        \w+::(\w+),$", RUST["test_cases/src/main.rt"], re.MULTILINE)
+    return made | {"stdout": "".join(f"{it}: right\n" for it in cases)}
