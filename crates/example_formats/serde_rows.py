@@ -56,10 +56,9 @@ MAPS = [
     ("vector", '[{"b":1,"a":2},{},[["c",3]]]', '[{"a":2,"b":1},{},{"c":3}]'), ("vector", "[]", SAME), ("vector", '[{"a":1},7]', "data"),
     ("perhaps", "null", SAME), ("perhaps", '{"b":1,"a":2}', '{"a":2,"b":1}'), ("perhaps", "7", "data"),
     # keys that have no text: as pairs they are written, as a map not
-    ("places", '{"at":[[{"x":2,"y":1},"p"],[{"y":5,"x":-1},"q"],[{"x":2,"y":1},"r"]]}',
-     '{"at":[[{"x":-1,"y":5},"q"],[{"x":2,"y":1},"r"]]}'),
-    ("places", '{"at":[]}', SAME), ("places", '{"at":{}}', '{"at":[]}'), ("places", '{"at":[[{"x":2},"p"]]}', "data"), ("places", "{}", "data"),
-    ("points", '[[{"x":2,"y":1},"p"]]', "not written"), ("points", "[]", "{}"),
+    ("places", '{"at":[[[2,1],"p"],[[-1,5],"q"],[[2,1],"r"]]}', '{"at":[[[-1,5],"q"],[[2,1],"r"]]}'),
+    ("places", '{"at":[]}', SAME), ("places", '{"at":{}}', '{"at":[]}'), ("places", '{"at":[[[2],"p"]]}', "data"), ("places", "{}", "data"),
+    ("points", "[[[2,1],7]]", "not written"), ("points", "[]", "{}"),
     # the forms of enums, and members among others
     ("inner", '{"files":{"b":1,"a":2},"kind":"Copy"}', '{"kind":"Copy","files":{"a":2,"b":1}}'), ("inner", '{"kind":"Stop"}', SAME),
     ("inner", '{"kind":"Copy"}', "data"), ("inner", '{"files":{}}', "data"),

@@ -53,28 +53,3 @@ pub fn is_scanned(table: &NameTable<'_>, index: &NameIndex<'_>, text: &str) -> b
     }
     found.next().is_none() && places.end <= place
 }
-
-/// Whether the entries at each two places of a table are those between them, where some lie past its end.
-pub fn is_cut(table: &NameTable<'_>, index: &NameIndex<'_>) -> bool {
-    let len = table.len().min(6);
-    for start in 0..len.wrapping_add(2) {
-        for end in 0..len.wrapping_add(3) {
-            if !is_part(table, index, start, end) {
-                return false;
-            }
-        }
-    }
-    true
-}
-
-// Whether the entries of an index between two places are those of its table.
-fn is_part(table: &NameTable<'_>, index: &NameIndex<'_>, start: usize, end: usize) -> bool {
-    let mut place = start;
-    for entry in index.entries_in(start..end) {
-        if place >= end || table.get_indexed(place) != Some(entry) {
-            return false;
-        }
-        place = place.wrapping_add(1);
-    }
-    place >= end || place >= table.len()
-}

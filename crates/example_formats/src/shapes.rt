@@ -6,21 +6,12 @@ use serde::{Deserialize, Serialize};
 /// Counts by name.
 pub type Counts = SerdeMap<String, u32, Vec<(String, u32)>>;
 
-/// A key that has no text.
-#[derive(Drop, PartialEq, Eq, PartialOrd, Ord, Serialize, Deserialize)]
-pub struct Point {
-    /// Along.
-    pub x: i32,
-    /// Up.
-    pub y: i32,
-}
-
-/// A map of such keys, as pairs.
+/// A map as pairs, whose keys have no text.
 #[derive(Drop, Serialize, Deserialize)]
 pub struct Places {
     /// Names of points.
     #[serde(with = "litemap_serde::pairs")]
-    pub at: VecMap<Point, String>,
+    pub at: VecMap<(i32, i32), String>,
 }
 
 /// Named by a member.

@@ -1,6 +1,6 @@
 //! What a table answers that is looked up in its bytes.
 use crate::indexes::{BothWays, index_of};
-use crate::prefixes::{is_cut, is_scanned};
+use crate::prefixes::is_scanned;
 use crate::words;
 use litemap_store::store::Count;
 use name_index::{NameIndex, NameTable};
@@ -28,7 +28,7 @@ pub fn write_table(alloc: Global, bytes: &[u8], output: &mut String) -> Result<(
             output.push_str(" other names")?;
         }
     }
-    if !is_walked(&table, &index) || !is_met(&table, &index) || !is_cut(&table, &index) {
+    if !is_walked(&table, &index) {
         output.push_str(" another walk")?;
     }
     if !is_map(&table, &table.to_map(alloc)?) || !is_map(&table, &index.to_map(alloc)?) {
@@ -68,18 +68,6 @@ fn is_walked(table: &NameTable<'_>, index: &NameIndex<'_>) -> bool {
         alike &= others.next() == entry;
     }
     alike
-}
-
-// Whether each entry of a table is met once, and found in its index.
-fn is_met(table: &NameTable<'_>, index: &NameIndex<'_>) -> bool {
-    let mut number = 0usize;
-    for (key, value) in table {
-        if index.find_index(key) != Ok(number) || index.get(key) != Some(value) {
-            return false;
-        }
-        number = number.wrapping_add(1);
-    }
-    number == table.len()
 }
 
 // Whether an index answers as its table does at a key.

@@ -113,7 +113,7 @@ impl Answer {
 const SHOWN: usize = 6;
 
 /// Pairs as they are written: a few by themselves, and many by their number and a sum.
-#[derive(Clone, Copy, PartialEq)]
+#[derive(Clone, Copy)]
 pub struct Pairs {
     order: Order,
     len: u64,
@@ -180,6 +180,11 @@ impl Pairs {
             pairs.add(key, value);
         }
         pairs
+    }
+
+    /// Whether these are as many, with the same sum.
+    pub fn is_same(&self, other: &Pairs) -> bool {
+        self.len == other.len && self.sum == other.sum
     }
 
     /// How many there are.

@@ -92,7 +92,7 @@ impl<S: Tested<Key, Value>> Bench<S> {
         let compared = call.seen.compared.get();
         let after = self.pairs(line);
         to.word("|");
-        if before.pairs == after {
+        if before.pairs.is_same(&after) {
             to.word("same");
         } else {
             to.show(after);
