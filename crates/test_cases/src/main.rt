@@ -60,7 +60,7 @@ fn of_maps(alloc: Global) -> [Case; 16] {
     cases! { alloc;
         closures::one_of_the_keys_called_equal_is_found,
         closures::a_closure_compares_with_another_type,
-        constants::numbers_are_found_up_to_both_ends_of_their_type,
+        constants::numbers_of_each_type_are_found,
         constants::texts_and_bytes_are_compared_with_one_another,
         ends::room_past_the_end_is_refused,
         ends::the_longest_store_grows_no_more,

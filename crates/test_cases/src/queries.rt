@@ -4,7 +4,6 @@ use litemap::{LiteMap, Query};
 use std::alloc::{AllocError, Global};
 use std::borrow::CowStr;
 use std::boxed::{BoxedSlice, BoxedStr};
-use std::mem;
 use std::rc::RcStr;
 use std::sync::ArcStr;
 
@@ -26,80 +25,87 @@ const ASKED: [(&str, Option<u32>, Result<usize, usize>); 8] = [
     ("c", None, Err(5)),
 ];
 
-// Whether a key is found, written and taken out by what stands for it: its number and its place.
-fn is_answered<K: Ord + Drop, Q: Query<K>>(
-    map: &mut Numbers<K>,
+// Whether a key is found by what stands for it: its number and its place.
+fn is_found<K: Ord, Q: Query<K>>(
+    map: &Numbers<K>,
     query: Q,
     number: Option<u32>,
     index: Result<usize, usize>,
 ) -> bool {
-    let is_found = map.contains_key(query) == number.is_some()
+    map.contains_key(query) == number.is_some()
         && map.get(query).copied() == number
         && map.get_counted(query, &mut Count::new()).copied() == number
         && map.find_index(query) == index
-        && map.find_index_counted(query, &mut Count::new()) == index;
-    let written = match map.get_mut(query) {
-        Some(slot) => Some(mem::replace(slot, 100)),
-        None => None,
+        && map.find_index_counted(query, &mut Count::new()) == index
+}
+
+// Whether the number at a key is written and taken out by what stands for it.
+fn is_taken<K: Ord + Drop, Q: Query<K>>(
+    map: &mut Numbers<K>,
+    query: Q,
+    number: Option<u32>,
+) -> bool {
+    if let Some(slot) = map.get_mut(query) {
+        *slot = slot.wrapping_add(100);
+    }
+    let Some(taken) = map.remove(query) else {
+        return number.is_none();
     };
-    is_found && written == number && map.remove(query) == number.map(|_| 100)
+    number == Some(taken.wrapping_sub(100))
 }
 
-// The map of the list, by a key for each text.
-fn map_by<'t, K: Ord + Drop, F: Fn(&'t str) -> Result<K, AllocError>>(
-    alloc: Global,
-    key_of: &F,
-) -> Result<Numbers<K>, AllocError>
-    requires { F.IsAlwaysCallable key_of.now }
-{
-    let mut map = LiteMap::new_vec(alloc);
-    for (text, number) in LIST {
-        let key = key_of(text)?;
-        map.insert(key, number)?;
-    }
-    Ok(map)
-}
-
-// Whether the map is asked right for each text, by what stands for its key and by the key.
-fn is_asked<'t, K, Q, F, G>(alloc: Global, key_of: F, query_of: G) -> Result<bool, AllocError>
-where
-    K: Ord + Drop,
-    Q: Query<K>,
-    F: Fn(&'t str) -> Result<K, AllocError>,
-    G: Fn(&'t str) -> Q,
-    requires keys { F.IsAlwaysCallable key_of }
-    requires queries { G.IsAlwaysCallable query_of }
-{
-    for (text, number, index) in ASKED {
-        let key = key_of(text)?;
-        if !is_answered(&mut map_by(alloc, &key_of)?, query_of(text), number, index)
-            || !is_answered(&mut map_by(alloc, &key_of)?, &key, number, index)
-        {
-            return Ok(false);
+// Whether a map of the list, by a key for each text, is asked right for each text by what stands for its key and by the key.
+macro_rules! is_asked {
+    ($alloc:ident, $text:ident, $key:expr, $query:expr) => {{
+        let mut map = LiteMap::new_vec($alloc);
+        for ($text, number) in LIST {
+            map.insert($key, number)?;
         }
-    }
-    Ok(true)
+        let mut is_right = true;
+        for ($text, number, index) in ASKED {
+            let key = $key;
+            is_right &= is_found(&map, $query, number, index)
+                && is_found(&map, &key, number, index)
+                && is_taken(&mut map, $query, number);
+            if let Some(number) = number {
+                map.insert(key, number)?;
+            }
+        }
+        is_right
+    }};
+}
+
+fn by_texts(alloc: Global) -> Result<bool, AllocError> {
+    Ok(is_asked!(alloc, text, text.to_string(alloc)?, text) && is_asked!(alloc, text, text, text))
+}
+
+fn by_texts_elsewhere(alloc: Global) -> Result<bool, AllocError> {
+    Ok(
+        is_asked!(alloc, text, BoxedStr::from_str(alloc, text)?, text)
+            && is_asked!(alloc, text, CowStr::Borrowed(text), text),
+    )
+}
+
+fn by_shared_texts(alloc: Global) -> Result<bool, AllocError> {
+    Ok(
+        is_asked!(alloc, text, RcStr::from_str(alloc, text)?, text)
+            && is_asked!(alloc, text, ArcStr::from_str(alloc, text)?, text),
+    )
 }
 
 pub(crate) fn keys_are_asked_by_texts(alloc: Global) -> Result<bool, AllocError> {
-    Ok(
-        is_asked(alloc, |text| text.to_string(alloc), |text| text)?
-            && is_asked(alloc, |text| Ok(text), |text| text)?
-            && is_asked(alloc, |text| BoxedStr::from_str(alloc, text), |text| text)?
-            && is_asked(alloc, |text| RcStr::from_str(alloc, text), |text| text)?
-            && is_asked(alloc, |text| ArcStr::from_str(alloc, text), |text| text)?
-            && is_asked(alloc, |text| Ok(CowStr::Borrowed(text)), |text| text)?,
-    )
+    Ok(by_texts(alloc)? && by_texts_elsewhere(alloc)? && by_shared_texts(alloc)?)
 }
 
 pub(crate) fn keys_are_asked_by_slices(alloc: Global) -> Result<bool, AllocError> {
     Ok(
-        is_asked(alloc, |it| it.as_bytes().to_vec(alloc), |it| it.as_bytes())?
-            && is_asked(alloc, |it| Ok(it.as_bytes()), |it| it.as_bytes())?
-            && is_asked(
+        is_asked!(alloc, it, it.as_bytes().to_vec(alloc)?, it.as_bytes())
+            && is_asked!(alloc, it, it.as_bytes(), it.as_bytes())
+            && is_asked!(
                 alloc,
-                |text| BoxedSlice::from_slice(alloc, text.as_bytes()),
-                |text| text.as_bytes(),
-            )?,
+                it,
+                BoxedSlice::from_slice(alloc, it.as_bytes())?,
+                it.as_bytes()
+            ),
     )
 }

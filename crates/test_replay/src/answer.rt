@@ -84,8 +84,16 @@ impl Answer {
 
     /// Writes where a key is, or would go.
     pub fn index(&mut self, index: Result<usize, usize>) {
-        self.word(if index.is_ok() { "ok" } else { "err" });
-        self.show(index.unwrap_or_else(|index| index));
+        match index {
+            Ok(index) => {
+                self.word("ok");
+                self.show(index);
+            }
+            Err(index) => {
+                self.word("err");
+                self.show(index);
+            }
+        }
     }
 
     /// Writes whether there was room.

@@ -106,7 +106,7 @@ impl<S: Tested<Key, Value>> Bench<S> {
             *self = Bench::new(call.alloc);
             call.idle();
         }
-        let is_bounded = line.most.is_none_or(|most| compared <= most);
+        let is_bounded = compared <= line.most.unwrap_or(u32::MAX);
         Outcome {
             is_right: to.text() == line.wanted && is_bounded && !leaks,
             compared,

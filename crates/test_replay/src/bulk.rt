@@ -109,7 +109,13 @@ fn read<S: Tested<Key, Value>>(map: &mut Map<S>, call: &Call<'_>, to: &mut Answe
     };
     call.begin();
     let outcome = match call.name {
-        "read_pairs" => read_pairs(call.alloc, &mut source).map(|read| *map = read),
+        "read_pairs" => match read_pairs(call.alloc, &mut source) {
+            Ok(read) => {
+                *map = read;
+                Ok(())
+            }
+            Err(fault) => Err(fault),
+        },
         "extend_from_source" => extend_from_source(call.alloc, map, &mut source),
         _ => return None,
     };

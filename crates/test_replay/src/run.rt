@@ -77,8 +77,11 @@ impl Replay {
             return true;
         }
         if let Some(names) = text.strip_prefix("on ") {
-            for (is_on, store) in self.is_on.iter_mut().zip(STORES) {
-                *is_on = names.split(' ').any(|name| name == store);
+            self.is_on = [false; 4];
+            for name in names.split(' ') {
+                for (is_on, store) in self.is_on.iter_mut().zip(STORES) {
+                    *is_on |= name == store;
+                }
             }
             return true;
         }
