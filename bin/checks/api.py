@@ -53,27 +53,28 @@ FREE = {
 }
 FREE = [f"{owner}::{name}" for owner, names in FREE.items() for name in names.split()]
 # The crates of tests, and the examples that are programs of rows too.
-TESTS = "crates/test_*/src crates/example_json/src crates/example_serde/src crates/example_tables/src crates/example_uses/src".split()
+TESTS = "crates/test_*/src crates/example_formats/src crates/example_uses/src".split()
 # The calls that no test names, and those that no wrong body names, beside laws, whose bodies do nothing: why.
 NOT_CALLED = {
     "Keys::key_count": "what the search over slices asks",
-    "ColumnStore::from_columns": "a line of example_calls, whose output is compared",
-    "ColumnStore::into_columns": "a line of example_calls, whose output is compared",
+    "Keys::key_at": "what the search over slices asks",
+    "remove_at": "what `lm_remove` hands on",
     "Query::compare_key": "what each look-up asks",
     "StoreSlice::lm_get_range": "what `get_indexed_range` hands on",
     "StoreMut::lm_try_clone": "what `try_clone` hands on",
-    "two_items": "a line of example_calls, whose output is compared, and what `from_json` asks",
+    "StoreIterable::lm_iter": "what `iter` hands on",
+    "StoreIntoIterator::lm_into_iter": "what `into_iter` hands on",
     "extend_from_store": "what `extend_from_litemap` hands on",
     "insert_reserved": "what `lm_insert` hands on",
-    "serialize": "what `with` of a field in example_serde asks",
-    "deserialize_owned": "what `with` of a field in example_serde asks",
+    "serialize": "what `with` of a field in example_formats asks",
+    "deserialize_owned": "what `with` of a field in example_formats asks",
     "write_index_of": "what `write_index` hands on",
     "NameIndex::prefix_places_counted": "what `prefix_places` hands on",
 }
 NOT_TURNED = {
     "extend_from_store": "what `extend_from_litemap` hands on",
-    "JsonFault::told_in": "it promises nothing: its words are compared in example_json",
-    "JsonItem::wanted": "it promises nothing: its words are compared in example_json",
+    "JsonFault::told_in": "it promises nothing: its words are compared in example_formats",
+    "JsonItem::wanted": "it promises nothing: its words are compared in example_formats",
 }
 
 

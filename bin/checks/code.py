@@ -8,10 +8,10 @@ from shared import CRATES
 # The lines that a block leaves out.
 LEFT_OUT = re.compile(r"^ *// \.\.\.\n", re.MULTILINE)
 # The crates whose items stand in comments, and those whose functions a program or a test has to call, by whatever way.
-SHOWN = ("example_calls", "example_uses", "example_json", "example_serde", "example_store", "test_support")
-CALLERS = ("example_uses", "example_json", "example_serde", "example_tables", "example_store")
-# What is called by no name of its own: a program, and a call of a trait.
-UNNAMED = {"main", "compare_key", "eq"}
+SHOWN = ("example_uses", "example_formats", "example_store", "test_cases")
+CALLERS = ("example_uses", "example_formats", "example_store")
+# What is called by no name of its own: a program, and calls of traits.
+UNNAMED = {"main", "compare_key", "eq", "lm_iter", "lm_into_iter"}
 # A function, by the space before it, its name and its body.
 FUNCTION = re.compile(r"^( *)(?:pub(?:\(crate\))? )?fn (\w+)(.*?)^\1\}$", re.MULTILINE | re.DOTALL)
 

@@ -778,15 +778,15 @@ def rows():
 
 # Calls that no line makes, and what runs them.
 ELSEWHERE = {
-    "const_get_with_index": "test_map: each type of keys",
+    "const_get_with_index": "test_cases: each type of keys",
     "const_len": "as_sliced",
     "const_is_empty": "as_sliced",
     "const_get_indexed_or_panic": "as_sliced",
-    "new_vec": "test_map",
-    "from_sorted_store_unchecked": "test_map",
+    "new_vec": "test_cases",
+    "from_sorted_store_unchecked": "test_cases",
     "key": "entry",
-    "read_results": "test_map",
-    "run_calls": "test_map",
+    "read_results": "test_cases",
+    "run_calls": "test_cases",
     "same_answers": "a law",
     "lm_get_range": "get_indexed_range",
     "lm_iter": "iter",

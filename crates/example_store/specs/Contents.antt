@@ -1,4 +1,4 @@
--- What a contract sees of a bounded store: its pairs, and how many further pairs it takes.
+-- What a contract sees of a store with a limit: its pairs, and how many further pairs it takes.
 use Rattle.std.specs.Prelude.{ℕ, List}
 use Rattle.litemap_store.specs.Pairs.{set_value}
 

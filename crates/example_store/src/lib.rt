@@ -7,6 +7,8 @@
 ghost use Rattle.std.specs.Prelude.{refl};
 ghost use Rattle.example_store.specs.Contents.{with_value};
 
+pub mod fixed_room;
+
 use litemap::store::{Count, NoRoom, Store, StoreConstEmpty, StoreMut};
 use std::alloc::{AllocError, Global};
 use std::cmp::Ordering;

@@ -2,7 +2,7 @@
 //! It takes memory for its pairs alone. What look-ups find after a change follows from the lemmas that the attributes
 //! name.
 ghost use Rattle.std.specs.Prelude.{◌≡◌, None, Some, OnOk, OnErr};
-ghost use Rattle.litemap_store.specs.Pairs.{at, value_at};
+ghost use Rattle.litemap_store.specs.Pairs.{value_at};
 ghost use Rattle.litemap.specs.ByBytes.{by_bytes};
 
 use litemap::LiteMap;
@@ -23,14 +23,6 @@ pub fn set_borrowed<'k>(
 {
     headers.insert(name, value)?;
     Ok(())
-}
-
-/// A header whose texts are borrowed, by its place: a place that is found is one of the list's.
-pub fn pair_of<'k>(headers: &Borrowed<'k>, name: &'k str) -> Option<(&'k str, &'k str)>
-    ensures { result ≡ at by_bytes headers.now.pairs name.entry }
-{
-    let place = headers.find_index(&name).ok()?;
-    Some(headers.as_slice()[place])
 }
 
 /// Removes a header whose text is borrowed.

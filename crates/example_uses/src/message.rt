@@ -21,7 +21,7 @@ pub struct Field<'a> {
 }
 
 /// A field has no name.
-#[derive(Debug, PartialEq, Drop)]
+#[derive(Debug, Drop)]
 pub struct Nameless;
 
 // The fields of a message that are still to be read, in their order.

@@ -19,14 +19,3 @@ pub fn find_in_table<'a, 'k, V>(table: &'a [(&'k str, V)], name: &str) -> Option
     let map = LiteMap::from_sorted_store_unchecked(SliceStore::new(table));
     map.const_get_with_index(name)
 }
-
-/// The index and the value of a name in a map over a vector.
-pub fn find_in_map<'a, 'k, V>(
-    map: &'a LiteMap<&'k str, V, Vec<(&'k str, V)>>,
-    name: &str,
-) -> Option<(usize, &'a V)>
-    ensures value { option_map (λ found. found.1.now) result ≡ value_at by_bytes map.now.pairs name.entry }
-    ensures place { IfSome result (λ found. found.0 ≡ place by_bytes map.now.pairs name.entry) }
-{
-    map.as_sliced().const_get_with_index(name)
-}

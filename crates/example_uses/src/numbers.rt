@@ -1,18 +1,17 @@
 //! Numbers as keys, and keys of a caller's own. What look-ups find after a change follows from the lemmas that the attributes
 //! name, or from the laws that a function calls.
-ghost use Rattle.std.specs.Prelude.{◌≡◌, ◌≢◌, None, Ok, Some, IfErr, IfOk, IfSome, IsSome, IsTrue, OnErr, OnOk};
-ghost use Rattle.std.specs.Prelude.{cond, filter, is_some, nat_le, slice_get};
+ghost use Rattle.std.specs.Prelude.{◌≡◌, ◌≢◌, None, Ok, Some, IfErr, IfSome, IsTrue, OnErr, OnOk};
+ghost use Rattle.std.specs.Prelude.{filter, is_some, nat_le, slice_get};
 ghost use Rattle.std.specs.IoError.{error_kind};
-ghost use Rattle.std.specs.Option.{option_or};
 ghost use Rattle.std.specs.Ordering.{int_cmp, nat_cmp};
 ghost use Rattle.std.specs.declared.cmp.Ordering.TheVariants.{Equal};
 ghost use Rattle.std.specs.declared.io.ErrorKind.TheVariants.{OutOfMemory};
-ghost use Rattle.litemap_store.specs.Pairs.{at, index_of, place, put, value_at, value_in, write};
+ghost use Rattle.litemap_store.specs.Pairs.{at, index_of, place, put, value_at, value_in};
 
 use litemap::LiteMap;
-use litemap::store::{NoRoom, StoreMut};
+use litemap::store::StoreMut;
 use litemap_store::laws::{after_cut, after_put, after_write};
-use std::alloc::{AllocError, Global};
+use std::alloc::AllocError;
 use std::io;
 
 /// Ages by numbers of people.
@@ -71,17 +70,6 @@ pub fn correct(ages: &mut Ages, id: u32, age: u8) -> bool
     }
 }
 
-/// Writes the age of someone who is there. All others stay.
-#[tactic(auto, using(litemap::proofs::Numbers::number_keys))]
-pub fn correct_there(ages: &mut Ages, id: u32, age: u8)
-    requires { IsSome (at nat_cmp ages.old.pairs id) }
-    ensures set { value_at nat_cmp ages.new.pairs id ≡ Some age }
-    ensures others { (other : _) → other ≢ id
-        → value_at nat_cmp ages.new.pairs other ≡ value_at nat_cmp ages.old.pairs other }
-{
-    *ages.index_mut(&id) = age;
-}
-
 /// Writes the age at a place. All others stay: those at other places, and those of other numbers.
 #[tactic(auto, using(litemap::proofs::Numbers::number_keys))]
 pub fn correct_at(ages: &mut Ages, index: usize, age: u8)
@@ -101,18 +89,6 @@ pub fn keep_from(ages: &mut Ages, age: u8)
     ages.retain(|_, found| *found >= age);
 }
 
-/// Puts newer ages over those that are there, and answers the old ages of those who have both.
-#[tactic(auto, using(litemap::proofs::Numbers::number_keys))]
-pub fn renew(ages: &mut Ages, alloc: Global, newer: Ages) -> Result<Option<Ages>, NoRoom<Ages>>
-    ensures found { OnOk result ((id : _) → value_at nat_cmp ages.new.pairs id
-        ≡ option_or (value_at nat_cmp newer.pairs id) (value_at nat_cmp ages.old.pairs id)) }
-    ensures driven_out { IfOk result (λ rest. IfSome rest (λ old. (id : _) → value_at nat_cmp old.pairs id
-        ≡ cond (is_some (at nat_cmp newer.pairs id)) (value_at nat_cmp ages.old.pairs id) None)) }
-    ensures refused { OnErr result (ages.new.pairs ≡ ages.old.pairs) }
-{
-    ages.extend_from_litemap(alloc, newer)
-}
-
 /// Sets a reading, which is then found. All others stay.
 #[tactic(auto, using(litemap::proofs::Numbers::signed_keys))]
 pub fn set_reading(readings: &mut Readings, time: i64, level: u8) -> Result<(), AllocError>
@@ -122,24 +98,6 @@ pub fn set_reading(readings: &mut Readings, time: i64, level: u8) -> Result<(), 
 {
     readings.insert(time, level)?;
     Ok(())
-}
-
-/// Clears a reading, where there is one. All others stay.
-#[tactic(auto, using(litemap::proofs::Numbers::signed_keys))]
-pub fn clear_reading(readings: &mut Readings, time: i64)
-    ensures others { (other : _) → other ≢ time
-        → value_at int_cmp readings.new.pairs other ≡ value_at int_cmp readings.old.pairs other }
-{
-    write_reading(readings, time, 0);
-}
-
-// Writes a reading, where there is one.
-fn write_reading(readings: &mut Readings, time: i64, level: u8)
-    ensures { readings.new.pairs ≡ write int_cmp readings.old.pairs time level }
-{
-    if let Some(slot) = readings.get_mut(&time) {
-        *slot = level;
-    }
 }
 
 /// A place in a store room, with an order of its own.

@@ -12,7 +12,7 @@ use litemap::{LiteMap, Query};
 use std::cmp::Ordering;
 
 /// Someone with a number.
-#[derive(Debug, Drop)]
+#[derive(Drop)]
 pub struct Person {
     /// The number.
     pub number: u32,

@@ -15,13 +15,6 @@ pub type Prices = LiteMap<String, u32, Vec<(String, u32)>>;
 /// A part of them.
 pub type Part<'m> = LiteMap<String, u32, SliceStore<'m, String, u32>>;
 
-/// The prices of the names from a text on.
-pub fn from<'m>(prices: &'m Prices, text: &str) -> Part<'m>
-    ensures { result.pairs ≡ within by_text prices.entry.now.pairs (Included text.now) Unbounded }
-{
-    prices.range(Bound::Included(text), Bound::Unbounded)
-}
-
 /// The prices of the names that begin with a text.
 pub fn beginning_with<'m>(prices: &'m Prices, text: &str) -> Part<'m>
     ensures { result.pairs ≡ filter (λ p. begins p.0 text.now) prices.entry.now.pairs }

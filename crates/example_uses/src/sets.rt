@@ -1,5 +1,5 @@
 //! Sets: maps whose values are `()`.
-ghost use Rattle.std.specs.Prelude.{◌≡◌, filter, is_some, not};
+ghost use Rattle.std.specs.Prelude.{◌≡◌, filter, is_some};
 ghost use Rattle.std.specs.List.{list_all};
 ghost use Rattle.std.specs.Ordering.{nat_cmp};
 ghost use Rattle.litemap_store.specs.Pairs.{at};
@@ -21,11 +21,4 @@ pub fn is_subset(set: &Set, other: &Set) -> bool
     ensures { result ≡ list_all (λ p. is_some (at nat_cmp other.now.pairs p.0)) set.now.pairs }
 {
     set.is_subset(other)
-}
-
-/// Removes the elements that the other set has.
-pub fn subtract(set: &mut Set, other: &Set)
-    ensures { set.new.pairs ≡ filter (λ p. not (is_some (at nat_cmp other.now.pairs p.0))) set.old.pairs }
-{
-    set.remove_keys_of(other);
 }

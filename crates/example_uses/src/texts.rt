@@ -1,18 +1,16 @@
 //! Maps asked by what can stand for a key: texts and bytes that are borrowed, and keys.
-ghost use Rattle.std.specs.Prelude.{◌≡◌, ◌≢◌, [], ◌∷◌, IsSome, IsTrue, None, OnOk, Some};
-ghost use Rattle.std.specs.Prelude.{IfSome, is_some, slice_get, string_bytes};
+ghost use Rattle.std.specs.Prelude.{◌≡◌, ◌≢◌, IsTrue, None, Some};
+ghost use Rattle.std.specs.Prelude.{is_some, string_bytes};
 ghost use Rattle.std.specs.Bool.{IsFalse};
-ghost use Rattle.std.specs.Cmp.Lexicographic.{slice_cmp};
-ghost use Rattle.std.specs.Ordering.{int_cmp, nat_cmp};
+ghost use Rattle.std.specs.Ordering.{nat_cmp};
 ghost use Rattle.std.specs.String.{string_cmp};
 ghost use Rattle.std.specs.declared.cmp.Ordering.TheVariants.{Equal};
-ghost use Rattle.litemap_store.specs.Pairs.{at, cut, index_of, put, value_at, value_in, write};
+ghost use Rattle.litemap_store.specs.Pairs.{at, cut, value_at, write};
 ghost use Rattle.litemap_store.specs.Queries.{by_slice, by_text};
 ghost use Rattle.litemap.specs.ByBytes.{by_bytes};
 
 use litemap::store::Store;
 use litemap::{LiteMap, Query};
-use std::alloc::AllocError;
 
 /// Numbers at texts that the map owns.
 pub type Numbers = LiteMap<String, u32, Vec<(String, u32)>>;
@@ -20,75 +18,11 @@ pub type Numbers = LiteMap<String, u32, Vec<(String, u32)>>;
 /// Numbers at bytes that the map owns.
 pub type ByteNumbers = LiteMap<Vec<u8>, u32, Vec<(Vec<u8>, u32)>>;
 
-/// Puts a number at a name. What is found at each name afterwards.
-#[tactic(auto, using(litemap::proofs::Texts::text_keys))]
-pub fn put_number(map: &mut Numbers, name: String, number: u32) -> Result<(), AllocError>
-    ensures there { OnOk result (value_at by_text map.new.pairs (string_bytes name) ≡ Some number) }
-    ensures others { OnOk result ((other : _) → other ≢ string_bytes name
-        → value_at by_text map.new.pairs other ≡ value_at by_text map.old.pairs other) }
-{
-    map.insert(name, number)?;
-    Ok(())
-}
-
-/// The number at a name.
-pub fn number_of(map: &Numbers, name: &str) -> Option<u32>
-    ensures { result ≡ value_at by_text map.now.pairs name.now }
-{
-    map.get(name).copied()
-}
-
-/// The place of a name, or the place where it would go.
-pub fn place_of(map: &Numbers, name: &str) -> Result<usize, usize>
-    ensures { result ≡ index_of by_text map.now.pairs name.now }
-{
-    map.find_index(name)
-}
-
 /// Whether a name is there.
 pub fn has_name(map: &Numbers, name: &str) -> bool
     ensures { result ≡ is_some (at by_text map.now.pairs name.now) }
 {
     map.contains_key(name)
-}
-
-/// The number at a name that is there.
-pub fn number_there(map: &Numbers, name: &str) -> u32
-    requires { IsSome (at by_text map.now.pairs name.now) }
-    ensures { Some result ≡ value_at by_text map.now.pairs name.now }
-{
-    *map.index(name)
-}
-
-/// Writes the number at a name that is there. All others stay.
-#[tactic(auto, using(litemap::proofs::Texts::text_keys))]
-pub fn set_there(map: &mut Numbers, name: &str, number: u32)
-    requires { IsSome (at by_text map.old.pairs name.now) }
-    ensures written { map.new.pairs ≡ write by_text map.old.pairs name.now number }
-    ensures others { (other : _) → other ≢ name.now
-        → value_at by_text map.new.pairs other ≡ value_at by_text map.old.pairs other }
-{
-    write_there(map, name, number);
-}
-
-// Writes the number at a name that is there.
-fn write_there(map: &mut Numbers, name: &str, number: u32)
-    requires { IsSome (at by_text map.old.pairs name.now) }
-    ensures { map.new.pairs ≡ write by_text map.old.pairs name.now number }
-{
-    *map.index_mut(name) = number;
-}
-
-/// Takes a name out. All others stay.
-#[tactic(auto, using(litemap::proofs::Texts::text_keys))]
-pub fn take_number(map: &mut Numbers, name: &str) -> Option<u32>
-    ensures value { result ≡ value_at by_text map.old.pairs name.now }
-    ensures cut { map.new.pairs ≡ cut by_text map.old.pairs name.now }
-    ensures gone { value_at by_text map.new.pairs name.now ≡ None }
-    ensures others { (other : _) → other ≢ name.now
-        → value_at by_text map.new.pairs other ≡ value_at by_text map.old.pairs other }
-{
-    map.remove(name)
 }
 
 /// Takes a key out that is a text of its own. All others stay.
@@ -148,30 +82,11 @@ fn write_number(map: &mut Numbers, name: &str, number: u32) -> bool
     }
 }
 
-/// Writes the number at a place. All others stay: those at other places, and those of other names.
-#[tactic(auto, using(litemap::proofs::Texts::text_keys))]
-pub fn set_at_place(map: &mut Numbers, index: usize, number: u32)
-    ensures places { (other : _) → other ≢ index → value_in map.new.pairs other ≡ value_in map.old.pairs other }
-    ensures others { (other : _) → IfSome (slice_get map.old.pairs index) (λ p. string_bytes p.0 ≢ other)
-        → value_at by_text map.new.pairs other ≡ value_at by_text map.old.pairs other }
-{
-    if let Some(slot) = map.get_indexed_mut(index) {
-        *slot = number;
-    }
-}
-
 /// The number at bytes.
 pub fn number_of_bytes(map: &ByteNumbers, bytes: &[u8]) -> Option<u32>
     ensures { result ≡ value_at (by_slice nat_cmp) map.now.pairs bytes.now }
 {
     map.get(bytes).copied()
-}
-
-/// The place of bytes, or the place where they would go.
-pub fn place_of_bytes(map: &ByteNumbers, bytes: &[u8]) -> Result<usize, usize>
-    ensures { result ≡ index_of (by_slice nat_cmp) map.now.pairs bytes.now }
-{
-    map.find_index(bytes)
 }
 
 /// Takes bytes out. All others stay.
@@ -202,13 +117,6 @@ pub fn set_bytes(map: &mut ByteNumbers, bytes: &[u8], number: u32) -> bool
     }
 }
 
-/// A greeting, where the languages are texts of the program and `en` is asked for.
-pub fn greeting(map: &LiteMap<&'static str, u32, Vec<(&'static str, u32)>>) -> Option<u32>
-    ensures { result ≡ value_at (λ key text. slice_cmp nat_cmp key.now text) map.now.pairs (101 ∷ 110 ∷ []) }
-{
-    map.get("en").copied()
-}
-
 /// The number at a borrowed text, asked by a text that may live shorter.
 pub fn number_of_borrowed<'k>(
     map: &LiteMap<&'k str, u32, Vec<(&'k str, u32)>>,
@@ -217,26 +125,6 @@ pub fn number_of_borrowed<'k>(
     ensures { result ≡ value_at by_bytes map.now.pairs text.entry }
 {
     map.get(text).copied()
-}
-
-/// The number at a signed key that is passed by value.
-pub fn number_of_signed(map: &LiteMap<i32, u32, Vec<(i32, u32)>>, key: i32) -> Option<u32>
-    ensures { result ≡ value_at int_cmp map.now.pairs key }
-{
-    map.get(&key).copied()
-}
-
-/// Writes the value at a key that is there, as a put of it.
-pub fn set_at(map: &mut LiteMap<u32, u8, Vec<(u32, u8)>>, key: u32, value: u8) -> bool
-    ensures { IsTrue result → map.new.pairs ≡ put nat_cmp map.old.pairs key value }
-{
-    match map.get_mut(&key) {
-        Some(slot) => {
-            *slot = value;
-            true
-        }
-        None => false,
-    }
 }
 
 /// The value at a key, over every map.

@@ -77,13 +77,6 @@ impl<'a, 'k, V> LiteMap<&'k [u8], V, SliceStore<'a, &'k [u8], V>> {
     /// The place and the value of an equal key, if there is one. A proper prefix is less.
     ///
     /// It makes O(log n) comparisons. The key that is looked up may live shorter than those of the map.
-    ///
-    /// ```rust
-    /// const MARKS: &[(&[u8], char)] = &[(b"lt", '<'), (b"ne", '!')];
-    /// // ...
-    /// let marks = LiteMap::from_sorted_store_unchecked(SliceStore::new(MARKS));
-    /// marks.const_get_with_index(b"ne".as_slice()) == Some((1, &'!'))
-    /// ```
     pub fn const_get_with_index(&self, key: &[u8]) -> Option<(usize, &'a V)>
         ensures { GetsWithIndex by_bytes self.now.pairs key.entry result }
     {

@@ -81,11 +81,6 @@ impl<K: Ord, V> LiteMap<K, V, Vec<(K, V)>> {
     }
 
     /// The pairs as a vector. Their keys rise strictly.
-    ///
-    /// ```rust
-    /// let pairs = three_days(alloc)?.into_tuple_vec();
-    /// Ok(pairs.as_slice() == [(1, "Monday"), (3, "Wednesday"), (5, "Friday")].as_slice())
-    /// ```
     pub fn into_tuple_vec(self) -> Vec<(K, V)>
         ensures pairs { result.items ≡ self.pairs }
         ensures rising { Rising K.cmp result.items }
@@ -139,11 +134,6 @@ impl<K: Ord, V, S: Store<K, V>> LiteMap<K, V, S> {
 
 impl<K: Ord, V, S: StoreConstEmpty<K, V>> LiteMap<K, V, S> {
     /// The empty map. It takes no memory. Its room is the store's `empty_room`: 0 over a vector, 1 over a short store.
-    ///
-    /// ```rust
-    /// let days: Days = LiteMap::new(alloc);
-    /// Ok(days.is_empty())
-    /// ```
     pub fn new(alloc: Global) -> Self
         ensures pairs { result.pairs ≡ [] }
         ensures room { result.room ≡ S.empty_room }
@@ -166,12 +156,6 @@ impl<K: Ord, V, S: StoreConstEmpty<K, V>> MadeWith<Global> for LiteMap<K, V, S> 
 impl<K: Ord, V, S: StoreMut<K, V>> LiteMap<K, V, S> {
     /// An empty map with this much room at least, or a refusal for want of memory. No room is never refused, nor is room for one
     /// pair over a short store (the store's `free_room`).
-    ///
-    /// ```rust
-    /// let mut days: Days = LiteMap::with_capacity(alloc, 7)?;
-    /// days.insert(1, "Monday")?;
-    /// Ok(days.len() == 1)
-    /// ```
     pub fn with_capacity(alloc: Global, capacity: usize) -> Result<Self, AllocError>
         ensures empty { IfOk result (λ m. m.pairs ≡ []) }
         ensures room { IfOk result (λ m. capacity ≤ m.room) }
@@ -189,11 +173,6 @@ impl<K: Ord, V, S: StoreMut<K, V>> LiteMap<K, V, S> {
     /// A clone of each key has to compare `Equal` to it: where keys are texts, the caller's attribute
     /// `using(litemap::proofs::Texts::text_clones)` shows that. No keys are compared. The Rust crate has the trait `Clone`
     /// here.
-    ///
-    /// ```rust
-    /// // days: 1 Monday, 3 Wednesday, 5 Friday
-    /// Ok(days.try_clone(alloc)? == days)
-    /// ```
     pub fn try_clone(&self, alloc: Global) -> Result<Self, AllocError>
     where
         K: Clone,

@@ -22,12 +22,6 @@ use std::mem;
 ///
 /// A search touches the keys alone, which lie side by side whatever the size of the values: that is what it is for. An
 /// insertion or a removal moves the later keys and the later values.
-///
-/// ```rust
-/// let mut days: LiteMap<u32, &str, ColumnStore<u32, &str>> = LiteMap::new(alloc);
-/// days.insert(3, "Wednesday")?;
-/// Ok(days.get(&3) == Some(&"Wednesday"))
-/// ```
 #[derive(Debug, Drop)]
 pub struct ColumnStore<K, V> {
     keys: Vec<K>,

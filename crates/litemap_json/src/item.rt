@@ -88,10 +88,6 @@ pub trait JsonItem {
 
     /// What a JSON value has to be to spell a value of the type, in words that `is wanted` can follow: for a fault that is
     /// shown to people. A type that says nothing of it has the words here.
-    ///
-    /// ```rust
-    /// Ok(u16::wanted() == "a whole number of 16 bits")
-    /// ```
     fn wanted() -> &'static str {
         "a value of the type"
     }

@@ -23,12 +23,6 @@ use std::alloc::{AllocError, Global};
 /// In an object a later key without a text is a fault, told with its place. An object's members stand and print in the
 /// byte order of their names: the keys 2 and 10 print as `"10"`, `"2"`. What is made is read by `from_json` as the same
 /// map. `Memory` may come in place of any answer. No keys are compared. The Rust crate has serde's `Serialize` here.
-///
-/// ```rust
-/// // hours: 1 8, 3 10
-/// let value = to_json(alloc, &hours)?;
-/// Ok(value.to_string(alloc)?.as_str() == r#"{"1":8,"3":10}"#)
-/// ```
 pub fn to_json<K: JsonKey, V: JsonItem, S: Store<K, V>>(
     alloc: Global,
     map: &LiteMap<K, V, S>,

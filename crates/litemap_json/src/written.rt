@@ -15,12 +15,6 @@ use std::alloc::{AllocError, Global};
 /// first.
 ///
 /// A refusal may leave some of the value written.
-///
-/// ```rust
-/// let mut out = Writer::new(Vec::new(alloc));
-/// write_value(alloc, &Value::from(true), &mut out)?;
-/// Ok(out.into_inner().as_slice() == b"true".as_slice())
-/// ```
 pub fn write_value(alloc: Global, value: &Value, out: &mut Writer) -> Result<(), AllocError>
     ensures tree { OnOk result (WritesTree (view value.now) out.old.tokens out.new.tokens) }
     ensures before { out.new.before ≡ out.old.before }

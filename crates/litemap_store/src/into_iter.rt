@@ -74,12 +74,6 @@ pub trait StoreIntoIterator<K: Drop, V: Drop>: StoreMut<K, V> + Sized {
     ///
     /// The Rust crate's trait inserts pair by pair at the front, each of which moves all old pairs; its vector has one
     /// `splice` in its place.
-    ///
-    /// ```rust
-    /// let mut end = [(3, "Wednesday")].to_vec(alloc)?;
-    /// end.lm_extend_start([(1, "Monday")].to_vec(alloc)?)?;
-    /// Ok(end.as_slice() == [(1, "Monday"), (3, "Wednesday")].as_slice())
-    /// ```
     fn lm_extend_start(&mut self, mut other: Self) -> Result<(), NoRoom<Self>>
         ensures ok { OnOk result (Self.pairs self.new ≡ Self.pairs other ++ Self.pairs self.old) }
         ensures refused { OnErr result (Self.pairs self.new ≡ Self.pairs self.old) }

@@ -10,13 +10,6 @@ use std::ops::Range;
 /// The pairs of a slice that someone else keeps. It cannot grow.
 ///
 /// The Rust crate has the slice itself as a store.
-///
-/// ```rust
-/// const CAPITALS: &[(&str, u32)] = &[("Lima", 51), ("Oslo", 47), ("Rome", 39)];
-/// // ...
-/// let capitals = LiteMap::from_sorted_store_unchecked(SliceStore::new(CAPITALS));
-/// capitals.const_get_with_index("Oslo") == Some((1, &47))
-/// ```
 #[derive(Debug)]
 pub struct SliceStore<'a, K, V> {
     /// The pairs.
@@ -37,13 +30,6 @@ impl<'a, K, V> Copy for SliceStore<'a, K, V> {}
 
 impl<'a, K, V> SliceStore<'a, K, V> {
     /// The store of the slice's pairs.
-    ///
-    /// ```rust
-    /// const CAPITALS: &[(&str, u32)] = &[("Lima", 51), ("Oslo", 47), ("Rome", 39)];
-    /// // ...
-    /// let capitals = LiteMap::from_sorted_store_unchecked(SliceStore::new(CAPITALS));
-    /// capitals.const_get_with_index("Oslo") == Some((1, &47))
-    /// ```
     pub fn new(pairs: &'a [(K, V)]) -> Self
         ensures { result.pairs.now ≡ pairs.now }
     {

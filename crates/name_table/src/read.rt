@@ -18,13 +18,6 @@ pub type NameMap<'a> = LiteMap<&'a str, &'a str, Vec<(&'a str, &'a str)>>;
 /// Keys and values are slices of the bytes. The fault is that of the first number or text that can't be read, or want of
 /// memory; bytes behind the table are left unread. It compares as `read_pairs`, which reads the entries: in a table whose keys
 /// rise at most once for each. The Rust crate reads by `postcard`'s `from_bytes` here.
-///
-/// ```rust
-/// const LANGUAGES: &[u8] = b"\x02\x02de\x06German\x02fr\x06French";
-/// // ...
-/// let (languages, size) = read_names(alloc, LANGUAGES)?;
-/// Ok(languages.get("fr") == Some(&"French") && size == LANGUAGES.len())
-/// ```
 pub fn read_names<'a>(
     alloc: Global,
     bytes: &'a [u8],

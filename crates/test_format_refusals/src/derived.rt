@@ -1,5 +1,5 @@
 //! A type that derives serde's traits, with maps in it, read from JSON and TOML and written.
-use crate::outcome::{Ended, answered, left};
+use crate::outcome::{Ended, Outcome, answered, left};
 use litemap::VecMap;
 use litemap_columns::ColumnMap;
 use serde::{Deserialize, Serialize};
@@ -57,17 +57,12 @@ fn from_toml(alloc: Global) -> Ended {
 // Whether these are the lists of the texts, with so many words, of which this is the last.
 fn is_read(mut lists: Lists, len: usize, last: &str) -> Ended {
     let flags = [((1, 8), false), ((2, 7), true)];
+    let (Some((_, word)), Some(column)) = (lists.words.last(), lists.columns.get(&2)) else {
+        return Err(Outcome::Wrong("a word isn't there"));
+    };
     let is_right = lists.flags.as_slice() == flags.as_slice()
-        && lists.words.len() == len
-        && lists
-            .words
-            .last()
-            .is_some_and(|(_, word)| word.as_str() == last)
-        && lists.columns.len() == 2
-        && lists
-            .columns
-            .get(&2)
-            .is_some_and(|word| word.as_str() == "z");
+        && (lists.words.len(), word.as_str()) == (len, last)
+        && (lists.columns.len(), column.as_str()) == (2, "z");
     left(&mut lists.words, is_right)
 }
 

@@ -51,7 +51,10 @@ pub(crate) fn run(alloc: Global, name: &str) -> Option<Ended> {
 
 /// The value of a JSON text, or where that is refused, that outcome.
 pub(crate) fn value_of(alloc: Global, text: &str) -> Result<Value, Outcome> {
-    Value::from_str(alloc, text).map_err(|_| Outcome::Refused)
+    match Value::from_str(alloc, text) {
+        Ok(value) => Ok(value),
+        Err(_) => Err(Outcome::Refused),
+    }
 }
 
 // The map of words that an object spells; the value that it is read from takes the first requests.
@@ -61,8 +64,10 @@ fn words<S: StoreBulkMut<u32, String>>(alloc: Global, text: &str) -> Result<Word
 
 // Whether a value is written as this text.
 fn is_text(alloc: Global, value: &Value, text: &str) -> Ended {
-    let made = value.to_string(alloc).map_err(|_| Outcome::Refused)?;
-    answered(made.as_str() == text)
+    match value.to_string(alloc) {
+        Ok(made) => answered(made.as_str() == text),
+        Err(_) => Err(Outcome::Refused),
+    }
 }
 
 fn to_json_object<S: StoreBulkMut<u32, String>>(alloc: Global) -> Ended {
@@ -82,22 +87,24 @@ fn json_array(alloc: Global) -> Ended {
     let mut map: Pairs = from_json(alloc, &value_of(alloc, ARRAY)?)?;
     let value = to_json(alloc, &map)?;
     is_text(alloc, &value, ARRAY)?;
-    let is_full = value
-        .as_array()
-        .is_some_and(|list| list.capacity() == list.len());
-    left(&mut map, is_full)
+    match value.as_array() {
+        Some(list) => left(&mut map, list.capacity() == list.len()),
+        None => Err(Outcome::Wrong("no array")),
+    }
 }
 
 fn from_json_object<S: StoreBulkMut<u32, String>>(alloc: Global) -> Ended {
     let mut map = words::<S>(alloc, OBJECT)?;
-    let last = map.get(&3).map(|word| word.as_str());
-    let is_right = map.len() == 3 && last == Some("three");
+    let Some(last) = map.get(&3) else {
+        return Err(Outcome::Wrong("no word at 3"));
+    };
+    let is_right = map.len() == 3 && last.as_str() == "three";
     left(&mut map, is_right)
 }
 
 // An array of two numbers.
 fn pair(alloc: Global) -> Result<Value, Outcome> {
-    array_of_two(alloc, Value::from(1u64), Value::from(2u64)).map_err(|_| Outcome::Refused)
+    Ok(array_of_two(alloc, Value::from(1u64), Value::from(2u64))?)
 }
 
 fn two(alloc: Global) -> Ended {
@@ -108,7 +115,7 @@ fn two(alloc: Global) -> Ended {
 fn value_text(alloc: Global) -> Ended {
     let value = pair(alloc)?;
     let mut out = Writer::new(Vec::new(alloc));
-    write_value(alloc, &value, &mut out).map_err(|_| Outcome::Refused)?;
+    write_value(alloc, &value, &mut out)?;
     answered(out.into_inner().as_slice() == b"[1,2]".as_slice())
 }
 
@@ -116,8 +123,7 @@ fn value_text(alloc: Global) -> Ended {
 fn item_text(alloc: Global) -> Ended {
     let item = (7u32, String::from_str(alloc, WORD)?);
     let mut out = Writer::new(Vec::new(alloc));
-    item.write_to(alloc, &mut out)
-        .map_err(|_| Outcome::Refused)?;
+    item.write_to(alloc, &mut out)?;
     answered(out.into_inner().len() == WORD.len().wrapping_add(6))
 }
 

@@ -33,14 +33,6 @@ const BAD_ELEMENT: &str = r#"[["a",1],["b"],["c",3]]"#;
 
 /// Runs the scenario of a value that spells no map, if there is one of this name.
 pub(crate) fn run(alloc: Global, name: &str) -> Option<Ended> {
-    let shape = |place| JsonFault::Item {
-        place,
-        fault: ItemFault::Shape,
-    };
-    let range = |place| JsonFault::Item {
-        place,
-        fault: ItemFault::Range,
-    };
     let bad_key = JsonFault::Key {
         place: 2,
         fault: ItemFault::Shape,
@@ -59,6 +51,16 @@ pub(crate) fn run(alloc: Global, name: &str) -> Option<Ended> {
         "from_json_no_map" => told_at_once(alloc, "\"a text\"", JsonFault::NotAMap),
         _ => return None,
     })
+}
+
+fn shape(place: usize) -> JsonFault {
+    let fault = ItemFault::Shape;
+    JsonFault::Item { place, fault }
+}
+
+fn range(place: usize) -> JsonFault {
+    let fault = ItemFault::Range;
+    JsonFault::Item { place, fault }
 }
 
 // The fault of a text's value as a map, if it has one.

@@ -29,15 +29,22 @@ fn main(rt: HostRuntime) -> io::Result<()> {
         mark(rt.alloc(), BEGIN);
         let ended = run(rt.alloc(), name);
         mark(rt.alloc(), IDLE);
-        match ended.map(|ended| ended.unwrap_or_else(|outcome| outcome)) {
-            Some(Outcome::Answered) => println!(rt; "{name}: answered")?,
-            Some(Outcome::AnsweredWithRoom(room)) => println!(rt; "{name}: answered, room {room}")?,
-            Some(Outcome::Refused) => println!(rt; "{name}: refused")?,
-            Some(Outcome::Wrong(what)) => println!(rt; "{name}: WRONG: {what}")?,
+        match ended {
+            Some(Ok(outcome)) => report(&rt, name, outcome)?,
+            Some(Err(outcome)) => report(&rt, name, outcome)?,
             None => println!(rt; "{name}: unknown")?,
         }
     }
     Ok(())
+}
+
+fn report(rt: &impl Print, name: &str, outcome: Outcome) -> io::Result<()> {
+    match outcome {
+        Outcome::Answered => println!(rt; "{name}: answered"),
+        Outcome::AnsweredWithRoom(room) => println!(rt; "{name}: answered, room {room}"),
+        Outcome::Refused => println!(rt; "{name}: refused"),
+        Outcome::Wrong(what) => println!(rt; "{name}: WRONG: {what}"),
+    }
 }
 
 fn mark(alloc: Global, size: usize) {
@@ -46,10 +53,21 @@ fn mark(alloc: Global, size: usize) {
 
 // Runs the scenario of a name, if there is one.
 fn run(alloc: Global, name: &str) -> Option<Ended> {
-    read::run(alloc, name)
-        .or_else(|| session::run(alloc, name))
-        .or_else(|| tables::run(alloc, name))
-        .or_else(|| json::run(alloc, name))
-        .or_else(|| json_faults::run(alloc, name))
-        .or_else(|| derived::run(alloc, name))
+    let mut ended = read::run(alloc, name);
+    if ended.is_none() {
+        ended = session::run(alloc, name);
+    }
+    if ended.is_none() {
+        ended = tables::run(alloc, name);
+    }
+    if ended.is_none() {
+        ended = json::run(alloc, name);
+    }
+    if ended.is_none() {
+        ended = json_faults::run(alloc, name);
+    }
+    if ended.is_none() {
+        ended = derived::run(alloc, name);
+    }
+    ended
 }

@@ -53,10 +53,19 @@ where
     let (done, rest) = done_of(&space, answers);
     let is_all = done == answers.len();
     match (status, rest.strip_prefix(b"no memory\n".as_slice())) {
-        (0, None) => answered(is_all && rest.iter().all(|byte| *byte == 0)),
-        (3, Some(rest)) if !is_all && rest.iter().all(|byte| *byte == 0) => Err(Outcome::Refused),
+        (0, None) => answered(is_all && is_blank(rest)),
+        (3, Some(rest)) if !is_all && is_blank(rest) => Err(Outcome::Refused),
         _ => Err(Outcome::Wrong("another status, or other answers before it")),
     }
+}
+
+fn is_blank(rest: &[u8]) -> bool {
+    for byte in rest {
+        if *byte != 0 {
+            return false;
+        }
+    }
+    true
 }
 
 // How many of the answers stand first, one behind the other, and what follows them.

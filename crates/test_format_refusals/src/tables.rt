@@ -55,7 +55,10 @@ fn write_names(alloc: Global) -> Ended {
 
 // The table of the pairs, whose keys rise.
 fn table() -> Result<NameTable<'static>, Outcome> {
-    NameTable::new(WRITTEN).map_err(|_| Outcome::Wrong("no table"))
+    match NameTable::new(WRITTEN) {
+        Ok(table) => Ok(table),
+        Err(_) => Err(Outcome::Wrong("no table")),
+    }
 }
 
 fn name_index(alloc: Global) -> Ended {

@@ -84,8 +84,16 @@ impl Answer {
 
     /// Writes where a key is, or would go.
     pub fn index(&mut self, index: Result<usize, usize>) {
-        self.word(if index.is_ok() { "ok" } else { "err" });
-        self.show(index.unwrap_or_else(|index| index));
+        match index {
+            Ok(index) => {
+                self.word("ok");
+                self.show(index);
+            }
+            Err(index) => {
+                self.word("err");
+                self.show(index);
+            }
+        }
     }
 
     /// Writes whether there was room.
@@ -113,7 +121,7 @@ impl Answer {
 const SHOWN: usize = 6;
 
 /// Pairs as they are written: a few by themselves, and many by their number and a sum.
-#[derive(Clone, Copy, PartialEq)]
+#[derive(Clone, Copy)]
 pub struct Pairs {
     order: Order,
     len: u64,
@@ -180,6 +188,11 @@ impl Pairs {
             pairs.add(key, value);
         }
         pairs
+    }
+
+    /// Whether these are as many, with the same sum.
+    pub fn is_same(&self, other: &Pairs) -> bool {
+        self.len == other.len && self.sum == other.sum
     }
 
     /// How many there are.

@@ -92,7 +92,7 @@ impl<S: Tested<Key, Value>> Bench<S> {
         let compared = call.seen.compared.get();
         let after = self.pairs(line);
         to.word("|");
-        if before.pairs == after {
+        if before.pairs.is_same(&after) {
             to.word("same");
         } else {
             to.show(after);
@@ -106,7 +106,7 @@ impl<S: Tested<Key, Value>> Bench<S> {
             *self = Bench::new(call.alloc);
             call.idle();
         }
-        let is_bounded = line.most.is_none_or(|most| compared <= most);
+        let is_bounded = compared <= line.most.unwrap_or(u32::MAX);
         Outcome {
             is_right: to.text() == line.wanted && is_bounded && !leaks,
             compared,

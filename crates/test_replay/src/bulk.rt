@@ -7,7 +7,8 @@ use crate::call::{Call, Made, Map, Pair};
 use crate::counted::{Key, Value};
 use crate::tested::Tested;
 use litemap::LiteMap;
-use litemap::store::{ColumnStore, Count, Store};
+use litemap::store::{Count, Store};
+use litemap_columns::ColumnStore;
 use litemap_read::{PairSource, ReadFault, extend_from_source, read_pairs};
 use std::vec::IntoIter;
 
@@ -131,7 +132,13 @@ fn read<S: Tested<Key, Value>>(map: &mut Map<S>, call: &Call<'_>, to: &mut Answe
     };
     call.begin();
     let outcome = match call.name {
-        "read_pairs" => read_pairs(call.alloc, &mut source).map(|read| *map = read),
+        "read_pairs" => match read_pairs(call.alloc, &mut source) {
+            Ok(read) => {
+                *map = read;
+                Ok(())
+            }
+            Err(fault) => Err(fault),
+        },
         "extend_from_source" => extend_from_source(call.alloc, map, &mut source),
         _ => return None,
     };

@@ -13,7 +13,10 @@ use std::hash::{FoldHasher, Hash, Hasher};
 pub fn copy<S: Tested<Key, Value>>(map: &Map<S>, call: &Call<'_>, to: &mut Answer) -> Made {
     let alloc = call.alloc;
     let made = match call.name {
-        "try_clone" => map.try_clone(alloc).map(|clone| Pairs::of_map(&clone)),
+        "try_clone" => match map.try_clone(alloc) {
+            Ok(clone) => Ok(Pairs::of_map(&clone)),
+            Err(_) => Err(AllocError),
+        },
         "to_boxed_keys_values" => pairs_of::<Box<Key>, Box<Value>>(map.to_boxed_keys_values(alloc)),
         "to_boxed_keys" => pairs_of::<Box<Key>, Value>(map.to_boxed_keys(alloc)),
         "to_boxed_values" => pairs_of::<Key, Box<Value>>(map.to_boxed_values(alloc)),

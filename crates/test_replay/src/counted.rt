@@ -38,7 +38,7 @@ fn lower(number: &Cell<u32>) {
 }
 
 /// How keys are written, and in which order they lie.
-#[derive(Clone, Copy, Debug, PartialEq)]
+#[derive(Clone, Copy)]
 pub enum Order {
     /// Numbers.
     Number,

@@ -6,12 +6,12 @@ use crate::counted::{Key, Order, Seen, Value};
 use crate::line::{self, Line};
 use crate::looks::{vector, view};
 use crate::walks::lent;
+use example_store::fixed_room::FixedRoom;
 use litemap_columns::ColumnStore;
 use litemap_short::ShortStore;
 use std::alloc::{AllocError, Global};
 use std::rc::Rc;
 use std::{fs, io};
-use test_support::fixed_room::FixedRoom;
 
 // The names of the stores, in their order below.
 const STORES: [&str; 4] = ["vec", "columns", "short", "fixed"];
@@ -77,8 +77,11 @@ impl Replay {
             return true;
         }
         if let Some(names) = text.strip_prefix("on ") {
-            for (is_on, store) in self.is_on.iter_mut().zip(STORES) {
-                *is_on = names.split(' ').any(|name| name == store);
+            self.is_on = [false; 4];
+            for name in names.split(' ') {
+                for (is_on, store) in self.is_on.iter_mut().zip(STORES) {
+                    *is_on |= name == store;
+                }
             }
             return true;
         }

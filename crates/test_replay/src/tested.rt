@@ -3,6 +3,7 @@ use crate::answer::Answer;
 use crate::call::{Call, Map};
 use crate::counted::{Key, Value};
 use crate::{bulk, changes, copies, entries, looks, walks};
+use example_store::fixed_room::FixedRoom;
 use litemap::LiteMap;
 use litemap::store::{
     StoreBulkMut, StoreConstEmpty, StoreFromIterable, StoreFromIterator, StoreIntoIterator,
@@ -10,7 +11,6 @@ use litemap::store::{
 use litemap_columns::ColumnStore;
 use litemap_short::ShortStore;
 use std::alloc::AllocError;
-use test_support::fixed_room::FixedRoom;
 
 /// A store whose calls, and those of a map over it, are made.
 pub trait Tested<K: Ord + Drop, V: Drop>: StoreConstEmpty<K, V>

@@ -50,9 +50,8 @@ fn show_borrowed<'k>(
     borrowed: &mut Borrowed<'k>,
     name: &'k str,
 ) -> io::Result<()> {
-    let found = borrowed::pair_of(borrowed, name);
     let removed = borrowed::remove_borrowed(borrowed, name);
-    println!(rt; "{name}: borrowed {found:?}, removed {removed:?}")
+    println!(rt; "{name}: borrowed, removed {removed:?}")
 }
 
 // The headers of three fields, of which the first has this name.

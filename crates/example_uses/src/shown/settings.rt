@@ -1,5 +1,5 @@
 //! A configuration.
-use crate::config::{Settings, configured, overlay, override_with, prefer};
+use crate::config::{configured, overlay, override_with, prefer};
 use std::alloc::{AllocError, Global};
 
 const DEFAULTS: &[(&str, &str)] = &[("port", "80"), ("host", "here"), ("log", "off")];

@@ -58,12 +58,6 @@ impl<K: Ord + Drop, V: Drop, S: StoreFromIterable<K, V>> LiteMap<K, V, S> {
     ///
     /// It answers as `from_iter` does, but takes the vector as it is: over a vector no pair moves where they rise, and over it
     /// and two columns nothing is gathered. What it leaves is told by the vector's list. No pair is never refused.
-    ///
-    /// ```rust
-    /// let pairs = [(2, "Tue"), (1, "Mon"), (2, "Tuesday")].to_vec(alloc)?;
-    /// let days: Days = LiteMap::from_vec(alloc, pairs)?;
-    /// Ok(days.as_slice() == [(1, "Mon"), (2, "Tuesday")].as_slice())
-    /// ```
     pub fn from_vec(alloc: Global, pairs: Vec<(K, V)>) -> Result<Self, AllocError>
         ensures made { IfOk result (λ m. Last K.cmp pairs.items m.pairs) }
         ensures succeeds { pairs.items ≡ [] → IsOk result }
@@ -145,13 +139,6 @@ impl<K: Ord + Drop, V: Drop, S: StoreBulkMut<K, V>> LiteMap<K, V, S> {
     /// It answers as `extend` does, by as many comparisons, but takes the vector as it is, and nothing is gathered. What it
     /// leaves is told by the vector's list. A refusal leaves the list, and the vector is given up. Where its keys rise past the
     /// last one, and there is room for all, it is never refused. Nothing is promised of the room after it.
-    ///
-    /// ```rust
-    /// let mut days = three_days(alloc)?;
-    /// let more = [(5, "Fri"), (2, "Tue"), (5, "Freitag")].to_vec(alloc)?;
-    /// days.extend_from_vec(alloc, more)?;
-    /// Ok(days.get(&5) == Some(&"Freitag") && days.len() == 4)
-    /// ```
     pub fn extend_from_vec(&mut self, alloc: Global, pairs: Vec<(K, V)>) -> Result<(), AllocError>
         ensures last { OnOk result (Last K.cmp (self.old.pairs ++ pairs.items) self.new.pairs) }
         ensures refused { OnErr result (self.new.pairs ≡ self.old.pairs) }

@@ -227,11 +227,6 @@ impl<K: Ord, V, S: StoreMut<K, V>> LiteMap<K, V, S> {
 
     /// Takes out a pair for whose key `f` answers `Equal`, and answers its value (own). Its key is given up. It asks `f` as
     /// `get_by` does, and moves the pairs with greater keys down by one.
-    ///
-    /// ```rust
-    /// let mut days = three_days(alloc)?;
-    /// Ok(days.remove_by(|number| number.cmp(&3)) == Some("Wednesday"))
-    /// ```
     pub fn remove_by<F: FnMut(&K) -> Ordering>(&mut self, f: F) -> Option<V>
     where
         K: Drop,
@@ -247,12 +242,6 @@ impl<K: Ord, V, S: StoreMut<K, V>> LiteMap<K, V, S> {
     }
 
     /// Gives up all pairs. There is room for as many then.
-    ///
-    /// ```rust
-    /// let mut days = three_days(alloc)?;
-    /// days.clear();
-    /// Ok(days.is_empty())
-    /// ```
     pub fn clear(&mut self)
     where
         K: Drop,

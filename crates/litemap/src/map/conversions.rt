@@ -17,12 +17,6 @@ use std::marker::PhantomData;
 
 impl<K: Ord, V, S: Store<K, V>> LiteMap<K, V, S> {
     /// A map of boxes of clones of the keys and values, or a refusal for want of memory. No keys are compared.
-    ///
-    /// ```rust
-    /// // hours: 1 8, 3 10
-    /// let boxed: VecMap<Box<u32>, Box<u8>> = hours.to_boxed_keys_values(alloc)?;
-    /// Ok(boxed.values().len() == 2)
-    /// ```
     pub fn to_boxed_keys_values<B: StoreMut<Box<K>, Box<V>> + Drop>(
         &self,
         alloc: Global,

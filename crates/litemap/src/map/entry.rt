@@ -46,14 +46,6 @@ impl<K: Ord, V, S: StoreMut<K, V>> LiteMap<K, V, S> {
     /// The entry of a key. Where an equal key is there, that key stays, and the new one is given up.
     ///
     /// It takes no memory, and changes nothing. It makes O(log n) comparisons; what is then done through the entry makes none.
-    ///
-    /// ```rust
-    /// // days: 1 Monday, 3 Wednesday, 5 Friday
-    /// match days.entry(1) {
-    ///     Entry::Occupied(_) => Ok(true),
-    ///     Entry::Vacant(_) => Ok(false),
-    /// }
-    /// ```
     pub fn entry(&mut self, key: K) -> Entry<'_, K, V, S>
     where
         K: Drop,
@@ -124,11 +116,6 @@ impl<'a, K: Ord, V, S: StoreMut<K, V>> Entry<'a, K, V, S> {
 
     /// The value, to be written. Where the key is not there, what `default` answers is placed first, with the moves of
     /// `or_insert`; else it is not called.
-    ///
-    /// ```rust
-    /// // days: 1 Monday, 3 Wednesday, 5 Friday
-    /// Ok(*days.entry(6).or_insert_with(|| "Saturday")? == "Saturday")
-    /// ```
     pub fn or_insert_with<F: FnOnce() -> V>(self, default: F) -> Result<&'a mut V, NoRoom<(K, V)>>
         requires { entry_value self ≡ None → F.pre default }
         ensures* writes_back { sem 𝓛 (EntryLends K.row V.row S.row self.entry result) }

@@ -42,12 +42,6 @@ impl<'a, K: Ord + 'a, V: 'a, S: StoreIterable<'a, K, V>> LiteMap<K, V, S> {
     }
 
     /// All keys once, in their order, from both ends, then `None` for good.
-    ///
-    /// ```rust
-    /// // days: 1 Monday, 3 Wednesday, 5 Friday
-    /// let mut numbers = days.keys();
-    /// numbers.next() == Some(&1) && numbers.next_back() == Some(&5) && numbers.len() == 1
-    /// ```
     pub fn keys(&'a self) -> KeysIterWrap<'a, K, V, S::KeyValueIter>
         ensures { S.KeyValueIter.rest result ≡ self.now.pairs }
     {
@@ -85,11 +79,6 @@ impl<'a, K: Ord + 'a, V: 'a, S: StoreIterable<'a, K, V>> IntoIterator for &'a Li
 }
 
 /// All pairs once, in the order of their keys, handed over.
-///
-/// ```rust
-/// // days: 1 Monday, 3 Wednesday, 5 Friday
-/// days.into_iter().next() == Some((1, "Monday"))
-/// ```
 impl<K: Ord + Drop, V: Drop, S: StoreIntoIterator<K, V>> IntoIterator for LiteMap<K, V, S> {
     type Item = (K, V);
 

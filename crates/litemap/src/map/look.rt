@@ -38,11 +38,6 @@ impl<K: Ord, V, S: Store<K, V>> LiteMap<K, V, S> {
     }
 
     /// The pair at a place, `None` from the length on.
-    ///
-    /// ```rust
-    /// // days: 1 Monday, 3 Wednesday, 5 Friday
-    /// days.get_indexed(1) == Some((&3, &"Wednesday")) && days.get_indexed(3).is_none()
-    /// ```
     pub fn get_indexed(&self, index: usize) -> Option<(&K, &V)>
         ensures { option_map deref_pair result ≡ slice_get self.now.pairs index }
     {
@@ -91,11 +86,6 @@ impl<K: Ord, V, S: Store<K, V>> LiteMap<K, V, S> {
 
     /// The pair with an equal key, if there is one: the key that is there, where equal keys differ (own). It makes O(log n)
     /// comparisons.
-    ///
-    /// ```rust
-    /// // days: 1 Monday, 3 Wednesday, 5 Friday
-    /// days.get_key_value(&3) == Some((&3, &"Wednesday")) && days.get_key_value(&4).is_none()
-    /// ```
     pub fn get_key_value<Q: Query<K>>(&self, key: Q) -> Option<(&K, &V)>
         ensures { option_map deref_pair result ≡ at Q.order self.now.pairs (Q.sought key) }
     {
@@ -135,11 +125,6 @@ impl<K: Ord, V, S: Store<K, V>> LiteMap<K, V, S> {
 
     /// The value of the pair with an equal key, which has to be there. It makes O(log n) comparisons. The Rust crate has the
     /// operator `[]` here, which panics where there is no such pair.
-    ///
-    /// ```rust
-    /// // days: 1 Monday, 3 Wednesday, 5 Friday
-    /// days.contains_key(&5) && *days.index(&5) == "Friday"
-    /// ```
     pub fn index<Q: Query<K>>(&self, key: Q) -> &V
         requires { IsSome (at Q.order self.now.pairs (Q.sought key)) }
         ensures { Some result.now ≡ value_at Q.order self.now.pairs (Q.sought key) }

@@ -30,11 +30,6 @@ impl<K: Ord, V, S: StoreSlice<K, V>> LiteMap<K, V, S> {
     }
 
     /// All the pairs as a map that borrows them.
-    ///
-    /// ```rust
-    /// // days: 1 Monday, 3 Wednesday, 5 Friday
-    /// days.as_sliced().get(&3) == Some(&"Wednesday")
-    /// ```
     pub fn as_sliced(&self) -> LiteMap<K, V, SliceStore<'_, K, V>>
         ensures { result.pairs ≡ self.now.pairs }
     {

@@ -11,11 +11,6 @@ use litemap_store::store::{Count, StoreMut};
 impl<K: Ord, V, S: StoreMut<K, V>> LiteMap<K, V, S> {
     /// Takes out the pair with an equal key, and answers it whole: the key that was there, where equal keys differ (own). It
     /// makes O(log n) comparisons, and moves the pairs with greater keys down by one.
-    ///
-    /// ```rust
-    /// let mut days = three_days(alloc)?;
-    /// Ok(days.remove_entry(&3) == Some((3, "Wednesday")) && days.remove_entry(&3).is_none())
-    /// ```
     pub fn remove_entry<Q: Query<K>>(&mut self, key: Q) -> Option<(K, V)>
         ensures pair { result ≡ at Q.order self.old.pairs (Q.sought key) }
         ensures cut { self.new.pairs ≡ cut Q.order self.old.pairs (Q.sought key) }
@@ -27,11 +22,6 @@ impl<K: Ord, V, S: StoreMut<K, V>> LiteMap<K, V, S> {
 
     /// Takes out the pair with the smallest key, and answers it; `None` where there is no pair (own). It compares no keys, and
     /// moves all other pairs down by one.
-    ///
-    /// ```rust
-    /// let mut days = three_days(alloc)?;
-    /// Ok(days.pop_first() == Some((1, "Monday")) && days.first() == Some((&3, &"Wednesday")))
-    /// ```
     pub fn pop_first(&mut self) -> Option<(K, V)>
         ensures first { result ≡ slice_get self.old.pairs 0 }
         ensures others { self.new.pairs ≡ drop 1 self.old.pairs }

@@ -67,14 +67,6 @@ impl<K: Ord, V, S: StoreMut<K, V>> LiteMap<K, V, S> {
     }
 
     /// The value at a place, to be written; `None` from the length on. It stands in place of the Rust crate's `iter_mut`.
-    ///
-    /// ```rust
-    /// let mut days = three_days(alloc)?;
-    /// if let Some(name) = days.get_indexed_mut(0) {
-    ///     *name = "Mon";
-    /// }
-    /// Ok(days.first() == Some((&1, &"Mon")))
-    /// ```
     pub fn get_indexed_mut(&mut self, index: usize) -> Option<&mut V>
         ensures* writes_back { sem 𝓛
             (LendsPlace K.row V.row S.row K.Ord S.pairs S.room self.entry index result) }

@@ -36,14 +36,6 @@ impl<'a, K: Ord, V, S: StoreMut<K, V>> OccupiedEntry<'a, K, V, S> {
     }
 
     /// The value, to be written.
-    ///
-    /// ```rust
-    /// // days: 1 Monday, 3 Wednesday, 5 Friday
-    /// if let Entry::Occupied(mut entry) = days.entry(3) {
-    ///     *entry.get_mut() = "Wed";
-    /// }
-    /// days.get(&3) == Some(&"Wed")
-    /// ```
     pub fn get_mut(&mut self) -> &mut V
         ensures* writes_back { sem 𝓛 (OccupiedLends K.row V.row S.row self.entry result) }
         ensures value { entry_value (Occupied self.old) ≡ Some result.now }
@@ -55,14 +47,6 @@ impl<'a, K: Ord, V, S: StoreMut<K, V>> OccupiedEntry<'a, K, V, S> {
     }
 
     /// The value, to be written as long as the map is borrowed.
-    ///
-    /// ```rust
-    /// // days: 1 Monday, 3 Wednesday, 5 Friday
-    /// if let Entry::Occupied(entry) = days.entry(3) {
-    ///     *entry.into_mut() = "W";
-    /// }
-    /// days.get(&3) == Some(&"W")
-    /// ```
     pub fn into_mut(self) -> &'a mut V
         ensures* writes_back { sem 𝓛 (IntoLends K.row V.row S.row self.entry result) }
         ensures value { entry_value (Occupied self.entry) ≡ Some result.now }

@@ -1,0 +1,292 @@
+"""Maps as JSON: the rows `TYPES TEXT`, and what answers each.
+
+The rows are those below, written by hand with their answers; for each type of whole numbers its ends, one past
+each, and other spellings, as keys in arrays, as names in objects and as items; and long texts and maps of up to 1,000 pairs,
+with faults at early and late places. No answer is the program's own: those of whole numbers are told by Python's integers,
+and those of long maps by Python's order. The program reads each row over a vector and
+over two columns, but those of `limits`, which are the rows of `levels` again, and of `names`.
+"""
+
+WHOLE = {f"{kind}{bits}": (0 if kind == "u" else -(2 ** (bits - 1)), 2 ** (bits if kind == "u" else bits - 1) - 1)
+         for kind in "ui" for bits in (8, 16, 32, 64)}
+
+NOT_A_MAP = "a map is an object or an array of [key, item] arrays, and this value is neither"
+SHAPE = "it is a JSON value of another kind than the type's"
+RANGE = "it is a whole number outside of the type's range"
+FLOAT = "it is a number with a fraction or an exponent, `-0`, or a number of more than 64 bits"
+
+
+def not_a_pair(place):
+    return f"the element at place {place} (from 0) is not an array of exactly a key and an item"
+
+
+def key_text(place):
+    return f"the name of the member at place {place} (from 0, by the byte order of the names) is not a key's text"
+
+
+def key(place, fault):
+    return f"the key at place {place} (from 0): {fault}"
+
+
+def item(place, fault):
+    return f"the item at place {place} (from 0): {fault}"
+
+
+def no_text(place):
+    fault = f"the key at place {place} (from 0) has no text, and the first key has one: give all keys a text, or none"
+    return f"{fault}; a key has no text in JSON, and the first key has one"
+
+
+TONGUES = ('[[[1,"en"],"one"],[[1,"zh"],"一"],[[2,"en"],"two"],[[2,"zh"],"二"],[[4,"en"],"four"],[[5,"en"],"five"],'
+           '[[5,"zh"],"五"],[[7,"zh"],"七"]]')
+MIXED = ('[[[5,"zh"],"五"],[[1,"zh"],"一"],[[7,"zh"],"七"],[[2,"en"],"two"],[[1,"en"],"one"],[[4,"en"],"four"],'
+         '[[2,"zh"],"二"],[[5,"en"],"five"]]')
+
+# The answer None stands for the text itself.
+ROWS = [
+    # an object where the first key has a text, with its members in the byte order of their names
+    ("words", '[[1,"jat"],[4,"sei"],[3,"saam"],[2,"ji"]]', '{"1":"jat","2":"ji","3":"saam","4":"sei"}'),
+    ("words", '[[10,"ten"],[2,"two"]]', '{"10":"ten","2":"two"}'),
+    ("words", '{"10":"ten","2":"two"}', None),
+    ("words", ' { "2" : "two" , "10" : "ten" } ', '{"10":"ten","2":"two"}'),
+    ("words", '{"1":"one","2":"two","4":"four","5":"five"}', None),
+    # else an array, in the order of the keys
+    ("tongues", TONGUES, None),
+    ("tongues", MIXED, TONGUES),
+    ("tongues", '{"1":"one"}', key_text(0)),
+    # the empty map
+    ("words", "[]", None), ("words", "{}", "[]"), ("tongues", "{}", "[]"), ("flags", "[]", None), ("flags", "{}", "[]"),
+    # of equal keys the last pair stays
+    ("flags", "[[true,1],[true,5]]", '{"true":5}'),
+    ("tongues", '[[[1,"a"],"x"],[[0,"b"],"y"],[[1,"a"],"z"]]', '[[[0,"b"],"y"],[[1,"a"],"z"]]'),
+    # no maps
+    *[("u32", text, NOT_A_MAP) for text in ("7", "null", "true", '"x"', "2.5")],
+    ("words", "[[1,", "no JSON"), ("words", "", "no JSON"), ("words", '{"1":"a"', "no JSON"), ("words", "[] []", "no JSON"),
+    # the first fault: the pair's shape, then the key, then the item
+    ("words", '[[1,"a"],[2]]', not_a_pair(1)),
+    ("u32", "[[1,2.5]]", item(0, FLOAT)),
+    ("u32", "[[-1,3]]", key(0, RANGE)),
+    ("u8", '{"300":1}', key_text(0)),
+    ("u32", "[[-1,2.5]]", key(0, RANGE)),
+    ("u32", '{"x":2.5}', key_text(0)),
+    ("words", '{"1":"a","2":7}', item(1, SHAPE)),
+    ("words", '{"1":"a","x":"b"}', key_text(1)),
+    ("words", '{"x":"b","1":7}', item(0, SHAPE)),
+    # keys of which some have a text
+    ("evens", '[[2,"a"],[3,"b"]]', no_text(1)),
+    ("evens", '[[4,"a"],[2,"b"],[6,"c"],[7,"d"],[9,"e"]]', no_text(3)),
+    ("evens", '[[1,"a"],[2,"b"]]', None),
+    ("evens", '[[2,"b"],[1,"a"],[4,"c"]]', '[[1,"a"],[2,"b"],[4,"c"]]'),
+    ("evens", '[[2,"a"],[4,"b"]]', '{"2":"a","4":"b"}'),
+    ("evens", '{"2":"a","3":"b"}', key_text(1)),
+    # truth values: their texts are names, and arrays stay readable
+    ("flags", "[[true,1],[false,2]]", '{"false":2,"true":1}'),
+    ("flags", "[[false,2],[true,1]]", '{"false":2,"true":1}'),
+    ("flags", '{"true":1,"false":2}', '{"false":2,"true":1}'),
+    ("flags", "[[false,2]]", '{"false":2}'),
+    *[("flags", '{"%s":1}' % name, key_text(0)) for name in ("True", "FALSE", "true ", "tru", "1", "0", "", "null")],
+    *[("flags", f"[[{word},1]]", key(0, SHAPE)) for word in ("0", "1", '"true"', "null", "[]", "{}")],
+    *[("bool", f"[[true,{word}]]", item(0, SHAPE)) for word in ("0", '"true"', "null", "[true]", "{}", "1.5")],
+    ("bool", '{"true":false,"false":true}', '{"false":true,"true":false}'),
+    # texts
+    ("text", r'{"a":"\"","b":"\\"}', None),
+    ("text", r'[["\"","a"],["\\","b"]]', r'{"\"":"a","\\":"b"}'),
+    ("text", r'{"":"","\u0000":"\u0000","\u001f":"\u007f"}', '{"":"","\\u0000":"\\u0000","\\u001f":"\x7f"}'),
+    ("text", r'{"\b\f\n\r\t":"\u0008\u000c\u000A\u000d\u0009"}', r'{"\b\f\n\r\t":"\b\f\n\r\t"}'),
+    ("text", r'{"\/":"\u002f"}', '{"/":"/"}'),
+    ("text", r'{"\ud83d\ude00":"\u00e9"}', '{"😀":"é"}'),
+    ("text", '{"😀":"𝄞","é":"字"}', '{"é":"字","😀":"𝄞"}'),
+    ("text", '{"\uffff":"1","\U00010000":"2","b":"3","a":"4","B":"5"}', '{"B":"5","a":"4","b":"3","\uffff":"1","\U00010000":"2"}'),
+    ("text", r'{"a":"\ud83d"}', "no JSON"),
+    *[("text", f'[["a",{word}]]', item(0, SHAPE)) for word in ("7", "null", "true", "[]", '{"a":"a"}')],
+    *[("text", f'[[{word},"a"]]', key(0, SHAPE)) for word in ("7", "null", "true", "[]", '["a"]')],
+    # an enum of unit variants
+    *[row for types in ("levels", "limits") for row in (
+        (types, '{"low":1,"middle":2,"high":3}', '{"high":3,"low":1,"middle":2}'),
+        (types, '[["high",3],["low",1],["high",4]]', '{"high":4,"low":1}'),
+        (types, '{"middle":2}', None), (types, "{}", "[]"), (types, "7", NOT_A_MAP), (types, "[", "no JSON"),
+        *[(types, '{"%s":1}' % name, key_text(0)) for name in ("Low", "lo", "lower", "", "0")],
+        *[(types, f"[[{word},1]]", key(0, SHAPE)) for word in ('"Low"', '""', "0", "null", '["low"]')],
+        (types, '{"low":-1}', item(0, RANGE)), (types, '{"high":1,"low":"1"}', item(1, SHAPE)))],
+    # numbers by their names
+    ("names", '{"b":2,"a":1,"":0,"ab":4294967295}', '{"":0,"a":1,"ab":4294967295,"b":2}'), ("names", '[["b",2],["b",3]]', '{"b":3}'),
+    ("names", "{}", "[]"), ("names", "[", "no JSON"), ("names", "7", NOT_A_MAP), ("names", '{"a":-1}', item(0, RANGE)),
+    # pairs of pairs
+    ("nested", "[[[[1,true],\"x\"],[7,[false,-8]]]]", None),
+    ("nested", '[[[[1,true],"x"],[7,[false,-8]]],[[[1,false],"y"],[0,[true,127]]],[[[0,true],"z"],[1,[true,0]]]]',
+     '[[[[0,true],"z"],[1,[true,0]]],[[[1,false],"y"],[0,[true,127]]],[[[1,true],"x"],[7,[false,-8]]]]'),
+    ("nested", '[[[[256,1],"x"],[7,[false,-8]]]]', key(0, RANGE)),
+    ("nested", '[[[[1,1],7],[7,[false,-8]]]]', key(0, SHAPE)),
+    ("nested", '[[[[1,true,2],"x"],[7,[false,-8]]]]', key(0, SHAPE)),
+    ("nested", '[[[[1],"x"],[7,[false,-8]]]]', key(0, SHAPE)),
+    ("nested", '[[[{"1":true},"x"],[7,[false,-8]]]]', key(0, SHAPE)),
+    ("nested", '[[[[1,true],"x"],[7,[false,-129]]]]', item(0, RANGE)),
+    ("nested", '[[[[1,true],"x"],[7.5,[0,-129]]]]', item(0, FLOAT)),
+    ("nested", '[[[[1,true],"x"],[7,[false,1e1]]]]', item(0, FLOAT)),
+    ("nested", '[[[[1,true],"x"],[]]]', item(0, SHAPE)),
+]
+
+
+def bad_elements():
+    """A bad element at each place of three, and at two places."""
+    bad = [(text, not_a_pair) for text in ("5", "[]", "[1]", '[1,"a",2]', "null", '{"1":"a"}')]
+    bad += [(text, lambda place: key(place, SHAPE)) for text in ('["x","a"]', '["x",7]', '[null,"a"]')]
+    bad += [('[4294967296,"a"]', lambda place: key(place, RANGE)), ('[1.5,"a"]', lambda place: key(place, FLOAT))]
+    bad += [(text, lambda place: item(place, SHAPE)) for text in ("[1,7]", "[1,null]")]
+    good = ['[1,"a"]', '[2,"b"]', '[3,"c"]']
+    for text, fault in bad:
+        for place in range(3):
+            yield "words", "[" + ",".join([*good[:place], text, *good[place + 1:]]) + "]", fault(place)
+    for first, fault in bad:
+        for second, _ in bad:
+            yield "words", f"[{first},[2,\"b\"],{second}]", fault(0)
+
+
+def whole_numbers():
+    """Each type's ends, one past them, and other spellings."""
+    for types, (least, most) in WHOLE.items():
+        for number in sorted({least - 1, least, least + 1, -1, 0, 1, most - 1, most, most + 1, 2**63, 2**64 - 1, 2**64}):
+            held = -(2**63) <= number < 2**64
+            fits = least <= number <= most
+            fault = RANGE if held else FLOAT
+            yield types, f"[[{number},0]]", f'{{"{number}":0}}' if fits else key(0, fault)
+            yield types, f"[[0,{number}]]", f'{{"0":{number}}}' if fits else item(0, fault)
+            yield types, f'{{"{number}":{number}}}', None if fits else key_text(0)
+        for text in ("1.0", "-0", "1e2", "0.5", "-1.5", "1E2", "-0.0"):
+            yield types, f"[[{text},0]]", key(0, FLOAT)
+            yield types, f'{{"0":{text}}}', item(0, FLOAT)
+        for text in ("null", "true", '"1"', "[1]", '{"1":1}'):
+            yield types, f"[[{text},0]]", key(0, SHAPE)
+            yield types, f'{{"0":{text}}}', item(0, SHAPE)
+        for name in ("", "+1", "01", "00", "-0", "-01", "+0", " 1", "1 ", "1.0", "1e2", "0x1", "-", "+", "--1", "1_0", "١"):
+            yield types, f'{{"{name}":0}}', key_text(0)
+        for text in ("01", "+1", ".5", "1.", "0x1"):
+            yield types, f"[[{text},0]]", "no JSON"
+
+
+def told(wanted, found, at=""):
+    """A fault as it is shown to people."""
+    return f"{at}{wanted} is wanted, and {found} stands there"
+
+
+def told_name(wanted, name):
+    return f"the name {name} is no key's text: {wanted} is wanted"
+
+
+def told_at(part, place):
+    return f"the {part} at place {place} (from 0): "
+
+
+# A value of each kind, and what is said of it.
+KINDS = [("null", "null"), ("true", "a truth value"), ("1.5", "1.5"), ("[0]", "an array"), ("{}", "an object"), ('"x"', "a text")]
+# A key that can be written, what is wanted of keys and what of items.
+WANTED = {
+    **{types: ("0", *(f"a whole number of {types[1:]} bits{' with a sign' if types[0] == 'i' else ''}",) * 2) for types in WHOLE},
+    "flags": ("true", "a truth value", "a truth value"),
+    "words": ("0", "a whole number of 32 bits", "a text"),
+    "levels": ("low", "low, middle or high", "low, middle or high"),
+    "evens": ("2", "a value of the type", "a value of the type"),
+}
+ROW = "an array of exactly a key and an item"
+MAP = "an object or an array of [key, item] arrays"
+
+
+def told_faults():
+    """Faults as they are shown to people: by name in an object, by place in an array."""
+    for types, (name, first, second) in WANTED.items():
+        written = f'"{name}"' if types == "levels" else name
+        for text, found in KINDS:
+            if found != second:
+                yield f"told {types}", f'{{"{name}":{text}}}', told(second, found, f'"{name}": ')
+                yield f"told {types}", f"[[{written},{text}]]", told(second, found, told_at("item", 0))
+            if found != first:
+                yield f"told {types}", f"[[{text},0]]", told(first, found, told_at("key", 0))
+            if text != "[0]":
+                yield f"told {types}", f"[{text}]", told(ROW, found, told_at("element", 0))
+        yield f"told {types}", '{"x y":0}', told_name(first, '"x y"')
+        yield f"told {types}", "7", told(MAP, "7")
+        yield f"told {types}", "[]", "a map"
+        yield f"told {types}", "[", "no JSON"
+    for types in ("u8", "i8", "u16", "i16", "u32", "i32"):
+        least, most = WHOLE[types]
+        for number in (least - 1, most + 1):
+            yield f"told {types}", f'{{"1":{number}}}', told(WANTED[types][2], number, '"1": ')
+    ports = '{"host":8080,"port":%s}'
+    wanted = "a whole number of 16 bits"
+    yield "told ports", ports % '"x"', told(wanted, "a text", '"port": ')
+    yield "told ports", ports % 65536, told(wanted, 65536, '"port": ')
+    yield "told ports", ports % -1, told(wanted, -1, '"port": ')
+    yield "told ports", ports % 65535, "a map"
+    yield "told ports", r'{"a\"b":null}', told(wanted, "null", r'"a\"b": ')
+    two = "an array of exactly two, each of its type,"
+    yield "told tongues", '[[7,"one"]]', told(two, "7", told_at("key", 0))
+    yield "told tongues", '[[[1,"en"],"one"],[[1,7],"one"]]', told(two, "an array", told_at("key", 1))
+    yield "told tongues", '{"1":"one"}', told_name(two, '"1"')
+    yield "told elsewhere", '{"1":null}', f"{item(0, SHAPE)}; an item in JSON is not of its type"
+    yield "told elsewhere", '[[1,1],[2,300,3]]', f"{not_a_pair(1)}; an element in JSON is not a key and an item"
+    yield "told elsewhere", '{"x":0}', f"{key_text(0)}; a name in JSON is not a key's text"
+    yield "told elsewhere", '[[null,0]]', f"{key(0, SHAPE)}; a key in JSON is not of its type"
+    yield "told elsewhere", "7", f"{told(MAP, 'null')}; a JSON value is no map"
+    for place in (1, 19, 20, 51, 101, 999):
+        good = [(str(number), f'"{number}"') for number in range(1000, 1002 + place)]
+        members = [(text, value if text < str(1000 + place) else "0") for text, value in good]
+        yield "told words", object_of(members), told("a text", "0", f'"{1000 + place}": ')
+        members = [(text if text < str(1000 + place) else text + "x", value) for text, value in good]
+        yield "told words", object_of(members), told_name(WANTED["words"][1], f'"{1000 + place}x"')
+        elements = [f"[{text},{value}]" for text, value in good[:place]]
+        for element, wanted, part in (("[0]", ROW, "element"), ("[[0],0]", WANTED["words"][1], "key"), ("[0,[0]]", "a text", "item")):
+            yield "told words", array([*elements, *[element] * 2]), told(wanted, "an array", told_at(part, place))
+
+
+def array(elements):
+    return "[" + ",".join(elements) + "]"
+
+
+def object_of(members):
+    return "{" + ",".join(f'"{name}":{value}' for name, value in members) + "}"
+
+
+def long_maps():
+    """Maps of many pairs, in arrays and objects, in order and not."""
+    for count in (65, 1000):
+        numbers = [(number * 379) % count for number in range(count)]
+        answer = object_of(sorted((str(number), f'"{number}"') for number in numbers))
+        yield "words", array(f'[{number},"{number}"]' for number in numbers), answer
+        yield "words", object_of((str(number), f'"{number}"') for number in numbers), answer
+        rising = array(f'[{number + 1000},"{number}"]' for number in numbers)
+        yield "words", rising, object_of((str(number + 1000), f'"{number}"') for number in range(count))
+        pairs = [f'[[{number},"k"],"{number}"]' for number in range(count)]
+        yield "tongues", array(reversed(pairs)), array(pairs)
+
+
+def late_faults():
+    """A fault at an early place and at late ones, and at the place behind it."""
+    for place in (9, 51, 101, 999):
+        good = [(str(number), f'"{number}"') for number in range(1000, 1002 + place)]
+        elements = [f"[{name},{value}]" for name, value in good]
+        for element, fault in (("[0]", not_a_pair(place)), ('["0","0"]', key(place, SHAPE)), ("[-1,0]", key(place, RANGE)),
+                               ("[0,0]", item(place, SHAPE))):
+            yield "words", array(elements[:place] + [element] * 2), fault
+        members = [(name, value if name < str(1000 + place) else "0") for name, value in good]
+        yield "words", object_of(members), item(place, SHAPE)
+        members = [(name if name < str(1000 + place) else name + "x", value) for name, value in good]
+        yield "words", object_of(members), key_text(place)
+        evens = [f'[{2 * number},"a"]' for number in range(place)]
+        yield "evens", array([*evens, f'[{2 * place + 1},"b"]', f'[{2 * place + 3},"c"]']), no_text(place)
+
+
+def long_texts():
+    """Names and texts of few bytes and of many."""
+    for length in (1, 20, 21, 100, 101, 5000):
+        for letter in ("a", "é", '\\"'):
+            text = letter * length
+            yield "text", object_of([(text, f'"{text}"'), (text + "b", '""')]), None
+        yield "words", object_of([("0" * length + "1", '"a"')]), key_text(0)
+        yield "words", f'[[1,"{"a" * length}"]]', object_of([("1", f'"{"a" * length}"')])
+        yield "levels", object_of([("low" + "w" * length, 1)]), key_text(0)
+
+
+def rows():
+    """The lines and what answers each."""
+    rows = [*ROWS, *bad_elements(), *whole_numbers(), *long_maps(), *late_faults(), *long_texts(), *told_faults()]
+    return [(f"{types} {text}", text if answer is None else answer) for types, text, answer in rows]

@@ -1,0 +1,164 @@
+//! What answers a line.
+use crate::evens::Even;
+use crate::levels::Level;
+use crate::{limits, names, told};
+use litemap::LiteMap;
+use litemap::store::{Store, StoreBulkMut};
+use litemap_columns::ColumnStore;
+use litemap_json::{
+    JsonFault, JsonItem, JsonKey, WriteFault, Writer, from_json, to_json, write_json, write_value,
+};
+use litemap_short::ShortStore;
+use serde_json::Value;
+use std::alloc::{AllocError, Global};
+use std::io;
+
+type Map<K, V> = LiteMap<K, V, Vec<(K, V)>>;
+
+type Columns<K, V> = LiteMap<K, V, ColumnStore<K, V>>;
+
+/// What answers a line: its text at the types of this name.
+pub fn answer(alloc: Global, line: &str) -> Result<String, AllocError> {
+    let Some((types, text)) = line.split_once(' ') else {
+        return String::from_str(alloc, "no types");
+    };
+    match types {
+        "u8" => written::<u8, u8, ShortStore<u8, u8>>(alloc, text),
+        "u16" => written::<u16, u16, ShortStore<u16, u16>>(alloc, text),
+        "u32" => written::<u32, u32, ShortStore<u32, u32>>(alloc, text),
+        "u64" => written::<u64, u64, ShortStore<u64, u64>>(alloc, text),
+        "i8" => written::<i8, i8, ShortStore<i8, i8>>(alloc, text),
+        "i16" => written::<i16, i16, ShortStore<i16, i16>>(alloc, text),
+        "i32" => written::<i32, i32, ShortStore<i32, i32>>(alloc, text),
+        "i64" => written::<i64, i64, ShortStore<i64, i64>>(alloc, text),
+        "bool" => written::<bool, bool, ShortStore<bool, bool>>(alloc, text),
+        "text" => written::<String, String, ShortStore<String, String>>(alloc, text),
+        "flags" => written::<bool, u32, ShortStore<bool, u32>>(alloc, text),
+        "words" => written::<u32, String, ShortStore<u32, String>>(alloc, text),
+        "evens" => written::<Even, String, ShortStore<Even, String>>(alloc, text),
+        "tongues" => written::<(u32, String), String, ShortStore<(u32, String), String>>(
+            alloc, text,
+        ),
+        "levels" => written::<Level, u32, ShortStore<Level, u32>>(alloc, text),
+        "limits" => copied_limits(alloc, text),
+        "names" => copied_names(alloc, text),
+        "told" => told::answer(alloc, text),
+        "nested" => written::<
+            ((u8, bool), String),
+            (u32, (bool, i8)),
+            ShortStore<((u8, bool), String), (u32, (bool, i8))>,
+        >(alloc, text),
+        _ => String::from_str(alloc, "no such types"),
+    }
+}
+
+// The map that a text is read as, written as JSON: over a vector, over two columns and over a short store.
+fn written<K: JsonKey + Drop, V: JsonItem + Drop, S: StoreBulkMut<K, V>>(
+    alloc: Global,
+    text: &str,
+) -> Result<String, AllocError> {
+    let Ok(value) = Value::from_str(alloc, text) else {
+        return String::from_str(alloc, "no JSON");
+    };
+    let map: Result<Map<K, V>, JsonFault> = from_json(alloc, &value);
+    let columns: Result<Columns<K, V>, JsonFault> = from_json(alloc, &value);
+    let short: Result<LiteMap<K, V, S>, JsonFault> = from_json(alloc, &value);
+    let over_vector = shown(alloc, map.as_ref())?;
+    let over_columns = shown(alloc, columns.as_ref())?;
+    let over_short = shown(alloc, short.as_ref())?;
+    answer_of_all(alloc, over_vector, over_columns, over_short)
+}
+
+// The answer over each store, or that they differ.
+fn answer_of_all(
+    alloc: Global,
+    over_vector: String,
+    over_columns: String,
+    over_short: String,
+) -> Result<String, AllocError> {
+    let answer = over_vector.as_str();
+    if over_columns.as_str() == answer && over_short.as_str() == answer {
+        return Ok(over_vector);
+    }
+    format!(in alloc;
+        "over a vector {over_vector}, over two columns {over_columns}, over a short store {over_short}"
+    )
+}
+
+// The same over a vector, with the map sent to JSON and back before.
+fn copied_limits(alloc: Global, text: &str) -> Result<String, AllocError> {
+    let Ok(value) = Value::from_str(alloc, text) else {
+        return String::from_str(alloc, "no JSON");
+    };
+    let map = match from_json(alloc, &value) {
+        Ok(limits) => Ok(limits::copied(alloc, &limits)?),
+        Err(fault) => Err(fault),
+    };
+    shown(alloc, map.as_ref())
+}
+
+// The same of numbers by their names.
+fn copied_names(alloc: Global, text: &str) -> Result<String, AllocError> {
+    let Ok(value) = Value::from_str(alloc, text) else {
+        return String::from_str(alloc, "no JSON");
+    };
+    let map = match from_json(alloc, &value) {
+        Ok(numbers) => Ok(names::copied(alloc, &numbers)?),
+        Err(fault) => Err(fault),
+    };
+    shown(alloc, map.as_ref())
+}
+
+// The map as JSON, by `to_json` and `write_json`, or why it was not read or not written.
+fn shown<K: JsonKey, V: JsonItem, S: Store<K, V>>(
+    alloc: Global,
+    map: Result<&LiteMap<K, V, S>, &JsonFault>,
+) -> Result<String, AllocError> {
+    match map {
+        Ok(map) => match to_json(alloc, map) {
+            Ok(value) => one_text(alloc, &value, write_json(alloc, map)),
+            Err(fault) => one_fault(alloc, fault, write_json(alloc, map)),
+        },
+        Err(fault) => format!(in alloc; "{fault}"),
+    }
+}
+
+// The text of a value, which is also that of its members written by themselves, and which a map was written as.
+fn one_text(
+    alloc: Global,
+    value: &Value,
+    written: Result<String, WriteFault>,
+) -> Result<String, AllocError> {
+    let text = value.to_string(alloc)?;
+    let mut out = Writer::new(Vec::new(alloc));
+    write_parts(alloc, value, &mut out)?;
+    match written {
+        Ok(other) if other == text && out.into_inner().as_slice() == text.as_bytes() => Ok(text),
+        _ => format!(in alloc; "{text} is written otherwise"),
+    }
+}
+
+// Writes a value, and each member of an object by itself.
+fn write_parts(alloc: Global, value: &Value, out: &mut Writer) -> Result<(), AllocError> {
+    let Some(members) = value.as_object() else {
+        return write_value(alloc, value, out);
+    };
+    out.begin_object()?;
+    for (name, member) in members.iter() {
+        out.key(name.as_str())?;
+        write_value(alloc, member, out)?;
+    }
+    out.end_object()
+}
+
+// A fault, which a map was not written for, and what it says as one of std's.
+fn one_fault(
+    alloc: Global,
+    fault: WriteFault,
+    written: Result<String, WriteFault>,
+) -> Result<String, AllocError> {
+    match written {
+        Err(other) if other == fault => format!(in alloc; "{fault}; {}", io::Error::from(other)),
+        _ => format!(in alloc; "{fault}, and it is written"),
+    }
+}

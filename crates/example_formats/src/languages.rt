@@ -1,0 +1,42 @@
+//! Names of languages: those that a program has in itself, and those that a translator sends as a name table.
+//! A map is laid over the program's table for one look-up and takes no memory. The translator's bytes are read into a map
+//! whose texts are slices of them, and what such a table can't be read by is told with its place.
+ghost use Rattle.std.specs.Prelude.{◌≡◌, IfErr, IfOk};
+ghost use Rattle.litemap.specs.ByBytes.{by_bytes};
+ghost use Rattle.litemap_read.specs.ReadFault.{IfSource};
+ghost use Rattle.litemap_store.specs.Pairs.{Rising, value_at};
+ghost use Rattle.name_table.specs.Faults.{TableFault};
+ghost use Rattle.example_formats.specs.Languages.{IsNamed};
+
+use litemap::LiteMap;
+use litemap::store::SliceStore;
+use litemap_read::ReadFault;
+use name_table::{NameFault, find_name};
+use std::alloc::Global;
+
+/// The name of a language in a table of the program, whose codes rise strictly.
+pub fn own_name<'a, 'k>(table: &'a [(&'k str, &'k str)], code: &str) -> Option<&'k str>
+    requires { Rising by_bytes table.now }
+    ensures { result ≡ value_at by_bytes table.now code.entry }
+{
+    let languages = LiteMap::from_sorted_store_unchecked(SliceStore::new(table));
+    let (_, name) = languages.const_get_with_index(code)?;
+    Some(*name)
+}
+
+/// The name of a language: the translator's, or where its bytes have none the program's.
+pub fn language_name<'a>(
+    alloc: Global,
+    bytes: &'a [u8],
+    table: &[(&'a str, &'a str)],
+    code: &str,
+) -> Result<Option<&'a str>, ReadFault<NameFault>>
+    requires { Rising by_bytes table.now }
+    ensures named { IfOk result (IsNamed bytes.now table.now code.entry) }
+    ensures fault { IfErr result (λ fault. IfSource fault (TableFault bytes.now)) }
+{
+    match find_name(alloc, bytes, code)? {
+        Some((_, name)) => Ok(Some(name)),
+        None => Ok(own_name(table, code)),
+    }
+}

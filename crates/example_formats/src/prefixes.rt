@@ -1,0 +1,55 @@
+//! The names of a table that begin with a text.
+ghost use Rattle.std.specs.Prelude.{◌≡◌, filter};
+ghost use Rattle.name_index.specs.Prefixes.{begins};
+ghost use Rattle.name_index.specs.Tables.{OfTable};
+
+use name_index::{NameEntries, NameIndex, NameTable};
+use std::alloc::{AllocError, Global};
+use std::fmt::Write;
+
+/// The entries whose names begin with a text, in order.
+pub fn beginning<'a>(index: &NameIndex<'a>, text: &str) -> NameEntries<'a>
+    ensures { OfTable index.now (λ pairs. result ≡ filter (λ p. begins p.0 text.now) pairs) }
+{
+    index.entries_in(index.prefix_places(text))
+}
+
+/// Writes the places of the names that begin with a text, each of these entries, and whether a scan finds others.
+pub fn write_beginning(
+    alloc: Global,
+    text: &str,
+    bytes: &[u8],
+    output: &mut String,
+) -> Result<(), AllocError> {
+    let table = or_fault!(NameTable::new(bytes), output);
+    let index = or_fault!(NameIndex::new(alloc, &table), output);
+    let places = index.prefix_places(text);
+    write!(output, "{} to {}:", places.start, places.end)?;
+    for (name, value) in index.entries_in(places) {
+        write!(output, " {name}={value}")?;
+    }
+    if !is_scanned(&table, &index, text) {
+        output.push_str(" other names")?;
+    }
+    Ok(())
+}
+
+/// Whether an index has the names that begin with a text where a scan of its table has them.
+pub fn is_scanned(table: &NameTable<'_>, index: &NameIndex<'_>, text: &str) -> bool {
+    let places = index.prefix_places(text);
+    let mut found = beginning(index, text);
+    let mut place = 0usize;
+    for (name, value) in table {
+        let begins = name.starts_with(text);
+        if begins != (places.start <= place && place < places.end)
+            || (name < text) != (place < places.start)
+        {
+            return false;
+        }
+        if begins && found.next() != Some((name, value)) {
+            return false;
+        }
+        place = place.wrapping_add(1);
+    }
+    found.next().is_none() && places.end <= place
+}

@@ -1,0 +1,135 @@
+//! What answers a line.
+use crate::codes::{from_csv, rows_from_csv};
+use crate::config::{self, Config};
+use crate::kinds::{again, cuts, fault_word, map_again, toml_again, written};
+use crate::levels::Level;
+use crate::long::many;
+use crate::shapes::{Counts, Either, Flat, Inner, Places};
+use litemap_serde::SerdeMap;
+use litemap_short::ShortStore;
+use serde_json::Value;
+use std::alloc::{AllocError, Global};
+use std::collections::BTreeMap;
+
+/// What answers a line.
+pub fn answer(alloc: Global, line: &str) -> Result<String, AllocError> {
+    let Some((what, text)) = line.split_once(' ') else {
+        return String::from_str(alloc, "no text");
+    };
+    match what {
+        "u8" => map_again::<u8, u8, ShortStore<u8, u8>>(alloc, text),
+        "u128" => map_again::<u128, u128, ShortStore<u128, u128>>(alloc, text),
+        "i64" => map_again::<i64, i64, ShortStore<i64, i64>>(alloc, text),
+        "bool" => map_again::<bool, bool, ShortStore<bool, bool>>(alloc, text),
+        "char" => map_again::<char, char, ShortStore<char, char>>(alloc, text),
+        "text" => map_again::<String, String, ShortStore<String, String>>(alloc, text),
+        "lent" => map_again::<&str, &str, ShortStore<&str, &str>>(alloc, text),
+        "words" => map_again::<u32, String, ShortStore<u32, String>>(alloc, text),
+        _ => answer_items(alloc, what, text),
+    }
+}
+
+// The same at other types of items, and at types with maps in them.
+fn answer_items(alloc: Global, what: &str, text: &str) -> Result<String, AllocError> {
+    match what {
+        "levels" => map_again::<Level, u8, ShortStore<Level, u8>>(alloc, text),
+        "f64" => map_again::<String, f64, ShortStore<String, f64>>(alloc, text),
+        "option" => map_again::<String, Option<u32>, ShortStore<String, Option<u32>>>(alloc, text),
+        "list" => map_again::<String, Vec<u32>, ShortStore<String, Vec<u32>>>(alloc, text),
+        "tree" => map_again::<
+            String,
+            BTreeMap<String, u8>,
+            ShortStore<String, BTreeMap<String, u8>>,
+        >(alloc, text),
+        "value" => map_again::<String, Value, ShortStore<String, Value>>(alloc, text),
+        "nested" => map_again::<
+            String,
+            SerdeMap<u32, Counts, Vec<(u32, Counts)>>,
+            ShortStore<String, SerdeMap<u32, Counts, Vec<(u32, Counts)>>>,
+        >(alloc, text),
+        "vector" => again::<Vec<Counts>>(alloc, text),
+        "perhaps" => again::<Option<Counts>>(alloc, text),
+        "points" => map_again::<(i32, i32), u8, ShortStore<(i32, i32), u8>>(alloc, text),
+        "places" => again::<Places>(alloc, text),
+        _ => answer_shapes(alloc, what, text),
+    }
+}
+
+// The same at the forms of derived types, and what comes from TOML and CSV.
+fn answer_shapes(alloc: Global, what: &str, text: &str) -> Result<String, AllocError> {
+    match what {
+        "inner" => again::<Inner>(alloc, text),
+        "either" => again::<Either>(alloc, text),
+        "flat" => again::<Flat>(alloc, text),
+        "config" => json_again(alloc, text),
+        "cuts" => cuts(alloc, text),
+        "many" => many(alloc, text),
+        _ => match serde_json::from_str::<String>(alloc, text) {
+            Ok(text) => answer_text(alloc, what, text.as_str()),
+            Err(_) => String::from_str(alloc, "no text"),
+        },
+    }
+}
+
+// What a TOML or CSV text is read as, written again.
+fn answer_text(alloc: Global, what: &str, text: &str) -> Result<String, AllocError> {
+    match what {
+        "toml-text" => toml_again::<String, String>(alloc, text),
+        "toml-u32" => toml_again::<u32, u32>(alloc, text),
+        "toml-counts" => toml_again::<String, Counts>(alloc, text),
+        "toml-config" => config_again(alloc, text),
+        "overlay" => overlaid(alloc, text),
+        "codes" => match from_csv(alloc, text.as_bytes()) {
+            Ok(codes) => written(alloc, &SerdeMap(codes)),
+            Err(_) => String::from_str(alloc, "refused"),
+        },
+        "csv-rows" => match rows_from_csv(alloc, text.as_bytes()) {
+            Ok(rows) => written(alloc, &rows),
+            Err(_) => String::from_str(alloc, "refused"),
+        },
+        _ => String::from_str(alloc, "no such line"),
+    }
+}
+
+// A configuration from JSON, written as JSON.
+fn json_again(alloc: Global, text: &str) -> Result<String, AllocError> {
+    match config::from_json(alloc, text) {
+        Ok(config) => match config::to_json(alloc, &config) {
+            Ok(text) => Ok(text),
+            Err(_) => String::from_str(alloc, "not written"),
+        },
+        Err(fault) => String::from_str(alloc, fault_word(&fault)),
+    }
+}
+
+// A configuration from TOML, written as TOML.
+fn config_again(alloc: Global, text: &str) -> Result<String, AllocError> {
+    match config::from_toml(alloc, text) {
+        Ok(config) => toml_text(alloc, &config),
+        Err(_) => String::from_str(alloc, "refused"),
+    }
+}
+
+// The TOML text of a configuration, as a JSON string.
+fn toml_text(alloc: Global, config: &Config) -> Result<String, AllocError> {
+    match config::to_toml(alloc, config) {
+        Ok(text) => written(alloc, &text),
+        Err(_) => String::from_str(alloc, "not written"),
+    }
+}
+
+// The defaults with a TOML text's limits over theirs, written as TOML.
+fn overlaid(alloc: Global, text: &str) -> Result<String, AllocError> {
+    let Ok(mut defaults) = config::from_json(alloc, DEFAULTS) else {
+        return String::from_str(alloc, "no defaults");
+    };
+    let Ok(user) = config::from_toml(alloc, text) else {
+        return String::from_str(alloc, "refused");
+    };
+    config::overlay(&mut defaults.limits, alloc, user.limits)?;
+    toml_text(alloc, &defaults)
+}
+
+// The configuration where a user says nothing.
+const DEFAULTS: &str =
+    r#"{"title":"defaults","names":{"de":"German"},"limits":{"depth":8,"lines":100}}"#;

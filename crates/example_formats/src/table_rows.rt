@@ -1,0 +1,126 @@
+//! Lines that ask for something of a table or an index: words parted by one space, of which the last one is bytes in hexadecimal,
+//! `-` for none.
+//!
+//! - `read BYTES`: what `read_names` answers.
+//! - `find KEY BYTES`: what `find_name` answers.
+//! - `walk BYTES`: the entries that `NameBytes` gives one by one, each with the place and the number due behind it, and
+//!   the answer that is no entry, twice.
+//! - `again BYTES`: what `write_names` writes for the map that is read.
+//! - `name CODE BYTES`: the name of a language, the bytes' or else the program's (`languages`).
+//! - `table BYTES`: each entry of a `NameTable`, found again by its key there and in its `NameIndex`, and met again where both are
+//!   walked.
+//! - `ask KEY BYTES`: what a `NameTable` and its `NameIndex` answer for a key.
+//! - `begin TEXT BYTES`: the places and the entries of the names that begin with a text, by a `NameIndex`.
+//! - `word WORD BYTES`: the text that a table has for a word, or the word itself, by each of its forms (`words`).
+//! - `many NUMBER -`: what a `NameTable` of so many names and its `NameIndex` answer.
+//! - `prefixes BYTES`: what is read of each proper prefix, by kinds.
+//! - `changes BYTES`: the same with each byte changed into each other one.
+//! - `strings BYTES`: the same of every string of up to four of these bytes.
+//!
+//! The last three read each case into a map and by a `NameTable`: the texts of both are in the checksum, which another reader
+//! tells (`table_rows.py`). A map is also written and read again, and a table written as an index, which is asked as it
+//! lies and read once; a case of which two answers differ is `different`.
+//!
+//! - `index BYTES`: what `write_index` writes for the map that is read.
+//! - `opened BYTES`: each entry of an index that is read once, found again by its key.
+//! - `look KEY BYTES`: what an index that isn't read before answers for a key.
+//! - `cuts BYTES`, `damages BYTES`: what is opened of each proper prefix of an index, and with each byte changed, by kinds.
+use crate::languages::language_name;
+use crate::sweeps::{self, Tally};
+use crate::{indexes, prefixes, tables, texts};
+use name_index::IndexedNames;
+use name_table::{read_names, write_names};
+use std::alloc::{AllocError, Global};
+
+/// Does a line, and writes what answers it.
+pub fn answer_line(alloc: Global, line: &str, output: &mut String) -> Result<(), AllocError> {
+    let words: Vec<&str> = line.split(' ').collect(alloc)?;
+    let Some((last, words)) = words.as_slice().split_last() else {
+        return output.push_str("bad line\n");
+    };
+    let digits = if *last == "-" { "" } else { *last };
+    let Ok(bytes) = hex::decode(alloc, digits) else {
+        return output.push_str("bad bytes\n");
+    };
+    answer(alloc, words, bytes.as_slice(), output)?;
+    output.push('\n')
+}
+
+// Writes what answers a line.
+fn answer(
+    alloc: Global,
+    words: &[&str],
+    bytes: &[u8],
+    output: &mut String,
+) -> Result<(), AllocError> {
+    match words {
+        ["read"] => texts::write_read(alloc, bytes, output),
+        ["find", key] => texts::write_found(alloc, key, bytes, output),
+        ["walk"] => texts::write_walk(bytes, output),
+        ["again"] => write_again(alloc, bytes, output),
+        ["name", code] => write_name(alloc, code, bytes, output),
+        ["table"] => tables::write_table(alloc, bytes, output),
+        ["ask", key] => tables::write_asked(alloc, key, bytes, output),
+        ["begin", text] => prefixes::write_beginning(alloc, text, bytes, output),
+        ["word", word] => tables::write_translated(alloc, word, bytes, output),
+        ["index"] => indexes::write_digits(alloc, bytes, output),
+        ["opened"] => indexes::write_opened(bytes, output),
+        ["look", key] => indexes::write_looked(key, bytes, output),
+        ["many", number] => write_many(alloc, number, output),
+        [name] => sweep(alloc, name, bytes, output),
+        _ => output.push_str("bad line"),
+    }
+}
+
+// Writes what is written for the map that is read.
+fn write_again(alloc: Global, bytes: &[u8], output: &mut String) -> Result<(), AllocError> {
+    let Ok((map, _)) = read_names(alloc, bytes) else {
+        return output.push_str("no map");
+    };
+    let Ok(written) = write_names(alloc, &map) else {
+        return output.push_str("no table");
+    };
+    let digits = hex::encode(alloc, written.as_slice())?;
+    output.push_str(digits.as_str())
+}
+
+// The program's own names.
+const OWN: &[(&str, &str)] = &[("de", "German"), ("en", "own English"), ("zu", "Zulu")];
+
+// Writes the name of a language.
+fn write_name(
+    alloc: Global,
+    code: &str,
+    bytes: &[u8],
+    output: &mut String,
+) -> Result<(), AllocError> {
+    match language_name(alloc, bytes, OWN, code) {
+        Ok(Some(name)) => output.push_str(name),
+        Ok(None) => output.push_str("none"),
+        Err(fault) => texts::write_fault(&fault, output),
+    }
+}
+
+// Asks a table of so many names.
+fn write_many(alloc: Global, number: &str, output: &mut String) -> Result<(), AllocError> {
+    match number.parse::<u32>() {
+        Ok(number) => tables::write_many(alloc, number, output),
+        Err(_) => output.push_str("bad line"),
+    }
+}
+
+// Reads many cases, and writes what came of them. Those of an index are asked for its keys.
+fn sweep(alloc: Global, name: &str, bytes: &[u8], output: &mut String) -> Result<(), AllocError> {
+    let keys = match name {
+        "cuts" | "damages" => IndexedNames::open_checked(bytes).ok(),
+        _ => None,
+    };
+    let mut tally = Tally::new(keys);
+    match name {
+        "prefixes" | "cuts" => sweeps::prefixes(alloc, bytes, &mut tally)?,
+        "changes" | "damages" => sweeps::changes(alloc, bytes, &mut tally)?,
+        "strings" => sweeps::strings(alloc, bytes, &mut tally)?,
+        _ => return output.push_str("bad line"),
+    }
+    tally.write(output)
+}

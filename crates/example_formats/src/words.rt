@@ -1,0 +1,47 @@
+//! A word translated, by each form of a name table that is looked up in its bytes. All say one thing of the list of its pairs.
+ghost use Rattle.name_index.specs.Index.{IfIndex, OfIndex};
+ghost use Rattle.name_index.specs.Tables.{OfTable};
+ghost use Rattle.example_formats.specs.Languages.{IsTranslated};
+
+use name_index::{CheckedNames, IndexedNames, NameIndex, NameTable};
+
+/// The word's translation in a table that is scanned, or the word itself where it has none.
+pub fn by_table<'a>(table: &NameTable<'a>, word: &'a str) -> &'a str
+    ensures { OfTable table.now (λ pairs. IsTranslated pairs word.now result.now) }
+{
+    match table.get(word) {
+        Some(text) => text,
+        None => word,
+    }
+}
+
+/// The same by the places of its entries.
+pub fn by_places<'a>(index: &NameIndex<'a>, word: &'a str) -> &'a str
+    ensures { OfTable index.now (λ pairs. IsTranslated pairs word.now result.now) }
+{
+    match index.get(word) {
+        Some(text) => text,
+        None => word,
+    }
+}
+
+/// The same in an index that was read once.
+pub fn by_checked<'a>(names: &CheckedNames<'a>, word: &'a str) -> &'a str
+    ensures { OfIndex names.now (λ pairs. IsTranslated pairs word.now result.now) }
+{
+    match names.get(word) {
+        Some(text) => text,
+        None => word,
+    }
+}
+
+/// The same in bytes that were not read before. Where they are no index the word itself may be answered too.
+pub fn by_index<'a>(names: &IndexedNames<'a>, word: &'a str) -> &'a str
+    ensures { IfIndex names.now (λ pairs. IsTranslated pairs word.now result.now) }
+{
+    match names.get(word) {
+        Ok(Some(text)) => text,
+        Ok(None) => word,
+        Err(_) => word,
+    }
+}

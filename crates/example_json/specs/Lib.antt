@@ -1,2 +1,0 @@
-pub mod Evens
-pub mod Levels

@@ -1,0 +1,66 @@
+//! Calls by a closure that answers `Equal` for more than one key, or that compares with another type than the keys'.
+use litemap::store::{StoreFromIterable, StoreMut};
+use litemap::{LiteMap, VecMap};
+use litemap_short::ShortStore;
+use std::alloc::{AllocError, Global};
+
+const PAIRS: [(u32, u8); 5] = [(1, b'a'), (2, b'b'), (3, b'c'), (4, b'd'), (9, b'e')];
+
+// A half, the place of the first key of which it is the half, and the values of those keys.
+const HALVES: [(u32, usize, &[u8]); 6] = [
+    (0, 0, b"a"),
+    (1, 1, b"bc"),
+    (2, 3, b"d"),
+    (3, 4, b""),
+    (4, 4, b"e"),
+    (5, 5, b""),
+];
+
+// Whether a closure that compares with half of a key finds one of these keys, or where it would go, and takes one of them out.
+fn finds_one<S: StoreMut<u32, u8> + StoreFromIterable<u32, u8> + Drop>(
+    alloc: Global,
+    half: u32,
+    first: usize,
+    equal: &[u8],
+) -> Result<bool, AllocError> {
+    let mut map: LiteMap<u32, u8, S> = LiteMap::from_iter(alloc, PAIRS)?;
+    let found = map.find_index_by(|key| (*key / 2).cmp(&half));
+    let got = map.get_by(|key| (*key / 2).cmp(&half)).copied();
+    let removed = map.remove_by(|key| (*key / 2).cmp(&half));
+    let len = map.len();
+    Ok(match (found, got, removed) {
+        (Err(place), None, None) => equal.is_empty() && place == first && len == PAIRS.len(),
+        (Ok(place), Some(got), Some(removed)) => {
+            let are_equal = equal.contains(&got) && equal.contains(&removed);
+            are_equal && place >= first && place - first < equal.len() && len == PAIRS.len() - 1
+        }
+        _ => false,
+    })
+}
+
+pub(crate) fn one_of_the_keys_called_equal_is_found(alloc: Global) -> Result<bool, AllocError> {
+    let mut is_right = true;
+    for (half, first, equal) in HALVES {
+        is_right &= finds_one::<Vec<(u32, u8)>>(alloc, half, first, equal)?;
+        is_right &= finds_one::<ShortStore<u32, u8>>(alloc, half, first, equal)?;
+    }
+    Ok(is_right)
+}
+
+pub(crate) fn a_closure_compares_with_another_type(alloc: Global) -> Result<bool, AllocError> {
+    let map: VecMap<String, u8> = LiteMap::from_iter(
+        alloc,
+        [("c".to_string(alloc)?, 0), ("a".to_string(alloc)?, 0)],
+    )?;
+    let mut is_right = true;
+    for (text, place) in [
+        ("", Err(0)),
+        ("a", Ok(0)),
+        ("b", Err(1)),
+        ("c", Ok(1)),
+        ("d", Err(2)),
+    ] {
+        is_right &= map.find_index_by(|key| key.as_str().cmp(text)) == place;
+    }
+    Ok(is_right)
+}

@@ -1,0 +1,67 @@
+//! Rooms and lengths near the greatest that there are: more is refused, and nothing wraps; and what stores and counts take.
+//!
+//! A map of keys that take no memory has one pair at most, since all of them are equal. So the greatest length is tried on a
+//! store.
+use example_store::fixed_room::FixedRoom;
+use litemap::LiteMap;
+use litemap::store::{Count, Store, StoreIntoIterator, StoreMut};
+use litemap_columns::ColumnStore;
+use litemap_short::ShortStore;
+use std::alloc::{AllocError, Global};
+use std::mem;
+
+// The most pairs that a vector holds, of whatever size.
+const MOST: usize = usize::MAX / 2;
+
+// Whether a map of pairs that take no memory is refused more room than a vector holds pairs, and keeps its pair.
+fn is_refused<S: StoreMut<(), ()> + Drop>(alloc: Global) -> Result<bool, AllocError> {
+    let mut is_right = LiteMap::<(), (), S>::with_capacity(alloc, usize::MAX).is_err();
+    let mut map: LiteMap<(), (), S> = LiteMap::with_capacity(alloc, 1)?;
+    map.insert((), ())?;
+    for room in [MOST, usize::MAX - MOST, usize::MAX - 1, usize::MAX] {
+        is_right &= map.reserve(room).is_err();
+    }
+    Ok(is_right && map.len() == 1)
+}
+
+pub(crate) fn room_past_the_end_is_refused(alloc: Global) -> Result<bool, AllocError> {
+    let refused = [
+        is_refused::<Vec<((), ())>>(alloc)?,
+        is_refused::<ColumnStore<(), ()>>(alloc)?,
+        is_refused::<FixedRoom<(), ()>>(alloc)?,
+        is_refused::<ShortStore<(), ()>>(alloc)?,
+    ];
+    let most = LiteMap::<(), (), Vec<((), ())>>::with_capacity(alloc, MOST);
+    Ok(refused == [true; 4] && most.is_ok())
+}
+
+// The longest vector there is, of pairs that take no memory: it is doubled again and again.
+fn longest(alloc: Global) -> Result<Vec<((), ())>, AllocError> {
+    let mut pairs = Vec::new(alloc);
+    for _ in 0..63 {
+        let mut more = Vec::from_slice(alloc, &pairs)?;
+        pairs.append(&mut more)?;
+        pairs.push(((), ()))?;
+    }
+    Ok(pairs)
+}
+
+// The longest store shows its last pair, and each growth is refused and leaves its length.
+pub(crate) fn the_longest_store_grows_no_more(alloc: Global) -> Result<bool, AllocError> {
+    let mut store = longest(alloc)?;
+    let shows = store.lm_get(MOST - 1).is_some() && store.lm_get(MOST).is_none();
+    let reserves = store.lm_reserve(0).is_ok() && store.lm_reserve(1).is_err();
+    let takes = store.lm_push((), ()).is_ok() || store.lm_insert(0, (), ()).is_ok();
+    let joins = store.lm_extend_end([((), ())].to_vec(alloc)?).is_ok()
+        || store.lm_extend_start([((), ())].to_vec(alloc)?).is_ok();
+    let len = store.lm_len();
+    // Its pairs aren't given up one by one.
+    mem::forget(store);
+    Ok(shows && reserves && !takes && !joins && len == MOST)
+}
+
+// A count takes no memory, and a short store of small pairs a word beside a vector's three.
+pub(crate) fn a_count_takes_no_memory(_: Global) -> Result<bool, AllocError> {
+    let short = size_of::<LiteMap<[u8; 2], [u8; 8], ShortStore<[u8; 2], [u8; 8]>>>();
+    Ok(size_of::<Count>() == 0 && short == 4 * size_of::<usize>())
+}

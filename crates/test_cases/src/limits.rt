@@ -1,0 +1,79 @@
+//! Stores with a limit: one of a user's own, which grows up to it and no further, and one whose limit is set when it is made,
+//! so that it goes with the store where a fresh one takes its place.
+use example_store::Bounded;
+use example_store::fixed_room::FixedRoom;
+use litemap::LiteMap;
+use litemap::store::NoRoom;
+use std::alloc::{AllocError, Global};
+
+const LIMIT: usize = 20;
+
+type Few = LiteMap<u32, u32, Bounded<u32, u32, LIMIT>>;
+
+// Whether a map that begins with this room, which is made or reserved, refuses more room than its limit leaves at each length,
+// grows up to it, and hands back what comes then.
+fn grows(alloc: Global, made: usize, reserved: usize) -> Result<bool, AllocError> {
+    let mut map: Few = LiteMap::with_capacity(alloc, made)?;
+    map.reserve(reserved)?;
+    let mut is_right = true;
+    for key in 0..20u32 {
+        let left = LIMIT.saturating_sub(map.len());
+        is_right &= map.reserve(left.saturating_add(1)).is_err()
+            && map.reserve(usize::MAX).is_err();
+        is_right &= map.insert(key, 0).is_ok();
+    }
+    Ok(is_right && map.insert(30, 7) == Err(NoRoom { back: (30, 7) }) && map.len() == LIMIT)
+}
+
+pub(crate) fn a_bounded_store_grows_to_its_limit(alloc: Global) -> Result<bool, AllocError> {
+    let mut is_right = true;
+    for room in [0, 1, 3, LIMIT] {
+        is_right &= grows(alloc, room, 0)? && grows(alloc, 0, room)?;
+    }
+    for room in [LIMIT + 1, usize::MAX] {
+        is_right &= Few::with_capacity(alloc, room).is_err();
+    }
+    Ok(is_right)
+}
+
+type Fixed = LiteMap<u32, u32, FixedRoom<u32, u32>>;
+
+// Whether a map of two pairs takes so many further pairs and no more, made with room for 1,000, once so many were put to it from
+// this key on: by a map that was made with as much room, or by themselves.
+fn has_room_after(
+    alloc: Global,
+    merges: bool,
+    (first, count): (u32, u32),
+    room: usize,
+) -> Result<bool, AllocError> {
+    let mut map = Fixed::with_capacity(alloc, 1_000)?;
+    map.insert(0, 0)?;
+    map.insert(9_999, 0)?;
+    let keys = first..first.wrapping_add(count);
+    let pairs: Vec<(u32, u32)> = keys.map(|key| (key, 0)).collect(alloc)?;
+    if merges {
+        let mut other = Fixed::with_capacity(alloc, 1_000)?;
+        other.extend(alloc, pairs)?;
+        map.extend_from_litemap(alloc, other)?;
+    } else {
+        map.extend(alloc, pairs)?;
+    }
+    Ok(map.reserve(room).is_ok() && map.reserve(room.saturating_add(1)).is_err())
+}
+
+pub(crate) fn a_limit_goes_with_the_store_that_is_replaced(
+    alloc: Global,
+) -> Result<bool, AllocError> {
+    let mut is_right = true;
+    for (merges, keys, room) in [
+        (true, (1, 1), 997),
+        (true, (1, 500), 0),
+        (false, (1, 1), 0),
+        (false, (1, 500), 0),
+        (false, (10_000, 1), 997),
+        (false, (10_000, 500), 498),
+    ] {
+        is_right &= has_room_after(alloc, merges, keys, room)?;
+    }
+    Ok(is_right)
+}

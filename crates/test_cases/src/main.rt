@@ -1,0 +1,104 @@
+//! Cases: the examples in the `///` of the libraries' calls, and what neither a contract nor a line of `test_replay` says. The
+//! program writes how each came out.
+//!
+//! `bin/data` writes the modules of examples (`make`, `look`, `entries`, `change`, `stores`, `formats`). The other cases are of maps:
+//! closures that call several keys equal, queries of each kind, constant tables, iterators that lie, the greatest rooms, stores
+//! with a limit, what is printed, and reading; and of the program `names`, over readers and writers in memory, with its names kept
+//! in one vector and in two columns: how much it reads, and a fault at each read and each write.
+#![tactic(auto)]
+
+// Cases by their names, each with how it came out.
+macro_rules! cases {
+    ($alloc:ident; $($module:ident::$name:ident),+ $(,)?) => {
+        [$((stringify!($name), $module::$name($alloc))),+]
+    };
+}
+
+mod change;
+mod closures;
+mod constants;
+mod days;
+mod endless;
+mod ends;
+mod entries;
+mod faults;
+mod flags;
+mod formats;
+mod hints;
+mod limits;
+mod look;
+mod make;
+mod printing;
+mod queries;
+mod reading;
+mod runs;
+mod stores;
+mod watch;
+
+use std::alloc::{AllocError, Global};
+use std::io;
+
+// The name of a case, and whether all was as it has to be.
+type Case = (&'static str, Result<bool, AllocError>);
+
+/// The name of a call, and whether its example came out as it shows.
+pub(crate) type Shown = (&'static str, anyhow::Result<bool>);
+
+fn main(rt: HostRuntime) -> io::Result<()> {
+    let alloc = rt.alloc();
+    report(&rt, &make::examples(alloc)?)?;
+    report(&rt, &look::examples(alloc)?)?;
+    report(&rt, &entries::examples(alloc)?)?;
+    report(&rt, &change::examples(alloc)?)?;
+    report(&rt, &stores::examples(alloc)?)?;
+    report(&rt, &formats::examples(alloc)?)?;
+    report(&rt, &of_maps(alloc))?;
+    report(&rt, &of_the_program(alloc))
+}
+
+fn of_maps(alloc: Global) -> [Case; 16] {
+    cases! { alloc;
+        closures::one_of_the_keys_called_equal_is_found,
+        closures::a_closure_compares_with_another_type,
+        constants::numbers_of_each_type_are_found,
+        constants::texts_and_bytes_are_compared_with_one_another,
+        ends::room_past_the_end_is_refused,
+        ends::the_longest_store_grows_no_more,
+        ends::a_count_takes_no_memory,
+        hints::the_size_hint_is_no_matter,
+        limits::a_bounded_store_grows_to_its_limit,
+        limits::a_limit_goes_with_the_store_that_is_replaced,
+        printing::what_is_printed,
+        printing::an_error_writes_what_it_is,
+        queries::keys_are_asked_by_texts,
+        queries::keys_are_asked_by_slices,
+        reading::results_are_read_up_to_the_first_fault,
+        reading::calls_are_answered_one_after_another,
+    }
+}
+
+fn of_the_program(alloc: Global) -> [Case; 9] {
+    cases! { alloc;
+        endless::one_byte_too_many_is_read,
+        faults::each_read_fails,
+        faults::each_write_fails,
+        faults::last_lines_fail,
+        faults::a_writer_takes_nothing,
+        flags::flags_are_rewritten_or_refused,
+        flags::long_flags,
+        watch::a_call_is_one_call,
+        watch::a_whole_write_ends_at_a_fault,
+    }
+}
+
+// Writes a line for each case.
+fn report<E>(rt: &impl Print, cases: &[(&'static str, Result<bool, E>)]) -> io::Result<()> {
+    for (name, outcome) in cases {
+        match outcome {
+            Ok(true) => println!(rt; "{name}: right")?,
+            Ok(false) => println!(rt; "{name}: WRONG")?,
+            Err(_) => println!(rt; "{name}: an error")?,
+        }
+    }
+    Ok(())
+}

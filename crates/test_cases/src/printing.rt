@@ -1,0 +1,75 @@
+//! What `{:?}` prints of maps, of what goes over them and of entries, and what is written of an error.
+use litemap::store::NoRoom;
+use litemap::{LiteMap, TryFault};
+use litemap_columns::ColumnStore;
+use litemap_read::ReadFault;
+use std::alloc::{AllocError, Global};
+use std::error::Error;
+use std::fmt::Debug;
+use std::{fmt, io};
+
+const PAIRS: [(u32, char); 2] = [(1, 'a'), (2, 'b')];
+
+/// Whether `{:?}` prints this text.
+pub(crate) fn prints<T: Debug>(alloc: Global, value: &T, text: &str) -> Result<bool, AllocError> {
+    let found = format!(in alloc; "{value:?}")?;
+    Ok(found.as_str() == text)
+}
+
+pub(crate) fn what_is_printed(alloc: Global) -> Result<bool, AllocError> {
+    let mut pairs: LiteMap<u32, char, Vec<(u32, char)>> = LiteMap::from_iter(alloc, PAIRS)?;
+    let columns: LiteMap<u32, char, ColumnStore<u32, char>> = LiteMap::from_iter(alloc, PAIRS)?;
+    let keys = "KeysIterWrap(SliceIter([(1, 'a'), (2, 'b')]))";
+    let values = "ValuesIterWrap(ColumnIter { keys: [1, 2], values: ['a', 'b'] })";
+    let occupied = "OccupiedEntry { key: 2, value: 'b' }";
+    Ok(
+        prints(alloc, &columns, "{1: 'a', 2: 'b'}")?
+            && prints(alloc, &pairs.as_sliced(), "{1: 'a', 2: 'b'}")?
+            && prints(alloc, &pairs.keys(), keys)?
+            && prints(alloc, &columns.values(), values)?
+            && prints(alloc, &pairs.entry(2), occupied)?
+            && prints(alloc, &pairs.entry(3), "VacantEntry { key: 3 }")?,
+    )
+}
+
+// Whether an error writes this text.
+fn writes<E: Error>(alloc: Global, error: E, text: &str) -> Result<bool, AllocError> {
+    let found = format!(in alloc; "{error}")?;
+    Ok(found.as_str() == text)
+}
+
+fn full() -> TryFault<u8, u8, AllocError> {
+    TryFault::NoRoom { key: 1, value: 2 }
+}
+
+// Whether want of memory is written alike, by itself and as std's error.
+fn is_written_of_memory(alloc: Global) -> Result<bool, AllocError> {
+    let text = "there is not enough memory";
+    let of_std = format!(in alloc; "{}", io::Error::from(AllocError))?;
+    let of_std = of_std.as_str();
+    Ok(
+        writes(alloc, NoRoom { back: 7 }, text)?
+            && writes(alloc, ReadFault::<fmt::Error>::NoRoom, text)?
+            && writes(alloc, full(), text)?
+            && writes(alloc, io::Error::from(NoRoom { back: 7 }), of_std)?
+            && writes(
+                alloc,
+                io::Error::from(ReadFault::<fmt::Error>::NoRoom),
+                of_std,
+            )?
+            && writes(alloc, io::Error::from(full()), of_std)?,
+    )
+}
+
+// An error of a source or a closure is written as it is.
+pub(crate) fn an_error_writes_what_it_is(alloc: Global) -> Result<bool, AllocError> {
+    let own = format!(in alloc; "{}", fmt::Error)?;
+    let own = own.as_str();
+    let of_source = io::Error::from(ReadFault::Source(fmt::Error));
+    Ok(
+        is_written_of_memory(alloc)?
+            && writes(alloc, of_source, "the source of pairs has a fault")?
+            && writes(alloc, ReadFault::Source(fmt::Error), own)?
+            && writes(alloc, TryFault::<u8, u8, _>::Closure(fmt::Error), own)?,
+    )
+}

@@ -1,0 +1,111 @@
+//! Keys of each kind asked by what can stand for them: by a text, by a slice, and by the key itself.
+use litemap::store::Count;
+use litemap::{LiteMap, Query};
+use std::alloc::{AllocError, Global};
+use std::borrow::CowStr;
+use std::boxed::{BoxedSlice, BoxedStr};
+use std::rc::RcStr;
+use std::sync::ArcStr;
+
+// Numbers at keys.
+type Numbers<K> = LiteMap<K, u32, Vec<(K, u32)>>;
+
+// The texts of the keys, and the number at each.
+const LIST: [(&str, u32); 5] = [("", 1), ("a", 2), ("aab", 3), ("ab", 4), ("b\u{e9}", 5)];
+
+// Texts that are asked for, with the number and the place of each.
+const ASKED: [(&str, Option<u32>, Result<usize, usize>); 8] = [
+    ("", Some(1), Ok(0)),
+    (" ", None, Err(1)),
+    ("a", Some(2), Ok(1)),
+    ("aa", None, Err(2)),
+    ("aab", Some(3), Ok(2)),
+    ("aabc", None, Err(3)),
+    ("b\u{e9}", Some(5), Ok(4)),
+    ("c", None, Err(5)),
+];
+
+// Whether a key is found by what stands for it: its number and its place.
+fn is_found<K: Ord, Q: Query<K>>(
+    map: &Numbers<K>,
+    query: Q,
+    number: Option<u32>,
+    index: Result<usize, usize>,
+) -> bool {
+    map.contains_key(query) == number.is_some()
+        && map.get(query).copied() == number
+        && map.get_counted(query, &mut Count::new()).copied() == number
+        && map.find_index(query) == index
+        && map.find_index_counted(query, &mut Count::new()) == index
+}
+
+// Whether the number at a key is written and taken out by what stands for it.
+fn is_taken<K: Ord + Drop, Q: Query<K>>(
+    map: &mut Numbers<K>,
+    query: Q,
+    number: Option<u32>,
+) -> bool {
+    if let Some(slot) = map.get_mut(query) {
+        *slot = slot.wrapping_add(100);
+    }
+    let Some(taken) = map.remove(query) else {
+        return number.is_none();
+    };
+    number == Some(taken.wrapping_sub(100))
+}
+
+// Whether a map of the list, by a key for each text, is asked right for each text by what stands for its key and by the key.
+macro_rules! is_asked {
+    ($alloc:ident, $text:ident, $key:expr, $query:expr) => {{
+        let mut map = LiteMap::new_vec($alloc);
+        for ($text, number) in LIST {
+            map.insert($key, number)?;
+        }
+        let mut is_right = true;
+        for ($text, number, index) in ASKED {
+            let key = $key;
+            is_right &= is_found(&map, $query, number, index)
+                && is_found(&map, &key, number, index)
+                && is_taken(&mut map, $query, number);
+            if let Some(number) = number {
+                map.insert(key, number)?;
+            }
+        }
+        is_right
+    }};
+}
+
+fn by_texts(alloc: Global) -> Result<bool, AllocError> {
+    Ok(is_asked!(alloc, text, text.to_string(alloc)?, text) && is_asked!(alloc, text, text, text))
+}
+
+fn by_texts_elsewhere(alloc: Global) -> Result<bool, AllocError> {
+    Ok(
+        is_asked!(alloc, text, BoxedStr::from_str(alloc, text)?, text)
+            && is_asked!(alloc, text, CowStr::Borrowed(text), text),
+    )
+}
+
+fn by_shared_texts(alloc: Global) -> Result<bool, AllocError> {
+    Ok(
+        is_asked!(alloc, text, RcStr::from_str(alloc, text)?, text)
+            && is_asked!(alloc, text, ArcStr::from_str(alloc, text)?, text),
+    )
+}
+
+pub(crate) fn keys_are_asked_by_texts(alloc: Global) -> Result<bool, AllocError> {
+    Ok(by_texts(alloc)? && by_texts_elsewhere(alloc)? && by_shared_texts(alloc)?)
+}
+
+pub(crate) fn keys_are_asked_by_slices(alloc: Global) -> Result<bool, AllocError> {
+    Ok(
+        is_asked!(alloc, it, it.as_bytes().to_vec(alloc)?, it.as_bytes())
+            && is_asked!(alloc, it, it.as_bytes(), it.as_bytes())
+            && is_asked!(
+                alloc,
+                it,
+                BoxedSlice::from_slice(alloc, it.as_bytes())?,
+                it.as_bytes()
+            ),
+    )
+}

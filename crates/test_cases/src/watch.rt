@@ -1,0 +1,126 @@
+//! Which calls a `Watch` makes to what it watches: a read, a write or a flush through it is one, whatever comes of it.
+ghost use Rattle.std.specs.Prelude.{◌≤◌, IfOk};
+
+use crate::runs::{FAULTS, NEVER};
+use names::{Fault, Watch};
+use std::alloc::{AllocError, Global};
+use std::io;
+use std::io::{Read, Write};
+
+// A call, with how many bytes it is handed.
+#[derive(Clone, Copy, PartialEq)]
+enum Call {
+    Read(usize),
+    Write(usize),
+    WriteAll(usize),
+    Flush,
+}
+
+// The first calls that were made, in their order.
+type Made = [Option<Call>; 3];
+
+// A reader at its end and a writer that takes at most so many bytes, which notes the first calls. The call of a number meets
+// the fault.
+#[derive(Drop)]
+struct Noting {
+    made: Made,
+    count: usize,
+    at: u64,
+    fault: Fault,
+    most: usize,
+}
+
+impl Noting {
+    // Notes a call, and answers it by so many bytes.
+    fn note(&mut self, call: Call, bytes: usize) -> io::Result<usize>
+        ensures { IfOk result (λ moved. moved ≤ bytes) }
+    {
+        let number = self.count;
+        self.count = number.saturating_add(1);
+        if let Some(slot) = self.made.get_mut(number) {
+            *slot = Some(call);
+        }
+        match self.fault {
+            _ if number as u64 != self.at => Ok(bytes.min(self.most)),
+            Fault::Answers(kind) => Err(io::Error::from(kind)),
+            Fault::MovesNothing => Ok(0),
+        }
+    }
+}
+
+impl Read for Noting {
+    fn read(&mut self, buf: &mut [u8]) -> io::Result<usize> {
+        let _none = self.note(Call::Read(buf.len()), 0)?;
+        Ok(0)
+    }
+}
+
+impl Write for Noting {
+    fn write(&mut self, buf: &[u8]) -> io::Result<usize> {
+        self.note(Call::Write(buf.len()), buf.len())
+    }
+
+    fn flush(&mut self) -> io::Result<()> {
+        let _none = self.note(Call::Flush, 0)?;
+        Ok(())
+    }
+}
+
+// The calls that one through a `Watch` makes, of 5,000 bytes at most, where a write takes at most `most`, and the call number
+// `at` meets the fault.
+fn made_by(call: Call, most: usize, at: u64, fault: Fault) -> Made {
+    let mut bytes = [b'a'; 5_000];
+    let mut noting = Noting {
+        made: [None; 3],
+        count: 0,
+        at,
+        fault,
+        most,
+    };
+    let mut watch = Watch::new(&mut noting);
+    match call {
+        Call::Read(len) => drop(watch.read(&mut bytes[..len.min(5_000)])),
+        Call::Write(len) => drop(watch.write(&bytes[..len.min(5_000)])),
+        Call::WriteAll(len) => drop(watch.write_all(&bytes[..len.min(5_000)])),
+        Call::Flush => drop(watch.flush()),
+    }
+    noting.made
+}
+
+pub(crate) fn a_call_is_one_call(_: Global) -> Result<bool, AllocError> {
+    let mut is_right = true;
+    for fault in FAULTS {
+        for at in [0, NEVER] {
+            for len in [0, 1, 64, 65, 5_000] {
+                for call in [Call::Read(len), Call::Write(len), Call::Flush] {
+                    is_right &= made_by(call, usize::MAX, at, fault) == [Some(call), None, None];
+                }
+            }
+        }
+    }
+    Ok(is_right)
+}
+
+pub(crate) fn a_whole_write_ends_at_a_fault(_: Global) -> Result<bool, AllocError> {
+    // How many bytes, how many of them a write takes at most, which write meets the fault, and the lengths of the writes.
+    let rows = [
+        (0, usize::MAX, 0, [None, None]),
+        (1, usize::MAX, 0, [Some(1), None]),
+        (64, usize::MAX, 0, [Some(64), None]),
+        (65, usize::MAX, 0, [Some(65), None]),
+        (5_000, usize::MAX, 0, [Some(5_000), None]),
+        (5_000, usize::MAX, NEVER, [Some(5_000), None]),
+        (64, 64, 1, [Some(64), None]),
+        (65, 64, 1, [Some(65), Some(1)]),
+        (65, 64, NEVER, [Some(65), Some(1)]),
+        (5_000, 64, 1, [Some(5_000), Some(4_936)]),
+    ];
+    let mut is_right = true;
+    for fault in FAULTS {
+        for (len, most, at, [first, second]) in rows {
+            let wanted = [first.map(Call::Write), second.map(Call::Write), None];
+            is_right &= made_by(Call::WriteAll(len), most, at, fault) == wanted;
+        }
+    }
+    Ok(is_right)
+}

@@ -1,2 +1,0 @@
--- The definitions that the contracts cite. Those of the sorted list are in `Pairs` of the crate `litemap_store`.
-pub mod Contents
