@@ -40,3 +40,12 @@ returns-in-Err-insert_at-clause-present g c = λ there. absurd (not_missing g.K.
 
 pub returns-in-Ok-insert_at-clause-present : goal.returns-in-Ok-insert_at-clause-present
 returns-in-Ok-insert_at-clause-present g c = λ there. absurd (not_missing g.K.Ord.cmp c.args.self.now.pairs c.args.key there c.in-Err.ensures.splits)
+
+pub returns-in-Ok-insert_at-clause-put : goal.returns-in-Ok-insert_at-clause-put
+returns-in-Ok-insert_at-clause-put g c = λ none. (c.in-Ok-f.value, (_, c.in-Ok-f.ensures, refl), c.in-Ok-insert_at.ensures.put)
+
+pub returns-in-Err-f-clause-faults : goal.returns-in-Err-f-clause-faults
+returns-in-Err-f-clause-faults g c = record { closure = (_, c.in-Err-f.ensures, refl); full = tt; back = tt }
+
+pub returns-in-Ok-clause-present : goal.returns-in-Ok-clause-present
+returns-in-Ok-clause-present g c = λ there. (refl, refl)
