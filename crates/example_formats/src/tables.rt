@@ -35,8 +35,9 @@ pub fn write_table(alloc: Global, bytes: &[u8], output: &mut String) -> Result<(
         output.push_str(" another map")?;
     }
     let written = index_of(alloc, bytes)?;
-    if !BothWays::open(written.as_slice()).is_ok_and(|both| both.has_entries_of(&table)) {
-        output.push_str(" another index")?;
+    match BothWays::open(written.as_slice()) {
+        Ok(both) if both.has_entries_of(&table) => {}
+        _ => output.push_str(" another index")?,
     }
     if table.get_indexed(table.len()).is_some() || index.get_indexed(table.len()).is_some() {
         output.push_str(" one more")?;

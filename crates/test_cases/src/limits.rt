@@ -49,8 +49,10 @@ fn has_room_after(
     let mut map = Fixed::with_capacity(alloc, 1_000)?;
     map.insert(0, 0)?;
     map.insert(9_999, 0)?;
-    let keys = first..first.wrapping_add(count);
-    let pairs: Vec<(u32, u32)> = keys.map(|key| (key, 0)).collect(alloc)?;
+    let mut pairs = Vec::new(alloc);
+    for key in first..first.wrapping_add(count) {
+        pairs.push((key, 0))?;
+    }
     if merges {
         let mut other = Fixed::with_capacity(alloc, 1_000)?;
         other.extend(alloc, pairs)?;
