@@ -106,3 +106,11 @@ returns-clause-in_front g c = λ h r s.
 pub returns-in_err-lm_extend_start-clause-behind : goal.returns-in_err-lm_extend_start-clause-behind
 returns-in_err-lm_extend_start-clause-behind g c = λ h r.
     absurd (true≢false (sym (c.lies_below.ensures.below.1 (Rising-from_Rises g.K.Ord.cmp _ _ c.requires.store h)) ∙ c.if-lies_below.false))
+
+pub returns-in_err-rest-clause-behind : goal.returns-in_err-rest-clause-behind
+returns-in_err-rest-clause-behind g c = λ h r.
+    absurd (true≢false (sym (c.lies_below.ensures.below.1 (Rising-from_Rises g.K.Ord.cmp _ _ c.requires.store h)) ∙ c.if-lies_below.false))
+
+pub returns-in_err-rest-clause-in_front : goal.returns-in_err-rest-clause-in_front
+returns-in_err-rest-clause-in_front g c = λ h r s.
+    absurd (true≢false (sym (c.lies_below-2.ensures.below.1 (Rising-from_Rises g.K.Ord.cmp _ _ c.requires.other h)) ∙ c.if-lies_below-2.false))
