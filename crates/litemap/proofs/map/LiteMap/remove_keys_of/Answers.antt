@@ -15,7 +15,7 @@ invariant_of-self g c =
 pub returns-clause-pairs : goal.returns-clause-pairs
 returns-clause-pairs g c =
     Kept-beside g.met.K.Ord.total _ (λ f. f.0) (not) (λ f k v b f' called. called.met) _ _ _ _ _ _
-    c.lm_retain.ensures.kept c.self.invariant (ap (λ m. m.pairs) c.self.view_is) c.new-rest.ensures c.other.invariant (ap (λ m. m.pairs) c.other.view_is)
+    c.lm_retain.ensures.kept c.self.invariant (ap (λ m. m.pairs) c.self.view_is) c.all-rest.ensures c.other.invariant (ap (λ m. m.pairs) c.other.view_is)
 
 pub returns-clause-found : goal.returns-clause-found
 returns-clause-found g c = λ key. value_at-kept g.met.K.Ord.total not c.args.other.now.pairs key _ _ (returns-clause-pairs g c) ∙ turned (is_some (at g.K.Ord.cmp c.args.other.now.pairs key)) _

@@ -8,7 +8,7 @@ pub loop-key-preserved : goal.loop-key-preserved
 loop-key-preserved g c =
     let cmp = g.K.Ord.cmp in
     let inv = c.loop-key.invariant in
-    let first = c.in-Some.ensures in
+    let first = c.in-Some.ensures.steps in
     let rises = subst (Rising cmp) first inv.keys_rise in
     let passed = c.passes.ensures.passed inv.rest_rises in
     let counted = c.passes.ensures.counted in

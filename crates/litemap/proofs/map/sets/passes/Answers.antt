@@ -5,7 +5,7 @@ use Rattle.litemap.proofs.map.sets.passes.Goals as goal
 pub returns-in-Equal-clause-passed : goal.returns-in-Equal-clause-passed
 returns-in-Equal-clause-passed g c = λ r.
     let inv = c.loop-there.invariant in
-    let e = at_equal g.met.K.Ord.total _ _ _ _ _ c.in-Some.ensures c.next.ensures c.in-Equal.ensures.answer (inv.rising r) in
+    let e = at_equal g.met.K.Ord.total _ _ _ _ _ c.in-Some.ensures c.next.ensures.steps c.in-Equal.ensures.answer (inv.rising r) in
     (e.0 ∙ inv.rest, e.1 ∙ inv.there)
 
 pub returns-in-Greater-clause-passed : goal.returns-in-Greater-clause-passed
