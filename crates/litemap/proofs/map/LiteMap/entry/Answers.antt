@@ -30,3 +30,9 @@ returns-clause-found g c = grind (arith, common_steps)
 
 pub returns-clause-removes : goal.returns-clause-removes
 returns-clause-removes g c = sym (missing_cut g.K.Ord.cmp c.args.self.now.pairs c.args.key c.in-Err.index c.in-Err.ensures.splits)
+
+pub returns-clause-key : goal.returns-clause-key
+returns-clause-key g c = sym (ap (λ a. Some (key_or a c.args.key)) c.in-Err.ensures.splits.missing)
+
+pub returns-clause-value : goal.returns-clause-value
+returns-clause-value g c = sym (ap (option_map (λ p. p.1)) c.in-Err.ensures.splits.missing)

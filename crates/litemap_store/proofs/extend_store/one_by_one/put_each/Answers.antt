@@ -47,3 +47,6 @@ loop-key-init g c = record {
   room = first_of (search rules, grind (arith, common_steps));
   rest_room = first_of (search rules, grind (arith, common_steps));
 }
+
+pub put_in-driven_out-requires-clause-store : goal.put_in-driven_out-requires-clause-store
+put_in-driven_out-requires-clause-store g c = c.loop-key.invariant.so_far.merged.rising
