@@ -4,7 +4,6 @@ use crate::made::value_or_made;
 use crate::moved::moved;
 use crate::prices::{self, Prices};
 use crate::sets::{self, Set};
-use crate::sums::{self, Vector};
 use crate::totals::total;
 use litemap::{LiteMap, TryFault, VecMap};
 use litemap_columns::ColumnMap;
@@ -17,7 +16,6 @@ pub(crate) fn show(rt: &impl Print, alloc: Global) -> anyhow::Result<()> {
     show_log(rt, &mut three_entries(alloc)?)?;
     show_prices(rt, &mut four_prices(alloc)?)?;
     show_sets(rt, alloc)?;
-    show_sums(rt, alloc)?;
     show_totals(rt, alloc, 98)?;
     show_totals(rt, alloc, u32::MAX)
 }
@@ -81,14 +79,6 @@ fn show_sets(rt: &impl Print, alloc: Global) -> anyhow::Result<()> {
         "common {set:?}, a subset {:?}",
         [before, sets::is_subset(&set, &other)]
     )?;
-    Ok(())
-}
-
-fn show_sums(rt: &impl Print, alloc: Global) -> anyhow::Result<()> {
-    let mut sum: Vector = LiteMap::from_iter(alloc, [(1, 10), (5, 50)])?;
-    let other: Vector = LiteMap::from_iter(alloc, [(3, 3), (5, 5)])?;
-    sums::add(&mut sum, alloc, other)?;
-    println!(rt; "sum {sum:?}")?;
     Ok(())
 }
 
