@@ -240,7 +240,7 @@ pub(crate) fn write_code<W: Write>(f: &mut W, order: Order, code: u64) -> fmt::R
 /// A number, which is counted while it is alive.
 pub struct Value {
     number: u64,
-    // Nothing of one that `or_default` makes, which is not counted.
+    // Nothing of one that `or_default` makes, which is not counted: made with no allocator, a default owns nothing.
     seen: Option<Rc<Seen>>,
 }
 
