@@ -46,12 +46,13 @@ pub(crate) type Shown = (&'static str, anyhow::Result<bool>);
 
 fn main(rt: HostRuntime) -> io::Result<()> {
     let alloc = rt.alloc();
-    report(&rt, &make::examples(alloc)?)?;
-    report(&rt, &look::examples(alloc)?)?;
-    report(&rt, &entries::examples(alloc)?)?;
-    report(&rt, &change::examples(alloc)?)?;
-    report(&rt, &stores::examples(alloc)?)?;
-    report(&rt, &formats::examples(alloc)?)?;
+    let (days, hours) = (days::three_days(alloc)?, days::opening_hours(alloc)?);
+    report(&rt, &make::examples(alloc, &days, &hours))?;
+    report(&rt, &look::examples(alloc, &days))?;
+    report(&rt, &entries::examples(alloc))?;
+    report(&rt, &change::examples(alloc))?;
+    report(&rt, &stores::examples(alloc, &days))?;
+    report(&rt, &formats::examples(alloc))?;
     report(&rt, &of_maps(alloc))?;
     report(&rt, &of_the_program(alloc))
 }
