@@ -64,7 +64,7 @@ def function(name, lines):
     fails = "?" in text or re.search(r"^ *(?:return )?Ok\(|=> Ok\(", text, re.MULTILINE)
     if fails and not body[-1].startswith(("Ok(", "}")):
         body[-1] = f"Ok({body[-1]})"
-    taken = [("alloc", "alloc: Global")] * ("alloc" in text) + [(f"&{map_name}", f"{map_name}: &{kind}")] * bool(is_lent)
+    taken = [("alloc", "alloc: Global")] * ("alloc" in text) + [(map_name, f"{map_name}: &{kind}")] * bool(is_lent)
     parameters = ", ".join(it for _, it in taken)
     result = "anyhow::Result<bool>" if fails else "bool"
     call = f"{name}({', '.join(it for it, _ in taken)})"
@@ -115,12 +115,12 @@ def module(name, seen):
         call = next(it for it in names if it not in functions and it not in IMPORTED)
         functions[call] = function(call, lines)
     entries = textwrap.indent("\n".join(entry for _, entry in functions.values()), " " * 8)
-    lent = "".join(f"    let {it} = {made};\n" for it, _, made in MAPS.values() if f"&{it})" in entries)
+    lent = "".join(f", {it}: &{kind}" for it, kind, _ in MAPS.values() if re.search(rf"\b{it}\)", entries))
     text = "\n\n".join([f"""/// How the examples came out, by their calls.
-pub(crate) fn examples(alloc: Global) -> Result<[Shown; {len(functions)}], AllocError> {{
-{lent}    Ok([
+pub(crate) fn examples(alloc: Global{lent}) -> [Shown; {len(functions)}] {{
+    [
 {entries}
-    ])
+    ]
 }}""", *items, *(text for text, _ in functions.values())])
     return f"//! Written by `bin/data`.\nuse crate::Shown;\n{imports(text)}\n\n{text}\n", functions
 

@@ -4,7 +4,7 @@ use crate::config::{self, Config};
 use crate::kinds::{again, cuts, fault_word, map_again, toml_again, written};
 use crate::levels::Level;
 use crate::long::many;
-use crate::shapes::{Counts, Either, Flat, Inner, Places};
+use crate::shapes::{Counts, Either, Flat, Inner, Places, Point};
 use litemap_serde::SerdeMap;
 use litemap_short::ShortStore;
 use serde_json::Value;
@@ -49,7 +49,7 @@ fn answer_items(alloc: Global, what: &str, text: &str) -> Result<String, AllocEr
         >(alloc, text),
         "vector" => again::<Vec<Counts>>(alloc, text),
         "perhaps" => again::<Option<Counts>>(alloc, text),
-        "points" => map_again::<(i32, i32), u8, ShortStore<(i32, i32), u8>>(alloc, text),
+        "points" => map_again::<Point, u8, ShortStore<Point, u8>>(alloc, text),
         "places" => again::<Places>(alloc, text),
         _ => answer_shapes(alloc, what, text),
     }

@@ -6,12 +6,15 @@ use serde::{Deserialize, Serialize};
 /// Counts by name.
 pub type Counts = SerdeMap<String, u32, Vec<(String, u32)>>;
 
-/// A map as pairs, whose keys have no text.
+/// How far along, and how far up: a key that has no text.
+pub type Point = (i32, i32);
+
+/// A map of such keys, as pairs.
 #[derive(Drop, Serialize, Deserialize)]
 pub struct Places {
     /// Names of points.
     #[serde(with = "litemap_serde::pairs")]
-    pub at: VecMap<(i32, i32), String>,
+    pub at: VecMap<Point, String>,
 }
 
 /// Named by a member.

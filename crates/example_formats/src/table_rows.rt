@@ -7,8 +7,8 @@
 //!   the answer that is no entry, twice.
 //! - `again BYTES`: what `write_names` writes for the map that is read.
 //! - `name CODE BYTES`: the name of a language, the bytes' or else the program's (`languages`).
-//! - `table BYTES`: each entry of a `NameTable`, found again by its key there and in its `NameIndex`, and met again where both are
-//!   walked.
+//! - `table BYTES`: each entry of a `NameTable`, found again by its key there and in its `NameIndex`, and met again where both
+//!   are walked.
 //! - `ask KEY BYTES`: what a `NameTable` and its `NameIndex` answer for a key.
 //! - `begin TEXT BYTES`: the places and the entries of the names that begin with a text, by a `NameIndex`.
 //! - `word WORD BYTES`: the text that a table has for a word, or the word itself, by each of its forms (`words`).

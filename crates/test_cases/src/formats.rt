@@ -8,11 +8,11 @@ use litemap_json::{
 use litemap_read::{PairSource, ReadFault, read_pairs};
 use name_table::{NameBytes, NameFault, NameMap, find_name, read_names, write_names};
 use serde_json::Value;
-use std::alloc::{AllocError, Global};
+use std::alloc::Global;
 
 /// How the examples came out, by their calls.
-pub(crate) fn examples(alloc: Global) -> Result<[Shown; 15], AllocError> {
-    Ok([
+pub(crate) fn examples(alloc: Global) -> [Shown; 15] {
+    [
         ("json_fault", json_fault(alloc)),
         ("from_value", from_value(alloc)),
         ("write_to", write_to(alloc)),
@@ -28,7 +28,7 @@ pub(crate) fn examples(alloc: Global) -> Result<[Shown; 15], AllocError> {
         ("name_bytes", name_bytes()),
         ("find_name_of_read", find_name_of_read(alloc)),
         ("write_names_of_write", write_names_of_write(alloc)),
-    ])
+    ]
 }
 
 const LANGUAGES: &[u8] = b"\x02\x02de\x06German\x02fr\x06French";

@@ -1,24 +1,23 @@
 //! Written by `bin/data`.
 use crate::Shown;
 use crate::days::{Days, three_days};
-use std::alloc::{AllocError, Global};
+use std::alloc::Global;
 use std::ops::Bound;
 
 /// How the examples came out, by their calls.
-pub(crate) fn examples(alloc: Global) -> Result<[Shown; 10], AllocError> {
-    let days = three_days(alloc)?;
-    Ok([
-        ("partial_ord", Ok(partial_ord(&days))),
-        ("iter", Ok(iter(&days))),
+pub(crate) fn examples(alloc: Global, days: &Days) -> [Shown; 10] {
+    [
+        ("partial_ord", Ok(partial_ord(days))),
+        ("iter", Ok(iter(days))),
         ("into_iterator", into_iterator(alloc)),
-        ("get", Ok(get(&days))),
-        ("get_by", Ok(get_by(&days))),
-        ("find_index", Ok(find_index(&days))),
-        ("places", Ok(places(&days))),
-        ("iter_range", Ok(iter_range(&days))),
-        ("range", Ok(range(&days))),
-        ("get_indexed_range", get_indexed_range(&days)),
-    ])
+        ("get", Ok(get(days))),
+        ("get_by", Ok(get_by(days))),
+        ("find_index", Ok(find_index(days))),
+        ("places", Ok(places(days))),
+        ("iter_range", Ok(iter_range(days))),
+        ("range", Ok(range(days))),
+        ("get_indexed_range", get_indexed_range(days)),
+    ]
 }
 
 fn partial_ord(days: &Days) -> bool {

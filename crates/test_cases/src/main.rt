@@ -1,10 +1,10 @@
 //! Cases: the examples in the `///` of the libraries' calls, and what neither a contract nor a line of `test_replay` says. The
 //! program writes how each came out.
 //!
-//! `bin/data` writes the modules of examples (`make`, `look`, `entries`, `change`, `stores`, `formats`). The other cases are of maps:
-//! closures that call several keys equal, queries of each kind, constant tables, iterators that lie, the greatest rooms, stores
-//! with a limit, what is printed, and reading; and of the program `names`, over readers and writers in memory, with its names kept
-//! in one vector and in two columns: how much it reads, and a fault at each read and each write.
+//! `bin/data` writes the modules of examples (`make`, `look`, `entries`, `change`, `stores`, `formats`). The other cases are of
+//! maps: closures that call several keys equal, queries of each kind, constant tables, iterators that lie, the greatest rooms,
+//! stores with a limit, what is printed, and reading; and of the program `names`, over readers and writers in memory, with its
+//! names kept in one vector and in two columns: how much it reads, and a fault at each read and each write.
 #![tactic(auto)]
 
 // Cases by their names, each with how it came out.
@@ -46,12 +46,13 @@ pub(crate) type Shown = (&'static str, anyhow::Result<bool>);
 
 fn main(rt: HostRuntime) -> io::Result<()> {
     let alloc = rt.alloc();
-    report(&rt, &make::examples(alloc)?)?;
-    report(&rt, &look::examples(alloc)?)?;
-    report(&rt, &entries::examples(alloc)?)?;
-    report(&rt, &change::examples(alloc)?)?;
-    report(&rt, &stores::examples(alloc)?)?;
-    report(&rt, &formats::examples(alloc)?)?;
+    let (days, hours) = (days::three_days(alloc)?, days::opening_hours(alloc)?);
+    report(&rt, &make::examples(alloc, &days, &hours))?;
+    report(&rt, &look::examples(alloc, &days))?;
+    report(&rt, &entries::examples(alloc))?;
+    report(&rt, &change::examples(alloc))?;
+    report(&rt, &stores::examples(alloc, &days))?;
+    report(&rt, &formats::examples(alloc))?;
     report(&rt, &of_maps(alloc))?;
     report(&rt, &of_the_program(alloc))
 }

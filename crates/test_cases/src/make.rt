@@ -1,35 +1,33 @@
 //! Written by `bin/data`.
 use crate::Shown;
-use crate::days::{Days, Hours, opening_hours, three_days};
+use crate::days::{Days, Hours};
 use litemap::store::SliceStore;
 use litemap::{LiteMap, VecMap};
 use litemap_columns::ColumnMap;
-use std::alloc::{AllocError, Global};
+use std::alloc::Global;
 
 /// How the examples came out, by their calls.
-pub(crate) fn examples(alloc: Global) -> Result<[Shown; 9], AllocError> {
-    let days = three_days(alloc)?;
-    let hours = opening_hours(alloc)?;
-    Ok([
+pub(crate) fn examples(alloc: Global, days: &Days, hours: &Hours) -> [Shown; 9] {
+    [
         ("const_len", Ok(const_len())),
         ("const_get_with_index", Ok(const_get_with_index())),
         (
             "const_get_with_index_of_const_family",
             Ok(const_get_with_index_of_const_family()),
         ),
-        ("to_keys_by", to_keys_by(alloc, &hours)),
+        ("to_keys_by", to_keys_by(alloc, hours)),
         (
             "to_borrowed_keys_values",
-            to_borrowed_keys_values(alloc, &hours),
+            to_borrowed_keys_values(alloc, hours),
         ),
         ("new_vec", new_vec(alloc)),
         (
             "from_sorted_store_unchecked",
             from_sorted_store_unchecked(alloc),
         ),
-        ("debug", debug(alloc, &days)),
+        ("debug", debug(alloc, days)),
         ("column_map", column_map(alloc)),
-    ])
+    ]
 }
 
 const DAYS: &[(u32, &str)] = &[(1, "Monday"), (3, "Wednesday"), (5, "Friday")];

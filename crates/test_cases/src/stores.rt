@@ -1,24 +1,23 @@
 //! Written by `bin/data`.
 use crate::Shown;
-use crate::days::{Days, three_days};
+use crate::days::Days;
 use litemap::store::{
     Count, SliceStore, Store, StoreBulkMut, StoreFromIterator, StoreIntoIterator, StoreSlice,
 };
 use litemap_columns::ColumnStore;
-use std::alloc::{AllocError, Global};
+use std::alloc::Global;
 
 /// How the examples came out, by their calls.
-pub(crate) fn examples(alloc: Global) -> Result<[Shown; 7], AllocError> {
-    let days = three_days(alloc)?;
-    Ok([
+pub(crate) fn examples(alloc: Global, days: &Days) -> [Shown; 7] {
+    [
         ("from_columns", from_columns(alloc)),
         ("into_columns", into_columns(alloc)),
-        ("count", Ok(count(&days))),
+        ("count", Ok(count(days))),
         ("lm_extend_end", lm_extend_end(alloc)),
         ("lm_binary_search_by", Ok(lm_binary_search_by())),
         ("lm_get_range", lm_get_range(alloc)),
         ("lm_extend", lm_extend(alloc)),
-    ])
+    ]
 }
 
 const DAYS: &[(u32, &str)] = &[(1, "Monday"), (3, "Wednesday"), (5, "Friday")];
