@@ -21,7 +21,7 @@ fn ages_of(alloc: Global, pairs: &[(u32, u8)]) -> Result<Ages, AllocError> {
     Ok(ages)
 }
 
-// Ages that are noted, corrected by number, at a place and where they are there, kept from 20 on, and forgotten.
+// Ages that are noted, corrected by number, at a place and where they are there, dropped below 2, and forgotten.
 fn show_ages(rt: &impl Print, ages: &mut Ages) -> io::Result<()> {
     numbers::note_age(ages, 4, 40)?;
     let is_there = [numbers::correct(ages, 2, 21), numbers::correct(ages, 9, 9)];
@@ -30,9 +30,9 @@ fn show_ages(rt: &impl Print, ages: &mut Ages) -> io::Result<()> {
     }
     numbers::correct_at(ages, 0, 19);
     println!(rt; "ages {ages:?}, corrected {is_there:?}")?;
-    numbers::keep_from(ages, 20);
+    let dropped = numbers::drop_below(ages, 2);
     let forgotten = numbers::forget(ages, 5);
-    println!(rt; "from 20 on {ages:?}, forgotten {forgotten:?}")
+    println!(rt; "from 2 on {ages:?}, dropped {dropped}, forgotten {forgotten:?}")
 }
 
 fn show_renewed(rt: &impl Print, alloc: Global) -> anyhow::Result<()> {
