@@ -10,7 +10,7 @@ from shared import CRATES, TOP
 # A path in backticks, one from the top anywhere, and a module of specs or proofs.
 PATH = re.compile(r"[\w.*-]*(?:/[\w.*-]+)+/?|\w+/|[\w-]+\.(?:rt|antt|md|txt|py|sh|c|svg|edit|calls)")
 FROM_TOP = re.compile(r"(?<![\w./])(?:bin|crates|docs|wrong|diff|bench)/[\w.*/-]*[\w*]")
-MODULE = re.compile(r"\bRattle\.(\w+)((?:\.(?!declared\b|Given\b)\w+)+)")
+MODULE = re.compile(r"\bRattle\.(\w+)((?:\.(?!declared\b|Given\b|Goals\b)\w+)+)")
 # What stands in a path for any name.
 ANY = re.compile(r"\b(?:[A-Z]{4,}|game)\b(?!\.md)|\*")
 # A word in a file, either way round.

@@ -1,7 +1,7 @@
 //! Numbers as keys, and keys of a caller's own. What look-ups find after a change follows from the lemmas that the attributes
 //! name, or from the laws that a function calls.
-ghost use Rattle.std.specs.Prelude.{◌≡◌, ◌≢◌, None, Ok, Some, IfErr, IfSome, IsTrue, OnErr, OnOk};
-ghost use Rattle.std.specs.Prelude.{filter, is_some, nat_le, slice_get};
+ghost use Rattle.std.specs.Prelude.{◌≡◌, ◌≢◌, ◌+◌, ◌<◌, ◌≤◌, None, Ok, Some, IfErr, IfSome, IsTrue, OnErr, OnOk};
+ghost use Rattle.std.specs.Prelude.{is_some, length, slice_get};
 ghost use Rattle.std.specs.IoError.{error_kind};
 ghost use Rattle.std.specs.Ordering.{int_cmp, nat_cmp};
 ghost use Rattle.std.specs.declared.cmp.Ordering.TheVariants.{Equal};
@@ -82,11 +82,16 @@ pub fn correct_at(ages: &mut Ages, index: usize, age: u8)
     }
 }
 
-/// Keeps those of at least this age.
-pub fn keep_from(ages: &mut Ages, age: u8)
-    ensures { ages.new.pairs ≡ filter (λ p. nat_le age p.1) ages.old.pairs }
+/// Drops those with smaller numbers, and returns how many they were. All others stay.
+pub fn drop_below(ages: &mut Ages, id: u32) -> usize
+    ensures dropped { (other : _) → other < id → value_at nat_cmp ages.new.pairs other ≡ None }
+    ensures others { (other : _) → id ≤ other
+        → value_at nat_cmp ages.new.pairs other ≡ value_at nat_cmp ages.old.pairs other }
+    ensures number { length ages.new.pairs + result ≡ length ages.old.pairs }
 {
-    ages.retain(|_, found| *found >= age);
+    let before = ages.len();
+    ages.retain(|number, _| *number >= id);
+    before - ages.len()
 }
 
 /// Sets a reading, which is then found. All others stay.

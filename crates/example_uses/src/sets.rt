@@ -1,8 +1,7 @@
 //! Sets: maps whose values are `()`.
-ghost use Rattle.std.specs.Prelude.{◌≡◌, filter, is_some};
-ghost use Rattle.std.specs.List.{list_all};
+ghost use Rattle.std.specs.Prelude.{◌≡◌, IsNone, IsSome, IsTrue, None};
 ghost use Rattle.std.specs.Ordering.{nat_cmp};
-ghost use Rattle.litemap_store.specs.Pairs.{at};
+ghost use Rattle.litemap_store.specs.Pairs.{value_at};
 
 use litemap::VecMap;
 
@@ -11,14 +10,18 @@ pub type Set = VecMap<u32, ()>;
 
 /// Keeps the elements that the other set has too.
 pub fn intersect(set: &mut Set, other: &Set)
-    ensures { set.new.pairs ≡ filter (λ p. is_some (at nat_cmp other.now.pairs p.0)) set.old.pairs }
+    ensures common { (element : _) → IsSome (value_at nat_cmp other.now.pairs element)
+        → value_at nat_cmp set.new.pairs element ≡ value_at nat_cmp set.old.pairs element }
+    ensures gone { (element : _) → IsNone (value_at nat_cmp other.now.pairs element)
+        → value_at nat_cmp set.new.pairs element ≡ None }
 {
     set.keep_keys_of(other);
 }
 
 /// Whether the other set has each element.
 pub fn is_subset(set: &Set, other: &Set) -> bool
-    ensures { result ≡ list_all (λ p. is_some (at nat_cmp other.now.pairs p.0)) set.now.pairs }
+    ensures { IsTrue result → (element : _) → IsSome (value_at nat_cmp set.now.pairs element)
+        → IsSome (value_at nat_cmp other.now.pairs element) }
 {
     set.is_subset(other)
 }

@@ -5,6 +5,7 @@ pub mod Lists
 pub mod Numbers
 pub mod Outcomes
 pub mod Places
+pub mod Retained
 pub mod Sets
 pub mod Texts
 pub mod Cuts

@@ -1,8 +1,9 @@
 -- Two rising lists, where one is gone through beside the other.
 --     list_all-past      whether each is found, after the first one
 --     at_end, at_equal, at_greater      what a key finds, and the pairs past it, by the first pair;  Kept-beside      what a closure keeps that goes through the other list
---     value_at-kept      what a look-up finds in it
-use Rattle.std.proofs.Common.{◌≡◌, Bool, true, false, cond, List, [], ◌∷◌, length, filter, is_some, slice_get, Option, None, Some, option_map, refl, sym, ap, ◌∙◌, subst, arith}
+--     value_at-kept      what a look-up finds in it;  found_in_each      what it finds where each key is in the other list
+use Rattle.std.proofs.Common.{◌≡◌, IsSome, Bool, true, false, cond, List, [], ◌∷◌, length, filter, is_some, slice_get, Option, None, Some, option_map, refl, sym, ap, ◌∙◌, subst, arith}
+use Rattle.std.proofs.lemmas.Bool.{and_parts}
 use Rattle.std.specs.Cmp.{IsTotalOrder}
 use Rattle.std.specs.List.{AllByRecursion, items_where_true, list_all}
 use Rattle.std.specs.List.Retain.{ReturnsInTurn}
@@ -134,3 +135,18 @@ module _ {K : Type 0} {cmp : K → K → Ordering} (o : IsTotalOrder cmp) {W : T
 
     pub value_at-kept : (L N : List (K × V)) → N ≡ filter (λ q. t (is_some (at cmp M q.0))) L → value_at cmp N k ≡ cond (t (is_some (at cmp M k))) (value_at cmp L k) None
     value_at-kept L N is = rw is (ap (option_map (λ q. q.1)) (at-kept L) ∙ value_at_by (at cmp L k) (keeps k))
+
+-- ---- what a look-up finds where each key is in another list
+module _ {K W : Type 0} {cmp : K → K → Ordering} (o : IsTotalOrder cmp) (M : List (K × W)) (k : K) where
+  found_at : (x : K) → cmp x k ≡ Equal → is_some (at cmp M x) ≡ true → IsSome (value_at cmp M k)
+  found_at x e is = rw (value_at_equal o M x k e) (elim (at cmp M x) as (λ r. is_some r ≡ true → IsSome (option_map (λ q. q.1) r)) [ None ↦ λ n. n | Some p ↦ λ n. refl ] is)
+
+  pub found_in_each : {V : Type 0} (L : List (K × V)) → list_all (λ p. is_some (at cmp M p.0)) L ≡ true → IsSome (value_at cmp L k) → IsSome (value_at cmp M k)
+  found_in_each [] all is = absurd (cc)
+  found_in_each (p ∷ L) all is =
+      let both = and_parts (is_some (at cmp M p.0)) (list_all (λ q. is_some (at cmp M q.0)) L) all in
+      (elim (cmp p.0 k) as (λ r. cmp p.0 k ≡ r → IsSome (value_at cmp M k)) [
+        | Less ↦ λ e. found_in_each L both.1 (rw e at is)
+        | Equal ↦ λ e. found_at p.0 e both.0
+        | Greater ↦ λ e. found_in_each L both.1 (rw e at is)
+      ]) refl

@@ -6,6 +6,7 @@ pub mod Conversions
 pub mod Entries
 pub mod FoundBy
 pub mod Lends
+pub mod Retained
 pub mod Seen
 pub mod Steps
 pub mod TryFault

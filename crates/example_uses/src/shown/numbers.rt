@@ -12,7 +12,7 @@ pub(crate) fn show(rt: &impl Print, alloc: Global) -> anyhow::Result<()> {
     show_stock(rt, alloc)
 }
 
-// Ages that are set and noted, corrected by number and at a place, kept from 20 on, and forgotten.
+// Ages that are set and noted, corrected by number and at a place, dropped below 2, and forgotten.
 fn show_ages(rt: &impl Print, alloc: Global) -> anyhow::Result<()> {
     let mut ages = Ages::new_vec(alloc);
     for (id, age) in [(3, 30), (1, 10), (2, 20), (5, 50)] {
@@ -25,9 +25,9 @@ fn show_ages(rt: &impl Print, alloc: Global) -> anyhow::Result<()> {
     ];
     numbers::correct_at(&mut ages, 0, 19);
     println!(rt; "ages {ages:?}, corrected {is_there:?}")?;
-    numbers::keep_from(&mut ages, 20);
+    let dropped = numbers::drop_below(&mut ages, 2);
     let forgotten = numbers::forget(&mut ages, 5);
-    println!(rt; "from 20 on {ages:?}, forgotten {forgotten:?}")?;
+    println!(rt; "from 2 on {ages:?}, dropped {dropped}, forgotten {forgotten:?}")?;
     Ok(())
 }
 

@@ -1,6 +1,6 @@
 //! Calls that change a map.
 ghost use Rattle.std.specs.Prelude.{◌≡◌, ◌↔◌, ◌+◌, ◌≤◌, ◌<◌, [], ◌∷◌, ◌++◌, length, slice_get, remove, filter, Bool, Some};
-ghost use Rattle.std.specs.Prelude.{IsNone, IsSome, IsTrue, IsOk, Ok, IfOk, OnOk, OnErr};
+ghost use Rattle.std.specs.Prelude.{IsNone, IsSome, IsTrue, IsOk, None, Ok, IfOk, OnOk, OnErr, true, false};
 ghost use Rattle.std.specs.Fn.{FnOnceReturnsAt, FnOnceTakesAt};
 ghost use Rattle.litemap_store.specs.Counts.{RisesByAtMost};
 ghost use Rattle.litemap_store.specs.Digits.{digits};
@@ -10,6 +10,7 @@ ghost use Rattle.litemap_store.specs.Search.{CallableOnKeys};
 ghost use Rattle.litemap_store.specs.Splits.{IsMissingAt};
 ghost use Rattle.litemap.specs.Changes.{AddsIf, Inserts, RefusedFull};
 ghost use Rattle.litemap.specs.FoundBy.{RemovesFound};
+ghost use Rattle.litemap.specs.Retained.{AnswersAt};
 ghost use Rattle.litemap.specs.TryFault.{FailsAs, IfClosure};
 
 use crate::{LiteMap, TryFault};
@@ -336,6 +337,12 @@ impl<K: Ord + Drop, V: Drop, S: StoreBulkMut<K, V>> LiteMap<K, V, S> {
         ensures kept { Kept F.FnMut f self.old.pairs self.new.pairs }
         ensures filtered { (test : K × V → Bool)
             → Tests F.FnMut f test → self.new.pairs ≡ filter test self.old.pairs }
+        // What a look-up finds: what it found, where `f` answers yes of that pair; nothing, where it answers no.
+        ensures stays { (key : K) → AnswersAt F.FnMut f K.cmp self.old.pairs key true
+            → value_at K.cmp self.new.pairs key ≡ value_at K.cmp self.old.pairs key }
+        ensures gone { (key : K) → AnswersAt F.FnMut f K.cmp self.old.pairs key false
+            → value_at K.cmp self.new.pairs key ≡ None }
+        ensures fewer { length self.new.pairs ≤ length self.old.pairs }
         ensures room { self.old.room + length self.old.pairs ≤ self.new.room + length self.new.pairs }
     {
         self.store.lm_retain(f);

@@ -1,5 +1,5 @@
 //! The keys of two maps side by side: what both have, and what one lacks.
-ghost use Rattle.std.specs.Prelude.{◌≡◌, ◌+◌, ◌≤◌, None, cond, filter, is_some, length, not};
+ghost use Rattle.std.specs.Prelude.{◌≡◌, ◌+◌, ◌≤◌, IsSome, IsTrue, None, cond, filter, is_some, length, not};
 ghost use Rattle.std.specs.List.{list_all};
 ghost use Rattle.litemap_store.specs.Counts.{GoesOn, RisesByAtMost};
 ghost use Rattle.litemap_store.specs.Pairs.{Rising, above, at, value_at};
@@ -21,7 +21,9 @@ impl<K: Ord, V, S: Store<K, V>> LiteMap<K, V, S> {
     /// Ok(open.is_subset(&days) && !days.is_subset(&open))
     /// ```
     pub fn is_subset<W, T: Store<K, W>>(&self, other: &LiteMap<K, W, T>) -> bool
-        ensures { result ≡ list_all (λ p. is_some (at K.cmp other.now.pairs p.0)) self.now.pairs }
+        ensures all { result ≡ list_all (λ p. is_some (at K.cmp other.now.pairs p.0)) self.now.pairs }
+        ensures found { IsTrue result → (key : K)
+            → IsSome (value_at K.cmp self.now.pairs key) → IsSome (value_at K.cmp other.now.pairs key) }
     {
         self.is_subset_counted(other, &mut Count::new())
     }

@@ -1,6 +1,7 @@
 use Rattle.std.proofs.Common.{◌∙◌, ap, filter}
 use Rattle.std.proofs.lemmas.Fn.{filter_same}
 use Rattle.litemap_store.proofs.Retaining.{Rising-from_Kept}
+use Rattle.litemap.proofs.Retained.{length-kept, value_at-kept_no, value_at-kept_yes}
 use Rattle.litemap.proofs.map.LiteMap.retain.Goals as goal
 
 pub invariant_of-self : goal.invariant_of-self
@@ -10,3 +11,15 @@ invariant_of-self g c =
 pub returns-clause-filtered : goal.returns-clause-filtered
 returns-clause-filtered g c = λ test tests.
     filter_same _ test c.args.f tests _ _ c.lm_retain.ensures.kept ∙ ap (filter test) (ap (λ m. m.pairs) c.self.view_is)
+
+pub returns-clause-stays : goal.returns-clause-stays
+returns-clause-stays g c = λ key.
+    value_at-kept_yes g.K.Ord.cmp key g.F.FnMut c.args.f _ _ _ c.lm_retain.ensures.kept (ap (λ m. m.pairs) c.self.view_is)
+
+pub returns-clause-gone : goal.returns-clause-gone
+returns-clause-gone g c = λ key.
+    value_at-kept_no g.K.Ord.cmp key g.F.FnMut c.args.f _ _ _ c.lm_retain.ensures.kept (ap (λ m. m.pairs) c.self.view_is) g.met.K.Ord.total c.self.invariant
+
+pub returns-clause-fewer : goal.returns-clause-fewer
+returns-clause-fewer g c =
+    length-kept g.F.FnMut c.args.f _ _ _ c.lm_retain.ensures.kept (ap (λ m. m.pairs) c.self.view_is)
