@@ -13,7 +13,7 @@ use serde::{Serialize, Serializer};
 /// ```rust
 /// /// Names of points.
 /// #[serde(with = "litemap_serde::pairs")]
-/// pub at: VecMap<(i32, i32), String>,
+/// pub at: VecMap<Point, String>,
 /// ```
 pub fn serialize<K: Serialize + Ord, V: Serialize, S: Store<K, V>, W: Serializer>(
     map: &LiteMap<K, V, S>,
