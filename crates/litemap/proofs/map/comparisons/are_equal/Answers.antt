@@ -1,6 +1,5 @@
 use Rattle.std.proofs.Common.{◌&&◌, ap, arith, option_map, sym, ◌∙◌}
 use Rattle.std.proofs.lemmas.List.{drop_all}
-use Rattle.std.specs.Cmp.Lexicographic.{unequal}
 use Rattle.std.specs.Map.Iter.{deref_pair}
 use Rattle.litemap.proofs.Places.{is_there, pointwise_ends, pointwise_on}
 use Rattle.litemap.proofs.map.comparisons.are_equal.Goals as goal
