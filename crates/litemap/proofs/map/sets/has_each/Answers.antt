@@ -1,4 +1,4 @@
-use Rattle.std.proofs.Common.{◌≡◌, ◌+◌, ◌∷◌, ◌∙◌, length, sym, ap, subst, arith}
+use Rattle.std.proofs.Common.{◌∙◌, length, sym, ap, subst, arith}
 use Rattle.litemap_store.specs.Pairs.{Rising}
 use Rattle.litemap.proofs.Cuts.{Rising-filter}
 use Rattle.litemap.proofs.Sets.{list_all-past}
