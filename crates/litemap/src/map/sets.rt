@@ -37,7 +37,11 @@ impl<K: Ord, V, S: Store<K, V>> LiteMap<K, V, S> {
         ensures all { result ≡ list_all (λ p. is_some (at K.cmp other.now.pairs p.0)) self.now.pairs }
         ensures cost { RisesByAtMost (length self.now.pairs + length other.now.pairs) count.old count.new }
     {
-        has_each(RangeIter::all(&other.store), RangeIter::all(&self.store), count)
+        has_each(
+            RangeIter::all(&other.store),
+            RangeIter::all(&self.store),
+            count,
+        )
     }
 }
 

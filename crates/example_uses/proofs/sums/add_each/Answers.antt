@@ -37,8 +37,8 @@ loop-index-preserved c =
       rise = Rising-left nat_cmp M (p ∷ []) rises;
       there = λ i h. there-raised S p.0 _ p.1 i here (inv.there i (subst (λ N. IsSome (value_at nat_cmp N i)) (sym whole) (there-end M p i h)));
       total = λ i.
-        let raised = number_at-raised S p.0 _ p.1 i here in
-        let parted = ap (λ N. number_at N i) whole ∙ number_at-end M p i rises in
-        let before = inv.total i in
-        omega arith;
+          let raised = number_at-raised S p.0 _ p.1 i here in
+          let parted = ap (λ N. number_at N i) whole ∙ number_at-end M p i rises in
+          let before = inv.total i in
+          omega arith;
     }

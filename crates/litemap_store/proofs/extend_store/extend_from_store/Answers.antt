@@ -95,6 +95,7 @@ returns-clause-none g c = rw (← c.in_ok-rest.ensures.left) c.unless_empty.ensu
 
 pub returns-clause-left : goal.returns-clause-left
 returns-clause-left g c = rw (← c.in_ok-rest.ensures.left) c.unless_empty.ensures.some
+
 pub returns-clause-behind : goal.returns-clause-behind
 returns-clause-behind g c = λ h r.
     absurd (true≢false (sym (c.lies_below.ensures.below.1 (Rising-from_Rises g.K.Ord.cmp _ _ c.requires.store h)) ∙ c.if-lies_below.false))
