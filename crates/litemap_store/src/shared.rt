@@ -23,7 +23,7 @@ pub fn insert_reserved<T>(items: &mut Vec<T>, index: usize, item: T)
 }
 
 /// Takes out the item at an index, and moves the later ones down (own). The last one leaves with none to move.
-pub(crate) fn remove_at<T>(items: &mut Vec<T>, index: usize) -> T
+pub fn remove_at<T>(items: &mut Vec<T>, index: usize) -> T
     requires { index < vec_len items.old }
     ensures value { result ≡ slice_index_or items.old.items index result }
     ensures items { items.new.items ≡ remove items.old.items index }
