@@ -54,7 +54,7 @@ pub enum Call {
 
 impl Call {
     /// All calls.
-    pub const ALL: [Call; 20] = [
+    pub const ALL: [Call; 21] = [
         Call::Get,
         Call::GetMissing,
         Call::Iterate,
