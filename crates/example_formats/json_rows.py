@@ -4,7 +4,7 @@ The rows are those below, written by hand with their answers; for each type of w
 each, and other spellings, as keys in arrays, as names in objects and as items; and long texts and maps of up to 1,000 pairs,
 with faults at early and late places. No answer is the program's own: those of whole numbers are told by Python's integers,
 and those of long maps by Python's order. The program reads each row over a vector and
-over two columns, but those of `limits`, which are the rows of `levels` again, and of `names`.
+over two columns, but those of `limits`, which are the rows of `levels` again, of `names` and of `overlay`.
 """
 
 WHOLE = {f"{kind}{bits}": (0 if kind == "u" else -(2 ** (bits - 1)), 2 ** (bits if kind == "u" else bits - 1) - 1)
@@ -111,6 +111,9 @@ ROWS = [
     # numbers by their names
     ("names", '{"b":2,"a":1,"":0,"ab":4294967295}', '{"":0,"a":1,"ab":4294967295,"b":2}'), ("names", '[["b",2],["b",3]]', '{"b":3}'),
     ("names", "{}", "[]"), ("names", "[", "no JSON"), ("names", "7", NOT_A_MAP), ("names", '{"a":-1}', item(0, RANGE)),
+    # two settings overlaid
+    ("overlay", '{"fr":"French","en":"English"}', '{"de":"","en":"English","fr":"French"}'), ("overlay", "[]", '{"de":"","fr":""}'),
+    ("overlay", "[", "no JSON"), ("overlay", '{"de":1}', item(0, SHAPE)), ("overlay", "7", NOT_A_MAP),
     # pairs of pairs
     ("nested", "[[[[1,true],\"x\"],[7,[false,-8]]]]", None),
     ("nested", '[[[[1,true],"x"],[7,[false,-8]]],[[[1,false],"y"],[0,[true,127]]],[[[0,true],"z"],[1,[true,0]]]]',

@@ -1,6 +1,7 @@
 //! What answers a line.
 use crate::evens::Even;
 use crate::levels::Level;
+use crate::overlay::{OverlayFault, Settings, overlay};
 use crate::{limits, names, told};
 use litemap::LiteMap;
 use litemap::store::{Store, StoreBulkMut};
@@ -42,6 +43,7 @@ pub fn answer(alloc: Global, line: &str) -> Result<String, AllocError> {
         "levels" => written::<Level, u32, ShortStore<Level, u32>>(alloc, text),
         "limits" => copied_limits(alloc, text),
         "names" => copied_names(alloc, text),
+        "overlay" => overlaid(alloc, text),
         "told" => told::answer(alloc, text),
         "nested" => written::<
             ((u8, bool), String),
@@ -107,6 +109,20 @@ fn copied_names(alloc: Global, text: &str) -> Result<String, AllocError> {
         Err(fault) => Err(fault),
     };
     shown(alloc, map.as_ref())
+}
+
+// Two settings with those of a text over them, or why they stay.
+fn overlaid(alloc: Global, text: &str) -> Result<String, AllocError> {
+    let mut settings = Settings::new_vec(alloc);
+    for name in ["de", "fr"] {
+        settings.insert(String::from_str(alloc, name)?, String::from_str(alloc, "")?)?;
+    }
+    match overlay(&mut settings, alloc, text) {
+        Ok(()) => shown(alloc, Ok(&settings)),
+        Err(OverlayFault::Text) => String::from_str(alloc, "no JSON"),
+        Err(OverlayFault::Settings(fault)) => format!(in alloc; "{fault}"),
+        Err(OverlayFault::Memory) => Err(AllocError),
+    }
 }
 
 // The map as JSON, by `to_json` and `write_json`, or why it was not read or not written.

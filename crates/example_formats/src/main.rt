@@ -3,9 +3,9 @@
 //! answers.
 //!
 //! - `json TYPES TEXT`: what the map that a JSON text is read as is written as, or why it was not read or not written. `TYPES`
-//!   names the types of the keys and of the items (`json_rows`). Each text but those of `limits` and `names` is read over a
-//!   vector, over two columns and over a short store, and the line shows the answers where they differ. `json told TYPES TEXT`:
-//!   the fault as it is shown to people (`told`).
+//!   names the types of the keys and of the items (`json_rows`). Each text but those of `limits`, `names` and `overlay` is read
+//!   over a vector, over two columns and over a short store, and the line shows the answers where they differ. `json told TYPES
+//!   TEXT`: the fault as it is shown to people (`told`).
 //! - `serde WHAT TEXT`: what is written of what a JSON text is read as through serde, or why not (`serde_rows`). For TOML and CSV
 //!   `TEXT` is the JSON string of one.
 //! - `table ..`: what is read, found or written of the bytes of a name table or an index of names (`table_rows`).
@@ -32,6 +32,7 @@ pub mod levels;
 pub mod limits;
 mod long;
 pub mod names;
+pub mod overlay;
 pub mod prefixes;
 mod serde_rows;
 mod shapes;

@@ -1,0 +1,63 @@
+//! Settings that a JSON text overlays.
+ghost use Rattle.std.specs.Prelude.{◌≡◌, OnErr, OnOk, Some};
+ghost use Rattle.std.specs.Option.{option_or};
+ghost use Rattle.std.specs.String.{string_cmp};
+ghost use Rattle.serde_json.specs.Read.{read};
+ghost use Rattle.serde_json.specs.View.{view};
+ghost use Rattle.litemap_json.specs.Reading.{ReadsAs};
+ghost use Rattle.litemap_store.specs.Pairs.{value_at};
+ghost use Rattle.litemap_store.specs.Queries.{by_text};
+
+use litemap::VecMap;
+use litemap_json::{JsonFault, JsonItem, JsonKey, from_json};
+use serde_json::Value;
+use std::alloc::Global;
+
+/// Settings by their names.
+pub type Settings = VecMap<String, String>;
+
+/// Why nothing was overlaid.
+#[derive(Debug, Drop)]
+pub enum OverlayFault {
+    /// The text is no JSON, or memory ran out.
+    Text,
+    /// It spells no settings, or memory ran out.
+    Settings(JsonFault),
+    /// Memory ran out.
+    Memory,
+}
+
+/// Puts the settings that a JSON text spells over those that are there. An error leaves them.
+pub fn overlay(settings: &mut Settings, alloc: Global, text: &str) -> Result<(), OverlayFault>
+    ensures found { OnOk result ((tree : _) × (read text.now ≡ Some tree) × (user : _)
+        × ReadsAs string_cmp ⟦<String as JsonKey>⟧.key ⟦<String as JsonItem>⟧.item ⟦<String as JsonItem>⟧.item
+        ⟦<String as JsonItem>⟧.json ⟦<String as JsonItem>⟧.json tree user
+        × ((name : _) → value_at by_text settings.new.pairs name
+        ≡ option_or (value_at by_text user name) (value_at by_text settings.old.pairs name))) }
+    ensures refused { OnErr result (settings.new.pairs ≡ settings.old.pairs) }
+{
+    let Ok(value) = Value::from_str(alloc, text) else {
+        return Err(OverlayFault::Text);
+    };
+    overlay_value(settings, alloc, &value)
+}
+
+// Puts the settings that a value spells over those that are there.
+#[tactic(auto, using(litemap::proofs::Texts::text_keys))]
+fn overlay_value(settings: &mut Settings, alloc: Global, value: &Value) -> Result<(), OverlayFault>
+    ensures found { OnOk result ((user : _)
+        × ReadsAs string_cmp ⟦<String as JsonKey>⟧.key ⟦<String as JsonItem>⟧.item ⟦<String as JsonItem>⟧.item
+        ⟦<String as JsonItem>⟧.json ⟦<String as JsonItem>⟧.json (view value.now) user
+        × ((name : _) → value_at by_text settings.new.pairs name
+        ≡ option_or (value_at by_text user name) (value_at by_text settings.old.pairs name))) }
+    ensures refused { OnErr result (settings.new.pairs ≡ settings.old.pairs) }
+{
+    let user: Settings = match from_json(alloc, value) {
+        Ok(user) => user,
+        Err(fault) => return Err(OverlayFault::Settings(fault)),
+    };
+    let Ok(_) = settings.extend_from_litemap(alloc, user) else {
+        return Err(OverlayFault::Memory);
+    };
+    Ok(())
+}
