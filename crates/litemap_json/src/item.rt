@@ -34,19 +34,6 @@ pub enum ItemFault {
 /// A type whose values are written as JSON, and read back.
 ///
 /// A contract tells a value by its tree, `json x`, and what a tree spells by the tree of that value, `item d`.
-///
-/// ```rust
-/// impl JsonItem for Level {
-///     ghost json = { json_of };
-///
-///     ghost item = { level_item };
-///
-///     fn to_value(&self, alloc: Global) -> Result<Value, AllocError> {
-///         Value::try_from_str(alloc, word(*self))
-///     }
-///     // ...
-/// }
-/// ```
 pub trait JsonItem {
     /// The tree of a value. Values with one tree are the same to a reader.
     ghost json: { Self → Data };
@@ -97,19 +84,6 @@ pub trait JsonItem {
 /// as JSON values.
 ///
 /// A contract tells a key's text by `text k`, and the key that a text spells by that key's tree, `key s`.
-///
-/// ```rust
-/// impl JsonKey for Level {
-///     ghost text = { λ level. Some (word_of level) };
-///
-///     ghost key = { level_key };
-///
-///     fn key_text(&self, alloc: Global) -> Result<Option<String>, AllocError> {
-///         Ok(Some(String::from_str(alloc, word(*self))?))
-///     }
-///     // ...
-/// }
-/// ```
 pub trait JsonKey: JsonItem + Ord {
     /// The text that stands for a key as a member's name, if it has one.
     ghost text: { Self → Option (List ℕ) };

@@ -14,20 +14,6 @@ use std::io;
 /// may come to its end. Each call of `next_pair` gives the first pair and drops it from the list; or `None`, only where the
 /// list is empty and the source may come to its end; or a fault that it may answer, and then the list stays. Which faults it
 /// may answer, and whether it may come to its end, never changes.
-///
-/// ```rust
-/// fn next_pair(&mut self) -> Result<Option<(&'a str, &'a str)>, Nameless> {
-///     let fields = self.rest;
-///     let Some(field) = fields.first() else {
-///         return Ok(None);
-///     };
-///     if field.name.is_empty() {
-///         return Err(Nameless);
-///     }
-///     self.rest = &fields[1..];
-///     Ok(Some((field.name, field.value)))
-/// }
-/// ```
 pub trait PairSource<K, V> {
     /// What can go wrong. A source where nothing can takes `NoFault`.
     type Fault;

@@ -31,12 +31,6 @@ pub trait StoreIntoIterator<K: Drop, V: Drop>: StoreMut<K, V> + Sized {
     type KeyValueIntoIter: PairIntoIter<K, V>;
 
     /// All pairs once, in order.
-    ///
-    /// ```rust
-    /// fn lm_into_iter(self) -> IntoIter<(K, V)> {
-    ///     self.items.into_iter()
-    /// }
-    /// ```
     fn lm_into_iter(self) -> Self::KeyValueIntoIter
         ensures { Self.KeyValueIntoIter.owned result ≡ Self.pairs self };
 

@@ -20,22 +20,6 @@ use std::sync::ArcStr;
 /// lists, or a type of a user's own.
 ///
 /// The Rust crate has `K: Borrow<Q>` with `Q: Ord` here.
-///
-/// ```rust
-/// impl Query<Person> for Number {
-///     ghost Sought = { ℕ };
-///
-///     ghost sought = { λ query. query.0 };
-///
-///     ghost order = { λ person number. nat_cmp person.number number };
-///
-///     ghost one_side = { λ number a b. key_one_side nat_cmp_total number a.number b.number };
-///
-///     fn compare_key(&self, key: &Person) -> Ordering {
-///         key.number.cmp(&self.0)
-///     }
-/// }
-/// ```
 pub trait Query<K: Ord>: Copy {
     /// What it looks for: a key, or what keys are compared with.
     ghost Sought: { Type 0 };
@@ -47,12 +31,6 @@ pub trait Query<K: Ord>: Copy {
     ghost order: { K → Sought → Ordering };
 
     /// How the key stands to the query: `Less` where it is below it.
-    ///
-    /// ```rust
-    /// fn compare_key(&self, key: &Person) -> Ordering {
-    ///     key.number.cmp(&self.0)
-    /// }
-    /// ```
     fn compare_key(&self, key: &K) -> Ordering
         ensures { result ≡ order key.now (sought self.now) };
 
