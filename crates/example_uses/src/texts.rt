@@ -1,7 +1,9 @@
 //! Maps asked by what can stand for a key: texts and bytes that are borrowed, and keys.
-ghost use Rattle.std.specs.Prelude.{◌≡◌, ◌≢◌, IsTrue, None, Some};
+ghost use Rattle.std.specs.Prelude.{◌≡◌, ◌≢◌, ◌==◌, IsTrue, None, Some};
 ghost use Rattle.std.specs.Prelude.{is_some, string_bytes};
 ghost use Rattle.std.specs.Bool.{IsFalse};
+ghost use Rattle.std.specs.List.{before_first};
+ghost use Rattle.std.specs.Option.{option_or};
 ghost use Rattle.std.specs.Ordering.{nat_cmp};
 ghost use Rattle.std.specs.String.{string_cmp};
 ghost use Rattle.std.specs.declared.cmp.Ordering.TheVariants.{Equal};
@@ -23,6 +25,19 @@ pub fn has_name(map: &Numbers, name: &str) -> bool
     ensures { result ≡ is_some (at by_text map.now.pairs name.now) }
 {
     map.contains_key(name)
+}
+
+/// The number at a tag such as `de-CH`, else that at its language, which stands before the first `-`.
+#[tactic(auto, using(std::proofs::lemmas::Str::Pattern::split_once_first))]
+pub fn number_of_locale(map: &Numbers, tag: &str) -> Option<u32>
+    ensures { result ≡ option_or (value_at by_text map.now.pairs tag.now)
+        (value_at by_text map.now.pairs (before_first (λ b. b == 45) tag.now)) }
+{
+    let language = match tag.split_once('-') {
+        Some((language, _)) => language,
+        None => tag,
+    };
+    map.get(tag).or(map.get(language)).copied()
 }
 
 /// Takes a key out that is a text of its own. All others stay.

@@ -10,6 +10,7 @@ pub(crate) fn show(rt: &impl Print, alloc: Global) -> anyhow::Result<()> {
     for name in ["", "one", "ones", "two"] {
         show_name(rt, alloc, name)?;
     }
+    show_locales(rt, alloc)?;
     show_renamed(rt, alloc)?;
     for bytes in [[1, 2].as_slice(), &[1], &[2]] {
         show_bytes(rt, &mut one_at_bytes(alloc)?, bytes)?;
@@ -36,6 +37,16 @@ fn show_name(rt: &impl Print, alloc: Global, name: &str) -> anyhow::Result<()> {
     println!(rt;
         "{name:?}: there {is_there:?}, set {is_set}, {found:?}, taken {taken:?}, left {map:?}"
     )?;
+    Ok(())
+}
+
+// The number at a tag, or at what stands before its first `-`.
+fn show_locales(rt: &impl Print, alloc: Global) -> anyhow::Result<()> {
+    let map = two_names(alloc)?;
+    for tag in ["one", "one-two", "two--", "-one", "ones"] {
+        let number = texts::number_of_locale(&map, tag);
+        println!(rt; "locale {tag:?}: {number:?}")?;
+    }
     Ok(())
 }
 
