@@ -78,7 +78,7 @@ impl<K: Ord, V, S: Store<K, V>> LiteMap<K, V, S> {
         requires rising { KeysKeepOrder K.cmp L.cmp (FnReturnsAt F.Fn f) self.now.pairs }
         ensures { IfOk result (λ m. PairsBecame (FnReturnsAt F.Fn f) V.is_clone self.now.pairs m.pairs) }
     {
-        converted(&self.store, alloc, &Answered { f }, &Cloned)
+        keyed_by(&self.store, alloc, f)
     }
 }
 
@@ -123,6 +123,27 @@ impl<'a, K: Ord + 'a, V: 'a, S: Store<K, V>> LiteMap<K, V, S> {
     {
         converted(&self.store, alloc, &Cloned, &Lent)
     }
+}
+
+// The map with the keys that a closure answers for those of a store, and clones of the values.
+fn keyed_by<'a, K, V, S, L, B, F>(
+    store: &'a S,
+    alloc: Global,
+    f: F,
+) -> Result<LiteMap<L, V, B>, AllocError>
+where
+    K: Ord + 'a,
+    V: Clone + 'a,
+    S: Store<K, V>,
+    L: Ord + Drop,
+    B: StoreMut<L, V> + Drop,
+    F: Fn(&K) -> L + Drop,
+    requires rises { Rising K.cmp (S.pairs store.now) }
+    requires callable { TakesKeys F.Fn f (S.pairs store.now) }
+    requires rising { KeysKeepOrder K.cmp L.cmp (FnReturnsAt F.Fn f) (S.pairs store.now) }
+    ensures { IfOk result (λ m. PairsBecame (FnReturnsAt F.Fn f) V.is_clone (S.pairs store.now) m.pairs) }
+{
+    converted(store, alloc, &Answered { f }, &Cloned)
 }
 
 // The map of what the pairs of a store become.
