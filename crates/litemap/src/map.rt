@@ -63,13 +63,6 @@ impl<K: Ord, V, S: Store<K, V>> Model for LiteMap<K, V, S> {
 
 impl<K: Ord, V> LiteMap<K, V, Vec<(K, V)>> {
     /// The empty map over a vector. It takes no memory.
-    ///
-    /// ```rust
-    /// let mut days = LiteMap::new_vec(alloc);
-    /// days.insert(3, "Wednesday")?;
-    /// days.insert(1, "Monday")?;
-    /// Ok(days.as_slice() == [(1, "Monday"), (3, "Wednesday")].as_slice())
-    /// ```
     pub fn new_vec(alloc: Global) -> Self
         ensures pairs { result.pairs ≡ [] }
         ensures room { result.room ≡ 0 }
@@ -193,12 +186,6 @@ impl<K: Ord, V, S: StoreMut<K, V>> LiteMap<K, V, S> {
 }
 
 /// Printed as a map. No text is promised.
-///
-/// ```rust
-/// // days: 1 Monday, 3 Wednesday, 5 Friday
-/// let text = format!(in alloc; "{days:?}")?;
-/// Ok(text.as_str() == r#"{1: "Monday", 3: "Wednesday", 5: "Friday"}"#)
-/// ```
 impl<K: Ord + Debug, V: Debug, S: Store<K, V>> Debug for LiteMap<K, V, S> {
     fn fmt<W: Write>(&self, f: &mut Formatter<W>) -> fmt::Result {
         let mut out = f.debug_map();

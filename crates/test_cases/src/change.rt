@@ -5,7 +5,7 @@ use litemap::{LiteMap, TryFault, VecMap};
 use std::alloc::{AllocError, Global};
 
 /// How the examples came out, by their calls.
-pub(crate) fn examples(alloc: Global) -> [Shown; 17] {
+pub(crate) fn examples(alloc: Global) -> [Shown; 14] {
     [
         ("from_iter", from_iter(alloc)),
         ("extend", extend(alloc)),
@@ -15,12 +15,9 @@ pub(crate) fn examples(alloc: Global) -> [Shown; 17] {
         ("try_get_or_insert", try_get_or_insert(alloc)),
         ("try_find_or_insert", try_find_or_insert(alloc)),
         ("remove", remove(alloc)),
-        ("reserve", reserve(alloc)),
         ("retain", retain(alloc)),
         ("extend_from_litemap", extend_from_litemap(alloc)),
-        ("is_subset", is_subset(alloc)),
         ("keep_keys_of", keep_keys_of(alloc)),
-        ("remove_keys_of", remove_keys_of(alloc)),
         ("split_off", split_off(alloc)),
         ("update", update(alloc)),
         ("get_mut", get_mut(alloc)),
@@ -78,12 +75,6 @@ fn remove(alloc: Global) -> anyhow::Result<bool> {
     Ok(days.remove(&3) == Some("Wednesday") && days.remove(&3).is_none())
 }
 
-fn reserve(alloc: Global) -> anyhow::Result<bool> {
-    let mut days = three_days(alloc)?;
-    days.reserve(1)?;
-    Ok(days.insert(7, "Sunday") == Ok(None))
-}
-
 fn retain(alloc: Global) -> anyhow::Result<bool> {
     let mut days = three_days(alloc)?;
     days.retain(|number, _name| *number < 4);
@@ -99,23 +90,10 @@ fn extend_from_litemap(alloc: Global) -> anyhow::Result<bool> {
     }
 }
 
-fn is_subset(alloc: Global) -> anyhow::Result<bool> {
-    let days = three_days(alloc)?;
-    let open: VecMap<u32, ()> = LiteMap::from_iter(alloc, [(1, ()), (5, ())])?;
-    Ok(open.is_subset(&days) && !days.is_subset(&open))
-}
-
 fn keep_keys_of(alloc: Global) -> anyhow::Result<bool> {
     let mut days = three_days(alloc)?;
     let open: VecMap<u32, ()> = LiteMap::from_iter(alloc, [(1, ()), (2, ()), (5, ())])?;
     days.keep_keys_of(&open);
-    Ok(days.as_slice() == [(1, "Monday"), (5, "Friday")].as_slice())
-}
-
-fn remove_keys_of(alloc: Global) -> anyhow::Result<bool> {
-    let mut days = three_days(alloc)?;
-    let closed: VecMap<u32, ()> = LiteMap::from_iter(alloc, [(2, ()), (3, ())])?;
-    days.remove_keys_of(&closed);
     Ok(days.as_slice() == [(1, "Monday"), (5, "Friday")].as_slice())
 }
 

@@ -254,12 +254,6 @@ impl<K: Ord, V, S: StoreMut<K, V>> LiteMap<K, V, S> {
     }
 
     /// Takes this much room at least, or is refused for want of memory where there was less. The room is not lowered.
-    ///
-    /// ```rust
-    /// let mut days = three_days(alloc)?;
-    /// days.reserve(1)?;
-    /// Ok(days.insert(7, "Sunday") == Ok(None))
-    /// ```
     pub fn reserve(&mut self, additional: usize) -> Result<(), AllocError>
         ensures pairs { self.new.pairs ≡ self.old.pairs }
         ensures room { OnOk result (additional ≤ self.new.room) }

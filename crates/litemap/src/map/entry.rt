@@ -84,11 +84,6 @@ impl<'a, K: Ord, V, S: StoreMut<K, V>> Entry<'a, K, V, S> {
 
     /// The value, to be written. Where the key is not there, `default` is placed first, and the pairs with greater keys move up
     /// by one; without room key and value come back and the list stays.
-    ///
-    /// ```rust
-    /// // days: 1 Monday, 3 Wednesday, 5 Friday
-    /// Ok(*days.entry(1).or_insert("Mon")? == "Monday")
-    /// ```
     pub fn or_insert(self, default: V) -> Result<&'a mut V, NoRoom<(K, V)>>
     where
         V: Drop,

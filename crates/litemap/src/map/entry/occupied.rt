@@ -11,14 +11,6 @@ use std::mem;
 
 impl<'a, K: Ord, V, S: StoreMut<K, V>> OccupiedEntry<'a, K, V, S> {
     /// The key that is there, which need not be the one that was asked for.
-    ///
-    /// ```rust
-    /// // days: 1 Monday, 3 Wednesday, 5 Friday
-    /// match days.entry(1) {
-    ///     Entry::Occupied(entry) => Ok(*entry.key() == 1 && *entry.get() == "Monday"),
-    ///     Entry::Vacant(_) => Ok(false),
-    /// }
-    /// ```
     pub fn key(&self) -> &K
         ensures { entry_key (Occupied self.now) ≡ Some result.now }
     {
@@ -74,14 +66,6 @@ impl<'a, K: Ord, V, S: StoreMut<K, V>> OccupiedEntry<'a, K, V, S> {
 
     /// Takes out the pair, and answers its value. Its key is given up. The pairs with greater keys move down by one, and there
     /// is room for another pair then.
-    ///
-    /// ```rust
-    /// // days: 1 Monday, 3 Wednesday, 5 Friday
-    /// if let Entry::Occupied(entry) = days.entry(1) {
-    ///     entry.remove();
-    /// }
-    /// !days.contains_key(&1)
-    /// ```
     pub fn remove(self) -> V
     where
         K: Drop,
