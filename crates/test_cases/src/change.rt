@@ -10,11 +10,11 @@ pub(crate) fn examples(alloc: Global) -> [Shown; 14] {
         ("from_iter", from_iter(alloc)),
         ("extend", extend(alloc)),
         ("insert", insert(alloc)),
-        ("try_insert", try_insert(alloc)),
-        ("try_append", try_append(alloc)),
         ("try_get_or_insert", try_get_or_insert(alloc)),
         ("try_find_or_insert", try_find_or_insert(alloc)),
         ("remove", remove(alloc)),
+        ("try_insert", try_insert(alloc)),
+        ("try_append", try_append(alloc)),
         ("retain", retain(alloc)),
         ("extend_from_litemap", extend_from_litemap(alloc)),
         ("keep_keys_of", keep_keys_of(alloc)),
@@ -40,20 +40,6 @@ fn insert(alloc: Global) -> anyhow::Result<bool> {
     Ok(days.insert(2, "Tuesday")?.is_none() && days.insert(5, "Fri")? == Some("Friday"))
 }
 
-fn try_insert(alloc: Global) -> anyhow::Result<bool> {
-    let mut days = three_days(alloc)?;
-    let tuesday = days.try_insert(2, "Tuesday")?;
-    let friday = days.try_insert(5, "Fri")?;
-    Ok(tuesday.is_none() && friday == Some((5, "Fri")))
-}
-
-fn try_append(alloc: Global) -> anyhow::Result<bool> {
-    let mut days = three_days(alloc)?;
-    let saturday = days.try_append(6, "Saturday")?;
-    let tuesday = days.try_append(2, "Tuesday")?;
-    Ok(saturday.is_none() && tuesday == Some((2, "Tuesday")))
-}
-
 fn try_get_or_insert(alloc: Global) -> anyhow::Result<bool> {
     let mut days = three_days(alloc)?;
     match days.try_get_or_insert(7, |_number| Err("closed")) {
@@ -73,6 +59,20 @@ fn try_find_or_insert(alloc: Global) -> anyhow::Result<bool> {
 fn remove(alloc: Global) -> anyhow::Result<bool> {
     let mut days = three_days(alloc)?;
     Ok(days.remove(&3) == Some("Wednesday") && days.remove(&3).is_none())
+}
+
+fn try_insert(alloc: Global) -> anyhow::Result<bool> {
+    let mut days = three_days(alloc)?;
+    let tuesday = days.try_insert(2, "Tuesday")?;
+    let friday = days.try_insert(5, "Fri")?;
+    Ok(tuesday.is_none() && friday == Some((5, "Fri")))
+}
+
+fn try_append(alloc: Global) -> anyhow::Result<bool> {
+    let mut days = three_days(alloc)?;
+    let saturday = days.try_append(6, "Saturday")?;
+    let tuesday = days.try_append(2, "Tuesday")?;
+    Ok(saturday.is_none() && tuesday == Some((2, "Tuesday")))
 }
 
 fn retain(alloc: Global) -> anyhow::Result<bool> {

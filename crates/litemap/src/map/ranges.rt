@@ -133,9 +133,6 @@ impl<K: Ord, V, S: StoreSlice<K, V>> LiteMap<K, V, S> {
         ensures { result.pairs ≡ within Q.order self.now.pairs
             (bound_map Q.sought from) (bound_map Q.sought to) }
     {
-        match self.get_indexed_range(self.places(from, to)) {
-            Some(part) => part,
-            None => unreachable!(),
-        }
+        self.get_indexed_range(self.places(from, to)).unwrap()
     }
 }

@@ -14,10 +14,7 @@ impl<'a, K: Ord, V, S: StoreMut<K, V>> OccupiedEntry<'a, K, V, S> {
     pub fn key(&self) -> &K
         ensures { entry_key (Occupied self.now) ≡ Some result.now }
     {
-        match self.map.get_indexed(self.index) {
-            Some((key, _)) => key,
-            None => unreachable!(),
-        }
+        self.map.get_indexed(self.index).unwrap().0
     }
 
     /// The value.
@@ -43,9 +40,7 @@ impl<'a, K: Ord, V, S: StoreMut<K, V>> OccupiedEntry<'a, K, V, S> {
         ensures* writes_back { sem 𝓛 (IntoLends K.row V.row S.row self.entry result) }
         ensures value { entry_value (Occupied self.entry) ≡ Some result.now }
     {
-        let index = self.index;
-        let map = self.map;
-        map.value_in_mut(index)
+        self.map.value_in_mut(self.index)
     }
 
     /// Replaces the value, and answers the old one. The key that is there stays.
@@ -74,7 +69,7 @@ impl<'a, K: Ord, V, S: StoreMut<K, V>> OccupiedEntry<'a, K, V, S> {
         ensures room { (entry_map (Occupied self.entry)).now.room < self.exit.0.now.room }
     {
         let index = self.index;
-        self.map.remove_at(index)
+        self.map.take_at(index).1
     }
 }
 
