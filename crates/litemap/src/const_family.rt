@@ -113,13 +113,6 @@ impl Integer for isize {}
 
 impl<'a, K: Integer, V> LiteMap<K, V, SliceStore<'a, K, V>> {
     /// The place and the value of the key, if it is there. It makes O(log n) comparisons.
-    ///
-    /// ```rust
-    /// const DAYS: &[(u32, &str)] = &[(1, "Monday"), (3, "Wednesday"), (5, "Friday")];
-    /// // ...
-    /// let days = LiteMap::from_sorted_store_unchecked(SliceStore::new(DAYS));
-    /// days.const_get_with_index(3) == Some((1, &"Wednesday"))
-    /// ```
     pub fn const_get_with_index(&self, key: K) -> Option<(usize, &'a V)>
         ensures { GetsWithIndex K.cmp self.now.pairs key result }
     {

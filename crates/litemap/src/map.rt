@@ -63,21 +63,11 @@ impl<K: Ord, V, S: Store<K, V>> Model for LiteMap<K, V, S> {
 
 impl<K: Ord, V> LiteMap<K, V, Vec<(K, V)>> {
     /// The empty map over a vector. It takes no memory.
-    ///
-    /// ```rust
-    /// let mut days = LiteMap::new_vec(alloc);
-    /// days.insert(3, "Wednesday")?;
-    /// days.insert(1, "Monday")?;
-    /// Ok(days.as_slice() == [(1, "Monday"), (3, "Wednesday")].as_slice())
-    /// ```
     pub fn new_vec(alloc: Global) -> Self
         ensures pairs { result.pairs ≡ [] }
         ensures room { result.room ≡ 0 }
     {
-        LiteMap {
-            store: Vec::new(alloc),
-            marker: PhantomData,
-        }
+        LiteMap::from_sorted_store_unchecked(Vec::new(alloc))
     }
 
     /// The pairs as a vector. Their keys rise strictly.
@@ -118,12 +108,8 @@ impl<K: Ord, V, S: Store<K, V>> LiteMap<K, V, S> {
         ensures { IsTrue result ↔ Rising K.cmp (S.pairs store.now) }
     {
         for place in 1..store.lm_len() {
-            let Some((before, _)) = store.lm_get(place - 1) else {
-                unreachable!()
-            };
-            let Some((key, _)) = store.lm_get(place) else {
-                unreachable!()
-            };
+            let (before, _) = store.lm_get(place - 1).unwrap();
+            let (key, _) = store.lm_get(place).unwrap();
             if !before.cmp(key).is_lt() {
                 return false;
             }
@@ -138,10 +124,7 @@ impl<K: Ord, V, S: StoreConstEmpty<K, V>> LiteMap<K, V, S> {
         ensures pairs { result.pairs ≡ [] }
         ensures room { result.room ≡ S.empty_room }
     {
-        LiteMap {
-            store: S::lm_empty(alloc),
-            marker: PhantomData,
-        }
+        LiteMap::from_sorted_store_unchecked(S::lm_empty(alloc))
     }
 }
 
@@ -161,10 +144,8 @@ impl<K: Ord, V, S: StoreMut<K, V>> LiteMap<K, V, S> {
         ensures room { IfOk result (λ m. capacity ≤ m.room) }
         ensures succeeds { capacity ≤ S.free_room → IsOk result }
     {
-        Ok(LiteMap {
-            store: S::lm_with_capacity(alloc, capacity)?,
-            marker: PhantomData,
-        })
+        let store = S::lm_with_capacity(alloc, capacity)?;
+        Ok(LiteMap::from_sorted_store_unchecked(store))
     }
 
     /// A map of clones of the keys and values, in the same order, or a refusal for want of memory. The empty map is never
@@ -185,20 +166,11 @@ impl<K: Ord, V, S: StoreMut<K, V>> LiteMap<K, V, S> {
         ensures succeeds { self.now.pairs ≡ [] → IsOk result }
     {
         let store = self.store.lm_try_clone(alloc)?;
-        Ok(LiteMap {
-            store,
-            marker: PhantomData,
-        })
+        Ok(LiteMap::from_sorted_store_unchecked(store))
     }
 }
 
 /// Printed as a map. No text is promised.
-///
-/// ```rust
-/// // days: 1 Monday, 3 Wednesday, 5 Friday
-/// let text = format!(in alloc; "{days:?}")?;
-/// Ok(text.as_str() == r#"{1: "Monday", 3: "Wednesday", 5: "Friday"}"#)
-/// ```
 impl<K: Ord + Debug, V: Debug, S: Store<K, V>> Debug for LiteMap<K, V, S> {
     fn fmt<W: Write>(&self, f: &mut Formatter<W>) -> fmt::Result {
         let mut out = f.debug_map();

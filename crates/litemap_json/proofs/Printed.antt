@@ -14,6 +14,7 @@ use Rattle.std.specs.Fmt.{signed_decimal}
 use Rattle.std.specs.Str.{bytes_eq}
 use Rattle.std.specs.Str.Parse.{signed_digits_value, without_leading_sign, IsNumeral, ParsesSigned}
 use Rattle.litemap_json.specs.Item.{kept, signed_fits, whole_json, whole_key, whole_of_text}
+use Rattle.litemap_json.specs.Widths.{IsHeld, held_by_128}
 
 -- where it fits, what is printed is read
 parse_printed : {E : Type 0} (z : ℤ) (s : List ℕ) (r : Result ℤ E) → FitsSigned w128 z → s ≡ signed_decimal z → ParsesSigned w128 10 s r → r ≡ Ok z
@@ -53,8 +54,8 @@ whole_of_text-printed z f =
     rw (value, same)
 
 -- a printed number that fits is read
-pub read_whole : (fits : ℤ → Bool) (z : ℤ) → fits z ≡ true → signed_fits 127 z ≡ true → whole_key fits (signed_decimal z) ≡ Some (whole_json z)
-read_whole fits z h f = rw (whole_of_text-printed z (fits_w128 z f), h)
+pub read_whole : (fits : ℤ → Bool) (z : ℤ) → fits z ≡ true → IsHeld z → whole_key fits (signed_decimal z) ≡ Some (whole_json z)
+read_whole fits z h held = rw (whole_of_text-printed z (fits_w128 z (held_by_128 z held)), h)
 
 -- a text that `parse` refuses is no such number's
 unread_at : {E : Type 0} (t u : Bool) (s : List ℕ) (z : ℤ) (r : Result ℤ E) → bytes_eq (signed_decimal z) s ≡ t → signed_fits 127 z ≡ u → ParsesSigned w128 10 s r → ((y : ℤ) → r ≡ Ok y → ⊥)

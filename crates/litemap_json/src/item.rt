@@ -47,11 +47,6 @@ pub trait JsonItem {
         ensures reads_back { OnOk result (item (json self.now) ≡ Ok (json self.now)) };
 
     /// The value that a JSON value spells. `Memory` may come in place of any answer.
-    ///
-    /// ```rust
-    /// let value = Value::from_str(alloc, "[3,true]")?;
-    /// Ok(<(u32, bool)>::from_value(alloc, &value)? == (3, true))
-    /// ```
     fn from_value(alloc: Global, value: &Value) -> Result<Self, ItemFault>
         ensures { Answers json (item (view value.now)) result };
 
@@ -59,12 +54,6 @@ pub trait JsonItem {
     /// body of its own for it. A type that has none makes the value, writes it, and drops it.
     ///
     /// A refusal for want of memory may leave some of the value written.
-    ///
-    /// ```rust
-    /// let mut out = Writer::new(Vec::new(alloc));
-    /// (3u32, true).write_to(alloc, &mut out)?;
-    /// Ok(out.into_inner().as_slice() == b"[3,true]".as_slice())
-    /// ```
     fn write_to(&self, alloc: Global, out: &mut Writer) -> Result<(), AllocError>
         ensures tree { OnOk result (WritesTree (json self.now) out.old.tokens out.new.tokens) }
         ensures before { out.new.before ≡ out.old.before }
@@ -92,12 +81,6 @@ pub trait JsonKey: JsonItem + Ord {
     ghost key: { List ℕ → Option Data };
 
     /// The key's text, `None` where it has none, or a refusal for want of memory. What is made reads as the same key.
-    ///
-    /// ```rust
-    /// let text = 7u32.key_text(alloc)?;
-    /// let none = (7u32, true).key_text(alloc)?;
-    /// Ok(text.as_deref() == Some("7") && none.is_none())
-    /// ```
     fn key_text(&self, alloc: Global) -> Result<Option<String>, AllocError>
         ensures text { IfOk result (λ name. option_map string_bytes name ≡ text self.now) }
         ensures reads_back { OnOk result (IfSome (text self.now)

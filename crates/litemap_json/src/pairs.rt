@@ -28,11 +28,6 @@ pub fn two_items(value: &Value) -> Option<(&Value, &Value)>
 }
 
 /// The array of two values, or a refusal for want of memory.
-///
-/// ```rust
-/// let value = array_of_two(alloc, Value::from(3u32), Value::from(true))?;
-/// Ok(value.to_string(alloc)?.as_str() == "[3,true]")
-/// ```
 pub fn array_of_two(alloc: Global, first: Value, second: Value) -> Result<Value, AllocError>
     ensures { IfOk result (λ pair. view pair ≡ pair_json (view first) (view second)) }
 {

@@ -160,8 +160,5 @@ fn push_pair<K: Drop, V: Drop>(found: &mut Vec<(K, V)>, pair: (K, V)) -> Result<
     ensures pushed { OnOk result (found.new.items ≡ found.old.items ++ pair ∷ []) }
     ensures refused { IfErr result (λ e. e ≡ reading.Memory) }
 {
-    match found.push(pair) {
-        Ok(()) => Ok(()),
-        Err(_) => Err(JsonFault::Memory),
-    }
+    found.push(pair).map_err(|_| JsonFault::Memory)
 }

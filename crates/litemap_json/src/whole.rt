@@ -6,25 +6,21 @@ ghost use Rattle.std.specs.declared.cmp.Ordering.TheVariants.{Equal};
 ghost use Rattle.serde_json.specs.View.{view};
 ghost use Rattle.litemap_json.specs.Item.{Answers, kept, signed_fits, unsigned_fits, whole_item, whole_json, whole_key};
 ghost use Rattle.litemap_json.specs.OneTree.{signed_one_tree, unsigned_one_tree};
-ghost use Rattle.litemap_json.specs.Widths.{signed_is_held, unsigned_is_held};
+ghost use Rattle.litemap_json.specs.Widths.{IsHeld, signed_is_held, unsigned_is_held};
 ghost use Rattle.litemap_json.specs.declared.item.ItemFault.TheVariants.{Memory};
 
 use crate::item::{ItemFault, JsonItem, JsonKey};
 use crate::numbers::{decimal_text, printed, whole};
-use serde_json::Value;
+use serde_json::{Number, Value};
 use std::alloc::{AllocError, Global};
 
-/// A type of whole numbers, each of which 128 bits with a sign hold.
+/// A type of whole numbers, each of which 64 bits hold.
 pub trait Whole: Copy + Ord {
     /// The number.
     ghost number: { Self → ℤ };
 
     /// Which numbers the type has.
     ghost fits: { ℤ → Bool };
-
-    /// The number as JSON.
-    fn value(self) -> Value
-        ensures { view result ≡ whole_json (number self) };
 
     /// The number in 128 bits.
     fn wide(self) -> i128
@@ -36,10 +32,10 @@ pub trait Whole: Copy + Ord {
         ensures { option_map number result ≡ kept fits (Some wide) };
 
     /// Which numbers the type has, in words.
-    fn named() -> &'static str;
+    const NAMED: &'static str;
 
-    /// Each is held.
-    ghost held: { (z : ℤ) → fits z ≡ true → signed_fits 127 z ≡ true };
+    /// Each is held by 64 bits.
+    ghost held: { (z : ℤ) → fits z ≡ true → IsHeld z };
 
     /// One number is one key.
     ghost one_number: { (x y : Self) → whole_json (number x) ≡ whole_json (number y) → Self.cmp x y ≡ Equal };
@@ -51,15 +47,15 @@ impl<T: Whole> JsonItem for T {
 
     ghost item = { whole_item T.fits };
 
+    #[tactic(auto, using(crate::specs::Widths::some_held))]
     fn to_value(&self, _alloc: Global) -> Result<Value, AllocError>
         ensures tree { IfOk result (λ value. view value ≡ whole_json (T.number self.now)) }
         ensures reads_back { OnOk result
             (whole_item T.fits (whole_json (T.number self.now)) ≡ Ok (whole_json (T.number self.now))) }
         ensures succeeds { IsOk result }
     {
-        let number = *self;
-        let _fits = number.wide();
-        Ok(number.value())
+        let number = Number::from_i128(self.wide()).unwrap();
+        Ok(Value::from(number))
     }
 
     fn from_value(_alloc: Global, value: &Value) -> Result<T, ItemFault>
@@ -70,7 +66,7 @@ impl<T: Whole> JsonItem for T {
     }
 
     fn wanted() -> &'static str {
-        T::named()
+        T::NAMED
     }
 }
 
@@ -80,11 +76,11 @@ impl<T: Whole> JsonKey for T {
 
     ghost key = { whole_key T.fits };
 
-    #[tactic(auto, using(crate::proofs::Printed::read_whole))]
     fn key_text(&self, alloc: Global) -> Result<Option<String>, AllocError> {
         Ok(Some(decimal_text(alloc, self.wide())?))
     }
 
+    #[tactic(auto, using(crate::specs::Widths::held_by_128))]
     fn from_key_text(_alloc: Global, name: &str) -> Result<Option<T>, AllocError>
         ensures key { IfOk result (λ found. option_map (λ x. whole_json (T.number x)) found ≡ whole_key T.fits name.now) }
         ensures one_spelling { IfOk result (λ found. IfSome found (λ k. Some (signed_decimal (T.number k)) ≡ Some name.now)) }
@@ -104,10 +100,6 @@ impl Whole for u8 {
 
     ghost fits = { unsigned_fits 8 };
 
-    fn value(self) -> Value {
-        Value::from(self)
-    }
-
     fn wide(self) -> i128 {
         i128::from(self)
     }
@@ -116,9 +108,7 @@ impl Whole for u8 {
         u8::try_from(wide).ok()
     }
 
-    fn named() -> &'static str {
-        "a whole number of 8 bits"
-    }
+    const NAMED: &'static str = "a whole number of 8 bits";
 
     ghost held = { unsigned_is_held 8 56 refl };
 
@@ -130,10 +120,6 @@ impl Whole for u16 {
 
     ghost fits = { unsigned_fits 16 };
 
-    fn value(self) -> Value {
-        Value::from(self)
-    }
-
     fn wide(self) -> i128 {
         i128::from(self)
     }
@@ -142,9 +128,7 @@ impl Whole for u16 {
         u16::try_from(wide).ok()
     }
 
-    fn named() -> &'static str {
-        "a whole number of 16 bits"
-    }
+    const NAMED: &'static str = "a whole number of 16 bits";
 
     ghost held = { unsigned_is_held 16 48 refl };
 
@@ -156,10 +140,6 @@ impl Whole for u32 {
 
     ghost fits = { unsigned_fits 32 };
 
-    fn value(self) -> Value {
-        Value::from(self)
-    }
-
     fn wide(self) -> i128 {
         i128::from(self)
     }
@@ -168,9 +148,7 @@ impl Whole for u32 {
         u32::try_from(wide).ok()
     }
 
-    fn named() -> &'static str {
-        "a whole number of 32 bits"
-    }
+    const NAMED: &'static str = "a whole number of 32 bits";
 
     ghost held = { unsigned_is_held 32 32 refl };
 
@@ -182,10 +160,6 @@ impl Whole for u64 {
 
     ghost fits = { unsigned_fits 64 };
 
-    fn value(self) -> Value {
-        Value::from(self)
-    }
-
     fn wide(self) -> i128 {
         i128::from(self)
     }
@@ -194,9 +168,7 @@ impl Whole for u64 {
         u64::try_from(wide).ok()
     }
 
-    fn named() -> &'static str {
-        "a whole number of 64 bits"
-    }
+    const NAMED: &'static str = "a whole number of 64 bits";
 
     ghost held = { unsigned_is_held 64 0 refl };
 
@@ -208,10 +180,6 @@ impl Whole for i8 {
 
     ghost fits = { signed_fits 7 };
 
-    fn value(self) -> Value {
-        Value::from(self)
-    }
-
     fn wide(self) -> i128 {
         i128::from(self)
     }
@@ -220,9 +188,7 @@ impl Whole for i8 {
         i8::try_from(wide).ok()
     }
 
-    fn named() -> &'static str {
-        "a whole number of 8 bits with a sign"
-    }
+    const NAMED: &'static str = "a whole number of 8 bits with a sign";
 
     ghost held = { signed_is_held 7 56 refl };
 
@@ -234,10 +200,6 @@ impl Whole for i16 {
 
     ghost fits = { signed_fits 15 };
 
-    fn value(self) -> Value {
-        Value::from(self)
-    }
-
     fn wide(self) -> i128 {
         i128::from(self)
     }
@@ -246,9 +208,7 @@ impl Whole for i16 {
         i16::try_from(wide).ok()
     }
 
-    fn named() -> &'static str {
-        "a whole number of 16 bits with a sign"
-    }
+    const NAMED: &'static str = "a whole number of 16 bits with a sign";
 
     ghost held = { signed_is_held 15 48 refl };
 
@@ -260,10 +220,6 @@ impl Whole for i32 {
 
     ghost fits = { signed_fits 31 };
 
-    fn value(self) -> Value {
-        Value::from(self)
-    }
-
     fn wide(self) -> i128 {
         i128::from(self)
     }
@@ -272,9 +228,7 @@ impl Whole for i32 {
         i32::try_from(wide).ok()
     }
 
-    fn named() -> &'static str {
-        "a whole number of 32 bits with a sign"
-    }
+    const NAMED: &'static str = "a whole number of 32 bits with a sign";
 
     ghost held = { signed_is_held 31 32 refl };
 
@@ -286,10 +240,6 @@ impl Whole for i64 {
 
     ghost fits = { signed_fits 63 };
 
-    fn value(self) -> Value {
-        Value::from(self)
-    }
-
     fn wide(self) -> i128 {
         i128::from(self)
     }
@@ -298,9 +248,7 @@ impl Whole for i64 {
         i64::try_from(wide).ok()
     }
 
-    fn named() -> &'static str {
-        "a whole number of 64 bits with a sign"
-    }
+    const NAMED: &'static str = "a whole number of 64 bits with a sign";
 
     ghost held = { signed_is_held 63 0 refl };
 

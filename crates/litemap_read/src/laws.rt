@@ -2,11 +2,11 @@
 ghost use Rattle.std.specs.Prelude.{◌≡◌, IfOk, IfErr, OnErr};
 ghost use Rattle.litemap_read.specs.Laws.{SameAnswers};
 ghost use Rattle.litemap.specs.Steps.{Run, Step};
-ghost use Rattle.litemap.specs.declared.calls.Call.TheVariants.{Clear, Extend, Insert, Reserve, TryAppend, TryInsert};
+ghost use Rattle.litemap.specs.declared.calls.Call.TheVariants.{Extend};
 
 use litemap::LiteMap;
 pub use litemap::calls::{Answer, Call};
-use litemap::store::{NoRoom, StoreBulkMut, StoreMut};
+use litemap::store::{NoRoom, StoreBulkMut};
 use std::alloc::Global;
 
 /// Makes the calls of a list one after another, and answers what each of them answered (own).
@@ -53,52 +53,28 @@ fn answer<K: Ord + Drop, V: Copy, S: StoreBulkMut<K, V>>(
         Call::Contains(key) => Answer::Flag(map.contains_key(&key)),
         Call::Find(key) => Answer::Place(map.find_index(&key)),
         Call::Len => Answer::Number(map.len()),
-        Call::Insert(key, value) => insert(map, key, value),
-        Call::TryInsert(key, value) => try_insert(map, key, value),
-        Call::TryAppend(key, value) => try_append(map, key, value),
+        Call::Insert(key, value) => match map.insert(key, value) {
+            Ok(old) => Answer::Value(old),
+            Err(refused) => Answer::NoRoom(Some(refused.back)),
+        },
+        Call::TryInsert(key, value) => match map.try_insert(key, value) {
+            Ok(back) => Answer::Back(back),
+            Err(refused) => Answer::NoRoom(Some(refused.back)),
+        },
+        Call::TryAppend(key, value) => match map.try_append(key, value) {
+            Ok(back) => Answer::Back(back),
+            Err(refused) => Answer::NoRoom(Some(refused.back)),
+        },
         Call::Remove(key) => Answer::Value(map.remove(&key)),
         Call::Extend(pairs) => extend(alloc, map, pairs),
-        Call::Reserve(additional) => reserve(map, additional),
-        Call::Clear => clear(map),
-    }
-}
-
-fn insert<K: Ord + Drop, V: Copy, S: StoreMut<K, V>>(
-    map: &mut LiteMap<K, V, S>,
-    key: K,
-    value: V,
-) -> Answer<K, V>
-    ensures { Step K.cmp map.old (Insert key value) result map.new }
-{
-    match map.insert(key, value) {
-        Ok(old) => Answer::Value(old),
-        Err(refused) => Answer::NoRoom(Some(refused.back)),
-    }
-}
-
-fn try_insert<K: Ord, V: Copy, S: StoreMut<K, V>>(
-    map: &mut LiteMap<K, V, S>,
-    key: K,
-    value: V,
-) -> Answer<K, V>
-    ensures { Step K.cmp map.old (TryInsert key value) result map.new }
-{
-    match map.try_insert(key, value) {
-        Ok(back) => Answer::Back(back),
-        Err(refused) => Answer::NoRoom(Some(refused.back)),
-    }
-}
-
-fn try_append<K: Ord, V: Copy, S: StoreMut<K, V>>(
-    map: &mut LiteMap<K, V, S>,
-    key: K,
-    value: V,
-) -> Answer<K, V>
-    ensures { Step K.cmp map.old (TryAppend key value) result map.new }
-{
-    match map.try_append(key, value) {
-        Ok(back) => Answer::Back(back),
-        Err(refused) => Answer::NoRoom(Some(refused.back)),
+        Call::Reserve(additional) => match map.reserve(additional) {
+            Ok(()) => Answer::Done,
+            Err(_) => Answer::NoRoom(None),
+        },
+        Call::Clear => {
+            map.clear();
+            Answer::Done
+        }
     }
 }
 
@@ -113,23 +89,4 @@ fn extend<K: Ord + Drop, V: Copy, S: StoreBulkMut<K, V>>(
         Ok(()) => Answer::Done,
         Err(_) => Answer::NoRoom(None),
     }
-}
-
-fn reserve<K: Ord, V: Copy, S: StoreMut<K, V>>(
-    map: &mut LiteMap<K, V, S>,
-    additional: usize,
-) -> Answer<K, V>
-    ensures { Step K.cmp map.old (Reserve additional) result map.new }
-{
-    match map.reserve(additional) {
-        Ok(()) => Answer::Done,
-        Err(_) => Answer::NoRoom(None),
-    }
-}
-
-fn clear<K: Ord + Drop, V: Copy, S: StoreMut<K, V>>(map: &mut LiteMap<K, V, S>) -> Answer<K, V>
-    ensures { Step K.cmp map.old Clear result map.new }
-{
-    map.clear();
-    Answer::Done
 }

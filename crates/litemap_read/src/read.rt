@@ -122,10 +122,7 @@ fn vec_with_hint<T: Drop>(alloc: Global, hint: Option<usize>) -> Vec<T>
     ensures { result.items ≡ [] }
 {
     let capacity = hint.unwrap_or(0).min(MOST_HINTED);
-    match Vec::with_capacity(alloc, capacity) {
-        Ok(items) => items,
-        Err(_) => Vec::new(alloc),
-    }
+    Vec::with_capacity(alloc, capacity).unwrap_or(Vec::new(alloc))
 }
 
 // Puts an item behind those of a vector, or gives it up.
@@ -144,10 +141,7 @@ fn with_hint<K: Ord, V, S: StoreMut<K, V>>(
     ensures { IfOk result (λ map. map.pairs ≡ []) }
 {
     let capacity = hint.unwrap_or(0).min(MOST_HINTED);
-    match LiteMap::with_capacity(alloc, capacity) {
-        Ok(map) => Ok(map),
-        Err(_) => LiteMap::with_capacity(alloc, 0),
-    }
+    LiteMap::with_capacity(alloc, capacity).or_else(|_| LiteMap::with_capacity(alloc, 0))
 }
 
 // Puts a pair behind the map's pairs where its key is above them all, and else behind those put aside.

@@ -2,24 +2,18 @@
 use crate::Shown;
 use crate::days::{Hours, opening_hours};
 use litemap::LiteMap;
-use litemap_json::{
-    ItemFault, JsonFault, JsonItem, JsonKey, Writer, array_of_two, from_json, two_items, write_json,
-};
+use litemap_json::{ItemFault, JsonFault, JsonItem, JsonKey, from_json, two_items, write_json};
 use litemap_read::{PairSource, ReadFault, read_pairs};
 use name_table::{NameBytes, NameFault, NameMap, find_name, read_names, write_names};
 use serde_json::Value;
 use std::alloc::Global;
 
 /// How the examples came out, by their calls.
-pub(crate) fn examples(alloc: Global) -> [Shown; 15] {
+pub(crate) fn examples(alloc: Global) -> [Shown; 11] {
     [
         ("json_fault", json_fault(alloc)),
-        ("from_value", from_value(alloc)),
-        ("write_to", write_to(alloc)),
-        ("key_text", key_text(alloc)),
         ("from_key_text", from_key_text(alloc)),
         ("two_items_of_pairs", two_items_of_pairs(alloc)),
-        ("array_of_two_of_pairs", array_of_two_of_pairs(alloc)),
         ("from_json_of_read", from_json_of_read(alloc)),
         ("write_json_of_text", write_json_of_text(alloc)),
         ("told_in", told_in(alloc)),
@@ -40,23 +34,6 @@ fn json_fault(alloc: Global) -> anyhow::Result<bool> {
     Ok(read.err() == Some(JsonFault::Item { place: 1, fault }))
 }
 
-fn from_value(alloc: Global) -> anyhow::Result<bool> {
-    let value = Value::from_str(alloc, "[3,true]")?;
-    Ok(<(u32, bool)>::from_value(alloc, &value)? == (3, true))
-}
-
-fn write_to(alloc: Global) -> anyhow::Result<bool> {
-    let mut out = Writer::new(Vec::new(alloc));
-    (3u32, true).write_to(alloc, &mut out)?;
-    Ok(out.into_inner().as_slice() == b"[3,true]".as_slice())
-}
-
-fn key_text(alloc: Global) -> anyhow::Result<bool> {
-    let text = 7u32.key_text(alloc)?;
-    let none = (7u32, true).key_text(alloc)?;
-    Ok(text.as_deref() == Some("7") && none.is_none())
-}
-
 fn from_key_text(alloc: Global) -> anyhow::Result<bool> {
     let seven = u32::from_key_text(alloc, "7")?;
     let other_spelling = u32::from_key_text(alloc, "07")?;
@@ -69,11 +46,6 @@ fn two_items_of_pairs(alloc: Global) -> anyhow::Result<bool> {
         Some((first, second)) => Ok(first.as_u64() == Some(3) && second.as_bool() == Some(true)),
         None => Ok(false),
     }
-}
-
-fn array_of_two_of_pairs(alloc: Global) -> anyhow::Result<bool> {
-    let value = array_of_two(alloc, Value::from(3u32), Value::from(true))?;
-    Ok(value.to_string(alloc)?.as_str() == "[3,true]")
 }
 
 fn from_json_of_read(alloc: Global) -> anyhow::Result<bool> {

@@ -5,17 +5,15 @@ use std::alloc::Global;
 use std::ops::Bound;
 
 /// How the examples came out, by their calls.
-pub(crate) fn examples(alloc: Global, days: &Days) -> [Shown; 10] {
+pub(crate) fn examples(alloc: Global, days: &Days) -> [Shown; 8] {
     [
         ("partial_ord", Ok(partial_ord(days))),
-        ("iter", Ok(iter(days))),
         ("into_iterator", into_iterator(alloc)),
         ("get", Ok(get(days))),
         ("get_by", Ok(get_by(days))),
         ("find_index", Ok(find_index(days))),
         ("places", Ok(places(days))),
         ("iter_range", Ok(iter_range(days))),
-        ("range", Ok(range(days))),
         ("get_indexed_range", get_indexed_range(days)),
     ]
 }
@@ -24,11 +22,6 @@ fn partial_ord(days: &Days) -> bool {
     let all = days.as_sliced();
     let begin = days.range(Bound::Unbounded, Bound::Excluded(&5));
     begin < all && begin.cmp(&all).is_lt()
-}
-
-fn iter(days: &Days) -> bool {
-    let mut pairs = days.iter();
-    pairs.next() == Some((&1, &"Monday")) && pairs.next_back() == Some((&5, &"Friday"))
 }
 
 fn into_iterator(alloc: Global) -> anyhow::Result<bool> {
@@ -62,11 +55,6 @@ fn places(days: &Days) -> bool {
 fn iter_range(days: &Days) -> bool {
     let mut early = days.iter_range(Bound::Unbounded, Bound::Excluded(&5));
     early.next_back() == Some((&3, &"Wednesday")) && early.len() == 1
-}
-
-fn range(days: &Days) -> bool {
-    let part = days.range(Bound::Included(&2), Bound::Unbounded);
-    part.len() == 2 && part.first() == Some((&3, &"Wednesday"))
 }
 
 fn get_indexed_range(days: &Days) -> anyhow::Result<bool> {

@@ -7,25 +7,19 @@ use litemap_columns::ColumnMap;
 use std::alloc::Global;
 
 /// How the examples came out, by their calls.
-pub(crate) fn examples(alloc: Global, days: &Days, hours: &Hours) -> [Shown; 9] {
+pub(crate) fn examples(alloc: Global, hours: &Hours) -> [Shown; 6] {
     [
         ("const_len", Ok(const_len())),
         ("const_get_with_index", Ok(const_get_with_index())),
-        (
-            "const_get_with_index_of_const_family",
-            Ok(const_get_with_index_of_const_family()),
-        ),
         ("to_keys_by", to_keys_by(alloc, hours)),
         (
             "to_borrowed_keys_values",
             to_borrowed_keys_values(alloc, hours),
         ),
-        ("new_vec", new_vec(alloc)),
         (
             "from_sorted_store_unchecked",
             from_sorted_store_unchecked(alloc),
         ),
-        ("debug", debug(alloc, days)),
         ("column_map", column_map(alloc)),
     ]
 }
@@ -44,11 +38,6 @@ fn const_get_with_index() -> bool {
     capitals.const_get_with_index("Oslo") == Some((1, &47))
 }
 
-fn const_get_with_index_of_const_family() -> bool {
-    let days = LiteMap::from_sorted_store_unchecked(SliceStore::new(DAYS));
-    days.const_get_with_index(3) == Some((1, &"Wednesday"))
-}
-
 fn to_keys_by(alloc: Global, hours: &Hours) -> anyhow::Result<bool> {
     let later: VecMap<u64, u8> = hours.to_keys_by(alloc, |number| *number as u64 + 7)?;
     Ok(later.get(&8) == Some(&8))
@@ -59,13 +48,6 @@ fn to_borrowed_keys_values(alloc: Global, hours: &Hours) -> anyhow::Result<bool>
     Ok(lent.get(&&3) == Some(&&10))
 }
 
-fn new_vec(alloc: Global) -> anyhow::Result<bool> {
-    let mut days = LiteMap::new_vec(alloc);
-    days.insert(3, "Wednesday")?;
-    days.insert(1, "Monday")?;
-    Ok(days.as_slice() == [(1, "Monday"), (3, "Wednesday")].as_slice())
-}
-
 fn from_sorted_store_unchecked(alloc: Global) -> anyhow::Result<bool> {
     let pairs = [(1, "Monday"), (3, "Wednesday")].to_vec(alloc)?;
     if !Days::is_sorted_store(&pairs) {
@@ -73,11 +55,6 @@ fn from_sorted_store_unchecked(alloc: Global) -> anyhow::Result<bool> {
     }
     let days: Days = LiteMap::from_sorted_store_unchecked(pairs);
     Ok(days.get(&3) == Some(&"Wednesday"))
-}
-
-fn debug(alloc: Global, days: &Days) -> anyhow::Result<bool> {
-    let text = format!(in alloc; "{days:?}")?;
-    Ok(text.as_str() == r#"{1: "Monday", 3: "Wednesday", 5: "Friday"}"#)
 }
 
 fn column_map(alloc: Global) -> anyhow::Result<bool> {

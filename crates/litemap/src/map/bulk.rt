@@ -8,7 +8,6 @@ ghost use Rattle.litemap_store.specs.Last.{Last, Rises};
 use crate::LiteMap;
 use litemap_store::store::{Count, StoreBulkMut, StoreFromIterable};
 use std::alloc::{AllocError, Global};
-use std::marker::PhantomData;
 
 impl<K: Ord + Drop, V: Drop, S: StoreFromIterable<K, V>> LiteMap<K, V, S> {
     /// The map of the pairs that an iterator gives, or a refusal for want of memory. Of each key the last pair stays, whole:
@@ -48,10 +47,8 @@ impl<K: Ord + Drop, V: Drop, S: StoreFromIterable<K, V>> LiteMap<K, V, S> {
         ensures refused_some { OnErr result (GivesSome I.into_iter_gives I.IntoIter.next_gives iter) }
         ensures counted { GoesOn count.old count.new }
     {
-        Ok(LiteMap {
-            store: S::lm_sort_from_iter(alloc, iter, count)?,
-            marker: PhantomData,
-        })
+        let store = S::lm_sort_from_iter(alloc, iter, count)?;
+        Ok(LiteMap::from_sorted_store_unchecked(store))
     }
 
     /// The map of the pairs of a vector, or a refusal for want of memory (own). Of each key the last pair stays, whole.
@@ -75,10 +72,8 @@ impl<K: Ord + Drop, V: Drop, S: StoreFromIterable<K, V>> LiteMap<K, V, S> {
         ensures succeeds { pairs.items ≡ [] → IsOk result }
         ensures counted { IsCountedFor K.cmp [] pairs.items count.old count.new }
     {
-        Ok(LiteMap {
-            store: S::lm_sort_from_vec(alloc, &mut pairs, count)?,
-            marker: PhantomData,
-        })
+        let store = S::lm_sort_from_vec(alloc, &mut pairs, count)?;
+        Ok(LiteMap::from_sorted_store_unchecked(store))
     }
 }
 

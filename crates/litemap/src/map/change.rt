@@ -20,7 +20,7 @@ use std::alloc::AllocError;
 use std::cmp::Ordering;
 use std::mem;
 
-impl<K: Ord, V, S: StoreMut<K, V>> LiteMap<K, V, S> {
+impl<K: Ord + Drop, V, S: StoreMut<K, V>> LiteMap<K, V, S> {
     /// Puts a value at a key. Where an equal key is there, that key stays, the old value is answered, and no memory is taken.
     ///
     /// It makes O(log n) comparisons. Where the key is absent the pairs with greater keys move up by one, and without room the
@@ -31,8 +31,6 @@ impl<K: Ord, V, S: StoreMut<K, V>> LiteMap<K, V, S> {
     /// Ok(days.insert(2, "Tuesday")?.is_none() && days.insert(5, "Fri")? == Some("Friday"))
     /// ```
     pub fn insert(&mut self, key: K, value: V) -> Result<Option<V>, NoRoom<(K, V)>>
-    where
-        K: Drop,
         ensures inserts { Inserts K.cmp key value self.old self.new result }
     {
         self.insert_counted(key, value, &mut Count::new())
@@ -45,8 +43,6 @@ impl<K: Ord, V, S: StoreMut<K, V>> LiteMap<K, V, S> {
         value: V,
         count: &mut Count,
     ) -> Result<Option<V>, NoRoom<(K, V)>>
-    where
-        K: Drop,
         ensures inserts { Inserts K.cmp key value self.old self.new result }
         ensures cost { RisesByAtMost (digits (length self.old.pairs)) count.old count.new }
     {
@@ -57,48 +53,6 @@ impl<K: Ord, V, S: StoreMut<K, V>> LiteMap<K, V, S> {
                 Ok(None)
             }
         }
-    }
-
-    /// Places a pair whose key is absent; else the pair comes back. It compares and moves as `insert`, and is refused where
-    /// that is.
-    ///
-    /// ```rust
-    /// let mut days = three_days(alloc)?;
-    /// let tuesday = days.try_insert(2, "Tuesday")?;
-    /// let friday = days.try_insert(5, "Fri")?;
-    /// Ok(tuesday.is_none() && friday == Some((5, "Fri")))
-    /// ```
-    pub fn try_insert(&mut self, key: K, value: V) -> Result<Option<(K, V)>, NoRoom<(K, V)>>
-        ensures { AddsIf (IsNone (at K.cmp self.old.pairs key)) (put K.cmp self.old.pairs key value) (key, value)
-            self.old self.new result }
-    {
-        match self.search(&key, &mut Count::new()) {
-            Ok(_) => Ok(Some((key, value))),
-            Err(index) => {
-                self.insert_at(index, key, value)?;
-                Ok(None)
-            }
-        }
-    }
-
-    /// Puts a pair whose key is above all others behind them; else the pair comes back. It compares at most once, with the last
-    /// key, and moves no pair but where the store takes more memory. Without room the pair comes back and the list stays.
-    ///
-    /// ```rust
-    /// let mut days = three_days(alloc)?;
-    /// let saturday = days.try_append(6, "Saturday")?;
-    /// let tuesday = days.try_append(2, "Tuesday")?;
-    /// Ok(saturday.is_none() && tuesday == Some((2, "Tuesday")))
-    /// ```
-    pub fn try_append(&mut self, key: K, value: V) -> Result<Option<(K, V)>, NoRoom<(K, V)>>
-        ensures { AddsIf (AllBelow K.cmp self.old.pairs key) (self.old.pairs ++ (key, value) ∷ []) (key, value)
-            self.old self.new result }
-    {
-        if !self.is_above_all(&key) {
-            return Ok(Some((key, value)));
-        }
-        self.append(key, value)?;
-        Ok(None)
     }
 
     /// The place and the value of a key, for who only reads them: who goes on to use the map calls `try_find_or_insert`, after
@@ -114,14 +68,11 @@ impl<K: Ord, V, S: StoreMut<K, V>> LiteMap<K, V, S> {
     ///     _ => Ok(false),
     /// }
     /// ```
-    pub fn try_get_or_insert<E, F: FnOnce(&K) -> Result<V, E>>(
+    pub fn try_get_or_insert<E, F: FnOnce(&K) -> Result<V, E> + Drop>(
         &mut self,
         key: K,
         f: F,
     ) -> Result<(usize, &V), TryFault<K, V, E>>
-    where
-        K: Drop,
-        F: Drop,
         requires { IsNone (at K.cmp self.old.pairs key) → FnOnceTakesAt F.FnOnce f key }
         // The place and the value: found, or what the closure answered.
         ensures place { IfOk result (λ there. there.0 ≡ place K.cmp self.old.pairs key) }
@@ -152,14 +103,11 @@ impl<K: Ord, V, S: StoreMut<K, V>> LiteMap<K, V, S> {
     ///     _ => Ok(false),
     /// }
     /// ```
-    pub fn try_find_or_insert<E, F: FnOnce(&K) -> Result<V, E>>(
+    pub fn try_find_or_insert<E, F: FnOnce(&K) -> Result<V, E> + Drop>(
         &mut self,
         key: K,
         f: F,
     ) -> Result<usize, TryFault<K, V, E>>
-    where
-        K: Drop,
-        F: Drop,
         requires { IsNone (at K.cmp self.old.pairs key) → FnOnceTakesAt F.FnOnce f key }
         // The place, and the pair that stands there after the call.
         ensures place { IfOk result (λ index. index ≡ place K.cmp self.old.pairs key) }
@@ -202,8 +150,6 @@ impl<K: Ord, V, S: StoreMut<K, V>> LiteMap<K, V, S> {
     /// Ok(days.remove(&3) == Some("Wednesday") && days.remove(&3).is_none())
     /// ```
     pub fn remove<Q: Query<K>>(&mut self, key: Q) -> Option<V>
-    where
-        K: Drop,
         ensures value { result ≡ value_at Q.order self.old.pairs (Q.sought key) }
         ensures cut { self.new.pairs ≡ cut Q.order self.old.pairs (Q.sought key) }
         ensures unchanged { IsNone (at Q.order self.old.pairs (Q.sought key)) → self.new ≡ self.old }
@@ -214,30 +160,25 @@ impl<K: Ord, V, S: StoreMut<K, V>> LiteMap<K, V, S> {
 
     /// `remove`, with its comparisons counted (own).
     pub fn remove_counted<Q: Query<K>>(&mut self, key: Q, count: &mut Count) -> Option<V>
-    where
-        K: Drop,
         ensures value { result ≡ value_at Q.order self.old.pairs (Q.sought key) }
         ensures cut { self.new.pairs ≡ cut Q.order self.old.pairs (Q.sought key) }
         ensures unchanged { IsNone (at Q.order self.old.pairs (Q.sought key)) → self.new ≡ self.old }
         ensures room { IsSome result → self.old.room < self.new.room }
         ensures cost { RisesByAtMost (digits (length self.old.pairs)) count.old count.new }
     {
-        let (_, value) = self.take_out(key, count)?;
-        Some(value)
+        Some(self.take_out(key, count)?.1)
     }
 
     /// Takes out a pair for whose key `f` answers `Equal`, and answers its value (own). Its key is given up. It asks `f` as
     /// `get_by` does, and moves the pairs with greater keys down by one.
     pub fn remove_by<F: FnMut(&K) -> Ordering>(&mut self, f: F) -> Option<V>
-    where
-        K: Drop,
         requires { CallableOnKeys F.FnMut self.old.pairs f }
         ensures found { RemovesFound F.FnMut self.old.pairs f result self.new.pairs }
         ensures unchanged { IsNone result → self.new ≡ self.old }
         ensures room { IsSome result → self.old.room < self.new.room }
     {
         match self.find_index_by(f) {
-            Ok(index) => Some(self.remove_at(index)),
+            Ok(index) => Some(self.take_at(index).1),
             Err(_) => None,
         }
     }
@@ -245,21 +186,58 @@ impl<K: Ord, V, S: StoreMut<K, V>> LiteMap<K, V, S> {
     /// Gives up all pairs. There is room for as many then.
     pub fn clear(&mut self)
     where
-        K: Drop,
         V: Drop,
         ensures pairs { self.new.pairs ≡ [] }
         ensures room { self.old.room + length self.old.pairs ≤ self.new.room }
     {
         self.store.lm_clear();
     }
+}
 
-    /// Takes this much room at least, or is refused for want of memory where there was less. The room is not lowered.
+impl<K: Ord, V, S: StoreMut<K, V>> LiteMap<K, V, S> {
+    /// Places a pair whose key is absent; else the pair comes back. It compares and moves as `insert`, and is refused where
+    /// that is.
     ///
     /// ```rust
     /// let mut days = three_days(alloc)?;
-    /// days.reserve(1)?;
-    /// Ok(days.insert(7, "Sunday") == Ok(None))
+    /// let tuesday = days.try_insert(2, "Tuesday")?;
+    /// let friday = days.try_insert(5, "Fri")?;
+    /// Ok(tuesday.is_none() && friday == Some((5, "Fri")))
     /// ```
+    pub fn try_insert(&mut self, key: K, value: V) -> Result<Option<(K, V)>, NoRoom<(K, V)>>
+        ensures { AddsIf (IsNone (at K.cmp self.old.pairs key)) (put K.cmp self.old.pairs key value) (key, value)
+            self.old self.new result }
+    {
+        match self.search(&key, &mut Count::new()) {
+            Ok(_) => Ok(Some((key, value))),
+            Err(index) => {
+                self.insert_at(index, key, value)?;
+                Ok(None)
+            }
+        }
+    }
+
+    /// Puts a pair whose key is above all others behind them; else the pair comes back. It compares at most once, with the last
+    /// key, and moves no pair but where the store takes more memory. Without room the pair comes back and the list stays.
+    ///
+    /// ```rust
+    /// let mut days = three_days(alloc)?;
+    /// let saturday = days.try_append(6, "Saturday")?;
+    /// let tuesday = days.try_append(2, "Tuesday")?;
+    /// Ok(saturday.is_none() && tuesday == Some((2, "Tuesday")))
+    /// ```
+    pub fn try_append(&mut self, key: K, value: V) -> Result<Option<(K, V)>, NoRoom<(K, V)>>
+        ensures { AddsIf (AllBelow K.cmp self.old.pairs key) (self.old.pairs ++ (key, value) ∷ []) (key, value)
+            self.old self.new result }
+    {
+        if !self.is_above_all(&key) {
+            return Ok(Some((key, value)));
+        }
+        self.append(key, value)?;
+        Ok(None)
+    }
+
+    /// Takes this much room at least, or is refused for want of memory where there was less. The room is not lowered.
     pub fn reserve(&mut self, additional: usize) -> Result<(), AllocError>
         ensures pairs { self.new.pairs ≡ self.old.pairs }
         ensures room { OnOk result (additional ≤ self.new.room) }
@@ -286,19 +264,6 @@ impl<K: Ord, V, S: StoreMut<K, V>> LiteMap<K, V, S> {
         ensures refused { RefusedFull (key, value) self.old self.new result }
     {
         self.store.lm_push(key, value)
-    }
-
-    // Takes out the pair at a place, and answers its value.
-    pub(super) fn remove_at(&mut self, index: usize) -> V
-    where
-        K: Drop,
-        requires { index < length self.old.pairs }
-        ensures old { value_in self.old.pairs index ≡ Some result }
-        ensures pairs { self.new.pairs ≡ remove self.old.pairs index }
-        ensures room { self.old.room < self.new.room }
-    {
-        let (_, value) = self.take_at(index);
-        value
     }
 
     // Replaces the value at a place, and answers the old one.

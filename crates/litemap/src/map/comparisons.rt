@@ -1,7 +1,7 @@
 //! Compares and hashes maps pair by pair, over every store.
 ghost use Rattle.std.specs.Prelude.{◌≡◌, ◌&&◌, fold};
 ghost use Rattle.std.specs.Cmp.Lexicographic.{lists_equiv, lists_agrees, lists_total, lists_ties, lists_per, lists_po};
-ghost use Rattle.std.specs.Ordering.{partial_ordering_then, ordering_then};
+ghost use Rattle.std.specs.Ordering.{ordering_then};
 ghost use Rattle.std.specs.Cmp.{on_equiv, and_equiv, then_agrees, on_total, then_total, both_tied};
 ghost use Rattle.std.specs.Cmp.{on_per, and_per, on_po, then_po};
 ghost use Rattle.std.specs.Hash.{on_Alike, and-Alike, items_Alike};
@@ -107,26 +107,17 @@ fn are_equal<K: PartialEq, V: PartialEq, S: Store<K, V>>(left: &S, right: &S) ->
     true
 }
 
-fn partial_pair_order<K: PartialOrd, V: PartialOrd>(a: &K, x: &V, b: &K, y: &V) -> Option<Ordering>
-    ensures { result ≡ partial_ordering_then (K.partial_cmp a.now b.now) (V.partial_cmp x.now y.now) }
-{
-    match a.partial_cmp(b) {
-        Some(Ordering::Equal) => x.partial_cmp(y),
-        decided => decided,
-    }
-}
-
 fn partial_order<'a, 'b, K: PartialOrd + 'a + 'b, V: PartialOrd + 'a + 'b, S: Store<K, V>>(
     mut left: RangeIter<'a, K, V, S>,
     mut right: RangeIter<'b, K, V, S>,
 ) -> Option<Ordering>
     ensures { result ≡ pairs_partial_cmp K.partial_cmp V.partial_cmp left.entry right.entry }
 {
-    while let Some((a, x)) = left.next() {
-        let Some((b, y)) = right.next() else {
+    while let Some(pair) = left.next() {
+        let Some(other) = right.next() else {
             return Some(Ordering::Greater);
         };
-        match partial_pair_order(a, x, b, y) {
+        match pair.partial_cmp(&other) {
             Some(Ordering::Equal) => {}
             decided => return decided,
         }

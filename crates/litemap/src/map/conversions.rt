@@ -13,17 +13,13 @@ use super::becomes::{Answered, Becomes, Boxed, Cloned, Lent};
 use crate::LiteMap;
 use litemap_store::store::{Store, StoreMut};
 use std::alloc::{AllocError, Global};
-use std::marker::PhantomData;
 
-impl<K: Ord, V, S: Store<K, V>> LiteMap<K, V, S> {
+impl<K: Ord + Clone, V: Clone, S: Store<K, V>> LiteMap<K, V, S> {
     /// A map of boxes of clones of the keys and values, or a refusal for want of memory. No keys are compared.
     pub fn to_boxed_keys_values<B: StoreMut<Box<K>, Box<V>> + Drop>(
         &self,
         alloc: Global,
     ) -> Result<LiteMap<Box<K>, Box<V>, B>, AllocError>
-    where
-        K: Clone,
-        V: Clone,
         requires { ClonesCompareEqual K.cmp K.is_clone self.now.pairs }
         ensures { IfOk result (λ m. PairsBecame (λ k b. K.is_clone k b.value) (λ v b. V.is_clone v b.value)
             self.now.pairs m.pairs) }
@@ -36,9 +32,6 @@ impl<K: Ord, V, S: Store<K, V>> LiteMap<K, V, S> {
         &self,
         alloc: Global,
     ) -> Result<LiteMap<Box<K>, V, B>, AllocError>
-    where
-        K: Clone,
-        V: Clone,
         requires { ClonesCompareEqual K.cmp K.is_clone self.now.pairs }
         ensures { IfOk result (λ m. PairsBecame (λ k b. K.is_clone k b.value) V.is_clone self.now.pairs m.pairs) }
     {
@@ -50,15 +43,14 @@ impl<K: Ord, V, S: Store<K, V>> LiteMap<K, V, S> {
         &self,
         alloc: Global,
     ) -> Result<LiteMap<K, Box<V>, B>, AllocError>
-    where
-        K: Clone,
-        V: Clone,
         requires { ClonesCompareEqual K.cmp K.is_clone self.now.pairs }
         ensures { IfOk result (λ m. PairsBecame K.is_clone (λ v b. V.is_clone v b.value) self.now.pairs m.pairs) }
     {
         converted(&self.store, alloc, &Cloned, &Boxed)
     }
+}
 
+impl<K: Ord, V: Clone, S: Store<K, V>> LiteMap<K, V, S> {
     /// A map with the keys that `f` answers, which have to rise as the keys do, and clones of the values (own), or a refusal
     /// for want of memory. `f` is called once for each key. No keys are compared.
     ///
@@ -72,8 +64,6 @@ impl<K: Ord, V, S: Store<K, V>> LiteMap<K, V, S> {
         alloc: Global,
         f: F,
     ) -> Result<LiteMap<L, V, B>, AllocError>
-    where
-        V: Clone,
         requires callable { TakesKeys F.Fn f self.now.pairs }
         requires rising { KeysKeepOrder K.cmp L.cmp (FnReturnsAt F.Fn f) self.now.pairs }
         ensures { IfOk result (λ m. PairsBecame (FnReturnsAt F.Fn f) V.is_clone self.now.pairs m.pairs) }
@@ -178,8 +168,5 @@ where
             Err(_) => unreachable!(),
         }
     }
-    Ok(LiteMap {
-        store: made,
-        marker: PhantomData,
-    })
+    Ok(LiteMap::from_sorted_store_unchecked(made))
 }

@@ -37,7 +37,7 @@ pub struct VacantEntry<'a, K: Ord, V, S: Store<K, V>> {
     ghost missing: { IsMissingAt K.cmp map.now.pairs key index },
 }
 
-impl<K: Ord, V, S: StoreMut<K, V>> LiteMap<K, V, S> {
+impl<K: Ord + Drop, V, S: StoreMut<K, V>> LiteMap<K, V, S> {
     ghost use Rattle.std.specs.Prelude.{◌≡◌, IsNone, IsSome, Some};
     ghost use Rattle.litemap_store.specs.Pairs.{at, cut, key_or, put, value_at};
     ghost use Rattle.litemap.specs.Entries.{MatchEntry, entry_key, entry_map, entry_value, pairs_with};
@@ -47,8 +47,6 @@ impl<K: Ord, V, S: StoreMut<K, V>> LiteMap<K, V, S> {
     ///
     /// It takes no memory, and changes nothing. It makes O(log n) comparisons; what is then done through the entry makes none.
     pub fn entry(&mut self, key: K) -> Entry<'_, K, V, S>
-    where
-        K: Drop,
         // The map that it borrows, as it is.
         ensures same_map { (entry_map result).ghost_name ≡ self.entry.ghost_name }
         ensures unchanged { (entry_map result).now ≡ self.old }
@@ -84,11 +82,6 @@ impl<'a, K: Ord, V, S: StoreMut<K, V>> Entry<'a, K, V, S> {
 
     /// The value, to be written. Where the key is not there, `default` is placed first, and the pairs with greater keys move up
     /// by one; without room key and value come back and the list stays.
-    ///
-    /// ```rust
-    /// // days: 1 Monday, 3 Wednesday, 5 Friday
-    /// Ok(*days.entry(1).or_insert("Mon")? == "Monday")
-    /// ```
     pub fn or_insert(self, default: V) -> Result<&'a mut V, NoRoom<(K, V)>>
     where
         V: Drop,

@@ -13,12 +13,6 @@ pub use values::ValuesIterWrap;
 
 impl<'a, K: Ord + 'a, V: 'a, S: StoreIterable<'a, K, V>> LiteMap<K, V, S> {
     /// All pairs once, in the order of their keys, from both ends, then `None` for good.
-    ///
-    /// ```rust
-    /// // days: 1 Monday, 3 Wednesday, 5 Friday
-    /// let mut pairs = days.iter();
-    /// pairs.next() == Some((&1, &"Monday")) && pairs.next_back() == Some((&5, &"Friday"))
-    /// ```
     pub fn iter(&'a self) -> S::KeyValueIter
         ensures { S.KeyValueIter.rest result ≡ self.now.pairs }
     {

@@ -129,10 +129,7 @@ impl<K: Ord, V, S: Store<K, V>> LiteMap<K, V, S> {
         requires { IsSome (at Q.order self.now.pairs (Q.sought key)) }
         ensures { Some result.now ≡ value_at Q.order self.now.pairs (Q.sought key) }
     {
-        match self.get(key) {
-            Some(value) => value,
-            None => unreachable!(),
-        }
+        self.get(key).unwrap()
     }
 
     /// `Ok` of the key's place where an equal key is there, else `Err` of the place where it would go: the number of smaller
@@ -185,10 +182,7 @@ impl<K: Ord, V, S: Store<K, V>> LiteMap<K, V, S> {
         requires { index < length self.now.pairs }
         ensures { value_in self.now.pairs index ≡ Some result.now }
     {
-        match self.value_in(index) {
-            Some(value) => value,
-            None => unreachable!(),
-        }
+        self.value_in(index).unwrap()
     }
 
     // The one search of all calls by key: the place where the query splits the pairs.

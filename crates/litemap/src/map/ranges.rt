@@ -125,12 +125,6 @@ impl<K: Ord, V, S: StoreSlice<K, V>> LiteMap<K, V, S> {
     /// The pairs whose keys lie within two bounds, as a map that borrows them (own).
     ///
     /// The bounds are those of `places`: where they cross, the part is empty. For each bound it makes O(log n) comparisons.
-    ///
-    /// ```rust
-    /// // days: 1 Monday, 3 Wednesday, 5 Friday
-    /// let part = days.range(Bound::Included(&2), Bound::Unbounded);
-    /// part.len() == 2 && part.first() == Some((&3, &"Wednesday"))
-    /// ```
     pub fn range<Q: Query<K>>(
         &self,
         from: Bound<Q>,
@@ -139,9 +133,6 @@ impl<K: Ord, V, S: StoreSlice<K, V>> LiteMap<K, V, S> {
         ensures { result.pairs ≡ within Q.order self.now.pairs
             (bound_map Q.sought from) (bound_map Q.sought to) }
     {
-        match self.get_indexed_range(self.places(from, to)) {
-            Some(part) => part,
-            None => unreachable!(),
-        }
+        self.get_indexed_range(self.places(from, to)).unwrap()
     }
 }

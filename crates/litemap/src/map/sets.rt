@@ -14,12 +14,6 @@ impl<K: Ord, V, S: Store<K, V>> LiteMap<K, V, S> {
     ///
     /// It goes through both side by side, up to the first key that the other lacks, and makes at most one comparison for each
     /// key of both.
-    ///
-    /// ```rust
-    /// // days: 1 Monday, 3 Wednesday, 5 Friday
-    /// let open: VecMap<u32, ()> = LiteMap::from_iter(alloc, [(1, ()), (5, ())])?;
-    /// Ok(open.is_subset(&days) && !days.is_subset(&open))
-    /// ```
     pub fn is_subset<W, T: Store<K, W>>(&self, other: &LiteMap<K, W, T>) -> bool
         ensures all { result ≡ list_all (λ p. is_some (at K.cmp other.now.pairs p.0)) self.now.pairs }
         ensures found { IsTrue result → (key : K)
@@ -75,13 +69,6 @@ impl<K: Ord + Drop, V: Drop, S: StoreBulkMut<K, V>> LiteMap<K, V, S> {
 
     /// Gives up the pairs whose keys another map has, and keeps the others (own). It compares as `keep_keys_of`, and leaves as
     /// much room.
-    ///
-    /// ```rust
-    /// let mut days = three_days(alloc)?;
-    /// let closed: VecMap<u32, ()> = LiteMap::from_iter(alloc, [(2, ()), (3, ())])?;
-    /// days.remove_keys_of(&closed);
-    /// Ok(days.as_slice() == [(1, "Monday"), (5, "Friday")].as_slice())
-    /// ```
     pub fn remove_keys_of<W, T: Store<K, W>>(&mut self, other: &LiteMap<K, W, T>)
         ensures pairs { self.new.pairs ≡ filter (λ p. not (is_some (at K.cmp other.now.pairs p.0))) self.old.pairs }
         // What a look-up finds: what it found, where the other map lacks the key.

@@ -41,10 +41,7 @@ impl<K: Ord, V, S: StoreSlice<K, V>> LiteMap<K, V, S> {
         ensures pairs { result.now ≡ self.now.pairs }
         ensures rising { Rising K.cmp result.now }
     {
-        let Some(pairs) = self.store.lm_get_range(0..self.store.lm_len()) else {
-            unreachable!()
-        };
-        pairs
+        self.store.lm_get_range(0..self.store.lm_len()).unwrap()
     }
 }
 

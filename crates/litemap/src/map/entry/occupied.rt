@@ -11,21 +11,10 @@ use std::mem;
 
 impl<'a, K: Ord, V, S: StoreMut<K, V>> OccupiedEntry<'a, K, V, S> {
     /// The key that is there, which need not be the one that was asked for.
-    ///
-    /// ```rust
-    /// // days: 1 Monday, 3 Wednesday, 5 Friday
-    /// match days.entry(1) {
-    ///     Entry::Occupied(entry) => Ok(*entry.key() == 1 && *entry.get() == "Monday"),
-    ///     Entry::Vacant(_) => Ok(false),
-    /// }
-    /// ```
     pub fn key(&self) -> &K
         ensures { entry_key (Occupied self.now) ≡ Some result.now }
     {
-        match self.map.get_indexed(self.index) {
-            Some((key, _)) => key,
-            None => unreachable!(),
-        }
+        self.map.get_indexed(self.index).unwrap().0
     }
 
     /// The value.
@@ -51,9 +40,7 @@ impl<'a, K: Ord, V, S: StoreMut<K, V>> OccupiedEntry<'a, K, V, S> {
         ensures* writes_back { sem 𝓛 (IntoLends K.row V.row S.row self.entry result) }
         ensures value { entry_value (Occupied self.entry) ≡ Some result.now }
     {
-        let index = self.index;
-        let map = self.map;
-        map.value_in_mut(index)
+        self.map.value_in_mut(self.index)
     }
 
     /// Replaces the value, and answers the old one. The key that is there stays.
@@ -74,14 +61,6 @@ impl<'a, K: Ord, V, S: StoreMut<K, V>> OccupiedEntry<'a, K, V, S> {
 
     /// Takes out the pair, and answers its value. Its key is given up. The pairs with greater keys move down by one, and there
     /// is room for another pair then.
-    ///
-    /// ```rust
-    /// // days: 1 Monday, 3 Wednesday, 5 Friday
-    /// if let Entry::Occupied(entry) = days.entry(1) {
-    ///     entry.remove();
-    /// }
-    /// !days.contains_key(&1)
-    /// ```
     pub fn remove(self) -> V
     where
         K: Drop,
@@ -90,7 +69,7 @@ impl<'a, K: Ord, V, S: StoreMut<K, V>> OccupiedEntry<'a, K, V, S> {
         ensures room { (entry_map (Occupied self.entry)).now.room < self.exit.0.now.room }
     {
         let index = self.index;
-        self.map.remove_at(index)
+        self.map.take_at(index).1
     }
 }
 

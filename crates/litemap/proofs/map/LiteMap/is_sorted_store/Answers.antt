@@ -1,9 +1,17 @@
-use Rattle.std.proofs.Common.{rules, ◌≡◌, true, false, sym, ap, ◌∙◌, arith}
+use Rattle.std.proofs.Common.{rules, ◌≡◌, true, false, sym, ap, ◌∙◌, arith, option_map}
+use Rattle.std.specs.Map.Iter.{deref_pair}
 use Rattle.std.specs.Ordering.{is_lt}
 use Rattle.std.specs.declared.cmp.Ordering.TheVariants.{Less}
 use Rattle.litemap_store.specs.Pairs.{Rising}
 use Rattle.litemap_store.proofs.Parts.{RisesTo-one, RisesTo-more, Rising-from_RisesTo, Less-from_Rising, Less-from_is_lt}
+use Rattle.litemap.proofs.Places.{is_there}
 use Rattle.litemap.proofs.map.LiteMap.is_sorted_store.Goals as goal
+
+pub unwrap-requires : goal.unwrap-requires
+unwrap-requires g c = is_there deref_pair c.lm_get.result (g.S.Store.pairs c.args.store.now) _ c.lm_get.ensures (omega (arith, c.loop-place-test.true, c.lm_len-place-end.ensures))
+
+pub unwrap-requires-in-loop-place : goal.unwrap-requires-in-loop-place
+unwrap-requires-in-loop-place g c = is_there deref_pair c.lm_get-in-loop-place.result (g.S.Store.pairs c.args.store.now) c.loop-place.place c.lm_get-in-loop-place.ensures (omega (arith, c.loop-place-test.true, c.lm_len-place-end.ensures))
 
 pub loop-place-init : goal.loop-place-init
 loop-place-init g c = record { positive = omega arith; so_far = RisesTo-one g.K.Ord.cmp (g.S.Store.pairs c.args.store.now) }
@@ -12,16 +20,20 @@ pub returns-then-not-is_lt : goal.returns-then-not-is_lt
 returns-then-not-is_lt g c = (
   λ (t : false ≡ true). cc,
   λ (r : Rising g.K.Ord.cmp (g.S.Store.pairs c.args.store.now)).
-      let less : c.cmp.result ≡ Less = c.cmp.ensures ∙ Less-from_Rising g.K.Ord.cmp _ _ _ _ c.loop-place.invariant.positive r (sym c.in-Some.ensures) (sym c.in-Some-lm_get.ensures) in
+      let before = sym c.lm_get.ensures ∙ ap (option_map deref_pair) c.unwrap.ensures in
+      let here = sym c.lm_get-in-loop-place.ensures ∙ ap (option_map deref_pair) c.unwrap-in-loop-place.ensures in
+      let less : c.cmp.result ≡ Less = c.cmp.ensures ∙ Less-from_Rising g.K.Ord.cmp _ _ _ _ c.loop-place.invariant.positive r before here in
       c.if-not-is_lt.ensures ∙ ap is_lt less,
 )
 
 pub loop-place-preserved : goal.loop-place-preserved
 loop-place-preserved g c =
     let less = sym c.cmp.ensures ∙ Less-from_is_lt c.cmp.result c.if-not-is_lt.ensures in
+    let before = sym c.lm_get.ensures ∙ ap (option_map deref_pair) c.unwrap.ensures in
+    let here = sym c.lm_get-in-loop-place.ensures ∙ ap (option_map deref_pair) c.unwrap-in-loop-place.ensures in
     record {
       positive = omega arith;
-      so_far = RisesTo-more g.K.Ord.cmp g.met.K.Ord.total _ _ _ _ c.loop-place.invariant.positive c.loop-place.invariant.so_far (sym c.in-Some.ensures) (sym c.in-Some-lm_get.ensures) less;
+      so_far = RisesTo-more g.K.Ord.cmp g.met.K.Ord.total _ _ _ _ c.loop-place.invariant.positive c.loop-place.invariant.so_far before here less;
     }
 
 pub returns : goal.returns

@@ -19,8 +19,8 @@ loop-index-preserved g c = record {
   room = omega (arith, c.in-Ok.ensures.room);
 }
 
-pub invariant_of-result : goal.invariant_of-result
-invariant_of-result g c =
+pub from_sorted_store_unchecked-requires : goal.from_sorted_store_unchecked-requires
+from_sorted_store_unchecked-requires g c =
     let pairs = g.S.Store.pairs c.args.store.now in
     let end : c.loop-index.index ≡ length pairs = omega arith in
     let became = rw (end, take-length) at c.loop-index.invariant.became in
@@ -29,4 +29,4 @@ invariant_of-result g c =
 pub returns : goal.returns
 returns g c =
     let end : c.loop-index.index ≡ length (g.S.Store.pairs c.args.store.now) = omega arith in
-    rw (end, take-length) at c.loop-index.invariant.became
+    rw c.from_sorted_store_unchecked.ensures.pairs (rw (end, take-length) at c.loop-index.invariant.became)
