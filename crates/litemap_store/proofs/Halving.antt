@@ -4,13 +4,14 @@
 --     Seen ord l hit low left, Seen-next, left_next      the same for the search that notes a hit and the number of places left
 --     takes, takes_next      from `Callable`: the closure may be asked for a key of the list; each answer uses up a question
 --     next      the same of `Shape`, and what the closure answers
-use Rattle.std.proofs.Common.{◌≡◌, ◌≢◌, ℕ, zero, suc, ◌+◌, ◌-◌, ◌/◌, ◌<◌, ◌≤◌, Bool, true, false, cond, List, [], ◌∷◌, length, Some, Ok, Err, slice_get, slice_index_or, Bor, refl, sym, ap, ◌∙◌, subst, arith, inl, inr, ◌⊎◌}
+use Rattle.std.proofs.Common.{◌≡◌, ◌≢◌, ℕ, zero, suc, ◌+◌, ◌-◌, ◌/◌, ◌<◌, ◌≤◌, Bool, true, false, cond, List, [], ◌∷◌, length, Some, Ok, Err, slice_get, slice_index_or, Bor, refl, sym, ap, ◌∙◌, subst, arith, inl, inr}
 use denote.Param.Members.{Mut}
 use Rattle.std.specs.Fn.{CalledAt, TakesAt}
 use Rattle.std.specs.declared.cmp.Ordering.{Ordering}
 use Rattle.std.specs.declared.cmp.Ordering.TheVariants.{Less, Equal, Greater}
 use Rattle.std.specs.Ordering.{is_eq, is_lt, ordering_index}
 use Rattle.std.specs.List.{AllWithin, Any, filter}
+use Rattle.std.proofs.lemmas.Bool.{cases_lt}
 use Rattle.std.proofs.lemmas.Option.{get_or_from_slice_get, slice_get_within}
 use Rattle.litemap_store.specs.Digits.{digits, digits-halved}
 use Rattle.litemap_store.specs.Search.{Ascends, Callable, Finds, Shape}
@@ -24,11 +25,6 @@ bottom : (o : Ordering) → ordering_index o ≤ 0 → o ≡ Less
 bottom Less h = refl
 bottom Equal h = absurd (omega arith)
 bottom Greater h = absurd (omega arith)
-
-order : (k n : ℕ) → (k < n) ⊎ (n ≤ k)
-order k zero = inr (omega arith)
-order zero (suc n) = inl (omega arith)
-order (suc k) (suc n) = elim (order k n) [ inl h ↦ inl (omega arith) | inr h ↦ inr (omega arith) ]
 
 -- what passes a test stands at the first n places
 counted : {X : Type 0} (p : X → Bool) (xs : List X) (n : ℕ) → n ≤ length xs
@@ -44,12 +40,6 @@ counted p (x ∷ xs) (suc n) h passes fails =
     let e : p x ≡ true = passes 0 x (omega arith) in
     let r : n ≡ length (filter p xs) = counted p xs n (omega arith) (λ k d l. passes (suc k) d (omega arith)) (λ k d a b. fails (suc k) d (omega arith) (omega arith)) in
     rw e (ap suc r)
-
-Less-not_Equal : (o : Ordering) → o ≡ Less → o ≢ Equal
-Less-not_Equal o h e = cc
-
-Greater-not_Equal : (o : Ordering) → o ≡ Greater → o ≢ Equal
-Greater-not_Equal o h e = cc
 
 -- how many places are left of some after an answer at the middle
 abbrev pub left_after : Bool → Ordering → ℕ → ℕ
@@ -74,7 +64,7 @@ module _ {K V : Type 0} (ord : K → Ordering) (l : List (K × V)) where
 
     pub Narrowed-less : ord k ≡ Less → Narrowed (m + 1) high
     Narrowed-less is = record {
-      front = λ i d a b. elim (order i m) as (λ _. ord (slice_index_or l i d).0 ≡ Less) [
+      front = λ i d a b. elim (cases_lt i m) as (λ _. ord (slice_index_or l i d).0 ≡ Less) [
         | inl h ↦
             let j : ordering_index (ord (slice_index_or l i d).0) ≤ ordering_index (ord (slice_index_or l m d).0) = ascends i m d h within in
             let u : ord (slice_index_or l m d).0 ≡ Less = ap (λ p. ord p.0) (read d) ∙ is in
@@ -89,7 +79,7 @@ module _ {K V : Type 0} (ord : K → Ordering) (l : List (K × V)) where
     pub Narrowed-greater : ord k ≡ Greater → Narrowed low m
     Narrowed-greater is = record {
       front = n.front;
-      back = λ i d a b. elim (order m i) as (λ _. ord (slice_index_or l i d).0 ≡ Greater) [
+      back = λ i d a b. elim (cases_lt m i) as (λ _. ord (slice_index_or l i d).0 ≡ Greater) [
         | inl h ↦
             let j : ordering_index (ord (slice_index_or l m d).0) ≤ ordering_index (ord (slice_index_or l i d).0) = ascends m i d h b in
             let u : ord (slice_index_or l m d).0 ≡ Greater = ap (λ p. ord p.0) (read d) ∙ is in
@@ -105,9 +95,9 @@ module _ {K V : Type 0} (ord : K → Ordering) (l : List (K × V)) where
 
   pub Finds-nowhere : (low high : ℕ) → high ≤ low → low ≤ length l → Narrowed low high → Finds ord l (Err low)
   Finds-nowhere low high u h n = (
-    λ k d b. elim (order k low) as (λ _. ord (slice_index_or l k d).0 ≢ Equal) [
-      | inl a ↦ Less-not_Equal _ (n.front k d (omega arith) a)
-      | inr a ↦ Greater-not_Equal _ (n.back k d (omega arith) b)
+    λ k d b. elim (cases_lt k low) as (λ _. ord (slice_index_or l k d).0 ≢ Equal) [
+      | inl a ↦ (λ e. let u : ord (slice_index_or l k d).0 ≡ Less = n.front k d (omega arith) a in cc)
+      | inr a ↦ (λ e. let u : ord (slice_index_or l k d).0 ≡ Greater = n.back k d (omega arith) b in cc)
     ],
     counted (λ p. is_lt (ord p.0)) l low h (λ k d a. ap is_lt (n.front k d (omega arith) a)) (λ k d a b. ap is_lt (n.back k d (omega arith) b)),
   )

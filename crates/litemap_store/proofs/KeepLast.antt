@@ -15,7 +15,7 @@ use Rattle.litemap_store.specs.Last.{In, Last, StandsLast}
 use Rattle.litemap_store.specs.Pairs.{Rising, above, below}
 use Rattle.litemap_store.proofs.Membership.{In-right, In-cases, In-filter, In-from_filter, each, from_each}
 use Rattle.litemap_store.proofs.LastPairs.{In-from_last, Last-put}
-use Rattle.litemap_store.proofs.Splitting.{greater_back}
+use Rattle.litemap_store.proofs.Splitting.{equal_from_is_eq, greater_back}
 
 -- ---- filters that keep all or none
 pub filter_all : {X : Type 0} (t : X → Bool) (L : List X) → ((x : X) → In x L → t x ≡ true) → filter t L ≡ L
@@ -173,11 +173,6 @@ module _ {K : Type 0} (cmp : K → K → Ordering) (o : IsTotalOrder cmp) where
         }
 
   -- the same as the code reads the pairs
-  equal_from_is_eq : (r : Ordering) → is_eq r ≡ true → r ≡ Equal
-  equal_from_is_eq Less h = absurd (true≢false (sym h))
-  equal_from_is_eq Equal h = refl
-  equal_from_is_eq Greater h = absurd (true≢false (sym h))
-
   module _ {V : Type 0} (S xs ys : List (K × V)) (k n i : ℕ) (q p : K × V) (r : Ordering) (kept : KeptLast cmp S xs (k + 1) i) (before : k < i) (within : i < length S) (read_q : q ≡ get_or xs k q) (read_p : p ≡ get_or xs i p) (asked : r ≡ cmp q.0 p.0) where
     q_is : q ≡ get_or xs k p
     q_is = let long = kept.long in read_q ∙ get_or_default xs k q p (omega arith)
