@@ -2,11 +2,12 @@ use Rattle.std.proofs.Common.{rules, ◌≡◌, true, false, sym, ap, ◌∙◌,
 use Rattle.std.specs.Ordering.{is_lt}
 use Rattle.std.specs.declared.cmp.Ordering.TheVariants.{Less}
 use Rattle.litemap_store.specs.Pairs.{Rising}
-use Rattle.litemap_store.proofs.Parts.{RisesTo-one, RisesTo-more, Rising-from_RisesTo, Less-from_Rising, Less-from_is_lt}
+use Rattle.litemap_store.proofs.Joined.{Rising-from_adjacent, adjacent_more}
+use Rattle.litemap_store.proofs.Parts.{Less-from_Rising, Less-from_is_lt}
 use Rattle.litemap.proofs.map.LiteMap.is_sorted_store.Goals as goal
 
 pub loop-place-init : goal.loop-place-init
-loop-place-init g c = record { positive = omega arith; so_far = RisesTo-one g.K.Ord.cmp (g.S.Store.pairs c.args.store.now) }
+loop-place-init g c = record { positive = omega arith; so_far = λ k d h. absurd (omega arith) }
 
 pub returns-then-not-is_lt : goal.returns-then-not-is_lt
 returns-then-not-is_lt g c = (
@@ -21,8 +22,8 @@ loop-place-preserved g c =
     let less = sym c.cmp.ensures ∙ Less-from_is_lt c.cmp.result c.if-not-is_lt.ensures in
     record {
       positive = omega arith;
-      so_far = RisesTo-more g.K.Ord.cmp g.met.K.Ord.total _ _ _ _ c.loop-place.invariant.positive c.loop-place.invariant.so_far (sym c.in-Some.ensures) (sym c.in-Some-lm_get.ensures) less;
+      so_far = adjacent_more g.K.Ord.cmp _ _ _ _ c.loop-place.invariant.so_far (sym c.in-Some.ensures) (sym c.in-Some-lm_get.ensures) less;
     }
 
 pub returns : goal.returns
-returns g c = (λ t. Rising-from_RisesTo g.K.Ord.cmp _ c.loop-place.place (omega arith) c.loop-place.invariant.so_far, λ r. search rules)
+returns g c = (λ t. Rising-from_adjacent g.K.Ord.cmp g.met.K.Ord.total _ (λ k d h. c.loop-place.invariant.so_far k d (omega arith)), λ r. search rules)

@@ -1,9 +1,7 @@
-use Rattle.std.proofs.Common.{ap, refl, subst, sym}
-use Rattle.litemap_store.specs.Clones.{ClonesCompareEqual}
+use Rattle.std.proofs.Common.{ap, refl}
 use Rattle.litemap.proofs.Conversions.{KeysKeepOrder-clones}
 use Rattle.litemap.proofs.map.LiteMap.to_boxed_values.Goals as goal
 
 pub converted-requires : goal.converted-requires
 converted-requires g c =
-    let equal = subst (ClonesCompareEqual g.K.Ord.cmp g.K.Clone.is_clone) (sym (ap (λ m. m.pairs) c.self.view_is)) c.requires in
-    λ k. ((refl, tt), (c.self.invariant, (λ p i. tt, (λ p i. tt, KeysKeepOrder-clones g.met.K.Ord.total g.K.Clone.is_clone _ equal))))
+    λ k. ((refl, tt), (c.self.invariant, (λ p i. tt, (λ p i. tt, KeysKeepOrder-clones g.met.K.Ord.total g.K.Clone.is_clone _ _ (ap (λ m. m.pairs) c.self.view_is) c.requires))))
