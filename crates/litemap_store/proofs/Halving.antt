@@ -56,8 +56,8 @@ module _ {K V : Type 0} (ord : K → Ordering) (l : List (K × V)) where
   Narrowed-whole n h = record { front = λ k d a b. absurd (omega arith); back = λ k d a b. absurd (omega arith) }
 
   module _ (ascends : Ascends ord l) (low high m : ℕ) (k : K) (v : V) (e : slice_get l m ≡ Some (k, v)) (n : Narrowed low high) where
-    read : (d : K × V) → slice_index_or l m d ≡ (k, v)
-    read d = get_or_from_slice_get l m (k, v) d e
+    read : (d : K × V) → ord (slice_index_or l m d).0 ≡ ord k
+    read d = ap (λ p. ord p.0) (get_or_from_slice_get l m (k, v) d e)
 
     within : m < length l
     within = slice_get_within l m (k, v) e
@@ -65,13 +65,8 @@ module _ {K V : Type 0} (ord : K → Ordering) (l : List (K × V)) where
     pub Narrowed-less : ord k ≡ Less → Narrowed (m + 1) high
     Narrowed-less is = record {
       front = λ i d a b. elim (cases_lt i m) as (λ _. ord (slice_index_or l i d).0 ≡ Less) [
-        | inl h ↦
-            let j : ordering_index (ord (slice_index_or l i d).0) ≤ ordering_index (ord (slice_index_or l m d).0) = ascends i m d h within in
-            let u : ord (slice_index_or l m d).0 ≡ Less = ap (λ p. ord p.0) (read d) ∙ is in
-            bottom _ (rw u at j)
-        | inr h ↦
-            let u : ord (slice_index_or l m d).0 ≡ Less = ap (λ p. ord p.0) (read d) ∙ is in
-            subst (λ (j : ℕ). ord (slice_index_or l j d).0 ≡ Less) {x = m} {y = i} (omega arith) u
+        | inl h ↦ bottom _ (rw (read d ∙ is) at (ascends i m d h within))
+        | inr h ↦ subst (λ (j : ℕ). ord (slice_index_or l j d).0 ≡ Less) {x = m} {y = i} (omega arith) (read d ∙ is)
       ];
       back = n.back;
     }
@@ -80,13 +75,8 @@ module _ {K V : Type 0} (ord : K → Ordering) (l : List (K × V)) where
     Narrowed-greater is = record {
       front = n.front;
       back = λ i d a b. elim (cases_lt m i) as (λ _. ord (slice_index_or l i d).0 ≡ Greater) [
-        | inl h ↦
-            let j : ordering_index (ord (slice_index_or l m d).0) ≤ ordering_index (ord (slice_index_or l i d).0) = ascends m i d h b in
-            let u : ord (slice_index_or l m d).0 ≡ Greater = ap (λ p. ord p.0) (read d) ∙ is in
-            top _ (rw u at j)
-        | inr h ↦
-            let u : ord (slice_index_or l m d).0 ≡ Greater = ap (λ p. ord p.0) (read d) ∙ is in
-            subst (λ (j : ℕ). ord (slice_index_or l j d).0 ≡ Greater) {x = m} {y = i} (omega arith) u
+        | inl h ↦ top _ (rw (read d ∙ is) at (ascends m i d h b))
+        | inr h ↦ subst (λ (j : ℕ). ord (slice_index_or l j d).0 ≡ Greater) {x = m} {y = i} (omega arith) (read d ∙ is)
       ];
     }
 
