@@ -6,19 +6,20 @@
 use Rattle.std.proofs.Common.{◌≡◌, ℕ, ◌+◌, ◌≤◌, arith, List, [], ◌∷◌, ◌++◌, append_assoc, length, length-append, drop, take, Option, Some, None, option_map, inl, inr, refl, sym, ap, ◌∙◌, subst, reverse, Ordering, Less, Equal, is_lt, is_gt}
 use Rattle.std.specs.Cmp.{IsTotalOrder}
 use Rattle.std.specs.List.{cons_option}
-use Rattle.std.proofs.lemmas.Cmp.{tied_back, alike_right}
+use Rattle.std.proofs.lemmas.Cmp.{alike_right}
 use Rattle.std.proofs.lemmas.List.{length-reverse, same_from_push}
 use Rattle.std.proofs.Math.Seq.{drop-append-add, drop-append_seam, take-append-add}
 use Rattle.std.proofs.lemmas.List.Elements.{filter_map-append}
 use Rattle.litemap_store.specs.Last.{In}
-use Rattle.litemap_store.specs.Merge.{IsMerged, Merge, left}
-use Rattle.litemap_store.specs.Pairs.{Rising, above, at, below, key_or}
+use Rattle.litemap_store.specs.Merge.{Merge, left}
+use Rattle.litemap_store.specs.Pairs.{Rising, above, at, below, key_or, put}
 use Rattle.litemap_store.specs.Queries.{key_one_side}
 use Rattle.litemap_store.specs.Splits.{IsFoundAt, IsMissingAt}
 use Rattle.litemap_store.proofs.KeepLast.{rising_across}
 use Rattle.litemap_store.proofs.Lookups.{at-filter_kept}
 use Rattle.litemap_store.proofs.Membership.{In-cases, from_each}
 use Rattle.litemap_store.proofs.MergeJoins.{Across, Merge-before, Merge-join, Merge-none}
+use Rattle.litemap_store.proofs.Merging.{Merge-put}
 use Rattle.litemap_store.proofs.Splitting.{Rising-filter, at_in, kept_above, kept_below, parted}
 
 module _ {K V : Type 0} (cmp : K → K → Ordering) (o : IsTotalOrder cmp) where
@@ -55,28 +56,9 @@ module _ {K V : Type 0} (cmp : K → K → Ordering) (o : IsTotalOrder cmp) wher
 
   -- ---- one pair into another with an equal key
   pub Merge-one : (a b : K × V) → cmp a.0 b.0 ≡ Equal → Merge cmp (a ∷ []) (b ∷ []) ((a.0, b.1) ∷ [])
-  Merge-one a b e = record { rising = (tt, tt); exactly = λ p. (there p, back p) }
-    where
-      there : (p : K × V) → In p ((a.0, b.1) ∷ []) → IsMerged cmp (a ∷ []) (b ∷ []) p
-      there p (inl f) = subst (IsMerged cmp (a ∷ []) (b ∷ [])) f (inr (inr ((a.1, inl refl), (b.0, e, inl refl))))
-      there p (inr j) = absurd j
-
-      back : (p : K × V) → IsMerged cmp (a ∷ []) (b ∷ []) p → In p ((a.0, b.1) ∷ [])
-      back p (inl h) = elim h.0 [
-        | inl f ↦ absurd (h.1.0 (subst (λ (q : K × V). cmp q.0 b.0 ≡ Equal) f e))
-        | inr j ↦ absurd j
-      ]
-      back p (inr (inl h)) = elim h.0 [
-        | inl f ↦ absurd (h.1.0 (tied_back o a.0 p.0 (subst (λ (q : K × V). cmp a.0 q.0 ≡ Equal) f e)))
-        | inr j ↦ absurd j
-      ]
-      back p (inr (inr h)) = elim h.0.1 [
-        | inl f ↦ elim h.1.2 [
-          | inl g ↦ inl (ap (λ (q : K × V). let y : K × V = (q.0, b.1) in y) f ∙ ap (λ (q : K × V). let y : K × V = (p.0, q.1) in y) g)
-          | inr j ↦ absurd j
-        ]
-        | inr j ↦ absurd j
-      ]
+  Merge-one a b e =
+      let h : Merge cmp (a ∷ []) (b ∷ []) (put cmp (a ∷ []) b.0 b.1) = Merge-put cmp o (a ∷ []) [] (a ∷ []) (Merge-none cmp (a ∷ []) (tt, tt)) b tt in
+      rw e at h
 
   -- ---- above the last key of B
   module _ (A B : List (K × V)) (b : K × V) (r : Rising cmp A) (s : Rising cmp (B ++ b ∷ [])) where

@@ -9,7 +9,7 @@ use Rattle.std.specs.declared.cmp.Ordering.TheVariants.{Less, Equal}
 use Rattle.litemap_store.specs.Last.{In, Last, NoneEqual, StandsLast}
 use Rattle.litemap_store.specs.Laws.{Sifted}
 use Rattle.litemap_store.specs.Pairs.{AllBelow}
-use Rattle.litemap_store.proofs.LastPairs.{In-from_last, Last-same, StandsLast-cases, StandsLast-left, StandsLast-right, stands_behind}
+use Rattle.litemap_store.proofs.LastPairs.{In-from_last, Last-same, StandsLast-cases, StandsLast-left, StandsLast-right, stands_before, stands_behind}
 use Rattle.litemap_store.proofs.Membership.{In-cases, In-left, In-right, each, from_each}
 use Rattle.litemap_store.proofs.Splitting.{each-append}
 
@@ -45,27 +45,15 @@ module _ {K V : Type 0} {cmp : K → K → Ordering} (o : IsTotalOrder cmp) wher
         ],
       );
       last = λ x. (
-        λ h. elim h [
-          | inl j ↦ StandsLast-right cmp x B (p ∷ Y) (inl (j.0, none_in x.0 (B ++ Y) Y (λ y. In-right B Y y) j.1))
-          | inr j ↦ elim (StandsLast-cases cmp x B Y j) [
-            | inl k ↦ StandsLast-left cmp x B (p ∷ Y) k.0 (
-              (λ e. each (λ (q : K × V). cmp p.0 q.0 ≢ Equal) B none x (In-from_last cmp x B k.0) (tied_back o x.0 p.0 e)),
-              k.1,
-            )
-            | inr k ↦ StandsLast-right cmp x B (p ∷ Y) (inr k)
-          ]
-        ],
-        λ h. elim (StandsLast-cases cmp x B (p ∷ Y) h) [
-          | inl j ↦ inr (StandsLast-left cmp x B Y j.0 j.1.1)
-          | inr (inl j) ↦ inl (
-            j.0,
-            from_each (λ (q : K × V). cmp x.0 q.0 ≢ Equal) (B ++ Y) (λ y i. elim (In-cases B Y y i) [
-              | inl k ↦ each (λ (q : K × V). cmp x.0 q.0 ≢ Equal) B (subst (λ (z : K × V). NoneEqual cmp z.0 B) j.0 none) y k
-              | inr k ↦ each (λ (q : K × V). cmp x.0 q.0 ≢ Equal) Y j.1 y k
-            ]),
-          )
-          | inr (inr j) ↦ inr (StandsLast-right cmp x B Y j)
-        ],
+        λ h. rw (append_assoc B (p ∷ []) Y) at (stands_before cmp x (p ∷ B) (B ++ p ∷ []) Y (λ i. elim i [
+          | inl j ↦ StandsLast-right cmp x B (p ∷ []) (inl (j.0, tt))
+          | inr j ↦ StandsLast-left cmp x B (p ∷ []) j ((λ e. each (λ (q : K × V). cmp p.0 q.0 ≢ Equal) B none x (In-from_last cmp x B j) (tied_back o x.0 p.0 e)), tt)
+        ]) h),
+        λ h. stands_before cmp x (B ++ p ∷ []) (p ∷ B) Y (λ i. elim (StandsLast-cases cmp x B (p ∷ []) i) [
+          | inl j ↦ inr j.0
+          | inr (inl j) ↦ inl (j.0, subst (λ (z : K × V). NoneEqual cmp z.0 B) j.0 none)
+          | inr (inr j) ↦ absurd j
+        ]) (rw (append_assoc B (p ∷ []) Y) h),
       );
     }
 
