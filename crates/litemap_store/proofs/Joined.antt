@@ -2,7 +2,7 @@
 --     adjacent_from_Rising, Rising-from_adjacent, adjacent_more      of two neighbours the later one has the greater key
 --     Rising-behind      where the last key of one lies below the first of the other;  Rising-from_Rises, not_above      where all of one lie below the other, or do not
 --     empty_from_last, empty_from_first, last_split, first_split      an empty list, and what one begins and ends with
---     all_below, below_all      keys below and above all
+--     below_all      a key below all
 use Rattle.std.proofs.Common.{ℕ, zero, suc, ◌+◌, ◌-◌, length, arith, ◌≡◌, ◌↔◌, List, [], ◌∷◌, ◌++◌, refl, sym, ap, ◌∙◌, subst, inl, inr, Bool, false, Ordering, Less, slice_get, Some, None, sub-one, suc-add}
 use Rattle.std.proofs.lemmas.Bool.{cases_lt, true≢false}
 use Rattle.std.proofs.lemmas.Option.{get_or_from_slice_get}
@@ -10,11 +10,11 @@ use Rattle.std.specs.Bool.{IsTrue}
 use Rattle.std.specs.List.{AllAdjacentBelow, AllByRecursion}
 use Rattle.std.specs.Cmp.{IsTotalOrder}
 use Rattle.litemap_store.specs.Last.{In, Rises}
-use Rattle.litemap_store.specs.Pairs.{AllBelow, BelowAll, Rising}
-use Rattle.litemap_store.proofs.KeepLast.{rising_across}
+use Rattle.litemap_store.specs.Pairs.{BelowAll, Rising}
+use Rattle.litemap_store.proofs.KeepLast.{all_below, rising_across}
 use Rattle.litemap_store.proofs.Membership.{each, from_each}
 use Rattle.litemap_store.proofs.Places.{AllPairs-from_Rising, slice_get-None}
-use Rattle.litemap_store.proofs.Splitting.{Rising-append, each-append, each-weaker}
+use Rattle.litemap_store.proofs.Splitting.{Rising-append, each-weaker}
 
 -- ---- by neighbours
 pub adjacent_from_Rising : {K V : Type 0} (cmp : K → K → Ordering) (L : List (K × V)) → Rising cmp L → AllAdjacentBelow (λ (p q : K × V). cmp p.0 q.0 ≡ Less) L (length L)
@@ -66,15 +66,9 @@ pub first_split : {X : Type 0} (L : List X) (x : X) → slice_get L 0 ≡ Some x
 first_split [] x e = absurd (cc)
 first_split (y ∷ L) x e = let s : y ≡ x = cc in (L, ap (λ z. z ∷ L) s)
 
-module _ {K V : Type 0} {cmp : K → K → Ordering} (o : IsTotalOrder cmp) where
-  -- where the last key is below k, so are all, and where k is below the first key, it is below all
-  pub all_below : (L N : List (K × V)) (l : K × V) (k : K) → Rising cmp L → L ≡ N ++ l ∷ [] → cmp l.0 k ≡ Less → AllBelow cmp L k
-  all_below L N l k r e less =
-      rw e (each-append (λ (q : K × V). cmp q.0 k ≡ Less) N (l ∷ [])
-      (from_each (λ (q : K × V). cmp q.0 k ≡ Less) N (λ x i. o.trans x.0 l.0 k (rising_across cmp N (l ∷ []) (subst (Rising cmp) e r) x l i (inl refl)) less)) (less, tt))
-
-  pub below_all : (k : K) (b : K × V) (L : List (K × V)) → cmp k b.0 ≡ Less → Rising cmp (b ∷ L) → BelowAll cmp k (b ∷ L)
-  below_all k b L l r = (l, each-weaker (λ (x : K × V). o.trans k b.0 x.0 l) L r.0)
+-- where k is below the first key, it is below all
+pub below_all : {K V : Type 0} {cmp : K → K → Ordering} → IsTotalOrder cmp → (k : K) (b : K × V) (L : List (K × V)) → cmp k b.0 ≡ Less → Rising cmp (b ∷ L) → BelowAll cmp k (b ∷ L)
+below_all {K} {V} o k b L l r = (l, each-weaker (λ (x : K × V). o.trans k b.0 x.0 l) L r.0)
 
 -- the last key of A is below the first of B
 pub Rising-behind : {K V : Type 0} (cmp : K → K → Ordering) → IsTotalOrder cmp → (A B : List (K × V)) (a b : K × V) → slice_get A (length A - 1) ≡ Some a → slice_get B 0 ≡ Some b

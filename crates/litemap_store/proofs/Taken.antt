@@ -8,7 +8,7 @@ use Rattle.std.specs.Cmp.{IsTotalOrder}
 use Rattle.std.proofs.lemmas.Cmp.{alike_right}
 use Rattle.std.proofs.lemmas.List.{same_from_push, nil_from_length, reverse-append}
 use mathlib.Core.Bool.{true≢false}
-use Rattle.litemap_store.proofs.Joined.{all_below, empty_from_last, last_split}
+use Rattle.litemap_store.proofs.Joined.{empty_from_last, last_split}
 use Rattle.litemap_store.specs.Last.{In, Last, NoneEqual, StandsLast}
 use Rattle.litemap_store.specs.Pairs.{AllBelow, Rising}
 use Rattle.litemap_store.specs.Taken.{IsGreaterEnd, IsTaken}
@@ -16,7 +16,7 @@ use Rattle.litemap_store.proofs.Membership.{In-left, In-right, In-cases, each, f
 use Rattle.litemap_store.proofs.LastPairs.{Last-rising, Last-same, In-from_last, stands_behind}
 use Rattle.litemap_store.proofs.Sifting.{last_behind, passed}
 use Rattle.litemap_store.proofs.Splitting.{each-weaker, greater_back, less_back}
-use Rattle.litemap_store.proofs.KeepLast.{Last-push, last_cases, rising_across}
+use Rattle.litemap_store.proofs.KeepLast.{Last-push, all_below, last_cases, rising_across}
 
 pub Rising-left : {K V : Type 0} (cmp : K → K → Ordering) (A B : List (K × V)) → Rising cmp (A ++ B) → Rising cmp A
 Rising-left cmp [] B r = tt
