@@ -145,25 +145,25 @@ hit_next Less low left n hit w p h = h
 hit_next Equal low left n hit w p h = omega arith
 hit_next Greater low left n hit w p h = h
 
-pub known : {K V : Type 0} (l : List (K × V)) (m : ℕ) (k : K) (v : V) → slice_get l m ≡ Some (k, v) → Any (λ q. q.0 ≡ k) l
+known : {K V : Type 0} (l : List (K × V)) (m : ℕ) (k : K) (v : V) → slice_get l m ≡ Some (k, v) → Any (λ q. q.0 ≡ k) l
 known l m k v e = (m, (k, v), slice_get_within l m (k, v) e, get_or_from_slice_get l m (k, v) (k, v) e, refl)
 
 module _ {F K V : Type 0} (g : Mut F (Bor K × Unit {0}) Ordering) (l : List (K × V)) where
-  pub takes : (n : ℕ) (f : F) (k : K) → 1 ≤ n → Callable g l n f → Any (λ q. q.0 ≡ k) l → TakesAt g f k
-  takes n f k h s a p e = s.at [] f p (omega arith) refl (subst (λ (x : K). Any (λ q. q.0 ≡ x) l) (sym e) a)
+  pub takes : (n i : ℕ) (f : F) (k : K) (v : V) → 1 ≤ n → Callable g l n f → slice_get l i ≡ Some (k, v) → TakesAt g f k
+  takes n i f k v h s there p e = s.at [] f p (omega arith) refl (subst (λ (x : K). Any (λ q. q.0 ≡ x) l) (sym e) (known l i k v there))
 
   -- one question less may be asked after an answer
-  pub takes_next : (m n : ℕ) (f : F) (k : K) (r : Ordering) (f' : F) → m + 1 ≤ n → Callable g l n f → Any (λ q. q.0 ≡ k) l
+  pub takes_next : (m n i : ℕ) (f : F) (k : K) (v : V) (r : Ordering) (f' : F) → m + 1 ≤ n → Callable g l n f → slice_get l i ≡ Some (k, v)
       → CalledAt g f k r f' → Callable g l m f'
-  takes_next m n f k r f' h s a c =
-      let b : Any (λ q. q.0 ≡ c.shown.now) l = subst (λ (x : K). Any (λ q. q.0 ≡ x) l) (sym c.shows) a in
+  takes_next m n i f k v r f' h s there c =
+      let b : Any (λ q. q.0 ≡ c.shown.now) l = subst (λ (x : K). Any (λ q. q.0 ≡ x) l) (sym c.shows) (known l i k v there) in
       record { at = λ asked f'' p few calls there. s.at (c.shown ∷ asked) f'' p (omega arith) (f', (b, (r, c.called)), calls) there }
 
 module _ {F K V : Type 0} (g : Mut F (Bor K × Unit {0}) Ordering) (l : List (K × V)) (ord : K → Ordering) where
   -- one question less may be asked after an answer
-  pub next : (m n : ℕ) (f : F) (k : K) (r : Ordering) (f' : F) → m + 1 ≤ n → Shape g l ord n f → Any (λ q. q.0 ≡ k) l → CalledAt g f k r f' → (ord k ≡ r) × Shape g l ord m f'
-  next m n f k r f' h s a c =
-      let b : Any (λ q. q.0 ≡ c.shown.now) l = subst (λ (x : K). Any (λ q. q.0 ≡ x) l) (sym c.shows) a in (
+  pub next : (m n i : ℕ) (f : F) (k : K) (v : V) (r : Ordering) (f' : F) → m + 1 ≤ n → Shape g l ord n f → slice_get l i ≡ Some (k, v) → CalledAt g f k r f' → (ord k ≡ r) × Shape g l ord m f'
+  next m n i f k v r f' h s there c =
+      let b : Any (λ q. q.0 ≡ c.shown.now) l = subst (λ (x : K). Any (λ q. q.0 ≡ x) l) (sym c.shows) (known l i k v there) in (
         sym (((s.answers.at (c.shown ∷ []) (omega arith) b).1 r f' c.called).0 ∙ ap ord c.shows),
         record { answers = record { at = λ ps few. ((s.answers.at (c.shown ∷ ps) (omega arith) b).1 r f' c.called).1 }; ascends = s.ascends },
       )

@@ -2,7 +2,7 @@
 --     Merge-one      one pair into another with an equal key;  length-parts      how long the parts below and above a key are
 --     taken_found, found_drop, missing_drop      the parts by the place that a search found
 --     Merge-down, left-down      one step: what is merged above the last key of B, and what is left over there
---     length-behind, length-option      how long a list is that was read from its end
+--     left-same      what is left over hangs on what the keys of B find;  length-behind, length-option      how long a list is that was read from its end
 use Rattle.std.proofs.Common.{◌≡◌, ℕ, ◌+◌, ◌≤◌, arith, List, [], ◌∷◌, ◌++◌, append_assoc, length, length-append, drop, take, Option, Some, None, option_map, inl, inr, refl, sym, ap, ◌∙◌, subst, reverse, Ordering, Less, Equal, is_lt, is_gt}
 use Rattle.std.specs.Cmp.{IsTotalOrder}
 use Rattle.std.specs.List.{cons_option}
@@ -109,13 +109,14 @@ module _ {K V : Type 0} (cmp : K → K → Ordering) (o : IsTotalOrder cmp) wher
   at-below : (L : List (K × V)) (k j : K) → cmp j k ≡ Less → at cmp (below cmp L k) j ≡ at cmp L j
   at-below L k j l = at-filter_kept cmp j (λ x. is_lt (cmp x k)) (λ x e. ap is_lt (o.congr x j k e ∙ l)) L
 
+  pub left-same : (A A' B : List (K × V)) → ((y : K × V) → In y B → at cmp A y.0 ≡ at cmp A' y.0) → left cmp A B ≡ left cmp A' B
+  left-same A A' [] f = refl
+  left-same A A' (y ∷ B) f =
+      ap (λ t. cons_option (option_map (λ (a : K × V). let p : K × V = (y.0, a.1) in p) t) (left cmp A B)) (f y (inl refl))
+      ∙ ap (λ W. cons_option (option_map (λ (a : K × V). let p : K × V = (y.0, a.1) in p) (at cmp A' y.0)) W) (left-same A A' B (λ x i. f x (inr i)))
+
   left-below : (A B : List (K × V)) (k : K) → ((x : K × V) → In x B → cmp x.0 k ≡ Less) → left cmp A B ≡ left cmp (below cmp A k) B
-  left-below A [] k f = refl
-  left-below A (y ∷ B) k f =
-      let rest : left cmp A B ≡ left cmp (below cmp A k) B = left-below A B k (λ x i. f x (inr i)) in
-      let one : at cmp (below cmp A k) y.0 ≡ at cmp A y.0 = at-below A k y.0 (f y (inl refl)) in
-      ap (λ W. cons_option (option_map (λ (a : K × V). let p : K × V = (y.0, a.1) in p) (at cmp A y.0)) W) rest
-      ∙ ap (λ t. cons_option (option_map (λ (a : K × V). let p : K × V = (y.0, a.1) in p) t) (left cmp (below cmp A k) B)) (sym one)
+  left-below A B k f = left-same A (below cmp A k) B (λ y i. sym (at-below A k y.0 (f y i)))
 
   cons_onto : (t : Option (K × V)) (R : List (K × V)) → cons_option t [] ++ R ≡ cons_option t R
   cons_onto None R = refl

@@ -10,7 +10,7 @@ use Rattle.litemap_store.specs.Pairs.{BelowAll, Rising, at}
 use Rattle.litemap_store.specs.Walked.{IsLowerFirst, IsTakenFirst}
 use Rattle.litemap_store.proofs.Joined.{below_all, empty_from_first, first_split}
 use Rattle.litemap_store.proofs.Membership.{In-cases, each}
-use Rattle.litemap_store.proofs.MergeDown.{Merge-one}
+use Rattle.litemap_store.proofs.MergeDown.{Merge-one, left-same}
 use Rattle.litemap_store.proofs.MergeJoins.{Across, Merge-all, Merge-join, Merge-none, none_above}
 use Rattle.litemap_store.proofs.Merging.{at_none}
 use Rattle.litemap_store.proofs.Splitting.{greater_back}
@@ -48,12 +48,7 @@ module _ {K V : Type 0} (cmp : K → K → Ordering) (o : IsTotalOrder cmp) wher
 
   -- a pair below all keys of B finds nothing there, and nothing of it is left over
   left-past : (a : K × V) (A B : List (K × V)) → ((x : K × V) → In x B → cmp a.0 x.0 ≡ Less) → left cmp (a ∷ A) B ≡ left cmp A B
-  left-past a A [] f = refl
-  left-past a A (y ∷ B) f =
-      let less : cmp a.0 y.0 ≡ Less = f y (inl refl) in
-      let one : at cmp (a ∷ A) y.0 ≡ at cmp A y.0 = rw less refl in
-      ap (λ t. cons_option (option_map (λ (p : K × V). let q : K × V = (y.0, p.1) in q) t) (left cmp (a ∷ A) B)) one
-      ∙ ap (λ W. cons_option (option_map (λ (p : K × V). let q : K × V = (y.0, p.1) in q) (at cmp A y.0)) W) (left-past a A B (λ x i. f x (inr i)))
+  left-past a A B f = left-same cmp o (a ∷ A) A B (λ y i. let less : cmp a.0 y.0 ≡ Less = f y i in rw less refl)
 
   -- ---- the first pair of A is taken
   pub walk_old : (A B A' : List (K × V)) (p : K × V) (R : List (K × V)) → Rising cmp A → Rising cmp B → IsLowerFirst cmp A B (Some Less) → A ≡ p ∷ A' → IsTakenFirst cmp A B A' B p R R
