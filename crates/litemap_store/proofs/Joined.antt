@@ -3,18 +3,22 @@
 --     Rising-behind      where the last key of one lies below the first of the other;  Rising-from_Rises, not_above      where all of one lie below the other, or do not
 --     empty_from_last, empty_from_first, last_split, first_split      an empty list, and what one begins and ends with
 --     below_all      a key below all
-use Rattle.std.proofs.Common.{ℕ, zero, suc, ◌+◌, ◌-◌, length, arith, ◌≡◌, ◌↔◌, List, [], ◌∷◌, ◌++◌, refl, sym, ap, ◌∙◌, subst, inl, inr, Bool, false, Ordering, Less, slice_get, Some, None, sub-one, suc-add}
+use Rattle.std.proofs.Common.{ℕ, suc, ◌+◌, ◌-◌, length, arith, ◌≡◌, ◌↔◌, List, [], ◌∷◌, ◌++◌, refl, sym, ap, ◌∙◌, subst, inl, inr, Bool, false, Ordering, Less, slice_get, Some, None, sub-one, suc-add}
 use Rattle.std.proofs.lemmas.Bool.{cases_lt, true≢false}
-use Rattle.std.proofs.lemmas.Option.{get_or_from_slice_get}
+use Rattle.std.proofs.lemmas.Option.{get_or_from_slice_get, slice_get_within}
 use Rattle.std.specs.Bool.{IsTrue}
 use Rattle.std.specs.List.{AllAdjacentBelow, AllByRecursion}
 use Rattle.std.specs.Cmp.{IsTotalOrder}
 use Rattle.litemap_store.specs.Last.{In, Rises}
 use Rattle.litemap_store.specs.Pairs.{BelowAll, Rising}
 use Rattle.litemap_store.proofs.KeepLast.{all_below, rising_across}
-use Rattle.litemap_store.proofs.Membership.{each, from_each}
+use Rattle.litemap_store.proofs.Membership.{In-get_or, each}
 use Rattle.litemap_store.proofs.Places.{AllPairs-from_Rising, slice_get-None}
 use Rattle.litemap_store.proofs.Splitting.{Rising-append, each-weaker}
+
+-- where k is below the first key, it is below all
+pub below_all : {K V : Type 0} {cmp : K → K → Ordering} → IsTotalOrder cmp → (k : K) (b : K × V) (L : List (K × V)) → cmp k b.0 ≡ Less → Rising cmp (b ∷ L) → BelowAll cmp k (b ∷ L)
+below_all {K} {V} o k b L l r = (l, each-weaker (λ (x : K × V). o.trans k b.0 x.0 l) L r.0)
 
 -- ---- by neighbours
 pub adjacent_from_Rising : {K V : Type 0} (cmp : K → K → Ordering) (L : List (K × V)) → Rising cmp L → AllAdjacentBelow (λ (p q : K × V). cmp p.0 q.0 ≡ Less) L (length L)
@@ -26,7 +30,7 @@ Rising-from_adjacent cmp o (p ∷ []) a = (tt, tt)
 Rising-from_adjacent {K} {V} cmp o (p ∷ (q ∷ L)) a =
     let first : cmp p.0 q.0 ≡ Less = a 0 p (omega arith) in
     let rest : Rising cmp (q ∷ L) = Rising-from_adjacent cmp o (q ∷ L) (λ k d h. rw (suc-add k 1) at (a (suc k) d (omega arith))) in
-    ((first, from_each (λ (x : K × V). cmp p.0 x.0 ≡ Less) L (λ x i. o.trans p.0 q.0 x.0 first (each (λ (x : K × V). cmp q.0 x.0 ≡ Less) L rest.0 x i))), rest)
+    (below_all o p.0 q L first rest, rest)
 
 -- one more neighbour
 pub adjacent_more : {K V : Type 0} (cmp : K → K → Ordering) (L : List (K × V)) (n : ℕ) (p q : K × V) → AllAdjacentBelow (λ (p q : K × V). cmp p.0 q.0 ≡ Less) L n
@@ -41,9 +45,7 @@ adjacent_more cmp L n p q a first second less k d h = elim (cases_lt (k + 1) n) 
 
 -- ---- one rising list behind another
 pub In-slice_get : {X : Type 0} (L : List X) (i : ℕ) (x : X) → slice_get L i ≡ Some x → In x L
-In-slice_get [] i x e = absurd (cc)
-In-slice_get (y ∷ L) zero x e = inl (cc)
-In-slice_get (y ∷ L) (suc i) x e = inr (In-slice_get L i x e)
+In-slice_get L i x e = subst (λ y. In y L) (get_or_from_slice_get L i x x e) (In-get_or L i x (slice_get_within L i x e))
 
 pub empty_from_last : {X : Type 0} (L : List X) → slice_get L (length L - 1) ≡ None → L ≡ []
 empty_from_last [] e = refl
@@ -65,10 +67,6 @@ last_split (y ∷ (z ∷ L)) x e =
 pub first_split : {X : Type 0} (L : List X) (x : X) → slice_get L 0 ≡ Some x → (M : List X) × (L ≡ x ∷ M)
 first_split [] x e = absurd (cc)
 first_split (y ∷ L) x e = let s : y ≡ x = cc in (L, ap (λ z. z ∷ L) s)
-
--- where k is below the first key, it is below all
-pub below_all : {K V : Type 0} {cmp : K → K → Ordering} → IsTotalOrder cmp → (k : K) (b : K × V) (L : List (K × V)) → cmp k b.0 ≡ Less → Rising cmp (b ∷ L) → BelowAll cmp k (b ∷ L)
-below_all {K} {V} o k b L l r = (l, each-weaker (λ (x : K × V). o.trans k b.0 x.0 l) L r.0)
 
 -- the last key of A is below the first of B
 pub Rising-behind : {K V : Type 0} (cmp : K → K → Ordering) → IsTotalOrder cmp → (A B : List (K × V)) (a b : K × V) → slice_get A (length A - 1) ≡ Some a → slice_get B 0 ≡ Some b

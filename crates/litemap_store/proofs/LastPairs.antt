@@ -116,19 +116,14 @@ module _ {K : Type 0} (cmp : K → K → Ordering) (o : IsTotalOrder cmp) where
     Last-put = record { rising = Rising-between o M p.0 p (tied_itself o p.0) last.rising; exactly = λ x. (to_last x, from_last x) }
 
   -- ---- there is one
-  abbrev pub put_all : {V : Type 0} → List (K × V) → List (K × V) → List (K × V)
-  put_all M [] = M
-  put_all M (p ∷ J) = put_all (below cmp M p.0 ++ p ∷ above cmp M p.0) J
-
-  pub Last-put_all : {V : Type 0} (J₀ M J : List (K × V)) → Last cmp J₀ M → Last cmp (J₀ ++ J) (put_all M J)
-  Last-put_all J₀ M [] h = rw append-nil h
-  Last-put_all J₀ M (p ∷ J) h = rw append_assoc at (Last-put_all (J₀ ++ p ∷ []) (below cmp M p.0 ++ p ∷ above cmp M p.0) J (Last-put J₀ M h p))
-
-  Last-nil : (V : Type 0) → Last {V = V} cmp [] []
-  Last-nil V = record { rising = tt; exactly = λ p. (λ h. h, λ h. h) }
+  made : {V : Type 0} (J₀ M J : List (K × V)) → Last cmp J₀ M → (N : List (K × V)) × Last cmp (J₀ ++ J) N
+  made J₀ M [] h = (M, rw append-nil h)
+  made J₀ M (p ∷ J) h =
+      let r = made (J₀ ++ p ∷ []) (below cmp M p.0 ++ p ∷ above cmp M p.0) J (Last-put J₀ M h p) in
+      (r.0, rw (append_assoc J₀ (p ∷ []) J) at r.1)
 
   pub last_of : {V : Type 0} (J : List (K × V)) → (M : List (K × V)) × Last cmp J M × ((N : List (K × V)) → Last cmp J N → N ≡ M)
-  last_of {V} J = let h = Last-put_all [] [] J (Last-nil V) in (put_all [] J, h, λ N k. Last-unique J N (put_all [] J) k h)
+  last_of J = let h = made [] [] J (Last-rising cmp [] tt) in (h.0, h.1, λ N k. Last-unique J N h.0 k h.1)
 
   -- ---- lists in the place of one another
   -- where the same pairs stand last

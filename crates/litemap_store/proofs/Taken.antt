@@ -102,10 +102,6 @@ end_from_cmp {K} {V} cmp o A B a b r s t last_a last_b asked = by r asked
     by Equal e = (split_a.0, a, split_b.0, b, split_a.1, split_b.1, sym e)
     by Greater e = (split_a.0, a, split_a.1, all_below o B split_b.0 b a.0 t split_b.1 (greater_back o a.0 b.0 (sym e)))
 
--- two ways to split a last pair off
-pub same_split : {X : Type 0} (L N M : List X) (x y : X) → L ≡ N ++ x ∷ [] → L ≡ M ++ y ∷ [] → (N ≡ M) × (x ≡ y)
-same_split L N M x y e f = same_from_push N M x y (sym e ∙ f)
-
 -- ---- where a list is empty
 pub end_none : {K V : Type 0} (cmp : K → K → Ordering) (A B : List (K × V)) → slice_get A (length A - 1) ≡ None → (length B == 0) ≡ true → IsGreaterEnd cmp A B None
 end_none cmp A B e f = (empty_from_last A e, nil_from_length B (eqb-true (length B) 0 f))
@@ -122,18 +118,18 @@ end_old cmp A B a e f = let h = last_split A a e in (h.0, a, h.1, rw (empty_from
 -- ---- taking from a list that ends in a pair
 pub take_old : {K V : Type 0} (cmp : K → K → Ordering) → IsTotalOrder cmp → (A B A' : List (K × V)) (p : K × V) → Rising cmp A → Rising cmp B → IsGreaterEnd cmp A B (Some Greater) → A ≡ A' ++ p ∷ [] → IsTaken cmp A B A' B p
 take_old {K} {V} cmp o A B A' p r s end e =
-    let same = same_split A end.0 A' end.1 p end.2 e in
+    let same = same_from_push end.0 A' end.1 p (sym end.2 ∙ e) in
     rw e (taken_old cmp o A' p B (subst (Rising cmp) e r) (subst (λ (x : K × V). AllBelow cmp B x.0) same.1 end.3) s)
 
 pub take_new : {K V : Type 0} (cmp : K → K → Ordering) → IsTotalOrder cmp → (A B B' : List (K × V)) (p : K × V) → Rising cmp A → Rising cmp B → IsGreaterEnd cmp A B (Some Less) → B ≡ B' ++ p ∷ [] → IsTaken cmp A B A B' p
 take_new {K} {V} cmp o A B B' p r s end e =
-    let same = same_split B end.0 B' end.1 p end.2 e in
+    let same = same_from_push end.0 B' end.1 p (sym end.2 ∙ e) in
     rw e (taken_new cmp o A B' p r (subst (Rising cmp) e s) (subst (λ (x : K × V). AllBelow cmp A x.0) same.1 end.3))
 
 pub take_both : {K V : Type 0} (cmp : K → K → Ordering) → IsTotalOrder cmp → (A B A' B' : List (K × V)) (q p : K × V) → Rising cmp A → Rising cmp B → IsGreaterEnd cmp A B (Some Equal) → A ≡ A' ++ q ∷ [] → B ≡ B' ++ p ∷ [] → IsTaken cmp A B A' B' p
 take_both {K} {V} cmp o A B A' B' q p r s end e f =
-    let same_a = same_split A end.0 A' end.1 q end.4 e in
-    let same_b = same_split B end.2 B' end.3 p end.5 f in
+    let same_a = same_from_push end.0 A' end.1 q (sym end.4 ∙ e) in
+    let same_b = same_from_push end.2 B' end.3 p (sym end.5 ∙ f) in
     rw (e, f) (taken_both cmp o A' q B' p (subst (Rising cmp) e r) (subst (Rising cmp) f s) (subst₂ (λ (x y : K × V). cmp x.0 y.0 ≡ Equal) same_a.1 same_b.1 end.6))
 
 -- a list without its last element
