@@ -21,7 +21,7 @@ use Rattle.litemap_store.specs.Queries.{key_one_side}
 use Rattle.litemap_store.proofs.KeepLast.{filter_all, filter_none}
 use Rattle.litemap_store.proofs.Membership.{In-from_filter}
 use Rattle.litemap_store.proofs.Seams.{set_value-suc}
-use Rattle.litemap_store.proofs.Splitting.{Rising-append, Rising-filter, at_in, equal_from_is_eq, kept_above, kept_below, key_or_equal, not_is_eq, parted}
+use Rattle.litemap_store.proofs.Splitting.{Rising-append, Rising-filter, at_in, kept_above, kept_below, key_or_equal, not_is_eq, parted}
 
 not_both : (c : Ordering) → is_gt c ≡ true → is_lt c ≡ false
 not_both Less h = absurd (cc)
@@ -36,21 +36,15 @@ or_none (Some x) = refl
 module _ {K Q V : Type 0} (order : K → Q → Ordering) (q : Q) (keep : K → Bool) where
   pub at-filter_kept : ((x : K) → order x q ≡ Equal → keep x ≡ true) → (L : List (K × V)) → at order (filter (λ p. keep p.0) L) q ≡ at order L q
   at-filter_kept same [] = refl
-  at-filter_kept same (p ∷ L) = (elim (is_eq (order p.0 q)) as (λ c. is_eq (order p.0 q) ≡ c → at order (filter (λ p. keep p.0) (p ∷ L)) q ≡ at order (p ∷ L) q) [
-    | true ↦ λ e. rw (same p.0 (equal_from_is_eq (order p.0 q) e)) (rw e refl)
-    | false ↦ λ e. (elim (keep p.0) as (λ b. keep p.0 ≡ b → at order (filter (λ p. keep p.0) (p ∷ L)) q ≡ at order (p ∷ L) q) [
-      | true ↦ λ k. rw k (rw e (at-filter_kept same L))
-      | false ↦ λ k. rw k (rw e (at-filter_kept same L))
-    ]) refl
+  at-filter_kept same (p ∷ L) = (elim (keep p.0) as (λ b. keep p.0 ≡ b → at order (filter (λ p. keep p.0) (p ∷ L)) q ≡ at order (p ∷ L) q) [
+    | true ↦ λ k. rw k (ap (λ r. cond (is_eq (order p.0 q)) (Some p) r) (at-filter_kept same L))
+    | false ↦ λ k. rw k (rw (not_is_eq (order p.0 q) (λ e. let g : keep p.0 ≡ true = same p.0 e in cc)) (at-filter_kept same L))
   ]) refl
 
   pub at-filter_gone : ((x : K) → order x q ≡ Equal → keep x ≡ false) → (L : List (K × V)) → at order (filter (λ p. keep p.0) L) q ≡ None
   at-filter_gone same [] = refl
   at-filter_gone same (p ∷ L) = (elim (keep p.0) as (λ b. keep p.0 ≡ b → at order (filter (λ p. keep p.0) (p ∷ L)) q ≡ None) [
-    | true ↦ λ k. (elim (is_eq (order p.0 q)) as (λ c. is_eq (order p.0 q) ≡ c → at order (filter (λ p. keep p.0) (p ∷ L)) q ≡ None) [
-      | true ↦ λ e. absurd (let g : keep p.0 ≡ false = same p.0 (equal_from_is_eq (order p.0 q) e) in cc)
-      | false ↦ λ e. rw k (rw e (at-filter_gone same L))
-    ]) refl
+    | true ↦ λ k. rw k (rw (not_is_eq (order p.0 q) (λ e. let g : keep p.0 ≡ false = same p.0 e in cc)) (at-filter_gone same L))
     | false ↦ λ k. rw k (at-filter_gone same L)
   ]) refl
 
@@ -110,10 +104,7 @@ module _ {K Q Q' V : Type 0} (order : K → Q → Ordering) (q : Q) (order' : K 
   -- and with a pair with an equal key between the two parts
   pub value_at-between_apart : (L : List (K × V)) (p : K × V) → order p.0 q ≡ Equal → value_at order' (below order L q ++ p ∷ above order L q) q' ≡ value_at order' L q'
   value_at-between_apart L p e =
-      let miss : is_eq (order' p.0 q') ≡ false = (elim (is_eq (order' p.0 q')) as (λ b. is_eq (order' p.0 q') ≡ b → is_eq (order' p.0 q') ≡ false) [
-        | true ↦ λ h. absurd (differs (sym (turned p.0 (equal_from_is_eq (order' p.0 q') h)) ∙ e))
-        | false ↦ λ h. h
-      ]) refl in
+      let miss : is_eq (order' p.0 q') ≡ false = not_is_eq (order' p.0 q') (λ h. differs (sym (turned p.0 h) ∙ e)) in
       let same : at order' (p ∷ above order L q) q' ≡ at order' (above order L q) q' = rw miss refl in
       ap (option_map (λ p. p.1))
       (find-append (λ p. is_eq (order' p.0 q')) (below order L q) (p ∷ above order L q) ∙ ap (λ r. option_or (at order' (below order L q) q') r) same ∙ others L)
