@@ -8,13 +8,13 @@ use Rattle.std.specs.Cmp.{IsTotalOrder}
 use Rattle.std.specs.List.{AllByRecursion, items_where_true, list_all}
 use Rattle.std.specs.List.Retain.{ReturnsInTurn}
 use Rattle.std.specs.Map.Iter.{TakesFirst, deref_pair}
-use Rattle.std.specs.Ordering.{is_gt}
+use Rattle.std.specs.Ordering.{is_eq, is_gt}
 use Rattle.std.specs.declared.cmp.Ordering.{Ordering}
 use Rattle.std.specs.declared.cmp.Ordering.TheVariants.{Less, Equal, Greater}
 use Rattle.litemap_store.specs.Pairs.{BelowAll, Rising, above, at, value_at}
 use Rattle.litemap_store.specs.Retain.{CalledOnPair, Kept}
 use Rattle.litemap_store.proofs.Lookups.{at-filter_gone, at-filter_kept}
-use Rattle.litemap_store.proofs.Splitting.{Rising-filter, above_all, at_past, each-weaker, greater_back, less_back}
+use Rattle.litemap_store.proofs.Splitting.{Rising-filter, above_all, at_past, each-weaker, equal_from_is_eq, greater_back, less_back}
 use Rattle.litemap_store.proofs.Tallies.{value_at_equal}
 use denote.Param.Members.{Called, Mut}
 use denote.Ref.{Bor}
@@ -125,8 +125,7 @@ module _ {K W : Type 0} {cmp : K → K → Ordering} (o : IsTotalOrder cmp) (M :
   found_in_each [] all is = absurd (cc)
   found_in_each (p ∷ L) all is =
       let both = and_parts (is_some (at cmp M p.0)) (list_all (λ q. is_some (at cmp M q.0)) L) all in
-      (elim (cmp p.0 k) as (λ r. cmp p.0 k ≡ r → IsSome (value_at cmp M k)) [
-        | Less ↦ λ e. found_in_each L both.1 (rw e at is)
-        | Equal ↦ λ e. found_at p.0 e both.0
-        | Greater ↦ λ e. found_in_each L both.1 (rw e at is)
+      (elim (is_eq (cmp p.0 k)) as (λ t. is_eq (cmp p.0 k) ≡ t → IsSome (value_at cmp M k)) [
+        | true ↦ λ e. found_at p.0 (equal_from_is_eq (cmp p.0 k) e) both.0
+        | false ↦ λ e. found_in_each L both.1 (rw e at is)
       ]) refl
