@@ -1,5 +1,5 @@
 -- What keys that keep their order become is a rising list.
-use Rattle.std.proofs.Common.{◌≡◌, ℕ, zero, suc, List, [], ◌∷◌, Some, slice_get, sym, ◌∙◌, refl, inl, inr}
+use Rattle.std.proofs.Common.{◌≡◌, List, [], ◌∷◌, sym, ◌∙◌, refl, subst, inl, inr}
 use Rattle.std.specs.Cmp.{IsTotalOrder}
 use Rattle.std.proofs.lemmas.Cmp.{alike_right}
 use Rattle.std.specs.declared.cmp.Ordering.{Ordering}
@@ -8,12 +8,6 @@ use Rattle.litemap_store.specs.Clones.{ClonesCompareEqual, PairsAreClones}
 use Rattle.litemap_store.specs.Last.{In}
 use Rattle.litemap_store.specs.Pairs.{BelowAll, Rising}
 use Rattle.litemap.specs.Conversions.{KeysKeepOrder, PairsBecame}
-
--- what stands at a place of a list is in it
-pub In-at : {X : Type 0} (list : List X) (i : ℕ) (x : X) → slice_get list i ≡ Some x → In x list
-In-at [] i x h = absurd cc
-In-at (y ∷ list) zero x h = inl cc
-In-at (y ∷ list) (suc i) x h = inr (In-at list i x h)
 
 module _ {K L V W : Type 0} (cmp : K → K → Ordering) (new_cmp : L → L → Ordering) (C : K → L → Type 0) (D : V → W → Type 0) where
   BelowAll-became : (p : K × V) (a : L) (before : List (K × V)) (after : List (L × W))
@@ -37,9 +31,9 @@ module _ {K L V W : Type 0} (cmp : K → K → Ordering) (new_cmp : L → L → 
 
 -- clones that compare Equal to their originals keep their order, and rise as these do
 module _ {K V : Type 0} {cmp : K → K → Ordering} (o : IsTotalOrder cmp) (C : K → K → Type 0) where
-  pub KeysKeepOrder-clones : (list : List (K × V)) → ClonesCompareEqual cmp C list → KeysKeepOrder cmp cmp C list
-  KeysKeepOrder-clones list equal p q a b i j c d less =
-      sym (o.congr p.0 a b (equal p a i c)) ∙ sym (alike_right o q.0 b p.0 (equal q b j d)) ∙ less
+  pub KeysKeepOrder-clones : (list seen : List (K × V)) → list ≡ seen → ClonesCompareEqual cmp C seen → KeysKeepOrder cmp cmp C list
+  KeysKeepOrder-clones list seen is equal p q a b i j c d less =
+      sym (o.congr p.0 a b (equal p a (subst (In p) is i) c)) ∙ sym (alike_right o q.0 b p.0 (equal q b (subst (In q) is j) d)) ∙ less
 
-  pub Rising-clones : (D : V → V → Type 0) (before after : List (K × V)) → ClonesCompareEqual cmp C before → PairsAreClones C D before after → Rising cmp before → Rising cmp after
-  Rising-clones D before after equal = Rising-became cmp cmp C D before after (KeysKeepOrder-clones before equal)
+  pub Rising-clones : (D : V → V → Type 0) (before seen after : List (K × V)) → before ≡ seen → ClonesCompareEqual cmp C seen → PairsAreClones C D before after → Rising cmp before → Rising cmp after
+  Rising-clones D before seen after is equal = Rising-became cmp cmp C D before after (KeysKeepOrder-clones before seen is equal)

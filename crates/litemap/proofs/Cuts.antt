@@ -1,16 +1,18 @@
 -- Where a test cuts a list in two.
 --     cut_before, cut_behind      the cut before a query and that behind it, from what a search found
---     drop-next, take-next      one element more;  Rising-filter      what is filtered of a rising list
+--     drop-next, take-next      one element more
 --     length-before, take-cut, drop-cut, first_cut, last_cut, between, sub_between, length-between      what lies before a cut, behind it, and between two
-use Rattle.std.proofs.Common.{◌≡◌, ℕ, zero, suc, ◌+◌, ◌-◌, ◌≤◌, Bool, true, false, not, ◌&&◌, cond, List, [], ◌∷◌, ◌++◌, length, filter, take, drop, slice_range, nat_le, Some, None, add-one, refl, sym, ap, ◌∙◌, subst, arith}
-use Rattle.std.proofs.lemmas.Bool.{le-leb}
+use Rattle.std.proofs.Common.{◌≡◌, ℕ, zero, suc, ◌+◌, ◌-◌, ◌≤◌, Bool, true, false, not, ◌&&◌, cond, List, [], ◌∷◌, ◌++◌, length, filter, take, drop, slice_range, nat_le, Some, None, drop-drop, length-drop, length-take, take-add, refl, sym, ap, ◌∙◌, subst, arith}
+use Rattle.std.proofs.lemmas.Bool.{and_right, le-leb}
 use Rattle.std.specs.List.{AllByRecursion}
 use Rattle.std.specs.Ordering.{is_gt, is_le, is_lt}
 use Rattle.std.specs.declared.cmp.Ordering.{Ordering}
 use Rattle.std.specs.declared.cmp.Ordering.TheVariants.{Less, Equal, Greater}
-use Rattle.litemap_store.specs.Pairs.{Rising, above, below}
-use Rattle.litemap_store.proofs.Splitting.{each-filter}
+use Rattle.litemap_store.specs.Pairs.{above, below}
 use Rattle.litemap_store.specs.Splits.{IsFoundAt, IsMissingAt}
+use Rattle.litemap_store.proofs.KeepLast.{filter_none}
+use Rattle.litemap_store.proofs.Membership.{In-from_filter, each, from_each}
+use Rattle.litemap_store.proofs.Splitting.{greater_from_is_gt, less_from_is_lt}
 use Rattle.litemap.specs.Within.{IsCut}
 
 -- ---- where a list is cut
@@ -29,11 +31,7 @@ module _ {X : Type 0} (test : X → Bool) where
 
   pub IsCut-none : (L : List X) → ((x : X) → test x ≡ false) → IsCut test L 0
   IsCut-none [] h = refl
-  IsCut-none (x ∷ L) h = (h x, each L)
-    where
-      each : (M : List X) → AllByRecursion (λ y. test y ≡ false) M
-      each [] = tt
-      each (y ∷ M) = (h y, each M)
+  IsCut-none (x ∷ L) h = (h x, from_each (λ y. test y ≡ false) L (λ y i. h y))
 
   pub IsCut-all : (L : List X) → ((x : X) → test x ≡ true) → IsCut test L (length L)
   IsCut-all [] h = refl
@@ -41,13 +39,7 @@ module _ {X : Type 0} (test : X → Bool) where
 
   -- ---- what lies before a cut, and behind it
   none : (L : List X) → AllByRecursion (λ y. test y ≡ false) L → filter test L ≡ []
-  none [] h = refl
-  none (x ∷ L) h = rw h.0 (none L h.1)
-
-  pub length-before : (L : List X) (n : ℕ) → IsCut test L n → length (filter test L) ≡ n
-  length-before [] n h = sym h
-  length-before (x ∷ L) zero h = ap length (none (x ∷ L) h)
-  length-before (x ∷ L) (suc n) h = rw h.0 (ap suc (length-before L n h.1))
+  none L h = filter_none test L (each (λ y. test y ≡ false) L h)
 
   pub within-cut : (L : List X) (n : ℕ) → IsCut test L n → n ≤ length L
   within-cut [] n h = omega arith
@@ -59,6 +51,9 @@ module _ {X : Type 0} (test : X → Bool) where
   take-cut [] (suc n) h = refl
   take-cut (x ∷ L) zero h = sym (none (x ∷ L) h)
   take-cut (x ∷ L) (suc n) h = rw h.0 (ap (λ M. x ∷ M) (take-cut L n h.1))
+
+  pub length-before : (L : List X) (n : ℕ) → IsCut test L n → length (filter test L) ≡ n
+  length-before L n h = omega (arith, ap length (take-cut L n h), length-take n L, within-cut L n h)
 
   all_left : (L : List X) → AllByRecursion (λ y. test y ≡ false) L → L ≡ filter (λ y. not (test y) && true) L
   all_left [] h = refl
@@ -74,26 +69,13 @@ module _ {X : Type 0} (test : X → Bool) where
   pub first_cut : (L : List X) (n : ℕ) → IsCut test L n → filter test L ≡ [] → n ≡ 0
   first_cut L n h e = sym (length-before L n h) ∙ ap length e
 
-  drop_none : (L : List X) (n : ℕ) → drop n L ≡ [] → length L ≤ n
-  drop_none [] n e = omega arith
-  drop_none (x ∷ L) zero e = absurd (cc)
-  drop_none (x ∷ L) (suc n) e = let k = drop_none L n e in omega arith
-
   pub last_cut : (L : List X) (n : ℕ) → IsCut test L n → filter (λ y. not (test y) && true) L ≡ [] → n ≡ length L
-  last_cut L n h e =
-      let k = drop_none L n (drop-cut L n h ∙ e) in
-      let w = within-cut L n h in
-      omega arith
+  last_cut L n h e = omega (arith, length-drop n L, ap length (drop-cut L n h ∙ e), within-cut L n h)
 
 -- ---- what lies between two cuts
 module _ {X : Type 0} (early late : X → Bool) where
-  both_late : (b c : Bool) → c ≡ false → not b && c ≡ false
-  both_late true c e = refl
-  both_late false c e = e
-
   none_late : (L : List X) → AllByRecursion (λ y. late y ≡ false) L → filter (λ x. not (early x) && late x) L ≡ []
-  none_late [] h = refl
-  none_late (x ∷ L) h = rw (both_late (early x) (late x) h.0) (none_late L h.1)
+  none_late L h = filter_none (λ x. not (early x) && late x) L (λ x i. and_right (not (early x)) (late x) (each (λ y. late y ≡ false) L h x i))
 
   pub between : (L : List X) (a c m : ℕ) → m ≡ c - a → IsCut early L a → IsCut late L c → take m (drop a L) ≡ filter (λ x. not (early x) && late x) L
   between [] zero c zero e p r = refl
@@ -109,15 +91,7 @@ module _ {X : Type 0} (early late : X → Bool) where
   between (x ∷ L) (suc a) (suc c) m e p r = rw p.0 (between L a c m (omega arith) p.1 r.1)
 
   pub length-between : (L : List X) (a c : ℕ) → IsCut early L a → IsCut late L c → length (filter (λ x. not (early x) && late x) L) ≡ c - a
-  length-between [] a c p r = omega arith
-  length-between (x ∷ L) zero zero p r = ap length (none_late (x ∷ L) r)
-  length-between (x ∷ L) zero (suc c) p r =
-      let k : length (filter (λ x. not (early x) && late x) L) ≡ c - 0 = length-between L zero c (IsCut-zero early L p.1) r.1 in
-      rw p.0 (rw r.0 (omega arith))
-  length-between (x ∷ L) (suc a) zero p r = ap length (none_late (x ∷ L) r) ∙ omega arith
-  length-between (x ∷ L) (suc a) (suc c) p r =
-      let k : length (filter (λ x. not (early x) && late x) L) ≡ c - a = length-between L a c p.1 r.1 in
-      rw p.0 (omega arith)
+  length-between L a c p r = omega (arith, ap length (between L a c (c - a) refl p r), length-take (c - a) (drop a L), length-drop a L, within-cut late L c r)
 
   -- the part of a list between two places
   pub sub_between : (L : List X) (a c m b : ℕ) → m ≡ c - a → b ≡ a + m → IsCut early L a → IsCut late L c
@@ -131,25 +105,11 @@ module _ {X : Type 0} (early late : X → Bool) where
 
 -- ---- where a query cuts a list
 module _ {K Q V : Type 0} (order : K → Q → Ordering) (test : Ordering → Bool) (less : test Less ≡ true) (greater : test Greater ≡ false) (q : Q) where
-  of_below : (p : K × V) (M : List (K × V)) (o : Ordering) → order p.0 q ≡ o → AllByRecursion (λ (y : K × V). test (order y.0 q) ≡ true) M
-      → AllByRecursion (λ (y : K × V). test (order y.0 q) ≡ true) (cond (is_lt o) (p ∷ M) M)
-  of_below p M Less e h = (ap test e ∙ less, h)
-  of_below p M Equal e h = h
-  of_below p M Greater e h = h
-
   each-below : (L : List (K × V)) → AllByRecursion (λ (y : K × V). test (order y.0 q) ≡ true) (below order L q)
-  each-below [] = tt
-  each-below (p ∷ L) = of_below p (below order L q) (order p.0 q) refl (each-below L)
-
-  of_above : (p : K × V) (M : List (K × V)) (o : Ordering) → order p.0 q ≡ o → AllByRecursion (λ (y : K × V). test (order y.0 q) ≡ false) M
-      → AllByRecursion (λ (y : K × V). test (order y.0 q) ≡ false) (cond (is_gt o) (p ∷ M) M)
-  of_above p M Less e h = h
-  of_above p M Equal e h = h
-  of_above p M Greater e h = (ap test e ∙ greater, h)
+  each-below L = from_each (λ (y : K × V). test (order y.0 q) ≡ true) (below order L q) (λ x i. ap test (less_from_is_lt _ (In-from_filter (λ (p : K × V). is_lt (order p.0 q)) L x i).1) ∙ less)
 
   each-above : (L : List (K × V)) → AllByRecursion (λ (y : K × V). test (order y.0 q) ≡ false) (above order L q)
-  each-above [] = tt
-  each-above (p ∷ L) = of_above p (above order L q) (order p.0 q) refl (each-above L)
+  each-above L = from_each (λ (y : K × V). test (order y.0 q) ≡ false) (above order L q) (λ x i. ap test (greater_from_is_gt _ (In-from_filter (λ (p : K × V). is_gt (order p.0 q)) L x i).1) ∙ greater)
 
   cut_missing : (L : List (K × V)) (i : ℕ) → IsMissingAt order L q i → IsCut (λ p. test (order p.0 q)) L i
   cut_missing L i m =
@@ -179,22 +139,9 @@ module _ {K Q V : Type 0} (order : K → Q → Ordering) (q : Q) (L : List (K ×
 
 -- ---- one element more
 module _ {X : Type 0} where
-  next-suc : (L : List X) (n : ℕ) (x : X) (R : List X) → drop n L ≡ x ∷ R → (drop (suc n) L ≡ R) × (take (suc n) L ≡ take n L ++ x ∷ [])
-  next-suc [] zero x R e = absurd (cc)
-  next-suc [] (suc n) x R e = absurd (cc)
-  next-suc (y ∷ L) zero x R e = let s : y ≡ x = cc in let t : L ≡ R = cc in (t, ap (λ z. z ∷ []) s)
-  next-suc (y ∷ L) (suc n) x R e = let h = next-suc L n x R e in (h.0, ap (λ M. y ∷ M) h.1)
-
   -- where x stands first behind n elements: what lies behind it, and up to it
   pub drop-next : (L : List X) (n : ℕ) (x : X) (R : List X) → drop n L ≡ x ∷ R → R ≡ drop (n + 1) L
-  drop-next L n x R e = rw add-one (sym (next-suc L n x R e).0)
+  drop-next L n x R e = ap (drop 1) (sym e) ∙ drop-drop 1 n L
 
   pub take-next : (L : List X) (n : ℕ) (x : X) (R : List X) → drop n L ≡ x ∷ R → take n L ++ x ∷ [] ≡ take (n + 1) L
-  take-next L n x R e = rw add-one (sym (next-suc L n x R e).1)
-
--- ---- what is filtered of a rising list rises
-pub Rising-filter : {K V : Type 0} (cmp : K → K → Ordering) (test : K × V → Bool) (L : List (K × V)) → Rising cmp L → Rising cmp (filter test L)
-Rising-filter cmp test [] r = tt
-Rising-filter cmp test (p ∷ L) r =
-    let rest : Rising cmp (filter test L) = Rising-filter cmp test L r.1 in
-    elim (test p) as (λ b. Rising cmp (cond b (p ∷ filter test L) (filter test L))) [ true ↦ (each-filter (λ q. cmp p.0 q.0 ≡ Less) test L r.0, rest) | false ↦ rest ]
+  take-next L n x R e = sym (take-add n 1 L ∙ ap (λ D. take n L ++ take 1 D) e)

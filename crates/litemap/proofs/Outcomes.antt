@@ -9,10 +9,6 @@ pub either_way : {A E X : Type 0} (P : X → Type 0) (r : Result A E) (x a b : X
 either_way P (Ok y) x a b h t p q = subst P (sym h) p
 either_way P (Err y) x a b h t p q = subst P (sym t) q
 
-pub on_ok : {A E P Q : Type 0} (r : Result A E) → (P → Q) → OnOk r P → OnOk r Q
-on_ok (Ok y) f h = f h
-on_ok (Err y) f h = h
-
 -- a key that is there is not missing
 pub not_missing : {K Q V : Type 0} (order : K → Q → Ordering) (L : List (K × V)) (q : Q) {i : ℕ} → IsSome (at order L q) → IsMissingAt order L q i → ⊥
 not_missing order L q h m = let none : false ≡ true = subst (λ a. is_some a ≡ true) m.missing h in cc

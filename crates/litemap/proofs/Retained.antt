@@ -6,10 +6,10 @@ use Rattle.std.specs.List.{items_where_true}
 use Rattle.std.specs.List.Retain.{ReturnsInTurn}
 use Rattle.std.specs.Ordering.{is_eq}
 use Rattle.std.specs.declared.cmp.Ordering.{Ordering}
-use Rattle.std.specs.declared.cmp.Ordering.TheVariants.{Less, Equal, Greater}
+use Rattle.std.specs.declared.cmp.Ordering.TheVariants.{Equal, Greater}
 use Rattle.litemap_store.specs.Pairs.{BelowAll, Rising, at, value_at}
 use Rattle.litemap_store.specs.Retain.{CalledOnPair, Kept}
-use Rattle.litemap_store.proofs.Splitting.{less_back}
+use Rattle.litemap_store.proofs.Splitting.{equal_from_is_eq, less_back}
 use Rattle.litemap.specs.Retained.{AnswersAt}
 use denote.Param.Members.{Mut}
 use denote.Ref.{Bor}
@@ -59,10 +59,9 @@ module _ {K V : Type 0} (cmp : K → K → Ordering) (k : K) where
     kept_yes (b ∷ bs) [] f f' n turn a = absurd turn
     kept_yes (b ∷ bs) (p ∷ L) f f' n turn a =
         let one = a p b turn.0 turn.1 in
-        (elim (cmp p.0 k) as (λ r. cmp p.0 k ≡ r → at cmp (items_where_true (b ∷ bs) (p ∷ L)) k ≡ at cmp (p ∷ L) k) [
-          | Less ↦ λ e. other_picked b bs p L _ (rw e refl) (rw e (kept_yes bs L turn.0 f' (omega arith) turn.2 (later f turn.0 p L true one.0 (rw e refl) a)))
-          | Equal ↦ λ e. first_picked b bs p L e (one.1 e (rw e refl)) ∙ rw e refl
-          | Greater ↦ λ e. other_picked b bs p L _ (rw e refl) (rw e (kept_yes bs L turn.0 f' (omega arith) turn.2 (later f turn.0 p L true one.0 (rw e refl) a)))
+        (elim (is_eq (cmp p.0 k)) as (λ t. is_eq (cmp p.0 k) ≡ t → at cmp (items_where_true (b ∷ bs) (p ∷ L)) k ≡ at cmp (p ∷ L) k) [
+          | true ↦ λ e. let same = equal_from_is_eq (cmp p.0 k) e in first_picked b bs p L same (one.1 same (rw same refl)) ∙ rw same refl
+          | false ↦ λ e. other_picked b bs p L _ e (rw e (kept_yes bs L turn.0 f' (omega arith) turn.2 (later f turn.0 p L true one.0 e a)))
         ]) refl
 
     kept_no : (o : IsTotalOrder cmp) (bs : List Bool) (L : List (K × V)) (f f' : F) → length bs ≡ length L → Rising cmp L
@@ -71,10 +70,9 @@ module _ {K V : Type 0} (cmp : K → K → Ordering) (k : K) where
     kept_no o (b ∷ bs) [] f f' n h turn a = refl
     kept_no o (b ∷ bs) (p ∷ L) f f' n h turn a =
         let one = a p b turn.0 turn.1 in
-        (elim (cmp p.0 k) as (λ r. cmp p.0 k ≡ r → at cmp (items_where_true (b ∷ bs) (p ∷ L)) k ≡ None) [
-          | Less ↦ λ e. other_picked b bs p L None (rw e refl) (kept_no o bs L turn.0 f' (omega arith) h.1 turn.2 (later f turn.0 p L false one.0 (rw e refl) a))
-          | Equal ↦ λ e. first_left b bs p L (one.1 e (rw e refl)) (none_picked o p bs L e h.0)
-          | Greater ↦ λ e. other_picked b bs p L None (rw e refl) (kept_no o bs L turn.0 f' (omega arith) h.1 turn.2 (later f turn.0 p L false one.0 (rw e refl) a))
+        (elim (is_eq (cmp p.0 k)) as (λ t. is_eq (cmp p.0 k) ≡ t → at cmp (items_where_true (b ∷ bs) (p ∷ L)) k ≡ None) [
+          | true ↦ λ e. let same = equal_from_is_eq (cmp p.0 k) e in first_left b bs p L (one.1 same (rw same refl)) (none_picked o p bs L same h.0)
+          | false ↦ λ e. other_picked b bs p L None e (kept_no o bs L turn.0 f' (omega arith) h.1 turn.2 (later f turn.0 p L false one.0 e a))
         ]) refl
 
     module _ (f : F) (L L' M : List (K × V)) (kept : Kept g f L M) (is : L ≡ L') where

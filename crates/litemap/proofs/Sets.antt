@@ -8,27 +8,21 @@ use Rattle.std.specs.Cmp.{IsTotalOrder}
 use Rattle.std.specs.List.{AllByRecursion, items_where_true, list_all}
 use Rattle.std.specs.List.Retain.{ReturnsInTurn}
 use Rattle.std.specs.Map.Iter.{TakesFirst, deref_pair}
-use Rattle.std.specs.Ordering.{is_eq}
+use Rattle.std.specs.Ordering.{is_eq, is_gt}
 use Rattle.std.specs.declared.cmp.Ordering.{Ordering}
 use Rattle.std.specs.declared.cmp.Ordering.TheVariants.{Less, Equal, Greater}
 use Rattle.litemap_store.specs.Pairs.{BelowAll, Rising, above, at, value_at}
 use Rattle.litemap_store.specs.Retain.{CalledOnPair, Kept}
-use Rattle.litemap_store.proofs.Splitting.{each-weaker, greater_back, less_back}
+use Rattle.litemap_store.proofs.Lookups.{at-filter_gone, at-filter_kept}
+use Rattle.litemap_store.proofs.Splitting.{Rising-filter, above_all, at_past, each-weaker, equal_from_is_eq, greater_back, less_back}
 use Rattle.litemap_store.proofs.Tallies.{value_at_equal}
-use Rattle.litemap.proofs.Cuts.{Rising-filter}
 use denote.Param.Members.{Called, Mut}
 use denote.Ref.{Bor}
 
 module _ {K : Type 0} {cmp : K → K → Ordering} (o : IsTotalOrder cmp) {W : Type 0} where
   -- past a key a greater one finds what it found
-  at-above_by : (k q : K) → cmp k q ≡ Less → (x : K × W) (R : List (K × W)) (r : Ordering) → cmp x.0 k ≡ r → at cmp (above cmp R k) q ≡ at cmp R q → at cmp (above cmp (x ∷ R) k) q ≡ at cmp (x ∷ R) q
-  at-above_by k q lower x R Less e is = let l : cmp x.0 q ≡ Less = o.trans x.0 k q e lower in rw e (rw l is)
-  at-above_by k q lower x R Equal e is = let l : cmp x.0 q ≡ Less = o.congr x.0 k q e ∙ lower in rw e (rw l is)
-  at-above_by k q lower x R Greater e is = rw e (elim (is_eq (cmp x.0 q)) as (λ b. cond b (Some x) (at cmp (above cmp R k) q) ≡ cond b (Some x) (at cmp R q)) [ true ↦ refl | false ↦ is ])
-
   at-above : (k q : K) → cmp k q ≡ Less → (R : List (K × W)) → at cmp (above cmp R k) q ≡ at cmp R q
-  at-above k q lower [] = refl
-  at-above k q lower (x ∷ R) = at-above_by k q lower x R (cmp x.0 k) refl (at-above k q lower R)
+  at-above k q lower R = at-filter_kept cmp q (λ x. is_gt (cmp x k)) (λ x e. ap is_gt (o.congr x q k e ∙ less_back o k q lower)) R
 
   module _ {V : Type 0} (k : K) (R : List (K × W)) where
     filter-above : (t : Bool → Bool) (L : List (K × V)) → BelowAll cmp k L → filter (λ p. t (is_some (at cmp (above cmp R k) p.0))) L ≡ filter (λ p. t (is_some (at cmp R p.0))) L
@@ -46,11 +40,7 @@ module _ {K : Type 0} {cmp : K → K → Ordering} (o : IsTotalOrder cmp) {W : T
   -- ---- the keys past k, where that of the first pair is not below it
   module _ (k : K) where
     past : (R : List (K × W)) → AllByRecursion (λ y. cmp k y.0 ≡ Less) R → (above cmp R k ≡ R) × (at cmp R k ≡ None)
-    past [] h = (refl, refl)
-    past (y ∷ R) h =
-        let g : cmp y.0 k ≡ Greater = less_back o k y.0 h.0 in
-        let i = past R h.1 in
-        rw g (ap (λ M. y ∷ M) i.0, i.1)
+    past R h = let above_k = each-weaker (λ (y : K × W). less_back o k y.0) R h in (above_all cmp R k above_k, at_past cmp R k above_k)
 
     -- the list ends
     pub at_end : (R : List (K × W)) → None ≡ slice_get R 0 → (R ≡ above cmp R k) × (false ≡ is_some (at cmp R k))
@@ -113,21 +103,11 @@ module _ {K : Type 0} {cmp : K → K → Ordering} (o : IsTotalOrder cmp) {W : T
   same_key x e = ap t (sym (is_some-value (at cmp M x)) ∙ ap is_some (sym (value_at_equal o M x k e)) ∙ is_some-value (at cmp M k))
 
   module _ {V : Type 0} where
-    at-kept_by : (p : K × V) (L : List (K × V)) (r : Ordering) → cmp p.0 k ≡ r → at cmp (filter (λ q. keeps q.0) L) k ≡ cond (keeps k) (at cmp L k) None
-        → at cmp (filter (λ q. keeps q.0) (p ∷ L)) k ≡ cond (keeps k) (at cmp (p ∷ L) k) None
-    at-kept_by p L Equal e is =
-        let F = filter (λ (q : K × V). keeps q.0) L in
-        rw (same_key p.0 e) (rw e (elim (keeps k) as (λ b. at cmp F k ≡ cond b (at cmp L k) None → at cmp (cond b (p ∷ F) F) k ≡ cond b (Some p) None) [ true ↦ λ i. rw e refl | false ↦ λ i. i ] is))
-    at-kept_by p L Less e is =
-        let F = filter (λ (q : K × V). keeps q.0) L in
-        rw e (elim (keeps p.0) as (λ b. at cmp (cond b (p ∷ F) F) k ≡ cond (keeps k) (at cmp L k) None) [ true ↦ rw e is | false ↦ is ])
-    at-kept_by p L Greater e is =
-        let F = filter (λ (q : K × V). keeps q.0) L in
-        rw e (elim (keeps p.0) as (λ b. at cmp (cond b (p ∷ F) F) k ≡ cond (keeps k) (at cmp L k) None) [ true ↦ rw e is | false ↦ is ])
-
     at-kept : (L : List (K × V)) → at cmp (filter (λ q. keeps q.0) L) k ≡ cond (keeps k) (at cmp L k) None
-    at-kept [] = elim (keeps k) as (λ b. at {V = V} cmp [] k ≡ cond b (at {V = V} cmp [] k) None) [ true ↦ refl | false ↦ refl ]
-    at-kept (p ∷ L) = at-kept_by p L (cmp p.0 k) refl (at-kept L)
+    at-kept L = (elim (keeps k) as (λ b. keeps k ≡ b → at cmp (filter (λ q. keeps q.0) L) k ≡ cond b (at cmp L k) None) [
+      | true ↦ λ e. at-filter_kept cmp k keeps (λ x f. same_key x f ∙ e) L
+      | false ↦ λ e. at-filter_gone cmp k keeps (λ x f. same_key x f ∙ e) L
+    ]) refl
 
     value_at_by : (p : Option (K × V)) (b : Bool) → option_map (λ q. q.1) (cond b p None) ≡ cond b (option_map (λ q. q.1) p) None
     value_at_by p true = refl
@@ -145,8 +125,7 @@ module _ {K W : Type 0} {cmp : K → K → Ordering} (o : IsTotalOrder cmp) (M :
   found_in_each [] all is = absurd (cc)
   found_in_each (p ∷ L) all is =
       let both = and_parts (is_some (at cmp M p.0)) (list_all (λ q. is_some (at cmp M q.0)) L) all in
-      (elim (cmp p.0 k) as (λ r. cmp p.0 k ≡ r → IsSome (value_at cmp M k)) [
-        | Less ↦ λ e. found_in_each L both.1 (rw e at is)
-        | Equal ↦ λ e. found_at p.0 e both.0
-        | Greater ↦ λ e. found_in_each L both.1 (rw e at is)
+      (elim (is_eq (cmp p.0 k)) as (λ t. is_eq (cmp p.0 k) ≡ t → IsSome (value_at cmp M k)) [
+        | true ↦ λ e. found_at p.0 (equal_from_is_eq (cmp p.0 k) e) both.0
+        | false ↦ λ e. found_in_each L both.1 (rw e at is)
       ]) refl

@@ -1,42 +1,25 @@
 -- What a closure writes into a list of pairs.
 --     Written-none, Written-more      from one pair to the next;  CallableOnValues-first, -rest      what may be called on
 --     keys-written, Rising-written, map-written      what is left has the same keys, rises, and is mapped
-use Rattle.std.proofs.Common.{◌≡◌, ℕ, zero, suc, ◌+◌, List, [], ◌∷◌, ◌++◌, map, take, drop, slice_get, Some, add-one, refl, ap, ◌∙◌, subst}
+use Rattle.std.proofs.Common.{◌≡◌, ℕ, ◌+◌, List, [], ◌∷◌, ◌++◌, map, take, drop, drop-set-lt, slice_get, slice_set, Some, None, refl, ap, ◌∙◌, subst, arith}
+use Rattle.std.proofs.lemmas.List.{take_more_set}
+use Rattle.std.proofs.lemmas.Option.{slice_get_within}
 use Rattle.std.specs.Map.{keys_of}
+use Rattle.std.specs.Option.{option_map_or}
 use Rattle.std.specs.declared.cmp.Ordering.{Ordering}
 use Rattle.std.specs.declared.cmp.Ordering.TheVariants.{Less}
 use Rattle.litemap_store.specs.Pairs.{BelowAll, Rising, set_value}
-use Rattle.litemap_store.proofs.Seams.{set_value-suc}
 use Rattle.litemap.specs.Written.{CallableOnValues, TakesValue, Writes, WritesPair, Written}
 use denote.Param.Members.{Mut}
 use denote.Ref.{Bor, MutBor}
 
 module _ {K V : Type 0} where
-  at-suc : (L : List (K × V)) (i : ℕ) (p : K × V) → slice_get L i ≡ Some p → drop i L ≡ p ∷ drop (suc i) L
-  at-suc [] i p e = absurd (cc)
-  at-suc (q ∷ L) zero p e = let s : q ≡ p = cc in ap (λ x. x ∷ L) s
-  at-suc (q ∷ L) (suc i) p e = at-suc L i p e
-
-  behind-suc : (L : List (K × V)) (i : ℕ) (v : V) → drop (suc i) (set_value L i v) ≡ drop (suc i) L
-  behind-suc [] i v = refl
-  behind-suc (q ∷ L) zero v = refl
-  behind-suc (q ∷ L) (suc i) v = ap (drop (suc (suc i))) (set_value-suc q L i v) ∙ behind-suc L i v
-
-  up_to-suc : (L : List (K × V)) (i : ℕ) (p : K × V) (v : V) → slice_get L i ≡ Some p → take (suc i) (set_value L i v) ≡ take i L ++ (p.0, v) ∷ []
-  up_to-suc [] i p v e = absurd (cc)
-  up_to-suc (q ∷ L) zero p v e = let s : q ≡ p = cc in ap (λ x. (x.0, v) ∷ []) s
-  up_to-suc (q ∷ L) (suc i) p v e = ap (take (suc (suc i))) (set_value-suc q L i v) ∙ ap (λ M. q ∷ M) (up_to-suc L i p v e)
-
-  -- the pairs from place i on, of which p is the first
-  pub drop-at : (L : List (K × V)) (i : ℕ) (p : K × V) → slice_get L i ≡ Some p → drop i L ≡ p ∷ drop (i + 1) L
-  drop-at L i p e = rw add-one (at-suc L i p e)
-
   -- with another value at place i: the pairs behind it, and those up to it
   pub drop-written : (L : List (K × V)) (i : ℕ) (v : V) → drop (i + 1) (set_value L i v) ≡ drop (i + 1) L
-  drop-written L i v = rw add-one (behind-suc L i v)
+  drop-written L i v = elim (slice_get L i) as (λ o. drop (i + 1) (option_map_or (λ p. slice_set L i (p.0, v)) o L) ≡ drop (i + 1) L) [ None ↦ refl | Some p ↦ drop-set-lt (i + 1) L i (p.0, v) (omega arith) ]
 
   pub take-written : (L : List (K × V)) (i : ℕ) (p : K × V) (v : V) → slice_get L i ≡ Some p → take (i + 1) (set_value L i v) ≡ take i L ++ (p.0, v) ∷ []
-  take-written L i p v e = rw add-one (up_to-suc L i p v e)
+  take-written L i p v e = rw e (take_more_set L i (p.0, v) (slice_get_within L i p e))
 
 module _ {F K V : Type 0} (g : Mut F (Bor K × (MutBor V × Unit {0})) (Unit {0} × (MutBor V × Unit {0}))) where
   pub Written-more : (f : F) (p q : K × V) (f' : F) (L M : List (K × V)) → WritesPair g f p q f' → Written g f' L M → Written g f (p ∷ L) (q ∷ M)

@@ -1,6 +1,6 @@
 -- What a look-up finds after an extension by a vector of pairs: lemmas for the proofs of callers.
 --     given_by_vec      what a vector gives;  Last-extended, Last_if_made      what is left of it;  value_at-extended, new_wins, old_stays      what is found after `extend`
---     counted_in_each      how far a count rises, refused or not;  value_at-collected      what is found after `from_iter`;  cost_behind, cost_rising      how far a count rises
+--     counted_in_each      how far a count rises, refused or not;  value_at-collected      what is found after `from_iter`;  counted_made      how far a count rises
 -- An answer shows `holds` by `λ v it h. h.0`.
 use Rattle.std.proofs.Common.{◌≡◌, ◌+◌, ◌*◌, List, [], ◌++◌, length, Some, None, option_map, reverse, ap, ◌∙◌, subst, inl, inr, arith, Vec, Result, Ok, Err, IfOk, OnErr}
 use Rattle.std.proofs.IntoIterSteps.{All-taken}
@@ -10,9 +10,8 @@ use Rattle.std.specs.Vec.Iter.{into_iter_items, into_iter_steps}
 use Rattle.std.specs.declared.vec.IntoIter.{IntoIter}
 use Rattle.std.specs.declared.cmp.Ordering.{Ordering}
 use Rattle.litemap_store.specs.Bulk.{Gives, IsCountedFor, IsExtended, IsExtendedCounted, IsRefusedCounted}
-use Rattle.litemap_store.specs.Counts.{RisesByAtMost}
 use Rattle.litemap_store.specs.declared.count.Count.{Count}
-use Rattle.litemap_store.specs.Last.{Last, Rises}
+use Rattle.litemap_store.specs.Last.{Last}
 use Rattle.litemap_store.specs.Pairs.{Rising, value_at}
 use Rattle.litemap_store.proofs.Counting.{at_most}
 use Rattle.litemap_store.proofs.LastLookups.{at-Last, value_at-Last_of_more}
@@ -43,14 +42,8 @@ module _ {K V Z : Type 0} {cmp : K → K → Ordering} (o : IsTotalOrder cmp) (b
 
   -- ---- how far the count rises
   module _ (v : Vec (K × V) Z) (old new : List (K × V)) (before after : Count) (e : IsExtendedCounted cmp becomes into_iter_steps v old new before after) where
-    same : e.extended.given ≡ v.items
-    same = given_by_vec becomes holds v e.extended.given e.extended.gives
-
-    pub cost_behind : Rises cmp old v.items → RisesByAtMost (length v.items) before after
-    cost_behind r = subst (λ J. Rises cmp old J → RisesByAtMost (length J) before after) same e.counted.behind r
-
-    pub cost_rising : Rising cmp v.items → RisesByAtMost (length old + 2 * length v.items) before after
-    cost_rising r = subst (λ J. Rising cmp J → RisesByAtMost (length old + 2 * length J) before after) same e.counted.rising r
+    pub counted_made : IsCountedFor cmp old v.items before after
+    counted_made = subst (λ J. IsCountedFor cmp old J before after) (given_by_vec becomes holds v e.extended.given e.extended.gives) e.counted
 
   -- the same where the call was refused
   module _ (v : Vec (K × V) Z) (old : List (K × V)) (before after : Count) (e : IsRefusedCounted cmp becomes into_iter_steps v old before after) where
@@ -64,7 +57,7 @@ module _ {K V Z : Type 0} {cmp : K → K → Ordering} (o : IsTotalOrder cmp) (b
   pub counted_in_each : {T E : Type 0} (pairs : T → List (K × V)) (v : Vec (K × V) Z) (old : List (K × V)) (before after : Count) (r : Result T E)
       → IfOk r (λ s. IsExtendedCounted cmp becomes into_iter_steps v old (pairs s) before after) → OnErr r (IsRefusedCounted cmp becomes into_iter_steps v old before after)
       → IsCountedFor cmp old v.items before after
-  counted_in_each pairs v old before after (Ok s) made refused = record { behind = cost_behind v old (pairs s) before after made; rising = cost_rising v old (pairs s) before after made }
+  counted_in_each pairs v old before after (Ok s) made refused = counted_made v old (pairs s) before after made
   counted_in_each pairs v old before after (Err e) made refused = counted v old before after refused
 
   pub Last_if_made : {T E : Type 0} (pairs : T → List (K × V)) (v : Vec (K × V) Z) (old : List (K × V)) (before after : Count) (r : Result T E)

@@ -4,13 +4,14 @@
 --     Seen ord l hit low left, Seen-next, left_next      the same for the search that notes a hit and the number of places left
 --     takes, takes_next      from `Callable`: the closure may be asked for a key of the list; each answer uses up a question
 --     next      the same of `Shape`, and what the closure answers
-use Rattle.std.proofs.Common.{◌≡◌, ◌≢◌, ℕ, zero, suc, ◌+◌, ◌-◌, ◌/◌, ◌<◌, ◌≤◌, Bool, true, false, cond, List, [], ◌∷◌, length, Some, Ok, Err, slice_get, slice_index_or, Bor, refl, sym, ap, ◌∙◌, subst, arith, inl, inr, ◌⊎◌}
+use Rattle.std.proofs.Common.{◌≡◌, ◌≢◌, ℕ, zero, suc, ◌+◌, ◌-◌, ◌/◌, ◌<◌, ◌≤◌, Bool, true, false, cond, List, [], ◌∷◌, length, Some, Ok, Err, slice_get, slice_index_or, Bor, refl, sym, ap, ◌∙◌, subst, arith, inl, inr}
 use denote.Param.Members.{Mut}
 use Rattle.std.specs.Fn.{CalledAt, TakesAt}
 use Rattle.std.specs.declared.cmp.Ordering.{Ordering}
 use Rattle.std.specs.declared.cmp.Ordering.TheVariants.{Less, Equal, Greater}
 use Rattle.std.specs.Ordering.{is_eq, is_lt, ordering_index}
 use Rattle.std.specs.List.{AllWithin, Any, filter}
+use Rattle.std.proofs.lemmas.Bool.{cases_lt}
 use Rattle.std.proofs.lemmas.Option.{get_or_from_slice_get, slice_get_within}
 use Rattle.litemap_store.specs.Digits.{digits, digits-halved}
 use Rattle.litemap_store.specs.Search.{Ascends, Callable, Finds, Shape}
@@ -24,11 +25,6 @@ bottom : (o : Ordering) → ordering_index o ≤ 0 → o ≡ Less
 bottom Less h = refl
 bottom Equal h = absurd (omega arith)
 bottom Greater h = absurd (omega arith)
-
-order : (k n : ℕ) → (k < n) ⊎ (n ≤ k)
-order k zero = inr (omega arith)
-order zero (suc n) = inl (omega arith)
-order (suc k) (suc n) = elim (order k n) [ inl h ↦ inl (omega arith) | inr h ↦ inr (omega arith) ]
 
 -- what passes a test stands at the first n places
 counted : {X : Type 0} (p : X → Bool) (xs : List X) (n : ℕ) → n ≤ length xs
@@ -45,12 +41,6 @@ counted p (x ∷ xs) (suc n) h passes fails =
     let r : n ≡ length (filter p xs) = counted p xs n (omega arith) (λ k d l. passes (suc k) d (omega arith)) (λ k d a b. fails (suc k) d (omega arith) (omega arith)) in
     rw e (ap suc r)
 
-Less-not_Equal : (o : Ordering) → o ≡ Less → o ≢ Equal
-Less-not_Equal o h e = cc
-
-Greater-not_Equal : (o : Ordering) → o ≡ Greater → o ≢ Equal
-Greater-not_Equal o h e = cc
-
 -- how many places are left of some after an answer at the middle
 abbrev pub left_after : Bool → Ordering → ℕ → ℕ
 left_after is_small answer left =
@@ -66,22 +56,17 @@ module _ {K V : Type 0} (ord : K → Ordering) (l : List (K × V)) where
   Narrowed-whole n h = record { front = λ k d a b. absurd (omega arith); back = λ k d a b. absurd (omega arith) }
 
   module _ (ascends : Ascends ord l) (low high m : ℕ) (k : K) (v : V) (e : slice_get l m ≡ Some (k, v)) (n : Narrowed low high) where
-    read : (d : K × V) → slice_index_or l m d ≡ (k, v)
-    read d = get_or_from_slice_get l m (k, v) d e
+    read : (d : K × V) → ord (slice_index_or l m d).0 ≡ ord k
+    read d = ap (λ p. ord p.0) (get_or_from_slice_get l m (k, v) d e)
 
     within : m < length l
     within = slice_get_within l m (k, v) e
 
     pub Narrowed-less : ord k ≡ Less → Narrowed (m + 1) high
     Narrowed-less is = record {
-      front = λ i d a b. elim (order i m) as (λ _. ord (slice_index_or l i d).0 ≡ Less) [
-        | inl h ↦
-            let j : ordering_index (ord (slice_index_or l i d).0) ≤ ordering_index (ord (slice_index_or l m d).0) = ascends i m d h within in
-            let u : ord (slice_index_or l m d).0 ≡ Less = ap (λ p. ord p.0) (read d) ∙ is in
-            bottom _ (rw u at j)
-        | inr h ↦
-            let u : ord (slice_index_or l m d).0 ≡ Less = ap (λ p. ord p.0) (read d) ∙ is in
-            subst (λ (j : ℕ). ord (slice_index_or l j d).0 ≡ Less) {x = m} {y = i} (omega arith) u
+      front = λ i d a b. elim (cases_lt i m) as (λ _. ord (slice_index_or l i d).0 ≡ Less) [
+        | inl h ↦ bottom _ (rw (read d ∙ is) at (ascends i m d h within))
+        | inr h ↦ subst (λ (j : ℕ). ord (slice_index_or l j d).0 ≡ Less) {x = m} {y = i} (omega arith) (read d ∙ is)
       ];
       back = n.back;
     }
@@ -89,14 +74,9 @@ module _ {K V : Type 0} (ord : K → Ordering) (l : List (K × V)) where
     pub Narrowed-greater : ord k ≡ Greater → Narrowed low m
     Narrowed-greater is = record {
       front = n.front;
-      back = λ i d a b. elim (order m i) as (λ _. ord (slice_index_or l i d).0 ≡ Greater) [
-        | inl h ↦
-            let j : ordering_index (ord (slice_index_or l m d).0) ≤ ordering_index (ord (slice_index_or l i d).0) = ascends m i d h b in
-            let u : ord (slice_index_or l m d).0 ≡ Greater = ap (λ p. ord p.0) (read d) ∙ is in
-            top _ (rw u at j)
-        | inr h ↦
-            let u : ord (slice_index_or l m d).0 ≡ Greater = ap (λ p. ord p.0) (read d) ∙ is in
-            subst (λ (j : ℕ). ord (slice_index_or l j d).0 ≡ Greater) {x = m} {y = i} (omega arith) u
+      back = λ i d a b. elim (cases_lt m i) as (λ _. ord (slice_index_or l i d).0 ≡ Greater) [
+        | inl h ↦ top _ (rw (read d ∙ is) at (ascends m i d h b))
+        | inr h ↦ subst (λ (j : ℕ). ord (slice_index_or l j d).0 ≡ Greater) {x = m} {y = i} (omega arith) (read d ∙ is)
       ];
     }
 
@@ -105,9 +85,9 @@ module _ {K V : Type 0} (ord : K → Ordering) (l : List (K × V)) where
 
   pub Finds-nowhere : (low high : ℕ) → high ≤ low → low ≤ length l → Narrowed low high → Finds ord l (Err low)
   Finds-nowhere low high u h n = (
-    λ k d b. elim (order k low) as (λ _. ord (slice_index_or l k d).0 ≢ Equal) [
-      | inl a ↦ Less-not_Equal _ (n.front k d (omega arith) a)
-      | inr a ↦ Greater-not_Equal _ (n.back k d (omega arith) b)
+    λ k d b. elim (cases_lt k low) as (λ _. ord (slice_index_or l k d).0 ≢ Equal) [
+      | inl a ↦ (λ e. let u : ord (slice_index_or l k d).0 ≡ Less = n.front k d (omega arith) a in cc)
+      | inr a ↦ (λ e. let u : ord (slice_index_or l k d).0 ≡ Greater = n.back k d (omega arith) b in cc)
     ],
     counted (λ p. is_lt (ord p.0)) l low h (λ k d a. ap is_lt (n.front k d (omega arith) a)) (λ k d a b. ap is_lt (n.back k d (omega arith) b)),
   )
@@ -165,25 +145,25 @@ hit_next Less low left n hit w p h = h
 hit_next Equal low left n hit w p h = omega arith
 hit_next Greater low left n hit w p h = h
 
-pub known : {K V : Type 0} (l : List (K × V)) (m : ℕ) (k : K) (v : V) → slice_get l m ≡ Some (k, v) → Any (λ q. q.0 ≡ k) l
+known : {K V : Type 0} (l : List (K × V)) (m : ℕ) (k : K) (v : V) → slice_get l m ≡ Some (k, v) → Any (λ q. q.0 ≡ k) l
 known l m k v e = (m, (k, v), slice_get_within l m (k, v) e, get_or_from_slice_get l m (k, v) (k, v) e, refl)
 
 module _ {F K V : Type 0} (g : Mut F (Bor K × Unit {0}) Ordering) (l : List (K × V)) where
-  pub takes : (n : ℕ) (f : F) (k : K) → 1 ≤ n → Callable g l n f → Any (λ q. q.0 ≡ k) l → TakesAt g f k
-  takes n f k h s a p e = s.at [] f p (omega arith) refl (subst (λ (x : K). Any (λ q. q.0 ≡ x) l) (sym e) a)
+  pub takes : (n i : ℕ) (f : F) (k : K) (v : V) → 1 ≤ n → Callable g l n f → slice_get l i ≡ Some (k, v) → TakesAt g f k
+  takes n i f k v h s there p e = s.at [] f p (omega arith) refl (subst (λ (x : K). Any (λ q. q.0 ≡ x) l) (sym e) (known l i k v there))
 
   -- one question less may be asked after an answer
-  pub takes_next : (m n : ℕ) (f : F) (k : K) (r : Ordering) (f' : F) → m + 1 ≤ n → Callable g l n f → Any (λ q. q.0 ≡ k) l
+  pub takes_next : (m n i : ℕ) (f : F) (k : K) (v : V) (r : Ordering) (f' : F) → m + 1 ≤ n → Callable g l n f → slice_get l i ≡ Some (k, v)
       → CalledAt g f k r f' → Callable g l m f'
-  takes_next m n f k r f' h s a c =
-      let b : Any (λ q. q.0 ≡ c.shown.now) l = subst (λ (x : K). Any (λ q. q.0 ≡ x) l) (sym c.shows) a in
+  takes_next m n i f k v r f' h s there c =
+      let b : Any (λ q. q.0 ≡ c.shown.now) l = subst (λ (x : K). Any (λ q. q.0 ≡ x) l) (sym c.shows) (known l i k v there) in
       record { at = λ asked f'' p few calls there. s.at (c.shown ∷ asked) f'' p (omega arith) (f', (b, (r, c.called)), calls) there }
 
 module _ {F K V : Type 0} (g : Mut F (Bor K × Unit {0}) Ordering) (l : List (K × V)) (ord : K → Ordering) where
   -- one question less may be asked after an answer
-  pub next : (m n : ℕ) (f : F) (k : K) (r : Ordering) (f' : F) → m + 1 ≤ n → Shape g l ord n f → Any (λ q. q.0 ≡ k) l → CalledAt g f k r f' → (ord k ≡ r) × Shape g l ord m f'
-  next m n f k r f' h s a c =
-      let b : Any (λ q. q.0 ≡ c.shown.now) l = subst (λ (x : K). Any (λ q. q.0 ≡ x) l) (sym c.shows) a in (
+  pub next : (m n i : ℕ) (f : F) (k : K) (v : V) (r : Ordering) (f' : F) → m + 1 ≤ n → Shape g l ord n f → slice_get l i ≡ Some (k, v) → CalledAt g f k r f' → (ord k ≡ r) × Shape g l ord m f'
+  next m n i f k v r f' h s there c =
+      let b : Any (λ q. q.0 ≡ c.shown.now) l = subst (λ (x : K). Any (λ q. q.0 ≡ x) l) (sym c.shows) (known l i k v there) in (
         sym (((s.answers.at (c.shown ∷ []) (omega arith) b).1 r f' c.called).0 ∙ ap ord c.shows),
         record { answers = record { at = λ ps few. ((s.answers.at (c.shown ∷ ps) (omega arith) b).1 r f' c.called).1 }; ascends = s.ascends },
       )

@@ -1,6 +1,6 @@
 -- What a stable sort keeps, and a pass that keeps the last of each run of equal keys.
 --     last_by_stable      the same pairs stand last after it;  KeptLast, passed_over, passed_more      what the pass has kept so far, and after one more pair
---     Last-push      a pair above all goes behind the last pairs;  filter_all, filter_none, last_cases      lists
+--     Last-push      a pair above all goes behind the last pairs;  all_below      keys below one above the last;  filter_all, filter_none, last_cases      lists
 use Rattle.std.proofs.Common.{ℕ, zero, suc, ◌<◌, ◌≤◌, ◌+◌, length, get_or, arith, ◌≡◌, ◌⊎◌, ◌≢◌, ◌↔◌, Bool, true, false, cond, List, [], ◌∷◌, ◌++◌, filter, take, drop, set, swap, refl, sym, ap, ◌∙◌, subst, subst₂, inl, inr, append-nil, Ordering, Less, Equal, Greater, is_lt, is_gt, is_eq}
 use Rattle.std.specs.List.Sorted.{IsStableBy, ties, IsSortedByKey}
 use Rattle.std.specs.Cmp.{IsTotalOrder}
@@ -12,10 +12,10 @@ use Rattle.std.proofs.lemmas.List.Sorted.{sorted_far, ranks_by}
 use Rattle.std.proofs.lemmas.Bool.{cases_lt}
 use mathlib.Core.Bool.{true≢false}
 use Rattle.litemap_store.specs.Last.{In, Last, StandsLast}
-use Rattle.litemap_store.specs.Pairs.{Rising, above, below}
-use Rattle.litemap_store.proofs.Membership.{In-right, In-cases, In-filter, In-from_filter, each, from_each}
+use Rattle.litemap_store.specs.Pairs.{AllBelow, Rising, above, below}
+use Rattle.litemap_store.proofs.Membership.{In-right, In-filter, In-from_filter, each, from_each}
 use Rattle.litemap_store.proofs.LastPairs.{In-from_last, Last-put}
-use Rattle.litemap_store.proofs.Splitting.{greater_back}
+use Rattle.litemap_store.proofs.Splitting.{each-append, equal_from_is_eq, greater_back}
 
 -- ---- filters that keep all or none
 pub filter_all : {X : Type 0} (t : X → Bool) (L : List X) → ((x : X) → In x L → t x ≡ true) → filter t L ≡ L
@@ -58,6 +58,12 @@ rising_across cmp [] B r a b i j = absurd i
 rising_across {K} {V} cmp (x ∷ A) B r a b (inl e) j = subst (λ (y : K × V). cmp y.0 b.0 ≡ Less) e (each (λ (q : K × V). cmp x.0 q.0 ≡ Less) (A ++ B) r.0 b (In-right A B b j))
 rising_across cmp (x ∷ A) B r a b (inr i) j = rising_across cmp A B r.1 a b i j
 
+-- where the last key is below k, so are all
+pub all_below : {K V : Type 0} {cmp : K → K → Ordering} → IsTotalOrder cmp → (L N : List (K × V)) (l : K × V) (k : K) → Rising cmp L → L ≡ N ++ l ∷ [] → cmp l.0 k ≡ Less → AllBelow cmp L k
+all_below {K} {V} {cmp} o L N l k r e less =
+    rw e (each-append (λ (q : K × V). cmp q.0 k ≡ Less) N (l ∷ [])
+    (from_each (λ (q : K × V). cmp q.0 k ≡ Less) N (λ x i. o.trans x.0 l.0 k (rising_across cmp N (l ∷ []) (subst (Rising cmp) e r) x l i (inl refl)) less)) (less, tt))
+
 -- the first i pairs of S are passed, and the first k of xs are what is kept of them
 pub record KeptLast {K V : Type 0} (cmp : K → K → Ordering) (S xs : List (K × V)) (k i : ℕ) : Type 0 where
   pub long : length xs ≡ length S
@@ -66,16 +72,14 @@ pub record KeptLast {K V : Type 0} (cmp : K → K → Ordering) (S xs : List (K 
 
 module _ {K : Type 0} (cmp : K → K → Ordering) (o : IsTotalOrder cmp) where
   -- ---- what a filter that passes equal keys keeps
-  StandsLast-cond : {V : Type 0} (b : Bool) (p q : K × V) (L : List (K × V)) → StandsLast cmp p L → StandsLast cmp p (cond b (q ∷ L) L)
-  StandsLast-cond true p q L h = inr h
-  StandsLast-cond false p q L h = h
-
   pub StandsLast-filter : {V : Type 0} (t : K × V → Bool) (p : K × V) (J : List (K × V)) → ((q : K × V) → cmp p.0 q.0 ≡ Equal → t q ≡ true) → StandsLast cmp p J → StandsLast cmp p (filter t J)
   StandsLast-filter t p [] f h = h
   StandsLast-filter {V} t p (q ∷ J) f (inl h) =
       let yes : t q ≡ true = f q (subst (λ (x : K × V). cmp p.0 x.0 ≡ Equal) (sym h.0) (tied_itself o p.0)) in
       rw yes (inl (h.0, from_each (λ (x : K × V). cmp p.0 x.0 ≢ Equal) (filter t J) (λ x i. each (λ (x : K × V). cmp p.0 x.0 ≢ Equal) J h.1 x (In-from_filter t J x i).0)))
-  StandsLast-filter t p (q ∷ J) f (inr h) = StandsLast-cond (t q) p q (filter t J) (StandsLast-filter t p J f h)
+  StandsLast-filter t p (q ∷ J) f (inr h) =
+      let rest : StandsLast cmp p (filter t J) = StandsLast-filter t p J f h in
+      elim (t q) as (λ b. StandsLast cmp p (cond b (q ∷ filter t J) (filter t J))) [ true ↦ inr rest | false ↦ rest ]
 
   pub StandsLast-from_filter : {V : Type 0} (t : K × V → Bool) (p : K × V) (J : List (K × V)) → ((q : K × V) → cmp p.0 q.0 ≡ Equal → t q ≡ true) → StandsLast cmp p (filter t J) → StandsLast cmp p J
   StandsLast-from_filter t p [] f h = h
@@ -115,11 +119,7 @@ module _ {K : Type 0} (cmp : K → K → Ordering) (o : IsTotalOrder cmp) where
         let r : Rising cmp (N ++ q ∷ []) = subst (Rising cmp) e last.rising in
         let less : (x : K × V) → In x N → cmp x.0 p.0 ≡ Less = λ x i. sym (alike_right o q.0 p.0 x.0 same) ∙ rising_across cmp N (q ∷ []) r x q i (inl refl) in
         let a : below cmp (N ++ q ∷ []) p.0 ≡ N = filter-append (λ (x : K × V). is_lt (cmp x.0 p.0)) N (q ∷ []) ∙ rw (filter_all (λ (x : K × V). is_lt (cmp x.0 p.0)) N (λ x i. ap is_lt (less x i)), same) (append-nil N) in
-        let b : above cmp (N ++ q ∷ []) p.0 ≡ [] = filter_none (λ (x : K × V). is_gt (cmp x.0 p.0)) (N ++ q ∷ []) (λ x i. elim (In-cases N (q ∷ []) x i) [
-          | inl j ↦ ap is_gt (less x j)
-          | inr (inl f) ↦ ap is_gt (subst (λ (y : K × V). cmp y.0 p.0 ≡ Equal) f same)
-          | inr (inr j) ↦ absurd j
-        ]) in
+        let b : above cmp (N ++ q ∷ []) p.0 ≡ [] = filter-append (λ (x : K × V). is_gt (cmp x.0 p.0)) N (q ∷ []) ∙ rw (filter_none (λ (x : K × V). is_gt (cmp x.0 p.0)) N (λ x i. ap is_gt (less x i)), same) refl in
         rw (e, a, b) at (Last-put cmp o J M last p)
 
   -- ---- the pass
@@ -158,12 +158,7 @@ module _ {K : Type 0} (cmp : K → K → Ordering) (o : IsTotalOrder cmp) where
         let far : is_lt (cmp (get_or S i d).0 (get_or S at.0 d).0) ≡ false = sorted_far (λ (x y : K × V). is_lt (cmp x.0 y.0)) (ranks_by o (λ (x : K × V). x.0)) S sorted at.0 i d (let a = at.1 in omega arith) within in
         let not_less : is_lt (cmp p.0 q.0) ≡ false = subst₂ (λ (x y : K × V). is_lt (cmp x.0 y.0) ≡ false) (sym next_same.0) (at.3 d) far in
         let first : cmp q.0 p.0 ≡ Less = less_of q.0 p.0 (cmp q.0 p.0) refl differ not_less in
-        let r : Rising cmp (take k xs ++ q ∷ []) = subst (Rising cmp) t kept.last.rising in
-        let all : (x : K × V) → In x (take (k + 1) xs) → cmp x.0 p.0 ≡ Less = λ x i. elim (In-cases (take k xs) (q ∷ []) x (subst (In x) t i)) [
-          | inl j ↦ o.trans x.0 q.0 p.0 (rising_across cmp (take k xs) (q ∷ []) r x q j (inl refl)) first
-          | inr (inl e) ↦ subst (λ (y : K × V). cmp y.0 p.0 ≡ Less) e first
-          | inr (inr j) ↦ absurd j
-        ] in
+        let all = each (λ (x : K × V). cmp x.0 p.0 ≡ Less) (take (k + 1) xs) (all_below o (take (k + 1) xs) (take k xs) q p.0 kept.last.rising t first) in
         let h = Last-push (take i S) (take (k + 1) xs) kept.last p all in
         let f : take (i + 1) S ≡ take i S ++ p ∷ [] = take_more S i d within ∙ ap (λ (x : K × V). take i S ++ x ∷ []) (sym next_same.0) in
         record {
@@ -173,11 +168,6 @@ module _ {K : Type 0} (cmp : K → K → Ordering) (o : IsTotalOrder cmp) where
         }
 
   -- the same as the code reads the pairs
-  equal_from_is_eq : (r : Ordering) → is_eq r ≡ true → r ≡ Equal
-  equal_from_is_eq Less h = absurd (true≢false (sym h))
-  equal_from_is_eq Equal h = refl
-  equal_from_is_eq Greater h = absurd (true≢false (sym h))
-
   module _ {V : Type 0} (S xs ys : List (K × V)) (k n i : ℕ) (q p : K × V) (r : Ordering) (kept : KeptLast cmp S xs (k + 1) i) (before : k < i) (within : i < length S) (read_q : q ≡ get_or xs k q) (read_p : p ≡ get_or xs i p) (asked : r ≡ cmp q.0 p.0) where
     q_is : q ≡ get_or xs k p
     q_is = let long = kept.long in read_q ∙ get_or_default xs k q p (omega arith)

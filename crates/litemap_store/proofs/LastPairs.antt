@@ -1,43 +1,20 @@
 -- The last pair of each key: there is one such list and no other, and what adds to it.
 --     last_of, Last-unique      there is one, and only one;  Last-rising      a rising list is its own;  Last-put      one more pair
 --     Last-join, Last-join_right      the last pairs of a part in place of the part;  Last-same      the same pairs stand last
---     Rising-append, Rising-filter      lists that rise;  StandsLast-left, StandsLast-right, StandsLast-cases      where a pair of a joined list stands last
-use Rattle.std.proofs.Common.{◌≡◌, ◌⊎◌, ◌≢◌, ◌↔◌, Bool, true, false, cond, List, [], ◌∷◌, ◌++◌, filter, refl, sym, ap, ◌∙◌, subst, inl, inr, append-nil, append_assoc, Ordering, Less, Equal, Greater, is_lt, is_gt}
+--     StandsLast-left, StandsLast-right, StandsLast-cases      where a pair of a joined list stands last;  stands_before, stands_behind      and where a part changes
+--     in_put, put_has      what stands in a list after a put
+use Rattle.std.proofs.Common.{◌≡◌, ◌⊎◌, ◌≢◌, ◌↔◌, List, [], ◌∷◌, ◌++◌, Option, Some, None, refl, sym, ap, ◌∙◌, subst, inl, inr, append-nil, append_assoc, Ordering, Less, Equal, Greater, is_lt, is_gt}
 use Rattle.std.specs.Cmp.{IsTotalOrder}
-use Rattle.std.proofs.lemmas.Cmp.{tied_itself, alike_right}
-use mathlib.Core.Bool.{true≢false}
+use Rattle.std.proofs.lemmas.Cmp.{tied_back, tied_itself, alike_right}
 use Rattle.litemap_store.specs.Last.{In, Last, NoneEqual, StandsLast}
-use Rattle.litemap_store.specs.Pairs.{BelowAll, Rising, above, below}
+use Rattle.litemap_store.specs.Pairs.{Rising, above, at, below}
 use Rattle.litemap_store.proofs.Membership.{In-left, In-right, In-cases, In-filter, In-from_filter, each, from_each}
-use Rattle.litemap_store.proofs.Splitting.{greater_back, less_back}
-
-pub less_from_is_lt : (r : Ordering) → is_lt r ≡ true → r ≡ Less
-less_from_is_lt Less h = refl
-less_from_is_lt Equal h = absurd (true≢false (sym h))
-less_from_is_lt Greater h = absurd (true≢false (sym h))
-
-pub greater_from_is_gt : (r : Ordering) → is_gt r ≡ true → r ≡ Greater
-greater_from_is_gt Less h = absurd (true≢false (sym h))
-greater_from_is_gt Equal h = absurd (true≢false (sym h))
-greater_from_is_gt Greater h = refl
-
--- ---- a joined list, and a filtered one, rise
-pub Rising-append : {K V : Type 0} (cmp : K → K → Ordering) (A B : List (K × V)) → Rising cmp A → Rising cmp B → ((a b : K × V) → In a A → In b B → cmp a.0 b.0 ≡ Less) → Rising cmp (A ++ B)
-Rising-append cmp [] B r s f = s
-Rising-append {K} {V} cmp (a ∷ A) B r s f = (from_each (λ (q : K × V). cmp a.0 q.0 ≡ Less) (A ++ B) (λ x i. elim (In-cases A B x i) [ inl h ↦ each (λ (q : K × V). cmp a.0 q.0 ≡ Less) A r.0 x h | inr h ↦ f a x (inl refl) h ]), Rising-append cmp A B r.1 s (λ x y i j. f x y (inr i) j))
-
-Rising-cond : {K V : Type 0} (cmp : K → K → Ordering) (b : Bool) (p : K × V) (L : List (K × V)) → BelowAll cmp p.0 L → Rising cmp L → Rising cmp (cond b (p ∷ L) L)
-Rising-cond cmp true p L h r = (h, r)
-Rising-cond cmp false p L h r = r
-
-pub Rising-filter : {K V : Type 0} (cmp : K → K → Ordering) (t : K × V → Bool) (L : List (K × V)) → Rising cmp L → Rising cmp (filter t L)
-Rising-filter cmp t [] r = r
-Rising-filter {K} {V} cmp t (p ∷ L) r = Rising-cond cmp (t p) p (filter t L) (from_each (λ (q : K × V). cmp p.0 q.0 ≡ Less) (filter t L) (λ x i. each (λ (q : K × V). cmp p.0 q.0 ≡ Less) L r.0 x (In-from_filter t L x i).0)) (Rising-filter cmp t L r.1)
+use Rattle.litemap_store.proofs.Splitting.{Rising-between, at_in, each-append, each-weaker, greater_from_is_gt, less_back, less_from_is_lt, none_equal}
 
 -- ---- where a pair of a joined list stands last
 pub StandsLast-left : {K V : Type 0} (cmp : K → K → Ordering) (p : K × V) (A B : List (K × V)) → StandsLast cmp p A → NoneEqual cmp p.0 B → StandsLast cmp p (A ++ B)
 StandsLast-left cmp p [] B h n = absurd h
-StandsLast-left {K} {V} cmp p (a ∷ A) B (inl h) n = inl (h.0, from_each (λ (q : K × V). cmp p.0 q.0 ≢ Equal) (A ++ B) (λ x i. elim (In-cases A B x i) [ inl j ↦ each (λ (q : K × V). cmp p.0 q.0 ≢ Equal) A h.1 x j | inr j ↦ each (λ (q : K × V). cmp p.0 q.0 ≢ Equal) B n x j ]))
+StandsLast-left {K} {V} cmp p (a ∷ A) B (inl h) n = inl (h.0, each-append (λ (q : K × V). cmp p.0 q.0 ≢ Equal) A B h.1 n)
 StandsLast-left cmp p (a ∷ A) B (inr h) n = inr (StandsLast-left cmp p A B h n)
 
 pub StandsLast-right : {K V : Type 0} (cmp : K → K → Ordering) (p : K × V) (A B : List (K × V)) → StandsLast cmp p B → StandsLast cmp p (A ++ B)
@@ -48,6 +25,14 @@ pub StandsLast-cases : {K V : Type 0} (cmp : K → K → Ordering) (p : K × V) 
 StandsLast-cases cmp p [] B h = inr h
 StandsLast-cases {K} {V} cmp p (a ∷ A) B (inl h) = inl (inl (h.0, from_each (λ (q : K × V). cmp p.0 q.0 ≢ Equal) A (λ x i. each (λ (q : K × V). cmp p.0 q.0 ≢ Equal) (A ++ B) h.1 x (In-left A B x i))), from_each (λ (q : K × V). cmp p.0 q.0 ≢ Equal) B (λ x i. each (λ (q : K × V). cmp p.0 q.0 ≢ Equal) (A ++ B) h.1 x (In-right A B x i)))
 StandsLast-cases cmp p (a ∷ A) B (inr h) = elim (StandsLast-cases cmp p A B h) [ inl j ↦ inl (inr j.0, j.1) | inr j ↦ inr j ]
+
+-- so where a part stands in the place of another
+pub stands_before : {K V : Type 0} (cmp : K → K → Ordering) (p : K × V) (P Q B : List (K × V)) → (StandsLast cmp p P → StandsLast cmp p Q) → StandsLast cmp p (P ++ B) → StandsLast cmp p (Q ++ B)
+stands_before cmp p P Q B f h = elim (StandsLast-cases cmp p P B h) [ inl j ↦ StandsLast-left cmp p Q B (f j.0) j.1 | inr j ↦ StandsLast-right cmp p Q B j ]
+
+pub stands_behind : {K V : Type 0} (cmp : K → K → Ordering) (p : K × V) (A P Q : List (K × V)) → (NoneEqual cmp p.0 P → NoneEqual cmp p.0 Q) → (StandsLast cmp p P → StandsLast cmp p Q)
+    → StandsLast cmp p (A ++ P) → StandsLast cmp p (A ++ Q)
+stands_behind cmp p A P Q n f h = elim (StandsLast-cases cmp p A P h) [ inl j ↦ StandsLast-left cmp p A Q j.0 (n j.1) | inr j ↦ StandsLast-right cmp p A Q (f j) ]
 
 -- what stands last stands there
 pub In-from_last : {K V : Type 0} (cmp : K → K → Ordering) (p : K × V) (J : List (K × V)) → StandsLast cmp p J → In p J
@@ -96,58 +81,49 @@ module _ {K : Type 0} (cmp : K → K → Ordering) (o : IsTotalOrder cmp) where
   pub Last-unique : {V : Type 0} (J M N : List (K × V)) → Last cmp J M → Last cmp J N → M ≡ N
   Last-unique J M N a b = same_rising M N a.rising b.rising (λ x. (λ i. (b.exactly x).1 ((a.exactly x).0 i), λ i. (a.exactly x).1 ((b.exactly x).0 i)))
 
-  -- ---- one more pair
-  module _ {V : Type 0} (J M : List (K × V)) (last : Last cmp J M) (p : K × V) where
-    kept_below : (x : K × V) → In x (below cmp M p.0) → In x M × (cmp x.0 p.0 ≡ Less)
-    kept_below x i = let h = In-from_filter (λ (q : K × V). is_lt (cmp q.0 p.0)) M x i in (h.0, less_from_is_lt _ h.1)
-
-    kept_above : (x : K × V) → In x (above cmp M p.0) → In x M × (cmp x.0 p.0 ≡ Greater)
-    kept_above x i = let h = In-from_filter (λ (q : K × V). is_gt (cmp q.0 p.0)) M x i in (h.0, greater_from_is_gt _ h.1)
-
-    Rising-put : Rising cmp (below cmp M p.0 ++ p ∷ above cmp M p.0)
-    Rising-put = Rising-append cmp (below cmp M p.0) (p ∷ above cmp M p.0) (Rising-filter cmp _ M last.rising)
-        (from_each (λ (q : K × V). cmp p.0 q.0 ≡ Less) (above cmp M p.0) (λ x i. greater_back o x.0 p.0 (kept_above x i).1), Rising-filter cmp _ M last.rising)
-        (λ a b i j. elim j [ inl e ↦ subst (λ (q : K × V). cmp a.0 q.0 ≡ Less) e (kept_below a i).1 | inr k ↦ o.trans a.0 p.0 b.0 (kept_below a i).1 (greater_back o b.0 p.0 (kept_above b k).1) ])
-
-    other : (x : K × V) → In x M → cmp x.0 p.0 ≢ Equal → StandsLast cmp x (J ++ p ∷ [])
-    other x i n = StandsLast-left cmp x J (p ∷ []) ((last.exactly x).0 i) (n, tt)
-
-    to_last : (x : K × V) → In x (below cmp M p.0 ++ p ∷ above cmp M p.0) → StandsLast cmp x (J ++ p ∷ [])
-    to_last x i = elim (In-cases (below cmp M p.0) (p ∷ above cmp M p.0) x i) [
-      | inl j ↦ other x (kept_below x j).0 (λ e. let h = (kept_below x j).1 in cc)
-      | inr (inl e) ↦ StandsLast-right cmp x J (p ∷ []) (inl (e, tt))
-      | inr (inr j) ↦ other x (kept_above x j).0 (λ e. let h = (kept_above x j).1 in cc)
+  -- ---- one more pair, x with the key k
+  module _ {V : Type 0} (M : List (K × V)) (k : K) (x : K × V) where
+    pub in_put : (p : K × V) → In p (below cmp M k ++ x ∷ above cmp M k) → (x ≡ p) ⊎ (In p M × (cmp p.0 k ≢ Equal))
+    in_put p i = elim (In-cases (below cmp M k) (x ∷ above cmp M k) p i) [
+      | inl j ↦ inr (let h = In-from_filter (λ (q : K × V). is_lt (cmp q.0 k)) M p j in (h.0, (λ e. let l = less_from_is_lt _ h.1 in cc)))
+      | inr (inl e) ↦ inl e
+      | inr (inr j) ↦ inr (let h = In-from_filter (λ (q : K × V). is_gt (cmp q.0 k)) M p j in (h.0, (λ e. let l = greater_from_is_gt _ h.1 in cc)))
     ]
 
-    by_order : (x : K × V) (r : Ordering) → cmp x.0 p.0 ≡ r → r ≢ Equal → In x M → In x (below cmp M p.0 ++ p ∷ above cmp M p.0)
-    by_order x Less h n i = In-left (below cmp M p.0) (p ∷ above cmp M p.0) x (In-filter (λ (q : K × V). is_lt (cmp q.0 p.0)) M x i (ap is_lt h))
-    by_order x Equal h n i = absurd (n refl)
-    by_order x Greater h n i = In-right (below cmp M p.0) (p ∷ above cmp M p.0) x (inr (In-filter (λ (q : K × V). is_gt (cmp q.0 p.0)) M x i (ap is_gt h)))
+    pub put_has : (p : K × V) → In p M → cmp p.0 k ≢ Equal → In p (below cmp M k ++ x ∷ above cmp M k)
+    put_has p i n = by (cmp p.0 k) refl
+      where
+        by : (r : Ordering) → cmp p.0 k ≡ r → In p (below cmp M k ++ x ∷ above cmp M k)
+        by Less e = In-left (below cmp M k) (x ∷ above cmp M k) p (In-filter (λ (q : K × V). is_lt (cmp q.0 k)) M p i (ap is_lt e))
+        by Equal e = absurd (n e)
+        by Greater e = In-right (below cmp M k) (x ∷ above cmp M k) p (inr (In-filter (λ (q : K × V). is_gt (cmp q.0 k)) M p i (ap is_gt e)))
+
+  module _ {V : Type 0} (J M : List (K × V)) (last : Last cmp J M) (p : K × V) where
+    to_last : (x : K × V) → In x (below cmp M p.0 ++ p ∷ above cmp M p.0) → StandsLast cmp x (J ++ p ∷ [])
+    to_last x i = elim (in_put M p.0 p x i) [
+      | inl e ↦ StandsLast-right cmp x J (p ∷ []) (inl (e, tt))
+      | inr h ↦ StandsLast-left cmp x J (p ∷ []) ((last.exactly x).0 h.0) (h.1, tt)
+    ]
 
     from_last : (x : K × V) → StandsLast cmp x (J ++ p ∷ []) → In x (below cmp M p.0 ++ p ∷ above cmp M p.0)
     from_last x h = elim (StandsLast-cases cmp x J (p ∷ []) h) [
-      | inl j ↦ by_order x (cmp x.0 p.0) refl j.1.0 ((last.exactly x).1 j.0)
+      | inl j ↦ put_has M p.0 p x ((last.exactly x).1 j.0) j.1.0
       | inr (inl j) ↦ In-right (below cmp M p.0) (p ∷ above cmp M p.0) x (inl j.0)
       | inr (inr j) ↦ absurd j
     ]
 
     pub Last-put : Last cmp (J ++ p ∷ []) (below cmp M p.0 ++ p ∷ above cmp M p.0)
-    Last-put = record { rising = Rising-put; exactly = λ x. (to_last x, from_last x) }
+    Last-put = record { rising = Rising-between o M p.0 p (tied_itself o p.0) last.rising; exactly = λ x. (to_last x, from_last x) }
 
   -- ---- there is one
-  abbrev pub put_all : {V : Type 0} → List (K × V) → List (K × V) → List (K × V)
-  put_all M [] = M
-  put_all M (p ∷ J) = put_all (below cmp M p.0 ++ p ∷ above cmp M p.0) J
-
-  pub Last-put_all : {V : Type 0} (J₀ M J : List (K × V)) → Last cmp J₀ M → Last cmp (J₀ ++ J) (put_all M J)
-  Last-put_all J₀ M [] h = rw append-nil h
-  Last-put_all J₀ M (p ∷ J) h = rw append_assoc at (Last-put_all (J₀ ++ p ∷ []) (below cmp M p.0 ++ p ∷ above cmp M p.0) J (Last-put J₀ M h p))
-
-  Last-nil : (V : Type 0) → Last {V = V} cmp [] []
-  Last-nil V = record { rising = tt; exactly = λ p. (λ h. h, λ h. h) }
+  made : {V : Type 0} (J₀ M J : List (K × V)) → Last cmp J₀ M → (N : List (K × V)) × Last cmp (J₀ ++ J) N
+  made J₀ M [] h = (M, rw append-nil h)
+  made J₀ M (p ∷ J) h =
+      let r = made (J₀ ++ p ∷ []) (below cmp M p.0 ++ p ∷ above cmp M p.0) J (Last-put J₀ M h p) in
+      (r.0, rw (append_assoc J₀ (p ∷ []) J) at r.1)
 
   pub last_of : {V : Type 0} (J : List (K × V)) → (M : List (K × V)) × Last cmp J M × ((N : List (K × V)) → Last cmp J N → N ≡ M)
-  last_of {V} J = let h = Last-put_all [] [] J (Last-nil V) in (put_all [] J, h, λ N k. Last-unique J N (put_all [] J) k h)
+  last_of J = let h = made [] [] J (Last-rising cmp [] tt) in (h.0, h.1, λ N k. Last-unique J N h.0 k h.1)
 
   -- ---- lists in the place of one another
   -- where the same pairs stand last
@@ -156,31 +132,20 @@ module _ {K : Type 0} (cmp : K → K → Ordering) (o : IsTotalOrder cmp) where
 
   -- the last of the last and more is the last of all
   pub Last-join : {V : Type 0} (J₁ J₂ M₁ M : List (K × V)) → Last cmp J₁ M₁ → Last cmp (M₁ ++ J₂) M → Last cmp (J₁ ++ J₂) M
-  Last-join {V} J₁ J₂ M₁ M a b = Last-same (M₁ ++ J₂) (J₁ ++ J₂) M same b
-    where
-      same : (p : K × V) → StandsLast cmp p (M₁ ++ J₂) ↔ StandsLast cmp p (J₁ ++ J₂)
-      same p = (
-        λ i. elim (StandsLast-cases cmp p M₁ J₂ i) [
-          | inl h ↦ StandsLast-left cmp p J₁ J₂ ((a.exactly p).0 (In-from_last cmp p M₁ h.0)) h.1
-          | inr h ↦ StandsLast-right cmp p J₁ J₂ h
-        ],
-        λ i. elim (StandsLast-cases cmp p J₁ J₂ i) [
-          | inl h ↦ StandsLast-left cmp p M₁ J₂ (last_in_rising cmp p M₁ a.rising ((a.exactly p).1 h.0)) h.1
-          | inr h ↦ StandsLast-right cmp p M₁ J₂ h
-        ],
-      )
+  Last-join J₁ J₂ M₁ M a b = Last-same (M₁ ++ J₂) (J₁ ++ J₂) M (λ p. (
+    stands_before cmp p M₁ J₁ J₂ (λ h. (a.exactly p).0 (In-from_last cmp p M₁ h)),
+    stands_before cmp p J₁ M₁ J₂ (λ h. last_in_rising cmp p M₁ a.rising ((a.exactly p).1 h)),
+  )) b
+
+  pub none_from_at : {V : Type 0} (J : List (K × V)) (k : K) → at cmp J k ≡ None → NoneEqual cmp k J
+  none_from_at J k e = each-weaker (λ p d f. d (tied_back o k p.0 f)) J (none_equal cmp J k e)
 
   pub some_equal : {V : Type 0} (k : K) (J : List (K × V)) → ((q : K × V) × In q J × (cmp k q.0 ≡ Equal)) ⊎ NoneEqual cmp k J
-  some_equal k [] = inr tt
-  some_equal {V} k (x ∷ J) = elim (some_equal k J) [
-    | inl h ↦ inl (h.0, inr h.1, h.2)
-    | inr n ↦ by (cmp k x.0) refl n
-  ]
+  some_equal {V} k J = by (at cmp J k) refl
     where
-      by : (r : Ordering) → cmp k x.0 ≡ r → NoneEqual cmp k J → ((q : K × V) × In q (x ∷ J) × (cmp k q.0 ≡ Equal)) ⊎ NoneEqual cmp k (x ∷ J)
-      by Less e n = inr ((λ f. cc), n)
-      by Equal e n = inl (x, inl refl, e)
-      by Greater e n = inr ((λ f. cc), n)
+      by : (a : Option (K × V)) → at cmp J k ≡ a → ((q : K × V) × In q J × (cmp k q.0 ≡ Equal)) ⊎ NoneEqual cmp k J
+      by None e = inr (none_from_at J k e)
+      by (Some q) e = let h = at_in cmp J k q e in inl (q, h.0, tied_back o q.0 k h.1)
 
   -- each key has a pair that stands last
   pub has_last : {V : Type 0} (J : List (K × V)) (p : K × V) → In p J → (q : K × V) × (cmp p.0 q.0 ≡ Equal) × StandsLast cmp q J
@@ -195,22 +160,13 @@ module _ {K : Type 0} (cmp : K → K → Ordering) (o : IsTotalOrder cmp) where
 
   -- the same with the last of what is added
   pub Last-join_right : {V : Type 0} (J₁ J₂ D M : List (K × V)) → Last cmp J₂ D → Last cmp (J₁ ++ D) M → Last cmp (J₁ ++ J₂) M
-  Last-join_right {V} J₁ J₂ D M a b = Last-same (J₁ ++ D) (J₁ ++ J₂) M same b
+  Last-join_right {V} J₁ J₂ D M a b = Last-same (J₁ ++ D) (J₁ ++ J₂) M (λ p. (
+    stands_behind cmp p J₁ D J₂ (none p.0) (λ h. (a.exactly p).0 (In-from_last cmp p D h)),
+    stands_behind cmp p J₁ J₂ D (none_back p.0) (λ h. last_in_rising cmp p D a.rising ((a.exactly p).1 h)),
+  )) b
     where
       none : (k : K) → NoneEqual cmp k D → NoneEqual cmp k J₂
       none k n = from_each (λ (q : K × V). cmp k q.0 ≢ Equal) J₂ (λ x i e. let r = has_last J₂ x i in each (λ (q : K × V). cmp k q.0 ≢ Equal) D n r.0 ((a.exactly r.0).1 r.2) (sym (alike_right o x.0 r.0.0 k r.1) ∙ e))
 
       none_back : (k : K) → NoneEqual cmp k J₂ → NoneEqual cmp k D
       none_back k n = from_each (λ (q : K × V). cmp k q.0 ≢ Equal) D (λ x i. each (λ (q : K × V). cmp k q.0 ≢ Equal) J₂ n x (In-from_last cmp x J₂ ((a.exactly x).0 i)))
-
-      same : (p : K × V) → StandsLast cmp p (J₁ ++ D) ↔ StandsLast cmp p (J₁ ++ J₂)
-      same p = (
-        λ i. elim (StandsLast-cases cmp p J₁ D i) [
-          | inl h ↦ StandsLast-left cmp p J₁ J₂ h.0 (none p.0 h.1)
-          | inr h ↦ StandsLast-right cmp p J₁ J₂ ((a.exactly p).0 (In-from_last cmp p D h))
-        ],
-        λ i. elim (StandsLast-cases cmp p J₁ J₂ i) [
-          | inl h ↦ StandsLast-left cmp p J₁ D h.0 (none_back p.0 h.1)
-          | inr h ↦ StandsLast-right cmp p J₁ D (last_in_rising cmp p D a.rising ((a.exactly p).1 h))
-        ],
-      )

@@ -6,31 +6,22 @@
 --     value_at-write, value_at-write_apart      the same after a write;  value_at-written_apart      where a write finds the key
 --     value_in-set_value_other, value_at-set_value      after a write at a place;  value_in-set, value_at-set      where a pair is there
 --     length-put_present, length-put_absent, length-cut_present, length-cut_absent, Rising-cut      what both leave of a rising list
-use Rattle.std.proofs.Common.{◌≡◌, ◌≢◌, ℕ, zero, suc, cond, IfSome, slice_get, slice_set, ◌+◌, Bool, true, false, List, [], ◌∷◌, ◌++◌, length, filter, Option, Some, None, IsSome, Ok, option_map, refl, sym, ap, ◌∙◌, subst, arith}
+use Rattle.std.proofs.Common.{◌≡◌, ◌≢◌, ℕ, zero, suc, cond, IfSome, slice_get, slice_set, ◌+◌, Bool, true, false, List, [], ◌∷◌, ◌++◌, length, filter, Option, Some, None, IsSome, Ok, option_map, refl, sym, ap, ◌∙◌, arith}
 use Rattle.std.specs.Ordering.{is_lt, is_eq, is_gt}
 use Rattle.std.specs.Option.{option_map_or, option_or}
-use Rattle.std.specs.Cmp.{IsTotalOrder, tied_itself}
-use Rattle.std.specs.List.{AllByRecursion}
+use Rattle.std.specs.Cmp.{IsTotalOrder}
+use Rattle.std.specs.List.{cons_option}
 use Rattle.std.proofs.lemmas.List.{append-nil, length-append}
 use Rattle.std.proofs.lemmas.List.Folds.{find-append}
-use Rattle.std.proofs.lemmas.Option.{get_or_from_slice_get}
+use Rattle.std.proofs.lemmas.List.Elements.{filter-append}
 use Rattle.std.specs.declared.cmp.Ordering.{Ordering}
 use Rattle.std.specs.declared.cmp.Ordering.TheVariants.{Less, Equal, Greater}
 use Rattle.litemap_store.specs.Pairs.{Rising, above, at, below, cut, index_of, key_or, place, put, set_value, value_at, value_in, write}
 use Rattle.litemap_store.specs.Queries.{key_one_side}
-use Rattle.litemap_store.specs.Splits.{IsFoundAt}
-use Rattle.litemap_store.proofs.Seams.{found_get, found_remove, found_within, set_value-suc}
-use Rattle.litemap_store.proofs.Splitting.{Rising-remove, found_at, missing_splits}
-
-is_equal : (c : Ordering) → is_eq c ≡ true → c ≡ Equal
-is_equal Less h = absurd (cc)
-is_equal Equal h = refl
-is_equal Greater h = absurd (cc)
-
-not_equal : (c : Ordering) → c ≢ Equal → is_eq c ≡ false
-not_equal Less n = refl
-not_equal Equal n = absurd (n refl)
-not_equal Greater n = refl
+use Rattle.litemap_store.proofs.KeepLast.{filter_all, filter_none}
+use Rattle.litemap_store.proofs.Membership.{In-from_filter}
+use Rattle.litemap_store.proofs.Seams.{set_value-suc}
+use Rattle.litemap_store.proofs.Splitting.{Rising-append, Rising-filter, at_in, kept_above, kept_below, key_or_equal, not_is_eq, parted}
 
 not_both : (c : Ordering) → is_gt c ≡ true → is_lt c ≡ false
 not_both Less h = absurd (cc)
@@ -43,23 +34,17 @@ or_none (Some x) = refl
 
 -- ---- a filter of keys, and a look-up behind it
 module _ {K Q V : Type 0} (order : K → Q → Ordering) (q : Q) (keep : K → Bool) where
-  at-filter_kept : ((x : K) → order x q ≡ Equal → keep x ≡ true) → (L : List (K × V)) → at order (filter (λ p. keep p.0) L) q ≡ at order L q
+  pub at-filter_kept : ((x : K) → order x q ≡ Equal → keep x ≡ true) → (L : List (K × V)) → at order (filter (λ p. keep p.0) L) q ≡ at order L q
   at-filter_kept same [] = refl
-  at-filter_kept same (p ∷ L) = (elim (is_eq (order p.0 q)) as (λ c. is_eq (order p.0 q) ≡ c → at order (filter (λ p. keep p.0) (p ∷ L)) q ≡ at order (p ∷ L) q) [
-    | true ↦ λ e. rw (same p.0 (is_equal (order p.0 q) e)) (rw e refl)
-    | false ↦ λ e. (elim (keep p.0) as (λ b. keep p.0 ≡ b → at order (filter (λ p. keep p.0) (p ∷ L)) q ≡ at order (p ∷ L) q) [
-      | true ↦ λ k. rw k (rw e (at-filter_kept same L))
-      | false ↦ λ k. rw k (rw e (at-filter_kept same L))
-    ]) refl
+  at-filter_kept same (p ∷ L) = (elim (keep p.0) as (λ b. keep p.0 ≡ b → at order (filter (λ p. keep p.0) (p ∷ L)) q ≡ at order (p ∷ L) q) [
+    | true ↦ λ k. rw k (ap (λ r. cond (is_eq (order p.0 q)) (Some p) r) (at-filter_kept same L))
+    | false ↦ λ k. rw k (rw (not_is_eq (order p.0 q) (λ e. let g : keep p.0 ≡ true = same p.0 e in cc)) (at-filter_kept same L))
   ]) refl
 
-  at-filter_gone : ((x : K) → order x q ≡ Equal → keep x ≡ false) → (L : List (K × V)) → at order (filter (λ p. keep p.0) L) q ≡ None
+  pub at-filter_gone : ((x : K) → order x q ≡ Equal → keep x ≡ false) → (L : List (K × V)) → at order (filter (λ p. keep p.0) L) q ≡ None
   at-filter_gone same [] = refl
   at-filter_gone same (p ∷ L) = (elim (keep p.0) as (λ b. keep p.0 ≡ b → at order (filter (λ p. keep p.0) (p ∷ L)) q ≡ None) [
-    | true ↦ λ k. (elim (is_eq (order p.0 q)) as (λ c. is_eq (order p.0 q) ≡ c → at order (filter (λ p. keep p.0) (p ∷ L)) q ≡ None) [
-      | true ↦ λ e. absurd (let g : keep p.0 ≡ false = same p.0 (is_equal (order p.0 q) e) in cc)
-      | false ↦ λ e. rw k (rw e (at-filter_gone same L))
-    ]) refl
+    | true ↦ λ k. rw k (rw (not_is_eq (order p.0 q) (λ e. let g : keep p.0 ≡ false = same p.0 e in cc)) (at-filter_gone same L))
     | false ↦ λ k. rw k (at-filter_gone same L)
   ]) refl
 
@@ -88,18 +73,11 @@ module _ {K Q V : Type 0} (order : K → Q → Ordering) (q : Q) where
   pub value_at-cut : (L : List (K × V)) → value_at order (cut order L q) q ≡ None
   value_at-cut L = ap (option_map (λ p. p.1)) (at-cut L)
 
-  at-is_equal : (L : List (K × V)) (p : K × V) → at order L q ≡ Some p → order p.0 q ≡ Equal
-  at-is_equal [] p e = absurd (cc)
-  at-is_equal (x ∷ L) p e = (elim (is_eq (order x.0 q)) as (λ c. is_eq (order x.0 q) ≡ c → order p.0 q ≡ Equal) [
-    | true ↦ λ c. let s : x ≡ p = (let h : Some x ≡ Some p = rw c at e in cc) in subst (λ (y : K × V). order y.0 q ≡ Equal) s (is_equal (order x.0 q) c)
-    | false ↦ λ c. at-is_equal L p (rw c at e)
-  ]) refl
-
   -- the value that was written is found
   pub value_at-write : (L : List (K × V)) (v : V) → IsSome (at order L q) → value_at order (write order L q v) q ≡ Some v
   value_at-write L v there = (elim (at order L q) as (λ a. at order L q ≡ a → IsSome a → value_at order (option_map_or (λ p. below order L q ++ (p.0, v) ∷ above order L q) a L) q ≡ Some v) [
     | None ↦ λ e h. absurd (cc)
-    | Some p ↦ λ e h. ap (option_map (λ p. p.1)) (at-between L (p.0, v) (at-is_equal L p e))
+    | Some p ↦ λ e h. ap (option_map (λ p. p.1)) (at-between L (p.0, v) (at_in order L q p e).1)
   ]) refl there
 
 -- ---- another query q', where each key that it finds stands alike to q, and not as Equal
@@ -126,10 +104,7 @@ module _ {K Q Q' V : Type 0} (order : K → Q → Ordering) (q : Q) (order' : K 
   -- and with a pair with an equal key between the two parts
   pub value_at-between_apart : (L : List (K × V)) (p : K × V) → order p.0 q ≡ Equal → value_at order' (below order L q ++ p ∷ above order L q) q' ≡ value_at order' L q'
   value_at-between_apart L p e =
-      let miss : is_eq (order' p.0 q') ≡ false = (elim (is_eq (order' p.0 q')) as (λ b. is_eq (order' p.0 q') ≡ b → is_eq (order' p.0 q') ≡ false) [
-        | true ↦ λ h. absurd (differs (sym (turned p.0 (is_equal (order' p.0 q') h)) ∙ e))
-        | false ↦ λ h. h
-      ]) refl in
+      let miss : is_eq (order' p.0 q') ≡ false = not_is_eq (order' p.0 q') (λ h. differs (sym (turned p.0 h) ∙ e)) in
       let same : at order' (p ∷ above order L q) q' ≡ at order' (above order L q) q' = rw miss refl in
       ap (option_map (λ p. p.1))
       (find-append (λ p. is_eq (order' p.0 q')) (below order L q) (p ∷ above order L q) ∙ ap (λ r. option_or (at order' (below order L q) q') r) same ∙ others L)
@@ -138,13 +113,13 @@ module _ {K Q Q' V : Type 0} (order : K → Q → Ordering) (q : Q) (order' : K 
   pub value_at-write_apart : (L : List (K × V)) (v : V) → value_at order' (write order L q v) q' ≡ value_at order' L q'
   value_at-write_apart L v = (elim (at order L q) as (λ a. at order L q ≡ a → value_at order' (option_map_or (λ p. below order L q ++ (p.0, v) ∷ above order L q) a L) q' ≡ value_at order' L q') [
     | None ↦ λ e. refl
-    | Some p ↦ λ e. value_at-between_apart L (p.0, v) (at-is_equal order q L p e)
+    | Some p ↦ λ e. value_at-between_apart L (p.0, v) (at_in order L q p e).1
   ]) refl
 
   -- where a write finds the key, it leaves this
   pub value_at-written_apart : (L : List (K × V)) (p : K × V) (v : V) → at order L q ≡ Some p
       → value_at order' (below order L q ++ (p.0, v) ∷ above order L q) q' ≡ value_at order' L q'
-  value_at-written_apart L p v e = value_at-between_apart L (p.0, v) (at-is_equal order q L p e)
+  value_at-written_apart L p v e = value_at-between_apart L (p.0, v) (at_in order L q p e).1
 
 -- ---- a write at a place
 pub value_in-set_value_other : {K V : Type 0} (L : List (K × V)) (i j : ℕ) (v : V) → j ≢ i → value_in (set_value L i v) j ≡ value_in L j
@@ -170,7 +145,7 @@ module _ {K Q V : Type 0} (order : K → Q → Ordering) (q : Q) where
   pub value_at-set_value : (L : List (K × V)) (i : ℕ) (v : V) → IfSome (slice_get L i) (λ p. order p.0 q ≢ Equal)
       → value_at order (set_value L i v) q ≡ value_at order L q
   value_at-set_value [] i v d = refl
-  value_at-set_value (p ∷ L) zero v d = rw (not_equal (order p.0 q) d) refl
+  value_at-set_value (p ∷ L) zero v d = rw (not_is_eq (order p.0 q) d) refl
   value_at-set_value (p ∷ L) (suc i) v d =
       ap (λ M. value_at order M q) (set_value-suc p L i v)
       ∙ same_values (is_eq (order p.0 q)) p (at order (set_value L i v) q) (at order L q) (value_at-set_value L i v d)
@@ -182,49 +157,26 @@ module _ {K Q V : Type 0} (order : K → Q → Ordering) (q : Q) where
 module _ {K V : Type 0} {cmp : K → K → Ordering} (o : IsTotalOrder cmp) where
   -- ---- the key itself
   module _ (k : K) where
-    pub key_or_equal : (L : List (K × V)) → cmp (key_or (at cmp L k) k) k ≡ Equal
-    key_or_equal [] = tied_itself o k
-    key_or_equal (p ∷ L) = (elim (cmp p.0 k) as (λ c. cmp p.0 k ≡ c → cmp (key_or (at cmp (p ∷ L) k) k) k ≡ Equal) [
-      | Less ↦ λ e. rw e (key_or_equal L)
-      | Equal ↦ λ e. rw e e
-      | Greater ↦ λ e. rw e (key_or_equal L)
-    ]) refl
-
     -- the pair that a put leaves is found
     pub at-put : (L : List (K × V)) (v : V) → at cmp (put cmp L k v) k ≡ Some (key_or (at cmp L k) k, v)
-    at-put L v = at-between cmp k L (key_or (at cmp L k) k, v) (key_or_equal L)
+    at-put L v = at-between cmp k L (key_or (at cmp L k) k, v) (key_or_equal o k L)
 
     -- the value that was put is found
     pub value_at-put : (L : List (K × V)) (v : V) → value_at cmp (put cmp L k v) k ≡ Some v
     value_at-put L v = ap (option_map (λ p. p.1)) (at-put L v)
 
     below-below : (L : List (K × V)) → below cmp (below cmp L k) k ≡ below cmp L k
-    below-below [] = refl
-    below-below (p ∷ L) = (elim (is_lt (cmp p.0 k)) as (λ c. is_lt (cmp p.0 k) ≡ c → below cmp (below cmp (p ∷ L) k) k ≡ below cmp (p ∷ L) k) [
-      | true ↦ λ e. rw e (rw e (ap (λ M. p ∷ M) (below-below L)))
-      | false ↦ λ e. rw e (below-below L)
-    ]) refl
-
-    below-behind : (A B : List (K × V)) → below cmp (A ++ B) k ≡ below cmp A k ++ below cmp B k
-    below-behind [] B = refl
-    below-behind (p ∷ A) B = (elim (is_lt (cmp p.0 k)) as (λ c. is_lt (cmp p.0 k) ≡ c → below cmp ((p ∷ A) ++ B) k ≡ below cmp (p ∷ A) k ++ below cmp B k) [
-      | true ↦ λ e. rw e (ap (λ M. p ∷ M) (below-behind A B))
-      | false ↦ λ e. rw e (below-behind A B)
-    ]) refl
+    below-below L = filter_all (λ (p : K × V). is_lt (cmp p.0 k)) (below cmp L k) (λ x i. (In-from_filter (λ (p : K × V). is_lt (cmp p.0 k)) L x i).1)
 
     below-above : (L : List (K × V)) → below cmp (above cmp L k) k ≡ []
-    below-above [] = refl
-    below-above (p ∷ L) = (elim (is_gt (cmp p.0 k)) as (λ c. is_gt (cmp p.0 k) ≡ c → below cmp (above cmp (p ∷ L) k) k ≡ []) [
-      | true ↦ λ e. rw e (rw (not_both (cmp p.0 k) e) (below-above L))
-      | false ↦ λ e. rw e (below-above L)
-    ]) refl
+    below-above L = filter_none (λ (p : K × V). is_lt (cmp p.0 k)) (above cmp L k) (λ x i. not_both (cmp x.0 k) (In-from_filter (λ (p : K × V). is_gt (cmp p.0 k)) L x i).1)
 
     -- as many keys are smaller as before
     pub place-put : (L : List (K × V)) (v : V) → place cmp (put cmp L k v) k ≡ place cmp L k
     place-put L v =
         let x : K × V = (key_or (at cmp L k) k, v) in
-        let none : below cmp (x ∷ above cmp L k) k ≡ [] = rw (key_or_equal L) (below-above L) in
-        let whole : below cmp (put cmp L k v) k ≡ below cmp L k = below-behind (below cmp L k) (x ∷ above cmp L k) ∙ ap (λ M. M ++ below cmp (x ∷ above cmp L k) k) (below-below L) ∙ ap (λ M. below cmp L k ++ M) none ∙ append-nil (below cmp L k) in
+        let none : below cmp (x ∷ above cmp L k) k ≡ [] = rw (key_or_equal o k L) (below-above L) in
+        let whole : below cmp (put cmp L k v) k ≡ below cmp L k = filter-append (λ p. is_lt (cmp p.0 k)) (below cmp L k) (x ∷ above cmp L k) ∙ ap (λ M. M ++ below cmp (x ∷ above cmp L k) k) (below-below L) ∙ ap (λ M. below cmp L k ++ M) none ∙ append-nil (below cmp L k) in
         ap length whole
 
     -- and there the key is found
@@ -236,41 +188,22 @@ module _ {K V : Type 0} {cmp : K → K → Ordering} (o : IsTotalOrder cmp) wher
     -- it finds after a put what it found before
     pub value_at-put_other : (v : V) → value_at cmp (put cmp L k v) q ≡ value_at cmp L q
     value_at-put_other v =
-        value_at-between_apart cmp k cmp q (cmp q k) differs (λ x e. o.congr x q k e) L (key_or (at cmp L k) k, v) (key_or_equal k L)
+        value_at-between_apart cmp k cmp q (cmp q k) differs (λ x e. o.congr x q k e) L (key_or (at cmp L k) k, v) (key_or_equal o k L)
 
     -- and after a cut
     pub value_at-cut_other : value_at cmp (cut cmp L k) q ≡ value_at cmp L q
     value_at-cut_other = value_at-cut_apart cmp k cmp q (cmp q k) differs (λ x e. o.congr x q k e) L
 
   -- ---- what both leave of a rising list
-  found : (L : List (K × V)) (k : K) (p : K × V) → Rising cmp L → at cmp L k ≡ Some p → (i : ℕ) × IsFoundAt cmp L k i
-  found [] k p r e = absurd (cc)
-  found (p' ∷ L) k p r e = (elim (is_eq (cmp p'.0 k)) as (λ c. is_eq (cmp p'.0 k) ≡ c → (i : ℕ) × IsFoundAt cmp (p' ∷ L) k i) [
-    | true ↦ λ c. (0, found_at (key_one_side o) (p' ∷ L) k 0 r (omega arith) (λ d. is_equal (cmp p'.0 k) c))
-    | false ↦ λ c.
-        let rest : (i : ℕ) × IsFoundAt cmp L k i = found L k p r.1 (rw c at e) in (
-          suc rest.0,
-          found_at (key_one_side o) (p' ∷ L) k (suc rest.0) r (let w = found_within cmp L k rest.0 rest.1 in omega arith)
-              (λ d. ap (λ (x : K × V). cmp x.0 k) (get_or_from_slice_get L rest.0 rest.1.pair d (found_get cmp L k rest.0 rest.1)) ∙ rest.1.equal),
-        )
-  ]) refl
-
-  none_equal : (L : List (K × V)) (k : K) → at cmp L k ≡ None → AllByRecursion (λ p. cmp p.0 k ≢ Equal) L
-  none_equal [] k e = tt
-  none_equal (p ∷ L) k e = (elim (cmp p.0 k) as (λ c. cmp p.0 k ≡ c → AllByRecursion (λ p. cmp p.0 k ≢ Equal) (p ∷ L)) [
-    | Less ↦ λ c. (λ h. let d : Less ≡ Equal = sym c ∙ h in cc, none_equal L k (rw c at e))
-    | Equal ↦ λ c. absurd (let d = rw c at e in cc)
-    | Greater ↦ λ c. (λ h. let d : Greater ≡ Equal = sym c ∙ h in cc, none_equal L k (rw c at e))
-  ]) refl
-
   module _ (L : List (K × V)) (k : K) (r : Rising cmp L) where
     -- where the key is there, a put leaves the length, and a cut takes one
     module _ (there : IsSome (at cmp L k)) where
       whole : length L ≡ length (below cmp L k) + suc (length (above cmp L k))
-      whole = (elim (at cmp L k) as (λ a. at cmp L k ≡ a → IsSome a → length L ≡ length (below cmp L k) + suc (length (above cmp L k))) [
-        | None ↦ λ e h. absurd (cc)
-        | Some p ↦ λ e h. let f = found L k p r e in ap length f.1.is ∙ length-append (below cmp L k) (f.1.pair ∷ above cmp L k)
-      ]) refl there
+      whole = by (at cmp L k) there (parted (key_one_side o) L k r)
+        where
+          by : (a : Option (K × V)) → IsSome a → L ≡ below cmp L k ++ cons_option a (above cmp L k) → length L ≡ length (below cmp L k) + suc (length (above cmp L k))
+          by None h e = absurd (cc)
+          by (Some p) h e = ap length e ∙ length-append (below cmp L k) (p ∷ above cmp L k)
 
       pub length-put_present : (v : V) → length (put cmp L k v) ≡ length L
       length-put_present v = length-append (below cmp L k) ((key_or (at cmp L k) k, v) ∷ above cmp L k) ∙ sym whole
@@ -281,7 +214,7 @@ module _ {K V : Type 0} {cmp : K → K → Ordering} (o : IsTotalOrder cmp) wher
     -- where it is not, a put adds one, and a cut leaves the list
     module _ (missing : at cmp L k ≡ None) where
       parts : L ≡ below cmp L k ++ above cmp L k
-      parts = missing_splits (key_one_side o) L k r (none_equal L k missing)
+      parts = rw missing at (parted (key_one_side o) L k r)
 
       pub length-put_absent : (v : V) → length (put cmp L k v) ≡ length L + 1
       length-put_absent v =
@@ -294,7 +227,4 @@ module _ {K V : Type 0} {cmp : K → K → Ordering} (o : IsTotalOrder cmp) wher
 
     -- a cut leaves a list that rises
     pub Rising-cut : Rising cmp (cut cmp L k)
-    Rising-cut = (elim (at cmp L k) as (λ a. at cmp L k ≡ a → Rising cmp (cut cmp L k)) [
-      | None ↦ λ e. subst (Rising cmp) (sym (cut-absent e)) r
-      | Some p ↦ λ e. let f = found L k p r e in subst (Rising cmp) (found_remove cmp L k f.0 f.1) (Rising-remove cmp L f.0 r)
-    ]) refl
+    Rising-cut = Rising-append cmp (below cmp L k) (above cmp L k) (Rising-filter cmp _ L r) (Rising-filter cmp _ L r) (λ x y i j. o.trans x.0 k y.0 (kept_below o L k x i) (kept_above o L k y j))

@@ -21,14 +21,12 @@ In-cases (a ∷ A) B x (inl e) = inl (inl e)
 In-cases (a ∷ A) B x (inr h) = elim (In-cases A B x h) [ inl i ↦ inl (inr i) | inr i ↦ inr i ]
 
 -- ---- what a filter keeps
-In-cond : {X : Type 0} (b : Bool) (y : X) (L : List X) (x : X) → In x L → In x (cond b (y ∷ L) L)
-In-cond true y L x h = inr h
-In-cond false y L x h = h
-
 pub In-filter : {X : Type 0} (p : X → Bool) (L : List X) (x : X) → In x L → p x ≡ true → In x (filter p L)
 In-filter p [] x h t = h
 In-filter p (y ∷ L) x (inl e) t = rw (ap p e ∙ t) (inl e)
-In-filter p (y ∷ L) x (inr h) t = In-cond (p y) y (filter p L) x (In-filter p L x h t)
+In-filter p (y ∷ L) x (inr h) t =
+    let rest : In x (filter p L) = In-filter p L x h t in
+    elim (p y) as (λ b. In x (cond b (y ∷ filter p L) (filter p L))) [ true ↦ inr rest | false ↦ rest ]
 
 from_cond : {X : Type 0} (p : X → Bool) (b : Bool) (y : X) (L M : List X) (x : X) → p y ≡ b → (In x L → In x M × (p x ≡ true)) → In x (cond b (y ∷ L) L) → In x (y ∷ M) × (p x ≡ true)
 from_cond p true y L M x t f (inl e) = (inl e, sym (ap p e) ∙ t)

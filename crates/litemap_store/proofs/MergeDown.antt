@@ -1,58 +1,30 @@
 -- A merge from the last pair of B down to the first.
---     Merge-one      one pair into another with an equal key;  parted, length-parts      a rising list is what lies below a key, its pair and what lies above
+--     Merge-one      one pair into another with an equal key;  length-parts      how long the parts below and above a key are
 --     taken_found, found_drop, missing_drop      the parts by the place that a search found
 --     Merge-down, left-down      one step: what is merged above the last key of B, and what is left over there
---     length-behind, length-option      how long a list is that was read from its end
-use Rattle.std.proofs.Common.{◌≡◌, ℕ, ◌+◌, ◌≤◌, arith, List, [], ◌∷◌, ◌++◌, append_assoc, length, length-append, drop, take, Option, Some, None, option_map, inl, inr, refl, sym, ap, ◌∙◌, subst, reverse, Ordering, Less, Equal, Greater, is_lt, is_gt}
+--     left-same      what is left over hangs on what the keys of B find;  length-behind, length-option      how long a list is that was read from its end
+use Rattle.std.proofs.Common.{◌≡◌, ℕ, ◌+◌, ◌≤◌, arith, List, [], ◌∷◌, ◌++◌, append_assoc, length, length-append, drop, take, Option, Some, None, option_map, inl, inr, refl, sym, ap, ◌∙◌, subst, reverse, Ordering, Less, Equal, is_lt, is_gt}
 use Rattle.std.specs.Cmp.{IsTotalOrder}
 use Rattle.std.specs.List.{cons_option}
-use Rattle.std.proofs.lemmas.Cmp.{tied_back, alike_right}
+use Rattle.std.proofs.lemmas.Cmp.{alike_right}
 use Rattle.std.proofs.lemmas.List.{length-reverse, same_from_push}
 use Rattle.std.proofs.Math.Seq.{drop-append-add, drop-append_seam, take-append-add}
 use Rattle.std.proofs.lemmas.List.Elements.{filter_map-append}
 use Rattle.litemap_store.specs.Last.{In}
-use Rattle.litemap_store.specs.Merge.{IsMerged, Merge, left}
-use Rattle.litemap_store.specs.Pairs.{Rising, above, at, below, key_or}
+use Rattle.litemap_store.specs.Merge.{Merge, left}
+use Rattle.litemap_store.specs.Pairs.{Rising, above, at, below, key_or, put}
+use Rattle.litemap_store.specs.Queries.{key_one_side}
 use Rattle.litemap_store.specs.Splits.{IsFoundAt, IsMissingAt}
-use Rattle.litemap_store.proofs.KeepLast.{filter_all, filter_none, rising_across}
-use Rattle.litemap_store.proofs.LastPairs.{Rising-filter, less_from_is_lt, greater_from_is_gt}
-use Rattle.litemap_store.proofs.Membership.{In-cases, In-from_filter, each, from_each}
-use Rattle.litemap_store.proofs.MergeJoins.{Across, Merge-before, Merge-join, Merge-none, none_above}
-use Rattle.litemap_store.proofs.Merging.{at_in, at_none}
-use Rattle.litemap_store.proofs.Splitting.{greater_back, less_back}
+use Rattle.litemap_store.proofs.KeepLast.{rising_across}
+use Rattle.litemap_store.proofs.Lookups.{at-filter_kept}
+use Rattle.litemap_store.proofs.Membership.{In-cases, from_each}
+use Rattle.litemap_store.proofs.MergeJoins.{Across, Merge-before, Merge-join, Merge-none}
+use Rattle.litemap_store.proofs.Merging.{Merge-put}
+use Rattle.litemap_store.proofs.Splitting.{Rising-filter, at_in, kept_above, kept_below, parted}
 
 module _ {K V : Type 0} (cmp : K → K → Ordering) (o : IsTotalOrder cmp) where
-  -- ---- a rising list at a key
-  -- of pairs above a key
-  module _ (L : List (K × V)) (k : K) (f : (x : K × V) → In x L → cmp k x.0 ≡ Less) where
-    none_below : below cmp L k ≡ []
-    none_below = filter_none (λ (p : K × V). is_lt (cmp p.0 k)) L (λ x i. ap is_lt (less_back o k x.0 (f x i)))
-
-    none_at : at cmp L k ≡ None
-    none_at = at_none cmp o L k (none_above cmp o k L f)
-
-    all_above : above cmp L k ≡ L
-    all_above = filter_all (λ (p : K × V). is_gt (cmp p.0 k)) L (λ x i. ap is_gt (less_back o k x.0 (f x i)))
-
-  -- what lies below the key, its pair if there is one, and what lies above
-  pub parted : (L : List (K × V)) (k : K) → Rising cmp L → L ≡ below cmp L k ++ cons_option (at cmp L k) (above cmp L k)
-  parted [] k r = refl
-  parted (p ∷ L) k r = by (cmp p.0 k) refl (parted L k r.1)
-    where
-      later : (x : K × V) → In x L → cmp p.0 x.0 ≡ Less
-      later x i = each (λ (q : K × V). cmp p.0 q.0 ≡ Less) L r.0 x i
-
-      by : (s : Ordering) → cmp p.0 k ≡ s → L ≡ below cmp L k ++ cons_option (at cmp L k) (above cmp L k) → p ∷ L ≡ below cmp (p ∷ L) k ++ cons_option (at cmp (p ∷ L) k) (above cmp (p ∷ L) k)
-      by Less e h = rw e (ap (λ M. p ∷ M) h)
-      by Equal e h =
-          let past = λ (x : K × V) (i : In x L). sym (o.congr p.0 k x.0 e) ∙ later x i in
-          rw e (rw (none_below L k past) (rw (all_above L k past) refl))
-      by Greater e h =
-          let past = λ (x : K × V) (i : In x L). o.trans k p.0 x.0 (greater_back o p.0 k e) (later x i) in
-          rw e (rw (none_below L k past) (rw (none_at L k past) (rw (all_above L k past) refl)))
-
   pub length-parts : (L : List (K × V)) (k : K) → Rising cmp L → length (below cmp L k) + length (above cmp L k) ≤ length L
-  length-parts L k r = by (at cmp L k) (ap length (parted L k r))
+  length-parts L k r = by (at cmp L k) (ap length (parted (key_one_side o) L k r))
     where
       by : (s : Option (K × V)) → length L ≡ length (below cmp L k ++ cons_option s (above cmp L k)) → length (below cmp L k) + length (above cmp L k) ≤ length L
       by None e = omega (arith, length-append (below cmp L k) (above cmp L k))
@@ -84,37 +56,12 @@ module _ {K V : Type 0} (cmp : K → K → Ordering) (o : IsTotalOrder cmp) wher
 
   -- ---- one pair into another with an equal key
   pub Merge-one : (a b : K × V) → cmp a.0 b.0 ≡ Equal → Merge cmp (a ∷ []) (b ∷ []) ((a.0, b.1) ∷ [])
-  Merge-one a b e = record { rising = (tt, tt); exactly = λ p. (there p, back p) }
-    where
-      there : (p : K × V) → In p ((a.0, b.1) ∷ []) → IsMerged cmp (a ∷ []) (b ∷ []) p
-      there p (inl f) = subst (IsMerged cmp (a ∷ []) (b ∷ [])) f (inr (inr ((a.1, inl refl), (b.0, e, inl refl))))
-      there p (inr j) = absurd j
-
-      back : (p : K × V) → IsMerged cmp (a ∷ []) (b ∷ []) p → In p ((a.0, b.1) ∷ [])
-      back p (inl h) = elim h.0 [
-        | inl f ↦ absurd (h.1.0 (subst (λ (q : K × V). cmp q.0 b.0 ≡ Equal) f e))
-        | inr j ↦ absurd j
-      ]
-      back p (inr (inl h)) = elim h.0 [
-        | inl f ↦ absurd (h.1.0 (tied_back o a.0 p.0 (subst (λ (q : K × V). cmp a.0 q.0 ≡ Equal) f e)))
-        | inr j ↦ absurd j
-      ]
-      back p (inr (inr h)) = elim h.0.1 [
-        | inl f ↦ elim h.1.2 [
-          | inl g ↦ inl (ap (λ (q : K × V). let y : K × V = (q.0, b.1) in y) f ∙ ap (λ (q : K × V). let y : K × V = (p.0, q.1) in y) g)
-          | inr j ↦ absurd j
-        ]
-        | inr j ↦ absurd j
-      ]
+  Merge-one a b e =
+      let h : Merge cmp (a ∷ []) (b ∷ []) (put cmp (a ∷ []) b.0 b.1) = Merge-put cmp o (a ∷ []) [] (a ∷ []) (Merge-none cmp (a ∷ []) (tt, tt)) b tt in
+      rw e at h
 
   -- ---- above the last key of B
   module _ (A B : List (K × V)) (b : K × V) (r : Rising cmp A) (s : Rising cmp (B ++ b ∷ [])) where
-    is_below : (x : K × V) → In x (below cmp A b.0) → cmp x.0 b.0 ≡ Less
-    is_below x i = less_from_is_lt _ (In-from_filter (λ (q : K × V). is_lt (cmp q.0 b.0)) A x i).1
-
-    is_above : (x : K × V) → In x (above cmp A b.0) → cmp b.0 x.0 ≡ Less
-    is_above x i = greater_back o x.0 b.0 (greater_from_is_gt _ (In-from_filter (λ (q : K × V). is_gt (cmp q.0 b.0)) A x i).1)
-
     is_before : (x : K × V) → In x B → cmp x.0 b.0 ≡ Less
     is_before x i = rising_across cmp B (b ∷ []) s x b i (inl refl)
 
@@ -122,13 +69,13 @@ module _ {K V : Type 0} (cmp : K → K → Ordering) (o : IsTotalOrder cmp) wher
     above_rises = Rising-filter cmp (λ (q : K × V). is_gt (cmp q.0 b.0)) A r
 
     top : (t : Option (K × V)) → at cmp A b.0 ≡ t → Merge cmp (cons_option t (above cmp A b.0)) (b ∷ []) ((key_or t b.0, b.1) ∷ above cmp A b.0)
-    top None e = Merge-before cmp o (above cmp A b.0) (b ∷ []) above_rises (tt, tt) (from_each (λ (q : K × V). cmp b.0 q.0 ≡ Less) (above cmp A b.0) is_above, above_rises)
+    top None e = Merge-before cmp o (above cmp A b.0) (b ∷ []) above_rises (tt, tt) (from_each (λ (q : K × V). cmp b.0 q.0 ≡ Less) (above cmp A b.0) (kept_above o A b.0), above_rises)
     top (Some a) e =
-        let same : cmp a.0 b.0 ≡ Equal = (at_in cmp o A b.0 a e).1 in
+        let same : cmp a.0 b.0 ≡ Equal = (at_in cmp A b.0 a e).1 in
         let over : Across cmp o (a ∷ b ∷ []) (above cmp A b.0 ++ []) = (λ x y i j. elim (In-cases (above cmp A b.0) [] y j) [
           | inl k ↦ elim i [
-            | inl f ↦ subst (λ (q : K × V). cmp q.0 y.0 ≡ Less) f (o.congr a.0 b.0 y.0 same ∙ is_above y k)
-            | inr (inl f) ↦ subst (λ (q : K × V). cmp q.0 y.0 ≡ Less) f (is_above y k)
+            | inl f ↦ subst (λ (q : K × V). cmp q.0 y.0 ≡ Less) f (o.congr a.0 b.0 y.0 same ∙ kept_above o A b.0 y k)
+            | inr (inl f) ↦ subst (λ (q : K × V). cmp q.0 y.0 ≡ Less) f (kept_above o A b.0 y k)
             | inr (inr n) ↦ absurd n
           ]
           | inr k ↦ absurd k
@@ -137,12 +84,12 @@ module _ {K V : Type 0} (cmp : K → K → Ordering) (o : IsTotalOrder cmp) wher
 
     -- what lies below b lies below its pair in A, and above
     under : (t : Option (K × V)) → at cmp A b.0 ≡ t → (x y : K × V) → cmp x.0 b.0 ≡ Less → In y (cons_option t (above cmp A b.0)) → cmp x.0 y.0 ≡ Less
-    under None e x y l i = o.trans x.0 b.0 y.0 l (is_above y i)
-    under (Some a) e x y l (inl f) = subst (λ (q : K × V). cmp x.0 q.0 ≡ Less) f (alike_right o a.0 b.0 x.0 (at_in cmp o A b.0 a e).1 ∙ l)
-    under (Some a) e x y l (inr i) = o.trans x.0 b.0 y.0 l (is_above y i)
+    under None e x y l i = o.trans x.0 b.0 y.0 l (kept_above o A b.0 y i)
+    under (Some a) e x y l (inl f) = subst (λ (q : K × V). cmp x.0 q.0 ≡ Less) f (alike_right o a.0 b.0 x.0 (at_in cmp A b.0 a e).1 ∙ l)
+    under (Some a) e x y l (inr i) = o.trans x.0 b.0 y.0 l (kept_above o A b.0 y i)
 
     low : (x : K × V) → In x (below cmp A b.0 ++ B) → cmp x.0 b.0 ≡ Less
-    low x i = elim (In-cases (below cmp A b.0) B x i) [ inl j ↦ is_below x j | inr j ↦ is_before x j ]
+    low x i = elim (In-cases (below cmp A b.0) B x i) [ inl j ↦ kept_below o A b.0 x j | inr j ↦ is_before x j ]
 
     apart : Across cmp o (below cmp A b.0 ++ B) (cons_option (at cmp A b.0) (above cmp A b.0) ++ b ∷ [])
     apart x y i j = elim (In-cases (cons_option (at cmp A b.0) (above cmp A b.0)) (b ∷ []) y j) [
@@ -154,31 +101,22 @@ module _ {K V : Type 0} (cmp : K → K → Ordering) (o : IsTotalOrder cmp) wher
     Merge-above : (M : List (K × V)) → Merge cmp (below cmp A b.0) B M → Merge cmp A (B ++ b ∷ []) (M ++ (key_or (at cmp A b.0) b.0, b.1) ∷ above cmp A b.0)
     Merge-above M m =
         let whole : List (K × V) = M ++ (key_or (at cmp A b.0) b.0, b.1) ∷ above cmp A b.0 in
-        subst (λ (L : List (K × V)). Merge cmp L (B ++ b ∷ []) whole) (sym (parted A b.0 r))
+        subst (λ (L : List (K × V)). Merge cmp L (B ++ b ∷ []) whole) (sym (parted (key_one_side o) A b.0 r))
         (Merge-join cmp o (below cmp A b.0) (cons_option (at cmp A b.0) (above cmp A b.0)) B (b ∷ []) M ((key_or (at cmp A b.0) b.0, b.1) ∷ above cmp A b.0) m (top (at cmp A b.0) refl) apart)
 
   -- ---- what is left over
   -- a lower key finds below a key what it finds in the whole list
   at-below : (L : List (K × V)) (k j : K) → cmp j k ≡ Less → at cmp (below cmp L k) j ≡ at cmp L j
-  at-below [] k j l = refl
-  at-below (p ∷ L) k j l = by (cmp p.0 k) refl (at-below L k j l)
-    where
-      by : (s : Ordering) → cmp p.0 k ≡ s → at cmp (below cmp L k) j ≡ at cmp L j → at cmp (below cmp (p ∷ L) k) j ≡ at cmp (p ∷ L) j
-      by Less e h = rw e (rw h refl)
-      by Equal e h =
-          let g : cmp p.0 j ≡ Greater = less_back o j p.0 (alike_right o p.0 k j e ∙ l) in
-          rw e (rw g h)
-      by Greater e h =
-          let g : cmp p.0 j ≡ Greater = less_back o j p.0 (o.trans j k p.0 l (greater_back o p.0 k e)) in
-          rw e (rw g h)
+  at-below L k j l = at-filter_kept cmp j (λ x. is_lt (cmp x k)) (λ x e. ap is_lt (o.congr x j k e ∙ l)) L
+
+  pub left-same : (A A' B : List (K × V)) → ((y : K × V) → In y B → at cmp A y.0 ≡ at cmp A' y.0) → left cmp A B ≡ left cmp A' B
+  left-same A A' [] f = refl
+  left-same A A' (y ∷ B) f =
+      ap (λ t. cons_option (option_map (λ (a : K × V). let p : K × V = (y.0, a.1) in p) t) (left cmp A B)) (f y (inl refl))
+      ∙ ap (λ W. cons_option (option_map (λ (a : K × V). let p : K × V = (y.0, a.1) in p) (at cmp A' y.0)) W) (left-same A A' B (λ x i. f x (inr i)))
 
   left-below : (A B : List (K × V)) (k : K) → ((x : K × V) → In x B → cmp x.0 k ≡ Less) → left cmp A B ≡ left cmp (below cmp A k) B
-  left-below A [] k f = refl
-  left-below A (y ∷ B) k f =
-      let rest : left cmp A B ≡ left cmp (below cmp A k) B = left-below A B k (λ x i. f x (inr i)) in
-      let one : at cmp (below cmp A k) y.0 ≡ at cmp A y.0 = at-below A k y.0 (f y (inl refl)) in
-      ap (λ W. cons_option (option_map (λ (a : K × V). let p : K × V = (y.0, a.1) in p) (at cmp A y.0)) W) rest
-      ∙ ap (λ t. cons_option (option_map (λ (a : K × V). let p : K × V = (y.0, a.1) in p) t) (left cmp (below cmp A k) B)) (sym one)
+  left-below A B k f = left-same A (below cmp A k) B (λ y i. sym (at-below A k y.0 (f y i)))
 
   cons_onto : (t : Option (K × V)) (R : List (K × V)) → cons_option t [] ++ R ≡ cons_option t R
   cons_onto None R = refl

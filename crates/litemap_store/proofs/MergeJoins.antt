@@ -9,10 +9,9 @@ use Rattle.litemap_store.specs.Merge.{Apart, IsMerged, Merge, left}
 use Rattle.litemap_store.specs.Pairs.{Rising}
 use Rattle.litemap_store.proofs.Joined.{Rising-from_Rises}
 use Rattle.litemap_store.proofs.KeepLast.{rising_across}
-use Rattle.litemap_store.proofs.LastPairs.{Rising-append}
 use Rattle.litemap_store.proofs.Membership.{In-left, In-right, In-cases, each, from_each}
 use Rattle.litemap_store.proofs.Merging.{left_none}
-use Rattle.litemap_store.proofs.Splitting.{each-append, less_back}
+use Rattle.litemap_store.proofs.Splitting.{Rising-append, each-append, less_back}
 
 -- ---- one list is empty
 pub Merge-none : {K V : Type 0} (cmp : K → K → Ordering) (A : List (K × V)) → Rising cmp A → Merge cmp A [] A

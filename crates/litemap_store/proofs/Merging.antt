@@ -1,7 +1,7 @@
 -- What a merge has, what is left over, and how merges are joined.
 --     left_none, none_from_left      nothing is left over where no key is common;  keys_of_merge, Merge-unique      what a merge has
 --     Merge-put, left-put      one more pair of B;  at-merged      what a look-up finds among the merged pairs
-use Rattle.std.proofs.Common.{◌≡◌, ◌⊎◌, ◌≢◌, ◌↔◌, false, cond, List, [], ◌∷◌, ◌++◌, Option, Some, None, refl, sym, ap, ◌∙◌, subst, inl, inr, Ordering, Less, Equal, Greater, is_eq, is_lt, is_gt, option_map}
+use Rattle.std.proofs.Common.{◌≡◌, ◌⊎◌, ◌≢◌, ◌↔◌, List, [], ◌∷◌, ◌++◌, Option, Some, None, refl, sym, ap, ◌∙◌, subst, inl, inr, Ordering, Equal, option_map}
 use Rattle.std.specs.List.{AllByRecursion, cons_option}
 use Rattle.std.specs.Cmp.{IsTotalOrder}
 use Rattle.std.proofs.lemmas.Cmp.{tied_back}
@@ -11,28 +11,13 @@ use Rattle.litemap_store.specs.Laws.{HasKey}
 use Rattle.litemap_store.specs.Merge.{IsMerged, Merge, left}
 use Rattle.litemap_store.specs.Pairs.{BelowAll, Rising, above, at, below, key_or, put}
 use Rattle.litemap_store.proofs.LastLookups.{at-Rising}
-use Rattle.litemap_store.proofs.LastPairs.{some_equal, same_rising, less_from_is_lt, greater_from_is_gt}
-use Rattle.litemap_store.proofs.Membership.{In-left, In-right, In-cases, In-filter, In-from_filter, each, from_each}
-use Rattle.litemap_store.proofs.Splitting.{Rising-put}
+use Rattle.litemap_store.proofs.LastPairs.{in_put, none_from_at, put_has, some_equal, same_rising}
+use Rattle.litemap_store.proofs.Membership.{In-left, In-right, In-cases, each, from_each}
+use Rattle.litemap_store.proofs.Splitting.{Rising-put, at_in, at_none as none_at, each-append, each-weaker}
 
 module _ {K : Type 0} (cmp : K → K → Ordering) (o : IsTotalOrder cmp) where
-  not_is_eq : (j k : K) (r : Ordering) → cmp j k ≡ r → r ≢ Equal → (is_eq (cmp j k) ≡ false)
-  not_is_eq j k Less e n = ap is_eq e
-  not_is_eq j k Equal e n = absurd (n refl)
-  not_is_eq j k Greater e n = ap is_eq e
-
   pub at_none : {V : Type 0} (A : List (K × V)) (k : K) → NoneEqual cmp k A → at cmp A k ≡ None
-  at_none [] k n = refl
-  at_none (p ∷ A) k n = rw (not_is_eq p.0 k (cmp p.0 k) refl (λ e. n.0 (tied_back o p.0 k e))) (at_none A k n.1)
-
-  pub none_from_at : {V : Type 0} (A : List (K × V)) (k : K) → at cmp A k ≡ None → NoneEqual cmp k A
-  none_from_at [] k e = tt
-  none_from_at {V} (p ∷ A) k e = by (cmp p.0 k) refl (none_from_at A k) e
-    where
-      by : (r : Ordering) → cmp p.0 k ≡ r → (at cmp A k ≡ None → NoneEqual cmp k A) → cond (is_eq r) (Some p) (at cmp A k) ≡ None → NoneEqual cmp k (p ∷ A)
-      by Less f rest e = ((λ same. let b = tied_back o k p.0 same in cc), rest e)
-      by Equal f rest e = absurd (cc)
-      by Greater f rest e = ((λ same. let b = tied_back o k p.0 same in cc), rest e)
+  at_none A k n = none_at cmp A k (each-weaker (λ p d e. d (tied_back o p.0 k e)) A n)
 
   pub left_none : {V : Type 0} (A B : List (K × V)) → AllByRecursion (λ (b : K × V). NoneEqual cmp b.0 A) B → left cmp A B ≡ []
   left_none A [] h = refl
@@ -43,7 +28,7 @@ module _ {K : Type 0} (cmp : K → K → Ordering) (o : IsTotalOrder cmp) where
   none_from_left {V} A (b ∷ B) e = by (at cmp A b.0) refl (none_from_left A B) e
     where
       by : (r : Option (K × V)) → at cmp A b.0 ≡ r → (left cmp A B ≡ [] → AllByRecursion (λ (b : K × V). NoneEqual cmp b.0 A) B) → cons_option (option_map (λ (a : K × V). (b.0, a.1)) r) (left cmp A B) ≡ [] → AllByRecursion (λ (b : K × V). NoneEqual cmp b.0 A) (b ∷ B)
-      by None f rest e = (none_from_at A b.0 f, rest e)
+      by None f rest e = (none_from_at cmp o A b.0 f, rest e)
       by (Some a) f rest e = absurd (cc)
 
   -- what is left over rises as B does
@@ -58,32 +43,6 @@ module _ {K : Type 0} (cmp : K → K → Ordering) (o : IsTotalOrder cmp) where
   Rising-left {V} A (b ∷ B) r =
       let rest : Rising cmp (left cmp A B) = Rising-left A B r.1 in
       elim (at cmp A b.0) as (λ s. Rising cmp (cons_option (option_map (λ (a : K × V). let p : K × V = (b.0, a.1) in p) s) (left cmp A B))) [ None ↦ rest | Some a ↦ (BelowAll-left A b.0 B r.0, rest) ]
-
-  -- ---- what a put leaves
-  pub at_in : {V : Type 0} (M : List (K × V)) (k : K) (q : K × V) → at cmp M k ≡ Some q → In q M × (cmp q.0 k ≡ Equal)
-  at_in [] k q e = absurd (cc)
-  at_in {V} (p ∷ M) k q e = by (cmp p.0 k) refl (at_in M k q) e
-    where
-      by : (r : Ordering) → cmp p.0 k ≡ r → (at cmp M k ≡ Some q → In q M × (cmp q.0 k ≡ Equal)) → cond (is_eq r) (Some p) (at cmp M k) ≡ Some q → In q (p ∷ M) × (cmp q.0 k ≡ Equal)
-      by Less f rest e = let h = rest e in (inr h.0, h.1)
-      by Equal f rest e = let same : p ≡ q = cc in (inl same, subst (λ (x : K × V). cmp x.0 k ≡ Equal) same f)
-      by Greater f rest e = let h = rest e in (inr h.0, h.1)
-
-  module _ {V : Type 0} (M : List (K × V)) (k : K) (x : K × V) where
-    pub in_put : (p : K × V) → In p (below cmp M k ++ x ∷ above cmp M k) → (x ≡ p) ⊎ (In p M × (cmp p.0 k ≢ Equal))
-    in_put p i = elim (In-cases (below cmp M k) (x ∷ above cmp M k) p i) [
-      | inl j ↦ inr (let h = In-from_filter (λ (q : K × V). is_lt (cmp q.0 k)) M p j in (h.0, (λ e. let l = less_from_is_lt _ h.1 in cc)))
-      | inr (inl e) ↦ inl e
-      | inr (inr j) ↦ inr (let h = In-from_filter (λ (q : K × V). is_gt (cmp q.0 k)) M p j in (h.0, (λ e. let l = greater_from_is_gt _ h.1 in cc)))
-    ]
-
-    pub put_has : (p : K × V) → In p M → cmp p.0 k ≢ Equal → In p (below cmp M k ++ x ∷ above cmp M k)
-    put_has p i n = by (cmp p.0 k) refl
-      where
-        by : (r : Ordering) → cmp p.0 k ≡ r → In p (below cmp M k ++ x ∷ above cmp M k)
-        by Less e = In-left (below cmp M k) (x ∷ above cmp M k) p (In-filter (λ (q : K × V). is_lt (cmp q.0 k)) M p i (ap is_lt e))
-        by Equal e = absurd (n e)
-        by Greater e = In-right (below cmp M k) (x ∷ above cmp M k) p (inr (In-filter (λ (q : K × V). is_gt (cmp q.0 k)) M p i (ap is_gt e)))
 
   -- ---- one more pair is merged
   module _ {V : Type 0} (A B M : List (K × V)) (merge : Merge cmp A B M) (b : K × V) (new : NoneEqual cmp b.0 B) where
@@ -103,19 +62,25 @@ module _ {K : Type 0} (cmp : K → K → Ordering) (o : IsTotalOrder cmp) where
     apart : (p : K × V) → In p B → cmp p.0 b.0 ≢ Equal
     apart p i e = each (λ (q : K × V). cmp b.0 q.0 ≢ Equal) B new p i (tied_back o p.0 b.0 e)
 
+    -- a key equal to b's is not in B, and where A has none, M has none
+    unlike : (k : K) → cmp k b.0 ≡ Equal → NoneEqual cmp k B
+    unlike k same = each-weaker (λ x d f. d (sym (o.congr k b.0 x.0 same) ∙ f)) B new
+
+    absent : NoneEqual cmp b.0 A → NoneEqual cmp b.0 M
+    absent n = from_each (λ (q : K × V). cmp b.0 q.0 ≢ Equal) M (λ x i. elim (whose x i) [
+      | inl w ↦ each (λ (q : K × V). cmp b.0 q.0 ≢ Equal) A n (x.0, w.0) w.1
+      | inr j ↦ each (λ (q : K × V). cmp b.0 q.0 ≢ Equal) B new x j
+    ])
+
     there : In b (B ++ b ∷ [])
     there = In-right B (b ∷ []) b (inl refl)
 
     none_with : (k : K) → NoneEqual cmp k B → cmp k b.0 ≢ Equal → NoneEqual cmp k (B ++ b ∷ [])
-    none_with k n d = from_each (λ (q : K × V). cmp k q.0 ≢ Equal) (B ++ b ∷ []) (λ x i. elim (In-cases B (b ∷ []) x i) [
-      | inl j ↦ each (λ (q : K × V). cmp k q.0 ≢ Equal) B n x j
-      | inr (inl e) ↦ subst (λ (q : K × V). cmp k q.0 ≢ Equal) e d
-      | inr (inr j) ↦ absurd j
-    ])
+    none_with k n d = each-append (λ (q : K × V). cmp k q.0 ≢ Equal) B (b ∷ []) n (d, tt)
 
     new_pair : (r : Option (K × V)) → at cmp M b.0 ≡ r → IsMerged cmp A (B ++ b ∷ []) (key_or r b.0, b.1)
-    new_pair None e = inr (inl (there, from_each (λ (q : K × V). cmp b.0 q.0 ≢ Equal) A (λ x i. let h = old_key x i in each (λ (q : K × V). cmp b.0 q.0 ≢ Equal) M (none_from_at M b.0 e) (x.0, h.0) h.1)))
-    new_pair (Some q) e = let h = at_in M b.0 q e in elim (whose q h.0) [
+    new_pair None e = inr (inl (there, from_each (λ (q : K × V). cmp b.0 q.0 ≢ Equal) A (λ x i. let h = old_key x i in each (λ (q : K × V). cmp b.0 q.0 ≢ Equal) M (none_from_at cmp o M b.0 e) (x.0, h.0) h.1)))
+    new_pair (Some q) e = let h = at_in cmp M b.0 q e in elim (whose q h.0) [
       | inl w ↦ inr (inr (w, (b.0, h.1, there)))
       | inr i ↦ absurd (apart q i h.1)
     ]
@@ -126,7 +91,7 @@ module _ {K : Type 0} (cmp : K → K → Ordering) (o : IsTotalOrder cmp) where
     still p (inr (inr h)) d = inr (inr (h.0, (h.1.0, h.1.1, In-left B (b ∷ []) (h.1.0, p.1) h.1.2)))
 
     to_merged : (p : K × V) → In p (put cmp M b.0 b.1) → IsMerged cmp A (B ++ b ∷ []) p
-    to_merged p i = elim (in_put M b.0 (key_or (at cmp M b.0) b.0, b.1) p i) [
+    to_merged p i = elim (in_put cmp o M b.0 (key_or (at cmp M b.0) b.0, b.1) p i) [
       | inl e ↦ subst (IsMerged cmp A (B ++ b ∷ [])) e (new_pair (at cmp M b.0) refl)
       | inr h ↦ still p ((merge.exactly p).0 h.0) h.1
     ]
@@ -135,24 +100,21 @@ module _ {K : Type 0} (cmp : K → K → Ordering) (o : IsTotalOrder cmp) where
     placed p e = In-right (below cmp M b.0) ((key_or (at cmp M b.0) b.0, b.1) ∷ above cmp M b.0) p (inl e)
 
     kept : (p : K × V) → IsMerged cmp A B p → cmp p.0 b.0 ≢ Equal → In p (put cmp M b.0 b.1)
-    kept p h d = put_has M b.0 (key_or (at cmp M b.0) b.0, b.1) p ((merge.exactly p).1 h) d
+    kept p h d = put_has cmp o M b.0 (key_or (at cmp M b.0) b.0, b.1) p ((merge.exactly p).1 h) d
 
     from_merged : (p : K × V) → IsMerged cmp A (B ++ b ∷ []) p → In p (put cmp M b.0 b.1)
     from_merged p (inl h) = kept p (inl (h.0, from_each (λ (q : K × V). cmp p.0 q.0 ≢ Equal) B (λ x i. each (λ (q : K × V). cmp p.0 q.0 ≢ Equal) (B ++ b ∷ []) h.1 x (In-left B (b ∷ []) x i)))) (each (λ (q : K × V). cmp p.0 q.0 ≢ Equal) (B ++ b ∷ []) h.1 b there)
     from_merged p (inr (inl h)) = elim (In-cases B (b ∷ []) p h.0) [
       | inl i ↦ kept p (inr (inl (i, h.1))) (apart p i)
       | inr (inl e) ↦ placed p (let n : NoneEqual cmp b.0 A = subst (λ (q : K × V). NoneEqual cmp q.0 A) (sym e) h.1 in
-          let none : at cmp M b.0 ≡ None = at_none M b.0 (from_each (λ (q : K × V). cmp b.0 q.0 ≢ Equal) M (λ x i. elim (whose x i) [
-            | inl w ↦ each (λ (q : K × V). cmp b.0 q.0 ≢ Equal) A n (x.0, w.0) w.1
-            | inr j ↦ each (λ (q : K × V). cmp b.0 q.0 ≢ Equal) B new x j
-          ])) in rw none e)
+          let none : at cmp M b.0 ≡ None = at_none M b.0 (absent n) in rw none e)
       | inr (inr j) ↦ absurd j
     ]
     from_merged p (inr (inr h)) = elim (In-cases B (b ∷ []) (h.1.0, p.1) h.1.2) [
-      | inl i ↦ kept p (inr (inr (h.0, (h.1.0, h.1.1, i)))) (λ e. each (λ (q : K × V). cmp b.0 q.0 ≢ Equal) B new (h.1.0, p.1) i (sym (o.congr p.0 b.0 h.1.0 e) ∙ h.1.1))
+      | inl i ↦ kept p (inr (inr (h.0, (h.1.0, h.1.1, i)))) (λ e. each (λ (q : K × V). cmp p.0 q.0 ≢ Equal) B (unlike p.0 e) (h.1.0, p.1) i h.1.1)
       | inr (inl e) ↦ placed p (
           let same : cmp p.0 b.0 ≡ Equal = subst (λ (q : K × V). cmp p.0 q.0 ≡ Equal) (sym e) h.1.1 in
-          let mine : In (p.0, h.0.0) M = (merge.exactly (p.0, h.0.0)).1 (inl (h.0.1, from_each (λ (q : K × V). cmp p.0 q.0 ≢ Equal) B (λ x i f. each (λ (q : K × V). cmp b.0 q.0 ≢ Equal) B new x i (sym (o.congr p.0 b.0 x.0 same) ∙ f)))) in
+          let mine : In (p.0, h.0.0) M = (merge.exactly (p.0, h.0.0)).1 (inl (h.0.1, unlike p.0 same)) in
           rw (at-Rising o M b.0 (p.0, h.0.0) merge.rising mine same) (ap (λ (q : K × V). let y : K × V = (p.0, q.1) in y) e))
       | inr (inr j) ↦ absurd j
     ]
@@ -165,15 +127,8 @@ module _ {K : Type 0} (cmp : K → K → Ordering) (o : IsTotalOrder cmp) where
     at-merged = by (at cmp A b.0) refl
       where
         by : (r : Option (K × V)) → at cmp A b.0 ≡ r → at cmp M b.0 ≡ at cmp A b.0
-        by None e =
-            let n = none_from_at A b.0 e in
-            at_none M b.0 (from_each (λ (q : K × V). cmp b.0 q.0 ≢ Equal) M (λ x i. elim (whose x i) [
-              | inl w ↦ each (λ (q : K × V). cmp b.0 q.0 ≢ Equal) A n (x.0, w.0) w.1
-              | inr j ↦ each (λ (q : K × V). cmp b.0 q.0 ≢ Equal) B new x j
-            ])) ∙ sym e
-        by (Some q) e =
-            let h = at_in A b.0 q e in
-            at-Rising o M b.0 q merge.rising ((merge.exactly q).1 (inl (h.0, from_each (λ (x : K × V). cmp q.0 x.0 ≢ Equal) B (λ x i f. each (λ (y : K × V). cmp b.0 y.0 ≢ Equal) B new x i (sym (o.congr q.0 b.0 x.0 h.1) ∙ f))))) h.1 ∙ sym e
+        by None e = at_none M b.0 (absent (none_from_at cmp o A b.0 e)) ∙ sym e
+        by (Some q) e = let h = at_in cmp A b.0 q e in at-Rising o M b.0 q merge.rising ((merge.exactly q).1 (inl (h.0, unlike q.0 h.1))) h.1 ∙ sym e
 
     -- and what is left over is the value that it finds there
     pub left-put : left cmp A (B ++ b ∷ []) ≡ left cmp A B ++ cons_option (option_map (λ (a : K × V). let p : K × V = (b.0, a.1) in p) (at cmp M b.0)) []

@@ -9,12 +9,13 @@ use Rattle.std.specs.declared.cmp.Ordering.TheVariants.{Less, Equal}
 use Rattle.litemap_store.specs.Last.{In, Last, NoneEqual, StandsLast}
 use Rattle.litemap_store.specs.Laws.{Sifted}
 use Rattle.litemap_store.specs.Pairs.{AllBelow}
-use Rattle.litemap_store.proofs.LastPairs.{In-from_last, Last-same, StandsLast-cases, StandsLast-left, StandsLast-right}
+use Rattle.litemap_store.proofs.LastPairs.{In-from_last, Last-same, StandsLast-cases, StandsLast-left, StandsLast-right, stands_before, stands_behind}
 use Rattle.litemap_store.proofs.Membership.{In-cases, In-left, In-right, each, from_each}
+use Rattle.litemap_store.proofs.Splitting.{each-append}
 
 module _ {K V : Type 0} {cmp : K → K → Ordering} (o : IsTotalOrder cmp) where
   -- the two lists have the same elements, and the same pairs stand last
-  record Alike (P Q : List (K × V)) : Type 0 where
+  pub record Alike (P Q : List (K × V)) : Type 0 where
     pub elements : (x : K × V) → In x P ↔ In x Q
     pub last : (x : K × V) → StandsLast cmp x P ↔ StandsLast cmp x Q
 
@@ -22,21 +23,15 @@ module _ {K V : Type 0} {cmp : K → K → Ordering} (o : IsTotalOrder cmp) wher
   none_in k P Q f n = from_each (λ (q : K × V). cmp k q.0 ≢ Equal) Q (λ x i. each (λ (q : K × V). cmp k q.0 ≢ Equal) P n x (f x i))
 
   -- so it is behind any list
-  last_behind : (A P Q : List (K × V)) → Alike P Q → (x : K × V) → StandsLast cmp x (A ++ P) ↔ StandsLast cmp x (A ++ Q)
+  pub last_behind : (A P Q : List (K × V)) → Alike P Q → (x : K × V) → StandsLast cmp x (A ++ P) ↔ StandsLast cmp x (A ++ Q)
   last_behind A P Q s x = (
-    λ h. elim (StandsLast-cases cmp x A P h) [
-      | inl j ↦ StandsLast-left cmp x A Q j.0 (none_in x.0 P Q (λ y. (s.elements y).1) j.1)
-      | inr j ↦ StandsLast-right cmp x A Q ((s.last x).0 j)
-    ],
-    λ h. elim (StandsLast-cases cmp x A Q h) [
-      | inl j ↦ StandsLast-left cmp x A P j.0 (none_in x.0 Q P (λ y. (s.elements y).0) j.1)
-      | inr j ↦ StandsLast-right cmp x A P ((s.last x).1 j)
-    ],
+    stands_behind cmp x A P Q (none_in x.0 P Q (λ y. (s.elements y).1)) (s.last x).0,
+    stands_behind cmp x A Q P (none_in x.0 Q P (λ y. (s.elements y).0)) (s.last x).1,
   )
 
   -- a pair may pass pairs of other keys
   module _ (p : K × V) (B Y : List (K × V)) (none : NoneEqual cmp p.0 B) where
-    passed : Alike (p ∷ (B ++ Y)) (B ++ p ∷ Y)
+    pub passed : Alike (p ∷ (B ++ Y)) (B ++ p ∷ Y)
     passed = record {
       elements = λ x. (
         λ i. elim i [
@@ -50,27 +45,15 @@ module _ {K V : Type 0} {cmp : K → K → Ordering} (o : IsTotalOrder cmp) wher
         ],
       );
       last = λ x. (
-        λ h. elim h [
-          | inl j ↦ StandsLast-right cmp x B (p ∷ Y) (inl (j.0, none_in x.0 (B ++ Y) Y (λ y. In-right B Y y) j.1))
-          | inr j ↦ elim (StandsLast-cases cmp x B Y j) [
-            | inl k ↦ StandsLast-left cmp x B (p ∷ Y) k.0 (
-              (λ e. each (λ (q : K × V). cmp p.0 q.0 ≢ Equal) B none x (In-from_last cmp x B k.0) (tied_back o x.0 p.0 e)),
-              k.1,
-            )
-            | inr k ↦ StandsLast-right cmp x B (p ∷ Y) (inr k)
-          ]
-        ],
-        λ h. elim (StandsLast-cases cmp x B (p ∷ Y) h) [
-          | inl j ↦ inr (StandsLast-left cmp x B Y j.0 j.1.1)
-          | inr (inl j) ↦ inl (
-            j.0,
-            from_each (λ (q : K × V). cmp x.0 q.0 ≢ Equal) (B ++ Y) (λ y i. elim (In-cases B Y y i) [
-              | inl k ↦ each (λ (q : K × V). cmp x.0 q.0 ≢ Equal) B (subst (λ (z : K × V). NoneEqual cmp z.0 B) j.0 none) y k
-              | inr k ↦ each (λ (q : K × V). cmp x.0 q.0 ≢ Equal) Y j.1 y k
-            ]),
-          )
-          | inr (inr j) ↦ inr (StandsLast-right cmp x B Y j)
-        ],
+        λ h. rw (append_assoc B (p ∷ []) Y) at (stands_before cmp x (p ∷ B) (B ++ p ∷ []) Y (λ i. elim i [
+          | inl j ↦ StandsLast-right cmp x B (p ∷ []) (inl (j.0, tt))
+          | inr j ↦ StandsLast-left cmp x B (p ∷ []) j ((λ e. each (λ (q : K × V). cmp p.0 q.0 ≢ Equal) B none x (In-from_last cmp x B j) (tied_back o x.0 p.0 e)), tt)
+        ]) h),
+        λ h. stands_before cmp x (B ++ p ∷ []) (p ∷ B) Y (λ i. elim (StandsLast-cases cmp x B (p ∷ []) i) [
+          | inl j ↦ inr j.0
+          | inr (inl j) ↦ inl (j.0, subst (λ (z : K × V). NoneEqual cmp z.0 B) j.0 none)
+          | inr (inr j) ↦ absurd j
+        ]) (rw (append_assoc B (p ∷ []) Y) h),
       );
     }
 
@@ -84,35 +67,20 @@ module _ {K V : Type 0} {cmp : K → K → Ordering} (o : IsTotalOrder cmp) wher
   front : (A : List (K × V)) (p : K × V) (k : K) → AllBelow cmp (A ++ p ∷ []) k → AllBelow cmp A k
   front A p k b = from_each (λ (q : K × V). cmp q.0 k ≡ Less) A (λ x i. each (λ (q : K × V). cmp q.0 k ≡ Less) (A ++ p ∷ []) b x (In-left A (p ∷ []) x i))
 
-  sifted_last : (J A B A' B' : List (K × V)) → Sifted cmp V A B J A' B' → Aside A B → (x : K × V) → StandsLast cmp x (A' ++ B') → StandsLast cmp x (A ++ (B ++ J))
-  sifted_last [] A B A' B' s aside x h = rw (append-nil, s.0, s.1) h
-  sifted_last (p ∷ J) A B A' B' (inl s) aside x h =
+  sifted_same : (J A B A' B' : List (K × V)) → Sifted cmp V A B J A' B' → Aside A B → (x : K × V) → StandsLast cmp x (A' ++ B') ↔ StandsLast cmp x (A ++ (B ++ J))
+  sifted_same [] A B A' B' s aside x = (λ h. rw (append-nil, s.0, s.1) h, λ h. rw (← s.0, ← s.1) (rw append-nil at h))
+  sifted_same (p ∷ J) A B A' B' (inl s) aside x =
       let none : NoneEqual cmp p.0 B = from_each (λ (q : K × V). cmp p.0 q.0 ≢ Equal) B (λ b i e. each (λ (q : K × V). ¬ (AllBelow cmp A q.0)) B aside b i (below_like A p.0 b.0 e s.0)) in
       let kept : Aside (A ++ p ∷ []) B = from_each (λ (b : K × V). ¬ (AllBelow cmp (A ++ p ∷ []) b.0)) B (λ b i all. each (λ (q : K × V). ¬ (AllBelow cmp A q.0)) B aside b i (front A p b.0 all)) in
-      let rest : StandsLast cmp x (A ++ p ∷ (B ++ J)) = rw append_assoc at (sifted_last J (A ++ p ∷ []) B A' B' s.1 kept x h) in
-      (last_behind A (p ∷ (B ++ J)) (B ++ p ∷ J) (passed p B J none) x).0 rest
-  sifted_last (p ∷ J) A B A' B' (inr s) aside x h =
-      let kept : Aside A (B ++ p ∷ []) = from_each (λ (b : K × V). ¬ (AllBelow cmp A b.0)) (B ++ p ∷ []) (λ b i. elim (In-cases B (p ∷ []) b i) [
-        | inl j ↦ each (λ (q : K × V). ¬ (AllBelow cmp A q.0)) B aside b j
-        | inr (inl e) ↦ subst (λ (q : K × V). ¬ (AllBelow cmp A q.0)) e s.0
-        | inr (inr j) ↦ absurd j
-      ]) in
-      rw append_assoc at (sifted_last J A (B ++ p ∷ []) A' B' s.1 kept x h)
-
-  last_sifted : (J A B A' B' : List (K × V)) → Sifted cmp V A B J A' B' → Aside A B → (x : K × V) → StandsLast cmp x (A ++ (B ++ J)) → StandsLast cmp x (A' ++ B')
-  last_sifted [] A B A' B' s aside x h = rw (← s.0, ← s.1) (rw append-nil at h)
-  last_sifted (p ∷ J) A B A' B' (inl s) aside x h =
-      let none : NoneEqual cmp p.0 B = from_each (λ (q : K × V). cmp p.0 q.0 ≢ Equal) B (λ b i e. each (λ (q : K × V). ¬ (AllBelow cmp A q.0)) B aside b i (below_like A p.0 b.0 e s.0)) in
-      let kept : Aside (A ++ p ∷ []) B = from_each (λ (b : K × V). ¬ (AllBelow cmp (A ++ p ∷ []) b.0)) B (λ b i all. each (λ (q : K × V). ¬ (AllBelow cmp A q.0)) B aside b i (front A p b.0 all)) in
-      let rest : StandsLast cmp x (A ++ p ∷ (B ++ J)) = (last_behind A (p ∷ (B ++ J)) (B ++ p ∷ J) (passed p B J none) x).1 h in
-      last_sifted J (A ++ p ∷ []) B A' B' s.1 kept x (rw append_assoc rest)
-  last_sifted (p ∷ J) A B A' B' (inr s) aside x h =
-      let kept : Aside A (B ++ p ∷ []) = from_each (λ (b : K × V). ¬ (AllBelow cmp A b.0)) (B ++ p ∷ []) (λ b i. elim (In-cases B (p ∷ []) b i) [
-        | inl j ↦ each (λ (q : K × V). ¬ (AllBelow cmp A q.0)) B aside b j
-        | inr (inl e) ↦ subst (λ (q : K × V). ¬ (AllBelow cmp A q.0)) e s.0
-        | inr (inr j) ↦ absurd j
-      ]) in
-      last_sifted J A (B ++ p ∷ []) A' B' s.1 kept x (rw append_assoc h)
+      let rest = sifted_same J (A ++ p ∷ []) B A' B' s.1 kept x in
+      let over = last_behind A (p ∷ (B ++ J)) (B ++ p ∷ J) (passed p B J none) x in (
+        λ h. over.0 (rw append_assoc at (rest.0 h)),
+        λ h. rest.1 (rw append_assoc (over.1 h)),
+      )
+  sifted_same (p ∷ J) A B A' B' (inr s) aside x =
+      let kept : Aside A (B ++ p ∷ []) = each-append (λ (b : K × V). ¬ (AllBelow cmp A b.0)) B (p ∷ []) aside (s.0, tt) in
+      let rest = sifted_same J A (B ++ p ∷ []) A' B' s.1 kept x in
+      (λ h. rw append_assoc at (rest.0 h), λ h. rest.1 (rw append_assoc h))
 
   pub Last-sifted : (J A B M : List (K × V)) → Sifted cmp V [] [] J A B → Last cmp (A ++ B) M → Last cmp J M
-  Last-sifted J A B M s last = Last-same cmp o (A ++ B) J M (λ x. (sifted_last J [] [] A B s tt x, last_sifted J [] [] A B s tt x)) last
+  Last-sifted J A B M s last = Last-same cmp o (A ++ B) J M (λ x. sifted_same J [] [] A B s tt x) last

@@ -2,30 +2,25 @@
 --     end_none, end_new, end_old, end_from_cmp      which list has it;  take_old, take_new, take_both      what is left where its pair is taken
 --     taken_last      a list without its last element
 --     reverse_behind, Last-of_none      the side vector
-use Rattle.std.proofs.Common.{ℕ, zero, suc, ◌-◌, length, arith, ◌≡◌, ◌≢◌, ◌↔◌, List, [], ◌∷◌, ◌++◌, refl, sym, ap, ◌∙◌, subst, subst₂, inl, inr, append_assoc, length-append, Ordering, Less, Equal, Greater, slice_get, Some, None, sub-one, ◌==◌, eqb-true, reverse, true, false}
+use Rattle.std.proofs.Common.{ℕ, zero, suc, ◌-◌, length, arith, ◌≡◌, ◌≢◌, ◌↔◌, List, [], ◌∷◌, ◌++◌, refl, sym, ap, ◌∙◌, subst, subst₂, inl, inr, append-nil, append_assoc, length-append, Ordering, Less, Equal, Greater, slice_get, Some, None, ◌==◌, eqb-true, reverse, true, false}
 use Rattle.std.specs.List.{remove}
 use Rattle.std.specs.Cmp.{IsTotalOrder}
 use Rattle.std.proofs.lemmas.Cmp.{alike_right}
 use Rattle.std.proofs.lemmas.List.{same_from_push, nil_from_length, reverse-append}
 use mathlib.Core.Bool.{true≢false}
-use Rattle.litemap_store.proofs.Joined.{empty_from_last}
-use Rattle.litemap_store.specs.Last.{In, Last, StandsLast}
+use Rattle.litemap_store.proofs.Joined.{empty_from_last, last_split}
+use Rattle.litemap_store.specs.Last.{In, Last, NoneEqual, StandsLast}
 use Rattle.litemap_store.specs.Pairs.{AllBelow, Rising}
 use Rattle.litemap_store.specs.Taken.{IsGreaterEnd, IsTaken}
 use Rattle.litemap_store.proofs.Membership.{In-left, In-right, In-cases, each, from_each}
-use Rattle.litemap_store.proofs.LastPairs.{Last-rising, Last-same, In-from_last, StandsLast-left, StandsLast-right, StandsLast-cases}
-use Rattle.litemap_store.proofs.Splitting.{greater_back, less_back}
-use Rattle.litemap_store.proofs.KeepLast.{Last-push, last_cases, rising_across}
+use Rattle.litemap_store.proofs.LastPairs.{Last-rising, Last-same, In-from_last, stands_behind}
+use Rattle.litemap_store.proofs.Sifting.{last_behind, passed}
+use Rattle.litemap_store.proofs.Splitting.{each-weaker, greater_back, less_back}
+use Rattle.litemap_store.proofs.KeepLast.{Last-push, all_below, last_cases, rising_across}
 
 pub Rising-left : {K V : Type 0} (cmp : K → K → Ordering) (A B : List (K × V)) → Rising cmp (A ++ B) → Rising cmp A
 Rising-left cmp [] B r = tt
 Rising-left {K} {V} cmp (a ∷ A) B r = (from_each (λ (q : K × V). cmp a.0 q.0 ≡ Less) A (λ x i. each (λ (q : K × V). cmp a.0 q.0 ≡ Less) (A ++ B) r.0 x (In-left A B x i)), Rising-left cmp A B r.1)
-
-not_equal : {K : Type 0} (cmp : K → K → Ordering) (x y : K) → cmp x y ≡ Less → cmp x y ≢ Equal
-not_equal cmp x y l e = cc
-
-not_equal_back : {K : Type 0} (cmp : K → K → Ordering) → IsTotalOrder cmp → (x y : K) → cmp y x ≡ Less → cmp x y ≢ Equal
-not_equal_back cmp o x y l e = let g = less_back o y x l in cc
 
 module _ {K V : Type 0} (cmp : K → K → Ordering) (o : IsTotalOrder cmp) where
   -- the pairs of a list of which p is behind all
@@ -35,23 +30,10 @@ module _ {K V : Type 0} (cmp : K → K → Ordering) (o : IsTotalOrder cmp) wher
   -- ---- from the first list
   module _ (A₀ : List (K × V)) (a : K × V) (B : List (K × V)) (r : Rising cmp (A₀ ++ a ∷ [])) (top : AllBelow cmp B a.0) where
     old_same : (p : K × V) → StandsLast cmp p ((A₀ ++ B) ++ a ∷ []) ↔ StandsLast cmp p ((A₀ ++ a ∷ []) ++ B)
-    old_same p = (
-      λ h. elim (StandsLast-cases cmp p (A₀ ++ B) (a ∷ []) h) [
-        | inl j ↦ elim (StandsLast-cases cmp p A₀ B j.0) [
-          | inl k ↦ StandsLast-left cmp p (A₀ ++ a ∷ []) B (StandsLast-left cmp p A₀ (a ∷ []) k.0 j.1) k.1
-          | inr k ↦ StandsLast-right cmp p (A₀ ++ a ∷ []) B k
-        ]
-        | inr (inl j) ↦ StandsLast-left cmp p (A₀ ++ a ∷ []) B (StandsLast-right cmp p A₀ (a ∷ []) (inl j)) (from_each (λ (q : K × V). cmp p.0 q.0 ≢ Equal) B (λ x i. not_equal_back cmp o p.0 x.0 (subst (λ (y : K × V). cmp x.0 y.0 ≡ Less) j.0 (each (λ (q : K × V). cmp q.0 a.0 ≡ Less) B top x i))))
-        | inr (inr j) ↦ absurd j
-      ],
-      λ h. elim (StandsLast-cases cmp p (A₀ ++ a ∷ []) B h) [
-        | inl j ↦ elim (StandsLast-cases cmp p A₀ (a ∷ []) j.0) [
-          | inl k ↦ StandsLast-left cmp p (A₀ ++ B) (a ∷ []) (StandsLast-left cmp p A₀ B k.0 j.1) k.1
-          | inr k ↦ StandsLast-right cmp p (A₀ ++ B) (a ∷ []) k
-        ]
-        | inr j ↦ StandsLast-left cmp p (A₀ ++ B) (a ∷ []) (StandsLast-right cmp p A₀ B j) (not_equal cmp p.0 a.0 (each (λ (q : K × V). cmp q.0 a.0 ≡ Less) B top p (In-from_last cmp p B j)), tt)
-      ],
-    )
+    old_same p =
+        let none : NoneEqual cmp a.0 B = each-weaker {P = λ (x : K × V). cmp x.0 a.0 ≡ Less} {Q = λ (x : K × V). cmp a.0 x.0 ≢ Equal} (λ x l e. let g : cmp a.0 x.0 ≡ Greater = less_back o x.0 a.0 l in cc) B top in
+        let moved : StandsLast cmp p (A₀ ++ a ∷ B) ↔ StandsLast cmp p (A₀ ++ (B ++ a ∷ [])) = rw append-nil at (last_behind o A₀ (a ∷ (B ++ [])) (B ++ a ∷ []) (passed o a B [] none) p) in
+        rw (append_assoc A₀ B (a ∷ []), append_assoc A₀ (a ∷ []) B) (moved.1, moved.0)
 
     old_below : (M : List (K × V)) → Last cmp (A₀ ++ B) M → (x : K × V) → In x M → cmp x.0 a.0 ≡ Less
     old_below M h x i = elim (In-cases A₀ B x (In-from_last cmp x (A₀ ++ B) ((h.exactly x).0 i))) [
@@ -84,20 +66,14 @@ module _ {K V : Type 0} (cmp : K → K → Ordering) (o : IsTotalOrder cmp) wher
     -- a has a later pair with an equal key
     covered : (p : K × V) → StandsLast cmp p (A₀ ++ (B₀ ++ b ∷ [])) ↔ StandsLast cmp p ((A₀ ++ a ∷ []) ++ (B₀ ++ b ∷ []))
     covered p =
-        let C = B₀ ++ b ∷ [] in
-        let there : In b C = In-right B₀ (b ∷ []) b (inl refl) in (
-          λ h. elim (StandsLast-cases cmp p A₀ C h) [
-            | inl j ↦ StandsLast-left cmp p (A₀ ++ a ∷ []) C (StandsLast-left cmp p A₀ (a ∷ []) j.0 ((λ e. each (λ (q : K × V). cmp p.0 q.0 ≢ Equal) C j.1 b there (sym (alike_right o a.0 b.0 p.0 same) ∙ e)), tt)) j.1
-            | inr j ↦ StandsLast-right cmp p (A₀ ++ a ∷ []) C j
-          ],
-          λ h. elim (StandsLast-cases cmp p (A₀ ++ a ∷ []) C h) [
-            | inl j ↦ elim (StandsLast-cases cmp p A₀ (a ∷ []) j.0) [
-              | inl k ↦ StandsLast-left cmp p A₀ C k.0 j.1
-              | inr (inl k) ↦ absurd (each (λ (q : K × V). cmp p.0 q.0 ≢ Equal) C j.1 b there (subst (λ (q : K × V). cmp q.0 b.0 ≡ Equal) k.0 same))
-              | inr (inr k) ↦ absurd k
-            ]
-            | inr j ↦ StandsLast-right cmp p A₀ C j
-          ],
+        let C : List (K × V) = B₀ ++ b ∷ [] in
+        let there : In b C = In-right B₀ (b ∷ []) b (inl refl) in
+        rw (append_assoc A₀ (a ∷ []) (B₀ ++ b ∷ [])) (
+          stands_behind cmp p A₀ C (a ∷ C) (λ n. ((λ e. each (λ (q : K × V). cmp p.0 q.0 ≢ Equal) C n b there (sym (alike_right o a.0 b.0 p.0 same) ∙ e)), n)) (λ h. inr h),
+          stands_behind cmp p A₀ (a ∷ C) C (λ n. n.1) (λ h. elim h [
+            | inl k ↦ absurd (each (λ (q : K × V). cmp p.0 q.0 ≢ Equal) C k.1 b there (subst (λ (q : K × V). cmp q.0 b.0 ≡ Equal) k.0 same))
+            | inr k ↦ k
+          ]),
         )
 
     pub taken_both : IsTaken cmp (A₀ ++ a ∷ []) (B₀ ++ b ∷ []) A₀ B₀ b
@@ -111,15 +87,6 @@ module _ {K V : Type 0} (cmp : K → K → Ordering) (o : IsTotalOrder cmp) wher
       fewer = omega (arith, length-append A₀ (a ∷ []), length-append B₀ (b ∷ []));
     }
 
--- ---- the last pair of a list
-pub last_split : {X : Type 0} (L : List X) (x : X) → slice_get L (length L - 1) ≡ Some x → (N : List X) × (L ≡ N ++ x ∷ [])
-last_split [] x e = absurd (cc)
-last_split (y ∷ []) x e = ([], cc)
-last_split (y ∷ (z ∷ L)) x e =
-    let down : slice_get (z ∷ L) (length (z ∷ L) - 1) ≡ Some x = rw sub-one (rw sub-one at e) in
-    let h = last_split (z ∷ L) x down in
-    (y ∷ h.0, ap (λ M. y ∷ M) h.1)
-
 -- what a comparison of the last keys tells
 pub end_from_cmp : {K V : Type 0} (cmp : K → K → Ordering) → IsTotalOrder cmp → (A B : List (K × V)) (a b : K × V) (r : Ordering) → Rising cmp A → Rising cmp B → slice_get A (length A - 1) ≡ Some a → slice_get B (length B - 1) ≡ Some b → r ≡ cmp a.0 b.0 → IsGreaterEnd cmp A B (Some r)
 end_from_cmp {K} {V} cmp o A B a b r s t last_a last_b asked = by r asked
@@ -130,21 +97,10 @@ end_from_cmp {K} {V} cmp o A B a b r s t last_a last_b asked = by r asked
     split_b : (N : List (K × V)) × (B ≡ N ++ b ∷ [])
     split_b = last_split B b last_b
 
-    up_to : (L N : List (K × V)) (l : K × V) (k : K) → Rising cmp L → L ≡ N ++ l ∷ [] → cmp l.0 k ≡ Less → AllBelow cmp L k
-    up_to L N l k r e less = from_each (λ (q : K × V). cmp q.0 k ≡ Less) L (λ x i. elim (In-cases N (l ∷ []) x (subst (In x) e i)) [
-      | inl j ↦ o.trans x.0 l.0 k (rising_across cmp N (l ∷ []) (subst (Rising cmp) e r) x l j (inl refl)) less
-      | inr (inl f) ↦ subst (λ (q : K × V). cmp q.0 k ≡ Less) f less
-      | inr (inr j) ↦ absurd j
-    ])
-
     by : (r : Ordering) → r ≡ cmp a.0 b.0 → IsGreaterEnd cmp A B (Some r)
-    by Less e = (split_b.0, b, split_b.1, up_to A split_a.0 a b.0 s split_a.1 (sym e))
+    by Less e = (split_b.0, b, split_b.1, all_below o A split_a.0 a b.0 s split_a.1 (sym e))
     by Equal e = (split_a.0, a, split_b.0, b, split_a.1, split_b.1, sym e)
-    by Greater e = (split_a.0, a, split_a.1, up_to B split_b.0 b a.0 t split_b.1 (greater_back o a.0 b.0 (sym e)))
-
--- two ways to split a last pair off
-pub same_split : {X : Type 0} (L N M : List X) (x y : X) → L ≡ N ++ x ∷ [] → L ≡ M ++ y ∷ [] → (N ≡ M) × (x ≡ y)
-same_split L N M x y e f = same_from_push N M x y (sym e ∙ f)
+    by Greater e = (split_a.0, a, split_a.1, all_below o B split_b.0 b a.0 t split_b.1 (greater_back o a.0 b.0 (sym e)))
 
 -- ---- where a list is empty
 pub end_none : {K V : Type 0} (cmp : K → K → Ordering) (A B : List (K × V)) → slice_get A (length A - 1) ≡ None → (length B == 0) ≡ true → IsGreaterEnd cmp A B None
@@ -162,18 +118,18 @@ end_old cmp A B a e f = let h = last_split A a e in (h.0, a, h.1, rw (empty_from
 -- ---- taking from a list that ends in a pair
 pub take_old : {K V : Type 0} (cmp : K → K → Ordering) → IsTotalOrder cmp → (A B A' : List (K × V)) (p : K × V) → Rising cmp A → Rising cmp B → IsGreaterEnd cmp A B (Some Greater) → A ≡ A' ++ p ∷ [] → IsTaken cmp A B A' B p
 take_old {K} {V} cmp o A B A' p r s end e =
-    let same = same_split A end.0 A' end.1 p end.2 e in
+    let same = same_from_push end.0 A' end.1 p (sym end.2 ∙ e) in
     rw e (taken_old cmp o A' p B (subst (Rising cmp) e r) (subst (λ (x : K × V). AllBelow cmp B x.0) same.1 end.3) s)
 
 pub take_new : {K V : Type 0} (cmp : K → K → Ordering) → IsTotalOrder cmp → (A B B' : List (K × V)) (p : K × V) → Rising cmp A → Rising cmp B → IsGreaterEnd cmp A B (Some Less) → B ≡ B' ++ p ∷ [] → IsTaken cmp A B A B' p
 take_new {K} {V} cmp o A B B' p r s end e =
-    let same = same_split B end.0 B' end.1 p end.2 e in
+    let same = same_from_push end.0 B' end.1 p (sym end.2 ∙ e) in
     rw e (taken_new cmp o A B' p r (subst (Rising cmp) e s) (subst (λ (x : K × V). AllBelow cmp A x.0) same.1 end.3))
 
 pub take_both : {K V : Type 0} (cmp : K → K → Ordering) → IsTotalOrder cmp → (A B A' B' : List (K × V)) (q p : K × V) → Rising cmp A → Rising cmp B → IsGreaterEnd cmp A B (Some Equal) → A ≡ A' ++ q ∷ [] → B ≡ B' ++ p ∷ [] → IsTaken cmp A B A' B' p
 take_both {K} {V} cmp o A B A' B' q p r s end e f =
-    let same_a = same_split A end.0 A' end.1 q end.4 e in
-    let same_b = same_split B end.2 B' end.3 p end.5 f in
+    let same_a = same_from_push end.0 A' end.1 q (sym end.4 ∙ e) in
+    let same_b = same_from_push end.2 B' end.3 p (sym end.5 ∙ f) in
     rw (e, f) (taken_both cmp o A' q B' p (subst (Rising cmp) e r) (subst (Rising cmp) f s) (subst₂ (λ (x y : K × V). cmp x.0 y.0 ≡ Equal) same_a.1 same_b.1 end.6))
 
 -- a list without its last element

@@ -8,20 +8,12 @@ use Rattle.litemap_store.specs.Last.{In}
 use Rattle.litemap_store.specs.Merge.{Merge, left}
 use Rattle.litemap_store.specs.Pairs.{BelowAll, Rising, at}
 use Rattle.litemap_store.specs.Walked.{IsLowerFirst, IsTakenFirst}
-use Rattle.litemap_store.proofs.Membership.{In-cases, each, from_each}
-use Rattle.litemap_store.proofs.MergeDown.{Merge-one}
+use Rattle.litemap_store.proofs.Joined.{below_all, empty_from_first, first_split}
+use Rattle.litemap_store.proofs.Membership.{In-cases, each}
+use Rattle.litemap_store.proofs.MergeDown.{Merge-one, left-same}
 use Rattle.litemap_store.proofs.MergeJoins.{Across, Merge-all, Merge-join, Merge-none, none_above}
 use Rattle.litemap_store.proofs.Merging.{at_none}
 use Rattle.litemap_store.proofs.Splitting.{greater_back}
-
--- ---- the first pair of a list
-first_split : {X : Type 0} (L : List X) (x : X) → slice_get L 0 ≡ Some x → (M : List X) × (L ≡ x ∷ M)
-first_split [] x e = absurd (cc)
-first_split (y ∷ L) x e = let s : y ≡ x = cc in (L, ap (λ z. z ∷ L) s)
-
-first_none : {X : Type 0} (L : List X) → slice_get L 0 ≡ None → L ≡ []
-first_none [] e = refl
-first_none (y ∷ L) e = absurd (cc)
 
 same_first : {X : Type 0} (L M N : List X) (x y : X) → L ≡ x ∷ M → L ≡ y ∷ N → x ≡ y
 same_first L M N x y e f = let g : x ∷ M ≡ y ∷ N = sym e ∙ f in cc
@@ -30,18 +22,15 @@ module _ {K V : Type 0} (cmp : K → K → Ordering) (o : IsTotalOrder cmp) wher
   below_each : (k : K) (L : List (K × V)) → BelowAll cmp k L → (x : K × V) → In x L → cmp k x.0 ≡ Less
   below_each k L h x i = each (λ (q : K × V). cmp k q.0 ≡ Less) L h x i
 
-  below_all : (k : K) (b : K × V) (L : List (K × V)) → cmp k b.0 ≡ Less → Rising cmp (b ∷ L) → BelowAll cmp k (b ∷ L)
-  below_all k b L l r = (l, from_each (λ (q : K × V). cmp k q.0 ≡ Less) L (λ x i. o.trans k b.0 x.0 l (below_each b.0 L r.0 x i)))
-
   -- ---- which list has the lower first key
   pub lower_none : (A B : List (K × V)) → slice_get A 0 ≡ None → slice_get B 0 ≡ None → IsLowerFirst cmp A B None
-  lower_none A B e f = (first_none A e, first_none B f)
+  lower_none A B e f = (empty_from_first A e, empty_from_first B f)
 
   pub lower_new : (A B : List (K × V)) (b : K × V) → slice_get A 0 ≡ None → slice_get B 0 ≡ Some b → IsLowerFirst cmp A B (Some Greater)
-  lower_new A B b e f = let h = first_split B b f in (b, h.0, h.1, rw (first_none A e) tt)
+  lower_new A B b e f = let h = first_split B b f in (b, h.0, h.1, rw (empty_from_first A e) tt)
 
   pub lower_old : (A B : List (K × V)) (a : K × V) → slice_get A 0 ≡ Some a → slice_get B 0 ≡ None → IsLowerFirst cmp A B (Some Less)
-  lower_old A B a e f = let h = first_split A a e in (a, h.0, h.1, rw (first_none B f) tt)
+  lower_old A B a e f = let h = first_split A a e in (a, h.0, h.1, rw (empty_from_first B f) tt)
 
   pub lower_from_cmp : (A B : List (K × V)) (a b : K × V) (r : Ordering) → Rising cmp A → Rising cmp B → slice_get A 0 ≡ Some a → slice_get B 0 ≡ Some b → r ≡ cmp a.0 b.0 → IsLowerFirst cmp A B (Some r)
   lower_from_cmp A B a b r s t first_a first_b asked = by r asked
@@ -53,18 +42,13 @@ module _ {K V : Type 0} (cmp : K → K → Ordering) (o : IsTotalOrder cmp) wher
       of_b = first_split B b first_b
 
       by : (r : Ordering) → r ≡ cmp a.0 b.0 → IsLowerFirst cmp A B (Some r)
-      by Less e = (a, of_a.0, of_a.1, subst (BelowAll cmp a.0) (sym of_b.1) (below_all a.0 b of_b.0 (sym e) (subst (Rising cmp) of_b.1 t)))
+      by Less e = (a, of_a.0, of_a.1, subst (BelowAll cmp a.0) (sym of_b.1) (below_all o a.0 b of_b.0 (sym e) (subst (Rising cmp) of_b.1 t)))
       by Equal e = (a, of_a.0, b, of_b.0, of_a.1, of_b.1, sym e)
-      by Greater e = (b, of_b.0, of_b.1, subst (BelowAll cmp b.0) (sym of_a.1) (below_all b.0 a of_a.0 (greater_back o a.0 b.0 (sym e)) (subst (Rising cmp) of_a.1 s)))
+      by Greater e = (b, of_b.0, of_b.1, subst (BelowAll cmp b.0) (sym of_a.1) (below_all o b.0 a of_a.0 (greater_back o a.0 b.0 (sym e)) (subst (Rising cmp) of_a.1 s)))
 
   -- a pair below all keys of B finds nothing there, and nothing of it is left over
   left-past : (a : K × V) (A B : List (K × V)) → ((x : K × V) → In x B → cmp a.0 x.0 ≡ Less) → left cmp (a ∷ A) B ≡ left cmp A B
-  left-past a A [] f = refl
-  left-past a A (y ∷ B) f =
-      let less : cmp a.0 y.0 ≡ Less = f y (inl refl) in
-      let one : at cmp (a ∷ A) y.0 ≡ at cmp A y.0 = rw less refl in
-      ap (λ t. cons_option (option_map (λ (p : K × V). let q : K × V = (y.0, p.1) in q) t) (left cmp (a ∷ A) B)) one
-      ∙ ap (λ W. cons_option (option_map (λ (p : K × V). let q : K × V = (y.0, p.1) in q) (at cmp A y.0)) W) (left-past a A B (λ x i. f x (inr i)))
+  left-past a A B f = left-same cmp o (a ∷ A) A B (λ y i. let less : cmp a.0 y.0 ≡ Less = f y i in rw less refl)
 
   -- ---- the first pair of A is taken
   pub walk_old : (A B A' : List (K × V)) (p : K × V) (R : List (K × V)) → Rising cmp A → Rising cmp B → IsLowerFirst cmp A B (Some Less) → A ≡ p ∷ A' → IsTakenFirst cmp A B A' B p R R

@@ -5,7 +5,9 @@ use Rattle.std.proofs.lemmas.List.{take_all}
 use Rattle.std.proofs.lemmas.Grind.{common_steps}
 use Rattle.litemap_store.specs.Counts.{RisesByAtMost}
 use Rattle.litemap_store.proofs.LastPairs.{Last-rising}
+use Rattle.litemap_store.proofs.extend.keep_rising.Given.{Over}
 use Rattle.litemap_store.proofs.extend.keep_rising.Goals as goal
+use Rattle.litemap_store.proofs.extend.keep_rising.Goals.{After-is_rising}
 
 pub returns-then-is_rising-clause-last : goal.returns-then-is_rising-clause-last
 returns-then-is_rising-clause-last g c =
@@ -33,17 +35,16 @@ returns-clause-same g c = λ r. absurd (true≢false (sym (c.is_rising.ensures.r
 pub returns-in_err-kept-clause-same : goal.returns-in_err-kept-clause-same
 returns-in_err-kept-clause-same g c = λ r. absurd (true≢false (sym (c.is_rising.ensures.rising.1 (rw (c.split_at.ensures.back, c.deref.ensures.value) r)) ∙ c.if-is_rising.false))
 
-pub returns-clause-cost : goal.returns-clause-cost
-returns-clause-cost g c =
+cost : (g : Over) (c : After-is_rising g) → RisesByAtMost (vec_len c.args.pairs.now - c.args.from - 1) c.args.count.now c.is_rising.new.count
+cost g c =
     let given : length c.split_at.result.1.now ≡ vec_len c.args.pairs.now - c.args.from = ap length c.split_at.ensures.back ∙ length-drop c.args.from c.deref.result.now ∙ ap (λ n. n - c.args.from) c.deref.ensures.len in
     subst (λ n. RisesByAtMost (n - 1) c.args.count.now c.is_rising.new.count) given c.is_rising.ensures.cost
+
+pub returns-clause-cost : goal.returns-clause-cost
+returns-clause-cost g c = cost g (goal.at.returns-clause-cost g c).After-is_rising
 
 pub returns-in_err-kept-clause-cost : goal.returns-in_err-kept-clause-cost
-returns-in_err-kept-clause-cost g c =
-    let given : length c.split_at.result.1.now ≡ vec_len c.args.pairs.now - c.args.from = ap length c.split_at.ensures.back ∙ length-drop c.args.from c.deref.result.now ∙ ap (λ n. n - c.args.from) c.deref.ensures.len in
-    subst (λ n. RisesByAtMost (n - 1) c.args.count.now c.is_rising.new.count) given c.is_rising.ensures.cost
+returns-in_err-kept-clause-cost g c = cost g (goal.at.returns-in_err-kept-clause-cost g c).After-is_rising
 
 pub returns-then-is_rising-clause-cost : goal.returns-then-is_rising-clause-cost
-returns-then-is_rising-clause-cost g c =
-    let given : length c.split_at.result.1.now ≡ vec_len c.args.pairs.now - c.args.from = ap length c.split_at.ensures.back ∙ length-drop c.args.from c.deref.result.now ∙ ap (λ n. n - c.args.from) c.deref.ensures.len in
-    subst (λ n. RisesByAtMost (n - 1) c.args.count.now c.is_rising.new.count) given c.is_rising.ensures.cost
+returns-then-is_rising-clause-cost g c = cost g (goal.at.returns-then-is_rising-clause-cost g c).After-is_rising

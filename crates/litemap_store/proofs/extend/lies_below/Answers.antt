@@ -1,6 +1,6 @@
 use Rattle.std.proofs.Common.{◌≡◌, append-nil, sym, ap, ◌∙◌, is_lt, refl}
-use Rattle.litemap_store.proofs.LastPairs.{less_from_is_lt}
 use Rattle.litemap_store.proofs.Joined.{Rising-behind, empty_from_last, empty_from_first}
+use Rattle.litemap_store.proofs.Splitting.{less_from_is_lt}
 use Rattle.litemap_store.proofs.extend.lies_below.Goals as goal
 
 pub returns-in_default-clause-below : goal.returns-in_default-clause-below

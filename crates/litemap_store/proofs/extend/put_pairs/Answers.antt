@@ -1,27 +1,21 @@
-use Rattle.std.proofs.Common.{◌≡◌, ◌+◌, ◌*◌, ◌-◌, ◌++◌, arith, length, min, sym, vec_len, ◌∙◌}
+use Rattle.std.proofs.Common.{◌≡◌, ◌+◌, ◌*◌, ◌-◌, ◌++◌, arith, length, min, vec_len}
 use Rattle.std.proofs.lemmas.Result.{on_ok_weaker}
-use mathlib.Core.Bool.{true≢false}
-use Rattle.litemap_store.specs.Last.{Rises}
+use Rattle.litemap_store.specs.Counts.{RisesByAtMost}
 use Rattle.litemap_store.proofs.Counting.{at_most, in_turn}
-use Rattle.litemap_store.proofs.Joined.{Rising-from_Rises}
+use Rattle.litemap_store.proofs.Joined.{not_above}
 use Rattle.litemap_store.proofs.LastPairs.{Last-join_right, Last-rising}
 use Rattle.litemap_store.proofs.extend.put_pairs.Given.{Over}
 use Rattle.litemap_store.proofs.extend.put_pairs.Goals as goal
-
--- new pairs that rise past the last old key go behind
-not_behind : (g : Over) (c : goal.After-merge g) → Rises g.K.Ord.cmp (g.S.Store.pairs c.args.store.now) c.args.pairs.items → ⊥
-not_behind g c h =
-    let up = Rising-from_Rises g.K.Ord.cmp _ _ c.requires h in
-    true≢false (sym (c.lies_below.ensures.below.1 (rw (c.keep_rising.ensures.same h.rising).1 up)) ∙ c.if-lies_below.false)
+use Rattle.litemap_store.proofs.extend.put_pairs.Goals.{After-lies_below}
 
 pub returns-clause-last : goal.returns-clause-last
 returns-clause-last g c = on_ok_weaker c.merge.result (λ d. Last-join_right g.K.Ord.cmp g.met.K.Ord.total _ _ _ _ c.in_ok-keep_rising.ensures.last d) c.merge.ensures.last
 
 pub returns-clause-behind : goal.returns-clause-behind
-returns-clause-behind g c = λ h. absurd (not_behind g c h)
+returns-clause-behind g c = λ h. absurd (not_above g.K.Ord.cmp _ _ _ c.requires (rw (c.keep_rising.ensures.same h.rising).1 at c.lies_below.ensures.below.1) c.if-lies_below.false h)
 
 pub returns-clause-succeeds : goal.returns-clause-succeeds
-returns-clause-succeeds g c = λ h r. absurd (not_behind g c h)
+returns-clause-succeeds g c = λ h r. absurd (not_above g.K.Ord.cmp _ _ _ c.requires (rw (c.keep_rising.ensures.same h.rising).1 at c.lies_below.ensures.below.1) c.if-lies_below.false h)
 
 pub returns-then-lies_below-clause-last : goal.returns-then-lies_below-clause-last
 returns-then-lies_below-clause-last g c =
@@ -38,26 +32,21 @@ returns-in_err-keep_rising-clause-cost g c =
     let given = c.args.pairs in
     at_most (vec_len given - 0 - 1) (length (g.S.Store.pairs c.args.store.now) + 2 * length given.items) (omega (arith, given.ok.0)) c.keep_rising.ensures.cost
 
-pub returns-in_err-lm_reserve-clause-behind : goal.returns-in_err-lm_reserve-clause-behind
-returns-in_err-lm_reserve-clause-behind g c = λ h.
+-- where the ends were compared
+both_ends : (g : Over) (c : After-lies_below g) → RisesByAtMost (length c.args.pairs.items) c.args.count.now c.lies_below.new.count
+both_ends g c =
     let given = c.args.pairs in
     let kept = c.keep_rising.new.pairs in
     in_turn (vec_len given - 0 - 1) (min 1 (length kept.items)) (length given.items) (omega (arith, given.ok.0, kept.ok.0, c.keep_rising.ensures.shorter.1)) c.keep_rising.ensures.cost c.lies_below.ensures.cost
+
+pub returns-in_err-lm_reserve-clause-behind : goal.returns-in_err-lm_reserve-clause-behind
+returns-in_err-lm_reserve-clause-behind g c = λ h. both_ends g (goal.at.returns-in_err-lm_reserve-clause-behind g c).After-lies_below
 
 pub returns-in_err-lm_reserve-clause-cost : goal.returns-in_err-lm_reserve-clause-cost
-returns-in_err-lm_reserve-clause-cost g c =
-    let given = c.args.pairs in
-    let kept = c.keep_rising.new.pairs in
-    in_turn (vec_len given - 0 - 1) (min 1 (length kept.items)) (length (g.S.Store.pairs c.args.store.now) + 2 * length given.items) (omega (arith, given.ok.0, kept.ok.0, c.keep_rising.ensures.shorter.1)) c.keep_rising.ensures.cost c.lies_below.ensures.cost
+returns-in_err-lm_reserve-clause-cost g c = at_most (length c.args.pairs.items) _ (omega arith) (both_ends g (goal.at.returns-in_err-lm_reserve-clause-cost g c).After-lies_below)
 
 pub returns-then-lies_below-clause-behind : goal.returns-then-lies_below-clause-behind
-returns-then-lies_below-clause-behind g c = λ h.
-    let given = c.args.pairs in
-    let kept = c.keep_rising.new.pairs in
-    in_turn (vec_len given - 0 - 1) (min 1 (length kept.items)) (length given.items) (omega (arith, given.ok.0, kept.ok.0, c.keep_rising.ensures.shorter.1)) c.keep_rising.ensures.cost c.lies_below.ensures.cost
+returns-then-lies_below-clause-behind g c = λ h. both_ends g (goal.at.returns-then-lies_below-clause-behind g c).After-lies_below
 
 pub returns-then-lies_below-clause-cost : goal.returns-then-lies_below-clause-cost
-returns-then-lies_below-clause-cost g c =
-    let given = c.args.pairs in
-    let kept = c.keep_rising.new.pairs in
-    in_turn (vec_len given - 0 - 1) (min 1 (length kept.items)) (length (g.S.Store.pairs c.args.store.now) + 2 * length given.items) (omega (arith, given.ok.0, kept.ok.0, c.keep_rising.ensures.shorter.1)) c.keep_rising.ensures.cost c.lies_below.ensures.cost
+returns-then-lies_below-clause-cost g c = at_most (length c.args.pairs.items) _ (omega arith) (both_ends g (goal.at.returns-then-lies_below-clause-cost g c).After-lies_below)

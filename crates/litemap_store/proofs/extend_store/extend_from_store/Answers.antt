@@ -5,7 +5,7 @@ use mathlib.Core.Bool.{true≢false}
 use Rattle.litemap_store.specs.Counts.{RisesByAtMost}
 use Rattle.litemap_store.specs.declared.count.Count.{Count}
 use Rattle.litemap_store.proofs.Counting.{at_most, in_turn}
-use Rattle.litemap_store.proofs.Joined.{Rising-from_Rises}
+use Rattle.litemap_store.proofs.Joined.{not_above}
 use Rattle.litemap_store.proofs.MergeJoins.{Merge-before, Merge-behind, left-before, left-behind, left-nil, not_apart}
 use Rattle.litemap_store.proofs.extend_store.extend_from_store.Goals as goal
 
@@ -97,21 +97,16 @@ pub returns-clause-left : goal.returns-clause-left
 returns-clause-left g c = rw (← c.in_ok-rest.ensures.left) c.unless_empty.ensures.some
 
 pub returns-clause-behind : goal.returns-clause-behind
-returns-clause-behind g c = λ h r.
-    absurd (true≢false (sym (c.lies_below.ensures.below.1 (Rising-from_Rises g.K.Ord.cmp _ _ c.requires.store h)) ∙ c.if-lies_below.false))
+returns-clause-behind g c = λ h r. absurd (not_above g.K.Ord.cmp _ _ _ c.requires.store c.lies_below.ensures.below.1 c.if-lies_below.false h)
 
 pub returns-clause-in_front : goal.returns-clause-in_front
-returns-clause-in_front g c = λ h r s.
-    absurd (true≢false (sym (c.lies_below-2.ensures.below.1 (Rising-from_Rises g.K.Ord.cmp _ _ c.requires.other h)) ∙ c.if-lies_below-2.false))
+returns-clause-in_front g c = λ h r s. absurd (not_above g.K.Ord.cmp _ _ _ c.requires.other c.lies_below-2.ensures.below.1 c.if-lies_below-2.false h)
 
 pub returns-in_err-lm_extend_start-clause-behind : goal.returns-in_err-lm_extend_start-clause-behind
-returns-in_err-lm_extend_start-clause-behind g c = λ h r.
-    absurd (true≢false (sym (c.lies_below.ensures.below.1 (Rising-from_Rises g.K.Ord.cmp _ _ c.requires.store h)) ∙ c.if-lies_below.false))
+returns-in_err-lm_extend_start-clause-behind g c = λ h r. absurd (not_above g.K.Ord.cmp _ _ _ c.requires.store c.lies_below.ensures.below.1 c.if-lies_below.false h)
 
 pub returns-in_err-rest-clause-behind : goal.returns-in_err-rest-clause-behind
-returns-in_err-rest-clause-behind g c = λ h r.
-    absurd (true≢false (sym (c.lies_below.ensures.below.1 (Rising-from_Rises g.K.Ord.cmp _ _ c.requires.store h)) ∙ c.if-lies_below.false))
+returns-in_err-rest-clause-behind g c = λ h r. absurd (not_above g.K.Ord.cmp _ _ _ c.requires.store c.lies_below.ensures.below.1 c.if-lies_below.false h)
 
 pub returns-in_err-rest-clause-in_front : goal.returns-in_err-rest-clause-in_front
-returns-in_err-rest-clause-in_front g c = λ h r s.
-    absurd (true≢false (sym (c.lies_below-2.ensures.below.1 (Rising-from_Rises g.K.Ord.cmp _ _ c.requires.other h)) ∙ c.if-lies_below-2.false))
+returns-in_err-rest-clause-in_front g c = λ h r s. absurd (not_above g.K.Ord.cmp _ _ _ c.requires.other c.lies_below-2.ensures.below.1 c.if-lies_below-2.false h)

@@ -1,9 +1,8 @@
 use Rattle.std.proofs.Common.{◌≡◌, ◌+◌, ◌≤◌, length, ◌-◌, ◌/◌, arith, refl, sym, ◌∙◌, ap, subst, cond, nat_le}
-use Rattle.std.specs.List.{Any}
 use Rattle.std.specs.Ordering.{is_eq, is_lt}
 use Rattle.litemap_store.specs.Digits.{digits, digits-halved}
 use Rattle.litemap_store.specs.Search.{Callable, Shape}
-use Rattle.litemap_store.proofs.Halving.{Seen-whole, Seen-next, Finds-nowhere, hit_next, known, takes, takes_next, next, left_next, left_after}
+use Rattle.litemap_store.proofs.Halving.{Seen-whole, Seen-next, Finds-nowhere, hit_next, takes, takes_next, next, left_next, left_after}
 use Rattle.litemap_store.proofs.slice_search.find.Goals as goal
 
 pub loop-left-init : goal.loop-left-init
@@ -26,9 +25,8 @@ ask-answer-requires g c =
     let m = c.loop-left.low + (c.loop-left.left - c.loop-left.left / 2) - 1 in
     let key = c.key_at-key.result.now in
     let (value, e) = c.key_at-key.ensures in
-    let a : Any (λ q. q.0 ≡ key) list = known list m key value e in
     let d : digits 0 + 1 ≤ digits c.loop-left.left = digits-halved 0 _ (omega arith) (omega arith) in
-    takes g.F.FnMut list _ c.loop-left.f key (omega arith) c.loop-left.invariant.callable a
+    takes g.F.FnMut list _ m c.loop-left.f key value (omega arith) c.loop-left.invariant.callable e
 
 pub loop-left-preserved : goal.loop-left-preserved
 loop-left-preserved g c =
@@ -41,7 +39,6 @@ loop-left-preserved g c =
     let answer = c.ask-answer.result in
     let inv = c.loop-left.invariant in
     let (value, e) = c.key_at-key.ensures in
-    let a : Any (λ q. q.0 ≡ key) list = known list m key value e in
     let called = c.ask-answer.ensures.called in
     let t = left_next small answer low left (length list) inv.within (omega arith) in
     let is_low : c.choose-low.result ≡ cond (is_lt answer) (low + (left - left / 2)) low =
@@ -55,8 +52,8 @@ loop-left-preserved g c =
     record {
       within = rw (is_low, is_left) t.0;
       hit_within = rw is_hit (hit_next answer low left (length list) c.loop-left.hit inv.within (omega arith) inv.hit_within);
-      callable = takes_next g.F.FnMut list _ _ _ key _ _ d inv.callable a called;
-      seen = λ ord sh. let old = inv.seen ord sh in let n = next g.F.FnMut list ord _ _ _ key _ _ d old.0 a called in
+      callable = takes_next g.F.FnMut list _ _ m _ key value _ _ d inv.callable e called;
+      seen = λ ord sh. let old = inv.seen ord sh in let n = next g.F.FnMut list ord _ _ m _ key value _ _ d old.0 e called in
           (n.1, rw (is_hit, is_low, is_left) (Seen-next ord list old.0.ascends small c.loop-left.hit low left key value answer (omega arith) e old.1 n.0));
       same = c.ask-answer.ensures.same ∙ inv.same;
       not_lowered = omega arith;

@@ -1,8 +1,9 @@
 use Rattle.std.proofs.Common.{◌∙◌}
+use Rattle.std.proofs.lemmas.Result.{on_ok_weaker}
 use Rattle.litemap_store.specs.Pairs.{Rising}
 use Rattle.litemap_store.proofs.Seams.{missing_insert}
 use Rattle.litemap_store.proofs.Splitting.{Rising-put}
-use Rattle.litemap.proofs.Outcomes.{either_way, on_ok}
+use Rattle.litemap.proofs.Outcomes.{either_way}
 use Rattle.litemap.proofs.map.LiteMap.insert_at.Goals as goal
 
 pub invariant_of-self : goal.invariant_of-self
@@ -17,4 +18,4 @@ pub returns-clause-put : goal.returns-clause-put
 returns-clause-put g c =
     let pairs = g.S.Store.pairs c.self.inside.store in
     let missing = rw (← c.self.view_is) at c.requires in
-    rw (← c.self.view_is) (on_ok c.lm_insert.result (λ e. e ∙ missing_insert g.K.Ord.cmp pairs c.args.key c.args.index missing c.args.value) c.lm_insert.ensures.ok)
+    rw (← c.self.view_is) (on_ok_weaker c.lm_insert.result (λ e. e ∙ missing_insert g.K.Ord.cmp pairs c.args.key c.args.index missing c.args.value) c.lm_insert.ensures.ok)

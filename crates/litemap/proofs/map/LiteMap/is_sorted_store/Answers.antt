@@ -3,7 +3,8 @@ use Rattle.std.specs.Map.Iter.{deref_pair}
 use Rattle.std.specs.Ordering.{is_lt}
 use Rattle.std.specs.declared.cmp.Ordering.TheVariants.{Less}
 use Rattle.litemap_store.specs.Pairs.{Rising}
-use Rattle.litemap_store.proofs.Parts.{RisesTo-one, RisesTo-more, Rising-from_RisesTo, Less-from_Rising, Less-from_is_lt}
+use Rattle.litemap_store.proofs.Joined.{Rising-from_adjacent, adjacent_more}
+use Rattle.litemap_store.proofs.Parts.{Less-from_Rising, Less-from_is_lt}
 use Rattle.litemap.proofs.Places.{is_there}
 use Rattle.litemap.proofs.map.LiteMap.is_sorted_store.Goals as goal
 
@@ -14,7 +15,7 @@ pub unwrap-requires-in-loop-place : goal.unwrap-requires-in-loop-place
 unwrap-requires-in-loop-place g c = is_there deref_pair c.lm_get-in-loop-place.result (g.S.Store.pairs c.args.store.now) c.loop-place.place c.lm_get-in-loop-place.ensures (omega (arith, c.loop-place-test.true, c.lm_len-place-end.ensures))
 
 pub loop-place-init : goal.loop-place-init
-loop-place-init g c = record { positive = omega arith; so_far = RisesTo-one g.K.Ord.cmp (g.S.Store.pairs c.args.store.now) }
+loop-place-init g c = record { positive = omega arith; so_far = λ k d h. absurd (omega arith) }
 
 pub returns-then-not-is_lt : goal.returns-then-not-is_lt
 returns-then-not-is_lt g c = (
@@ -33,8 +34,8 @@ loop-place-preserved g c =
     let here = sym c.lm_get-in-loop-place.ensures ∙ ap (option_map deref_pair) c.unwrap-in-loop-place.ensures in
     record {
       positive = omega arith;
-      so_far = RisesTo-more g.K.Ord.cmp g.met.K.Ord.total _ _ _ _ c.loop-place.invariant.positive c.loop-place.invariant.so_far before here less;
+      so_far = adjacent_more g.K.Ord.cmp _ _ _ _ c.loop-place.invariant.so_far before here less;
     }
 
 pub returns : goal.returns
-returns g c = (λ t. Rising-from_RisesTo g.K.Ord.cmp _ c.loop-place.place (omega arith) c.loop-place.invariant.so_far, λ r. search rules)
+returns g c = (λ t. Rising-from_adjacent g.K.Ord.cmp g.met.K.Ord.total _ (λ k d h. c.loop-place.invariant.so_far k d (omega arith)), λ r. search rules)

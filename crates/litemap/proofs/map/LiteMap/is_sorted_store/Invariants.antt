@@ -1,9 +1,9 @@
-use Rattle.std.proofs.Common.{◌≤◌}
-use Rattle.litemap_store.proofs.Parts.{RisesTo}
+use Rattle.std.proofs.Common.{◌≡◌, ◌≤◌, Less}
+use Rattle.std.specs.List.{AllAdjacentBelow}
 use Rattle.litemap.proofs.map.LiteMap.is_sorted_store.Given as goal
 
 abbrev pub invariant-loop-place : goal.invariant-loop-place
 invariant-loop-place g l = record {
   positive : 1 ≤ l.place;
-  so_far : RisesTo g.K.Ord.cmp (g.S.Store.pairs l.store) l.place;
+  so_far : AllAdjacentBelow (λ p q. g.K.Ord.cmp p.0 q.0 ≡ Less) (g.S.Store.pairs l.store) l.place;
 }

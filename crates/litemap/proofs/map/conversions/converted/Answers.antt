@@ -1,14 +1,15 @@
 use Rattle.std.proofs.Common.{◌≡◌, length, arith, refl, sym}
 use Rattle.std.proofs.Math.Seq.{take-length}
 use Rattle.litemap_store.proofs.Alongside.{alongside-more}
-use Rattle.litemap.proofs.Conversions.{In-at, Rising-became}
+use Rattle.litemap_store.proofs.Joined.{In-slice_get}
+use Rattle.litemap.proofs.Conversions.{Rising-became}
 use Rattle.litemap.proofs.map.conversions.converted.Goals as goal
 
 pub made_of-requires : goal.made_of-requires
-made_of-requires g c = λ k. ((refl, tt), c.requires.keys (c.in-Some.key.now, c.in-Some.value.now) (In-at _ c.loop-index.index _ (sym c.in-Some.ensures)))
+made_of-requires g c = λ k. ((refl, tt), c.requires.keys (c.in-Some.key.now, c.in-Some.value.now) (In-slice_get _ c.loop-index.index _ (sym c.in-Some.ensures)))
 
 pub made_of-requires-in-loop-index : goal.made_of-requires-in-loop-index
-made_of-requires-in-loop-index g c = λ k. ((refl, tt), c.requires.values (c.in-Some.key.now, c.in-Some.value.now) (In-at _ c.loop-index.index _ (sym c.in-Some.ensures)))
+made_of-requires-in-loop-index g c = λ k. ((refl, tt), c.requires.values (c.in-Some.key.now, c.in-Some.value.now) (In-slice_get _ c.loop-index.index _ (sym c.in-Some.ensures)))
 
 pub loop-index-preserved : goal.loop-index-preserved
 loop-index-preserved g c = record {

@@ -2,7 +2,8 @@ use Rattle.std.proofs.Common.{◌≡◌, ◌+◌, [], ◌∷◌, ◌++◌, take,
 use Rattle.std.proofs.lemmas.List.{drop_all, take_all}
 use Rattle.litemap_store.proofs.Seams.{length-set_value}
 use Rattle.litemap.specs.Written.{CallableOnValues, Written}
-use Rattle.litemap.proofs.Writing.{CallableOnValues-first, CallableOnValues-rest, Written-more, drop-at, drop-written, take-written}
+use Rattle.litemap.proofs.Places.{drop_at}
+use Rattle.litemap.proofs.Writing.{CallableOnValues-first, CallableOnValues-rest, Written-more, drop-written, take-written}
 use Rattle.litemap.proofs.map.update.write_each.Goals as goal
 
 pub write-requires : goal.write-requires
@@ -10,7 +11,7 @@ write-requires g c =
     let pairs = g.S.Store.pairs c.loop-index.store in
     let i = c.loop-index.index in
     let p : g.row.K.Denot × g.row.V.Denot = (c.lm_pair_mut-value.result.0.now, c.lm_pair_mut-value.result.1.now) in
-    let here : drop i pairs ≡ p ∷ drop (i + 1) pairs = drop-at pairs i p c.lm_pair_mut-value.ensures.pair in
+    let here : drop i pairs ≡ p ∷ drop (i + 1) pairs = drop_at pairs i p c.lm_pair_mut-value.ensures.pair in
     CallableOnValues-first g.F.FnMut c.loop-index.f p (drop (i + 1) pairs) (subst (CallableOnValues g.F.FnMut c.loop-index.f) here c.loop-index.invariant.callable)
 
 pub loop-index-preserved : goal.loop-index-preserved
@@ -23,7 +24,7 @@ loop-index-preserved g c =
     let p : g.row.K.Denot × g.row.V.Denot = (c.lm_pair_mut-value.result.0.now, c.lm_pair_mut-value.result.1.now) in
     let w = c.write.new.value in
     let rest = drop (i + 1) pairs in
-    let here : drop i pairs ≡ p ∷ rest = drop-at pairs i p c.lm_pair_mut-value.ensures.pair in
+    let here : drop i pairs ≡ p ∷ rest = drop_at pairs i p c.lm_pair_mut-value.ensures.pair in
     let behind = drop-written pairs i w in
     let front = take-written pairs i p w c.lm_pair_mut-value.ensures.pair in
     let inv = c.loop-index.invariant in

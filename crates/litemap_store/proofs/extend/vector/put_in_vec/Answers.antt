@@ -1,26 +1,16 @@
-use Rattle.std.proofs.Common.{sym, ◌∙◌}
 use Rattle.std.proofs.lemmas.Result.{on_ok_weaker}
-use mathlib.Core.Bool.{true≢false}
-use Rattle.litemap_store.specs.Last.{Rises}
-use Rattle.litemap_store.proofs.Joined.{Rising-from_Rises}
+use Rattle.litemap_store.proofs.Joined.{not_above}
 use Rattle.litemap_store.proofs.LastPairs.{Last-join_right, Last-rising}
-use Rattle.litemap_store.proofs.extend.vector.put_in_vec.Given.{Over}
 use Rattle.litemap_store.proofs.extend.vector.put_in_vec.Goals as goal
-
--- new pairs that rise past the last old key go behind
-not_behind : (g : Over) (c : goal.After-merge_in_vec g) → Rises g.K.Ord.cmp c.args.store.now.items c.args.pairs.items → ⊥
-not_behind g c h =
-    let up = Rising-from_Rises g.K.Ord.cmp _ _ c.requires h in
-    true≢false (sym (c.lies_below.ensures.below.1 (rw (c.keep_rising.ensures.same h.rising).1 up)) ∙ c.if-lies_below.false)
 
 pub returns-clause-last : goal.returns-clause-last
 returns-clause-last g c = on_ok_weaker c.merge_in_vec.result (λ d. Last-join_right g.K.Ord.cmp g.met.K.Ord.total _ _ _ _ c.in_ok-keep_rising.ensures.last d) c.merge_in_vec.ensures.last
 
 pub returns-clause-behind : goal.returns-clause-behind
-returns-clause-behind g c = λ h. absurd (not_behind g c h)
+returns-clause-behind g c = λ h. absurd (not_above g.K.Ord.cmp _ _ _ c.requires (rw (c.keep_rising.ensures.same h.rising).1 at c.lies_below.ensures.below.1) c.if-lies_below.false h)
 
 pub returns-clause-succeeds : goal.returns-clause-succeeds
-returns-clause-succeeds g c = λ h r. absurd (not_behind g c h)
+returns-clause-succeeds g c = λ h r. absurd (not_above g.K.Ord.cmp _ _ _ c.requires (rw (c.keep_rising.ensures.same h.rising).1 at c.lies_below.ensures.below.1) c.if-lies_below.false h)
 
 pub returns-then-lies_below-clause-last : goal.returns-then-lies_below-clause-last
 returns-then-lies_below-clause-last g c =

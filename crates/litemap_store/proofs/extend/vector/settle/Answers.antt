@@ -1,27 +1,29 @@
-use Rattle.std.proofs.Common.{◌≡◌, ℕ, ◌-◌, Bool, false, List, ◌++◌, ap, arith, length, length-drop, min, take, drop, sym, vec_len, ◌∙◌, subst}
+use Rattle.std.proofs.Common.{◌≡◌, ℕ, ◌-◌, List, ◌++◌, ap, arith, length, length-drop, min, take, drop, sym, vec_len, ◌∙◌, subst}
 use Rattle.std.proofs.lemmas.List.{take-append-drop}
 use Rattle.std.proofs.lemmas.Result.{on_ok_weaker}
-use Rattle.std.specs.Bool.{IsTrue}
 use Rattle.std.specs.Cmp.{IsTotalOrder}
 use Rattle.std.specs.declared.cmp.Ordering.{Ordering}
-use mathlib.Core.Bool.{true≢false}
 use Rattle.litemap_store.specs.Last.{Last, Rises}
 use Rattle.litemap_store.specs.Pairs.{Rising}
 use Rattle.litemap_store.proofs.Counting.{at_most, in_turn}
-use Rattle.litemap_store.proofs.Joined.{Rising-from_Rises}
+use Rattle.litemap_store.proofs.Joined.{not_above}
 use Rattle.litemap_store.proofs.LastPairs.{Last-join_right, Last-rising}
+use Rattle.litemap_store.proofs.extend.vector.settle.Given.{Over}
 use Rattle.litemap_store.proofs.extend.vector.settle.Goals as goal
+use Rattle.litemap_store.proofs.extend.vector.settle.Goals.{After-split_off}
 
 module _ {K V : Type 0} (cmp : K → K → Ordering) (from : ℕ) (L : List (K × V)) where
   -- the last pairs of those from an index on, in their place
   Last-behind : IsTotalOrder cmp → (D M : List (K × V)) → Last cmp (drop from L) D → Last cmp (take from L ++ D) M → Last cmp L M
   Last-behind o D M d h = subst (λ N. Last cmp N M) (take-append-drop from L) (Last-join_right cmp o (take from L) (drop from L) D M d h)
 
-  -- those that rise past the ones before them stay as they are
-  not_behind : {P : Type 0} (M : List (K × V)) (r : Bool) → Rising cmp (take from L) → (Rising cmp (drop from L) → P × (M ≡ L)) → (Rising cmp M → IsTrue r) → r ≡ false → Rises cmp (take from L) (drop from L) → ⊥
-  not_behind M r rising same below not h =
-      let up = subst (Rising cmp) (take-append-drop from L) (Rising-from_Rises cmp (take from L) (drop from L) rising h) in
-      true≢false (sym (below (subst (Rising cmp) (sym (same h.rising).1) up)) ∙ not)
+-- where the ends were compared in vain, the new pairs do not rise past the old ones
+mixed : (g : Over) (c : After-split_off g) → Rises g.K.Ord.cmp (take c.args.from c.args.store.now.items) (drop c.args.from c.args.store.now.items) → ⊥
+mixed g c h =
+    let L = c.args.store.now.items in
+    let below = rw (c.new.ensures, c.new-2.ensures, ← c.split_at.ensures.by_index.0, c.deref.ensures.value) at c.lies_below.ensures.below.1 in
+    not_above g.K.Ord.cmp (take c.args.from L) (drop c.args.from L) _ c.requires.rising
+    (λ up. below (subst (Rising g.K.Ord.cmp) (take-append-drop c.args.from L ∙ sym (c.keep_rising.ensures.same h.rising).1) up)) c.if-lies_below.false h
 
 pub returns-then-lies_below-clause-last : goal.returns-then-lies_below-clause-last
 returns-then-lies_below-clause-last g c =
@@ -37,19 +39,13 @@ returns-clause-last g c =
     on_ok_weaker c.merge_in_vec.result (λ d. Last-behind g.K.Ord.cmp c.args.from c.args.store.now.items g.met.K.Ord.total (drop c.args.from now) _ c.in-Ok.ensures.last d) made
 
 pub returns-clause-behind : goal.returns-clause-behind
-returns-clause-behind g c = λ h.
-    let below = rw (c.new.ensures, c.new-2.ensures, ← c.split_at.ensures.by_index.0, c.deref.ensures.value) at c.lies_below.ensures.below.1 in
-    absurd (not_behind g.K.Ord.cmp c.args.from _ _ _ c.requires.rising c.keep_rising.ensures.same below c.if-lies_below.false h)
+returns-clause-behind g c = λ h. absurd (mixed g (goal.at.returns-clause-behind g c).After-split_off h)
 
 pub returns-clause-succeeds : goal.returns-clause-succeeds
-returns-clause-succeeds g c = λ h.
-    let below = rw (c.new.ensures, c.new-2.ensures, ← c.split_at.ensures.by_index.0, c.deref.ensures.value) at c.lies_below.ensures.below.1 in
-    absurd (not_behind g.K.Ord.cmp c.args.from _ _ _ c.requires.rising c.keep_rising.ensures.same below c.if-lies_below.false h)
+returns-clause-succeeds g c = λ h. absurd (mixed g (goal.at.returns-clause-succeeds g c).After-split_off h)
 
 pub returns-in_default-split_off-clause-succeeds : goal.returns-in_default-split_off-clause-succeeds
-returns-in_default-split_off-clause-succeeds g c = λ h.
-    let below = rw (c.new.ensures, c.new-2.ensures, ← c.split_at.ensures.by_index.0, c.deref.ensures.value) at c.lies_below.ensures.below.1 in
-    absurd (not_behind g.K.Ord.cmp c.args.from _ _ _ c.requires.rising c.keep_rising.ensures.same below c.if-lies_below.false h)
+returns-in_default-split_off-clause-succeeds g c = λ h. absurd (mixed g (goal.at.returns-in_default-split_off-clause-succeeds g c).After-split_off h)
 
 pub lies_below-requires-clause-low : goal.lies_below-requires-clause-low
 lies_below-requires-clause-low g c = rw (c.new.ensures, c.split_at.ensures.front, c.deref.ensures.value, c.keep_rising.ensures.before) c.requires.rising
@@ -78,9 +74,7 @@ pub returns-in_default-clause-succeeds : goal.returns-in_default-clause-succeeds
 returns-in_default-clause-succeeds g c = λ h. (c.in_default.ensures.same h.rising).0
 
 pub returns-in_default-split_off-clause-behind : goal.returns-in_default-split_off-clause-behind
-returns-in_default-split_off-clause-behind g c = λ h.
-    let below = rw (c.new.ensures, c.new-2.ensures, ← c.split_at.ensures.by_index.0, c.deref.ensures.value) at c.lies_below.ensures.below.1 in
-    absurd (not_behind g.K.Ord.cmp c.args.from _ _ _ c.requires.rising c.keep_rising.ensures.same below c.if-lies_below.false h)
+returns-in_default-split_off-clause-behind g c = λ h. absurd (mixed g (goal.at.returns-in_default-split_off-clause-behind g c).After-split_off h)
 
 pub returns-then-lies_below-clause-behind : goal.returns-then-lies_below-clause-behind
 returns-then-lies_below-clause-behind g c = λ h.

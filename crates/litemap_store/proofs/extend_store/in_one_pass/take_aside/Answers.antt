@@ -5,9 +5,9 @@ use Rattle.std.proofs.lemmas.Grind.{common_steps}
 use Rattle.litemap_store.specs.Digits.{digits, digits-mono}
 use Rattle.litemap_store.specs.Merge.{Merge}
 use Rattle.litemap_store.specs.Pairs.{Rising, above, at, below, key_or}
-use Rattle.litemap_store.proofs.LastPairs.{Rising-filter}
 use Rattle.litemap_store.proofs.MergeDown.{Merge-down, left-down, length-behind, length-option, length-parts}
 use Rattle.litemap_store.proofs.MergeJoins.{Merge-none}
+use Rattle.litemap_store.proofs.Splitting.{Rising-filter}
 use Rattle.litemap_store.proofs.Taken.{Rising-left}
 use Rattle.litemap_store.proofs.extend_store.in_one_pass.take_aside.Goals as goal
 
