@@ -47,7 +47,7 @@ pub(crate) type Shown = (&'static str, anyhow::Result<bool>);
 fn main(rt: HostRuntime) -> io::Result<()> {
     let alloc = rt.alloc();
     let (days, hours) = (days::three_days(alloc)?, days::opening_hours(alloc)?);
-    report(&rt, &make::examples(alloc, &days, &hours))?;
+    report(&rt, &make::examples(alloc, &hours))?;
     report(&rt, &look::examples(alloc, &days))?;
     report(&rt, &entries::examples(alloc))?;
     report(&rt, &change::examples(alloc))?;
