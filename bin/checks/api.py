@@ -30,12 +30,12 @@ GROUPS = {
     "Name tables": "name_table: read write name_bytes cursor fault laws; "
     "name_index: table index name_entries indexed checked index_write fault laws",
     "What a call can be asked by": "litemap_store: query",
-    "Stores": "litemap_store: store into_iter vec_impl slice_impl slice_iter count no_room shared slice_search extend_store; litemap_columns: lib column_store column_iter",
+    "Stores": "litemap_store: store into_iter vec_impl slice_impl slice_iter count no_room shared slice_search extend_store; "
+    "litemap_short: short_store short_iter; litemap_columns: lib column_store column_iter",
     "Laws, for proofs": "litemap_store: laws",
 }
 # The libraries with no call for the page: why.
 NOT_LISTED = {
-    "litemap_short": "its calls are those of the stores' traits",
     **dict.fromkeys(["names_core", "names_main", "names"], "the program, which README tells"),
 }
 # The groups whose calls say what they cost in comparisons and moves, and those of their calls that compare no keys and move no
