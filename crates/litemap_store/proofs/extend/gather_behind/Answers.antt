@@ -1,3 +1,5 @@
+use Rattle.std.proofs.Common.{rules, ◌≡◌, length}
+use Rattle.std.proofs.Math.Seq.{take-append_seam}
 use Rattle.litemap_store.proofs.FirstGiven.{GivesSome-from_Yields}
 use Rattle.litemap_store.proofs.extend.gather_behind.Goals as goal
 
@@ -5,3 +7,8 @@ pub returns-then-is_err-clause-refused_some : goal.returns-then-is_err-clause-re
 returns-then-is_err-clause-refused_some g c =
     GivesSome-from_Yields g.I.IntoIterator.into_iter_gives g.I.IntoIter.Iterator.next_gives c.args.iter c.into_iter-item-iterator.result c.loop-item.item-iterator c.next.new.self
     c.loop-item.yielded c.in-Some.item c.into_iter-item-iterator.ensures.into_iter_gives c.loop-item.yielded_by c.in-Some.ensures.steps
+
+pub returns-then-is_err-clause-refused : goal.returns-then-is_err-clause-refused
+returns-then-is_err-clause-refused g c =
+    let len : c.len-len.result ≡ length c.args.items.now.items = search rules in
+    rw (c.truncate.ensures.items, c.make_room.ensures.items, c.loop-item.invariant, len) (take-append_seam c.args.items.now.items c.loop-item.yielded)

@@ -19,6 +19,21 @@ kept_behind A S R₁ R₂ from len kept a all =
     rw (← all, ← a, append_assoc A (S ++ R₁) R₂, append_assoc S R₁ R₂, take-append-add A (S ++ (R₁ ++ R₂)) (length S), take-append_seam S (R₁ ++ R₂), take-append-add A S kept)
     (drop-append_seam A (take kept S))
 
+-- and what lies before them
+kept_front : {X : Type 0} (A S R₁ R₂ : List X) (from len kept : ℕ) → length A ≡ from → from + length S ≡ len → take from (take (from + kept) (take len ((A ++ (S ++ R₁)) ++ R₂))) ≡ A
+kept_front A S R₁ R₂ from len kept a all =
+    rw (← all, ← a, append_assoc A (S ++ R₁) R₂, append_assoc S R₁ R₂, take-append-add A (S ++ (R₁ ++ R₂)) (length S), take-append_seam S (R₁ ++ R₂), take-append-add A S kept)
+    (take-append_seam A (take kept S))
+
+pub returns-clause-before : goal.returns-clause-before
+returns-clause-before g c =
+    let from = c.args.from in
+    let old = c.deref_mut.result.now in
+    let sorted = c.sort_last.new.pairs in
+    let front : length (take from old) ≡ from = grind (arith, common_steps) in
+    let all : from + length sorted ≡ c.args.pairs.now.len = grind (arith, common_steps) in
+    rw (c.truncate.ensures.items, kept_front (take from old) sorted _ _ from c.args.pairs.now.len c.in_ok-kept.kept front all) (ap (take from) c.deref_mut.ensures.value)
+
 pub returns-clause-last : goal.returns-clause-last
 returns-clause-last g c =
     let from = c.args.from in

@@ -1,8 +1,9 @@
-use Rattle.std.proofs.Common.{◌≡◌, ℕ, ◌-◌, List, ◌++◌, ap, arith, length, length-drop, min, take, drop, sym, vec_len, ◌∙◌, subst}
-use Rattle.std.proofs.lemmas.List.{take-append-drop}
+use Rattle.std.proofs.Common.{◌≡◌, ℕ, ◌+◌, ◌*◌, ◌-◌, List, ◌++◌, ap, arith, length, length-drop, min, take, drop, sym, vec_len, ◌∙◌, subst}
+use Rattle.std.proofs.lemmas.List.{length-take, take-append-drop}
 use Rattle.std.proofs.lemmas.Result.{on_ok_weaker}
 use Rattle.std.specs.Cmp.{IsTotalOrder}
 use Rattle.std.specs.declared.cmp.Ordering.{Ordering}
+use Rattle.litemap_store.specs.Counts.{RisesByAtMost}
 use Rattle.litemap_store.specs.Last.{Last, Rises}
 use Rattle.litemap_store.specs.Pairs.{Rising}
 use Rattle.litemap_store.proofs.Counting.{at_most, in_turn}
@@ -10,7 +11,7 @@ use Rattle.litemap_store.proofs.Joined.{not_above}
 use Rattle.litemap_store.proofs.LastPairs.{Last-join_right, Last-rising}
 use Rattle.litemap_store.proofs.extend.vector.settle.Given.{Over}
 use Rattle.litemap_store.proofs.extend.vector.settle.Goals as goal
-use Rattle.litemap_store.proofs.extend.vector.settle.Goals.{After-split_off}
+use Rattle.litemap_store.proofs.extend.vector.settle.Goals.{After-lies_below, After-split_off}
 
 module _ {K V : Type 0} (cmp : K → K → Ordering) (from : ℕ) (L : List (K × V)) where
   -- the last pairs of those from an index on, in their place
@@ -70,15 +71,40 @@ returns-in_default-clause-behind g c = λ h.
     let old = c.args.store.now in
     at_most (vec_len old - c.args.from - 1) (length (drop c.args.from old.items)) (omega (arith, length-drop c.args.from old.items, old.ok.0)) c.keep_rising.ensures.cost
 
+pub returns-in_default-clause-cost : goal.returns-in_default-clause-cost
+returns-in_default-clause-cost g c =
+    let old = c.args.store.now in
+    at_most (vec_len old - c.args.from - 1) (c.args.from + 2 * length (drop c.args.from old.items)) (omega (arith, length-drop c.args.from old.items, old.ok.0)) c.keep_rising.ensures.cost
+
 pub returns-in_default-clause-succeeds : goal.returns-in_default-clause-succeeds
 returns-in_default-clause-succeeds g c = λ h. (c.in_default.ensures.same h.rising).0
 
 pub returns-in_default-split_off-clause-behind : goal.returns-in_default-split_off-clause-behind
 returns-in_default-split_off-clause-behind g c = λ h. absurd (mixed g (goal.at.returns-in_default-split_off-clause-behind g c).After-split_off h)
 
-pub returns-then-lies_below-clause-behind : goal.returns-then-lies_below-clause-behind
-returns-then-lies_below-clause-behind g c = λ h.
+-- where the ends were compared
+both_ends : (g : Over) (c : After-lies_below g) → RisesByAtMost (length (drop c.args.from c.args.store.now.items)) c.args.count.now c.lies_below.new.count
+both_ends g c =
     let old = c.args.store.now in
     let fewer = c.keep_rising.ensures.shorter in
     let high : length c.new-2.result.pairs.now ≡ vec_len c.keep_rising.new.pairs - c.args.from = ap length (c.new-2.ensures ∙ c.split_at.ensures.back) ∙ length-drop c.args.from c.deref.result.now ∙ ap (λ n. n - c.args.from) c.deref.ensures.len in
     in_turn (vec_len old - c.args.from - 1) (min 1 (length c.new-2.result.pairs.now)) (length (drop c.args.from old.items)) (omega (arith, high, fewer.1, length-drop c.args.from old.items, old.ok.0)) c.keep_rising.ensures.cost c.lies_below.ensures.cost
+
+pub returns-then-lies_below-clause-behind : goal.returns-then-lies_below-clause-behind
+returns-then-lies_below-clause-behind g c = λ h. both_ends g (goal.at.returns-then-lies_below-clause-behind g c).After-lies_below
+
+pub returns-then-lies_below-clause-cost : goal.returns-then-lies_below-clause-cost
+returns-then-lies_below-clause-cost g c = at_most (length (drop c.args.from c.args.store.now.items)) _ (omega arith) (both_ends g (goal.at.returns-then-lies_below-clause-cost g c).After-lies_below)
+
+pub returns-in_default-split_off-clause-cost : goal.returns-in_default-split_off-clause-cost
+returns-in_default-split_off-clause-cost g c = at_most (length (drop c.args.from c.args.store.now.items)) _ (omega arith) (both_ends g (goal.at.returns-in_default-split_off-clause-cost g c).After-lies_below)
+
+pub returns-clause-cost : goal.returns-clause-cost
+returns-clause-cost g c =
+    let old = c.args.store.now in
+    let now = c.keep_rising.new.pairs in
+    let fewer = c.keep_rising.ensures.shorter in
+    let merged = rw (c.in-Ok-split_off.ensures.items, c.in-Ok-split_off.ensures.tail, c.keep_rising.ensures.before) at c.merge_in_vec.ensures.cost in
+    in_turn (length (drop c.args.from old.items)) (length (take c.args.from old.items) + length (drop c.args.from now.items)) _
+    (omega (arith, length-take c.args.from old.items, length-drop c.args.from now.items, length-drop c.args.from old.items, old.ok.0, now.ok.0, fewer.1))
+    (both_ends g (goal.at.returns-clause-cost g c).After-lies_below) merged
