@@ -31,3 +31,7 @@ module _ {K V : Type 0} (cmp : K → K → Ordering) where
 -- the store that is left over has the pairs of L, and there is none where L has none
 abbrev pub IsLeft : {X S : Type 0} → (S → List X) → List X → Option S → Type 0
 IsLeft pairs L rest = (IsNone rest ↔ (L ≡ [])) × IfSome rest (λ s. pairs s ≡ L)
+
+-- a refused merge of t into s left the pairs of s as they were, and hands back those of t
+abbrev pub IsUndone : {X S : Type 0} → (S → List X) → S → S → S → S → Type 0
+IsUndone pairs s t now back = (pairs now ≡ pairs s) × (pairs back ≡ pairs t)

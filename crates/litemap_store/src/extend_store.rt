@@ -4,7 +4,7 @@ ghost use Rattle.std.specs.Prelude.{IfSome, OnOk, OnErr};
 ghost use Rattle.litemap_store.specs.Counts.{RisesByAtMost};
 ghost use Rattle.litemap_store.specs.Digits.{digits};
 ghost use Rattle.litemap_store.specs.Last.{Rises};
-ghost use Rattle.litemap_store.specs.Merge.{Apart, IsLeft, Merge, left};
+ghost use Rattle.litemap_store.specs.Merge.{Apart, IsLeft, IsUndone, Merge, left};
 ghost use Rattle.litemap_store.specs.Pairs.{Rising};
 ghost use Rattle.litemap_store.specs.Splits.{Splits};
 
@@ -77,8 +77,7 @@ fn put_behind<K: Drop, V: Drop, S: StoreIntoIterator<K, V> + Drop>(
     other: S,
 ) -> Result<Option<S>, NoRoom<S>>
     ensures joined { IfOk result (λ rest. (rest ≡ None) × (S.pairs store.new ≡ S.pairs store.old ++ S.pairs other)) }
-    ensures refused { OnErr result (S.pairs store.new ≡ S.pairs store.old) }
-    ensures back { IfErr result (λ refused. S.pairs refused.back ≡ S.pairs other) }
+    ensures refused { IfErr result (λ refused. IsUndone S.pairs store.old other store.new refused.back) }
     ensures full { OnErr result ((S.pairs store.old ≢ []) × (S.room store.old < length (S.pairs other))) }
     ensures unchanged { S.pairs other ≡ [] → store.new ≡ store.old }
     ensures taken { S.pairs store.old ≡ [] → S.pairs other ≢ [] → store.new ≡ other }
@@ -100,10 +99,8 @@ fn put_in_front<K: Drop, V: Drop, S: StoreIntoIterator<K, V>>(
     other: S,
 ) -> Result<Option<S>, NoRoom<S>>
     ensures joined { IfOk result (λ rest. (rest ≡ None) × (S.pairs store.new ≡ S.pairs other ++ S.pairs store.old)) }
-    ensures refused { OnErr result (S.pairs store.new ≡ S.pairs store.old) }
-    ensures back { IfErr result (λ refused. S.pairs refused.back ≡ S.pairs other) }
-    ensures full { OnErr result ((S.room store.old < length (S.pairs other))
-        ⊎ (S.room other < length (S.pairs store.old))) }
+    ensures refused { IfErr result (λ refused. IsUndone S.pairs store.old other store.new refused.back) }
+    ensures full { OnErr result ((S.room store.old < length (S.pairs other)) ⊎ (S.room other < length (S.pairs store.old))) }
 {
     store.lm_extend_start(other)?;
     Ok(None)
@@ -121,8 +118,7 @@ fn merge_mixed<K: Ord + Drop, V: Drop, S: StoreIntoIterator<K, V> + Drop>(
     requires other { Rising K.cmp (S.pairs other) }
     ensures merged { OnOk result (Merge K.cmp (S.pairs store.old) (S.pairs other) (S.pairs store.new)) }
     ensures left { IfOk result (IsLeft S.pairs (left K.cmp (S.pairs store.old) (S.pairs other))) }
-    ensures refused { OnErr result (S.pairs store.new ≡ S.pairs store.old) }
-    ensures back { IfErr result (λ refused. S.pairs refused.back ≡ S.pairs other) }
+    ensures refused { IfErr result (λ refused. IsUndone S.pairs store.old other store.new refused.back) }
     ensures cost { RisesByAtMost
         (length (S.pairs other) * digits (length (S.pairs store.old) + length (S.pairs other)))
         count.old count.new }

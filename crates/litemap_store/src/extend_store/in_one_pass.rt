@@ -1,10 +1,10 @@
 //! A merge in one pass, from the last pair of the other store down to the first.
 ghost use Rattle.std.specs.Prelude.{◌≡◌, ◌+◌, ◌*◌, ◌<◌, ◌≤◌, ◌++◌, ◌∷◌, [], drop, length, reverse, take};
-ghost use Rattle.std.specs.Prelude.{IfOk, IfErr, OnOk, OnErr, option_map, vec_capacity};
+ghost use Rattle.std.specs.Prelude.{IfOk, IfErr, OnOk, option_map, vec_capacity};
 ghost use Rattle.std.specs.List.{cons_option};
 ghost use Rattle.litemap_store.specs.Counts.{RisesByAtMost};
 ghost use Rattle.litemap_store.specs.Digits.{digits};
-ghost use Rattle.litemap_store.specs.Merge.{IsLeft, Merge, left};
+ghost use Rattle.litemap_store.specs.Merge.{IsLeft, IsUndone, Merge, left};
 ghost use Rattle.litemap_store.specs.Pairs.{Rising, above, at, below, key_or};
 
 use crate::extend::merge::take_last;
@@ -29,8 +29,7 @@ pub fn merge_in_one_pass<K: Ord + Drop, V: Drop, S: StoreMut<K, V> + Drop>(
     requires total { total ≡ length (S.pairs store.old) + length (S.pairs other) }
     ensures merged { OnOk result (Merge K.cmp (S.pairs store.old) (S.pairs other) (S.pairs store.new)) }
     ensures left { IfOk result (IsLeft S.pairs (left K.cmp (S.pairs store.old) (S.pairs other))) }
-    ensures refused { OnErr result (S.pairs store.new ≡ S.pairs store.old) }
-    ensures back { IfErr result (λ refused. S.pairs refused.back ≡ S.pairs other) }
+    ensures refused { IfErr result (λ refused. IsUndone S.pairs store.old other store.new refused.back) }
     ensures cost { RisesByAtMost
         (length (S.pairs other) * digits (length (S.pairs store.old) + length (S.pairs other)))
         count.old count.new }

@@ -1,7 +1,7 @@
 //! A merge that walks both stores once, side by side.
-ghost use Rattle.std.specs.Prelude.{◌≡◌, ◌+◌, ◌≤◌, [], length, IfOk, IfErr, OnOk, OnErr, Some};
+ghost use Rattle.std.specs.Prelude.{◌≡◌, ◌+◌, ◌≤◌, [], length, IfOk, IfErr, OnOk, Some};
 ghost use Rattle.litemap_store.specs.Counts.{RisesByAtMost};
-ghost use Rattle.litemap_store.specs.Merge.{IsLeft, Merge, left};
+ghost use Rattle.litemap_store.specs.Merge.{IsLeft, IsUndone, Merge, left};
 ghost use Rattle.litemap_store.specs.Pairs.{Rising};
 ghost use Rattle.litemap_store.specs.Walked.{IsLowerFirst, IsTakenFirst};
 
@@ -30,8 +30,7 @@ pub fn merge_side_by_side<K: Ord + Drop, V: Drop, S: StoreIntoIterator<K, V> + D
     requires total { total ≡ length (S.pairs store.old) + length (S.pairs other) }
     ensures merged { OnOk result (Merge K.cmp (S.pairs store.old) (S.pairs other) (S.pairs store.new)) }
     ensures left { IfOk result (IsLeft S.pairs (left K.cmp (S.pairs store.old) (S.pairs other))) }
-    ensures refused { OnErr result (S.pairs store.new ≡ S.pairs store.old) }
-    ensures back { IfErr result (λ refused. S.pairs refused.back ≡ S.pairs other) }
+    ensures refused { IfErr result (λ refused. IsUndone S.pairs store.old other store.new refused.back) }
     ensures cost { RisesByAtMost total count.old count.new }
 {
     let Ok(fresh) = S::lm_with_capacity(alloc, total) else {

@@ -1,6 +1,6 @@
 use Rattle.std.proofs.Common.{◌≡◌, ◌⊎◌, ◌≢◌, ℕ, ◌+◌, ◌<◌, ◌≤◌, Bool, false, List, [], Result, Ok, Err, length, min, sym, ap, ◌∙◌, refl, inl, inr, arith}
 use Rattle.std.proofs.lemmas.Bool.{true≢false}
-use Rattle.std.proofs.lemmas.Result.{IfOk-weaker}
+use Rattle.std.proofs.lemmas.Result.{IfErr-weaker, IfOk-weaker}
 use Rattle.std.specs.Bool.{IsTrue}
 use Rattle.std.specs.Result.{IsOk, OnErr}
 use Rattle.litemap_store.specs.Counts.{RisesByAtMost}
@@ -13,9 +13,6 @@ use Rattle.litemap_store.proofs.extend_store.extend_from_store.Goals as goal
 -- the ends are compared once or twice
 both_ends : {c d e : Count} (a b : ℕ) → RisesByAtMost (min 1 a) c d → RisesByAtMost (min 1 b) d e → RisesByAtMost 2 c e
 both_ends a b r s = in_turn (min 1 a) (min 1 b) 2 (omega arith) r s
-
-within_cost : {c d : Count} (n : ℕ) → RisesByAtMost 2 c d → RisesByAtMost (2 + n) c d
-within_cost n r = at_most 2 (2 + n) (omega arith) r
 
 -- what a test that failed does not say
 denied : {P : Type 0} (r : Bool) → (P → IsTrue r) → r ≡ false → P → ⊥
@@ -41,16 +38,16 @@ returns-then-lies_below g c =
       merged = IfOk-weaker c.put_behind.result _ _ (λ rest e. rw e.1 (Merge-behind g.K.Ord.cmp g.met.K.Ord.total _ _ c.requires.store c.requires.other up)) c.put_behind.ensures.joined;
       none = IfOk-weaker c.put_behind.result _ _ (λ rest e. (λ _. left-behind g.K.Ord.cmp g.met.K.Ord.total _ _ c.requires.store c.requires.other up, λ _. rw e.0 refl)) c.put_behind.ensures.joined;
       left = IfOk-weaker c.put_behind.result _ _ (λ rest e. rw e.0 tt) c.put_behind.ensures.joined;
-      refused = c.put_behind.ensures.refused;
-      back = c.put_behind.ensures.back;
+      refused = IfErr-weaker c.put_behind.result _ _ (λ e undone. undone.0) c.put_behind.ensures.refused;
+      back = IfErr-weaker c.put_behind.result _ _ (λ e undone. undone.1) c.put_behind.ensures.refused;
       succeeds = λ e. not_refused c.put_behind.result c.put_behind.ensures.full (no_reason e);
       behind = λ h r. not_refused c.put_behind.result c.put_behind.ensures.full (λ f. let full = f.1 in omega arith);
       in_front = λ h r s. not_refused c.put_behind.result c.put_behind.ensures.full (λ f. let full = f.1 in omega arith);
       unchanged = c.put_behind.ensures.unchanged;
       taken = c.put_behind.ensures.taken;
       uncounted = c.lies_below.ensures.uncounted;
-      apart = λ apart. at_most _ 2 (omega arith) c.lies_below.ensures.cost;
-      cost = within_cost _ (at_most _ 2 (omega arith) c.lies_below.ensures.cost);
+      apart = λ apart. at_most (min 1 _) 2 (omega arith) c.lies_below.ensures.cost;
+      cost = at_most (min 1 _) _ (omega arith) c.lies_below.ensures.cost;
     }
 
 pub returns-then-lies_below-2 : goal.returns-then-lies_below-2
@@ -61,8 +58,8 @@ returns-then-lies_below-2 g c =
       merged = IfOk-weaker c.put_in_front.result _ _ (λ rest e. rw e.1 (Merge-before g.K.Ord.cmp g.met.K.Ord.total _ _ c.requires.store c.requires.other up)) c.put_in_front.ensures.joined;
       none = IfOk-weaker c.put_in_front.result _ _ (λ rest e. (λ _. left-before g.K.Ord.cmp g.met.K.Ord.total _ _ c.requires.store c.requires.other up, λ _. rw e.0 refl)) c.put_in_front.ensures.joined;
       left = IfOk-weaker c.put_in_front.result _ _ (λ rest e. rw e.0 tt) c.put_in_front.ensures.joined;
-      refused = c.put_in_front.ensures.refused;
-      back = c.put_in_front.ensures.back;
+      refused = IfErr-weaker c.put_in_front.result _ _ (λ e undone. undone.0) c.put_in_front.ensures.refused;
+      back = IfErr-weaker c.put_in_front.result _ _ (λ e undone. undone.1) c.put_in_front.ensures.refused;
       succeeds = λ e. absurd (some e);
       behind = λ h r. absurd (not_above g.K.Ord.cmp _ _ _ c.requires.store c.lies_below.ensures.below.1 c.if-lies_below.false h);
       in_front = λ h r s. not_refused c.put_in_front.result c.put_in_front.ensures.full (there_is_room r s);
@@ -70,7 +67,7 @@ returns-then-lies_below-2 g c =
       taken = λ e n. absurd (some (inl e));
       uncounted = λ e. absurd (some e);
       apart = λ apart. both_ends _ _ c.lies_below.ensures.cost c.lies_below-2.ensures.cost;
-      cost = within_cost _ (both_ends _ _ c.lies_below.ensures.cost c.lies_below-2.ensures.cost);
+      cost = at_most 2 _ (omega arith) (both_ends _ _ c.lies_below.ensures.cost c.lies_below-2.ensures.cost);
     }
 
 pub returns : goal.returns
@@ -80,8 +77,8 @@ returns g c =
       merged = c.merge_mixed.ensures.merged;
       none = IfOk-weaker c.merge_mixed.result _ _ (λ rest l. l.0) c.merge_mixed.ensures.left;
       left = IfOk-weaker c.merge_mixed.result _ _ (λ rest l. l.1) c.merge_mixed.ensures.left;
-      refused = c.merge_mixed.ensures.refused;
-      back = c.merge_mixed.ensures.back;
+      refused = IfErr-weaker c.merge_mixed.result _ _ (λ e undone. undone.0) c.merge_mixed.ensures.refused;
+      back = IfErr-weaker c.merge_mixed.result _ _ (λ e undone. undone.1) c.merge_mixed.ensures.refused;
       succeeds = λ e. absurd (some e);
       behind = λ h r. absurd (not_above g.K.Ord.cmp _ _ _ c.requires.store c.lies_below.ensures.below.1 c.if-lies_below.false h);
       in_front = λ h r s. absurd (not_above g.K.Ord.cmp _ _ _ c.requires.other c.lies_below-2.ensures.below.1 c.if-lies_below-2.false h);
