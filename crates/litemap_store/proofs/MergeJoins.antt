@@ -1,10 +1,9 @@
 -- Merges of lists that lie apart, and merges that are joined.
 --     Merge-none, Merge-all      one list is empty;  Merge-behind, Merge-before      one lies above the other
 --     left-behind, left-before      and nothing is left over;  Merge-join      merges of which one lies above the other are joined
-use Rattle.std.proofs.Common.{◌≡◌, ◌≢◌, List, [], ◌++◌, refl, sym, ap, ◌∙◌, subst₂, inl, inr, append-nil, length, ◌==◌, false, Ordering, Less, Equal, Greater}
+use Rattle.std.proofs.Common.{◌≡◌, ◌≢◌, ◌⊎◌, List, [], ◌++◌, refl, subst₂, inl, inr, append-nil, Ordering, Less, Equal, Greater}
 use Rattle.std.specs.Cmp.{IsTotalOrder}
 use Rattle.litemap_store.specs.Last.{In, NoneEqual}
-use mathlib.Core.Bool.{true≢false}
 use Rattle.litemap_store.specs.Merge.{Apart, IsMerged, Merge, left}
 use Rattle.litemap_store.specs.Pairs.{Rising}
 use Rattle.litemap_store.proofs.Joined.{Rising-from_Rises}
@@ -123,12 +122,14 @@ module _ {K V : Type 0} (cmp : K → K → Ordering) (o : IsTotalOrder cmp) wher
     pub left-before : Rising cmp (B ++ A) → left cmp A B ≡ []
     left-before t = left_none cmp o A B (from_each (λ (b : K × V). NoneEqual cmp b.0 A) B (λ y j. none_above y.0 A (λ x i. rising_across cmp B A t y x j i)))
 
-    -- lists that have pairs lie apart only where one is joined to the other
-    pub not_apart : (length A == 0) ≡ false → (length B == 0) ≡ false → (Rising cmp (A ++ B) → ⊥) → (Rising cmp (B ++ A) → ⊥) → Apart cmp A B → ⊥
-    not_apart f g n m (inl e) = true≢false (sym (ap (λ L. length L == 0) e) ∙ f)
-    not_apart f g n m (inr (inl e)) = true≢false (sym (ap (λ L. length L == 0) e) ∙ g)
-    not_apart f g n m (inr (inr (inl h))) = n (Rising-from_Rises cmp A B r h)
-    not_apart f g n m (inr (inr (inr h))) = m (Rising-from_Rises cmp B A s h)
+    -- where B's keys do not all lie above those of A, both have pairs
+    pub one_empty : (Rising cmp (A ++ B) → ⊥) → (A ≡ []) ⊎ (B ≡ []) → ⊥
+    one_empty n (inl e) = n (rw e s)
+    one_empty n (inr e) = n (rw (e, append-nil) r)
 
-  pub left-nil : (B : List (K × V)) → left cmp [] B ≡ []
-  left-nil B = left_none cmp o [] B (from_each (λ (b : K × V). NoneEqual {V = V} cmp b.0 []) B (λ b i. tt))
+    -- they lie apart only where one is joined to the other
+    pub not_apart : (Rising cmp (A ++ B) → ⊥) → (Rising cmp (B ++ A) → ⊥) → Apart cmp A B → ⊥
+    not_apart n m (inl e) = one_empty n (inl e)
+    not_apart n m (inr (inl e)) = one_empty n (inr e)
+    not_apart n m (inr (inr (inl h))) = n (Rising-from_Rises cmp A B r h)
+    not_apart n m (inr (inr (inr h))) = m (Rising-from_Rises cmp B A s h)

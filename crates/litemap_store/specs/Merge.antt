@@ -1,6 +1,6 @@
 -- Merging two maps: what is left where the pairs of B are put into A one after the other, and what they drive out. A key
 -- that is there stays and takes the new value; the old value is left over, with the new key.
-use Rattle.std.specs.Prelude.{◌≡◌, ◌⊎◌, ◌↔◌, List, [], filter_map, option_map}
+use Rattle.std.specs.Prelude.{◌≡◌, ◌⊎◌, ◌↔◌, List, [], Option, IfSome, IsNone, filter_map, option_map}
 use Rattle.std.specs.declared.cmp.Ordering.{Ordering}
 use Rattle.std.specs.declared.cmp.Ordering.TheVariants.{Equal}
 use Rattle.litemap_store.specs.Last.{In, NoneEqual, Rises}
@@ -27,3 +27,11 @@ module _ {K V : Type 0} (cmp : K → K → Ordering) where
   -- one is empty, or the keys of one lie above all of the other
   abbrev pub Apart : List (K × V) → List (K × V) → Type 0
   Apart A B = (A ≡ []) ⊎ ((B ≡ []) ⊎ (Rises cmp A B ⊎ Rises cmp B A))
+
+-- the store that is left over has the pairs of L, and there is none where L has none
+abbrev pub IsLeft : {X S : Type 0} → (S → List X) → List X → Option S → Type 0
+IsLeft pairs L rest = (IsNone rest ↔ (L ≡ [])) × IfSome rest (λ s. pairs s ≡ L)
+
+-- a refused merge of t into s left the pairs of s as they were, and hands back those of t
+abbrev pub IsUndone : {X S : Type 0} → (S → List X) → S → S → S → S → Type 0
+IsUndone pairs s t now back = (pairs now ≡ pairs s) × (pairs back ≡ pairs t)

@@ -2,8 +2,8 @@
 //!
 //! A vector pushes the new pairs behind its own. Other stores change once the new pairs are gathered in a vector. Where they rise
 //! no sort is made.
-ghost use Rattle.std.specs.Prelude.{◌≡◌, ◌+◌, ◌-◌, ◌*◌, ◌≤◌, ◌<◌, ◌++◌, ◌↔◌, IsTrue, IsOk, IfOk, OnOk, OnErr, length};
-ghost use Rattle.std.specs.Prelude.{drop, min, take, vec_capacity, vec_len};
+ghost use Rattle.std.specs.Prelude.{◌≡◌, ◌⊎◌, ◌+◌, ◌-◌, ◌*◌, ◌≤◌, ◌<◌, ◌++◌, ◌↔◌, IsTrue, IsOk, IfOk, OnOk, OnErr, length};
+ghost use Rattle.std.specs.Prelude.{[], drop, min, take, vec_capacity, vec_len};
 ghost use Rattle.std.specs.Iterator.{IsFiniteIterable};
 ghost use Rattle.litemap_store.specs.Bulk.{Gives, GivesSome};
 ghost use Rattle.litemap_store.specs.Counts.{RisesByAtMost};
@@ -144,6 +144,7 @@ pub(crate) fn lies_below<K: Ord, V, S: Store<K, V>, T: Store<K, V>>(
     requires high { Rising K.cmp (T.pairs high.now) }
     ensures below { IsTrue result ↔ Rising K.cmp (S.pairs low.now ++ T.pairs high.now) }
     ensures cost { RisesByAtMost (min 1 (length (T.pairs high.now))) count.old count.new }
+    ensures uncounted { (S.pairs low.now ≡ []) ⊎ (T.pairs high.now ≡ []) → RisesByAtMost 0 count.old count.new }
 {
     let Some((last, _)) = low.lm_last() else {
         return true;

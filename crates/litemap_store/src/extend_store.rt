@@ -1,10 +1,10 @@
 //! The body behind `extend_from_litemap`: one store's pairs are merged into another's.
-ghost use Rattle.std.specs.Prelude.{◌≡◌, ◌≢◌, ◌⊎◌, ◌↔◌, ◌+◌, ◌*◌, ◌<◌, ◌≤◌, ◌++◌, [], length, IsTrue, IsOk, IsNone, IfOk, IfErr};
+ghost use Rattle.std.specs.Prelude.{◌≡◌, ◌≢◌, ◌⊎◌, ◌↔◌, ◌+◌, ◌*◌, ◌<◌, ◌≤◌, ◌++◌, [], length, IsTrue, IsOk, IsNone, None, IfOk, IfErr};
 ghost use Rattle.std.specs.Prelude.{IfSome, OnOk, OnErr};
 ghost use Rattle.litemap_store.specs.Counts.{RisesByAtMost};
 ghost use Rattle.litemap_store.specs.Digits.{digits};
 ghost use Rattle.litemap_store.specs.Last.{Rises};
-ghost use Rattle.litemap_store.specs.Merge.{Apart, Merge, left};
+ghost use Rattle.litemap_store.specs.Merge.{Apart, IsLeft, IsUndone, Merge, left};
 ghost use Rattle.litemap_store.specs.Pairs.{Rising};
 ghost use Rattle.litemap_store.specs.Splits.{Splits};
 
@@ -62,6 +62,26 @@ pub fn extend_from_store<K: Ord + Drop, V: Drop, S: StoreIntoIterator<K, V> + Dr
         (2 + length (S.pairs other) * digits (length (S.pairs store.old) + length (S.pairs other)))
         count.old count.new }
 {
+    if lies_below(store, &other, count) {
+        return put_behind(store, other);
+    }
+    if lies_below(&other, store, count) {
+        return put_in_front(store, other);
+    }
+    merge_mixed(alloc, store, other, count)
+}
+
+// Puts the pairs of another store behind. Where one of them is empty it takes no memory.
+fn put_behind<K: Drop, V: Drop, S: StoreIntoIterator<K, V> + Drop>(
+    store: &mut S,
+    other: S,
+) -> Result<Option<S>, NoRoom<S>>
+    ensures joined { IfOk result (λ rest. (rest ≡ None) × (S.pairs store.new ≡ S.pairs store.old ++ S.pairs other)) }
+    ensures refused { IfErr result (λ refused. IsUndone S.pairs store.old other store.new refused.back) }
+    ensures full { OnErr result ((S.pairs store.old ≢ []) × (S.room store.old < length (S.pairs other))) }
+    ensures unchanged { S.pairs other ≡ [] → store.new ≡ store.old }
+    ensures taken { S.pairs store.old ≡ [] → S.pairs other ≢ [] → store.new ≡ other }
+{
     if other.lm_is_empty() {
         return Ok(None);
     }
@@ -69,16 +89,21 @@ pub fn extend_from_store<K: Ord + Drop, V: Drop, S: StoreIntoIterator<K, V> + Dr
         *store = other;
         return Ok(None);
     }
-    if lies_below(store, &other, count) {
-        store.lm_extend_end(other)?;
-        return Ok(None);
-    }
-    if lies_below(&other, store, count) {
-        store.lm_extend_start(other)?;
-        return Ok(None);
-    }
-    let rest = merge_mixed(alloc, store, other, count)?;
-    Ok(unless_empty(rest))
+    store.lm_extend_end(other)?;
+    Ok(None)
+}
+
+// Puts the pairs of another store in front.
+fn put_in_front<K: Drop, V: Drop, S: StoreIntoIterator<K, V>>(
+    store: &mut S,
+    other: S,
+) -> Result<Option<S>, NoRoom<S>>
+    ensures joined { IfOk result (λ rest. (rest ≡ None) × (S.pairs store.new ≡ S.pairs other ++ S.pairs store.old)) }
+    ensures refused { IfErr result (λ refused. IsUndone S.pairs store.old other store.new refused.back) }
+    ensures full { OnErr result ((S.room store.old < length (S.pairs other)) ⊎ (S.room other < length (S.pairs store.old))) }
+{
+    store.lm_extend_start(other)?;
+    Ok(None)
 }
 
 // Merges stores whose pairs lie mixed, and answers what is left over: side by side where the other one has many pairs, pair by
@@ -88,13 +113,12 @@ fn merge_mixed<K: Ord + Drop, V: Drop, S: StoreIntoIterator<K, V> + Drop>(
     store: &mut S,
     other: S,
     count: &mut Count,
-) -> Result<S, NoRoom<S>>
+) -> Result<Option<S>, NoRoom<S>>
     requires store { Rising K.cmp (S.pairs store.old) }
     requires other { Rising K.cmp (S.pairs other) }
     ensures merged { OnOk result (Merge K.cmp (S.pairs store.old) (S.pairs other) (S.pairs store.new)) }
-    ensures left { IfOk result (λ rest. S.pairs rest ≡ left K.cmp (S.pairs store.old) (S.pairs other)) }
-    ensures refused { OnErr result (S.pairs store.new ≡ S.pairs store.old) }
-    ensures back { IfErr result (λ refused. S.pairs refused.back ≡ S.pairs other) }
+    ensures left { IfOk result (IsLeft S.pairs (left K.cmp (S.pairs store.old) (S.pairs other))) }
+    ensures refused { IfErr result (λ refused. IsUndone S.pairs store.old other store.new refused.back) }
     ensures cost { RisesByAtMost
         (length (S.pairs other) * digits (length (S.pairs store.old) + length (S.pairs other)))
         count.old count.new }
@@ -139,8 +163,7 @@ fn binary_digits(number: usize) -> usize
 
 // What is left over, if it has pairs.
 fn unless_empty<K, V, S: Store<K, V> + Drop>(rest: S) -> Option<S>
-    ensures none { IsNone result ↔ (S.pairs rest ≡ []) }
-    ensures some { IfSome result (λ s. S.pairs s ≡ S.pairs rest) }
+    ensures { IsLeft S.pairs (S.pairs rest) result }
 {
     if rest.lm_is_empty() { None } else { Some(rest) }
 }

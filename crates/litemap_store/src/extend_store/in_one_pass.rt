@@ -1,14 +1,14 @@
 //! A merge in one pass, from the last pair of the other store down to the first.
 ghost use Rattle.std.specs.Prelude.{◌≡◌, ◌+◌, ◌*◌, ◌<◌, ◌≤◌, ◌++◌, ◌∷◌, [], drop, length, reverse, take};
-ghost use Rattle.std.specs.Prelude.{IfOk, IfErr, OnOk, OnErr, option_map, vec_capacity};
+ghost use Rattle.std.specs.Prelude.{IfOk, IfErr, OnOk, option_map, vec_capacity};
 ghost use Rattle.std.specs.List.{cons_option};
 ghost use Rattle.litemap_store.specs.Counts.{RisesByAtMost};
 ghost use Rattle.litemap_store.specs.Digits.{digits};
-ghost use Rattle.litemap_store.specs.Merge.{Merge, left};
+ghost use Rattle.litemap_store.specs.Merge.{IsLeft, IsUndone, Merge, left};
 ghost use Rattle.litemap_store.specs.Pairs.{Rising, above, at, below, key_or};
 
 use crate::extend::merge::take_last;
-use crate::extend_store::search;
+use crate::extend_store::{search, unless_empty};
 use crate::reserved::put_up;
 use crate::store::{Count, NoRoom, Store, StoreMut};
 use std::alloc::{AllocError, Global};
@@ -23,14 +23,13 @@ pub fn merge_in_one_pass<K: Ord + Drop, V: Drop, S: StoreMut<K, V> + Drop>(
     other: S,
     total: usize,
     count: &mut Count,
-) -> Result<S, NoRoom<S>>
+) -> Result<Option<S>, NoRoom<S>>
     requires store { Rising K.cmp (S.pairs store.old) }
     requires other { Rising K.cmp (S.pairs other) }
     requires total { total ≡ length (S.pairs store.old) + length (S.pairs other) }
     ensures merged { OnOk result (Merge K.cmp (S.pairs store.old) (S.pairs other) (S.pairs store.new)) }
-    ensures left { IfOk result (λ rest. S.pairs rest ≡ left K.cmp (S.pairs store.old) (S.pairs other)) }
-    ensures refused { OnErr result (S.pairs store.new ≡ S.pairs store.old) }
-    ensures back { IfErr result (λ refused. S.pairs refused.back ≡ S.pairs other) }
+    ensures left { IfOk result (IsLeft S.pairs (left K.cmp (S.pairs store.old) (S.pairs other))) }
+    ensures refused { IfErr result (λ refused. IsUndone S.pairs store.old other store.new refused.back) }
     ensures cost { RisesByAtMost
         (length (S.pairs other) * digits (length (S.pairs store.old) + length (S.pairs other)))
         count.old count.new }
@@ -45,7 +44,7 @@ pub fn merge_in_one_pass<K: Ord + Drop, V: Drop, S: StoreMut<K, V> + Drop>(
     put_up(&mut fresh, side);
     put_up(&mut rest, driven_out);
     *store = fresh;
-    Ok(rest)
+    Ok(unless_empty(rest))
 }
 
 // A vector and a store, both empty, with room for so many pairs each.

@@ -1,11 +1,12 @@
 //! A merge that walks both stores once, side by side.
-ghost use Rattle.std.specs.Prelude.{◌≡◌, ◌+◌, ◌≤◌, [], length, IfOk, IfErr, OnOk, OnErr, Some};
+ghost use Rattle.std.specs.Prelude.{◌≡◌, ◌+◌, ◌≤◌, [], length, IfOk, IfErr, OnOk, Some};
 ghost use Rattle.litemap_store.specs.Counts.{RisesByAtMost};
-ghost use Rattle.litemap_store.specs.Merge.{Merge, left};
+ghost use Rattle.litemap_store.specs.Merge.{IsLeft, IsUndone, Merge, left};
 ghost use Rattle.litemap_store.specs.Pairs.{Rising};
 ghost use Rattle.litemap_store.specs.Walked.{IsLowerFirst, IsTakenFirst};
 
 use crate::extend_store::coming::Coming;
+use crate::extend_store::unless_empty;
 use crate::into_iter::PairIntoIter;
 use crate::reserved::push_reserved;
 use crate::store::{Count, NoRoom, Store, StoreIntoIterator, StoreMut};
@@ -23,14 +24,13 @@ pub fn merge_side_by_side<K: Ord + Drop, V: Drop, S: StoreIntoIterator<K, V> + D
     other: S,
     total: usize,
     count: &mut Count,
-) -> Result<S, NoRoom<S>>
+) -> Result<Option<S>, NoRoom<S>>
     requires store { Rising K.cmp (S.pairs store.old) }
     requires other { Rising K.cmp (S.pairs other) }
     requires total { total ≡ length (S.pairs store.old) + length (S.pairs other) }
     ensures merged { OnOk result (Merge K.cmp (S.pairs store.old) (S.pairs other) (S.pairs store.new)) }
-    ensures left { IfOk result (λ rest. S.pairs rest ≡ left K.cmp (S.pairs store.old) (S.pairs other)) }
-    ensures refused { OnErr result (S.pairs store.new ≡ S.pairs store.old) }
-    ensures back { IfErr result (λ refused. S.pairs refused.back ≡ S.pairs other) }
+    ensures left { IfOk result (IsLeft S.pairs (left K.cmp (S.pairs store.old) (S.pairs other))) }
+    ensures refused { IfErr result (λ refused. IsUndone S.pairs store.old other store.new refused.back) }
     ensures cost { RisesByAtMost total count.old count.new }
 {
     let Ok(fresh) = S::lm_with_capacity(alloc, total) else {
@@ -42,7 +42,7 @@ pub fn merge_side_by_side<K: Ord + Drop, V: Drop, S: StoreIntoIterator<K, V> + D
     let olds = Coming::new(mem::replace(store, fresh).lm_into_iter());
     let news = Coming::new(other.lm_into_iter());
     put_both(store, &mut rest, olds, news, count);
-    Ok(rest)
+    Ok(unless_empty(rest))
 }
 
 // Puts the pairs of both into the store, the lower key first, and what is left over into the rest. They have room for all.
