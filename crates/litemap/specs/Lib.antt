@@ -8,7 +8,6 @@ pub mod FoundBy
 pub mod Lends
 pub mod Retained
 pub mod Seen
-pub mod Steps
 pub mod TryFault
 pub mod Within
 pub mod Written

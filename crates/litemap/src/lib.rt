@@ -4,7 +4,6 @@
 //! of memory, and then leaves the list. A removal gives no memory back: there is room for another pair then.
 #![tactic(auto)]
 
-pub mod calls;
 mod const_family;
 mod map;
 mod try_fault;

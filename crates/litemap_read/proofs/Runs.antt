@@ -8,11 +8,11 @@ use Rattle.litemap_store.specs.Pairs.{AllBelow, at, cut, index_of, put, value_at
 use Rattle.litemap_store.proofs.LastPairs.{Last-unique}
 use Rattle.litemap.specs.Seen.{Seen}
 use Rattle.litemap_read.specs.Laws.{SameAnswers}
-use Rattle.litemap.specs.Steps.{IsDone, IsRefused, Run, Step}
-use Rattle.litemap.specs.declared.calls.Answer.{Answer}
-use Rattle.litemap.specs.declared.calls.Answer.TheVariants.{Back, Flag, NoRoom, Number, Place, Value}
-use Rattle.litemap.specs.declared.calls.Call.{Call}
-use Rattle.litemap.specs.declared.calls.Call.TheVariants as call
+use Rattle.litemap_read.specs.Steps.{IsDone, IsRefused, Run, Step}
+use Rattle.litemap_read.specs.declared.calls.Answer.{Answer}
+use Rattle.litemap_read.specs.declared.calls.Answer.TheVariants.{Back, Flag, NoRoom, Number, Place, Value}
+use Rattle.litemap_read.specs.declared.calls.Call.{Call}
+use Rattle.litemap_read.specs.declared.calls.Call.TheVariants as call
 
 module _ {K V : Type 0} (cmp : K → K → Ordering) (call : Call K V) (answer : Answer K V) where
   pub Run-push : (start between end : Seen K V) (calls : List (Call K V)) (answers : List (Answer K V)) → Run cmp start calls answers between

@@ -3,10 +3,10 @@ use Rattle.std.specs.Prelude.{◌≡◌, ◌≢◌, List, Option}
 use Rattle.std.specs.List.{AllByRecursion}
 use Rattle.std.specs.declared.cmp.Ordering.{Ordering}
 use Rattle.litemap.specs.Seen.{Seen}
-use Rattle.litemap.specs.Steps.{Run}
-use Rattle.litemap.specs.declared.calls.Answer.{Answer}
-use Rattle.litemap.specs.declared.calls.Answer.TheVariants.{NoRoom}
-use Rattle.litemap.specs.declared.calls.Call.{Call}
+use Rattle.litemap_read.specs.Steps.{Run}
+use Rattle.litemap_read.specs.declared.calls.Answer.{Answer}
+use Rattle.litemap_read.specs.declared.calls.Answer.TheVariants.{NoRoom}
+use Rattle.litemap_read.specs.declared.calls.Call.{Call}
 
 module _ {K : Type 0} (cmp : K → K → Ordering) (V : Type 0) where
   -- no call was refused for want of memory

@@ -3,3 +3,4 @@ pub mod Source
 pub mod Results
 pub mod ReadFault
 pub mod Laws
+pub mod Steps

@@ -1,11 +1,11 @@
 //! Lists of calls of a map, and what holds of each run of them.
 ghost use Rattle.std.specs.Prelude.{◌≡◌, IfOk, IfErr, OnErr};
 ghost use Rattle.litemap_read.specs.Laws.{SameAnswers};
-ghost use Rattle.litemap.specs.Steps.{Run, Step};
-ghost use Rattle.litemap.specs.declared.calls.Call.TheVariants.{Extend};
+ghost use Rattle.litemap_read.specs.Steps.{Run, Step};
+ghost use Rattle.litemap_read.specs.declared.calls.Call.TheVariants.{Extend};
 
+pub use crate::calls::{Answer, Call};
 use litemap::LiteMap;
-pub use litemap::calls::{Answer, Call};
 use litemap::store::{NoRoom, StoreBulkMut};
 use std::alloc::Global;
 

@@ -1,6 +1,7 @@
 //! Reading maps from sources of pairs, and runs of calls of a map.
 #![tactic(auto)]
 
+mod calls;
 pub mod laws;
 mod read;
 mod source;

@@ -1,40 +1,33 @@
 -- Lines leave a map whose keys rise.
-use Rattle.std.proofs.Common.{◌≡◌, List, [], ◌∷◌, ℕ, inl, inr, sym, subst}
-use Rattle.std.specs.Ordering.{nat_cmp}
-use Rattle.std.specs.Cmp.Lexicographic.{slice_cmp, nat_list_cmp_total}
+use Rattle.std.proofs.Common.{◌≡◌, List, [], ◌∷◌, ℕ, sym, subst}
+use Rattle.std.specs.Cmp.Lexicographic.{nat_list_cmp_total}
 use Rattle.litemap_store.specs.Pairs.{Rising}
 use Rattle.litemap_store.proofs.Splitting.{Rising-put}
 use Rattle.litemap_store.proofs.Lookups.{Rising-cut}
-use Rattle.litemap.specs.declared.calls.Call.{Call}
-use Rattle.litemap.specs.declared.calls.Call.TheVariants.{Find, Get, Insert, Remove}
-use Rattle.names_core.specs.Line.{Spells}
-use Rattle.names_core.specs.Told.{Answers, Calls, Does, DoesEach, Nothing, ShowsAll, ShowsJson, TextMap}
+use Rattle.names_core.specs.Told.{Answers, Does, DoesEach, Nothing, Obeys, ShowsAll, ShowsJson, TextMap, by_bytes}
+use Rattle.names_core.specs.declared.line.Command.{Command}
+use Rattle.names_core.specs.declared.line.Command.TheVariants.{Del, Find, Get, Put}
 
 -- the texts rise by their bytes
 abbrev pub TextsRise : List (List ℕ × List ℕ) → Type 0
-TextsRise L = Rising (slice_cmp nat_cmp) L
+TextsRise L = Rising by_bytes L
 
 module _ (old next : TextMap) (said text : List ℕ) (rises : TextsRise old.pairs) where
   same_rises : next ≡ old → TextsRise next.pairs
   same_rises e = subst (λ (m : TextMap). TextsRise m.pairs) (sym e) rises
 
-  call_rises : (call : Call (List ℕ) (List ℕ)) → Spells said call → Answers old call text next → TextsRise next.pairs
-  call_rises (Insert k v) s (answer, inl (told, (puts, room), kept), e) = subst TextsRise (sym puts) (Rising-put nat_list_cmp_total old.pairs k v rises)
-  call_rises (Insert k v) s (answer, inr (none, (refused, room, kept)), e) = subst TextsRise (sym kept) rises
-  call_rises (Get k) s (answer, inl (told, same), e) = same_rises same
-  call_rises (Get k) s (answer, inr none, e) = absurd none
-  call_rises (Remove k) s (answer, inl (told, cuts, kept), e) = subst TextsRise (sym cuts) (Rising-cut nat_list_cmp_total old.pairs k rises)
-  call_rises (Remove k) s (answer, inr none, e) = absurd none
-  call_rises (Find k) s (answer, inl (told, same), e) = same_rises same
-  call_rises (Find k) s (answer, inr none, e) = absurd none
-  call_rises _ s a = absurd s
+  command_rises : (command : Command) → Answers old command text next → TextsRise next.pairs
+  command_rises (Put k v) (told, (puts, room, kept)) = subst TextsRise (sym puts) (Rising-put nat_list_cmp_total old.pairs k.now v.now rises)
+  command_rises (Get k) (told, same) = same_rises same
+  command_rises (Del k) (told, cuts, kept) = subst TextsRise (sym cuts) (Rising-cut nat_list_cmp_total old.pairs k.now rises)
+  command_rises (Find k) (told, same) = same_rises same
 
   line_rises : Does old said text next → TextsRise next.pairs
   line_rises does = elim does [
     | Nothing empty wrote same ↦ same_rises same
     | ShowsAll all wrote same ↦ same_rises same
     | ShowsJson json wrote same ↦ same_rises same
-    | Calls call spells answers ↦ call_rises call spells answers
+    | Obeys command spells answers ↦ command_rises command answers
   ]
 
 pub lines_rise : (start end : TextMap) (said : List (List ℕ)) (text : List ℕ) → TextsRise start.pairs → DoesEach start said text end → TextsRise end.pairs

@@ -1,29 +1,37 @@
 -- The laws over the definitions of a run, which the functions of the module `laws` have as their contracts.
 use Rattle.std.specs.Prelude.{◌≡◌, ◌⊎◌, ℕ, List, [], ◌∷◌, Some, Ok}
-use Rattle.std.specs.Ordering.{nat_cmp}
-use Rattle.std.specs.Cmp.Lexicographic.{slice_cmp}
 use Rattle.serde_json.specs.Data.{Data, string}
 use Rattle.serde_json.specs.Written.{compact_text}
 use Rattle.litemap_json.specs.Json.{tree}
-use Rattle.litemap.specs.Steps.{Run}
-use Rattle.litemap.specs.declared.calls.Answer.{Answer}
-use Rattle.litemap.specs.declared.calls.Call.{Call}
+use Rattle.litemap_read.specs.Steps.{Run}
+use Rattle.litemap_read.specs.declared.calls.Answer.{Answer}
+use Rattle.litemap_read.specs.declared.calls.Call.{Call}
+use Rattle.litemap_read.specs.declared.calls.Call.TheVariants as call
 use Rattle.names_core.specs.Line.{Spells, SpellsAll, SpellsJson}
-use Rattle.names_core.specs.Told.{DoesEach, TextMap, json_text}
+use Rattle.names_core.specs.Told.{DoesEach, TextMap, by_bytes, json_text}
+use Rattle.names_core.specs.declared.line.Command.{Command}
+use Rattle.names_core.specs.declared.line.Command.TheVariants as command
+
+-- the call of a map that a command is
+abbrev pub call_of : Command → Call (List ℕ) (List ℕ)
+call_of (command.Put key value) = call.Insert key.now value.now
+call_of (command.Get key) = call.Get key.now
+call_of (command.Del key) = call.Remove key.now
+call_of (command.Find key) = call.Find key.now
 
 -- the calls are those that the lines spell, in order: an empty line, `all` and `json` spell none
 abbrev pub SpellEach : List (List ℕ) → List (Call (List ℕ) (List ℕ)) → Type 0
 SpellEach [] calls = calls ≡ []
 SpellEach (said ∷ more) calls =
     (((said ≡ []) ⊎ (SpellsAll said ⊎ SpellsJson said)) × SpellEach more calls) ⊎
-    ((call : Call (List ℕ) (List ℕ)) × (rest : List (Call (List ℕ) (List ℕ)))
-    × Spells said call × (calls ≡ call ∷ rest) × SpellEach more rest)
+    ((command : Command) × (rest : List (Call (List ℕ) (List ℕ)))
+    × Spells said command × (calls ≡ call_of command ∷ rest) × SpellEach more rest)
 
 -- what lines do is a run of the calls that they spell
 abbrev pub LinesAreARun : Type 0
 LinesAreARun = (start end : TextMap) (said : List (List ℕ)) (text : List ℕ) → DoesEach start said text end →
     (calls : List (Call (List ℕ) (List ℕ))) × (answers : List (Answer (List ℕ) (List ℕ)))
-    × SpellEach said calls × Run (slice_cmp nat_cmp) start calls answers end
+    × SpellEach said calls × Run by_bytes start calls answers end
 
 -- wherever lines have led from an empty map, the text that answers `json` is the compact one of the map's JSON value, the
 -- tree that `to_json` makes of it

@@ -1,14 +1,10 @@
 -- The sorted list of strings by their bytes: each word of `Pairs` gives the bytes of what it gives for the strings.
-use Rattle.std.proofs.Common.{◌≡◌, ◌++◌, ◌∷◌, ℕ, Bool, true, false, List, [], length, map, Some, None, Ok, Err, IsSome, IsNone, Global, String, Ordering, cond, filter, find, is_some, is_lt, is_eq, is_gt, nat_cmp, option_map, string_bytes, string_cmp, refl, sym}
+use Rattle.std.proofs.Common.{◌≡◌, ◌++◌, ◌∷◌, ℕ, Bool, true, false, List, [], length, map, Some, None, Ok, Err, IsSome, IsNone, Global, String, cond, filter, find, is_some, is_lt, is_eq, is_gt, option_map, string_bytes, string_cmp, refl, sym}
 use Rattle.std.proofs.lemmas.List.{length-map, map-append}
-use Rattle.std.specs.Cmp.Lexicographic.{slice_cmp}
 use Rattle.litemap_store.specs.Pairs.{above, at, below, cut, index_of, key_or, put, value_at}
 use Rattle.litemap_store.specs.Queries.{by_text}
 use Rattle.names_core.specs.Reply.{pair_bytes}
-
--- the order of texts by their bytes
-abbrev pub by_bytes : List ℕ → List ℕ → Ordering
-by_bytes = slice_cmp nat_cmp
+use Rattle.names_core.specs.Told.{by_bytes}
 
 module _ {A B : Type 0} (v : A → B) (q : B → Bool) where
   filter-map : (xs : List A) → filter q (map v xs) ≡ map v (filter (λ x. q (v x)) xs)
@@ -53,3 +49,5 @@ put-bytes L k v =
     (elim (at by_text L (string_bytes k)) as
     (λ o. map pair_bytes (below by_text L (string_bytes k)) ++ ((key_or (option_map pair_bytes o) (string_bytes k), string_bytes v) ∷ map pair_bytes (above by_text L (string_bytes k))) ≡ map pair_bytes (below by_text L (string_bytes k)) ++ (pair_bytes (key_or o k, v) ∷ map pair_bytes (above by_text L (string_bytes k))))
     [ None ↦ refl | Some p ↦ refl ])
+
+pub ruleset in_bytes = (value-bytes, index-bytes, cut-bytes, put-bytes, absent, there)

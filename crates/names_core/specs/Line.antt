@@ -2,8 +2,8 @@
 use Rattle.std.specs.Prelude.{◌≡◌, ◌≢◌, ◌<◌, ◌≤◌, ◌++◌, ◌==◌, ℕ, List, [], ◌∷◌, length, All, codes, Option, Some, None}
 use Rattle.std.specs.Borrow.{Bor}
 use Rattle.std.specs.List.{slice_split}
-use Rattle.litemap.specs.declared.calls.Call.{Call}
-use Rattle.litemap.specs.declared.calls.Call.TheVariants.{Find, Get, Insert, Remove}
+use Rattle.names_core.specs.declared.line.Command.{Command}
+use Rattle.names_core.specs.declared.line.Command.TheVariants.{Del, Find, Get, Put}
 
 -- what stands between line feeds; behind a last line feed stands an empty line, which does nothing
 abbrev pub lines_of : List ℕ → List (List ℕ)
@@ -22,13 +22,12 @@ IsGraphic b = (33 ≤ b) × (b ≤ 126)
 abbrev pub IsWord : List ℕ → Type 0
 IsWord word = (0 < length word) × All IsGraphic word
 
--- the line spells the call: its name and its words, parted by single spaces. No line spells any other call
-abbrev pub Spells : List ℕ → Call (List ℕ) (List ℕ) → Type 0
-Spells line (Insert key value) = (line ≡ codes "put " ++ (key ++ (32 ∷ value))) × IsWord key × IsWord value
-Spells line (Get key) = (line ≡ codes "get " ++ key) × IsWord key
-Spells line (Remove key) = (line ≡ codes "del " ++ key) × IsWord key
-Spells line (Find key) = (line ≡ codes "find " ++ key) × IsWord key
-Spells line call = ⊥
+-- the line spells the command: its name and its words, parted by single spaces
+abbrev pub Spells : List ℕ → Command → Type 0
+Spells line (Put key value) = (line ≡ codes "put " ++ (key.now ++ (32 ∷ value.now))) × IsWord key.now × IsWord value.now
+Spells line (Get key) = (line ≡ codes "get " ++ key.now) × IsWord key.now
+Spells line (Del key) = (line ≡ codes "del " ++ key.now) × IsWord key.now
+Spells line (Find key) = (line ≡ codes "find " ++ key.now) × IsWord key.now
 
 -- the line asks for all pairs
 abbrev pub SpellsAll : List ℕ → Type 0
@@ -38,9 +37,9 @@ SpellsAll line = line ≡ codes "all"
 abbrev pub SpellsJson : List ℕ → Type 0
 SpellsJson line = line ≡ codes "json"
 
--- the line is not empty, spells no call, and does not ask for all pairs or for the map as JSON
+-- the line is not empty, spells no command, and does not ask for all pairs or for the map as JSON
 pub record IsBad (line : List ℕ) : Type 0 where
   pub not_empty : line ≢ []
   pub not_all : SpellsAll line → ⊥
   pub not_json : SpellsJson line → ⊥
-  pub no_call : (call : Call (List ℕ) (List ℕ)) → Spells line call → ⊥
+  pub no_command : (command : Command) → Spells line command → ⊥

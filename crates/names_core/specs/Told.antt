@@ -1,18 +1,17 @@
 -- What a run writes for its input, and its status. A map is seen as the list of its pairs, and its room. That what answers
 -- `json` is the text of the map's JSON value is a law of the crate `names`.
-use Rattle.std.specs.Prelude.{◌≡◌, ◌≤◌, ◌+◌, ◌++◌, ℕ, List, [], ◌∷◌, length, Option, Some, None, Ok, Err}
+use Rattle.std.specs.Prelude.{◌≡◌, ◌≤◌, ◌+◌, ◌++◌, ℕ, List, [], ◌∷◌, length, Option, Some, None, IsSome, IsNone, Result, Ok, Err}
 use Rattle.std.specs.Prelude.{codes, flat_map}
 use Rattle.std.specs.Ordering.{nat_cmp}
+use Rattle.std.specs.declared.cmp.Ordering.{Ordering}
 use Rattle.std.specs.Cmp.Lexicographic.{slice_cmp}
 use Rattle.std.specs.Fmt.{decimal}
 use Rattle.litemap.specs.Seen.{Seen}
-use Rattle.litemap.specs.Steps.{Step}
-use Rattle.litemap.specs.declared.calls.Answer.{Answer}
-use Rattle.litemap.specs.declared.calls.Answer.TheVariants.{Place, Value}
-use Rattle.litemap.specs.declared.calls.Call.{Call}
-use Rattle.litemap.specs.declared.calls.Call.TheVariants.{Find, Get, Insert, Remove}
+use Rattle.litemap_store.specs.Pairs.{at, cut, index_of, put, value_at}
 use Rattle.json.specs.Print.{quoted}
 use Rattle.names_core.specs.Line.{IsBad, Spells, SpellsAll, SpellsJson, lines_of}
+use Rattle.names_core.specs.declared.line.Command.{Command}
+use Rattle.names_core.specs.declared.line.Command.TheVariants.{Del, Find, Get, Put}
 
 -- the most bytes that a run takes
 abbrev pub most_bytes : ℕ
@@ -22,24 +21,28 @@ most_bytes = 1048576
 abbrev pub TextMap : Type 0
 TextMap = Seen (List ℕ) (List ℕ)
 
+-- the order of texts by their bytes
+abbrev pub by_bytes : List ℕ → List ℕ → Ordering
+by_bytes = slice_cmp nat_cmp
+
 -- the text as a line: a line feed ends it
 abbrev pub line : List ℕ → List ℕ
 line text = text ++ (10 ∷ [])
+
+-- what answers `put`, by the value before
+abbrev pub old_text : Option (List ℕ) → List ℕ
+old_text None = line (codes "new")
+old_text (Some old) = line (codes "old " ++ old)
 
 -- a value, or none
 abbrev pub value_text : Option (List ℕ) → List ℕ
 value_text None = line (codes "none")
 value_text (Some value) = line (codes "= " ++ value)
 
--- what is written where the call has that answer, if it is one of those that are written
-abbrev pub answer_text : Call (List ℕ) (List ℕ) → Answer (List ℕ) (List ℕ) → Option (List ℕ)
-answer_text (Insert key value) (Value None) = Some (line (codes "new"))
-answer_text (Insert key value) (Value (Some old)) = Some (line (codes "old " ++ old))
-answer_text (Get key) (Value value) = Some (value_text value)
-answer_text (Remove key) (Value value) = Some (value_text value)
-answer_text (Find key) (Place (Ok i)) = Some (line (codes "ok " ++ decimal i))
-answer_text (Find key) (Place (Err i)) = Some (line (codes "err " ++ decimal i))
-answer_text call answer = None
+-- where a key is, or where it would go
+abbrev pub place_text : Result ℕ ℕ → List ℕ
+place_text (Ok i) = line (codes "ok " ++ decimal i)
+place_text (Err i) = line (codes "err " ++ decimal i)
 
 -- a key and its value
 abbrev pub pair_text : List ℕ × List ℕ → List ℕ
@@ -62,18 +65,28 @@ json_text (pair ∷ more) = 123 ∷ (member_text pair ++ (later_members more ++ 
 abbrev pub json_answer : List (List ℕ × List ℕ) → List ℕ
 json_answer L = line (json_text L)
 
--- the call is a step of the sorted list, from `old` to `next`, and the text is that of its answer
-abbrev pub Answers : TextMap → Call (List ℕ) (List ℕ) → List ℕ → TextMap → Type 0
-Answers old call text next =
-    (answer : Answer (List ℕ) (List ℕ)) × Step (slice_cmp nat_cmp) old call answer next
-    × (answer_text call answer ≡ Some text)
+-- the value is put at the key: the room is lowered by one at most, and stays where the key was there
+abbrev pub Puts : TextMap → List ℕ → List ℕ → TextMap → Type 0
+Puts old key value next =
+    (next.pairs ≡ put by_bytes old.pairs key value) × (old.room ≤ next.room + 1)
+    × (IsSome (at by_bytes old.pairs key) → next.room ≡ old.room)
+
+-- the command, done on the map `old`, is answered by the text and leaves the map `next`
+abbrev pub Answers : TextMap → Command → List ℕ → TextMap → Type 0
+Answers old (Put key value) text next =
+    (text ≡ old_text (value_at by_bytes old.pairs key.now)) × Puts old key.now value.now next
+Answers old (Get key) text next = (text ≡ value_text (value_at by_bytes old.pairs key.now)) × (next ≡ old)
+Answers old (Del key) text next =
+    (text ≡ value_text (value_at by_bytes old.pairs key.now)) × (next.pairs ≡ cut by_bytes old.pairs key.now)
+    × (IsNone (at by_bytes old.pairs key.now) → next.room ≡ old.room)
+Answers old (Find key) text next = (text ≡ place_text (index_of by_bytes old.pairs key.now)) × (next ≡ old)
 
 -- the line, done on the map `old`, writes the text and leaves the map `next`
 pub data Does (old : TextMap) (said text : List ℕ) (next : TextMap) : Type 0 where
   Nothing : said ≡ [] → text ≡ [] → next ≡ old → Does old said text next
   ShowsAll : SpellsAll said → text ≡ flat_map pair_text old.pairs → next ≡ old → Does old said text next
   ShowsJson : SpellsJson said → text ≡ json_answer old.pairs → next ≡ old → Does old said text next
-  Calls : (call : Call (List ℕ) (List ℕ)) → Spells said call → Answers old call text next → Does old said text next
+  Obeys : (command : Command) → Spells said command → Answers old command text next → Does old said text next
 
 -- the lines, done one after another from the map `old`, write the text and leave the map `end`
 abbrev pub DoesEach : TextMap → List (List ℕ) → List ℕ → TextMap → Type 0

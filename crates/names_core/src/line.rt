@@ -1,8 +1,21 @@
-//! The lines of the input, and the words behind a name in one.
+//! The lines of the input, and the command that one spells.
 ghost use Rattle.std.specs.Prelude.{◌≡◌, ◌++◌, ◌∷◌, ◌↔◌, ◌==◌, ℕ, List, MatchOption, All, IsTrue, false};
-ghost use Rattle.names_core.specs.Line.{IsWord, lines_left, lines_of};
+ghost use Rattle.names_core.specs.Line.{IsWord, Spells, lines_left, lines_of};
+ghost use Rattle.names_core.specs.declared.line.Command.{Command};
 
 use std::str;
+
+/// A command with its words.
+pub enum Command<'a> {
+    /// To put a value at a key.
+    Put(&'a str, &'a str),
+    /// The value of a key.
+    Get(&'a str),
+    /// To remove a key, with its value.
+    Del(&'a str),
+    /// The place of a key.
+    Find(&'a str),
+}
 
 /// The first line of the bytes, and what follows its line feed.
 #[tactic(auto, using(std::proofs::lemmas::List::Splits::slice_split_at, std::proofs::lemmas::List::Splits::slice_split_none))]
@@ -24,17 +37,33 @@ fn cut_at(bytes: &[u8], byte: u8) -> Option<(&[u8], &[u8])>
     Some((&bytes[..at], &bytes[at + 1..]))
 }
 
-/// What follows the name in the line, if that is a word.
+/// The command that a line spells, if it spells one.
+pub fn parse(line: &[u8]) -> Option<Command<'_>>
+    ensures { MatchOption result ((command : Command) → Spells line.now command → ⊥) (Spells line.now) }
+{
+    if let Some((key, value)) = words_behind(line, b"put ") {
+        return Some(Command::Put(key, value));
+    }
+    if let Some(key) = word_behind(line, b"get ") {
+        return Some(Command::Get(key));
+    }
+    if let Some(key) = word_behind(line, b"del ") {
+        return Some(Command::Del(key));
+    }
+    Some(Command::Find(word_behind(line, b"find ")?))
+}
+
+// What follows the name in the line, if that is a word.
 #[tactic(auto, using(std::proofs::lemmas::List::append_cancel_left))]
-pub fn word_behind<'a>(line: &'a [u8], name: &[u8]) -> Option<&'a str>
+fn word_behind<'a>(line: &'a [u8], name: &[u8]) -> Option<&'a str>
     ensures { MatchOption result ((key : List ℕ) → line.now ≡ name.now ++ key → IsWord key → ⊥)
         (λ key. (line.now ≡ name.now ++ key.now) × IsWord key.now) }
 {
     Some(word(behind(line, name)?)?)
 }
 
-/// What follows the name in the line, if that is two words parted by one space.
-pub fn words_behind<'a>(line: &'a [u8], name: &[u8]) -> Option<(&'a str, &'a str)>
+// What follows the name in the line, if that is two words parted by one space.
+fn words_behind<'a>(line: &'a [u8], name: &[u8]) -> Option<(&'a str, &'a str)>
     ensures { MatchOption result
         ((key value : List ℕ) → line.now ≡ name.now ++ (key ++ (32 ∷ value)) → IsWord key → IsWord value → ⊥)
         (λ pair. (line.now ≡ name.now ++ (pair.0.now ++ (32 ∷ pair.1.now)))

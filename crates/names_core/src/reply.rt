@@ -1,18 +1,12 @@
 //! What answers a line, and what the line does to the names.
 ghost use Rattle.std.specs.Prelude.{◌≡◌, ◌++◌, ℕ, List, Some, [], IfOk, IfSome, OnOk, MatchOption, flat_map};
 ghost use Rattle.std.specs.Prelude.{option_copied, option_map, slice_get, string_bytes};
-ghost use Rattle.std.specs.Ordering.{nat_cmp};
-ghost use Rattle.std.specs.Cmp.Lexicographic.{slice_cmp};
 ghost use Rattle.json.specs.Print.{print};
-ghost use Rattle.litemap.specs.Steps.{Step};
-ghost use Rattle.litemap.specs.declared.calls.Answer.TheVariants.{Place, Value};
-ghost use Rattle.litemap.specs.declared.calls.Call.{Call};
-ghost use Rattle.litemap.specs.declared.calls.Call.TheVariants.{Find, Insert};
-ghost use Rattle.names_core.specs.Line.{Spells};
+ghost use Rattle.litemap_store.specs.Pairs.{value_at};
 ghost use Rattle.names_core.specs.Reply.{IsAnswer, names_of, pair_bytes, pair_tokens};
-ghost use Rattle.names_core.specs.Told.{Answers, answer_text, json_answer, pair_text, value_text};
+ghost use Rattle.names_core.specs.Told.{Answers, Puts, by_bytes, json_answer, old_text, pair_text, place_text, value_text};
 
-use crate::line::{word_behind, words_behind};
+use crate::line::{Command, parse};
 use json::Writer;
 use litemap::LiteMap;
 use litemap::store::{Store, StoreMut};
@@ -47,61 +41,52 @@ pub fn reply<S: StoreMut<String, String>>(
     if line == b"json".as_slice() {
         return Ok(Answer::Done(json(alloc, names)?));
     }
-    match call(alloc, names, line)? {
-        Some(text) => Ok(Answer::Done(text)),
+    match parse(line) {
+        Some(command) => Ok(Answer::Done(obey(alloc, names, command)?)),
         None => Ok(Answer::Bad(format!(in alloc; "bad line {number}\n")?)),
     }
 }
 
-// Does the call that a line spells, if it spells one, and gives the text that answers it.
-fn call<S: StoreMut<String, String>>(
+// Does a command, and gives the text that answers it.
+#[tactic(auto, using(crate::proofs::Bytes::in_bytes))]
+fn obey<S: StoreMut<String, String>>(
     alloc: Global,
     names: &mut Names<S>,
-    line: &[u8],
-) -> Result<Option<String>, AllocError>
-    ensures { IfOk result (λ text. MatchOption text
-        ((call : Call (List ℕ) (List ℕ)) → Spells line.now call → ⊥)
-        (λ text. (call : Call (List ℕ) (List ℕ)) × Spells line.now call
-        × Answers (names_of names.old) call (string_bytes text) (names_of names.new))) }
+    command: Command<'_>,
+) -> Result<String, AllocError>
+    ensures { IfOk result
+        (λ text. Answers (names_of names.old) command.entry (string_bytes text) (names_of names.new)) }
 {
-    if let Some((key, value)) = words_behind(line, b"put ") {
-        let old = put(alloc, names, key, value)?;
-        return Ok(Some(old_text(alloc, old)?));
+    match command {
+        Command::Put(key, value) => put(alloc, names, key, value),
+        Command::Get(key) => value_text(alloc, names.get(key)),
+        Command::Del(key) => value_text(alloc, names.remove(key).as_ref()),
+        Command::Find(key) => place_text(alloc, names.find_index(key)),
     }
-    if let Some(key) = word_behind(line, b"get ") {
-        return Ok(Some(value_text(alloc, names.get(key))?));
-    }
-    if let Some(key) = word_behind(line, b"del ") {
-        return Ok(Some(value_text(alloc, names.remove(key).as_ref())?));
-    }
-    if let Some(key) = word_behind(line, b"find ") {
-        return Ok(Some(place_text(alloc, names.find_index(key))?));
-    }
-    Ok(None)
 }
 
-// Puts a value at a key, and gives the one before.
+// Puts a value at a key, and gives the text that answers it.
 fn put<S: StoreMut<String, String>>(
     alloc: Global,
     names: &mut Names<S>,
     key: &str,
     value: &str,
-) -> Result<Option<String>, AllocError>
-    ensures { IfOk result (λ old. Step (slice_cmp nat_cmp) (names_of names.old) (Insert key.now value.now)
-        (Value (option_map string_bytes old)) (names_of names.new)) }
+) -> Result<String, AllocError>
+    ensures { IfOk result
+        (λ text. (string_bytes text ≡ old_text (value_at by_bytes (names_of names.old).pairs key.now))
+        × Puts (names_of names.old) key.now value.now (names_of names.new)) }
 {
     let key = String::from_str(alloc, key)?;
     let value = String::from_str(alloc, value)?;
     match names.insert(key, value) {
-        Ok(old) => Ok(old),
+        Ok(old) => old_text(alloc, old),
         Err(_) => Err(AllocError),
     }
 }
 
 // What answers `put`, by the value before.
 fn old_text(alloc: Global, old: Option<String>) -> Result<String, AllocError>
-    ensures { (key value : List ℕ) → IfOk result
-        (λ text. answer_text (Insert key value) (Value (option_map string_bytes old)) ≡ Some (string_bytes text)) }
+    ensures { IfOk result (λ text. string_bytes text ≡ old_text (option_map string_bytes old)) }
 {
     match old {
         None => String::from_str(alloc, "new\n"),
@@ -122,8 +107,7 @@ fn value_text(alloc: Global, value: Option<&String>) -> Result<String, AllocErro
 
 // What answers `find`, by the place.
 fn place_text(alloc: Global, place: Result<usize, usize>) -> Result<String, AllocError>
-    ensures { (key : List ℕ) → IfOk result
-        (λ text. answer_text (Find key) (Place place) ≡ Some (string_bytes text)) }
+    ensures { IfOk result (λ text. string_bytes text ≡ place_text place) }
 {
     match place {
         Ok(index) => format!(in alloc; "ok {index}\n"),

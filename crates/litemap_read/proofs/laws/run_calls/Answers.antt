@@ -1,8 +1,8 @@
 use Rattle.std.proofs.Common.{arith, ◌≡◌, ◌∙◌, List, subst}
 use Rattle.std.proofs.IntoIterSteps.{All-taken}
 use Rattle.std.proofs.lemmas.Grind.{common_steps}
-use Rattle.litemap.specs.Steps.{Run}
-use Rattle.litemap.specs.declared.calls.Call.{Call}
+use Rattle.litemap_read.specs.Steps.{Run}
+use Rattle.litemap_read.specs.declared.calls.Call.{Call}
 use Rattle.litemap_read.proofs.Runs.{Run-push}
 use Rattle.litemap_read.proofs.laws.run_calls.Goals as goal
 

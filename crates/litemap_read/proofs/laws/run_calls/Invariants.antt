@@ -1,7 +1,7 @@
 use Rattle.std.proofs.Common.{◌+◌, ◌≤◌, length}
 use Rattle.std.specs.Prelude.{vec_capacity, vec_len}
 use Rattle.std.specs.Vec.Iter.{into_iter_items}
-use Rattle.litemap.specs.Steps.{Run}
+use Rattle.litemap_read.specs.Steps.{Run}
 use Rattle.litemap_read.proofs.laws.run_calls.Given as goal
 
 abbrev pub invariant-loop-call : goal.invariant-loop-call

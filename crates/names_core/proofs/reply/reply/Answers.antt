@@ -1,5 +1,5 @@
-use Rattle.names_core.specs.Told.{Calls}
+use Rattle.names_core.specs.Told.{Obeys}
 use Rattle.names_core.proofs.reply.reply.Goals as goal
 
-pub returns-in-Some : goal.returns-in-Some
-returns-in-Some g c = let (call, spells, answers) = rw c.in-Some.is at c.in_ok-text.ensures in Calls call spells answers
+pub returns-in_ok-obey-in-Some : goal.returns-in_ok-obey-in-Some
+returns-in_ok-obey-in-Some g c = Obeys c.in-Some.command c.in-Some.ensures c.in_ok-obey-in-Some.ensures

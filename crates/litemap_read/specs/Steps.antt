@@ -5,10 +5,10 @@ use Rattle.std.specs.declared.cmp.Ordering.{Ordering}
 use Rattle.litemap_store.specs.Last.{Last}
 use Rattle.litemap_store.specs.Pairs.{AllBelow, at, cut, index_of, put, value_at, value_in}
 use Rattle.litemap.specs.Seen.{Seen}
-use Rattle.litemap.specs.declared.calls.Answer.{Answer}
-use Rattle.litemap.specs.declared.calls.Answer.TheVariants.{Back, Done, Flag, NoRoom, Number, Place, Value}
-use Rattle.litemap.specs.declared.calls.Call.{Call}
-use Rattle.litemap.specs.declared.calls.Call.TheVariants as call
+use Rattle.litemap_read.specs.declared.calls.Answer.{Answer}
+use Rattle.litemap_read.specs.declared.calls.Answer.TheVariants.{Back, Done, Flag, NoRoom, Number, Place, Value}
+use Rattle.litemap_read.specs.declared.calls.Call.{Call}
+use Rattle.litemap_read.specs.declared.calls.Call.TheVariants as call
 
 module _ {K V : Type 0} (cmp : K → K → Ordering) where
   -- the pair was put in: the list is L, and the room is lowered by one at most
