@@ -7,3 +7,11 @@ pub(crate) mod numbers;
 pub(crate) mod pairs;
 pub(crate) mod settings;
 pub(crate) mod texts;
+
+use std::alloc::{AllocError, Global};
+
+// A name and a value, as texts of their own.
+fn owned_pair(alloc: Global, name: &str, value: &str) -> Result<(String, String), AllocError> {
+    let name = name.to_string(alloc)?;
+    Ok((name, value.to_string(alloc)?))
+}

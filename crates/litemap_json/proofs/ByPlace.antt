@@ -1,18 +1,16 @@
 -- A list that is read by places.
-use Rattle.std.proofs.Common.{◌≡◌, ℕ, suc, ◌+◌, ◌<◌, List, ◌∷◌, length, get_or, drop, slice_get, inl, inr, refl, Option, Some, None, option_map, IsSome, Err, Result, sym, ◌∙◌, ap, arith, add-one, drop-cons}
-use Rattle.std.proofs.lemmas.Option.{get_or_from_slice_get, slice_get_cases, slice_get_within}
+use Rattle.std.proofs.Common.{◌≡◌, ℕ, suc, ◌+◌, ◌<◌, List, [], ◌∷◌, ◌++◌, length, get_or, Global, String, string_bytes, drop, slice_get, refl, Option, Some, None, option_map, Ok, Err, Result, sym, ◌∙◌, ap, add-one, drop-cons, append_assoc}
+use Rattle.std.proofs.lemmas.List.{map-append}
+use Rattle.std.proofs.lemmas.Option.{get_or_from_slice_get, slice_get_within}
 use Rattle.serde_json.specs.Data.{Data, Members, put}
-use Rattle.litemap_json.specs.Json.{object_with}
+use Rattle.litemap_json.specs.Json.{before, object_with}
+use Rattle.litemap_json.specs.Reading.{after, pair_seen, seen}
+use Rattle.litemap_json.specs.declared.fault.JsonFault.{JsonFault}
 use Rattle.litemap_json.specs.declared.fault.WriteFault.{WriteFault}
 use Rattle.litemap_json.specs.declared.fault.WriteFault.TheVariants.{KeyWithoutText}
 
 pub at_place : {X : Type 0} (L : List X) (i : ℕ) (x : X) → Some x ≡ slice_get L i → (i < length L) × (x ≡ get_or L i x)
 at_place L i x e = (slice_get_within L i x (sym e), sym (get_or_from_slice_get L i x x (sym e)))
-
--- what is seen of a place within the list is there
-pub there : {X Y : Type 0} (f : Y → X) (r : Option Y) (L : List X) (i : ℕ) → option_map f r ≡ slice_get L i → i < length L → IsSome r
-there f (Some y) L i e h = refl
-there f None L i e h = elim (slice_get_cases L i).1 [ inl (x, low, is, got) ↦ absurd (cc) | inr (past, none) ↦ absurd (omega arith) ]
 
 pub next : {X : Type 0} (L : List X) (i : ℕ) (x : X) → i < length L → x ≡ get_or L i x → drop i L ≡ x ∷ drop (i + 1) L
 next L i x h e = rw add-one (drop-cons L i x h ∙ ap (λ y. y ∷ drop (suc i) L) (sym e))
@@ -22,6 +20,19 @@ module _ {K V : Type 0} (text : K → Option (List ℕ)) (key_json : K → Data)
       → object_with text key_json json i ms (drop i L) ≡ r → object_with text key_json json (i + 1) (put s (json x.1) ms) (drop (i + 1) L) ≡ r
   made_step L i x s ms r h e named made = (rw (next L i x h e, named) at made)
 
-  pub made_stop : (L : List (K × V)) (i : ℕ) (x : K × V) (ms : Members) (r : Result Data WriteFault) → i < length L → x ≡ get_or L i x → text x.0 ≡ None
+  pub made_stop : (L : List (K × V)) (i : ℕ) (x : K × V) (name : Option (String Global)) (ms : Members) (r : Result Data WriteFault) → Some x ≡ slice_get L i → option_map string_bytes name ≡ text x.0 → name ≡ None
       → object_with text key_json json i ms (drop i L) ≡ r → r ≡ Err (KeyWithoutText i)
-  made_stop L i x ms r h e named made = sym (rw (next L i x h e, named) at made)
+  made_stop L i x name ms r here made none so_far =
+      let found = at_place L i x here in
+      let unnamed : text x.0 ≡ None = sym made ∙ ap (option_map string_bytes) none in
+      sym (rw (next L i x found.0 found.1, unnamed) at so_far)
+
+after_more : (ps : List (Data × Data)) (p : Data × Data) (r : Result (List (Data × Data)) JsonFault) → after ps (before (Ok p) r) ≡ after (ps ++ p ∷ []) r
+after_more ps p (Err e) = refl
+after_more ps p (Ok qs) = ap Ok (sym (append_assoc ps (p ∷ []) qs))
+
+-- a pair more is read
+pub seen_more : {K V : Type 0} (key_json : K → Data) (json : V → Data) (L M : List (K × V)) (x : K × V) (all next : Result (List (Data × Data)) JsonFault) (a : Result (Data × Data) JsonFault)
+    → M ≡ L ++ x ∷ [] → a ≡ Ok (pair_seen key_json json x) → all ≡ after (seen key_json json L) (before a next) → all ≡ after (seen key_json json M) next
+seen_more key_json json L M x all next a pushed read so_far =
+    rw pushed (rw (map-append (pair_seen key_json json) L (x ∷ [])) ((rw read at so_far) ∙ after_more (seen key_json json L) (pair_seen key_json json x) next))

@@ -32,10 +32,10 @@ text_of_tree d ts text w e same =
     }
 
 -- a member before others
-member_before : (s : List ℕ) (d : Data) (ms : Members) (mid named new end : List Token) → named ≡ mid ++ key s ∷ [] → WritesTree d named new → WritesMembers ms new end → WritesMembers (member s d ms) mid end
-member_before s d ms mid named new end k w more = (
+member_before : (s : List ℕ) (d : Data) (ms : Members) (mid new end : List Token) → WritesTree d (mid ++ key s ∷ []) new → WritesMembers ms new end → WritesMembers (member s d ms) mid end
+member_before s d ms mid new end w more = (
   json.member s w.0 more.0,
-  more.1 ∙ ap (λ ts. ts ++ members_tokens more.0) (w.1 ∙ ap (λ ts. ts ++ json_tokens w.0) k) ∙ append_assoc (mid ++ key s ∷ []) (json_tokens w.0) (members_tokens more.0)
+  more.1 ∙ ap (λ ts. ts ++ members_tokens more.0) w.1 ∙ append_assoc (mid ++ key s ∷ []) (json_tokens w.0) (members_tokens more.0)
       ∙ append_assoc mid (key s ∷ []) (json_tokens w.0 ++ members_tokens more.0),
   ap₂ (json.member s) w.2 more.2,
 )
@@ -45,10 +45,10 @@ module _ {V : Type 0} (json_of : V → Data) where
   abbrev pub NamedHeld : List (String Global × V) → ℕ → List Token → Type 0
   NamedHeld M i mid = (end : List Token) → WritesMembers (named json_of (drop i M)) mid end → WritesMembers (named json_of M) (begin_object ∷ []) end
 
-  pub named_more : (M : List (String Global × V)) (i : ℕ) (x : String Global × V) (mid opened new : List Token) → i < length M → x ≡ get_or M i x → opened ≡ mid ++ key (string_bytes x.0) ∷ []
-      → WritesTree (json_of x.1) opened new → NamedHeld M i mid → NamedHeld M (i + 1) new
-  named_more M i x mid opened new h e k w held = λ end rest. held end (subst (λ N. WritesMembers (named json_of N) mid end) (sym (next M i x h e))
-      (member_before (string_bytes x.0) (json_of x.1) (named json_of (drop (i + 1) M)) mid opened new end k w rest))
+  pub named_more : (M : List (String Global × V)) (i : ℕ) (x : String Global × V) (mid new : List Token) → i < length M → x ≡ get_or M i x
+      → WritesTree (json_of x.1) (mid ++ key (string_bytes x.0) ∷ []) new → NamedHeld M i mid → NamedHeld M (i + 1) new
+  named_more M i x mid new h e w held = λ end rest. held end (subst (λ N. WritesMembers (named json_of N) mid end) (sym (next M i x h e))
+      (member_before (string_bytes x.0) (json_of x.1) (named json_of (drop (i + 1) M)) mid new end w rest))
 
   pub named_end : (M : List (String Global × V)) (i : ℕ) (mid new : List Token) → length M ≤ i → new ≡ mid ++ end_object ∷ [] → NamedHeld M i mid → WritesTree (object (named json_of M)) [] new
   named_end M i mid new h e held =
@@ -84,9 +84,9 @@ module _ {K V : Type 0} (text : K → Option (List ℕ)) (key_json : K → Data)
   pub pairs_none : (L : List (K × V)) (last : List ℕ) → PairsHeld L 0 last (begin_object ∷ [])
   pairs_none L last = (no_members, λ s h. tt, refl, λ rest end w. w)
 
-  pub pairs_more : (L : List (K × V)) (i : ℕ) (x : K × V) (last s : List ℕ) (mid named new : List Token) → i < length L → x ≡ get_or L i x → text x.0 ≡ Some s
-      → (0 < i → slice_cmp nat_cmp last s ≡ Less) → named ≡ mid ++ key s ∷ [] → WritesTree (json_of x.1) named new → PairsHeld L i last mid → PairsHeld L (i + 1) s new
-  pairs_more L i x last s mid named new h e is rises k w held =
+  pub pairs_more : (L : List (K × V)) (i : ℕ) (x : K × V) (last s : List ℕ) (mid new : List Token) → i < length L → x ≡ get_or L i x → text x.0 ≡ Some s
+      → (0 < i → slice_cmp nat_cmp last s ≡ Less) → WritesTree (json_of x.1) (mid ++ key s ∷ []) new → PairsHeld L i last mid → PairsHeld L (i + 1) s new
+  pairs_more L i x last s mid new h e is rises w held =
       let d = json_of x.1 in
       let ms = held.0 in
       let behind = put-above s d ms (held.1 s (λ later. above last s (rises later))) in (
@@ -94,7 +94,7 @@ module _ {K V : Type 0} (text : K → Option (List ℕ)) (key_json : K → Data)
         λ r up. above-joined r s d ms (held.1 r (λ later. above last r (nat_list_cmp_total.trans last s r (rises later) (below r s (up (omega arith)))))) (up (omega arith)),
         subst (λ m. object_with text key_json json_of (i + 1) m (drop (i + 1) L) ≡ object_with text key_json json_of 0 no_members L) behind
             (made_step text key_json json_of L i x s ms (object_with text key_json json_of 0 no_members L) h e is held.2),
-        λ rest end more. subst (λ m. WritesMembers m (begin_object ∷ []) end) (sym (joined-one ms rest s d)) (held.3 (member s d rest) end (member_before s d rest mid named new end k w more)),
+        λ rest end more. subst (λ m. WritesMembers m (begin_object ∷ []) end) (sym (joined-one ms rest s d)) (held.3 (member s d rest) end (member_before s d rest mid new end w more)),
       )
 
   pub pairs_end : (L : List (K × V)) (i : ℕ) (last : List ℕ) (mid new : List Token) → length L ≤ i → new ≡ mid ++ end_object ∷ [] → PairsHeld L i last mid

@@ -7,7 +7,8 @@ ghost use Rattle.litemap_json.specs.declared.fault.WriteFault.TheVariants.{Memor
 
 use crate::fault::WriteFault;
 use crate::item::{JsonItem, JsonKey};
-use crate::text::text_of;
+use crate::pairs::{pair_at, push_pair};
+use crate::text::{text_of, write_member};
 use json::Writer;
 use litemap::store::Store;
 use litemap::{LiteMap, VecMap};
@@ -25,13 +26,11 @@ pub(crate) fn by_name<'m, K: JsonKey, V: JsonItem, S: Store<K, V>>(
 {
     let mut items = Vec::with_capacity(alloc, map.len())?;
     for place in 0..map.len() {
-        let (key, item) = map.get_indexed(place).unwrap();
+        let (key, item) = pair_at(map, place);
         let Some(name) = key.key_text(alloc)? else {
             return Err(WriteFault::KeyWithoutText { place });
         };
-        let Ok(()) = items.push((name, item)) else {
-            return Err(WriteFault::Memory);
-        };
+        push_pair(&mut items, (name, item))?;
     }
     Ok(LiteMap::from_vec(alloc, items)?)
 }
@@ -47,9 +46,8 @@ pub(crate) fn named_text<V: JsonItem>(
     let mut out = Writer::new(Vec::new(alloc));
     out.begin_object()?;
     for place in 0..items.len() {
-        let (name, item) = items.get_indexed(place).unwrap();
-        out.key(name.as_str())?;
-        item.write_to(alloc, &mut out)?;
+        let (name, item) = pair_at(items, place);
+        write_member(alloc, name, *item, &mut out)?;
     }
     out.end_object()?;
     Ok(text_of(out))

@@ -1,11 +1,13 @@
 //! Pairs of items, as arrays of two.
-ghost use Rattle.std.specs.Prelude.{◌≡◌, IfOk, None, option_map};
+ghost use Rattle.std.specs.Prelude.{◌≡◌, ◌++◌, ◌∷◌, ◌<◌, [], IfOk, None, OnOk, Some, length, option_map, slice_get};
 ghost use Rattle.serde_json.specs.View.{view};
 ghost use Rattle.litemap_json.specs.Item.{pair_item, pair_json, two_of};
 ghost use Rattle.litemap_json.specs.OneTree.{pair_one_tree};
 
 use crate::item::{ItemFault, JsonItem, JsonKey};
 use json::Writer;
+use litemap::LiteMap;
+use litemap::store::Store;
 use serde_json::Value;
 use std::alloc::{AllocError, Global};
 
@@ -35,6 +37,24 @@ pub fn array_of_two(alloc: Global, first: Value, second: Value) -> Result<Value,
     parts.push(first)?;
     parts.push(second)?;
     Ok(Value::from(parts))
+}
+
+/// The pair at a place within a map.
+pub(crate) fn pair_at<K: Ord, V, S: Store<K, V>>(map: &LiteMap<K, V, S>, place: usize) -> (&K, &V)
+    requires { place < length map.now.pairs }
+    ensures { Some (result.0.now, result.1.now) ≡ slice_get map.now.pairs place }
+{
+    map.get_indexed(place).unwrap()
+}
+
+/// Puts a pair behind others.
+pub(crate) fn push_pair<K: Drop, V: Drop>(
+    pairs: &mut Vec<(K, V)>,
+    pair: (K, V),
+) -> Result<(), AllocError>
+    ensures { OnOk result (pairs.new.items ≡ pairs.old.items ++ pair ∷ []) }
+{
+    Ok(pairs.push(pair)?)
 }
 
 impl<A: JsonItem + Drop, B: JsonItem + Drop> JsonItem for (A, B) {

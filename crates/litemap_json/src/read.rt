@@ -1,5 +1,5 @@
 //! A JSON value as a map.
-ghost use Rattle.std.specs.Prelude.{◌≡◌, ◌≢◌, Err, IfErr, IfOk, OnOk, string_bytes, ◌++◌, ◌∷◌, []};
+ghost use Rattle.std.specs.Prelude.{◌≡◌, ◌≢◌, Err, IfErr, IfOk, string_bytes};
 ghost use Rattle.serde_json.specs.View.{items_view, members_view, view};
 ghost use Rattle.litemap_json.specs.Item.{two_of};
 ghost use Rattle.litemap_json.specs.Json.{member_at, member_pairs, pairs, row_at, row_pairs};
@@ -9,7 +9,7 @@ ghost use Rattle.litemap_json.specs.declared.item.ItemFault.TheVariants as of_it
 
 use crate::fault::JsonFault;
 use crate::item::{ItemFault, JsonItem, JsonKey};
-use crate::pairs::two_items;
+use crate::pairs::{push_pair, two_items};
 use litemap::LiteMap;
 use litemap::store::StoreBulkMut;
 use serde_json::{Map, Value};
@@ -153,12 +153,4 @@ fn read_member<K: JsonKey + Drop, V: JsonItem + Drop>(
         Err(fault) => Err(item_fault(place, fault)),
         Ok(item) => Ok((key, item)),
     }
-}
-
-// Puts a pair behind those found.
-fn push_pair<K: Drop, V: Drop>(found: &mut Vec<(K, V)>, pair: (K, V)) -> Result<(), JsonFault>
-    ensures pushed { OnOk result (found.new.items ≡ found.old.items ++ pair ∷ []) }
-    ensures refused { IfErr result (λ e. e ≡ reading.Memory) }
-{
-    found.push(pair).map_err(|_| JsonFault::Memory)
 }

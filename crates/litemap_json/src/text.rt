@@ -1,5 +1,5 @@
 //! A map as a JSON text, pair by pair.
-ghost use Rattle.std.specs.Prelude.{◌≡◌, ◌≢◌, ℕ, ◌<◌, [], ◌∷◌, Ok, Err, IfOk, IfErr, IfSome, OnOk, true, string_bytes};
+ghost use Rattle.std.specs.Prelude.{◌≡◌, ◌≢◌, ℕ, ◌<◌, [], ◌∷◌, ◌++◌, Ok, Err, IfOk, IfErr, IfSome, OnOk, true, string_bytes};
 ghost use Rattle.std.specs.Ordering.{nat_cmp};
 ghost use Rattle.std.specs.Cmp.Lexicographic.{slice_cmp};
 ghost use Rattle.std.specs.declared.cmp.Ordering.TheVariants.{Less};
@@ -14,6 +14,7 @@ ghost use Rattle.litemap_json.specs.declared.fault.WriteFault.TheVariants.{Memor
 use crate::fault::WriteFault;
 use crate::item::{JsonItem, JsonKey};
 use crate::named::{by_name, named_text};
+use crate::pairs::pair_at;
 use json::Writer;
 use litemap::LiteMap;
 use litemap::store::Store;
@@ -61,7 +62,7 @@ fn array_text<K: JsonKey, V: JsonItem, S: Store<K, V>>(
     let mut out = Writer::new(Vec::new(alloc));
     out.begin_array()?;
     for place in 0..map.len() {
-        let (key, item) = map.get_indexed(place).unwrap();
+        let (key, item) = pair_at(map, place);
         write_row(alloc, key, item, &mut out)?;
     }
     out.end_array()?;
@@ -99,19 +100,33 @@ fn object_text<K: JsonKey, V: JsonItem, S: Store<K, V>>(
     out.begin_object()?;
     let mut last = String::new(alloc);
     for place in 0..map.len() {
-        let (key, item) = map.get_indexed(place).unwrap();
+        let (key, item) = pair_at(map, place);
         let Some(name) = key.key_text(alloc)? else {
             return Err(WriteFault::KeyWithoutText { place });
         };
         if !rises(place, &last, &name) {
             return Ok(None);
         }
-        out.key(name.as_str())?;
-        item.write_to(alloc, &mut out)?;
+        write_member(alloc, &name, item, &mut out)?;
         last = name;
     }
     out.end_object()?;
     Ok(Some(text_of(out)))
+}
+
+/// Writes a member.
+pub(crate) fn write_member<V: JsonItem>(
+    alloc: Global,
+    name: &String,
+    item: &V,
+    out: &mut Writer,
+) -> Result<(), AllocError>
+    ensures tree { OnOk result (WritesTree (V.json item.now)
+        (out.old.tokens ++ key_token (string_bytes name.now) ∷ []) out.new.tokens) }
+    ensures before { out.new.before ≡ out.old.before }
+{
+    out.key(name.as_str())?;
+    item.write_to(alloc, out)
 }
 
 // Whether the name at a place is above the one before; the first has none before it.

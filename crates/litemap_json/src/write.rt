@@ -11,7 +11,7 @@ ghost use Rattle.litemap_json.specs.declared.fault.WriteFault.TheVariants.{Memor
 
 use crate::fault::WriteFault;
 use crate::item::{JsonItem, JsonKey};
-use crate::pairs::array_of_two;
+use crate::pairs::{array_of_two, pair_at};
 use litemap::LiteMap;
 use litemap::store::Store;
 use serde_json::{Map, Value};
@@ -52,7 +52,7 @@ fn array_of<K: JsonKey, V: JsonItem, S: Store<K, V>>(
     let len = map.len();
     let mut list = Vec::with_capacity(alloc, len)?;
     for place in 0..len {
-        let (key, item) = map.get_indexed(place).unwrap();
+        let (key, item) = pair_at(map, place);
         list.push(row_of(alloc, key, item)?)?;
     }
     Ok(Value::from(list))
@@ -86,7 +86,7 @@ fn object_of<K: JsonKey, V: JsonItem, S: Store<K, V>>(
     let mut members = Map::new(alloc);
     put_member(&mut members, name, item.to_value(alloc)?)?;
     for place in 1..map.len() {
-        let (key, item) = map.get_indexed(place).unwrap();
+        let (key, item) = pair_at(map, place);
         let Some(name) = key.key_text(alloc)? else {
             return Err(WriteFault::KeyWithoutText { place });
         };

@@ -2,6 +2,7 @@
 use crate::borrowed::{self, Borrowed};
 use crate::headers::{self, Headers};
 use crate::message::{Field, read_headers};
+use crate::shown::owned_pair;
 use litemap::LiteMap;
 use std::alloc::{AllocError, Global};
 use std::io;
@@ -27,7 +28,8 @@ pub(crate) fn show(rt: &impl Print, alloc: Global) -> anyhow::Result<()> {
 fn owned(alloc: Global) -> Result<Headers, AllocError> {
     let mut owned = LiteMap::new_vec(alloc);
     for (name, value) in FIELDS {
-        headers::set(&mut owned, name.to_string(alloc)?, value.to_string(alloc)?)?;
+        let (name, value) = owned_pair(alloc, name, value)?;
+        headers::set(&mut owned, name, value)?;
     }
     Ok(owned)
 }

@@ -1,5 +1,6 @@
 //! A configuration.
-use crate::config::{configured, overlay, override_with, prefer};
+use crate::config::{Settings, configured, overlay, override_with, prefer};
+use crate::shown::owned_pair;
 use std::alloc::{AllocError, Global};
 
 const DEFAULTS: &[(&str, &str)] = &[("port", "80"), ("host", "here"), ("log", "off")];
@@ -10,23 +11,30 @@ const LATER: &[(&str, &str)] = &[("log", "on"), ("a", "b")];
 
 /// Writes what the callers answer.
 pub(crate) fn show(rt: &impl Print, alloc: Global) -> anyhow::Result<()> {
-    let mut settings = configured(alloc, texts(alloc, DEFAULTS)?, texts(alloc, USER)?)?;
+    let mut settings = of_texts(alloc, DEFAULTS, USER)?;
     println!(rt; "configured {settings:?}")?;
-    let later = configured(alloc, texts(alloc, LATER)?, Vec::new(alloc))?;
-    let driven_out = overlay(&mut settings, alloc, later)?;
+    let driven_out = overlay(&mut settings, alloc, of_texts(alloc, LATER, &[])?)?;
     println!(rt; "overlaid {settings:?}, driven out {driven_out:?}")?;
-    let again = configured(alloc, texts(alloc, &[("a", "c")])?, Vec::new(alloc))?;
-    prefer(&mut settings, alloc, again)?;
+    prefer(&mut settings, alloc, of_texts(alloc, &[("a", "c")], &[])?)?;
     println!(rt; "preferred {settings:?}")?;
     override_with(&mut settings, alloc, texts(alloc, DEFAULTS)?)?;
     println!(rt; "overridden {settings:?}")?;
     Ok(())
 }
 
+fn of_texts(
+    alloc: Global,
+    defaults: &[(&str, &str)],
+    user: &[(&str, &str)],
+) -> Result<Settings, AllocError> {
+    let defaults = texts(alloc, defaults)?;
+    configured(alloc, defaults, texts(alloc, user)?)
+}
+
 fn texts(alloc: Global, pairs: &[(&str, &str)]) -> Result<Vec<(String, String)>, AllocError> {
     let mut texts = Vec::new(alloc);
     for (name, value) in pairs {
-        texts.push((name.to_string(alloc)?, value.to_string(alloc)?))?;
+        texts.push(owned_pair(alloc, name, value)?)?;
     }
     Ok(texts)
 }

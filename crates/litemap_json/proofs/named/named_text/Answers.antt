@@ -1,5 +1,4 @@
-use Rattle.std.proofs.Common.{◌++◌, ◌∷◌, [], arith, ◌∙◌, string_bytes, ap}
-use Rattle.json.specs.Token.{key}
+use Rattle.std.proofs.Common.{arith, ◌∙◌, string_bytes}
 use Rattle.serde_json.specs.Data.{object}
 use Rattle.litemap_json.specs.Written.{named}
 use Rattle.litemap_json.proofs.ByPlace.{at_place}
@@ -9,10 +8,10 @@ use Rattle.litemap_json.proofs.named.named_text.Goals as goal
 pub loop-place-preserved : goal.loop-place-preserved
 loop-place-preserved g c =
     let M = c.args.items.now.pairs in
-    let found = at_place M c.loop-place.place _ (rw c.unwrap.ensures at c.get_indexed.ensures) in (
-      c.write_to.ensures.before ∙ c.key.ensures.room.0 ∙ c.loop-place.invariant.0,
-      named_more (λ r. g.V.JsonItem.json r.now) M c.loop-place.place _ c.loop-place.out.tokens c.key.new.self.tokens c.write_to.new.out.tokens found.0 found.1
-          (c.in_ok-key.ensures.ok ∙ ap (λ t. c.loop-place.out.tokens ++ key t ∷ []) c.as_str.ensures.value) c.in_ok-write_to.ensures.tree c.loop-place.invariant.1,
+    let found = at_place M c.loop-place.place _ c.pair_at.ensures in (
+      c.write_member.ensures.before ∙ c.loop-place.invariant.0,
+      named_more (λ r. g.V.JsonItem.json r.now) M c.loop-place.place _ c.loop-place.out.tokens c.write_member.new.out.tokens found.0 found.1
+          c.in_ok-write_member.ensures.tree c.loop-place.invariant.1,
     )
 
 pub returns : goal.returns

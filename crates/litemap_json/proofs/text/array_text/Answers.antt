@@ -8,8 +8,8 @@ use Rattle.litemap_json.proofs.text.array_text.Goals as goal
 pub loop-place-preserved : goal.loop-place-preserved
 loop-place-preserved g c =
     let L = c.args.map.now.pairs in
-    let x : g.row.K.Denot × g.row.V.Denot = (c.unwrap.result.0.now, c.unwrap.result.1.now) in
-    let found = at_place L c.loop-place.place x (rw c.unwrap.ensures at c.get_indexed.ensures) in (
+    let x : g.row.K.Denot × g.row.V.Denot = (c.pair_at.result.0.now, c.pair_at.result.1.now) in
+    let found = at_place L c.loop-place.place x c.pair_at.ensures in (
       c.write_row.ensures.before ∙ c.loop-place.invariant.0,
       rows_more g.K.JsonKey.text g.K.JsonItem.json g.V.JsonItem.json L c.loop-place.place x c.loop-place.out.tokens c.write_row.new.out.tokens found.0 found.1 c.in_ok-write_row.ensures.tree c.loop-place.invariant.1,
     )

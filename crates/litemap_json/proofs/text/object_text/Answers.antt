@@ -1,6 +1,6 @@
-use Rattle.std.proofs.Common.{◌≡◌, ◌++◌, ◌∷◌, [], arith, ◌∙◌, None, option_map, Some, string_bytes, subst, sym, ap}
-use Rattle.json.specs.Token.{begin_object, key}
-use Rattle.litemap_json.proofs.ByPlace.{at_place, made_stop, there}
+use Rattle.std.proofs.Common.{◌≡◌, ◌++◌, ◌∷◌, [], arith, ◌∙◌, option_map, Some, string_bytes, subst, sym, ap}
+use Rattle.json.specs.Token.{begin_object}
+use Rattle.litemap_json.proofs.ByPlace.{at_place, made_stop}
 use Rattle.litemap_json.proofs.Texts.{PairsHeld, pairs_end, pairs_more, pairs_none, text_of_tree}
 use Rattle.litemap_json.proofs.text.object_text.Goals as goal
 
@@ -13,27 +13,20 @@ loop-place-init g c =
           (pairs_none g.K.JsonKey.text g.K.JsonItem.json g.V.JsonItem.json c.args.map.now.pairs (string_bytes c.new-last.result)),
     )
 
-pub unwrap-requires : goal.unwrap-requires
-unwrap-requires g c = there _ c.get_indexed.result c.args.map.now.pairs c.loop-place.place c.get_indexed.ensures (omega arith)
-
 pub returns-in_default-clause-refused : goal.returns-in_default-clause-refused
 returns-in_default-clause-refused g c =
-    let L = c.args.map.now.pairs in
-    let x : g.row.K.Denot × g.row.V.Denot = (c.unwrap.result.0.now, c.unwrap.result.1.now) in
-    let found = at_place L c.loop-place.place x (rw c.unwrap.ensures at c.get_indexed.ensures) in
-    let unnamed : g.K.JsonKey.text x.0 ≡ None = sym c.in_ok-name.ensures.text ∙ ap (option_map string_bytes) c.in_default.is in
-    λ _. made_stop g.K.JsonKey.text g.K.JsonItem.json g.V.JsonItem.json L c.loop-place.place x c.loop-place.invariant.1.0 _ found.0 found.1 unnamed c.loop-place.invariant.1.2
+    λ _. made_stop g.K.JsonKey.text g.K.JsonItem.json g.V.JsonItem.json c.args.map.now.pairs c.loop-place.place _ _ _ _ c.pair_at.ensures c.in_ok-name.ensures.text c.in_default.is c.loop-place.invariant.1.2
 
 pub loop-place-preserved : goal.loop-place-preserved
 loop-place-preserved g c =
     let L = c.args.map.now.pairs in
-    let x : g.row.K.Denot × g.row.V.Denot = (c.unwrap.result.0.now, c.unwrap.result.1.now) in
-    let found = at_place L c.loop-place.place x (rw c.unwrap.ensures at c.get_indexed.ensures) in
+    let x : g.row.K.Denot × g.row.V.Denot = (c.pair_at.result.0.now, c.pair_at.result.1.now) in
+    let found = at_place L c.loop-place.place x c.pair_at.ensures in
     let s = string_bytes c.in-Some.name in
     let named : g.K.JsonKey.text x.0 ≡ Some s = sym c.in_ok-name.ensures.text ∙ ap (option_map string_bytes) c.in-Some.is in (
-      c.write_to.ensures.before ∙ c.key.ensures.room.0 ∙ c.loop-place.invariant.0,
-      pairs_more g.K.JsonKey.text g.K.JsonItem.json g.V.JsonItem.json L c.loop-place.place x (string_bytes c.loop-place.last) s c.loop-place.out.tokens c.key.new.self.tokens c.write_to.new.out.tokens
-          found.0 found.1 named (c.rises.ensures c.if-not-rises.false) (c.in_ok-key.ensures.ok ∙ ap (λ t. c.loop-place.out.tokens ++ key t ∷ []) c.as_str.ensures.value) c.in_ok-write_to.ensures.tree c.loop-place.invariant.1,
+      c.write_member.ensures.before ∙ c.loop-place.invariant.0,
+      pairs_more g.K.JsonKey.text g.K.JsonItem.json g.V.JsonItem.json L c.loop-place.place x (string_bytes c.loop-place.last) s c.loop-place.out.tokens c.write_member.new.out.tokens
+          found.0 found.1 named (c.rises.ensures c.if-not-rises.false) c.in_ok-write_member.ensures.tree c.loop-place.invariant.1,
     )
 
 pub returns-clause-text : goal.returns-clause-text

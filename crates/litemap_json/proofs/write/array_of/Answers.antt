@@ -7,8 +7,8 @@ use Rattle.litemap_json.proofs.write.array_of.Goals as goal
 pub loop-place-preserved : goal.loop-place-preserved
 loop-place-preserved g c =
     let L = c.args.map.now.pairs in
-    let x : g.row.K.Denot × g.row.V.Denot = (c.unwrap.result.0.now, c.unwrap.result.1.now) in
-    let found = at_place L c.loop-place.place x (rw c.unwrap.ensures at c.get_indexed.ensures) in
+    let x : g.row.K.Denot × g.row.V.Denot = (c.pair_at.result.0.now, c.pair_at.result.1.now) in
+    let found = at_place L c.loop-place.place x c.pair_at.ensures in
     record {
       made = grind (arith, common_steps, found.0, found.1);
       readable = array_step g.K.Ord.cmp g.met.K.Ord.total g.K.JsonKey.text g.K.JsonKey.key g.K.JsonItem.item g.V.JsonItem.item g.K.JsonItem.json g.V.JsonItem.json

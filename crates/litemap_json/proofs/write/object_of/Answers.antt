@@ -1,4 +1,4 @@
-use Rattle.std.proofs.Common.{arith, ◌≡◌, Some, None, string_bytes, option_map, refl, sym, ap, ◌∙◌}
+use Rattle.std.proofs.Common.{arith, ◌≡◌, Some, string_bytes, option_map, refl, sym, ap, ◌∙◌}
 use Rattle.serde_json.specs.View.{view, members_view}
 use Rattle.serde_json.specs.Data.{no_members}
 use Rattle.litemap_json.proofs.Again.{gathered_none, object_step, object_end}
@@ -7,17 +7,13 @@ use Rattle.litemap_json.proofs.write.object_of.Goals as goal
 
 pub returns-in_default-clause-refused : goal.returns-in_default-clause-refused
 returns-in_default-clause-refused g c =
-    let L = c.args.map.now.pairs in
-    let x : g.row.K.Denot × g.row.V.Denot = (c.unwrap.result.0.now, c.unwrap.result.1.now) in
-    let found = at_place L c.loop-place.place x (rw c.unwrap.ensures at c.get_indexed.ensures) in
-    let unnamed : g.K.JsonKey.text x.0 ≡ None = sym c.in_ok-name.ensures.text ∙ ap (option_map string_bytes) c.in_default.is in
-    λ _. made_stop g.K.JsonKey.text g.K.JsonItem.json g.V.JsonItem.json L c.loop-place.place x (members_view c.loop-place.members.entries) _ found.0 found.1 unnamed c.loop-place.invariant.made
+    λ _. made_stop g.K.JsonKey.text g.K.JsonItem.json g.V.JsonItem.json c.args.map.now.pairs c.loop-place.place _ _ _ _ c.pair_at.ensures c.in_ok-name.ensures.text c.in_default.is c.loop-place.invariant.made
 
 pub loop-place-preserved : goal.loop-place-preserved
 loop-place-preserved g c =
     let L = c.args.map.now.pairs in
-    let x : g.row.K.Denot × g.row.V.Denot = (c.unwrap.result.0.now, c.unwrap.result.1.now) in
-    let found = at_place L c.loop-place.place x (rw c.unwrap.ensures at c.get_indexed.ensures) in
+    let x : g.row.K.Denot × g.row.V.Denot = (c.pair_at.result.0.now, c.pair_at.result.1.now) in
+    let found = at_place L c.loop-place.place x c.pair_at.ensures in
     let s = string_bytes c.in-Some.name in
     let ms = members_view c.loop-place.members.entries in
     let named : g.K.JsonKey.text x.0 ≡ Some s = sym c.in_ok-name.ensures.text ∙ ap (option_map string_bytes) c.in-Some.is in
