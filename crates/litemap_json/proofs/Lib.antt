@@ -4,6 +4,7 @@ pub mod ArraysOfTwo
 pub mod ByPlace
 pub mod ByText
 pub mod Floats
+pub mod Held
 pub mod OneMap
 pub mod Joined
 pub mod NamedItems

@@ -14,7 +14,8 @@ use Rattle.std.specs.Fmt.{signed_decimal}
 use Rattle.std.specs.Str.{bytes_eq}
 use Rattle.std.specs.Str.Parse.{signed_digits_value, without_leading_sign, IsNumeral, ParsesSigned}
 use Rattle.litemap_json.specs.Item.{kept, signed_fits, whole_json, whole_key, whole_of_text}
-use Rattle.litemap_json.specs.Widths.{IsHeld, held_by_128}
+use Rattle.litemap_json.specs.Widths.{IsHeld}
+use Rattle.litemap_json.proofs.Held.{held_by_128}
 
 -- where it fits, what is printed is read
 parse_printed : {E : Type 0} (z : ℤ) (s : List ℕ) (r : Result ℤ E) → FitsSigned w128 z → s ≡ signed_decimal z → ParsesSigned w128 10 s r → r ≡ Ok z

@@ -47,7 +47,7 @@ impl<T: Whole> JsonItem for T {
 
     ghost item = { whole_item T.fits };
 
-    #[tactic(auto, using(crate::specs::Widths::some_held))]
+    #[tactic(auto, using(crate::proofs::Held::some_held))]
     fn to_value(&self, _alloc: Global) -> Result<Value, AllocError>
         ensures tree { IfOk result (λ value. view value ≡ whole_json (T.number self.now)) }
         ensures reads_back { OnOk result
@@ -80,7 +80,7 @@ impl<T: Whole> JsonKey for T {
         Ok(Some(decimal_text(alloc, self.wide())?))
     }
 
-    #[tactic(auto, using(crate::specs::Widths::held_by_128))]
+    #[tactic(auto, using(crate::proofs::Held::held_by_128))]
     fn from_key_text(_alloc: Global, name: &str) -> Result<Option<T>, AllocError>
         ensures key { IfOk result (λ found. option_map (λ x. whole_json (T.number x)) found ≡ whole_key T.fits name.now) }
         ensures one_spelling { IfOk result (λ found. IfSome found (λ k. Some (signed_decimal (T.number k)) ≡ Some name.now)) }
