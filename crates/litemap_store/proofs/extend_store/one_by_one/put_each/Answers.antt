@@ -21,14 +21,12 @@ loop-key-preserved g c =
 
 pub put_in-driven_out-requires-clause-room : goal.put_in-driven_out-requires-clause-room
 put_in-driven_out-requires-clause-room g c =
-    let shorter = ap length (g.met.S.KeyValueIntoIter.PairIntoIter.first _ _ _ c.in-Some.ensures.steps) in
-    let room = c.loop-key.invariant.room in
+    let shorter = ap length (g.met.S.KeyValueIntoIter.PairIntoIter.first _ _ _ c.in-Some.ensures.steps) in let room = c.loop-key.invariant.room in
     omega arith
 
 pub push_some-requires : goal.push_some-requires
 push_some-requires g c =
-    let shorter = ap length (g.met.S.KeyValueIntoIter.PairIntoIter.first _ _ _ c.in-Some.ensures.steps) in
-    let rest_room = c.loop-key.invariant.rest_room in
+    let shorter = ap length (g.met.S.KeyValueIntoIter.PairIntoIter.first _ _ _ c.in-Some.ensures.steps) in let rest_room = c.loop-key.invariant.rest_room in
     omega arith
 
 pub loop-key-init : goal.loop-key-init
