@@ -1,6 +1,6 @@
 -- One pair after the other is merged.
---     MergedUpTo, MergedUpTo-none, MergedUpTo-more      what is merged of B
-use Rattle.std.proofs.Common.{◌≡◌, suc, ◌+◌, ◌*◌, ◌≤◌, arith, List, [], ◌∷◌, ◌++◌, length, Option, Some, None, option_map, inl, refl, sym, ap, ◌∙◌, subst, append_assoc, length-append, Ordering}
+--     MergedUpTo, MergedUpTo-none, MergedUpTo-more, MergedUpTo-all      what is merged of B
+use Rattle.std.proofs.Common.{◌≡◌, suc, ◌+◌, ◌*◌, ◌≤◌, arith, List, [], ◌∷◌, ◌++◌, length, Option, Some, None, option_map, inl, refl, sym, ap, ◌∙◌, subst, append-nil, append_assoc, length-append, Ordering}
 use Rattle.std.proofs.Math.Nat.{suc-mul, zero-mul}
 use Rattle.std.specs.Cmp.{IsTotalOrder}
 use Rattle.std.specs.List.{cons_option}
@@ -65,3 +65,9 @@ module _ {K V : Type 0} (cmp : K → K → Ordering) (o : IsTotalOrder cmp) wher
             in_turn (length Y * d) (digits (length M)) (length (Y ++ b ∷ []) * d) (omega arith) h.cost c
             );
       }
+
+  pub MergedUpTo-all : (A B Y Z M rest : List (K × V)) (before now : Count) → MergedUpTo A B Y Z M rest before now → Z ≡ []
+      → Merge cmp A B M × ((rest ≡ left cmp A B) × RisesByAtMost (length B * digits (length A + length B)) before now)
+  MergedUpTo-all A B Y Z M rest before now h z =
+      let all : Y ≡ B = sym (append-nil Y) ∙ ap (λ W. Y ++ W) (sym z) ∙ h.given in
+      (subst (λ W. Merge cmp A W M) all h.merged, (subst (λ W. rest ≡ left cmp A W) all h.left_over, subst (λ W. RisesByAtMost (length W * digits (length A + length B)) before now) all h.cost))

@@ -20,8 +20,7 @@ use crate::extend_store::side_by_side::merge_side_by_side;
 use crate::store::{Count, NoRoom, Store, StoreIntoIterator};
 use std::alloc::Global;
 
-// A merge puts each pair in by itself where there are fewer than so many for each binary digit of both lengths' sum. Among more
-// it moves each pair of both instead.
+// A merge puts pairs in one by one where there are fewer than so many for each binary digit of both lengths' sum.
 const FEW: usize = 3;
 
 /// Merges a store's pairs into another's. Where an equal key is there, that key stays and takes the new value; the old

@@ -11,8 +11,7 @@ returns-then-is_err-clause-refused_some g c =
 
 pub returns-then-is_err-clause-refused : goal.returns-then-is_err-clause-refused
 returns-then-is_err-clause-refused g c =
-    let len : c.len-len.result ≡ length c.args.items.now.items = search rules in
-    rw (c.truncate.ensures.items, c.make_room.ensures.items, c.loop-item.invariant, len) (take-append_seam c.args.items.now.items c.loop-item.yielded)
+    let len : c.len-len.result ≡ length c.args.items.now.items = search rules in rw (c.truncate.ensures.items, c.make_room.ensures.items, c.loop-item.invariant, len) (take-append_seam c.args.items.now.items c.loop-item.yielded)
 
 pub loop-item-preserved : goal.loop-item-preserved
 loop-item-preserved g c =

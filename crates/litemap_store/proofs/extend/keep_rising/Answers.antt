@@ -21,8 +21,7 @@ behind A S R₁ R₂ from len a all =
 lengths : (g : Over) (c : After-sort_last g) → (length (take c.args.from c.deref_mut.result.now) ≡ c.args.from) × (c.args.from + length c.sort_last.new.pairs ≡ c.args.pairs.now.len)
 lengths g c = (grind (arith, common_steps), grind (arith, common_steps))
 
-kept : (g : Over) (c : After-truncate g) → (length (take c.args.from c.deref_mut.result.now) ≡ c.args.from) × (c.args.from + length c.sort_last.new.pairs ≡ c.args.pairs.now.len)
-    → c.truncate.new.self.items ≡ take c.args.from c.deref_mut.result.now ++ take c.in_ok-kept.kept c.sort_last.new.pairs
+kept : (g : Over) (c : After-truncate g) → (length (take c.args.from c.deref_mut.result.now) ≡ c.args.from) × (c.args.from + length c.sort_last.new.pairs ≡ c.args.pairs.now.len) → c.truncate.new.self.items ≡ take c.args.from c.deref_mut.result.now ++ take c.in_ok-kept.kept c.sort_last.new.pairs
 kept g c len =
     let A = take c.args.from c.deref_mut.result.now in
     c.truncate.ensures.items ∙ ap (take (c.args.from + c.in_ok-kept.kept)) (behind A c.sort_last.new.pairs _ _ c.args.from c.args.pairs.now.len len.0 len.1)
@@ -35,14 +34,12 @@ returns-clause-before g c =
 
 pub returns-in_err-kept-clause-before : goal.returns-in_err-kept-clause-before
 returns-in_err-kept-clause-before g c =
-    let A = take c.args.from c.deref_mut.result.now in
-    let len = lengths g (goal.at.returns-in_err-kept-clause-before g c).After-sort_last in
+    let A = take c.args.from c.deref_mut.result.now in let len = lengths g (goal.at.returns-in_err-kept-clause-before g c).After-sort_last in
     rw (behind A c.sort_last.new.pairs _ _ c.args.from c.args.pairs.now.len len.0 len.1, take_at A c.sort_last.new.pairs c.args.from len.0) (ap (take c.args.from) c.deref_mut.ensures.value)
 
 pub returns-clause-last : goal.returns-clause-last
 returns-clause-last g c =
-    let A = take c.args.from c.deref_mut.result.now in
-    let len = lengths g (goal.at.returns-clause-last g c).After-sort_last in
+    let A = take c.args.from c.deref_mut.result.now in let len = lengths g (goal.at.returns-clause-last g c).After-sort_last in
     rw (kept g c len, subst (λ n. drop n (A ++ take c.in_ok-kept.kept c.sort_last.new.pairs) ≡ take c.in_ok-kept.kept c.sort_last.new.pairs) len.0 (drop-append_seam A _))
     (rw (c.deref_mut.ensures.value, take_all (length c.args.pairs.now.items - c.args.from) (drop c.args.from c.args.pairs.now.items) (grind (arith, length-drop))) at c.in_ok-kept.ensures.last)
 

@@ -72,8 +72,7 @@ returns-in_default-split_off g c =
 
 pub returns-then-lies_below : goal.returns-then-lies_below
 returns-then-lies_below g c =
-    let at = goal.at.returns-then-lies_below g c in
-    let now = c.keep_rising.new.pairs.items in
+    let at = goal.at.returns-then-lies_below g c in let now = c.keep_rising.new.pairs.items in
     let kept : take c.args.from c.args.store.now.items ++ drop c.args.from now ≡ now = rw (← c.keep_rising.ensures.before) (take-append-drop c.args.from now) in
     let up : Rising g.K.Ord.cmp now = rw (c.new.ensures, c.new-2.ensures, ← c.split_at.ensures.by_index.0, c.deref.ensures.value) at (c.lies_below.ensures.below.0 c.if-lies_below.true) in
     record {
@@ -87,8 +86,7 @@ returns-then-lies_below g c =
 pub returns : goal.returns
 returns g c =
     let at = goal.at.returns g c in
-    let old = c.args.store.now in
-    let now = c.keep_rising.new.pairs in
+    let old = c.args.store.now in let now = c.keep_rising.new.pairs in
     let fewer = c.keep_rising.ensures.shorter in
     let last = rw (c.in-Ok-split_off.ensures.items, c.in-Ok-split_off.ensures.tail, c.keep_rising.ensures.before) at c.merge_in_vec.ensures.last in
     let cost = rw (c.in-Ok-split_off.ensures.items, c.in-Ok-split_off.ensures.tail, c.keep_rising.ensures.before) at c.merge_in_vec.ensures.cost in

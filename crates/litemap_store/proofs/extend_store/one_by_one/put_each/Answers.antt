@@ -1,6 +1,6 @@
 use Rattle.std.proofs.Common.{rules, ◌≡◌, ◌∷◌, ap, length, suc, arith}
 use Rattle.std.proofs.lemmas.Grind.{common_steps}
-use Rattle.litemap_store.proofs.MergeSteps.{MergedUpTo-more, MergedUpTo-none}
+use Rattle.litemap_store.proofs.MergeSteps.{MergedUpTo-all, MergedUpTo-more, MergedUpTo-none}
 use Rattle.litemap_store.proofs.extend_store.one_by_one.put_each.Goals as goal
 
 pub loop-key-preserved : goal.loop-key-preserved
@@ -8,10 +8,8 @@ loop-key-preserved g c =
     let owned = g.S.KeyValueIntoIter.PairIntoIter.owned in
     let first : owned c.loop-key.key-iterator ≡ (c.in-Some.key, c.in-Some.value) ∷ owned c.next.new.self = g.met.S.KeyValueIntoIter.PairIntoIter.first _ _ _ c.in-Some.ensures.steps in
     let shorter : length (owned c.loop-key.key-iterator) ≡ suc (length (owned c.next.new.self)) = ap length first in
-    let room = c.loop-key.invariant.room in
-    let rest_room = c.loop-key.invariant.rest_room in
-    let after = c.put_in-driven_out.ensures.room in
-    let rest_after = c.push_some.ensures.room in
+    let room = c.loop-key.invariant.room in let rest_room = c.loop-key.invariant.rest_room in
+    let after = c.put_in-driven_out.ensures.room in let rest_after = c.push_some.ensures.room in
     record {
       can = g.met.S.KeyValueIntoIter.PairIntoIter.can _;
       ends = search rules;
@@ -23,21 +21,13 @@ loop-key-preserved g c =
 
 pub put_in-driven_out-requires-clause-room : goal.put_in-driven_out-requires-clause-room
 put_in-driven_out-requires-clause-room g c =
-    let shorter = ap length (g.met.S.KeyValueIntoIter.PairIntoIter.first _ _ _ c.in-Some.ensures.steps) in
-    let room = c.loop-key.invariant.room in
+    let shorter = ap length (g.met.S.KeyValueIntoIter.PairIntoIter.first _ _ _ c.in-Some.ensures.steps) in let room = c.loop-key.invariant.room in
     omega arith
 
 pub push_some-requires : goal.push_some-requires
 push_some-requires g c =
-    let shorter = ap length (g.met.S.KeyValueIntoIter.PairIntoIter.first _ _ _ c.in-Some.ensures.steps) in
-    let rest_room = c.loop-key.invariant.rest_room in
+    let shorter = ap length (g.met.S.KeyValueIntoIter.PairIntoIter.first _ _ _ c.in-Some.ensures.steps) in let rest_room = c.loop-key.invariant.rest_room in
     omega arith
-
-pub returns-clause-left : goal.returns-clause-left
-returns-clause-left g c = grind (arith, common_steps)
-
-pub returns-clause-cost : goal.returns-clause-cost
-returns-clause-cost g c = grind (arith, common_steps)
 
 pub loop-key-init : goal.loop-key-init
 loop-key-init g c = record {
@@ -50,3 +40,9 @@ loop-key-init g c = record {
 
 pub put_in-driven_out-requires-clause-store : goal.put_in-driven_out-requires-clause-store
 put_in-driven_out-requires-clause-store g c = c.loop-key.invariant.so_far.merged.rising
+
+pub returns : goal.returns
+returns g c =
+    let none = g.met.S.KeyValueIntoIter.PairIntoIter.first _ _ _ c.in-None.ensures.steps in
+    let all = MergedUpTo-all g.K.Ord.cmp g.met.K.Ord.total _ _ _ _ _ _ _ _ c.loop-key.invariant.so_far none.0 in
+    record { merged = all.0; left = all.1.0; cost = all.1.1 }

@@ -1,4 +1,4 @@
-use Rattle.std.proofs.Common.{◌≡◌, ◌∷◌, ◌++◌, [], append_assoc, append-nil, arith, refl, sym, ap, ◌∙◌, subst, rules}
+use Rattle.std.proofs.Common.{◌≡◌, ◌∷◌, ◌++◌, [], append_assoc, append-nil, arith, refl, sym, ap, ◌∙◌, subst}
 use Rattle.std.proofs.lemmas.Grind.{common_steps}
 use Rattle.litemap_store.specs.Merge.{Merge, left}
 use Rattle.litemap_store.proofs.MergeJoins.{Merge-none}
@@ -34,16 +34,9 @@ returns-clause-merged g c =
 
 pub returns-clause-left : goal.returns-clause-left
 returns-clause-left g c =
-    let end = c.in_default.ensures.lower in
-    let rest = g.S.Store.pairs c.loop-order.rest in
+    let end = c.in_default.ensures.lower in let rest = g.S.Store.pairs c.loop-order.rest in
     let none : left g.K.Ord.cmp c.loop-order.olds c.loop-order.news ≡ [] = rw end.1 refl in
     sym (append-nil rest) ∙ ap (λ W. rest ++ W) (sym none) ∙ c.loop-order.invariant.left_over
-
-pub lower_first-requires-clause-olds : goal.lower_first-requires-clause-olds
-lower_first-requires-clause-olds g c = search rules
-
-pub take_lower-key-requires-clause-room : goal.take_lower-key-requires-clause-room
-take_lower-key-requires-clause-room g c = search rules
 
 pub returns-clause-cost : goal.returns-clause-cost
 returns-clause-cost g c = grind (arith, common_steps)

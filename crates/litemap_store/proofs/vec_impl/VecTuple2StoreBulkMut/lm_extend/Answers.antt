@@ -18,8 +18,7 @@ parts : (g : Over) (c : goal.After-settle g) → let given = c.in_ok-gather_behi
 parts g c =
     let old = c.args.self.now.items in
     let given = c.in_ok-gather_behind.ensures.gathered.0 in
-    let all : c.gather_behind.new.items.items ≡ old ++ given = c.in_ok-gather_behind.ensures.gathered.1 in
-    let len : c.len-len.result ≡ length old = search rules in
+    let all : c.gather_behind.new.items.items ≡ old ++ given = c.in_ok-gather_behind.ensures.gathered.1 in let len : c.len-len.result ≡ length old = search rules in
     (front old given c.len-len.result all len, rw (all, len) (drop-append_seam old given))
 
 counted : (g : Over) (c : goal.After-settle g) → IsCountedFor g.K.Ord.cmp c.args.self.now.items c.in_ok-gather_behind.ensures.gathered.0 c.args.count.now c.settle.new.count
