@@ -160,9 +160,7 @@ where
     let len = store.lm_len();
     let mut made = B::lm_with_capacity(alloc, len)?;
     for index in 0..len {
-        let Some((key, value)) = store.lm_get(index) else {
-            unreachable!()
-        };
+        let (key, value) = store.lm_get(index).unwrap();
         match made.lm_push(keys.made_of(alloc, key)?, values.made_of(alloc, value)?) {
             Ok(()) => {}
             Err(_) => unreachable!(),
