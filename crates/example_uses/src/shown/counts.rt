@@ -4,16 +4,15 @@ use crate::reserved::insert_both;
 use crate::scores::{self, Scores};
 use litemap::LiteMap;
 use std::alloc::{AllocError, Global};
+use std::io;
 
 /// Writes what the callers answer.
 pub(crate) fn show(rt: &impl Print, alloc: Global) -> anyhow::Result<()> {
     let words = ["the", "map", "of", "the", "list", "of", "the", ""];
     println!(rt; "words {:?}", count_words(alloc, words.as_slice())?)?;
-    let mut names = names(alloc)?;
-    println!(rt; "names {names:?}")?;
-    keep_single(&mut names);
-    println!(rt; "single {names:?}")?;
-    show_scores(rt, alloc)
+    show_names(rt, &mut names(alloc)?)?;
+    show_scores(rt, &four_scores(alloc)?)?;
+    Ok(())
 }
 
 fn names(alloc: Global) -> Result<Names, AllocError> {
@@ -26,31 +25,45 @@ fn names(alloc: Global) -> Result<Names, AllocError> {
     Ok(names)
 }
 
+fn show_names(rt: &impl Print, names: &mut Names) -> io::Result<()> {
+    println!(rt; "names {names:?}")?;
+    keep_single(names);
+    println!(rt; "single {names:?}")
+}
+
 // A name with its score.
 fn scored(alloc: Global, name: &str, score: u32) -> Result<(String, u32), AllocError> {
     Ok((String::from_str(alloc, name)?, score))
 }
 
-fn show_scores(rt: &impl Print, alloc: Global) -> anyhow::Result<()> {
-    let mut scores: Scores = LiteMap::new(alloc);
+fn four_scores(alloc: Global) -> Result<Scores, AllocError> {
+    let mut scores = LiteMap::new(alloc);
+    set_many(&mut scores, alloc)?;
+    insert_two(&mut scores, alloc)?;
+    scores::set(&mut scores, "eve".to_string(alloc)?, 9)?;
+    Ok(scores)
+}
+
+fn set_many(scores: &mut Scores, alloc: Global) -> Result<(), AllocError> {
     let mut more = Vec::new(alloc);
     for (name, score) in [("bob", 5), ("ann", 3), ("ann", 4)] {
         more.push(scored(alloc, name, score)?)?;
     }
-    scores::set_all(&mut scores, alloc, more)?;
-    insert_both(
-        &mut scores,
-        scored(alloc, "cy", 7)?,
-        scored(alloc, "bob", 8)?,
-    )?;
-    scores::set(&mut scores, "eve".to_string(alloc)?, 9)?;
+    scores::set_all(scores, alloc, more)
+}
+
+fn insert_two(scores: &mut Scores, alloc: Global) -> Result<(), AllocError> {
+    let first = scored(alloc, "cy", 7)?;
+    insert_both(scores, first, scored(alloc, "bob", 8)?)
+}
+
+fn show_scores(rt: &impl Print, scores: &Scores) -> io::Result<()> {
     for name in ["ann", "bob", "cy", "dee"] {
-        let place = scores::place_of(&scores, name);
+        let place = scores::place_of(scores, name);
         println!(rt;
             "score of {name}: {:?} at {place:?}",
-            scores::score_of(&scores, name)
+            scores::score_of(scores, name)
         )?;
     }
-    println!(rt; "scores {scores:?}")?;
-    Ok(())
+    println!(rt; "scores {scores:?}")
 }

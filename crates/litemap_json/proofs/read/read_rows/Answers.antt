@@ -1,4 +1,6 @@
-use Rattle.std.proofs.Common.{arith}
+use Rattle.std.proofs.Common.{Ok, ap, append-nil, arith, ◌∙◌}
+use Rattle.std.proofs.lemmas.List.{drop_all}
+use Rattle.litemap_json.specs.Reading.{seen}
 use Rattle.litemap_json.proofs.ByPlace.{next, seen_more}
 use Rattle.litemap_json.proofs.read.read_rows.Goals as goal
 
@@ -6,3 +8,8 @@ pub loop-place-preserved : goal.loop-place-preserved
 loop-place-preserved g c =
     let so_far = rw (next c.deref-row-items.result.now c.loop-place.place c.row-item.result (omega arith) c.row-item.is) at c.loop-place.invariant in
     seen_more g.K.JsonItem.json g.V.JsonItem.json c.loop-place.found.items _ c.in_ok-pair.pair _ _ _ c.in_ok-push_pair.ensures c.in_ok-pair.ensures so_far
+
+pub returns : goal.returns
+returns g c =
+    let so_far = rw (drop_all c.loop-place.place c.deref-row-items.result.now (omega arith)) at c.loop-place.invariant in
+    (rw c.deref-row-items.ensures.value at so_far) ∙ ap Ok (append-nil (seen g.K.JsonItem.json g.V.JsonItem.json c.loop-place.found.items))
