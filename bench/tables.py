@@ -10,6 +10,7 @@ TITLES = {
     "insert": "`insert`, no order",
     "append": "`try_append`",
     "remove": "`remove`, no order",
+    "rename": "`rename`, no order",
     "retain": "`retain` of a random half",
     "retain_all": "`retain` of all",
     "retain_none": "`retain` of none",

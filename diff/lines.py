@@ -24,6 +24,7 @@ CALLS = [
     (3, "KEY", "find_index find_index_counted find_index_by"),
     (4, "KEY", "entry entry_get or_default"),
     (11, "KEY", "remove remove remove_counted remove_by entry_remove"),
+    (3, "KEY KEY", "rename rename rename_counted"),
     (2, "PLACE VALUE", "get_indexed_mut"),
     (2, "PLACE", "get_indexed reserve"),
     (1, "PLACE", "with_capacity into_iter"),

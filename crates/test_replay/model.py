@@ -270,6 +270,8 @@ class Model:
             key, value = self.pairs.pop(place)
             self.freed()
             return (f"{key}:{value}" if name == "remove_entry" else str(value)), search
+        if name in RENAMES:
+            return self.rename(*words, search)
         if name in ("pop_first", "pop_last", "lm_remove"):
             if not self.pairs:
                 return "none"
@@ -290,6 +292,20 @@ class Model:
             self.pairs = [(key, value + more + place) for place, (key, value) in enumerate(self.pairs)]
             return str(len(self.pairs))
         return None
+
+    def rename(self, key, new_key, search):
+        place, there = self.place(key)
+        if not there:
+            return "false", search
+        _, value = self.pairs.pop(place)
+        self.freed()
+        cost = search + digits(len(self.pairs))
+        place, there = self.place(new_key)
+        if there:
+            self.pairs[place] = (self.pairs[place][0], value)
+        else:
+            self.put(new_key, value)
+        return "true", cost
 
     def walk(self, name, words, search):
         if name in ("iter", "keys", "values"):
@@ -542,6 +558,7 @@ def changes():
 
 
 TAKES = ["remove", "remove_counted", "remove_by", "remove_entry"]
+RENAMES = ["rename", "rename_counted"]
 # Which pairs are kept, by the bits of a number: none, all, the first, all but the first, in turns, the last of 64, and others.
 RETAINED = [0, 2**64 - 1, 1, 2**64 - 2, 0x5555555555555555, 0xAAAAAAAAAAAAAAAA, 2**63, 0xFFFF0000FFFF0000, 6, 2**64 - 7]
 
@@ -687,6 +704,19 @@ def beside():
         yield from block(ALL, length, 0, [f"{name} {pairs}".strip() for name in BESIDE for pairs in inputs(length)])
 
 
+def renamed():
+    """Values that move from each kind of key to each other, and between letters that are equal keys."""
+    for length in (0, 1, 2, 3, 5, 17, 30, 1000):
+        ends = [1, *present(length), 2 * length + 1]
+        calls = [f"rename {key} {new_key}" for key in ends for new_key in keys(length)]
+        calls += [f"rename_counted {key} {new_key}" for key in ends for new_key in ends]
+        yield from block(ALL, length, 1, calls)
+        yield from block(GROWING, length, 0, calls)
+        yield from block("fixed", length, 0, calls, is_fixed=True)
+    for key, new_key in itertools.product("AbCd", "aBcDe"):
+        yield from chain(ALL, ["from_vec a:0 B:9 c:8", f"rename {key} {new_key}"], "letter", 8)
+
+
 # Ten pairs that rise, and ten that don't, of which none lies above the last of those.
 RISING = "106:4816 147:9864 188:8588 252:6031 434:2518 574:8500 607:3756 619:4965 663:2669 724:9211".split()
 OTHERS = "546:7490 273:4999 167:8078 176:2101 373:1304 339:9613 561:3620 301:1214 483:4453 704:5359".split()
@@ -809,6 +839,7 @@ def unmade(made):
 
 FILES = {"looks": looks, "walks": walks, "changes": changes, "bulk": bulk, "stores": stores, "scattered": scattered}
 FILES |= {"refusable": refusable, "merged": merged, "beside": beside, "twenty": twenty, "picked": picked, "rows": rows}
+FILES["renamed"] = renamed
 
 
 def calls_of(lines):

@@ -22,6 +22,8 @@ pub enum Call {
     Append,
     /// To take out keys one by one, in no order.
     Remove,
+    /// To move values to absent keys one by one, in no order.
+    Rename,
     /// To keep about half of the pairs.
     Retain,
     /// To keep all pairs.
@@ -54,7 +56,7 @@ pub enum Call {
 
 impl Call {
     /// All calls.
-    pub const ALL: [Call; 21] = [
+    pub const ALL: [Call; 22] = [
         Call::Get,
         Call::GetMissing,
         Call::Iterate,
@@ -62,6 +64,7 @@ impl Call {
         Call::Insert,
         Call::Append,
         Call::Remove,
+        Call::Rename,
         Call::Retain,
         Call::RetainAll,
         Call::RetainNone,
@@ -89,6 +92,7 @@ impl Display for Call {
             Call::Insert => "insert",
             Call::Append => "append",
             Call::Remove => "remove",
+            Call::Rename => "rename",
             Call::Retain => "retain",
             Call::RetainAll => "retain_all",
             Call::RetainNone => "retain_none",
@@ -118,6 +122,10 @@ pub fn call_all<K: Key>(call: Call, cases: &mut [Case<K>]) -> u64 {
             Call::Insert => insert(&mut case.map, take(&mut case.given)),
             Call::Append => append(&mut case.map, take(&mut case.given)),
             Call::Remove => sum = sum.wrapping_add(remove(&mut case.map, &case.keys)),
+            Call::Rename => {
+                let pairs = take(&mut case.given);
+                sum = sum.wrapping_add(rename(&mut case.map, &case.keys, pairs));
+            }
             Call::Retain => retain(&mut case.map),
             Call::RetainAll => retain_all(&mut case.map),
             Call::RetainNone => retain_none(&mut case.map),
@@ -181,6 +189,18 @@ fn remove<K: Key>(map: &mut LiteMap<K, u64>, keys: &[K]) -> u64 {
     for key in keys {
         if let Some(value) = map.remove(key) {
             sum = sum.wrapping_add(value);
+        }
+    }
+    sum
+}
+
+#[inline(never)]
+fn rename<K: Key>(map: &mut LiteMap<K, u64>, keys: &[K], pairs: Vec<(K, u64)>) -> u64 {
+    let mut sum: u64 = 0;
+    for (key, (new_key, _)) in keys.iter().zip(pairs) {
+        if let Some(value) = map.remove(key) {
+            let _old = map.insert(new_key, value);
+            sum = sum.wrapping_add(1);
         }
     }
     sum

@@ -5,7 +5,7 @@ use litemap::{LiteMap, TryFault, VecMap};
 use std::alloc::{AllocError, Global};
 
 /// How the examples came out, by their calls.
-pub(crate) fn examples(alloc: Global) -> [Shown; 14] {
+pub(crate) fn examples(alloc: Global) -> [Shown; 15] {
     [
         ("from_iter", from_iter(alloc)),
         ("extend", extend(alloc)),
@@ -13,6 +13,7 @@ pub(crate) fn examples(alloc: Global) -> [Shown; 14] {
         ("try_get_or_insert", try_get_or_insert(alloc)),
         ("try_find_or_insert", try_find_or_insert(alloc)),
         ("remove", remove(alloc)),
+        ("rename", rename(alloc)),
         ("try_insert", try_insert(alloc)),
         ("try_append", try_append(alloc)),
         ("retain", retain(alloc)),
@@ -59,6 +60,11 @@ fn try_find_or_insert(alloc: Global) -> anyhow::Result<bool> {
 fn remove(alloc: Global) -> anyhow::Result<bool> {
     let mut days = three_days(alloc)?;
     Ok(days.remove(&3) == Some("Wednesday") && days.remove(&3).is_none())
+}
+
+fn rename(alloc: Global) -> anyhow::Result<bool> {
+    let mut days = three_days(alloc)?;
+    Ok(days.rename(&1, 2) && !days.rename(&1, 3) && days.first() == Some((&2, &"Monday")))
 }
 
 fn try_insert(alloc: Global) -> anyhow::Result<bool> {

@@ -21,7 +21,11 @@ impl<'w> Given<'w> {
     }
 
     fn key(&self) -> Key {
-        Key::new(self.order, self.words[0])
+        self.key_at(0)
+    }
+
+    fn key_at(&self, place: usize) -> Key {
+        Key::new(self.order, self.words[place])
     }
 
     fn number(&self, place: usize) -> u64 {
@@ -294,6 +298,14 @@ fn write(map: &mut Map, name: &str, given: &Given) -> Option<String> {
         }
         "index_mut" => "absent".to_string(),
         "remove" | "remove_counted" | "remove_by" => or_none(map.remove(&given.key())),
+        "rename" | "rename_counted" => {
+            let moved = map.remove(&given.key());
+            let is_moved = moved.is_some();
+            if let Some(value) = moved {
+                map.insert(given.key_at(1), value);
+            }
+            is_moved.to_string()
+        }
         "update" => {
             for (place, (_, slot)) in map.into_iter().enumerate() {
                 slot.0 += given.number(0) + place as u64;
