@@ -23,6 +23,7 @@ TITLES = {
     "merge_apart": "`extend_from_litemap`, keys above",
     "merge_interleaved": "`extend_from_litemap`, keys between",
     "merge_equal": "`extend_from_litemap`, equal keys",
+    "extend_with": "`extend_with`, each second key",
     "keep_keys": "`keep_keys_of`, every second key",
     "clone": "`try_clone`",
     "const_get": "`const_get_with_index`",

@@ -35,6 +35,7 @@ CALLS = [
     (1, "PAIRS", "from_iter from_iter_counted from_vec from_vec_counted"),
     (6, "PAIRS", EXTENSIONS),
     (7, "PAIRS", "extend_from_litemap extend_from_litemap_counted"),
+    (3, "PAIRS", "extend_with extend_with_counted"),
     (4, "PLACE PLACE", "iter keys values"),
     (1, "ZERO ZERO", "for iter_keys iter_values"),
     (3, "", f"{CLONES} {LOANS}"),

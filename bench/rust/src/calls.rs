@@ -48,6 +48,8 @@ pub enum Call {
     MergeInterleaved,
     /// To put in a map with the same keys.
     MergeEqual,
+    /// To put in a map, of which each second key is there, and to add to the values that are there.
+    ExtendWith,
     /// Every second pair stays, by the keys of another map.
     KeepKeys,
     /// A copy of the map.
@@ -56,7 +58,7 @@ pub enum Call {
 
 impl Call {
     /// All calls.
-    pub const ALL: [Call; 22] = [
+    pub const ALL: [Call; 23] = [
         Call::Get,
         Call::GetMissing,
         Call::Iterate,
@@ -77,6 +79,7 @@ impl Call {
         Call::MergeApart,
         Call::MergeInterleaved,
         Call::MergeEqual,
+        Call::ExtendWith,
         Call::KeepKeys,
         Call::Clone,
     ];
@@ -105,6 +108,7 @@ impl Display for Call {
             Call::MergeApart => "merge_apart",
             Call::MergeInterleaved => "merge_interleaved",
             Call::MergeEqual => "merge_equal",
+            Call::ExtendWith => "extend_with",
             Call::KeepKeys => "keep_keys",
             Call::Clone => "clone",
         })
@@ -136,6 +140,7 @@ pub fn call_all<K: Key>(call: Call, cases: &mut [Case<K>]) -> u64 {
             Call::MergeApart | Call::MergeInterleaved | Call::MergeEqual => {
                 case.made = merge(&mut case.map, take(&mut case.other))
             }
+            Call::ExtendWith => case.made = extend_with(&mut case.map, take(&mut case.other)),
             Call::KeepKeys => keep_keys(&mut case.map, &case.other),
             Call::Clone => case.made = Some(clone(&case.map)),
         }
@@ -239,6 +244,19 @@ fn extend<K: Key>(map: &mut LiteMap<K, u64>, pairs: Vec<(K, u64)>) {
 
 #[inline(never)]
 fn merge<K: Key>(map: &mut LiteMap<K, u64>, other: LiteMap<K, u64>) -> Option<LiteMap<K, u64>> {
+    map.extend_from_litemap(other)
+}
+
+#[inline(never)]
+fn extend_with<K: Key>(
+    map: &mut LiteMap<K, u64>,
+    mut other: LiteMap<K, u64>,
+) -> Option<LiteMap<K, u64>> {
+    for (key, new) in other.iter_mut() {
+        if let Some(here) = map.get(key) {
+            *new = here.wrapping_add(*new);
+        }
+    }
     map.extend_from_litemap(other)
 }
 

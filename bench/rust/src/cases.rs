@@ -97,6 +97,7 @@ fn parts_of(draw: &Draw, call: Call) -> Parts<'_> {
         Call::MergeApart => (lower, &[], upper),
         Call::MergeInterleaved => (evens, &[], odds),
         Call::Equal | Call::MergeEqual => (rising, &[], rising),
+        Call::ExtendWith => (evens, &[], rising),
         Call::KeepKeys => (rising, &[], evens),
         _ => (rising, &[], &[]),
     };

@@ -5,7 +5,7 @@ use litemap::{LiteMap, TryFault, VecMap};
 use std::alloc::{AllocError, Global};
 
 /// How the examples came out, by their calls.
-pub(crate) fn examples(alloc: Global) -> [Shown; 15] {
+pub(crate) fn examples(alloc: Global) -> [Shown; 16] {
     [
         ("from_iter", from_iter(alloc)),
         ("extend", extend(alloc)),
@@ -18,6 +18,7 @@ pub(crate) fn examples(alloc: Global) -> [Shown; 15] {
         ("try_append", try_append(alloc)),
         ("retain", retain(alloc)),
         ("extend_from_litemap", extend_from_litemap(alloc)),
+        ("extend_with", extend_with(alloc)),
         ("keep_keys_of", keep_keys_of(alloc)),
         ("split_off", split_off(alloc)),
         ("update", update(alloc)),
@@ -94,6 +95,13 @@ fn extend_from_litemap(alloc: Global) -> anyhow::Result<bool> {
         Some(old) => Ok(old.as_slice() == [(5, "Friday")].as_slice() && days.len() == 4),
         None => Ok(false),
     }
+}
+
+fn extend_with(alloc: Global) -> anyhow::Result<bool> {
+    let mut counts: VecMap<u32, u32> = LiteMap::from_iter(alloc, [(1, 10), (2, 20)])?;
+    let more: VecMap<u32, u32> = LiteMap::from_iter(alloc, [(2, 2), (3, 3)])?;
+    counts.extend_with(alloc, more, |_key, here, new| *new = here.saturating_add(*new))?;
+    Ok(counts.as_slice() == [(1, 10), (2, 22), (3, 3)].as_slice())
 }
 
 fn keep_keys_of(alloc: Global) -> anyhow::Result<bool> {
