@@ -270,6 +270,8 @@ class Model:
             key, value = self.pairs.pop(place)
             self.freed()
             return (f"{key}:{value}" if name == "remove_entry" else str(value)), search
+        if name in RENAMES:
+            return self.rename(*words, search)
         if name in ("pop_first", "pop_last", "lm_remove"):
             if not self.pairs:
                 return "none"
@@ -290,6 +292,20 @@ class Model:
             self.pairs = [(key, value + more + place) for place, (key, value) in enumerate(self.pairs)]
             return str(len(self.pairs))
         return None
+
+    def rename(self, key, new_key, search):
+        place, there = self.place(key)
+        if not there:
+            return "false", search
+        _, value = self.pairs.pop(place)
+        self.freed()
+        cost = search + digits(len(self.pairs))
+        place, there = self.place(new_key)
+        if there:
+            self.pairs[place] = (self.pairs[place][0], value)
+        else:
+            self.put(new_key, value)
+        return "true", cost
 
     def walk(self, name, words, search):
         if name in ("iter", "keys", "values"):
@@ -355,6 +371,8 @@ class Model:
             return self.extend(pairs)
         if name in ("extend_from_litemap", "extend_from_litemap_counted"):
             return self.merge(self.last(pairs))
+        if name in COMBINES:
+            return self.combine(self.last(pairs))
         if name in BESIDE:
             return self.beside(name, self.last(pairs))
         if name in ("lm_extend_end", "lm_extend_start") and not self.taken(len(pairs)):
@@ -392,6 +410,17 @@ class Model:
         self.pairs = sorted(kept + [pair for pair in pairs if rank(pair[0]) not in there], key=lambda pair: rank(pair[0]))
         cost = 0 if not old or not pairs else 2 if apart else cost
         return (f"left {self.text(left)}" if left else "none"), cost
+
+    def combine(self, pairs):
+        here = {self.order.rank(key): value for key, value in self.pairs}
+        new, search, asked = [], digits(len(self.pairs)), 0
+        for key, value in pairs:
+            if self.order.rank(key) in here:
+                value += 3 * here[self.order.rank(key)] + self.order.code(key) % 7
+                asked += 1
+            new.append((key, value))
+        answer, cost = self.merge(new)
+        return f"{answer} asked {asked}", cost + len(pairs) * search
 
     def beside(self, name, pairs):
         theirs = {self.order.rank(key) for key, _ in pairs}
@@ -542,6 +571,7 @@ def changes():
 
 
 TAKES = ["remove", "remove_counted", "remove_by", "remove_entry"]
+RENAMES = ["rename", "rename_counted"]
 # Which pairs are kept, by the bits of a number: none, all, the first, all but the first, in turns, the last of 64, and others.
 RETAINED = [0, 2**64 - 1, 1, 2**64 - 2, 0x5555555555555555, 0xAAAAAAAAAAAAAAAA, 2**63, 0xFFFF0000FFFF0000, 6, 2**64 - 7]
 
@@ -587,11 +617,12 @@ def bulk():
 def is_before(call):
     """Whether it merges pairs before all others: a store with a fixed room would have to move into the other one, without room."""
     name, *words = call.split(" ")
-    codes = [int(key) for key, _ in Model(Order("number")).given(words)] if name in MERGES else []
+    codes = [int(key) for key, _ in Model(Order("number")).given(words)] if name in MERGES + COMBINES else []
     return bool(codes) and max(codes) < 2
 
 
 MERGES = ["extend_from_litemap", "extend_from_litemap_counted"]
+COMBINES = ["extend_with", "extend_with_counted"]
 BESIDE = ["is_subset", "is_subset_counted", "keep_keys_of", "remove_keys_of"]
 READS = ["read_pairs", "extend_from_source"]
 MAKES = ["from_iter", "from_iter_counted", "from_vec", "from_vec_counted"]
@@ -685,6 +716,32 @@ def beside():
         yield from block(ALL, length, 0, [f"{name} {pairs}".strip() for name in BESIDE for pairs in theirs])
     for length in (5, 20, 1000):
         yield from block(ALL, length, 0, [f"{name} {pairs}".strip() for name in BESIDE for pairs in inputs(length)])
+
+
+def renamed():
+    """Values that move from each kind of key to each other, and between letters that are equal keys."""
+    for length in (0, 1, 2, 3, 5, 17, 30, 1000):
+        ends = [1, *present(length), 2 * length + 1]
+        calls = [f"rename {key} {new_key}" for key in ends for new_key in keys(length)]
+        calls += [f"rename_counted {key} {new_key}" for key in ends for new_key in ends]
+        yield from block(ALL, length, 1, calls)
+        yield from block(GROWING, length, 0, calls)
+        yield from block("fixed", length, 0, calls, is_fixed=True)
+    for key, new_key in itertools.product("AbCd", "aBcDe"):
+        yield from chain(ALL, ["from_vec a:0 B:9 c:8", f"rename {key} {new_key}"], "letter", 8)
+
+
+def combined():
+    """Merges whose values are combined: every two maps over three letters, and each kind of input at some lengths."""
+    sets = ["".join(it) for length in range(4) for it in itertools.combinations("abc", length)]
+    for old, new in itertools.product(sets, sets):
+        calls = ["from_vec" + "".join(f" {key}:{place}" for place, key in enumerate(old))]
+        calls += ["extend_with" + "".join(f" {key.upper()}:{9 - place}" for place, key in enumerate(new))]
+        yield from chain(GROWING, calls, "letter", 8)
+    for length in (0, 1, 2, 3, 17, 30, 1000):
+        calls = [f"{name} {pairs}".strip() for name in COMBINES for pairs in inputs(length)]
+        yield from block(GROWING, length, 0, calls)
+        yield from block(ALL, length, 3000, [call for call in calls if not is_before(call)])
 
 
 # Ten pairs that rise, and ten that don't, of which none lies above the last of those.
@@ -809,6 +866,7 @@ def unmade(made):
 
 FILES = {"looks": looks, "walks": walks, "changes": changes, "bulk": bulk, "stores": stores, "scattered": scattered}
 FILES |= {"refusable": refusable, "merged": merged, "beside": beside, "twenty": twenty, "picked": picked, "rows": rows}
+FILES |= {"renamed": renamed, "combined": combined}
 
 
 def calls_of(lines):

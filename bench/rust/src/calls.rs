@@ -22,6 +22,8 @@ pub enum Call {
     Append,
     /// To take out keys one by one, in no order.
     Remove,
+    /// To move values to absent keys one by one, in no order.
+    Rename,
     /// To keep about half of the pairs.
     Retain,
     /// To keep all pairs.
@@ -46,6 +48,8 @@ pub enum Call {
     MergeInterleaved,
     /// To put in a map with the same keys.
     MergeEqual,
+    /// To put in a map, of which each second key is there, and to add to the values that are there.
+    ExtendWith,
     /// Every second pair stays, by the keys of another map.
     KeepKeys,
     /// A copy of the map.
@@ -54,7 +58,7 @@ pub enum Call {
 
 impl Call {
     /// All calls.
-    pub const ALL: [Call; 21] = [
+    pub const ALL: [Call; 23] = [
         Call::Get,
         Call::GetMissing,
         Call::Iterate,
@@ -62,6 +66,7 @@ impl Call {
         Call::Insert,
         Call::Append,
         Call::Remove,
+        Call::Rename,
         Call::Retain,
         Call::RetainAll,
         Call::RetainNone,
@@ -74,6 +79,7 @@ impl Call {
         Call::MergeApart,
         Call::MergeInterleaved,
         Call::MergeEqual,
+        Call::ExtendWith,
         Call::KeepKeys,
         Call::Clone,
     ];
@@ -89,6 +95,7 @@ impl Display for Call {
             Call::Insert => "insert",
             Call::Append => "append",
             Call::Remove => "remove",
+            Call::Rename => "rename",
             Call::Retain => "retain",
             Call::RetainAll => "retain_all",
             Call::RetainNone => "retain_none",
@@ -101,6 +108,7 @@ impl Display for Call {
             Call::MergeApart => "merge_apart",
             Call::MergeInterleaved => "merge_interleaved",
             Call::MergeEqual => "merge_equal",
+            Call::ExtendWith => "extend_with",
             Call::KeepKeys => "keep_keys",
             Call::Clone => "clone",
         })
@@ -118,6 +126,10 @@ pub fn call_all<K: Key>(call: Call, cases: &mut [Case<K>]) -> u64 {
             Call::Insert => insert(&mut case.map, take(&mut case.given)),
             Call::Append => append(&mut case.map, take(&mut case.given)),
             Call::Remove => sum = sum.wrapping_add(remove(&mut case.map, &case.keys)),
+            Call::Rename => {
+                let pairs = take(&mut case.given);
+                sum = sum.wrapping_add(rename(&mut case.map, &case.keys, pairs));
+            }
             Call::Retain => retain(&mut case.map),
             Call::RetainAll => retain_all(&mut case.map),
             Call::RetainNone => retain_none(&mut case.map),
@@ -128,6 +140,7 @@ pub fn call_all<K: Key>(call: Call, cases: &mut [Case<K>]) -> u64 {
             Call::MergeApart | Call::MergeInterleaved | Call::MergeEqual => {
                 case.made = merge(&mut case.map, take(&mut case.other))
             }
+            Call::ExtendWith => case.made = extend_with(&mut case.map, take(&mut case.other)),
             Call::KeepKeys => keep_keys(&mut case.map, &case.other),
             Call::Clone => case.made = Some(clone(&case.map)),
         }
@@ -187,6 +200,18 @@ fn remove<K: Key>(map: &mut LiteMap<K, u64>, keys: &[K]) -> u64 {
 }
 
 #[inline(never)]
+fn rename<K: Key>(map: &mut LiteMap<K, u64>, keys: &[K], pairs: Vec<(K, u64)>) -> u64 {
+    let mut sum: u64 = 0;
+    for (key, (new_key, _)) in keys.iter().zip(pairs) {
+        if let Some(value) = map.remove(key) {
+            let _old = map.insert(new_key, value);
+            sum = sum.wrapping_add(1);
+        }
+    }
+    sum
+}
+
+#[inline(never)]
 fn retain<K: Key>(map: &mut LiteMap<K, u64>) {
     map.retain(|_, value| *value & 2 == 0);
 }
@@ -219,6 +244,19 @@ fn extend<K: Key>(map: &mut LiteMap<K, u64>, pairs: Vec<(K, u64)>) {
 
 #[inline(never)]
 fn merge<K: Key>(map: &mut LiteMap<K, u64>, other: LiteMap<K, u64>) -> Option<LiteMap<K, u64>> {
+    map.extend_from_litemap(other)
+}
+
+#[inline(never)]
+fn extend_with<K: Key>(
+    map: &mut LiteMap<K, u64>,
+    mut other: LiteMap<K, u64>,
+) -> Option<LiteMap<K, u64>> {
+    for (key, new) in other.iter_mut() {
+        if let Some(here) = map.get(key) {
+            *new = here.wrapping_add(*new);
+        }
+    }
     map.extend_from_litemap(other)
 }
 

@@ -44,6 +44,7 @@ pub fn how_many_pairs(data: &Data, call: Call) -> usize {
     let each = match call {
         Call::Get | Call::GetMissing => LOOKS,
         Call::Insert | Call::Remove => keys::changes(data.size),
+        Call::Rename => keys::changes(data.size).min(data.size / 2),
         Call::ExtendFew => FEW,
         Call::ExtendRising
         | Call::ExtendAbove
@@ -64,7 +65,7 @@ fn make_case<K: Key>(draw: &Draw, call: Call, round: usize) -> Case<K> {
         keys: match call {
             Call::Get => keys::keys(&draw.asked(round)),
             Call::GetMissing => keys::keys(&draw.missing(round)),
-            Call::Remove => keys::keys(draw.removed()),
+            Call::Remove | Call::Rename => keys::keys(draw.removed()),
             _ => Vec::new(),
         },
         made: None,
@@ -91,11 +92,12 @@ fn parts_of(draw: &Draw, call: Call) -> Parts<'_> {
         Call::FromIter => (&[], scattered, &[]),
         Call::ExtendRising => (evens, odds, &[]),
         Call::ExtendAbove => (lower, upper, &[]),
-        Call::Extend => (first, second, &[]),
+        Call::Extend | Call::Rename => (first, second, &[]),
         Call::ExtendFew => (rising, &draw.few, &[]),
         Call::MergeApart => (lower, &[], upper),
         Call::MergeInterleaved => (evens, &[], odds),
         Call::Equal | Call::MergeEqual => (rising, &[], rising),
+        Call::ExtendWith => (evens, &[], rising),
         Call::KeepKeys => (rising, &[], evens),
         _ => (rising, &[], &[]),
     };

@@ -1,17 +1,19 @@
 //! Sparse vectors: numbers at indices, 0 where there is none.
-ghost use Rattle.std.specs.Prelude.{◌≡◌, ◌+◌, ◌≤◌, IsSome, OnOk, OnErr};
+ghost use Rattle.std.specs.Prelude.{◌≡◌, ◌+◌, ◌≤◌, OnOk, OnErr, min};
 ghost use Rattle.std.specs.Ordering.{nat_cmp};
-ghost use Rattle.litemap_store.specs.Pairs.{Rising, value_at};
+ghost use Rattle.litemap_store.specs.Pairs.{at, value_at};
+ghost use Rattle.litemap.specs.Combined.{found_with};
 ghost use Rattle.example_uses.specs.Vectors.{number_at};
 
 use litemap::VecMap;
 use litemap::store::NoRoom;
-use std::alloc::Global;
+use std::alloc::{AllocError, Global};
 
 /// Numbers by their indices.
 pub type Vector = VecMap<u32, u64>;
 
-/// Adds another vector. If memory runs out, the sum is as it was, and the other one comes back.
+/// Adds another vector. If memory runs out, the sum is as it was, and the other one comes back, with the sums at the indices that
+/// both have.
 #[tactic(auto, using(litemap::proofs::Numbers::number_keys))]
 pub fn add(sum: &mut Vector, alloc: Global, other: Vector) -> Result<(), NoRoom<Vector>>
     requires { (i : _) → number_at sum.old.pairs i + number_at other.pairs i ≤ u64.MAX }
@@ -19,21 +21,28 @@ pub fn add(sum: &mut Vector, alloc: Global, other: Vector) -> Result<(), NoRoom<
         number_at sum.new.pairs i ≡ number_at sum.old.pairs i + number_at other.pairs i) }
     ensures refused { OnErr result (sum.new.pairs ≡ sum.old.pairs) }
 {
-    if let Some(displaced) = sum.extend_from_litemap(alloc, other)? {
-        displaced.keys_rise();
-        add_each(sum, displaced);
-    }
+    sum.extend_with(
+        alloc,
+        other,
+        |_, here, new|
+            requires { here.now + new.old ≤ u64.MAX }
+            ensures { new.new ≡ here.now + new.old }
+        { *new += *here },
+    )?;
     Ok(())
 }
 
-// Adds numbers whose indices are there.
-fn add_each(sum: &mut Vector, mut other: Vector)
-    requires rise { Rising nat_cmp other.pairs }
-    requires there { (i : _) → IsSome (value_at nat_cmp other.pairs i) → IsSome (value_at nat_cmp sum.old.pairs i) }
-    requires fits { (i : _) → number_at sum.old.pairs i + number_at other.pairs i ≤ u64.MAX }
-    ensures { (i : _) → number_at sum.new.pairs i ≡ number_at sum.old.pairs i + number_at other.pairs i }
+/// Adds another vector, where no sum rises above the greatest number.
+pub fn add_capped(sum: &mut Vector, alloc: Global, other: Vector) -> Result<(), AllocError>
+    ensures added { OnOk result ((i : _) → value_at nat_cmp sum.new.pairs i
+        ≡ found_with (λ _ here new. min (here + new) 18446744073709551615)
+        (value_at nat_cmp sum.old.pairs i) (at nat_cmp other.pairs i)) }
+    ensures refused { OnErr result (sum.new.pairs ≡ sum.old.pairs) }
 {
-    while let Some((index, number)) = other.pop_last() {
-        *sum.index_mut(&index) += number;
-    }
+    sum.extend_with(
+        alloc,
+        other,
+        |_, here, new| *new = here.saturating_add(*new),
+    )?;
+    Ok(())
 }

@@ -50,8 +50,7 @@ pub fn take_key(map: &mut Numbers, key: &String) -> Option<u32>
     map.remove(key)
 }
 
-/// Moves the number at a name to another name, and returns whether there was one. The removal leaves room for it, so that no
-/// memory is needed.
+/// Moves the number at a name to another name, and returns whether there was one. No memory is needed.
 #[tactic(auto, using(litemap::proofs::Texts::text_keys))]
 pub fn rename(map: &mut Numbers, old: &str, new: String) -> bool
     ensures there { result ≡ is_some (at by_text map.old.pairs old.now) }
@@ -62,13 +61,7 @@ pub fn rename(map: &mut Numbers, old: &str, new: String) -> bool
         → value_at by_text map.new.pairs other ≡ value_at by_text map.old.pairs other }
     ensures unchanged { IsFalse result → map.new.pairs ≡ map.old.pairs }
 {
-    let Some(number) = map.remove(old) else {
-        return false;
-    };
-    let Ok(_) = map.insert(new, number) else {
-        unreachable!()
-    };
-    true
+    map.rename(old, new)
 }
 
 /// Writes the number at a name, if the name is there. All others stay.

@@ -1,4 +1,5 @@
 -- Lemmas of the proofs.
+pub mod Combining
 pub mod Conversions
 pub mod Entries
 pub mod Lists

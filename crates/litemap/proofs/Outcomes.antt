@@ -1,7 +1,9 @@
 -- From what a call says of each outcome.
-use Rattle.std.proofs.Common.{◌≡◌, ℕ, true, false, List, is_some, Result, Ok, Err, OnOk, OnErr, IsSome, sym, subst}
+use Rattle.std.proofs.Common.{◌≡◌, ◌+◌, ◌≤◌, ℕ, true, false, List, [], ◌∷◌, arith, cond, is_some, length, length-append, Result, Ok, Err, OnOk, OnErr, IsSome, sym, subst}
+use Rattle.std.specs.Ordering.{is_gt, is_lt}
 use Rattle.std.specs.declared.cmp.Ordering.{Ordering}
-use Rattle.litemap_store.specs.Pairs.{at}
+use Rattle.std.specs.declared.cmp.Ordering.TheVariants.{Less, Equal, Greater}
+use Rattle.litemap_store.specs.Pairs.{above, at, below, cut}
 use Rattle.litemap_store.specs.Splits.{IsMissingAt}
 
 -- what holds of the value that either outcome leaves holds of the value that is left
@@ -12,3 +14,15 @@ either_way P (Err y) x a b h t p q = subst P (sym t) q
 -- a key that is there is not missing
 pub not_missing : {K Q V : Type 0} (order : K → Q → Ordering) (L : List (K × V)) (q : Q) {i : ℕ} → IsSome (at order L q) → IsMissingAt order L q i → ⊥
 not_missing order L q h m = let none : false ≡ true = subst (λ a. is_some a ≡ true) m.missing h in cc
+
+-- a list without a key is no longer
+pub length-cut : {K Q V : Type 0} (order : K → Q → Ordering) (L : List (K × V)) (q : Q) → length (cut order L q) ≤ length L
+length-cut {K} {Q} {V} order L q = omega (arith, length-append (below order L q) (above order L q), parts L)
+  where
+    parts : (M : List (K × V)) → length (below order M q) + length (above order M q) ≤ length M
+    parts [] = omega arith
+    parts (p ∷ M) = elim (order p.0 q) as (λ r. length (cond (is_lt r) (p ∷ below order M q) (below order M q)) + length (cond (is_gt r) (p ∷ above order M q) (above order M q)) ≤ length (p ∷ M)) [
+      | Less ↦ omega (arith, parts M)
+      | Equal ↦ omega (arith, parts M)
+      | Greater ↦ omega (arith, parts M)
+    ]

@@ -1,6 +1,7 @@
 -- The definitions that the contracts cite. Those of the sorted list are in `Pairs` of the crate `litemap_store`.
 pub mod ByBytes
 pub mod Changes
+pub mod Combined
 pub mod Comparisons
 pub mod Conversions
 pub mod Entries

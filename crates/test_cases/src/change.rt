@@ -5,7 +5,7 @@ use litemap::{LiteMap, TryFault, VecMap};
 use std::alloc::{AllocError, Global};
 
 /// How the examples came out, by their calls.
-pub(crate) fn examples(alloc: Global) -> [Shown; 14] {
+pub(crate) fn examples(alloc: Global) -> [Shown; 16] {
     [
         ("from_iter", from_iter(alloc)),
         ("extend", extend(alloc)),
@@ -13,10 +13,12 @@ pub(crate) fn examples(alloc: Global) -> [Shown; 14] {
         ("try_get_or_insert", try_get_or_insert(alloc)),
         ("try_find_or_insert", try_find_or_insert(alloc)),
         ("remove", remove(alloc)),
+        ("rename", rename(alloc)),
         ("try_insert", try_insert(alloc)),
         ("try_append", try_append(alloc)),
         ("retain", retain(alloc)),
         ("extend_from_litemap", extend_from_litemap(alloc)),
+        ("extend_with", extend_with(alloc)),
         ("keep_keys_of", keep_keys_of(alloc)),
         ("split_off", split_off(alloc)),
         ("update", update(alloc)),
@@ -61,6 +63,11 @@ fn remove(alloc: Global) -> anyhow::Result<bool> {
     Ok(days.remove(&3) == Some("Wednesday") && days.remove(&3).is_none())
 }
 
+fn rename(alloc: Global) -> anyhow::Result<bool> {
+    let mut days = three_days(alloc)?;
+    Ok(days.rename(&1, 2) && !days.rename(&1, 3) && days.first() == Some((&2, &"Monday")))
+}
+
 fn try_insert(alloc: Global) -> anyhow::Result<bool> {
     let mut days = three_days(alloc)?;
     let tuesday = days.try_insert(2, "Tuesday")?;
@@ -88,6 +95,13 @@ fn extend_from_litemap(alloc: Global) -> anyhow::Result<bool> {
         Some(old) => Ok(old.as_slice() == [(5, "Friday")].as_slice() && days.len() == 4),
         None => Ok(false),
     }
+}
+
+fn extend_with(alloc: Global) -> anyhow::Result<bool> {
+    let mut counts: VecMap<u32, u32> = LiteMap::from_iter(alloc, [(1, 10), (2, 20)])?;
+    let more: VecMap<u32, u32> = LiteMap::from_iter(alloc, [(2, 2), (3, 3)])?;
+    counts.extend_with(alloc, more, |_key, here, new| *new = here.saturating_add(*new))?;
+    Ok(counts.as_slice() == [(1, 10), (2, 22), (3, 3)].as_slice())
 }
 
 fn keep_keys_of(alloc: Global) -> anyhow::Result<bool> {

@@ -7,9 +7,10 @@ use crate::call::{Call, Made, Map, Pair};
 use crate::counted::{Key, Value};
 use crate::tested::Tested;
 use litemap::LiteMap;
-use litemap::store::{Count, Store};
+use litemap::store::{Count, NoRoom, Store};
 use litemap_columns::ColumnStore;
 use litemap_read::{PairSource, ReadFault, extend_from_source, read_pairs};
+use std::cell::Cell;
 use std::vec::IntoIter;
 
 /// Makes a call of these, if the name is one.
@@ -19,6 +20,7 @@ pub fn gather<S: Tested<Key, Value>>(map: &mut Map<S>, call: &Call<'_>, to: &mut
         || make(map, call, to).is_some()
         || extend(map, call, to).is_some()
         || merge(map, call, to).is_some()
+        || combine(map, call, to).is_some()
         || go_beside(map, call, to).is_some()
         || read(map, call, to).is_some()
 }
@@ -74,11 +76,49 @@ fn merge<S: Tested<Key, Value>>(map: &mut Map<S>, call: &Call<'_>, to: &mut Answ
         }
         _ => return None,
     };
+    show_merged(merged, to);
+    Some(())
+}
+
+// What a merge answers.
+fn show_merged<'a, S: Tested<Key, Value>>(
+    merged: Result<Option<Map<S>>, NoRoom<Map<S>>>,
+    to: &mut Answer,
+) {
     match merged {
         Ok(None) => to.word("none"),
         Ok(Some(left)) => show_map("left", &left, to),
         Err(refused) => show_map("refused", &refused.back, to),
     }
+}
+
+// The merges with a closure, which adds to each value that is here already three times the one here, and what its key's code
+// leaves by seven. The last word of the answer tells how often it was asked.
+fn combine<S: Tested<Key, Value>>(map: &mut Map<S>, call: &Call<'_>, to: &mut Answer) -> Made {
+    if !call.name.starts_with("extend_with") {
+        return None;
+    }
+    let pairs = call.pairs(0)?;
+    let other: Map<S> = LiteMap::from_vec(call.alloc, pairs).ok()?;
+    let times = Cell::new(0u64);
+    let add = |key: &Key, here: &Value, new: &mut Value| {
+        times.set(times.get().wrapping_add(1));
+        let more = here.number().wrapping_mul(3).wrapping_add(key.code() % 7);
+        new.write(new.number().wrapping_add(more));
+    };
+    call.begin();
+    show_merged(
+        match call.name {
+            "extend_with" => map.extend_with(call.alloc, other, add),
+            "extend_with_counted" => {
+                map.extend_with_counted(call.alloc, other, add, &mut Count::new())
+            }
+            _ => return None,
+        },
+        to,
+    );
+    to.word("asked");
+    to.show(times.get());
     Some(())
 }
 

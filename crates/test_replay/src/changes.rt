@@ -15,6 +15,7 @@ pub fn change<S: StoreBulkMut<Key, Value>>(
         || make_where_absent(map, call, to).is_some()
         || write(map, call, to).is_some()
         || take(map, call, to).is_some()
+        || rename(map, call, to).is_some()
         || whole(map, call, to).is_some()
         || by_number(map, call, to).is_some()
 }
@@ -157,6 +158,17 @@ fn take<S: StoreMut<Key, Value>>(map: &mut Map<S>, call: &Call<'_>, to: &mut Ans
         "remove_counted" => to.some(map.remove_counted(&key, &mut Count::new())),
         "remove_by" => to.some(map.remove_by(|there| there.cmp(&key))),
         "remove_entry" => to.taken(map.remove_entry(&key)),
+        _ => return None,
+    }
+    Some(())
+}
+
+// The calls that move a value to another key.
+fn rename<S: StoreMut<Key, Value>>(map: &mut Map<S>, call: &Call<'_>, to: &mut Answer) -> Made {
+    let (key, new_key) = (call.key(0)?, call.key(1)?);
+    match call.name {
+        "rename" => to.show(map.rename(&key, new_key)),
+        "rename_counted" => to.show(map.rename_counted(&key, new_key, &mut Count::new())),
         _ => return None,
     }
     Some(())

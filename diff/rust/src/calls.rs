@@ -21,7 +21,11 @@ impl<'w> Given<'w> {
     }
 
     fn key(&self) -> Key {
-        Key::new(self.order, self.words[0])
+        self.key_at(0)
+    }
+
+    fn key_at(&self, place: usize) -> Key {
+        Key::new(self.order, self.words[place])
     }
 
     fn number(&self, place: usize) -> u64 {
@@ -294,6 +298,14 @@ fn write(map: &mut Map, name: &str, given: &Given) -> Option<String> {
         }
         "index_mut" => "absent".to_string(),
         "remove" | "remove_counted" | "remove_by" => or_none(map.remove(&given.key())),
+        "rename" | "rename_counted" => {
+            let moved = map.remove(&given.key());
+            let is_moved = moved.is_some();
+            if let Some(value) = moved {
+                map.insert(given.key_at(1), value);
+            }
+            is_moved.to_string()
+        }
         "update" => {
             for (place, (_, slot)) in map.into_iter().enumerate() {
                 slot.0 += given.number(0) + place as u64;
@@ -331,6 +343,9 @@ fn many(map: &mut Map, name: &str, given: &Given) -> Option<String> {
                 left.map(|left| format!("left {}", text(pairs(&left)))),
             ));
         }
+        "extend_with" | "extend_with_counted" => {
+            return Some(combine(map, given.pairs().collect()))
+        }
         "into_tuple_vec" => {
             let vector = mem::take(map).into_tuple_vec();
             return Some(text(vector.into_iter().map(pair)));
@@ -338,4 +353,25 @@ fn many(map: &mut Map, name: &str, given: &Given) -> Option<String> {
         _ => return None,
     }
     Some("ok".to_string())
+}
+
+/// Puts the pairs of another map in one by one: a value that is there already becomes three times that, the new one and what the
+/// new key's code leaves by seven. The answer is as of a merge, and how many were there.
+fn combine(map: &mut Map, other: Map) -> String {
+    let mut left = Vec::new();
+    for (key, value) in other {
+        let Some(here) = map.get(&key).map(|here| here.0) else {
+            map.insert(key, value);
+            continue;
+        };
+        let more = here.wrapping_mul(3).wrapping_add(key.code.number % 7);
+        let new = value.0.wrapping_add(more);
+        left.push((key.code, here));
+        map.insert(key, Value::new(new));
+    }
+    let asked = left.len();
+    if left.is_empty() {
+        return format!("none asked {asked}");
+    }
+    format!("left {} asked {asked}", text(left))
 }

@@ -25,7 +25,7 @@ pub enum Order {
 #[derive(Clone, Copy, PartialEq)]
 pub struct Code {
     is_text: bool,
-    number: u64,
+    pub number: u64,
 }
 
 /// What a walk over values shows in the place of a key.

@@ -4,6 +4,7 @@ use crate::made::value_or_made;
 use crate::moved::moved;
 use crate::prices::{self, Prices};
 use crate::sets::{self, Set};
+use crate::sums::{self, Vector};
 use crate::totals::total;
 use litemap::{LiteMap, TryFault, VecMap};
 use litemap_columns::ColumnMap;
@@ -16,6 +17,7 @@ pub(crate) fn show(rt: &impl Print, alloc: Global) -> anyhow::Result<()> {
     show_log(rt, &mut three_entries(alloc)?)?;
     show_prices(rt, &mut four_prices(alloc)?)?;
     show_sets(rt, alloc)?;
+    show_sums(rt, alloc)?;
     show_totals(rt, alloc, 98)?;
     show_totals(rt, alloc, u32::MAX)
 }
@@ -79,6 +81,18 @@ fn show_sets(rt: &impl Print, alloc: Global) -> anyhow::Result<()> {
         "common {set:?}, a subset {:?}",
         [before, sets::is_subset(&set, &other)]
     )?;
+    Ok(())
+}
+
+// A sparse vector to which others are added: beside it, at common indices, past the greatest number, and one without numbers.
+fn show_sums(rt: &impl Print, alloc: Global) -> anyhow::Result<()> {
+    let mut sum = Vector::from_iter(alloc, [(1, 10), (3, 30)])?;
+    for numbers in [[(2, 5), (3, 7)], [(1, u64::MAX), (4, 0)]] {
+        sums::add_capped(&mut sum, alloc, Vector::from_iter(alloc, numbers)?)?;
+        println!(rt; "sum {sum:?}")?;
+    }
+    sums::add_capped(&mut sum, alloc, Vector::new(alloc))?;
+    println!(rt; "sum {sum:?}")?;
     Ok(())
 }
 

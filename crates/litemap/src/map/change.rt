@@ -1,6 +1,7 @@
 //! Calls that change a map.
-ghost use Rattle.std.specs.Prelude.{◌≡◌, ◌↔◌, ◌+◌, ◌≤◌, ◌<◌, [], ◌∷◌, ◌++◌, length, slice_get, remove, filter, Bool, Some};
-ghost use Rattle.std.specs.Prelude.{IsNone, IsSome, IsTrue, IsOk, None, Ok, IfOk, OnOk, OnErr, true, false};
+ghost use Rattle.std.specs.Prelude.{◌≡◌, ◌↔◌, ◌+◌, ◌*◌, ◌≤◌, ◌<◌, [], ◌∷◌, ◌++◌, length, slice_get, remove, filter, Bool, Some};
+ghost use Rattle.std.specs.Prelude.{IsNone, IsSome, IsTrue, IsOk, None, Ok, IfOk, IfSome, OnOk, OnErr, true, false, is_some};
+ghost use Rattle.std.specs.Bool.{IsFalse};
 ghost use Rattle.std.specs.Fn.{FnOnceReturnsAt, FnOnceTakesAt};
 ghost use Rattle.litemap_store.specs.Counts.{RisesByAtMost};
 ghost use Rattle.litemap_store.specs.Digits.{digits};
@@ -167,6 +168,47 @@ impl<K: Ord + Drop, V, S: StoreMut<K, V>> LiteMap<K, V, S> {
         ensures cost { RisesByAtMost (digits (length self.old.pairs)) count.old count.new }
     {
         Some(self.take_out(key, count)?.1)
+    }
+
+    /// Moves the value at a key to another key, and answers whether the key was there (own). The key that was there is given up.
+    ///
+    /// A key that is equal to the new one stays, and its old value is given up. Where the key is absent nothing changes. It is
+    /// `remove`, which leaves room, and `insert`, at the cost of both: so it is never refused.
+    ///
+    /// ```rust
+    /// let mut days = three_days(alloc)?;
+    /// Ok(days.rename(&1, 2) && !days.rename(&1, 3) && days.first() == Some((&2, &"Monday")))
+    /// ```
+    pub fn rename<Q: Query<K>>(&mut self, key: Q, new_key: K) -> bool
+    where
+        V: Drop,
+        ensures there { result ≡ is_some (at Q.order self.old.pairs (Q.sought key)) }
+        ensures moved { IfSome (value_at Q.order self.old.pairs (Q.sought key)) (λ value.
+            self.new.pairs ≡ put K.cmp (cut Q.order self.old.pairs (Q.sought key)) new_key value) }
+        ensures unchanged { IsFalse result → self.new ≡ self.old }
+        ensures room { self.old.room ≤ self.new.room }
+    {
+        self.rename_counted(key, new_key, &mut Count::new())
+    }
+
+    /// `rename`, with its comparisons counted (own).
+    pub fn rename_counted<Q: Query<K>>(&mut self, key: Q, new_key: K, count: &mut Count) -> bool
+    where
+        V: Drop,
+        ensures there { result ≡ is_some (at Q.order self.old.pairs (Q.sought key)) }
+        ensures moved { IfSome (value_at Q.order self.old.pairs (Q.sought key)) (λ value.
+            self.new.pairs ≡ put K.cmp (cut Q.order self.old.pairs (Q.sought key)) new_key value) }
+        ensures unchanged { IsFalse result → self.new ≡ self.old }
+        ensures room { self.old.room ≤ self.new.room }
+        ensures cost { RisesByAtMost (2 * digits (length self.old.pairs)) count.old count.new }
+    {
+        let Some(value) = self.remove_counted(key, count) else {
+            return false;
+        };
+        let Ok(_) = self.insert_counted(new_key, value, count) else {
+            unreachable!()
+        };
+        true
     }
 
     /// Takes out a pair for whose key `f` answers `Equal`, and answers its value (own). Its key is given up. It asks `f` as

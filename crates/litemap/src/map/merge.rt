@@ -1,11 +1,14 @@
 //! Merging maps.
-ghost use Rattle.std.specs.Prelude.{◌≡◌, ◌⊎◌, ◌+◌, ◌*◌, [], length, OnOk};
+ghost use Rattle.std.specs.Prelude.{◌≡◌, ◌⊎◌, ◌+◌, ◌*◌, Some, [], length, OnOk};
 ghost use Rattle.std.specs.Option.{option_or};
 ghost use Rattle.litemap_store.specs.Counts.{RisesByAtMost};
 ghost use Rattle.litemap_store.specs.Digits.{digits};
 ghost use Rattle.litemap_store.specs.Merge.{Apart};
-ghost use Rattle.litemap_store.specs.Pairs.{value_at};
+ghost use Rattle.litemap_store.specs.Pairs.{at, value_at};
 ghost use Rattle.litemap.specs.Changes.{IsMergedInto};
+ghost use Rattle.litemap.specs.Combined.{CallableOnCommon, CallableOnEachOf, Combined, Combines, IsCombinedInto, Settles};
+ghost use Rattle.litemap.specs.Combined.{TakesBoth, combined, found_with};
+ghost use Rattle.litemap.specs.Seen.{with_pairs};
 
 use crate::LiteMap;
 use litemap_store::extend_store::extend_from_store;
@@ -72,6 +75,84 @@ impl<K: Ord + Drop, V: Drop, S: StoreIntoIterator<K, V> + Drop> LiteMap<K, V, S>
             Err(refused) => Err(NoRoom {
                 back: LiteMap::from_sorted_store_unchecked(refused.back),
             }),
+        }
+    }
+
+    /// Puts the pairs of another map in, as `extend_from_litemap` (own). Where a key is here, `f` may write the new value first:
+    /// it is called on the other's key, the value here and the new value.
+    ///
+    /// It makes one search here for each pair of the other map, and then the merge. Where that is refused, the other map comes
+    /// back with what `f` wrote: `extend_from_litemap` of it finishes the work.
+    ///
+    /// ```rust
+    /// let mut counts: VecMap<u32, u32> = LiteMap::from_iter(alloc, [(1, 10), (2, 20)])?;
+    /// let more: VecMap<u32, u32> = LiteMap::from_iter(alloc, [(2, 2), (3, 3)])?;
+    /// counts.extend_with(alloc, more, |_key, here, new| *new = here.saturating_add(*new))?;
+    /// Ok(counts.as_slice() == [(1, 10), (2, 22), (3, 3)].as_slice())
+    /// ```
+    pub fn extend_with<F: Fn(&K, &V, &mut V)>(
+        &mut self,
+        alloc: Global,
+        other: Self,
+        f: F,
+    ) -> Result<Option<Self>, NoRoom<Self>>
+        requires { CallableOnCommon F.Fn f K.cmp self.old.pairs other.pairs }
+        ensures merged { IsCombinedInto F.Fn f K.cmp other self.old self.new result }
+        ensures combined { (combine : K → V → V → V) → Combines F.Fn f combine → IsMergedInto K.cmp
+            (with_pairs other (combined K.cmp combine self.old.pairs other.pairs)) self.old self.new result }
+
+        // What a look-up finds: both values combined where both maps have the key, else the value of one.
+        ensures found { (combine : K → V → V → V) → Combines F.Fn f combine → OnOk result ((key : K)
+            → value_at K.cmp self.new.pairs key
+            ≡ found_with combine (value_at K.cmp self.old.pairs key) (at K.cmp other.pairs key)) }
+    {
+        self.extend_with_counted(alloc, other, f, &mut Count::new())
+    }
+
+    /// `extend_with`, with its comparisons counted (own).
+    pub fn extend_with_counted<F: Fn(&K, &V, &mut V)>(
+        &mut self,
+        alloc: Global,
+        other: Self,
+        f: F,
+        count: &mut Count,
+    ) -> Result<Option<Self>, NoRoom<Self>>
+        requires { CallableOnCommon F.Fn f K.cmp self.old.pairs other.pairs }
+        ensures merged { IsCombinedInto F.Fn f K.cmp other self.old self.new result }
+        ensures cost { RisesByAtMost (2 + length other.pairs * digits (length self.old.pairs)
+            + length other.pairs * digits (length self.old.pairs + length other.pairs)) count.old count.new }
+    {
+        let LiteMap {
+            mut store,
+            marker: _,
+        } = other;
+        self.combine_each(&mut store, &f, count);
+        let combined = LiteMap::from_sorted_store_unchecked(store);
+        self.extend_from_litemap_counted(alloc, combined, count)
+    }
+
+    // Lets `f` write each value of a store whose key is here.
+    fn combine_each<F: Fn(&K, &V, &mut V)>(&self, store: &mut S, f: &F, count: &mut Count)
+        requires { CallableOnEachOf F.Fn f.now K.cmp self.now.pairs (S.pairs store.old) }
+        ensures combined { Combined F.Fn f.now K.cmp self.now.pairs (S.pairs store.old) (S.pairs store.new) }
+        ensures room { S.room store.new ≡ S.room store.old }
+        ensures cost { RisesByAtMost (length (S.pairs store.old) * digits (length self.now.pairs)) count.old count.new }
+    {
+        for index in 0..store.lm_len() {
+            let (key, value) = store.lm_pair_mut(index);
+            self.combine(key, value, f, count);
+        }
+    }
+
+    // Lets `f` write a value whose key is here.
+    fn combine<F: Fn(&K, &V, &mut V)>(&self, key: &K, value: &mut V, f: &F, count: &mut Count)
+        requires { (here : V) → value_at K.cmp self.now.pairs key.now ≡ Some here
+            → TakesBoth F.Fn f.now key.now here value.old }
+        ensures settled { Settles F.Fn f.now key.now (value_at K.cmp self.now.pairs key.now) value.old value.new }
+        ensures cost { RisesByAtMost (digits (length self.now.pairs)) count.old count.new }
+    {
+        if let Some(here) = self.get_counted(key, count) {
+            f(key, here, value);
         }
     }
 }

@@ -1,16 +1,13 @@
-use Rattle.std.proofs.Common.{[], ◌∙◌, sym, refl, arith}
-use Rattle.example_uses.proofs.Vectors.{number_at-merged}
+use Rattle.std.proofs.Common.{◌+◌, ◌∙◌, ap, nat_cmp, rules, unwrap_or}
+use Rattle.litemap_store.specs.Pairs.{at, value_at}
+use Rattle.example_uses.proofs.Vectors.{number-found}
 use Rattle.example_uses.proofs.sums.add.Goals as goal
-use Rattle.example_uses.proofs.sums.add.Goals.{in-Some, in_default}
 
 pub returns-clause-added : goal.returns-clause-added
 returns-clause-added c = λ i.
-    let merged = c.in_ok-displaced.ensures.merged in
-    let found = c.in_ok-displaced.ensures.found i in
-    elim c.match-branch-2.branch [
-      | in-Some w ↦ rw w.sum-is (w.add_each.ensures i ∙ number_at-merged _ _ _ _ i found (rw w.in-Some.is at merged.left))
-      | in_default w ↦ rw w.sum-is (
-          let sums = number_at-merged _ _ _ [] i found (sym ((rw w.in_default.is at merged.none).0 refl)) in
-          omega arith
-          )
-    ]
+    let found = c.in_ok-extend_with.ensures.found (λ _ here new. here + new) (λ _ _ _ _ w.
+    let called = w.called in
+    let leaves = w.leaves in
+    let shows = w.shows in
+    search (rules, called, leaves, shows)) i in
+    ap (λ o. unwrap_or o 0) found ∙ number-found (value_at nat_cmp c.args.sum.now.pairs i) (at nat_cmp c.args.other.pairs i)

@@ -1,0 +1,61 @@
+-- A merge where a closure writes values of the other map.
+--     Combined-more      one more pair;  keys-combined, length-combined      the keys stay;  combined-from      what is left is mapped, where the closure computes it
+--     callable_each      what may be called by a look-up of each key may be called on each pair
+--     found-combined      what a key finds in the merge
+use Rattle.std.proofs.Common.{◌≡◌, List, [], ◌∷◌, Option, Some, None, option_map, length, arith, refl, sym, ap, ◌∙◌, Ordering, is_eq, true, false}
+use Rattle.std.specs.Cmp.{IsTotalOrder, tied_itself}
+use Rattle.std.specs.Fn.{Shared}
+use Rattle.std.specs.Map.{keys_of}
+use Rattle.std.specs.Option.{option_map_or, option_or}
+use Rattle.litemap_store.specs.Pairs.{Rising, at, value_at}
+use Rattle.litemap_store.proofs.Membership.{from_each}
+use Rattle.litemap_store.proofs.MergeLookups.{at-rising, key_alike, key_same}
+use Rattle.litemap_store.proofs.Splitting.{at_in}
+use Rattle.litemap_store.proofs.Tallies.{value_at_equal}
+use Rattle.litemap.specs.Combined.{CallableOnCommon, CallableOnEachOf, Combined, Combines, Settles, combined, combined_pair, found_with}
+use denote.Ref.{Bor, MutBor}
+
+module _ {F K V : Type 0} (g : Shared F (Bor K × (Bor V × (MutBor V × Unit {0}))) (Unit {0} × (MutBor V × Unit {0}))) (f : F) (cmp : K → K → Ordering) (L : List (K × V)) where
+  pub Combined-more : (p : K × V) (w : V) (J M : List (K × V)) → Settles g f p.0 (value_at cmp L p.0) p.1 w → Combined g f cmp L J M → Combined g f cmp L (p ∷ J) ((p.0, w) ∷ M)
+  Combined-more p w J M s h = (w, M, s, h, refl)
+
+  pub keys-combined : (J M : List (K × V)) → Combined g f cmp L J M → keys_of M ≡ keys_of J
+  keys-combined [] M h = ap keys_of h
+  keys-combined (p ∷ J) M (w, N, s, h, is) = ap keys_of is ∙ ap (λ ks. p.0 ∷ ks) (keys-combined J N h)
+
+  pub length-combined : (J M : List (K × V)) → Combined g f cmp L J M → length M ≡ length J
+  length-combined [] M h = ap length h
+  length-combined (p ∷ J) M (w, N, s, h, is) = omega (arith, ap length is, length-combined J N h)
+
+  module _ (combine : K → V → V → V) (by : Combines g f combine) where
+    settled : (k : K) (o : Option V) (w w' : V) → Settles g f k o w w' → w' ≡ option_map_or (λ here. combine k here w) o w
+    settled k None w w' s = s
+    settled k (Some here) w w' s = by k here w w' s
+
+    pub combined-from : (J M : List (K × V)) → Combined g f cmp L J M → M ≡ combined cmp combine L J
+    combined-from [] M h = h
+    combined-from (p ∷ J) M (w, N, s, h, is) =
+        is ∙ ap (λ x. (p.0, x) ∷ N) (settled p.0 (value_at cmp L p.0) p.1 w s) ∙ ap (λ ps. combined_pair cmp combine L p ∷ ps) (combined-from J N h)
+
+  pub callable_each : IsTotalOrder cmp → (J : List (K × V)) → Rising cmp J → CallableOnCommon g f cmp L J → CallableOnEachOf g f cmp L J
+  callable_each o J r c = from_each _ J (λ p i here is. c p.0 here p.1 is (at-rising cmp o cmp p.0 (key_same o p.0) (key_alike o p.0) J p r i (tied_itself o p.0)))
+
+module _ {K V : Type 0} {cmp : K → K → Ordering} (o : IsTotalOrder cmp) (combine : K → V → V → V) (L : List (K × V)) (k : K) where
+  at-combined : (J : List (K × V)) → at cmp (combined cmp combine L J) k ≡ option_map (combined_pair cmp combine L) (at cmp J k)
+  at-combined [] = refl
+  at-combined (p ∷ J) = (elim (is_eq (cmp p.0 k)) as (λ t. is_eq (cmp p.0 k) ≡ t → at cmp (combined cmp combine L (p ∷ J)) k ≡ option_map (combined_pair cmp combine L) (at cmp (p ∷ J) k)) [
+    | true ↦ λ e. rw e refl
+    | false ↦ λ e. rw e (at-combined J)
+  ]) refl
+
+  found_by : (a : Option V) (b : Option (K × V)) → ((p : K × V) → b ≡ Some p → value_at cmp L p.0 ≡ a)
+      → option_or (option_map (λ (p : K × V). p.1) (option_map (combined_pair cmp combine L) b)) a ≡ found_with combine a b
+  found_by None None h = refl
+  found_by (Some v) None h = refl
+  found_by None (Some p) h = rw (h p refl) refl
+  found_by (Some v) (Some p) h = rw (h p refl) refl
+
+  pub found-combined : (J : List (K × V)) → option_or (value_at cmp (combined cmp combine L J) k) (value_at cmp L k) ≡ found_with combine (value_at cmp L k) (at cmp J k)
+  found-combined J =
+      ap (λ b. option_or (option_map (λ (p : K × V). p.1) b) (value_at cmp L k)) (at-combined J)
+      ∙ found_by (value_at cmp L k) (at cmp J k) (λ p is. sym (value_at_equal o L p.0 k (at_in cmp J k p is).1))

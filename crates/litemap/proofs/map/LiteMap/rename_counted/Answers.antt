@@ -1,0 +1,13 @@
+use Rattle.std.proofs.Common.{◌≤◌, arith, length}
+use Rattle.litemap_store.specs.Digits.{digits, digits-mono}
+use Rattle.litemap_store.proofs.Counting.{in_turn}
+use Rattle.litemap.proofs.Outcomes.{length-cut}
+use Rattle.litemap.proofs.map.LiteMap.rename_counted.Goals as goal
+
+pub returns-clause-cost : goal.returns-clause-cost
+returns-clause-cost g c =
+    let old = c.args.self.now.pairs in
+    let cut = c.remove_counted.new.self.pairs in
+    let fewer : length cut ≤ length old = rw c.remove_counted.ensures.cut (length-cut g.Q.Query.order old (g.Q.Query.sought c.args.key)) in
+    let fewer_digits : digits (length cut) ≤ digits (length old) = digits-mono (length cut) (length old) fewer in
+    in_turn (digits (length old)) (digits (length cut)) _ (omega arith) c.remove_counted.ensures.cost c.insert_counted.ensures.cost
