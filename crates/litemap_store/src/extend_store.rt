@@ -26,14 +26,7 @@ const FEW: usize = 3;
 /// Merges a store's pairs into another's. Where an equal key is there, that key stays and takes the new value; the old
 /// values are answered, each with its new key, in order, or `None` where there are none.
 ///
-/// Where one store is empty, it takes no memory and compares no keys: an empty other changes nothing, and an empty store
-/// takes the other one whole. Where the keys of one lie above all of the other, its pairs are put behind, or before, by
-/// at most two comparisons. Else it compares once for each pair of both, where these are no more than one search for each pair
-/// of other may ask, or makes these searches. Few pairs are put in one by one; else each pair of both moves a constant number
-/// of times.
-///
-/// All room, that of the old values included, is taken before the first change. Refused for want of memory, the list stays
-/// as it was and the other store comes back whole. Pairs that come behind or in front are never refused within the room.
+/// It is the body of a map's `extend_from_litemap`, which says what it compares, what it moves and when it is refused.
 pub fn extend_from_store<K: Ord + Drop, V: Drop, S: StoreIntoIterator<K, V> + Drop>(
     alloc: Global,
     store: &mut S,

@@ -62,12 +62,9 @@ pub trait StoreIntoIterator<K: Drop, V: Drop>: StoreMut<K, V> + Sized {
     /// Puts the pairs of another store before the own ones, which are put behind those of the other store. So each own
     /// pair moves once, and each of the other's at most once, where its memory grows.
     ///
-    /// The other store takes its room first. Refused for want of memory, the list stays as it was and the other store
-    /// comes back whole; that is only where one of the two had less room than the other has pairs. Nothing is said of
-    /// the room after it. A store that can grow in front may put the pairs in there, and take its own room.
-    ///
-    /// The Rust crate's trait inserts pair by pair at the front, each of which moves all old pairs; its vector has one
-    /// `splice` in its place.
+    /// The other store takes its room first. Refused for want of memory, the list stays and the other store comes back whole;
+    /// that is only where one of the two had less room than the other has pairs. Nothing is said of the room after it. A store
+    /// that can grow in front may do so. The Rust crate inserts pair by pair at the front; its vector has one `splice`.
     fn lm_extend_start(&mut self, mut other: Self) -> Result<(), NoRoom<Self>>
         ensures ok { OnOk result (Self.pairs self.new ≡ Self.pairs other ++ Self.pairs self.old) }
         ensures refused { OnErr result (Self.pairs self.new ≡ Self.pairs self.old) }

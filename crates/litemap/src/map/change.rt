@@ -56,11 +56,9 @@ impl<K: Ord + Drop, V, S: StoreMut<K, V>> LiteMap<K, V, S> {
         }
     }
 
-    /// The place and the value of a key, for who only reads them: who goes on to use the map calls `try_find_or_insert`, after
-    /// which the place has the value.
+    /// The place and the value of a key, for who only reads them: who goes on to use the map calls `try_find_or_insert`.
     ///
-    /// It is that call with the value there. It compares, moves and leaves of the map what that does; no contract can tell what
-    /// it leaves (docs/DECISIONS.md).
+    /// It compares, moves and leaves of the map what that call does; no contract can tell what it leaves (docs/DECISIONS.md).
     ///
     /// ```rust
     /// let mut days = three_days(alloc)?;

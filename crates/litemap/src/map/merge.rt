@@ -18,18 +18,17 @@ use std::alloc::Global;
 impl<K: Ord + Drop, V: Drop, S: StoreIntoIterator<K, V> + Drop> LiteMap<K, V, S> {
     /// Puts the pairs of another map in. Where an equal key is there, that key stays and takes the new value.
     ///
-    /// The answer is a map of what was driven out: for each key of the other map that was there, that key of the other map with
-    /// the old value. It is `None` exactly where no key is common.
+    /// The answer is a map of what was driven out, those keys of the other map with the old values; `None` where no key is common.
     ///
-    /// Where one map is empty nothing is compared, no memory is taken, and an empty map takes the other's store whole. Where
-    /// all keys of one map lie above the other's, it makes at most two comparisons, and the pairs of one map move once, those
-    /// of the other only where its store needs more memory. Else each pair of the other map takes one search, or one comparison
-    /// is made for each pair of both where these are no more, and the pairs move O((n + m) log(n + m)) times for m new ones.
+    /// Where one map is empty nothing is compared, no memory is taken, and an empty map takes the other's store whole. Where all
+    /// keys of one map lie above the other's, it makes at most two comparisons, and the pairs of one map move once. Else it makes
+    /// a search for each pair of the other map, or compares once for each pair of both where these are no more, and the pairs
+    /// move O((n + m) log(n + m)) times for m new ones.
     ///
-    /// Refused for want of memory, the list stays and the other map comes back whole: all room is taken before the first
-    /// change. It is never refused where a map is empty, and where the maps lie apart and have room for each other's pairs; where
-    /// the other's keys lie above, this map's room will do. Nothing is promised of the room after it, as by `extend`. The Rust
-    /// crate asks `StoreFromIterator` too, and puts pairs that fall between others in one by one.
+    /// Refused for want of memory, the list stays and the other map comes back whole: all room is taken before the first change.
+    /// It is never refused where a map is empty, or where maps that lie apart have room for each other's pairs; where the other's
+    /// keys lie above, this map's room will do. Nothing is promised of the room after it. The Rust crate asks `StoreFromIterator`
+    /// too, and puts pairs that fall between others in one by one.
     ///
     /// ```rust
     /// let mut days = three_days(alloc)?;
