@@ -1,5 +1,5 @@
 //! What answers a line, and what the line does to the names.
-ghost use Rattle.std.specs.Prelude.{◌≡◌, ◌++◌, ℕ, List, Some, [], IfOk, IfSome, OnOk, MatchOption, flat_map};
+ghost use Rattle.std.specs.Prelude.{◌≡◌, ◌++◌, [], IfOk, IfSome, OnOk, flat_map};
 ghost use Rattle.std.specs.Prelude.{option_copied, option_map, slice_get, string_bytes};
 ghost use Rattle.json.specs.Print.{print};
 ghost use Rattle.litemap_store.specs.Pairs.{value_at};
