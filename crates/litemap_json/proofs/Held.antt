@@ -1,5 +1,5 @@
 -- What 64 bits hold is held by 128 bits with a sign, and is made where that is.
-use Rattle.std.proofs.Common.{◌≡◌, inl, inr, ℕ, ◌^◌, ℤ, pos, negsuc, true, arith}
+use Rattle.std.proofs.Common.{◌≡◌, inl, inr, ◌^◌, ℤ, pos, negsuc, true, arith}
 use Rattle.std.proofs.lemmas.Bool.{lt-ltb}
 use Rattle.std.proofs.lemmas.Int.{ints}
 use Rattle.std.specs.Int.{w64, FitsUnsigned}
