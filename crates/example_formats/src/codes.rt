@@ -2,37 +2,36 @@
 use csv::{Error, Reader};
 use litemap::VecMap;
 use litemap_serde::SerdeMap;
+use serde::DeserializeOwned;
 use std::alloc::Global;
 
 /// Names by their codes.
 pub type Codes = VecMap<u32, String>;
 
+/// A row as a map, from its columns' names to its fields.
+pub type Row = SerdeMap<String, String, Vec<(String, String)>>;
+
 /// The rows under a header of two columns. Of equal codes the last row counts.
 pub fn from_csv(alloc: Global, text: &[u8]) -> Result<Codes, Error> {
-    let mut reader = Reader::from_reader(alloc, text);
-    let mut pairs = Vec::new(alloc);
-    for row in reader.deserialize::<(u32, String)>() {
-        if pairs.push(row?).is_err() {
-            return Err(Error::out_of_memory());
-        }
-    }
-    match Codes::from_vec(alloc, pairs) {
+    match Codes::from_vec(alloc, rows_from_csv(alloc, text)?) {
         Ok(codes) => Ok(codes),
         Err(_) => Err(Error::out_of_memory()),
     }
 }
 
-/// A row as a map, from its columns' names to its fields.
-pub type Row = SerdeMap<String, String, Vec<(String, String)>>;
-
-/// The rows under a header, each as a map.
-pub fn rows_from_csv(alloc: Global, text: &[u8]) -> Result<Vec<Row>, Error> {
+/// The rows under a header: pairs of their fields, or each a `Row`.
+pub fn rows_from_csv<T: DeserializeOwned>(alloc: Global, text: &[u8]) -> Result<Vec<T>, Error> {
     let mut reader = Reader::from_reader(alloc, text);
     let mut rows = Vec::new(alloc);
-    for row in reader.deserialize::<Row>() {
-        if rows.push(row?).is_err() {
-            return Err(Error::out_of_memory());
-        }
+    for row in reader.deserialize::<T>() {
+        put(&mut rows, row)?;
     }
     Ok(rows)
+}
+
+fn put<T: Drop>(rows: &mut Vec<T>, row: Result<T, Error>) -> Result<(), Error> {
+    match rows.push(row?) {
+        Ok(()) => Ok(()),
+        Err(_) => Err(Error::out_of_memory()),
+    }
 }

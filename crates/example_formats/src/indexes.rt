@@ -1,4 +1,5 @@
 //! What bytes answer that are an index of names.
+use crate::texts::write_entry;
 use crate::words;
 use litemap_store::store::Count;
 use name_index::{CheckedNames, IndexFault, IndexedNames, NameTable, write_index};
@@ -27,21 +28,19 @@ pub fn write_digits(alloc: Global, bytes: &[u8], output: &mut String) -> Result<
     output.push_str(digits.as_str())
 }
 
-/// Writes each entry of an index, with a word more where its key isn't found, or the fault.
+/// Writes each entry of an index, with a word more where one isn't found by its key, or the fault.
 pub fn write_opened(bytes: &[u8], output: &mut String) -> Result<(), AllocError> {
     let names = or_fault!(IndexedNames::open_checked(bytes), output);
     write!(output, "index {}:", names.len())?;
-    for place in 0..names.len() {
-        let Some((key, value)) = names.get_indexed(place) else {
-            return output.push_str(" no entry");
-        };
-        write!(output, " {key}={value}")?;
-        if names.find_index(key) != Ok(place) || names.get(key) != Some(value) {
-            output.push_str(" not found")?;
-        }
+    let end = names.len();
+    let mut found = names.get_indexed(end).is_none() && names.is_empty() == (end == 0);
+    for place in 0..end {
+        let (key, value) = names.get_indexed(place).unwrap_or(("", ""));
+        write_entry(key, value, output)?;
+        found &= names.find_index(key) == Ok(place) && names.get(key) == Some(value);
     }
-    if names.get_indexed(names.len()).is_some() || names.is_empty() != (names.len() == 0) {
-        output.push_str(" one more")?;
+    if !found {
+        output.push_str(" not found")?;
     }
     Ok(())
 }
@@ -49,11 +48,11 @@ pub fn write_opened(bytes: &[u8], output: &mut String) -> Result<(), AllocError>
 /// Writes what an index that wasn't read before answers for a key, or the fault.
 pub fn write_looked(key: &str, bytes: &[u8], output: &mut String) -> Result<(), AllocError> {
     let names = or_fault!(IndexedNames::open(bytes), output);
+    let value = or_fault!(names.get(key), output);
     let place = or_fault!(names.find_index(key), output);
-    match (names.get(key), place) {
-        (Ok(Some(value)), Ok(index)) => write!(output, "found {index}: {value}"),
-        (Ok(None), Err(index)) => write!(output, "none, it would be {index}"),
-        (Err(fault), _) => write!(output, "{fault}"),
+    match (value, place) {
+        (Some(value), Ok(index)) => write!(output, "found {index}: {value}"),
+        (None, Err(index)) => write!(output, "none, it would be {index}"),
         _ => output.push_str("two answers"),
     }
 }
@@ -114,9 +113,8 @@ pub fn is_opened_alike(bytes: &[u8], keys: &CheckedNames<'_>) -> bool {
     };
     let mut alike = true;
     for place in 0..keys.len() {
-        if let Some((key, value)) = keys.get_indexed(place) {
-            alike &= both.is_one(key) && both.is_one(value);
-        }
+        let (key, value) = keys.get_indexed(place).unwrap_or(("", ""));
+        alike &= both.is_one(key) && both.is_one(value);
     }
     alike
 }
@@ -129,14 +127,13 @@ fn is_asked_within(bytes: &[u8], keys: &CheckedNames<'_>) -> bool {
     };
     let mut within = true;
     for place in 0..keys.len() {
-        if let Some((key, _)) = keys.get_indexed(place) {
-            let _value = names.get(key);
-            within &= match names.find_index(key) {
-                Ok(Ok(index)) => index < names.len(),
-                Ok(Err(index)) => index <= names.len(),
-                Err(_) => true,
-            };
-        }
+        let (key, _) = keys.get_indexed(place).unwrap_or(("", ""));
+        let _value = names.get(key);
+        within &= match names.find_index(key) {
+            Ok(Ok(index)) => index < names.len(),
+            Ok(Err(index)) => index <= names.len(),
+            Err(_) => true,
+        };
     }
     within
 }

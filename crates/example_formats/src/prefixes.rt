@@ -3,8 +3,9 @@ ghost use Rattle.std.specs.Prelude.{◌≡◌, filter};
 ghost use Rattle.name_index.specs.Prefixes.{begins};
 ghost use Rattle.name_index.specs.Tables.{OfTable};
 
+use crate::texts::write_entry;
 use name_index::{NameEntries, NameIndex, NameTable};
-use std::alloc::{AllocError, Global};
+use std::alloc::AllocError;
 use std::fmt::Write;
 
 /// The entries whose names begin with a text, in order.
@@ -16,19 +17,17 @@ pub fn beginning<'a>(index: &NameIndex<'a>, text: &str) -> NameEntries<'a>
 
 /// Writes the places of the names that begin with a text, each of these entries, and whether a scan finds others.
 pub fn write_beginning(
-    alloc: Global,
+    table: &NameTable<'_>,
+    index: &NameIndex<'_>,
     text: &str,
-    bytes: &[u8],
     output: &mut String,
 ) -> Result<(), AllocError> {
-    let table = or_fault!(NameTable::new(bytes), output);
-    let index = or_fault!(NameIndex::new(alloc, &table), output);
     let places = index.prefix_places(text);
     write!(output, "{} to {}:", places.start, places.end)?;
     for (name, value) in index.entries_in(places) {
-        write!(output, " {name}={value}")?;
+        write_entry(name, value, output)?;
     }
-    if !is_scanned(&table, &index, text) {
+    if !is_scanned(table, index, text) {
         output.push_str(" other names")?;
     }
     Ok(())

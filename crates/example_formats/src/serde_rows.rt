@@ -1,6 +1,6 @@
 //! What answers a line.
-use crate::codes::{from_csv, rows_from_csv};
-use crate::config::{self, Config};
+use crate::codes::{Row, from_csv, rows_from_csv};
+use crate::config::{self, Config, Limits};
 use crate::kinds::{again, cuts, fault_word, map_again, toml_again, written};
 use crate::levels::Level;
 use crate::long::many;
@@ -83,7 +83,7 @@ fn answer_text(alloc: Global, what: &str, text: &str) -> Result<String, AllocErr
             Ok(codes) => written(alloc, &SerdeMap(codes)),
             Err(_) => String::from_str(alloc, "refused"),
         },
-        "csv-rows" => match rows_from_csv(alloc, text.as_bytes()) {
+        "csv-rows" => match rows_from_csv::<Row>(alloc, text.as_bytes()) {
             Ok(rows) => written(alloc, &rows),
             Err(_) => String::from_str(alloc, "refused"),
         },
@@ -120,14 +120,22 @@ fn toml_text(alloc: Global, config: &Config) -> Result<String, AllocError> {
 
 // The defaults with a TOML text's limits over theirs, written as TOML.
 fn overlaid(alloc: Global, text: &str) -> Result<String, AllocError> {
-    let Ok(mut defaults) = config::from_json(alloc, DEFAULTS) else {
-        return String::from_str(alloc, "no defaults");
-    };
-    let Ok(user) = config::from_toml(alloc, text) else {
-        return String::from_str(alloc, "refused");
-    };
-    config::overlay(&mut defaults.limits, alloc, user.limits)?;
-    toml_text(alloc, &defaults)
+    match config::from_toml(alloc, text) {
+        Ok(user) => over_defaults(alloc, user.limits),
+        Err(_) => String::from_str(alloc, "refused"),
+    }
+}
+
+fn over_defaults(alloc: Global, user: Limits) -> Result<String, AllocError> {
+    match config::from_json(alloc, DEFAULTS) {
+        Ok(defaults) => with_limits(alloc, defaults, user),
+        Err(_) => String::from_str(alloc, "no defaults"),
+    }
+}
+
+fn with_limits(alloc: Global, mut config: Config, user: Limits) -> Result<String, AllocError> {
+    config::overlay(&mut config.limits, alloc, user)?;
+    toml_text(alloc, &config)
 }
 
 // The configuration where a user says nothing.

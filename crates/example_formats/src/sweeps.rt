@@ -36,7 +36,7 @@ impl<'a> Tally<'a> {
             texts::write_read(alloc, bytes, &mut text)?;
             self.count(text.as_str(), is_read_again(alloc, bytes)?);
             text.clear();
-            tables::write_table(alloc, bytes, &mut text)?;
+            tables::write_answer(alloc, &["table"], bytes, &mut text)?;
             self.sum(text.as_str());
         }
         Ok(())

@@ -27,7 +27,7 @@
 //! - `cuts BYTES`, `damages BYTES`: what is opened of each proper prefix of an index, and with each byte changed, by kinds.
 use crate::languages::language_name;
 use crate::sweeps::{self, Tally};
-use crate::{indexes, prefixes, tables, texts};
+use crate::{indexes, tables, texts};
 use name_index::IndexedNames;
 use name_table::{read_names, write_names};
 use std::alloc::{AllocError, Global};
@@ -59,14 +59,13 @@ fn answer(
         ["walk"] => texts::write_walk(bytes, output),
         ["again"] => write_again(alloc, bytes, output),
         ["name", code] => write_name(alloc, code, bytes, output),
-        ["table"] => tables::write_table(alloc, bytes, output),
-        ["ask", key] => tables::write_asked(alloc, key, bytes, output),
-        ["begin", text] => prefixes::write_beginning(alloc, text, bytes, output),
-        ["word", word] => tables::write_translated(alloc, word, bytes, output),
+        ["table"] | ["ask" | "begin" | "word", _] => {
+            tables::write_answer(alloc, words, bytes, output)
+        }
         ["index"] => indexes::write_digits(alloc, bytes, output),
         ["opened"] => indexes::write_opened(bytes, output),
         ["look", key] => indexes::write_looked(key, bytes, output),
-        ["many", number] => write_many(alloc, number, output),
+        ["many", number] => tables::write_many(alloc, number, output),
         [name] => sweep(alloc, name, bytes, output),
         _ => output.push_str("bad line"),
     }
@@ -98,14 +97,6 @@ fn write_name(
         Ok(Some(name)) => output.push_str(name),
         Ok(None) => output.push_str("none"),
         Err(fault) => texts::write_fault(&fault, output),
-    }
-}
-
-// Asks a table of so many names.
-fn write_many(alloc: Global, number: &str, output: &mut String) -> Result<(), AllocError> {
-    match number.parse::<u32>() {
-        Ok(number) => tables::write_many(alloc, number, output),
-        Err(_) => output.push_str("bad line"),
     }
 }
 

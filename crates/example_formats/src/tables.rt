@@ -1,6 +1,7 @@
 //! What a table answers that is looked up in its bytes.
 use crate::indexes::{BothWays, index_of};
-use crate::prefixes::is_scanned;
+use crate::prefixes::{is_scanned, write_beginning};
+use crate::texts::write_entry;
 use crate::words;
 use litemap_store::store::Count;
 use name_index::{NameIndex, NameTable};
@@ -8,115 +9,151 @@ use name_table::NameMap;
 use std::alloc::{AllocError, Global};
 use std::fmt::Write;
 
-/// Writes each entry of a `NameTable`, with a word more where its key isn't found in the table or its `NameIndex`.
-pub fn write_table(alloc: Global, bytes: &[u8], output: &mut String) -> Result<(), AllocError> {
-    let table = or_fault!(NameTable::new(bytes), output);
-    let index = or_fault!(NameIndex::new(alloc, &table), output);
-    write!(output, "table {}:", index.len())?;
-    for place in 0..table.len() {
-        let Some((key, value)) = table.get_indexed(place) else {
-            return output.push_str(" no entry");
-        };
-        write!(output, " {key}={value}")?;
-        if table.find_index(key) != Ok(place) || !is_indexed(&table, &index, key) {
-            output.push_str(" not found")?;
-        }
-        if index.get_indexed(place) != Some((key, value)) {
-            output.push_str(" not there")?;
-        }
-        if !is_scanned(&table, &index, key) || !is_scanned(&table, &index, value) {
-            output.push_str(" other names")?;
-        }
-    }
-    if !is_walked(&table, &index) {
-        output.push_str(" another walk")?;
-    }
-    if !is_map(&table, &table.to_map(alloc)?) || !is_map(&table, &index.to_map(alloc)?) {
-        output.push_str(" another map")?;
-    }
-    let written = index_of(alloc, bytes)?;
-    match BothWays::open(written.as_slice()) {
-        Ok(both) if both.has_entries_of(&table) => {}
-        _ => output.push_str(" another index")?,
-    }
-    if table.get_indexed(table.len()).is_some() || index.get_indexed(table.len()).is_some() {
-        output.push_str(" one more")?;
-    }
-    Ok(())
-}
-
-// Whether a map has the entries of a table.
-fn is_map(table: &NameTable<'_>, map: &NameMap<'_>) -> bool {
-    let mut place = 0usize;
-    for (key, value) in map {
-        if table.get_indexed(place) != Some((*key, *value)) {
-            return false;
-        }
-        place = place.wrapping_add(1);
-    }
-    place == table.len()
-}
-
-// Whether a table and its index are walked through the entries at the places, and no others.
-fn is_walked(table: &NameTable<'_>, index: &NameIndex<'_>) -> bool {
-    let (mut entries, mut others) = (table.iter(), index.iter());
-    let mut alike = true;
-    for place in 0..=table.len() {
-        let left = table.len().saturating_sub(place);
-        alike &= entries.len() == left && others.len() == left;
-        let entry = table.get_indexed(place);
-        alike &= entries.next() == entry;
-        alike &= others.next() == entry;
-    }
-    alike
-}
-
-// Whether an index answers as its table does at a key.
-fn is_indexed(table: &NameTable<'_>, index: &NameIndex<'_>, key: &str) -> bool {
-    index.get(key) == table.get(key) && index.find_index(key) == table.find_index(key)
-}
-
-/// Writes what a `NameTable` has at a key, and whether its `NameIndex` answers otherwise.
-pub fn write_asked(
+/// Writes what a table answers to words, as `answer_line` has them, in each of its forms.
+pub fn write_answer(
     alloc: Global,
-    key: &str,
+    words: &[&str],
     bytes: &[u8],
     output: &mut String,
 ) -> Result<(), AllocError> {
-    let table = or_fault!(NameTable::new(bytes), output);
+    let table = or_fault!(NameTable::new_counted(bytes, &mut Count::new()), output);
     let written = index_of(alloc, bytes)?;
-    let Ok(both) = BothWays::open(written.as_slice()) else {
+    let Some(forms) = Forms::of(alloc, table, written.as_slice()) else {
         return output.push_str("no index");
     };
-    let index = or_fault!(NameIndex::new(alloc, &table), output);
-    if !is_indexed(&table, &index, key) || !both.is_asked_alike(&table, key) {
-        return output.push_str("another answer");
-    }
-    match (table.get(key), table.find_index(key)) {
-        (Some(value), Ok(index)) => write!(output, "found {index}: {value}"),
-        (None, Err(index)) => write!(output, "none, it would be {index}"),
-        _ => output.push_str("two answers"),
+    match words {
+        ["ask", key] => forms.write_asked(key, output),
+        ["begin", text] => write_beginning(&forms.table, &forms.index, text, output),
+        ["word", word] => forms.write_translated(word, output),
+        ["many", _] => forms.write_many(alloc, output),
+        _ => forms.write_entries(alloc, output),
     }
 }
 
-/// Writes the text that a table has for a word, or the word itself, and whether its other forms have another.
-pub fn write_translated(
-    alloc: Global,
-    word: &str,
-    bytes: &[u8],
-    output: &mut String,
-) -> Result<(), AllocError> {
-    let table = or_fault!(NameTable::new(bytes), output);
-    let index = or_fault!(NameIndex::new(alloc, &table), output);
-    let written = index_of(alloc, bytes)?;
-    let Ok(both) = BothWays::open(written.as_slice()) else {
-        return output.push_str("no index");
-    };
-    let text = words::by_table(&table, word);
-    if words::by_places(&index, word) != text || !both.is_translated(word, text) {
-        return output.push_str("another answer");
+/// Writes what a table of so many names answers.
+pub fn write_many(alloc: Global, number: &str, output: &mut String) -> Result<(), AllocError> {
+    let bytes = many(alloc, number.parse::<u32>().unwrap_or(0))?;
+    write_answer(alloc, &["many", number], bytes.as_slice(), output)
+}
+
+// A table, and its indexes.
+#[derive(Drop)]
+struct Forms<'a> {
+    table: NameTable<'a>,
+    index: NameIndex<'a>,
+    both: BothWays<'a>,
+}
+
+impl<'a> Forms<'a> {
+    // The table with an index beside it, and what was written of it as an index.
+    fn of(alloc: Global, table: NameTable<'a>, written: &'a [u8]) -> Option<Self> {
+        let index = NameIndex::new(alloc, &table).ok()?;
+        let both = BothWays::open(written).ok()?;
+        Some(Forms { table, index, both })
     }
-    output.push_str(text)
+
+    // Whether all answer alike for a key.
+    fn is_one(&self, key: &str) -> bool {
+        self.is_indexed(key) && self.both.is_asked_alike(&self.table, key)
+    }
+
+    // Whether the index answers as the table does for a key.
+    fn is_indexed(&self, key: &str) -> bool {
+        self.index.get(key) == self.table.get(key)
+            && self.index.find_index(key) == self.table.find_index(key)
+    }
+
+    // Writes each entry, with a word more where it isn't found again in each form.
+    fn write_entries(&self, alloc: Global, output: &mut String) -> Result<(), AllocError> {
+        write!(output, "table {}:", self.index.len())?;
+        let mut alike = self.is_walked() && self.both.has_entries_of(&self.table);
+        for place in 0..self.table.len() {
+            let (key, value) = self.table.get_indexed(place).unwrap_or(("", ""));
+            write_entry(key, value, output)?;
+            alike &= self.table.find_index(key) == Ok(place) && self.is_indexed(key);
+            alike &= is_scanned(&self.table, &self.index, key);
+            alike &= is_scanned(&self.table, &self.index, value);
+        }
+        if !alike || !self.has_maps(alloc)? {
+            output.push_str(" otherwise")?;
+        }
+        Ok(())
+    }
+
+    // Whether the table and its index are walked through the entries at the places, and no others.
+    fn is_walked(&self) -> bool {
+        let (mut entries, mut others) = (self.table.iter(), self.index.iter());
+        let mut alike = true;
+        for place in 0..=self.table.len() {
+            let left = self.table.len().saturating_sub(place);
+            alike &= entries.len() == left && others.len() == left;
+            let entry = self.table.get_indexed(place);
+            alike &= self.index.get_indexed(place) == entry;
+            alike &= entries.next() == entry;
+            alike &= others.next() == entry;
+        }
+        alike
+    }
+
+    // Whether the table and its index are turned into maps of the entries.
+    fn has_maps(&self, alloc: Global) -> Result<bool, AllocError> {
+        let is_right = self.is_map(&self.table.to_map(alloc)?);
+        Ok(self.is_map(&self.index.to_map(alloc)?) && is_right)
+    }
+
+    fn is_map(&self, map: &NameMap<'_>) -> bool {
+        let mut place = 0usize;
+        for (key, value) in map {
+            if self.table.get_indexed(place) != Some((*key, *value)) {
+                return false;
+            }
+            place = place.wrapping_add(1);
+        }
+        place == self.table.len()
+    }
+
+    // Writes what is there at a key, where all answer alike.
+    fn write_asked(&self, key: &str, output: &mut String) -> Result<(), AllocError> {
+        if !self.is_one(key) {
+            return output.push_str("another answer");
+        }
+        match (self.table.get(key), self.table.find_index(key)) {
+            (Some(value), Ok(index)) => write!(output, "found {index}: {value}"),
+            (None, Err(index)) => write!(output, "none, it would be {index}"),
+            _ => output.push_str("two answers"),
+        }
+    }
+
+    // Writes the text for a word, or the word itself, where all have the same.
+    fn write_translated(&self, word: &str, output: &mut String) -> Result<(), AllocError> {
+        let text = words::by_table(&self.table, word);
+        if words::by_places(&self.index, word) != text || !self.both.is_translated(word, text) {
+            return output.push_str("another answer");
+        }
+        output.push_str(text)
+    }
+
+    // Writes how many of some keys of a table of `many` names are found: 16 that are there, and one behind each of these.
+    fn write_many(&self, alloc: Global, output: &mut String) -> Result<(), AllocError> {
+        let number = self.table.len();
+        let mut key = String::new(alloc);
+        let (mut there, mut between) = (0u32, 0u32);
+        for step in 0..16usize {
+            let place = (number / 16).wrapping_mul(step);
+            key.clear();
+            write!(key, "{place:08}")?;
+            there = there.wrapping_add(u32::from(self.is_at(key.as_str(), Ok(place))));
+            key.push('+')?;
+            let behind = Err(place.wrapping_add(1));
+            between = between.wrapping_add(u32::from(self.is_at(key.as_str(), behind)));
+        }
+        write!(output, "{number} names: {there} there, {between} between")
+    }
+
+    // Whether a key has this place, or would have it, and all answer alike.
+    fn is_at(&self, key: &str, place: Result<usize, usize>) -> bool {
+        self.table.find_index(key) == place && self.is_one(key)
+    }
 }
 
 // A table of so many names.
@@ -132,41 +169,6 @@ fn many(alloc: Global, number: u32) -> Result<Vec<u8>, AllocError> {
         bytes.push(0)?;
     }
     Ok(bytes)
-}
-
-/// Makes a table of so many names, and writes how many of some keys are found in it: 16 that are there, and one behind
-/// each of these.
-pub fn write_many(alloc: Global, number: u32, output: &mut String) -> Result<(), AllocError> {
-    let bytes = many(alloc, number)?;
-    let Ok(table) = NameTable::new_counted(bytes.as_slice(), &mut Count::new()) else {
-        return output.push_str("no table");
-    };
-    let index = or_fault!(NameIndex::new(alloc, &table), output);
-    let written = index_of(alloc, bytes.as_slice())?;
-    let Ok(both) = BothWays::open(written.as_slice()) else {
-        return output.push_str("no index");
-    };
-    let mut key = String::new(alloc);
-    let (mut there, mut between) = (0u32, 0u32);
-    for step in 0..16u32 {
-        let name = (number / 16).wrapping_mul(step);
-        key.clear();
-        write!(key, "{name:08}")?;
-        let found = table.find_index(key.as_str()) == Ok(name as usize)
-            && is_indexed(&table, &index, key.as_str())
-            && both.is_asked_alike(&table, key.as_str());
-        there = there.wrapping_add(u32::from(found));
-        key.push('+')?;
-        let missing = table.find_index(key.as_str()) == Err((name as usize).wrapping_add(1))
-            && is_indexed(&table, &index, key.as_str())
-            && both.is_asked_alike(&table, key.as_str());
-        between = between.wrapping_add(u32::from(missing));
-    }
-    write!(
-        output,
-        "{} names: {there} there, {between} between",
-        table.len()
-    )
 }
 
 // Writes a number in groups of seven bits.

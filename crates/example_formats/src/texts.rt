@@ -16,9 +16,14 @@ pub fn write_read(alloc: Global, bytes: &[u8], output: &mut String) -> Result<()
 pub fn write_map(map: &NameMap<'_>, size: usize, output: &mut String) -> Result<(), AllocError> {
     write!(output, "read {size}:")?;
     for (key, value) in map.as_slice() {
-        write!(output, " {key}={value}")?;
+        write_entry(key, value, output)?;
     }
     Ok(())
+}
+
+/// Writes an entry.
+pub fn write_entry(key: &str, value: &str, output: &mut String) -> Result<(), AllocError> {
+    write!(output, " {key}={value}")
 }
 
 /// Writes a fault.
@@ -50,9 +55,8 @@ pub fn write_walk(bytes: &[u8], output: &mut String) -> Result<(), AllocError> {
     for _ in 0..most {
         write_state(&names, output)?;
         match names.next_pair() {
-            Ok(Some((key, value))) => write!(output, " {key}={value}")?,
-            Ok(None) => break,
-            Err(_) => break,
+            Ok(Some((key, value))) => write_entry(key, value, output)?,
+            _ => break,
         }
     }
     write_state(&names, output)?;
