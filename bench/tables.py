@@ -25,6 +25,8 @@ TITLES = {
     "merge_equal": "`extend_from_litemap`, equal keys",
     "extend_with": "`extend_with`, each second key",
     "keep_keys": "`keep_keys_of`, every second key",
+    "remove_keys": "`remove_keys_of`, every second key",
+    "is_subset": "`is_subset`, all keys",
     "clone": "`try_clone`",
     "const_get": "`const_get_with_index`",
     "to_json": "`to_json` and its text",

@@ -36,6 +36,7 @@ CALLS = [
     (6, "PAIRS", EXTENSIONS),
     (7, "PAIRS", "extend_from_litemap extend_from_litemap_counted"),
     (3, "PAIRS", "extend_with extend_with_counted"),
+    (1, "PAIRS", "keep_keys_of remove_keys_of remove_keys_of is_subset is_subset_counted"),
     (4, "PLACE PLACE", "iter keys values"),
     (1, "ZERO ZERO", "for iter_keys iter_values"),
     (3, "", f"{CLONES} {LOANS}"),

@@ -66,7 +66,7 @@ def function(name, lines):
         body[-1] = f"Ok({body[-1]})"
     taken = [("alloc", "alloc: Global")] * ("alloc" in text) + [(map_name, f"{map_name}: &{kind}")] * bool(is_lent)
     parameters = ", ".join(it for _, it in taken)
-    result = "anyhow::Result<bool>" if fails else "bool"
+    result = "Result<bool, Failed>" if fails else "bool"
     call = f"{name}({', '.join(it for it, _ in taken)})"
     parts = f'"{name}"', call if fails else f"Ok({call})"
     # In the layout of `rt fmt`.
@@ -122,7 +122,7 @@ pub(crate) fn examples(alloc: Global{lent}) -> [Shown; {len(functions)}] {{
 {entries}
     ]
 }}""", *items, *(text for text, _ in functions.values())])
-    return f"//! Written by `bin/data`.\nuse crate::Shown;\n{imports(text)}\n\n{text}\n", functions
+    return f"//! Written by `bin/data`.\nuse crate::{{Failed, Shown}};\n{imports(text)}\n\n{text}\n", functions
 
 
 def files():

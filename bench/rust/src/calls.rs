@@ -52,13 +52,17 @@ pub enum Call {
     ExtendWith,
     /// Every second pair stays, by the keys of another map.
     KeepKeys,
+    /// Every second pair goes, by the keys of another map.
+    RemoveKeys,
+    /// Whether another map has all keys, which it has.
+    IsSubset,
     /// A copy of the map.
     Clone,
 }
 
 impl Call {
     /// All calls.
-    pub const ALL: [Call; 23] = [
+    pub const ALL: [Call; 25] = [
         Call::Get,
         Call::GetMissing,
         Call::Iterate,
@@ -81,6 +85,8 @@ impl Call {
         Call::MergeEqual,
         Call::ExtendWith,
         Call::KeepKeys,
+        Call::RemoveKeys,
+        Call::IsSubset,
         Call::Clone,
     ];
 }
@@ -110,6 +116,8 @@ impl Display for Call {
             Call::MergeEqual => "merge_equal",
             Call::ExtendWith => "extend_with",
             Call::KeepKeys => "keep_keys",
+            Call::RemoveKeys => "remove_keys",
+            Call::IsSubset => "is_subset",
             Call::Clone => "clone",
         })
     }
@@ -142,6 +150,8 @@ pub fn call_all<K: Key>(call: Call, cases: &mut [Case<K>]) -> u64 {
             }
             Call::ExtendWith => case.made = extend_with(&mut case.map, take(&mut case.other)),
             Call::KeepKeys => keep_keys(&mut case.map, &case.other),
+            Call::RemoveKeys => remove_keys(&mut case.map, &case.other),
+            Call::IsSubset => sum = sum.wrapping_add(is_subset(&case.map, &case.other)),
             Call::Clone => case.made = Some(clone(&case.map)),
         }
     }
@@ -230,6 +240,16 @@ fn retain_none<K: Key>(map: &mut LiteMap<K, u64>) {
 #[inline(never)]
 fn keep_keys<K: Key>(map: &mut LiteMap<K, u64>, other: &LiteMap<K, u64>) {
     map.retain(|key, _| other.contains_key(key));
+}
+
+#[inline(never)]
+fn remove_keys<K: Key>(map: &mut LiteMap<K, u64>, other: &LiteMap<K, u64>) {
+    map.retain(|key, _| !other.contains_key(key));
+}
+
+#[inline(never)]
+fn is_subset<K: Key>(map: &LiteMap<K, u64>, other: &LiteMap<K, u64>) -> u64 {
+    u64::from(map.iter().all(|(key, _)| other.contains_key(key)))
 }
 
 #[inline(never)]

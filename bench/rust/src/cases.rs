@@ -96,9 +96,9 @@ fn parts_of(draw: &Draw, call: Call) -> Parts<'_> {
         Call::ExtendFew => (rising, &draw.few, &[]),
         Call::MergeApart => (lower, &[], upper),
         Call::MergeInterleaved => (evens, &[], odds),
-        Call::Equal | Call::MergeEqual => (rising, &[], rising),
+        Call::Equal | Call::MergeEqual | Call::IsSubset => (rising, &[], rising),
         Call::ExtendWith => (evens, &[], rising),
-        Call::KeepKeys => (rising, &[], evens),
+        Call::KeepKeys | Call::RemoveKeys => (rising, &[], evens),
         _ => (rising, &[], &[]),
     };
     Parts { map, given, other }

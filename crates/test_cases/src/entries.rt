@@ -1,5 +1,5 @@
 //! Written by `bin/data`.
-use crate::Shown;
+use crate::{Failed, Shown};
 use crate::days::three_days;
 use litemap::Entry;
 use std::alloc::Global;
@@ -13,7 +13,7 @@ pub(crate) fn examples(alloc: Global) -> [Shown; 3] {
     ]
 }
 
-fn insert(alloc: Global) -> anyhow::Result<bool> {
+fn insert(alloc: Global) -> Result<bool, Failed> {
     let mut days = three_days(alloc)?;
     match days.entry(1) {
         Entry::Occupied(mut entry) => Ok(entry.insert("Mon") == "Monday"),
@@ -21,7 +21,7 @@ fn insert(alloc: Global) -> anyhow::Result<bool> {
     }
 }
 
-fn insert_of_vacant(alloc: Global) -> anyhow::Result<bool> {
+fn insert_of_vacant(alloc: Global) -> Result<bool, Failed> {
     let mut days = three_days(alloc)?;
     let Entry::Vacant(entry) = days.entry(4) else {
         return Ok(false);
@@ -29,7 +29,7 @@ fn insert_of_vacant(alloc: Global) -> anyhow::Result<bool> {
     Ok(*entry.key() == 4 && *entry.insert("Thursday")? == "Thursday")
 }
 
-fn and_modify(alloc: Global) -> anyhow::Result<bool> {
+fn and_modify(alloc: Global) -> Result<bool, Failed> {
     let mut days = three_days(alloc)?;
     let entry = days.entry(5).and_modify(|name| *name = "Fri");
     Ok(*entry.or_insert("")? == "Fri")

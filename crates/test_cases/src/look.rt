@@ -1,5 +1,5 @@
 //! Written by `bin/data`.
-use crate::Shown;
+use crate::{Failed, Shown};
 use crate::days::{Days, three_days};
 use std::alloc::Global;
 use std::ops::Bound;
@@ -24,7 +24,7 @@ fn partial_ord(days: &Days) -> bool {
     begin < all && begin.cmp(&all).is_lt()
 }
 
-fn into_iterator(alloc: Global) -> anyhow::Result<bool> {
+fn into_iterator(alloc: Global) -> Result<bool, Failed> {
     let days = three_days(alloc)?;
     let mut sum = 0u32;
     for (number, _name) in &days {
@@ -57,7 +57,7 @@ fn iter_range(days: &Days) -> bool {
     early.next_back() == Some((&3, &"Wednesday")) && early.len() == 1
 }
 
-fn get_indexed_range(days: &Days) -> anyhow::Result<bool> {
+fn get_indexed_range(days: &Days) -> Result<bool, Failed> {
     match days.get_indexed_range(1..3) {
         Some(part) => Ok(part.find_index(&3) == Ok(0) && part.get(&1).is_none()),
         None => Ok(false),

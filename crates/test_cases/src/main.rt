@@ -35,26 +35,43 @@ mod runs;
 mod stores;
 mod watch;
 
+use days::{Days, Hours};
 use std::alloc::{AllocError, Global};
+use std::error::Error;
 use std::io;
 
 // The name of a case, and whether all was as it has to be.
 type Case = (&'static str, Result<bool, AllocError>);
 
+/// An example that met an error.
+#[derive(Clone, Copy)]
+pub(crate) struct Failed;
+
+impl<E: Error> From<E> for Failed {
+    fn from(_: E) -> Self {
+        Failed
+    }
+}
+
 /// The name of a call, and whether its example came out as it shows.
-pub(crate) type Shown = (&'static str, anyhow::Result<bool>);
+pub(crate) type Shown = (&'static str, Result<bool, Failed>);
 
 fn main(rt: HostRuntime) -> io::Result<()> {
     let alloc = rt.alloc();
     let (days, hours) = (days::three_days(alloc)?, days::opening_hours(alloc)?);
-    report(&rt, &make::examples(alloc, &hours))?;
-    report(&rt, &look::examples(alloc, &days))?;
-    report(&rt, &entries::examples(alloc))?;
-    report(&rt, &change::examples(alloc))?;
-    report(&rt, &stores::examples(alloc, &days))?;
-    report(&rt, &formats::examples(alloc))?;
+    of_calls(&rt, &days, &hours)?;
     report(&rt, &of_maps(alloc))?;
     report(&rt, &of_the_program(alloc))
+}
+
+fn of_calls(rt: &HostRuntime, days: &Days, hours: &Hours) -> io::Result<()> {
+    let alloc = rt.alloc();
+    report(rt, &make::examples(alloc, hours))?;
+    report(rt, &look::examples(alloc, days))?;
+    report(rt, &entries::examples(alloc))?;
+    report(rt, &change::examples(alloc))?;
+    report(rt, &stores::examples(alloc, days))?;
+    report(rt, &formats::examples(alloc))
 }
 
 fn of_maps(alloc: Global) -> [Case; 16] {

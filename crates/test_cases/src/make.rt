@@ -1,5 +1,5 @@
 //! Written by `bin/data`.
-use crate::Shown;
+use crate::{Failed, Shown};
 use crate::days::{Days, Hours};
 use litemap::store::SliceStore;
 use litemap::{LiteMap, VecMap};
@@ -38,17 +38,17 @@ fn const_get_with_index() -> bool {
     capitals.const_get_with_index("Oslo") == Some((1, &47))
 }
 
-fn to_keys_by(alloc: Global, hours: &Hours) -> anyhow::Result<bool> {
+fn to_keys_by(alloc: Global, hours: &Hours) -> Result<bool, Failed> {
     let later: VecMap<u64, u8> = hours.to_keys_by(alloc, |number| *number as u64 + 7)?;
     Ok(later.get(&8) == Some(&8))
 }
 
-fn to_borrowed_keys_values(alloc: Global, hours: &Hours) -> anyhow::Result<bool> {
+fn to_borrowed_keys_values(alloc: Global, hours: &Hours) -> Result<bool, Failed> {
     let lent: VecMap<&u32, &u8> = hours.to_borrowed_keys_values(alloc)?;
     Ok(lent.get(&&3) == Some(&&10))
 }
 
-fn from_sorted_store_unchecked(alloc: Global) -> anyhow::Result<bool> {
+fn from_sorted_store_unchecked(alloc: Global) -> Result<bool, Failed> {
     let pairs = [(1, "Monday"), (3, "Wednesday")].to_vec(alloc)?;
     if !Days::is_sorted_store(&pairs) {
         return Ok(false);
@@ -57,7 +57,7 @@ fn from_sorted_store_unchecked(alloc: Global) -> anyhow::Result<bool> {
     Ok(days.get(&3) == Some(&"Wednesday"))
 }
 
-fn column_map(alloc: Global) -> anyhow::Result<bool> {
+fn column_map(alloc: Global) -> Result<bool, Failed> {
     let mut days: ColumnMap<u32, &str> = LiteMap::new(alloc);
     days.insert(1, "Monday")?;
     Ok(days.get(&1) == Some(&"Monday"))

@@ -346,6 +346,18 @@ fn many(map: &mut Map, name: &str, given: &Given) -> Option<String> {
         "extend_with" | "extend_with_counted" => {
             return Some(combine(map, given.pairs().collect()))
         }
+        "keep_keys_of" | "remove_keys_of" => {
+            let other: Map = given.pairs().collect();
+            map.retain(|key, _| other.contains_key(key) == (name == "keep_keys_of"));
+        }
+        "is_subset" | "is_subset_counted" => {
+            let other: Map = given.pairs().collect();
+            return Some(
+                map.iter()
+                    .all(|(key, _)| other.contains_key(key))
+                    .to_string(),
+            );
+        }
         "into_tuple_vec" => {
             let vector = mem::take(map).into_tuple_vec();
             return Some(text(vector.into_iter().map(pair)));
