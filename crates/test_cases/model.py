@@ -51,6 +51,15 @@ def name_below(text, place):
 MAPS = {"// days:": ("days", "Days", "three_days(alloc)?"), "// hours:": ("hours", "Hours", "opening_hours(alloc)?")}
 
 
+def laid_out(line):
+    """A line of code as lines in the layout of `rt fmt`: where the arguments of a call are wide, the last a closure."""
+    found = re.fullmatch(r"( *)(\S*\w\()(.*, )(\|.*)(\)\??;)", line)
+    if not found or len(found[3] + found[4]) <= 60:
+        return [line]
+    indent, call, arguments, closure, end = found.groups()
+    return [indent + call, *(f"{indent}    {it}," for it in [*arguments.split(", ")[:-1], closure]), indent + end]
+
+
 def function(name, lines):
     """A block as a function, and its entry in the list of a module."""
     first, *body = lines
@@ -71,7 +80,7 @@ def function(name, lines):
     parts = f'"{name}"', call if fails else f"Ok({call})"
     # In the layout of `rt fmt`.
     entry = f"({', '.join(parts)})," if len(", ".join(parts)) <= 60 else f"(\n    {parts[0]},\n    {parts[1]},\n),"
-    return "\n".join([f"fn {name}({parameters}) -> {result} {{", *("    " + line for line in body), "}"]), entry
+    return "\n".join([f"fn {name}({parameters}) -> {result} {{", *(it for line in body for it in laid_out("    " + line)), "}"]), entry
 
 
 def filled(words, width, indent):
@@ -81,7 +90,7 @@ def filled(words, width, indent):
 
 def imports(text):
     """The `use` lines of what a module names."""
-    lines = []
+    lines = ["use crate::{Failed, Shown};"]
     for path, entries in USES.items():
         entries = (entry.partition("=")[::2] for entry in entries.split())
         names = [name for name, words in entries if re.search(rf"\b(?:{words or name})\b", text)]
@@ -122,7 +131,7 @@ pub(crate) fn examples(alloc: Global{lent}) -> [Shown; {len(functions)}] {{
 {entries}
     ]
 }}""", *items, *(text for text, _ in functions.values())])
-    return f"//! Written by `bin/data`.\nuse crate::{{Failed, Shown}};\n{imports(text)}\n\n{text}\n", functions
+    return f"//! Written by `bin/data`.\n{imports(text)}\n\n{text}\n", functions
 
 
 def files():

@@ -1,6 +1,6 @@
 //! Written by `bin/data`.
-use crate::{Failed, Shown};
 use crate::days::{Days, three_days};
+use crate::{Failed, Shown};
 use litemap::{LiteMap, TryFault, VecMap};
 use std::alloc::{AllocError, Global};
 
@@ -100,7 +100,11 @@ fn extend_from_litemap(alloc: Global) -> Result<bool, Failed> {
 fn extend_with(alloc: Global) -> Result<bool, Failed> {
     let mut counts: VecMap<u32, u32> = LiteMap::from_iter(alloc, [(1, 10), (2, 20)])?;
     let more: VecMap<u32, u32> = LiteMap::from_iter(alloc, [(2, 2), (3, 3)])?;
-    counts.extend_with(alloc, more, |_key, here, new| *new = here.saturating_add(*new))?;
+    counts.extend_with(
+        alloc,
+        more,
+        |_key, here, new| *new = here.saturating_add(*new),
+    )?;
     Ok(counts.as_slice() == [(1, 10), (2, 22), (3, 3)].as_slice())
 }
 

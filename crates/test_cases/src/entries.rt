@@ -1,6 +1,6 @@
 //! Written by `bin/data`.
-use crate::{Failed, Shown};
 use crate::days::three_days;
+use crate::{Failed, Shown};
 use litemap::Entry;
 use std::alloc::Global;
 

@@ -1,6 +1,6 @@
 //! Written by `bin/data`.
-use crate::{Failed, Shown};
 use crate::days::{Hours, opening_hours};
+use crate::{Failed, Shown};
 use litemap::LiteMap;
 use litemap_json::{ItemFault, JsonFault, JsonItem, JsonKey, from_json, two_items, write_json};
 use litemap_read::{PairSource, ReadFault, read_pairs};

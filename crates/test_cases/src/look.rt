@@ -1,6 +1,6 @@
 //! Written by `bin/data`.
-use crate::{Failed, Shown};
 use crate::days::{Days, three_days};
+use crate::{Failed, Shown};
 use std::alloc::Global;
 use std::ops::Bound;
 

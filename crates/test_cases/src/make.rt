@@ -1,6 +1,6 @@
 //! Written by `bin/data`.
-use crate::{Failed, Shown};
 use crate::days::{Days, Hours};
+use crate::{Failed, Shown};
 use litemap::store::SliceStore;
 use litemap::{LiteMap, VecMap};
 use litemap_columns::ColumnMap;

@@ -1,6 +1,6 @@
 //! Written by `bin/data`.
-use crate::{Failed, Shown};
 use crate::days::Days;
+use crate::{Failed, Shown};
 use litemap::store::{
     Count, SliceStore, Store, StoreBulkMut, StoreFromIterator, StoreIntoIterator, StoreSlice,
 };
