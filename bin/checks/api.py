@@ -30,8 +30,8 @@ GROUPS = {
     "Name tables": "name_table: read write name_bytes cursor fault laws; "
     "name_index: table index name_entries indexed checked index_write fault laws",
     "What a call can be asked by": "litemap_store: query",
-    "Stores": "litemap_store: store into_iter vec_impl slice_impl slice_iter count no_room shared slice_search extend_store; "
-    "litemap_short: short_store short_iter; litemap_columns: lib column_store column_iter",
+    "Stores": "litemap_store: store into_iter vec_impl slice_impl slice_iter count no_room shared slice_search extend_store "
+    "split_store; litemap_short: short_store short_iter; litemap_columns: lib column_store column_iter",
     "Laws, for proofs": "litemap_store: laws",
 }
 # The libraries with no call for the page: why.
@@ -65,6 +65,7 @@ NOT_CALLED = {
     "StoreIterable::lm_iter": "what `iter` hands on",
     "StoreIntoIterator::lm_into_iter": "what `into_iter` hands on",
     "extend_from_store": "what `extend_from_litemap` hands on",
+    "split_store": "what `split_off` hands on",
     "insert_reserved": "what `lm_insert` hands on",
     "serialize": "what `with` of a field in example_formats asks",
     "deserialize_owned": "what `with` of a field in example_formats asks",

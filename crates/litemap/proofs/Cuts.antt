@@ -1,8 +1,7 @@
 -- Where a test cuts a list in two.
 --     cut_before, cut_behind      the cut before a query and that behind it, from what a search found
---     drop-next, take-next      one element more
 --     length-before, take-cut, drop-cut, first_cut, last_cut, between, sub_between, length-between      what lies before a cut, behind it, and between two
-use Rattle.std.proofs.Common.{◌≡◌, ℕ, zero, suc, ◌+◌, ◌-◌, ◌≤◌, Bool, true, false, not, ◌&&◌, cond, List, [], ◌∷◌, ◌++◌, length, filter, take, drop, slice_range, nat_le, Some, None, drop-drop, length-drop, length-take, take-add, refl, sym, ap, ◌∙◌, subst, arith}
+use Rattle.std.proofs.Common.{◌≡◌, ℕ, zero, suc, ◌+◌, ◌-◌, ◌≤◌, Bool, true, false, not, ◌&&◌, cond, List, [], ◌∷◌, ◌++◌, length, filter, take, drop, slice_range, nat_le, Some, None, length-drop, length-take, refl, sym, ap, ◌∙◌, subst, arith}
 use Rattle.std.proofs.lemmas.Bool.{and_right, le-leb}
 use Rattle.std.specs.List.{AllByRecursion}
 use Rattle.std.specs.Ordering.{is_gt, is_le, is_lt}
@@ -136,12 +135,3 @@ module _ {K Q V : Type 0} (order : K → Q → Ordering) (q : Q) (L : List (K ×
 
   pub behind_missing : IsMissingAt order L q i → IsCut (λ p. is_le (order p.0 q)) L i
   behind_missing m = cut_missing order is_le refl refl q L i m
-
--- ---- one element more
-module _ {X : Type 0} where
-  -- where x stands first behind n elements: what lies behind it, and up to it
-  pub drop-next : (L : List X) (n : ℕ) (x : X) (R : List X) → drop n L ≡ x ∷ R → R ≡ drop (n + 1) L
-  drop-next L n x R e = ap (drop 1) (sym e) ∙ drop-drop 1 n L
-
-  pub take-next : (L : List X) (n : ℕ) (x : X) (R : List X) → drop n L ≡ x ∷ R → take n L ++ x ∷ [] ≡ take (n + 1) L
-  take-next L n x R e = sym (take-add n 1 L ∙ ap (λ D. take n L ++ take 1 D) e)

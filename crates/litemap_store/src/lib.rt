@@ -14,6 +14,7 @@ pub mod shared;
 mod slice_impl;
 mod slice_iter;
 pub mod slice_search;
+pub mod split_store;
 pub mod store;
 mod vec_impl;
 

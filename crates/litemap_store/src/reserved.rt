@@ -1,5 +1,5 @@
-//! Pairs that are put into a store which has room for them.
-ghost use Rattle.std.specs.Prelude.{◌≡◌, ◌+◌, ◌<◌, ◌≤◌, ◌++◌, ◌∷◌, [], length, reverse};
+//! Pairs that go into a store which has room for them, or leave it from its end.
+ghost use Rattle.std.specs.Prelude.{◌≡◌, ◌+◌, ◌<◌, ◌≤◌, ◌++◌, ◌∷◌, [], drop, length, reverse, take, vec_capacity};
 
 use crate::into_iter::PairIntoIter;
 use crate::store::StoreMut;
@@ -35,5 +35,33 @@ pub fn put_up<K: Drop, V: Drop, S: StoreMut<K, V>>(store: &mut S, mut pairs: Vec
 {
     while let Some((key, value)) = pairs.pop() {
         push_reserved(store, key, value);
+    }
+}
+
+/// The last pair, which leaves the store.
+pub fn take_last<K, V, S: StoreMut<K, V>>(store: &mut S) -> (K, V)
+    requires { 0 < length (S.pairs store.old) }
+    ensures pairs { S.pairs store.old ≡ S.pairs store.new ++ result ∷ [] }
+    ensures room { S.room store.old < S.room store.new }
+{
+    let last = store.lm_len() - 1;
+    store.lm_remove(last)
+}
+
+/// Takes the pairs from an index on out of the store, the last one first.
+pub fn take_from<K: Drop, V: Drop, S: StoreMut<K, V>>(
+    store: &mut S,
+    index: usize,
+    side: &mut Vec<(K, V)>,
+)
+    requires index { index ≤ length (S.pairs store.old) }
+    requires side_room { length side.old.items + length (S.pairs store.old) ≤ vec_capacity side.old + index }
+    ensures store { S.pairs store.new ≡ take index (S.pairs store.old) }
+    ensures room { S.room store.old + length (drop index (S.pairs store.old)) ≤ S.room store.new }
+    ensures side { reverse side.new.items ≡ drop index (S.pairs store.old) ++ reverse side.old.items }
+    ensures side_room { vec_capacity side.old ≤ vec_capacity side.new }
+{
+    while store.lm_len() > index {
+        side.push_reserved(take_last(store));
     }
 }

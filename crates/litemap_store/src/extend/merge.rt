@@ -7,7 +7,7 @@ ghost use Rattle.litemap_store.specs.Pairs.{Rising};
 ghost use Rattle.litemap_store.specs.Taken.{IsGreaterEnd, IsTaken};
 
 use crate::count::Count;
-use crate::reserved::put_up;
+use crate::reserved::{put_up, take_last};
 use crate::store::{Store, StoreMut};
 use std::alloc::{AllocError, Global};
 use std::cmp::Ordering;
@@ -105,13 +105,4 @@ fn take_greatest<K: Ord + Drop, V: Drop, S: StoreMut<K, V>>(
             pairs.take_last()
         }
     }
-}
-
-/// The last pair, which leaves the store.
-pub fn take_last<K, V, S: StoreMut<K, V>>(store: &mut S) -> (K, V)
-    requires { 0 < length (S.pairs store.old) }
-    ensures { S.pairs store.old ≡ S.pairs store.new ++ result ∷ [] }
-{
-    let last = store.lm_len() - 1;
-    store.lm_remove(last)
 }

@@ -7,9 +7,8 @@ ghost use Rattle.litemap_store.specs.Digits.{digits};
 ghost use Rattle.litemap_store.specs.Merge.{IsLeft, IsUndone, Merge, left};
 ghost use Rattle.litemap_store.specs.Pairs.{Rising, above, at, below, key_or};
 
-use crate::extend::merge::take_last;
 use crate::extend_store::{search, unless_empty};
-use crate::reserved::put_up;
+use crate::reserved::{put_up, take_from, take_last};
 use crate::store::{Count, NoRoom, Store, StoreMut};
 use std::alloc::{AllocError, Global};
 
@@ -126,22 +125,5 @@ fn take_above<K: Ord + Drop, V: Drop, S: StoreMut<K, V>>(
             take_from(store, index, side);
             side.push_reserved((key, value));
         }
-    }
-}
-
-// Takes the pairs from a place on aside, the last one first.
-fn take_from<K: Drop, V: Drop, S: StoreMut<K, V>>(
-    store: &mut S,
-    index: usize,
-    side: &mut Vec<(K, V)>,
-)
-    requires place { index ≤ length (S.pairs store.old) }
-    requires room { length side.old.items + length (S.pairs store.old) ≤ vec_capacity side.old + index }
-    ensures store { S.pairs store.new ≡ take index (S.pairs store.old) }
-    ensures side { reverse side.new.items ≡ drop index (S.pairs store.old) ++ reverse side.old.items }
-    ensures room { vec_capacity side.old ≤ vec_capacity side.new }
-{
-    while store.lm_len() > index {
-        side.push_reserved(take_last(store));
     }
 }

@@ -5,8 +5,8 @@ use Rattle.litemap_store.proofs.Splitting.{Rising-filter}
 use Rattle.litemap.proofs.Cuts.{drop-cut, first_cut, last_cut, take-cut, within-cut}
 use Rattle.litemap.proofs.map.LiteMap.split_off.Goals as goal
 
-pub part-requires : goal.part-requires
-part-requires g c = subst (λ L. c.place_before-place.result ≤ length L) (sym (ap (λ m. m.pairs) c.self.view_is)) (within-cut _ c.args.self.now.pairs c.place_before-place.result c.place_before-place.ensures.cut)
+pub split_store-requires : goal.split_store-requires
+split_store-requires g c = subst (λ L. c.place_before-place.result ≤ length L) (sym (ap (λ m. m.pairs) c.self.view_is)) (within-cut _ c.args.self.now.pairs c.place_before-place.result c.place_before-place.ensures.cut)
 
 pub returns-in_err-later-clause-succeeds : goal.returns-in_err-later-clause-succeeds
 returns-in_err-later-clause-succeeds g c = λ either.
@@ -52,3 +52,11 @@ returns-clause-unchanged g c = λ none.
 
 pub returns-clause-all : goal.returns-clause-all
 returns-clause-all g c = grind (arith, common_steps)
+
+pub returns-clause-room : goal.returns-clause-room
+returns-clause-room g c = λ some.
+    let now = c.args.self.now.pairs in
+    let place = c.place_before-place.result in
+    let none = sym (take-cut _ now place c.place_before-place.ensures.cut) in
+    let kept = c.in_ok-later.ensures.room (λ zero. some (none ∙ ap (λ n. take n now) zero)) in
+    omega (arith, kept, ap (λ m. m.room) c.self.view_is, ap length (c.from_sorted_store_unchecked.ensures.pairs ∙ c.in_ok-later.ensures.later))

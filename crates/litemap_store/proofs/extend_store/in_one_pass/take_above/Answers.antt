@@ -9,30 +9,30 @@ use Rattle.litemap_store.proofs.extend_store.in_one_pass.take_above.Goals as goa
 pub push_reserved-requires : goal.push_reserved-requires
 push_reserved-requires g c =
     let pairs = g.S.Store.pairs c.args.store.now in
-    omega (arith, length-behind c.take_from.new.side.items (drop (c.in-Ok.index + 1) pairs) c.args.side.now.items c.take_from.ensures.side, length-drop (c.in-Ok.index + 1) pairs, c.take_from.ensures.room)
+    omega (arith, length-behind c.take_from.new.side.items (drop (c.in-Ok.index + 1) pairs) c.args.side.now.items c.take_from.ensures.side, length-drop (c.in-Ok.index + 1) pairs, c.take_from.ensures.side_room)
 
 pub push_reserved-requires-in-Err : goal.push_reserved-requires-in-Err
 push_reserved-requires-in-Err g c =
     let pairs = g.S.Store.pairs c.args.store.now in
-    omega (arith, length-behind c.take_from-in-Err.new.side.items (drop c.in-Err.index pairs) c.args.side.now.items c.take_from-in-Err.ensures.side, length-drop c.in-Err.index pairs, c.take_from-in-Err.ensures.room)
+    omega (arith, length-behind c.take_from-in-Err.new.side.items (drop c.in-Err.index pairs) c.args.side.now.items c.take_from-in-Err.ensures.side, length-drop c.in-Err.index pairs, c.take_from-in-Err.ensures.side_room)
 
 pub returns-in-Ok-clause-store : goal.returns-in-Ok-clause-store
 returns-in-Ok-clause-store g c =
-    (taken_found g.K.Ord.cmp g.met.K.Ord.total (g.S.Store.pairs c.args.store.now) c.args.key c.in-Ok.index c.in-Ok.ensures.splits _ _ _ c.take_from.ensures.store c.take_last-stored.ensures).0
+    (taken_found g.K.Ord.cmp g.met.K.Ord.total (g.S.Store.pairs c.args.store.now) c.args.key c.in-Ok.index c.in-Ok.ensures.splits _ _ _ c.take_from.ensures.store c.take_last-stored.ensures.pairs).0
 
 pub returns-in-Ok-clause-side : goal.returns-in-Ok-clause-side
 returns-in-Ok-clause-side g c =
     let cmp = g.K.Ord.cmp in
     let pairs = g.S.Store.pairs c.args.store.now in
     let rest = reverse c.args.side.now.items in
-    let found = (taken_found cmp g.met.K.Ord.total pairs c.args.key c.in-Ok.index c.in-Ok.ensures.splits _ _ _ c.take_from.ensures.store c.take_last-stored.ensures).1 in
+    let found = (taken_found cmp g.met.K.Ord.total pairs c.args.key c.in-Ok.index c.in-Ok.ensures.splits _ _ _ c.take_from.ensures.store c.take_last-stored.ensures.pairs).1 in
     reverse_push _ _ _ c.push_reserved.ensures.items
     ∙ ap (λ W. (c.take_last-stored.result.0, c.args.value) ∷ W) (c.take_from.ensures.side ∙ ap (λ D. D ++ rest) (found_drop cmp g.met.K.Ord.total pairs c.args.key c.in-Ok.index c.in-Ok.ensures.splits))
     ∙ ap (λ t. (key_or t c.args.key, c.args.value) ∷ (above cmp pairs c.args.key ++ rest)) (sym found)
 
 pub returns-in-Ok-clause-driven_out : goal.returns-in-Ok-clause-driven_out
 returns-in-Ok-clause-driven_out g c =
-    let found = (taken_found g.K.Ord.cmp g.met.K.Ord.total (g.S.Store.pairs c.args.store.now) c.args.key c.in-Ok.index c.in-Ok.ensures.splits _ _ _ c.take_from.ensures.store c.take_last-stored.ensures).1 in
+    let found = (taken_found g.K.Ord.cmp g.met.K.Ord.total (g.S.Store.pairs c.args.store.now) c.args.key c.in-Ok.index c.in-Ok.ensures.splits _ _ _ c.take_from.ensures.store c.take_last-stored.ensures.pairs).1 in
     reverse_push _ _ _ c.push_reserved-in-Ok.ensures.items
     ∙ ap (λ t. cons_option (option_map (λ p. (c.args.key, p.1)) t) (reverse c.args.driven_out.now.items)) (sym found)
 
@@ -48,11 +48,11 @@ returns-in-Err-clause-side g c =
 pub overflow_add-index : goal.overflow_add-index
 overflow_add-index g c = grind (arith, common_steps)
 
-pub take_from-requires-clause-place : goal.take_from-requires-clause-place
-take_from-requires-clause-place g c = grind (arith, common_steps)
+pub take_from-requires-clause-index : goal.take_from-requires-clause-index
+take_from-requires-clause-index g c = grind (arith, common_steps)
 
-pub take_from-requires-in-Err-clause-place : goal.take_from-requires-in-Err-clause-place
-take_from-requires-in-Err-clause-place g c = grind (arith, common_steps)
+pub take_from-requires-in-Err-clause-index : goal.take_from-requires-in-Err-clause-index
+take_from-requires-in-Err-clause-index g c = grind (arith, common_steps)
 
 pub returns-in-Err-clause-store : goal.returns-in-Err-clause-store
 returns-in-Err-clause-store g c = grind (arith, common_steps)

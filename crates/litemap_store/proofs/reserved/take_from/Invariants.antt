@@ -1,13 +1,14 @@
 use Rattle.std.proofs.Common.{◌≡◌, ◌+◌, ◌≤◌, ◌++◌, drop, length, reverse, take, vec_capacity}
-use Rattle.litemap_store.proofs.extend_store.in_one_pass.take_from.Given as goal
+use Rattle.litemap_store.proofs.reserved.take_from.Given as goal
 
 abbrev pub invariant-loop-side : goal.invariant-loop-side
 invariant-loop-side g l = record {
-  place : l.index ≤ length (g.S.Store.pairs l.store);
+  index : l.index ≤ length (g.S.Store.pairs l.store);
   first : take l.index (g.S.Store.pairs l.store) ≡ take l.index (g.S.Store.pairs l.fn.store);
   rest : drop l.index (g.S.Store.pairs l.store) ++ reverse l.side.items ≡ drop l.index (g.S.Store.pairs l.fn.store) ++ reverse l.fn.side.items;
   fits : length l.side.items + length (g.S.Store.pairs l.store) ≤ vec_capacity l.side + l.index;
-  room : vec_capacity l.fn.side ≤ vec_capacity l.side;
+  side_room : vec_capacity l.fn.side ≤ vec_capacity l.side;
+  room : g.S.Store.room l.fn.store + length (g.S.Store.pairs l.fn.store) ≤ g.S.Store.room l.store + length (g.S.Store.pairs l.store);
 }
 
 abbrev pub decreases-loop-side : goal.decreases-loop-side

@@ -1,0 +1,40 @@
+//! The body behind `split_off`: the pairs of a store from an index on become a store of their own.
+ghost use Rattle.std.specs.Prelude.{◌≡◌, ◌≢◌, ◌⊎◌, ◌+◌, ◌≤◌, IfOk, IsOk, OnErr, OnOk, drop, length, take};
+
+use crate::reserved::{put_up, take_from};
+use crate::store::StoreMut;
+use std::alloc::{AllocError, Global};
+use std::mem;
+
+/// Takes the pairs from an index on out of a store, into one of their own (own). The other pairs stay where they are.
+///
+/// It is the body of a map's `split_off`, which says what it moves and when it is refused.
+pub fn split_store<K: Drop, V: Drop, S: StoreMut<K, V> + Drop>(
+    alloc: Global,
+    store: &mut S,
+    index: usize,
+) -> Result<S, AllocError>
+    requires { index ≤ length (S.pairs store.old) }
+    ensures stays { OnOk result (S.pairs store.new ≡ take index (S.pairs store.old)) }
+    ensures later { IfOk result (λ later. S.pairs later ≡ drop index (S.pairs store.old)) }
+    ensures room { OnOk result (index ≢ 0
+        → S.room store.old + length (drop index (S.pairs store.old)) ≤ S.room store.new) }
+    ensures refused { OnErr result (store.new ≡ store.old) }
+    ensures unchanged { index ≡ length (S.pairs store.old) → store.new ≡ store.old }
+    ensures whole { index ≡ 0 → index ≢ length (S.pairs store.old) → IfOk result (λ later. later ≡ store.old) }
+    ensures succeeds { (index ≡ 0) ⊎ (index ≡ length (S.pairs store.old)) → IsOk result }
+{
+    let number = store.lm_len() - index;
+    if number == 0 {
+        return S::lm_with_capacity(alloc, 0);
+    }
+    if index == 0 {
+        let empty = S::lm_with_capacity(alloc, 0)?;
+        return Ok(mem::replace(store, empty));
+    }
+    let mut later = S::lm_with_capacity(alloc, number)?;
+    let mut side = Vec::with_capacity(alloc, number)?;
+    take_from(store, index, &mut side);
+    put_up(&mut later, side);
+    Ok(later)
+}
