@@ -37,12 +37,14 @@ build() {
     sum=$(sources_sum)
     log=$(mktemp)
     set -m
-    (cd -- "$top/crates/$1" && if [ -f src/main.rt ]; then exec rt run; else exec rt lib; fi) < /dev/null > "$log" 2>&1 &
+    # The lowest first: if one below isn't proved, rt goes through all sources once more.
+    (for crate in $(with_libraries "$1"); do
+        cd -- "$top/crates/$crate" && if [ -f src/main.rt ]; then rt run; else rt lib; fi || exit 1
+    done) < /dev/null > "$log" 2>&1 &
     running=$!
     set +m
     trap 'kill -TERM -- "-$running" 2> /dev/null; rm -f "$log"' EXIT
-    trap 'exit 130' INT
-    trap 'exit 143' TERM HUP
+    trap 'exit 130' INT; trap 'exit 143' TERM HUP
     while kill -0 "$running" 2> /dev/null; do
         sleep 0.5
         far=$(awk '/^rt: chose /{ far = $NF } /^so far: [0-9]/{ sub(":.*", "", far); far = far ": " $3 " of " $5 " functions" } END { print far }' "$log")
@@ -50,11 +52,9 @@ build() {
         told=$far
     done
     far="$1 is proved and built, in $((SECONDS - start)) s"
-    wait "$running" || status=1
-    [ "$status" -eq 0 ] || far="$(< "$log")"$'\n'"$1 was not proved and built"
+    wait "$running" || { status=1; far="$(< "$log")"$'\n'"$1 was not proved and built"; }
     printf "$line" "$far" >&2
     [ ! -t 2 ] || echo >&2
-    trap - EXIT INT TERM HUP
-    rm -f "$log"
+    trap - EXIT INT TERM HUP; rm -f "$log"
     [ "$status" -eq 0 ] && { [ "$1" != names_main ] || keep_sum "$sum"; }
 }
