@@ -1,21 +1,36 @@
 //! How often each word occurs in a list.
-ghost use Rattle.std.specs.Prelude.{◌≡◌, ◌≢◌, ◌==◌, ◌+◌, ◌<◌, IfOk, OnOk, OnErr, Some, filter, string_bytes, unwrap_or};
+ghost use Rattle.std.specs.Prelude.{◌≡◌, ◌≢◌, ◌==◌, ◌+◌, ◌<◌, IfOk, OnOk, OnErr, Some, cond, filter, string_bytes, unwrap_or};
 ghost use Rattle.std.specs.List.{count_by};
 ghost use Rattle.std.specs.Ordering.{is_eq};
 ghost use Rattle.litemap_store.specs.Pairs.{put, value_at};
 ghost use Rattle.litemap_store.specs.Queries.{by_text};
 
-use litemap::store::{NoRoom, StoreMut};
+use litemap::store::StoreMut;
 use litemap::{LiteMap, VecMap};
 use std::alloc::{AllocError, Global};
 
-/// Counts a word once more. A word that is not there yet counts one.
+/// Counts a word once more. All others stay.
+#[tactic(auto, using(litemap_store::proofs::Tallies::number_at_raised))]
 pub fn count_word<K: Ord + Drop, S: StoreMut<K, usize>>(
     counts: &mut LiteMap<K, usize, S>,
     word: K,
-) -> Result<(), NoRoom<(K, usize)>>
+) -> Result<(), AllocError>
     requires { unwrap_or (value_at K.cmp counts.old.pairs word) 0 < usize.MAX }
-    ensures counted { OnOk result (counts.new.pairs
+    ensures counted { OnOk result ((other : K) → unwrap_or (value_at K.cmp counts.new.pairs other) 0
+        ≡ cond (is_eq (K.cmp word other)) (unwrap_or (value_at K.cmp counts.old.pairs other) 0 + 1)
+        (unwrap_or (value_at K.cmp counts.old.pairs other) 0)) }
+    ensures refused { OnErr result (counts.new.pairs ≡ counts.old.pairs) }
+{
+    put_count(counts, word)
+}
+
+// Counts a word once more. A word that is not there yet counts one.
+fn put_count<K: Ord + Drop, S: StoreMut<K, usize>>(
+    counts: &mut LiteMap<K, usize, S>,
+    word: K,
+) -> Result<(), AllocError>
+    requires { unwrap_or (value_at K.cmp counts.old.pairs word) 0 < usize.MAX }
+    ensures put { OnOk result (counts.new.pairs
         ≡ put K.cmp counts.old.pairs word (unwrap_or (value_at K.cmp counts.old.pairs word) 0 + 1)) }
     ensures refused { OnErr result (counts.new.pairs ≡ counts.old.pairs) }
 {
@@ -24,6 +39,7 @@ pub fn count_word<K: Ord + Drop, S: StoreMut<K, usize>>(
 }
 
 /// How often each word occurs in a list: the number of its words that are equal to it.
+#[tactic(auto, using(std::proofs::lemmas::List::Sums::count_by_more_yes, std::proofs::lemmas::List::Sums::count_by_more_no))]
 pub fn count_words<K: Ord + Copy>(
     alloc: Global,
     words: &[K],
