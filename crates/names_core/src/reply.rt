@@ -138,10 +138,7 @@ fn push_pair<S: Store<String, String>>(
     let Some((key, value)) = names.get_indexed(index) else {
         return Ok(());
     };
-    text.push_str(key.as_str())?;
-    text.push_str(" ")?;
-    text.push_str(value.as_str())?;
-    text.push_str("\n")
+    write!(text, "{key} {value}\n")
 }
 
 // The map as JSON, on one line. It is written pair by pair: the tree of all pairs, which `to_json` makes, would take forty
