@@ -161,10 +161,26 @@ where
     let mut made = B::lm_with_capacity(alloc, len)?;
     for index in 0..len {
         let (key, value) = store.lm_get(index).unwrap();
-        match made.lm_push(keys.made_of(alloc, key)?, values.made_of(alloc, value)?) {
+        let (key, value) = made_of_both(alloc, key, value, keys, values)?;
+        match made.lm_push(key, value) {
             Ok(()) => {}
             Err(_) => unreachable!(),
         }
     }
     Ok(LiteMap::from_sorted_store_unchecked(made))
+}
+
+// What a key and its value become.
+fn made_of_both<'a, K: 'a, V: 'a, L: Drop, W, X: Becomes<'a, K, L>, Y: Becomes<'a, V, W>>(
+    alloc: Global,
+    key: &'a K,
+    value: &'a V,
+    keys: &X,
+    values: &Y,
+) -> Result<(L, W), AllocError>
+    requires key { X.takes keys.now key.now }
+    requires value { Y.takes values.now value.now }
+    ensures { IfOk result (λ made. X.became keys.now key.now made.0 × Y.became values.now value.now made.1) }
+{
+    Ok((keys.made_of(alloc, key)?, values.made_of(alloc, value)?))
 }

@@ -10,18 +10,17 @@ use Rattle.litemap.proofs.map.conversions.converted.Goals as goal
 pub unwrap-requires : goal.unwrap-requires
 unwrap-requires g c = is_there deref_pair c.lm_get.result (g.S.Store.pairs c.args.store.now) c.loop-index.index c.lm_get.ensures (omega (arith, c.loop-index-test.true, c.lm_len-len.ensures))
 
-pub made_of-requires : goal.made_of-requires
-made_of-requires g c = λ k. ((refl, tt), c.requires.keys (c.unwrap.result.0.now, c.unwrap.result.1.now) (In-slice_get _ c.loop-index.index _ (sym c.lm_get.ensures ∙ ap (option_map deref_pair) c.unwrap.ensures)))
-
-pub made_of-requires-in-loop-index : goal.made_of-requires-in-loop-index
-made_of-requires-in-loop-index g c = λ k. ((refl, tt), c.requires.values (c.unwrap.result.0.now, c.unwrap.result.1.now) (In-slice_get _ c.loop-index.index _ (sym c.lm_get.ensures ∙ ap (option_map deref_pair) c.unwrap.ensures)))
+pub made_of_both-requires : goal.made_of_both-requires
+made_of_both-requires g c =
+    let there = In-slice_get _ c.loop-index.index _ (sym c.lm_get.ensures ∙ ap (option_map deref_pair) c.unwrap.ensures) in
+    λ k. ((refl, tt), (c.requires.keys (c.unwrap.result.0.now, c.unwrap.result.1.now) there, c.requires.values (c.unwrap.result.0.now, c.unwrap.result.1.now) there))
 
 pub loop-index-preserved : goal.loop-index-preserved
 loop-index-preserved g c = record {
   became = rw c.in-Ok.ensures.ok
       (alongside-more (λ p q. g.X.Becomes.became c.args.keys.now p.0 q.0 × g.Y.Becomes.became c.args.values.now p.1 q.1) (g.S.Store.pairs c.args.store.now) (g.B.Store.pairs c.loop-index.made)
-      c.loop-index.index (c.unwrap.result.0.now, c.unwrap.result.1.now) (c.in_ok-made_of.field-0, c.in_ok-made_of-2.field-0) (sym c.lm_get.ensures ∙ ap (option_map deref_pair) c.unwrap.ensures)
-      (c.in_ok-made_of.ensures, c.in_ok-made_of-2.ensures) c.loop-index.invariant.became);
+      c.loop-index.index (c.unwrap.result.0.now, c.unwrap.result.1.now) (c.in_ok-key.key, c.in_ok-key.value) (sym c.lm_get.ensures ∙ ap (option_map deref_pair) c.unwrap.ensures)
+      c.in_ok-key.ensures c.loop-index.invariant.became);
   room = omega (arith, c.in-Ok.ensures.room);
 }
 
