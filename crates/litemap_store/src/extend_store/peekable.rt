@@ -9,12 +9,12 @@ use std::mem;
 
 /// The pairs that an iterator has still to hand over. A contract sees their list.
 #[derive(Drop)]
-pub struct Coming<K, V, I: PairIntoIter<K, V>> {
+pub struct Peekable<K, V, I: PairIntoIter<K, V>> {
     first: Option<(K, V)>,
     others: I,
 }
 
-impl<K, V, I: PairIntoIter<K, V>> Model for Coming<K, V, I> {
+impl<K, V, I: PairIntoIter<K, V>> Model for Peekable<K, V, I> {
     ghost use Rattle.std.specs.Prelude.{◌≡◌, List, [], IfNone};
     ghost use Rattle.std.specs.List.{cons_option};
 
@@ -25,20 +25,20 @@ impl<K, V, I: PairIntoIter<K, V>> Model for Coming<K, V, I> {
     ghost invariant = { λ c. IfNone c.first (I.owned c.others ≡ []) };
 }
 
-impl<K, V, I: PairIntoIter<K, V>> Coming<K, V, I> {
+impl<K, V, I: PairIntoIter<K, V>> Peekable<K, V, I> {
     /// All pairs of an iterator.
     pub fn new(mut pairs: I) -> Self
         ensures { result ≡ I.owned pairs }
     {
         let first = pairs.next();
-        Coming {
+        Peekable {
             first,
             others: pairs,
         }
     }
 
     /// The first pair, if there is one.
-    pub fn first(&self) -> Option<(&K, &V)>
+    pub fn peek(&self) -> Option<(&K, &V)>
         ensures { option_map deref_pair result ≡ slice_get self.now 0 }
     {
         let (key, value) = self.first.as_ref()?;
