@@ -1,5 +1,5 @@
 use Rattle.std.proofs.Common.{List, ◌++◌, ◌↔◌}
-use Rattle.litemap_read.proofs.read.gather.Given as goal
+use Rattle.litemap_read.proofs.read.drain.Given as goal
 
 -- the vector has what the source gave so far; it allows what it allowed
 abbrev pub invariant-loop-pair : goal.invariant-loop-pair
