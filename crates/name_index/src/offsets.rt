@@ -1,4 +1,4 @@
-//! The places of entries, and what is found by them.
+//! The offsets of entries, and what is found by them.
 ghost use Rattle.std.specs.Prelude.{◌≡◌, ◌+◌, ◌<◌, ◌≤◌, ◌∷◌, ◌++◌, [], IfErr, IfOk, OnErr, OnOk, Some, length, slice_get, slice_range};
 ghost use Rattle.litemap_store.specs.Counts.{RisesByAtMost};
 ghost use Rattle.litemap_store.specs.Digits.{digits};
@@ -11,98 +11,98 @@ ghost use Rattle.name_table.specs.Numbers.{number_limit};
 ghost use Rattle.name_table.specs.Remaining.{shown};
 
 use crate::fault::NameIndexFault;
-use crate::known::{known_pair, known_text};
 use crate::name_entries::NameEntries;
+use crate::valid::{read_valid_pair, read_valid_text};
 use litemap_store::store::Count;
 use std::alloc::{AllocError, Global};
 use std::cmp::Ordering;
 
-/// The places of so many entries, from the first one's on.
-pub fn places_of(alloc: Global, entries: &[u8], count: usize) -> Result<Vec<u32>, NameIndexFault>
+/// The offsets of `count` entries from the first one.
+pub fn offsets_of(alloc: Global, entries: &[u8], count: usize) -> Result<Vec<u32>, NameIndexFault>
     requires { AreEntries entries.now count }
-    ensures number { IfOk result (λ places. length places.items ≡ count) }
-    ensures placed { IfOk result (λ places. ArePlaced entries.now places.items) }
+    ensures number { IfOk result (λ offsets. length offsets.items ≡ count) }
+    ensures placed { IfOk result (λ offsets. ArePlaced entries.now offsets.items) }
     ensures refused { OnErr result (0 < count) }
     ensures too_far { IfErr result (λ fault. IfTooFar fault (AreFar entries.now count)) }
     ensures near { OnOk result (AreFar entries.now count → ⊥) }
 {
-    let mut places = Vec::with_capacity(alloc, count)?;
+    let mut offsets = Vec::with_capacity(alloc, count)?;
     let mut rest = entries;
     for _ in 0..count {
-        put(&mut places, place_of(entries, rest)?)?;
-        let (_, behind) = known_pair(rest);
+        push(&mut offsets, offset_of(entries, rest)?)?;
+        let (_, behind) = read_valid_pair(rest);
         rest = behind;
     }
-    Ok(places)
+    Ok(offsets)
 }
 
-// Puts a place behind those that are there.
-fn put(places: &mut Vec<u32>, place: u32) -> Result<(), AllocError>
-    ensures { OnOk result (places.new.items ≡ places.old.items ++ place ∷ []) }
+// Puts an offset behind the others.
+fn push(offsets: &mut Vec<u32>, offset: u32) -> Result<(), AllocError>
+    ensures { OnOk result (offsets.new.items ≡ offsets.old.items ++ offset ∷ []) }
 {
-    places.push(place)?;
+    offsets.push(offset)?;
     Ok(())
 }
 
 // How far the rest begins behind the first entry, where four bytes can note it.
-fn place_of(entries: &[u8], rest: &[u8]) -> Result<u32, NameIndexFault>
+fn offset_of(entries: &[u8], rest: &[u8]) -> Result<u32, NameIndexFault>
     requires { length rest.now ≤ length entries.now }
-    ensures place { IfOk result (λ place. place + length rest.now ≡ length entries.now) }
+    ensures offset { IfOk result (λ offset. offset + length rest.now ≡ length entries.now) }
     ensures far { IfErr result (λ fault. (fault ≡ TooFar) × (number_limit + length rest.now ≤ length entries.now)) }
 {
     match u32::try_from(entries.len() - rest.len()) {
-        Ok(place) => Ok(place),
+        Ok(offset) => Ok(offset),
         Err(_) => Err(NameIndexFault::TooFar),
     }
 }
 
 /// The entry at a place.
-pub fn pair_of<'a>(entries: &'a [u8], places: &[u32], index: usize) -> (&'a str, &'a str)
-    requires placed { ArePlaced entries.now places.now }
-    requires within { index < length places.now }
-    ensures { AsPlaced entries.now places.now (λ pairs. slice_get pairs index ≡ Some (shown result)) }
+pub fn pair_of<'a>(entries: &'a [u8], offsets: &[u32], index: usize) -> (&'a str, &'a str)
+    requires placed { ArePlaced entries.now offsets.now }
+    requires within { index < length offsets.now }
+    ensures { AsPlaced entries.now offsets.now (λ pairs. slice_get pairs index ≡ Some (shown result)) }
 {
-    let (pair, _) = known_pair(&entries[places[index] as usize..]);
+    let (pair, _) = read_valid_pair(&entries[offsets[index] as usize..]);
     pair
 }
 
 /// The entries from one place to before another.
 pub fn entries_between<'a>(
     entries: &'a [u8],
-    places: &[u32],
+    offsets: &[u32],
     start: usize,
     end: usize,
 ) -> NameEntries<'a>
-    requires placed { ArePlaced entries.now places.now }
+    requires placed { ArePlaced entries.now offsets.now }
     requires start { start < end }
-    requires within { end ≤ length places.now }
-    ensures { AsPlaced entries.now places.now (λ pairs. result ≡ slice_range pairs start end) }
+    requires within { end ≤ length offsets.now }
+    ensures { AsPlaced entries.now offsets.now (λ pairs. result ≡ slice_range pairs start end) }
 {
-    NameEntries::new(&entries[places[start] as usize..], end - start)
+    NameEntries::new(&entries[offsets[start] as usize..], end - start)
 }
 
 /// The key of the entry at a place.
-pub fn key_of<'a>(entries: &'a [u8], places: &[u32], index: usize) -> &'a str
-    requires placed { ArePlaced entries.now places.now }
-    requires within { index < length places.now }
-    ensures { AsPlaced entries.now places.now (λ pairs. IsKeyAt pairs index result.now) }
+pub fn key_of<'a>(entries: &'a [u8], offsets: &[u32], index: usize) -> &'a str
+    requires placed { ArePlaced entries.now offsets.now }
+    requires within { index < length offsets.now }
+    ensures { AsPlaced entries.now offsets.now (λ pairs. IsKeyAt pairs index result.now) }
 {
-    let (key, _) = known_text(&entries[places[index] as usize..]);
+    let (key, _) = read_valid_text(&entries[offsets[index] as usize..]);
     key
 }
 
 /// The place of the key, or where it would go.
-pub fn search(entries: &[u8], places: &[u32], key: &str, count: &mut Count) -> Result<usize, usize>
-    requires { ArePlaced entries.now places.now }
-    ensures splits { AsPlaced entries.now places.now (λ pairs. Splits text_order pairs key.now result) }
-    ensures within { IfOk result (λ index. index < length places.now) }
-    ensures cost { RisesByAtMost (digits (length places.now)) count.old count.new }
+pub fn search(entries: &[u8], offsets: &[u32], key: &str, count: &mut Count) -> Result<usize, usize>
+    requires { ArePlaced entries.now offsets.now }
+    ensures splits { AsPlaced entries.now offsets.now (λ pairs. Splits text_order pairs key.now result) }
+    ensures within { IfOk result (λ index. index < length offsets.now) }
+    ensures cost { RisesByAtMost (digits (length offsets.now)) count.old count.new }
 {
     let mut low = 0;
-    let mut high = places.len();
+    let mut high = offsets.len();
     while low < high {
         let middle = low + (high - low) / 2;
-        match count.cmp(&key_of(entries, places, middle), &key) {
+        match count.cmp(&key_of(entries, offsets, middle), &key) {
             Ordering::Less => low = middle + 1,
             Ordering::Equal => return Ok(middle),
             Ordering::Greater => high = middle,

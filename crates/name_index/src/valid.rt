@@ -7,7 +7,7 @@ ghost use Rattle.name_table.specs.Remaining.{shown};
 use name_table::parts::Cursor;
 
 /// The text that the bytes begin with, behind its length, and the bytes behind it.
-pub fn known_text(bytes: &[u8]) -> (&str, &[u8])
+pub fn read_valid_text(bytes: &[u8]) -> (&str, &[u8])
     requires { BeginsText bytes.now }
     ensures { Begins bytes.now (text_parts result.0.now) result.1.now }
 {
@@ -18,11 +18,11 @@ pub fn known_text(bytes: &[u8]) -> (&str, &[u8])
 }
 
 /// The key and the value that the bytes begin with, and the bytes behind them.
-pub fn known_pair(bytes: &[u8]) -> ((&str, &str), &[u8])
+pub fn read_valid_pair(bytes: &[u8]) -> ((&str, &str), &[u8])
     requires { BeginsPair bytes.now }
     ensures { Begins bytes.now (pair_parts (shown result.0 ∷ [])) result.1.now }
 {
-    let (key, middle) = known_text(bytes);
-    let (value, rest) = known_text(middle);
+    let (key, middle) = read_valid_text(bytes);
+    let (value, rest) = read_valid_text(middle);
     ((key, value), rest)
 }

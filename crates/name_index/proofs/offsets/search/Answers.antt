@@ -1,7 +1,7 @@
 use Rattle.std.proofs.Common.{◌+◌, ◌-◌, ◌/◌, ◌∙◌, Ok, Err, arith, sym}
 use Rattle.name_index.proofs.Halving.{halved_asked, halved_cost, halved_end, halved_equal, halved_greater, halved_less, halved_start}
 use Rattle.name_index.proofs.Placing.{known_at, splits_at}
-use Rattle.name_index.proofs.places.search.Goals as goal
+use Rattle.name_index.proofs.offsets.search.Goals as goal
 
 pub loop-low-init : goal.loop-low-init
 loop-low-init c = halved_start _ _ _ _ (known_at c.args.key.now)

@@ -1,7 +1,7 @@
 use Rattle.std.proofs.Common.{◌∙◌, Less, Greater, ap, arith, cond, sym}
 use Rattle.name_index.proofs.Halving.{halved_cost, halved_end, halved_greater, halved_less, halved_start}
 use Rattle.name_index.proofs.Prefixing.{cut_sides, known_sides}
-use Rattle.name_index.proofs.prefixes.edge.Goals as goal
+use Rattle.name_index.proofs.prefixes.partition_point.Goals as goal
 
 pub loop-low-init : goal.loop-low-init
 loop-low-init c = halved_start _ _ _ _ (known_sides c.args.behind c.args.text.now)

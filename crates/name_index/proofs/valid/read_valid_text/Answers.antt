@@ -1,5 +1,5 @@
 use Rattle.name_index.proofs.KnownParts.{text_no_fault}
-use Rattle.name_index.proofs.known.known_text.Goals as goal
+use Rattle.name_index.proofs.valid.read_valid_text.Goals as goal
 
 pub unreachable-requires : goal.unreachable-requires
 unreachable-requires c =
