@@ -1,7 +1,7 @@
 -- What a short store is where a value is written in place.
 use Rattle.std.proofs.Common.{◌≡◌, ℕ, ◌<◌, zero, suc, length, Some, slice_get, slice_set, refl, ap, ◌∙◌, sym, arith}
 use Rattle.std.specs.Option.{option_map_or}
-use Rattle.litemap_short.specs.Contents.{Contents, with_value}
+use Rattle.litemap_store.specs.Contents.{Contents, with_value}
 use Rattle.litemap_short.specs.Storage.{storage_items, storage_room, storage_with_item}
 use Rattle.litemap_short.specs.declared.storage.Storage.{Storage}
 use Rattle.litemap_short.specs.declared.storage.Storage.TheVariants.{Empty, Inline, Heap}

@@ -1,6 +1,6 @@
 //! The store of no pair, one, or a vector of pairs.
 ghost use Rattle.std.specs.Prelude.{◌≡◌, [], refl};
-ghost use Rattle.litemap_short.specs.Contents.{with_value};
+ghost use Rattle.litemap_store.specs.Contents.{with_value};
 
 use crate::short_iter::ShortIntoIter;
 use crate::storage::{Storage, pair_at, part_of};
@@ -30,7 +30,7 @@ pub struct ShortStore<K, V> {
 }
 
 impl<K, V> Model for ShortStore<K, V> {
-    ghost use Rattle.litemap_short.specs.Contents.{Contents};
+    ghost use Rattle.litemap_store.specs.Contents.{Contents};
     ghost use Rattle.litemap_short.specs.Storage.{storage_items, storage_room};
 
     ghost Value = { Contents K V };

@@ -1,4 +1,4 @@
-//! No item, one, or a vector of items.
+//! No item, one inline, or a vector of items.
 ghost use Rattle.std.specs.Prelude.{◌≡◌, ◌+◌, ◌<◌, ◌≤◌, [], ◌∷◌, length, insert, remove, slice_get, slice_index_or};
 ghost use Rattle.std.specs.Prelude.{Some, IfOk, IfSome, IsOk, OnOk, OnErr};
 ghost use Rattle.std.specs.Borrow.{sem};
@@ -21,6 +21,7 @@ use std::{array, mem};
 #[derive(Drop)]
 pub(crate) enum Storage<T> {
     Empty,
+    // The empty array takes no bytes: by it a proof knows that an item has the size of one in a slice.
     Inline(T, [T; 0]),
     Heap(Vec<T>),
 }
@@ -116,7 +117,6 @@ impl<T> Storage<T> {
         }
     }
 
-    // Takes out the one item.
     fn take_one(&mut self) -> T
         requires { IsOne self.old }
         ensures old { storage_items self.old ≡ result ∷ [] }
@@ -159,7 +159,7 @@ impl<T> Storage<T> {
         }
     }
 
-    // The one item, if it is one, and the others.
+    // The inline item, if there is one, and an iterator over those on the heap.
     pub(crate) fn into_parts(self, alloc: Global) -> (Option<T>, IntoIter<T>)
         ensures items { with_first result.0 (into_iter_items result.1) ≡ storage_items self }
         ensures alone { IfSome result.0 (λ _. into_iter_items result.1 ≡ []) }
@@ -198,7 +198,6 @@ impl<T> Storage<T> {
         }
     }
 
-    // Puts the one item in.
     fn put_first(&mut self, item: T)
         requires { self.old ≡ Empty }
         ensures { storage_items self.new ≡ item ∷ [] }

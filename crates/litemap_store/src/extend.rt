@@ -72,11 +72,8 @@ fn make_room<T>(items: &mut Vec<T>) -> Result<(), AllocError>
     ensures room { OnOk result (vec_len items.new < vec_capacity items.new) }
 {
     let len = items.len();
-    items.reserve(if len < QUADRUPLED_BELOW {
-        FIRST_CAPACITY.max(3 * len)
-    } else {
-        1
-    })
+    let more = if len < QUADRUPLED_BELOW { 3 * len } else { 1 };
+    items.reserve(more.max(FIRST_CAPACITY))
 }
 
 /// Puts pairs in: of each key the last pair stays.

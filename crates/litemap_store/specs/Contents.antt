@@ -1,4 +1,4 @@
--- What a contract sees of a short store: its pairs, and how many further pairs it takes without refusal.
+-- What a contract sees of a store: its pairs, and how many further pairs it takes without refusal.
 use Rattle.std.specs.Prelude.{ℕ, List}
 use Rattle.litemap_store.specs.Pairs.{set_value}
 
