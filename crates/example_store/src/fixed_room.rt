@@ -11,7 +11,7 @@
 //!
 //! The calls of `LiteMap` are then proved over it, with no proof of theirs to be written.
 ghost use Rattle.std.specs.Prelude.{refl};
-ghost use Rattle.example_store.specs.Contents.{with_value};
+ghost use Rattle.litemap_store.specs.Contents.{with_value};
 
 use litemap::store::{
     Count, NoRoom, SliceIter, Store, StoreBulkMut, StoreConstEmpty, StoreFromIterable,
@@ -34,7 +34,7 @@ pub struct FixedRoom<K, V> {
 
 impl<K, V> Model for FixedRoom<K, V> {
     ghost use Rattle.std.specs.Prelude.{◌≤◌, ◌-◌, vec_len, vec_capacity};
-    ghost use Rattle.example_store.specs.Contents.{Contents};
+    ghost use Rattle.litemap_store.specs.Contents.{Contents};
 
     ghost Value = { Contents K V };
 

@@ -5,7 +5,7 @@
 #![tactic(auto)]
 
 ghost use Rattle.std.specs.Prelude.{refl};
-ghost use Rattle.example_store.specs.Contents.{with_value};
+ghost use Rattle.litemap_store.specs.Contents.{with_value};
 
 pub mod fixed_room;
 
@@ -24,7 +24,7 @@ pub struct Bounded<K, V, const LIMIT: usize> {
 impl<K, V, const LIMIT: usize> Model for Bounded<K, V, LIMIT> {
     ghost use Rattle.std.specs.Prelude.{◌≤◌, ◌-◌, min, vec_len};
     ghost use Rattle.litemap_store.specs.VecStore.{vec_room};
-    ghost use Rattle.example_store.specs.Contents.{Contents};
+    ghost use Rattle.litemap_store.specs.Contents.{Contents};
 
     ghost Value = { Contents K V };
 

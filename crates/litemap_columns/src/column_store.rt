@@ -2,7 +2,8 @@
 ghost use Rattle.std.specs.Prelude.{◌≡◌, ◌+◌, ◌-◌, ◌≤◌, ◌<◌, ◌++◌, IfOk, length, min, refl, vec_capacity, vec_len};
 ghost use Rattle.std.specs.List.{zip};
 ghost use Rattle.std.specs.Map.{keys_of, values_of};
-ghost use Rattle.litemap_columns.specs.Columns.{columns, columns_with_value};
+ghost use Rattle.litemap_columns.specs.Columns.{columns};
+ghost use Rattle.litemap_store.specs.Contents.{with_value};
 ghost use Rattle.litemap_store.specs.Retain.{CallableOnEach, Kept, KeptSoFar};
 ghost use Rattle.litemap_store.specs.VecStore.{vec_room};
 
@@ -30,9 +31,10 @@ pub struct ColumnStore<K, V> {
 
 impl<K, V> Model for ColumnStore<K, V> {
     ghost use Rattle.std.specs.Prelude.{◌≡◌, vec_len};
-    ghost use Rattle.litemap_columns.specs.Columns.{Columns, columns};
+    ghost use Rattle.litemap_columns.specs.Columns.{columns};
+    ghost use Rattle.litemap_store.specs.Contents.{Contents};
 
-    ghost Value = { Columns K V };
+    ghost Value = { Contents K V };
 
     ghost view = { λ s. columns s.keys s.values };
 
@@ -112,7 +114,7 @@ impl<K, V> StoreConstEmpty<K, V> for ColumnStore<K, V> {
 }
 
 impl<K, V> StoreMut<K, V> for ColumnStore<K, V> {
-    ghost with_value = { columns_with_value };
+    ghost with_value = { with_value };
 
     fn lm_with_capacity(alloc: Global, capacity: usize) -> Result<Self, AllocError> {
         let keys = Vec::with_capacity(alloc, capacity)?;

@@ -40,7 +40,7 @@ pub fn read_pairs<K: Ord + Drop, V: Drop, S: StoreBulkMut<K, V>, P: PairSource<K
     let mut aside = Vec::new(alloc);
     loop {
         match source.next_pair() {
-            Ok(Some((key, value))) => sift(&mut map, &mut aside, key, value)?,
+            Ok(Some((key, value))) => append_or_defer(&mut map, &mut aside, key, value)?,
             Ok(None) => break,
             Err(fault) => return Err(ReadFault::Source(fault)),
         }
@@ -64,7 +64,7 @@ pub fn extend_from_source<K: Ord + Drop, V: Drop, S: StoreBulkMut<K, V>, P: Pair
     ensures unchanged { OnErr result (map.new.pairs ≡ map.old.pairs) }
     ensures asked { IsAsked P.gives P.allows P.ends P.leads source.old source.new result }
 {
-    let pairs = gather(alloc, source)?;
+    let pairs = drain(alloc, source)?;
     map.extend_from_vec(alloc, pairs)?;
     Ok(())
 }
@@ -90,7 +90,7 @@ pub fn read_results<
     let mut aside = Vec::new(alloc);
     for item in items {
         match item {
-            Ok((key, value)) => sift(&mut map, &mut aside, key, value)?,
+            Ok((key, value)) => append_or_defer(&mut map, &mut aside, key, value)?,
             Err(fault) => return Err(ReadFault::Source(fault)),
         }
     }
@@ -99,7 +99,7 @@ pub fn read_results<
 }
 
 // The pairs that a source gives up to its end.
-fn gather<K: Drop, V: Drop, P: PairSource<K, V>>(
+fn drain<K: Drop, V: Drop, P: PairSource<K, V>>(
     alloc: Global,
     source: &mut P,
 ) -> Result<Vec<(K, V)>, ReadFault<P::Fault>>
@@ -110,7 +110,7 @@ fn gather<K: Drop, V: Drop, P: PairSource<K, V>>(
     let mut pairs = vec_with_hint(alloc, source.hint());
     loop {
         match source.next_pair() {
-            Ok(Some(pair)) => put(&mut pairs, pair)?,
+            Ok(Some(pair)) => push(&mut pairs, pair)?,
             Ok(None) => return Ok(pairs),
             Err(fault) => return Err(ReadFault::Source(fault)),
         }
@@ -126,7 +126,7 @@ fn vec_with_hint<T: Drop>(alloc: Global, hint: Option<usize>) -> Vec<T>
 }
 
 // Puts an item behind those of a vector, or gives it up.
-fn put<T: Drop>(items: &mut Vec<T>, item: T) -> Result<(), AllocError>
+fn push<T: Drop>(items: &mut Vec<T>, item: T) -> Result<(), AllocError>
     ensures { OnOk result (items.new.items ≡ items.old.items ++ item ∷ []) }
 {
     items.push(item)?;
@@ -145,7 +145,7 @@ fn with_hint<K: Ord, V, S: StoreMut<K, V>>(
 }
 
 // Puts a pair behind the map's pairs where its key is above them all, and else behind those put aside.
-fn sift<K: Ord + Drop, V: Drop, S: StoreMut<K, V>>(
+fn append_or_defer<K: Ord + Drop, V: Drop, S: StoreMut<K, V>>(
     map: &mut LiteMap<K, V, S>,
     aside: &mut Vec<(K, V)>,
     key: K,

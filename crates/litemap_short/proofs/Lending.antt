@@ -1,30 +1,30 @@
 -- What a short store is where a value is written in place.
 use Rattle.std.proofs.Common.{◌≡◌, ℕ, ◌<◌, zero, suc, length, Some, slice_get, slice_set, refl, ap, ◌∙◌, sym, arith}
 use Rattle.std.specs.Option.{option_map_or}
-use Rattle.litemap_short.specs.Contents.{Contents, with_value}
-use Rattle.litemap_short.specs.Held.{held_items, held_room, held_with_item}
-use Rattle.litemap_short.specs.declared.held.Held.{Held}
-use Rattle.litemap_short.specs.declared.held.Held.TheVariants.{Nothing, One, Many}
+use Rattle.litemap_store.specs.Contents.{Contents, with_value}
+use Rattle.litemap_short.specs.Storage.{storage_items, storage_room, storage_with_item}
+use Rattle.litemap_short.specs.declared.storage.Storage.{Storage}
+use Rattle.litemap_short.specs.declared.storage.Storage.TheVariants.{Empty, Inline, Heap}
 
 module _ {T : Type 0} where
-  pub items-with_item : (held : Held T) (i : ℕ) (x : T) → i < length (held_items held) → held_items (held_with_item held i x) ≡ slice_set (held_items held) i x
-  items-with_item Nothing i x within = absurd (omega arith)
-  items-with_item (One _ _) zero x within = refl
-  items-with_item (One _ _) (suc i) x within = absurd (omega arith)
-  items-with_item (Many items) i x within = refl
+  pub items-with_item : (storage : Storage T) (i : ℕ) (x : T) → i < length (storage_items storage) → storage_items (storage_with_item storage i x) ≡ slice_set (storage_items storage) i x
+  items-with_item Empty i x within = absurd (omega arith)
+  items-with_item (Inline _ _) zero x within = refl
+  items-with_item (Inline _ _) (suc i) x within = absurd (omega arith)
+  items-with_item (Heap items) i x within = refl
 
-  pub room-with_item : (held : Held T) (i : ℕ) (x : T) → held_room (held_with_item held i x) ≡ held_room held
-  room-with_item Nothing i x = refl
-  room-with_item (One _ _) i x = refl
-  room-with_item (Many items) i x = refl
+  pub room-with_item : (storage : Storage T) (i : ℕ) (x : T) → storage_room (storage_with_item storage i x) ≡ storage_room storage
+  room-with_item Empty i x = refl
+  room-with_item (Inline _ _) i x = refl
+  room-with_item (Heap items) i x = refl
 
 module _ {K V : Type 0} where
   -- the pair p at the place i with another value
-  abbrev pub contents : Held (K × V) → Contents K V
-  contents held = record { pairs = held_items held; room = held_room held }
+  abbrev pub contents : Storage (K × V) → Contents K V
+  contents storage = record { pairs = storage_items storage; room = storage_room storage }
 
-  pub written : (held : Held (K × V)) (i : ℕ) (p : K × V) (w : V) → i < length (held_items held) → slice_get (held_items held) i ≡ Some p → contents (held_with_item held i (p.0, w)) ≡ with_value (contents held) i w
-  written held i p w within at =
-      ap (λ L. record { pairs = L; room = held_room (held_with_item held i (p.0, w)) }) (items-with_item held i (p.0, w) within)
-      ∙ ap (λ r. record { pairs = slice_set (held_items held) i (p.0, w); room = r }) (room-with_item held i (p.0, w))
-      ∙ sym (ap (λ o. record { pairs = option_map_or (λ q. slice_set (held_items held) i (q.0, w)) o (held_items held); room = held_room held }) at)
+  pub written : (storage : Storage (K × V)) (i : ℕ) (p : K × V) (w : V) → i < length (storage_items storage) → slice_get (storage_items storage) i ≡ Some p → contents (storage_with_item storage i (p.0, w)) ≡ with_value (contents storage) i w
+  written storage i p w within at =
+      ap (λ L. record { pairs = L; room = storage_room (storage_with_item storage i (p.0, w)) }) (items-with_item storage i (p.0, w) within)
+      ∙ ap (λ r. record { pairs = slice_set (storage_items storage) i (p.0, w); room = r }) (room-with_item storage i (p.0, w))
+      ∙ sym (ap (λ o. record { pairs = option_map_or (λ q. slice_set (storage_items storage) i (q.0, w)) o (storage_items storage); room = storage_room storage }) at)

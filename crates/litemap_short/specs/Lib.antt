@@ -1,5 +1,4 @@
 -- The definitions that the contracts cite.
-pub mod Contents
-pub mod Held
+pub mod Storage
 pub mod Lends
 pub mod Left

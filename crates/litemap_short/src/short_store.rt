@@ -1,9 +1,9 @@
 //! The store of no pair, one, or a vector of pairs.
 ghost use Rattle.std.specs.Prelude.{◌≡◌, [], refl};
-ghost use Rattle.litemap_short.specs.Contents.{with_value};
+ghost use Rattle.litemap_store.specs.Contents.{with_value};
 
-use crate::held::{Held, pair_at, part_of};
 use crate::short_iter::ShortIntoIter;
+use crate::storage::{Storage, pair_at, part_of};
 use litemap_store::store::{
     Count, NoRoom, SliceIter, SliceStore, Store, StoreBulkMut, StoreConstEmpty, StoreFromIterable,
     StoreFromIterator, StoreIntoIterator, StoreIterable, StoreMut, StoreSlice,
@@ -26,21 +26,21 @@ use std::ops::Range;
 #[derive(Drop)]
 pub struct ShortStore<K, V> {
     alloc: Global,
-    held: Held<(K, V)>,
+    storage: Storage<(K, V)>,
 }
 
 impl<K, V> Model for ShortStore<K, V> {
-    ghost use Rattle.litemap_short.specs.Contents.{Contents};
-    ghost use Rattle.litemap_short.specs.Held.{held_items, held_room};
+    ghost use Rattle.litemap_store.specs.Contents.{Contents};
+    ghost use Rattle.litemap_short.specs.Storage.{storage_items, storage_room};
 
     ghost Value = { Contents K V };
 
-    ghost view = { λ s. record { pairs = held_items s.held; room = held_room s.held } };
+    ghost view = { λ s. record { pairs = storage_items s.storage; room = storage_room s.storage } };
 }
 
 impl<K: Debug, V: Debug> Debug for ShortStore<K, V> {
     fn fmt<W: Write>(&self, f: &mut Formatter<W>) -> fmt::Result {
-        self.held.as_slice().fmt(f)
+        self.storage.as_slice().fmt(f)
     }
 }
 
@@ -50,11 +50,11 @@ impl<K, V> Store<K, V> for ShortStore<K, V> {
     ghost room = { λ s. s.room };
 
     fn lm_len(&self) -> usize {
-        self.held.as_slice().len()
+        self.storage.as_slice().len()
     }
 
     fn lm_get(&self, index: usize) -> Option<(&K, &V)> {
-        pair_at(self.held.as_slice(), index)
+        pair_at(self.storage.as_slice(), index)
     }
 
     fn lm_binary_search_by<F: FnMut(&K) -> Ordering>(
@@ -62,7 +62,7 @@ impl<K, V> Store<K, V> for ShortStore<K, V> {
         f: F,
         count: &mut Count,
     ) -> Result<usize, usize> {
-        SliceStore::new(self.held.as_slice()).lm_binary_search_by(f, count)
+        SliceStore::new(self.storage.as_slice()).lm_binary_search_by(f, count)
     }
 }
 
@@ -72,14 +72,14 @@ impl<K, V> StoreConstEmpty<K, V> for ShortStore<K, V> {
     fn lm_empty(alloc: Global) -> Self {
         ShortStore {
             alloc,
-            held: Held::Nothing,
+            storage: Storage::Empty,
         }
     }
 }
 
 impl<K, V> StoreSlice<K, V> for ShortStore<K, V> {
     fn lm_get_range(&self, range: Range<usize>) -> Option<&[(K, V)]> {
-        part_of(self.held.as_slice(), range)
+        part_of(self.storage.as_slice(), range)
     }
 }
 
@@ -87,7 +87,7 @@ impl<'a, K: 'a, V: 'a> StoreIterable<'a, K, V> for ShortStore<K, V> {
     type KeyValueIter = SliceIter<'a, K, V>;
 
     fn lm_iter(&'a self) -> SliceIter<'a, K, V> {
-        SliceIter::new(self.held.as_slice())
+        SliceIter::new(self.storage.as_slice())
     }
 }
 
@@ -97,25 +97,25 @@ impl<K, V> StoreMut<K, V> for ShortStore<K, V> {
     ghost free_room = { 1 };
 
     fn lm_with_capacity(alloc: Global, capacity: usize) -> Result<Self, AllocError> {
-        let held = if capacity <= 1 {
-            Held::Nothing
+        let storage = if capacity <= 1 {
+            Storage::Empty
         } else {
-            Held::Many(Vec::with_capacity(alloc, capacity)?)
+            Storage::Heap(Vec::with_capacity(alloc, capacity)?)
         };
-        Ok(ShortStore { alloc, held })
+        Ok(ShortStore { alloc, storage })
     }
 
     fn lm_reserve(&mut self, additional: usize) -> Result<(), AllocError> {
-        self.held.reserve(self.alloc, additional)
+        self.storage.reserve(self.alloc, additional)
     }
 
     fn lm_pair_mut(&mut self, index: usize) -> (&K, &mut V) {
-        let pair = self.held.item_mut(index);
+        let pair = self.storage.item_mut(index);
         (&pair.0, &mut pair.1)
     }
 
     fn lm_replace(&mut self, index: usize, key: K, value: V) -> (K, V) {
-        mem::replace(self.held.item_mut(index), (key, value))
+        mem::replace(self.storage.item_mut(index), (key, value))
     }
 
     fn lm_push(&mut self, key: K, value: V) -> Result<(), NoRoom<(K, V)>> {
@@ -124,9 +124,9 @@ impl<K, V> StoreMut<K, V> for ShortStore<K, V> {
     }
 
     fn lm_insert(&mut self, index: usize, key: K, value: V) -> Result<(), NoRoom<(K, V)>> {
-        match self.held.reserve(self.alloc, 1) {
+        match self.storage.reserve(self.alloc, 1) {
             Ok(()) => {
-                self.held.insert_reserved(index, (key, value));
+                self.storage.insert_reserved(index, (key, value));
                 Ok(())
             }
             Err(_) => Err(NoRoom { back: (key, value) }),
@@ -134,7 +134,7 @@ impl<K, V> StoreMut<K, V> for ShortStore<K, V> {
     }
 
     fn lm_remove(&mut self, index: usize) -> (K, V) {
-        self.held.remove(index)
+        self.storage.remove(index)
     }
 
     fn lm_clear(&mut self)
@@ -142,7 +142,7 @@ impl<K, V> StoreMut<K, V> for ShortStore<K, V> {
         K: Drop,
         V: Drop,
     {
-        self.held.clear();
+        self.storage.clear();
     }
 
     fn lm_try_clone(&self, alloc: Global) -> Result<Self, AllocError>
@@ -151,8 +151,8 @@ impl<K, V> StoreMut<K, V> for ShortStore<K, V> {
         V: Clone,
         Self: Drop,
     {
-        let held = self.held.try_clone(alloc)?;
-        Ok(ShortStore { alloc, held })
+        let storage = self.storage.try_clone(alloc)?;
+        Ok(ShortStore { alloc, storage })
     }
 
     ghost writes = { λ s i v. refl };
@@ -162,7 +162,7 @@ impl<K, V> StoreMut<K, V> for ShortStore<K, V> {
 
 impl<K: Ord + Drop, V: Drop> StoreBulkMut<K, V> for ShortStore<K, V> {
     fn lm_retain<F: FnMut(&K, &V) -> bool>(&mut self, f: F) {
-        self.held.retain(f);
+        self.storage.retain(f);
     }
 }
 
@@ -175,7 +175,7 @@ impl<K: Ord + Drop, V: Drop> StoreFromIterable<K, V> for ShortStore<K, V> {
         let items = Vec::lm_sort_from_iter(alloc, iter, count)?;
         Ok(ShortStore {
             alloc,
-            held: Held::from_vec(items),
+            storage: Storage::from_vec(items),
         })
     }
 }
@@ -188,7 +188,7 @@ impl<K: Drop, V: Drop> StoreFromIterator<K, V> for ShortStore<K, V> {
         let items = Vec::lm_from_pairs(alloc, iter)?;
         Ok(ShortStore {
             alloc,
-            held: Held::from_vec(items),
+            storage: Storage::from_vec(items),
         })
     }
 }
@@ -197,8 +197,8 @@ impl<K: Drop, V: Drop> StoreIntoIterator<K, V> for ShortStore<K, V> {
     type KeyValueIntoIter = ShortIntoIter<K, V>;
 
     fn lm_into_iter(self) -> ShortIntoIter<K, V> {
-        let ShortStore { alloc, held } = self;
-        let (first, others) = held.into_parts(alloc);
+        let ShortStore { alloc, storage } = self;
+        let (first, others) = storage.into_parts(alloc);
         ShortIntoIter::new(first, others)
     }
 }

@@ -21,10 +21,11 @@ use crate::reserved::append_each;
 use crate::store::{Store, StoreMut};
 use std::alloc::{AllocError, Global};
 
-// Room for so many items is taken with the first one, then four times as much until there are many, and then twice as much.
-const FIRST: usize = 8;
+// Room for so many items is taken with the first one.
+const FIRST_CAPACITY: usize = 8;
 
-const MANY: usize = 512;
+// Below this length room grows to four times as much, and then to twice as much.
+const QUADRUPLED_BELOW: usize = 512;
 
 /// The items of an iterator, in order. No size hint is used.
 pub fn gather<T: Drop, I: IntoIterator<Item = T>>(
@@ -71,7 +72,8 @@ fn make_room<T>(items: &mut Vec<T>) -> Result<(), AllocError>
     ensures room { OnOk result (vec_len items.new < vec_capacity items.new) }
 {
     let len = items.len();
-    items.reserve(if len < MANY { FIRST.max(3 * len) } else { 1 })
+    let more = if len < QUADRUPLED_BELOW { 3 * len } else { 1 };
+    items.reserve(more.max(FIRST_CAPACITY))
 }
 
 /// Puts pairs in: of each key the last pair stays.

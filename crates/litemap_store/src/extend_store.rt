@@ -8,9 +8,9 @@ ghost use Rattle.litemap_store.specs.Merge.{Apart, IsLeft, IsUndone, Merge, left
 ghost use Rattle.litemap_store.specs.Pairs.{Rising};
 ghost use Rattle.litemap_store.specs.Splits.{Splits};
 
-mod coming;
 mod in_one_pass;
 mod one_by_one;
+mod peekable;
 mod side_by_side;
 
 use crate::extend::lies_below;
@@ -21,7 +21,7 @@ use crate::store::{Count, NoRoom, Store, StoreIntoIterator};
 use std::alloc::Global;
 
 // A merge puts pairs in one by one where there are fewer than so many for each binary digit of both lengths' sum.
-const FEW: usize = 3;
+const FEW_PER_DIGIT: usize = 3;
 
 /// Merges a store's pairs into another's. Where an equal key is there, that key stays and takes the new value; the old
 /// values are answered, each with its new key, in order, or `None` where there are none.
@@ -120,37 +120,27 @@ fn merge_mixed<K: Ord + Drop, V: Drop, S: StoreIntoIterator<K, V> + Drop>(
         return Err(NoRoom { back: other });
     };
     let steps = binary_digits(total);
-    if is_walked(total, len, steps) {
+    if walk_is_cheaper(total, len, steps) {
         return merge_side_by_side(alloc, store, other, total, count);
     }
-    if len / FEW < steps {
+    if len / FEW_PER_DIGIT < steps {
         return merge_each(alloc, store, other, count);
     }
     merge_in_one_pass(alloc, store, other, total, count)
 }
 
-// Whether a step for each of a total of pairs is no more than what so many searches ask, each of so many steps.
-fn is_walked(total: usize, searches: usize, steps: usize) -> bool
-    requires { searches ≤ total }
-    ensures { IsTrue result ↔ ((0 < searches) × (total ≤ searches * steps)) }
+// Whether a step for each of so many pairs is no more than what the searches ask, each of so many steps.
+fn walk_is_cheaper(pairs: usize, searches: usize, steps: usize) -> bool
+    ensures { IsTrue result ↔ (pairs ≤ searches * steps) }
 {
-    if searches == 0 {
-        return false;
-    }
-    (total - 1) / searches < steps
+    pairs <= searches.saturating_mul(steps)
 }
 
 // How many binary digits a number has: what a search among as many pairs asks at most.
 fn binary_digits(number: usize) -> usize
     ensures { result ≡ digits number }
 {
-    let mut count = 0;
-    let mut left = number;
-    while 0 < left {
-        left /= 2;
-        count += 1;
-    }
-    count
+    (usize::BITS - number.leading_zeros()) as usize
 }
 
 // What is left over, if it has pairs.

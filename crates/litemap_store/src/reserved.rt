@@ -28,7 +28,7 @@ pub fn append_each<K: Drop, V: Drop, S: StoreMut<K, V>, I: PairIntoIter<K, V>>(
     }
 }
 
-/// Puts pairs behind those of the store, from the last on.
+/// Puts pairs behind those of the store, in reverse order.
 pub fn put_up<K: Drop, V: Drop, S: StoreMut<K, V>>(store: &mut S, mut pairs: Vec<(K, V)>)
     requires { length pairs.items ≤ S.room store.old }
     ensures { S.pairs store.new ≡ S.pairs store.old ++ reverse pairs.items }

@@ -18,18 +18,18 @@ use Rattle.name_index.proofs.Placing.{walked_at}
 sub_is : (L : List (List ℕ × List ℕ)) (a b : ℕ) → a ≤ b → b ≤ length L → Some (slice_range L a b) ≡ sub L a b
 sub_is L a b h k = rw (le-leb a b h) (rw (le-leb b (length L) k) refl)
 
-module _ (entries places : List ℕ) (from to d : ℕ) (placed : ArePlaced entries places) (l : from < to) (h : to ≤ length places) where
-  pub between_are : AreEntries (drop (get_or places from d) entries) (to - from)
+module _ (entries offsets : List ℕ) (from to d : ℕ) (placed : ArePlaced entries offsets) (l : from < to) (h : to ≤ length offsets) where
+  pub between_are : AreEntries (drop (get_or offsets from d) entries) (to - from)
   between_are =
       let L = placed.these.pairs in
-      let bytes = drop (get_or places from d) entries in
+      let bytes = drop (get_or offsets from d) entries in
       let K = drop from L in
       let n = to - from in
-      let first : from < length places = omega (arith, l, h) in
+      let first : from < length offsets = omega (arith, l, h) in
       let long : to ≤ length L = omega (arith, h, placed.these.count_is) in
       let s =
       begins_split bytes placed.these.rest (pair_parts (take n K)) (pair_parts (drop n K))
-      (rw (← (ap pair_parts (sym (take-append-drop n K)) ∙ pair_parts-append (take n K) (drop n K))) (walked_at entries places from d placed first).here) in
+      (rw (← (ap pair_parts (sym (take-append-drop n K)) ∙ pair_parts-append (take n K) (drop n K))) (walked_at entries offsets from d placed first).here) in
       record {
         pairs = slice_range L from to;
         rest = s.0;
@@ -38,12 +38,12 @@ module _ (entries places : List ℕ) (from to d : ℕ) (placed : ArePlaced entri
         rises = Rising-sub text_order L from to (slice_range L from to) placed.these.rises (sub_is L from to (omega (arith, l)) long);
       }
 
-  pub between_is : (these : AreEntries (drop (get_or places from d) entries) (to - from)) → these.pairs ≡ slice_range placed.these.pairs from to
+  pub between_is : (these : AreEntries (drop (get_or offsets from d) entries) (to - from)) → these.pairs ≡ slice_range placed.these.pairs from to
   unfolding between_are
   between_is these =
-      left_one (drop (get_or places from d) entries) (to - from) these.pairs between_are.pairs
-      (entries_left (drop (get_or places from d) entries) (to - from) these)
-      (entries_left (drop (get_or places from d) entries) (to - from) between_are)
+      left_one (drop (get_or offsets from d) entries) (to - from) these.pairs between_are.pairs
+      (entries_left (drop (get_or offsets from d) entries) (to - from) these)
+      (entries_left (drop (get_or offsets from d) entries) (to - from) between_are)
 
 -- ---- parts of a list
 take_none : {X : Type 0} (n : ℕ) → take {A = X} n [] ≡ []

@@ -11,7 +11,7 @@ use Rattle.litemap_store.specs.declared.count.Count.{Count}
 use Rattle.litemap_store.proofs.Counting.{not_asked}
 use Rattle.litemap_store.proofs.Parts.{Less-from_Rising}
 use Rattle.litemap_store.specs.Search.{Ascends}
-use Rattle.name_index.specs.Index.{BeginsAt, HasKey, HasPlaces, IsEntry, IsIndex, IsNumberAt, IsPairAt, IsTextAt, NoEntry, NoIndex}
+use Rattle.name_index.specs.Index.{BeginsAt, HasKey, HasOffsets, IsEntry, IsIndex, IsNumberAt, IsPairAt, IsTextAt, NoEntry, NoIndex}
 use Rattle.name_index.specs.Tables.{text_order}
 use Rattle.name_index.proofs.Placing.{each_push}
 use Rattle.name_index.proofs.Rises.{IsAbove, LastKey, asked_next, last_at, rises_on}
@@ -46,9 +46,9 @@ entry_unique bytes count index p q a b =
 
 -- ---- an index, and what is read of it
 
-module _ (bytes : List ℕ) (count : ℕ) (places : HasPlaces bytes count) (pairs : List (List ℕ × List ℕ)) (x : IsIndex bytes pairs) where
+module _ (bytes : List ℕ) (count : ℕ) (offsets : HasOffsets bytes count) (pairs : List (List ℕ × List ℕ)) (x : IsIndex bytes pairs) where
   pub count_is : length pairs ≡ count
-  count_is = number_unique bytes 0 (length pairs) count x.number places.number
+  count_is = number_unique bytes 0 (length pairs) count x.number offsets.number
 
   pub entry_there : (index : ℕ) → index < count → (pair : List ℕ × List ℕ) × (slice_get pairs index ≡ Some pair) × IsEntry bytes count index pair
   entry_there index l =
@@ -72,9 +72,9 @@ module _ (bytes : List ℕ) (count : ℕ) (places : HasPlaces bytes count) (pair
       (t.0.1, t.1 ∙ ap (λ s. Some (s, t.0.1)) k)
 
 -- where an entry is missing, the bytes are no index
-pub no_index : (bytes : List ℕ) (count index : ℕ) → HasPlaces bytes count → index < count → NoEntry bytes count index → NoIndex bytes
-no_index bytes count index places l none pairs x =
-    let t = entry_there bytes count places pairs x index l in
+pub no_index : (bytes : List ℕ) (count index : ℕ) → HasOffsets bytes count → index < count → NoEntry bytes count index → NoIndex bytes
+no_index bytes count index offsets l none pairs x =
+    let t = entry_there bytes count offsets pairs x index l in
     none t.0 t.2
 
 -- where there is no room for the places, too
@@ -96,12 +96,12 @@ no_room bytes count number l pairs x =
 abbrev pub pairs_of : {bytes : List ℕ} → (pairs : List (List ℕ × List ℕ)) × IsIndex bytes pairs → List (List ℕ × List ℕ)
 pairs_of x = x.0
 
-module _ {bytes : List ℕ} {count : ℕ} (places : HasPlaces bytes count) (x : (pairs : List (List ℕ × List ℕ)) × IsIndex bytes pairs) where
+module _ {bytes : List ℕ} {count : ℕ} (offsets : HasOffsets bytes count) (x : (pairs : List (List ℕ × List ℕ)) × IsIndex bytes pairs) where
   pub known_of : (key : List ℕ) → (length (pairs_of x) ≡ count) × Ascends (to_key key) (pairs_of x)
-  known_of key = (count_is bytes count places x.0 x.1, ascends x.0 key x.1.rises)
+  known_of key = (count_is bytes count offsets x.0 x.1, ascends x.0 key x.1.rises)
 
   pub key_of : (index : ℕ) (key : List ℕ) → index < count → HasKey bytes count index key → IsKeyAt (pairs_of x) index key
-  key_of index key l k = key_is bytes count places x.0 x.1 index key l k
+  key_of index key l k = key_is bytes count offsets x.0 x.1 index key l k
 
 -- ---- a check's state
 
@@ -132,32 +132,32 @@ followed_next bytes count index last key value old middle new f r a z o =
       asked = asked_next last f.pairs p f.last_is f.asked z o;
     }
 
-pub followed_end : (bytes : List ℕ) (count index : ℕ) (last : Option (Bor (List ℕ))) (old new : Count) → HasPlaces bytes count → Followed bytes count last index old new → index ≡ count → (pairs : List (List ℕ × List ℕ)) × IsIndex bytes pairs
-followed_end bytes count index last old new places f e =
+pub followed_end : (bytes : List ℕ) (count index : ℕ) (last : Option (Bor (List ℕ))) (old new : Count) → HasOffsets bytes count → Followed bytes count last index old new → index ≡ count → (pairs : List (List ℕ × List ℕ)) × IsIndex bytes pairs
+followed_end bytes count index last old new offsets f e =
     let n : count ≡ length f.pairs = sym e ∙ sym f.number in (
       f.pairs,
       record {
-        number = rw (← n) places.number;
+        number = rw (← n) offsets.number;
         entries = λ i pair g. let Q : ℕ → Type 0 = λ m. IsEntry bytes m i pair in subst Q n (f.entries i pair g);
         rises = f.rises;
       },
     )
 
 -- where the next key isn't above the last one, the bytes are no index
-pub falls_there : (bytes : List ℕ) (count index : ℕ) (last : Bor (List ℕ)) (key value : List ℕ) (old new : Count) → HasPlaces bytes count → index < count → Followed bytes count (Some last) index old new → IsEntry bytes count index (key, value) → (text_order last.now key ≡ Less → ⊥) → NoIndex bytes
-falls_there bytes count index last key value old new places l f r never pairs x =
+pub falls_there : (bytes : List ℕ) (count index : ℕ) (last : Bor (List ℕ)) (key value : List ℕ) (old new : Count) → HasOffsets bytes count → index < count → Followed bytes count (Some last) index old new → IsEntry bytes count index (key, value) → (text_order last.now key ≡ Less → ⊥) → NoIndex bytes
+falls_there bytes count index last key value old new offsets l f r never pairs x =
     let front = f.last_is.0 in
     let p : List ℕ × List ℕ = (last.now, f.last_is.1) in
     let g : slice_get f.pairs (length front) ≡ Some p = rw f.last_is.2 (last_at front p) in
     let n : index - 1 ≡ length front = omega (arith, f.number, ap length f.last_is.2, length-append front (p ∷ [])) in
     let more : 1 ≤ index = omega (arith, f.number, ap length f.last_is.2, length-append front (p ∷ [])) in
-    let a = entry_is bytes count places pairs x (length front) p (omega (arith, n, l)) (f.entries (length front) p g) in
-    never (Less-from_Rising text_order pairs index p (key, value) more x.rises (rw n a) (entry_is bytes count places pairs x index (key, value) l r))
+    let a = entry_is bytes count offsets pairs x (length front) p (omega (arith, n, l)) (f.entries (length front) p g) in
+    never (Less-from_Rising text_order pairs index p (key, value) more x.rises (rw n a) (entry_is bytes count offsets pairs x index (key, value) l r))
 
-pub falls : (bytes : List ℕ) (count index : ℕ) (last : Option (Bor (List ℕ))) (key value : List ℕ) (b : Bool) (old new : Count) → HasPlaces bytes count → index < count → Followed bytes count last index old new → IsEntry bytes count index (key, value) → IfNone last (IsTrue b) → IfSome last (λ l. b ≡ is_lt (text_order l.now key)) → b ≡ false → NoIndex bytes
-falls bytes count index None key value b old new places l f r n s e = let h : b ≡ true = n in absurd (cc)
-falls bytes count index (Some last) key value b old new places l f r n s e =
-    falls_there bytes count index last key value old new places l f r (λ is. let h : b ≡ true = s ∙ ap is_lt is in absurd (cc))
+pub falls : (bytes : List ℕ) (count index : ℕ) (last : Option (Bor (List ℕ))) (key value : List ℕ) (b : Bool) (old new : Count) → HasOffsets bytes count → index < count → Followed bytes count last index old new → IsEntry bytes count index (key, value) → IfNone last (IsTrue b) → IfSome last (λ l. b ≡ is_lt (text_order l.now key)) → b ≡ false → NoIndex bytes
+falls bytes count index None key value b old new offsets l f r n s e = let h : b ≡ true = n in absurd (cc)
+falls bytes count index (Some last) key value b old new offsets l f r n s e =
+    falls_there bytes count index last key value old new offsets l f r (λ is. let h : b ≡ true = s ∙ ap is_lt is in absurd (cc))
 
 -- ---- bytes have one index at most
 

@@ -32,15 +32,15 @@ each_push P (z ∷ L) x each h zero y e = each zero y e
 each_push P (z ∷ L) x each h (suc i) y e = each_push (λ j w. P (suc j) w) L x (λ j w f. each (suc j) w f) h i y e
 
 -- so many places are noted, and the bytes from the next one on are the rest
-pub record Noted (entries : List ℕ) (count : ℕ) (places rest : List ℕ) (index : ℕ) : Type 0 where
+pub record Noted (entries : List ℕ) (count : ℕ) (offsets rest : List ℕ) (index : ℕ) : Type 0 where
   pub walked : Walked entries count rest index
-  pub number : length places ≡ index
+  pub number : length offsets ≡ index
   pub before : List (List ℕ × List ℕ)
   pub read : Begins entries (pair_parts before) rest
   pub so_many : length before ≡ index
   pub near : (f : AreFar entries index) → ⊥
-  pub within : (i place : ℕ) → slice_get places i ≡ Some place → place ≤ length entries
-  pub there : (i place : ℕ) → slice_get places i ≡ Some place → Begins (drop place entries) (pair_parts (drop i walked.these.pairs)) walked.these.rest
+  pub within : (i place : ℕ) → slice_get offsets i ≡ Some place → place ≤ length entries
+  pub there : (i place : ℕ) → slice_get offsets i ≡ Some place → Begins (drop place entries) (pair_parts (drop i walked.these.pairs)) walked.these.rest
 
 pub noted_start : (entries : List ℕ) (count : ℕ) → AreEntries entries count → Noted entries count [] entries 0
 noted_start entries count these = record {
@@ -59,11 +59,11 @@ noted_start entries count these = record {
     none (suc i) place e = absurd (cc)
 
 -- how far the rest stands behind the first entry
-pub place_is_front : (entries : List ℕ) (count : ℕ) (places rest : List ℕ) (index place : ℕ) → (n : Noted entries count places rest index) → place + length rest ≡ length entries → length n.read.front ≡ place
-place_is_front entries count places rest index place n e = omega (arith, e, ap length n.read.split, length-append n.read.front rest)
+pub place_is_front : (entries : List ℕ) (count : ℕ) (offsets rest : List ℕ) (index place : ℕ) → (n : Noted entries count offsets rest index) → place + length rest ≡ length entries → length n.read.front ≡ place
+place_is_front entries count offsets rest index place n e = omega (arith, e, ap length n.read.split, length-append n.read.front rest)
 
-pub far_here : (entries : List ℕ) (count : ℕ) (places rest : List ℕ) (index : ℕ) → Noted entries count places rest index → index < count → number_limit + length rest ≤ length entries → AreFar entries count
-far_here entries count places rest index n l h = record {
+pub far_here : (entries : List ℕ) (count : ℕ) (offsets rest : List ℕ) (index : ℕ) → Noted entries count offsets rest index → index < count → number_limit + length rest ≤ length entries → AreFar entries count
+far_here entries count offsets rest index n l h = record {
   before = n.before;
   rest = rest;
   spelled = n.read;
@@ -71,13 +71,13 @@ far_here entries count places rest index n l h = record {
   far = omega (arith, h, ap length n.read.split, length-append n.read.front rest);
 }
 
-pub noted_next : (entries : List ℕ) (count : ℕ) (places rest : List ℕ) (index place : ℕ) (pair : List ℕ × List ℕ) (behind : List ℕ) → (n : Noted entries count places rest index) → index < count → place + length rest ≡ length entries → place < number_limit → Begins rest (pair_parts (pair ∷ [])) behind → Noted entries count (places ++ place ∷ []) behind (index + 1)
-noted_next entries count places rest index place pair behind n within e small b =
-    let f = place_is_front entries count places rest index place n e in
+pub noted_next : (entries : List ℕ) (count : ℕ) (offsets rest : List ℕ) (index place : ℕ) (pair : List ℕ × List ℕ) (behind : List ℕ) → (n : Noted entries count offsets rest index) → index < count → place + length rest ≡ length entries → place < number_limit → Begins rest (pair_parts (pair ∷ [])) behind → Noted entries count (offsets ++ place ∷ []) behind (index + 1)
+noted_next entries count offsets rest index place pair behind n within e small b =
+    let f = place_is_front entries count offsets rest index place n e in
     let d : drop place entries ≡ rest = ap (λ c. drop place c) n.read.split ∙ drop_at n.read.front rest place f in
     record {
       walked = walked_next n.walked within pair behind b;
-      number = omega (arith, n.number, length-append places (place ∷ []));
+      number = omega (arith, n.number, length-append offsets (place ∷ []));
       before = n.before ++ pair ∷ [];
       read = begins_pairs entries rest behind n.before (pair ∷ []) n.read b;
       so_many = omega (arith, n.so_many, length-append n.before (pair ∷ []));
@@ -85,9 +85,9 @@ noted_next entries count places rest index place pair behind n within e small b 
           (λ h. n.near (record { before = g.before; rest = g.rest; spelled = g.spelled; due = h; far = g.far }))
           (λ h. let u = begins_unique entries (agree_pairs g.before n.before (omega (arith, h, g.due, n.so_many))) g.spelled n.read in omega (arith, g.far, small, f, ap length u.0))
           (cases_lt (length g.before) index);
-      within = each_push (λ i p. p ≤ length entries) places place n.within (omega (arith, e));
+      within = each_push (λ i p. p ≤ length entries) offsets place n.within (omega (arith, e));
       there =
-          each_push (λ i p. Begins (drop p entries) (pair_parts (drop i n.walked.these.pairs)) n.walked.these.rest) places place n.there
+          each_push (λ i p. Begins (drop p entries) (pair_parts (drop i n.walked.these.pairs)) n.walked.these.rest) offsets place n.there
           (rw n.number (rw d n.walked.here));
     }
 
@@ -101,8 +101,8 @@ pub too_far_weaker : {P Q : Type 0} (fault : NameIndexFault) → (P → Q) → I
 too_far_weaker NoRoom h p = tt
 too_far_weaker TooFar h p = h p
 
-pub placed_end : (entries : List ℕ) (count : ℕ) (places rest : List ℕ) (index : ℕ) → Noted entries count places rest index → index ≡ count → ArePlaced entries places
-placed_end entries count places rest index n e =
+pub placed_end : (entries : List ℕ) (count : ℕ) (offsets rest : List ℕ) (index : ℕ) → Noted entries count offsets rest index → index ≡ count → ArePlaced entries offsets
+placed_end entries count offsets rest index n e =
     record {
       these = record { pairs = n.walked.these.pairs; rest = n.walked.these.rest; spelled = n.walked.these.spelled; count_is = omega (arith, n.walked.these.count_is, n.number, e); rises = n.walked.these.rises };
       within = n.within;
@@ -115,56 +115,56 @@ placed_end entries count places rest index n e =
 pub tail_is : (l : List ℕ) (n : ℕ) → take (length l - n) (drop n l) ≡ drop n l
 tail_is l n = ap (λ k. take k (drop n l)) (sym (length-drop n l)) ∙ take-length (drop n l)
 
-module _ (entries places : List ℕ) (index : ℕ) (d : ℕ) (placed : ArePlaced entries places) (l : index < length places) where
-  pub place_is : slice_get places index ≡ Some (get_or places index d)
-  place_is = slice_get-get_or places index d l
+module _ (entries offsets : List ℕ) (index : ℕ) (d : ℕ) (placed : ArePlaced entries offsets) (l : index < length offsets) where
+  pub place_is : slice_get offsets index ≡ Some (get_or offsets index d)
+  place_is = slice_get-get_or offsets index d l
 
-  pub place_within : get_or places index d ≤ length entries
-  place_within = placed.within index (get_or places index d) place_is
+  pub place_within : get_or offsets index d ≤ length entries
+  place_within = placed.within index (get_or offsets index d) place_is
 
-  abbrev pub walked_at : Walked entries (length places) (drop (get_or places index d) entries) index
-  walked_at = record { these = placed.these; here = placed.there index (get_or places index d) place_is }
+  abbrev pub walked_at : Walked entries (length offsets) (drop (get_or offsets index d) entries) index
+  walked_at = record { these = placed.these; here = placed.there index (get_or offsets index d) place_is }
 
-  pub pair_begins : BeginsPair (drop (get_or places index d) entries)
+  pub pair_begins : BeginsPair (drop (get_or offsets index d) entries)
   pair_begins = walked_begins walked_at l
 
-  pub pair_there : (pair : List ℕ × List ℕ) (behind : List ℕ) → Begins (drop (get_or places index d) entries) (pair_parts (pair ∷ [])) behind → slice_get placed.these.pairs index ≡ Some pair
+  pub pair_there : (pair : List ℕ × List ℕ) (behind : List ℕ) → Begins (drop (get_or offsets index d) entries) (pair_parts (pair ∷ [])) behind → slice_get placed.these.pairs index ≡ Some pair
   pair_there pair behind b = walked_pair walked_at l pair behind b
 
   -- the key alone
-  pub text_begins : BeginsText (drop (get_or places index d) entries)
+  pub text_begins : BeginsText (drop (get_or offsets index d) entries)
   text_begins =
       let f = pair_begins in
-      let c = begins_split (drop (get_or places index d) entries) f.1 (text_parts f.0.0) (text_parts f.0.1) f.2 in
+      let c = begins_split (drop (get_or offsets index d) entries) f.1 (text_parts f.0.0) (text_parts f.0.1) f.2 in
       (f.0.0, c.0, c.1)
 
-  pub key_there : (key behind : List ℕ) → Begins (drop (get_or places index d) entries) (text_parts key) behind → IsKeyAt placed.these.pairs index key
+  pub key_there : (key behind : List ℕ) → Begins (drop (get_or offsets index d) entries) (text_parts key) behind → IsKeyAt placed.these.pairs index key
   key_there key behind b =
       let f = pair_begins in
-      let n = text_next (drop (get_or places index d) entries) f.1 behind key f.0.0 (text_parts f.0.1) f.2 b in
+      let n = text_next (drop (get_or offsets index d) entries) f.1 behind key f.0.0 (text_parts f.0.1) f.2 b in
       let e = pair_there f.0 f.1 f.2 in
       (f.0.1, e ∙ ap (λ k. Some (k, f.0.1)) (sym n.0))
 
 -- ---- what a search knows
 
 -- the pairs at the places
-abbrev pub pairs_at : {entries places : List ℕ} → ArePlaced entries places → List (List ℕ × List ℕ)
+abbrev pub pairs_at : {entries offsets : List ℕ} → ArePlaced entries offsets → List (List ℕ × List ℕ)
 pairs_at placed = placed.these.pairs
 
-pub known_at : {entries places : List ℕ} (key : List ℕ) (placed : ArePlaced entries places) → (length (pairs_at placed) ≡ length places) × Ascends (to_key key) (pairs_at placed)
+pub known_at : {entries offsets : List ℕ} (key : List ℕ) (placed : ArePlaced entries offsets) → (length (pairs_at placed) ≡ length offsets) × Ascends (to_key key) (pairs_at placed)
 known_at key placed = (placed.these.count_is, ascends placed.these.pairs key placed.these.rises)
 
-pub splits_at : {entries places : List ℕ} (key : List ℕ) (r : Result ℕ ℕ) (placed : ArePlaced entries places) → Finds (to_key key) (pairs_at placed) r → Splits text_order (pairs_at placed) key r
+pub splits_at : {entries offsets : List ℕ} (key : List ℕ) (r : Result ℕ ℕ) (placed : ArePlaced entries offsets) → Finds (to_key key) (pairs_at placed) r → Splits text_order (pairs_at placed) key r
 splits_at key r placed f = Splits-from_Finds one_side placed.these.pairs key placed.these.rises r f
 
 -- ---- what is found
 
 -- what holds of placed entries holds of the table
-pub of_indexed : {P : List (List ℕ × List ℕ) → Type 0} (bytes entries items places : List ℕ) → IsIndexed bytes entries items → places ≡ items → AsPlaced entries places P → OfTable bytes P
-of_indexed bytes entries items places x e h =
+pub of_indexed : {P : List (List ℕ × List ℕ) → Type 0} (bytes entries items offsets : List ℕ) → IsIndexed bytes entries items → offsets ≡ items → AsPlaced entries offsets P → OfTable bytes P
+of_indexed bytes entries items offsets x e h =
     let y = rw (sym e) at x in
-    (y.placed.these.pairs, rising_table bytes entries (length places) (record { counted = y.counted; these = y.placed.these }), h y.placed)
+    (y.placed.these.pairs, rising_table bytes entries (length offsets) (record { counted = y.counted; these = y.placed.these }), h y.placed)
 
 -- a count of as many pairs as places
-pub cost_by_pairs : (entries places : List ℕ) (placed : ArePlaced entries places) (old new : Count) → RisesByAtMost (digits (length places)) old new → RisesByAtMost (digits (length placed.these.pairs)) old new
-cost_by_pairs entries places placed old new r = rw placed.these.count_is r
+pub cost_by_pairs : (entries offsets : List ℕ) (placed : ArePlaced entries offsets) (old new : Count) → RisesByAtMost (digits (length offsets)) old new → RisesByAtMost (digits (length placed.these.pairs)) old new
+cost_by_pairs entries offsets placed old new r = rw placed.these.count_is r

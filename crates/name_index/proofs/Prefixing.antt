@@ -98,8 +98,8 @@ same_cut f g [] n e h = h
 same_cut f g (x ∷ L) zero e h = each-weaker (λ y d. sym (e y) ∙ d) (x ∷ L) h
 same_cut f g (x ∷ L) (suc n) e h = (sym (e x) ∙ h.0, same_cut f g L n e h.1)
 
-module _ {entries places : List ℕ} (behind : Bool) (text : List ℕ) (placed : ArePlaced entries places) where
-  pub known_sides : (length (pairs_at placed) ≡ length places) × Ascends (side behind text) (pairs_at placed)
+module _ {entries offsets : List ℕ} (behind : Bool) (text : List ℕ) (placed : ArePlaced entries offsets) where
+  pub known_sides : (length (pairs_at placed) ≡ length offsets) × Ascends (side behind text) (pairs_at placed)
   known_sides = (placed.these.count_is, Ascends-by_query (side_one behind) placed.these.pairs text placed.these.rises)
 
   pub cut_sides : (n : ℕ) → Finds (side behind text) (pairs_at placed) (Err n) → IsCut (λ p. leads_to behind text p.0) placed.these.pairs n

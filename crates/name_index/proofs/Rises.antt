@@ -98,8 +98,8 @@ checked_next s t u last key value old middle new c n a z o =
     }
 
 -- the whole table was read
-pub opened : (bytes entries : List ℕ) (s : Remaining) → IsCounted bytes s → entries ≡ s.rest → AllRise s → IsOpened bytes entries s.left
-opened bytes entries s c e a =
+pub parts : (bytes entries : List ℕ) (s : Remaining) → IsCounted bytes s → entries ≡ s.rest → AllRise s → IsOpened bytes entries s.left
+parts bytes entries s c e a =
     rw e (record {
       counted = c.spelled;
       these = record {

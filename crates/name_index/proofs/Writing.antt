@@ -14,7 +14,7 @@ use Rattle.name_index.specs.Tables.{text_order}
 use Rattle.name_table.specs.Reads.{Text}
 use Rattle.name_table.specs.Remaining.{shown}
 use Rattle.name_table.proofs.ReadAgain.{shown_rise}
-use Rattle.name_index.specs.Writes.{Adds, AddsPairs, ArePlaces, entries_size, pair_size}
+use Rattle.name_index.specs.Writes.{Adds, AddsPairs, AreOffsets, entries_size, pair_size}
 
 -- ---- bytes behind bytes
 
@@ -71,8 +71,8 @@ module _ (pairs : List (List ℕ × List ℕ)) (index : ℕ) (pair : List ℕ ×
   pub size_within : entries_size (take index pairs) + pair_size pair ≤ entries_size pairs
   size_within = omega (arith, size_more, sum_by-take-le pair_size pairs (index + 1))
 
-pub places_next : (old new : List ℕ) (pairs : List (List ℕ × List ℕ)) (index place : ℕ) → ArePlaces old pairs index → place ≡ entries_size (take index pairs) → Adds old new 4 → IsNumberAt new (length old) place → ArePlaces new pairs (index + 1)
-places_next old new pairs index place p e a n = record {
+pub offsets_next : (old new : List ℕ) (pairs : List (List ℕ × List ℕ)) (index place : ℕ) → AreOffsets old pairs index → place ≡ entries_size (take index pairs) → Adds old new 4 → IsNumberAt new (length old) place → AreOffsets new pairs (index + 1)
+offsets_next old new pairs index place p e a n = record {
   number = number_kept old new 4 0 (length pairs) a p.number;
   size = omega (arith, adds_length old new 4 a, p.size);
   noted = λ i l. elim (eq-or-lt_of_le {n = i} {m = index} (omega (arith, l))) [
@@ -101,7 +101,7 @@ pairs_next old middle new pairs index pair p e a here =
 
 -- ---- the whole
 
-pub index_written : (old new : List ℕ) (pairs : List (List ℕ × List ℕ)) → ArePlaces old pairs (length pairs) → AddsPairs old new pairs (length pairs) → Rising text_order pairs → IsIndex new pairs
+pub index_written : (old new : List ℕ) (pairs : List (List ℕ × List ℕ)) → AreOffsets old pairs (length pairs) → AddsPairs old new pairs (length pairs) → Rising text_order pairs → IsIndex new pairs
 index_written old new pairs p a rises = record {
   number = number_kept old new (entries_size (take (length pairs) pairs)) 0 (length pairs) a.adds p.number;
   entries = λ i pair e.
@@ -146,7 +146,7 @@ all_small pairs index place i e h =
     let a : take index (map shown pairs) ≡ map shown pairs = take_all index (map shown pairs) (omega (arith, i, length-map pairs shown)) in
     omega (arith, h, e, ap entries_size a)
 
-pub shown_written : (old new : List ℕ) (pairs : List (Text × Text)) → ArePlaces old (map shown pairs) (length pairs) → AddsPairs old new (map shown pairs) (length pairs) → Rising by_bytes pairs → IsIndex new (map shown pairs)
+pub shown_written : (old new : List ℕ) (pairs : List (Text × Text)) → AreOffsets old (map shown pairs) (length pairs) → AddsPairs old new (map shown pairs) (length pairs) → Rising by_bytes pairs → IsIndex new (map shown pairs)
 shown_written old new pairs p a rises =
     let e : length pairs ≡ length (map shown pairs) = sym (length-map pairs shown) in
     index_written old new (map shown pairs) (rw (← e) p) (rw (← e) a) (shown_rise pairs rises)

@@ -50,7 +50,7 @@ NoIndex bytes = IfIndex bytes (λ _. ⊥)
 -- ---- what the steps of a look-up find
 
 -- the bytes begin with the number of entries, and have room for so many places
-pub record HasPlaces (bytes : List ℕ) (count : ℕ) : Type 0 where
+pub record HasOffsets (bytes : List ℕ) (count : ℕ) : Type 0 where
   pub number : IsNumberAt bytes 0 count
   pub fits : 4 + 4 * count ≤ length bytes
 

@@ -26,4 +26,4 @@ OfTable bytes P = (pairs : List (List ℕ × List ℕ)) × IsRisingTable bytes p
 -- bytes that are a table of a map's pairs, as those that are written for it, begin with a table of these pairs, whose keys rise
 abbrev pub WrittenIsOpened : Type 0
 WrittenIsOpened = (bytes : List ℕ) (pairs : List (Text × Text)) → Rising by_bytes pairs → IsTable bytes (map shown pairs)
-    → OfTable bytes (λ opened. opened ≡ map shown pairs)
+    → OfTable bytes (λ parts. parts ≡ map shown pairs)

@@ -28,7 +28,7 @@ pub record Adds (old new : List ℕ) (size : ℕ) : Type 0 where
   pub size_is : length more ≡ size
 
 -- the number of the pairs is written, and the places of the first ones
-pub record ArePlaces (bytes : List ℕ) (pairs : List (List ℕ × List ℕ)) (index : ℕ) : Type 0 where
+pub record AreOffsets (bytes : List ℕ) (pairs : List (List ℕ × List ℕ)) (index : ℕ) : Type 0 where
   pub number : IsNumberAt bytes 0 (length pairs)
   pub size : length bytes ≡ 4 + 4 * index
   pub noted : (i : ℕ) → i < index → IsNumberAt bytes (4 + 4 * i) (entries_size (take i pairs))

@@ -57,7 +57,7 @@ impl<'a> IndexedNames<'a> {
         ensures cost { OnOk result (OfIndex bytes.now (λ pairs. RisesByAtMost (length pairs - 1) count.old count.new)) }
     {
         let names = IndexedNames::open(bytes)?;
-        let (bytes, size) = names.opened();
+        let (bytes, size) = names.parts();
         follow(bytes, size, count)?;
         Ok(CheckedNames { names })
     }

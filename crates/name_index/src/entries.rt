@@ -6,7 +6,7 @@ ghost use Rattle.name_index.specs.Entries.{AreEntries, IsScanned, OfEntries};
 ghost use Rattle.name_index.specs.Tables.{text_order};
 ghost use Rattle.name_table.specs.Remaining.{shown};
 
-use crate::known::known_pair;
+use crate::valid::read_valid_pair;
 use litemap_store::store::Count;
 use std::cmp::Ordering;
 
@@ -23,7 +23,7 @@ pub fn scan<'a>(
 {
     let mut rest = entries;
     for index in 0..size {
-        let ((name, value), behind) = known_pair(rest);
+        let ((name, value), behind) = read_valid_pair(rest);
         match count.cmp(&name, &key) {
             Ordering::Less => rest = behind,
             Ordering::Equal => return Ok((index, value)),
@@ -41,9 +41,9 @@ pub fn entry_at<'a>(entries: &'a [u8], count: usize, index: usize) -> (&'a str, 
 {
     let mut rest = entries;
     for _ in 0..index {
-        let (_, behind) = known_pair(rest);
+        let (_, behind) = read_valid_pair(rest);
         rest = behind;
     }
-    let (pair, _) = known_pair(rest);
+    let (pair, _) = read_valid_pair(rest);
     pair
 }

@@ -1,4 +1,4 @@
-//! A name table with the place of each entry.
+//! A name table with the offset of each entry.
 ghost use Rattle.std.specs.Prelude.{◌≡◌, ◌==◌, ◌*◌, ◌<◌, IfErr, IfOk, OnErr, OnOk, Some, filter, length, map, slice_get, slice_range};
 ghost use Rattle.std.specs.Option.{option_copied, option_map};
 ghost use Rattle.litemap_store.specs.Counts.{RisesByAtMost};
@@ -12,8 +12,8 @@ ghost use Rattle.name_table.specs.Remaining.{shown};
 use crate::fault::NameIndexFault;
 use crate::maps::map_of;
 use crate::name_entries::NameEntries;
-use crate::places::{entries_between, pair_of, places_of, search};
-use crate::prefixes::edge;
+use crate::offsets::{entries_between, offsets_of, pair_of, search};
+use crate::prefixes::partition_point;
 use crate::table::NameTable;
 use litemap_store::store::Count;
 use name_table::NameMap;
@@ -21,14 +21,14 @@ use std::alloc::{AllocError, Global};
 use std::marker::Model;
 use std::ops::Range;
 
-/// A name table whose keys rise, with the place of each entry: four bytes for each.
+/// A name table whose keys rise, with the offset of each entry: four bytes for each.
 ///
 /// A contract sees it as the bytes, as it does a `NameTable`.
 #[derive(Drop)]
 pub struct NameIndex<'a> {
     bytes: &'a [u8],
     entries: &'a [u8],
-    places: Vec<u32>,
+    offsets: Vec<u32>,
 }
 
 impl<'a> Model for NameIndex<'a> {
@@ -39,7 +39,7 @@ impl<'a> Model for NameIndex<'a> {
 
     ghost view = { λ t. t.bytes.now };
 
-    ghost invariant = { λ t. IsIndexed t.bytes.now t.entries.now t.places.items };
+    ghost invariant = { λ t. IsIndexed t.bytes.now t.entries.now t.offsets.items };
 }
 
 impl<'a> NameIndex<'a> {
@@ -53,12 +53,12 @@ impl<'a> NameIndex<'a> {
         ensures too_far { IfErr result (λ fault. IfTooFar fault (IsFar table.now)) }
         ensures near { OnOk result (IsFar table.now → ⊥) }
     {
-        let (bytes, entries, count) = table.opened();
-        let places = places_of(alloc, entries, count)?;
+        let (bytes, entries, count) = table.parts();
+        let offsets = offsets_of(alloc, entries, count)?;
         Ok(NameIndex {
             bytes,
             entries,
-            places,
+            offsets,
         })
     }
 
@@ -66,7 +66,7 @@ impl<'a> NameIndex<'a> {
     pub fn len(&self) -> usize
         ensures { OfTable self.now (λ pairs. result ≡ length pairs) }
     {
-        self.places.len()
+        self.offsets.len()
     }
 
     /// Whether there is no entry.
@@ -88,9 +88,9 @@ impl<'a> NameIndex<'a> {
         ensures value { OfTable self.now (λ pairs. option_copied result ≡ value_at text_order pairs key.now) }
         ensures cost { OfTable self.now (λ pairs. RisesByAtMost (digits (length pairs)) count.old count.new) }
     {
-        let places = self.places.as_slice();
-        match search(self.entries, places, key, count) {
-            Ok(index) => Some(pair_of(self.entries, places, index).1),
+        let offsets = self.offsets.as_slice();
+        match search(self.entries, offsets, key, count) {
+            Ok(index) => Some(pair_of(self.entries, offsets, index).1),
             Err(_) => None,
         }
     }
@@ -107,17 +107,17 @@ impl<'a> NameIndex<'a> {
         ensures place { OfTable self.now (λ pairs. result ≡ index_of text_order pairs key.now) }
         ensures cost { OfTable self.now (λ pairs. RisesByAtMost (digits (length pairs)) count.old count.new) }
     {
-        search(self.entries, self.places.as_slice(), key, count)
+        search(self.entries, self.offsets.as_slice(), key, count)
     }
 
     /// The entry at a place, `None` from the length on. No other entry is read.
     pub fn get_indexed(&self, index: usize) -> Option<(&'a str, &'a str)>
         ensures { OfTable self.now (λ pairs. option_map shown result ≡ slice_get pairs index) }
     {
-        if index >= self.places.len() {
+        if index >= self.offsets.len() {
             return None;
         }
-        Some(pair_of(self.entries, self.places.as_slice(), index))
+        Some(pair_of(self.entries, self.offsets.as_slice(), index))
     }
 
     /// The places of the names that begin with a text. They start behind all names that are below the text, and where no name
@@ -139,9 +139,9 @@ impl<'a> NameIndex<'a> {
             ≡ Some (filter (λ p. begins p.0 prefix.now) pairs)) }
         ensures cost { OfTable self.now (λ pairs. RisesByAtMost (2 * digits (length pairs)) count.old count.new) }
     {
-        let places = self.places.as_slice();
-        let start = edge(self.entries, places, prefix, false, count);
-        let end = edge(self.entries, places, prefix, true, count);
+        let offsets = self.offsets.as_slice();
+        let start = partition_point(self.entries, offsets, prefix, false, count);
+        let end = partition_point(self.entries, offsets, prefix, true, count);
         start..end
     }
 
@@ -150,10 +150,10 @@ impl<'a> NameIndex<'a> {
     pub fn entries_in(&self, range: Range<usize>) -> NameEntries<'a>
         ensures { OfTable self.now (λ pairs. result ≡ slice_range pairs range.start range.end) }
     {
-        let places = self.places.as_slice();
-        let end = range.end.min(places.len());
+        let offsets = self.offsets.as_slice();
+        let end = range.end.min(offsets.len());
         if range.start < end {
-            entries_between(self.entries, places, range.start, end)
+            entries_between(self.entries, offsets, range.start, end)
         } else {
             NameEntries::new(self.entries, 0)
         }
@@ -174,7 +174,7 @@ impl<'a> NameIndex<'a> {
     pub fn iter(&self) -> NameEntries<'a>
         ensures { OfTable self.now (λ pairs. result ≡ pairs) }
     {
-        NameEntries::new(self.entries, self.places.len())
+        NameEntries::new(self.entries, self.offsets.len())
     }
 }
 

@@ -1,6 +1,6 @@
 //! Numbers, texts and entries at places of an index.
 ghost use Rattle.std.specs.Prelude.{◌+◌, ◌<◌, ◌^◌, IfErr, IfOk, length};
-ghost use Rattle.name_index.specs.Index.{BeginsAt, HasKey, HasPlaces, IsEntry, IsNumberAt, IsPairAt, IsTextAt, NoEntry};
+ghost use Rattle.name_index.specs.Index.{BeginsAt, HasKey, HasOffsets, IsEntry, IsNumberAt, IsPairAt, IsTextAt, NoEntry};
 ghost use Rattle.name_table.specs.Remaining.{shown};
 
 use crate::fault::IndexFault;
@@ -50,8 +50,8 @@ fn pair_at(bytes: &[u8], at: usize) -> Result<(&str, &str), IndexFault>
 }
 
 // Where an entry begins.
-fn place_of(bytes: &[u8], count: usize, index: usize) -> Result<usize, IndexFault>
-    requires places { HasPlaces bytes.now count }
+fn offset_of(bytes: &[u8], count: usize, index: usize) -> Result<usize, IndexFault>
+    requires offsets { HasOffsets bytes.now count }
     requires within { index < count }
     ensures place { IfOk result (λ at. BeginsAt bytes.now count index at) }
     ensures fault { IfErr result (λ _. NoEntry bytes.now count index) }
@@ -62,24 +62,24 @@ fn place_of(bytes: &[u8], count: usize, index: usize) -> Result<usize, IndexFaul
 
 /// The entry of an index.
 pub fn entry_at(bytes: &[u8], count: usize, index: usize) -> Result<(&str, &str), IndexFault>
-    requires places { HasPlaces bytes.now count }
+    requires offsets { HasOffsets bytes.now count }
     requires within { index < count }
     ensures entry { IfOk result (λ pair. IsEntry bytes.now count index (shown pair)) }
     ensures fault { IfErr result (λ _. NoEntry bytes.now count index) }
 {
-    let at = place_of(bytes, count, index)?;
+    let at = offset_of(bytes, count, index)?;
     let pair = pair_at(bytes, at)?;
     Ok(pair)
 }
 
 /// Its key alone.
 pub fn key_at(bytes: &[u8], count: usize, index: usize) -> Result<&str, IndexFault>
-    requires places { HasPlaces bytes.now count }
+    requires offsets { HasOffsets bytes.now count }
     requires within { index < count }
     ensures key { IfOk result (λ key. HasKey bytes.now count index key.now) }
     ensures fault { IfErr result (λ _. NoEntry bytes.now count index) }
 {
-    let at = place_of(bytes, count, index)?;
+    let at = offset_of(bytes, count, index)?;
     let key = text_at(bytes, at)?;
     Ok(key)
 }

@@ -5,7 +5,7 @@ ghost use Rattle.litemap_store.specs.Pairs.{Rising};
 ghost use Rattle.name_index.specs.Index.{IsIndex, IsNumberAt, IsPairAt, IsTextAt};
 ghost use Rattle.name_table.specs.Numbers.{number_limit};
 ghost use Rattle.name_table.specs.Remaining.{shown};
-ghost use Rattle.name_index.specs.Writes.{Adds, AddsPairs, ArePlaces, entries_size, index_size, pair_size};
+ghost use Rattle.name_index.specs.Writes.{Adds, AddsPairs, AreOffsets, entries_size, index_size, pair_size};
 ghost use Rattle.name_table.specs.Writes.{IfTooLarge};
 ghost use Rattle.name_table.specs.declared.fault.NameWriteFault.TheVariants.{TooLarge};
 
@@ -32,23 +32,23 @@ pub fn write_index_of(alloc: Global, names: &[(&str, &str)]) -> Result<Vec<u8>, 
     ensures too_large { IfErr result (λ fault. IfTooLarge fault (number_limit ≤ entries_size (map shown names.now))) }
     ensures small { OnOk result (entries_size (map shown names.now) < number_limit) }
 {
-    let mut bytes = put_places(alloc, names)?;
+    let mut bytes = put_offsets(alloc, names)?;
     put_entries(&mut bytes, names)?;
     Ok(bytes)
 }
 
-// Writes the number of pairs, and the place of each.
-fn put_places(alloc: Global, pairs: &[(&str, &str)]) -> Result<Vec<u8>, NameWriteFault>
-    ensures places { IfOk result (λ bytes. ArePlaces bytes.items (map shown pairs.now) (length pairs.now)) }
+// Writes the number of pairs, and the offset of each.
+fn put_offsets(alloc: Global, pairs: &[(&str, &str)]) -> Result<Vec<u8>, NameWriteFault>
+    ensures offsets { IfOk result (λ bytes. AreOffsets bytes.items (map shown pairs.now) (length pairs.now)) }
     ensures too_large { IfErr result (λ fault. IfTooLarge fault (number_limit ≤ entries_size (map shown pairs.now))) }
     ensures small { OnOk result (entries_size (map shown pairs.now) < number_limit) }
 {
     let mut bytes = Vec::new(alloc);
     put_number(&mut bytes, pairs.len())?;
-    let mut place = 0;
+    let mut offset = 0;
     for pair in pairs {
-        put_number(&mut bytes, place)?;
-        place = behind(place, pair.0, pair.1)?;
+        put_number(&mut bytes, offset)?;
+        offset = behind(offset, pair.0, pair.1)?;
     }
     Ok(bytes)
 }
@@ -64,17 +64,17 @@ fn put_entries(bytes: &mut Vec<u8>, pairs: &[(&str, &str)]) -> Result<(), NameWr
     Ok(())
 }
 
-// The place behind a pair, where it is one that can be noted.
-fn behind(place: usize, key: &str, value: &str) -> Result<usize, NameWriteFault>
-    requires { place < number_limit }
-    ensures next { IfOk result (λ next. next ≡ place + pair_size (key.now, value.now)) }
+// The offset behind a pair, where four bytes can note it.
+fn behind(offset: usize, key: &str, value: &str) -> Result<usize, NameWriteFault>
+    requires { offset < number_limit }
+    ensures next { IfOk result (λ next. next ≡ offset + pair_size (key.now, value.now)) }
     ensures small { IfOk result (λ next. next < number_limit) }
-    ensures too_large { IfErr result (λ fault. (fault ≡ TooLarge) × (number_limit ≤ place + pair_size (key.now, value.now))) }
+    ensures too_large { IfErr result (λ fault. (fault ≡ TooLarge) × (number_limit ≤ offset + pair_size (key.now, value.now))) }
 {
     if key.len() >= 4_294_967_296 || value.len() >= 4_294_967_296 {
         return Err(NameWriteFault::TooLarge);
     }
-    let next = place + 8 + key.len() + value.len();
+    let next = offset + 8 + key.len() + value.len();
     if next < 4_294_967_296 {
         Ok(next)
     } else {

@@ -1,10 +1,10 @@
-//! Names looked up by the places that stand in front of them in the bytes.
+//! Names looked up by the offsets that stand in front of them in the bytes.
 ghost use Rattle.std.specs.Prelude.{◌≡◌, ◌==◌, IfErr, IfOk, length, slice_get};
 ghost use Rattle.std.specs.Option.{option_copied, option_map};
 ghost use Rattle.litemap_store.specs.Counts.{RisesByAtMost};
 ghost use Rattle.litemap_store.specs.Digits.{digits};
 ghost use Rattle.litemap_store.specs.Pairs.{index_of, value_at};
-ghost use Rattle.name_index.specs.Index.{HasPlaces, IfIndex, NoIndex};
+ghost use Rattle.name_index.specs.Index.{HasOffsets, IfIndex, NoIndex};
 ghost use Rattle.name_index.specs.Tables.{text_order};
 ghost use Rattle.name_table.specs.Remaining.{shown};
 
@@ -28,17 +28,17 @@ pub struct IndexedNames<'a> {
 
 impl<'a> Model for IndexedNames<'a> {
     ghost use Rattle.std.specs.Prelude.{ℕ, List};
-    ghost use Rattle.name_index.specs.Index.{HasPlaces};
+    ghost use Rattle.name_index.specs.Index.{HasOffsets};
 
     ghost Value = { List ℕ };
 
     ghost view = { λ t. t.bytes.now };
 
-    ghost invariant = { λ t. HasPlaces t.bytes.now t.size };
+    ghost invariant = { λ t. HasOffsets t.bytes.now t.size };
 }
 
 impl<'a> IndexedNames<'a> {
-    /// The index that the bytes are. Only the number of entries is read, and whether the bytes have room for their places.
+    /// The index that the bytes are. Only the number of entries is read, and whether the bytes have room for their offsets.
     pub fn open(bytes: &'a [u8]) -> Result<Self, IndexFault>
         ensures bytes { IfOk result (λ names. names ≡ bytes.now) }
         ensures fault { IfErr result (λ _. NoIndex bytes.now) }
@@ -52,8 +52,8 @@ impl<'a> IndexedNames<'a> {
     }
 
     // The bytes, and the number of entries.
-    pub(crate) fn opened(&self) -> (&'a [u8], usize)
-        ensures places { HasPlaces result.0.now result.1 }
+    pub(crate) fn parts(&self) -> (&'a [u8], usize)
+        ensures offsets { HasOffsets result.0.now result.1 }
         ensures bytes { result.0.now ≡ self.now }
     {
         (self.bytes, self.size)

@@ -3,7 +3,7 @@ ghost use Rattle.std.specs.Prelude.{◌-◌, ◌<◌, IfErr, IfOk, OnOk, ⊤};
 ghost use Rattle.litemap_store.specs.Counts.{RisesByAtMost};
 ghost use Rattle.litemap_store.specs.Digits.{digits};
 ghost use Rattle.litemap_store.specs.Splits.{Splits};
-ghost use Rattle.name_index.specs.Index.{HasPlaces, IfIndex, NoIndex, OfIndex};
+ghost use Rattle.name_index.specs.Index.{HasOffsets, IfIndex, NoIndex, OfIndex};
 ghost use Rattle.name_index.specs.Tables.{text_order};
 
 use crate::fault::IndexFault;
@@ -19,7 +19,7 @@ pub fn find(
     key: &str,
     count: &mut Count,
 ) -> Result<Result<usize, usize>, IndexFault>
-    requires { HasPlaces bytes.now size }
+    requires { HasOffsets bytes.now size }
     ensures splits { IfOk result (λ found. IfIndex bytes.now (λ pairs. Splits text_order pairs key.now found)) }
     ensures within { IfOk result (λ found. IfOk found (λ index. index < size)) }
     ensures fault { IfErr result (λ _. NoIndex bytes.now) }
@@ -41,7 +41,7 @@ pub fn find(
 
 /// Reads all entries. The fault is that of the first one that can't be read, or whose key doesn't rise.
 pub fn follow(bytes: &[u8], size: usize, count: &mut Count) -> Result<(), IndexFault>
-    requires { HasPlaces bytes.now size }
+    requires { HasOffsets bytes.now size }
     ensures ok { OnOk result (OfIndex bytes.now (λ _. ⊤)) }
     ensures fault { IfErr result (λ _. NoIndex bytes.now) }
     ensures cost { RisesByAtMost (size - 1) count.old count.new }

@@ -1,5 +1,5 @@
 //! Name tables looked up in their bytes, with no map made: `NameTable` scans them and takes no memory, and `NameIndex` keeps
-//! the place of each entry. `IndexedNames` and `CheckedNames` are bytes with the places in front, which `write_index` writes.
+//! the offset of each entry. `IndexedNames` and `CheckedNames` are bytes with the offsets in front, which `write_index` writes.
 //! `docs/NAME_TABLES.md` says when to use which.
 #![tactic(auto)]
 
@@ -11,14 +11,14 @@ mod index_bytes;
 mod index_write;
 mod indexed;
 mod indexed_search;
-mod known;
 pub mod laws;
 mod maps;
 mod name_entries;
-mod places;
+mod offsets;
 mod prefixes;
 mod rising;
 mod table;
+mod valid;
 
 pub use checked::CheckedNames;
 pub use fault::{IndexFault, NameIndexFault, NameTableFault};

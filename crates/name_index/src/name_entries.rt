@@ -7,7 +7,7 @@ ghost use Rattle.name_index.specs.Entries.{AreEntries, OfEntries};
 ghost use Rattle.name_index.specs.Left.{Left, Left-prop};
 ghost use Rattle.name_table.specs.Remaining.{shown};
 
-use crate::known::known_pair;
+use crate::valid::read_valid_pair;
 use std::iter::FusedIterator;
 use std::marker::Model;
 
@@ -54,7 +54,7 @@ impl<'a> Iterator for NameEntries<'a> {
         if self.count == 0 {
             return None;
         }
-        let (pair, behind) = known_pair(self.rest);
+        let (pair, behind) = read_valid_pair(self.rest);
         self.rest = behind;
         self.count -= 1;
         Some(pair)

@@ -6,20 +6,26 @@ ghost use Rattle.litemap_store.specs.Digits.{digits};
 ghost use Rattle.name_index.specs.Placed.{ArePlaced, AsPlaced};
 ghost use Rattle.name_index.specs.Prefixes.{leads_to};
 
-use crate::places::key_of;
+use crate::offsets::key_of;
 use litemap_store::store::Count;
 
 /// How many names lie before those that begin with the text, these counted too where `behind` is true.
-pub fn edge(entries: &[u8], places: &[u32], text: &str, behind: bool, count: &mut Count) -> usize
-    requires { ArePlaced entries.now places.now }
-    ensures cut { AsPlaced entries.now places.now (λ pairs. IsCut (λ p. leads_to behind text.now p.0) pairs result) }
-    ensures cost { RisesByAtMost (digits (length places.now)) count.old count.new }
+pub fn partition_point(
+    entries: &[u8],
+    offsets: &[u32],
+    text: &str,
+    behind: bool,
+    count: &mut Count,
+) -> usize
+    requires { ArePlaced entries.now offsets.now }
+    ensures cut { AsPlaced entries.now offsets.now (λ pairs. IsCut (λ p. leads_to behind text.now p.0) pairs result) }
+    ensures cost { RisesByAtMost (digits (length offsets.now)) count.old count.new }
 {
     let mut low = 0;
-    let mut high = places.len();
+    let mut high = offsets.len();
     while low < high {
         let middle = low + (high - low) / 2;
-        if is_led(key_of(entries, places, middle), text, behind, count) {
+        if is_led(key_of(entries, offsets, middle), text, behind, count) {
             low = middle + 1;
         } else {
             high = middle;

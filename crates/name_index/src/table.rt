@@ -74,8 +74,8 @@ impl<'a> NameTable<'a> {
     }
 
     // The bytes, the entries in them, and how many these are.
-    pub(crate) fn opened(&self) -> (&'a [u8], &'a [u8], usize)
-        ensures opened { IsOpened result.0.now result.1.now result.2 }
+    pub(crate) fn parts(&self) -> (&'a [u8], &'a [u8], usize)
+        ensures parts { IsOpened result.0.now result.1.now result.2 }
         ensures bytes { result.0.now ≡ self.now }
     {
         (self.bytes, self.entries, self.count)

@@ -5,7 +5,7 @@ ghost use Rattle.litemap_store.specs.Merge.{IsLeft, IsUndone, Merge, left};
 ghost use Rattle.litemap_store.specs.Pairs.{Rising};
 ghost use Rattle.litemap_store.specs.Walked.{IsLowerFirst, IsTakenFirst};
 
-use crate::extend_store::coming::Coming;
+use crate::extend_store::peekable::Peekable;
 use crate::extend_store::unless_empty;
 use crate::into_iter::PairIntoIter;
 use crate::reserved::push_reserved;
@@ -39,8 +39,8 @@ pub fn merge_side_by_side<K: Ord + Drop, V: Drop, S: StoreIntoIterator<K, V> + D
     let Ok(mut rest) = S::lm_with_capacity(alloc, other.lm_len()) else {
         return Err(NoRoom { back: other });
     };
-    let olds = Coming::new(mem::replace(store, fresh).lm_into_iter());
-    let news = Coming::new(other.lm_into_iter());
+    let olds = Peekable::new(mem::replace(store, fresh).lm_into_iter());
+    let news = Peekable::new(other.lm_into_iter());
     put_both(store, &mut rest, olds, news, count);
     Ok(unless_empty(rest))
 }
@@ -49,8 +49,8 @@ pub fn merge_side_by_side<K: Ord + Drop, V: Drop, S: StoreIntoIterator<K, V> + D
 fn put_both<K: Ord + Drop, V: Drop, S: StoreMut<K, V>, I: PairIntoIter<K, V>>(
     store: &mut S,
     rest: &mut S,
-    mut olds: Coming<K, V, I>,
-    mut news: Coming<K, V, I>,
+    mut olds: Peekable<K, V, I>,
+    mut news: Peekable<K, V, I>,
     count: &mut Count,
 )
     requires olds { Rising K.cmp olds }
@@ -71,8 +71,8 @@ fn put_both<K: Ord + Drop, V: Drop, S: StoreMut<K, V>, I: PairIntoIter<K, V>>(
 
 // How the first old key stands to the first new one: where there is no pair it is above all.
 fn lower_first<K: Ord, V, I: PairIntoIter<K, V>>(
-    olds: &Coming<K, V, I>,
-    news: &Coming<K, V, I>,
+    olds: &Peekable<K, V, I>,
+    news: &Peekable<K, V, I>,
     count: &mut Count,
 ) -> Option<Ordering>
     requires olds { Rising K.cmp olds.now }
@@ -81,13 +81,13 @@ fn lower_first<K: Ord, V, I: PairIntoIter<K, V>>(
     ensures cost { RisesByAtMost 1 count.old count.new }
     ensures none { length olds.now + length news.now ≡ 0 → RisesByAtMost 0 count.old count.new }
 {
-    let Some((old, _)) = olds.first() else {
-        let Some(_) = news.first() else {
+    let Some((old, _)) = olds.peek() else {
+        let Some(_) = news.peek() else {
             return None;
         };
         return Some(Ordering::Greater);
     };
-    let Some((new, _)) = news.first() else {
+    let Some((new, _)) = news.peek() else {
         return Some(Ordering::Less);
     };
     Some(count.cmp(old, new))
@@ -96,8 +96,8 @@ fn lower_first<K: Ord, V, I: PairIntoIter<K, V>>(
 // Takes the pair of the lower key; of equal keys the old one with the new value, and the new key with the old value goes into
 // the rest, which has room for it.
 fn take_lower<K: Ord + Drop, V: Drop, S: StoreMut<K, V>, I: PairIntoIter<K, V>>(
-    olds: &mut Coming<K, V, I>,
-    news: &mut Coming<K, V, I>,
+    olds: &mut Peekable<K, V, I>,
+    news: &mut Peekable<K, V, I>,
     rest: &mut S,
     order: Ordering,
 ) -> (K, V)

@@ -15,7 +15,7 @@ loop-key-preserved g c =
       seen = (
         seen ++ pair ∷ [],
         λ rest h. rw append_assoc (before.seen.1 (pair ∷ rest) (next.0 rest h)),
-        Sifted-joins g.K.Ord.cmp seen (pair ∷ []) [] [] c.loop-key.map.pairs c.loop-key.aside.items c.sift.new.map.pairs c.sift.new.aside.items before.seen.2 c.in_ok-sift-in-Ok-Some.ensures,
+        Sifted-joins g.K.Ord.cmp seen (pair ∷ []) [] [] c.loop-key.map.pairs c.loop-key.aside.items c.append_or_defer.new.map.pairs c.append_or_defer.new.aside.items before.seen.2 c.in_ok-append_or_defer-in-Ok-Some.ensures,
       );
       faults = λ e. ((λ h. (before.faults e).0 ((step.keeps_faults e).0 h)), (λ h. (step.keeps_faults e).1 ((before.faults e).1 h)));
       end = ((λ h. before.end.0 (step.keeps_end.0 h)), (λ h. step.keeps_end.1 (before.end.1 h)));
@@ -23,8 +23,8 @@ loop-key-preserved g c =
     }
 
 -- the pair that found no room stood before what is left
-pub returns-in_err-sift-in-Ok-Some-clause-asked : goal.returns-in_err-sift-in-Ok-Some-clause-asked
-returns-in_err-sift-in-Ok-Some-clause-asked g c =
+pub returns-in_err-append_or_defer-in-Ok-Some-clause-asked : goal.returns-in_err-append_or_defer-in-Ok-Some-clause-asked
+returns-in_err-append_or_defer-in-Ok-Some-clause-asked g c =
     let before = c.loop-key.invariant in
     let pair : g.row.K.Denot × g.row.V.Denot = (c.in-Ok-Some.key, c.in-Ok-Some.value) in
     let next = rw c.in-Ok-Some.field-0-is at c.in-Ok-Some.ensures.next in
@@ -32,7 +32,7 @@ returns-in_err-sift-in-Ok-Some-clause-asked g c =
       ends = search rules;
       empty = search rules;
       fault = search rules;
-      rest = always_on_err c.from_residual-in_err-sift-in-Ok-Some.result
+      rest = always_on_err c.from_residual-in_err-append_or_defer-in-Ok-Some.result
           (before.seen.0 ++ pair ∷ [], λ rest h. rw append_assoc (before.seen.1 (pair ∷ rest) (next.0 rest h)));
       leads = search rules;
     }

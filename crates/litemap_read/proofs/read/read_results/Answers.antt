@@ -12,7 +12,7 @@ loop-item-preserved g c =
     let pair : g.row.K.Denot × g.row.V.Denot = (c.in-Ok.key, c.in-Ok.value) in (
       seen ++ pair ∷ [],
       ap (λ xs. xs ++ c.in-Some.item ∷ []) before.1 ∙ ap (λ r. map (λ p. Ok p) seen ++ r ∷ []) c.in-Ok.is ∙ sym (map-append (λ p. Ok p) seen (pair ∷ [])),
-      Sifted-joins g.K.Ord.cmp seen (pair ∷ []) [] [] c.loop-item.map.pairs c.loop-item.aside.items c.sift.new.map.pairs c.sift.new.aside.items before.2 c.in_ok-sift-in-Ok.ensures,
+      Sifted-joins g.K.Ord.cmp seen (pair ∷ []) [] [] c.loop-item.map.pairs c.loop-item.aside.items c.append_or_defer.new.map.pairs c.append_or_defer.new.aside.items before.2 c.in_ok-append_or_defer-in-Ok.ensures,
     )
 
 pub returns-clause-read : goal.returns-clause-read

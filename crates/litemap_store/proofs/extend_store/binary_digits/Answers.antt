@@ -1,19 +1,19 @@
-use Rattle.std.proofs.Common.{◌≡◌, ap, ◌∙◌, arith}
+use Rattle.std.proofs.Common.{◌≡◌, ℕ, zero, suc, ◌+◌, ◌/◌, ◌<◌, ◌^◌, arith}
+use Rattle.std.proofs.Math.Nat.{pow-suc}
+use lib.Count.{count_leading_zeros}
 use Rattle.litemap_store.specs.Digits.{digits, digits-step, digits-zero}
 use Rattle.litemap_store.proofs.extend_store.binary_digits.Goals as goal
 
-pub loop-left-preserved : goal.loop-left-preserved
-loop-left-preserved c =
-    let was = c.loop-left.invariant in
-    let some = c.loop-left-test.true in
-    let one = digits-step c.loop-left.left some in
-    let so_far = was.so_far in
-    let fits = was.fits in
-    record { so_far = omega arith; fits = omega arith }
+leading_digits : (k n : ℕ) → n < 2 ^ k → count_leading_zeros k n + digits n ≡ k
+unfolding count_leading_zeros
+leading_digits zero zero h = let none = digits-zero in omega arith
+leading_digits zero (suc n) h = absurd (omega arith)
+leading_digits (suc k) zero h = let none = digits-zero in omega arith
+leading_digits (suc k) (suc n) h =
+    let step = digits-step (suc n) (omega arith) in
+    let double = pow-suc 2 k in
+    let rest = leading_digits k (suc n / 2) (omega arith) in
+    omega arith
 
 pub returns : goal.returns
-returns c =
-    let none : c.loop-left.left ≡ 0 = (let l = c.loop-left-test.false in omega arith) in
-    let zero : digits c.loop-left.left ≡ 0 = ap digits none ∙ digits-zero in
-    let so_far = c.loop-left.invariant.so_far in
-    omega arith
+returns c = let all = leading_digits 64 c.args.number (omega arith) in omega arith

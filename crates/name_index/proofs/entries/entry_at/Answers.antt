@@ -5,16 +5,16 @@ use Rattle.name_index.proofs.entries.entry_at.Goals as goal
 pub loop-init : goal.loop-init
 loop-init c = record { these = c.requires.entries; here = c.requires.entries.spelled }
 
-pub known_pair-requires : goal.known_pair-requires
-known_pair-requires c = walked_begins c.loop.invariant (omega (arith, c.requires.within))
+pub read_valid_pair-requires : goal.read_valid_pair-requires
+read_valid_pair-requires c = walked_begins c.loop.invariant (omega (arith, c.requires.within))
 
 pub loop-preserved : goal.loop-preserved
-loop-preserved c = walked_next c.loop.invariant (omega (arith, c.requires.within)) _ c.known_pair.result.1.now c.known_pair.ensures
+loop-preserved c = walked_next c.loop.invariant (omega (arith, c.requires.within)) _ c.read_valid_pair.result.1.now c.read_valid_pair.ensures
 
-pub known_pair-requires-2 : goal.known_pair-requires-2
-known_pair-requires-2 c = walked_begins c.loop.invariant (omega (arith, c.requires.within))
+pub read_valid_pair-requires-2 : goal.read_valid_pair-requires-2
+read_valid_pair-requires-2 c = walked_begins c.loop.invariant (omega (arith, c.requires.within))
 
 pub returns : goal.returns
 returns c =
     let end : c.loop.counter ≡ c.args.index = omega arith in
-    (c.loop.invariant.these, rw (← end) (walked_pair c.loop.invariant (omega (arith, c.requires.within)) _ c.known_pair-2.result.1.now c.known_pair-2.ensures))
+    (c.loop.invariant.these, rw (← end) (walked_pair c.loop.invariant (omega (arith, c.requires.within)) _ c.read_valid_pair-2.result.1.now c.read_valid_pair-2.ensures))

@@ -7,23 +7,23 @@ use Rattle.name_index.proofs.entries.scan.Goals as goal
 pub loop-index-init : goal.loop-index-init
 loop-index-init c = scanned_start c.args.entries.now c.args.key.now c.args.size _ c.requires
 
-pub known_pair-requires : goal.known_pair-requires
-known_pair-requires c = walked_begins c.loop-index.invariant.walked (omega arith)
+pub read_valid_pair-requires : goal.read_valid_pair-requires
+read_valid_pair-requires c = walked_begins c.loop-index.invariant.walked (omega arith)
 
 pub returns-in-Equal : goal.returns-in-Equal
 returns-in-Equal c =
     let inv = c.loop-index.invariant in
-    let pair = c.known_pair.result.0 in
-    let e = walked_pair inv.walked (omega arith) (pair.0.now, pair.1.now) _ c.known_pair.ensures in
+    let pair = c.read_valid_pair.result.0 in
+    let e = walked_pair inv.walked (omega arith) (pair.0.now, pair.1.now) _ c.read_valid_pair.ensures in
     let s = scanned_found inv.walked.these.pairs c.args.key.now inv.walked.these.rises c.loop-index.index pair.0.now pair.1 e (sym c.cmp.ensures.answer ∙ c.in-Equal.is) in
     (inv.walked.these, (s, in_turn c.loop-index.index 1 _ (omega (arith, s.0.place)) inv.asked (asked_one c.cmp.ensures.same c.cmp.ensures.counted)))
 
 pub returns-in-Greater : goal.returns-in-Greater
 returns-in-Greater c =
     let inv = c.loop-index.invariant in
-    let pair = c.known_pair.result.0 in
+    let pair = c.read_valid_pair.result.0 in
     let pairs = inv.walked.these.pairs in
-    let e = walked_pair inv.walked (omega arith) (pair.0.now, pair.1.now) _ c.known_pair.ensures in
+    let e = walked_pair inv.walked (omega arith) (pair.0.now, pair.1.now) _ c.read_valid_pair.ensures in
     let n = Narrowed-greater (to_key c.args.key.now) pairs (ascends pairs c.args.key.now inv.walked.these.rises) _ _ c.loop-index.index _ _ e inv.narrowed (sym c.cmp.ensures.answer ∙ c.in-Greater.is) in
     let s = scanned_missing pairs c.args.key.now inv.walked.these.rises c.loop-index.index c.loop-index.index (omega arith) (omega (arith, inv.walked.these.count_is)) n in
     (inv.walked.these, (s, in_turn c.loop-index.index 1 _ (omega (arith, s.place)) inv.asked (asked_one c.cmp.ensures.same c.cmp.ensures.counted)))
@@ -31,11 +31,11 @@ returns-in-Greater c =
 pub loop-index-preserved : goal.loop-index-preserved
 loop-index-preserved c =
     let inv = c.loop-index.invariant in
-    let pair = c.known_pair.result.0 in
+    let pair = c.read_valid_pair.result.0 in
     let pairs = inv.walked.these.pairs in
-    let e = walked_pair inv.walked (omega arith) (pair.0.now, pair.1.now) _ c.known_pair.ensures in
+    let e = walked_pair inv.walked (omega arith) (pair.0.now, pair.1.now) _ c.read_valid_pair.ensures in
     record {
-      walked = walked_next inv.walked (omega arith) (pair.0.now, pair.1.now) _ c.known_pair.ensures;
+      walked = walked_next inv.walked (omega arith) (pair.0.now, pair.1.now) _ c.read_valid_pair.ensures;
       narrowed = Narrowed-less (to_key c.args.key.now) pairs (ascends pairs c.args.key.now inv.walked.these.rises) _ _ c.loop-index.index _ _ e inv.narrowed (sym c.cmp.ensures.answer ∙ c.in-Less.is);
       asked = in_turn c.loop-index.index 1 _ (omega arith) inv.asked (asked_one c.cmp.ensures.same c.cmp.ensures.counted);
     }

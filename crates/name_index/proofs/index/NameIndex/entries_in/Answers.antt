@@ -11,15 +11,15 @@ new-requires c = record { pairs = []; rest = c.self.inside.entries.now; spelled 
 pub returns-then-range-end : goal.returns-then-range-end
 returns-then-range-end c =
     rw (← c.self.view_is)
-    (of_indexed _ _ _ _ c.self.invariant c.as_slice-places.ensures.value (λ p.
+    (of_indexed _ _ _ _ c.self.invariant c.as_slice-offsets.ensures.value (λ p.
     let L = p.these.pairs in
-    let e : c.min-end.result ≡ min c.args.range.end (length L) = omega (arith, c.min-end.ensures, c.as_slice-places.ensures.len, p.these.count_is) in
+    let e : c.min-end.result ≡ min c.args.range.end (length L) = omega (arith, c.min-end.ensures, c.as_slice-offsets.ensures.len, p.these.count_is) in
     rw (← e) (c.entries_between.ensures p) ∙ slice_clamped L c.args.range.start c.args.range.end))
 
 pub returns-else-range-end : goal.returns-else-range-end
 returns-else-range-end c =
     rw (← c.self.view_is)
-    (of_indexed _ _ _ _ c.self.invariant c.as_slice-places.ensures.value (λ p.
+    (of_indexed _ _ _ _ c.self.invariant c.as_slice-offsets.ensures.value (λ p.
     let L = p.these.pairs in
     let e = c.new.ensures in
     let none : min c.args.range.end (length L) ≤ c.args.range.start = omega (arith, c.if-range-end.false, c.min-end.ensures, p.these.count_is) in

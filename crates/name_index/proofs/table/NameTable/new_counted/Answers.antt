@@ -1,16 +1,16 @@
 use Rattle.std.proofs.Common.{◌-◌, arith, length, refl}
 use Rattle.litemap_store.proofs.Counting.{at_most}
-use Rattle.name_index.proofs.Rises.{opened, rising_table}
+use Rattle.name_index.proofs.Rises.{parts, rising_table}
 use Rattle.name_index.proofs.table.NameTable.new_counted.Goals as goal
 
 pub returns-clause-table : goal.returns-clause-table
 returns-clause-table c =
     let s = c.in_ok-names.names in
-    let o = opened c.args.bytes.now s.rest s c.in_ok-names.ensures.ok refl c.in_ok-check.ensures.ok in
+    let o = parts c.args.bytes.now s.rest s c.in_ok-names.ensures.ok refl c.in_ok-check.ensures.ok in
     (o.these.pairs, rising_table _ _ _ o, tt)
 
 pub returns-clause-cost : goal.returns-clause-cost
 returns-clause-cost c =
     let s = c.in_ok-names.names in
-    let o = opened c.args.bytes.now s.rest s c.in_ok-names.ensures.ok refl c.in_ok-check.ensures.ok in
+    let o = parts c.args.bytes.now s.rest s c.in_ok-names.ensures.ok refl c.in_ok-check.ensures.ok in
     (o.these.pairs, rising_table _ _ _ o, at_most (s.left - 1) (length o.these.pairs - 1) (omega (arith, o.these.count_is)) c.in_ok-check.ensures.cost)

@@ -1,0 +1,36 @@
+-- What lies where a short store keeps its items, and how many further ones it takes without refusal.
+use Rattle.std.specs.Prelude.{ℕ, List, [], ◌∷◌, ⊤}
+use Rattle.std.specs.Vec.{with_item}
+use Rattle.litemap_store.specs.VecStore.{vec_room}
+use Rattle.litemap_short.specs.declared.storage.Storage.{Storage}
+use Rattle.litemap_short.specs.declared.storage.Storage.TheVariants.{Empty, Inline, Heap}
+
+module _ {T : Type 0} where
+  abbrev pub storage_items : Storage T → List T
+  storage_items Empty = []
+  storage_items (Inline item _) = item ∷ []
+  storage_items (Heap items) = items.items
+
+  -- the first one always finds room
+  abbrev pub storage_room : Storage T → ℕ
+  storage_room Empty = 1
+  storage_room (Inline _ _) = 0
+  storage_room (Heap items) = vec_room items
+
+  -- no vector is there
+  abbrev pub IsFew : Storage T → Type 0
+  IsFew Empty = ⊤
+  IsFew (Inline _ _) = ⊤
+  IsFew (Heap _) = ⊥
+
+  -- the one item lies in it
+  abbrev pub IsOne : Storage T → Type 0
+  IsOne Empty = ⊥
+  IsOne (Inline _ _) = ⊤
+  IsOne (Heap _) = ⊥
+
+  -- the same with another item at a place
+  abbrev pub storage_with_item : Storage T → ℕ → T → Storage T
+  storage_with_item Empty i x = Empty
+  storage_with_item (Inline _ none) i x = Inline x none
+  storage_with_item (Heap items) i x = Heap (with_item items i x)

@@ -1,0 +1,260 @@
+//! No item, one inline, or a vector of items.
+ghost use Rattle.std.specs.Prelude.{◌≡◌, ◌+◌, ◌<◌, ◌≤◌, [], ◌∷◌, length, insert, remove, slice_get, slice_index_or};
+ghost use Rattle.std.specs.Prelude.{Some, IfOk, IfSome, IsOk, OnOk, OnErr};
+ghost use Rattle.std.specs.Borrow.{sem};
+ghost use Rattle.std.specs.List.{AllZip};
+ghost use Rattle.std.specs.Map.Iter.{deref_pair};
+ghost use Rattle.std.specs.Vec.Iter.{into_iter_items};
+ghost use Rattle.litemap_short.specs.Left.{with_first};
+ghost use Rattle.std.specs.Option.{option_copied, option_map};
+ghost use Rattle.litemap_store.specs.Pairs.{sub};
+ghost use Rattle.litemap_store.specs.Retain.{CallableOnEach, Kept};
+
+use litemap_store::shared::{insert_reserved, is_kept};
+use litemap_store::store::StoreBulkMut;
+use std::alloc::{AllocError, Global};
+use std::ops::Range;
+use std::vec::IntoIter;
+use std::{array, mem};
+
+/// Where a short store keeps its items: none and one lie in it, more lie in a vector.
+#[derive(Drop)]
+pub(crate) enum Storage<T> {
+    Empty,
+    // The empty array takes no bytes: by it a proof knows that an item has the size of one in a slice.
+    Inline(T, [T; 0]),
+    Heap(Vec<T>),
+}
+
+impl<T> Storage<T> {
+    ghost use Rattle.litemap_short.specs.Storage.{storage_items, storage_room, IsFew, IsOne};
+    ghost use Rattle.litemap_short.specs.Lends.{storage_lends_item};
+    ghost use Rattle.litemap_short.specs.declared.storage.Storage.TheVariants.{Empty};
+
+    // All items, side by side.
+    pub(crate) fn as_slice(&self) -> &[T]
+        ensures { result.now ≡ storage_items self.now }
+    {
+        match self {
+            Storage::Empty => &[],
+            Storage::Inline(item, _) => array::from_ref(item).as_slice(),
+            Storage::Heap(items) => items.as_slice(),
+        }
+    }
+
+    // Takes room for so many further items. Where the room is not there yet, they all lie in a vector then.
+    pub(crate) fn reserve(&mut self, alloc: Global, additional: usize) -> Result<(), AllocError>
+        ensures items { storage_items self.new ≡ storage_items self.old }
+        ensures room { OnOk result (additional ≤ storage_room self.new) }
+        ensures room_not_lowered { storage_room self.old ≤ storage_room self.new }
+        ensures full { OnErr result (storage_room self.old < additional) }
+    {
+        match self {
+            Storage::Empty if additional <= 1 => Ok(()),
+            Storage::Inline(_, _) if additional == 0 => Ok(()),
+            Storage::Heap(items) => items.reserve(additional),
+            _ => self.move_to_vec(alloc, additional),
+        }
+    }
+
+    // Moves none or one to a vector that has room for so many more.
+    fn move_to_vec(&mut self, alloc: Global, additional: usize) -> Result<(), AllocError>
+        requires few { IsFew self.old }
+        requires more { storage_room self.old < additional }
+        ensures items { storage_items self.new ≡ storage_items self.old }
+        ensures room { OnOk result (additional ≤ storage_room self.new) }
+        ensures room_not_lowered { storage_room self.old ≤ storage_room self.new }
+    {
+        let Some(capacity) = self.as_slice().len().checked_add(additional) else {
+            return Err(AllocError);
+        };
+        let items = Vec::with_capacity(alloc, capacity)?;
+        let few = mem::replace(self, Storage::Heap(items));
+        self.keep_in(few);
+        Ok(())
+    }
+
+    // Puts none or one into a vector that is empty and has room.
+    fn keep_in(&mut self, few: Storage<T>)
+        requires few { IsFew few }
+        requires empty { storage_items self.old ≡ [] }
+        requires room { length (storage_items few) ≤ storage_room self.old }
+        ensures items { storage_items self.new ≡ storage_items few }
+        ensures room { storage_room self.old ≤ storage_room self.new + length (storage_items few) }
+    {
+        match few {
+            Storage::Empty => {}
+            Storage::Inline(item, []) => self.insert_reserved(0, item),
+            Storage::Heap(_) => unreachable!(),
+        }
+    }
+
+    // Puts an item at a place, and moves later ones up by one.
+    pub(crate) fn insert_reserved(&mut self, index: usize, item: T)
+        requires index { index ≤ length (storage_items self.old) }
+        requires room { 0 < storage_room self.old }
+        ensures items { storage_items self.new ≡ insert (storage_items self.old) index item }
+        ensures room { storage_room self.old ≤ storage_room self.new + 1 }
+    {
+        match self {
+            Storage::Empty => self.put_first(item),
+            Storage::Inline(_, _) => unreachable!(),
+            Storage::Heap(items) => insert_reserved(items, index, item),
+        }
+    }
+
+    // Takes out the item at a place, and moves later ones down by one. A vector keeps its memory.
+    pub(crate) fn remove(&mut self, index: usize) -> T
+        requires { index < length (storage_items self.old) }
+        ensures old { slice_get (storage_items self.old) index ≡ Some result }
+        ensures items { storage_items self.new ≡ remove (storage_items self.old) index }
+        ensures room { storage_room self.old < storage_room self.new }
+    {
+        match self {
+            Storage::Empty => unreachable!(),
+            Storage::Inline(_, _) => self.take_one(),
+            Storage::Heap(items) => items.remove(index),
+        }
+    }
+
+    fn take_one(&mut self) -> T
+        requires { IsOne self.old }
+        ensures old { storage_items self.old ≡ result ∷ [] }
+        ensures nothing { self.new ≡ Empty }
+    {
+        match mem::replace(self, Storage::Empty) {
+            Storage::Inline(item, []) => item,
+            _ => unreachable!(),
+        }
+    }
+
+    // The item at a place, which may be written.
+    pub(crate) fn item_mut(&mut self, index: usize) -> &mut T
+        requires { index < length (storage_items self.old) }
+        ensures* writes_back { sem 𝓛 (storage_lends_item T.row self.entry index result) }
+        ensures value { result.now ≡ slice_index_or (storage_items self.old) index result.now }
+    {
+        match self {
+            Storage::Empty => unreachable!(),
+            Storage::Inline(item, _) => item,
+            Storage::Heap(items) => &mut items[index],
+        }
+    }
+
+    // The items of a vector, which stays where it has two or more, and is given up else.
+    pub(crate) fn from_vec(mut items: Vec<T>) -> Self
+        ensures { storage_items result ≡ items.items }
+    {
+        match items.len() {
+            0 => {
+                items.destroy_empty();
+                Storage::Empty
+            }
+            1 => {
+                let item = items.take_last();
+                items.destroy_empty();
+                Storage::Inline(item, [])
+            }
+            _ => Storage::Heap(items),
+        }
+    }
+
+    // The inline item, if there is one, and an iterator over those on the heap.
+    pub(crate) fn into_parts(self, alloc: Global) -> (Option<T>, IntoIter<T>)
+        ensures items { with_first result.0 (into_iter_items result.1) ≡ storage_items self }
+        ensures alone { IfSome result.0 (λ _. into_iter_items result.1 ≡ []) }
+    {
+        match self {
+            Storage::Empty => (None, Vec::new(alloc).into_iter()),
+            Storage::Inline(item, []) => (Some(item), Vec::new(alloc).into_iter()),
+            Storage::Heap(items) => (None, items.into_iter()),
+        }
+    }
+
+    // A clone of each item, in the same order. None and one take no memory of their own.
+    pub(crate) fn try_clone(&self, alloc: Global) -> Result<Self, AllocError>
+    where
+        T: Clone,
+        ensures clones { IfOk result (λ h. AllZip T.is_clone (storage_items self.now) (storage_items h)) }
+        ensures succeeds { storage_items self.now ≡ [] → IsOk result }
+    {
+        match self.as_slice() {
+            [] => Ok(Storage::Empty),
+            [item] => Ok(Storage::Inline(item.clone()?, [])),
+            items => Ok(Storage::Heap(Vec::from_clones(alloc, items)?)),
+        }
+    }
+
+    // Gives up all items. A vector keeps its memory.
+    pub(crate) fn clear(&mut self)
+    where
+        T: Drop,
+        ensures items { storage_items self.new ≡ [] }
+        ensures room { storage_room self.old + length (storage_items self.old) ≤ storage_room self.new }
+    {
+        match self {
+            Storage::Heap(items) => items.clear(),
+            _ => *self = Storage::Empty,
+        }
+    }
+
+    fn put_first(&mut self, item: T)
+        requires { self.old ≡ Empty }
+        ensures { storage_items self.new ≡ item ∷ [] }
+    {
+        match mem::replace(self, Storage::Inline(item, [])) {
+            Storage::Empty => {}
+            _ => unreachable!(),
+        }
+    }
+}
+
+impl<K: Drop, V: Drop> Storage<(K, V)> {
+    ghost use Rattle.litemap_short.specs.Storage.{storage_items, storage_room, IsOne};
+
+    // Keeps the pairs of which `f` answers yes. It asks once of each, in order.
+    pub(crate) fn retain<F: FnMut(&K, &V) -> bool>(&mut self, f: F)
+    where
+        K: Ord,
+        requires { CallableOnEach F.FnMut f (storage_items self.old) }
+        ensures kept { Kept F.FnMut f (storage_items self.old) (storage_items self.new) }
+        ensures room { storage_room self.old + length (storage_items self.old)
+            ≤ storage_room self.new + length (storage_items self.new) }
+    {
+        match self {
+            Storage::Empty => {}
+            Storage::Inline(_, _) => self.retain_one(f),
+            Storage::Heap(items) => items.lm_retain(f),
+        }
+    }
+
+    // The same of the one pair.
+    fn retain_one<F: FnMut(&K, &V) -> bool>(&mut self, mut f: F)
+        requires one { IsOne self.old }
+        requires callable { CallableOnEach F.FnMut f (storage_items self.old) }
+        ensures kept { Kept F.FnMut f (storage_items self.old) (storage_items self.new) }
+        ensures room { storage_room self.old + length (storage_items self.old)
+            ≤ storage_room self.new + length (storage_items self.new) }
+    {
+        let (key, value) = self.take_one();
+        let stays = is_kept(&mut f, &key, &value);
+        if stays {
+            self.put_first((key, value));
+        }
+    }
+}
+
+// The pair at a place, `None` from the length on.
+pub(crate) fn pair_at<K, V>(pairs: &[(K, V)], index: usize) -> Option<(&K, &V)>
+    ensures { option_map deref_pair result ≡ slice_get pairs.now index }
+{
+    let (key, value) = pairs.get(index)?;
+    Some((key, value))
+}
+
+// The pairs from a place to before another.
+pub(crate) fn part_of<K, V>(pairs: &[(K, V)], range: Range<usize>) -> Option<&[(K, V)]>
+    ensures { option_copied result ≡ sub pairs.now range.start range.end }
+{
+    pairs.get(range)
+}

@@ -1,0 +1,11 @@
+-- What a contract sees of a store: its pairs, and how many further pairs it takes without refusal.
+use Rattle.std.specs.Prelude.{ℕ, List}
+use Rattle.litemap_store.specs.Pairs.{set_value}
+
+pub record Contents (K V : Type 0) : Type 0 where
+  pub pairs : List (K × V)
+  pub room : ℕ
+
+-- the same with another value at a place
+abbrev pub with_value : {K V : Type 0} → Contents K V → ℕ → V → Contents K V
+with_value s i v = record s { pairs = set_value s.pairs i v }

@@ -1,0 +1,112 @@
+//! The offsets of entries, and what is found by them.
+ghost use Rattle.std.specs.Prelude.{◌≡◌, ◌+◌, ◌<◌, ◌≤◌, ◌∷◌, ◌++◌, [], IfErr, IfOk, OnErr, OnOk, Some, length, slice_get, slice_range};
+ghost use Rattle.litemap_store.specs.Counts.{RisesByAtMost};
+ghost use Rattle.litemap_store.specs.Digits.{digits};
+ghost use Rattle.litemap_store.specs.Splits.{Splits};
+ghost use Rattle.name_index.specs.Entries.{AreEntries};
+ghost use Rattle.name_index.specs.Placed.{AreFar, ArePlaced, AsPlaced, IfTooFar, IsKeyAt};
+ghost use Rattle.name_index.specs.Tables.{text_order};
+ghost use Rattle.name_index.specs.declared.fault.NameIndexFault.TheVariants.{TooFar};
+ghost use Rattle.name_table.specs.Numbers.{number_limit};
+ghost use Rattle.name_table.specs.Remaining.{shown};
+
+use crate::fault::NameIndexFault;
+use crate::name_entries::NameEntries;
+use crate::valid::{read_valid_pair, read_valid_text};
+use litemap_store::store::Count;
+use std::alloc::{AllocError, Global};
+use std::cmp::Ordering;
+
+/// The offsets of `count` entries from the first one.
+pub fn offsets_of(alloc: Global, entries: &[u8], count: usize) -> Result<Vec<u32>, NameIndexFault>
+    requires { AreEntries entries.now count }
+    ensures number { IfOk result (λ offsets. length offsets.items ≡ count) }
+    ensures placed { IfOk result (λ offsets. ArePlaced entries.now offsets.items) }
+    ensures refused { OnErr result (0 < count) }
+    ensures too_far { IfErr result (λ fault. IfTooFar fault (AreFar entries.now count)) }
+    ensures near { OnOk result (AreFar entries.now count → ⊥) }
+{
+    let mut offsets = Vec::with_capacity(alloc, count)?;
+    let mut rest = entries;
+    for _ in 0..count {
+        push(&mut offsets, offset_of(entries, rest)?)?;
+        let (_, behind) = read_valid_pair(rest);
+        rest = behind;
+    }
+    Ok(offsets)
+}
+
+// Puts an offset behind the others.
+fn push(offsets: &mut Vec<u32>, offset: u32) -> Result<(), AllocError>
+    ensures { OnOk result (offsets.new.items ≡ offsets.old.items ++ offset ∷ []) }
+{
+    offsets.push(offset)?;
+    Ok(())
+}
+
+// How far the rest begins behind the first entry, where four bytes can note it.
+fn offset_of(entries: &[u8], rest: &[u8]) -> Result<u32, NameIndexFault>
+    requires { length rest.now ≤ length entries.now }
+    ensures offset { IfOk result (λ offset. offset + length rest.now ≡ length entries.now) }
+    ensures far { IfErr result (λ fault. (fault ≡ TooFar) × (number_limit + length rest.now ≤ length entries.now)) }
+{
+    match u32::try_from(entries.len() - rest.len()) {
+        Ok(offset) => Ok(offset),
+        Err(_) => Err(NameIndexFault::TooFar),
+    }
+}
+
+/// The entry at a place.
+pub fn pair_of<'a>(entries: &'a [u8], offsets: &[u32], index: usize) -> (&'a str, &'a str)
+    requires placed { ArePlaced entries.now offsets.now }
+    requires within { index < length offsets.now }
+    ensures { AsPlaced entries.now offsets.now (λ pairs. slice_get pairs index ≡ Some (shown result)) }
+{
+    let (pair, _) = read_valid_pair(&entries[offsets[index] as usize..]);
+    pair
+}
+
+/// The entries from one place to before another.
+pub fn entries_between<'a>(
+    entries: &'a [u8],
+    offsets: &[u32],
+    start: usize,
+    end: usize,
+) -> NameEntries<'a>
+    requires placed { ArePlaced entries.now offsets.now }
+    requires start { start < end }
+    requires within { end ≤ length offsets.now }
+    ensures { AsPlaced entries.now offsets.now (λ pairs. result ≡ slice_range pairs start end) }
+{
+    NameEntries::new(&entries[offsets[start] as usize..], end - start)
+}
+
+/// The key of the entry at a place.
+pub fn key_of<'a>(entries: &'a [u8], offsets: &[u32], index: usize) -> &'a str
+    requires placed { ArePlaced entries.now offsets.now }
+    requires within { index < length offsets.now }
+    ensures { AsPlaced entries.now offsets.now (λ pairs. IsKeyAt pairs index result.now) }
+{
+    let (key, _) = read_valid_text(&entries[offsets[index] as usize..]);
+    key
+}
+
+/// The place of the key, or where it would go.
+pub fn search(entries: &[u8], offsets: &[u32], key: &str, count: &mut Count) -> Result<usize, usize>
+    requires { ArePlaced entries.now offsets.now }
+    ensures splits { AsPlaced entries.now offsets.now (λ pairs. Splits text_order pairs key.now result) }
+    ensures within { IfOk result (λ index. index < length offsets.now) }
+    ensures cost { RisesByAtMost (digits (length offsets.now)) count.old count.new }
+{
+    let mut low = 0;
+    let mut high = offsets.len();
+    while low < high {
+        let middle = low + (high - low) / 2;
+        match count.cmp(&key_of(entries, offsets, middle), &key) {
+            Ordering::Less => low = middle + 1,
+            Ordering::Equal => return Ok(middle),
+            Ordering::Greater => high = middle,
+        }
+    }
+    Err(low)
+}
