@@ -112,5 +112,9 @@ def files():
         value = "kn-" + "-".join(["ab1"] * count)
         rows += [(f"read {text}", answer(text)) for text in (value, f"{value}-x", f"{value}-c1-nu", f"{value}-KN-thai--")]
         rows += [(f"find nu {value}-nu-latn", "value latn"), (f"find nu {value}-nu-latn-{'a' * 9}", answer(f"{value}-nu-latn-{'a' * 9}"))]
+    # Each prefix of a text of 24 keywords without a value, and one with a long value.
+    long = falling(24) + "-kn" + "-abcdefgh" * 8
+    rows += [(f"read {long[:size]}", answer(long[:size])) for size in range(1, len(long))]
+    rows += [(f"find zz {text}", "value ") for text in map(falling, (12, 24, 33, 65, 129))]
     rows += [(f"falling {count}", answer(falling(count))) for count in (700, 2000, 22000)]
     return {name: "".join(line + "\n" for line in lines) for name, lines in zip(["stdin", "stdout"], zip(*rows))}

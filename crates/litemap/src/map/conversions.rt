@@ -1,8 +1,8 @@
 //! Maps made of the pairs of another, in the same order, over any store that grows, or a refusal for want of memory.
 //!
-//! All room is taken first. A clone of a key has to compare `Equal` to it. The Rust crate boxes and lends any type that keys and
-//! values borrow as, and has no `to_keys_by`.
-ghost use Rattle.std.specs.Prelude.{◌≡◌, IfOk};
+//! All room is taken first, and none for no pair: the empty map is never refused. A clone of a key has to compare `Equal` to it.
+//! The Rust crate boxes and lends any type that keys and values borrow as, and has no `to_keys_by`.
+ghost use Rattle.std.specs.Prelude.{◌≡◌, [], IfOk, IsOk};
 ghost use Rattle.std.specs.Fn.{FnReturnsAt};
 ghost use Rattle.litemap_store.specs.Last.{In};
 ghost use Rattle.litemap_store.specs.Pairs.{Rising};
@@ -21,8 +21,9 @@ impl<K: Ord + Clone, V: Clone, S: Store<K, V>> LiteMap<K, V, S> {
         alloc: Global,
     ) -> Result<LiteMap<Box<K>, Box<V>, B>, AllocError>
         requires { ClonesCompareEqual K.cmp K.is_clone self.now.pairs }
-        ensures { IfOk result (λ m. PairsBecame (λ k b. K.is_clone k b.value) (λ v b. V.is_clone v b.value)
+        ensures became { IfOk result (λ m. PairsBecame (λ k b. K.is_clone k b.value) (λ v b. V.is_clone v b.value)
             self.now.pairs m.pairs) }
+        ensures succeeds { self.now.pairs ≡ [] → IsOk result }
     {
         converted(&self.store, alloc, &Boxed, &Boxed)
     }
@@ -33,7 +34,8 @@ impl<K: Ord + Clone, V: Clone, S: Store<K, V>> LiteMap<K, V, S> {
         alloc: Global,
     ) -> Result<LiteMap<Box<K>, V, B>, AllocError>
         requires { ClonesCompareEqual K.cmp K.is_clone self.now.pairs }
-        ensures { IfOk result (λ m. PairsBecame (λ k b. K.is_clone k b.value) V.is_clone self.now.pairs m.pairs) }
+        ensures became { IfOk result (λ m. PairsBecame (λ k b. K.is_clone k b.value) V.is_clone self.now.pairs m.pairs) }
+        ensures succeeds { self.now.pairs ≡ [] → IsOk result }
     {
         converted(&self.store, alloc, &Boxed, &Cloned)
     }
@@ -44,7 +46,8 @@ impl<K: Ord + Clone, V: Clone, S: Store<K, V>> LiteMap<K, V, S> {
         alloc: Global,
     ) -> Result<LiteMap<K, Box<V>, B>, AllocError>
         requires { ClonesCompareEqual K.cmp K.is_clone self.now.pairs }
-        ensures { IfOk result (λ m. PairsBecame K.is_clone (λ v b. V.is_clone v b.value) self.now.pairs m.pairs) }
+        ensures became { IfOk result (λ m. PairsBecame K.is_clone (λ v b. V.is_clone v b.value) self.now.pairs m.pairs) }
+        ensures succeeds { self.now.pairs ≡ [] → IsOk result }
     {
         converted(&self.store, alloc, &Cloned, &Boxed)
     }
@@ -66,7 +69,8 @@ impl<K: Ord, V: Clone, S: Store<K, V>> LiteMap<K, V, S> {
     ) -> Result<LiteMap<L, V, B>, AllocError>
         requires callable { TakesKeys F.Fn f self.now.pairs }
         requires rising { KeysKeepOrder K.cmp L.cmp (FnReturnsAt F.Fn f) self.now.pairs }
-        ensures { IfOk result (λ m. PairsBecame (FnReturnsAt F.Fn f) V.is_clone self.now.pairs m.pairs) }
+        ensures became { IfOk result (λ m. PairsBecame (FnReturnsAt F.Fn f) V.is_clone self.now.pairs m.pairs) }
+        ensures succeeds { self.now.pairs ≡ [] → IsOk result }
     {
         keyed_by(&self.store, alloc, f)
     }
@@ -84,7 +88,8 @@ impl<'a, K: Ord + 'a, V: 'a, S: Store<K, V>> LiteMap<K, V, S> {
         &'a self,
         alloc: Global,
     ) -> Result<LiteMap<&'a K, &'a V, B>, AllocError>
-        ensures { IfOk result (λ m. PairsBecame (λ k r. r.now ≡ k) (λ v r. r.now ≡ v) self.now.pairs m.pairs) }
+        ensures became { IfOk result (λ m. PairsBecame (λ k r. r.now ≡ k) (λ v r. r.now ≡ v) self.now.pairs m.pairs) }
+        ensures succeeds { self.now.pairs ≡ [] → IsOk result }
     {
         converted(&self.store, alloc, &Lent, &Lent)
     }
@@ -96,7 +101,8 @@ impl<'a, K: Ord + 'a, V: 'a, S: Store<K, V>> LiteMap<K, V, S> {
     ) -> Result<LiteMap<&'a K, V, B>, AllocError>
     where
         V: Clone,
-        ensures { IfOk result (λ m. PairsBecame (λ k r. r.now ≡ k) V.is_clone self.now.pairs m.pairs) }
+        ensures became { IfOk result (λ m. PairsBecame (λ k r. r.now ≡ k) V.is_clone self.now.pairs m.pairs) }
+        ensures succeeds { self.now.pairs ≡ [] → IsOk result }
     {
         converted(&self.store, alloc, &Lent, &Cloned)
     }
@@ -109,7 +115,8 @@ impl<'a, K: Ord + 'a, V: 'a, S: Store<K, V>> LiteMap<K, V, S> {
     where
         K: Clone,
         requires { ClonesCompareEqual K.cmp K.is_clone self.now.pairs }
-        ensures { IfOk result (λ m. PairsBecame K.is_clone (λ v r. r.now ≡ v) self.now.pairs m.pairs) }
+        ensures became { IfOk result (λ m. PairsBecame K.is_clone (λ v r. r.now ≡ v) self.now.pairs m.pairs) }
+        ensures succeeds { self.now.pairs ≡ [] → IsOk result }
     {
         converted(&self.store, alloc, &Cloned, &Lent)
     }
@@ -131,7 +138,8 @@ where
     requires rises { Rising K.cmp (S.pairs store.now) }
     requires callable { TakesKeys F.Fn f (S.pairs store.now) }
     requires rising { KeysKeepOrder K.cmp L.cmp (FnReturnsAt F.Fn f) (S.pairs store.now) }
-    ensures { IfOk result (λ m. PairsBecame (FnReturnsAt F.Fn f) V.is_clone (S.pairs store.now) m.pairs) }
+    ensures became { IfOk result (λ m. PairsBecame (FnReturnsAt F.Fn f) V.is_clone (S.pairs store.now) m.pairs) }
+    ensures succeeds { S.pairs store.now ≡ [] → IsOk result }
 {
     converted(store, alloc, &Answered { f }, &Cloned)
 }
@@ -155,7 +163,8 @@ where
     requires keys { (p : _) → In p (S.pairs store.now) → X.takes keys.now p.0 }
     requires values { (p : _) → In p (S.pairs store.now) → Y.takes values.now p.1 }
     requires rising { KeysKeepOrder K.cmp L.cmp (X.became keys.now) (S.pairs store.now) }
-    ensures { IfOk result (λ m. PairsBecame (X.became keys.now) (Y.became values.now) (S.pairs store.now) m.pairs) }
+    ensures became { IfOk result (λ m. PairsBecame (X.became keys.now) (Y.became values.now) (S.pairs store.now) m.pairs) }
+    ensures succeeds { S.pairs store.now ≡ [] → IsOk result }
 {
     let len = store.lm_len();
     let mut made = B::lm_with_capacity(alloc, len)?;

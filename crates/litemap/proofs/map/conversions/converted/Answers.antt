@@ -31,7 +31,7 @@ from_sorted_store_unchecked-requires g c =
     let became = rw (end, take-length) at c.loop-index.invariant.became in
     Rising-became g.K.Ord.cmp g.L.Ord.cmp (g.X.Becomes.became c.args.keys.now) (g.Y.Becomes.became c.args.values.now) pairs _ c.requires.rising became c.requires.rises
 
-pub returns : goal.returns
-returns g c =
+pub returns-clause-became : goal.returns-clause-became
+returns-clause-became g c =
     let end : c.loop-index.index ≡ length (g.S.Store.pairs c.args.store.now) = omega arith in
     rw c.from_sorted_store_unchecked.ensures.pairs (rw (end, take-length) at c.loop-index.invariant.became)
