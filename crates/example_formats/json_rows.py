@@ -230,7 +230,7 @@ def told_faults():
     yield "told elsewhere", '{"x":0}', f"{key_text(0)}; a name in JSON is not a key's text"
     yield "told elsewhere", '[[null,0]]', f"{key(0, SHAPE)}; a key in JSON is not of its type"
     yield "told elsewhere", "7", f"{told(MAP, 'null')}; a JSON value is no map"
-    for place in (1, 19, 20, 51, 101, 999):
+    for place in (1, 12, 19, 20, 33, 51, 65, 101, 129, 999):
         good = [(str(number), f'"{number}"') for number in range(1000, 1002 + place)]
         members = [(text, value if text < str(1000 + place) else "0") for text, value in good]
         yield "told words", object_of(members), told("a text", "0", f'"{1000 + place}": ')
@@ -251,7 +251,7 @@ def object_of(members):
 
 def long_maps():
     """Maps of many pairs, in arrays and objects, in order and not."""
-    for count in (65, 1000):
+    for count in (12, 24, 33, 65, 129, 1000):
         numbers = [(number * 379) % count for number in range(count)]
         answer = object_of(sorted((str(number), f'"{number}"') for number in numbers))
         yield "words", array(f'[{number},"{number}"]' for number in numbers), answer
@@ -264,7 +264,7 @@ def long_maps():
 
 def late_faults():
     """A fault at an early place and at late ones, and at the place behind it."""
-    for place in (9, 51, 101, 999):
+    for place in (9, 33, 51, 65, 101, 129, 999):
         good = [(str(number), f'"{number}"') for number in range(1000, 1002 + place)]
         elements = [f"[{name},{value}]" for name, value in good]
         for element, fault in (("[0]", not_a_pair(place)), ('["0","0"]', key(place, SHAPE)), ("[-1,0]", key(place, RANGE)),
@@ -280,7 +280,7 @@ def late_faults():
 
 def long_texts():
     """Names and texts of few bytes and of many."""
-    for length in (1, 20, 21, 100, 101, 5000):
+    for length in (1, 12, 20, 21, 24, 33, 65, 100, 101, 129, 513, 5000):
         for letter in ("a", "é", '\\"'):
             text = letter * length
             yield "text", object_of([(text, f'"{text}"'), (text + "b", '""')]), None

@@ -317,6 +317,19 @@ def large_lines():
     yield "ask 01499", keys, ask("01499", keys)
 
 
+def sized_lines():
+    """Tables and indexes of so many names, and a text of so many bytes."""
+    for count in (12, 24, 33, 65, 129):
+        names = [(f"n{number:03}", "v") for number in range(count)]
+        data = written(names)
+        for words, answer in (("read", read), ("table", rising_table), ("again", again), ("index", index)):
+            yield words, data, answer(data)
+        yield f"ask n{count - 1:03}", data, ask(f"n{count - 1:03}", data)
+        yield "opened", indexed(names), opened(indexed(names))
+        text = b"\x01\x00" + spelled(count) + b"x" * count
+        yield "again", text, again(text)
+
+
 def lines():
     """Each line with its answer."""
     for data in READ:
@@ -355,6 +368,7 @@ def lines():
     for data in (b"\x00", TABLE[:116], NOT_RISING[0]):
         yield "word a", data, "a" if data == b"\x00" else rising_table(data)
     yield from large_lines()
+    yield from sized_lines()
     for data in (b"\x00", READ[19], READ[20], READ[25], TABLE, NOT_RISING[1], READ[28]):
         yield "index", data, index(data)
     for data in INDEXES:

@@ -74,7 +74,7 @@ fn of_calls(rt: &HostRuntime, days: &Days, hours: &Hours) -> io::Result<()> {
     report(rt, &formats::examples(alloc))
 }
 
-fn of_maps(alloc: Global) -> [Case; 16] {
+fn of_maps(alloc: Global) -> [Case; 18] {
     cases! { alloc;
         closures::one_of_the_keys_called_equal_is_found,
         closures::a_closure_compares_with_another_type,
@@ -87,6 +87,8 @@ fn of_maps(alloc: Global) -> [Case; 16] {
         limits::a_bounded_store_grows_to_its_limit,
         limits::a_limit_goes_with_the_store_that_is_replaced,
         printing::what_is_printed,
+        printing::what_a_short_store_prints,
+        printing::what_long_walks_print,
         printing::an_error_writes_what_it_is,
         queries::keys_are_asked_by_texts,
         queries::keys_are_asked_by_slices,

@@ -1,8 +1,9 @@
 //! What `{:?}` prints of maps, of what goes over them and of entries, and what is written of an error.
-use litemap::store::NoRoom;
+use litemap::store::{NoRoom, StoreConstEmpty, StoreFromIterator};
 use litemap::{LiteMap, TryFault};
 use litemap_columns::ColumnStore;
 use litemap_read::ReadFault;
+use litemap_short::ShortStore;
 use std::alloc::{AllocError, Global};
 use std::error::Error;
 use std::fmt::Debug;
@@ -29,6 +30,33 @@ pub(crate) fn what_is_printed(alloc: Global) -> Result<bool, AllocError> {
             && prints(alloc, &columns.values(), values)?
             && prints(alloc, &pairs.entry(2), occupied)?
             && prints(alloc, &pairs.entry(3), "VacantEntry { key: 3 }")?,
+    )
+}
+
+// A short store prints as the list of its pairs.
+pub(crate) fn what_a_short_store_prints(alloc: Global) -> Result<bool, AllocError> {
+    let none: ShortStore<u32, char> = ShortStore::lm_empty(alloc);
+    let one: ShortStore<u32, char> = ShortStore::lm_from_pairs(alloc, [(1, 'a')])?;
+    let two: ShortStore<u32, char> = ShortStore::lm_from_pairs(alloc, PAIRS)?;
+    Ok(
+        prints(alloc, &none, "[]")?
+            && prints(alloc, &one, "[(1, 'a')]")?
+            && prints(alloc, &two, "[(1, 'a'), (2, 'b')]")?,
+    )
+}
+
+// Walks over many pairs print all of them, as std prints a slice.
+pub(crate) fn what_long_walks_print(alloc: Global) -> Result<bool, AllocError> {
+    let mut pairs: LiteMap<u32, char, Vec<(u32, char)>> = LiteMap::new_vec(alloc);
+    for key in 0..129u32 {
+        pairs.insert(key, 'a')?;
+    }
+    let all = format!(in alloc; "{:?}", pairs.as_slice())?;
+    let keys = format!(in alloc; "KeysIterWrap(SliceIter({all}))")?;
+    let values = format!(in alloc; "ValuesIterWrap(SliceIter({all}))")?;
+    Ok(
+        prints(alloc, &pairs.keys(), keys.as_str())?
+            && prints(alloc, &pairs.values(), values.as_str())?,
     )
 }
 
