@@ -130,7 +130,7 @@ fn merge_mixed<K: Ord + Drop, V: Drop, S: StoreIntoIterator<K, V> + Drop>(
 }
 
 // Whether a step for each of a total of pairs is no more than what so many searches ask, each of so many steps.
-fn is_walked(total: usize, searches: usize, steps: usize) -> bool
+pub(crate) fn is_walked(total: usize, searches: usize, steps: usize) -> bool
     requires { searches ≤ total }
     ensures { IsTrue result ↔ ((0 < searches) × (total ≤ searches * steps)) }
 {
@@ -141,7 +141,7 @@ fn is_walked(total: usize, searches: usize, steps: usize) -> bool
 }
 
 // How many binary digits a number has: what a search among as many pairs asks at most.
-fn binary_digits(number: usize) -> usize
+pub(crate) fn binary_digits(number: usize) -> usize
     ensures { result ≡ digits number }
 {
     let mut count = 0;
@@ -161,7 +161,11 @@ fn unless_empty<K, V, S: Store<K, V> + Drop>(rest: S) -> Option<S>
 }
 
 // The place where a key splits the pairs.
-fn search<K: Ord, V, S: Store<K, V>>(store: &S, key: &K, count: &mut Count) -> Result<usize, usize>
+pub(crate) fn search<K: Ord, V, S: Store<K, V>>(
+    store: &S,
+    key: &K,
+    count: &mut Count,
+) -> Result<usize, usize>
     requires { Rising K.cmp (S.pairs store.now) }
     ensures splits { Splits K.cmp (S.pairs store.now) key.now result }
     ensures cost { RisesByAtMost (digits (length (S.pairs store.now))) count.old count.new }
