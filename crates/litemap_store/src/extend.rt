@@ -10,6 +10,7 @@ ghost use Rattle.litemap_store.specs.Counts.{RisesByAtMost};
 ghost use Rattle.litemap_store.specs.Last.{Last, Rises};
 ghost use Rattle.litemap_store.specs.Pairs.{Rising};
 
+mod few;
 pub mod merge;
 mod sort;
 pub mod vector;

@@ -130,14 +130,14 @@ fn merge_mixed<K: Ord + Drop, V: Drop, S: StoreIntoIterator<K, V> + Drop>(
 }
 
 // Whether a step for each of so many pairs is no more than what the searches ask, each of so many steps.
-fn walk_is_cheaper(pairs: usize, searches: usize, steps: usize) -> bool
+pub(crate) fn walk_is_cheaper(pairs: usize, searches: usize, steps: usize) -> bool
     ensures { IsTrue result ↔ (pairs ≤ searches * steps) }
 {
     pairs <= searches.saturating_mul(steps)
 }
 
 // How many binary digits a number has: what a search among as many pairs asks at most.
-fn binary_digits(number: usize) -> usize
+pub(crate) fn binary_digits(number: usize) -> usize
     ensures { result ≡ digits number }
 {
     (usize::BITS - number.leading_zeros()) as usize
@@ -151,7 +151,11 @@ fn unless_empty<K, V, S: Store<K, V> + Drop>(rest: S) -> Option<S>
 }
 
 // The place where a key splits the pairs.
-fn search<K: Ord, V, S: Store<K, V>>(store: &S, key: &K, count: &mut Count) -> Result<usize, usize>
+pub(crate) fn search<K: Ord, V, S: Store<K, V>>(
+    store: &S,
+    key: &K,
+    count: &mut Count,
+) -> Result<usize, usize>
     requires { Rising K.cmp (S.pairs store.now) }
     ensures splits { Splits K.cmp (S.pairs store.now) key.now result }
     ensures cost { RisesByAtMost (digits (length (S.pairs store.now))) count.old count.new }

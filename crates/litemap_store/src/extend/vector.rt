@@ -1,5 +1,5 @@
-//! The bodies behind a vector's `lm_extend`: new pairs behind its own become part of it where they stand, and a merge turns its
-//! side vector round, which becomes the store.
+//! The bodies behind a vector's `lm_extend`: new pairs behind its own become part of it where they stand. Few are put in one by
+//! one; else a merge turns its side vector round, which becomes the store.
 ghost use Rattle.std.specs.Prelude.{◌≡◌, ◌⊎◌, ◌≤◌, ◌+◌, ◌*◌, ◌++◌, [], IsOk, OnOk, OnErr, drop, length, take, vec_len};
 ghost use Rattle.litemap_store.specs.Counts.{RisesByAtMost};
 ghost use Rattle.litemap_store.specs.Last.{Last, Rises};
@@ -7,6 +7,7 @@ ghost use Rattle.litemap_store.specs.Pairs.{Rising};
 ghost use Rattle.litemap_store.specs.VecStore.{vec_room};
 
 use crate::count::Count;
+use crate::extend::few::{is_few, settle_few};
 use crate::extend::merge::take_down;
 use crate::extend::{keep_rising, lies_below};
 use crate::slice_impl::SliceStore;
@@ -29,6 +30,10 @@ pub fn settle<K: Ord + Drop, V: Drop>(
     ensures cost { RisesByAtMost (from + 2 * length (drop from store.old.items)) count.old count.new }
     ensures succeeds { Rises K.cmp (take from store.old.items) (drop from store.old.items) → IsOk result }
 {
+    if is_few(from, store.len()) {
+        settle_few(store, from, count);
+        return Ok(());
+    }
     let Ok(()) = keep_rising(alloc, store, from, count) else {
         store.truncate(from);
         return Err(AllocError);
