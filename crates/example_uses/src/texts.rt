@@ -1,6 +1,6 @@
 //! Maps asked by what can stand for a key: texts and bytes that are borrowed, and keys.
 ghost use Rattle.std.specs.Prelude.{◌≡◌, ◌≢◌, ◌==◌, IsTrue, None, Some};
-ghost use Rattle.std.specs.Prelude.{is_some, string_bytes};
+ghost use Rattle.std.specs.Prelude.{cond, false, is_some, string_bytes};
 ghost use Rattle.std.specs.Bool.{IsFalse};
 ghost use Rattle.std.specs.List.{before_first};
 ghost use Rattle.std.specs.Option.{option_or};
@@ -62,6 +62,20 @@ pub fn rename(map: &mut Numbers, old: &str, new: String) -> bool
     ensures unchanged { IsFalse result → map.new.pairs ≡ map.old.pairs }
 {
     map.rename(old, new)
+}
+
+/// Moves the number at a name to a name that is free, and returns whether it did.
+pub fn rename_to_free(map: &mut Numbers, old: &str, new: String) -> bool
+    ensures free { result ≡ cond (is_some (at by_text map.old.pairs (string_bytes new))) false
+        (is_some (at by_text map.old.pairs old.now)) }
+    ensures moved { IsTrue result
+        → value_at by_text map.new.pairs (string_bytes new) ≡ value_at by_text map.old.pairs old.now }
+    ensures unchanged { IsFalse result → map.new.pairs ≡ map.old.pairs }
+{
+    if map.contains_key(new.as_str()) {
+        return false;
+    }
+    rename(map, old, new)
 }
 
 /// Writes the number at a name, if the name is there. All others stay.

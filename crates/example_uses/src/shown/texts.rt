@@ -59,8 +59,9 @@ fn show_renamed(rt: &impl Print, alloc: Global) -> anyhow::Result<()> {
         ("ace", "ace"),
         ("two", "one"),
     ] {
+        let free = texts::rename_to_free(&mut two_names(alloc)?, old, new.to_string(alloc)?);
         let there = texts::rename(&mut map, old, new.to_string(alloc)?);
-        println!(rt; "{old} is {new}: {there}, {map:?}")?;
+        println!(rt; "{old} is {new}: {there}, {map:?}, free {free}")?;
     }
     Ok(())
 }
