@@ -70,6 +70,9 @@ pub fn rename_to_free(map: &mut Numbers, old: &str, new: String) -> bool
         (is_some (at by_text map.old.pairs old.now)) }
     ensures moved { IsTrue result
         → value_at by_text map.new.pairs (string_bytes new) ≡ value_at by_text map.old.pairs old.now }
+    ensures gone { IsTrue result → value_at by_text map.new.pairs old.now ≡ None }
+    ensures others { (other : _) → other ≢ old.now → other ≢ string_bytes new
+        → value_at by_text map.new.pairs other ≡ value_at by_text map.old.pairs other }
     ensures unchanged { IsFalse result → map.new.pairs ≡ map.old.pairs }
 {
     if map.contains_key(new.as_str()) {

@@ -13,7 +13,7 @@ use crate::extend_store::{binary_digits, search, walk_is_cheaper};
 use crate::slice_impl::SliceStore;
 
 // At most so many pairs are few. Each moves later ones at once, so that so many moves take less time than a merge.
-const FEW: usize = 16;
+const FEW_PAIRS: usize = 16;
 
 /// Whether the pairs from an index on are few, and searches for them compare no more than there are pairs.
 pub fn is_few(from: usize, total: usize) -> bool
@@ -21,7 +21,7 @@ pub fn is_few(from: usize, total: usize) -> bool
     ensures { IsTrue result → (total - from) * digits total ≤ total }
 {
     let given = total - from;
-    given <= FEW && !walk_is_cheaper(total, given, binary_digits(total))
+    given <= FEW_PAIRS && !walk_is_cheaper(total, given, binary_digits(total))
 }
 
 /// Makes few pairs from an index on, below which the keys rise, part of the store: of each key the last pair stays. It takes no
