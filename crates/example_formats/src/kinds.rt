@@ -1,6 +1,6 @@
 //! A text that is read and written again.
 use crate::shapes::Counts;
-use litemap::store::StoreFromIterable;
+use litemap::store::StoreBulkMut;
 use litemap_columns::ColumnStore;
 use litemap_serde::SerdeMap;
 use litemap_short::ShortStore;
@@ -43,7 +43,7 @@ pub fn map_again<'t, K, V, S>(alloc: Global, text: &'t str) -> Result<String, Al
 where
     K: Deserialize<'t> + Serialize + Ord,
     V: Deserialize<'t> + Serialize,
-    S: StoreFromIterable<K, V> + Drop,
+    S: StoreBulkMut<K, V>,
 {
     let vector = again::<SerdeMap<K, V, Vec<(K, V)>>>(alloc, text)?;
     let columns = again::<SerdeMap<K, V, ColumnStore<K, V>>>(alloc, text)?;

@@ -48,7 +48,8 @@ pub fn override_with(
     ensures refused { OnErr result (settings.new.pairs ≡ settings.old.pairs) }
 {
     settings.keys_rise();
-    settings.extend_from_vec(alloc, user)
+    settings.extend_from_vec(alloc, user)?;
+    Ok(())
 }
 
 /// Puts a user's settings over those that are there, and returns what they displace: of each name that both have, the old

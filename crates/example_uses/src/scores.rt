@@ -44,5 +44,6 @@ pub fn set_all(
     ensures last { OnOk result (Last string_cmp (scores.old.pairs ++ more.items) scores.new.pairs) }
     ensures refused { OnErr result (scores.new.pairs ≡ scores.old.pairs) }
 {
-    scores.extend_from_vec(alloc, more)
+    scores.extend_from_vec(alloc, more)?;
+    Ok(())
 }

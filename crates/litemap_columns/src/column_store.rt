@@ -268,16 +268,6 @@ impl<K: Ord + Drop, V: Drop> StoreFromIterable<K, V> for ColumnStore<K, V> {
         store.lm_extend(alloc, iter, count)?;
         Ok(store)
     }
-
-    fn lm_sort_from_vec(
-        alloc: Global,
-        given: &mut Vec<(K, V)>,
-        count: &mut Count,
-    ) -> Result<Self, AllocError> {
-        let mut store = Self::lm_empty(alloc);
-        store.lm_extend_from_vec(alloc, given, count)?;
-        Ok(store)
-    }
 }
 
 impl<K: Drop, V: Drop> StoreFromIterator<K, V> for ColumnStore<K, V> {

@@ -32,7 +32,10 @@ pub(crate) fn by_name<'m, K: JsonKey, V: JsonItem, S: Store<K, V>>(
         };
         push_pair(&mut items, (name, item))?;
     }
-    Ok(LiteMap::from_vec(alloc, items)?)
+    match LiteMap::from_vec(alloc, items) {
+        Ok(named) => Ok(named),
+        Err(_) => Err(WriteFault::Memory),
+    }
 }
 
 /// The text of the object of such items.

@@ -38,8 +38,10 @@ pub fn from_json<K: JsonKey + Drop, V: JsonItem + Drop, S: StoreBulkMut<K, V>>(
 {
     let pairs = pairs_of(alloc, value)?;
     let mut map = LiteMap::with_capacity(alloc, 0)?;
-    map.extend_from_vec(alloc, pairs)?;
-    Ok(map)
+    match map.extend_from_vec(alloc, pairs) {
+        Ok(()) => Ok(map),
+        Err(_) => Err(JsonFault::Memory),
+    }
 }
 
 // The pairs that a value spells, in the order that it holds.

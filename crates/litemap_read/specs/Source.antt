@@ -1,11 +1,12 @@
 -- What a source of pairs gives. A source s may be able to give several lists, `gives s`: where a contract tells values
 -- apart that the source doesn't. Where it gives one, read `gives s L` as 'L is the list of s'.
-use Rattle.std.specs.Prelude.{◌≡◌, ◌↔◌, ℕ, ◌+◌, List, [], ◌∷◌, ◌++◌, Result, Ok, Err, Option, Some, None}
+use Rattle.std.specs.Prelude.{◌≡◌, ◌↔◌, ◌≤◌, ℕ, ◌+◌, List, [], ◌∷◌, ◌++◌, Result, Ok, Err, Option, Some, None}
 use Rattle.std.specs.Prelude.{IfErr, OnErr, OnOk}
 use Rattle.std.specs.declared.cmp.Ordering.{Ordering}
 use Rattle.litemap_store.specs.Last.{Last}
 use Rattle.litemap_read.specs.ReadFault.{IfSource}
 use Rattle.litemap_read.specs.declared.source.ReadFault.{ReadFault}
+use Rattle.litemap_read.specs.declared.source.ReadFault.TheVariants.{NoRoom}
 
 module _ {S P : Type 0} (gives : S → List P → Type 0) where
   -- what t can give, s can give behind some pairs
@@ -39,11 +40,12 @@ module _ {S P : Type 0} (gives : S → List P → Type 0) (left : S → ℕ) whe
   GivesNext allows ends s (Err e) t = allows s e × SameList s t
 
 -- the source s is asked up to its end, or up to a fault that it allows or want of memory, and is then t: what is left of its
--- list stands behind what it gave
-pub record IsAsked {S P E A : Type 0} (gives : S → List P → Type 0) (allows : S → E → Type 0) (may_end : S → Type 0)
+-- list stands behind what it gave. It doesn't want memory before the first pair
+pub record IsAsked {S P E A : Type 0} (gives : S → List P → Type 0) (left : S → ℕ) (allows : S → E → Type 0) (may_end : S → Type 0)
     (leads_to : S → S → Type 0) (s t : S) (result : Result A (ReadFault E)) : Type 0 where
   pub ends : OnOk result (may_end s)
   pub empty : OnOk result (gives t [])
   pub fault : IfErr result (λ fault. IfSource fault (allows s))
   pub rest : OnErr result (IsBehind gives s t)
   pub leads : leads_to s t
+  pub refused_some : IfErr result (λ fault. fault ≡ NoRoom → 1 ≤ left s)

@@ -1,9 +1,11 @@
 //! Reading a map from a source.
-ghost use Rattle.std.specs.Prelude.{◌≡◌, [], ◌∷◌, ◌++◌, IfErr, IfOk, OnErr, OnOk};
+ghost use Rattle.std.specs.Prelude.{◌≡◌, ◌≤◌, [], ◌∷◌, ◌++◌, IfErr, IfOk, OnErr, OnOk, vec_len};
 ghost use Rattle.std.specs.Iterator.{IsFiniteIterable};
+ghost use Rattle.litemap_store.specs.Bulk.{GivesSome};
 ghost use Rattle.litemap_store.specs.Laws.{Sifted};
 ghost use Rattle.litemap_read.specs.ReadFault.{IfSource};
 ghost use Rattle.litemap_read.specs.Results.{GivesFault, IsReadOf};
+ghost use Rattle.litemap_read.specs.declared.source.ReadFault.TheVariants.{NoRoom};
 ghost use Rattle.litemap_read.specs.Source.{IsAsked, IsBehind, IsRead, IsReadBehind};
 
 use crate::{PairSource, ReadFault};
@@ -16,8 +18,8 @@ const MOST_HINTED: usize = 65_536;
 
 /// The map of the pairs that a source gives, up to its end. Of each key the last pair stays, whole.
 ///
-/// A source's fault is handed on; want of memory is `NoRoom`. In both cases the pairs read so far are given up, and the source
-/// stays behind the pairs that it gave.
+/// A source's fault is handed on; want of memory is `NoRoom`, which doesn't come where it has no pair. In both cases the pairs read
+/// so far are given up, and the source stays behind the pairs that it gave.
 ///
 /// The source's hint makes room for at most 65,536 pairs, if that isn't refused. A pair whose key is above the last one is put
 /// behind it, by one comparison. Others are put aside, and at the end the map is extended by these: so rising keys cost at most
@@ -34,9 +36,9 @@ pub fn read_pairs<K: Ord + Drop, V: Drop, S: StoreBulkMut<K, V>, P: PairSource<K
     source: &mut P,
 ) -> Result<LiteMap<K, V, S>, ReadFault<P::Fault>>
     ensures read { IfOk result (λ map. IsRead K.cmp P.gives source.old map.pairs) }
-    ensures asked { IsAsked P.gives P.allows P.ends P.leads source.old source.new result }
+    ensures asked { IsAsked P.gives P.left P.allows P.ends P.leads source.old source.new result }
 {
-    let mut map = with_hint(alloc, source.hint())?;
+    let mut map = with_hint(alloc, source.hint());
     let mut aside = Vec::new(alloc);
     loop {
         match source.next_pair() {
@@ -62,7 +64,7 @@ pub fn extend_from_source<K: Ord + Drop, V: Drop, S: StoreBulkMut<K, V>, P: Pair
 ) -> Result<(), ReadFault<P::Fault>>
     ensures read { OnOk result (IsReadBehind K.cmp P.gives source.old map.old.pairs map.new.pairs) }
     ensures unchanged { OnErr result (map.new.pairs ≡ map.old.pairs) }
-    ensures asked { IsAsked P.gives P.allows P.ends P.leads source.old source.new result }
+    ensures asked { IsAsked P.gives P.left P.allows P.ends P.leads source.old source.new result }
 {
     let pairs = drain(alloc, source)?;
     map.extend_from_vec(alloc, pairs)?;
@@ -84,11 +86,11 @@ pub fn read_results<
     requires { IsFiniteIterable I.into_iter_gives I.IntoIter.can_next I.IntoIter.remaining iter }
     ensures read { IfOk result (λ map. IsReadOf K.cmp I.into_iter_gives I.IntoIter.next_gives iter map.pairs) }
     ensures fault { IfErr result (λ fault. IfSource fault (GivesFault I.into_iter_gives I.IntoIter.next_gives iter)) }
+    ensures refused_some { IfErr result (λ fault. fault ≡ NoRoom → GivesSome I.into_iter_gives I.IntoIter.next_gives iter) }
 {
-    let items = iter.into_iter();
-    let mut map = with_hint(alloc, None)?;
+    let mut map = with_hint(alloc, None);
     let mut aside = Vec::new(alloc);
-    for item in items {
+    for item in iter {
         match item {
             Ok((key, value)) => append_or_defer(&mut map, &mut aside, key, value)?,
             Err(fault) => return Err(ReadFault::Source(fault)),
@@ -105,7 +107,8 @@ fn drain<K: Drop, V: Drop, P: PairSource<K, V>>(
 ) -> Result<Vec<(K, V)>, ReadFault<P::Fault>>
     ensures given { IfOk result (λ pairs. P.gives source.old pairs.items) }
     ensures rest { IsBehind P.gives source.old source.new }
-    ensures asked { IsAsked P.gives P.allows P.ends P.leads source.old source.new result }
+    ensures fewer { IfOk result (λ pairs. vec_len pairs ≤ P.left source.old) }
+    ensures asked { IsAsked P.gives P.left P.allows P.ends P.leads source.old source.new result }
 {
     let mut pairs = vec_with_hint(alloc, source.hint());
     loop {
@@ -134,14 +137,13 @@ fn push<T: Drop>(items: &mut Vec<T>, item: T) -> Result<(), AllocError>
 }
 
 // An empty map with room for what a hint promises, up to a limit, or with none where that is refused.
-fn with_hint<K: Ord, V, S: StoreMut<K, V>>(
-    alloc: Global,
-    hint: Option<usize>,
-) -> Result<LiteMap<K, V, S>, AllocError>
-    ensures { IfOk result (λ map. map.pairs ≡ []) }
+fn with_hint<K: Ord, V, S: StoreMut<K, V>>(alloc: Global, hint: Option<usize>) -> LiteMap<K, V, S>
+    ensures { result.pairs ≡ [] }
 {
     let capacity = hint.unwrap_or(0).min(MOST_HINTED);
-    LiteMap::with_capacity(alloc, capacity).or_else(|_| LiteMap::with_capacity(alloc, 0))
+    LiteMap::with_capacity(alloc, capacity)
+        .or_else(|_| LiteMap::with_capacity(alloc, 0))
+        .unwrap()
 }
 
 // Puts a pair behind the map's pairs where its key is above them all, and else behind those put aside.

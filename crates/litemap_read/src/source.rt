@@ -3,6 +3,7 @@ ghost use Rattle.std.specs.Prelude.{◌≡◌, ◌↔◌, ℕ, List};
 ghost use Rattle.litemap_read.specs.Source.{GivesNext};
 ghost use Rattle.litemap_read.specs.declared.source.ReadFault.TheVariants.{NoRoom};
 
+use litemap::store;
 use std::alloc::AllocError;
 use std::error::Error;
 use std::fmt::{self, Display, Formatter, Write};
@@ -63,6 +64,15 @@ impl<E> From<AllocError> for ReadFault<E> {
     ghost from_gives = { λ _ fault. fault ≡ NoRoom };
 
     fn from(_: AllocError) -> Self {
+        ReadFault::NoRoom
+    }
+}
+
+/// So that `?` does so where a call of a map handed something back, which is given up.
+impl<E, T: Drop> From<store::NoRoom<T>> for ReadFault<E> {
+    ghost from_gives = { λ _ fault. fault ≡ NoRoom };
+
+    fn from(_: store::NoRoom<T>) -> Self {
         ReadFault::NoRoom
     }
 }

@@ -4,7 +4,7 @@ ghost use Rattle.serde.specs.Event.{WritesMap};
 
 use crate::{deserialize, deserialize_owned, serialize};
 use litemap::LiteMap;
-use litemap::store::{Store, StoreConstEmpty, StoreFromIterable};
+use litemap::store::{Store, StoreBulkMut, StoreConstEmpty};
 use serde::{
     Described, Deserialize, DeserializeOwned, Deserializer, Format, Serialize, Serializer,
 };
@@ -67,12 +67,8 @@ impl<K: Serialize + Ord, V: Serialize, S: Store<K, V>> Serialize for SerdeMap<K,
     }
 }
 
-impl<
-    'de,
-    K: Deserialize<'de> + Ord,
-    V: Deserialize<'de>,
-    S: StoreFromIterable<K, V> + Drop,
-> Deserialize<'de> for SerdeMap<K, V, S> {
+impl<'de, K: Deserialize<'de> + Ord, V: Deserialize<'de>, S: StoreBulkMut<K, V>> Deserialize<'de>
+    for SerdeMap<K, V, S> {
     fn deserialize<F: Format>(
         alloc: Global,
         from: &mut Deserializer<'de, '_, F>,
@@ -81,11 +77,8 @@ impl<
     }
 }
 
-impl<
-    K: DeserializeOwned + Ord,
-    V: DeserializeOwned,
-    S: StoreFromIterable<K, V> + Drop,
-> DeserializeOwned for SerdeMap<K, V, S> {
+impl<K: DeserializeOwned + Ord, V: DeserializeOwned, S: StoreBulkMut<K, V>> DeserializeOwned
+    for SerdeMap<K, V, S> {
     fn deserialize_owned<F: Format>(
         alloc: Global,
         from: &mut Deserializer<'_, '_, F>,

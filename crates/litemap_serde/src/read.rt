@@ -4,7 +4,7 @@ ghost use Rattle.litemap_store.specs.Last.{Last};
 ghost use Rattle.litemap_serde.specs.Read.{Ends, IsWhole};
 
 use litemap::LiteMap;
-use litemap::store::StoreFromIterable;
+use litemap::store::StoreBulkMut;
 use serde::{Deserialize, DeserializeOwned, Deserializer, Format};
 use std::alloc::Global;
 
@@ -17,7 +17,7 @@ pub fn deserialize<
     'de,
     K: Deserialize<'de> + Ord,
     V: Deserialize<'de>,
-    S: StoreFromIterable<K, V>,
+    S: StoreBulkMut<K, V>,
     F: Format,
 >(alloc: Global, from: &mut Deserializer<'de, '_, F>) -> Result<LiteMap<K, V, S>, F::Error>
     ensures whole { OnOk result (IsWhole F.gives F.stays from.old from.new) }
@@ -29,7 +29,7 @@ pub fn deserialize<
 pub fn deserialize_owned<
     K: DeserializeOwned + Ord,
     V: DeserializeOwned,
-    S: StoreFromIterable<K, V>,
+    S: StoreBulkMut<K, V>,
     F: Format,
 >(alloc: Global, from: &mut Deserializer<'_, '_, F>) -> Result<LiteMap<K, V, S>, F::Error>
     ensures whole { OnOk result (IsWhole F.gives F.stays from.old from.new) }
@@ -68,7 +68,7 @@ fn read<
     W: Way<'de, K> + Way<'de, V>,
     K: Ord + Drop,
     V: Drop,
-    S: StoreFromIterable<K, V>,
+    S: StoreBulkMut<K, V>,
     F: Format,
 >(alloc: Global, from: &mut Deserializer<'de, '_, F>) -> Result<LiteMap<K, V, S>, F::Error>
     ensures whole { OnOk result (IsWhole F.gives F.stays from.old from.new) }
@@ -116,7 +116,7 @@ fn next_pair<'de, W: Way<'de, K> + Way<'de, V>, K: Drop, V: Drop, F: Format>(
 }
 
 // The map of the pairs.
-fn made<K: Ord + Drop, V: Drop, S: StoreFromIterable<K, V>, F: Format>(
+fn made<K: Ord + Drop, V: Drop, S: StoreBulkMut<K, V>, F: Format>(
     alloc: Global,
     from: &Deserializer<'_, '_, F>,
     pairs: Vec<(K, V)>,

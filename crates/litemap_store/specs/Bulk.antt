@@ -1,5 +1,5 @@
 -- What bulk input leaves: the last pairs of the old ones followed by what an iterator gave.
-use Rattle.std.specs.Prelude.{◌⊎◌, ◌+◌, ◌*◌, List, ◌++◌, Option, Some, length}
+use Rattle.std.specs.Prelude.{◌≡◌, ◌⊎◌, ◌+◌, ◌*◌, List, ◌++◌, Option, Some, length}
 use Rattle.std.specs.declared.cmp.Ordering.{Ordering}
 use Rattle.std.specs.Iterator.{Drains}
 use Rattle.litemap_store.specs.declared.count.Count.{Count}
@@ -14,6 +14,10 @@ Gives {U} {T} becomes steps iter items = (it : T) × becomes iter it × Drains s
 -- iter becomes an iterator that gives an item first
 abbrev pub GivesSome : {U T X : Type 0} → (U → T → Type 0) → (T → Option X → T → Type 0) → U → Type 0
 GivesSome {U} {T} {X} becomes steps iter = (it rest : T) × (x : X) × becomes iter it × steps it (Some x) rest
+
+-- what comes back of the pairs that a refused call was given: these, or the last of each key, in rising order
+abbrev pub IsHandedBack : {K V : Type 0} → (K → K → Ordering) → List (K × V) → List (K × V) → Type 0
+IsHandedBack cmp given back = (back ≡ given) ⊎ Last cmp given back
 
 -- how many comparisons are counted at most where the pairs `given` are put to the old ones
 pub record IsCountedFor {K V : Type 0} (cmp : K → K → Ordering) (old given : List (K × V)) (before after : Count) : Type 0 where

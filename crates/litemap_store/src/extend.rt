@@ -5,7 +5,7 @@
 ghost use Rattle.std.specs.Prelude.{◌≡◌, ◌⊎◌, ◌+◌, ◌-◌, ◌*◌, ◌≤◌, ◌<◌, ◌++◌, ◌↔◌, IsTrue, IsOk, IfOk, OnOk, OnErr, length};
 ghost use Rattle.std.specs.Prelude.{[], drop, min, take, vec_capacity, vec_len};
 ghost use Rattle.std.specs.Iterator.{IsFiniteIterable};
-ghost use Rattle.litemap_store.specs.Bulk.{Gives, GivesSome};
+ghost use Rattle.litemap_store.specs.Bulk.{Gives, GivesSome, IsHandedBack};
 ghost use Rattle.litemap_store.specs.Counts.{RisesByAtMost};
 ghost use Rattle.litemap_store.specs.Last.{Last, Rises};
 ghost use Rattle.litemap_store.specs.Pairs.{Rising};
@@ -21,6 +21,7 @@ use crate::extend::sort::sort_last;
 use crate::reserved::append_each;
 use crate::store::{Store, StoreMut};
 use std::alloc::{AllocError, Global};
+use std::mem;
 
 // Room for so many items is taken with the first one.
 const FIRST_CAPACITY: usize = 8;
@@ -77,25 +78,28 @@ fn make_room<T>(items: &mut Vec<T>) -> Result<(), AllocError>
     items.reserve(more.max(FIRST_CAPACITY))
 }
 
-/// Puts pairs in: of each key the last pair stays.
+/// Puts the pairs of a vector in, which is left empty: of each key the last pair stays.
 pub fn put_pairs<K: Ord + Drop, V: Drop, S: StoreMut<K, V> + Drop>(
     alloc: Global,
     store: &mut S,
-    mut pairs: Vec<(K, V)>,
+    pairs: &mut Vec<(K, V)>,
     count: &mut Count,
 ) -> Result<(), AllocError>
     requires { Rising K.cmp (S.pairs store.old) }
-    ensures last { OnOk result (Last K.cmp (S.pairs store.old ++ pairs.items) (S.pairs store.new)) }
+    ensures last { OnOk result (Last K.cmp (S.pairs store.old ++ pairs.old.items) (S.pairs store.new)) }
     ensures refused { OnErr result (S.pairs store.new ≡ S.pairs store.old) }
-    ensures behind { Rises K.cmp (S.pairs store.old) pairs.items
-        → RisesByAtMost (length pairs.items) count.old count.new }
-    ensures cost { RisesByAtMost (length (S.pairs store.old) + 2 * length pairs.items) count.old count.new }
-    ensures succeeds { Rises K.cmp (S.pairs store.old) pairs.items → length pairs.items ≤ S.room store.old → IsOk result }
+    ensures behind { Rises K.cmp (S.pairs store.old) pairs.old.items
+        → RisesByAtMost (length pairs.old.items) count.old count.new }
+    ensures cost { RisesByAtMost (length (S.pairs store.old) + 2 * length pairs.old.items) count.old count.new }
+    ensures succeeds { Rises K.cmp (S.pairs store.old) pairs.old.items
+        → length pairs.old.items ≤ S.room store.old → IsOk result }
+    ensures empty { OnOk result (pairs.new.items ≡ []) }
+    ensures back { OnErr result (IsHandedBack K.cmp pairs.old.items pairs.new.items) }
 {
-    keep_rising(alloc, &mut pairs, 0, count)?;
-    if lies_below(store, &pairs, count) {
+    keep_rising(alloc, pairs, 0, count)?;
+    if lies_below(store, pairs, count) {
         store.lm_reserve(pairs.len())?;
-        append_each(store, pairs.into_iter());
+        append_each(store, mem::replace(pairs, Vec::new(alloc)).into_iter());
         return Ok(());
     }
     merge(alloc, store, pairs, count)
@@ -113,6 +117,7 @@ pub fn keep_rising<K: Ord + Drop, V: Drop>(
     ensures last { OnOk result (Last K.cmp (drop from pairs.old.items) (drop from pairs.new.items)) }
     ensures shorter { (from ≤ vec_len pairs.new) × (vec_len pairs.new ≤ vec_len pairs.old) }
     ensures same { Rising K.cmp (drop from pairs.old.items) → IsOk result × (pairs.new.items ≡ pairs.old.items) }
+    ensures refused { OnErr result (pairs.new.items ≡ pairs.old.items) }
     ensures cost { RisesByAtMost (vec_len pairs.old - from - 1) count.old count.new }
 {
     let (_, given) = pairs.split_at(from);

@@ -153,8 +153,17 @@ impl<K: Ord + Drop, V: Drop> StoreBulkMut<K, V> for Vec<(K, V)> {
         given: &mut Vec<(K, V)>,
         count: &mut Count,
     ) -> Result<(), AllocError> {
-        let pairs = mem::replace(given, Vec::new(alloc));
-        put_in_vec(alloc, self, pairs, count)
+        put_in_vec(alloc, self, given, count)
+    }
+
+    fn lm_sort_from_vec(
+        alloc: Global,
+        given: &mut Vec<(K, V)>,
+        count: &mut Count,
+    ) -> Result<Self, AllocError> {
+        let mut pairs = Self::new(alloc);
+        pairs.lm_extend_from_vec(alloc, given, count)?;
+        Ok(pairs)
     }
 }
 
@@ -201,16 +210,6 @@ impl<K: Ord + Drop, V: Drop> StoreFromIterable<K, V> for Vec<(K, V)> {
     ) -> Result<Self, AllocError> {
         let mut pairs = Self::new(alloc);
         pairs.lm_extend(alloc, iter, count)?;
-        Ok(pairs)
-    }
-
-    fn lm_sort_from_vec(
-        alloc: Global,
-        given: &mut Vec<(K, V)>,
-        count: &mut Count,
-    ) -> Result<Self, AllocError> {
-        let mut pairs = Self::new(alloc);
-        pairs.lm_extend_from_vec(alloc, given, count)?;
         Ok(pairs)
     }
 }

@@ -1,15 +1,19 @@
 -- What reading a table answers, and what looking a name up in it does.
-use Rattle.std.specs.Prelude.{◌≡◌, ℕ, List, Option, IfSome, length, map, option_map}
+use Rattle.std.specs.Prelude.{◌≡◌, ◌≤◌, ℕ, List, Option, IfSome, length, map, option_map}
 use Rattle.litemap.specs.ByBytes.{by_bytes}
 use Rattle.litemap_store.specs.Last.{Last}
 use Rattle.litemap_store.specs.Pairs.{place, value_at}
 use Rattle.name_table.specs.Parts.{Begins, table_parts}
-use Rattle.name_table.specs.Remaining.{shown}
+use Rattle.name_table.specs.Remaining.{IsCounted, Remaining, shown}
 use denote.Ref.{Bor}
 
 -- a text behind a reference
 abbrev pub Text : Type 0
 Text = Bor (List ℕ)
+
+-- the bytes begin with a number of entries above 0
+abbrev pub HasEntries : List ℕ → Type 0
+HasEntries bytes = (names : Remaining) × IsCounted bytes names × (1 ≤ names.left)
 
 -- the bytes begin with a table of so many bytes, and M is the last pairs of those that it has
 pub record IsRead (bytes : List ℕ) (M : List (Text × Text)) (size : ℕ) : Type 0 where

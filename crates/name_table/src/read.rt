@@ -1,8 +1,9 @@
 //! Maps read from name tables, and names looked up in them.
-ghost use Rattle.std.specs.Prelude.{IfErr, IfOk};
+ghost use Rattle.std.specs.Prelude.{◌≡◌, IfErr, IfOk};
 ghost use Rattle.litemap_read.specs.ReadFault.{IfSource};
 ghost use Rattle.name_table.specs.Faults.{TableFault};
-ghost use Rattle.name_table.specs.Reads.{IsFound, IsRead};
+ghost use Rattle.litemap_read.specs.declared.source.ReadFault.TheVariants.{NoRoom};
+ghost use Rattle.name_table.specs.Reads.{HasEntries, IsFound, IsRead};
 
 use crate::fault::NameFault;
 use crate::name_bytes::NameBytes;
@@ -24,6 +25,7 @@ pub fn read_names<'a>(
 ) -> Result<(NameMap<'a>, usize), ReadFault<NameFault>>
     ensures read { IfOk result (λ read. IsRead bytes.now read.0.pairs read.1) }
     ensures fault { IfErr result (λ fault. IfSource fault (TableFault bytes.now)) }
+    ensures refused_some { IfErr result (λ fault. fault ≡ NoRoom → HasEntries bytes.now) }
 {
     let mut names = match NameBytes::new(bytes) {
         Ok(names) => names,
@@ -52,6 +54,7 @@ pub fn find_name<'a>(
 ) -> Result<Option<(usize, &'a str)>, ReadFault<NameFault>>
     ensures found { IfOk result (λ found. IsFound bytes.now key.entry found) }
     ensures fault { IfErr result (λ fault. IfSource fault (TableFault bytes.now)) }
+    ensures refused_some { IfErr result (λ fault. fault ≡ NoRoom → HasEntries bytes.now) }
 {
     let (map, _) = read_names(alloc, bytes)?;
     match map.as_sliced().const_get_with_index(key) {

@@ -10,6 +10,7 @@ use litemap::LiteMap;
 use litemap::store::{Count, NoRoom, Store};
 use litemap_columns::ColumnStore;
 use litemap_read::{PairSource, ReadFault, extend_from_source, read_pairs};
+use std::alloc::AllocError;
 use std::cell::Cell;
 use std::vec::IntoIter;
 
@@ -44,8 +45,10 @@ fn make<S: Tested<Key, Value>>(map: &mut Map<S>, call: &Call<'_>, to: &mut Answe
     let made = match call.name {
         "from_iter" => LiteMap::from_iter(call.alloc, pairs),
         "from_iter_counted" => LiteMap::from_iter_counted(call.alloc, pairs, &mut count),
-        "from_vec" => LiteMap::from_vec(call.alloc, pairs),
-        "from_vec_counted" => LiteMap::from_vec_counted(call.alloc, pairs, &mut count),
+        "from_vec" => LiteMap::from_vec(call.alloc, pairs).map_err(AllocError::from),
+        "from_vec_counted" => {
+            LiteMap::from_vec_counted(call.alloc, pairs, &mut count).map_err(AllocError::from)
+        }
         _ => return None,
     };
     to.made(map, made);
@@ -58,8 +61,13 @@ fn extend<S: Tested<Key, Value>>(map: &mut Map<S>, call: &Call<'_>, to: &mut Ans
     to.room(match call.name {
         "extend" => map.extend(call.alloc, pairs),
         "extend_counted" => map.extend_counted(call.alloc, pairs, &mut count),
-        "extend_from_vec" => map.extend_from_vec(call.alloc, pairs),
-        "extend_from_vec_counted" => map.extend_from_vec_counted(call.alloc, pairs, &mut count),
+        "extend_from_vec" => map
+            .extend_from_vec(call.alloc, pairs)
+            .map_err(AllocError::from),
+        "extend_from_vec_counted" => {
+            map.extend_from_vec_counted(call.alloc, pairs, &mut count)
+                .map_err(AllocError::from)
+        }
         _ => return None,
     });
     Some(())

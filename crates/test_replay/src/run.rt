@@ -53,6 +53,8 @@ struct Replay {
 
 impl Replay {
     fn new(alloc: Global, is_marked: bool) -> Result<Self, AllocError> {
+        let seen = Rc::new(alloc, Seen::default())?;
+        let answer = Answer::with_capacity(alloc, LONGEST)?;
         Ok(Replay {
             vec: Bench::new(alloc),
             columns: Bench::new(alloc),
@@ -64,8 +66,8 @@ impl Replay {
                 len: 0,
                 capacity: 0,
             },
-            seen: Rc::new(alloc, Seen::default())?,
-            answer: Answer::with_capacity(alloc, LONGEST)?,
+            seen,
+            answer,
             made: 0,
             is_marked,
         })

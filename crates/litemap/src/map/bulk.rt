@@ -1,12 +1,13 @@
 //! Calls that take many pairs at once. Of each key the last pair stays.
-ghost use Rattle.std.specs.Prelude.{◌≡◌, ◌≤◌, ◌++◌, [], IfOk, IsOk, OnOk, OnErr, length};
+ghost use Rattle.std.specs.Prelude.{◌≡◌, ◌≤◌, ◌++◌, [], IfErr, IfOk, IsOk, OnOk, OnErr, length};
 ghost use Rattle.std.specs.Iterator.{IsFiniteIterable};
-ghost use Rattle.litemap_store.specs.Bulk.{GivesSome, IsCountedFor, IsExtended, IsExtendedCounted, IsRefusedCounted};
+ghost use Rattle.litemap_store.specs.Bulk.{GivesSome, IsCountedFor, IsExtended, IsExtendedCounted, IsHandedBack, IsRefusedCounted};
 ghost use Rattle.litemap_store.specs.Counts.{GoesOn};
 ghost use Rattle.litemap_store.specs.Last.{Last, Rises};
+ghost use Rattle.litemap_store.specs.Pairs.{Rising};
 
 use crate::LiteMap;
-use litemap_store::store::{Count, StoreBulkMut, StoreFromIterable};
+use litemap_store::store::{Count, NoRoom, StoreBulkMut, StoreFromIterable};
 use std::alloc::{AllocError, Global};
 
 impl<K: Ord + Drop, V: Drop, S: StoreFromIterable<K, V>> LiteMap<K, V, S> {
@@ -50,14 +51,18 @@ impl<K: Ord + Drop, V: Drop, S: StoreFromIterable<K, V>> LiteMap<K, V, S> {
         let store = S::lm_sort_from_iter(alloc, iter, count)?;
         Ok(LiteMap::from_sorted_store_unchecked(store))
     }
+}
 
+impl<K: Ord + Drop, V: Drop, S: StoreBulkMut<K, V>> LiteMap<K, V, S> {
     /// The map of the pairs of a vector, or a refusal for want of memory (own). Of each key the last pair stays, whole.
     ///
-    /// It answers as `from_iter` does, but takes the vector as it is: over a vector no pair moves where they rise, and over it
-    /// and two columns nothing is gathered. What it leaves is told by the vector's list. No pair is never refused.
-    pub fn from_vec(alloc: Global, pairs: Vec<(K, V)>) -> Result<Self, AllocError>
+    /// It answers as `from_iter` does, but takes the vector as it is: over a vector no pair moves where they rise, and nothing is
+    /// gathered. What it leaves is told by the vector's list. Refused, it hands the pairs back, or the last of each key in rising
+    /// order. No pair is never refused, nor one over a short store.
+    pub fn from_vec(alloc: Global, pairs: Vec<(K, V)>) -> Result<Self, NoRoom<Vec<(K, V)>>>
         ensures made { IfOk result (λ m. Last K.cmp pairs.items m.pairs) }
-        ensures succeeds { pairs.items ≡ [] → IsOk result }
+        ensures succeeds { Rising K.cmp pairs.items → length pairs.items ≤ S.free_room → IsOk result }
+        ensures back { IfErr result (λ e. IsHandedBack K.cmp pairs.items e.back.items) }
     {
         Self::from_vec_counted(alloc, pairs, &mut Count::new())
     }
@@ -67,17 +72,18 @@ impl<K: Ord + Drop, V: Drop, S: StoreFromIterable<K, V>> LiteMap<K, V, S> {
         alloc: Global,
         mut pairs: Vec<(K, V)>,
         count: &mut Count,
-    ) -> Result<Self, AllocError>
+    ) -> Result<Self, NoRoom<Vec<(K, V)>>>
         ensures made { IfOk result (λ m. Last K.cmp pairs.items m.pairs) }
-        ensures succeeds { pairs.items ≡ [] → IsOk result }
+        ensures succeeds { Rising K.cmp pairs.items → length pairs.items ≤ S.free_room → IsOk result }
+        ensures back { IfErr result (λ e. IsHandedBack K.cmp pairs.items e.back.items) }
         ensures counted { IsCountedFor K.cmp [] pairs.items count.old count.new }
     {
-        let store = S::lm_sort_from_vec(alloc, &mut pairs, count)?;
-        Ok(LiteMap::from_sorted_store_unchecked(store))
+        match S::lm_sort_from_vec(alloc, &mut pairs, count) {
+            Ok(store) => Ok(LiteMap::from_sorted_store_unchecked(store)),
+            Err(_) => Err(NoRoom { back: pairs }),
+        }
     }
-}
 
-impl<K: Ord + Drop, V: Drop, S: StoreBulkMut<K, V>> LiteMap<K, V, S> {
     /// Puts the pairs that an iterator gives in, or is refused for want of memory. Of each key the last pair stays, whole,
     /// where an old pair counts as earlier than all new ones: a new key takes the place of an equal old one.
     ///
@@ -131,12 +137,18 @@ impl<K: Ord + Drop, V: Drop, S: StoreBulkMut<K, V>> LiteMap<K, V, S> {
     /// old pair counts as earlier than all new ones.
     ///
     /// It answers as `extend` does, by as many comparisons, but takes the vector as it is, and nothing is gathered. What it
-    /// leaves is told by the vector's list. A refusal leaves the list, and the vector is given up. Where its keys rise past the
-    /// last one, and there is room for all, it is never refused. Nothing is promised of the room after it.
-    pub fn extend_from_vec(&mut self, alloc: Global, pairs: Vec<(K, V)>) -> Result<(), AllocError>
+    /// leaves is told by the vector's list. A refusal leaves the list, and hands the pairs back, or the last of each key in rising
+    /// order. Where its keys rise past the last one, and there is room for all, it is never refused. Nothing is promised of the room
+    /// after it.
+    pub fn extend_from_vec(
+        &mut self,
+        alloc: Global,
+        pairs: Vec<(K, V)>,
+    ) -> Result<(), NoRoom<Vec<(K, V)>>>
         ensures last { OnOk result (Last K.cmp (self.old.pairs ++ pairs.items) self.new.pairs) }
         ensures refused { OnErr result (self.new.pairs ≡ self.old.pairs) }
         ensures succeeds { Rises K.cmp self.old.pairs pairs.items → length pairs.items ≤ self.old.room → IsOk result }
+        ensures back { IfErr result (λ e. IsHandedBack K.cmp pairs.items e.back.items) }
     {
         self.extend_from_vec_counted(alloc, pairs, &mut Count::new())
     }
@@ -147,12 +159,16 @@ impl<K: Ord + Drop, V: Drop, S: StoreBulkMut<K, V>> LiteMap<K, V, S> {
         alloc: Global,
         mut pairs: Vec<(K, V)>,
         count: &mut Count,
-    ) -> Result<(), AllocError>
+    ) -> Result<(), NoRoom<Vec<(K, V)>>>
         ensures last { OnOk result (Last K.cmp (self.old.pairs ++ pairs.items) self.new.pairs) }
         ensures refused { OnErr result (self.new.pairs ≡ self.old.pairs) }
         ensures succeeds { Rises K.cmp self.old.pairs pairs.items → length pairs.items ≤ self.old.room → IsOk result }
+        ensures back { IfErr result (λ e. IsHandedBack K.cmp pairs.items e.back.items) }
         ensures counted { IsCountedFor K.cmp self.old.pairs pairs.items count.old count.new }
     {
-        self.store.lm_extend_from_vec(alloc, &mut pairs, count)
+        match self.store.lm_extend_from_vec(alloc, &mut pairs, count) {
+            Ok(()) => Ok(()),
+            Err(_) => Err(NoRoom { back: pairs }),
+        }
     }
 }

@@ -11,8 +11,9 @@ use crate::reserved::{put_up, take_last};
 use crate::store::{Store, StoreMut};
 use std::alloc::{AllocError, Global};
 use std::cmp::Ordering;
+use std::mem;
 
-/// Puts pairs in, by at most one comparison for each pair of both.
+/// Puts the pairs of a vector in, which is left empty, by at most one comparison for each pair of both. Refused, it keeps them.
 ///
 /// All room is taken first: a side vector and a fresh store, each for all pairs. Each pair then moves into the side
 /// vector and from there into the fresh store, which becomes the store. So at its peak it holds each pair once, in room
@@ -21,21 +22,24 @@ use std::cmp::Ordering;
 pub fn merge<K: Ord + Drop, V: Drop, S: StoreMut<K, V> + Drop>(
     alloc: Global,
     store: &mut S,
-    pairs: Vec<(K, V)>,
+    pairs: &mut Vec<(K, V)>,
     count: &mut Count,
 ) -> Result<(), AllocError>
     requires store { Rising K.cmp (S.pairs store.old) }
-    requires pairs { Rising K.cmp pairs.items }
-    ensures last { OnOk result (Last K.cmp (S.pairs store.old ++ pairs.items) (S.pairs store.new)) }
+    requires pairs { Rising K.cmp pairs.old.items }
+    ensures last { OnOk result (Last K.cmp (S.pairs store.old ++ pairs.old.items) (S.pairs store.new)) }
     ensures refused { OnErr result (S.pairs store.new ≡ S.pairs store.old) }
-    ensures cost { RisesByAtMost (length (S.pairs store.old) + length pairs.items) count.old count.new }
+    ensures cost { RisesByAtMost (length (S.pairs store.old) + length pairs.old.items) count.old count.new }
+    ensures empty { OnOk result (pairs.new.items ≡ []) }
+    ensures back { OnErr result (pairs.new.items ≡ pairs.old.items) }
 {
     let Some(total) = store.lm_len().checked_add(pairs.len()) else {
         return Err(AllocError);
     };
     let mut side = Vec::with_capacity(alloc, total)?;
     let mut fresh = S::lm_with_capacity(alloc, total)?;
-    take_down(store, pairs, &mut side, count);
+    let given = mem::replace(pairs, Vec::new(alloc));
+    take_down(store, given, &mut side, count);
     put_up(&mut fresh, side);
     *store = fresh;
     Ok(())

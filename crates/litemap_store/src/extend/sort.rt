@@ -1,5 +1,5 @@
 //! Pairs sorted by their keys, of which the last of each key is kept.
-ghost use Rattle.std.specs.Prelude.{◌≡◌, ◌≤◌, IfOk, length, take};
+ghost use Rattle.std.specs.Prelude.{◌≡◌, ◌≤◌, IfOk, OnErr, length, take};
 ghost use Rattle.std.specs.List.Sorted.{IsSortedByKey};
 ghost use Rattle.litemap_store.specs.Last.{Last};
 
@@ -10,6 +10,7 @@ pub fn sort_last<K: Ord, V>(alloc: Global, pairs: &mut [(K, V)]) -> Result<usize
     ensures last { IfOk result (λ kept. Last K.cmp pairs.old (take kept pairs.new)) }
     ensures within { IfOk result (λ kept. kept ≤ length pairs.old) }
     ensures len { length pairs.new ≡ length pairs.old }
+    ensures refused { OnErr result (pairs.new ≡ pairs.old) }
 {
     pairs.sort_by(alloc, |a, b| a.0.cmp(&b.0))?;
     Ok(keep_last(pairs))

@@ -21,7 +21,7 @@ loop-place-preserved g c =
     (name_more (λ r. g.V.JsonItem.json r.now) g.K.JsonKey.text g.K.JsonItem.json g.V.JsonItem.json L c.loop-place.place x (c.in-Some.name, c.pair_at.result.1) c.loop-place.items.items
     found.0 found.1 named refl c.loop-place.invariant)
 
-pub returns-clause-named : goal.returns-clause-named
-returns-clause-named g c =
-    name_end (λ r. g.V.JsonItem.json r.now) g.K.JsonKey.text g.K.JsonItem.json g.V.JsonItem.json c.args.map.now.pairs c.loop-place.place c.loop-place.items.items c.in_ok-from_vec.field-0.pairs
-    (omega arith) c.loop-place.invariant c.in_ok-from_vec.ensures.made
+pub returns-in-Ok-clause-named : goal.returns-in-Ok-clause-named
+returns-in-Ok-clause-named g c =
+    name_end (λ r. g.V.JsonItem.json r.now) g.K.JsonKey.text g.K.JsonItem.json g.V.JsonItem.json c.args.map.now.pairs c.loop-place.place c.loop-place.items.items c.in-Ok.named.pairs
+    (omega arith) c.loop-place.invariant c.in-Ok.ensures.made

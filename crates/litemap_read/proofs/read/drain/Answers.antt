@@ -1,5 +1,6 @@
-use Rattle.std.proofs.Common.{rules, [], ◌∷◌, ◌++◌, append_assoc}
+use Rattle.std.proofs.Common.{rules, [], ◌∷◌, ◌++◌, append_assoc, arith}
 use Rattle.litemap_store.proofs.Counting.{always_on_err}
+use Rattle.litemap_read.proofs.Sifted.{always_if_err}
 use Rattle.litemap_read.proofs.read.drain.Goals as goal
 
 -- the pair that found no room stood before what is left
@@ -15,5 +16,6 @@ returns-in_err-push-in-Ok-Some-clause-asked g c = record {
   empty = search rules;
   fault = search rules;
   rest = always_on_err c.from_residual.result (returns-in_err-push-in-Ok-Some-clause-rest g c);
-  leads = search rules;
+  leads = g.met.P.PairSource.leads_on _ _ _ c.loop-pair.invariant.led c.next_pair.ensures.leads;
+  refused_some = always_if_err _ c.from_residual.result (omega (arith, c.loop-pair.invariant.left, (rw c.in-Ok-Some.field-0-is at c.in-Ok-Some.ensures.next).1));
 }

@@ -1,7 +1,7 @@
-use Rattle.std.proofs.Common.{rules, [], ◌∷◌, ◌++◌, append-nil, append_assoc}
+use Rattle.std.proofs.Common.{rules, [], ◌∷◌, ◌++◌, append-nil, append_assoc, arith, length-append}
 use Rattle.litemap_store.proofs.Sifting.{Last-sifted}
 use Rattle.litemap_store.proofs.Counting.{always_on_err}
-use Rattle.litemap_read.proofs.Sifted.{Sifted-joins}
+use Rattle.litemap_read.proofs.Sifted.{Sifted-joins, always_if_err, some_refused, some_sifted}
 use Rattle.litemap_read.proofs.read.read_pairs.Goals as goal
 
 pub loop-key-preserved : goal.loop-key-preserved
@@ -16,6 +16,7 @@ loop-key-preserved g c =
         seen ++ pair ∷ [],
         λ rest h. rw append_assoc (before.seen.1 (pair ∷ rest) (next.0 rest h)),
         Sifted-joins g.K.Ord.cmp seen (pair ∷ []) [] [] c.loop-key.map.pairs c.loop-key.aside.items c.append_or_defer.new.map.pairs c.append_or_defer.new.aside.items before.seen.2 c.in_ok-append_or_defer-in-Ok-Some.ensures,
+        omega (arith, before.seen.3, next.1, length-append seen (pair ∷ [])),
       );
       faults = λ e. ((λ h. (before.faults e).0 ((step.keeps_faults e).0 h)), (λ h. (step.keeps_faults e).1 ((before.faults e).1 h)));
       end = ((λ h. before.end.0 (step.keeps_end.0 h)), (λ h. step.keeps_end.1 (before.end.1 h)));
@@ -32,9 +33,10 @@ returns-in_err-append_or_defer-in-Ok-Some-clause-asked g c =
       ends = search rules;
       empty = search rules;
       fault = search rules;
-      rest = always_on_err c.from_residual-in_err-append_or_defer-in-Ok-Some.result
+      rest = always_on_err c.from_residual.result
           (before.seen.0 ++ pair ∷ [], λ rest h. rw append_assoc (before.seen.1 (pair ∷ rest) (next.0 rest h)));
       leads = search rules;
+      refused_some = always_if_err _ c.from_residual.result (omega (arith, before.seen.3, next.1));
     }
 
 pub returns-in-Err-clause-asked : goal.returns-in-Err-clause-asked
@@ -45,6 +47,23 @@ returns-in-Err-clause-asked g c =
       fault = search rules;
       rest = (before.seen.0, λ rest h. before.seen.1 rest ((c.in-Err.ensures.next.1.0 rest).0 h));
       leads = search rules;
+      refused_some = search rules;
+    }
+
+-- what was put aside is refused, and so is no empty list
+pub returns-in_err-extend_from_vec-clause-asked : goal.returns-in_err-extend_from_vec-clause-asked
+returns-in_err-extend_from_vec-clause-asked g c =
+    let before = c.loop-key.invariant in
+    let next = rw c.in-Ok-None.field-0-is at c.in-Ok-None.ensures.next in
+    let aside = c.loop-key.aside.items in
+    let put_aside = rw c.in_err-extend_from_vec.was at (some_refused g.K.Ord.cmp c.extend_from_vec.result c.loop-key.map.pairs aside c.loop-key.map.room c.extend_from_vec.ensures.succeeds) in
+    record {
+      ends = search rules;
+      empty = search rules;
+      fault = search rules;
+      rest = always_on_err c.from_residual-in_err-extend_from_vec.result (before.seen.0, λ rest h. before.seen.1 rest ((next.1.0 rest).0 h));
+      leads = search rules;
+      refused_some = always_if_err _ c.from_residual-in_err-extend_from_vec.result (omega (arith, before.seen.3, some_sifted g.K.Ord.cmp before.seen.0 c.loop-key.map.pairs aside before.seen.2 put_aside));
     }
 
 pub returns-clause-read : goal.returns-clause-read

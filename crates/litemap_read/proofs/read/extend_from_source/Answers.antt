@@ -1,0 +1,18 @@
+use Rattle.std.proofs.Common.{rules, arith}
+use Rattle.litemap_store.proofs.Counting.{always_on_err}
+use Rattle.litemap_read.proofs.Sifted.{always_if_err, some_refused}
+use Rattle.litemap_read.proofs.read.extend_from_source.Goals as goal
+
+-- what was read is refused, and so is no empty list
+pub returns-in_err-extend_from_vec-clause-asked : goal.returns-in_err-extend_from_vec-clause-asked
+returns-in_err-extend_from_vec-clause-asked g c =
+    let pairs = c.in_ok-pairs.pairs in
+    let some = rw c.in_err-extend_from_vec.was at (some_refused g.K.Ord.cmp c.extend_from_vec.result c.args.map.now.pairs pairs.items c.args.map.now.room c.extend_from_vec.ensures.succeeds) in
+    record {
+      ends = search rules;
+      empty = search rules;
+      fault = search rules;
+      rest = always_on_err c.from_residual-in_err-extend_from_vec.result c.drain.ensures.rest;
+      leads = search rules;
+      refused_some = always_if_err _ c.from_residual-in_err-extend_from_vec.result (omega (arith, pairs.ok.0, c.in_ok-pairs.ensures.fewer, some));
+    }
