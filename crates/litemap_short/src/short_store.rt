@@ -19,7 +19,8 @@ use std::ops::Range;
 ///
 /// It is for maps that mostly have no pair or one. As long as it never had more, `lm_push` and `lm_insert` take no memory, and
 /// the first pair of one that `lm_empty` made is never refused. Bulk calls (`lm_extend`, `lm_sort_from_iter`, `lm_from_pairs`)
-/// gather their pairs in a vector, one pair too, and a map's `split_off` those that go. From the second pair on all lie in a vector, which stays where pairs are
+/// gather their pairs in a vector, one pair too, and a map's `split_off` those that go; a lone pair of a given vector
+/// (`lm_sort_from_vec`) moves in with no memory. From the second pair on all lie in a vector, which stays where pairs are
 /// removed again. Where a second pair is refused for want of memory, the first stays and the new one comes back.
 ///
 /// It prints as the list of its pairs.

@@ -143,17 +143,22 @@ pub fn file(rt: &HostRuntime, name: &str, is_marked: bool) -> io::Result<()> {
 /// Makes the calls of the lines of a text, which has a name, and writes those that are answered otherwise.
 pub fn lines(rt: &HostRuntime, name: &str, text: &str, is_marked: bool) -> io::Result<()> {
     let mut replay = Replay::new(rt.alloc(), is_marked)?;
+    each_line(rt, &mut replay, name, text)?;
+    println!(rt; "{name}: {} calls", replay.made)
+}
+
+fn each_line(rt: &HostRuntime, replay: &mut Replay, name: &str, text: &str) -> io::Result<()> {
     for (place, text) in text.lines().enumerate() {
         if replay.settle(text) {
             continue;
         }
         match line::parse(text) {
-            Some(line) if line.goes_on && is_marked => {}
-            Some(line) => each_store(rt, &mut replay, (name, place), &line)?,
+            Some(line) if line.goes_on && replay.is_marked => {}
+            Some(line) => each_store(rt, replay, (name, place), &line)?,
             None => println!(rt; "{name}:{}: bad line", place.wrapping_add(1))?,
         }
     }
-    println!(rt; "{name}: {} calls", replay.made)
+    Ok(())
 }
 
 // Makes the call of a line over each store that is on.

@@ -72,7 +72,32 @@ macro_rules! walk {
             $met.$item(item);
             $met.hint(rest.size_hint());
         }
+        Some(())
     }};
+}
+
+fn walk_pairs<'a, S: StoreIterable<'a, Key, Value>>(
+    map: &'a Map<S>,
+    call: &Call<'_>,
+    met: &mut Met,
+) -> Made {
+    walk!(map.iter(), call, met, pair)
+}
+
+fn walk_keys<'a, S: StoreIterable<'a, Key, Value>>(
+    map: &'a Map<S>,
+    call: &Call<'_>,
+    met: &mut Met,
+) -> Made {
+    walk!(map.keys(), call, met, key)
+}
+
+fn walk_values<'a, S: StoreIterable<'a, Key, Value>>(
+    map: &'a Map<S>,
+    call: &Call<'_>,
+    met: &mut Met,
+) -> Made {
+    walk!(map.values(), call, met, value)
 }
 
 /// Walks over a map that lends its pairs, if the name is one of these.
@@ -84,9 +109,9 @@ pub fn lent<'a, S: StoreIterable<'a, Key, Value>>(
 ) -> Made {
     let mut met = Met::new(map.len());
     match call.name {
-        "iter" => walk!(map.iter(), call, met, pair),
-        "keys" => walk!(map.keys(), call, met, key),
-        "values" => walk!(map.values(), call, met, value),
+        "iter" => walk_pairs(map, call, &mut met)?,
+        "keys" => walk_keys(map, call, &mut met)?,
+        "values" => walk_values(map, call, &mut met)?,
         "iter_keys" => met.key(map.iter_keys().next()),
         "iter_values" => met.value(map.iter_values().next()),
         "for" => {

@@ -87,8 +87,9 @@ impl<K: Ord + Drop, V: Drop, S: StoreBulkMut<K, V>> LiteMap<K, V, S> {
     /// Puts the pairs that an iterator gives in, or is refused for want of memory. Of each key the last pair stays, whole,
     /// where an old pair counts as earlier than all new ones: a new key takes the place of an equal old one.
     ///
-    /// A refusal leaves the list, and the pairs taken from the iterator are given up. Its size hint isn't used. Nothing is promised
-    /// of the room: where a new pair falls between others a fresh store takes the place of the map's, with its limit, if it had one.
+    /// A refusal leaves the list, and the pairs taken from the iterator are given up. Its size hint isn't used. Nothing is
+    /// promised of the room: where a new pair falls between others a fresh store takes the place of the map's, with its limit, if
+    /// it had one.
     ///
     /// New pairs that rise past the last key are put behind it, by at most one comparison for each. Others that rise are
     /// merged, by at most one comparison for each old and two for each new pair, and each pair moves a constant number of
@@ -138,8 +139,8 @@ impl<K: Ord + Drop, V: Drop, S: StoreBulkMut<K, V>> LiteMap<K, V, S> {
     ///
     /// It answers as `extend` does, by as many comparisons, but takes the vector as it is, and nothing is gathered. What it
     /// leaves is told by the vector's list. A refusal leaves the list, and hands the pairs back, or the last of each key in rising
-    /// order. Where its keys rise past the last one, and there is room for all, it is never refused. Nothing is promised of the room
-    /// after it.
+    /// order. Where its keys rise past the last one, and there is room for all, it is never refused. Nothing is promised of the
+    /// room after it.
     pub fn extend_from_vec(
         &mut self,
         alloc: Global,
