@@ -693,7 +693,7 @@ def scattered():
 
 
 def merged():
-    """Every two maps over four letters, and longer maps at each length where one way of merging gives place to another."""
+    """Every two maps over four letters, longer maps where one way of merging gives place to another, and each total up to 600."""
     sets = ["".join(it) for length in range(5) for it in itertools.combinations("abcd", length)]
     for old in sets:
         for new in sets:
@@ -706,16 +706,20 @@ def merged():
                 step = max(2 * length // count, 1)
                 calls = [f"extend_from_litemap {start},{count},{step}" for start in (1, 2)]
                 yield from block(GROWING, length, 0, calls)
+    for total in range(601):
+        length = total // 2
+        yield from block(GROWING, length, 0, [f"extend_from_litemap 1,{total - length},2"])
 
 
 def beside():
-    """Short maps beside each one of keys at their places and gaps, and longer ones."""
+    """Short maps beside each one of keys at their places and gaps, longer ones, and one beside each length up to 70."""
     for length in range(4):
         places = range(1, 2 * length + 2)
         theirs = [" ".join(f"{key}:9" for key in keys) for count in range(len(places) + 1) for keys in itertools.combinations(places, count)]
         yield from block(ALL, length, 0, [f"{name} {pairs}".strip() for name in BESIDE for pairs in theirs])
     for length in (5, 12, 20, 24, 33, 65, 129, 513, 1000):
         yield from block(ALL, length, 0, [f"{name} {pairs}".strip() for name in BESIDE for pairs in inputs(length)])
+    yield from block(ALL, 20, 0, [f"{name} 2,{count},2" for name in BESIDE for count in range(71)])
 
 
 def renamed():
