@@ -1,19 +1,17 @@
 -- What a look-up finds after an extension by a vector of pairs: lemmas for the proofs of callers.
---     given_by_vec      what a vector gives;  Last-extended, Last_if_made      what is left of it;  value_at-extended, new_wins, old_stays      what is found after `extend`
---     counted_in_each      how far a count rises, refused or not;  value_at-collected      what is found after `from_iter`;  counted_made      how far a count rises
+--     given_by_vec      what a vector gives;  Last-extended      what is left of it;  value_at-extended, new_wins, old_stays      what is found after `extend`
+--     value_at-collected      what is found after `from_iter`
 -- An answer shows `holds` by `λ v it h. h.0`.
-use Rattle.std.proofs.Common.{◌≡◌, ◌+◌, ◌*◌, List, [], ◌++◌, length, Some, None, option_map, reverse, ap, ◌∙◌, subst, inl, inr, arith, Vec, Result, Ok, Err, IfOk, OnErr}
+use Rattle.std.proofs.Common.{◌≡◌, List, [], ◌++◌, Some, None, option_map, reverse, ap, ◌∙◌, subst, Vec}
 use Rattle.std.proofs.IntoIterSteps.{All-taken}
 use Rattle.std.specs.Cmp.{IsTotalOrder}
 use Rattle.std.specs.Option.{option_or}
 use Rattle.std.specs.Vec.Iter.{into_iter_items, into_iter_steps}
 use Rattle.std.specs.declared.vec.IntoIter.{IntoIter}
 use Rattle.std.specs.declared.cmp.Ordering.{Ordering}
-use Rattle.litemap_store.specs.Bulk.{Gives, IsCountedFor, IsExtended, IsExtendedCounted, IsRefusedCounted}
-use Rattle.litemap_store.specs.declared.count.Count.{Count}
+use Rattle.litemap_store.specs.Bulk.{Gives, IsExtended}
 use Rattle.litemap_store.specs.Last.{Last}
 use Rattle.litemap_store.specs.Pairs.{Rising, value_at}
-use Rattle.litemap_store.proofs.Counting.{at_most}
 use Rattle.litemap_store.proofs.LastLookups.{at-Last, value_at-Last_of_more}
 
 module _ {X Z : Type 0} (becomes : Vec X Z → IntoIter X Z → Type 0) (holds : (v : Vec X Z) (it : IntoIter X Z) → becomes v it → into_iter_items it ≡ v.items) where
@@ -39,28 +37,3 @@ module _ {K V Z : Type 0} {cmp : K → K → Ordering} (o : IsTotalOrder cmp) (b
   -- a key finds its last value
   pub value_at-collected : (v : Vec (K × V) Z) (new : List (K × V)) → IsExtended cmp becomes into_iter_steps v [] new → (k : K) → value_at cmp new k ≡ value_at cmp (reverse v.items) k
   value_at-collected v new e k = ap (option_map (λ p. p.1)) (at-Last o v.items new (Last-extended v [] new e) k)
-
-  -- ---- how far the count rises
-  module _ (v : Vec (K × V) Z) (old new : List (K × V)) (before after : Count) (e : IsExtendedCounted cmp becomes into_iter_steps v old new before after) where
-    pub counted_made : IsCountedFor cmp old v.items before after
-    counted_made = subst (λ J. IsCountedFor cmp old J before after) (given_by_vec becomes holds v e.extended.given e.extended.gives) e.counted
-
-  -- the same where the call was refused
-  module _ (v : Vec (K × V) Z) (old : List (K × V)) (before after : Count) (e : IsRefusedCounted cmp becomes into_iter_steps v old before after) where
-    counted : IsCountedFor cmp old v.items before after
-    counted = elim e [
-      | inl none ↦ record { behind = λ _. at_most 0 (length v.items) (omega arith) none; rising = λ _. at_most 0 (length old + 2 * length v.items) (omega arith) none }
-      | inr all ↦ subst (λ J. IsCountedFor cmp old J before after) (given_by_vec becomes holds v all.0 all.1) all.2
-    ]
-
-  -- and so in each case
-  pub counted_in_each : {T E : Type 0} (pairs : T → List (K × V)) (v : Vec (K × V) Z) (old : List (K × V)) (before after : Count) (r : Result T E)
-      → IfOk r (λ s. IsExtendedCounted cmp becomes into_iter_steps v old (pairs s) before after) → OnErr r (IsRefusedCounted cmp becomes into_iter_steps v old before after)
-      → IsCountedFor cmp old v.items before after
-  counted_in_each pairs v old before after (Ok s) made refused = counted_made v old (pairs s) before after made
-  counted_in_each pairs v old before after (Err e) made refused = counted v old before after refused
-
-  pub Last_if_made : {T E : Type 0} (pairs : T → List (K × V)) (v : Vec (K × V) Z) (old : List (K × V)) (before after : Count) (r : Result T E)
-      → IfOk r (λ s. IsExtendedCounted cmp becomes into_iter_steps v old (pairs s) before after) → IfOk r (λ s. Last cmp (old ++ v.items) (pairs s))
-  Last_if_made pairs v old before after (Ok s) made = Last-extended v old (pairs s) made.extended
-  Last_if_made pairs v old before after (Err e) made = tt

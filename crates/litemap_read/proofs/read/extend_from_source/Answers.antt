@@ -1,6 +1,7 @@
 use Rattle.std.proofs.Common.{rules, arith}
 use Rattle.litemap_store.proofs.Counting.{always_on_err}
-use Rattle.litemap_read.proofs.Sifted.{always_if_err, some_refused}
+use Rattle.litemap_store.proofs.FirstGiven.{some_refused}
+use Rattle.litemap_read.proofs.Sifted.{always_if_err}
 use Rattle.litemap_read.proofs.read.extend_from_source.Goals as goal
 
 -- what was read is refused, and so is no empty list

@@ -1,7 +1,8 @@
 use Rattle.std.proofs.Common.{rules, [], ◌∷◌, ◌++◌, append-nil, append_assoc, arith, length-append}
 use Rattle.litemap_store.proofs.Sifting.{Last-sifted}
 use Rattle.litemap_store.proofs.Counting.{always_on_err}
-use Rattle.litemap_read.proofs.Sifted.{Sifted-joins, always_if_err, some_refused, some_sifted}
+use Rattle.litemap_store.proofs.FirstGiven.{some_refused}
+use Rattle.litemap_read.proofs.Sifted.{Sifted-joins, always_if_err, some_sifted}
 use Rattle.litemap_read.proofs.read.read_pairs.Goals as goal
 
 pub loop-key-preserved : goal.loop-key-preserved

@@ -1,9 +1,9 @@
-use Rattle.std.proofs.Common.{◌≤◌, ◌∙◌, [], ◌∷◌, ◌++◌, List, Ok, ap, length, map, rules, subst, sym}
+use Rattle.std.proofs.Common.{◌∙◌, [], ◌∷◌, ◌++◌, List, Ok, ap, map, rules, subst, sym}
 use Rattle.std.proofs.lemmas.List.{map-append}
 use Rattle.litemap_store.specs.Bulk.{Gives}
 use Rattle.litemap_store.proofs.Sifting.{Last-sifted}
-use Rattle.litemap_store.proofs.FirstGiven.{GivesSome-from_Yields}
-use Rattle.litemap_read.proofs.Sifted.{Sifted-joins, always_if_err, first_given, some_refused, some_sifted}
+use Rattle.litemap_store.proofs.FirstGiven.{GivesSome-from_Yields, GivesSome-from_some, some_refused}
+use Rattle.litemap_read.proofs.Sifted.{Sifted-joins, always_if_err, some_given, some_sifted}
 use Rattle.litemap_read.proofs.read.read_results.Goals as goal
 
 pub loop-item-preserved : goal.loop-item-preserved
@@ -39,5 +39,5 @@ returns-in_err-extend_from_vec-clause-refused_some g c =
     let aside = c.loop-item.aside.items in
     let put_aside = rw c.in_err-extend_from_vec.was at (some_refused g.K.Ord.cmp c.extend_from_vec.result c.loop-item.map.pairs aside c.loop-item.map.room c.extend_from_vec.ensures.succeeds) in
     let all : Gives g.I.IntoIterator.into_iter_gives g.I.IntoIter.Iterator.next_gives c.args.iter c.loop-item.yielded = search rules in
-    always_if_err _ c.from_residual-in_err-extend_from_vec.result (first_given g.I.IntoIterator.into_iter_gives g.I.IntoIter.Iterator.next_gives c.args.iter
-    before.0 (subst (λ xs. Gives g.I.IntoIterator.into_iter_gives g.I.IntoIter.Iterator.next_gives c.args.iter xs) before.1 all) (some_sifted g.K.Ord.cmp before.0 c.loop-item.map.pairs aside before.2 put_aside))
+    always_if_err _ c.from_residual-in_err-extend_from_vec.result (GivesSome-from_some g.I.IntoIterator.into_iter_gives g.I.IntoIter.Iterator.next_gives c.args.iter
+    c.loop-item.yielded all (some_given before.0 c.loop-item.yielded before.1 (some_sifted g.K.Ord.cmp before.0 c.loop-item.map.pairs aside before.2 put_aside)))
