@@ -30,7 +30,7 @@ GROUPS = {
     "Name tables": "name_table: read write name_bytes cursor fault laws; "
     "name_index: table index name_entries indexed checked index_write fault laws",
     "What a call can be asked by": "litemap_store: query",
-    "Stores": "litemap_store: store into_iter vec_impl slice_impl slice_iter count no_room shared slice_search extend_store "
+    "Stores": "litemap_store: store into_iter vec_impl slice_impl slice_iter count no_room shared slice_search merge "
     "split_store; litemap_short: short_store short_iter; litemap_columns: lib column_store column_iter",
     "Laws, for proofs": "litemap_store: laws",
 }

@@ -11,7 +11,7 @@ import re
 FOLDER = pathlib.Path(__file__).resolve().parent
 STEP = 1099511628211
 # Around what the libraries treat in another way: none, one, a sort without memory, a vector's first room, and more.
-LENGTHS = [0, 1, 2, 3, 4, 5, 8, 9, 12, 16, 17, 20, 21, 24, 30, 33, 65, 129, 513, 1000]
+LENGTHS = [0, 1, 2, 3, 4, 5, 8, 9, 12, 16, 17, 20, 21, 24, 30, 33, 65, 100, 129, 513, 1000]
 GROWING = "vec columns short"
 ALL = GROWING + " fixed"
 
@@ -596,7 +596,7 @@ def inputs(length):
 
 def bulk():
     """What takes or makes many pairs at once, merges, parts and reads."""
-    for length in [0, 1, 2, 3, 5, 12, 16, 17, 24, 30, 33, 65, 129, 1000]:
+    for length in [0, 1, 2, 3, 5, 12, 16, 17, 24, 30, 33, 65, 100, 129, 1000]:
         given = list(inputs(length)) + ([f"{2 * length + 1},1000,1", "1,1000,2", "4000,1000,-4"] if length in (0, 17, 1000) else [])
         calls = [f"{name} {pairs}".strip() for name in EXTENSIONS[:4] + MERGES for pairs in given]
         calls += [f"split_off {key}" for key in keys(length)]
@@ -663,7 +663,7 @@ STORED = [("lm_pair_mut", " 7"), ("lm_replace", " 1 7"), ("lm_remove", "")]
 
 def refusable():
     """Each call that may be refused, at each length up to 70, and at two that are longer."""
-    for length in [*range(71), 129, 513]:
+    for length in [*range(71), 100, 129, 513]:
         end = 2 * length + 1
         given = [f"{end},1,1", f"1,{length},2", f"{2 * end},{length},-1"]
         calls = [f"{name} {end} 7" for name in PUTS + ENTRIES[:6]] + [f"or_default {end}", *CONVERSIONS, "lm_try_clone", "lm_push 9999 7"]
@@ -717,14 +717,14 @@ def beside():
         places = range(1, 2 * length + 2)
         theirs = [" ".join(f"{key}:9" for key in keys) for count in range(len(places) + 1) for keys in itertools.combinations(places, count)]
         yield from block(ALL, length, 0, [f"{name} {pairs}".strip() for name in BESIDE for pairs in theirs])
-    for length in (5, 12, 20, 24, 33, 65, 129, 513, 1000):
+    for length in (5, 12, 20, 24, 33, 65, 100, 129, 513, 1000):
         yield from block(ALL, length, 0, [f"{name} {pairs}".strip() for name in BESIDE for pairs in inputs(length)])
     yield from block(ALL, 20, 0, [f"{name} 2,{count},2" for name in BESIDE for count in range(71)])
 
 
 def renamed():
     """Values that move from each kind of key to each other, and between letters that are equal keys."""
-    for length in (0, 1, 2, 3, 5, 12, 17, 24, 30, 33, 65, 129, 513, 1000):
+    for length in (0, 1, 2, 3, 5, 12, 17, 24, 30, 33, 65, 100, 129, 513, 1000):
         ends = [1, *present(length), 2 * length + 1]
         calls = [f"rename {key} {new_key}" for key in ends for new_key in keys(length)]
         calls += [f"rename_counted {key} {new_key}" for key in ends for new_key in ends]
@@ -742,7 +742,7 @@ def combined():
         calls = ["from_vec" + "".join(f" {key}:{place}" for place, key in enumerate(old))]
         calls += ["extend_with" + "".join(f" {key.upper()}:{9 - place}" for place, key in enumerate(new))]
         yield from chain(GROWING, calls, "letter", 8)
-    for length in (0, 1, 2, 3, 12, 17, 24, 30, 33, 65, 129, 513, 1000):
+    for length in (0, 1, 2, 3, 12, 17, 24, 30, 33, 65, 100, 129, 513, 1000):
         calls = [f"{name} {pairs}".strip() for name in COMBINES for pairs in inputs(length)]
         yield from block(GROWING, length, 0, calls)
         yield from block(ALL, length, 3000, [call for call in calls if not is_before(call)])

@@ -13,9 +13,9 @@ use Rattle.std.specs.declared.cmp.Ordering.{Ordering}
 use Rattle.std.specs.declared.cmp.Ordering.TheVariants.{Less, Equal, Greater}
 use Rattle.litemap_store.specs.Last.{In}
 use Rattle.litemap_store.specs.Pairs.{at}
-use Rattle.litemap_store.proofs.LastLookups.{at-Rising}
-use Rattle.litemap_store.proofs.LastPairs.{same_rising}
-use Rattle.litemap_store.proofs.Splitting.{each-append, each-weaker}
+use Rattle.litemap_store.proofs.Callers.LastLookups.{at-Rising}
+use Rattle.litemap_store.proofs.Last.Pairs.{same_rising}
+use Rattle.litemap_store.proofs.Search.Splitting.{each-append, each-weaker}
 use Rattle.example_keywords.specs.Keywords.{AreCanonical, IsFault, IsKeyword, IsRead, Keyword, Rise, Spells, canonical, is_key, is_value_part, joined, keyword_parts, pair_of, parts_of, size_of, value_of}
 use Rattle.example_keywords.specs.Laws.{EachIsRead}
 use Rattle.example_keywords.specs.Reading.{NoValueFirst}

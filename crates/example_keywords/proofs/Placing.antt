@@ -8,8 +8,8 @@ use Rattle.std.specs.declared.cmp.Ordering.{Ordering}
 use Rattle.std.specs.declared.cmp.Ordering.TheVariants.{Less, Equal, Greater}
 use Rattle.litemap_store.specs.Last.{In}
 use Rattle.litemap_store.specs.Pairs.{BelowAll, Rising, above, at, below, key_or, put, value_at}
-use Rattle.litemap_store.proofs.Lookups.{value_at-put, value_at-put_other}
-use Rattle.litemap_store.proofs.Membership.{In-cases, In-from_filter}
+use Rattle.litemap_store.proofs.Callers.Lookups.{value_at-put, value_at-put_other}
+use Rattle.litemap_store.proofs.Lists.Membership.{In-cases, In-from_filter}
 use Rattle.example_keywords.specs.Keywords.{Rise, value_of}
 use Rattle.example_keywords.specs.Reading.{IsPutFirst, shown}
 

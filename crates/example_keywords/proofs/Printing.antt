@@ -2,8 +2,8 @@
 use Rattle.std.proofs.Common.{◌≡◌, ℕ, zero, suc, ◌+◌, ◌<◌, List, [], ◌∷◌, ◌++◌, Some, String, map, take, get_or, sym, ap, ◌∙◌, subst, append_assoc, append-nil, IsTrue, slice_get, string_bytes}
 use Rattle.std.proofs.lemmas.List.{map-append, take_more}
 use Rattle.std.proofs.lemmas.Option.{get_or_from_slice_get, slice_get_within}
-use Rattle.litemap_store.proofs.Joined.{In-slice_get}
-use Rattle.litemap_store.proofs.Membership.{each}
+use Rattle.litemap_store.proofs.Lists.Joined.{In-slice_get}
+use Rattle.litemap_store.proofs.Lists.Membership.{each}
 use Rattle.std.specs.Char.{to_ascii_lowercase}
 use Rattle.example_keywords.specs.Keywords.{AreCanonical, IsKeyword, Keyword, is_key, joined, pair_of}
 use Rattle.example_keywords.specs.Reading.{shown}

@@ -8,8 +8,8 @@ use Rattle.std.specs.Cmp.Lexicographic.{slice_cmp}
 use Rattle.std.specs.Option.{option_or}
 use Rattle.std.specs.Ordering.{is_eq, nat_cmp}
 use Rattle.litemap_store.specs.Pairs.{at}
-use Rattle.litemap_store.proofs.Membership.{each, from_each}
-use Rattle.litemap_store.proofs.Splitting.{each-append}
+use Rattle.litemap_store.proofs.Lists.Membership.{each, from_each}
+use Rattle.litemap_store.proofs.Search.Splitting.{each-append}
 use Rattle.example_keywords.specs.Keywords.{AreCanonical, IsFault, IsKeyword, IsRead, Keyword, Rise, canonical, is_key, is_value_part, joined, keyword_parts, pair_of, parts_of, size_of, value_of}
 use Rattle.example_keywords.specs.Reading.{AreRead, AreValue, IfPart, IsKeywordRead, IsNoKey, IsPutFirst, NoValueFirst, parts_in}
 use Rattle.example_keywords.specs.declared.fault.KeywordFault.{KeywordFault}

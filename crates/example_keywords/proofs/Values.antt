@@ -1,7 +1,7 @@
 -- What is read of a value, part by part.
 use Rattle.std.proofs.Common.{◌≡◌, ℕ, true, List, [], ◌∷◌, ◌++◌, Option, Some, sym, ap, ◌∙◌, append_assoc, IsTrue}
 use Rattle.std.specs.List.{AllByRecursion}
-use Rattle.litemap_store.proofs.Splitting.{each-append}
+use Rattle.litemap_store.proofs.Search.Splitting.{each-append}
 use Rattle.example_keywords.specs.Keywords.{is_value_part, parts_of}
 use Rattle.example_keywords.specs.Reading.{AreJoined, parts_in}
 use Rattle.example_keywords.specs.Written.{with_part}

@@ -10,7 +10,7 @@ use litemap::{LiteMap, VecMap};
 use std::alloc::{AllocError, Global};
 
 /// Counts a word once more. All others stay.
-#[tactic(auto, using(litemap_store::proofs::Tallies::number_at_raised))]
+#[tactic(auto, using(litemap_store::proofs::Callers::Tallies::number_at_raised))]
 pub fn count_word<K: Ord + Drop, S: StoreMut<K, usize>>(
     counts: &mut LiteMap<K, usize, S>,
     word: K,

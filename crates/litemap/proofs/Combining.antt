@@ -8,10 +8,10 @@ use Rattle.std.specs.Fn.{Shared}
 use Rattle.std.specs.Map.{keys_of}
 use Rattle.std.specs.Option.{option_map_or, option_or}
 use Rattle.litemap_store.specs.Pairs.{Rising, at, value_at}
-use Rattle.litemap_store.proofs.Membership.{from_each}
-use Rattle.litemap_store.proofs.MergeLookups.{at-rising, key_alike, key_same}
-use Rattle.litemap_store.proofs.Splitting.{at_in}
-use Rattle.litemap_store.proofs.Tallies.{value_at_equal}
+use Rattle.litemap_store.proofs.Lists.Membership.{from_each}
+use Rattle.litemap_store.proofs.Callers.MergeLookups.{at-rising, key_alike, key_same}
+use Rattle.litemap_store.proofs.Search.Splitting.{at_in}
+use Rattle.litemap_store.proofs.Callers.Tallies.{value_at_equal}
 use Rattle.litemap.specs.Combined.{CallableOnCommon, CallableOnEachOf, Combined, Combines, Settles, combined, combined_pair, found_with}
 use denote.Ref.{Bor, MutBor}
 

@@ -9,9 +9,9 @@ use Rattle.std.specs.declared.cmp.Ordering.{Ordering}
 use Rattle.std.specs.declared.cmp.Ordering.TheVariants.{Less, Equal, Greater}
 use Rattle.litemap_store.specs.Pairs.{above, below}
 use Rattle.litemap_store.specs.Splits.{IsFoundAt, IsMissingAt}
-use Rattle.litemap_store.proofs.KeepLast.{filter_none}
-use Rattle.litemap_store.proofs.Membership.{In-from_filter, each, from_each}
-use Rattle.litemap_store.proofs.Splitting.{greater_from_is_gt, less_from_is_lt}
+use Rattle.litemap_store.proofs.Last.KeepLast.{filter_none}
+use Rattle.litemap_store.proofs.Lists.Membership.{In-from_filter, each, from_each}
+use Rattle.litemap_store.proofs.Search.Splitting.{greater_from_is_gt, less_from_is_lt}
 use Rattle.litemap.specs.Within.{IsCut}
 
 -- ---- where a list is cut

@@ -11,7 +11,7 @@ use Rattle.std.specs.declared.cmp.PartialOrd as partial
 use Rattle.std.specs.declared.cmp.Ordering.{Ordering}
 use Rattle.litemap_store.specs.declared.store.Store as store
 use Rattle.litemap_store.specs.Pairs.{above, at, below, key_or, place, put, set_value, value_in}
-use Rattle.litemap_store.proofs.Seams.{put_get, set_value-suc}
+use Rattle.litemap_store.proofs.Lists.Seams.{put_get, set_value-suc}
 use Rattle.litemap.specs.declared.map.entry.OccupiedEntry.{OccupiedEntry}
 use Rattle.litemap.specs.Entries.{IsWritten, Occupied, map_with_value, still_within, with_entry_value}
 

@@ -16,9 +16,9 @@ use Rattle.std.specs.declared.cmp.Ordering.TheVariants.{Equal}
 use Rattle.litemap_store.specs.Last.{Last}
 use Rattle.litemap_store.specs.Pairs.{Rising, value_at}
 use Rattle.litemap_store.specs.Queries.{by_text}
-use Rattle.litemap_store.proofs.LastLookups.{value_at-last, value_at-last_of_more, value_at-last_of_rising}
-use Rattle.litemap_store.proofs.LastPairs.{Last-rising, Last-unique}
-use Rattle.litemap_store.proofs.MergeLookups.{key_alike, key_same}
+use Rattle.litemap_store.proofs.Callers.LastLookups.{value_at-last, value_at-last_of_more, value_at-last_of_rising}
+use Rattle.litemap_store.proofs.Last.Pairs.{Last-rising, Last-unique}
+use Rattle.litemap_store.proofs.Callers.MergeLookups.{key_alike, key_same}
 
 list_rising : {K V : Type 0} (cmp : K → K → Ordering) → IsTotalOrder cmp → (J M : List (K × V)) → Last cmp J M → Rising cmp J → M ≡ J
 list_rising cmp o J M last r = Last-unique cmp o J M J last (Last-rising cmp J r)

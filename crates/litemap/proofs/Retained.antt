@@ -9,7 +9,7 @@ use Rattle.std.specs.declared.cmp.Ordering.{Ordering}
 use Rattle.std.specs.declared.cmp.Ordering.TheVariants.{Equal, Greater}
 use Rattle.litemap_store.specs.Pairs.{BelowAll, Rising, at, value_at}
 use Rattle.litemap_store.specs.Retain.{CalledOnPair, Kept}
-use Rattle.litemap_store.proofs.Splitting.{equal_from_is_eq, less_back}
+use Rattle.litemap_store.proofs.Search.Splitting.{equal_from_is_eq, less_back}
 use Rattle.litemap.specs.Retained.{AnswersAt}
 use denote.Param.Members.{Mut}
 use denote.Ref.{Bor}

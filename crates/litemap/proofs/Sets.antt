@@ -13,9 +13,9 @@ use Rattle.std.specs.declared.cmp.Ordering.{Ordering}
 use Rattle.std.specs.declared.cmp.Ordering.TheVariants.{Less, Equal, Greater}
 use Rattle.litemap_store.specs.Pairs.{BelowAll, Rising, above, at, value_at}
 use Rattle.litemap_store.specs.Retain.{CalledOnPair, Kept}
-use Rattle.litemap_store.proofs.Lookups.{at-filter_gone, at-filter_kept}
-use Rattle.litemap_store.proofs.Splitting.{Rising-filter, above_all, at_past, each-weaker, equal_from_is_eq, greater_back, less_back}
-use Rattle.litemap_store.proofs.Tallies.{value_at_equal}
+use Rattle.litemap_store.proofs.Callers.Lookups.{at-filter_gone, at-filter_kept}
+use Rattle.litemap_store.proofs.Search.Splitting.{Rising-filter, above_all, at_past, each-weaker, equal_from_is_eq, greater_back, less_back}
+use Rattle.litemap_store.proofs.Callers.Tallies.{value_at_equal}
 use denote.Param.Members.{Called, Mut}
 use denote.Ref.{Bor}
 

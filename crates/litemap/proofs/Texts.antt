@@ -17,11 +17,11 @@ use Rattle.std.specs.declared.cmp.Ordering.TheVariants.{Equal}
 use Rattle.litemap_store.specs.Merge.{Merge, left}
 use Rattle.litemap_store.specs.Pairs.{above, at, below, cut, index_of, key_or, place, put, value_at, write}
 use Rattle.litemap_store.specs.Queries.{by_slice, by_text}
-use Rattle.litemap_store.proofs.Lookups.{value_at-cut, value_at-cut_other, value_at-put, value_at-put_other, value_at-write, value_at-write_apart}
-use Rattle.litemap_store.proofs.Lookups.{index_of-put, value_at-between_apart, value_at-cut_apart, value_at-set}
-use Rattle.litemap_store.proofs.Lookups.{value_at-written_apart}
-use Rattle.litemap_store.proofs.MergeLookups.{key_alike, key_same, value_at-left, value_at-merged}
-use Rattle.litemap_store.proofs.Splitting.{key_or_equal}
+use Rattle.litemap_store.proofs.Callers.Lookups.{value_at-cut, value_at-cut_other, value_at-put, value_at-put_other, value_at-write, value_at-write_apart}
+use Rattle.litemap_store.proofs.Callers.Lookups.{index_of-put, value_at-between_apart, value_at-cut_apart, value_at-set}
+use Rattle.litemap_store.proofs.Callers.Lookups.{value_at-written_apart}
+use Rattle.litemap_store.proofs.Callers.MergeLookups.{key_alike, key_same, value_at-left, value_at-merged}
+use Rattle.litemap_store.proofs.Search.Splitting.{key_or_equal}
 use Rattle.litemap.specs.ByBytes.{by_bytes}
 use Rattle.litemap.proofs.Places.{other_places}
 

@@ -12,7 +12,7 @@ use mir.Syntax.{named}
 use Rattle.litemap_store.specs.declared.no_room.NoRoom.{NoRoom}
 use Rattle.litemap_store.specs.declared.store.Store as store
 use Rattle.litemap_store.specs.Pairs.{put, set_value, value_in}
-use Rattle.litemap_store.proofs.Seams.{length-set_value}
+use Rattle.litemap_store.proofs.Lists.Seams.{length-set_value}
 use Rattle.litemap.specs.Seen.{Seen, with_pairs}
 use Rattle.litemap.specs.declared.map.entry.OccupiedEntry.{OccupiedEntry}
 use Rattle.litemap.specs.declared.map.entry.VacantEntry.{VacantEntry}

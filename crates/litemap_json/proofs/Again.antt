@@ -8,9 +8,9 @@ use Rattle.std.specs.Ordering.{match_ordering, ordering_reverse}
 use Rattle.serde_json.specs.Data.{Data, array, object, Members, no_members, member, put}
 use Rattle.litemap_store.specs.Last.{In, StandsLast, Last}
 use Rattle.litemap_store.specs.Pairs.{Rising}
-use Rattle.litemap_store.proofs.LastPairs.{In-from_last, Last-rising}
-use Rattle.litemap_store.proofs.Membership.{In-cases, In-get_or, In-left, In-right, each, from_each}
-use Rattle.litemap_store.proofs.Splitting.{each-append}
+use Rattle.litemap_store.proofs.Last.Pairs.{In-from_last, Last-rising}
+use Rattle.litemap_store.proofs.Lists.Membership.{In-cases, In-get_or, In-left, In-right, each, from_each}
+use Rattle.litemap_store.proofs.Search.Splitting.{each-append}
 use Rattle.litemap_json.specs.declared.item.ItemFault.{ItemFault}
 use Rattle.litemap_json.specs.Json.{rows, row_pairs, member_pairs}
 use Rattle.litemap_json.specs.Reading.{AllReadBack, ReadsAs, ReadsBack, seen}

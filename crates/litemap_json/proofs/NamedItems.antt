@@ -8,9 +8,9 @@ use Rattle.serde_json.specs.Data.{Data, object, member, no_members, put}
 use Rattle.litemap_store.specs.Last.{In, Last}
 use Rattle.litemap_store.specs.Pairs.{BelowAll, Rising, above, below}
 use Rattle.litemap_store.specs.Queries.{key_one_side}
-use Rattle.litemap_store.proofs.KeepLast.{filter_all, filter_none}
-use Rattle.litemap_store.proofs.LastPairs.{Last-put, Last-rising, Last-unique}
-use Rattle.litemap_store.proofs.Membership.{each}
+use Rattle.litemap_store.proofs.Last.KeepLast.{filter_all, filter_none}
+use Rattle.litemap_store.proofs.Last.Pairs.{Last-put, Last-rising, Last-unique}
+use Rattle.litemap_store.proofs.Lists.Membership.{each}
 use Rattle.litemap_json.specs.Json.{object_with}
 use Rattle.litemap_json.specs.Written.{named}
 use Rattle.litemap_json.proofs.ByPlace.{made_step}

@@ -5,7 +5,7 @@ use Rattle.std.specs.Ordering.{ordering_reverse}
 use Rattle.serde_json.specs.Data.{Data}
 use Rattle.litemap_store.specs.Last.{In, StandsLast, Last}
 use Rattle.litemap_store.specs.Pairs.{Rising}
-use Rattle.litemap_store.proofs.Membership.{each, from_each}
+use Rattle.litemap_store.proofs.Lists.Membership.{each, from_each}
 use Rattle.litemap_json.specs.declared.item.ItemFault.{ItemFault}
 use Rattle.litemap_json.specs.Reading.{ReadsAs, pair_seen, seen}
 use Rattle.litemap_json.specs.declared.fault.JsonFault.{JsonFault}

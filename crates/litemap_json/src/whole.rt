@@ -1,5 +1,6 @@
 //! Whole numbers of eight types, as items and as keys.
-ghost use Rattle.std.specs.Prelude.{◌≡◌, ◌≢◌, ℤ, pos, Bool, true, Option, Some, Err, IfOk, IfSome, IsOk, OnOk, Ok, option_map, refl};
+ghost use Rattle.std.specs.Prelude.{◌≡◌, ◌≢◌, ℤ, pos, Bool, true, Option, Some, Err, IfOk, IfSome, IsOk, OnOk, Ok, option_map};
+ghost use Rattle.std.specs.Prelude.{refl};
 ghost use Rattle.std.specs.Fmt.{signed_decimal};
 ghost use Rattle.std.specs.declared.cmp.Ordering.TheVariants.{Equal};
 ghost use Rattle.serde_json.specs.View.{view};

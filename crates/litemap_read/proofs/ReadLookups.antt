@@ -6,7 +6,7 @@ use Rattle.std.specs.Cmp.{IsTotalOrder}
 use Rattle.std.specs.declared.cmp.Ordering.{Ordering}
 use Rattle.litemap_store.specs.Last.{Last}
 use Rattle.litemap_store.specs.Pairs.{value_at}
-use Rattle.litemap_store.proofs.LastLookups.{at-Last}
+use Rattle.litemap_store.proofs.Callers.LastLookups.{at-Last}
 use Rattle.litemap_read.specs.Source.{IsRead}
 
 module _ {S K V : Type 0} {cmp : K → K → Ordering} (gives : S → List (K × V) → Type 0) (s : S) (J M : List (K × V))

@@ -5,7 +5,7 @@ use Rattle.std.specs.Cmp.{IsTotalOrder}
 use Rattle.std.specs.declared.cmp.Ordering.{Ordering}
 use Rattle.litemap_store.specs.Last.{Last}
 use Rattle.litemap_store.specs.Pairs.{AllBelow, at, cut, index_of, put, value_at, value_in}
-use Rattle.litemap_store.proofs.LastPairs.{Last-unique}
+use Rattle.litemap_store.proofs.Last.Pairs.{Last-unique}
 use Rattle.litemap.specs.Seen.{Seen}
 use Rattle.litemap_read.specs.Laws.{SameAnswers}
 use Rattle.litemap_read.specs.Steps.{IsDone, IsRefused, Run, Step}

@@ -18,8 +18,8 @@ const MOST_HINTED: usize = 65_536;
 
 /// The map of the pairs that a source gives, up to its end. Of each key the last pair stays, whole.
 ///
-/// A source's fault is handed on; want of memory is `NoRoom`, which doesn't come where it has no pair. In both cases the pairs read
-/// so far are given up, and the source stays behind the pairs that it gave.
+/// A source's fault is handed on; want of memory is `NoRoom`, which doesn't come where it has no pair. In both cases the pairs
+/// read so far are given up, and the source stays behind the pairs that it gave.
 ///
 /// The source's hint makes room for at most 65,536 pairs, if that isn't refused. A pair whose key is above the last one is put
 /// behind it, by one comparison. Others are put aside, and at the end the map is extended by these: so rising keys cost at most

@@ -2,11 +2,11 @@
 //! slice as stores, and the count of comparisons. What is marked (own) isn't in the Rust crate.
 #![tactic(auto)]
 
+mod bulk;
 mod count;
-mod extend;
-pub mod extend_store;
 mod into_iter;
 pub mod laws;
+pub mod merge;
 mod no_room;
 mod query;
 mod reserved;

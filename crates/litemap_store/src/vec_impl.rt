@@ -3,8 +3,8 @@ ghost use Rattle.std.specs.Prelude.{◌≡◌, ◌<◌, ◌≤◌, ◌-◌, vec_
 ghost use Rattle.litemap_store.specs.Retain.{CallableOnEach, Kept, KeptSoFar};
 ghost use Rattle.litemap_store.specs.VecStore.{vec_room, vec_with_value, vec_writes, vec_keeps_room};
 
-use crate::extend::vector::{put_in_vec, settle};
-use crate::extend::{gather, gather_behind};
+use crate::bulk::vector::{put_in_vec, settle};
+use crate::bulk::{gather, gather_behind};
 use crate::shared::{is_kept, remove_at};
 use crate::slice_search;
 use crate::store::{

@@ -4,7 +4,7 @@ use Rattle.std.proofs.Common.{◌≡◌, ℕ, zero, suc, ◌-◌, ◌<◌, ◌�
 use Rattle.std.proofs.lemmas.Bool.{le-leb}
 use Rattle.std.proofs.lemmas.List.{length-drop, length-take-le, take-append-drop, take_min}
 use Rattle.litemap_store.specs.Pairs.{sub}
-use Rattle.litemap_store.proofs.Parts.{Rising-sub}
+use Rattle.litemap_store.proofs.Lists.Parts.{Rising-sub}
 use Rattle.name_table.proofs.PartLemmas.{begins_split}
 use Rattle.name_table.specs.ReadOn.{pair_parts-append}
 use Rattle.name_table.specs.Parts.{pair_parts}

@@ -8,7 +8,7 @@ use Rattle.litemap_store.specs.Counts.{RisesByAtMost}
 use Rattle.litemap_store.specs.Digits.{digits, digits-halved}
 use Rattle.litemap_store.specs.Search.{Ascends, Finds}
 use Rattle.litemap_store.specs.declared.count.Count.{Count}
-use Rattle.litemap_store.proofs.Halving.{Narrowed, Narrowed-whole, Narrowed-less, Narrowed-greater, Finds-here, Finds-nowhere}
+use Rattle.litemap_store.proofs.Search.Halving.{Narrowed, Narrowed-whole, Narrowed-less, Narrowed-greater, Finds-here, Finds-nowhere}
 use Rattle.name_index.specs.Placed.{IsKeyAt}
 
 module _ {X : Type 0} (pairs : X → List (List ℕ × List ℕ)) (order : List ℕ → Ordering) where

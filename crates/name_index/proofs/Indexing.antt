@@ -8,8 +8,8 @@ use Rattle.std.specs.declared.cmp.Ordering.TheVariants.{Less}
 use Rattle.litemap_store.specs.Counts.{RisesByAtMost}
 use Rattle.litemap_store.specs.Pairs.{Rising}
 use Rattle.litemap_store.specs.declared.count.Count.{Count}
-use Rattle.litemap_store.proofs.Counting.{not_asked}
-use Rattle.litemap_store.proofs.Parts.{Less-from_Rising}
+use Rattle.litemap_store.proofs.Stores.Counting.{not_asked}
+use Rattle.litemap_store.proofs.Lists.Parts.{Less-from_Rising}
 use Rattle.litemap_store.specs.Search.{Ascends}
 use Rattle.name_index.specs.Index.{BeginsAt, HasKey, HasOffsets, IsEntry, IsIndex, IsNumberAt, IsPairAt, IsTextAt, NoEntry, NoIndex}
 use Rattle.name_index.specs.Tables.{text_order}

@@ -1,7 +1,7 @@
 -- Bytes that begin with a table whose keys rise have no fault, and others one at most.
 use Rattle.std.proofs.Common.{◌≡◌, ⊎_elim, ℕ, ◌+◌, ◌<◌, List, [], ◌∷◌, ◌++◌, length, refl, sym, ap, ◌∙◌, subst, arith, append_assoc}
 use Rattle.std.proofs.lemmas.Bool.{cases_lt}
-use Rattle.litemap_store.proofs.Taken.{Rising-left}
+use Rattle.litemap_store.proofs.Last.Taken.{Rising-left}
 use Rattle.litemap_store.specs.Pairs.{Rising}
 use Rattle.name_table.specs.Faults.{AreOfPairs, NextFault}
 use Rattle.name_table.specs.Parts.{Part, Begins, Number, pair_parts}

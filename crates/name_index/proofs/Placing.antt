@@ -9,7 +9,7 @@ use Rattle.litemap_store.specs.Digits.{digits}
 use Rattle.litemap_store.specs.Splits.{Splits}
 use Rattle.litemap_store.specs.declared.count.Count.{Count}
 use Rattle.litemap_store.specs.Search.{Ascends, Finds}
-use Rattle.litemap_store.proofs.Splitting.{Splits-from_Finds}
+use Rattle.litemap_store.proofs.Search.Splitting.{Splits-from_Finds}
 use Rattle.name_table.specs.Numbers.{number_limit}
 use Rattle.name_table.proofs.PartLemmas.{begins_split}
 use Rattle.name_table.specs.ReadOn.{begins_none, begins_pairs}

@@ -12,8 +12,8 @@ use Rattle.litemap.proofs.Cuts.{before_missing, length-before, sub_between}
 use Rattle.litemap_store.specs.Pairs.{place, sub}
 use Rattle.litemap_store.specs.Queries.{OneSide}
 use Rattle.litemap_store.specs.Search.{Ascends, Finds}
-use Rattle.litemap_store.proofs.Parts.{Less-from_is_lt}
-use Rattle.litemap_store.proofs.Splitting.{Ascends-by_query, Splits-from_Finds, each-weaker}
+use Rattle.litemap_store.proofs.Lists.Parts.{Less-from_is_lt}
+use Rattle.litemap_store.proofs.Search.Splitting.{Ascends-by_query, Splits-from_Finds, each-weaker}
 use Rattle.name_index.specs.Placed.{ArePlaced}
 use Rattle.name_index.specs.Prefixes.{begins, head_order, leads_to}
 use Rattle.name_index.specs.Tables.{text_order}

@@ -6,9 +6,9 @@ use Rattle.std.specs.declared.cmp.Ordering.TheVariants.{Less}
 use Rattle.litemap_store.specs.Counts.{RisesByAtMost}
 use Rattle.litemap_store.specs.Pairs.{AllBelow, Rising}
 use Rattle.litemap_store.specs.declared.count.Count.{Count}
-use Rattle.litemap_store.proofs.Counting.{in_turn, not_asked}
-use Rattle.litemap_store.proofs.Parts.{Less-from_is_lt}
-use Rattle.litemap_store.proofs.Ends.{AllBelow-from_last, Rising-push}
+use Rattle.litemap_store.proofs.Stores.Counting.{in_turn, not_asked}
+use Rattle.litemap_store.proofs.Lists.Parts.{Less-from_is_lt}
+use Rattle.litemap_store.proofs.Lists.Ends.{AllBelow-from_last, Rising-push}
 use Rattle.name_table.specs.Parts.{Begins, Number, pair_parts}
 use Rattle.name_table.specs.ReadOn.{begins_none, begins_pairs, begins_then}
 use Rattle.name_table.specs.Remaining.{IsCounted, IsNext, Remaining}

@@ -12,9 +12,9 @@ use Rattle.litemap_store.specs.Queries.{OneSide, key_one_side}
 use Rattle.litemap_store.specs.Search.{Ascends}
 use Rattle.litemap_store.specs.Splits.{Splits}
 use Rattle.litemap_store.specs.declared.count.Count.{Count}
-use Rattle.litemap_store.proofs.Counting.{not_asked}
-use Rattle.litemap_store.proofs.Halving.{Narrowed, Narrowed-whole, Finds-here, Finds-nowhere}
-use Rattle.litemap_store.proofs.Splitting.{Ascends-by_query, Splits-from_Finds, there-from_Splits}
+use Rattle.litemap_store.proofs.Stores.Counting.{not_asked}
+use Rattle.litemap_store.proofs.Search.Halving.{Narrowed, Narrowed-whole, Finds-here, Finds-nowhere}
+use Rattle.litemap_store.proofs.Search.Splitting.{Ascends-by_query, Splits-from_Finds, there-from_Splits}
 use Rattle.name_table.specs.Parts.{Begins, pair_parts}
 use Rattle.name_index.specs.Entries.{AreEntries, BeginsPair, IsScanned}
 use Rattle.name_index.specs.Tables.{text_order}

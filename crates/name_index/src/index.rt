@@ -1,5 +1,6 @@
 //! A name table with the offset of each entry.
-ghost use Rattle.std.specs.Prelude.{◌≡◌, ◌==◌, ◌*◌, ◌<◌, IfErr, IfOk, OnErr, OnOk, Some, filter, length, map, slice_get, slice_range};
+ghost use Rattle.std.specs.Prelude.{◌≡◌, ◌==◌, ◌*◌, ◌<◌, IfErr, IfOk, OnErr, OnOk, Some, filter, length, map, slice_get};
+ghost use Rattle.std.specs.Prelude.{slice_range};
 ghost use Rattle.std.specs.Option.{option_copied, option_map};
 ghost use Rattle.litemap_store.specs.Counts.{RisesByAtMost};
 ghost use Rattle.litemap_store.specs.Digits.{digits};

@@ -4,7 +4,7 @@ use Rattle.std.specs.Cmp.{IsTotalOrder}
 use Rattle.std.specs.Cmp.Lexicographic.{slice_cmp, on_texts}
 use Rattle.std.specs.Ordering.{nat_cmp}
 use Rattle.litemap.specs.ByBytes.{by_bytes}
-use Rattle.litemap_store.proofs.LastPairs.{Last-rising, Last-unique}
+use Rattle.litemap_store.proofs.Last.Pairs.{Last-rising, Last-unique}
 use Rattle.litemap_store.specs.Pairs.{BelowAll, Rising}
 use Rattle.name_table.specs.Parts.{Begins, IsTable, table_parts}
 use Rattle.name_table.specs.Reads.{Text}

@@ -2,8 +2,8 @@
 use Rattle.std.proofs.Common.{◌≡◌, List, [], ◌∷◌, ℕ, sym, subst}
 use Rattle.std.specs.Cmp.Lexicographic.{nat_list_cmp_total}
 use Rattle.litemap_store.specs.Pairs.{Rising}
-use Rattle.litemap_store.proofs.Splitting.{Rising-put}
-use Rattle.litemap_store.proofs.Lookups.{Rising-cut}
+use Rattle.litemap_store.proofs.Search.Splitting.{Rising-put}
+use Rattle.litemap_store.proofs.Callers.Lookups.{Rising-cut}
 use Rattle.names_core.specs.Told.{Answers, Does, DoesEach, Nothing, Obeys, ShowsAll, ShowsJson, TextMap, by_bytes}
 use Rattle.names_core.specs.declared.line.Command.{Command}
 use Rattle.names_core.specs.declared.line.Command.TheVariants.{Del, Find, Get, Put}

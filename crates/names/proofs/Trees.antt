@@ -6,7 +6,7 @@ use Rattle.serde_json.specs.Data.{Data, string, array, object, no_items, Members
 use Rattle.serde_json.specs.Written.{compact_text, members_text}
 use Rattle.litemap_store.specs.Last.{In}
 use Rattle.litemap_store.specs.Pairs.{Rising}
-use Rattle.litemap_store.proofs.Membership.{each}
+use Rattle.litemap_store.proofs.Lists.Membership.{each}
 use Rattle.litemap_json.specs.Json.{object_with, tree}
 use Rattle.litemap_json.proofs.Joined.{IsAbove, above, above-joined, joined, joined-none, joined-one, put-above}
 use Rattle.names_core.specs.Told.{json_text, later_members, member_text}

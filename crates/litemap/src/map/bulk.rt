@@ -1,7 +1,8 @@
 //! Calls that take many pairs at once. Of each key the last pair stays.
 ghost use Rattle.std.specs.Prelude.{◌≡◌, ◌≤◌, ◌++◌, [], IfErr, IfOk, IsOk, OnOk, OnErr, length};
 ghost use Rattle.std.specs.Iterator.{IsFiniteIterable};
-ghost use Rattle.litemap_store.specs.Bulk.{GivesSome, IsCountedFor, IsExtended, IsExtendedCounted, IsHandedBack, IsRefusedCounted};
+ghost use Rattle.litemap_store.specs.Bulk.{GivesSome, IsCountedFor, IsExtended, IsExtendedCounted, IsHandedBack};
+ghost use Rattle.litemap_store.specs.Bulk.{IsRefusedCounted};
 ghost use Rattle.litemap_store.specs.Counts.{GoesOn};
 ghost use Rattle.litemap_store.specs.Last.{Last, Rises};
 ghost use Rattle.litemap_store.specs.Pairs.{Rising};
@@ -138,7 +139,8 @@ impl<K: Ord + Drop, V: Drop, S: StoreBulkMut<K, V>> LiteMap<K, V, S> {
     /// old pair counts as earlier than all new ones.
     ///
     /// It answers as `extend` does, by as many comparisons, but takes the vector as it is, and nothing is gathered. What it
-    /// leaves is told by the vector's list. A refusal leaves the list, and hands the pairs back, or the last of each key in rising
+    /// leaves is told by the vector's list. A refusal leaves the list, and hands the pairs back, or the last of each key in
+    /// rising
     /// order. Where its keys rise past the last one, and there is room for all, it is never refused. Nothing is promised of the
     /// room after it.
     pub fn extend_from_vec(

@@ -2,7 +2,7 @@
 //!
 //! All room is taken first, and none for no pair: the empty map is never refused. A clone of a key has to compare `Equal` to it.
 //! The Rust crate boxes and lends any type that keys and values borrow as, and has no `to_keys_by`.
-ghost use Rattle.std.specs.Prelude.{◌≡◌, [], IfOk, IsOk};
+ghost use Rattle.std.specs.Prelude.{◌≡◌, ◌<◌, ◌≤◌, ◌+◌, ◌++◌, ◌∷◌, [], IfOk, IsOk, OnOk};
 ghost use Rattle.std.specs.Fn.{FnReturnsAt};
 ghost use Rattle.litemap_store.specs.Last.{In};
 ghost use Rattle.litemap_store.specs.Pairs.{Rising};
@@ -170,26 +170,35 @@ where
     let mut made = B::lm_with_capacity(alloc, len)?;
     for index in 0..len {
         let (key, value) = store.lm_get(index).unwrap();
-        let (key, value) = made_of_both(alloc, key, value, keys, values)?;
-        match made.lm_push(key, value) {
-            Ok(()) => {}
-            Err(_) => unreachable!(),
-        }
+        push_converted(alloc, &mut made, key, value, keys, values)?;
     }
     Ok(LiteMap::from_sorted_store_unchecked(made))
 }
 
-// What a key and its value become.
-fn made_of_both<'a, K: 'a, V: 'a, L: Drop, W, X: Becomes<'a, K, L>, Y: Becomes<'a, V, W>>(
+// Puts what a key and its value become behind the others, in a store that has room.
+fn push_converted<'a, K: 'a, V: 'a, L: Drop, W, B, X, Y>(
     alloc: Global,
+    made: &mut B,
     key: &'a K,
     value: &'a V,
     keys: &X,
     values: &Y,
-) -> Result<(L, W), AllocError>
+) -> Result<(), AllocError>
+where
+    B: StoreMut<L, W>,
+    X: Becomes<'a, K, L>,
+    Y: Becomes<'a, V, W>,
+    requires room { 0 < B.room made.old }
     requires key { X.takes keys.now key.now }
     requires value { Y.takes values.now value.now }
-    ensures { IfOk result (λ made. X.became keys.now key.now made.0 × Y.became values.now value.now made.1) }
+    ensures pushed { OnOk result ((pair : L × W) × (B.pairs made.new ≡ B.pairs made.old ++ pair ∷ [])
+        × X.became keys.now key.now pair.0 × Y.became values.now value.now pair.1) }
+    ensures room { OnOk result (B.room made.old ≤ B.room made.new + 1) }
 {
-    Ok((keys.made_of(alloc, key)?, values.made_of(alloc, value)?))
+    let key = keys.made_of(alloc, key)?;
+    let value = values.made_of(alloc, value)?;
+    match made.lm_push(key, value) {
+        Ok(()) => Ok(()),
+        Err(_) => unreachable!(),
+    }
 }

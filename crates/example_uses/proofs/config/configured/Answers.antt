@@ -1,6 +1,6 @@
 use Rattle.std.proofs.Common.{◌∙◌}
 use Rattle.std.specs.String.{string_cmp_total}
-use Rattle.litemap_store.proofs.Extended.{new_wins, old_stays, value_at-collected}
+use Rattle.litemap_store.proofs.Callers.Extended.{new_wins, old_stays, value_at-collected}
 use Rattle.example_uses.proofs.config.configured.Goals as goal
 
 pub returns-clause-user : goal.returns-clause-user

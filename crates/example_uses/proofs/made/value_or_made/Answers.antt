@@ -2,7 +2,7 @@ use Rattle.std.proofs.Common.{◌≡◌, Ok, Some, IsNone, option_map, slice_get
 use Rattle.std.specs.Fn.{FnOnceReturnsAt}
 use Rattle.std.specs.Map.Iter.{deref_pair}
 use Rattle.litemap_store.specs.Pairs.{at, put}
-use Rattle.litemap_store.proofs.Seams.{put_value}
+use Rattle.litemap_store.proofs.Lists.Seams.{put_value}
 use Rattle.example_uses.proofs.made.value_or_made.Goals as goal
 
 -- the value that was placed is the one that the reference shows

@@ -1,4 +1,4 @@
-use Rattle.litemap_store.proofs.HandedOver.{rebuilt}
+use Rattle.litemap_store.proofs.Callers.HandedOver.{rebuilt}
 use Rattle.example_uses.proofs.moved.moved.Goals as goal
 
 pub returns : goal.returns

@@ -2,7 +2,7 @@ use Rattle.std.proofs.Common.{◌≡◌, ◌<◌, length, swap, sym, ◌∙◌, 
 use Rattle.std.specs.List.{zip}
 use mathlib.Core.Bool.{true≢false}
 use Rattle.litemap_columns.proofs.Columns.{same_length, zip-swap, zip_at}
-use Rattle.litemap_store.proofs.Retaining.{KeptSoFar-no, KeptSoFar-takes, KeptSoFar-yes, Moved_if}
+use Rattle.litemap_store.proofs.Stores.Retaining.{KeptSoFar-no, KeptSoFar-takes, KeptSoFar-yes, Moved_if}
 use Rattle.litemap_columns.proofs.column_store.keep_in_place.Goals as goal
 use Rattle.litemap_columns.proofs.column_store.keep_in_place.Goals.{then-is_kept+else-kept-index, else-is_kept}
 

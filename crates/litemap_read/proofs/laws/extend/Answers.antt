@@ -1,5 +1,5 @@
 use Rattle.std.proofs.Common.{inl, refl}
-use Rattle.litemap_store.proofs.Extended.{Last-extended}
+use Rattle.litemap_store.proofs.Callers.Extended.{Last-extended}
 use Rattle.litemap_read.proofs.laws.extend.Goals as goal
 
 pub returns-in-Ok : goal.returns-in-Ok

@@ -1,5 +1,5 @@
 use Rattle.std.proofs.Common.{rules, [], ◌∷◌, ◌++◌, append_assoc, arith}
-use Rattle.litemap_store.proofs.Counting.{always_on_err}
+use Rattle.litemap_store.proofs.Stores.Counting.{always_on_err}
 use Rattle.litemap_read.proofs.Sifted.{always_if_err}
 use Rattle.litemap_read.proofs.read.drain.Goals as goal
 

@@ -1,6 +1,6 @@
 use Rattle.std.proofs.Common.{rules, arith}
-use Rattle.litemap_store.proofs.Counting.{always_on_err}
-use Rattle.litemap_store.proofs.FirstGiven.{some_refused}
+use Rattle.litemap_store.proofs.Stores.Counting.{always_on_err}
+use Rattle.litemap_store.proofs.Last.FirstGiven.{some_refused}
 use Rattle.litemap_read.proofs.Sifted.{always_if_err}
 use Rattle.litemap_read.proofs.read.extend_from_source.Goals as goal
 

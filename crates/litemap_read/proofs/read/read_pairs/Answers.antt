@@ -1,7 +1,7 @@
 use Rattle.std.proofs.Common.{rules, [], ◌∷◌, ◌++◌, append-nil, append_assoc, arith, length-append}
-use Rattle.litemap_store.proofs.Sifting.{Last-sifted}
-use Rattle.litemap_store.proofs.Counting.{always_on_err}
-use Rattle.litemap_store.proofs.FirstGiven.{some_refused}
+use Rattle.litemap_store.proofs.Last.Sifting.{Last-sifted}
+use Rattle.litemap_store.proofs.Stores.Counting.{always_on_err}
+use Rattle.litemap_store.proofs.Last.FirstGiven.{some_refused}
 use Rattle.litemap_read.proofs.Sifted.{Sifted-joins, always_if_err, some_sifted}
 use Rattle.litemap_read.proofs.read.read_pairs.Goals as goal
 

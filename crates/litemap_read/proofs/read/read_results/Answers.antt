@@ -1,8 +1,8 @@
 use Rattle.std.proofs.Common.{◌∙◌, [], ◌∷◌, ◌++◌, List, Ok, ap, map, rules, subst, sym}
 use Rattle.std.proofs.lemmas.List.{map-append}
 use Rattle.litemap_store.specs.Bulk.{Gives}
-use Rattle.litemap_store.proofs.Sifting.{Last-sifted}
-use Rattle.litemap_store.proofs.FirstGiven.{GivesSome-from_Yields, GivesSome-from_some, some_refused}
+use Rattle.litemap_store.proofs.Last.Sifting.{Last-sifted}
+use Rattle.litemap_store.proofs.Last.FirstGiven.{GivesSome-from_Yields, GivesSome-from_some, some_refused}
 use Rattle.litemap_read.proofs.Sifted.{Sifted-joins, always_if_err, some_given, some_sifted}
 use Rattle.litemap_read.proofs.read.read_results.Goals as goal
 

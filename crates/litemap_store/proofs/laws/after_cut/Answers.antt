@@ -1,4 +1,4 @@
-use Rattle.litemap_store.proofs.Lookups.{Rising-cut, cut-absent, length-cut_present, value_at-cut, value_at-cut_other}
+use Rattle.litemap_store.proofs.Callers.Lookups.{Rising-cut, cut-absent, length-cut_present, value_at-cut, value_at-cut_other}
 use Rattle.litemap_store.proofs.laws.after_cut.Goals as goal
 
 pub returns : goal.returns

@@ -1,4 +1,4 @@
-use Rattle.litemap_store.proofs.Merging.{Merge-put, Merge-unique, keys_of_merge, left_none, none_from_left}
+use Rattle.litemap_store.proofs.Merging.Merges.{Merge-put, Merge-unique, keys_of_merge, left_none, none_from_left}
 use Rattle.litemap_store.proofs.laws.after_merge.Goals as goal
 
 pub returns : goal.returns

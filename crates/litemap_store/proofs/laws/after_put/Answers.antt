@@ -1,5 +1,5 @@
-use Rattle.litemap_store.proofs.Lookups.{index_of-put, length-put_absent, length-put_present, value_at-put, value_at-put_other}
-use Rattle.litemap_store.proofs.Splitting.{Rising-put}
+use Rattle.litemap_store.proofs.Callers.Lookups.{index_of-put, length-put_absent, length-put_present, value_at-put, value_at-put_other}
+use Rattle.litemap_store.proofs.Search.Splitting.{Rising-put}
 use Rattle.litemap_store.proofs.laws.after_put.Goals as goal
 
 pub returns : goal.returns

@@ -1,4 +1,4 @@
-use Rattle.litemap_store.proofs.Lookups.{value_at-write, value_at-write_apart, value_at-written_apart}
+use Rattle.litemap_store.proofs.Callers.Lookups.{value_at-write, value_at-write_apart, value_at-written_apart}
 use Rattle.litemap_store.proofs.laws.after_write.Goals as goal
 
 pub returns : goal.returns

@@ -1,4 +1,4 @@
-use Rattle.litemap_store.proofs.LastLookups.{at-Last, value_at-Last_of_more, value_at-Last_of_rising}
+use Rattle.litemap_store.proofs.Callers.LastLookups.{at-Last, value_at-Last_of_more, value_at-Last_of_rising}
 use Rattle.litemap_store.proofs.laws.last_is_found.Goals as goal
 
 pub returns : goal.returns

@@ -1,4 +1,4 @@
-use Rattle.litemap_store.proofs.LastPairs.{last_of}
+use Rattle.litemap_store.proofs.Last.Pairs.{last_of}
 use Rattle.litemap_store.proofs.laws.last_is_one.Goals as goal
 
 pub returns : goal.returns

@@ -1,4 +1,4 @@
-use Rattle.litemap_store.proofs.LastPairs.{Last-join}
+use Rattle.litemap_store.proofs.Last.Pairs.{Last-join}
 use Rattle.litemap_store.proofs.laws.last_joins.Goals as goal
 
 pub returns : goal.returns

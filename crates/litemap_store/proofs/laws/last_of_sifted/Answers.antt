@@ -1,4 +1,4 @@
-use Rattle.litemap_store.proofs.Sifting.{Last-sifted}
+use Rattle.litemap_store.proofs.Last.Sifting.{Last-sifted}
 use Rattle.litemap_store.proofs.laws.last_of_sifted.Goals as goal
 
 pub returns : goal.returns

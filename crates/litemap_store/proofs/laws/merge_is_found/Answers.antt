@@ -1,4 +1,4 @@
-use Rattle.litemap_store.proofs.MergeLookups.{key_alike, key_same, value_at-left, value_at-merged}
+use Rattle.litemap_store.proofs.Callers.MergeLookups.{key_alike, key_same, value_at-left, value_at-merged}
 use Rattle.litemap_store.proofs.laws.merge_is_found.Goals as goal
 
 pub returns : goal.returns

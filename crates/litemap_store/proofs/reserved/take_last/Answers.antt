@@ -1,5 +1,5 @@
 use Rattle.std.proofs.Common.{◌∷◌, ◌++◌, [], arith, sym, ap, ◌∙◌}
-use Rattle.litemap_store.proofs.Taken.{taken_last}
+use Rattle.litemap_store.proofs.Last.Taken.{taken_last}
 use Rattle.litemap_store.proofs.reserved.take_last.Goals as goal
 
 pub returns-clause-pairs : goal.returns-clause-pairs

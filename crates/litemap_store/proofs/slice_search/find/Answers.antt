@@ -2,7 +2,7 @@ use Rattle.std.proofs.Common.{◌≡◌, ◌+◌, ◌≤◌, length, ◌-◌, �
 use Rattle.std.specs.Ordering.{is_eq, is_lt}
 use Rattle.litemap_store.specs.Digits.{digits, digits-halved}
 use Rattle.litemap_store.specs.Search.{Callable, Shape}
-use Rattle.litemap_store.proofs.Halving.{Seen-whole, Seen-next, Finds-nowhere, hit_next, takes, takes_next, next, left_next, left_after}
+use Rattle.litemap_store.proofs.Search.Halving.{Seen-whole, Seen-next, Finds-nowhere, hit_next, takes, takes_next, next, left_next, left_after}
 use Rattle.litemap_store.proofs.slice_search.find.Goals as goal
 
 pub loop-left-init : goal.loop-left-init

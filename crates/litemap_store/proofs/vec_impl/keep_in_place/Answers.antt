@@ -1,6 +1,6 @@
 use Rattle.std.proofs.Common.{sym, ◌∙◌, refl, true, false, arith}
 use mathlib.Core.Bool.{true≢false}
-use Rattle.litemap_store.proofs.Retaining.{KeptSoFar-no, KeptSoFar-takes, KeptSoFar-yes, Moved_if}
+use Rattle.litemap_store.proofs.Stores.Retaining.{KeptSoFar-no, KeptSoFar-takes, KeptSoFar-yes, Moved_if}
 use Rattle.litemap_store.proofs.vec_impl.keep_in_place.Goals as goal
 use Rattle.litemap_store.proofs.vec_impl.keep_in_place.Goals.{then-is_kept+else-kept-index, else-is_kept}
 

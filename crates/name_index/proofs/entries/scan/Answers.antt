@@ -1,6 +1,6 @@
 use Rattle.std.proofs.Common.{◌≡◌, ◌∙◌, arith, length, sym}
-use Rattle.litemap_store.proofs.Counting.{at_most, in_turn}
-use Rattle.litemap_store.proofs.Halving.{Narrowed-greater, Narrowed-less}
+use Rattle.litemap_store.proofs.Stores.Counting.{at_most, in_turn}
+use Rattle.litemap_store.proofs.Search.Halving.{Narrowed-greater, Narrowed-less}
 use Rattle.name_index.proofs.Scanning.{ascends, asked_one, scanned_found, scanned_missing, scanned_start, to_key, walked_begins, walked_next, walked_pair}
 use Rattle.name_index.proofs.entries.scan.Goals as goal
 

@@ -1,6 +1,6 @@
-use Rattle.litemap_store.proofs.Counting.{always_on_err}
+use Rattle.litemap_store.proofs.Stores.Counting.{always_on_err}
 use Rattle.std.proofs.Common.{◌+◌, ◌-◌, ◌/◌, ◌∙◌, Ok, Err, arith, sym}
-use Rattle.litemap_store.proofs.Splitting.{Splits-from_Finds}
+use Rattle.litemap_store.proofs.Search.Splitting.{Splits-from_Finds}
 use Rattle.name_index.proofs.Halving.{halved_asked, halved_cost, halved_end, halved_equal, halved_greater, halved_less, halved_start}
 use Rattle.name_index.proofs.Indexing.{key_of, known_of, no_index}
 use Rattle.name_index.proofs.Scanning.{one_side}

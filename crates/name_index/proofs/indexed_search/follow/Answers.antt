@@ -1,4 +1,4 @@
-use Rattle.litemap_store.proofs.Counting.{always_on_err}
+use Rattle.litemap_store.proofs.Stores.Counting.{always_on_err}
 use Rattle.std.proofs.Common.{arith}
 use Rattle.name_index.proofs.Indexing.{falls, followed_end, followed_next, followed_start, no_index}
 use Rattle.name_index.proofs.Rises.{above_true}

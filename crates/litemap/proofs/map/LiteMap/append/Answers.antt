@@ -1,5 +1,5 @@
 use Rattle.litemap_store.specs.Pairs.{Rising}
-use Rattle.litemap_store.proofs.Ends.{Rising-push}
+use Rattle.litemap_store.proofs.Lists.Ends.{Rising-push}
 use Rattle.litemap.proofs.Outcomes.{either_way}
 use Rattle.litemap.proofs.map.LiteMap.append.Goals as goal
 

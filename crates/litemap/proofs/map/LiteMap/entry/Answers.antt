@@ -2,7 +2,7 @@ use Rattle.std.proofs.Common.{Some, ap, arith, sym, ◌∙◌}
 use Rattle.std.specs.Option.{option_map}
 use Rattle.litemap_store.specs.Pairs.{key_or}
 use Rattle.std.proofs.lemmas.Grind.{common_steps}
-use Rattle.litemap_store.proofs.Seams.{found_get, found_remove, found_set_value, found_value, found_within, missing_cut}
+use Rattle.litemap_store.proofs.Lists.Seams.{found_get, found_remove, found_set_value, found_value, found_within, missing_cut}
 use Rattle.litemap.proofs.map.LiteMap.entry.Goals as goal
 
 pub returns-in-Ok-clause-writes : goal.returns-in-Ok-clause-writes

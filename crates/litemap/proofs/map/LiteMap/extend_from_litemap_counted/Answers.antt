@@ -1,6 +1,6 @@
 use Rattle.std.proofs.Common.{◌≡◌}
 use Rattle.litemap_store.specs.Merge.{left}
-use Rattle.litemap_store.proofs.Merging.{Rising-left}
+use Rattle.litemap_store.proofs.Merging.Merges.{Rising-left}
 use Rattle.litemap.proofs.map.LiteMap.extend_from_litemap_counted.Goals as goal
 
 pub from_sorted_store_unchecked-requires : goal.from_sorted_store_unchecked-requires

@@ -1,6 +1,6 @@
 use Rattle.std.proofs.Common.{◌∙◌, subst}
 use Rattle.std.proofs.lemmas.Result.{on_ok_weaker}
-use Rattle.litemap_store.proofs.MergeLookups.{key_alike, key_same, value_at-merged}
+use Rattle.litemap_store.proofs.Callers.MergeLookups.{key_alike, key_same, value_at-merged}
 use Rattle.litemap.specs.Changes.{IsMergedInto}
 use Rattle.litemap.specs.Combined.{combined}
 use Rattle.litemap.specs.Seen.{with_pairs}

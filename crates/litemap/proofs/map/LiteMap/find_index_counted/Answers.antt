@@ -1,4 +1,4 @@
-use Rattle.litemap_store.proofs.Splitting.{index_of-from_Splits, there-from_Splits, within-from_Splits}
+use Rattle.litemap_store.proofs.Search.Splitting.{index_of-from_Splits, there-from_Splits, within-from_Splits}
 use Rattle.litemap.proofs.map.LiteMap.find_index_counted.Goals as goal
 
 pub returns-clause-place : goal.returns-clause-place

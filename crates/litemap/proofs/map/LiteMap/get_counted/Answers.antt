@@ -1,5 +1,5 @@
 use Rattle.std.proofs.Common.{◌∙◌}
-use Rattle.litemap_store.proofs.Seams.{found_value}
+use Rattle.litemap_store.proofs.Lists.Seams.{found_value}
 use Rattle.litemap.proofs.map.LiteMap.get_counted.Goals as goal
 
 pub returns-in-Ok-clause-value : goal.returns-in-Ok-clause-value

@@ -1,6 +1,6 @@
 use Rattle.std.proofs.Common.{◌∙◌, ap, refl, sym}
 use Rattle.litemap.specs.Seen.{with_pairs}
-use Rattle.litemap_store.proofs.Seams.{found_value, found_write}
+use Rattle.litemap_store.proofs.Lists.Seams.{found_value, found_write}
 use Rattle.litemap.proofs.Outcomes.{not_missing}
 use Rattle.litemap.proofs.map.LiteMap.index_mut.Goals as goal
 

@@ -3,8 +3,8 @@ use Rattle.std.specs.Map.Iter.{deref_pair}
 use Rattle.std.specs.Ordering.{is_lt}
 use Rattle.std.specs.declared.cmp.Ordering.TheVariants.{Less}
 use Rattle.litemap_store.specs.Pairs.{Rising}
-use Rattle.litemap_store.proofs.Joined.{Rising-from_adjacent, adjacent_more}
-use Rattle.litemap_store.proofs.Parts.{Less-from_Rising, Less-from_is_lt}
+use Rattle.litemap_store.proofs.Lists.Joined.{Rising-from_adjacent, adjacent_more}
+use Rattle.litemap_store.proofs.Lists.Parts.{Less-from_Rising, Less-from_is_lt}
 use Rattle.litemap.proofs.Places.{is_there}
 use Rattle.litemap.proofs.map.LiteMap.is_sorted_store.Goals as goal
 

@@ -1,5 +1,5 @@
 use Rattle.std.proofs.Common.{◌∙◌, sym}
-use Rattle.litemap_store.proofs.Seams.{found_remove, found_there}
+use Rattle.litemap_store.proofs.Lists.Seams.{found_remove, found_there}
 use Rattle.litemap.proofs.map.LiteMap.take_out.Goals as goal
 
 pub returns-in-Ok-clause-pair : goal.returns-in-Ok-clause-pair

@@ -1,8 +1,8 @@
 use Rattle.std.proofs.Common.{◌≡◌, Ok, refl, slice_get, subst, sym, ap, ◌∙◌}
 use Rattle.litemap_store.specs.Pairs.{at, put}
-use Rattle.litemap_store.proofs.Lookups.{at-put}
-use Rattle.litemap_store.proofs.Seams.{put_get}
-use Rattle.litemap_store.proofs.Splitting.{there-from_Splits, within-from_Splits}
+use Rattle.litemap_store.proofs.Callers.Lookups.{at-put}
+use Rattle.litemap_store.proofs.Lists.Seams.{put_get}
+use Rattle.litemap_store.proofs.Search.Splitting.{there-from_Splits, within-from_Splits}
 use Rattle.litemap.proofs.Entries.{within-put}
 use Rattle.litemap.proofs.Outcomes.{not_missing}
 use Rattle.litemap.proofs.map.LiteMap.try_find_or_insert.Goals as goal

@@ -1,7 +1,7 @@
 use Rattle.std.proofs.Common.{◌≡◌, Ok, Some, ap, option_map, sym, subst, ◌∙◌}
 use Rattle.std.specs.Fn.{FnOnceReturnsAt}
 use Rattle.litemap_store.specs.Pairs.{value_at, value_in}
-use Rattle.litemap_store.proofs.Seams.{put_value}
+use Rattle.litemap_store.proofs.Lists.Seams.{put_value}
 use Rattle.litemap.proofs.map.LiteMap.try_get_or_insert.Goals as goal
 
 pub value_there-requires : goal.value_there-requires

@@ -1,6 +1,6 @@
 use Rattle.std.proofs.Common.{◌≡◌, ◌+◌, [], ◌∷◌, ◌++◌, take, drop, append_assoc, append-nil, sym, ap, ◌∙◌, subst, arith, refl}
 use Rattle.std.proofs.lemmas.List.{drop_all, take_all}
-use Rattle.litemap_store.proofs.Seams.{length-set_value}
+use Rattle.litemap_store.proofs.Lists.Seams.{length-set_value}
 use Rattle.litemap.specs.Written.{CallableOnValues, Written}
 use Rattle.litemap.proofs.Places.{drop_at}
 use Rattle.litemap.proofs.Writing.{CallableOnValues-first, CallableOnValues-rest, Written-more, drop-written, take-written}

@@ -2,7 +2,7 @@ use Rattle.std.proofs.Common.{◌≡◌, ◌<◌, length, swap, take, true, refl
 use Rattle.std.specs.List.{zip}
 use Rattle.litemap_store.specs.Retain.{Kept}
 use Rattle.litemap_columns.proofs.Columns.{length-zip_same, same_length, zip-swap, zip-take, zip_at}
-use Rattle.litemap_store.proofs.Retaining.{Kept-all, KeptSoFar-no, KeptSoFar-takes, KeptSoFar-yes, Moved_if}
+use Rattle.litemap_store.proofs.Stores.Retaining.{Kept-all, KeptSoFar-no, KeptSoFar-takes, KeptSoFar-yes, Moved_if}
 use Rattle.litemap_columns.proofs.column_store.ColumnStoreStoreBulkMut.lm_retain.Goals as goal
 use Rattle.litemap_columns.proofs.column_store.ColumnStoreStoreBulkMut.lm_retain.Goals.{then-stays, else-stays}
 

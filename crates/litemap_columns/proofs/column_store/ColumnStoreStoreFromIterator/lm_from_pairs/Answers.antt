@@ -1,6 +1,6 @@
 use Rattle.std.proofs.Common.{◌++◌, ◌∷◌, [], ap, ◌∙◌, arith}
-use Rattle.litemap_store.proofs.Counting.{always_on_err}
-use Rattle.litemap_store.proofs.FirstGiven.{GivesSome-from_Yields}
+use Rattle.litemap_store.proofs.Stores.Counting.{always_on_err}
+use Rattle.litemap_store.proofs.Last.FirstGiven.{GivesSome-from_Yields}
 use Rattle.litemap_columns.proofs.Columns.{same_length, zip-append}
 use Rattle.litemap_columns.proofs.column_store.ColumnStoreStoreFromIterator.lm_from_pairs.Goals as goal
 

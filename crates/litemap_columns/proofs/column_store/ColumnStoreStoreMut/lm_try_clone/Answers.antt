@@ -1,4 +1,4 @@
-use Rattle.litemap_store.proofs.Alongside.{alongside-zip}
+use Rattle.litemap_store.proofs.Lists.Alongside.{alongside-zip}
 use Rattle.litemap_columns.proofs.column_store.ColumnStoreStoreMut.lm_try_clone.Goals as goal
 
 pub returns-clause-clones : goal.returns-clause-clones

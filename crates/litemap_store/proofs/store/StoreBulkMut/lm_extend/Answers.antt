@@ -1,7 +1,7 @@
 use Rattle.std.proofs.Common.{inr}
 use Rattle.std.proofs.lemmas.Result.{on_ok_weaker}
-use Rattle.litemap_store.proofs.Counting.{always_on_err}
-use Rattle.litemap_store.proofs.FirstGiven.{GivesSome-from_refused}
+use Rattle.litemap_store.proofs.Stores.Counting.{always_on_err}
+use Rattle.litemap_store.proofs.Last.FirstGiven.{GivesSome-from_refused}
 use Rattle.litemap_store.proofs.store.StoreBulkMut.lm_extend.Goals as goal
 
 pub returns-clause-extended : goal.returns-clause-extended

@@ -1,5 +1,5 @@
 use Rattle.std.proofs.Common.{sym, arith}
-use Rattle.litemap_store.proofs.Alongside.{alongside-more}
+use Rattle.litemap_store.proofs.Lists.Alongside.{alongside-more}
 use Rattle.litemap_store.proofs.store.StoreMut.lm_try_clone.Goals as goal
 
 pub loop-index-preserved : goal.loop-index-preserved

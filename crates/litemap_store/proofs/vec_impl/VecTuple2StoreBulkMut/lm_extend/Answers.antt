@@ -2,8 +2,8 @@ use Rattle.std.proofs.Common.{rules, ◌≡◌, ℕ, List, ◌++◌, inr, length
 use Rattle.std.proofs.Math.Seq.{drop-append_seam, take-append_seam}
 use Rattle.std.proofs.lemmas.Result.{on_ok_weaker}
 use Rattle.litemap_store.specs.Bulk.{IsCountedFor}
-use Rattle.litemap_store.proofs.Counting.{always_on_err}
-use Rattle.litemap_store.proofs.FirstGiven.{GivesSome-from_refused}
+use Rattle.litemap_store.proofs.Stores.Counting.{always_on_err}
+use Rattle.litemap_store.proofs.Last.FirstGiven.{GivesSome-from_refused}
 use Rattle.litemap_store.proofs.vec_impl.VecTuple2StoreBulkMut.lm_extend.Given.{Over}
 use Rattle.litemap_store.proofs.vec_impl.VecTuple2StoreBulkMut.lm_extend.Goals as goal
 

@@ -1,6 +1,6 @@
 use Rattle.std.proofs.Common.{◌<◌, arith, length}
 use Rattle.std.proofs.lemmas.Result.{err_from_is_err_and}
-use Rattle.litemap_store.proofs.Counting.{always_on_err}
+use Rattle.litemap_store.proofs.Stores.Counting.{always_on_err}
 use Rattle.name_index.proofs.Placing.{near_table, too_far_weaker}
 use Rattle.name_index.proofs.Rises.{rising_table}
 use Rattle.name_index.proofs.index.NameIndex.new.Goals as goal

@@ -1,4 +1,4 @@
-use Rattle.litemap_store.proofs.Counting.{always_on_err}
+use Rattle.litemap_store.proofs.Stores.Counting.{always_on_err}
 use Rattle.std.proofs.Common.{◌<◌, sym}
 use Rattle.std.proofs.lemmas.Result.{IfOk-at_ok}
 use Rattle.name_index.proofs.Indexing.{entry_is, no_index}

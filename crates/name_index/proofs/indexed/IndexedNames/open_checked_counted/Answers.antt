@@ -1,5 +1,5 @@
 use Rattle.std.proofs.Common.{◌-◌, ◌∙◌, arith, length}
-use Rattle.litemap_store.proofs.Counting.{at_most}
+use Rattle.litemap_store.proofs.Stores.Counting.{at_most}
 use Rattle.name_index.proofs.Indexing.{count_is}
 use Rattle.name_index.proofs.indexed.IndexedNames.open_checked_counted.Goals as goal
 

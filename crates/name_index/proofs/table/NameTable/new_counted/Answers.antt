@@ -1,5 +1,5 @@
 use Rattle.std.proofs.Common.{◌-◌, arith, length, refl}
-use Rattle.litemap_store.proofs.Counting.{at_most}
+use Rattle.litemap_store.proofs.Stores.Counting.{at_most}
 use Rattle.name_index.proofs.Rises.{parts, rising_table}
 use Rattle.name_index.proofs.table.NameTable.new_counted.Goals as goal
 

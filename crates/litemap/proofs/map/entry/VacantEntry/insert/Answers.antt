@@ -1,7 +1,7 @@
 use Rattle.std.proofs.Common.{◌≡◌, Some, refl, sym, ap, ◌∙◌}
 use Rattle.std.specs.Option.{unwrap_or}
 use Rattle.litemap_store.specs.Pairs.{set_value, value_in}
-use Rattle.litemap_store.proofs.Seams.{put_value}
+use Rattle.litemap_store.proofs.Lists.Seams.{put_value}
 use Rattle.litemap.proofs.Entries.{from_false, set_value-put}
 use Rattle.litemap.proofs.map.entry.VacantEntry.insert.Goals as goal
 

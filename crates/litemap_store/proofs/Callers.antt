@@ -1,0 +1,7 @@
+-- What the proofs of callers cite.
+pub mod Lookups
+pub mod LastLookups
+pub mod MergeLookups
+pub mod Extended
+pub mod HandedOver
+pub mod Tallies

@@ -1,0 +1,5 @@
+use Rattle.std.proofs.Common.{◌≡◌, ◌++◌}
+use Rattle.litemap_store.proofs.bulk.gather_behind.Given as goal
+
+abbrev pub invariant-loop-item : goal.invariant-loop-item
+invariant-loop-item g l = (l.items.items ≡ l.initial.items.items ++ l.yielded)

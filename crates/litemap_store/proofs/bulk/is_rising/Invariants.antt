@@ -1,0 +1,11 @@
+use Rattle.std.proofs.Common.{◌≡◌, ◌-◌, length, Less}
+use Rattle.std.specs.List.{AllAdjacentBelow}
+use Rattle.litemap_store.specs.Counts.{RisesByAtMost}
+use Rattle.litemap_store.proofs.bulk.is_rising.Given as goal
+
+abbrev pub invariant-loop-i : goal.invariant-loop-i
+invariant-loop-i g l = record {
+  near : AllAdjacentBelow (λ p q. g.K.Ord.cmp p.0 q.0 ≡ Less) l.pairs l.i;
+  empty : length l.pairs ≡ 0 → l.i ≡ 1;
+  cost : RisesByAtMost (l.i - 1) l.fn.count l.count;
+}

@@ -1,0 +1,80 @@
+use Rattle.std.proofs.Common.{◌≡◌, ◌+◌, ◌*◌, ◌≤◌, ◌++◌, ◌∷◌, [], arith, eqb-true, length, option_map, reverse, suc, sym, ap, ◌∙◌, subst}
+use Rattle.std.proofs.Math.Nat.{suc-mul}
+use Rattle.std.proofs.lemmas.List.{length_push, nil_from_length}
+use Rattle.std.proofs.lemmas.Grind.{common_steps}
+use Rattle.litemap_store.specs.Digits.{digits, digits-mono}
+use Rattle.litemap_store.specs.Merge.{Merge}
+use Rattle.litemap_store.specs.Pairs.{Rising, above, at, below, key_or}
+use Rattle.litemap_store.proofs.Merging.Down.{Merge-down, left-down, length-behind, length-option, length-parts}
+use Rattle.litemap_store.proofs.Merging.Joins.{Merge-none}
+use Rattle.litemap_store.proofs.Search.Splitting.{Rising-filter}
+use Rattle.litemap_store.proofs.Last.Taken.{Rising-left}
+use Rattle.litemap_store.proofs.merge.in_one_pass.take_aside.Goals as goal
+
+pub loop-other-preserved : goal.loop-other-preserved
+loop-other-preserved g c =
+    let cmp = g.K.Ord.cmp in
+    let o = g.met.K.Ord.total in
+    let was = c.loop-other.invariant in
+    let old = g.S.Store.pairs c.loop-other.store in
+    let new = g.S.Store.pairs c.take_last-key.new.store in
+    let pair = c.take_last-key.result in
+    let step = c.take_above.ensures in
+    let left_store = g.S.Store.pairs c.take_above.new.store in
+    let first = g.S.Store.pairs c.args.store.now in
+    let second = g.S.Store.pairs c.args.other in
+    let all = g.S.Store.pairs c.loop-other.other in
+    let split : all ≡ new ++ pair ∷ [] = c.take_last-key.ensures.pairs in
+    let side : length c.take_above.new.side.items ≡ suc (length (above cmp old pair.0)) + length c.loop-other.side.items = length-behind c.take_above.new.side.items ((key_or (at cmp old pair.0) pair.0, pair.1) ∷ above cmp old pair.0) c.loop-other.side.items step.side in
+    let driven_out : length c.take_above.new.driven_out.items ≤ length c.loop-other.driven_out.items + 1 = length-option c.take_above.new.driven_out.items (option_map (λ p. (pair.0, p.1)) (at cmp old pair.0)) c.loop-other.driven_out.items step.driven_out in
+    let parts : length (below cmp old pair.0) + length (above cmp old pair.0) ≤ length old = length-parts cmp o old pair.0 was.store_rises in
+    let kept : length left_store ≡ length (below cmp old pair.0) = ap length step.store in
+    let others : length all ≡ length new + 1 = ap length split ∙ length_push new pair in
+    let total = length first + length second in
+    let asked : digits (length old) ≤ digits total = digits-mono (length old) total (let k = was.fewer in omega arith) in
+    let one : suc (length new) * digits total ≡ length new * digits total + digits total = suc-mul (length new) (digits total) in
+    let more : length all * digits total ≡ suc (length new) * digits total = ap (λ n. n * digits total) (let e : length all ≡ suc (length new) = omega arith in e) in
+    record {
+      store_rises = rw step.store (Rising-filter cmp _ old was.store_rises);
+      other_rises = Rising-left cmp new (pair ∷ []) (subst (Rising cmp) split was.other_rises);
+      merged = Merge-down cmp o first second old all left_store new pair split was.other_rises step.store (reverse c.loop-other.side.items) (reverse c.take_above.new.side.items) was.store_rises step.side was.merged;
+      left_over = left-down cmp o first second old all left_store new pair split was.other_rises step.store (reverse c.loop-other.driven_out.items) (reverse c.take_above.new.driven_out.items) step.driven_out was.left_over;
+      side_fits = let k = was.side_fits in let r = step.side_room in omega arith;
+      side_len = let k = was.side_len in omega arith;
+      driven_out_fits = let k = was.driven_out_fits in let r = step.driven_out_room in omega arith;
+      driven_out_len = let k = was.driven_out_len in omega arith;
+      fewer = let k = was.fewer in omega arith;
+      same = step.cost.same ∙ was.same;
+      not_lowered = let k = was.not_lowered in let n = step.cost.not_lowered in omega arith;
+      most = let k = was.most in let n = step.cost.most in omega arith;
+    }
+
+pub returns-clause-merged : goal.returns-clause-merged
+returns-clause-merged g c =
+    let was = c.loop-other.invariant in
+    let old = g.S.Store.pairs c.loop-other.store in
+    let all = g.S.Store.pairs c.loop-other.other in
+    let none : all ≡ [] = nil_from_length _ (eqb-true _ 0 (sym c.lm_is_empty.ensures ∙ c.loop-other-test.false)) in
+    let kept : Merge g.K.Ord.cmp old all old = rw none (Merge-none g.K.Ord.cmp old was.store_rises) in
+    rw c.take_from.ensures.side (was.merged _ kept)
+
+pub loop-other-init : goal.loop-other-init
+loop-other-init g c = grind (arith, common_steps)
+
+pub take_last-key-requires : goal.take_last-key-requires
+take_last-key-requires g c = grind (arith, common_steps)
+
+pub take_above-requires-clause-side_room : goal.take_above-requires-clause-side_room
+take_above-requires-clause-side_room g c = grind (arith, common_steps)
+
+pub take_above-requires-clause-driven_out_room : goal.take_above-requires-clause-driven_out_room
+take_above-requires-clause-driven_out_room g c = grind (arith, common_steps)
+
+pub loop-other-smaller : goal.loop-other-smaller
+loop-other-smaller g c = grind (arith, common_steps)
+
+pub returns-clause-left : goal.returns-clause-left
+returns-clause-left g c = grind (arith, common_steps)
+
+pub returns-clause-side_len : goal.returns-clause-side_len
+returns-clause-side_len g c = grind (arith, common_steps)

@@ -1,0 +1,24 @@
+use Rattle.std.proofs.Common.{◌≡◌, ◌+◌, ◌*◌, ◌≤◌, ◌++◌, List, length, reverse, vec_capacity}
+use Rattle.litemap_store.specs.Digits.{digits}
+use Rattle.litemap_store.specs.Merge.{Merge, left}
+use Rattle.litemap_store.specs.Pairs.{Rising}
+use Rattle.litemap_store.proofs.merge.in_one_pass.take_aside.Given as goal
+
+abbrev pub invariant-loop-other : goal.invariant-loop-other
+invariant-loop-other g l = record {
+  store_rises : Rising g.K.Ord.cmp (g.S.Store.pairs l.store);
+  other_rises : Rising g.K.Ord.cmp (g.S.Store.pairs l.other);
+  merged : (M : List _) → Merge g.K.Ord.cmp (g.S.Store.pairs l.store) (g.S.Store.pairs l.other) M → Merge g.K.Ord.cmp (g.S.Store.pairs l.fn.store) (g.S.Store.pairs l.fn.other) (M ++ reverse l.side.items);
+  left_over : left g.K.Ord.cmp (g.S.Store.pairs l.fn.store) (g.S.Store.pairs l.fn.other) ≡ left g.K.Ord.cmp (g.S.Store.pairs l.store) (g.S.Store.pairs l.other) ++ reverse l.driven_out.items;
+  side_fits : length l.side.items + (length (g.S.Store.pairs l.store) + length (g.S.Store.pairs l.other)) ≤ vec_capacity l.side;
+  side_len : length l.side.items + (length (g.S.Store.pairs l.store) + length (g.S.Store.pairs l.other)) ≤ length (g.S.Store.pairs l.fn.store) + length (g.S.Store.pairs l.fn.other);
+  driven_out_fits : length l.driven_out.items + length (g.S.Store.pairs l.other) ≤ vec_capacity l.driven_out;
+  driven_out_len : length l.driven_out.items + length (g.S.Store.pairs l.other) ≤ length (g.S.Store.pairs l.fn.other);
+  fewer : length (g.S.Store.pairs l.store) ≤ length (g.S.Store.pairs l.fn.store);
+  same : l.count.name ≡ l.fn.count.name;
+  not_lowered : l.fn.count.total ≤ l.count.total;
+  most : l.count.total + length (g.S.Store.pairs l.other) * digits (length (g.S.Store.pairs l.fn.store) + length (g.S.Store.pairs l.fn.other)) ≤ l.fn.count.total + length (g.S.Store.pairs l.fn.other) * digits (length (g.S.Store.pairs l.fn.store) + length (g.S.Store.pairs l.fn.other));
+}
+
+abbrev pub decreases-loop-other : goal.decreases-loop-other
+decreases-loop-other g l = length (g.S.Store.pairs l.other)

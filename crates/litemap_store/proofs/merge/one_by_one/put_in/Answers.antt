@@ -1,0 +1,27 @@
+use Rattle.std.proofs.Common.{◌∙◌, ap, sym, Some, option_map, arith}
+use Rattle.std.proofs.lemmas.Grind.{common_steps}
+use Rattle.litemap_store.specs.Pairs.{set_value}
+use Rattle.litemap_store.proofs.Lists.Seams.{found_set_value, found_there, missing_insert}
+use Rattle.litemap_store.proofs.merge.one_by_one.put_in.Goals as goal
+
+pub returns-in-Ok-clause-put : goal.returns-in-Ok-clause-put
+returns-in-Ok-clause-put g c =
+    let pairs = g.S.Store.pairs c.args.store.now in
+    g.met.S.StoreMut.writes c.args.store.now c.in-Ok.index c.replace.new.dest
+    ∙ ap (λ v. set_value pairs c.in-Ok.index v) c.replace.ensures.after
+    ∙ found_set_value g.K.Ord.cmp pairs c.args.key c.in-Ok.index c.in-Ok.ensures.splits c.args.value
+
+pub returns-in-Ok-clause-old : goal.returns-in-Ok-clause-old
+returns-in-Ok-clause-old g c =
+    let there = found_there g.K.Ord.cmp (g.S.Store.pairs c.args.store.now) c.args.key c.in-Ok.index c.in-Ok.ensures.splits in
+    ap (λ v. Some (c.args.key, v)) c.replace.ensures.value ∙ sym (ap (option_map (λ p. (c.args.key, p.1))) (sym there ∙ c.lm_pair_mut-slot.ensures.pair))
+
+pub returns-in-Ok-lm_insert-clause-put : goal.returns-in-Ok-lm_insert-clause-put
+returns-in-Ok-lm_insert-clause-put g c =
+    c.in-Ok-lm_insert.ensures.ok ∙ missing_insert g.K.Ord.cmp (g.S.Store.pairs c.args.store.now) c.args.key c.in-Err.index c.in-Err.ensures.splits c.args.value
+
+pub lm_pair_mut-slot-requires : goal.lm_pair_mut-slot-requires
+lm_pair_mut-slot-requires g c = grind (arith, common_steps)
+
+pub lm_insert-requires : goal.lm_insert-requires
+lm_insert-requires g c = grind (arith, common_steps)

@@ -1,0 +1,12 @@
+use Rattle.std.proofs.Common.{rules}
+use Rattle.litemap_store.specs.Queries.{key_one_side}
+use Rattle.litemap_store.proofs.Search.Shapes.{shape_steady}
+use Rattle.litemap_store.proofs.Search.Splitting.{Ascends-by_query, Splits-from_Finds}
+use Rattle.litemap_store.proofs.merge.search.Goals as goal
+
+pub returns-clause-splits : goal.returns-clause-splits
+returns-clause-splits g c =
+    let one = key_one_side g.met.K.Ord.total in
+    let ascends = Ascends-by_query one _ c.args.key.now c.requires in
+    Splits-from_Finds one _ c.args.key.now c.requires _
+    (c.lm_binary_search_by.ensures.found.at (λ x. g.K.Ord.cmp x c.args.key.now) (shape_steady _ _ _ _ (λ p a. tt) (λ p r f' k. search rules) ascends))

@@ -1,0 +1,113 @@
+//! Few new pairs, which stand behind those of a vector, are put in one by one where they stand.
+ghost use Rattle.std.specs.Prelude.{◌≡◌, ◌↔◌, ◌<◌, ◌≤◌, ◌+◌, ◌-◌, ◌*◌, IfErr, IfOk, IsTrue, Some, drop, length, slice_get, take};
+ghost use Rattle.std.specs.Prelude.{vec_len};
+ghost use Rattle.litemap_store.specs.Counts.{RisesByAtMost};
+ghost use Rattle.litemap_store.specs.Digits.{digits};
+ghost use Rattle.litemap_store.specs.Last.{Last, Rises};
+ghost use Rattle.litemap_store.specs.Pairs.{Rising};
+ghost use Rattle.litemap_store.specs.PutIn.{IsPutIn};
+ghost use Rattle.litemap_store.specs.Splits.{Splits};
+
+use crate::bulk::{is_rising, lies_below};
+use crate::count::Count;
+use crate::merge::{binary_digits, search, walk_is_cheaper};
+use crate::slice_impl::SliceStore;
+
+// At most so many pairs are few. Each moves later ones at once, so that so many moves take less time than a merge.
+const FEW_PAIRS: usize = 16;
+
+/// Whether the pairs from an index on are few, and searches for them compare no more than there are pairs.
+pub fn is_few(from: usize, total: usize) -> bool
+    requires { from ≤ total }
+    ensures { IsTrue result → (total - from) * digits total ≤ total }
+{
+    let given = total - from;
+    given <= FEW_PAIRS && !walk_is_cheaper(total, given, binary_digits(total))
+}
+
+/// Makes few pairs from an index on, below which the keys rise, part of the store: of each key the last pair stays. It takes no
+/// memory.
+pub fn settle_few<K: Ord + Drop, V: Drop>(store: &mut Vec<(K, V)>, from: usize, count: &mut Count)
+    requires from { from ≤ vec_len store.old }
+    requires rising { Rising K.cmp (take from store.old.items) }
+    requires few { (vec_len store.old - from) * digits (vec_len store.old) ≤ vec_len store.old }
+    ensures last { Last K.cmp store.old.items store.new.items }
+    ensures behind { Rises K.cmp (take from store.old.items) (drop from store.old.items)
+        → RisesByAtMost (length (drop from store.old.items)) count.old count.new }
+    ensures cost { RisesByAtMost (from + 2 * length (drop from store.old.items)) count.old count.new }
+{
+    if rises_on(store, from, count) {
+        return;
+    }
+    put_each(store, from, count);
+}
+
+// Whether all keys rise, where those below an index do.
+fn rises_on<K: Ord, V>(pairs: &[(K, V)], from: usize, count: &mut Count) -> bool
+    requires from { from ≤ length pairs.now }
+    requires rising { Rising K.cmp (take from pairs.now) }
+    ensures rising { IsTrue result ↔ Rising K.cmp pairs.now }
+    ensures cost { RisesByAtMost (length (drop from pairs.now)) count.old count.new }
+{
+    let (old, given) = pairs.split_at(from);
+    if !is_rising(given, count) {
+        return false;
+    }
+    lies_below(&SliceStore::new(old), &SliceStore::new(given), count)
+}
+
+// Puts each pair from an index on in, in their order, by one search. What is given up gathers behind, and is dropped at the end.
+fn put_each<K: Ord + Drop, V: Drop>(store: &mut Vec<(K, V)>, from: usize, count: &mut Count)
+    requires from { from ≤ vec_len store.old }
+    requires rising { Rising K.cmp (take from store.old.items) }
+    ensures last { Last K.cmp store.old.items store.new.items }
+    ensures cost { RisesByAtMost ((vec_len store.old - from) * digits (vec_len store.old)) count.old count.new }
+{
+    let mut kept = from;
+    for at in from..store.len() {
+        kept = put_next(store, kept, at, count);
+    }
+    store.truncate(kept);
+}
+
+// Puts the pair at a place in among the first so many, whose number it answers then. An equal key's pair takes its place.
+fn put_next<K: Ord, V>(pairs: &mut [(K, V)], kept: usize, at: usize, count: &mut Count) -> usize
+    requires kept { kept ≤ at }
+    requires at { at < length pairs.old }
+    requires rising { Rising K.cmp (take kept pairs.old) }
+    ensures put { IsPutIn K.cmp pairs.old pairs.new kept result at }
+    ensures len { length pairs.new ≡ length pairs.old }
+    ensures within { result ≤ kept + 1 }
+    ensures cost { RisesByAtMost (digits kept) count.old count.new }
+{
+    match place_among(pairs, kept, at, count) {
+        Ok(index) => {
+            pairs.swap(index, at);
+            kept
+        }
+        Err(index) => {
+            pairs[index..=at].rotate_right(1);
+            kept + 1
+        }
+    }
+}
+
+// The place where the key at a place splits the first so many pairs.
+fn place_among<K: Ord, V>(
+    pairs: &[(K, V)],
+    kept: usize,
+    at: usize,
+    count: &mut Count,
+) -> Result<usize, usize>
+    requires kept { kept ≤ at }
+    requires at { at < length pairs.now }
+    requires rising { Rising K.cmp (take kept pairs.now) }
+    ensures splits { (p : K × V) × (slice_get pairs.now at ≡ Some p) × Splits K.cmp (take kept pairs.now) p.0 result }
+    ensures found { IfOk result (λ index. index < kept) }
+    ensures missing { IfErr result (λ index. index ≤ kept) }
+    ensures cost { RisesByAtMost (digits kept) count.old count.new }
+{
+    let (old, given) = pairs.split_at(kept);
+    let next = &given[at - kept];
+    search(&SliceStore::new(old), &next.0, count)
+}

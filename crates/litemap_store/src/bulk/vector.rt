@@ -1,0 +1,119 @@
+//! The bodies behind a vector's `lm_extend`: new pairs behind its own become part of it where they stand. Few are put in one by
+//! one; else a merge turns its side vector round, which becomes the store.
+ghost use Rattle.std.specs.Prelude.{◌≡◌, ◌⊎◌, ◌≤◌, ◌+◌, ◌*◌, ◌++◌, [], IsOk, OnOk, OnErr, drop, length, take, vec_len};
+ghost use Rattle.litemap_store.specs.Bulk.{IsHandedBack};
+ghost use Rattle.litemap_store.specs.Counts.{RisesByAtMost};
+ghost use Rattle.litemap_store.specs.Last.{Last, Rises};
+ghost use Rattle.litemap_store.specs.Pairs.{Rising};
+ghost use Rattle.litemap_store.specs.VecStore.{vec_room};
+
+use crate::bulk::few::{is_few, settle_few};
+use crate::bulk::merge::take_down;
+use crate::bulk::{keep_rising, lies_below};
+use crate::count::Count;
+use crate::slice_impl::SliceStore;
+use std::alloc::{AllocError, Global};
+use std::mem;
+
+/// Makes the pairs from an index on, below which the keys rise, part of the store: of each key the last pair stays. Where it is
+/// refused they are given up.
+pub fn settle<K: Ord + Drop, V: Drop>(
+    alloc: Global,
+    store: &mut Vec<(K, V)>,
+    from: usize,
+    count: &mut Count,
+) -> Result<(), AllocError>
+    requires from { from ≤ vec_len store.old }
+    requires rising { Rising K.cmp (take from store.old.items) }
+    ensures last { OnOk result (Last K.cmp store.old.items store.new.items) }
+    ensures refused { OnErr result (store.new.items ≡ take from store.old.items) }
+    ensures behind { Rises K.cmp (take from store.old.items) (drop from store.old.items)
+        → RisesByAtMost (length (drop from store.old.items)) count.old count.new }
+    ensures cost { RisesByAtMost (from + 2 * length (drop from store.old.items)) count.old count.new }
+    ensures succeeds { Rises K.cmp (take from store.old.items) (drop from store.old.items) → IsOk result }
+{
+    if is_few(from, store.len()) {
+        settle_few(store, from, count);
+        return Ok(());
+    }
+    let Ok(()) = keep_rising(alloc, store, from, count) else {
+        store.truncate(from);
+        return Err(AllocError);
+    };
+    let (old, given) = store.split_at(from);
+    if lies_below(&SliceStore::new(old), &SliceStore::new(given), count) {
+        return Ok(());
+    }
+    let Ok(mut given) = store.split_off(from) else {
+        store.truncate(from);
+        return Err(AllocError);
+    };
+    merge_in_vec(alloc, store, &mut given, count)
+}
+
+/// Puts the pairs of a vector in, which is left empty: of each key the last pair stays. Where they rise past the last old key
+/// they are put behind in one move; where there is no old one, it is never refused then.
+pub fn put_in_vec<K: Ord + Drop, V: Drop>(
+    alloc: Global,
+    store: &mut Vec<(K, V)>,
+    pairs: &mut Vec<(K, V)>,
+    count: &mut Count,
+) -> Result<(), AllocError>
+    requires { Rising K.cmp store.old.items }
+    ensures last { OnOk result (Last K.cmp (store.old.items ++ pairs.old.items) store.new.items) }
+    ensures refused { OnErr result (store.new.items ≡ store.old.items) }
+    ensures behind { Rises K.cmp store.old.items pairs.old.items
+        → RisesByAtMost (length pairs.old.items) count.old count.new }
+    ensures cost { RisesByAtMost (length store.old.items + 2 * length pairs.old.items) count.old count.new }
+    ensures succeeds { Rises K.cmp store.old.items pairs.old.items
+        → (store.old.items ≡ []) ⊎ (length pairs.old.items ≤ vec_room store.old) → IsOk result }
+    ensures empty { OnOk result (pairs.new.items ≡ []) }
+    ensures back { OnErr result (IsHandedBack K.cmp pairs.old.items pairs.new.items) }
+{
+    keep_rising(alloc, pairs, 0, count)?;
+    if lies_below(store, pairs, count) {
+        return append_in_vec(store, pairs);
+    }
+    merge_in_vec(alloc, store, pairs, count)
+}
+
+// Puts items behind the others in one move. Where there are none, and no room for the new ones, their vector takes the place.
+fn append_in_vec<T>(store: &mut Vec<T>, items: &mut Vec<T>) -> Result<(), AllocError>
+    ensures behind { OnOk result (store.new.items ≡ store.old.items ++ items.old.items) }
+    ensures refused { OnErr result (store.new.items ≡ store.old.items) }
+    ensures succeeds { (store.old.items ≡ []) ⊎ (length items.old.items ≤ vec_room store.old) → IsOk result }
+    ensures empty { OnOk result (items.new.items ≡ []) }
+    ensures back { OnErr result (items.new.items ≡ items.old.items) }
+{
+    if store.is_empty() && store.capacity() < items.len() {
+        mem::swap(store, items);
+        return Ok(());
+    }
+    store.append(items)
+}
+
+// Puts pairs in, by at most one comparison for each pair of both. Room for all pairs is taken first.
+fn merge_in_vec<K: Ord + Drop, V: Drop>(
+    alloc: Global,
+    store: &mut Vec<(K, V)>,
+    pairs: &mut Vec<(K, V)>,
+    count: &mut Count,
+) -> Result<(), AllocError>
+    requires store { Rising K.cmp store.old.items }
+    requires pairs { Rising K.cmp pairs.old.items }
+    ensures last { OnOk result (Last K.cmp (store.old.items ++ pairs.old.items) store.new.items) }
+    ensures refused { OnErr result (store.new.items ≡ store.old.items) }
+    ensures cost { RisesByAtMost (length store.old.items + length pairs.old.items) count.old count.new }
+    ensures empty { OnOk result (pairs.new.items ≡ []) }
+    ensures back { OnErr result (pairs.new.items ≡ pairs.old.items) }
+{
+    let Some(total) = store.len().checked_add(pairs.len()) else {
+        return Err(AllocError);
+    };
+    let mut side = Vec::with_capacity(alloc, total)?;
+    let given = mem::replace(pairs, Vec::new(alloc));
+    take_down(store, given, &mut side, count);
+    side.reverse();
+    *store = side;
+    Ok(())
+}

@@ -1,0 +1,165 @@
+//! The body behind `extend_from_litemap`: one store's pairs are merged into another's.
+ghost use Rattle.std.specs.Prelude.{◌≡◌, ◌≢◌, ◌⊎◌, ◌↔◌, ◌+◌, ◌*◌, ◌<◌, ◌≤◌, ◌++◌, [], length, IsTrue, IsOk, IsNone, None, IfOk};
+ghost use Rattle.std.specs.Prelude.{IfErr};
+ghost use Rattle.std.specs.Prelude.{IfSome, OnOk, OnErr};
+ghost use Rattle.litemap_store.specs.Counts.{RisesByAtMost};
+ghost use Rattle.litemap_store.specs.Digits.{digits};
+ghost use Rattle.litemap_store.specs.Last.{Rises};
+ghost use Rattle.litemap_store.specs.Merge.{Apart, IsLeft, IsUndone, Merge, left};
+ghost use Rattle.litemap_store.specs.Pairs.{Rising};
+ghost use Rattle.litemap_store.specs.Splits.{Splits};
+
+mod in_one_pass;
+mod one_by_one;
+mod peekable;
+mod side_by_side;
+
+use crate::bulk::lies_below;
+use crate::merge::in_one_pass::merge_in_one_pass;
+use crate::merge::one_by_one::merge_each;
+use crate::merge::side_by_side::merge_side_by_side;
+use crate::store::{Count, NoRoom, Store, StoreIntoIterator};
+use std::alloc::Global;
+
+// A merge puts pairs in one by one where there are fewer than so many for each binary digit of both lengths' sum.
+const FEW_PER_DIGIT: usize = 3;
+
+/// Merges a store's pairs into another's. Where an equal key is there, that key stays and takes the new value; the old
+/// values are answered, each with its new key, in order, or `None` where there are none.
+///
+/// It is the body of a map's `extend_from_litemap`, which says what it compares, what it moves and when it is refused.
+pub fn extend_from_store<K: Ord + Drop, V: Drop, S: StoreIntoIterator<K, V> + Drop>(
+    alloc: Global,
+    store: &mut S,
+    other: S,
+    count: &mut Count,
+) -> Result<Option<S>, NoRoom<S>>
+    requires store { Rising K.cmp (S.pairs store.old) }
+    requires other { Rising K.cmp (S.pairs other) }
+    ensures merged { OnOk result (Merge K.cmp (S.pairs store.old) (S.pairs other) (S.pairs store.new)) }
+    ensures none { IfOk result (λ rest. IsNone rest ↔ (left K.cmp (S.pairs store.old) (S.pairs other) ≡ [])) }
+    ensures left { IfOk result
+        (λ rest. IfSome rest (λ s. S.pairs s ≡ left K.cmp (S.pairs store.old) (S.pairs other))) }
+    ensures refused { OnErr result (S.pairs store.new ≡ S.pairs store.old) }
+    ensures back { IfErr result (λ refused. S.pairs refused.back ≡ S.pairs other) }
+    ensures succeeds { (S.pairs store.old ≡ []) ⊎ (S.pairs other ≡ []) → IsOk result }
+    ensures behind { Rises K.cmp (S.pairs store.old) (S.pairs other)
+        → length (S.pairs other) ≤ S.room store.old → IsOk result }
+    ensures in_front { Rises K.cmp (S.pairs other) (S.pairs store.old)
+        → length (S.pairs other) ≤ S.room store.old → length (S.pairs store.old) ≤ S.room other → IsOk result }
+    ensures unchanged { S.pairs other ≡ [] → store.new ≡ store.old }
+    ensures taken { S.pairs store.old ≡ [] → S.pairs other ≢ [] → store.new ≡ other }
+    ensures uncounted { (S.pairs store.old ≡ []) ⊎ (S.pairs other ≡ []) → RisesByAtMost 0 count.old count.new }
+    ensures apart { Apart K.cmp (S.pairs store.old) (S.pairs other) → RisesByAtMost 2 count.old count.new }
+    ensures cost { RisesByAtMost
+        (2 + length (S.pairs other) * digits (length (S.pairs store.old) + length (S.pairs other)))
+        count.old count.new }
+{
+    if lies_below(store, &other, count) {
+        return put_behind(store, other);
+    }
+    if lies_below(&other, store, count) {
+        return put_in_front(store, other);
+    }
+    merge_mixed(alloc, store, other, count)
+}
+
+// Puts the pairs of another store behind. Where one of them is empty it takes no memory.
+fn put_behind<K: Drop, V: Drop, S: StoreIntoIterator<K, V> + Drop>(
+    store: &mut S,
+    other: S,
+) -> Result<Option<S>, NoRoom<S>>
+    ensures joined { IfOk result (λ rest. (rest ≡ None) × (S.pairs store.new ≡ S.pairs store.old ++ S.pairs other)) }
+    ensures refused { IfErr result (λ refused. IsUndone S.pairs store.old other store.new refused.back) }
+    ensures full { OnErr result ((S.pairs store.old ≢ []) × (S.room store.old < length (S.pairs other))) }
+    ensures unchanged { S.pairs other ≡ [] → store.new ≡ store.old }
+    ensures taken { S.pairs store.old ≡ [] → S.pairs other ≢ [] → store.new ≡ other }
+{
+    if other.lm_is_empty() {
+        return Ok(None);
+    }
+    if store.lm_is_empty() {
+        *store = other;
+        return Ok(None);
+    }
+    store.lm_extend_end(other)?;
+    Ok(None)
+}
+
+// Puts the pairs of another store in front.
+fn put_in_front<K: Drop, V: Drop, S: StoreIntoIterator<K, V>>(
+    store: &mut S,
+    other: S,
+) -> Result<Option<S>, NoRoom<S>>
+    ensures joined { IfOk result (λ rest. (rest ≡ None) × (S.pairs store.new ≡ S.pairs other ++ S.pairs store.old)) }
+    ensures refused { IfErr result (λ refused. IsUndone S.pairs store.old other store.new refused.back) }
+    ensures full { OnErr result ((S.room store.old < length (S.pairs other)) ⊎ (S.room other < length (S.pairs store.old))) }
+{
+    store.lm_extend_start(other)?;
+    Ok(None)
+}
+
+// Merges stores whose pairs lie mixed, and answers what is left over: side by side where the other one has many pairs, pair by
+// pair where it has few, else by one search for each of its pairs in one pass.
+fn merge_mixed<K: Ord + Drop, V: Drop, S: StoreIntoIterator<K, V> + Drop>(
+    alloc: Global,
+    store: &mut S,
+    other: S,
+    count: &mut Count,
+) -> Result<Option<S>, NoRoom<S>>
+    requires store { Rising K.cmp (S.pairs store.old) }
+    requires other { Rising K.cmp (S.pairs other) }
+    ensures merged { OnOk result (Merge K.cmp (S.pairs store.old) (S.pairs other) (S.pairs store.new)) }
+    ensures left { IfOk result (IsLeft S.pairs (left K.cmp (S.pairs store.old) (S.pairs other))) }
+    ensures refused { IfErr result (λ refused. IsUndone S.pairs store.old other store.new refused.back) }
+    ensures cost { RisesByAtMost
+        (length (S.pairs other) * digits (length (S.pairs store.old) + length (S.pairs other)))
+        count.old count.new }
+{
+    let len = other.lm_len();
+    let Some(total) = store.lm_len().checked_add(len) else {
+        return Err(NoRoom { back: other });
+    };
+    let steps = binary_digits(total);
+    if walk_is_cheaper(total, len, steps) {
+        return merge_side_by_side(alloc, store, other, total, count);
+    }
+    if len / FEW_PER_DIGIT < steps {
+        return merge_each(alloc, store, other, count);
+    }
+    merge_in_one_pass(alloc, store, other, total, count)
+}
+
+// Whether a step for each of so many pairs is no more than what the searches ask, each of so many steps.
+pub(crate) fn walk_is_cheaper(pairs: usize, searches: usize, steps: usize) -> bool
+    ensures { IsTrue result ↔ (pairs ≤ searches * steps) }
+{
+    pairs <= searches.saturating_mul(steps)
+}
+
+// How many binary digits a number has: what a search among as many pairs asks at most.
+pub(crate) fn binary_digits(number: usize) -> usize
+    ensures { result ≡ digits number }
+{
+    (usize::BITS - number.leading_zeros()) as usize
+}
+
+// What is left over, if it has pairs.
+fn unless_empty<K, V, S: Store<K, V> + Drop>(rest: S) -> Option<S>
+    ensures { IsLeft S.pairs (S.pairs rest) result }
+{
+    if rest.lm_is_empty() { None } else { Some(rest) }
+}
+
+// The place where a key splits the pairs.
+pub(crate) fn search<K: Ord, V, S: Store<K, V>>(
+    store: &S,
+    key: &K,
+    count: &mut Count,
+) -> Result<usize, usize>
+    requires { Rising K.cmp (S.pairs store.now) }
+    ensures splits { Splits K.cmp (S.pairs store.now) key.now result }
+    ensures cost { RisesByAtMost (digits (length (S.pairs store.now))) count.old count.new }
+{
+    store.lm_binary_search_by(|k| k.cmp(key), count)
+}

@@ -1,0 +1,129 @@
+//! A merge in one pass, from the last pair of the other store down to the first.
+ghost use Rattle.std.specs.Prelude.{◌≡◌, ◌+◌, ◌*◌, ◌<◌, ◌≤◌, ◌++◌, ◌∷◌, [], drop, length, reverse, take};
+ghost use Rattle.std.specs.Prelude.{IfOk, IfErr, OnOk, option_map, vec_capacity};
+ghost use Rattle.std.specs.List.{cons_option};
+ghost use Rattle.litemap_store.specs.Counts.{RisesByAtMost};
+ghost use Rattle.litemap_store.specs.Digits.{digits};
+ghost use Rattle.litemap_store.specs.Merge.{IsLeft, IsUndone, Merge, left};
+ghost use Rattle.litemap_store.specs.Pairs.{Rising, above, at, below, key_or};
+
+use crate::merge::{search, unless_empty};
+use crate::reserved::{put_up, take_from, take_last};
+use crate::store::{Count, NoRoom, Store, StoreMut};
+use std::alloc::{AllocError, Global};
+
+/// Merges a store's pairs into another's, each by one search, and answers what is left over.
+///
+/// All room is taken first: a side vector and a fresh store for the pairs of both, and the same for what is left over.
+/// Each pair then moves into a side vector and from there into its store, so each moves a constant number of times.
+pub fn merge_in_one_pass<K: Ord + Drop, V: Drop, S: StoreMut<K, V> + Drop>(
+    alloc: Global,
+    store: &mut S,
+    other: S,
+    total: usize,
+    count: &mut Count,
+) -> Result<Option<S>, NoRoom<S>>
+    requires store { Rising K.cmp (S.pairs store.old) }
+    requires other { Rising K.cmp (S.pairs other) }
+    requires total { total ≡ length (S.pairs store.old) + length (S.pairs other) }
+    ensures merged { OnOk result (Merge K.cmp (S.pairs store.old) (S.pairs other) (S.pairs store.new)) }
+    ensures left { IfOk result (IsLeft S.pairs (left K.cmp (S.pairs store.old) (S.pairs other))) }
+    ensures refused { IfErr result (λ refused. IsUndone S.pairs store.old other store.new refused.back) }
+    ensures cost { RisesByAtMost
+        (length (S.pairs other) * digits (length (S.pairs store.old) + length (S.pairs other)))
+        count.old count.new }
+{
+    let Ok((mut side, mut fresh)) = room_for(alloc, total) else {
+        return Err(NoRoom { back: other });
+    };
+    let Ok((mut driven_out, mut rest)) = room_for(alloc, other.lm_len()) else {
+        return Err(NoRoom { back: other });
+    };
+    take_aside(store, other, &mut side, &mut driven_out, count);
+    put_up(&mut fresh, side);
+    put_up(&mut rest, driven_out);
+    *store = fresh;
+    Ok(unless_empty(rest))
+}
+
+// A vector and a store, both empty, with room for so many pairs each.
+fn room_for<K: Drop, V: Drop, S: StoreMut<K, V>>(
+    alloc: Global,
+    len: usize,
+) -> Result<(Vec<(K, V)>, S), AllocError>
+    ensures side { IfOk result (λ made. made.0.items ≡ []) }
+    ensures side_room { IfOk result (λ made. len ≤ vec_capacity made.0) }
+    ensures store { IfOk result (λ made. S.pairs made.1 ≡ []) }
+    ensures store_room { IfOk result (λ made. len ≤ S.room made.1) }
+{
+    let side = Vec::with_capacity(alloc, len)?;
+    let store = S::lm_with_capacity(alloc, len)?;
+    Ok((side, store))
+}
+
+// Takes all pairs of both stores aside, the greatest key first, and the old values that new ones drive out.
+fn take_aside<K: Ord + Drop, V: Drop, S: StoreMut<K, V> + Drop>(
+    store: &mut S,
+    mut other: S,
+    side: &mut Vec<(K, V)>,
+    driven_out: &mut Vec<(K, V)>,
+    count: &mut Count,
+)
+    requires store { Rising K.cmp (S.pairs store.old) }
+    requires other { Rising K.cmp (S.pairs other) }
+    requires side { side.old.items ≡ [] }
+    requires side_room { length (S.pairs store.old) + length (S.pairs other) ≤ vec_capacity side.old }
+    requires driven_out { driven_out.old.items ≡ [] }
+    requires driven_out_room { length (S.pairs other) ≤ vec_capacity driven_out.old }
+    ensures merged { Merge K.cmp (S.pairs store.old) (S.pairs other) (reverse side.new.items) }
+    ensures left { reverse driven_out.new.items ≡ left K.cmp (S.pairs store.old) (S.pairs other) }
+    ensures side_len { length side.new.items ≤ length (S.pairs store.old) + length (S.pairs other) }
+    ensures driven_out_len { length driven_out.new.items ≤ length (S.pairs other) }
+    ensures cost { RisesByAtMost
+        (length (S.pairs other) * digits (length (S.pairs store.old) + length (S.pairs other)))
+        count.old count.new }
+{
+    while !other.lm_is_empty() {
+        let (key, value) = take_last(&mut other);
+        take_above(store, key, value, side, driven_out, count);
+    }
+    take_from(store, 0, side);
+}
+
+// Takes the pairs above a key aside, and then the new pair: where an equal key is there, that key with the new value, which
+// drives out the old one.
+fn take_above<K: Ord + Drop, V: Drop, S: StoreMut<K, V>>(
+    store: &mut S,
+    key: K,
+    value: V,
+    side: &mut Vec<(K, V)>,
+    driven_out: &mut Vec<(K, V)>,
+    count: &mut Count,
+)
+    requires store { Rising K.cmp (S.pairs store.old) }
+    requires side_room { length side.old.items + length (S.pairs store.old) < vec_capacity side.old }
+    requires driven_out_room { length driven_out.old.items < vec_capacity driven_out.old }
+    ensures store { S.pairs store.new ≡ below K.cmp (S.pairs store.old) key }
+    ensures side { reverse side.new.items
+        ≡ (key_or (at K.cmp (S.pairs store.old) key) key, value) ∷ (above K.cmp (S.pairs store.old) key
+        ++ reverse side.old.items) }
+    ensures driven_out { reverse driven_out.new.items
+        ≡ cons_option (option_map (λ p. (key, p.1)) (at K.cmp (S.pairs store.old) key))
+        (reverse driven_out.old.items) }
+    ensures side_room { vec_capacity side.old ≤ vec_capacity side.new }
+    ensures driven_out_room { vec_capacity driven_out.old ≤ vec_capacity driven_out.new }
+    ensures cost { RisesByAtMost (digits (length (S.pairs store.old))) count.old count.new }
+{
+    match search(store, &key, count) {
+        Ok(index) => {
+            take_from(store, index + 1, side);
+            let (stored, old) = take_last(store);
+            side.push_reserved((stored, value));
+            driven_out.push_reserved((key, old));
+        }
+        Err(index) => {
+            take_from(store, index, side);
+            side.push_reserved((key, value));
+        }
+    }
+}

@@ -1,0 +1,106 @@
+//! A merge that puts the pairs in one by one, each by one search.
+ghost use Rattle.std.specs.Prelude.{◌≡◌, ◌+◌, ◌*◌, ◌<◌, ◌≤◌, ◌++◌, [], length, IfOk, IfErr, OnOk, option_map};
+ghost use Rattle.std.specs.List.{cons_option};
+ghost use Rattle.litemap_store.specs.Counts.{RisesByAtMost};
+ghost use Rattle.litemap_store.specs.Digits.{digits};
+ghost use Rattle.litemap_store.specs.Merge.{IsLeft, IsUndone, Merge, left};
+ghost use Rattle.litemap_store.specs.Pairs.{Rising, at, put};
+
+use crate::merge::{search, unless_empty};
+use crate::reserved::push_reserved;
+use crate::store::{Count, NoRoom, Store, StoreIntoIterator, StoreMut};
+use std::alloc::Global;
+use std::mem;
+
+/// Merges a store's pairs into another's, each by one search, and answers what is left over. All room is taken first.
+///
+/// A pair that falls between others moves those behind it, so the moves are up to the product of the two lengths.
+pub fn merge_each<K: Ord + Drop, V: Drop, S: StoreIntoIterator<K, V> + Drop>(
+    alloc: Global,
+    store: &mut S,
+    other: S,
+    count: &mut Count,
+) -> Result<Option<S>, NoRoom<S>>
+    requires store { Rising K.cmp (S.pairs store.old) }
+    requires other { Rising K.cmp (S.pairs other) }
+    ensures merged { OnOk result (Merge K.cmp (S.pairs store.old) (S.pairs other) (S.pairs store.new)) }
+    ensures left { IfOk result (IsLeft S.pairs (left K.cmp (S.pairs store.old) (S.pairs other))) }
+    ensures refused { IfErr result (λ refused. IsUndone S.pairs store.old other store.new refused.back) }
+    ensures cost { RisesByAtMost
+        (length (S.pairs other) * digits (length (S.pairs store.old) + length (S.pairs other)))
+        count.old count.new }
+{
+    let len = other.lm_len();
+    let Ok(()) = store.lm_reserve(len) else {
+        return Err(NoRoom { back: other });
+    };
+    let Ok(mut rest) = S::lm_with_capacity(alloc, len) else {
+        return Err(NoRoom { back: other });
+    };
+    put_each(store, other, &mut rest, count);
+    Ok(unless_empty(rest))
+}
+
+// Puts each pair in, and what it drives out behind the rest. Both stores have room for all.
+fn put_each<K: Ord + Drop, V: Drop, S: StoreIntoIterator<K, V>>(
+    store: &mut S,
+    other: S,
+    rest: &mut S,
+    count: &mut Count,
+)
+    requires store { Rising K.cmp (S.pairs store.old) }
+    requires other { Rising K.cmp (S.pairs other) }
+    requires empty { S.pairs rest.old ≡ [] }
+    requires room { length (S.pairs other) ≤ S.room store.old }
+    requires rest_room { length (S.pairs other) ≤ S.room rest.old }
+    ensures merged { Merge K.cmp (S.pairs store.old) (S.pairs other) (S.pairs store.new) }
+    ensures left { S.pairs rest.new ≡ left K.cmp (S.pairs store.old) (S.pairs other) }
+    ensures cost { RisesByAtMost
+        (length (S.pairs other) * digits (length (S.pairs store.old) + length (S.pairs other)))
+        count.old count.new }
+{
+    for (key, value) in other.lm_into_iter() {
+        let driven_out = put_in(store, key, value, count);
+        push_some(rest, driven_out);
+    }
+}
+
+// Puts a pair in by one search, and answers its key with the value that it drives out. The store has room for it.
+fn put_in<K: Ord + Drop, V: Drop, S: StoreMut<K, V>>(
+    store: &mut S,
+    key: K,
+    value: V,
+    count: &mut Count,
+) -> Option<(K, V)>
+    requires store { Rising K.cmp (S.pairs store.old) }
+    requires room { 0 < S.room store.old }
+    ensures put { S.pairs store.new ≡ put K.cmp (S.pairs store.old) key value }
+    ensures old { result ≡ option_map (λ p. (key, p.1)) (at K.cmp (S.pairs store.old) key) }
+    ensures room { S.room store.old ≤ S.room store.new + 1 }
+    ensures cost { RisesByAtMost (digits (length (S.pairs store.old))) count.old count.new }
+{
+    match search(store, &key, count) {
+        Ok(index) => {
+            let (_, slot) = store.lm_pair_mut(index);
+            Some((key, mem::replace(slot, value)))
+        }
+        Err(index) => {
+            let Ok(()) = store.lm_insert(index, key, value) else {
+                unreachable!()
+            };
+            None
+        }
+    }
+}
+
+// Puts a pair behind those of the store, if there is one. The store has room for it.
+fn push_some<K: Drop, V: Drop, S: StoreMut<K, V>>(store: &mut S, pair: Option<(K, V)>)
+    requires { 0 < S.room store.old }
+    ensures pairs { S.pairs store.new ≡ S.pairs store.old ++ cons_option pair [] }
+    ensures room { S.room store.old ≤ S.room store.new + 1 }
+{
+    let Some((key, value)) = pair else {
+        return;
+    };
+    push_reserved(store, key, value);
+}

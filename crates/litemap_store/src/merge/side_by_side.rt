@@ -1,0 +1,121 @@
+//! A merge that walks both stores once, side by side.
+ghost use Rattle.std.specs.Prelude.{◌≡◌, ◌+◌, ◌≤◌, [], length, IfOk, IfErr, OnOk, Some};
+ghost use Rattle.litemap_store.specs.Counts.{RisesByAtMost};
+ghost use Rattle.litemap_store.specs.Merge.{IsLeft, IsUndone, Merge, left};
+ghost use Rattle.litemap_store.specs.Pairs.{Rising};
+ghost use Rattle.litemap_store.specs.Walked.{IsLowerFirst, IsTakenFirst};
+
+use crate::into_iter::PairIntoIter;
+use crate::merge::peekable::Peekable;
+use crate::merge::unless_empty;
+use crate::reserved::push_reserved;
+use crate::store::{Count, NoRoom, Store, StoreIntoIterator, StoreMut};
+use std::alloc::Global;
+use std::cmp::Ordering;
+use std::mem;
+
+/// Merges a store's pairs into another's, by at most one comparison for each pair of both, and answers what is left over.
+///
+/// All room is taken first: a fresh store for the pairs of both, which becomes the store, and one for what is left over. Each
+/// pair then moves a constant number of times.
+pub fn merge_side_by_side<K: Ord + Drop, V: Drop, S: StoreIntoIterator<K, V> + Drop>(
+    alloc: Global,
+    store: &mut S,
+    other: S,
+    total: usize,
+    count: &mut Count,
+) -> Result<Option<S>, NoRoom<S>>
+    requires store { Rising K.cmp (S.pairs store.old) }
+    requires other { Rising K.cmp (S.pairs other) }
+    requires total { total ≡ length (S.pairs store.old) + length (S.pairs other) }
+    ensures merged { OnOk result (Merge K.cmp (S.pairs store.old) (S.pairs other) (S.pairs store.new)) }
+    ensures left { IfOk result (IsLeft S.pairs (left K.cmp (S.pairs store.old) (S.pairs other))) }
+    ensures refused { IfErr result (λ refused. IsUndone S.pairs store.old other store.new refused.back) }
+    ensures cost { RisesByAtMost total count.old count.new }
+{
+    let Ok(fresh) = S::lm_with_capacity(alloc, total) else {
+        return Err(NoRoom { back: other });
+    };
+    let Ok(mut rest) = S::lm_with_capacity(alloc, other.lm_len()) else {
+        return Err(NoRoom { back: other });
+    };
+    let olds = Peekable::new(mem::replace(store, fresh).lm_into_iter());
+    let news = Peekable::new(other.lm_into_iter());
+    put_both(store, &mut rest, olds, news, count);
+    Ok(unless_empty(rest))
+}
+
+// Puts the pairs of both into the store, the lower key first, and what is left over into the rest. They have room for all.
+fn put_both<K: Ord + Drop, V: Drop, S: StoreMut<K, V>, I: PairIntoIter<K, V>>(
+    store: &mut S,
+    rest: &mut S,
+    mut olds: Peekable<K, V, I>,
+    mut news: Peekable<K, V, I>,
+    count: &mut Count,
+)
+    requires olds { Rising K.cmp olds }
+    requires news { Rising K.cmp news }
+    requires empty { S.pairs store.old ≡ [] }
+    requires rest_empty { S.pairs rest.old ≡ [] }
+    requires room { length olds + length news ≤ S.room store.old }
+    requires rest_room { length news ≤ S.room rest.old }
+    ensures merged { Merge K.cmp olds news (S.pairs store.new) }
+    ensures left { S.pairs rest.new ≡ left K.cmp olds news }
+    ensures cost { RisesByAtMost (length olds + length news) count.old count.new }
+{
+    while let Some(order) = lower_first(&olds, &news, count) {
+        let (key, value) = take_lower(&mut olds, &mut news, rest, order);
+        push_reserved(store, key, value);
+    }
+}
+
+// How the first old key stands to the first new one: where there is no pair it is above all.
+fn lower_first<K: Ord, V, I: PairIntoIter<K, V>>(
+    olds: &Peekable<K, V, I>,
+    news: &Peekable<K, V, I>,
+    count: &mut Count,
+) -> Option<Ordering>
+    requires olds { Rising K.cmp olds.now }
+    requires news { Rising K.cmp news.now }
+    ensures lower { IsLowerFirst K.cmp olds.now news.now result }
+    ensures cost { RisesByAtMost 1 count.old count.new }
+    ensures none { length olds.now + length news.now ≡ 0 → RisesByAtMost 0 count.old count.new }
+{
+    let Some((old, _)) = olds.peek() else {
+        let Some(_) = news.peek() else {
+            return None;
+        };
+        return Some(Ordering::Greater);
+    };
+    let Some((new, _)) = news.peek() else {
+        return Some(Ordering::Less);
+    };
+    Some(count.cmp(old, new))
+}
+
+// Takes the pair of the lower key; of equal keys the old one with the new value, and the new key with the old value goes into
+// the rest, which has room for it.
+fn take_lower<K: Ord + Drop, V: Drop, S: StoreMut<K, V>, I: PairIntoIter<K, V>>(
+    olds: &mut Peekable<K, V, I>,
+    news: &mut Peekable<K, V, I>,
+    rest: &mut S,
+    order: Ordering,
+) -> (K, V)
+    requires olds { Rising K.cmp olds.old }
+    requires news { Rising K.cmp news.old }
+    requires order { IsLowerFirst K.cmp olds.old news.old (Some order) }
+    requires room { length news.old ≤ S.room rest.old }
+    ensures taken { IsTakenFirst K.cmp olds.old news.old olds.new news.new result (S.pairs rest.old) (S.pairs rest.new) }
+    ensures room { length news.new ≤ S.room rest.new }
+{
+    match order {
+        Ordering::Less => olds.take_first(),
+        Ordering::Greater => news.take_first(),
+        Ordering::Equal => {
+            let (stored, old) = olds.take_first();
+            let (key, value) = news.take_first();
+            push_reserved(rest, key, old);
+            (stored, value)
+        }
+    }
+}
