@@ -140,9 +140,8 @@ impl<K: Ord + Drop, V: Drop, S: StoreBulkMut<K, V>> LiteMap<K, V, S> {
     ///
     /// It answers as `extend` does, by as many comparisons, but takes the vector as it is, and nothing is gathered. What it
     /// leaves is told by the vector's list. A refusal leaves the list, and hands the pairs back, or the last of each key in
-    /// rising
-    /// order. Where its keys rise past the last one, and there is room for all, it is never refused. Nothing is promised of the
-    /// room after it.
+    /// rising order. Where its keys rise past the last one, and there is room for all, it is never refused. Nothing is promised
+    /// of the room after it.
     pub fn extend_from_vec(
         &mut self,
         alloc: Global,
