@@ -2,7 +2,7 @@
 //!
 //! All room is taken first, and none for no pair: the empty map is never refused. A clone of a key has to compare `Equal` to it.
 //! The Rust crate boxes and lends any type that keys and values borrow as, and has no `to_keys_by`.
-ghost use Rattle.std.specs.Prelude.{◌≡◌, ◌<◌, ◌≤◌, ◌+◌, ◌++◌, ◌∷◌, [], IfOk, IsOk, OnOk};
+ghost use Rattle.std.specs.Prelude.{◌≡◌, ◌<◌, ◌≤◌, ◌+◌, ◌++◌, ◌∷◌, [], length, IfOk, IsOk, OnOk};
 ghost use Rattle.std.specs.Fn.{FnReturnsAt};
 ghost use Rattle.litemap_store.specs.Last.{In};
 ghost use Rattle.litemap_store.specs.Pairs.{Rising};
@@ -166,13 +166,37 @@ where
     ensures became { IfOk result (λ m. PairsBecame (X.became keys.now) (Y.became values.now) (S.pairs store.now) m.pairs) }
     ensures succeeds { S.pairs store.now ≡ [] → IsOk result }
 {
-    let len = store.lm_len();
-    let mut made = B::lm_with_capacity(alloc, len)?;
-    for index in 0..len {
-        let (key, value) = store.lm_get(index).unwrap();
-        push_converted(alloc, &mut made, key, value, keys, values)?;
-    }
+    let mut made = B::lm_with_capacity(alloc, store.lm_len())?;
+    push_all(store, alloc, &mut made, keys, values)?;
     Ok(LiteMap::from_sorted_store_unchecked(made))
+}
+
+// Puts what the pairs of a store become into an empty one that has room.
+fn push_all<'a, K: 'a, V: 'a, S, L: Drop, W, B, X, Y>(
+    store: &'a S,
+    alloc: Global,
+    made: &mut B,
+    keys: &X,
+    values: &Y,
+) -> Result<(), AllocError>
+where
+    S: Store<K, V>,
+    B: StoreMut<L, W>,
+    X: Becomes<'a, K, L>,
+    Y: Becomes<'a, V, W>,
+    requires keys { (p : _) → In p (S.pairs store.now) → X.takes keys.now p.0 }
+    requires values { (p : _) → In p (S.pairs store.now) → Y.takes values.now p.1 }
+    requires empty { B.pairs made.old ≡ [] }
+    requires room { length (S.pairs store.now) ≤ B.room made.old }
+    ensures became { OnOk result
+        (PairsBecame (X.became keys.now) (Y.became values.now) (S.pairs store.now) (B.pairs made.new)) }
+    ensures succeeds { S.pairs store.now ≡ [] → IsOk result }
+{
+    for index in 0..store.lm_len() {
+        let (key, value) = store.lm_get(index).unwrap();
+        push_converted(alloc, made, key, value, keys, values)?;
+    }
+    Ok(())
 }
 
 // Puts what a key and its value become behind the others, in a store that has room.

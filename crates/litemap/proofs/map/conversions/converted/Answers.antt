@@ -1,45 +1,7 @@
-use Rattle.std.proofs.Common.{◌≡◌, ap, length, arith, option_map, refl, sym, ◌∙◌}
-use Rattle.std.proofs.Math.Seq.{take-length}
-use Rattle.litemap_store.proofs.Lists.Alongside.{alongside-more}
-use Rattle.litemap_store.proofs.Lists.Joined.{In-slice_get}
-use Rattle.std.specs.Map.Iter.{deref_pair}
-use Rattle.litemap.proofs.Places.{is_there}
 use Rattle.litemap.proofs.Conversions.{Rising-became}
 use Rattle.litemap.proofs.map.conversions.converted.Goals as goal
 
-pub unwrap-requires : goal.unwrap-requires
-unwrap-requires g c = is_there deref_pair c.lm_get.result (g.S.Store.pairs c.args.store.now) c.loop-index.index c.lm_get.ensures (omega (arith, c.loop-index-test.true, c.lm_len-len.ensures))
-
-pub push_converted-requires : goal.push_converted-requires
-push_converted-requires g c =
-    let there = In-slice_get _ c.loop-index.index _ (sym c.lm_get.ensures ∙ ap (option_map deref_pair) c.unwrap.ensures) in
-    λ k. (
-      (refl, tt),
-      (
-        omega (arith, c.loop-index.invariant.room, c.loop-index-test.true, c.lm_len-len.ensures),
-        (c.requires.keys (c.unwrap.result.0.now, c.unwrap.result.1.now) there, c.requires.values (c.unwrap.result.0.now, c.unwrap.result.1.now) there),
-      ),
-    )
-
-pub loop-index-preserved : goal.loop-index-preserved
-loop-index-preserved g c =
-    let pushed = c.in_ok-push_converted.ensures.pushed in
-    record {
-      became = rw pushed.1
-          (alongside-more (λ p q. g.X.Becomes.became c.args.keys.now p.0 q.0 × g.Y.Becomes.became c.args.values.now p.1 q.1) (g.S.Store.pairs c.args.store.now) (g.B.Store.pairs c.loop-index.made)
-          c.loop-index.index (c.unwrap.result.0.now, c.unwrap.result.1.now) pushed.0 (sym c.lm_get.ensures ∙ ap (option_map deref_pair) c.unwrap.ensures)
-          (pushed.2, pushed.3) c.loop-index.invariant.became);
-      room = omega (arith, c.in_ok-push_converted.ensures.room, c.loop-index.invariant.room);
-    }
-
 pub from_sorted_store_unchecked-requires : goal.from_sorted_store_unchecked-requires
 from_sorted_store_unchecked-requires g c =
-    let pairs = g.S.Store.pairs c.args.store.now in
-    let end : c.loop-index.index ≡ length pairs = omega arith in
-    let became = rw (end, take-length) at c.loop-index.invariant.became in
-    Rising-became g.K.Ord.cmp g.L.Ord.cmp (g.X.Becomes.became c.args.keys.now) (g.Y.Becomes.became c.args.values.now) pairs _ c.requires.rising became c.requires.rises
-
-pub returns-clause-became : goal.returns-clause-became
-returns-clause-became g c =
-    let end : c.loop-index.index ≡ length (g.S.Store.pairs c.args.store.now) = omega arith in
-    rw c.from_sorted_store_unchecked.ensures.pairs (rw (end, take-length) at c.loop-index.invariant.became)
+    Rising-became g.K.Ord.cmp g.L.Ord.cmp (g.X.Becomes.became c.args.keys.now) (g.Y.Becomes.became c.args.values.now) (g.S.Store.pairs c.args.store.now) _
+    c.requires.rising c.in_ok-push_all.ensures.became c.requires.rises
