@@ -1,8 +1,24 @@
 //! Pairs that go into a store which has room for them, or leave it from its end.
-ghost use Rattle.std.specs.Prelude.{◌≡◌, ◌+◌, ◌<◌, ◌≤◌, ◌++◌, ◌∷◌, [], drop, length, reverse, take, vec_capacity};
+ghost use Rattle.std.specs.Prelude.{◌≡◌, ◌+◌, ◌<◌, ◌≤◌, ◌++◌, ◌∷◌, [], drop, length, reverse, take, vec_capacity, IfOk};
 
 use crate::into_iter::PairIntoIter;
 use crate::store::StoreMut;
+use std::alloc::{AllocError, Global};
+
+/// A vector and a store, both empty, with room for so many pairs each.
+pub fn room_for<K: Drop, V: Drop, S: StoreMut<K, V>>(
+    alloc: Global,
+    len: usize,
+) -> Result<(Vec<(K, V)>, S), AllocError>
+    ensures side { IfOk result (λ made. made.0.items ≡ []) }
+    ensures side_room { IfOk result (λ made. len ≤ vec_capacity made.0) }
+    ensures store { IfOk result (λ made. S.pairs made.1 ≡ []) }
+    ensures store_room { IfOk result (λ made. len ≤ S.room made.1) }
+{
+    let side = Vec::with_capacity(alloc, len)?;
+    let store = S::lm_with_capacity(alloc, len)?;
+    Ok((side, store))
+}
 
 /// Puts a pair behind those of the store.
 pub fn push_reserved<K: Drop, V: Drop, S: StoreMut<K, V>>(store: &mut S, key: K, value: V)

@@ -1,7 +1,7 @@
 //! The body behind `split_off`: the pairs of a store from an index on become a store of their own.
 ghost use Rattle.std.specs.Prelude.{◌≡◌, ◌≢◌, ◌⊎◌, ◌+◌, ◌≤◌, IfOk, IsOk, OnErr, OnOk, drop, length, take};
 
-use crate::reserved::{put_up, take_from};
+use crate::reserved::{put_up, room_for, take_from};
 use crate::store::StoreMut;
 use std::alloc::{AllocError, Global};
 use std::mem;
@@ -32,8 +32,7 @@ pub fn split_store<K: Drop, V: Drop, S: StoreMut<K, V> + Drop>(
         let empty = S::lm_with_capacity(alloc, 0)?;
         return Ok(mem::replace(store, empty));
     }
-    let mut later = S::lm_with_capacity(alloc, number)?;
-    let mut side = Vec::with_capacity(alloc, number)?;
+    let (mut side, mut later) = room_for(alloc, number)?;
     take_from(store, index, &mut side);
     put_up(&mut later, side);
     Ok(later)

@@ -6,7 +6,7 @@ ghost use Rattle.litemap_store.specs.Pairs.{Rising};
 ghost use Rattle.litemap_store.specs.Taken.{IsGreaterEnd, IsTaken};
 
 use crate::count::Count;
-use crate::reserved::{put_up, take_last};
+use crate::reserved::{put_up, room_for, take_last};
 use crate::store::{Store, StoreMut};
 use std::alloc::{AllocError, Global};
 use std::cmp::Ordering;
@@ -35,8 +35,7 @@ pub fn merge<K: Ord + Drop, V: Drop, S: StoreMut<K, V> + Drop>(
     let Some(total) = store.lm_len().checked_add(pairs.len()) else {
         return Err(AllocError);
     };
-    let mut side = Vec::with_capacity(alloc, total)?;
-    let mut fresh = S::lm_with_capacity(alloc, total)?;
+    let (mut side, mut fresh) = room_for(alloc, total)?;
     let given = mem::replace(pairs, Vec::new(alloc));
     take_down(store, given, &mut side, count);
     put_up(&mut fresh, side);

@@ -8,9 +8,9 @@ ghost use Rattle.litemap_store.specs.Merge.{IsLeft, IsUndone, Merge, left};
 ghost use Rattle.litemap_store.specs.Pairs.{Rising, above, at, below, key_or};
 
 use crate::merge::{search, unless_empty};
-use crate::reserved::{put_up, take_from, take_last};
+use crate::reserved::{put_up, room_for, take_from, take_last};
 use crate::store::{Count, NoRoom, Store, StoreMut};
-use std::alloc::{AllocError, Global};
+use std::alloc::Global;
 
 /// Merges a store's pairs into another's, each by one search, and answers what is left over.
 ///
@@ -44,21 +44,6 @@ pub fn merge_in_one_pass<K: Ord + Drop, V: Drop, S: StoreMut<K, V> + Drop>(
     put_up(&mut rest, driven_out);
     *store = fresh;
     Ok(unless_empty(rest))
-}
-
-// A vector and a store, both empty, with room for so many pairs each.
-fn room_for<K: Drop, V: Drop, S: StoreMut<K, V>>(
-    alloc: Global,
-    len: usize,
-) -> Result<(Vec<(K, V)>, S), AllocError>
-    ensures side { IfOk result (λ made. made.0.items ≡ []) }
-    ensures side_room { IfOk result (λ made. len ≤ vec_capacity made.0) }
-    ensures store { IfOk result (λ made. S.pairs made.1 ≡ []) }
-    ensures store_room { IfOk result (λ made. len ≤ S.room made.1) }
-{
-    let side = Vec::with_capacity(alloc, len)?;
-    let store = S::lm_with_capacity(alloc, len)?;
-    Ok((side, store))
 }
 
 // Takes all pairs of both stores aside, the greatest key first, and the old values that new ones drive out.
