@@ -14,15 +14,15 @@ type Numbers<K> = LiteMap<K, u32, Vec<(K, u32)>>;
 const LIST: [(&str, u32); 5] = [("", 1), ("a", 2), ("aab", 3), ("ab", 4), ("b\u{e9}", 5)];
 
 // Texts that are asked for, with the number and the place of each.
-const ASKED: [(&str, Option<u32>, Result<usize, usize>); 8] = [
-    ("", Some(1), Ok(0)),
-    (" ", None, Err(1)),
-    ("a", Some(2), Ok(1)),
-    ("aa", None, Err(2)),
-    ("aab", Some(3), Ok(2)),
-    ("aabc", None, Err(3)),
-    ("b\u{e9}", Some(5), Ok(4)),
-    ("c", None, Err(5)),
+const ASKED: [(&str, (Option<u32>, Result<usize, usize>)); 8] = [
+    ("", (Some(1), Ok(0))),
+    (" ", (None, Err(1))),
+    ("a", (Some(2), Ok(1))),
+    ("aa", (None, Err(2))),
+    ("aab", (Some(3), Ok(2))),
+    ("aabc", (None, Err(3))),
+    ("b\u{e9}", (Some(5), Ok(4))),
+    ("c", (None, Err(5))),
 ];
 
 // Whether a key is found by what stands for it: its number and its place.
@@ -54,42 +54,52 @@ fn is_taken<K: Ord + Drop, Q: Query<K>>(
     number == Some(taken.wrapping_sub(100))
 }
 
+// Whether a key is found by what stands for it and by itself, and is taken out; then it is put in again.
+fn is_asked<K: Ord + Drop, Q: Query<K>>(
+    map: &mut Numbers<K>,
+    key: K,
+    query: Q,
+    (number, index): (Option<u32>, Result<usize, usize>),
+) -> Result<bool, AllocError> {
+    let is_right = is_found(map, query, number, index)
+        && is_found(map, &key, number, index)
+        && is_taken(map, query, number);
+    if let Some(number) = number {
+        map.insert(key, number)?;
+    }
+    Ok(is_right)
+}
+
 // Whether a map of the list, by a key for each text, is asked right for each text by what stands for its key and by the key.
-macro_rules! is_asked {
+macro_rules! are_asked {
     ($alloc:ident, $text:ident, $key:expr, $query:expr) => {{
         let mut map = LiteMap::new_vec($alloc);
         for ($text, number) in LIST {
             map.insert($key, number)?;
         }
         let mut is_right = true;
-        for ($text, number, index) in ASKED {
-            let key = $key;
-            is_right &= is_found(&map, $query, number, index)
-                && is_found(&map, &key, number, index)
-                && is_taken(&mut map, $query, number);
-            if let Some(number) = number {
-                map.insert(key, number)?;
-            }
+        for ($text, wanted) in ASKED {
+            is_right &= is_asked(&mut map, $key, $query, wanted)?;
         }
         is_right
     }};
 }
 
 fn by_texts(alloc: Global) -> Result<bool, AllocError> {
-    Ok(is_asked!(alloc, text, text.to_string(alloc)?, text) && is_asked!(alloc, text, text, text))
+    Ok(are_asked!(alloc, text, text.to_string(alloc)?, text) && are_asked!(alloc, text, text, text))
 }
 
 fn by_texts_elsewhere(alloc: Global) -> Result<bool, AllocError> {
     Ok(
-        is_asked!(alloc, text, BoxedStr::from_str(alloc, text)?, text)
-            && is_asked!(alloc, text, CowStr::Borrowed(text), text),
+        are_asked!(alloc, text, BoxedStr::from_str(alloc, text)?, text)
+            && are_asked!(alloc, text, CowStr::Borrowed(text), text),
     )
 }
 
 fn by_shared_texts(alloc: Global) -> Result<bool, AllocError> {
     Ok(
-        is_asked!(alloc, text, RcStr::from_str(alloc, text)?, text)
-            && is_asked!(alloc, text, ArcStr::from_str(alloc, text)?, text),
+        are_asked!(alloc, text, RcStr::from_str(alloc, text)?, text)
+            && are_asked!(alloc, text, ArcStr::from_str(alloc, text)?, text),
     )
 }
 
@@ -99,9 +109,9 @@ pub(crate) fn keys_are_asked_by_texts(alloc: Global) -> Result<bool, AllocError>
 
 pub(crate) fn keys_are_asked_by_slices(alloc: Global) -> Result<bool, AllocError> {
     Ok(
-        is_asked!(alloc, it, it.as_bytes().to_vec(alloc)?, it.as_bytes())
-            && is_asked!(alloc, it, it.as_bytes(), it.as_bytes())
-            && is_asked!(
+        are_asked!(alloc, it, it.as_bytes().to_vec(alloc)?, it.as_bytes())
+            && are_asked!(alloc, it, it.as_bytes(), it.as_bytes())
+            && are_asked!(
                 alloc,
                 it,
                 BoxedSlice::from_slice(alloc, it.as_bytes())?,
