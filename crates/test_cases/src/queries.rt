@@ -70,36 +70,45 @@ fn is_asked<K: Ord + Drop, Q: Query<K>>(
     Ok(is_right)
 }
 
-// Whether a map of the list, by a key for each text, is asked right for each text by what stands for its key and by the key.
-macro_rules! are_asked {
-    ($alloc:ident, $text:ident, $key:expr, $query:expr) => {{
-        let mut map = LiteMap::new_vec($alloc);
-        for ($text, number) in LIST {
-            map.insert($key, number)?;
-        }
-        let mut is_right = true;
-        for ($text, wanted) in ASKED {
-            is_right &= is_asked(&mut map, $key, $query, wanted)?;
-        }
-        is_right
-    }};
+// Whether each text is asked right in a map of the list, by what stands for its key and by the key.
+fn are_asked<'t, K, Q, F, G>(alloc: Global, key_of: F, query_of: G) -> Result<bool, AllocError>
+where
+    K: Ord + Drop,
+    Q: Query<K>,
+    F: Fn(&'t str) -> Result<K, AllocError> + Drop,
+    G: Fn(&'t str) -> Q + Drop,
+    requires key { (text : _) → F.Fn.pre key_of (text, tt) }
+    requires query { (text : _) → G.Fn.pre query_of (text, tt) }
+{
+    let mut map = LiteMap::new_vec(alloc);
+    for (text, number) in LIST {
+        map.insert(key_of(text)?, number)?;
+    }
+    let mut is_right = true;
+    for (text, wanted) in ASKED {
+        is_right &= is_asked(&mut map, key_of(text)?, query_of(text), wanted)?;
+    }
+    Ok(is_right)
 }
 
 fn by_texts(alloc: Global) -> Result<bool, AllocError> {
-    Ok(are_asked!(alloc, text, text.to_string(alloc)?, text) && are_asked!(alloc, text, text, text))
+    Ok(
+        are_asked(alloc, |text| text.to_string(alloc), |text| text)?
+            && are_asked(alloc, |text| Ok(text), |text| text)?,
+    )
 }
 
 fn by_texts_elsewhere(alloc: Global) -> Result<bool, AllocError> {
     Ok(
-        are_asked!(alloc, text, BoxedStr::from_str(alloc, text)?, text)
-            && are_asked!(alloc, text, CowStr::Borrowed(text), text),
+        are_asked(alloc, |text| BoxedStr::from_str(alloc, text), |text| text)?
+            && are_asked(alloc, |text| Ok(CowStr::Borrowed(text)), |text| text)?,
     )
 }
 
 fn by_shared_texts(alloc: Global) -> Result<bool, AllocError> {
     Ok(
-        are_asked!(alloc, text, RcStr::from_str(alloc, text)?, text)
-            && are_asked!(alloc, text, ArcStr::from_str(alloc, text)?, text),
+        are_asked(alloc, |text| RcStr::from_str(alloc, text), |text| text)?
+            && are_asked(alloc, |text| ArcStr::from_str(alloc, text), |text| text)?,
     )
 }
 
@@ -109,13 +118,15 @@ pub(crate) fn keys_are_asked_by_texts(alloc: Global) -> Result<bool, AllocError>
 
 pub(crate) fn keys_are_asked_by_slices(alloc: Global) -> Result<bool, AllocError> {
     Ok(
-        are_asked!(alloc, it, it.as_bytes().to_vec(alloc)?, it.as_bytes())
-            && are_asked!(alloc, it, it.as_bytes(), it.as_bytes())
-            && are_asked!(
+        are_asked(
+            alloc,
+            |text| text.as_bytes().to_vec(alloc),
+            |text| text.as_bytes(),
+        )? && are_asked(alloc, |text| Ok(text.as_bytes()), |text| text.as_bytes())?
+            && are_asked(
                 alloc,
-                it,
-                BoxedSlice::from_slice(alloc, it.as_bytes())?,
-                it.as_bytes()
-            ),
+                |text| BoxedSlice::from_slice(alloc, text.as_bytes()),
+                |text| text.as_bytes(),
+            )?,
     )
 }
