@@ -353,14 +353,16 @@ class Model:
             index, pair = int(words[0]), (words[1], int(words[2]))
             old, self.pairs[index] = self.pairs[index], pair
             return self.text([old])
-        if name in ("read_pairs", "extend_from_source"):
+        if name in READS:
             return self.read(name, words)
         if name == "split_off":
             place, _ = self.place(words[0])
             self.pairs, later = self.pairs[:place], self.pairs[place:]
             return self.text(later), search
         pairs = self.given(words)
-        if name in ("from_iter", "from_iter_counted", "from_vec", "from_vec_counted", "lm_sort_from_iter", "lm_sort_from_vec"):
+        if name in RUNS:
+            return self.run(pairs)
+        if name in (*MAKES, "read_results", "lm_sort_from_iter", "lm_sort_from_vec"):
             cost = len(pairs) if self.rises(pairs) else None
             self.pairs = self.last(pairs)
             return "ok", cost
@@ -440,6 +442,14 @@ class Model:
         cost = self.cost(pairs) if start else len(pairs) if self.rises(pairs) else None
         self.pairs = self.last(start + pairs)
         return f"ok asked {len(pairs) + 1}", cost
+
+    def run(self, pairs):
+        made, answers = Model(self.order), []
+        for key, value in pairs:
+            place, there = made.place(key)
+            answers.append(f"Value(Some({made.pairs[place][1]}))" if there else "Value(None)")
+            made.pairs = made.last([*made.pairs, (key, value)])
+        return f"[{', '.join(answers)}] {made.look('debug', [], 0)}", len(pairs) * digits(len(pairs))
 
     def compare(self, name, other):
         mine = [(self.order.rank(key), value) for key, value in self.pairs]
@@ -625,6 +635,7 @@ MERGES = ["extend_from_litemap", "extend_from_litemap_counted"]
 COMBINES = ["extend_with", "extend_with_counted"]
 BESIDE = ["is_subset", "is_subset_counted", "keep_keys_of", "remove_keys_of"]
 READS = ["read_pairs", "extend_from_source"]
+RUNS = ["run_calls", "run_calls_in_columns"]
 MAKES = ["from_iter", "from_iter_counted", "from_vec", "from_vec_counted"]
 
 
@@ -674,6 +685,14 @@ def refusable():
 
 
 RESERVED = ["reserve", "lm_reserve", "with_capacity", "lm_with_capacity"]
+
+
+def listed():
+    """Results of iterators that are read, and lists of insertions: rising, falling, and with keys twice, of each length up to 40."""
+    for length in [*range(41), 100, 129, 513]:
+        given = [f"1,{length},1", f"{2 * length},{length},-2", f"1,{length},3 2,{length},1"]
+        yield from block(GROWING, 3, 0, [f"read_results {pairs}" for pairs in given])
+        yield from block("vec", 3, 0, [f"{name} {pairs}" for name in RUNS for pairs in given] if length <= 40 else [])
 
 
 def scattered():
@@ -846,8 +865,6 @@ ELSEWHERE = {
     "new_vec": "test_cases",
     "from_sorted_store_unchecked": "test_cases",
     "key": "entry",
-    "read_results": "test_cases",
-    "run_calls": "test_cases",
     "same_answers": "a law",
     "lm_get_range": "get_indexed_range",
     "lm_iter": "iter",
@@ -870,7 +887,7 @@ def unmade(made):
 
 FILES = {"looks": looks, "walks": walks, "changes": changes, "bulk": bulk, "stores": stores, "scattered": scattered}
 FILES |= {"refusable": refusable, "merged": merged, "beside": beside, "twenty": twenty, "picked": picked, "rows": rows}
-FILES |= {"renamed": renamed, "combined": combined}
+FILES |= {"renamed": renamed, "combined": combined, "listed": listed}
 
 
 def calls_of(lines):

@@ -7,9 +7,10 @@ use crate::call::{Call, Made, Map, Pair};
 use crate::counted::{Key, Value};
 use crate::tested::Tested;
 use litemap::LiteMap;
-use litemap::store::{Count, NoRoom, Store};
+use litemap::store::{Count, NoRoom, Store, StoreBulkMut};
 use litemap_columns::ColumnStore;
-use litemap_read::{PairSource, ReadFault, extend_from_source, read_pairs};
+use litemap_read::laws::{self, run_calls};
+use litemap_read::{PairSource, ReadFault, extend_from_source, read_pairs, read_results};
 use std::alloc::AllocError;
 use std::cell::Cell;
 use std::vec::IntoIter;
@@ -24,6 +25,7 @@ pub fn gather<S: Tested<Key, Value>>(map: &mut Map<S>, call: &Call<'_>, to: &mut
         || combine(map, call, to).is_some()
         || go_beside(map, call, to).is_some()
         || read(map, call, to).is_some()
+        || run(call, to).is_some()
 }
 
 // A map with no pair takes the place of the old one, or its clone.
@@ -48,6 +50,10 @@ fn make<S: Tested<Key, Value>>(map: &mut Map<S>, call: &Call<'_>, to: &mut Answe
         "from_vec" => LiteMap::from_vec(call.alloc, pairs).map_err(AllocError::from),
         "from_vec_counted" => {
             LiteMap::from_vec_counted(call.alloc, pairs, &mut count).map_err(AllocError::from)
+        }
+        "read_results" => {
+            let results = pairs.into_iter().map(|pair| Ok::<_, u8>(pair));
+            read_results(call.alloc, results).map_err(|_| AllocError)
         }
         _ => return None,
     };
@@ -200,6 +206,38 @@ fn read<S: Tested<Key, Value>>(map: &mut Map<S>, call: &Call<'_>, to: &mut Answe
     }
     to.word("asked");
     to.show(source.asked);
+    Some(())
+}
+
+// Puts pairs into a map beside this one by a list of calls: over a vector, or over two columns.
+fn run(call: &Call<'_>, to: &mut Answer) -> Made {
+    match call.name {
+        "run_calls" => run_list::<Vec<(Key, u64)>>(call, to),
+        "run_calls_in_columns" => run_list::<ColumnStore<Key, u64>>(call, to),
+        _ => None,
+    }
+}
+
+// The answers of the list and the map, or the list that came back.
+fn run_list<S: StoreBulkMut<Key, u64>>(call: &Call<'_>, to: &mut Answer) -> Made {
+    let mut list = Vec::new(call.alloc);
+    for (key, value) in call.pairs(0)? {
+        list.push(laws::Call::Insert(key, value.number())).ok()?;
+    }
+    let mut map: LiteMap<Key, u64, S> = LiteMap::with_capacity(call.alloc, 0).ok()?;
+    call.begin();
+    let ran = run_calls(call.alloc, &mut map, list);
+    call.end();
+    match ran {
+        Ok(answers) => {
+            to.show(answers);
+            to.show(map);
+        }
+        Err(refused) => {
+            to.word("refused");
+            to.show(refused.back);
+        }
+    }
     Some(())
 }
 
