@@ -69,7 +69,8 @@ NOT_CALLED = {
     "insert_reserved": "what `lm_insert` hands on",
     "serialize": "what `with` of a field in example_formats asks",
     "deserialize_owned": "what `with` of a field in example_formats asks",
-    "write_index_of": "what `write_index` hands on",
+    "JsonItem::write_to": "what `write_json` asks",
+    "array_of_two": "what `to_json` hands on",
     "NameIndex::prefix_places_counted": "what `prefix_places` hands on",
 }
 NOT_TURNED = {

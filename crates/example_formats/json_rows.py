@@ -114,6 +114,10 @@ ROWS = [
     # two settings overlaid
     ("overlay", '{"fr":"French","en":"English"}', '{"de":"","en":"English","fr":"French"}'), ("overlay", "[]", '{"de":"","fr":""}'),
     ("overlay", "[", "no JSON"), ("overlay", '{"de":1}', item(0, SHAPE)), ("overlay", "7", NOT_A_MAP),
+    # flags that are brought over
+    ("rewrite", "[[false,2],[true,1]]", '{"false":2,"true":1}'), ("rewrite", '{"true":1}', None), ("rewrite", "[]", None),
+    ("rewrite", "[[true,", "the bytes are not a JSON text"), *[("rewrite", text, f"the JSON value is not a map from flags to numbers: {fault}")
+    for text, fault in (("7", NOT_A_MAP), ("[[0,1]]", key(0, SHAPE)), ('{"false":0,"true":-1}', item(1, RANGE)), ('{"yes":1}', key_text(0)))],
     # pairs of pairs
     ("nested", "[[[[1,true],\"x\"],[7,[false,-8]]]]", None),
     ("nested", '[[[[1,true],"x"],[7,[false,-8]]],[[[1,false],"y"],[0,[true,127]]],[[[0,true],"z"],[1,[true,0]]]]',
@@ -225,6 +229,11 @@ def told_faults():
     yield "told tongues", '[[7,"one"]]', told(two, "7", told_at("key", 0))
     yield "told tongues", '[[[1,"en"],"one"],[[1,7],"one"]]', told(two, "an array", told_at("key", 1))
     yield "told tongues", '{"1":"one"}', told_name(two, '"1"')
+    yield "told ports", '[["a",1],["b",2],["c",3],["d",4],["e",5],["f","6"],["g",7]]', told(wanted, "a text", told_at("item", 5))
+    yield "told ports", '[["a",1],["b"],["c",3]]', told(ROW, "an array", told_at("element", 1))
+    ranks = '[[["a",1],"a"],[["b",2],"b"],[["c",%s],"c"],[["d",4],"d"]]'
+    yield "told ranks", ranks % '"3"', told(two, "an array", told_at("key", 2))
+    yield "told ranks", ranks % 3, "a map"
     yield "told elsewhere", '{"1":null}', f"{item(0, SHAPE)}; an item in JSON is not of its type"
     yield "told elsewhere", '[[1,1],[2,300,3]]', f"{not_a_pair(1)}; an element in JSON is not a key and an item"
     yield "told elsewhere", '{"x":0}', f"{key_text(0)}; a name in JSON is not a key's text"

@@ -44,6 +44,8 @@ MAPS = [
     ("text", r'{"b\n":"\u00e9","":"\"","b":"\\"}', None), ("text", '[["é","1"],["z","2"],["é","3"]]', None),
     ("text", '{"\uffff":"1","\U00010000":"2","b":"3","B":"4"}', None),
     ("lent", '{"b":"x","a":"y","b":"z"}', None), ("lent", '[["b","x"],["a","y"]]', None), ("words", '{"10":"x","9":"y"}', None),
+    ("words", printed({str(number): "x" * number for number in range(30, 0, -1)}), None),
+    ("words", printed([[number % 22, str(number)] for number in range(30, 0, -1)]), None),
     # the kinds of items
     ("levels", '{"high":1,"low":2,"middle":3}', '{"low":2,"middle":3,"high":1}'), ("levels", '[["low",1],["low",2]]', '{"low":2}'),
     ("f64", '{"a":1.5,"b":-0.25,"c":3,"d":0.1}', '{"a":1.5,"b":-0.25,"c":3.0,"d":0.1}'),
@@ -57,6 +59,8 @@ MAPS = [
     ("perhaps", "null", SAME), ("perhaps", '{"b":1,"a":2}', '{"a":2,"b":1}'), ("perhaps", "7", "data"),
     # keys that have no text: as pairs they are written, as a map not
     ("places", '{"at":[[[2,1],"p"],[[-1,5],"q"],[[2,1],"r"]]}', '{"at":[[[-1,5],"q"],[[2,1],"r"]]}'),
+    ("places", printed({"at": [[[number, 0], str(number)] for number in range(30, 0, -1)]}),
+     printed({"at": [[[number, 0], str(number)] for number in range(1, 31)]})),
     ("places", '{"at":[]}', SAME), ("places", '{"at":{}}', '{"at":[]}'), ("places", '{"at":[[[2],"p"]]}', "data"), ("places", "{}", "data"),
     ("points", "[[[2,1],7]]", "not written"), ("points", "[]", "{}"),
     # the forms of enums, and members among others
@@ -180,6 +184,7 @@ def toml_rows():
     for what, text, answer in (
         ("toml-text", 'b = "x"\na = "y"\n', 'a = "y"\nb = "x"\n'), ("toml-text", "", ""), ("toml-text", "a = 1\n", None),
         ("toml-u32", "10 = 1\n9 = 2\n", "9 = 2\n10 = 1\n"), ("toml-u32", "x = 1\n", None),
+        ("toml-u32", "".join(f"{number} = {number}\n" for number in range(30, 0, -1)), "".join(f"{it} = {it}\n" for it in range(1, 31))),
         ("toml-counts", "[b]\nx = 1\n[a]\n", "[a]\n\n[b]\nx = 1\n"), ("toml-counts", "a = [['y', 1], ['x', 2]]\n", "[a]\nx = 2\ny = 1\n"),
         ("toml-counts", "a = 1\n", None),
     ):

@@ -1,20 +1,30 @@
 //! What bytes answer that are an index of names.
 use crate::texts::write_entry;
 use crate::words;
+use litemap_read::ReadFault;
 use litemap_store::store::Count;
-use name_index::{CheckedNames, IndexFault, IndexedNames, NameTable, write_index};
-use name_table::read_names;
+use name_index::{CheckedNames, IndexFault, IndexedNames, NameTable, write_index, write_index_of};
+use name_table::{NameWriteFault, read_names};
 use std::alloc::{AllocError, Global};
 use std::fmt::Write;
 
-/// The index of the map that bytes are read as; no bytes where they are read as none.
+/// The index of the map that bytes are read as, which is also that of its pairs; no bytes where they are read as none.
 pub fn index_of(alloc: Global, bytes: &[u8]) -> Result<Vec<u8>, AllocError> {
-    let Ok((map, _)) = read_names(alloc, bytes) else {
+    let Ok((map, _)) = unless_memory!(read_names(alloc, bytes), ReadFault::NoRoom) else {
         return Ok(Vec::new(alloc));
     };
-    match write_index(alloc, &map) {
-        Ok(written) => Ok(written),
-        Err(_) => Ok(Vec::new(alloc)),
+    let written = unless_memory!(write_index(alloc, &map), NameWriteFault::NoRoom);
+    let of_slice = unless_memory!(
+        write_index_of(alloc, map.as_slice()),
+        NameWriteFault::NoRoom
+    );
+    match (written, of_slice) {
+        (Ok(written), Ok(other)) => Ok(if written == other {
+            written
+        } else {
+            Vec::new(alloc)
+        }),
+        _ => Ok(Vec::new(alloc)),
     }
 }
 

@@ -2,7 +2,7 @@
 use crate::evens::Even;
 use crate::levels::Level;
 use crate::overlay::{OverlayFault, Settings, overlay};
-use crate::{limits, names, told};
+use crate::{limits, numbers, told};
 use litemap::LiteMap;
 use litemap::store::{Store, StoreBulkMut};
 use litemap_columns::ColumnStore;
@@ -10,6 +10,7 @@ use litemap_json::{
     JsonFault, JsonItem, JsonKey, WriteFault, Writer, from_json, to_json, write_json, write_value,
 };
 use litemap_short::ShortStore;
+use names::{FlagsFault, rewrite_flags};
 use serde_json::Value;
 use std::alloc::{AllocError, Global};
 use std::io;
@@ -45,6 +46,7 @@ pub fn answer(alloc: Global, line: &str) -> Result<String, AllocError> {
         "names" => copied_names(alloc, text),
         "overlay" => overlaid(alloc, text),
         "told" => told::answer(alloc, text),
+        "rewrite" => rewritten(alloc, text),
         "nested" => written::<
             ((u8, bool), String),
             (u32, (bool, i8)),
@@ -59,7 +61,7 @@ fn written<K: JsonKey + Drop, V: JsonItem + Drop, S: StoreBulkMut<K, V>>(
     alloc: Global,
     text: &str,
 ) -> Result<String, AllocError> {
-    let Ok(value) = Value::from_str(alloc, text) else {
+    let Ok(value) = unless_memory!(Value::from_str(alloc, text)) else {
         return String::from_str(alloc, "no JSON");
     };
     let map: Result<Map<K, V>, JsonFault> = from_json(alloc, &value);
@@ -89,7 +91,7 @@ fn answer_of_all(
 
 // The same over a vector, with the map sent to JSON and back before.
 fn copied_limits(alloc: Global, text: &str) -> Result<String, AllocError> {
-    let Ok(value) = Value::from_str(alloc, text) else {
+    let Ok(value) = unless_memory!(Value::from_str(alloc, text)) else {
         return String::from_str(alloc, "no JSON");
     };
     let map = match from_json(alloc, &value) {
@@ -101,11 +103,11 @@ fn copied_limits(alloc: Global, text: &str) -> Result<String, AllocError> {
 
 // The same of numbers by their names.
 fn copied_names(alloc: Global, text: &str) -> Result<String, AllocError> {
-    let Ok(value) = Value::from_str(alloc, text) else {
+    let Ok(value) = unless_memory!(Value::from_str(alloc, text)) else {
         return String::from_str(alloc, "no JSON");
     };
     let map = match from_json(alloc, &value) {
-        Ok(numbers) => Ok(names::copied(alloc, &numbers)?),
+        Ok(map) => Ok(numbers::copied(alloc, &map)?),
         Err(fault) => Err(fault),
     };
     shown(alloc, map.as_ref())
@@ -120,8 +122,16 @@ fn overlaid(alloc: Global, text: &str) -> Result<String, AllocError> {
     match overlay(&mut settings, alloc, text) {
         Ok(()) => shown(alloc, Ok(&settings)),
         Err(OverlayFault::Text) => String::from_str(alloc, "no JSON"),
+        Err(OverlayFault::Settings(JsonFault::Memory) | OverlayFault::Memory) => Err(AllocError),
         Err(OverlayFault::Settings(fault)) => format!(in alloc; "{fault}"),
-        Err(OverlayFault::Memory) => Err(AllocError),
+    }
+}
+
+// Flags that are brought over, or why they can't be.
+fn rewritten(alloc: Global, text: &str) -> Result<String, AllocError> {
+    match unless_memory!(rewrite_flags(alloc, text.as_bytes()), FlagsFault::Memory) {
+        Ok(flags) => Ok(flags),
+        Err(fault) => format!(in alloc; "{fault}"),
     }
 }
 
@@ -130,12 +140,15 @@ fn shown<K: JsonKey, V: JsonItem, S: Store<K, V>>(
     alloc: Global,
     map: Result<&LiteMap<K, V, S>, &JsonFault>,
 ) -> Result<String, AllocError> {
-    match map {
-        Ok(map) => match to_json(alloc, map) {
-            Ok(value) => one_text(alloc, &value, write_json(alloc, map)),
-            Err(fault) => one_fault(alloc, fault, write_json(alloc, map)),
-        },
-        Err(fault) => format!(in alloc; "{fault}"),
+    let map = match unless_memory!(map, JsonFault::Memory) {
+        Ok(map) => map,
+        Err(fault) => return format!(in alloc; "{fault}"),
+    };
+    let value = unless_memory!(to_json(alloc, map), WriteFault::Memory);
+    let written = unless_memory!(write_json(alloc, map), WriteFault::Memory);
+    match value {
+        Ok(value) => one_text(alloc, &value, written),
+        Err(fault) => one_fault(alloc, fault, written),
     }
 }
 

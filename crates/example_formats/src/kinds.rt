@@ -13,7 +13,7 @@ pub fn again<'t, T: Deserialize<'t> + Serialize>(
     alloc: Global,
     text: &'t str,
 ) -> Result<String, AllocError> {
-    match serde_json::from_str::<T>(alloc, text) {
+    match unless_memory!(serde_json::from_str::<T>(alloc, text)) {
         Ok(value) => written(alloc, &value),
         Err(fault) => String::from_str(alloc, fault_word(&fault)),
     }
@@ -21,7 +21,7 @@ pub fn again<'t, T: Deserialize<'t> + Serialize>(
 
 /// A value as JSON.
 pub fn written<T: Serialize>(alloc: Global, value: &T) -> Result<String, AllocError> {
-    match serde_json::to_string(alloc, value) {
+    match unless_memory!(serde_json::to_string(alloc, value)) {
         Ok(text) => Ok(text),
         Err(_) => String::from_str(alloc, "not written"),
     }
@@ -80,8 +80,8 @@ pub fn toml_again<K: DeserializeOwned + Serialize + Ord, V: DeserializeOwned + S
     alloc: Global,
     text: &str,
 ) -> Result<String, AllocError> {
-    match toml::from_str::<SerdeMap<K, V, Vec<(K, V)>>>(alloc, text) {
-        Ok(map) => match toml::to_string(alloc, &map) {
+    match unless_memory!(toml::from_str::<SerdeMap<K, V, Vec<(K, V)>>>(alloc, text)) {
+        Ok(map) => match unless_memory!(toml::to_string(alloc, &map)) {
             Ok(text) => written(alloc, &text),
             Err(_) => String::from_str(alloc, "not written"),
         },

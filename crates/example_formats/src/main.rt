@@ -5,10 +5,13 @@
 //! - `json TYPES TEXT`: what the map that a JSON text is read as is written as, or why it was not read or not written. `TYPES`
 //!   names the types of the keys and of the items (`json_rows`). Each text but those of `limits`, `names` and `overlay` is read
 //!   over a vector, over two columns and over a short store, and the line shows the answers where they differ. `json told TYPES
-//!   TEXT`: the fault as it is shown to people (`told`).
+//!   TEXT`: the fault as it is shown to people (`told`). `json rewrite TEXT`: what `rewrite_flags` makes of a text.
 //! - `serde WHAT TEXT`: what is written of what a JSON text is read as through serde, or why not (`serde_rows`). For TOML and CSV
 //!   `TEXT` is the JSON string of one.
 //! - `table ..`: what is read, found or written of the bytes of a name table or an index of names (`table_rows`).
+//!
+//! Where memory is refused a line is answered by `out of memory`, or as ever if it can do without. Requests of three sizes tell a
+//! watcher of the allocator when a line begins, when its answer is made, and when that is dropped (`bin/requests`).
 #![tactic(auto)]
 
 // What bytes are read as. Where they can't be, the fault is written, and no more.
@@ -17,6 +20,22 @@ macro_rules! or_fault {
         match $read {
             Ok(read) => read,
             Err(fault) => return write!($output, "{fault}"),
+        }
+    };
+}
+
+// What was read or written, or the fault. Want of memory is handed on; a pattern tells it where the fault has no `is_memory`.
+macro_rules! unless_memory {
+    ($outcome:expr) => {
+        match $outcome {
+            Err(fault) if fault.is_memory() => return Err(AllocError),
+            outcome => outcome,
+        }
+    };
+    ($outcome:expr, $memory:pat) => {
+        match $outcome {
+            Err($memory) => return Err(AllocError),
+            outcome => outcome,
         }
     };
 }
@@ -31,7 +50,7 @@ pub mod languages;
 pub mod levels;
 pub mod limits;
 mod long;
-pub mod names;
+pub mod numbers;
 pub mod overlay;
 pub mod prefixes;
 mod serde_rows;
@@ -46,25 +65,38 @@ pub mod words;
 use std::alloc::{AllocError, Global};
 use std::io;
 
+// The sizes of the requests that tell where a line begins, where its answer is made, and where that is dropped.
+const BEGIN: usize = 1_000_003;
+
+const END: usize = 1_000_033;
+
+const IDLE: usize = 1_000_063;
+
 fn main(rt: HostRuntime) -> io::Result<()> {
     let input = io::read_to_string(rt.alloc(), rt.stdin())?;
-    let mut output = String::new(rt.alloc());
-    for line in input.as_str().lines() {
-        answer_line(rt.alloc(), line, &mut output)?;
+    for line in input.lines() {
+        mark(rt.alloc(), BEGIN);
+        let answer = answer_line(rt.alloc(), line);
+        mark(rt.alloc(), END);
+        match answer {
+            Ok(answer) => println!(rt; "{answer}")?,
+            Err(AllocError) => println!(rt; "out of memory")?,
+        }
+        mark(rt.alloc(), IDLE);
     }
-    rt.print(output.as_str())
+    Ok(())
 }
 
-// Adds the line that answers a line.
-fn answer_line(alloc: Global, line: &str, output: &mut String) -> Result<(), AllocError> {
-    let Some((kind, row)) = line.split_once(' ') else {
-        return output.push_str("bad line\n");
-    };
-    match kind {
-        "table" => return table_rows::answer_line(alloc, row, output),
-        "json" => output.push_str(json_rows::answer(alloc, row)?.as_str())?,
-        "serde" => output.push_str(serde_rows::answer(alloc, row)?.as_str())?,
-        _ => output.push_str("bad line")?,
+fn mark(alloc: Global, size: usize) {
+    let _ = Vec::<u8>::with_capacity(alloc, size);
+}
+
+// What answers a line.
+fn answer_line(alloc: Global, line: &str) -> Result<String, AllocError> {
+    match line.split_once(' ') {
+        Some(("table", row)) => table_rows::answer(alloc, row),
+        Some(("json", row)) => json_rows::answer(alloc, row),
+        Some(("serde", row)) => serde_rows::answer(alloc, row),
+        _ => String::from_str(alloc, "bad line"),
     }
-    output.push_str("\n")
 }

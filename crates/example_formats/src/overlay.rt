@@ -19,7 +19,7 @@ pub type Settings = VecMap<String, String>;
 /// Why nothing was overlaid.
 #[derive(Debug, Drop)]
 pub enum OverlayFault {
-    /// The text is no JSON, or memory ran out.
+    /// The text is no JSON.
     Text,
     /// It spells no settings, or memory ran out.
     Settings(JsonFault),
@@ -36,10 +36,11 @@ pub fn overlay(settings: &mut Settings, alloc: Global, text: &str) -> Result<(),
         ≡ option_or (value_at by_text user name) (value_at by_text settings.old.pairs name))) }
     ensures refused { OnErr result (settings.new.pairs ≡ settings.old.pairs) }
 {
-    let Ok(value) = Value::from_str(alloc, text) else {
-        return Err(OverlayFault::Text);
-    };
-    overlay_value(settings, alloc, &value)
+    match Value::from_str(alloc, text) {
+        Ok(value) => overlay_value(settings, alloc, &value),
+        Err(fault) if fault.is_memory() => Err(OverlayFault::Memory),
+        Err(_) => Err(OverlayFault::Text),
+    }
 }
 
 // Puts the settings that a value spells over those that are there.

@@ -5,6 +5,7 @@ use crate::kinds::{again, cuts, fault_word, map_again, toml_again, written};
 use crate::levels::Level;
 use crate::long::many;
 use crate::shapes::{Counts, Either, Flat, Inner, Places, Point};
+use csv::ErrorKind;
 use litemap_serde::SerdeMap;
 use litemap_short::ShortStore;
 use serde_json::Value;
@@ -64,7 +65,7 @@ fn answer_shapes(alloc: Global, what: &str, text: &str) -> Result<String, AllocE
         "config" => json_again(alloc, text),
         "cuts" => cuts(alloc, text),
         "many" => many(alloc, text),
-        _ => match serde_json::from_str::<String>(alloc, text) {
+        _ => match unless_memory!(serde_json::from_str::<String>(alloc, text)) {
             Ok(text) => answer_text(alloc, what, text.as_str()),
             Err(_) => String::from_str(alloc, "no text"),
         },
@@ -81,20 +82,28 @@ fn answer_text(alloc: Global, what: &str, text: &str) -> Result<String, AllocErr
         "overlay" => overlaid(alloc, text),
         "codes" => match from_csv(alloc, text.as_bytes()) {
             Ok(codes) => written(alloc, &SerdeMap(codes)),
-            Err(_) => String::from_str(alloc, "refused"),
+            Err(fault) => refused(alloc, &fault),
         },
         "csv-rows" => match rows_from_csv::<Row>(alloc, text.as_bytes()) {
             Ok(rows) => written(alloc, &rows),
-            Err(_) => String::from_str(alloc, "refused"),
+            Err(fault) => refused(alloc, &fault),
         },
         _ => String::from_str(alloc, "no such line"),
     }
 }
 
+// What answers a CSV text that is not read.
+fn refused(alloc: Global, fault: &csv::Error) -> Result<String, AllocError> {
+    match fault.kind() {
+        ErrorKind::OutOfMemory => Err(AllocError),
+        _ => String::from_str(alloc, "refused"),
+    }
+}
+
 // A configuration from JSON, written as JSON.
 fn json_again(alloc: Global, text: &str) -> Result<String, AllocError> {
-    match config::from_json(alloc, text) {
-        Ok(config) => match config::to_json(alloc, &config) {
+    match unless_memory!(config::from_json(alloc, text)) {
+        Ok(config) => match unless_memory!(config::to_json(alloc, &config)) {
             Ok(text) => Ok(text),
             Err(_) => String::from_str(alloc, "not written"),
         },
@@ -104,7 +113,7 @@ fn json_again(alloc: Global, text: &str) -> Result<String, AllocError> {
 
 // A configuration from TOML, written as TOML.
 fn config_again(alloc: Global, text: &str) -> Result<String, AllocError> {
-    match config::from_toml(alloc, text) {
+    match unless_memory!(config::from_toml(alloc, text)) {
         Ok(config) => toml_text(alloc, &config),
         Err(_) => String::from_str(alloc, "refused"),
     }
@@ -112,7 +121,7 @@ fn config_again(alloc: Global, text: &str) -> Result<String, AllocError> {
 
 // The TOML text of a configuration, as a JSON string.
 fn toml_text(alloc: Global, config: &Config) -> Result<String, AllocError> {
-    match config::to_toml(alloc, config) {
+    match unless_memory!(config::to_toml(alloc, config)) {
         Ok(text) => written(alloc, &text),
         Err(_) => String::from_str(alloc, "not written"),
     }
@@ -120,14 +129,14 @@ fn toml_text(alloc: Global, config: &Config) -> Result<String, AllocError> {
 
 // The defaults with a TOML text's limits over theirs, written as TOML.
 fn overlaid(alloc: Global, text: &str) -> Result<String, AllocError> {
-    match config::from_toml(alloc, text) {
+    match unless_memory!(config::from_toml(alloc, text)) {
         Ok(user) => over_defaults(alloc, user.limits),
         Err(_) => String::from_str(alloc, "refused"),
     }
 }
 
 fn over_defaults(alloc: Global, user: Limits) -> Result<String, AllocError> {
-    match config::from_json(alloc, DEFAULTS) {
+    match unless_memory!(config::from_json(alloc, DEFAULTS)) {
         Ok(defaults) => with_limits(alloc, defaults, user),
         Err(_) => String::from_str(alloc, "no defaults"),
     }

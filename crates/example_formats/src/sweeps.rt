@@ -1,7 +1,8 @@
 //! Many cases at once.
 use crate::{indexes, tables, texts};
+use litemap_read::ReadFault;
 use name_index::CheckedNames;
-use name_table::{read_names, write_names};
+use name_table::{NameWriteFault, read_names, write_names};
 use std::alloc::{AllocError, Global};
 use std::fmt::Write;
 
@@ -77,10 +78,10 @@ impl<'a> Tally<'a> {
 
 // Whether what is written for the bytes' map is read as the same map, and is no longer; so too where no map is read.
 fn is_read_again(alloc: Global, bytes: &[u8]) -> Result<bool, AllocError> {
-    let Ok((map, size)) = read_names(alloc, bytes) else {
+    let Ok((map, size)) = unless_memory!(read_names(alloc, bytes), ReadFault::NoRoom) else {
         return Ok(true);
     };
-    let Ok(written) = write_names(alloc, &map) else {
+    let Ok(written) = unless_memory!(write_names(alloc, &map), NameWriteFault::NoRoom) else {
         return Ok(false);
     };
     let mut first = String::new(alloc);

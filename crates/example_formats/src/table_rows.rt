@@ -28,26 +28,29 @@
 use crate::languages::language_name;
 use crate::sweeps::{self, Tally};
 use crate::{indexes, tables, texts};
+use hex::FromHexError;
+use litemap_read::ReadFault;
 use name_index::IndexedNames;
-use name_table::{read_names, write_names};
+use name_table::{NameWriteFault, read_names, write_names};
 use std::alloc::{AllocError, Global};
 
-/// Does a line, and writes what answers it.
-pub fn answer_line(alloc: Global, line: &str, output: &mut String) -> Result<(), AllocError> {
+/// What answers a line.
+pub fn answer(alloc: Global, line: &str) -> Result<String, AllocError> {
     let words: Vec<&str> = line.split(' ').collect(alloc)?;
     let Some((last, words)) = words.as_slice().split_last() else {
-        return output.push_str("bad line\n");
+        return String::from_str(alloc, "bad line");
     };
     let digits = if *last == "-" { "" } else { *last };
-    let Ok(bytes) = hex::decode(alloc, digits) else {
-        return output.push_str("bad bytes\n");
+    let Ok(bytes) = unless_memory!(hex::decode(alloc, digits), FromHexError::OutOfMemory) else {
+        return String::from_str(alloc, "bad bytes");
     };
-    answer(alloc, words, bytes.as_slice(), output)?;
-    output.push('\n')
+    let mut output = String::new(alloc);
+    write_answer(alloc, words, bytes.as_slice(), &mut output)?;
+    Ok(output)
 }
 
 // Writes what answers a line.
-fn answer(
+fn write_answer(
     alloc: Global,
     words: &[&str],
     bytes: &[u8],
@@ -73,10 +76,10 @@ fn answer(
 
 // Writes what is written for the map that is read.
 fn write_again(alloc: Global, bytes: &[u8], output: &mut String) -> Result<(), AllocError> {
-    let Ok((map, _)) = read_names(alloc, bytes) else {
+    let Ok((map, _)) = unless_memory!(read_names(alloc, bytes), ReadFault::NoRoom) else {
         return output.push_str("no map");
     };
-    let Ok(written) = write_names(alloc, &map) else {
+    let Ok(written) = unless_memory!(write_names(alloc, &map), NameWriteFault::NoRoom) else {
         return output.push_str("no table");
     };
     let digits = hex::encode(alloc, written.as_slice())?;

@@ -4,7 +4,7 @@ use crate::prefixes::{is_scanned, write_beginning};
 use crate::texts::write_entry;
 use crate::words;
 use litemap_store::store::Count;
-use name_index::{NameIndex, NameTable};
+use name_index::{NameIndex, NameIndexFault, NameTable};
 use name_table::NameMap;
 use std::alloc::{AllocError, Global};
 use std::fmt::Write;
@@ -18,7 +18,7 @@ pub fn write_answer(
 ) -> Result<(), AllocError> {
     let table = or_fault!(NameTable::new_counted(bytes, &mut Count::new()), output);
     let written = index_of(alloc, bytes)?;
-    let Some(forms) = Forms::of(alloc, table, written.as_slice()) else {
+    let Some(forms) = Forms::of(alloc, table, written.as_slice())? else {
         return output.push_str("no index");
     };
     match words {
@@ -46,10 +46,16 @@ struct Forms<'a> {
 
 impl<'a> Forms<'a> {
     // The table with an index beside it, and what was written of it as an index.
-    fn of(alloc: Global, table: NameTable<'a>, written: &'a [u8]) -> Option<Self> {
-        let index = NameIndex::new(alloc, &table).ok()?;
-        let both = BothWays::open(written).ok()?;
-        Some(Forms { table, index, both })
+    fn of(
+        alloc: Global,
+        table: NameTable<'a>,
+        written: &'a [u8],
+    ) -> Result<Option<Self>, AllocError> {
+        let index = unless_memory!(NameIndex::new(alloc, &table), NameIndexFault::NoRoom);
+        let (Ok(index), Ok(both)) = (index, BothWays::open(written)) else {
+            return Ok(None);
+        };
+        Ok(Some(Forms { table, index, both }))
     }
 
     // Whether all answer alike for a key.

@@ -26,11 +26,11 @@ pub fn write_entry(key: &str, value: &str, output: &mut String) -> Result<(), Al
     write!(output, " {key}={value}")
 }
 
-/// Writes a fault.
+/// Writes a fault, but for want of memory.
 pub fn write_fault(fault: &ReadFault<NameFault>, output: &mut String) -> Result<(), AllocError> {
     match fault {
         ReadFault::Source(fault) => write!(output, "{fault}"),
-        ReadFault::NoRoom => output.push_str("no memory"),
+        ReadFault::NoRoom => Err(AllocError),
     }
 }
 

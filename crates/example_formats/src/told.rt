@@ -25,6 +25,7 @@ pub fn answer(alloc: Global, line: &str) -> Result<String, AllocError> {
         "flags" => told::<bool, bool>(alloc, text),
         "words" => told::<u32, String>(alloc, text),
         "tongues" => told::<(u32, String), String>(alloc, text),
+        "ranks" => told::<(String, u32), String>(alloc, text),
         "levels" => told::<Level, Level>(alloc, text),
         "evens" => told::<Even, Even>(alloc, text),
         "elsewhere" => told_elsewhere(alloc, text),
@@ -37,11 +38,11 @@ fn told<K: JsonKey + Drop, V: JsonItem + Drop>(
     alloc: Global,
     text: &str,
 ) -> Result<String, AllocError> {
-    let Ok(value) = Value::from_str(alloc, text) else {
+    let Ok(value) = unless_memory!(Value::from_str(alloc, text)) else {
         return String::from_str(alloc, "no JSON");
     };
     let map: Result<VecMap<K, V>, JsonFault> = from_json(alloc, &value);
-    match map {
+    match unless_memory!(map, JsonFault::Memory) {
         Ok(_) => String::from_str(alloc, "a map"),
         Err(fault) => format!(in alloc; "{}", fault.told_in::<K, V>(&value)),
     }
@@ -49,12 +50,12 @@ fn told<K: JsonKey + Drop, V: JsonItem + Drop>(
 
 // The same, told of a value that was not read, and has no places; and what it says as an error of std's.
 fn told_elsewhere(alloc: Global, text: &str) -> Result<String, AllocError> {
-    let (Ok(value), Ok(other)) = (Value::from_str(alloc, text), Value::from_str(alloc, "null"))
-    else {
+    let value = unless_memory!(Value::from_str(alloc, text));
+    let (Ok(value), Ok(other)) = (value, unless_memory!(Value::from_str(alloc, "null"))) else {
         return String::from_str(alloc, "no JSON");
     };
     let map: Result<VecMap<u32, u32>, JsonFault> = from_json(alloc, &value);
-    match map {
+    match unless_memory!(map, JsonFault::Memory) {
         Ok(_) => String::from_str(alloc, "a map"),
         Err(fault) => {
             let told = format!(in alloc; "{}", fault.told_in::<u32, u32>(&other))?;

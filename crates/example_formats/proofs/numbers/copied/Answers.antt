@@ -1,7 +1,7 @@
 use Rattle.std.proofs.Common.{◌≡◌, ℕ}
 use Rattle.serde_json.specs.Data.{number, unsigned}
 use Rattle.litemap_json.proofs.ByText.{same_values}
-use Rattle.example_formats.proofs.names.copied.Goals as goal
+use Rattle.example_formats.proofs.numbers.copied.Goals as goal
 
 one_number : (m n : ℕ) → number (unsigned m) ≡ number (unsigned n) → m ≡ n
 one_number m n e = cc
