@@ -35,6 +35,25 @@ def copy_crates(room, *names, ignored=("out", "must-fail")):
     shutil.copy(TOP / "HANDLES", room)
 
 
+def edited(texts, edit):
+    """The texts of the files that an edit changes, by their paths in the crate."""
+    changed, many = {}, 0
+    for path, pairs in re.findall(r"^file: (.*)\n((?:(?!file: ).*\n?)*)", edit, re.M):
+        if path not in texts:
+            raise ValueError(f"src, specs and proofs have no file {path}")
+        for behind, old, new in re.findall(r"^(?:behind: (.*)\n)?old: (.+)\nnew: ?(.*)", pairs, re.M):
+            text, many = changed.get(path, texts[path]), many + 1
+            if text.count(behind or old) != 1:
+                raise ValueError(f"the '{'behind' if behind else 'old'}:' text stands {text.count(behind or old)} times, and not once")
+            start = text.find(old, text.find(behind) + len(behind))
+            if start < 0:
+                raise ValueError("the 'old:' text doesn't stand behind the 'behind:' text")
+            changed[path] = text[:start] + new + text[start + len(old) :]
+    if not many or many != len(re.findall("^new:", edit, re.M)):
+        raise ValueError("it has no 'old:' and 'new:' pair, or a line of one alone")
+    return changed
+
+
 @functools.cache
 def kit():
     """The folder of the kit."""
