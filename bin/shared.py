@@ -35,6 +35,12 @@ def copy_crates(room, *names, ignored=("out", "must-fail")):
     shutil.copy(TOP / "HANDLES", room)
 
 
+def texts_in(folder):
+    """The sources, specs and proofs of a crate, by their paths in its folder."""
+    files = [it for part in ("src", "specs", "proofs") for it in (folder / part).rglob("*") if it.suffix in (".rt", ".antt")]
+    return {it.relative_to(folder).as_posix(): it.read_text(encoding="utf-8") for it in files}
+
+
 def edited(texts, edit):
     """The texts of the files that an edit changes, by their paths in the crate."""
     changed, many = {}, 0

@@ -1,37 +1,37 @@
 """Each wrong body fits the sources by its text: those of wrong/, of must-fail/ and of planted."""
 import functools
 
-from shared import TOP, edited
+from shared import TOP, edited, texts_in
 
 
 @functools.cache
 def texts_of(crate):
-    """The sources, specs and proofs of a crate, by their paths in it."""
-    folder = TOP / "crates" / crate
-    files = [it for part in ("src", "specs", "proofs") for it in (folder / part).rglob("*.*t")]
-    return {it.relative_to(folder).as_posix(): it.read_text(encoding="utf-8") for it in files if it.suffix in (".rt", ".antt")}
+    return texts_in(TOP / "crates" / crate)
 
 
-def see_planted(file, report):
-    """Looks at the bodies of a program, each a paragraph."""
-    for paragraph in file.read_text(encoding="utf-8").strip().split("\n\n"):
-        if not paragraph.startswith("#"):
-            title, *lines = paragraph.split("\n")
-            parts = dict(line.split(": ", 1) for line in lines)
-            crate, path = parts["file"].split("/", 1)
-            text = texts_of(crate).get(path, "")
-            behind = text.find(parts.get("behind", ""))
-            fits = behind >= 0 and parts["old"] in text[behind:]
-            report.see(fits, f"{file.relative_to(TOP)}: {title}: its text isn't in {parts['file']}")
+def misfit(crate, edit):
+    """Why an edit of a crate doesn't fit, None where it does."""
+    try:
+        edited(texts_of(crate), edit)
+    except ValueError as error:
+        return error
+    return None
+
+
+def is_planted(paragraph):
+    """Whether the text of a body that a program plants is where it says."""
+    parts = dict(line.split(": ", 1) for line in paragraph.split("\n")[1:])
+    crate, path = parts["file"].split("/", 1)
+    _, behind, rest = ("\n" + texts_of(crate).get(path, "")).partition(parts.get("behind", "\n"))
+    return behind and parts["old"] in behind + rest
 
 
 def check(report, _):
     for file in sorted([*TOP.glob("wrong/*/*.edit"), *TOP.glob("crates/*/must-fail/*.edit")]):
-        crate = file.relative_to(TOP).parts[1]
-        try:
-            fault = edited(texts_of(crate), file.read_text(encoding="utf-8")) and None
-        except ValueError as error:
-            fault = error
-        report.see(fault is None, f"{file.relative_to(TOP)}: {fault}")
+        name = file.relative_to(TOP)
+        why = misfit(name.parts[1], file.read_text(encoding="utf-8"))
+        report.see(why is None, f"{name}: {why}")
     for file in sorted(TOP.glob("crates/*/planted")):
-        see_planted(file, report)
+        for paragraph in file.read_text(encoding="utf-8").strip().split("\n\n"):
+            fits = paragraph.startswith("#") or is_planted(paragraph)
+            report.see(fits, f"{file.relative_to(TOP)}: {paragraph.splitlines()[0]}: its text isn't where it says")
