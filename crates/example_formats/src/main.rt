@@ -3,9 +3,9 @@
 //! answers.
 //!
 //! - `json TYPES TEXT`: what the map that a JSON text is read as is written as, or why it was not read or not written. `TYPES`
-//!   names the types of the keys and of the items (`json_rows`). Each text but those of `limits`, `names` and `overlay` is read
-//!   over a vector, over two columns and over a short store, and the line shows the answers where they differ. `json told TYPES
-//!   TEXT`: the fault as it is shown to people (`told`). `json rewrite TEXT`: what `rewrite_flags` makes of a text.
+//!   names the types of the keys and of the items (`json_rows`). Each text but those of `limits`, `names`, `overlay`, `told` and
+//!   `rewrite` is read over a vector, over two columns and over a short store, and the line shows where the answers differ. `json
+//!   told TYPES TEXT`: the fault as it is shown to people (`told`). `json rewrite TEXT`: what `rewrite_flags` makes of a text.
 //! - `serde WHAT TEXT`: what is written of what a JSON text is read as through serde, or why not (`serde_rows`). For TOML and CSV
 //!   `TEXT` is the JSON string of one.
 //! - `table ..`: what is read, found or written of the bytes of a name table or an index of names (`table_rows`).

@@ -7,7 +7,7 @@ use Rattle.std.specs.declared.cmp.Ordering.{Ordering}
 use Rattle.litemap_store.specs.Pairs.{at, value_at}
 use Rattle.litemap_store.specs.declared.no_room.NoRoom.{NoRoom}
 use Rattle.litemap.specs.Changes.{IsMergedInto}
-use Rattle.litemap.specs.Seen.{Seen, with_pairs}
+use Rattle.litemap_store.specs.Contents.{Contents, with_pairs}
 use denote.Ref.{Bor, MutBor}
 
 module _ {K V : Type 0} where
@@ -60,7 +60,7 @@ module _ {F K V : Type 0} (g : Shared F (Bor K × (Bor V × (MutBor V × Unit {0
   Combined cmp L (p ∷ J) M = (w : V) × (N : List (K × V)) × Settles p.0 (value_at cmp L p.0) p.1 w × Combined cmp L J N × (M ≡ (p.0, w) ∷ N)
 
   -- the map `other`, with values that f may leave, is merged into the map `before`, which is then `after`
-  abbrev pub IsCombinedInto : (K → K → Ordering) → (other before after : Seen K V) → Result (Option (Seen K V)) (NoRoom (Seen K V)) → Type 0
+  abbrev pub IsCombinedInto : (K → K → Ordering) → (other before after : Contents K V) → Result (Option (Contents K V)) (NoRoom (Contents K V)) → Type 0
   IsCombinedInto cmp other before after result = (M : List (K × V)) × Combined cmp before.pairs other.pairs M
       × IsMergedInto cmp (with_pairs other M) before after result
 

@@ -13,7 +13,7 @@ use Rattle.litemap_store.specs.declared.no_room.NoRoom.{NoRoom}
 use Rattle.litemap_store.specs.declared.store.Store as store
 use Rattle.litemap_store.specs.Pairs.{put, set_value, value_in}
 use Rattle.litemap_store.proofs.Lists.Seams.{length-set_value}
-use Rattle.litemap.specs.Seen.{Seen, with_pairs}
+use Rattle.litemap_store.specs.Contents.{Contents, with_pairs}
 use Rattle.litemap.specs.declared.map.entry.OccupiedEntry.{OccupiedEntry}
 use Rattle.litemap.specs.declared.map.entry.VacantEntry.{VacantEntry}
 use Rattle.litemap.specs.declared.map.entry.Entry.{Entry}
@@ -34,7 +34,7 @@ module _ {K V S : Type 0} {g : ord.Ghosts K} {g' : eq.Ghosts K} {g'' : partial.G
   MatchEntry (variants.Vacant e) P Q = Q
 
   -- the reference to the map
-  abbrev pub entry_map : Entry K V S g g' g'' s → MutBor (Seen K V)
+  abbrev pub entry_map : Entry K V S g g' g'' s → MutBor (Contents K V)
   entry_map (variants.Occupied o) = o.map
   entry_map (variants.Vacant e) = e.map
 
@@ -59,7 +59,7 @@ module _ {K V S : Type 0} {g : ord.Ghosts K} {g' : eq.Ghosts K} {g'' : partial.G
   pairs_without (variants.Vacant e) = e.map.now.pairs
 
   -- the map with v at the key of an occupied entry
-  abbrev pub map_with_value : OccupiedEntry K V S g g' g'' s → V → Seen K V
+  abbrev pub map_with_value : OccupiedEntry K V S g g' g'' s → V → Contents K V
   map_with_value o v = with_pairs o.map.now (set_value o.map.now.pairs o.index v)
 
   pub still_within : (o : OccupiedEntry K V S g g' g'' s) (v : V) → o.index < length (set_value o.map.now.pairs o.index v)
@@ -79,7 +79,7 @@ module _ {K V S : Type 0} {g : ord.Ghosts K} {g' : eq.Ghosts K} {g'' : partial.G
     pub same_room : (entry_map new).now.room ≡ (entry_map old).now.room
 
   -- the map n has v at the entry's key. The room is kept where the key was there, and else lowered by at most one
-  pub record Leaves (e : Entry K V S g g' g'' s) (n : Seen K V) (v : V) : Type 0 where
+  pub record Leaves (e : Entry K V S g g' g'' s) (n : Contents K V) (v : V) : Type 0 where
     pub pairs : n.pairs ≡ pairs_with e v
     pub room : (entry_map e).now.room ≤ n.room + 1
     pub room_kept : IsSome (entry_value e) → n.room ≡ (entry_map e).now.room

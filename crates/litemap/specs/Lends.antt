@@ -6,7 +6,7 @@ use Rattle.std.specs.Option.{option_copied_mut}
 use Rattle.std.specs.BTreeMap.Lent.{OrdMembers}
 use Rattle.std.specs.declared.cmp.Ordering.{Ordering}
 use Rattle.litemap_store.specs.Pairs.{set_value, value_in, write}
-use Rattle.litemap.specs.Seen.{Seen, with_pairs}
+use Rattle.litemap_store.specs.Contents.{Contents, with_pairs}
 use Rattle.litemap.specs.contracts.map.LiteMap.{the_row}
 
 module _ (K V S : RattleType) (key : OrdMembers K.Denot) (pairs : S.Denot → List (K.Denot × V.Denot)) (room : S.Denot → ℕ) where
@@ -16,7 +16,7 @@ module _ (K V S : RattleType) (key : OrdMembers K.Denot) (pairs : S.Denot → Li
       the_row K V S (record { cmp = key.cmp }) (record { eq = key.eq }) (record { partial_cmp = key.partial_cmp })
       (record { pairs = pairs; room = room })
 
-  module _ (m : MutBor (Seen K.Denot V.Denot)) where
+  module _ (m : MutBor (Contents K.Denot V.Denot)) where
     -- once the reference in r ends, the map has the last value written through it at the key that is equal to q. Where
     -- there is none the map stays
     abbrev pub LendsValue : {Q : Type 0} → (K.Denot → Q → Ordering) → Q → Option (MutBor V.Denot) → Fml

@@ -1,11 +1,13 @@
 -- The pairs whose keys lie within two bounds, and those that lie before the first. `order k q` is how the key k stands to the
 -- query of a bound.
-use Rattle.std.specs.Prelude.{◌≡◌, ℕ, zero, suc, List, [], ◌∷◌, Bool, true, false, not, ◌&&◌, filter}
+use Rattle.std.specs.Prelude.{◌≡◌, ℕ, zero, suc, ◌+◌, ◌≤◌, List, [], ◌∷◌, length, Some, Bool, true, false, not, ◌&&◌, filter}
 use Rattle.std.specs.List.{AllByRecursion}
 use Rattle.std.specs.Ordering.{is_le, is_lt}
 use Rattle.std.specs.declared.cmp.Ordering.{Ordering}
 use Rattle.std.specs.declared.ops.Bound.{Bound}
 use Rattle.std.specs.declared.ops.Bound.TheVariants.{Included, Excluded, Unbounded}
+use Rattle.std.specs.declared.ops.Range.{Range}
+use Rattle.litemap_store.specs.Pairs.{sub}
 
 module _ {K Q : Type 0} (order : K → Q → Ordering) where
   -- the key lies before a lower bound
@@ -28,6 +30,13 @@ module _ {K Q V : Type 0} (order : K → Q → Ordering) where
   -- the pairs whose keys lie within both bounds, in order
   abbrev pub within : List (K × V) → Bound Q → Bound Q → List (K × V)
   within L from to = filter (λ p. not (is_before order from p.0) && is_up_to order to p.0) L
+
+  -- the pairs within both bounds stand from `start` to before `end`: behind all that lie before the lower one
+  pub record ArePlaces (L : List (K × V)) (from to : Bound Q) (places : Range ℕ) : Type 0 where
+    pub pairs : sub L places.start places.end ≡ Some (within L from to)
+    pub start : places.start ≡ length (before L from)
+    pub len : places.end ≡ places.start + length (within L from to)
+    pub inside : places.end ≤ length L
 
 -- the test says yes of the first n elements, and no of all others: what the search for an end tells the calls that stand on it
 abbrev pub IsCut : {X : Type 0} → (X → Bool) → List X → ℕ → Type 0

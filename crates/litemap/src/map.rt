@@ -15,9 +15,7 @@ mod merge;
 mod ranges;
 mod sets;
 mod slice;
-mod split;
 mod take;
-mod update;
 mod write;
 
 pub use entry::{Entry, OccupiedEntry, VacantEntry};
@@ -52,9 +50,9 @@ pub struct LiteMap<K: Ord, V, S: Store<K, V>> {
 
 impl<K: Ord, V, S: Store<K, V>> Model for LiteMap<K, V, S> {
     ghost use Rattle.litemap_store.specs.Pairs.{Rising};
-    ghost use Rattle.litemap.specs.Seen.{Seen};
+    ghost use Rattle.litemap_store.specs.Contents.{Contents};
 
-    ghost Value = { Seen K V };
+    ghost Value = { Contents K V };
 
     ghost view = { λ m. record { pairs = S.pairs m.store; room = S.room m.store } };
 

@@ -1,9 +1,9 @@
 //! The iterators over the pairs of two columns.
-ghost use Rattle.std.specs.Prelude.{◌≡◌, length, Some, IfSome, refl};
-ghost use Rattle.std.specs.Iterator.{YieldsFirst, at_most, UpTo};
-ghost use Rattle.std.specs.Iterator.SizeHint.{IsWithinCount};
+ghost use Rattle.std.specs.Prelude.{◌≡◌, length, Some, refl};
+ghost use Rattle.std.specs.Iterator.{YieldsFirst, at_most};
 ghost use Rattle.std.specs.List.{zip};
 ghost use Rattle.std.specs.Map.Iter.{TakesFirst, TakesLast, deref_pair};
+ghost use Rattle.litemap_store.specs.Hints.{HintsExactly};
 
 use litemap_store::slice_search::Keys;
 use litemap_store::store::{PairIntoIter, PairIter};
@@ -54,9 +54,7 @@ impl<'a, K, V> Iterator for ColumnIter<'a, K, V> {
     }
 
     fn size_hint(&self) -> (usize, Option<usize>)
-        ensures lower { IsWithinCount result.0 (at_most (length self.now)) }
-        ensures upper { IfSome result.1 (UpTo (at_most (length self.now))) }
-        ensures exact { (result.0 ≡ length self.now) × (result.1 ≡ Some (length self.now)) }
+        ensures { HintsExactly (length self.now) result }
     {
         let len = self.len();
         (len, Some(len))
@@ -155,9 +153,7 @@ impl<K: Drop, V: Drop> Iterator for ColumnIntoIter<K, V> {
     }
 
     fn size_hint(&self) -> (usize, Option<usize>)
-        ensures lower { IsWithinCount result.0 (at_most (length self.now)) }
-        ensures upper { IfSome result.1 (UpTo (at_most (length self.now))) }
-        ensures exact { (result.0 ≡ length self.now) × (result.1 ≡ Some (length self.now)) }
+        ensures { HintsExactly (length self.now) result }
     {
         let len = self.len();
         (len, Some(len))

@@ -1,6 +1,5 @@
 //! What a type needs to be an item or a key of a map that is written as JSON.
-ghost use Rattle.std.specs.Prelude.{◌≡◌, ℕ, List, Option, Some, Result, Ok, IfOk, IfSome, OnOk};
-ghost use Rattle.std.specs.Prelude.{option_map, string_bytes};
+ghost use Rattle.std.specs.Prelude.{◌≡◌, ℕ, List, Option, Some, Result, Ok, IfOk, IfSome, OnOk, option_map, string_bytes};
 ghost use Rattle.std.specs.declared.cmp.Ordering.TheVariants.{Equal};
 ghost use Rattle.serde_json.specs.Data.{Data};
 ghost use Rattle.serde_json.specs.View.{view};

@@ -5,7 +5,6 @@ mod fault;
 mod item;
 pub mod laws;
 mod named;
-mod numbers;
 mod pairs;
 mod read;
 mod simple;

@@ -1,16 +1,17 @@
 //! Whole numbers of eight types, as items and as keys.
 ghost use Rattle.std.specs.Prelude.{◌≡◌, ◌≢◌, ℤ, pos, Bool, true, Option, Some, Err, IfOk, IfSome, IsOk, OnOk, Ok, option_map};
-ghost use Rattle.std.specs.Prelude.{refl};
+ghost use Rattle.std.specs.Prelude.{refl, string_bytes};
 ghost use Rattle.std.specs.Fmt.{signed_decimal};
 ghost use Rattle.std.specs.declared.cmp.Ordering.TheVariants.{Equal};
 ghost use Rattle.serde_json.specs.View.{view};
 ghost use Rattle.litemap_json.specs.Item.{Answers, kept, signed_fits, unsigned_fits, whole_item, whole_json, whole_key};
+ghost use Rattle.litemap_json.specs.Item.{whole_of, whole_of_text};
 ghost use Rattle.litemap_json.specs.OneTree.{signed_one_tree, unsigned_one_tree};
 ghost use Rattle.litemap_json.specs.Widths.{IsHeld, signed_is_held, unsigned_is_held};
 ghost use Rattle.litemap_json.specs.declared.item.ItemFault.TheVariants.{Memory};
 
 use crate::item::{ItemFault, JsonItem, JsonKey};
-use crate::numbers::{decimal_text, printed, whole};
+use itoa::Buffer;
 use serde_json::{Number, Value};
 use std::alloc::{AllocError, Global};
 
@@ -62,7 +63,7 @@ impl<T: Whole> JsonItem for T {
         ensures answers { Answers (λ x. whole_json (T.number x)) (whole_item T.fits (view value.now)) result }
         ensures no_memory { result ≢ Err Memory }
     {
-        T::narrow(whole(value)?).ok_or(ItemFault::Range)
+        T::narrow(whole_number(value)?).ok_or(ItemFault::Range)
     }
 
     fn wanted() -> &'static str {
@@ -253,4 +254,38 @@ impl Whole for i64 {
     ghost held = { signed_is_held 63 0 refl };
 
     ghost one_number = { signed_one_tree };
+}
+
+// The whole number that a value is.
+fn whole_number(value: &Value) -> Result<i128, ItemFault>
+    ensures { result ≡ whole_of (view value.now) }
+{
+    let Some(number) = value.as_number() else {
+        return Err(ItemFault::Shape);
+    };
+    number.as_i128().ok_or(ItemFault::Float)
+}
+
+// The decimal text of a whole number. One of 64 bits is printed as such, which takes less time.
+fn decimal_text(alloc: Global, number: i128) -> Result<String, AllocError>
+    ensures { IfOk result (λ text. string_bytes text ≡ signed_decimal number) }
+{
+    match u64::try_from(number) {
+        Ok(small) => small.to_string(alloc),
+        Err(_) => number.to_string(alloc),
+    }
+}
+
+// The whole number that is printed as this text: no plus sign, no leading zeros, `-` only before a negative number.
+fn printed(text: &str) -> Option<i128>
+    ensures { result ≡ kept (signed_fits 127) (whole_of_text text.now) }
+{
+    let Ok(number) = text.parse::<i128>() else {
+        return None;
+    };
+    if Buffer::new().format(number) == text {
+        Some(number)
+    } else {
+        None
+    }
 }

@@ -6,7 +6,7 @@ use Rattle.std.specs.declared.cmp.Ordering.{Ordering}
 use Rattle.litemap_store.specs.Last.{Last}
 use Rattle.litemap_store.specs.Pairs.{AllBelow, at, cut, index_of, put, value_at, value_in}
 use Rattle.litemap_store.proofs.Last.Pairs.{Last-unique}
-use Rattle.litemap.specs.Seen.{Seen}
+use Rattle.litemap_store.specs.Contents.{Contents}
 use Rattle.litemap_read.specs.Laws.{SameAnswers}
 use Rattle.litemap_read.specs.Steps.{IsDone, IsRefused, Run, Step}
 use Rattle.litemap_read.specs.declared.calls.Answer.{Answer}
@@ -15,9 +15,9 @@ use Rattle.litemap_read.specs.declared.calls.Call.{Call}
 use Rattle.litemap_read.specs.declared.calls.Call.TheVariants as call
 
 module _ {K V : Type 0} (cmp : K → K → Ordering) (call : Call K V) (answer : Answer K V) where
-  pub Run-push : (start between end : Seen K V) (calls : List (Call K V)) (answers : List (Answer K V)) → Run cmp start calls answers between
+  pub Run-push : (start between end : Contents K V) (calls : List (Call K V)) (answers : List (Answer K V)) → Run cmp start calls answers between
       → Step cmp between call answer end → Run cmp start (calls ++ call ∷ []) (answers ++ answer ∷ []) end
-  Run-push start between end [] [] run step = (end, subst (λ (m : Seen K V). Step cmp m call answer end) run step, refl)
+  Run-push start between end [] [] run step = (end, subst (λ (m : Contents K V). Step cmp m call answer end) run step, refl)
   Run-push start between end (c ∷ calls) (a ∷ answers) run step = (run.0, run.1, Run-push run.0 between end calls answers run.2 step)
   Run-push start between end _ _ run step = absurd run
 
@@ -27,7 +27,7 @@ not_both (Some x) s n = cc
 
 module _ {K V : Type 0} (cmp : K → K → Ordering) (o : IsTotalOrder cmp) where
   -- a call that is refused is answered so
-  refused_so : (old : Seen K V) (c : Call K V) (a : Answer K V) (new : Seen K V) → IsRefused cmp old c a new → (back : Option (K × V)) × (a ≡ NoRoom back)
+  refused_so : (old : Contents K V) (c : Call K V) (a : Answer K V) (new : Contents K V) → IsRefused cmp old c a new → (back : Option (K × V)) × (a ≡ NoRoom back)
   refused_so old (call.Insert k v) a new h = (Some (k, v), h.1.0)
   refused_so old (call.TryInsert k v) a new h = (Some (k, v), h.1.0)
   refused_so old (call.TryAppend k v) a new h = (Some (k, v), h.1.0)
@@ -35,22 +35,22 @@ module _ {K V : Type 0} (cmp : K → K → Ordering) (o : IsTotalOrder cmp) wher
   refused_so old (call.Reserve n) a new h = (None, h.0)
   refused_so old _ a new h = absurd h
 
-  done : (old : Seen K V) (c : Call K V) (a : Answer K V) (new : Seen K V) → Step cmp old c a new → ((back : Option (K × V)) → a ≡ NoRoom back → ⊥) → IsDone cmp old c a new
+  done : (old : Contents K V) (c : Call K V) (a : Answer K V) (new : Contents K V) → Step cmp old c a new → ((back : Option (K × V)) → a ≡ NoRoom back → ⊥) → IsDone cmp old c a new
   done old c a new (inl d) not = d
   done old c a new (inr r) not = let s = refused_so old c a new r in absurd (not s.0 s.1)
 
   -- the answer is f of the list, and the list is kept
-  module _ (f : List (K × V) → Answer K V) (m₁ m₂ n₁ n₂ : Seen K V) (a₁ a₂ : Answer K V) (e : m₁.pairs ≡ m₂.pairs) where
+  module _ (f : List (K × V) → Answer K V) (m₁ m₂ n₁ n₂ : Contents K V) (a₁ a₂ : Answer K V) (e : m₁.pairs ≡ m₂.pairs) where
     same_answer : a₁ ≡ f m₁.pairs → a₂ ≡ f m₂.pairs → a₁ ≡ a₂
     same_answer h₁ h₂ = h₁ ∙ ap f e ∙ sym h₂
 
     kept : n₁ ≡ m₁ → n₂ ≡ m₂ → n₁.pairs ≡ n₂.pairs
-    kept h₁ h₂ = ap (λ (m : Seen K V). m.pairs) h₁ ∙ e ∙ sym (ap (λ (m : Seen K V). m.pairs) h₂)
+    kept h₁ h₂ = ap (λ (m : Contents K V). m.pairs) h₁ ∙ e ∙ sym (ap (λ (m : Contents K V). m.pairs) h₂)
 
     looked : (a₁ ≡ f m₁.pairs) × (n₁ ≡ m₁) → (a₂ ≡ f m₂.pairs) × (n₂ ≡ m₂) → (a₁ ≡ a₂) × (n₁.pairs ≡ n₂.pairs)
     looked h₁ h₂ = (same_answer h₁.0 h₂.0, kept h₁.1 h₂.1)
 
-  done_agree : (m₁ m₂ n₁ n₂ : Seen K V) (c : Call K V) (a₁ a₂ : Answer K V) → m₁.pairs ≡ m₂.pairs
+  done_agree : (m₁ m₂ n₁ n₂ : Contents K V) (c : Call K V) (a₁ a₂ : Answer K V) → m₁.pairs ≡ m₂.pairs
       → IsDone cmp m₁ c a₁ n₁ → IsDone cmp m₂ c a₂ n₂ → (a₁ ≡ a₂) × (n₁.pairs ≡ n₂.pairs)
   done_agree m₁ m₂ n₁ n₂ (call.Get k) a₁ a₂ e h₁ h₂ = looked (λ L. Value (value_at cmp L k)) m₁ m₂ n₁ n₂ a₁ a₂ e h₁ h₂
   done_agree m₁ m₂ n₁ n₂ (call.ValueAt i) a₁ a₂ e h₁ h₂ = looked (λ L. Value (value_in L i)) m₁ m₂ n₁ n₂ a₁ a₂ e h₁ h₂
@@ -75,7 +75,7 @@ module _ {K V : Type 0} (cmp : K → K → Ordering) (o : IsTotalOrder cmp) wher
   done_agree m₁ m₂ n₁ n₂ call.Clear a₁ a₂ e h₁ h₂ = (h₁.0 ∙ sym h₂.0, h₁.1 ∙ sym h₂.1)
 
   pub runs_agree : SameAnswers cmp V
-  runs_agree s₁ s₂ e₁ e₂ [] [] [] e r₁ r₂ n₁ n₂ = (refl, ap (λ (m : Seen K V). m.pairs) r₁ ∙ e ∙ sym (ap (λ (m : Seen K V). m.pairs) r₂))
+  runs_agree s₁ s₂ e₁ e₂ [] [] [] e r₁ r₂ n₁ n₂ = (refl, ap (λ (m : Contents K V). m.pairs) r₁ ∙ e ∙ sym (ap (λ (m : Contents K V). m.pairs) r₂))
   runs_agree s₁ s₂ e₁ e₂ [] (a₁ ∷ as₁) as₂ e r₁ r₂ n₁ n₂ = absurd r₁
   runs_agree s₁ s₂ e₁ e₂ (c ∷ cs) [] as₂ e r₁ r₂ n₁ n₂ = absurd r₁
   runs_agree s₁ s₂ e₁ e₂ (c ∷ cs) (a₁ ∷ as₁) (a₂ ∷ as₂) e r₁ r₂ n₁ n₂ =

@@ -2,7 +2,7 @@
 use Rattle.std.specs.Prelude.{◌≡◌, ◌≢◌, List, Option}
 use Rattle.std.specs.List.{AllByRecursion}
 use Rattle.std.specs.declared.cmp.Ordering.{Ordering}
-use Rattle.litemap.specs.Seen.{Seen}
+use Rattle.litemap_store.specs.Contents.{Contents}
 use Rattle.litemap_read.specs.Steps.{Run}
 use Rattle.litemap_read.specs.declared.calls.Answer.{Answer}
 use Rattle.litemap_read.specs.declared.calls.Answer.TheVariants.{NoRoom}
@@ -15,6 +15,6 @@ module _ {K : Type 0} (cmp : K → K → Ordering) (V : Type 0) where
 
   -- two maps with the same list, whatever their stores, give the same answers to the same calls, and end with the same list
   abbrev pub SameAnswers : Type 0
-  SameAnswers = (start₁ start₂ end₁ end₂ : Seen K V) (calls : List (Call K V)) (answers₁ answers₂ : List (Answer K V))
+  SameAnswers = (start₁ start₂ end₁ end₂ : Contents K V) (calls : List (Call K V)) (answers₁ answers₂ : List (Answer K V))
       → start₁.pairs ≡ start₂.pairs → Run cmp start₁ calls answers₁ end₁ → Run cmp start₂ calls answers₂ end₂
       → NoneRefused answers₁ → NoneRefused answers₂ → (answers₁ ≡ answers₂) × (end₁.pairs ≡ end₂.pairs)

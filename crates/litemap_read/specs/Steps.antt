@@ -4,7 +4,7 @@ use Rattle.std.specs.Prelude.{◌≡◌, ◌⊎◌, ◌+◌, ◌<◌, ◌≤◌,
 use Rattle.std.specs.declared.cmp.Ordering.{Ordering}
 use Rattle.litemap_store.specs.Last.{Last}
 use Rattle.litemap_store.specs.Pairs.{AllBelow, at, cut, index_of, put, value_at, value_in}
-use Rattle.litemap.specs.Seen.{Seen}
+use Rattle.litemap_store.specs.Contents.{Contents}
 use Rattle.litemap_read.specs.declared.calls.Answer.{Answer}
 use Rattle.litemap_read.specs.declared.calls.Answer.TheVariants.{Back, Done, Flag, NoRoom, Number, Place, Value}
 use Rattle.litemap_read.specs.declared.calls.Call.{Call}
@@ -12,11 +12,11 @@ use Rattle.litemap_read.specs.declared.calls.Call.TheVariants as call
 
 module _ {K V : Type 0} (cmp : K → K → Ordering) where
   -- the pair was put in: the list is L, and the room is lowered by one at most
-  abbrev pub Adds : Seen K V → List (K × V) → Seen K V → Type 0
+  abbrev pub Adds : Contents K V → List (K × V) → Contents K V → Type 0
   Adds old L new = (new.pairs ≡ L) × (old.room ≤ new.room + 1)
 
   -- the call is done
-  abbrev pub IsDone : Seen K V → Call K V → Answer K V → Seen K V → Type 0
+  abbrev pub IsDone : Contents K V → Call K V → Answer K V → Contents K V → Type 0
   IsDone old (call.Get k) answer new = (answer ≡ Value (value_at cmp old.pairs k)) × (new ≡ old)
   IsDone old (call.ValueAt i) answer new = (answer ≡ Value (value_in old.pairs i)) × (new ≡ old)
   IsDone old (call.Contains k) answer new = (answer ≡ Flag (is_some (at cmp old.pairs k))) × (new ≡ old)
@@ -40,11 +40,11 @@ module _ {K V : Type 0} (cmp : K → K → Ordering) where
   IsDone old call.Clear answer new = (answer ≡ Done) × (new.pairs ≡ [])
 
   -- a pair that would be added finds no room, and comes back
-  abbrev pub HasNoRoom : Seen K V → K → V → Answer K V → Seen K V → Type 0
+  abbrev pub HasNoRoom : Contents K V → K → V → Answer K V → Contents K V → Type 0
   HasNoRoom old k v answer new = (answer ≡ NoRoom (Some (k, v))) × (old.room ≡ 0) × (new.pairs ≡ old.pairs)
 
   -- the call is refused for want of memory
-  abbrev pub IsRefused : Seen K V → Call K V → Answer K V → Seen K V → Type 0
+  abbrev pub IsRefused : Contents K V → Call K V → Answer K V → Contents K V → Type 0
   IsRefused old (call.Insert k v) answer new = IsNone (at cmp old.pairs k) × HasNoRoom old k v answer new
   IsRefused old (call.TryInsert k v) answer new = IsNone (at cmp old.pairs k) × HasNoRoom old k v answer new
   IsRefused old (call.TryAppend k v) answer new = AllBelow cmp old.pairs k × HasNoRoom old k v answer new
@@ -54,12 +54,12 @@ module _ {K V : Type 0} (cmp : K → K → Ordering) where
   IsRefused old call answer new = ⊥
 
   -- the call answers so, and leaves the map `new`
-  abbrev pub Step : Seen K V → Call K V → Answer K V → Seen K V → Type 0
+  abbrev pub Step : Contents K V → Call K V → Answer K V → Contents K V → Type 0
   Step old call answer new = IsDone old call answer new ⊎ IsRefused old call answer new
 
   -- as many answers as calls, and a chain of steps, one for each call with the answer at its place
-  abbrev pub Run : Seen K V → List (Call K V) → List (Answer K V) → Seen K V → Type 0
+  abbrev pub Run : Contents K V → List (Call K V) → List (Answer K V) → Contents K V → Type 0
   Run start [] [] end = end ≡ start
   Run start (call ∷ calls) (answer ∷ answers) end =
-      (next : Seen K V) × Step start call answer next × Run next calls answers end
+      (next : Contents K V) × Step start call answer next × Run next calls answers end
   Run start calls answers end = ⊥

@@ -1,8 +1,8 @@
 //! The iterator that hands over the pairs of a short store.
 ghost use Rattle.std.specs.Prelude.{◌≡◌, [], length, Some, IfSome, Option, refl};
-ghost use Rattle.std.specs.Iterator.{YieldsFirst, at_most, UpTo};
-ghost use Rattle.std.specs.Iterator.SizeHint.{IsWithinCount};
+ghost use Rattle.std.specs.Iterator.{YieldsFirst, at_most};
 ghost use Rattle.std.specs.Vec.Iter.{into_iter_items};
+ghost use Rattle.litemap_store.specs.Hints.{HintsExactly};
 ghost use Rattle.litemap_short.specs.Left.{with_first};
 
 use litemap_store::store::PairIntoIter;
@@ -53,9 +53,7 @@ impl<K: Drop, V: Drop> Iterator for ShortIntoIter<K, V> {
     }
 
     fn size_hint(&self) -> (usize, Option<usize>)
-        ensures lower { IsWithinCount result.0 (at_most (length self.now)) }
-        ensures upper { IfSome result.1 (UpTo (at_most (length self.now))) }
-        ensures exact { (result.0 ≡ length self.now) × (result.1 ≡ Some (length self.now)) }
+        ensures { HintsExactly (length self.now) result }
     {
         let len = self.len();
         (len, Some(len))

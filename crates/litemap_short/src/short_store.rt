@@ -1,9 +1,9 @@
 //! The store of no pair, one, or a vector of pairs.
-ghost use Rattle.std.specs.Prelude.{◌≡◌, [], refl};
+ghost use Rattle.std.specs.Prelude.{refl};
 ghost use Rattle.litemap_store.specs.Contents.{with_value};
 
 use crate::short_iter::ShortIntoIter;
-use crate::storage::{Storage, pair_at, part_of};
+use crate::storage::{Storage, pair_at};
 use litemap_store::store::{
     Count, NoRoom, SliceIter, SliceStore, Store, StoreBulkMut, StoreConstEmpty, StoreFromIterable,
     StoreFromIterator, StoreIntoIterator, StoreIterable, StoreMut, StoreSlice,
@@ -80,7 +80,7 @@ impl<K, V> StoreConstEmpty<K, V> for ShortStore<K, V> {
 
 impl<K, V> StoreSlice<K, V> for ShortStore<K, V> {
     fn lm_get_range(&self, range: Range<usize>) -> Option<&[(K, V)]> {
-        part_of(self.storage.as_slice(), range)
+        self.storage.as_slice().get(range)
     }
 }
 

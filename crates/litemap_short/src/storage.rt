@@ -4,16 +4,14 @@ ghost use Rattle.std.specs.Prelude.{Some, IfOk, IfSome, IsOk, OnOk, OnErr};
 ghost use Rattle.std.specs.Borrow.{sem};
 ghost use Rattle.std.specs.List.{AllZip};
 ghost use Rattle.std.specs.Map.Iter.{deref_pair};
+ghost use Rattle.std.specs.Option.{option_map};
 ghost use Rattle.std.specs.Vec.Iter.{into_iter_items};
 ghost use Rattle.litemap_short.specs.Left.{with_first};
-ghost use Rattle.std.specs.Option.{option_copied, option_map};
-ghost use Rattle.litemap_store.specs.Pairs.{sub};
 ghost use Rattle.litemap_store.specs.Retain.{CallableOnEach, Kept};
 
 use litemap_store::shared::{insert_reserved, is_kept};
 use litemap_store::store::StoreBulkMut;
 use std::alloc::{AllocError, Global};
-use std::ops::Range;
 use std::vec::IntoIter;
 use std::{array, mem};
 
@@ -250,11 +248,4 @@ pub(crate) fn pair_at<K, V>(pairs: &[(K, V)], index: usize) -> Option<(&K, &V)>
 {
     let (key, value) = pairs.get(index)?;
     Some((key, value))
-}
-
-// The pairs from a place to before another.
-pub(crate) fn part_of<K, V>(pairs: &[(K, V)], range: Range<usize>) -> Option<&[(K, V)]>
-    ensures { option_copied result ≡ sub pairs.now range.start range.end }
-{
-    pairs.get(range)
 }

@@ -1,4 +1,4 @@
--- What a contract sees of a store: its pairs, and how many further pairs it takes without refusal.
+-- What a contract sees of a map, and of a store: its pairs in their order, and how many further pairs it takes without refusal.
 use Rattle.std.specs.Prelude.{ℕ, List}
 use Rattle.litemap_store.specs.Pairs.{set_value}
 
@@ -9,3 +9,7 @@ pub record Contents (K V : Type 0) : Type 0 where
 -- the same with another value at a place
 abbrev pub with_value : {K V : Type 0} → Contents K V → ℕ → V → Contents K V
 with_value s i v = record s { pairs = set_value s.pairs i v }
+
+-- the same with other pairs
+abbrev pub with_pairs : {K V : Type 0} → Contents K V → List (K × V) → Contents K V
+with_pairs s L = record { pairs = L; room = s.room }

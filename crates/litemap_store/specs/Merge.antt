@@ -1,8 +1,11 @@
 -- Merging two maps: what is left where the pairs of B are put into A one after the other, and what they drive out. A key
 -- that is there stays and takes the new value; the old value is left over, with the new key.
-use Rattle.std.specs.Prelude.{◌≡◌, ◌⊎◌, ◌↔◌, List, [], Option, IfSome, IsNone, filter_map, option_map}
+use Rattle.std.specs.Prelude.{◌≡◌, ◌≢◌, ◌⊎◌, ◌↔◌, ℕ, ◌+◌, ◌*◌, ◌≤◌, List, [], length, filter_map, Option, option_map, Result}
+use Rattle.std.specs.Prelude.{IfSome, IsNone, IfOk, IfErr, IsOk, OnOk, OnErr}
 use Rattle.std.specs.declared.cmp.Ordering.{Ordering}
 use Rattle.std.specs.declared.cmp.Ordering.TheVariants.{Equal}
+use Rattle.litemap_store.specs.Counts.{digits}
+use Rattle.litemap_store.specs.declared.no_room.NoRoom.{NoRoom}
 use Rattle.litemap_store.specs.Last.{In, NoneEqual, Rises}
 use Rattle.litemap_store.specs.Pairs.{Rising, at}
 
@@ -35,3 +38,32 @@ IsLeft pairs L rest = (IsNone rest ↔ (L ≡ [])) × IfSome rest (λ s. pairs s
 -- a refused merge of t into s left the pairs of s as they were, and hands back those of t
 abbrev pub IsUndone : {X S : Type 0} → (S → List X) → S → S → S → S → Type 0
 IsUndone pairs s t now back = (pairs now ≡ pairs s) × (pairs back ≡ pairs t)
+
+-- how much the searches of a merge compare at most: one for each pair of B, among the pairs of both
+abbrev pub searches_cost : {X : Type 0} → List X → List X → ℕ
+searches_cost A B = length B * digits (length A + length B)
+
+-- what a merge of t into s leaves and answers where neither is empty: the merged pairs, and what is left over
+pub record Merges {K V S : Type 0} (cmp : K → K → Ordering) (pairs : S → List (K × V)) (s t now : S)
+    (result : Result (Option S) (NoRoom S)) : Type 0 where
+  pub merged : OnOk result (Merge cmp (pairs s) (pairs t) (pairs now))
+  pub left : IfOk result (IsLeft pairs (left cmp (pairs s) (pairs t)))
+  pub refused : IfErr result (λ refused. IsUndone pairs s t now refused.back)
+
+-- `other` is merged into `before`, which is then `after`: all three are stores, or maps
+pub record MergesInto {K V S : Type 0} (cmp : K → K → Ordering) (pairs : S → List (K × V)) (room : S → ℕ) (other before after : S)
+    (result : Result (Option S) (NoRoom S)) : Type 0 where
+  -- what is left, and what is driven out
+  pub merge : OnOk result (Merge cmp (pairs before) (pairs other) (pairs after))
+  pub none : IfOk result (λ rest. IsNone rest ↔ (left cmp (pairs before) (pairs other) ≡ []))
+  pub left : IfOk result (λ rest. IfSome rest (λ s. pairs s ≡ left cmp (pairs before) (pairs other)))
+  -- refused: the list stays, and the other one comes back whole
+  pub refused : OnErr result (pairs after ≡ pairs before)
+  pub back : IfErr result (λ refused. pairs refused.back ≡ pairs other)
+  -- never refused: where one is empty, and where the other's keys lie behind or in front, within the room
+  pub succeeds : (pairs before ≡ []) ⊎ (pairs other ≡ []) → IsOk result
+  pub behind : Rises cmp (pairs before) (pairs other) → length (pairs other) ≤ room before → IsOk result
+  pub in_front : Rises cmp (pairs other) (pairs before) → length (pairs other) ≤ room before
+      → length (pairs before) ≤ room other → IsOk result
+  pub unchanged : pairs other ≡ [] → after ≡ before
+  pub taken : pairs before ≡ [] → pairs other ≢ [] → after ≡ other

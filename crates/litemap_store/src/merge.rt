@@ -1,16 +1,12 @@
 //! The body behind `extend_from_litemap`: one store's pairs are merged into another's.
-ghost use Rattle.std.specs.Prelude.{◌≡◌, ◌≢◌, ◌⊎◌, ◌↔◌, ◌+◌, ◌*◌, ◌<◌, ◌≤◌, ◌++◌, [], length, IsTrue, IsOk, IsNone, None, IfOk};
-ghost use Rattle.std.specs.Prelude.{IfErr, IfSome, OnOk, OnErr};
-ghost use Rattle.litemap_store.specs.Counts.{RisesByAtMost};
-ghost use Rattle.litemap_store.specs.Digits.{digits};
-ghost use Rattle.litemap_store.specs.Last.{Rises};
-ghost use Rattle.litemap_store.specs.Merge.{Apart, IsLeft, IsUndone, Merge, left};
+ghost use Rattle.std.specs.Prelude.{◌≡◌, ◌≢◌, ◌⊎◌, ◌↔◌, ◌+◌, ◌*◌, ◌<◌, ◌≤◌, ◌++◌, [], length, IsTrue, None, IfOk, IfErr, OnErr};
+ghost use Rattle.litemap_store.specs.Counts.{RisesByAtMost, digits};
+ghost use Rattle.litemap_store.specs.Merge.{Apart, IsLeft, IsUndone, Merges, MergesInto, searches_cost};
 ghost use Rattle.litemap_store.specs.Pairs.{Rising};
 ghost use Rattle.litemap_store.specs.Splits.{Splits};
 
 mod in_one_pass;
 mod one_by_one;
-mod peekable;
 mod side_by_side;
 
 use crate::bulk::lies_below;
@@ -35,24 +31,10 @@ pub fn extend_from_store<K: Ord + Drop, V: Drop, S: StoreIntoIterator<K, V> + Dr
 ) -> Result<Option<S>, NoRoom<S>>
     requires store { Rising K.cmp (S.pairs store.old) }
     requires other { Rising K.cmp (S.pairs other) }
-    ensures merged { OnOk result (Merge K.cmp (S.pairs store.old) (S.pairs other) (S.pairs store.new)) }
-    ensures none { IfOk result (λ rest. IsNone rest ↔ (left K.cmp (S.pairs store.old) (S.pairs other) ≡ [])) }
-    ensures left { IfOk result
-        (λ rest. IfSome rest (λ s. S.pairs s ≡ left K.cmp (S.pairs store.old) (S.pairs other))) }
-    ensures refused { OnErr result (S.pairs store.new ≡ S.pairs store.old) }
-    ensures back { IfErr result (λ refused. S.pairs refused.back ≡ S.pairs other) }
-    ensures succeeds { (S.pairs store.old ≡ []) ⊎ (S.pairs other ≡ []) → IsOk result }
-    ensures behind { Rises K.cmp (S.pairs store.old) (S.pairs other)
-        → length (S.pairs other) ≤ S.room store.old → IsOk result }
-    ensures in_front { Rises K.cmp (S.pairs other) (S.pairs store.old)
-        → length (S.pairs other) ≤ S.room store.old → length (S.pairs store.old) ≤ S.room other → IsOk result }
-    ensures unchanged { S.pairs other ≡ [] → store.new ≡ store.old }
-    ensures taken { S.pairs store.old ≡ [] → S.pairs other ≢ [] → store.new ≡ other }
+    ensures merged { MergesInto K.cmp S.pairs S.room other store.old store.new result }
     ensures uncounted { (S.pairs store.old ≡ []) ⊎ (S.pairs other ≡ []) → RisesByAtMost 0 count.old count.new }
     ensures apart { Apart K.cmp (S.pairs store.old) (S.pairs other) → RisesByAtMost 2 count.old count.new }
-    ensures cost { RisesByAtMost
-        (2 + length (S.pairs other) * digits (length (S.pairs store.old) + length (S.pairs other)))
-        count.old count.new }
+    ensures cost { RisesByAtMost (2 + searches_cost (S.pairs store.old) (S.pairs other)) count.old count.new }
 {
     if lies_below(store, &other, count) {
         return put_behind(store, other);
@@ -108,12 +90,8 @@ fn merge_mixed<K: Ord + Drop, V: Drop, S: StoreIntoIterator<K, V> + Drop>(
 ) -> Result<Option<S>, NoRoom<S>>
     requires store { Rising K.cmp (S.pairs store.old) }
     requires other { Rising K.cmp (S.pairs other) }
-    ensures merged { OnOk result (Merge K.cmp (S.pairs store.old) (S.pairs other) (S.pairs store.new)) }
-    ensures left { IfOk result (IsLeft S.pairs (left K.cmp (S.pairs store.old) (S.pairs other))) }
-    ensures refused { IfErr result (λ refused. IsUndone S.pairs store.old other store.new refused.back) }
-    ensures cost { RisesByAtMost
-        (length (S.pairs other) * digits (length (S.pairs store.old) + length (S.pairs other)))
-        count.old count.new }
+    ensures merges { Merges K.cmp S.pairs store.old other store.new result }
+    ensures cost { RisesByAtMost (searches_cost (S.pairs store.old) (S.pairs other)) count.old count.new }
 {
     let len = other.lm_len();
     let Some(total) = store.lm_len().checked_add(len) else {

@@ -1,4 +1,4 @@
-//! Pairs that go into a store which has room for them, or leave it from its end.
+//! Room that is taken first, pairs that go into a store which has it, and pairs that leave a store from its end.
 ghost use Rattle.std.specs.Prelude.{◌≡◌, ◌+◌, ◌<◌, ◌≤◌, ◌++◌, ◌∷◌, [], drop, length, reverse, take, vec_capacity, IfOk};
 
 use crate::into_iter::PairIntoIter;

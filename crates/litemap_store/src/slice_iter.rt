@@ -1,19 +1,18 @@
 //! The iterator over the pairs of a slice.
-ghost use Rattle.std.specs.Prelude.{◌≡◌, length, Some, IfSome, refl};
-ghost use Rattle.std.specs.Iterator.{at_most, UpTo};
-ghost use Rattle.std.specs.Iterator.SizeHint.{IsWithinCount};
+ghost use Rattle.std.specs.Prelude.{◌≡◌, length, Some, refl};
+ghost use Rattle.std.specs.Iterator.{at_most};
 ghost use Rattle.std.specs.Map.Iter.{TakesFirst, TakesLast, deref_pair};
+ghost use Rattle.litemap_store.specs.Hints.{HintsExactly};
 
 use crate::slice_search::Keys;
 use crate::store::PairIter;
-use std::fmt::{self, Debug, Formatter, Write};
 use std::iter::FusedIterator;
 use std::marker::Model;
 
 /// The pairs of a slice that are still to come. A contract sees their list.
 ///
 /// The Rust crate has std's `Map` over a slice's iterator here.
-#[derive(Drop)]
+#[derive(Debug, Drop)]
 pub struct SliceIter<'a, K, V> {
     rest: &'a [(K, V)],
 }
@@ -49,9 +48,7 @@ impl<'a, K, V> Iterator for SliceIter<'a, K, V> {
     }
 
     fn size_hint(&self) -> (usize, Option<usize>)
-        ensures lower { IsWithinCount result.0 (at_most (length self.now)) }
-        ensures upper { IfSome result.1 (UpTo (at_most (length self.now))) }
-        ensures exact { (result.0 ≡ length self.now) × (result.1 ≡ Some (length self.now)) }
+        ensures { HintsExactly (length self.now) result }
     {
         let len = self.len();
         (len, Some(len))
@@ -102,12 +99,5 @@ impl<'a, K, V> Keys<K, V> for SliceIter<'a, K, V> {
         let pairs = self.rest;
         let pair = &pairs[index];
         &pair.0
-    }
-}
-
-/// Printed with the pairs still to come. No text is promised.
-impl<K: Debug, V: Debug> Debug for SliceIter<'_, K, V> {
-    fn fmt<W: Write>(&self, f: &mut Formatter<W>) -> fmt::Result {
-        f.debug_tuple("SliceIter").field(&self.rest).finish()
     }
 }

@@ -1,7 +1,6 @@
 //! The search of the stores whose keys lie in slices, with no jump that hangs on an answer.
 ghost use Rattle.std.specs.Prelude.{◌≡◌, ◌<◌, IfOk, List, Some, length, slice_get, if◌then◌else◌};
-ghost use Rattle.litemap_store.specs.Counts.{RisesByAtMost};
-ghost use Rattle.litemap_store.specs.Digits.{digits};
+ghost use Rattle.litemap_store.specs.Counts.{RisesByAtMost, digits};
 ghost use Rattle.litemap_store.specs.Search.{CallableOnKeys, Found};
 
 use crate::count::Count;

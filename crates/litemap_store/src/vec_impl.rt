@@ -1,5 +1,5 @@
 //! A vector of pairs as a store. Its room is its capacity less its length.
-ghost use Rattle.std.specs.Prelude.{◌≡◌, ◌<◌, ◌≤◌, ◌-◌, vec_capacity, vec_len, length, remove, Some};
+ghost use Rattle.std.specs.Prelude.{◌≡◌, ◌<◌, ◌≤◌, vec_capacity, vec_len, length, Some};
 ghost use Rattle.litemap_store.specs.Retain.{CallableOnEach, Kept, KeptSoFar};
 ghost use Rattle.litemap_store.specs.VecStore.{vec_room, vec_with_value, vec_writes, vec_keeps_room};
 

@@ -4,8 +4,7 @@
 use Rattle.std.proofs.Common.{◌≡◌, ℕ, ◌+◌, ◌-◌, ◌/◌, ◌<◌, ◌≤◌, List, length, Ok, Err, refl, ◌∙◌, arith}
 use Rattle.std.specs.declared.cmp.Ordering.{Ordering}
 use Rattle.std.specs.declared.cmp.Ordering.TheVariants.{Less, Equal, Greater}
-use Rattle.litemap_store.specs.Counts.{RisesByAtMost}
-use Rattle.litemap_store.specs.Digits.{digits, digits-halved}
+use Rattle.litemap_store.specs.Counts.{RisesByAtMost, digits, digits-halved}
 use Rattle.litemap_store.specs.Search.{Ascends, Finds}
 use Rattle.litemap_store.specs.declared.count.Count.{Count}
 use Rattle.litemap_store.proofs.Search.Halving.{Narrowed, Narrowed-whole, Narrowed-less, Narrowed-greater, Finds-here, Finds-nowhere}

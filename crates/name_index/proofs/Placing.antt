@@ -4,8 +4,7 @@ use Rattle.std.proofs.Math.Seq.{take-length}
 use Rattle.std.proofs.lemmas.Bool.{cases_lt}
 use Rattle.std.proofs.lemmas.List.{drop_at, length-drop}
 use Rattle.std.proofs.lemmas.Option.{slice_get-get_or}
-use Rattle.litemap_store.specs.Counts.{RisesByAtMost}
-use Rattle.litemap_store.specs.Digits.{digits}
+use Rattle.litemap_store.specs.Counts.{RisesByAtMost, digits}
 use Rattle.litemap_store.specs.Splits.{Splits}
 use Rattle.litemap_store.specs.declared.count.Count.{Count}
 use Rattle.litemap_store.specs.Search.{Ascends, Finds}

@@ -1,8 +1,7 @@
 //! An index of names that was read once.
 ghost use Rattle.std.specs.Prelude.{◌≡◌, ◌==◌, ◌-◌, IfErr, IfOk, OnOk, length, slice_get, ⊤};
 ghost use Rattle.std.specs.Option.{option_copied, option_map};
-ghost use Rattle.litemap_store.specs.Counts.{RisesByAtMost};
-ghost use Rattle.litemap_store.specs.Digits.{digits};
+ghost use Rattle.litemap_store.specs.Counts.{RisesByAtMost, digits};
 ghost use Rattle.litemap_store.specs.Pairs.{index_of, value_at};
 ghost use Rattle.name_index.specs.Index.{NoIndex, OfIndex};
 ghost use Rattle.name_index.specs.Tables.{text_order};

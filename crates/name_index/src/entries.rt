@@ -1,14 +1,40 @@
-//! Entries whose keys rise, walked from the first on.
-ghost use Rattle.std.specs.Prelude.{◌≡◌, ◌+◌, ◌<◌, Some, slice_get};
+//! Entries that are known to be there, read one by one, and a map of them.
+ghost use Rattle.std.specs.Prelude.{◌≡◌, ◌+◌, ◌<◌, ◌∷◌, [], IfOk, OnErr, Some, length, map, slice_get};
 ghost use Rattle.litemap_store.specs.Counts.{RisesByAtMost};
-ghost use Rattle.litemap_store.specs.Pairs.{place};
-ghost use Rattle.name_index.specs.Entries.{AreEntries, IsScanned, OfEntries};
+ghost use Rattle.litemap_store.specs.Pairs.{Rising, place};
+ghost use Rattle.name_index.specs.Entries.{AreEntries, BeginsPair, BeginsText, IsScanned, OfEntries};
 ghost use Rattle.name_index.specs.Tables.{text_order};
+ghost use Rattle.name_table.specs.Parts.{Begins, pair_parts, text_parts};
 ghost use Rattle.name_table.specs.Remaining.{shown};
 
-use crate::valid::read_valid_pair;
+use crate::name_entries::NameEntries;
+use litemap::LiteMap;
 use litemap_store::store::Count;
+use name_table::NameMap;
+use name_table::parts::Cursor;
+use std::alloc::{AllocError, Global};
 use std::cmp::Ordering;
+
+/// The text that the bytes begin with, behind its length, and the bytes behind it.
+pub fn read_valid_text(bytes: &[u8]) -> (&str, &[u8])
+    requires { BeginsText bytes.now }
+    ensures { Begins bytes.now (text_parts result.0.now) result.1.now }
+{
+    match Cursor::new(bytes).text() {
+        Ok((text, behind)) => (text, behind.rest()),
+        Err(_) => unreachable!(),
+    }
+}
+
+/// The key and the value that the bytes begin with, and the bytes behind them.
+pub fn read_valid_pair(bytes: &[u8]) -> ((&str, &str), &[u8])
+    requires { BeginsPair bytes.now }
+    ensures { Begins bytes.now (pair_parts (shown result.0 ∷ [])) result.1.now }
+{
+    let (key, middle) = read_valid_text(bytes);
+    let (value, rest) = read_valid_text(middle);
+    ((key, value), rest)
+}
 
 /// The place of the key among so many entries, with its value, or else the place where it would go.
 pub fn scan<'a>(
@@ -46,4 +72,17 @@ pub fn entry_at<'a>(entries: &'a [u8], count: usize, index: usize) -> (&'a str, 
     }
     let (pair, _) = read_valid_pair(rest);
     pair
+}
+
+/// The map of entries whose keys rise. No keys are compared.
+pub fn map_of<'a>(alloc: Global, entries: NameEntries<'a>) -> Result<NameMap<'a>, AllocError>
+    requires { Rising text_order entries }
+    ensures pairs { IfOk result (λ made. map shown made.pairs ≡ entries.entry) }
+    ensures refused { OnErr result (0 < length entries.entry) }
+{
+    let mut pairs = Vec::with_capacity(alloc, entries.len())?;
+    for pair in entries {
+        pairs.push(pair)?;
+    }
+    Ok(LiteMap::from_sorted_store_unchecked(pairs))
 }

@@ -2,16 +2,15 @@
 ghost use Rattle.std.specs.Prelude.{◌≡◌, ◌==◌, ◌*◌, ◌<◌, IfErr, IfOk, OnErr, OnOk, Some, filter, length, map, slice_get};
 ghost use Rattle.std.specs.Prelude.{slice_range};
 ghost use Rattle.std.specs.Option.{option_copied, option_map};
-ghost use Rattle.litemap_store.specs.Counts.{RisesByAtMost};
-ghost use Rattle.litemap_store.specs.Digits.{digits};
+ghost use Rattle.litemap_store.specs.Counts.{RisesByAtMost, digits};
 ghost use Rattle.litemap_store.specs.Pairs.{index_of, place, sub, value_at};
 ghost use Rattle.name_index.specs.Placed.{IfTooFar, IsFar};
 ghost use Rattle.name_index.specs.Prefixes.{begins};
 ghost use Rattle.name_index.specs.Tables.{OfTable, text_order};
 ghost use Rattle.name_table.specs.Remaining.{shown};
 
+use crate::entries::map_of;
 use crate::fault::NameIndexFault;
-use crate::maps::map_of;
 use crate::name_entries::NameEntries;
 use crate::offsets::{entries_between, offsets_of, pair_of, search};
 use crate::prefixes::partition_point;

@@ -1,8 +1,7 @@
 //! Names looked up by the offsets that stand in front of them in the bytes.
 ghost use Rattle.std.specs.Prelude.{◌≡◌, ◌==◌, IfErr, IfOk, length, slice_get};
 ghost use Rattle.std.specs.Option.{option_copied, option_map};
-ghost use Rattle.litemap_store.specs.Counts.{RisesByAtMost};
-ghost use Rattle.litemap_store.specs.Digits.{digits};
+ghost use Rattle.litemap_store.specs.Counts.{RisesByAtMost, digits};
 ghost use Rattle.litemap_store.specs.Pairs.{index_of, value_at};
 ghost use Rattle.name_index.specs.Index.{HasOffsets, IfIndex, NoIndex};
 ghost use Rattle.name_index.specs.Tables.{text_order};

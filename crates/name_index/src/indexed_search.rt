@@ -1,7 +1,6 @@
 //! What is found among the entries of an index, and whether they are all there.
 ghost use Rattle.std.specs.Prelude.{◌-◌, ◌<◌, IfErr, IfOk, OnOk, ⊤};
-ghost use Rattle.litemap_store.specs.Counts.{RisesByAtMost};
-ghost use Rattle.litemap_store.specs.Digits.{digits};
+ghost use Rattle.litemap_store.specs.Counts.{RisesByAtMost, digits};
 ghost use Rattle.litemap_store.specs.Splits.{Splits};
 ghost use Rattle.name_index.specs.Index.{HasOffsets, IfIndex, NoIndex, OfIndex};
 ghost use Rattle.name_index.specs.Tables.{text_order};

@@ -12,13 +12,11 @@ mod index_write;
 mod indexed;
 mod indexed_search;
 pub mod laws;
-mod maps;
 mod name_entries;
 mod offsets;
 mod prefixes;
 mod rising;
 mod table;
-mod valid;
 
 pub use checked::CheckedNames;
 pub use fault::{IndexFault, NameIndexFault, NameTableFault};

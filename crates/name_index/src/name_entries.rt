@@ -1,13 +1,13 @@
 //! The iterator over the entries of a table.
-ghost use Rattle.std.specs.Prelude.{◌≡◌, length, Some, IfSome};
-ghost use Rattle.std.specs.Iterator.{at_most, UpTo};
-ghost use Rattle.std.specs.Iterator.SizeHint.{IsWithinCount};
+ghost use Rattle.std.specs.Prelude.{◌≡◌, length, Some};
+ghost use Rattle.std.specs.Iterator.{at_most};
 ghost use Rattle.std.specs.Map.Iter.{TakesFirst};
+ghost use Rattle.litemap_store.specs.Hints.{HintsExactly};
 ghost use Rattle.name_index.specs.Entries.{AreEntries, OfEntries};
 ghost use Rattle.name_index.specs.Left.{Left, Left-prop};
 ghost use Rattle.name_table.specs.Remaining.{shown};
 
-use crate::valid::read_valid_pair;
+use crate::entries::read_valid_pair;
 use std::iter::FusedIterator;
 use std::marker::Model;
 
@@ -61,9 +61,7 @@ impl<'a> Iterator for NameEntries<'a> {
     }
 
     fn size_hint(&self) -> (usize, Option<usize>)
-        ensures lower { IsWithinCount result.0 (at_most (length self.now)) }
-        ensures upper { IfSome result.1 (UpTo (at_most (length self.now))) }
-        ensures exact { (result.0 ≡ length self.now) × (result.1 ≡ Some (length self.now)) }
+        ensures { HintsExactly (length self.now) result }
     {
         let len = self.len();
         (len, Some(len))

@@ -1,8 +1,7 @@
 //! The offsets of entries, and what is found by them.
 ghost use Rattle.std.specs.Prelude.{◌≡◌, ◌+◌, ◌<◌, ◌≤◌, ◌∷◌, ◌++◌, [], IfErr, IfOk, OnErr, OnOk, Some, length, slice_get};
 ghost use Rattle.std.specs.Prelude.{slice_range};
-ghost use Rattle.litemap_store.specs.Counts.{RisesByAtMost};
-ghost use Rattle.litemap_store.specs.Digits.{digits};
+ghost use Rattle.litemap_store.specs.Counts.{RisesByAtMost, digits};
 ghost use Rattle.litemap_store.specs.Splits.{Splits};
 ghost use Rattle.name_index.specs.Entries.{AreEntries};
 ghost use Rattle.name_index.specs.Placed.{AreFar, ArePlaced, AsPlaced, IfTooFar, IsKeyAt};
@@ -11,9 +10,9 @@ ghost use Rattle.name_index.specs.declared.fault.NameIndexFault.TheVariants.{Too
 ghost use Rattle.name_table.specs.Numbers.{number_limit};
 ghost use Rattle.name_table.specs.Remaining.{shown};
 
+use crate::entries::{read_valid_pair, read_valid_text};
 use crate::fault::NameIndexFault;
 use crate::name_entries::NameEntries;
-use crate::valid::{read_valid_pair, read_valid_text};
 use litemap_store::store::Count;
 use std::alloc::{AllocError, Global};
 use std::cmp::Ordering;

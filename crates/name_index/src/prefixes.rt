@@ -1,8 +1,7 @@
 //! Where the names that begin with a text stand.
 ghost use Rattle.std.specs.Prelude.{◌≡◌, ◌+◌, length, take};
 ghost use Rattle.litemap.specs.Within.{IsCut};
-ghost use Rattle.litemap_store.specs.Counts.{RisesByAtMost};
-ghost use Rattle.litemap_store.specs.Digits.{digits};
+ghost use Rattle.litemap_store.specs.Counts.{RisesByAtMost, digits};
 ghost use Rattle.name_index.specs.Placed.{ArePlaced, AsPlaced};
 ghost use Rattle.name_index.specs.Prefixes.{leads_to};
 

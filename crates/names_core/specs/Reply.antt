@@ -2,7 +2,7 @@
 use Rattle.std.specs.Prelude.{◌≡◌, ℕ, List, [], ◌∷◌, map, String, string_bytes}
 use Rattle.std.specs.declared.alloc.Global.{Global}
 use Rattle.json.specs.Token.{Token, key, string}
-use Rattle.litemap.specs.Seen.{Seen}
+use Rattle.litemap_store.specs.Contents.{Contents}
 use Rattle.names_core.specs.Line.{IsBad}
 use Rattle.names_core.specs.Told.{Does, TextMap, bad_line}
 use Rattle.names_core.specs.declared.reply.Answer.{Answer}
@@ -13,7 +13,7 @@ abbrev pub pair_bytes : String Global × String Global → List ℕ × List ℕ
 pair_bytes pair = (string_bytes pair.0, string_bytes pair.1)
 
 -- the map, its keys and values by their bytes
-abbrev pub names_of : Seen (String Global) (String Global) → TextMap
+abbrev pub names_of : Contents (String Global) (String Global) → TextMap
 names_of seen = record { pairs = map pair_bytes seen.pairs; room = seen.room }
 
 -- the tokens that are written for a pair in a JSON object

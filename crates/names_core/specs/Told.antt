@@ -6,7 +6,7 @@ use Rattle.std.specs.Ordering.{nat_cmp}
 use Rattle.std.specs.declared.cmp.Ordering.{Ordering}
 use Rattle.std.specs.Cmp.Lexicographic.{slice_cmp}
 use Rattle.std.specs.Fmt.{decimal}
-use Rattle.litemap.specs.Seen.{Seen}
+use Rattle.litemap_store.specs.Contents.{Contents}
 use Rattle.litemap_store.specs.Pairs.{at, cut, index_of, put, value_at}
 use Rattle.json.specs.Print.{quoted}
 use Rattle.names_core.specs.Line.{IsBad, Spells, SpellsAll, SpellsJson, lines_of}
@@ -19,7 +19,7 @@ most_bytes = 1048576
 
 -- a map from texts to texts, which are ordered by their bytes
 abbrev pub TextMap : Type 0
-TextMap = Seen (List ℕ) (List ℕ)
+TextMap = Contents (List ℕ) (List ℕ)
 
 -- the order of texts by their bytes
 abbrev pub by_bytes : List ℕ → List ℕ → Ordering

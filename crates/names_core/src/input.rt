@@ -26,8 +26,7 @@ pub enum InputEnd {
     Fault,
 }
 
-/// Reads to the end of the input, or until there is more than a run takes. Room is made before each read, so that no byte
-/// is lost.
+/// Reads to the end of the input, or until there is more than a run takes. Room is made before each read: no byte is lost.
 pub fn read_input<R: Read>(reader: &mut Watch<R>, input: &mut Vec<u8>) -> InputEnd
     requires { input.old.items ≡ [] }
     ensures consumed { Consumes (R.remaining reader.old.inner) (R.remaining reader.new.inner) input.new.items }

@@ -141,8 +141,7 @@ fn push_pair<S: Store<String, String>>(
     write!(text, "{key} {value}\n")
 }
 
-// The map as JSON, on one line. It is written pair by pair: the tree of all pairs, which `to_json` makes, would take forty
-// times as long.
+// The map as JSON, on one line, written pair by pair: by the tree that `to_json` makes it would take forty times as long.
 fn json<S: Store<String, String>>(alloc: Global, names: &Names<S>) -> Result<String, AllocError>
     ensures { IfOk result (λ text. string_bytes text ≡ json_answer (names_of names.now).pairs) }
 {

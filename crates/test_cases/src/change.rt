@@ -21,8 +21,8 @@ pub(crate) fn examples(alloc: Global) -> [Shown; 16] {
         ("extend_with", extend_with(alloc)),
         ("keep_keys_of", keep_keys_of(alloc)),
         ("split_off", split_off(alloc)),
-        ("update", update(alloc)),
         ("get_mut", get_mut(alloc)),
+        ("update", update(alloc)),
     ]
 }
 
@@ -121,16 +121,16 @@ fn split_off(alloc: Global) -> Result<bool, Failed> {
     Ok(days.len() == 1 && later.as_slice() == [(3, "Wednesday"), (5, "Friday")].as_slice())
 }
 
-fn update(alloc: Global) -> Result<bool, Failed> {
-    let mut days = three_days(alloc)?;
-    days.update(|_number, name| *name = "open");
-    Ok(days.as_slice() == [(1, "open"), (3, "open"), (5, "open")].as_slice())
-}
-
 fn get_mut(alloc: Global) -> Result<bool, Failed> {
     let mut days = three_days(alloc)?;
     if let Some(name) = days.get_mut(&3) {
         *name = "Wed";
     }
     Ok(days.get(&3) == Some(&"Wed"))
+}
+
+fn update(alloc: Global) -> Result<bool, Failed> {
+    let mut days = three_days(alloc)?;
+    days.update(|_number, name| *name = "open");
+    Ok(days.as_slice() == [(1, "open"), (3, "open"), (5, "open")].as_slice())
 }

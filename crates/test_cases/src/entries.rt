@@ -7,10 +7,16 @@ use std::alloc::Global;
 /// How the examples came out, by their calls.
 pub(crate) fn examples(alloc: Global) -> [Shown; 3] {
     [
-        ("insert", insert(alloc)),
-        ("insert_of_vacant", insert_of_vacant(alloc)),
         ("and_modify", and_modify(alloc)),
+        ("insert", insert(alloc)),
+        ("insert_of_entry", insert_of_entry(alloc)),
     ]
+}
+
+fn and_modify(alloc: Global) -> Result<bool, Failed> {
+    let mut days = three_days(alloc)?;
+    let entry = days.entry(5).and_modify(|name| *name = "Fri");
+    Ok(*entry.or_insert("")? == "Fri")
 }
 
 fn insert(alloc: Global) -> Result<bool, Failed> {
@@ -21,16 +27,10 @@ fn insert(alloc: Global) -> Result<bool, Failed> {
     }
 }
 
-fn insert_of_vacant(alloc: Global) -> Result<bool, Failed> {
+fn insert_of_entry(alloc: Global) -> Result<bool, Failed> {
     let mut days = three_days(alloc)?;
     let Entry::Vacant(entry) = days.entry(4) else {
         return Ok(false);
     };
     Ok(*entry.key() == 4 && *entry.insert("Thursday")? == "Thursday")
-}
-
-fn and_modify(alloc: Global) -> Result<bool, Failed> {
-    let mut days = three_days(alloc)?;
-    let entry = days.entry(5).and_modify(|name| *name = "Fri");
-    Ok(*entry.or_insert("")? == "Fri")
 }

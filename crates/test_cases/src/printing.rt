@@ -20,8 +20,10 @@ pub(crate) fn prints<T: Debug>(alloc: Global, value: &T, text: &str) -> Result<b
 pub(crate) fn what_is_printed(alloc: Global) -> Result<bool, AllocError> {
     let mut pairs: LiteMap<u32, char, Vec<(u32, char)>> = LiteMap::from_iter(alloc, PAIRS)?;
     let columns: LiteMap<u32, char, ColumnStore<u32, char>> = LiteMap::from_iter(alloc, PAIRS)?;
-    let keys = "KeysIterWrap(SliceIter([(1, 'a'), (2, 'b')]))";
-    let values = "ValuesIterWrap(ColumnIter { keys: [1, 2], values: ['a', 'b'] })";
+    let keys =
+        "KeysIterWrap { iter: SliceIter { rest: [(1, 'a'), (2, 'b')] }, marker: PhantomData<_> }";
+    let values =
+        "ValuesIterWrap { iter: ColumnIter { keys: [1, 2], values: ['a', 'b'] }, marker: PhantomData<_> }";
     let occupied = "OccupiedEntry { key: 2, value: 'b' }";
     Ok(
         prints(alloc, &columns, "{1: 'a', 2: 'b'}")?
@@ -52,8 +54,9 @@ pub(crate) fn what_long_walks_print(alloc: Global) -> Result<bool, AllocError> {
         pairs.insert(key, 'a')?;
     }
     let all = format!(in alloc; "{:?}", pairs.as_slice())?;
-    let keys = format!(in alloc; "KeysIterWrap(SliceIter({all}))")?;
-    let values = format!(in alloc; "ValuesIterWrap(SliceIter({all}))")?;
+    let walk = format!(in alloc; "iter: SliceIter {{ rest: {all} }}, marker: PhantomData<_>")?;
+    let keys = format!(in alloc; "KeysIterWrap {{ {walk} }}")?;
+    let values = format!(in alloc; "ValuesIterWrap {{ {walk} }}")?;
     Ok(
         prints(alloc, &pairs.keys(), keys.as_str())?
             && prints(alloc, &pairs.values(), values.as_str())?,

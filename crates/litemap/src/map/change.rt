@@ -1,15 +1,13 @@
 //! Calls that change a map.
 ghost use Rattle.std.specs.Prelude.{◌≡◌, ◌↔◌, ◌+◌, ◌*◌, ◌≤◌, ◌<◌, [], ◌∷◌, ◌++◌, length, slice_get, remove, filter, Bool, Some};
-ghost use Rattle.std.specs.Prelude.{IsNone, IsSome, IsTrue, IsOk, None, Ok, IfOk, IfSome, OnOk, OnErr, true, false, is_some};
-ghost use Rattle.std.specs.Bool.{IsFalse};
+ghost use Rattle.std.specs.Prelude.{IsNone, IsSome, IsTrue, IsOk, None, Ok, IfOk, OnOk, OnErr, true, false};
 ghost use Rattle.std.specs.Fn.{FnOnceReturnsAt, FnOnceTakesAt};
-ghost use Rattle.litemap_store.specs.Counts.{RisesByAtMost};
-ghost use Rattle.litemap_store.specs.Digits.{digits};
+ghost use Rattle.litemap_store.specs.Counts.{RisesByAtMost, digits};
 ghost use Rattle.litemap_store.specs.Pairs.{AllBelow, at, cut, place, put, set_value, value_at, value_in};
 ghost use Rattle.litemap_store.specs.Retain.{CallableOnEach, Kept, Tests};
 ghost use Rattle.litemap_store.specs.Search.{CallableOnKeys};
 ghost use Rattle.litemap_store.specs.Splits.{IsMissingAt};
-ghost use Rattle.litemap.specs.Changes.{AddsIf, Inserts, RefusedFull};
+ghost use Rattle.litemap.specs.Changes.{AddsIf, Inserts, RefusedFull, Renames};
 ghost use Rattle.litemap.specs.FoundBy.{RemovesFound};
 ghost use Rattle.litemap.specs.Retained.{AnswersAt};
 ghost use Rattle.litemap.specs.TryFault.{FailsAs, IfClosure};
@@ -180,11 +178,7 @@ impl<K: Ord + Drop, V, S: StoreMut<K, V>> LiteMap<K, V, S> {
     pub fn rename<Q: Query<K>>(&mut self, key: Q, new_key: K) -> bool
     where
         V: Drop,
-        ensures there { result ≡ is_some (at Q.order self.old.pairs (Q.sought key)) }
-        ensures moved { IfSome (value_at Q.order self.old.pairs (Q.sought key)) (λ value.
-            self.new.pairs ≡ put K.cmp (cut Q.order self.old.pairs (Q.sought key)) new_key value) }
-        ensures unchanged { IsFalse result → self.new ≡ self.old }
-        ensures room { self.old.room ≤ self.new.room }
+        ensures renamed { Renames Q.order (Q.sought key) K.cmp new_key self.old self.new result }
     {
         self.rename_counted(key, new_key, &mut Count::new())
     }
@@ -193,11 +187,7 @@ impl<K: Ord + Drop, V, S: StoreMut<K, V>> LiteMap<K, V, S> {
     pub fn rename_counted<Q: Query<K>>(&mut self, key: Q, new_key: K, count: &mut Count) -> bool
     where
         V: Drop,
-        ensures there { result ≡ is_some (at Q.order self.old.pairs (Q.sought key)) }
-        ensures moved { IfSome (value_at Q.order self.old.pairs (Q.sought key)) (λ value.
-            self.new.pairs ≡ put K.cmp (cut Q.order self.old.pairs (Q.sought key)) new_key value) }
-        ensures unchanged { IsFalse result → self.new ≡ self.old }
-        ensures room { self.old.room ≤ self.new.room }
+        ensures renamed { Renames Q.order (Q.sought key) K.cmp new_key self.old self.new result }
         ensures cost { RisesByAtMost (2 * digits (length self.old.pairs)) count.old count.new }
     {
         let Some(value) = self.remove_counted(key, count) else {

@@ -2,12 +2,12 @@
 //!
 //! All room is taken first, and none for no pair: the empty map is never refused. A clone of a key has to compare `Equal` to it.
 //! The Rust crate boxes and lends any type that keys and values borrow as, and has no `to_keys_by`.
-ghost use Rattle.std.specs.Prelude.{◌≡◌, ◌<◌, ◌≤◌, ◌+◌, ◌++◌, ◌∷◌, [], length, IfOk, IsOk, OnOk};
+ghost use Rattle.std.specs.Prelude.{◌≡◌, ◌<◌, ◌≤◌, ◌+◌, ◌++◌, ◌∷◌, [], length, IsOk, OnOk};
 ghost use Rattle.std.specs.Fn.{FnReturnsAt};
 ghost use Rattle.litemap_store.specs.Last.{In};
 ghost use Rattle.litemap_store.specs.Pairs.{Rising};
 ghost use Rattle.litemap_store.specs.Clones.{ClonesCompareEqual};
-ghost use Rattle.litemap.specs.Conversions.{KeysKeepOrder, PairsBecame, TakesKeys};
+ghost use Rattle.litemap.specs.Conversions.{Converts, KeysKeepOrder, PairsBecame, TakesKeys};
 
 use super::becomes::{Answered, Becomes, Boxed, Cloned, Lent};
 use crate::LiteMap;
@@ -21,9 +21,7 @@ impl<K: Ord + Clone, V: Clone, S: Store<K, V>> LiteMap<K, V, S> {
         alloc: Global,
     ) -> Result<LiteMap<Box<K>, Box<V>, B>, AllocError>
         requires { ClonesCompareEqual K.cmp K.is_clone self.now.pairs }
-        ensures became { IfOk result (λ m. PairsBecame (λ k b. K.is_clone k b.value) (λ v b. V.is_clone v b.value)
-            self.now.pairs m.pairs) }
-        ensures succeeds { self.now.pairs ≡ [] → IsOk result }
+        ensures { Converts (λ k b. K.is_clone k b.value) (λ v b. V.is_clone v b.value) self.now.pairs result }
     {
         converted(&self.store, alloc, &Boxed, &Boxed)
     }
@@ -34,8 +32,7 @@ impl<K: Ord + Clone, V: Clone, S: Store<K, V>> LiteMap<K, V, S> {
         alloc: Global,
     ) -> Result<LiteMap<Box<K>, V, B>, AllocError>
         requires { ClonesCompareEqual K.cmp K.is_clone self.now.pairs }
-        ensures became { IfOk result (λ m. PairsBecame (λ k b. K.is_clone k b.value) V.is_clone self.now.pairs m.pairs) }
-        ensures succeeds { self.now.pairs ≡ [] → IsOk result }
+        ensures { Converts (λ k b. K.is_clone k b.value) V.is_clone self.now.pairs result }
     {
         converted(&self.store, alloc, &Boxed, &Cloned)
     }
@@ -46,8 +43,7 @@ impl<K: Ord + Clone, V: Clone, S: Store<K, V>> LiteMap<K, V, S> {
         alloc: Global,
     ) -> Result<LiteMap<K, Box<V>, B>, AllocError>
         requires { ClonesCompareEqual K.cmp K.is_clone self.now.pairs }
-        ensures became { IfOk result (λ m. PairsBecame K.is_clone (λ v b. V.is_clone v b.value) self.now.pairs m.pairs) }
-        ensures succeeds { self.now.pairs ≡ [] → IsOk result }
+        ensures { Converts K.is_clone (λ v b. V.is_clone v b.value) self.now.pairs result }
     {
         converted(&self.store, alloc, &Cloned, &Boxed)
     }
@@ -69,8 +65,7 @@ impl<K: Ord, V: Clone, S: Store<K, V>> LiteMap<K, V, S> {
     ) -> Result<LiteMap<L, V, B>, AllocError>
         requires callable { TakesKeys F.Fn f self.now.pairs }
         requires rising { KeysKeepOrder K.cmp L.cmp (FnReturnsAt F.Fn f) self.now.pairs }
-        ensures became { IfOk result (λ m. PairsBecame (FnReturnsAt F.Fn f) V.is_clone self.now.pairs m.pairs) }
-        ensures succeeds { self.now.pairs ≡ [] → IsOk result }
+        ensures { Converts (FnReturnsAt F.Fn f) V.is_clone self.now.pairs result }
     {
         keyed_by(&self.store, alloc, f)
     }
@@ -88,8 +83,7 @@ impl<'a, K: Ord + 'a, V: 'a, S: Store<K, V>> LiteMap<K, V, S> {
         &'a self,
         alloc: Global,
     ) -> Result<LiteMap<&'a K, &'a V, B>, AllocError>
-        ensures became { IfOk result (λ m. PairsBecame (λ k r. r.now ≡ k) (λ v r. r.now ≡ v) self.now.pairs m.pairs) }
-        ensures succeeds { self.now.pairs ≡ [] → IsOk result }
+        ensures { Converts (λ k r. r.now ≡ k) (λ v r. r.now ≡ v) self.now.pairs result }
     {
         converted(&self.store, alloc, &Lent, &Lent)
     }
@@ -101,8 +95,7 @@ impl<'a, K: Ord + 'a, V: 'a, S: Store<K, V>> LiteMap<K, V, S> {
     ) -> Result<LiteMap<&'a K, V, B>, AllocError>
     where
         V: Clone,
-        ensures became { IfOk result (λ m. PairsBecame (λ k r. r.now ≡ k) V.is_clone self.now.pairs m.pairs) }
-        ensures succeeds { self.now.pairs ≡ [] → IsOk result }
+        ensures { Converts (λ k r. r.now ≡ k) V.is_clone self.now.pairs result }
     {
         converted(&self.store, alloc, &Lent, &Cloned)
     }
@@ -115,8 +108,7 @@ impl<'a, K: Ord + 'a, V: 'a, S: Store<K, V>> LiteMap<K, V, S> {
     where
         K: Clone,
         requires { ClonesCompareEqual K.cmp K.is_clone self.now.pairs }
-        ensures became { IfOk result (λ m. PairsBecame K.is_clone (λ v r. r.now ≡ v) self.now.pairs m.pairs) }
-        ensures succeeds { self.now.pairs ≡ [] → IsOk result }
+        ensures { Converts K.is_clone (λ v r. r.now ≡ v) self.now.pairs result }
     {
         converted(&self.store, alloc, &Cloned, &Lent)
     }
@@ -138,8 +130,7 @@ where
     requires rises { Rising K.cmp (S.pairs store.now) }
     requires callable { TakesKeys F.Fn f (S.pairs store.now) }
     requires rising { KeysKeepOrder K.cmp L.cmp (FnReturnsAt F.Fn f) (S.pairs store.now) }
-    ensures became { IfOk result (λ m. PairsBecame (FnReturnsAt F.Fn f) V.is_clone (S.pairs store.now) m.pairs) }
-    ensures succeeds { S.pairs store.now ≡ [] → IsOk result }
+    ensures { Converts (FnReturnsAt F.Fn f) V.is_clone (S.pairs store.now) result }
 {
     converted(store, alloc, &Answered { f }, &Cloned)
 }
@@ -163,8 +154,7 @@ where
     requires keys { (p : _) → In p (S.pairs store.now) → X.takes keys.now p.0 }
     requires values { (p : _) → In p (S.pairs store.now) → Y.takes values.now p.1 }
     requires rising { KeysKeepOrder K.cmp L.cmp (X.became keys.now) (S.pairs store.now) }
-    ensures became { IfOk result (λ m. PairsBecame (X.became keys.now) (Y.became values.now) (S.pairs store.now) m.pairs) }
-    ensures succeeds { S.pairs store.now ≡ [] → IsOk result }
+    ensures { Converts (X.became keys.now) (Y.became values.now) (S.pairs store.now) result }
 {
     let mut made = B::lm_with_capacity(alloc, store.lm_len())?;
     push_all(store, alloc, &mut made, keys, values)?;

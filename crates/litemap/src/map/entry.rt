@@ -4,12 +4,10 @@
 ghost use Rattle.std.specs.Prelude.{◌<◌, length};
 ghost use Rattle.litemap_store.specs.Splits.{IsMissingAt};
 
-mod occupied;
-mod vacant;
-
 use crate::LiteMap;
 use litemap_store::store::{Count, NoRoom, Store, StoreMut};
 use std::fmt::{self, Debug, Formatter, Write};
+use std::mem;
 
 /// The entry of a key.
 #[derive(Drop)]
@@ -20,7 +18,7 @@ pub enum Entry<'a, K: Ord, V, S: Store<K, V>> {
     Vacant(VacantEntry<'a, K, V, S>),
 }
 
-/// The entry of a key that is there.
+/// The entry of a key that is there. No call on it takes memory, compares keys, or can be refused.
 #[derive(Drop)]
 pub struct OccupiedEntry<'a, K: Ord, V, S: Store<K, V>> {
     map: &'a mut LiteMap<K, V, S>,
@@ -40,8 +38,7 @@ pub struct VacantEntry<'a, K: Ord, V, S: Store<K, V>> {
 impl<K: Ord + Drop, V, S: StoreMut<K, V>> LiteMap<K, V, S> {
     ghost use Rattle.std.specs.Prelude.{◌≡◌, IsNone, IsSome, Some};
     ghost use Rattle.litemap_store.specs.Pairs.{at, cut, key_or, put, value_at};
-    ghost use Rattle.litemap.specs.Entries.{MatchEntry, entry_key, entry_map, entry_value, pairs_with};
-    ghost use Rattle.litemap.specs.Entries.{pairs_without};
+    ghost use Rattle.litemap.specs.Entries.{MatchEntry, entry_key, entry_map, entry_value, pairs_with, pairs_without};
 
     /// The entry of a key. Where an equal key is there, that key stays, and the new one is given up.
     ///
@@ -148,6 +145,108 @@ impl<'a, K: Ord, V, S: StoreMut<K, V>> Entry<'a, K, V, S> {
     }
 }
 
+impl<'a, K: Ord, V, S: StoreMut<K, V>> OccupiedEntry<'a, K, V, S> {
+    ghost use Rattle.std.specs.Prelude.{◌≡◌, Some};
+    ghost use Rattle.std.specs.Borrow.{sem};
+    ghost use Rattle.litemap.specs.Entries.{IntoLends, IsWritten, Occupied, OccupiedLends, entry_key, entry_map};
+    ghost use Rattle.litemap.specs.Entries.{entry_value, pairs_without, with_entry_value};
+
+    /// The key that is there, which need not be the one that was asked for.
+    pub fn key(&self) -> &K
+        ensures { entry_key (Occupied self.now) ≡ Some result.now }
+    {
+        self.map.get_indexed(self.index).unwrap().0
+    }
+
+    /// The value.
+    pub fn get(&self) -> &V
+        ensures { entry_value (Occupied self.now) ≡ Some result.now }
+    {
+        self.map.value_there(self.index)
+    }
+
+    /// The value, to be written.
+    pub fn get_mut(&mut self) -> &mut V
+        ensures* writes_back { sem 𝓛 (OccupiedLends K.row V.row S.row self.entry result) }
+        ensures value { entry_value (Occupied self.old) ≡ Some result.now }
+        ensures written { (v : V)
+            → IsWritten (Occupied self.old) v (Occupied (with_entry_value self.old v)) }
+    {
+        let index = self.index;
+        self.map.value_in_mut(index)
+    }
+
+    /// The value, to be written as long as the map is borrowed.
+    pub fn into_mut(self) -> &'a mut V
+        ensures* writes_back { sem 𝓛 (IntoLends K.row V.row S.row self.entry result) }
+        ensures value { entry_value (Occupied self.entry) ≡ Some result.now }
+    {
+        self.map.value_in_mut(self.index)
+    }
+
+    /// Replaces the value, and answers the old one. The key that is there stays.
+    ///
+    /// ```rust
+    /// // days: 1 Monday, 3 Wednesday, 5 Friday
+    /// match days.entry(1) {
+    ///     Entry::Occupied(mut entry) => Ok(entry.insert("Mon") == "Monday"),
+    ///     Entry::Vacant(_) => Ok(false),
+    /// }
+    /// ```
+    pub fn insert(&mut self, value: V) -> V
+        ensures old { entry_value (Occupied self.old) ≡ Some result }
+        ensures written { IsWritten (Occupied self.old) value (Occupied self.new) }
+    {
+        mem::replace(self.get_mut(), value)
+    }
+
+    /// Takes out the pair, and answers its value. Its key is given up. The pairs with greater keys move down by one, and there
+    /// is room for another pair then.
+    pub fn remove(self) -> V
+    where
+        K: Drop,
+        ensures value { entry_value (Occupied self.entry) ≡ Some result }
+        ensures removed { self.exit.0.now.pairs ≡ pairs_without (Occupied self.entry) }
+        ensures room { (entry_map (Occupied self.entry)).now.room < self.exit.0.now.room }
+    {
+        let index = self.index;
+        self.map.take_at(index).1
+    }
+}
+
+impl<'a, K: Ord, V, S: StoreMut<K, V>> VacantEntry<'a, K, V, S> {
+    ghost use Rattle.std.specs.Prelude.{◌≡◌, IfOk, Some};
+    ghost use Rattle.std.specs.Borrow.{sem};
+    ghost use Rattle.litemap.specs.Entries.{EntryLends, EntryRefused, Vacant, entry_key};
+
+    /// The key that was asked for.
+    pub fn key(&self) -> &K
+        ensures { entry_key (Vacant self.now) ≡ Some result.now }
+    {
+        &self.key
+    }
+
+    /// Places the key with a value, and answers the value, to be written. The pairs with greater keys move up by one; without
+    /// room key and value come back and the list stays.
+    ///
+    /// ```rust
+    /// // days: 1 Monday, 3 Wednesday, 5 Friday
+    /// let Entry::Vacant(entry) = days.entry(4) else {
+    ///     return Ok(false);
+    /// };
+    /// Ok(*entry.key() == 4 && *entry.insert("Thursday")? == "Thursday")
+    /// ```
+    pub fn insert(self, value: V) -> Result<&'a mut V, NoRoom<(K, V)>>
+        ensures* writes_back { sem 𝓛 (EntryLends K.row V.row S.row (Vacant self.entry) result) }
+        ensures value { IfOk result (λ slot. slot.now ≡ value) }
+        ensures refused { EntryRefused (Vacant self.entry) (λ v. v ≡ value) result }
+    {
+        let VacantEntry { map, key, index } = self;
+        map.insert_at(index, key, value)?;
+        Ok(map.value_in_mut(index))
+    }
+}
+
 /// Printed with its key and its value. No text is promised.
 impl<K: Ord + Debug, V: Debug, S: StoreMut<K, V>> Debug for Entry<'_, K, V, S> {
     fn fmt<W: Write>(&self, f: &mut Formatter<W>) -> fmt::Result {
@@ -155,5 +254,24 @@ impl<K: Ord + Debug, V: Debug, S: StoreMut<K, V>> Debug for Entry<'_, K, V, S> {
             Entry::Occupied(entry) => entry.fmt(f),
             Entry::Vacant(entry) => entry.fmt(f),
         }
+    }
+}
+
+/// Printed with its key and its value. No text is promised.
+impl<K: Ord + Debug, V: Debug, S: StoreMut<K, V>> Debug for OccupiedEntry<'_, K, V, S> {
+    fn fmt<W: Write>(&self, f: &mut Formatter<W>) -> fmt::Result {
+        f.debug_struct("OccupiedEntry")
+            .field("key", self.key())
+            .field("value", self.get())
+            .finish()
+    }
+}
+
+/// Printed with its key. No text is promised.
+impl<K: Ord + Debug, V, S: Store<K, V>> Debug for VacantEntry<'_, K, V, S> {
+    fn fmt<W: Write>(&self, f: &mut Formatter<W>) -> fmt::Result {
+        f.debug_struct("VacantEntry")
+            .field("key", &self.key)
+            .finish()
     }
 }

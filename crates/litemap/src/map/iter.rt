@@ -1,15 +1,13 @@
 //! What goes through the pairs, the keys or the values of a map. None of it takes memory.
 ghost use Rattle.std.specs.Prelude.{◌≡◌};
 
-mod keys;
+mod keys_values;
 mod range;
-mod values;
 
 use crate::LiteMap;
-pub use keys::KeysIterWrap;
+pub use keys_values::{KeysIterWrap, ValuesIterWrap};
 use litemap_store::store::{StoreIntoIterator, StoreIterable};
 pub use range::RangeIter;
-pub use values::ValuesIterWrap;
 
 impl<'a, K: Ord + 'a, V: 'a, S: StoreIterable<'a, K, V>> LiteMap<K, V, S> {
     /// All pairs once, in the order of their keys, from both ends, then `None` for good.

@@ -2,8 +2,7 @@
 ghost use Rattle.std.specs.Prelude.{◌≡◌, ◌==◌, ◌-◌, ◌<◌, IfOk, IsSome, Some, is_some, length, slice_get};
 ghost use Rattle.std.specs.Map.Iter.{deref_pair};
 ghost use Rattle.std.specs.Option.{option_copied, option_map};
-ghost use Rattle.litemap_store.specs.Counts.{RisesByAtMost};
-ghost use Rattle.litemap_store.specs.Digits.{digits};
+ghost use Rattle.litemap_store.specs.Counts.{RisesByAtMost, digits};
 ghost use Rattle.litemap_store.specs.Pairs.{Rising, at, index_of, value_at, value_in};
 ghost use Rattle.litemap_store.specs.Search.{CallableOnKeys, Found};
 ghost use Rattle.litemap_store.specs.Splits.{Splits};

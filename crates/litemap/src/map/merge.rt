@@ -1,14 +1,13 @@
 //! Merging maps.
 ghost use Rattle.std.specs.Prelude.{◌≡◌, ◌⊎◌, ◌+◌, ◌*◌, Some, [], length, OnOk};
 ghost use Rattle.std.specs.Option.{option_or};
-ghost use Rattle.litemap_store.specs.Counts.{RisesByAtMost};
-ghost use Rattle.litemap_store.specs.Digits.{digits};
+ghost use Rattle.litemap_store.specs.Counts.{RisesByAtMost, digits};
 ghost use Rattle.litemap_store.specs.Merge.{Apart};
 ghost use Rattle.litemap_store.specs.Pairs.{at, value_at};
 ghost use Rattle.litemap.specs.Changes.{IsMergedInto};
 ghost use Rattle.litemap.specs.Combined.{CallableOnCommon, CallableOnEachOf, Combined, Combines, IsCombinedInto, Settles};
 ghost use Rattle.litemap.specs.Combined.{TakesBoth, combined, found_with};
-ghost use Rattle.litemap.specs.Seen.{with_pairs};
+ghost use Rattle.litemap_store.specs.Contents.{with_pairs};
 
 use crate::LiteMap;
 use litemap_store::merge::extend_from_store;

@@ -1,11 +1,9 @@
 //! Calls for the keys that lie within two bounds. None takes memory.
-ghost use Rattle.std.specs.Prelude.{◌≡◌, ◌+◌, ◌*◌, ◌≤◌, Some, length};
+ghost use Rattle.std.specs.Prelude.{◌≡◌, ◌+◌, ◌*◌, Some, length};
 ghost use Rattle.std.specs.Ordering.{is_le, is_lt};
 ghost use Rattle.std.specs.Range.Bound.{bound_map};
-ghost use Rattle.litemap_store.specs.Counts.{RisesByAtMost};
-ghost use Rattle.litemap_store.specs.Digits.{digits};
-ghost use Rattle.litemap_store.specs.Pairs.{sub};
-ghost use Rattle.litemap.specs.Within.{IsCut, before, is_before, is_up_to, within};
+ghost use Rattle.litemap_store.specs.Counts.{RisesByAtMost, digits};
+ghost use Rattle.litemap.specs.Within.{ArePlaces, IsCut, before, is_before, is_up_to, within};
 
 use super::iter::RangeIter;
 use crate::LiteMap;
@@ -26,12 +24,7 @@ impl<K: Ord, V, S: Store<K, V>> LiteMap<K, V, S> {
     /// later == (1..3) && crossing == (2..2)
     /// ```
     pub fn places<Q: Query<K>>(&self, from: Bound<Q>, to: Bound<Q>) -> Range<usize>
-        ensures pairs { sub self.now.pairs result.start result.end ≡ Some (within Q.order self.now.pairs
-            (bound_map Q.sought from) (bound_map Q.sought to)) }
-        ensures start { result.start ≡ length (before Q.order self.now.pairs (bound_map Q.sought from)) }
-        ensures len { result.end ≡ result.start + length (within Q.order self.now.pairs
-            (bound_map Q.sought from) (bound_map Q.sought to)) }
-        ensures inside { result.end ≤ length self.now.pairs }
+        ensures places { ArePlaces Q.order self.now.pairs (bound_map Q.sought from) (bound_map Q.sought to) result }
     {
         self.places_counted(from, to, &mut Count::new())
     }
@@ -43,12 +36,7 @@ impl<K: Ord, V, S: Store<K, V>> LiteMap<K, V, S> {
         to: Bound<Q>,
         count: &mut Count,
     ) -> Range<usize>
-        ensures pairs { sub self.now.pairs result.start result.end ≡ Some (within Q.order self.now.pairs
-            (bound_map Q.sought from) (bound_map Q.sought to)) }
-        ensures start { result.start ≡ length (before Q.order self.now.pairs (bound_map Q.sought from)) }
-        ensures len { result.end ≡ result.start + length (within Q.order self.now.pairs
-            (bound_map Q.sought from) (bound_map Q.sought to)) }
-        ensures inside { result.end ≤ length self.now.pairs }
+        ensures places { ArePlaces Q.order self.now.pairs (bound_map Q.sought from) (bound_map Q.sought to) result }
         ensures cost { RisesByAtMost (2 * digits (length self.now.pairs)) count.old count.new }
     {
         let start = self.start_of(from, count);

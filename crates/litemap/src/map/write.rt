@@ -1,13 +1,15 @@
-//! Calls that lend a value of a map, to be written. None takes memory, and each keeps the room.
+//! Calls that lend a value of a map, to be written, and one that writes all. None takes memory, and each keeps the room.
 //!
 //! A reference that is lent starts at the value there, and the map ends with that one value replaced by what the
 //! reference holds at its end.
-ghost use Rattle.std.specs.Prelude.{◌≡◌, ◌<◌, length, ℕ, Ok, Err, Some, IfNone, IfSome, IsSome};
+ghost use Rattle.std.specs.Prelude.{◌≡◌, ◌<◌, length, map, ℕ, Ok, Err, Some, IfNone, IfSome, IsSome};
 ghost use Rattle.std.specs.Borrow.{sem};
+ghost use Rattle.std.specs.Map.{keys_of};
 ghost use Rattle.std.specs.Option.{option_copied_mut};
 ghost use Rattle.litemap_store.specs.Pairs.{at, value_at, value_in};
 ghost use Rattle.litemap_store.specs.Search.{CallableOnKeys, Found};
 ghost use Rattle.litemap.specs.Lends.{LendsThere, LendsFound, LendsKey, LendsPlace, LendsValue};
+ghost use Rattle.litemap.specs.Written.{CallableOnValues, TakesValue, Writes, WritesPair, Written};
 
 use crate::LiteMap;
 use litemap_store::Query;
@@ -88,4 +90,45 @@ impl<K: Ord, V, S: StoreMut<K, V>> LiteMap<K, V, S> {
     {
         self.store.lm_pair_mut(index).1
     }
+
+    /// Calls `f` once on each key and its value, in order: it may write the value (own). It stands in place of `iter_mut`.
+    ///
+    /// `f` has to take each pair as its earlier calls left it. Where it keeps no state and what it leaves hangs on the pair
+    /// alone, the list is that of the old pairs with the new values. It takes no memory, compares no keys, and moves no pair.
+    ///
+    /// ```rust
+    /// let mut days = three_days(alloc)?;
+    /// days.update(|_number, name| *name = "open");
+    /// Ok(days.as_slice() == [(1, "open"), (3, "open"), (5, "open")].as_slice())
+    /// ```
+    pub fn update<F: FnMut(&K, &mut V)>(&mut self, f: F)
+        requires { CallableOnValues F.FnMut f self.old.pairs }
+        ensures written { Written F.FnMut f self.old.pairs self.new.pairs }
+        ensures mapped { (write : K → V → V) → Writes F.FnMut f write
+            → self.new.pairs ≡ map (λ p. (p.0, write p.0 p.1)) self.old.pairs }
+        ensures keys { keys_of self.new.pairs ≡ keys_of self.old.pairs }
+        ensures room { self.new.room ≡ self.old.room }
+    {
+        write_each(&mut self.store, f);
+    }
+}
+
+// Calls `f` on each key and its value.
+fn write_each<K, V, S: StoreMut<K, V>, F: FnMut(&K, &mut V)>(store: &mut S, mut f: F)
+    requires { CallableOnValues F.FnMut f (S.pairs store.old) }
+    ensures written { Written F.FnMut f (S.pairs store.old) (S.pairs store.new) }
+    ensures room { S.room store.new ≡ S.room store.old }
+{
+    for index in 0..store.lm_len() {
+        let (key, value) = store.lm_pair_mut(index);
+        write(&mut f, key, value);
+    }
+}
+
+// Calls `f` on a key and its value.
+fn write<K, V, F: FnMut(&K, &mut V)>(f: &mut F, key: &K, value: &mut V)
+    requires { TakesValue F.FnMut f.old (key.now, value.old) }
+    ensures { WritesPair F.FnMut f.old (key.now, value.old) (key.now, value.new) f.new }
+{
+    f(key, value);
 }

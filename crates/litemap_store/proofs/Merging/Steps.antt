@@ -4,9 +4,8 @@ use Rattle.std.proofs.Common.{◌≡◌, suc, ◌+◌, ◌*◌, ◌≤◌, arith
 use Rattle.std.proofs.Math.Nat.{suc-mul, zero-mul}
 use Rattle.std.specs.Cmp.{IsTotalOrder}
 use Rattle.std.specs.List.{cons_option}
-use Rattle.litemap_store.specs.Counts.{RisesByAtMost}
+use Rattle.litemap_store.specs.Counts.{RisesByAtMost, digits, digits-mono}
 use Rattle.litemap_store.specs.declared.count.Count.{Count}
-use Rattle.litemap_store.specs.Digits.{digits, digits-mono}
 use Rattle.litemap_store.specs.Last.{NoneEqual}
 use Rattle.litemap_store.specs.Merge.{Merge, left}
 use Rattle.litemap_store.specs.Pairs.{Rising, at, put}

@@ -13,7 +13,7 @@ use Rattle.std.specs.Ordering.{is_eq, is_lt, ordering_index}
 use Rattle.std.specs.List.{AllWithin, Any, filter}
 use Rattle.std.proofs.lemmas.Bool.{cases_lt}
 use Rattle.std.proofs.lemmas.Option.{get_or_from_slice_get, slice_get_within}
-use Rattle.litemap_store.specs.Digits.{digits, digits-halved}
+use Rattle.litemap_store.specs.Counts.{digits, digits-halved}
 use Rattle.litemap_store.specs.Search.{Ascends, Callable, Finds, Shape}
 
 top : (o : Ordering) → 2 ≤ ordering_index o → o ≡ Greater

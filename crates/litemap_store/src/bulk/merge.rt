@@ -1,5 +1,5 @@
 //! One linear merge of pairs that rise into a store.
-ghost use Rattle.std.specs.Prelude.{◌≡◌, ◌+◌, ◌<◌, ◌≤◌, ◌++◌, ◌∷◌, [], reverse, OnOk, OnErr, length, Some, vec_capacity};
+ghost use Rattle.std.specs.Prelude.{◌≡◌, ◌+◌, ◌≤◌, ◌++◌, [], reverse, OnOk, OnErr, length, Some, vec_capacity};
 ghost use Rattle.litemap_store.specs.Counts.{RisesByAtMost};
 ghost use Rattle.litemap_store.specs.Last.{Last};
 ghost use Rattle.litemap_store.specs.Pairs.{Rising};

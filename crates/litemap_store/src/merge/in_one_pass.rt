@@ -1,10 +1,8 @@
 //! A merge in one pass, from the last pair of the other store down to the first.
-ghost use Rattle.std.specs.Prelude.{◌≡◌, ◌+◌, ◌*◌, ◌<◌, ◌≤◌, ◌++◌, ◌∷◌, [], drop, length, reverse, take};
-ghost use Rattle.std.specs.Prelude.{IfOk, IfErr, OnOk, option_map, vec_capacity};
+ghost use Rattle.std.specs.Prelude.{◌≡◌, ◌+◌, ◌<◌, ◌≤◌, ◌++◌, ◌∷◌, [], length, reverse, option_map, vec_capacity};
 ghost use Rattle.std.specs.List.{cons_option};
-ghost use Rattle.litemap_store.specs.Counts.{RisesByAtMost};
-ghost use Rattle.litemap_store.specs.Digits.{digits};
-ghost use Rattle.litemap_store.specs.Merge.{IsLeft, IsUndone, Merge, left};
+ghost use Rattle.litemap_store.specs.Counts.{RisesByAtMost, digits};
+ghost use Rattle.litemap_store.specs.Merge.{Merge, Merges, left, searches_cost};
 ghost use Rattle.litemap_store.specs.Pairs.{Rising, above, at, below, key_or};
 
 use crate::merge::{search, unless_empty};
@@ -26,12 +24,8 @@ pub fn merge_in_one_pass<K: Ord + Drop, V: Drop, S: StoreMut<K, V> + Drop>(
     requires store { Rising K.cmp (S.pairs store.old) }
     requires other { Rising K.cmp (S.pairs other) }
     requires total { total ≡ length (S.pairs store.old) + length (S.pairs other) }
-    ensures merged { OnOk result (Merge K.cmp (S.pairs store.old) (S.pairs other) (S.pairs store.new)) }
-    ensures left { IfOk result (IsLeft S.pairs (left K.cmp (S.pairs store.old) (S.pairs other))) }
-    ensures refused { IfErr result (λ refused. IsUndone S.pairs store.old other store.new refused.back) }
-    ensures cost { RisesByAtMost
-        (length (S.pairs other) * digits (length (S.pairs store.old) + length (S.pairs other)))
-        count.old count.new }
+    ensures merges { Merges K.cmp S.pairs store.old other store.new result }
+    ensures cost { RisesByAtMost (searches_cost (S.pairs store.old) (S.pairs other)) count.old count.new }
 {
     let Ok((mut side, mut fresh)) = room_for(alloc, total) else {
         return Err(NoRoom { back: other });
@@ -64,9 +58,7 @@ fn take_aside<K: Ord + Drop, V: Drop, S: StoreMut<K, V> + Drop>(
     ensures left { reverse driven_out.new.items ≡ left K.cmp (S.pairs store.old) (S.pairs other) }
     ensures side_len { length side.new.items ≤ length (S.pairs store.old) + length (S.pairs other) }
     ensures driven_out_len { length driven_out.new.items ≤ length (S.pairs other) }
-    ensures cost { RisesByAtMost
-        (length (S.pairs other) * digits (length (S.pairs store.old) + length (S.pairs other)))
-        count.old count.new }
+    ensures cost { RisesByAtMost (searches_cost (S.pairs store.old) (S.pairs other)) count.old count.new }
 {
     while !other.lm_is_empty() {
         let (key, value) = take_last(&mut other);

@@ -1,9 +1,8 @@
 //! A merge that puts the pairs in one by one, each by one search.
-ghost use Rattle.std.specs.Prelude.{◌≡◌, ◌+◌, ◌*◌, ◌<◌, ◌≤◌, ◌++◌, [], length, IfOk, IfErr, OnOk, option_map};
+ghost use Rattle.std.specs.Prelude.{◌≡◌, ◌+◌, ◌<◌, ◌≤◌, ◌++◌, [], length, option_map};
 ghost use Rattle.std.specs.List.{cons_option};
-ghost use Rattle.litemap_store.specs.Counts.{RisesByAtMost};
-ghost use Rattle.litemap_store.specs.Digits.{digits};
-ghost use Rattle.litemap_store.specs.Merge.{IsLeft, IsUndone, Merge, left};
+ghost use Rattle.litemap_store.specs.Counts.{RisesByAtMost, digits};
+ghost use Rattle.litemap_store.specs.Merge.{Merge, Merges, left, searches_cost};
 ghost use Rattle.litemap_store.specs.Pairs.{Rising, at, put};
 
 use crate::merge::{search, unless_empty};
@@ -23,12 +22,8 @@ pub fn merge_each<K: Ord + Drop, V: Drop, S: StoreIntoIterator<K, V> + Drop>(
 ) -> Result<Option<S>, NoRoom<S>>
     requires store { Rising K.cmp (S.pairs store.old) }
     requires other { Rising K.cmp (S.pairs other) }
-    ensures merged { OnOk result (Merge K.cmp (S.pairs store.old) (S.pairs other) (S.pairs store.new)) }
-    ensures left { IfOk result (IsLeft S.pairs (left K.cmp (S.pairs store.old) (S.pairs other))) }
-    ensures refused { IfErr result (λ refused. IsUndone S.pairs store.old other store.new refused.back) }
-    ensures cost { RisesByAtMost
-        (length (S.pairs other) * digits (length (S.pairs store.old) + length (S.pairs other)))
-        count.old count.new }
+    ensures merges { Merges K.cmp S.pairs store.old other store.new result }
+    ensures cost { RisesByAtMost (searches_cost (S.pairs store.old) (S.pairs other)) count.old count.new }
 {
     let len = other.lm_len();
     let Ok(()) = store.lm_reserve(len) else {
@@ -55,9 +50,7 @@ fn put_each<K: Ord + Drop, V: Drop, S: StoreIntoIterator<K, V>>(
     requires rest_room { length (S.pairs other) ≤ S.room rest.old }
     ensures merged { Merge K.cmp (S.pairs store.old) (S.pairs other) (S.pairs store.new) }
     ensures left { S.pairs rest.new ≡ left K.cmp (S.pairs store.old) (S.pairs other) }
-    ensures cost { RisesByAtMost
-        (length (S.pairs other) * digits (length (S.pairs store.old) + length (S.pairs other)))
-        count.old count.new }
+    ensures cost { RisesByAtMost (searches_cost (S.pairs store.old) (S.pairs other)) count.old count.new }
 {
     for (key, value) in other.lm_into_iter() {
         let driven_out = put_in(store, key, value, count);

@@ -1,17 +1,19 @@
 //! A merge that walks both stores once, side by side.
-ghost use Rattle.std.specs.Prelude.{◌≡◌, ◌+◌, ◌≤◌, [], length, IfOk, IfErr, OnOk, Some};
+ghost use Rattle.std.specs.Prelude.{◌≡◌, ◌+◌, ◌<◌, ◌≤◌, [], ◌∷◌, length, slice_get, Some};
+ghost use Rattle.std.specs.Map.Iter.{deref_pair};
+ghost use Rattle.std.specs.Option.{option_map};
 ghost use Rattle.litemap_store.specs.Counts.{RisesByAtMost};
-ghost use Rattle.litemap_store.specs.Merge.{IsLeft, IsUndone, Merge, left};
+ghost use Rattle.litemap_store.specs.Merge.{Merge, Merges, left};
 ghost use Rattle.litemap_store.specs.Pairs.{Rising};
 ghost use Rattle.litemap_store.specs.Walked.{IsLowerFirst, IsTakenFirst};
 
 use crate::into_iter::PairIntoIter;
-use crate::merge::peekable::Peekable;
 use crate::merge::unless_empty;
 use crate::reserved::push_reserved;
 use crate::store::{Count, NoRoom, Store, StoreIntoIterator, StoreMut};
 use std::alloc::Global;
 use std::cmp::Ordering;
+use std::marker::Model;
 use std::mem;
 
 /// Merges a store's pairs into another's, by at most one comparison for each pair of both, and answers what is left over.
@@ -28,9 +30,7 @@ pub fn merge_side_by_side<K: Ord + Drop, V: Drop, S: StoreIntoIterator<K, V> + D
     requires store { Rising K.cmp (S.pairs store.old) }
     requires other { Rising K.cmp (S.pairs other) }
     requires total { total ≡ length (S.pairs store.old) + length (S.pairs other) }
-    ensures merged { OnOk result (Merge K.cmp (S.pairs store.old) (S.pairs other) (S.pairs store.new)) }
-    ensures left { IfOk result (IsLeft S.pairs (left K.cmp (S.pairs store.old) (S.pairs other))) }
-    ensures refused { IfErr result (λ refused. IsUndone S.pairs store.old other store.new refused.back) }
+    ensures merges { Merges K.cmp S.pairs store.old other store.new result }
     ensures cost { RisesByAtMost total count.old count.new }
 {
     let Ok(fresh) = S::lm_with_capacity(alloc, total) else {
@@ -117,5 +117,53 @@ fn take_lower<K: Ord + Drop, V: Drop, S: StoreMut<K, V>, I: PairIntoIter<K, V>>(
             push_reserved(rest, key, old);
             (stored, value)
         }
+    }
+}
+
+// The pairs that an iterator has still to hand over, of which the first can be looked at. A contract sees their list.
+#[derive(Drop)]
+struct Peekable<K, V, I: PairIntoIter<K, V>> {
+    first: Option<(K, V)>,
+    others: I,
+}
+
+impl<K, V, I: PairIntoIter<K, V>> Model for Peekable<K, V, I> {
+    ghost use Rattle.std.specs.Prelude.{◌≡◌, List, [], IfNone};
+    ghost use Rattle.std.specs.List.{cons_option};
+
+    ghost Value = { List (K × V) };
+
+    ghost view = { λ c. cons_option c.first (I.owned c.others) };
+
+    ghost invariant = { λ c. IfNone c.first (I.owned c.others ≡ []) };
+}
+
+impl<K, V, I: PairIntoIter<K, V>> Peekable<K, V, I> {
+    // All pairs of an iterator.
+    fn new(mut pairs: I) -> Self
+        ensures { result ≡ I.owned pairs }
+    {
+        let first = pairs.next();
+        Peekable {
+            first,
+            others: pairs,
+        }
+    }
+
+    // The first pair, if there is one.
+    fn peek(&self) -> Option<(&K, &V)>
+        ensures { option_map deref_pair result ≡ slice_get self.now 0 }
+    {
+        let (key, value) = self.first.as_ref()?;
+        Some((key, value))
+    }
+
+    // Takes the first pair.
+    fn take_first(&mut self) -> (K, V)
+        requires { 0 < length self.old }
+        ensures { self.old ≡ result ∷ self.new }
+    {
+        let next = self.others.next();
+        mem::replace(&mut self.first, next).unwrap()
     }
 }

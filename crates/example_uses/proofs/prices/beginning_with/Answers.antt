@@ -13,7 +13,7 @@ returns c =
       | else-loop-end-test w ↦ no_more text L c.loop-end.end (omega (arith, w.loop-end-test.false, c.len-len.ensures.len))
     ] in
     let loop = c.loop-end.invariant in
-    let all = sub-begins text L c.places-first.result.start c.loop-end.end c.len-len.ensures.rising c.places-first.ensures.start loop.0 (omega (arith, loop.1, c.len-len.ensures.len)) loop.2 ends in
+    let all = sub-begins text L c.places-first.result.start c.loop-end.end c.len-len.ensures.rising c.places-first.ensures.places.start loop.0 (omega (arith, loop.1, c.len-len.ensures.len)) loop.2 ends in
     let found : Some c.in-Some.part.pairs ≡ Some (filter (λ p. begins p.0 text) L) =
     ap (option_map (λ m. m.pairs)) (sym c.in-Some.is) ∙ c.get_indexed_range.ensures ∙ all in
     cc

@@ -1,9 +1,9 @@
 //! The pairs between two places of a store of any kind, from both ends.
-ghost use Rattle.std.specs.Prelude.{◌≡◌, ◌≤◌, Some, IfSome, length, slice_get};
-ghost use Rattle.std.specs.Iterator.{at_most, UpTo};
-ghost use Rattle.std.specs.Iterator.SizeHint.{IsWithinCount};
+ghost use Rattle.std.specs.Prelude.{◌≡◌, ◌≤◌, Some, length, slice_get};
+ghost use Rattle.std.specs.Iterator.{at_most};
 ghost use Rattle.std.specs.Map.Iter.{TakesFirst, TakesLast, deref_pair};
 ghost use Rattle.std.specs.Option.{option_map};
+ghost use Rattle.litemap_store.specs.Hints.{HintsExactly};
 ghost use Rattle.litemap_store.specs.Pairs.{sub};
 
 use litemap_store::store::Store;
@@ -82,9 +82,7 @@ impl<'a, K: 'a, V: 'a, S: Store<K, V>> Iterator for RangeIter<'a, K, V, S> {
     }
 
     fn size_hint(&self) -> (usize, Option<usize>)
-        ensures lower { IsWithinCount result.0 (at_most (length self.now)) }
-        ensures upper { IfSome result.1 (UpTo (at_most (length self.now))) }
-        ensures exact { (result.0 ≡ length self.now) × (result.1 ≡ Some (length self.now)) }
+        ensures { HintsExactly (length self.now) result }
     {
         let len = self.len();
         (len, Some(len))

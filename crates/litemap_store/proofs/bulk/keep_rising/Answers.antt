@@ -1,13 +1,11 @@
-use Rattle.std.proofs.Common.{◌≡◌, ℕ, ◌+◌, ◌-◌, List, ◌++◌, ap, length, take, drop, append_assoc, arith, length-drop, subst, sym, vec_len, ◌∙◌}
-use mathlib.Core.Bool.{true≢false}
+use Rattle.std.proofs.Common.{◌≡◌, ℕ, ◌+◌, ◌-◌, List, ◌++◌, ap, length, take, drop, append_assoc, arith, length-drop, subst, ◌∙◌}
 use Rattle.std.proofs.Math.Seq.{drop-append_seam, take-append-add, take-append_seam}
 use Rattle.std.proofs.lemmas.List.{take_all, take_at}
 use Rattle.std.proofs.lemmas.Grind.{common_steps}
-use Rattle.litemap_store.specs.Counts.{RisesByAtMost}
 use Rattle.litemap_store.proofs.Last.Pairs.{Last-rising}
 use Rattle.litemap_store.proofs.bulk.keep_rising.Given.{Over}
 use Rattle.litemap_store.proofs.bulk.keep_rising.Goals as goal
-use Rattle.litemap_store.proofs.bulk.keep_rising.Goals.{After-is_rising, After-sort_last, After-truncate}
+use Rattle.litemap_store.proofs.bulk.keep_rising.Goals.{After-sort_last, After-truncate}
 
 pub returns-then-is_rising-clause-last : goal.returns-then-is_rising-clause-last
 returns-then-is_rising-clause-last g c =
@@ -42,23 +40,3 @@ returns-clause-last g c =
     let A = take c.args.from c.deref_mut.result.now in let len = lengths g (goal.at.returns-clause-last g c).After-sort_last in
     rw (kept g c len, subst (λ n. drop n (A ++ take c.in_ok-kept.kept c.sort_last.new.pairs) ≡ take c.in_ok-kept.kept c.sort_last.new.pairs) len.0 (drop-append_seam A _))
     (rw (c.deref_mut.ensures.value, take_all (length c.args.pairs.now.items - c.args.from) (drop c.args.from c.args.pairs.now.items) (grind (arith, length-drop))) at c.in_ok-kept.ensures.last)
-
-pub returns-clause-same : goal.returns-clause-same
-returns-clause-same g c = λ r. absurd (true≢false (sym (c.is_rising.ensures.rising.1 (rw (c.split_at.ensures.back, c.deref.ensures.value) r)) ∙ c.if-is_rising.false))
-
-pub returns-in_err-kept-clause-same : goal.returns-in_err-kept-clause-same
-returns-in_err-kept-clause-same g c = λ r. absurd (true≢false (sym (c.is_rising.ensures.rising.1 (rw (c.split_at.ensures.back, c.deref.ensures.value) r)) ∙ c.if-is_rising.false))
-
-cost : (g : Over) (c : After-is_rising g) → RisesByAtMost (vec_len c.args.pairs.now - c.args.from - 1) c.args.count.now c.is_rising.new.count
-cost g c =
-    let given : length c.split_at.result.1.now ≡ vec_len c.args.pairs.now - c.args.from = ap length c.split_at.ensures.back ∙ length-drop c.args.from c.deref.result.now ∙ ap (λ n. n - c.args.from) c.deref.ensures.len in
-    subst (λ n. RisesByAtMost (n - 1) c.args.count.now c.is_rising.new.count) given c.is_rising.ensures.cost
-
-pub returns-clause-cost : goal.returns-clause-cost
-returns-clause-cost g c = cost g (goal.at.returns-clause-cost g c).After-is_rising
-
-pub returns-in_err-kept-clause-cost : goal.returns-in_err-kept-clause-cost
-returns-in_err-kept-clause-cost g c = cost g (goal.at.returns-in_err-kept-clause-cost g c).After-is_rising
-
-pub returns-then-is_rising-clause-cost : goal.returns-then-is_rising-clause-cost
-returns-then-is_rising-clause-cost g c = cost g (goal.at.returns-then-is_rising-clause-cost g c).After-is_rising

@@ -22,12 +22,6 @@ both_ends g c =
     let given = c.args.pairs.now in let kept = c.keep_rising.new.pairs in
     in_turn (vec_len given - 0 - 1) (min 1 (length kept.items)) (length given.items) (omega (arith, given.ok.0, kept.ok.0, c.keep_rising.ensures.shorter.1)) c.keep_rising.ensures.cost c.lies_below.ensures.cost
 
-pub returns-in_err-lm_reserve-clause-behind : goal.returns-in_err-lm_reserve-clause-behind
-returns-in_err-lm_reserve-clause-behind g c = λ h. both_ends g (goal.at.returns-in_err-lm_reserve-clause-behind g c).After-lies_below
-
-pub returns-in_err-lm_reserve-clause-cost : goal.returns-in_err-lm_reserve-clause-cost
-returns-in_err-lm_reserve-clause-cost g c = at_most (length c.args.pairs.now.items) _ (omega arith) (both_ends g (goal.at.returns-in_err-lm_reserve-clause-cost g c).After-lies_below)
-
 pub returns-then-lies_below : goal.returns-then-lies_below
 returns-then-lies_below g c =
     let all : g.S.Store.pairs c.append_each.new.store ≡ g.S.Store.pairs c.args.store.now ++ c.keep_rising.new.pairs.items = cc in

@@ -1,7 +1,7 @@
 use Rattle.std.proofs.Common.{◌≡◌, ℕ, zero, suc, ◌+◌, ◌/◌, ◌<◌, ◌^◌, arith}
 use Rattle.std.proofs.Math.Nat.{pow-suc}
 use lib.Count.{count_leading_zeros}
-use Rattle.litemap_store.specs.Digits.{digits, digits-step, digits-zero}
+use Rattle.litemap_store.specs.Counts.{digits, digits-step, digits-zero}
 use Rattle.litemap_store.proofs.merge.binary_digits.Goals as goal
 
 leading_digits : (k n : ℕ) → n < 2 ^ k → count_leading_zeros k n + digits n ≡ k

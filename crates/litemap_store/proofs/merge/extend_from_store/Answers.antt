@@ -35,16 +35,18 @@ pub returns-then-lies_below : goal.returns-then-lies_below
 returns-then-lies_below g c =
     let up = c.lies_below.ensures.below.0 c.if-lies_below.true in
     record {
-      merged = IfOk-weaker c.put_behind.result _ _ (λ rest e. rw e.1 (Merge-behind g.K.Ord.cmp g.met.K.Ord.total _ _ c.requires.store c.requires.other up)) c.put_behind.ensures.joined;
-      none = IfOk-weaker c.put_behind.result _ _ (λ rest e. (λ _. left-behind g.K.Ord.cmp g.met.K.Ord.total _ _ c.requires.store c.requires.other up, λ _. rw e.0 refl)) c.put_behind.ensures.joined;
-      left = IfOk-weaker c.put_behind.result _ _ (λ rest e. rw e.0 tt) c.put_behind.ensures.joined;
-      refused = IfErr-weaker c.put_behind.result _ _ (λ e undone. undone.0) c.put_behind.ensures.refused;
-      back = IfErr-weaker c.put_behind.result _ _ (λ e undone. undone.1) c.put_behind.ensures.refused;
-      succeeds = λ e. not_refused c.put_behind.result c.put_behind.ensures.full (no_reason e);
-      behind = λ h r. not_refused c.put_behind.result c.put_behind.ensures.full (λ f. let full = f.1 in omega arith);
-      in_front = λ h r s. not_refused c.put_behind.result c.put_behind.ensures.full (λ f. let full = f.1 in omega arith);
-      unchanged = c.put_behind.ensures.unchanged;
-      taken = c.put_behind.ensures.taken;
+      merged = record {
+        merge = IfOk-weaker c.put_behind.result _ _ (λ rest e. rw e.1 (Merge-behind g.K.Ord.cmp g.met.K.Ord.total _ _ c.requires.store c.requires.other up)) c.put_behind.ensures.joined;
+        none = IfOk-weaker c.put_behind.result _ _ (λ rest e. (λ _. left-behind g.K.Ord.cmp g.met.K.Ord.total _ _ c.requires.store c.requires.other up, λ _. rw e.0 refl)) c.put_behind.ensures.joined;
+        left = IfOk-weaker c.put_behind.result _ _ (λ rest e. rw e.0 tt) c.put_behind.ensures.joined;
+        refused = IfErr-weaker c.put_behind.result _ _ (λ e undone. undone.0) c.put_behind.ensures.refused;
+        back = IfErr-weaker c.put_behind.result _ _ (λ e undone. undone.1) c.put_behind.ensures.refused;
+        succeeds = λ e. not_refused c.put_behind.result c.put_behind.ensures.full (no_reason e);
+        behind = λ h r. not_refused c.put_behind.result c.put_behind.ensures.full (λ f. let full = f.1 in omega arith);
+        in_front = λ h r s. not_refused c.put_behind.result c.put_behind.ensures.full (λ f. let full = f.1 in omega arith);
+        unchanged = c.put_behind.ensures.unchanged;
+        taken = c.put_behind.ensures.taken;
+      };
       uncounted = c.lies_below.ensures.uncounted;
       apart = λ apart. at_most (min 1 _) 2 (omega arith) c.lies_below.ensures.cost;
       cost = at_most (min 1 _) _ (omega arith) c.lies_below.ensures.cost;
@@ -55,16 +57,18 @@ returns-then-lies_below-2 g c =
     let up = c.lies_below-2.ensures.below.0 c.if-lies_below-2.true in
     let some = one_empty g.K.Ord.cmp g.met.K.Ord.total _ _ c.requires.store c.requires.other (denied _ c.lies_below.ensures.below.1 c.if-lies_below.false) in
     record {
-      merged = IfOk-weaker c.put_in_front.result _ _ (λ rest e. rw e.1 (Merge-before g.K.Ord.cmp g.met.K.Ord.total _ _ c.requires.store c.requires.other up)) c.put_in_front.ensures.joined;
-      none = IfOk-weaker c.put_in_front.result _ _ (λ rest e. (λ _. left-before g.K.Ord.cmp g.met.K.Ord.total _ _ c.requires.store c.requires.other up, λ _. rw e.0 refl)) c.put_in_front.ensures.joined;
-      left = IfOk-weaker c.put_in_front.result _ _ (λ rest e. rw e.0 tt) c.put_in_front.ensures.joined;
-      refused = IfErr-weaker c.put_in_front.result _ _ (λ e undone. undone.0) c.put_in_front.ensures.refused;
-      back = IfErr-weaker c.put_in_front.result _ _ (λ e undone. undone.1) c.put_in_front.ensures.refused;
-      succeeds = λ e. absurd (some e);
-      behind = λ h r. absurd (not_above g.K.Ord.cmp _ _ _ c.requires.store c.lies_below.ensures.below.1 c.if-lies_below.false h);
-      in_front = λ h r s. not_refused c.put_in_front.result c.put_in_front.ensures.full (there_is_room r s);
-      unchanged = λ e. absurd (some (inr e));
-      taken = λ e n. absurd (some (inl e));
+      merged = record {
+        merge = IfOk-weaker c.put_in_front.result _ _ (λ rest e. rw e.1 (Merge-before g.K.Ord.cmp g.met.K.Ord.total _ _ c.requires.store c.requires.other up)) c.put_in_front.ensures.joined;
+        none = IfOk-weaker c.put_in_front.result _ _ (λ rest e. (λ _. left-before g.K.Ord.cmp g.met.K.Ord.total _ _ c.requires.store c.requires.other up, λ _. rw e.0 refl)) c.put_in_front.ensures.joined;
+        left = IfOk-weaker c.put_in_front.result _ _ (λ rest e. rw e.0 tt) c.put_in_front.ensures.joined;
+        refused = IfErr-weaker c.put_in_front.result _ _ (λ e undone. undone.0) c.put_in_front.ensures.refused;
+        back = IfErr-weaker c.put_in_front.result _ _ (λ e undone. undone.1) c.put_in_front.ensures.refused;
+        succeeds = λ e. absurd (some e);
+        behind = λ h r. absurd (not_above g.K.Ord.cmp _ _ _ c.requires.store c.lies_below.ensures.below.1 c.if-lies_below.false h);
+        in_front = λ h r s. not_refused c.put_in_front.result c.put_in_front.ensures.full (there_is_room r s);
+        unchanged = λ e. absurd (some (inr e));
+        taken = λ e n. absurd (some (inl e));
+      };
       uncounted = λ e. absurd (some e);
       apart = λ apart. both_ends _ _ c.lies_below.ensures.cost c.lies_below-2.ensures.cost;
       cost = at_most 2 _ (omega arith) (both_ends _ _ c.lies_below.ensures.cost c.lies_below-2.ensures.cost);
@@ -74,16 +78,18 @@ pub returns : goal.returns
 returns g c =
     let some = one_empty g.K.Ord.cmp g.met.K.Ord.total _ _ c.requires.store c.requires.other (denied _ c.lies_below.ensures.below.1 c.if-lies_below.false) in
     record {
-      merged = c.merge_mixed.ensures.merged;
-      none = IfOk-weaker c.merge_mixed.result _ _ (λ rest l. l.0) c.merge_mixed.ensures.left;
-      left = IfOk-weaker c.merge_mixed.result _ _ (λ rest l. l.1) c.merge_mixed.ensures.left;
-      refused = IfErr-weaker c.merge_mixed.result _ _ (λ e undone. undone.0) c.merge_mixed.ensures.refused;
-      back = IfErr-weaker c.merge_mixed.result _ _ (λ e undone. undone.1) c.merge_mixed.ensures.refused;
-      succeeds = λ e. absurd (some e);
-      behind = λ h r. absurd (not_above g.K.Ord.cmp _ _ _ c.requires.store c.lies_below.ensures.below.1 c.if-lies_below.false h);
-      in_front = λ h r s. absurd (not_above g.K.Ord.cmp _ _ _ c.requires.other c.lies_below-2.ensures.below.1 c.if-lies_below-2.false h);
-      unchanged = λ e. absurd (some (inr e));
-      taken = λ e n. absurd (some (inl e));
+      merged = record {
+        merge = c.merge_mixed.ensures.merges.merged;
+        none = IfOk-weaker c.merge_mixed.result _ _ (λ rest l. l.0) c.merge_mixed.ensures.merges.left;
+        left = IfOk-weaker c.merge_mixed.result _ _ (λ rest l. l.1) c.merge_mixed.ensures.merges.left;
+        refused = IfErr-weaker c.merge_mixed.result _ _ (λ e undone. undone.0) c.merge_mixed.ensures.merges.refused;
+        back = IfErr-weaker c.merge_mixed.result _ _ (λ e undone. undone.1) c.merge_mixed.ensures.merges.refused;
+        succeeds = λ e. absurd (some e);
+        behind = λ h r. absurd (not_above g.K.Ord.cmp _ _ _ c.requires.store c.lies_below.ensures.below.1 c.if-lies_below.false h);
+        in_front = λ h r s. absurd (not_above g.K.Ord.cmp _ _ _ c.requires.other c.lies_below-2.ensures.below.1 c.if-lies_below-2.false h);
+        unchanged = λ e. absurd (some (inr e));
+        taken = λ e n. absurd (some (inl e));
+      };
       uncounted = λ e. absurd (some e);
       apart = λ apart. absurd (not_apart g.K.Ord.cmp g.met.K.Ord.total _ _ c.requires.store c.requires.other (denied _ c.lies_below.ensures.below.1 c.if-lies_below.false) (denied _ c.lies_below-2.ensures.below.1 c.if-lies_below-2.false) apart);
       cost = in_turn 2 _ _ (omega arith) (both_ends _ _ c.lies_below.ensures.cost c.lies_below-2.ensures.cost) c.merge_mixed.ensures.cost;

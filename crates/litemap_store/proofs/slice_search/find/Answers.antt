@@ -1,6 +1,6 @@
 use Rattle.std.proofs.Common.{◌≡◌, ◌+◌, ◌≤◌, length, ◌-◌, ◌/◌, arith, refl, sym, ◌∙◌, ap, subst, cond, nat_le}
 use Rattle.std.specs.Ordering.{is_eq, is_lt}
-use Rattle.litemap_store.specs.Digits.{digits, digits-halved}
+use Rattle.litemap_store.specs.Counts.{digits, digits-halved}
 use Rattle.litemap_store.specs.Search.{Callable, Shape}
 use Rattle.litemap_store.proofs.Search.Halving.{Seen-whole, Seen-next, Finds-nowhere, hit_next, takes, takes_next, next, left_next, left_after}
 use Rattle.litemap_store.proofs.slice_search.find.Goals as goal

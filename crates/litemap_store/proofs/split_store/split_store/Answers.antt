@@ -2,14 +2,8 @@ use Rattle.std.proofs.Common.{◌≡◌, ◌-◌, ◌++◌, ap, append-nil, arit
 use Rattle.std.proofs.lemmas.List.{length-reverse}
 use Rattle.litemap_store.proofs.split_store.split_store.Goals as goal
 
-pub take_from-requires-clause-side_room : goal.take_from-requires-clause-side_room
-take_from-requires-clause-side_room g c = rw c.in_ok-side.ensures.side (omega (arith, c.in_ok-side.ensures.side_room, c.lm_len.ensures, c.requires))
-
 pub put_up-requires : goal.put_up-requires
 put_up-requires g c =
     let old = g.S.Store.pairs c.args.store.now in let taken = c.take_from.new.side.items in
     let len : length taken ≡ length old - c.args.index = sym (length-reverse taken) ∙ ap length (c.take_from.ensures.side ∙ ap (λ L. drop c.args.index old ++ reverse L) c.in_ok-side.ensures.side ∙ append-nil _) ∙ length-drop c.args.index old in
     omega (arith, len, c.in_ok-side.ensures.store_room, c.lm_len.ensures)
-
-pub returns-clause-later : goal.returns-clause-later
-returns-clause-later g c = rw (c.put_up.ensures, c.in_ok-side.ensures.store, c.take_from.ensures.side, c.in_ok-side.ensures.side) (append-nil _)

@@ -2,9 +2,6 @@ use Rattle.std.proofs.Common.{◌≡◌, arith}
 use Rattle.name_index.proofs.Scanning.{walked_begins, walked_next, walked_pair}
 use Rattle.name_index.proofs.entries.entry_at.Goals as goal
 
-pub loop-init : goal.loop-init
-loop-init c = record { these = c.requires.entries; here = c.requires.entries.spelled }
-
 pub read_valid_pair-requires : goal.read_valid_pair-requires
 read_valid_pair-requires c = walked_begins c.loop.invariant (omega (arith, c.requires.within))
 

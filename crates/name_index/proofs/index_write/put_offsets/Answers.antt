@@ -1,7 +1,6 @@
-use Rattle.std.proofs.Common.{arith}
 use Rattle.std.proofs.lemmas.Result.{err_from_is_err_and}
 use Rattle.name_table.proofs.Writing.{if_too_large_weaker}
-use Rattle.name_index.proofs.Writing.{all_small, place_next, offsets_next, too_far_at, too_many}
+use Rattle.name_index.proofs.Writing.{place_next, offsets_next, too_far_at, too_many}
 use Rattle.name_index.proofs.index_write.put_offsets.Goals as goal
 
 pub returns-in_err-put_number-clause-too_large : goal.returns-in_err-put_number-clause-too_large
@@ -14,9 +13,6 @@ returns-in_err-offset-clause-too_large c =
     let p = err_from_is_err_and c.from_residual-in_err-offset.result c.from_residual-in_err-offset.ensures.1 in
     let e = c.in_err-offset.ensures.too_large in
     rw (p.1, p.2, e.0) (too_far_at c.args.pairs.now c.loop-pair.pair-index _ c.loop-pair-test.true c.loop-pair.offset c.loop-pair.invariant.offset_is e.1)
-
-pub returns-clause-small : goal.returns-clause-small
-returns-clause-small c = all_small c.args.pairs.now c.loop-pair.pair-index c.loop-pair.offset (omega arith) c.loop-pair.invariant.offset_is c.loop-pair.invariant.small
 
 pub loop-pair-preserved : goal.loop-pair-preserved
 loop-pair-preserved c =

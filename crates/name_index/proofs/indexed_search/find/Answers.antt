@@ -1,7 +1,7 @@
 use Rattle.litemap_store.proofs.Stores.Counting.{always_on_err}
 use Rattle.std.proofs.Common.{◌+◌, ◌-◌, ◌/◌, ◌∙◌, Ok, Err, arith, sym}
 use Rattle.litemap_store.proofs.Search.Splitting.{Splits-from_Finds}
-use Rattle.name_index.proofs.Halving.{halved_asked, halved_cost, halved_end, halved_equal, halved_greater, halved_less, halved_start}
+use Rattle.name_index.proofs.Halving.{halved_asked, halved_end, halved_equal, halved_greater, halved_less, halved_start}
 use Rattle.name_index.proofs.Indexing.{key_of, known_of, no_index}
 use Rattle.name_index.proofs.Scanning.{one_side}
 use Rattle.name_index.proofs.indexed_search.find.Goals as goal
@@ -31,6 +31,3 @@ loop-low-preserved c =
 
 pub returns-clause-splits : goal.returns-clause-splits
 returns-clause-splits c = λ pairs x. Splits-from_Finds one_side pairs c.args.key.now x.rises (Err c.loop-low.low) (halved_end _ _ c.loop-low.invariant (omega arith) (pairs, x))
-
-pub returns-clause-cost : goal.returns-clause-cost
-returns-clause-cost c = halved_cost _ _ c.loop-low.invariant

@@ -1,11 +1,8 @@
 use Rattle.litemap_store.proofs.Stores.Counting.{always_on_err}
 use Rattle.std.proofs.Common.{arith}
-use Rattle.name_index.proofs.Indexing.{falls, followed_end, followed_next, followed_start, no_index}
+use Rattle.name_index.proofs.Indexing.{falls, followed_end, followed_next, no_index}
 use Rattle.name_index.proofs.Rises.{above_true}
 use Rattle.name_index.proofs.indexed_search.follow.Goals as goal
-
-pub loop-index-init : goal.loop-index-init
-loop-index-init c = followed_start _ _ _
 
 pub returns-in_err-key-clause-fault : goal.returns-in_err-key-clause-fault
 returns-in_err-key-clause-fault c = always_on_err c.from_residual.result (no_index _ _ c.loop-index.index c.requires (omega arith) c.in_err-key.ensures.fault)

@@ -1,5 +1,5 @@
 use Rattle.std.proofs.Common.{◌+◌, ◌-◌, ◌/◌, ◌∙◌, Ok, Err, arith, sym}
-use Rattle.name_index.proofs.Halving.{halved_asked, halved_cost, halved_end, halved_equal, halved_greater, halved_less, halved_start}
+use Rattle.name_index.proofs.Halving.{halved_asked, halved_end, halved_equal, halved_greater, halved_less, halved_start}
 use Rattle.name_index.proofs.Placing.{known_at, splits_at}
 use Rattle.name_index.proofs.offsets.search.Goals as goal
 
@@ -20,6 +20,3 @@ loop-low-preserved c = halved_greater _ _ _ c.loop-low.invariant (omega arith) c
 
 pub returns-clause-splits : goal.returns-clause-splits
 returns-clause-splits c = λ placed. splits_at c.args.key.now (Err c.loop-low.low) placed (halved_end _ _ c.loop-low.invariant (omega arith) placed)
-
-pub returns-clause-cost : goal.returns-clause-cost
-returns-clause-cost c = halved_cost _ _ c.loop-low.invariant

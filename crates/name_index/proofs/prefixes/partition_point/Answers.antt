@@ -1,5 +1,5 @@
 use Rattle.std.proofs.Common.{◌∙◌, Less, Greater, ap, arith, cond, sym}
-use Rattle.name_index.proofs.Halving.{halved_cost, halved_end, halved_greater, halved_less, halved_start}
+use Rattle.name_index.proofs.Halving.{halved_end, halved_greater, halved_less, halved_start}
 use Rattle.name_index.proofs.Prefixing.{cut_sides, known_sides}
 use Rattle.name_index.proofs.prefixes.partition_point.Goals as goal
 
@@ -16,6 +16,3 @@ loop-low-preserved c =
 
 pub returns-clause-cut : goal.returns-clause-cut
 returns-clause-cut c = λ placed. cut_sides c.args.behind c.args.text.now placed _ (halved_end _ _ c.loop-low.invariant (omega arith) placed)
-
-pub returns-clause-cost : goal.returns-clause-cost
-returns-clause-cost c = halved_cost _ _ c.loop-low.invariant

@@ -1,14 +1,9 @@
 use Rattle.std.proofs.Common.{◌∷◌, ◌∙◌, [], ap, arith, sym, take_all}
-use Rattle.std.proofs.lemmas.Bool.{eqb-true}
-use Rattle.std.proofs.lemmas.List.{nil_from_length}
 use Rattle.json.specs.Token.{begin_object}
 use Rattle.names_core.specs.Reply.{pair_bytes, pair_tokens}
 use Rattle.names_core.specs.Told.{line}
 use Rattle.names_core.proofs.Pairs.{flat_map_one_more, print-object}
 use Rattle.names_core.proofs.reply.json.Goals as goal
-
-pub returns-then-is_empty : goal.returns-then-is_empty
-returns-then-is_empty g c = rw (nil_from_length c.args.names.now.pairs (eqb-true _ 0 (sym c.is_empty.ensures ∙ c.if-is_empty.true))) c.from_str.ensures.ok
 
 pub loop-index-preserved : goal.loop-index-preserved
 loop-index-preserved g c = (

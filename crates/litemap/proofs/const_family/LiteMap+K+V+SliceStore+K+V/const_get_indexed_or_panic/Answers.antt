@@ -2,9 +2,6 @@ use Rattle.std.proofs.Common.{length, refl}
 use Rattle.std.proofs.lemmas.Option.{slice_get_read}
 use Rattle.litemap.proofs.const_family.LiteMap+K+V+SliceStore+K+V.const_get_indexed_or_panic.Goals as goal
 
-pub bounds-borrowed-index : goal.bounds-borrowed-index
-bounds-borrowed-index g c = rw c.borrowed.ensures.pairs c.requires
-
 pub returns : goal.returns
 returns g c =
     let pairs = c.borrowed.result.now in

@@ -1,6 +1,6 @@
 use Rattle.std.proofs.Common.{◌≡◌, ◌+◌, ◌*◌, ◌≤◌, [], ◌∷◌, ◌++◌, length, take, drop, append_assoc, append-nil, sym, ap, ◌∙◌, subst, arith, refl}
 use Rattle.std.proofs.lemmas.List.{drop_all, take_all}
-use Rattle.litemap_store.specs.Digits.{digits}
+use Rattle.litemap_store.specs.Counts.{digits}
 use Rattle.litemap_store.proofs.Stores.Counting.{in_turn}
 use Rattle.litemap_store.proofs.Lists.Seams.{length-set_value}
 use Rattle.litemap.specs.Combined.{CallableOnEachOf, Combined}

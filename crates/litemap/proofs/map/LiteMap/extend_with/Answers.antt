@@ -3,7 +3,7 @@ use Rattle.std.proofs.lemmas.Result.{on_ok_weaker}
 use Rattle.litemap_store.proofs.Callers.MergeLookups.{key_alike, key_same, value_at-merged}
 use Rattle.litemap.specs.Changes.{IsMergedInto}
 use Rattle.litemap.specs.Combined.{combined}
-use Rattle.litemap.specs.Seen.{with_pairs}
+use Rattle.litemap_store.specs.Contents.{with_pairs}
 use Rattle.litemap.proofs.Combining.{combined-from, found-combined}
 use Rattle.litemap.proofs.map.LiteMap.extend_with.Goals as goal
 

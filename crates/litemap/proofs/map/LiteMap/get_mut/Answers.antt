@@ -1,5 +1,5 @@
 use Rattle.std.proofs.Common.{◌∙◌, inl, sym}
-use Rattle.litemap.specs.Seen.{with_pairs}
+use Rattle.litemap_store.specs.Contents.{with_pairs}
 use Rattle.litemap_store.proofs.Lists.Seams.{found_value, found_write}
 use Rattle.litemap.proofs.map.LiteMap.get_mut.Goals as goal
 

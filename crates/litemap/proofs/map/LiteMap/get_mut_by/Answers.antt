@@ -10,6 +10,3 @@ returns-in-Ok g c = (
     none = tt;
   },
 )
-
-pub returns-in-Err : goal.returns-in-Err
-returns-in-Err g c = ((refl, λ w. tt, refl), record { writes_back = tt; found = tt; none = (c.in-Err.field-0, c.in-Err.ensures.found) })

@@ -1,11 +1,7 @@
 use Rattle.std.proofs.Common.{◌∙◌, ap, refl, sym}
-use Rattle.litemap.specs.Seen.{with_pairs}
+use Rattle.litemap_store.specs.Contents.{with_pairs}
 use Rattle.litemap_store.proofs.Lists.Seams.{found_value, found_write}
-use Rattle.litemap.proofs.Outcomes.{not_missing}
 use Rattle.litemap.proofs.map.LiteMap.index_mut.Goals as goal
-
-pub unreachable-requires : goal.unreachable-requires
-unreachable-requires g c = not_missing g.Q.Query.order c.args.self.now.pairs (g.Q.Query.sought c.args.key) c.requires c.in-Err.ensures.splits
 
 pub returns : goal.returns
 returns g c =

@@ -5,17 +5,7 @@ use Rattle.std.specs.declared.cmp.Ordering.TheVariants.{Less}
 use Rattle.litemap_store.specs.Pairs.{Rising}
 use Rattle.litemap_store.proofs.Lists.Joined.{Rising-from_adjacent, adjacent_more}
 use Rattle.litemap_store.proofs.Lists.Parts.{Less-from_Rising, Less-from_is_lt}
-use Rattle.litemap.proofs.Places.{is_there}
 use Rattle.litemap.proofs.map.LiteMap.is_sorted_store.Goals as goal
-
-pub unwrap-requires : goal.unwrap-requires
-unwrap-requires g c = is_there deref_pair c.lm_get.result (g.S.Store.pairs c.args.store.now) _ c.lm_get.ensures (omega (arith, c.loop-place-test.true, c.lm_len-place-end.ensures))
-
-pub unwrap-requires-in-loop-place : goal.unwrap-requires-in-loop-place
-unwrap-requires-in-loop-place g c = is_there deref_pair c.lm_get-in-loop-place.result (g.S.Store.pairs c.args.store.now) c.loop-place.place c.lm_get-in-loop-place.ensures (omega (arith, c.loop-place-test.true, c.lm_len-place-end.ensures))
-
-pub loop-place-init : goal.loop-place-init
-loop-place-init g c = record { positive = omega arith; so_far = λ k d h. absurd (omega arith) }
 
 pub returns-then-not-is_lt : goal.returns-then-not-is_lt
 returns-then-not-is_lt g c = (

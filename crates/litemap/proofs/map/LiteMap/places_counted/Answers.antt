@@ -2,20 +2,18 @@ use Rattle.std.proofs.Common.{sym, arith}
 use Rattle.litemap.proofs.Cuts.{length-before, length-between, sub_between, within-cut}
 use Rattle.litemap.proofs.map.LiteMap.places_counted.Goals as goal
 
-pub returns-clause-pairs : goal.returns-clause-pairs
-returns-clause-pairs g c =
-    sub_between _ _ c.args.self.now.pairs c.start_of-start.result c.end_of-end.result c.saturating_sub.result _ c.saturating_sub.ensures (omega arith) c.start_of-start.ensures.cut c.end_of-end.ensures.cut
-
-pub returns-clause-start : goal.returns-clause-start
-returns-clause-start g c = sym (length-before _ c.args.self.now.pairs c.start_of-start.result c.start_of-start.ensures.cut)
-
-pub returns-clause-len : goal.returns-clause-len
-returns-clause-len g c =
-    let k = length-between _ _ c.args.self.now.pairs c.start_of-start.result c.end_of-end.result c.start_of-start.ensures.cut c.end_of-end.ensures.cut in
-    omega (arith, k, c.saturating_sub.ensures)
-
-pub returns-clause-inside : goal.returns-clause-inside
-returns-clause-inside g c =
-    let a = within-cut _ c.args.self.now.pairs c.start_of-start.result c.start_of-start.ensures.cut in
-    let b = within-cut _ c.args.self.now.pairs c.end_of-end.result c.end_of-end.ensures.cut in
-    omega (arith, a, b, c.saturating_sub.ensures)
+pub returns-clause-places : goal.returns-clause-places
+returns-clause-places g c =
+    let L = c.args.self.now.pairs in
+    let start = c.start_of-start in
+    let end = c.end_of-end in
+    let far = c.saturating_sub in
+    let len = length-between _ _ L start.result end.result start.ensures.cut end.ensures.cut in
+    let first = within-cut _ L start.result start.ensures.cut in
+    let last = within-cut _ L end.result end.ensures.cut in
+    record {
+      pairs = sub_between _ _ L start.result end.result far.result _ far.ensures (omega arith) start.ensures.cut end.ensures.cut;
+      start = sym (length-before _ L start.result start.ensures.cut);
+      len = omega (arith, len, far.ensures);
+      inside = omega (arith, first, last, far.ensures);
+    }

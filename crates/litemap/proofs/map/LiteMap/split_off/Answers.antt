@@ -1,5 +1,4 @@
 use Rattle.std.proofs.Common.{arith, ◌≡◌, ◌≤◌, false, true, drop, take, inl, inr, length, sym, ap, subst, ◌∙◌, ⊎_elim}
-use Rattle.std.proofs.lemmas.Grind.{common_steps}
 use Rattle.litemap_store.specs.Pairs.{Rising}
 use Rattle.litemap_store.proofs.Search.Splitting.{Rising-filter}
 use Rattle.litemap.proofs.Cuts.{drop-cut, first_cut, last_cut, take-cut, within-cut}
@@ -42,16 +41,10 @@ returns-clause-from g c =
     let place = c.place_before-place.result in
     c.from_sorted_store_unchecked.ensures.pairs ∙ c.in_ok-later.ensures.later ∙ ap (drop place) (ap (λ m. m.pairs) c.self.view_is) ∙ drop-cut _ c.args.self.now.pairs place c.place_before-place.ensures.cut
 
-pub invariant_of-self : goal.invariant_of-self
-invariant_of-self g c = rw c.in_err-later.ensures.refused c.self.invariant
-
 pub returns-clause-unchanged : goal.returns-clause-unchanged
 returns-clause-unchanged g c = λ none.
     let last = last_cut _ c.args.self.now.pairs c.place_before-place.result c.place_before-place.ensures.cut none in
     rw (c.in_ok-later.ensures.unchanged (last ∙ ap length (sym (ap (λ m. m.pairs) c.self.view_is)))) c.self.view_is
-
-pub returns-clause-all : goal.returns-clause-all
-returns-clause-all g c = grind (arith, common_steps)
 
 pub returns-clause-room : goal.returns-clause-room
 returns-clause-room g c = λ some.

@@ -1,14 +1,8 @@
 use Rattle.std.proofs.Common.{◌&&◌, ap, arith, option_map, sym, ◌∙◌}
 use Rattle.std.proofs.lemmas.List.{drop_all}
 use Rattle.std.specs.Map.Iter.{deref_pair}
-use Rattle.litemap.proofs.Places.{is_there, pointwise_ends, pointwise_on}
+use Rattle.litemap.proofs.Places.{pointwise_ends, pointwise_on}
 use Rattle.litemap.proofs.map.comparisons.are_equal.Goals as goal
-
-pub unwrap-requires : goal.unwrap-requires
-unwrap-requires g c = is_there deref_pair c.lm_get.result (g.S.Store.pairs c.args.left.now) c.loop-index.index c.lm_get.ensures (omega (arith, c.loop-index-test.true, c.lm_len-len.ensures))
-
-pub unwrap-requires-in-loop-index : goal.unwrap-requires-in-loop-index
-unwrap-requires-in-loop-index g c = is_there deref_pair c.lm_get-in-loop-index.result (g.S.Store.pairs c.args.right.now) c.loop-index.index c.lm_get-in-loop-index.ensures (omega (arith, c.loop-index-test.true, c.if-lm_len-len.false, c.lm_len.ensures))
 
 pub returns-then-not-is_equal_pair : goal.returns-then-not-is_equal_pair
 returns-then-not-is_equal_pair g c =

@@ -1,14 +1,8 @@
-use Rattle.std.proofs.Common.{◌≡◌, ap, length, arith, option_map, refl, sym, ◌∙◌}
-use Rattle.std.proofs.Math.Seq.{take-length}
+use Rattle.std.proofs.Common.{ap, arith, option_map, refl, sym, ◌∙◌}
 use Rattle.litemap_store.proofs.Lists.Alongside.{alongside-more}
 use Rattle.litemap_store.proofs.Lists.Joined.{In-slice_get}
 use Rattle.std.specs.Map.Iter.{deref_pair}
-use Rattle.litemap.proofs.Places.{is_there}
-use Rattle.litemap.proofs.Conversions.{Rising-became}
 use Rattle.litemap.proofs.map.conversions.push_all.Goals as goal
-
-pub unwrap-requires : goal.unwrap-requires
-unwrap-requires g c = is_there deref_pair c.lm_get.result (g.S.Store.pairs c.args.store.now) c.loop-index.index c.lm_get.ensures (omega (arith, c.loop-index-test.true, c.lm_len-index-end.ensures))
 
 pub push_converted-requires : goal.push_converted-requires
 push_converted-requires g c =

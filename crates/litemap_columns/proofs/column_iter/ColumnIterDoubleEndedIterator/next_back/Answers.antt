@@ -1,5 +1,4 @@
-use Rattle.std.proofs.Common.{◌≡◌, ◌++◌, ◌∷◌, [], length, length-append, ap, ◌∙◌, arith, rules}
-use Rattle.std.proofs.lemmas.Grind.{common_steps}
+use Rattle.std.proofs.Common.{◌≡◌, ◌++◌, ◌∷◌, [], length, length-append, ap, ◌∙◌, arith}
 use Rattle.std.specs.List.{zip}
 use Rattle.litemap_columns.proofs.Columns.{zip-append}
 use Rattle.litemap_columns.proofs.column_iter.ColumnIterDoubleEndedIterator.next_back.Goals as goal
@@ -25,9 +24,3 @@ returns-clause-goes g c =
       keeps = tt;
       rests = λ _. tt;
     }
-
-pub returns-in_err-key-clause-steps : goal.returns-in_err-key-clause-steps
-returns-in_err-key-clause-steps g c = grind (arith, common_steps)
-
-pub returns-in_err-value-clause-goes : goal.returns-in_err-value-clause-goes
-returns-in_err-value-clause-goes g c = search rules

@@ -12,9 +12,6 @@ is_kept-stays-requires g c =
     let at = zip_at c.loop-index.self-inside.keys c.loop-index.self-inside.values _ c.loop-index.index _ _ now.keys now.values c.loop-index-test.true c.index-key.ensures c.index-value.ensures in
     KeptSoFar-takes g.F.FnMut _ _ _ _ _ _ (c.index-key.result.now, c.index-value.result.now) now.kept at.0 at.1
 
-pub keep_in_place-kept-requires-clause-callable : goal.keep_in_place-kept-requires-clause-callable
-keep_in_place-kept-requires-clause-callable g c = rw (← c.self.view_is) at c.requires
-
 pub loop-index-init : goal.loop-index-init
 loop-index-init g c =
     let keys = c.self.inside.keys in

@@ -1,7 +1,7 @@
 use Rattle.std.proofs.Common.{◌≡◌, ◌+◌, ◌-◌, ◌*◌, ◌≤◌, ◌++◌, ◌∙◌, suc, arith, ap, drop, length, refl, take, vec_len}
 use Rattle.std.proofs.Math.Nat.{suc-mul}
 use Rattle.std.proofs.lemmas.List.{take_at}
-use Rattle.litemap_store.specs.Digits.{digits, digits-mono}
+use Rattle.litemap_store.specs.Counts.{digits, digits-mono}
 use Rattle.litemap_store.specs.PutIn.{IsPutIn}
 use Rattle.litemap_store.proofs.Stores.Counting.{at_most, in_turn, not_asked}
 use Rattle.litemap_store.proofs.Last.Pairs.{Last-rising}

@@ -1,6 +1,5 @@
 use Rattle.std.proofs.Common.{◌-◌, ◌*◌, ◌≤◌, vec_len}
-use Rattle.litemap_store.specs.Counts.{RisesByAtMost}
-use Rattle.litemap_store.specs.Digits.{digits}
+use Rattle.litemap_store.specs.Counts.{RisesByAtMost, digits}
 use Rattle.litemap_store.proofs.Last.KeepLast.{KeptLast}
 use Rattle.litemap_store.proofs.bulk.few.put_each.Given as goal
 

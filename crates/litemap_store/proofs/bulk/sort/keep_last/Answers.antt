@@ -1,5 +1,4 @@
 use Rattle.std.proofs.Common.{arith, ap, ◌∙◌, swap, sym}
-use Rattle.std.proofs.lemmas.Grind.{common_steps}
 use Rattle.litemap_store.proofs.Last.KeepLast.{passed_over, passed_more}
 use Rattle.litemap_store.proofs.bulk.sort.keep_last.Goals as goal
 use Rattle.litemap_store.proofs.bulk.sort.keep_last.Goals.{then-not-is_eq, else-not-is_eq}
@@ -22,9 +21,3 @@ loop-i-preserved g c =
         kept = passed_over g.K.Ord.cmp o _ _ _ _ _ _ q p c.cmp.result inv.kept inv.before (omega arith) c.index-now-last.is c.index-now-i.is (rw (← c.index-now-last.is, ← c.index-now-i.is) at c.cmp.ensures) (sym c.is_eq.ensures ∙ w.if-not-is_eq.false) (c.swap.ensures.after ∙ ap (λ n. swap c.loop-i.pairs n c.loop-i.i) w.last-is) w.last-is;
       }
     ]
-
-pub returns-then-is_empty-clause-last : goal.returns-then-is_empty-clause-last
-returns-then-is_empty-clause-last g c = grind (arith, common_steps)
-
-pub returns-clause-last : goal.returns-clause-last
-returns-clause-last g c = grind (arith, common_steps)

@@ -27,18 +27,6 @@ mixed g c h =
     not_above g.K.Ord.cmp (take c.args.from L) (drop c.args.from L) _ c.requires.rising
     (λ up. below (subst (Rising g.K.Ord.cmp) (take-append-drop c.args.from L ∙ sym (c.keep_rising.ensures.same h.rising).1) up)) c.if-lies_below.false h
 
-pub lies_below-requires-clause-low : goal.lies_below-requires-clause-low
-lies_below-requires-clause-low g c = rw (c.new.ensures, c.split_at.ensures.front, c.deref.ensures.value, c.keep_rising.ensures.before) c.requires.rising
-
-pub lies_below-requires-clause-high : goal.lies_below-requires-clause-high
-lies_below-requires-clause-high g c = rw (c.new-2.ensures, c.split_at.ensures.back, c.deref.ensures.value) c.in-Ok.ensures.last.rising
-
-pub merge_in_vec-requires-clause-store : goal.merge_in_vec-requires-clause-store
-merge_in_vec-requires-clause-store g c = rw (c.in-Ok-split_off.ensures.items, c.keep_rising.ensures.before) c.requires.rising
-
-pub merge_in_vec-requires-clause-pairs : goal.merge_in_vec-requires-clause-pairs
-merge_in_vec-requires-clause-pairs g c = rw c.in-Ok-split_off.ensures.tail c.in-Ok.ensures.last.rising
-
 -- where the ends were compared
 both_ends : (g : Over) (c : After-lies_below g) → RisesByAtMost (length (drop c.args.from c.args.store.now.items)) c.args.count.now c.lies_below.new.count
 both_ends g c =

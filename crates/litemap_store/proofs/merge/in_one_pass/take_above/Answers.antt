@@ -1,5 +1,4 @@
 use Rattle.std.proofs.Common.{◌+◌, ◌++◌, ◌∷◌, arith, drop, length-drop, option_map, reverse, sym, ap, ◌∙◌}
-use Rattle.std.proofs.lemmas.Grind.{common_steps}
 use Rattle.std.specs.List.{cons_option}
 use Rattle.litemap_store.specs.Pairs.{above, key_or}
 use Rattle.litemap_store.proofs.Merging.Down.{found_drop, length-behind, missing_drop, taken_found}
@@ -44,15 +43,3 @@ returns-in-Err-clause-side g c =
     reverse_push _ _ _ c.push_reserved-in-Err.ensures.items
     ∙ ap (λ W. (c.args.key, c.args.value) ∷ W) (c.take_from-in-Err.ensures.side ∙ ap (λ D. D ++ rest) (missing_drop cmp g.met.K.Ord.total pairs c.args.key c.in-Err.index c.in-Err.ensures.splits))
     ∙ ap (λ t. (key_or t c.args.key, c.args.value) ∷ (above cmp pairs c.args.key ++ rest)) (sym c.in-Err.ensures.splits.missing)
-
-pub overflow_add-index : goal.overflow_add-index
-overflow_add-index g c = grind (arith, common_steps)
-
-pub take_from-requires-clause-index : goal.take_from-requires-clause-index
-take_from-requires-clause-index g c = grind (arith, common_steps)
-
-pub take_from-requires-in-Err-clause-index : goal.take_from-requires-in-Err-clause-index
-take_from-requires-in-Err-clause-index g c = grind (arith, common_steps)
-
-pub returns-in-Err-clause-store : goal.returns-in-Err-clause-store
-returns-in-Err-clause-store g c = grind (arith, common_steps)

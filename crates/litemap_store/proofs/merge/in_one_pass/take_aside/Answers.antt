@@ -1,8 +1,7 @@
 use Rattle.std.proofs.Common.{◌≡◌, ◌+◌, ◌*◌, ◌≤◌, ◌++◌, ◌∷◌, [], arith, eqb-true, length, option_map, reverse, suc, sym, ap, ◌∙◌, subst}
 use Rattle.std.proofs.Math.Nat.{suc-mul}
 use Rattle.std.proofs.lemmas.List.{length_push, nil_from_length}
-use Rattle.std.proofs.lemmas.Grind.{common_steps}
-use Rattle.litemap_store.specs.Digits.{digits, digits-mono}
+use Rattle.litemap_store.specs.Counts.{digits, digits-mono}
 use Rattle.litemap_store.specs.Merge.{Merge}
 use Rattle.litemap_store.specs.Pairs.{Rising, above, at, below, key_or}
 use Rattle.litemap_store.proofs.Merging.Down.{Merge-down, left-down, length-behind, length-option, length-parts}
@@ -57,24 +56,3 @@ returns-clause-merged g c =
     let none : all ≡ [] = nil_from_length _ (eqb-true _ 0 (sym c.lm_is_empty.ensures ∙ c.loop-other-test.false)) in
     let kept : Merge g.K.Ord.cmp old all old = rw none (Merge-none g.K.Ord.cmp old was.store_rises) in
     rw c.take_from.ensures.side (was.merged _ kept)
-
-pub loop-other-init : goal.loop-other-init
-loop-other-init g c = grind (arith, common_steps)
-
-pub take_last-key-requires : goal.take_last-key-requires
-take_last-key-requires g c = grind (arith, common_steps)
-
-pub take_above-requires-clause-side_room : goal.take_above-requires-clause-side_room
-take_above-requires-clause-side_room g c = grind (arith, common_steps)
-
-pub take_above-requires-clause-driven_out_room : goal.take_above-requires-clause-driven_out_room
-take_above-requires-clause-driven_out_room g c = grind (arith, common_steps)
-
-pub loop-other-smaller : goal.loop-other-smaller
-loop-other-smaller g c = grind (arith, common_steps)
-
-pub returns-clause-left : goal.returns-clause-left
-returns-clause-left g c = grind (arith, common_steps)
-
-pub returns-clause-side_len : goal.returns-clause-side_len
-returns-clause-side_len g c = grind (arith, common_steps)

@@ -1,5 +1,5 @@
 use Rattle.std.proofs.Common.{◌≡◌, ◌+◌, ◌*◌, ◌≤◌, ◌++◌, List, length, reverse, vec_capacity}
-use Rattle.litemap_store.specs.Digits.{digits}
+use Rattle.litemap_store.specs.Counts.{digits}
 use Rattle.litemap_store.specs.Merge.{Merge, left}
 use Rattle.litemap_store.specs.Pairs.{Rising}
 use Rattle.litemap_store.proofs.merge.in_one_pass.take_aside.Given as goal

@@ -38,9 +38,6 @@ loop-key-init g c = record {
   rest_room = first_of (search rules, grind (arith, common_steps));
 }
 
-pub put_in-driven_out-requires-clause-store : goal.put_in-driven_out-requires-clause-store
-put_in-driven_out-requires-clause-store g c = c.loop-key.invariant.so_far.merged.rising
-
 pub returns : goal.returns
 returns g c =
     let none = g.met.S.KeyValueIntoIter.PairIntoIter.first _ _ _ c.in-None.ensures.steps in

@@ -1,5 +1,4 @@
-use Rattle.std.proofs.Common.{◌∙◌, ap, sym, Some, option_map, arith}
-use Rattle.std.proofs.lemmas.Grind.{common_steps}
+use Rattle.std.proofs.Common.{◌∙◌, ap, sym, Some, option_map}
 use Rattle.litemap_store.specs.Pairs.{set_value}
 use Rattle.litemap_store.proofs.Lists.Seams.{found_set_value, found_there, missing_insert}
 use Rattle.litemap_store.proofs.merge.one_by_one.put_in.Goals as goal
@@ -19,9 +18,3 @@ returns-in-Ok-clause-old g c =
 pub returns-in-Ok-lm_insert-clause-put : goal.returns-in-Ok-lm_insert-clause-put
 returns-in-Ok-lm_insert-clause-put g c =
     c.in-Ok-lm_insert.ensures.ok ∙ missing_insert g.K.Ord.cmp (g.S.Store.pairs c.args.store.now) c.args.key c.in-Err.index c.in-Err.ensures.splits c.args.value
-
-pub lm_pair_mut-slot-requires : goal.lm_pair_mut-slot-requires
-lm_pair_mut-slot-requires g c = grind (arith, common_steps)
-
-pub lm_insert-requires : goal.lm_insert-requires
-lm_insert-requires g c = grind (arith, common_steps)

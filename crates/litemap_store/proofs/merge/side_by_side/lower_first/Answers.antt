@@ -1,5 +1,4 @@
-use Rattle.std.proofs.Common.{sym, arith}
-use Rattle.std.proofs.lemmas.Grind.{common_steps}
+use Rattle.std.proofs.Common.{sym}
 use Rattle.litemap_store.proofs.Merging.Walking.{lower_from_cmp, lower_new, lower_none, lower_old}
 use Rattle.litemap_store.proofs.merge.side_by_side.lower_first.Goals as goal
 
@@ -14,6 +13,3 @@ returns-in_default-peek-2-clause-lower g c = lower_old g.K.Ord.cmp g.met.K.Ord.t
 
 pub returns-clause-lower : goal.returns-clause-lower
 returns-clause-lower g c = lower_from_cmp g.K.Ord.cmp g.met.K.Ord.total c.args.olds.now c.args.news.now (c.in-Some.old.now, c.in-Some.field-0-1.now) (c.in-Some-peek-2.new.now, c.in-Some-peek-2.field-0-1.now) c.cmp.result c.requires.olds c.requires.news (sym c.in-Some.ensures) (sym c.in-Some-peek-2.ensures) c.cmp.ensures.answer
-
-pub returns-clause-none : goal.returns-clause-none
-returns-clause-none g c = grind (arith, common_steps)

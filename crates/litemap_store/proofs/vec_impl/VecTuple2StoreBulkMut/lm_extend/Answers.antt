@@ -1,17 +1,13 @@
-use Rattle.std.proofs.Common.{rules, ◌≡◌, ℕ, List, ◌++◌, inr, length, take, drop}
+use Rattle.std.proofs.Common.{rules, ◌≡◌, ℕ, List, ◌++◌, length, take, drop}
 use Rattle.std.proofs.Math.Seq.{drop-append_seam, take-append_seam}
 use Rattle.std.proofs.lemmas.Result.{on_ok_weaker}
 use Rattle.litemap_store.specs.Bulk.{IsCountedFor}
-use Rattle.litemap_store.proofs.Stores.Counting.{always_on_err}
 use Rattle.litemap_store.proofs.Last.FirstGiven.{GivesSome-from_refused}
 use Rattle.litemap_store.proofs.vec_impl.VecTuple2StoreBulkMut.lm_extend.Given.{Over}
 use Rattle.litemap_store.proofs.vec_impl.VecTuple2StoreBulkMut.lm_extend.Goals as goal
 
 front : {X : Type 0} (old given : List X) (n : ℕ) {all : List X} → all ≡ old ++ given → n ≡ length old → take n all ≡ old
 front old given n all len = rw (all, len) (take-append_seam old given)
-
-pub settle-requires-clause-rising : goal.settle-requires-clause-rising
-settle-requires-clause-rising g c = rw (front c.args.self.now.items c.in_ok-gather_behind.ensures.gathered.0 c.len-len.result c.in_ok-gather_behind.ensures.gathered.1 (search rules)) c.requires.rising
 
 -- the old pairs, and behind them those that were pushed
 parts : (g : Over) (c : goal.After-settle g) → let given = c.in_ok-gather_behind.ensures.gathered.0 in (take c.len-len.result c.gather_behind.new.items.items ≡ c.args.self.now.items) × (drop c.len-len.result c.gather_behind.new.items.items ≡ given)
@@ -31,12 +27,6 @@ pub returns-clause-extended : goal.returns-clause-extended
 returns-clause-extended g c =
     let gathered = c.in_ok-gather_behind.ensures.gathered in
     on_ok_weaker c.settle.result (λ last. record { extended = record { given = gathered.0; gives = gathered.2; last = rw gathered.1 at last }; counted = counted g c }) c.settle.ensures.last
-
-pub returns-clause-refused : goal.returns-clause-refused
-returns-clause-refused g c = rw (parts g c).0 at c.settle.ensures.refused
-
-pub returns-clause-refused_cost : goal.returns-clause-refused_cost
-returns-clause-refused_cost g c = always_on_err c.settle.result (inr (c.in_ok-gather_behind.ensures.gathered.0, c.in_ok-gather_behind.ensures.gathered.2, counted g c))
 
 pub returns-clause-refused_some : goal.returns-clause-refused_some
 returns-clause-refused_some g c =

@@ -1,9 +1,6 @@
 use Rattle.std.proofs.Common.{refl}
 use Rattle.litemap.proofs.map.entry.Entry.and_modify.Goals as goal
 
-pub returns-in-Occupied-clause-same_writes : goal.returns-in-Occupied-clause-same_writes
-returns-in-Occupied-clause-same_writes g c = rw c.in-Occupied.is (c.get_mut.ensures.written c.f.new.arg2).same_writes
-
 pub returns-in-Occupied-clause-update : goal.returns-in-Occupied-clause-update
 returns-in-Occupied-clause-update g c =
     rw (c.in-Occupied.is, (c.get_mut.ensures.written c.f.new.arg2).value, c.get_mut.ensures.value)

@@ -1,0 +1,142 @@
+//! The keys and the values of a map, from both ends.
+ghost use Rattle.std.specs.Prelude.{◌≡◌, length, Some};
+ghost use Rattle.std.specs.Iterator.{at_most};
+ghost use Rattle.std.specs.Map.{keys_of, values_of};
+ghost use Rattle.std.specs.Map.Iter.{TakesFirst, TakesLast, deref};
+ghost use Rattle.litemap_store.specs.Hints.{HintsExactly};
+
+use litemap_store::store::PairIter;
+use std::iter::FusedIterator;
+use std::marker::{Model, PhantomData};
+
+/// The keys of the pairs that are still to come. A contract sees the iterator over these pairs.
+#[derive(Debug, Drop)]
+pub struct KeysIterWrap<'a, K, V, I> {
+    iter: I,
+    marker: PhantomData<(&'a K, &'a V)>,
+}
+
+impl<'a, K, V, I> Model for KeysIterWrap<'a, K, V, I> {
+    ghost Value = { I };
+
+    ghost view = { λ w. w.iter };
+}
+
+impl<'a, K, V, I> KeysIterWrap<'a, K, V, I> {
+    // The keys of the pairs that an iterator gives.
+    pub(super) fn over(iter: I) -> Self
+        ensures { result ≡ iter }
+    {
+        KeysIterWrap {
+            iter,
+            marker: PhantomData,
+        }
+    }
+}
+
+impl<'a, K: 'a, V: 'a, I: PairIter<'a, K, V>> Iterator for KeysIterWrap<'a, K, V, I> {
+    type Item = &'a K;
+
+    ghost next_gives = { λ s r t. TakesFirst deref (keys_of (I.rest s)) r (keys_of (I.rest t)) };
+
+    ghost remaining = { λ s. at_most (length (I.rest s)) };
+
+    /// The first key still to come.
+    fn next(&mut self) -> Option<&'a K> {
+        let (key, _) = self.iter.next()?;
+        Some(key)
+    }
+
+    /// The number of keys still to come, twice.
+    fn size_hint(&self) -> (usize, Option<usize>)
+        ensures { HintsExactly (length (I.rest self.now)) result }
+    {
+        let len = self.len();
+        (len, Some(len))
+    }
+}
+
+impl<'a, K: 'a, V: 'a, I: PairIter<'a, K, V>> DoubleEndedIterator for KeysIterWrap<'a, K, V, I> {
+    ghost next_back_gives = { λ s r t. TakesLast deref (keys_of (I.rest s)) r (keys_of (I.rest t)) };
+
+    /// The last key still to come.
+    fn next_back(&mut self) -> Option<&'a K> {
+        let (key, _) = self.iter.next_back()?;
+        Some(key)
+    }
+}
+
+impl<'a, K: 'a, V: 'a, I: PairIter<'a, K, V>> ExactSizeIterator for KeysIterWrap<'a, K, V, I> {
+    /// The number of keys still to come.
+    fn len(&self) -> usize {
+        self.iter.len()
+    }
+}
+
+impl<'a, K: 'a, V: 'a, I: PairIter<'a, K, V>> FusedIterator for KeysIterWrap<'a, K, V, I> {}
+
+/// The values of the pairs that are still to come. A contract sees the iterator over these pairs.
+#[derive(Debug, Drop)]
+pub struct ValuesIterWrap<'a, K, V, I> {
+    iter: I,
+    marker: PhantomData<(&'a K, &'a V)>,
+}
+
+impl<'a, K, V, I> Model for ValuesIterWrap<'a, K, V, I> {
+    ghost Value = { I };
+
+    ghost view = { λ w. w.iter };
+}
+
+impl<'a, K, V, I> ValuesIterWrap<'a, K, V, I> {
+    // The values of the pairs that an iterator gives.
+    pub(super) fn over(iter: I) -> Self
+        ensures { result ≡ iter }
+    {
+        ValuesIterWrap {
+            iter,
+            marker: PhantomData,
+        }
+    }
+}
+
+impl<'a, K: 'a, V: 'a, I: PairIter<'a, K, V>> Iterator for ValuesIterWrap<'a, K, V, I> {
+    type Item = &'a V;
+
+    ghost next_gives = { λ s r t. TakesFirst deref (values_of (I.rest s)) r (values_of (I.rest t)) };
+
+    ghost remaining = { λ s. at_most (length (I.rest s)) };
+
+    /// The first value still to come.
+    fn next(&mut self) -> Option<&'a V> {
+        let (_, value) = self.iter.next()?;
+        Some(value)
+    }
+
+    /// The number of values still to come, twice.
+    fn size_hint(&self) -> (usize, Option<usize>)
+        ensures { HintsExactly (length (I.rest self.now)) result }
+    {
+        let len = self.len();
+        (len, Some(len))
+    }
+}
+
+impl<'a, K: 'a, V: 'a, I: PairIter<'a, K, V>> DoubleEndedIterator for ValuesIterWrap<'a, K, V, I> {
+    ghost next_back_gives = { λ s r t. TakesLast deref (values_of (I.rest s)) r (values_of (I.rest t)) };
+
+    /// The last value still to come.
+    fn next_back(&mut self) -> Option<&'a V> {
+        let (_, value) = self.iter.next_back()?;
+        Some(value)
+    }
+}
+
+impl<'a, K: 'a, V: 'a, I: PairIter<'a, K, V>> ExactSizeIterator for ValuesIterWrap<'a, K, V, I> {
+    /// The number of values still to come.
+    fn len(&self) -> usize {
+        self.iter.len()
+    }
+}
+
+impl<'a, K: 'a, V: 'a, I: PairIter<'a, K, V>> FusedIterator for ValuesIterWrap<'a, K, V, I> {}

@@ -1,7 +1,0 @@
-use Rattle.litemap_store.proofs.into_iter.StoreIntoIterator.lm_extend_start.Goals as goal
-
-pub append_each-requires : goal.append_each-requires
-append_each-requires g c = rw (c.lm_into_iter.ensures, c.swap.ensures.y_after, c.swap.ensures.x_after, ← c.lm_len.ensures) c.in-Ok.ensures.room
-
-pub returns-in-Ok-clause-ok : goal.returns-in-Ok-clause-ok
-returns-in-Ok-clause-ok g c = rw (c.append_each.ensures, c.swap.ensures.x_after, c.in-Ok.ensures.pairs, c.lm_into_iter.ensures, c.swap.ensures.y_after)
