@@ -264,9 +264,16 @@ impl<K: Ord + Drop, V: Drop> StoreFromIterable<K, V> for ColumnStore<K, V> {
         iter: I,
         count: &mut Count,
     ) -> Result<Self, AllocError> {
-        let mut store = Self::lm_empty(alloc);
-        store.lm_extend(alloc, iter, count)?;
-        Ok(store)
+        let pairs = Vec::lm_sort_from_iter(alloc, iter, count)?;
+        let ColumnStore {
+            mut keys,
+            mut values,
+        } = Self::lm_with_capacity(alloc, pairs.len())?;
+        for (key, value) in pairs {
+            keys.push_reserved(key);
+            values.push_reserved(value);
+        }
+        Ok(ColumnStore { keys, values })
     }
 }
 

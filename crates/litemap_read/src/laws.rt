@@ -26,9 +26,7 @@ pub fn run_calls<K: Ord + Drop, V: Copy, S: StoreBulkMut<K, V>>(
         return Err(NoRoom { back: calls });
     };
     for call in calls {
-        let Ok(()) = answers.push(answer(alloc, map, call)) else {
-            unreachable!()
-        };
+        answers.push_reserved(answer(alloc, map, call));
     }
     Ok(answers)
 }

@@ -6,3 +6,4 @@ pub mod Membership
 pub mod Parts
 pub mod Places
 pub mod Seams
+pub mod Tails

@@ -26,9 +26,7 @@ pub fn push_reserved<K: Drop, V: Drop, S: StoreMut<K, V>>(store: &mut S, key: K,
     ensures pairs { S.pairs store.new ≡ S.pairs store.old ++ (key, value) ∷ [] }
     ensures room { S.room store.old ≤ S.room store.new + 1 }
 {
-    let Ok(()) = store.lm_push(key, value) else {
-        unreachable!()
-    };
+    store.lm_push(key, value).unwrap();
 }
 
 /// Puts the pairs that an iterator hands over behind those of the store.

@@ -22,7 +22,7 @@ pub fn insert_reserved<T>(items: &mut Vec<T>, index: usize, item: T)
     items[index..].rotate_right(1);
 }
 
-/// Takes out the item at an index, and moves the later ones down (own). The last one leaves with none to move.
+/// Takes out the item at an index, by one move of the later ones (own).
 pub fn remove_at<T>(items: &mut Vec<T>, index: usize) -> T
     requires { index < vec_len items.old }
     ensures value { result ≡ slice_index_or items.old.items index result }
@@ -30,8 +30,6 @@ pub fn remove_at<T>(items: &mut Vec<T>, index: usize) -> T
     ensures len { vec_len items.new + 1 ≡ vec_len items.old }
     ensures capacity { vec_capacity items.new ≡ vec_capacity items.old }
 {
-    if index == items.len() - 1 {
-        return items.take_last();
-    }
-    items.remove(index)
+    items[index..].rotate_left(1);
+    items.take_last()
 }

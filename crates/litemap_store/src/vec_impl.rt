@@ -5,7 +5,7 @@ ghost use Rattle.litemap_store.specs.VecStore.{vec_room, vec_with_value, vec_wri
 
 use crate::bulk::vector::{put_in_vec, settle};
 use crate::bulk::{gather, gather_behind};
-use crate::shared::{is_kept, remove_at};
+use crate::shared::is_kept;
 use crate::slice_search;
 use crate::store::{
     Count, NoRoom, SliceIter, Store, StoreBulkMut, StoreConstEmpty, StoreFromIterable,
@@ -88,7 +88,10 @@ impl<K, V> StoreMut<K, V> for Vec<(K, V)> {
     }
 
     fn lm_remove(&mut self, index: usize) -> (K, V) {
-        remove_at(self, index)
+        if index == self.len() - 1 {
+            return self.take_last();
+        }
+        self.remove(index)
     }
 
     fn lm_clear(&mut self)

@@ -89,10 +89,7 @@ impl<'a> CheckedNames<'a> {
         ensures value { OfIndex self.now (λ pairs. option_copied result ≡ value_at text_order pairs key.now) }
         ensures cost { OfIndex self.now (λ pairs. RisesByAtMost (digits (length pairs)) count.old count.new) }
     {
-        match self.names.get_counted(key, count) {
-            Ok(found) => found,
-            Err(_) => unreachable!(),
-        }
+        self.names.get_counted(key, count).unwrap()
     }
 
     /// The place of a key, or where it would go. It costs what `get` does.
@@ -107,19 +104,13 @@ impl<'a> CheckedNames<'a> {
         ensures place { OfIndex self.now (λ pairs. result ≡ index_of text_order pairs key.now) }
         ensures cost { OfIndex self.now (λ pairs. RisesByAtMost (digits (length pairs)) count.old count.new) }
     {
-        match self.names.find_index_counted(key, count) {
-            Ok(found) => found,
-            Err(_) => unreachable!(),
-        }
+        self.names.find_index_counted(key, count).unwrap()
     }
 
     /// The entry at a place, `None` from the length on. No other entry is read.
     pub fn get_indexed(&self, index: usize) -> Option<(&'a str, &'a str)>
         ensures { OfIndex self.now (λ pairs. option_map shown result ≡ slice_get pairs index) }
     {
-        match self.names.get_indexed(index) {
-            Ok(found) => found,
-            Err(_) => unreachable!(),
-        }
+        self.names.get_indexed(index).unwrap()
     }
 }

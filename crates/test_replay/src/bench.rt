@@ -6,6 +6,7 @@ use crate::line::Line;
 use crate::stores;
 use crate::tested::{self, Tested, map_of, store_of};
 use litemap::LiteMap;
+use litemap::store::{Store, StoreConstEmpty};
 use std::alloc::{AllocError, Global};
 
 /// With how many pairs a line begins, and with how much room in all.
@@ -38,13 +39,13 @@ pub struct Outcome {
 
 /// The map, and the store, as the last line left them.
 #[derive(Drop)]
-pub struct Bench<S: Tested<Key, Value>> {
+pub struct Bench<S: Store<Key, Value>> {
     /// The map.
     pub map: Map<S>,
     store: S,
 }
 
-impl<S: Tested<Key, Value>> Bench<S> {
+impl<S: StoreConstEmpty<Key, Value>> Bench<S> {
     /// Both empty.
     pub fn new(alloc: Global) -> Self {
         Bench {
@@ -52,7 +53,9 @@ impl<S: Tested<Key, Value>> Bench<S> {
             store: S::lm_empty(alloc),
         }
     }
+}
 
+impl<S: Tested<Key, Value>> Bench<S> {
     /// Makes the map, or the store, with which a line begins.
     pub fn begin(
         &mut self,

@@ -88,9 +88,9 @@ impl<K: Ord + Drop, V: Drop, S: StoreBulkMut<K, V>> LiteMap<K, V, S> {
     /// Puts the pairs that an iterator gives in, or is refused for want of memory. Of each key the last pair stays, whole,
     /// where an old pair counts as earlier than all new ones: a new key takes the place of an equal old one.
     ///
-    /// A refusal leaves the list, and the pairs taken from the iterator are given up; one that gives nothing is never refused. Its
-    /// size hint isn't used. Nothing is promised of the room: where a new pair falls between others a fresh store takes the place
-    /// of the map's, with its limit, if it had one.
+    /// A refusal leaves the list, and the pairs taken from the iterator are given up; one that gives nothing is never refused.
+    /// Its size hint isn't used. Nothing is promised of the room: where a new pair falls between others a fresh store takes the
+    /// place of the map's, with its limit, if it had one.
     ///
     /// New pairs that rise past the last key are put behind it, by at most one comparison for each. Others that rise are
     /// merged, by at most one comparison for each old and two for each new pair, and each pair moves a constant number of

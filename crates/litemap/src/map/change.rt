@@ -193,9 +193,7 @@ impl<K: Ord + Drop, V, S: StoreMut<K, V>> LiteMap<K, V, S> {
         let Some(value) = self.remove_counted(key, count) else {
             return false;
         };
-        let Ok(_) = self.insert_counted(new_key, value, count) else {
-            unreachable!()
-        };
+        let _old = self.insert_counted(new_key, value, count).unwrap();
         true
     }
 

@@ -78,9 +78,7 @@ fn put_in<K: Ord + Drop, V: Drop, S: StoreMut<K, V>>(
             Some((key, mem::replace(slot, value)))
         }
         Err(index) => {
-            let Ok(()) = store.lm_insert(index, key, value) else {
-                unreachable!()
-            };
+            store.lm_insert(index, key, value).unwrap();
             None
         }
     }

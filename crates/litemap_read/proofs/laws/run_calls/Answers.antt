@@ -9,9 +9,9 @@ use Rattle.litemap_read.proofs.laws.run_calls.Goals as goal
 pub loop-call-preserved : goal.loop-call-preserved
 loop-call-preserved g c =
     let room = c.loop-call.invariant.room in
-    let pushed = c.in-Ok-push.ensures in
+    let pushed = c.push_reserved.ensures in
     record {
-      run = rw c.in-Ok-push.ensures.items (Run-push g.K.Ord.cmp c.in-Some.call c.answer.result c.args.map.now c.loop-call.map c.answer.new.map c.loop-call.yielded c.loop-call.answers.items c.loop-call.invariant.run c.answer.ensures);
+      run = rw c.push_reserved.ensures.items (Run-push g.K.Ord.cmp c.in-Some.call c.answer.result c.args.map.now c.loop-call.map c.answer.new.map c.loop-call.yielded c.loop-call.answers.items c.loop-call.invariant.run c.answer.ensures);
       room = grind (arith, common_steps, c.in-Some.ensures.steps);
     }
 

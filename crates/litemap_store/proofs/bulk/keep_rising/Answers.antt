@@ -1,8 +1,9 @@
-use Rattle.std.proofs.Common.{◌≡◌, ℕ, ◌+◌, ◌-◌, List, ◌++◌, ap, length, take, drop, append_assoc, arith, length-drop, subst, ◌∙◌}
-use Rattle.std.proofs.Math.Seq.{drop-append_seam, take-append-add, take-append_seam}
+use Rattle.std.proofs.Common.{◌≡◌, ◌+◌, ◌-◌, ◌++◌, ap, length, take, drop, arith, length-drop, subst, ◌∙◌}
+use Rattle.std.proofs.Math.Seq.{drop-append_seam, take-append-add}
 use Rattle.std.proofs.lemmas.List.{take_all, take_at}
 use Rattle.std.proofs.lemmas.Grind.{common_steps}
 use Rattle.litemap_store.proofs.Last.Pairs.{Last-rising}
+use Rattle.litemap_store.proofs.Lists.Tails.{take-written_tail}
 use Rattle.litemap_store.proofs.bulk.keep_rising.Given.{Over}
 use Rattle.litemap_store.proofs.bulk.keep_rising.Goals as goal
 use Rattle.litemap_store.proofs.bulk.keep_rising.Goals.{After-sort_last, After-truncate}
@@ -11,18 +12,13 @@ pub returns-then-is_rising-clause-last : goal.returns-then-is_rising-clause-last
 returns-then-is_rising-clause-last g c =
     Last-rising g.K.Ord.cmp _ (rw (c.split_at.ensures.back, c.deref.ensures.value) at (c.is_rising.ensures.rising.0 c.if-is_rising.true))
 
--- S behind A
-behind : {X : Type 0} (A S R₁ R₂ : List X) (from len : ℕ) → length A ≡ from → from + length S ≡ len → take len ((A ++ (S ++ R₁)) ++ R₂) ≡ A ++ S
-behind A S R₁ R₂ from len a all =
-    rw (← all, ← a, append_assoc A (S ++ R₁) R₂, append_assoc S R₁ R₂, take-append-add A (S ++ (R₁ ++ R₂)) (length S)) (ap (λ T. A ++ T) (take-append_seam S (R₁ ++ R₂)))
-
 lengths : (g : Over) (c : After-sort_last g) → (length (take c.args.from c.deref_mut.result.now) ≡ c.args.from) × (c.args.from + length c.sort_last.new.pairs ≡ c.args.pairs.now.len)
 lengths g c = (grind (arith, common_steps), grind (arith, common_steps))
 
 kept : (g : Over) (c : After-truncate g) → (length (take c.args.from c.deref_mut.result.now) ≡ c.args.from) × (c.args.from + length c.sort_last.new.pairs ≡ c.args.pairs.now.len) → c.truncate.new.self.items ≡ take c.args.from c.deref_mut.result.now ++ take c.in_ok-kept.kept c.sort_last.new.pairs
 kept g c len =
     let A = take c.args.from c.deref_mut.result.now in
-    c.truncate.ensures.items ∙ ap (take (c.args.from + c.in_ok-kept.kept)) (behind A c.sort_last.new.pairs _ _ c.args.from c.args.pairs.now.len len.0 len.1)
+    c.truncate.ensures.items ∙ ap (take (c.args.from + c.in_ok-kept.kept)) (take-written_tail A c.sort_last.new.pairs _ _ c.args.from c.args.pairs.now.len len.0 len.1)
     ∙ subst (λ n. take (n + c.in_ok-kept.kept) (A ++ c.sort_last.new.pairs) ≡ A ++ take c.in_ok-kept.kept c.sort_last.new.pairs) len.0 (take-append-add A c.sort_last.new.pairs c.in_ok-kept.kept)
 
 pub returns-clause-before : goal.returns-clause-before
@@ -33,7 +29,7 @@ returns-clause-before g c =
 pub returns-in_err-kept-clause-before : goal.returns-in_err-kept-clause-before
 returns-in_err-kept-clause-before g c =
     let A = take c.args.from c.deref_mut.result.now in let len = lengths g (goal.at.returns-in_err-kept-clause-before g c).After-sort_last in
-    rw (behind A c.sort_last.new.pairs _ _ c.args.from c.args.pairs.now.len len.0 len.1, take_at A c.sort_last.new.pairs c.args.from len.0) (ap (take c.args.from) c.deref_mut.ensures.value)
+    rw (take-written_tail A c.sort_last.new.pairs _ _ c.args.from c.args.pairs.now.len len.0 len.1, take_at A c.sort_last.new.pairs c.args.from len.0) (ap (take c.args.from) c.deref_mut.ensures.value)
 
 pub returns-clause-last : goal.returns-clause-last
 returns-clause-last g c =

@@ -15,6 +15,6 @@ returns-in-Ok-clause-old g c =
     let there = found_there g.K.Ord.cmp (g.S.Store.pairs c.args.store.now) c.args.key c.in-Ok.index c.in-Ok.ensures.splits in
     ap (λ v. Some (c.args.key, v)) c.replace.ensures.value ∙ sym (ap (option_map (λ p. (c.args.key, p.1))) (sym there ∙ c.lm_pair_mut-slot.ensures.pair))
 
-pub returns-in-Ok-lm_insert-clause-put : goal.returns-in-Ok-lm_insert-clause-put
-returns-in-Ok-lm_insert-clause-put g c =
-    c.in-Ok-lm_insert.ensures.ok ∙ missing_insert g.K.Ord.cmp (g.S.Store.pairs c.args.store.now) c.args.key c.in-Err.index c.in-Err.ensures.splits c.args.value
+pub returns-in-Err-clause-put : goal.returns-in-Err-clause-put
+returns-in-Err-clause-put g c =
+    (rw c.unwrap.ensures at c.lm_insert.ensures.ok) ∙ missing_insert g.K.Ord.cmp (g.S.Store.pairs c.args.store.now) c.args.key c.in-Err.index c.in-Err.ensures.splits c.args.value
