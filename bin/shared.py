@@ -7,6 +7,7 @@ import re
 import shutil
 import subprocess
 import sys
+import threading
 
 TOP = pathlib.Path(__file__).resolve().parent.parent
 # What each crate uses, by the lines of crates.txt, in their order.
@@ -26,13 +27,13 @@ def used_by(*names):
     return [*found]
 
 
-def copy_crates(room, *names, ignored=("out", "must-fail")):
+def copy_crates(room, *names, ignored=("out", "must-fail"), top=TOP):
     """Copies these crates and those that they use into a folder, as a repository of its own."""
     for name in used_by(*names):
-        shutil.copytree(TOP / "crates" / name, room / "crates" / name, ignore=shutil.ignore_patterns(*ignored))
-    lines = (TOP / "crates.txt").read_text().splitlines(keepends=True)
+        shutil.copytree(top / "crates" / name, room / "crates" / name, ignore=shutil.ignore_patterns(*ignored))
+    lines = (top / "crates.txt").read_text().splitlines(keepends=True)
     (room / "crates.txt").write_text("".join(line for line in lines if re.split("[: ]", line)[0] in used_by(*names)))
-    shutil.copy(TOP / "HANDLES", room)
+    shutil.copy(top / "HANDLES", room)
 
 
 def texts_in(folder):
@@ -91,10 +92,12 @@ class Report:
 
     def __init__(self):
         self.passed = self.failed = 0
+        self.lock = threading.Lock()
 
     def count(self, holds):
-        self.passed += bool(holds)
-        self.failed += not holds
+        with self.lock:
+            self.passed += bool(holds)
+            self.failed += not holds
 
     def see(self, holds, text):
         self.count(holds)
