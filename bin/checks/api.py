@@ -58,7 +58,6 @@ TESTS = "crates/test_*/src crates/example_formats/src crates/example_uses/src".s
 NOT_CALLED = {
     "Keys::key_count": "what the search over slices asks",
     "Keys::key_at": "what the search over slices asks",
-    "remove_at": "what `lm_remove` hands on",
     "Query::compare_key": "what each look-up asks",
     "StoreSlice::lm_get_range": "what `get_indexed_range` hands on",
     "StoreMut::lm_try_clone": "what `try_clone` hands on",

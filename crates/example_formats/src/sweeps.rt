@@ -70,7 +70,8 @@ impl<'a> Tally<'a> {
         let [cases, read, truncated, not_utf8, too_large, different] = self.counts;
         write!(
             output,
-            "{cases} cases: {read} read, {truncated} truncated, {not_utf8} not UTF-8, {too_large} too large, {different} different, checksum {:016x}",
+            "{cases} cases: {read} read, {truncated} truncated, {not_utf8} not UTF-8, {too_large} too large, \
+            {different} different, checksum {:016x}",
             self.checksum
         )
     }

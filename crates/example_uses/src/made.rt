@@ -32,8 +32,6 @@ where
     ensures full { IfNoRoom result (λ _ _. map.old.room ≡ 0) }
 {
     let index = map.try_find_or_insert(key, f)?;
-    match map.get_indexed(index) {
-        Some((_, value)) => Ok(*value),
-        None => unreachable!(),
-    }
+    let (_, value) = map.get_indexed(index).unwrap();
+    Ok(*value)
 }

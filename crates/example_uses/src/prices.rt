@@ -25,10 +25,7 @@ pub fn beginning_with<'m>(prices: &'m Prices, text: &str) -> Part<'m>
     while end < len && does_begin(prices, end, text) {
         end += 1;
     }
-    match prices.get_indexed_range(first..end) {
-        Some(part) => part,
-        None => unreachable!(),
-    }
+    prices.get_indexed_range(first..end).unwrap()
 }
 
 // Whether a name stands at a place, and begins with a text.

@@ -18,13 +18,7 @@ pub fn insert_both<K: Ord + Drop, V: Drop, S: StoreMut<K, V>>(
     ensures refused { OnErr result (map.new.pairs ≡ map.old.pairs) }
 {
     map.reserve(2)?;
-    let (key, value) = first;
-    let Ok(_) = map.insert(key, value) else {
-        unreachable!()
-    };
-    let (key, value) = second;
-    let Ok(_) = map.insert(key, value) else {
-        unreachable!()
-    };
+    map.insert(first.0, first.1).unwrap();
+    map.insert(second.0, second.1).unwrap();
     Ok(())
 }

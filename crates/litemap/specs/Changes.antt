@@ -10,7 +10,8 @@ use Rattle.litemap_store.specs.Contents.{Contents}
 
 module _ {K V : Type 0} where
   -- a call that adds the pair p, where it adds one, is refused only without room: the list stays, and the pair comes back
-  pub record RefusedFull {A : Type 0} (p : K × V) (before after : Contents K V) (result : Result A (NoRoom (K × V))) : Type 0 where
+  pub record RefusedFull {A : Type 0} (p : K × V) (before after : Contents K V)
+      (result : Result A (NoRoom (K × V))) : Type 0 where
     pub unchanged : OnErr result (after.pairs ≡ before.pairs)
     pub full : OnErr result (before.room ≡ 0)
     pub back : IfErr result (λ refused. refused.back ≡ p)
@@ -39,7 +40,8 @@ module _ {K Q V : Type 0} (order : K → Q → Ordering) (key : Q) where
 
 module _ {K V : Type 0} (cmp : K → K → Ordering) where
   -- the pair is put into the map `before`, which is then `after`
-  pub record Inserts (key : K) (value : V) (before after : Contents K V) (result : Result (Option V) (NoRoom (K × V))) : Type 0 where
+  pub record Inserts (key : K) (value : V) (before after : Contents K V)
+      (result : Result (Option V) (NoRoom (K × V))) : Type 0 where
     -- the list after, and the value before
     pub put : OnOk result (after.pairs ≡ put cmp before.pairs key value)
     pub old : IfOk result (λ old. old ≡ value_at cmp before.pairs key)

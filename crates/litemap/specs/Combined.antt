@@ -25,7 +25,8 @@ module _ {K V : Type 0} where
   found_with combine None (Some p) = Some p.1
   found_with combine (Some v) (Some p) = Some (combine p.0 v p.1)
 
-module _ {F K V : Type 0} (g : Shared F (Bor K × (Bor V × (MutBor V × Unit {0}))) (Unit {0} × (MutBor V × Unit {0}))) (f : F) where
+module _ {F K V : Type 0} (g : Shared F (Bor K × (Bor V × (MutBor V × Unit {0}))) (Unit {0} × (MutBor V × Unit {0})))
+    (f : F) where
   -- f may be called on a key, the value here and the other map's value
   abbrev pub TakesBoth : K → V → V → Type 0
   TakesBoth k here w = (key : Bor K) (old : Bor V) (new : MutBor V) → key.now ≡ k → old.now ≡ here → new.now ≡ w
@@ -57,10 +58,12 @@ module _ {F K V : Type 0} (g : Shared F (Bor K × (Bor V × (MutBor V × Unit {0
   -- M has the pairs J, each value settled by what its key finds in L
   abbrev pub Combined : (K → K → Ordering) → List (K × V) → List (K × V) → List (K × V) → Type 0
   Combined cmp L [] M = M ≡ []
-  Combined cmp L (p ∷ J) M = (w : V) × (N : List (K × V)) × Settles p.0 (value_at cmp L p.0) p.1 w × Combined cmp L J N × (M ≡ (p.0, w) ∷ N)
+  Combined cmp L (p ∷ J) M = (w : V) × (N : List (K × V)) × Settles p.0 (value_at cmp L p.0) p.1 w × Combined cmp L J N
+      × (M ≡ (p.0, w) ∷ N)
 
   -- the map `other`, with values that f may leave, is merged into the map `before`, which is then `after`
-  abbrev pub IsCombinedInto : (K → K → Ordering) → (other before after : Contents K V) → Result (Option (Contents K V)) (NoRoom (Contents K V)) → Type 0
+  abbrev pub IsCombinedInto : (K → K → Ordering) → (other before after : Contents K V)
+      → Result (Option (Contents K V)) (NoRoom (Contents K V)) → Type 0
   IsCombinedInto cmp other before after result = (M : List (K × V)) × Combined cmp before.pairs other.pairs M
       × IsMergedInto cmp (with_pairs other M) before after result
 

@@ -85,7 +85,8 @@ module _ {K V S : Type 0} {g : ord.Ghosts K} {g' : eq.Ghosts K} {g'' : partial.G
     pub room_kept : IsSome (entry_value e) → n.room ≡ (entry_map e).now.room
 
   -- refused only where the key is not there and there is no room: it comes back, with a value that P holds of
-  pub record EntryRefused (e : Entry K V S g g' g'' s) (P : V → Type 0) {A : Type 0} (result : Result A (NoRoom (K × V))) : Type 0 where
+  pub record EntryRefused (e : Entry K V S g g' g'' s) (P : V → Type 0) {A : Type 0}
+      (result : Result A (NoRoom (K × V))) : Type 0 where
     pub absent : OnErr result (entry_value e ≡ None)
     pub full : OnErr result ((entry_map e).now.room ≡ 0)
     pub back : IfErr result (λ refused. (entry_key e ≡ Some refused.back.0) × P refused.back.1)

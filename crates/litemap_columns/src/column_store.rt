@@ -1,5 +1,5 @@
 //! A vector of keys and a vector of values as a store. Its room is the smaller of theirs.
-ghost use Rattle.std.specs.Prelude.{◌≡◌, ◌+◌, ◌≤◌, ◌<◌, ◌++◌, length, min, refl, vec_capacity, vec_len};
+ghost use Rattle.std.specs.Prelude.{◌≡◌, ◌+◌, ◌≤◌, ◌<◌, ◌++◌, length, min, refl, remove, slice_index_or, vec_capacity, vec_len};
 ghost use Rattle.std.specs.List.{zip};
 ghost use Rattle.std.specs.Map.{keys_of, values_of};
 ghost use Rattle.litemap_columns.specs.Columns.{columns};
@@ -8,7 +8,7 @@ ghost use Rattle.litemap_store.specs.Retain.{CallableOnEach, Kept, KeptSoFar};
 ghost use Rattle.litemap_store.specs.VecStore.{vec_room};
 
 use crate::column_iter::{ColumnIntoIter, ColumnIter};
-use litemap_store::shared::{insert_reserved, is_kept, remove_at};
+use litemap_store::shared::{insert_reserved, is_kept};
 use litemap_store::slice_search;
 use litemap_store::store::{
     Count, NoRoom, Store, StoreBulkMut, StoreConstEmpty, StoreFromIterable, StoreFromIterator,
@@ -196,6 +196,18 @@ impl<K, V> StoreMut<K, V> for ColumnStore<K, V> {
     ghost keeps_room = { λ s i v. refl };
 }
 
+// Takes out the item at an index, by one move of the later ones.
+fn remove_at<T>(items: &mut Vec<T>, index: usize) -> T
+    requires { index < vec_len items.old }
+    ensures value { result ≡ slice_index_or items.old.items index result }
+    ensures items { items.new.items ≡ remove items.old.items index }
+    ensures len { vec_len items.new + 1 ≡ vec_len items.old }
+    ensures capacity { vec_capacity items.new ≡ vec_capacity items.old }
+{
+    items[index..].rotate_left(1);
+    items.take_last()
+}
+
 impl<K: Ord + Drop, V: Drop> StoreBulkMut<K, V> for ColumnStore<K, V> {
     fn lm_retain<F: FnMut(&K, &V) -> bool>(&mut self, mut f: F)
         requires { CallableOnEach F.FnMut f self.old.pairs }
@@ -315,7 +327,5 @@ fn append_reserved<T: Drop>(items: &mut Vec<T>, other: &mut Vec<T>)
     ensures items { items.new.items ≡ items.old.items ++ other.old.items }
     ensures len { vec_len items.new ≡ vec_len items.old + vec_len other.old }
 {
-    let Ok(()) = items.append(other) else {
-        unreachable!()
-    };
+    items.append(other).unwrap();
 }

@@ -23,7 +23,8 @@ pub record IsTextOf (d : Data) (text : List ℕ) : Type 0 where
   pub no_space : text ≡ print (tokens text)
 
 -- for a private clause: the first pair has this item, and its key this name, which reads as the key
-abbrev pub IsFirst : {K V : Type 0} → (K → Option (List ℕ)) → (List ℕ → Option Data) → (K → Data) → List (K × V) → List ℕ → V → Type 0
+abbrev pub IsFirst : {K V : Type 0} → (K → Option (List ℕ)) → (List ℕ → Option Data) → (K → Data) → List (K × V) → List ℕ → V
+    → Type 0
 IsFirst {K} text key key_json L name item =
     (k : K) × (Some (k, item) ≡ slice_get L 0) × (text k ≡ Some name) × (key name ≡ Some (key_json k))
 

@@ -41,8 +41,8 @@ module _ {S P : Type 0} (gives : S → List P → Type 0) (left : S → ℕ) whe
 
 -- the source s is asked up to its end, or up to a fault that it allows or want of memory, and is then t: what is left of its
 -- list stands behind what it gave. It doesn't want memory before the first pair
-pub record IsAsked {S P E A : Type 0} (gives : S → List P → Type 0) (left : S → ℕ) (allows : S → E → Type 0) (may_end : S → Type 0)
-    (leads_to : S → S → Type 0) (s t : S) (result : Result A (ReadFault E)) : Type 0 where
+pub record IsAsked {S P E A : Type 0} (gives : S → List P → Type 0) (left : S → ℕ) (allows : S → E → Type 0)
+    (may_end : S → Type 0) (leads_to : S → S → Type 0) (s t : S) (result : Result A (ReadFault E)) : Type 0 where
   pub ends : OnOk result (may_end s)
   pub empty : OnOk result (gives t [])
   pub fault : IfErr result (λ fault. IfSource fault (allows s))

@@ -6,4 +6,3 @@ pub mod Membership
 pub mod Parts
 pub mod Places
 pub mod Seams
-pub mod Tails

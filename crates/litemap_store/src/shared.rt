@@ -1,5 +1,5 @@
 //! What stores of several kinds have in common.
-ghost use Rattle.std.specs.Prelude.{◌≡◌, ◌+◌, ◌<◌, ◌≤◌, insert, remove, slice_index_or, vec_capacity, vec_len};
+ghost use Rattle.std.specs.Prelude.{◌≡◌, ◌+◌, ◌<◌, ◌≤◌, insert, vec_capacity, vec_len};
 ghost use Rattle.litemap_store.specs.Retain.{CalledOnPair, TakesPair};
 
 /// Whether a closure keeps a pair (own). It is called once.
@@ -20,16 +20,4 @@ pub fn insert_reserved<T>(items: &mut Vec<T>, index: usize, item: T)
 {
     items.push_reserved(item);
     items[index..].rotate_right(1);
-}
-
-/// Takes out the item at an index, by one move of the later ones (own).
-pub fn remove_at<T>(items: &mut Vec<T>, index: usize) -> T
-    requires { index < vec_len items.old }
-    ensures value { result ≡ slice_index_or items.old.items index result }
-    ensures items { items.new.items ≡ remove items.old.items index }
-    ensures len { vec_len items.new + 1 ≡ vec_len items.old }
-    ensures capacity { vec_capacity items.new ≡ vec_capacity items.old }
-{
-    items[index..].rotate_left(1);
-    items.take_last()
 }

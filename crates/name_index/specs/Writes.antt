@@ -36,4 +36,5 @@ pub record AreOffsets (bytes : List ℕ) (pairs : List (List ℕ × List ℕ)) (
 -- new is old with the first pairs behind it
 pub record AddsPairs (old new : List ℕ) (pairs : List (List ℕ × List ℕ)) (index : ℕ) : Type 0 where
   pub adds : Adds old new (entries_size (take index pairs))
-  pub there : (i : ℕ) (pair : List ℕ × List ℕ) → i < index → slice_get pairs i ≡ Some pair → IsPairAt new (length old + entries_size (take i pairs)) pair
+  pub there : (i : ℕ) (pair : List ℕ × List ℕ) → i < index → slice_get pairs i ≡ Some pair
+      → IsPairAt new (length old + entries_size (take i pairs)) pair

@@ -21,4 +21,5 @@ FaultIsOne = (bytes : List ℕ) (f g : NameFault) → TableFault bytes f → Tab
 -- each list of bytes begins with a table, or has a fault
 abbrev pub EachIsRead : Type 0
 EachIsRead = (bytes : List ℕ)
-    → ((J : List (List ℕ × List ℕ)) × (rest : List ℕ) × Begins bytes (table_parts J) rest) ⊎ ((fault : NameFault) × TableFault bytes fault)
+    → ((J : List (List ℕ × List ℕ)) × (rest : List ℕ) × Begins bytes (table_parts J) rest)
+      ⊎ ((fault : NameFault) × TableFault bytes fault)

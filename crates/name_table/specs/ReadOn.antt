@@ -24,7 +24,8 @@ pair_parts-append (p ∷ J) K = ap (λ xs. text_parts p.0 ++ (text_parts p.1 ++ 
 abbrev pub begins_none : (bytes : List ℕ) → Begins bytes [] bytes
 begins_none bytes = record { front = []; split = refl; spelled = refl }
 
-abbrev pub begins_then : (bytes middle rest : List ℕ) (xs ys : List Part) → Begins bytes xs middle → Begins middle ys rest → Begins bytes (xs ++ ys) rest
+abbrev pub begins_then : (bytes middle rest : List ℕ) (xs ys : List Part) → Begins bytes xs middle → Begins middle ys rest
+    → Begins bytes (xs ++ ys) rest
 begins_then bytes middle rest xs ys p q = record {
   front = p.front ++ q.front;
   split = p.split ∙ ap (λ c. p.front ++ c) q.split ∙ sym (append_assoc p.front q.front rest);
@@ -32,13 +33,15 @@ begins_then bytes middle rest xs ys p q = record {
 }
 
 -- more pairs behind pairs
-abbrev pub begins_pairs : (bytes middle rest : List ℕ) (J K : List (List ℕ × List ℕ)) → Begins bytes (pair_parts J) middle → Begins middle (pair_parts K) rest → Begins bytes (pair_parts (J ++ K)) rest
+abbrev pub begins_pairs : (bytes middle rest : List ℕ) (J K : List (List ℕ × List ℕ)) → Begins bytes (pair_parts J) middle
+    → Begins middle (pair_parts K) rest → Begins bytes (pair_parts (J ++ K)) rest
 begins_pairs bytes middle rest J K p q =
     let r = begins_then bytes middle rest (pair_parts J) (pair_parts K) p q in
     record { front = r.front; split = r.split; spelled = rw (pair_parts-append J K) r.spelled }
 
 pub read_on_itself : (s : Remaining) → IsReadOn s s
-read_on_itself s = record { pairs = []; spelled = begins_none s.rest; place = sym (add-zero s.place); count = sym (zero-add s.left) }
+read_on_itself s =
+    record { pairs = []; spelled = begins_none s.rest; place = sym (add-zero s.place); count = sym (zero-add s.left) }
 
 pub read_on_further : (s t u : Remaining) → IsReadOn s t → IsReadOn t u → IsReadOn s u
 read_on_further s t u p q = record {

@@ -8,7 +8,8 @@ use Rattle.names_core.specs.Writes.{Ends}
 
 -- a run leaves the reader and the writer as `input` and `output`, and ends with the status: `remaining` gives the bytes that a
 -- reader has left, and `contents` those that a writer took, where they tell
-pub record IsRun {R W : Type 0} (remaining : R → Option (List ℕ)) (contents : W → Option (List ℕ)) (reader input : Watch R) (writer output : Watch W) (status : ℕ) : Type 0 where
+pub record IsRun {R W : Type 0} (remaining : R → Option (List ℕ)) (contents : W → Option (List ℕ))
+    (reader input : Watch R) (writer output : Watch W) (status : ℕ) : Type 0 where
   -- the status is 4 exactly where a call met a fault
   pub faults : reader.failed ≡ false → writer.failed ≡ false → (status ≡ 4) ↔ ((input.failed || output.failed) ≡ true)
   -- where no read met one, the bytes that were read tell what is written and the status

@@ -1,5 +1,6 @@
 -- What counts as a fault of a write, and what is written through a `Watch`.
-use Rattle.std.specs.Prelude.{◌≡◌, ◌<◌, ◌⊎◌, ◌||◌, ◌&&◌, ◌==◌, ℕ, Bool, true, false, not, List, length, take, Option, Result, Ok, Err}
+use Rattle.std.specs.Prelude.{◌≡◌, ◌<◌, ◌⊎◌, ◌||◌, ◌&&◌, ◌==◌, ℕ, Bool, true, false, not, List, length, take}
+use Rattle.std.specs.Prelude.{Option, Result, Ok, Err}
 use Rattle.std.specs.Io.KnownBytes.{Appends}
 use Rattle.names_core.specs.declared.watch.Watch.{Watch}
 use Rattle.names_core.specs.Watched.{NoCallAfterFault, met_fault, watched}

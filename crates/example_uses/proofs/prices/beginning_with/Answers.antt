@@ -14,6 +14,6 @@ returns c =
     ] in
     let loop = c.loop-end.invariant in
     let all = sub-begins text L c.places-first.result.start c.loop-end.end c.len-len.ensures.rising c.places-first.ensures.places.start loop.0 (omega (arith, loop.1, c.len-len.ensures.len)) loop.2 ends in
-    let found : Some c.in-Some.part.pairs ≡ Some (filter (λ p. begins p.0 text) L) =
-    ap (option_map (λ m. m.pairs)) (sym c.in-Some.is) ∙ c.get_indexed_range.ensures ∙ all in
+    let found : Some c.unwrap.result.pairs ≡ Some (filter (λ p. begins p.0 text) L) =
+    ap (option_map (λ m. m.pairs)) (sym c.unwrap.ensures) ∙ c.get_indexed_range.ensures ∙ all in
     cc

@@ -3,7 +3,7 @@ use Rattle.std.proofs.Math.Seq.{drop-append_seam, take-append-add}
 use Rattle.std.proofs.lemmas.List.{take_all, take_at}
 use Rattle.std.proofs.lemmas.Grind.{common_steps}
 use Rattle.litemap_store.proofs.Last.Pairs.{Last-rising}
-use Rattle.litemap_store.proofs.Lists.Tails.{take-written_tail}
+use Rattle.litemap_store.proofs.Lists.Seams.{take-written_tail}
 use Rattle.litemap_store.proofs.bulk.keep_rising.Given.{Over}
 use Rattle.litemap_store.proofs.bulk.keep_rising.Goals as goal
 use Rattle.litemap_store.proofs.bulk.keep_rising.Goals.{After-sort_last, After-truncate}
