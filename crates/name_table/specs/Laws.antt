@@ -22,4 +22,4 @@ FaultIsOne = (bytes : List ℕ) (f g : NameFault) → TableFault bytes f → Tab
 abbrev pub EachIsRead : Type 0
 EachIsRead = (bytes : List ℕ)
     → ((J : List (List ℕ × List ℕ)) × (rest : List ℕ) × Begins bytes (table_parts J) rest)
-      ⊎ ((fault : NameFault) × TableFault bytes fault)
+    ⊎ ((fault : NameFault) × TableFault bytes fault)
