@@ -30,7 +30,7 @@ GROUPS = {
     "Name tables": "name_table: read write name_bytes cursor fault laws; "
     "name_index: table index name_entries indexed checked index_write fault laws",
     "What a call can be asked by": "litemap_store: query",
-    "Stores": "litemap_store: store into_iter vec_impl slice_impl slice_iter count no_room shared slice_search merge "
+    "Stores": "litemap_store: store into_iter vec_impl slice_impl slice_iter count no_room retain reserved slice_search merge "
     "split_store; litemap_short: short_store short_iter; litemap_columns: lib column_store column_iter",
     "Laws, for proofs": "litemap_store: laws",
 }
@@ -66,6 +66,7 @@ NOT_CALLED = {
     "extend_from_store": "what `extend_from_litemap` hands on",
     "split_store": "what `split_off` hands on",
     "insert_reserved": "what `lm_insert` hands on",
+    **dict.fromkeys(["SwapStore::lm_pair", "SwapStore::lm_swap", "SwapStore::lm_truncate"], "what `lm_retain` asks"),
     "serialize": "what `with` of a field in example_formats asks",
     "deserialize_owned": "what `with` of a field in example_formats asks",
     "JsonItem::write_to": "what `write_json` asks",

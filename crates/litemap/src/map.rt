@@ -28,8 +28,7 @@ use std::marker::{Model, PhantomData};
 
 /// A map whose keys rise strictly, over a store.
 ///
-/// A contract sees the list of its pairs and, where the store can grow, its room: how many further pairs it takes without
-/// refusal.
+/// A contract sees the list of its pairs and, where the store can grow, its room: how many further pairs it never refuses.
 ///
 /// The examples of the calls look at this map, `three_days`:
 ///
@@ -146,12 +145,10 @@ impl<K: Ord, V, S: StoreMut<K, V>> LiteMap<K, V, S> {
         Ok(LiteMap::from_sorted_store_unchecked(store))
     }
 
-    /// A map of clones of the keys and values, in the same order, or a refusal for want of memory. The empty map is never
-    /// refused.
+    /// A map of clones of the keys and values, or a refusal for want of memory. The empty map is never refused.
     ///
     /// A clone of each key has to compare `Equal` to it: where keys are texts, the caller's attribute
-    /// `using(litemap::proofs::Texts::text_clones)` shows that. No keys are compared. The Rust crate has the trait `Clone`
-    /// here.
+    /// `using(litemap::proofs::Texts::text_clones)` shows that. No keys are compared. In the Rust crate it is `Clone`.
     pub fn try_clone(&self, alloc: Global) -> Result<Self, AllocError>
     where
         K: Clone,

@@ -1,8 +1,9 @@
 -- Two lists of one length, one of keys and one of values: what is done to both is done to the pairs.
---     length-zip_same, within-zip      as many pairs as keys;  zip-read, get_or-zip_same, zip-key, zip-none      the pair at a place, and past the end
+--     length-zip_same, within-zip, within-columns, within-keys, within-values      as many pairs as keys and as values
+--     zip-read, columns-read, zip-key, zip-none      the pair at a place, and past the end
 --     zip-append, zip-joined, zip-insert, zip-remove, zip-set, zip-set_value, zip-take      after a change of both, or of the values
 --     zip-swap      after a swap in both
-use Rattle.std.proofs.Common.{◌≡◌, ℕ, zero, suc, ◌<◌, ◌≤◌, List, [], ◌∷◌, ◌++◌, length, take, slice_get, slice_set, swap, get_or, Some, None, Vec, vec_len, refl, sym, ap, ◌∙◌, arith}
+use Rattle.std.proofs.Common.{◌≡◌, ℕ, zero, suc, ◌<◌, ◌≤◌, List, [], ◌∷◌, ◌++◌, length, take, slice_get, slice_set, swap, get_or, Some, None, Vec, vec_len, refl, ap, ◌∙◌, arith}
 use Rattle.std.specs.Option.{option_map_or}
 use Rattle.std.specs.List.{insert, remove, zip}
 use Rattle.std.proofs.lemmas.List.Edits.{swap_is}
@@ -32,19 +33,19 @@ module _ {K V : Type 0} where
   zip-read (j ∷ ks) (w ∷ vs) zero k v h u a b = cc
   zip-read (j ∷ ks) (w ∷ vs) (suc i) k v h u a b = zip-read ks vs i k v (omega arith) (omega arith) a b
 
-  -- the same in the form of `get_or`
-  pub get_or-zip_same : (ks : List K) (vs : List V) (i : ℕ) (k : K) (v : V) → length ks ≡ length vs → i < length ks → k ≡ get_or ks i k → v ≡ get_or vs i v → (k, v) ≡ get_or (zip ks vs) i (k, v)
-  get_or-zip_same ks vs i k v h u a b =
-      let e : get_or (zip ks vs) i (k, v) ≡ (get_or ks i k, get_or vs i v) = get_or-zip ks vs i (k, v) u (omega arith) in
-      ap (λ (j : K). (j, v)) a ∙ ap (λ (w : V). (get_or ks i k, w)) b ∙ sym e
+  -- both in two vectors of one length
+  module _ {Y Z : Type 0} (keys : Vec K Y) (values : Vec V Z) (i : ℕ) (same : vec_len keys ≡ vec_len values) (inside : i < length (zip keys.items values.items)) where
+    pub within-columns : i < length keys.items
+    within-columns = within-zip keys.items values.items i (same_length keys values same) inside
 
-  -- and so in vectors of n items each
-  pub zip_at : {Y Z : Type 0} (keys : Vec K Y) (values : Vec V Z) (n i : ℕ) (k : K) (v : V) → vec_len keys ≡ n → vec_len values ≡ n → i < n → k ≡ get_or keys.items i k → v ≡ get_or values.items i v
-      → (i < length (zip keys.items values.items)) × ((k, v) ≡ get_or (zip keys.items values.items) i (k, v))
-  zip_at keys values n i k v a b h at_key at_value =
-      let same = same_length keys values (a ∙ sym b) in
-      let all = length-zip_same keys.items values.items same in
-      (omega (arith, all, keys.ok.0), get_or-zip_same keys.items values.items i k v same (omega (arith, keys.ok.0)) at_key at_value)
+    pub within-keys : i < vec_len keys
+    within-keys = omega (arith, keys.ok.0, within-columns)
+
+    pub within-values : i < vec_len values
+    within-values = omega (arith, keys.ok.0, within-columns, same)
+
+    pub columns-read : (k : K) (v : V) → k ≡ get_or keys.items i k → v ≡ get_or values.items i v → slice_get (zip keys.items values.items) i ≡ Some (k, v)
+    columns-read k v = zip-read keys.items values.items i k v (same_length keys values same) within-columns
 
   -- there is a value beside the key at a place
   pub zip-key : (ks : List K) (vs : List V) (i : ℕ) (d : K) → length ks ≡ length vs → i < length ks → (v : V) × (slice_get (zip ks vs) i ≡ Some (get_or ks i d, v))
@@ -108,8 +109,13 @@ module _ {K V : Type 0} where
   zip-take (j ∷ ks) (w ∷ vs) (suc n) = ap (λ L. (j, w) ∷ L) (zip-take ks vs n)
 
   -- two keys and their values in each other's place
-  pub zip-swap : (ks : List K) (vs : List V) (k i : ℕ) (d : K × V) → length ks ≡ length vs → k < length ks → i < length ks → zip (swap ks k i) (swap vs k i) ≡ swap (zip ks vs) k i
-  zip-swap ks vs k i d h u w =
+  pub zip-swap : (ks : List K) (vs : List V) (k i : ℕ) → length ks ≡ length vs → k < length ks → i < length ks → zip (swap ks k i) (swap vs k i) ≡ swap (zip ks vs) k i
+  zip-swap [] vs k i h u w = absurd (omega arith)
+  zip-swap (j ∷ js) [] k i h u w = absurd (omega arith)
+  zip-swap (j ∷ js) (x ∷ xs) k i h u w =
+      let ks = j ∷ js in
+      let vs = x ∷ xs in
+      let d : K × V = (j, x) in
       let all : length (zip ks vs) ≡ length ks = length-zip_same ks vs h in
       let at : get_or (zip ks vs) i d ≡ (get_or ks i d.0, get_or vs i d.1) = get_or-zip ks vs i d w (omega arith) in
       let front : get_or (zip ks vs) k d ≡ (get_or ks k d.0, get_or vs k d.1) = get_or-zip ks vs k d u (omega arith) in

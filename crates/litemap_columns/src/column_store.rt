@@ -4,11 +4,12 @@ ghost use Rattle.std.specs.List.{zip};
 ghost use Rattle.std.specs.Map.{keys_of, values_of};
 ghost use Rattle.litemap_columns.specs.Columns.{columns};
 ghost use Rattle.litemap_store.specs.Contents.{with_value};
-ghost use Rattle.litemap_store.specs.Retain.{CallableOnEach, Kept, KeptSoFar};
+ghost use Rattle.litemap_store.specs.Retain.{CallableOnEach, Kept};
 ghost use Rattle.litemap_store.specs.VecStore.{vec_room};
 
 use crate::column_iter::{ColumnIntoIter, ColumnIter};
-use litemap_store::shared::{insert_reserved, is_kept};
+use litemap_store::reserved::insert_reserved;
+use litemap_store::retain::{SwapStore, retain};
 use litemap_store::slice_search;
 use litemap_store::store::{
     Count, NoRoom, Store, StoreBulkMut, StoreConstEmpty, StoreFromIterable, StoreFromIterator,
@@ -208,58 +209,30 @@ fn remove_at<T>(items: &mut Vec<T>, index: usize) -> T
     items.take_last()
 }
 
+impl<K: Drop, V: Drop> SwapStore<K, V> for ColumnStore<K, V> {
+    fn lm_pair(&self, index: usize) -> (&K, &V) {
+        (&self.keys[index], &self.values[index])
+    }
+
+    fn lm_swap(&mut self, a: usize, b: usize) {
+        self.keys.swap(a, b);
+        self.values.swap(a, b);
+    }
+
+    fn lm_truncate(&mut self, len: usize) {
+        self.keys.truncate(len);
+        self.values.truncate(len);
+    }
+}
+
 impl<K: Ord + Drop, V: Drop> StoreBulkMut<K, V> for ColumnStore<K, V> {
     fn lm_retain<F: FnMut(&K, &V) -> bool>(&mut self, mut f: F)
         requires { CallableOnEach F.FnMut f self.old.pairs }
         ensures kept { Kept F.FnMut f self.old.pairs self.new.pairs }
         ensures memory { self.new.room + length self.new.pairs ≡ self.old.room + length self.old.pairs }
     {
-        let (mut kept, asked) = keep_in_place(&mut self.keys, &mut self.values, &mut f);
-        for index in asked..self.keys.len() {
-            let key = &self.keys[index];
-            let value = &self.values[index];
-            let stays = is_kept(&mut f, key, value);
-            self.keys.swap(kept, index);
-            self.values.swap(kept, index);
-            if stays {
-                kept += 1;
-            }
-        }
-        self.keys.truncate(kept);
-        self.values.truncate(kept);
+        retain(self, &mut f);
     }
-}
-
-// Asks of the pairs in turn, until one stays behind one that goes: that one is moved. It answers how many stay, and how many were
-// asked.
-fn keep_in_place<K, V, F: FnMut(&K, &V) -> bool>(
-    keys: &mut Vec<K>,
-    values: &mut Vec<V>,
-    f: &mut F,
-) -> (usize, usize)
-    requires same_length { vec_len keys.old ≡ vec_len values.old }
-    requires callable { CallableOnEach F.FnMut f.old (zip keys.old.items values.old.items) }
-    ensures kept { KeptSoFar F.FnMut f.old (zip keys.old.items values.old.items)
-        f.new (zip keys.new.items values.new.items) result.0 result.1 }
-    ensures asked { result.1 ≤ vec_len keys.old }
-    ensures keys { (vec_len keys.new ≡ vec_len keys.old) × (vec_capacity keys.new ≡ vec_capacity keys.old) }
-    ensures values { (vec_len values.new ≡ vec_len values.old) × (vec_capacity values.new ≡ vec_capacity values.old) }
-{
-    let mut kept = 0;
-    let len = keys.len();
-    for index in 0..len {
-        let key = &keys[index];
-        let value = &values[index];
-        if is_kept(f, key, value) {
-            if kept < index {
-                keys.swap(kept, index);
-                values.swap(kept, index);
-                return (kept + 1, index + 1);
-            }
-            kept += 1;
-        }
-    }
-    (kept, len)
 }
 
 impl<'a, K: 'a, V: 'a> StoreIterable<'a, K, V> for ColumnStore<K, V> {

@@ -87,8 +87,7 @@ impl From<AllocError> for JsonFault {
     }
 }
 
-/// So that `?` hands a fault on where an `io::Result` is answered. The place is then given up: who wants to tell it prints the
-/// fault itself.
+/// So that `?` hands a fault on where an `io::Result` is answered. The place is given up: to tell it, print the fault itself.
 impl From<WriteFault> for io::Error {
     ghost use Rattle.std.specs.Prelude.{◌≡◌};
     ghost use Rattle.std.specs.IoError.{error_kind};

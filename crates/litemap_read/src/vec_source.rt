@@ -9,8 +9,7 @@ use std::vec::IntoIter;
 #[derive(Debug, PartialEq, Drop)]
 pub struct NoFault;
 
-/// The pairs of a vector, in their order. It comes to its end, and answers no fault. A contract sees it as the list of the
-/// pairs left.
+/// The pairs of a vector, in their order, and no fault. A contract sees it as the list of the pairs left.
 #[derive(Drop)]
 pub struct VecSource<K, V> {
     rest: IntoIter<(K, V)>,

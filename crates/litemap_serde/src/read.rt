@@ -11,8 +11,7 @@ use std::alloc::Global;
 /// Reads a map: a map of the format or a sequence of pairs, whichever comes. Of equal keys the last pair stays, whole.
 ///
 /// The pairs are gathered in a vector, which grows as they come, and made a map by `from_vec`: where they rise that is one
-/// comparison for each, else a sort. Out of memory is the format's `no_memory`. The Rust crate has serde's `Deserialize`
-/// here.
+/// comparison for each, else a sort. Out of memory is the format's `no_memory`. In the Rust crate it is `Deserialize`.
 pub fn deserialize<
     'de,
     K: Deserialize<'de> + Ord,

@@ -9,7 +9,8 @@ ghost use Rattle.std.specs.Vec.Iter.{into_iter_items};
 ghost use Rattle.litemap_short.specs.Left.{with_first};
 ghost use Rattle.litemap_store.specs.Retain.{CallableOnEach, Kept};
 
-use litemap_store::shared::{insert_reserved, is_kept};
+use litemap_store::reserved::insert_reserved;
+use litemap_store::retain::is_kept;
 use litemap_store::store::StoreBulkMut;
 use std::alloc::{AllocError, Global};
 use std::vec::IntoIter;

@@ -43,8 +43,7 @@ pub fn gather<T: Drop, I: IntoIterator<Item = T>>(
     Ok(items)
 }
 
-/// Pushes the items of an iterator behind those of a vector, in order. No size hint is used. Where one is refused, all of them
-/// are given up.
+/// Pushes the items of an iterator behind those of a vector, with no size hint. Where one is refused, all of them are given up.
 pub fn gather_behind<T: Drop, I: IntoIterator<Item = T>>(
     items: &mut Vec<T>,
     iter: I,

@@ -1,12 +1,13 @@
 //! Room that is taken first, pairs that go into a store which has it, and pairs that leave a store from its end.
-ghost use Rattle.std.specs.Prelude.{◌≡◌, ◌+◌, ◌<◌, ◌≤◌, ◌++◌, ◌∷◌, [], drop, length, reverse, take, vec_capacity, IfOk};
+ghost use Rattle.std.specs.Prelude.{◌≡◌, ◌+◌, ◌<◌, ◌≤◌, ◌++◌, ◌∷◌, [], drop, insert, length, reverse, take};
+ghost use Rattle.std.specs.Prelude.{vec_capacity, vec_len, IfOk};
 
 use crate::into_iter::PairIntoIter;
 use crate::store::StoreMut;
 use std::alloc::{AllocError, Global};
 
 /// A vector and a store, both empty, with room for so many pairs each.
-pub fn room_for<K: Drop, V: Drop, S: StoreMut<K, V>>(
+pub(crate) fn room_for<K: Drop, V: Drop, S: StoreMut<K, V>>(
     alloc: Global,
     len: usize,
 ) -> Result<(Vec<(K, V)>, S), AllocError>
@@ -21,7 +22,7 @@ pub fn room_for<K: Drop, V: Drop, S: StoreMut<K, V>>(
 }
 
 /// Puts a pair behind those of the store.
-pub fn push_reserved<K: Drop, V: Drop, S: StoreMut<K, V>>(store: &mut S, key: K, value: V)
+pub(crate) fn push_reserved<K: Drop, V: Drop, S: StoreMut<K, V>>(store: &mut S, key: K, value: V)
     requires { 0 < S.room store.old }
     ensures pairs { S.pairs store.new ≡ S.pairs store.old ++ (key, value) ∷ [] }
     ensures room { S.room store.old ≤ S.room store.new + 1 }
@@ -29,8 +30,20 @@ pub fn push_reserved<K: Drop, V: Drop, S: StoreMut<K, V>>(store: &mut S, key: K,
     store.lm_push(key, value).unwrap();
 }
 
+/// Puts an item at an index, in a vector that has room, by one move of the later ones (own).
+pub fn insert_reserved<T>(items: &mut Vec<T>, index: usize, item: T)
+    requires index { index ≤ vec_len items.old }
+    requires room { vec_len items.old < vec_capacity items.old }
+    ensures items { items.new.items ≡ insert items.old.items index item }
+    ensures len { vec_len items.new ≡ vec_len items.old + 1 }
+    ensures capacity { vec_capacity items.new ≡ vec_capacity items.old }
+{
+    items.push_reserved(item);
+    items[index..].rotate_right(1);
+}
+
 /// Puts the pairs that an iterator hands over behind those of the store.
-pub fn append_each<K: Drop, V: Drop, S: StoreMut<K, V>, I: PairIntoIter<K, V>>(
+pub(crate) fn append_each<K: Drop, V: Drop, S: StoreMut<K, V>, I: PairIntoIter<K, V>>(
     store: &mut S,
     pairs: I,
 )
@@ -43,7 +56,7 @@ pub fn append_each<K: Drop, V: Drop, S: StoreMut<K, V>, I: PairIntoIter<K, V>>(
 }
 
 /// Puts pairs behind those of the store, in reverse order.
-pub fn put_up<K: Drop, V: Drop, S: StoreMut<K, V>>(store: &mut S, mut pairs: Vec<(K, V)>)
+pub(crate) fn put_up<K: Drop, V: Drop, S: StoreMut<K, V>>(store: &mut S, mut pairs: Vec<(K, V)>)
     requires { length pairs.items ≤ S.room store.old }
     ensures { S.pairs store.new ≡ S.pairs store.old ++ reverse pairs.items }
 {
@@ -53,7 +66,7 @@ pub fn put_up<K: Drop, V: Drop, S: StoreMut<K, V>>(store: &mut S, mut pairs: Vec
 }
 
 /// The last pair, which leaves the store.
-pub fn take_last<K, V, S: StoreMut<K, V>>(store: &mut S) -> (K, V)
+pub(crate) fn take_last<K, V, S: StoreMut<K, V>>(store: &mut S) -> (K, V)
     requires { 0 < length (S.pairs store.old) }
     ensures pairs { S.pairs store.old ≡ S.pairs store.new ++ result ∷ [] }
     ensures room { S.room store.old < S.room store.new }
@@ -63,7 +76,7 @@ pub fn take_last<K, V, S: StoreMut<K, V>>(store: &mut S) -> (K, V)
 }
 
 /// Takes the pairs from an index on out of the store, the last one first.
-pub fn take_from<K: Drop, V: Drop, S: StoreMut<K, V>>(
+pub(crate) fn take_from<K: Drop, V: Drop, S: StoreMut<K, V>>(
     store: &mut S,
     index: usize,
     side: &mut Vec<(K, V)>,

@@ -1,11 +1,11 @@
 //! A vector of pairs as a store. Its room is its capacity less its length.
-ghost use Rattle.std.specs.Prelude.{◌≡◌, ◌<◌, ◌≤◌, vec_capacity, vec_len, length, Some};
-ghost use Rattle.litemap_store.specs.Retain.{CallableOnEach, Kept, KeptSoFar};
+ghost use Rattle.std.specs.Prelude.{◌≡◌, ◌≤◌, vec_capacity, vec_len};
+ghost use Rattle.litemap_store.specs.Retain.{CallableOnEach, Kept};
 ghost use Rattle.litemap_store.specs.VecStore.{vec_room, vec_with_value, vec_writes, vec_keeps_room};
 
 use crate::bulk::vector::{put_in_vec, settle};
 use crate::bulk::{gather, gather_behind};
-use crate::shared::is_kept;
+use crate::retain::{SwapStore, retain};
 use crate::slice_search;
 use crate::store::{
     Count, NoRoom, SliceIter, Store, StoreBulkMut, StoreConstEmpty, StoreFromIterable,
@@ -119,6 +119,21 @@ impl<K, V> StoreMut<K, V> for Vec<(K, V)> {
     ghost keeps_room = { vec_keeps_room };
 }
 
+impl<K: Drop, V: Drop> SwapStore<K, V> for Vec<(K, V)> {
+    fn lm_pair(&self, index: usize) -> (&K, &V) {
+        let pair = &self[index];
+        (&pair.0, &pair.1)
+    }
+
+    fn lm_swap(&mut self, a: usize, b: usize) {
+        self.swap(a, b);
+    }
+
+    fn lm_truncate(&mut self, len: usize) {
+        self.truncate(len);
+    }
+}
+
 impl<K: Ord + Drop, V: Drop> StoreBulkMut<K, V> for Vec<(K, V)> {
     fn lm_retain<F: FnMut(&K, &V) -> bool>(&mut self, mut f: F)
         requires { CallableOnEach F.FnMut f self.old.items }
@@ -126,17 +141,7 @@ impl<K: Ord + Drop, V: Drop> StoreBulkMut<K, V> for Vec<(K, V)> {
         ensures shorter { vec_len self.new ≤ vec_len self.old }
         ensures capacity { vec_capacity self.new ≡ vec_capacity self.old }
     {
-        let (mut kept, asked) = keep_in_place(self, &mut f);
-        for index in asked..self.len() {
-            let pair = &self[index];
-            let stays = is_kept(&mut f, &pair.0, &pair.1);
-            // It moves whatever the answer, so that no jump hangs on it.
-            self.swap(kept, index);
-            if stays {
-                kept += 1;
-            }
-        }
-        self.truncate(kept);
+        retain(self, &mut f);
     }
 
     fn lm_extend<I: IntoIterator<Item = (K, V)>>(
@@ -168,33 +173,6 @@ impl<K: Ord + Drop, V: Drop> StoreBulkMut<K, V> for Vec<(K, V)> {
         pairs.lm_extend_from_vec(alloc, given, count)?;
         Ok(pairs)
     }
-}
-
-// Asks of the pairs in turn, until one stays behind one that goes: that one is moved. It answers how many stay, and how many were
-// asked.
-fn keep_in_place<K, V, F: FnMut(&K, &V) -> bool>(
-    pairs: &mut Vec<(K, V)>,
-    f: &mut F,
-) -> (usize, usize)
-    requires { CallableOnEach F.FnMut f.old pairs.old.items }
-    ensures kept { KeptSoFar F.FnMut f.old pairs.old.items f.new pairs.new.items result.0 result.1 }
-    ensures asked { result.1 ≤ vec_len pairs.old }
-    ensures len { vec_len pairs.new ≡ vec_len pairs.old }
-    ensures capacity { vec_capacity pairs.new ≡ vec_capacity pairs.old }
-{
-    let mut kept = 0;
-    let len = pairs.len();
-    for index in 0..len {
-        let pair = &pairs[index];
-        if is_kept(f, &pair.0, &pair.1) {
-            if kept < index {
-                pairs.swap(kept, index);
-                return (kept + 1, index + 1);
-            }
-            kept += 1;
-        }
-    }
-    (kept, len)
 }
 
 impl<'a, K: 'a, V: 'a> StoreIterable<'a, K, V> for Vec<(K, V)> {

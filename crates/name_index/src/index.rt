@@ -145,8 +145,7 @@ impl<'a> NameIndex<'a> {
         start..end
     }
 
-    /// The entries at the places of a range, in order; a place past the last one has none. Each is read when it is asked for,
-    /// with no comparison.
+    /// The entries at the places of a range, in order; none past the last one. Each is read when asked for, with no comparison.
     pub fn entries_in(&self, range: Range<usize>) -> NameEntries<'a>
         ensures { OfTable self.now (λ pairs. result ≡ slice_range pairs range.start range.end) }
     {
@@ -159,8 +158,7 @@ impl<'a> NameIndex<'a> {
         }
     }
 
-    /// The map of all entries, whose keys and values are slices of the bytes. The entries are read once, with no comparison,
-    /// and each is moved once.
+    /// The map of all entries, whose keys and values are slices of the bytes. Each is read once, moved once, and not compared.
     ///
     /// It is refused for want of memory alone: it takes room for all entries at once, and none where there is no entry.
     pub fn to_map(&self, alloc: Global) -> Result<NameMap<'a>, AllocError>

@@ -142,8 +142,7 @@ impl<'a> NameTable<'a> {
         Some(entry_at(self.entries, self.count, index))
     }
 
-    /// The map of all entries, whose keys and values are slices of the bytes. The entries are read once, with no comparison,
-    /// and each is moved once.
+    /// The map of all entries, whose keys and values are slices of the bytes. Each is read once, moved once, and not compared.
     ///
     /// It is refused for want of memory alone: it takes room for all entries at once, and none where there is no entry.
     pub fn to_map(&self, alloc: Global) -> Result<NameMap<'a>, AllocError>

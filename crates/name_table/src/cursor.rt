@@ -11,8 +11,7 @@ use std::str;
 
 /// A place in bytes: those that lie ahead, and how many lie before.
 ///
-/// A number or a text is read where it stands, and told with the cursor behind it; what it stood at stays. A contract sees it
-/// as a `Position`.
+/// A number or a text is read where it stands, and told with the cursor behind it. A contract sees it as a `Position`.
 #[derive(Drop)]
 pub struct Cursor<'a> {
     rest: &'a [u8],
@@ -76,8 +75,7 @@ impl<'a> Cursor<'a> {
         }
     }
 
-    /// The text that the bytes begin with, behind its length, and the cursor behind it. A fault's place is that of the length
-    /// or of the text.
+    /// The text at the start, behind its length, and the cursor behind it. A fault's place is that of the length or the text.
     pub fn text(&self) -> Result<(&'a str, Self), NameFault>
         ensures ok { IfOk result (λ read. IsPast self.now read.1 (text_parts read.0.now)) }
         ensures err { IfErr result (λ fault. Fault AreOfText self.now.rest self.now.place fault) }

@@ -34,8 +34,7 @@ impl<K: Ord + Drop, V: Drop, S: StoreFromIterable<K, V>> LiteMap<K, V, S> {
         Self::from_iter_counted(alloc, iter, &mut Count::new())
     }
 
-    /// `from_iter`, with its comparisons counted: at most one for each pair where the pairs rise, also where it is refused
-    /// (own).
+    /// `from_iter`, with its comparisons counted: at most one a pair where they rise, also where it is refused (own).
     pub fn from_iter_counted<I: IntoIterator<Item = (K, V)>>(
         alloc: Global,
         iter: I,
@@ -115,8 +114,7 @@ impl<K: Ord + Drop, V: Drop, S: StoreBulkMut<K, V>> LiteMap<K, V, S> {
         self.extend_counted(alloc, iter, &mut Count::new())
     }
 
-    /// `extend`, with its comparisons counted, but for those of the sort (own). A refused call compares no more than an
-    /// answered one.
+    /// `extend`, with its comparisons counted, but for those of the sort (own). A refused call makes no more.
     pub fn extend_counted<I: IntoIterator<Item = (K, V)>>(
         &mut self,
         alloc: Global,

@@ -223,8 +223,7 @@ impl<K: Ord + Drop, V, S: StoreMut<K, V>> LiteMap<K, V, S> {
 }
 
 impl<K: Ord, V, S: StoreMut<K, V>> LiteMap<K, V, S> {
-    /// Places a pair whose key is absent; else the pair comes back. It compares and moves as `insert`, and is refused where
-    /// that is.
+    /// Places a pair whose key is absent; else the pair comes back. It compares, moves and is refused as `insert`.
     ///
     /// ```rust
     /// let mut days = three_days(alloc)?;

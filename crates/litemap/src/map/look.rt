@@ -83,8 +83,7 @@ impl<K: Ord, V, S: Store<K, V>> LiteMap<K, V, S> {
         }
     }
 
-    /// The pair with an equal key, if there is one: the key that is there, where equal keys differ (own). It makes O(log n)
-    /// comparisons.
+    /// The pair with an equal key: the key that is there, where equal keys differ (own). It makes O(log n) comparisons.
     pub fn get_key_value<Q: Query<K>>(&self, key: Q) -> Option<(&K, &V)>
         ensures { option_map deref_pair result ≡ at Q.order self.now.pairs (Q.sought key) }
     {

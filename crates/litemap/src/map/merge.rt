@@ -17,8 +17,7 @@ use std::alloc::Global;
 impl<K: Ord + Drop, V: Drop, S: StoreIntoIterator<K, V> + Drop> LiteMap<K, V, S> {
     /// Puts the pairs of another map in. Where an equal key is there, that key stays and takes the new value.
     ///
-    /// The answer is a map of what was driven out, those keys of the other map with the old values; `None` where no key is
-    /// common.
+    /// It answers a map of what was driven out, keys of the other map with the old values; `None` where no key is common.
     ///
     /// Where one map is empty nothing is compared, no memory is taken, and an empty map takes the other's store whole. Where all
     /// keys of one map lie above the other's, it makes at most two comparisons, and the pairs of one map move once. Else it makes

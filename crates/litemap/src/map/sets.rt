@@ -67,8 +67,7 @@ impl<K: Ord + Drop, V: Drop, S: StoreBulkMut<K, V>> LiteMap<K, V, S> {
         );
     }
 
-    /// Gives up the pairs whose keys another map has, and keeps the others (own). It compares as `keep_keys_of`, and leaves as
-    /// much room.
+    /// Gives up the pairs whose keys another map has (own). It compares as `keep_keys_of`, and leaves as much room.
     pub fn remove_keys_of<W, T: Store<K, W>>(&mut self, other: &LiteMap<K, W, T>)
         ensures pairs { self.new.pairs ≡ filter (λ p. not (is_some (at K.cmp other.now.pairs p.0))) self.old.pairs }
         // What a look-up finds: what it found, where the other map lacks the key.

@@ -38,8 +38,7 @@ impl<K: Ord, V, S: StoreMut<K, V>> LiteMap<K, V, S> {
         Some(self.take_at(0))
     }
 
-    /// Takes out the pair with the greatest key, and answers it; `None` where there is no pair (own). It compares no keys, and
-    /// moves no other pair.
+    /// Takes out the pair with the greatest key, `None` where there is none (own). It compares no keys, and moves no other pair.
     pub fn pop_last(&mut self) -> Option<(K, V)>
         ensures last { result ≡ slice_get self.old.pairs (length self.old.pairs - 1) }
         ensures others { self.new.pairs ≡ take (length self.old.pairs - 1) self.old.pairs }

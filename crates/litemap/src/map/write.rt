@@ -37,8 +37,7 @@ impl<K: Ord, V, S: StoreMut<K, V>> LiteMap<K, V, S> {
         }
     }
 
-    /// The value at a place where `f` answers `Equal`, to be written; `None` where it answers `Equal` for no key (own). It asks
-    /// `f` as `get_by` does.
+    /// The value at a place where `f` answers `Equal`, to be written, `None` where it never does (own). It asks as `get_by` does.
     pub fn get_mut_by<F: FnMut(&K) -> Ordering>(&mut self, f: F) -> Option<&mut V>
         requires { CallableOnKeys F.FnMut self.old.pairs f }
         ensures* writes_back { sem 𝓛

@@ -1,11 +1,12 @@
 -- What a closure keeps of a list of pairs.
 --     Kept-none, Kept-more      from one pair to the next;  Moved, Moved_if      what a pair that moves to the front leaves
 --     KeptSoFar-takes, -yes, -no, Kept-all      the steps of a loop that brings pairs to the front;  Rising-from_Kept      what is kept of a rising list rises
-use Rattle.std.proofs.Common.{◌≡◌, ℕ, suc, ◌+◌, ◌<◌, ◌≤◌, Bool, true, false, cond, List, [], ◌∷◌, ◌++◌, length, take, drop, slice_set, swap, get_or, add-one, append_assoc, append-nil, inl, inr, refl, sym, ap, ◌∙◌, subst, arith}
+use Rattle.std.proofs.Common.{◌≡◌, ℕ, suc, ◌+◌, ◌<◌, ◌≤◌, Bool, true, false, cond, List, [], ◌∷◌, ◌++◌, length, take, drop, slice_get, slice_set, swap, get_or, Some, add-one, append_assoc, append-nil, inl, inr, refl, sym, ap, ◌∙◌, subst, arith}
 use Rattle.std.proofs.Math.Seq.{drop-cons}
 use Rattle.std.proofs.lemmas.List.{drop_all, take-set-le, take_more}
 use Rattle.std.proofs.lemmas.List.Edits.{swap_is}
 use Rattle.std.proofs.lemmas.Bool.{cases_lt}
+use Rattle.std.proofs.lemmas.Option.{get_or_from_slice_get, slice_get_within}
 use mathlib.Core.Bool.{true≢false}
 use denote.Param.Members.{Mut}
 use denote.Ref.{Bor}
@@ -28,19 +29,19 @@ module _ {X : Type 0} where
     pub front : stays ≡ true → take (k + 1) L' ≡ take k L ++ x ∷ []
 
   -- a swap with the element at place i, or nothing where that is in its place, or goes
-  pub Moved_if : (L L' : List X) (k i : ℕ) (x : X) (stays moves : Bool) → k ≤ i → i < length L → x ≡ get_or L i x
+  pub Moved_if : (L L' : List X) (k i : ℕ) (x : X) (stays moves : Bool) → k ≤ i → slice_get L i ≡ Some x
       → (stays ≡ true → k < i → moves ≡ true) → L' ≡ cond moves (swap L k i) L → Moved L L' k i x stays
-  Moved_if L L' k i x stays true u h at goes is = record {
+  Moved_if L L' k i x stays true u at goes is = let h = slice_get_within L i x at in record {
     behind = ap (drop (i + 1)) is ∙ drop-swap L k i x u h;
     before = ap (take k) (is ∙ sym (swap_is L k i x (omega arith) h)) ∙ take-set-le k (slice_set L k (get_or L i x)) i (get_or L k x) u ∙ take-set-le k L k (get_or L i x) (omega arith);
-    front = λ _. ap (take (k + 1)) is ∙ take-swap L k i x u h ∙ ap (λ y. take k L ++ y ∷ []) (sym at);
+    front = λ _. ap (take (k + 1)) is ∙ take-swap L k i x u h ∙ ap (λ y. take k L ++ y ∷ []) (get_or_from_slice_get L i x x at);
   }
-  Moved_if L L' k i x stays false u h at goes is = record {
+  Moved_if L L' k i x stays false u at goes is = let h = slice_get_within L i x at in record {
     behind = ap (drop (i + 1)) is;
     before = ap (take k) is;
     front = λ stay.
         let e : k ≡ i = elim (cases_lt k i) [ inl lt ↦ absurd (true≢false (sym (goes stay lt))) | inr not ↦ (omega arith) ] in
-        ap (take (k + 1)) is ∙ take_more L k x (omega arith) ∙ ap (λ y. take k L ++ y ∷ []) (ap (λ n. get_or L n x) e ∙ sym at);
+        ap (take (k + 1)) is ∙ take_more L k x (omega arith) ∙ ap (λ y. take k L ++ y ∷ []) (ap (λ n. get_or L n x) e ∙ get_or_from_slice_get L i x x at);
   }
 
 module _ {F K V : Type 0} (g : Mut F (Bor K × (Bor V × Unit {0})) Bool) where
@@ -61,9 +62,9 @@ module _ {F K V : Type 0} (g : Mut F (Bor K × (Bor V × Unit {0})) Bool) where
   CallableOnEach-rest f p b f' L called c = record { at = λ before after s q is folds. c.at (p ∷ before) after s q (ap (λ N. p ∷ N) is) (f', (b, called), folds) }
 
   module _ (f₀ : F) (L₀ : List (K × V)) where
-    module _ (f : F) (L : List (K × V)) (k i : ℕ) (p : K × V) (now : KeptSoFar g f₀ L₀ f L k i) (inside : i < length L) (at : p ≡ get_or L i p) where
+    module _ (f : F) (L : List (K × V)) (k i : ℕ) (p : K × V) (now : KeptSoFar g f₀ L₀ f L k i) (at : slice_get L i ≡ Some p) where
       here : drop i L ≡ p ∷ drop (i + 1) L
-      here = drop-first L i p inside at
+      here = drop-first L i p (slice_get_within L i p at) (sym (get_or_from_slice_get L i p p at))
 
       pub KeptSoFar-takes : TakesPair g f p
       KeptSoFar-takes = CallableOnEach-first f p (drop (i + 1) L) (subst (CallableOnEach g f) here now.callable)

@@ -24,8 +24,7 @@ pub fn is_few(from: usize, total: usize) -> bool
     given <= FEW_PAIRS && !walk_is_cheaper(total, given, binary_digits(total))
 }
 
-/// Makes few pairs from an index on, below which the keys rise, part of the store: of each key the last pair stays. It takes no
-/// memory.
+/// Makes few pairs from an index on, below which keys rise, part of the store: of each key the last stays. It takes no memory.
 pub fn settle_few<K: Ord + Drop, V: Drop>(store: &mut Vec<(K, V)>, from: usize, count: &mut Count)
     requires from { from ≤ vec_len store.old }
     requires rising { Rising K.cmp (take from store.old.items) }

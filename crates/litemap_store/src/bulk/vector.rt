@@ -15,8 +15,7 @@ use crate::slice_impl::SliceStore;
 use std::alloc::{AllocError, Global};
 use std::mem;
 
-/// Makes the pairs from an index on, below which the keys rise, part of the store: of each key the last pair stays. Where it is
-/// refused they are given up.
+/// Makes the pairs from an index on, below which keys rise, part of the store: of each key the last stays. Refused, they go.
 pub fn settle<K: Ord + Drop, V: Drop>(
     alloc: Global,
     store: &mut Vec<(K, V)>,

@@ -1,0 +1,10 @@
+use Rattle.std.proofs.Common.{◌≡◌, length}
+use Rattle.litemap_store.specs.Retain.{KeptSoFar}
+use Rattle.litemap_store.proofs.retain.retain.Given as goal
+
+abbrev pub invariant-loop-index : goal.invariant-loop-index
+invariant-loop-index g l = record {
+  len : length (g.S.Store.pairs l.store) ≡ length (g.S.Store.pairs l.fn.store);
+  room : g.S.Store.room l.store ≡ g.S.Store.room l.fn.store;
+  kept : KeptSoFar g.F.FnMut l.fn.f (g.S.Store.pairs l.fn.store) l.f (g.S.Store.pairs l.store) l.kept l.index;
+}
