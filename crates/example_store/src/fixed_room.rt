@@ -14,7 +14,7 @@ ghost use Rattle.std.specs.Prelude.{refl};
 ghost use Rattle.litemap_store.specs.Contents.{with_value};
 
 use litemap::store::{
-    Count, NoRoom, SliceIter, Store, StoreBulkMut, StoreConstEmpty, StoreFromIterable,
+    Count, KeepsMemory, NoRoom, SliceIter, Store, StoreBulkMut, StoreConstEmpty, StoreFromIterable,
     StoreFromIterator, StoreIntoIterator, StoreIterable, StoreMut,
 };
 use std::alloc::{AllocError, Global};
@@ -130,6 +130,10 @@ impl<K, V> StoreMut<K, V> for FixedRoom<K, V> {
     ghost writes = { λ s i v. refl };
 
     ghost keeps_room = { λ s i v. refl };
+}
+
+impl<K, V> KeepsMemory<K, V> for FixedRoom<K, V> {
+    ghost keeps = { tt };
 }
 
 impl<K: Ord + Drop, V: Drop> StoreBulkMut<K, V> for FixedRoom<K, V> {

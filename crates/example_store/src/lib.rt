@@ -8,8 +8,9 @@ ghost use Rattle.std.specs.Prelude.{refl};
 ghost use Rattle.litemap_store.specs.Contents.{with_value};
 
 pub mod fixed_room;
+pub mod shrinking;
 
-use litemap::store::{Count, NoRoom, Store, StoreConstEmpty, StoreMut};
+use litemap::store::{Count, KeepsMemory, NoRoom, Store, StoreConstEmpty, StoreMut};
 use std::alloc::{AllocError, Global};
 use std::cmp::Ordering;
 use std::marker::Model;
@@ -119,4 +120,8 @@ impl<K, V, const LIMIT: usize> StoreMut<K, V> for Bounded<K, V, LIMIT> {
     ghost writes = { λ s i v. refl };
 
     ghost keeps_room = { λ s i v. refl };
+}
+
+impl<K, V, const LIMIT: usize> KeepsMemory<K, V> for Bounded<K, V, LIMIT> {
+    ghost keeps = { tt };
 }

@@ -6,6 +6,8 @@ pub mod Lists
 pub mod Numbers
 pub mod Outcomes
 pub mod Places
+pub mod Placing
+pub mod Walks
 pub mod Retained
 pub mod Sets
 pub mod Texts

@@ -1,7 +1,8 @@
 -- What a map ends as, once a reference to one of its values has ended. A contract hands these words what `K.row`,
 -- `S.pairs` and the like are, since a map's type takes them in the logic.
-use Rattle.std.specs.Prelude.{◌≡◌, ℕ, List, Option, OnSome, IfNone}
-use Rattle.std.specs.Borrow.{Fml, RattleType, MutBor, Lends, LendsIf, LendsSo}
+use Rattle.std.specs.Prelude.{◌≡◌, ℕ, List, Option, OnSome, IfNone, ⊤}
+use Rattle.std.specs.Borrow.{Fml, RattleType, MutBor, Lends, LendsIf, LendsSo, follows_so}
+use mathlib.Core.Option.{none}
 use Rattle.std.specs.Option.{option_copied_mut}
 use Rattle.std.specs.BTreeMap.Lent.{OrdMembers}
 use Rattle.std.specs.declared.cmp.Ordering.{Ordering}
@@ -41,3 +42,7 @@ module _ (K V S : RattleType) (key : OrdMembers K.Denot) (pairs : S.Denot → Li
     -- the same of the value of the key that is equal to q, which is there
     abbrev pub LendsKey : {Q : Type 0} → (K.Denot → Q → Ordering) → Q → MutBor V.Denot → Fml
     LendsKey order q r = Lends map_row V m r (λ v. with_pairs m.now (write order m.now.pairs q v))
+
+    -- once all that was lent of the map has ended, P holds of it
+    abbrev pub RestsAs : (Contents K.Denot V.Denot → Type 0) → Fml
+    RestsAs P = follows_so map_row map_row m.ghost_name none (λ _ _. ⊤) P

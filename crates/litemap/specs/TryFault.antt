@@ -1,6 +1,9 @@
 -- The two faults of `try_get_or_insert`.
-use Rattle.std.specs.Prelude.{◌≡◌, ℕ, Result, Ok, Err, ⊤}
+use Rattle.std.specs.Prelude.{◌≡◌, ℕ, ◌+◌, ◌≤◌, List, Result, Ok, Err, Some, IsNone, IsSome, IfOk, OnErr, MatchResult, ⊤}
 use Rattle.std.specs.Fn.{FnOnceReturnsAt, Once}
+use Rattle.std.specs.declared.cmp.Ordering.{Ordering}
+use Rattle.litemap_store.specs.Contents.{Contents}
+use Rattle.litemap_store.specs.Pairs.{at, put, value_in}
 use Rattle.litemap.specs.declared.try_fault.TryFault.{TryFault}
 use Rattle.litemap.specs.declared.try_fault.TryFault.TheVariants.{Closure, NoRoom}
 use denote.Ref.{Bor}
@@ -24,3 +27,18 @@ module _ {F K V E : Type 0} (g : Once F (Bor K × Unit {0}) (Result V E)) (f : F
     pub closure : IfClosure result (λ fault. FnOnceReturnsAt g f key (Err fault))
     pub full : IfNoRoom result (λ _ _. room ≡ 0)
     pub back : IfNoRoom result (λ k v. (k ≡ key) × FnOnceReturnsAt g f key (Ok v))
+
+-- the second result is the first, with the value that stands at the place
+abbrev pub Shown : {K V E : Type 0} → List (K × V) → Result ℕ E → Result (ℕ × Bor V) E → Type 0
+Shown L found shown =
+    MatchResult shown (λ there. (found ≡ Ok there.0) × (value_in L there.0 ≡ Some there.1.now)) (λ fault. found ≡ Err fault)
+
+module _ {F K V E : Type 0} (g : Once F (Bor K × Unit {0}) (Result V E)) (f : F) (cmp : K → K → Ordering) (key : K) (old : Contents K V)
+    (result : Result (ℕ × Bor V) (TryFault K V E)) where
+  -- what the map `old` is after the call: itself where the key is there, and else with the value that is shown
+  pub record IsPlaced (n : Contents K V) : Type 0 where
+    pub present : IsSome (at cmp old.pairs key) → n ≡ old
+    pub put : IsNone (at cmp old.pairs key) → IfOk result (λ there. n.pairs ≡ put cmp old.pairs key there.1.now)
+    pub room : old.room ≤ n.room + 1
+    pub refused : OnErr result (n.pairs ≡ old.pairs)
+    pub unmoved : IfClosure result (λ _. n ≡ old)

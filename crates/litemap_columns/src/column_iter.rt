@@ -91,6 +91,10 @@ impl<'a, K: 'a, V: 'a> PairIter<'a, K, V> for ColumnIter<'a, K, V> {
     ghost last = { λ _ _ _ h. h };
 
     ghost count = { λ _. refl };
+
+    fn lm_size_hint(&self) -> (usize, Option<usize>) {
+        self.size_hint()
+    }
 }
 
 impl<'a, K, V> Keys<K, V> for ColumnIter<'a, K, V> {
@@ -174,4 +178,8 @@ impl<K: Drop, V: Drop> PairIntoIter<K, V> for ColumnIntoIter<K, V> {
     ghost first = { λ _ _ _ h. h };
 
     ghost count = { λ _. refl };
+
+    fn lm_size_hint(&self) -> (usize, Option<usize>) {
+        self.size_hint()
+    }
 }

@@ -12,8 +12,8 @@ use litemap_store::reserved::insert_reserved;
 use litemap_store::retain::{SwapStore, retain};
 use litemap_store::slice_search;
 use litemap_store::store::{
-    Count, NoRoom, Store, StoreBulkMut, StoreConstEmpty, StoreFromIterable, StoreFromIterator,
-    StoreIntoIterator, StoreIterable, StoreMut,
+    Count, KeepsMemory, NoRoom, Store, StoreBulkMut, StoreConstEmpty, StoreFromIterable,
+    StoreFromIterator, StoreIntoIterator, StoreIterable, StoreMut,
 };
 use std::alloc::{AllocError, Global};
 use std::cmp::Ordering;
@@ -223,6 +223,10 @@ impl<K: Drop, V: Drop> SwapStore<K, V> for ColumnStore<K, V> {
         self.keys.truncate(len);
         self.values.truncate(len);
     }
+}
+
+impl<K, V> KeepsMemory<K, V> for ColumnStore<K, V> {
+    ghost keeps = { tt };
 }
 
 impl<K: Ord + Drop, V: Drop> StoreBulkMut<K, V> for ColumnStore<K, V> {

@@ -78,4 +78,8 @@ impl<K: Drop, V: Drop> PairIntoIter<K, V> for ShortIntoIter<K, V> {
     ghost first = { λ _ _ _ h. h };
 
     ghost count = { λ _. refl };
+
+    fn lm_size_hint(&self) -> (usize, Option<usize>) {
+        self.size_hint()
+    }
 }

@@ -5,8 +5,8 @@ ghost use Rattle.litemap_store.specs.Contents.{with_value};
 use crate::short_iter::ShortIntoIter;
 use crate::storage::{Storage, pair_at};
 use litemap_store::store::{
-    Count, NoRoom, SliceIter, SliceStore, Store, StoreBulkMut, StoreConstEmpty, StoreFromIterable,
-    StoreFromIterator, StoreIntoIterator, StoreIterable, StoreMut, StoreSlice,
+    Count, KeepsMemory, NoRoom, SliceIter, SliceStore, Store, StoreBulkMut, StoreConstEmpty,
+    StoreFromIterable, StoreFromIterator, StoreIntoIterator, StoreIterable, StoreMut, StoreSlice,
 };
 use std::alloc::{AllocError, Global};
 use std::cmp::Ordering;
@@ -159,6 +159,10 @@ impl<K, V> StoreMut<K, V> for ShortStore<K, V> {
     ghost writes = { λ s i v. refl };
 
     ghost keeps_room = { λ s i v. refl };
+}
+
+impl<K, V> KeepsMemory<K, V> for ShortStore<K, V> {
+    ghost keeps = { tt };
 }
 
 impl<K: Ord + Drop, V: Drop> StoreBulkMut<K, V> for ShortStore<K, V> {

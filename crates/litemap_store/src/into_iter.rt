@@ -2,6 +2,7 @@
 ghost use Rattle.std.specs.Prelude.{◌≡◌, ◌⊎◌, ◌<◌, ◌++◌, List, length, IfErr, OnErr, OnOk};
 ghost use Rattle.std.specs.Iterator.{YieldsFirst, at_most};
 ghost use Rattle.std.specs.Vec.Iter.{into_iter_items};
+ghost use Rattle.litemap_store.specs.Hints.{HintsExactly};
 ghost use Rattle.litemap_store.specs.IntoIter.{count_is, first_is};
 
 use crate::no_room::NoRoom;
@@ -12,10 +13,14 @@ use std::vec::IntoIter;
 
 /// An iterator that hands over the pairs of a store: a contract sees it as the list of those that are left.
 ///
-/// Its `len` is their number, by the law `count`; both ends of its `size_hint` are to be that number, which no law can ask.
+/// Its `len` is their number, by the law `count`.
 pub trait PairIntoIter<K, V>: Iterator<Item = (K, V)> + ExactSizeIterator + Drop {
     /// The pairs that are left, in their order.
     ghost owned: { Self → List (K × V) };
+
+    /// Returns the number of pairs that are left, twice (own), as `PairIter::lm_size_hint`.
+    fn lm_size_hint(&self) -> (usize, Option<usize>)
+        ensures { HintsExactly (length (owned self.now)) result };
 
     ghost can: { (it : Self) → Self.can_next it };
 
@@ -91,6 +96,12 @@ impl<K: Drop, V: Drop> PairIntoIter<K, V> for IntoIter<(K, V)> {
     ghost first = { first_is };
 
     ghost count = { count_is };
+
+    // (std's own hint has no clause that says so)
+    fn lm_size_hint(&self) -> (usize, Option<usize>) {
+        let len = self.len();
+        (len, Some(len))
+    }
 }
 
 impl<K: Drop, V: Drop> StoreIntoIterator<K, V> for Vec<(K, V)> {

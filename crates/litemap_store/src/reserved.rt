@@ -69,7 +69,7 @@ pub(crate) fn put_up<K: Drop, V: Drop, S: StoreMut<K, V>>(store: &mut S, mut pai
 pub(crate) fn take_last<K, V, S: StoreMut<K, V>>(store: &mut S) -> (K, V)
     requires { 0 < length (S.pairs store.old) }
     ensures pairs { S.pairs store.old ≡ S.pairs store.new ++ result ∷ [] }
-    ensures room { S.room store.old < S.room store.new }
+    ensures room { S.keeps_memory → S.room store.old < S.room store.new }
 {
     let last = store.lm_len() - 1;
     store.lm_remove(last)
@@ -84,7 +84,7 @@ pub(crate) fn take_from<K: Drop, V: Drop, S: StoreMut<K, V>>(
     requires index { index ≤ length (S.pairs store.old) }
     requires side_room { length side.old.items + length (S.pairs store.old) ≤ vec_capacity side.old + index }
     ensures store { S.pairs store.new ≡ take index (S.pairs store.old) }
-    ensures room { S.room store.old + length (drop index (S.pairs store.old)) ≤ S.room store.new }
+    ensures room { S.keeps_memory → S.room store.old + length (drop index (S.pairs store.old)) ≤ S.room store.new }
     ensures side { reverse side.new.items ≡ drop index (S.pairs store.old) ++ reverse side.old.items }
     ensures side_room { vec_capacity side.old ≤ vec_capacity side.new }
 {

@@ -85,6 +85,10 @@ impl<'a, K: 'a, V: 'a> PairIter<'a, K, V> for SliceIter<'a, K, V> {
     ghost last = { λ _ _ _ h. h };
 
     ghost count = { λ _. refl };
+
+    fn lm_size_hint(&self) -> (usize, Option<usize>) {
+        self.size_hint()
+    }
 }
 
 impl<'a, K, V> Keys<K, V> for SliceIter<'a, K, V> {

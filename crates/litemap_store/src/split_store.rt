@@ -17,7 +17,7 @@ pub fn split_store<K: Drop, V: Drop, S: StoreMut<K, V> + Drop>(
     requires { index ≤ length (S.pairs store.old) }
     ensures stays { OnOk result (S.pairs store.new ≡ take index (S.pairs store.old)) }
     ensures later { IfOk result (λ later. S.pairs later ≡ drop index (S.pairs store.old)) }
-    ensures room { OnOk result (index ≢ 0
+    ensures room { S.keeps_memory → OnOk result (index ≢ 0
         → S.room store.old + length (drop index (S.pairs store.old)) ≤ S.room store.new) }
     ensures refused { OnErr result (store.new ≡ store.old) }
     ensures unchanged { index ≡ length (S.pairs store.old) → store.new ≡ store.old }

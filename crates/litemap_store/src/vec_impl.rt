@@ -8,7 +8,7 @@ use crate::bulk::{gather, gather_behind};
 use crate::retain::{SwapStore, retain};
 use crate::slice_search;
 use crate::store::{
-    Count, NoRoom, SliceIter, Store, StoreBulkMut, StoreConstEmpty, StoreFromIterable,
+    Count, KeepsMemory, NoRoom, SliceIter, Store, StoreBulkMut, StoreConstEmpty, StoreFromIterable,
     StoreFromIterator, StoreIterable, StoreMut, StoreSlice,
 };
 use std::alloc::{AllocError, Global};
@@ -49,6 +49,10 @@ impl<K, V> StoreSlice<K, V> for Vec<(K, V)> {
     fn lm_get_range(&self, range: Range<usize>) -> Option<&[(K, V)]> {
         self.as_slice().get(range)
     }
+}
+
+impl<K, V> KeepsMemory<K, V> for Vec<(K, V)> {
+    ghost keeps = { tt };
 }
 
 impl<K, V> StoreMut<K, V> for Vec<(K, V)> {

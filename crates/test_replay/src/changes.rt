@@ -3,7 +3,7 @@ use crate::answer::Answer;
 use crate::call::{Call, Made, Map, Pair};
 use crate::counted::{Key, Value};
 use litemap::TryFault;
-use litemap::store::{Count, NoRoom, StoreBulkMut, StoreMut};
+use litemap::store::{Count, KeepsMemory, NoRoom, StoreBulkMut, StoreMut};
 
 /// Makes a call of these, if the name is one.
 pub fn change<S: StoreBulkMut<Key, Value>>(
@@ -15,7 +15,6 @@ pub fn change<S: StoreBulkMut<Key, Value>>(
         || make_where_absent(map, call, to).is_some()
         || write(map, call, to).is_some()
         || take(map, call, to).is_some()
-        || rename(map, call, to).is_some()
         || whole(map, call, to).is_some()
         || by_number(map, call, to).is_some()
 }
@@ -164,7 +163,12 @@ fn take<S: StoreMut<Key, Value>>(map: &mut Map<S>, call: &Call<'_>, to: &mut Ans
 }
 
 // The calls that move a value to another key.
-fn rename<S: StoreMut<Key, Value>>(map: &mut Map<S>, call: &Call<'_>, to: &mut Answer) -> Made {
+/// Renames a key, which a store that keeps its memory has, if the name is one.
+pub fn rename<S: KeepsMemory<Key, Value>>(
+    map: &mut Map<S>,
+    call: &Call<'_>,
+    to: &mut Answer,
+) -> Made {
     let (key, new_key) = (call.key(0)?, call.key(1)?);
     match call.name {
         "rename" => to.show(map.rename(&key, new_key)),

@@ -2,11 +2,13 @@
 use crate::answer::Answer;
 use crate::bench::{Bench, Outcome, Start};
 use crate::call::Call;
+use crate::changes::rename;
 use crate::counted::{Key, Order, Seen, Value};
 use crate::line::{self, Line};
 use crate::looks::{vector, view};
 use crate::walks::lent;
 use example_store::fixed_room::FixedRoom;
+use example_store::shrinking::Shrinking;
 use litemap_columns::ColumnStore;
 use litemap_short::ShortStore;
 use std::alloc::{AllocError, Global};
@@ -14,7 +16,7 @@ use std::rc::Rc;
 use std::{fs, io};
 
 // The names of the stores, in their order below.
-const STORES: [&str; 4] = ["vec", "columns", "short", "fixed"];
+const STORES: [&str; 5] = ["vec", "columns", "short", "fixed", "shrinking"];
 
 // How many bytes an answer takes at most.
 const LONGEST: usize = 1 << 14;
@@ -42,7 +44,8 @@ struct Replay {
     columns: Bench<ColumnStore<Key, Value>>,
     short: Bench<ShortStore<Key, Value>>,
     fixed: Bench<FixedRoom<Key, Value>>,
-    is_on: [bool; 4],
+    shrinking: Bench<Shrinking<Key, Value>>,
+    is_on: [bool; 5],
     order: Order,
     start: Start,
     seen: Rc<Seen>,
@@ -60,7 +63,8 @@ impl Replay {
             columns: Bench::new(alloc),
             short: Bench::new(alloc),
             fixed: Bench::new(alloc),
-            is_on: [false; 4],
+            shrinking: Bench::new(alloc),
+            is_on: [false; 5],
             order: Order::Number,
             start: Start {
                 len: 0,
@@ -79,7 +83,7 @@ impl Replay {
             return true;
         }
         if let Some(names) = text.strip_prefix("on ") {
-            self.is_on = [false; 4];
+            self.is_on = [false; 5];
             for name in names.split(' ') {
                 for (is_on, store) in self.is_on.iter_mut().zip(STORES) {
                     *is_on |= name == store;
@@ -126,10 +130,11 @@ impl Replay {
         to.clear();
         self.made = self.made.wrapping_add(1);
         match place {
-            0 => make_over!(self.vec, line, start, call, to, view, vector),
-            1 => make_over!(self.columns, line, start, call, to),
-            2 => make_over!(self.short, line, start, call, to, view),
-            _ => make_over!(self.fixed, line, start, call, to),
+            0 => make_over!(self.vec, line, start, call, to, rename, view, vector),
+            1 => make_over!(self.columns, line, start, call, to, rename),
+            2 => make_over!(self.short, line, start, call, to, rename, view),
+            3 => make_over!(self.fixed, line, start, call, to, rename),
+            _ => make_over!(self.shrinking, line, start, call, to),
         }
     }
 }

@@ -4,6 +4,7 @@ use crate::call::{Call, Map};
 use crate::counted::{Key, Value};
 use crate::{bulk, changes, copies, entries, looks, walks};
 use example_store::fixed_room::FixedRoom;
+use example_store::shrinking::Shrinking;
 use litemap::LiteMap;
 use litemap::store::{
     StoreBulkMut, StoreConstEmpty, StoreFromIterable, StoreFromIterator, StoreIntoIterator,
@@ -26,6 +27,8 @@ impl<K: Ord + Drop, V: Drop> Tested<K, V> for ShortStore<K, V> {}
 impl<K: Ord + Drop, V: Drop> Tested<K, V> for ColumnStore<K, V> {}
 
 impl<K: Ord + Drop, V: Drop> Tested<K, V> for FixedRoom<K, V> {}
+
+impl<K: Ord + Drop, V: Drop> Tested<K, V> for Shrinking<K, V> {}
 
 /// Makes a call of a map that every store has, but for walks that lend, if the name is one.
 pub fn call<S: Tested<Key, Value>>(map: &mut Map<S>, call: &Call<'_>, to: &mut Answer) -> bool {

@@ -10,11 +10,13 @@ ghost use Rattle.litemap_store.specs.Splits.{IsMissingAt};
 ghost use Rattle.litemap.specs.Changes.{AddsIf, Inserts, RefusedFull, Renames};
 ghost use Rattle.litemap.specs.FoundBy.{RemovesFound};
 ghost use Rattle.litemap.specs.Retained.{AnswersAt};
-ghost use Rattle.litemap.specs.TryFault.{FailsAs, IfClosure};
+ghost use Rattle.std.specs.Borrow.{sem};
+ghost use Rattle.litemap.specs.Lends.{RestsAs};
+ghost use Rattle.litemap.specs.TryFault.{FailsAs, IfClosure, IsPlaced, Shown};
 
 use crate::{LiteMap, TryFault};
 use litemap_store::Query;
-use litemap_store::store::{Count, NoRoom, StoreBulkMut, StoreMut};
+use litemap_store::store::{Count, KeepsMemory, NoRoom, StoreBulkMut, StoreMut};
 use std::alloc::AllocError;
 use std::cmp::Ordering;
 use std::mem;
@@ -54,9 +56,10 @@ impl<K: Ord + Drop, V, S: StoreMut<K, V>> LiteMap<K, V, S> {
         }
     }
 
-    /// The place and the value of a key, for who only reads them: who goes on to use the map calls `try_find_or_insert`.
+    /// The place and the value of a key. It compares, moves and leaves of the map what `try_find_or_insert` does.
     ///
-    /// It compares, moves and leaves of the map what that call does; no contract can tell what it leaves (docs/DECISIONS.md).
+    /// What it leaves is in its contract (`leaves`), which a proof by hand can use, and no other (docs/DECISIONS.md). So who goes
+    /// on to use the map calls `try_find_or_insert`.
     ///
     /// ```rust
     /// let mut days = three_days(alloc)?;
@@ -71,6 +74,10 @@ impl<K: Ord + Drop, V, S: StoreMut<K, V>> LiteMap<K, V, S> {
         f: F,
     ) -> Result<(usize, &V), TryFault<K, V, E>>
         requires { IsNone (at K.cmp self.old.pairs key) → FnOnceTakesAt F.FnOnce f key }
+        // What the map is, once the value is lent no more.
+        ensures* leaves { sem 𝓛 (RestsAs K.row V.row S.row K.Ord S.pairs S.room self.entry
+            (IsPlaced F.FnOnce f K.cmp key self.old result)) }
+
         // The place and the value: found, or what the closure answered.
         ensures place { IfOk result (λ there. there.0 ≡ place K.cmp self.old.pairs key) }
         ensures present { IsSome (at K.cmp self.old.pairs key) → IsOk result }
@@ -83,8 +90,31 @@ impl<K: Ord + Drop, V, S: StoreMut<K, V>> LiteMap<K, V, S> {
 
         ensures faults { FailsAs F.FnOnce f key self.old.room result }
     {
-        let index = self.try_find_or_insert(key, f)?;
-        Ok((index, self.value_there(index)))
+        let found = self.try_find_or_insert(key, f);
+        let map = self.shared();
+        map.shown(found)
+    }
+
+    // The map, for all the time that the reference has left.
+    fn shared(&mut self) -> &LiteMap<K, V, S>
+        ensures* rests { sem 𝓛 (RestsAs K.row V.row S.row K.Ord S.pairs S.room self.entry (λ n. n ≡ self.old)) }
+        ensures same { result.now ≡ self.old }
+    {
+        self
+    }
+
+    // The value at a place that was found.
+    fn shown<E>(
+        &self,
+        found: Result<usize, TryFault<K, V, E>>,
+    ) -> Result<(usize, &V), TryFault<K, V, E>>
+        requires { IfOk found (λ index. index < length self.now.pairs) }
+        ensures { Shown self.now.pairs found result }
+    {
+        match found {
+            Ok(index) => Ok((index, self.value_there(index))),
+            Err(fault) => Err(fault),
+        }
     }
 
     /// The place of a key. Where the key is absent, its value is what `f` answers for it, and is placed.
@@ -150,7 +180,7 @@ impl<K: Ord + Drop, V, S: StoreMut<K, V>> LiteMap<K, V, S> {
         ensures value { result ≡ value_at Q.order self.old.pairs (Q.sought key) }
         ensures cut { self.new.pairs ≡ cut Q.order self.old.pairs (Q.sought key) }
         ensures unchanged { IsNone (at Q.order self.old.pairs (Q.sought key)) → self.new ≡ self.old }
-        ensures room { IsSome result → self.old.room < self.new.room }
+        ensures room { S.keeps_memory → IsSome result → self.old.room < self.new.room }
     {
         self.remove_counted(key, &mut Count::new())
     }
@@ -160,7 +190,7 @@ impl<K: Ord + Drop, V, S: StoreMut<K, V>> LiteMap<K, V, S> {
         ensures value { result ≡ value_at Q.order self.old.pairs (Q.sought key) }
         ensures cut { self.new.pairs ≡ cut Q.order self.old.pairs (Q.sought key) }
         ensures unchanged { IsNone (at Q.order self.old.pairs (Q.sought key)) → self.new ≡ self.old }
-        ensures room { IsSome result → self.old.room < self.new.room }
+        ensures room { S.keeps_memory → IsSome result → self.old.room < self.new.room }
         ensures cost { RisesByAtMost (digits (length self.old.pairs)) count.old count.new }
     {
         Some(self.take_out(key, count)?.1)
@@ -178,6 +208,7 @@ impl<K: Ord + Drop, V, S: StoreMut<K, V>> LiteMap<K, V, S> {
     pub fn rename<Q: Query<K>>(&mut self, key: Q, new_key: K) -> bool
     where
         V: Drop,
+        S: KeepsMemory<K, V>,
         ensures renamed { Renames Q.order (Q.sought key) K.cmp new_key self.old self.new result }
     {
         self.rename_counted(key, new_key, &mut Count::new())
@@ -187,6 +218,7 @@ impl<K: Ord + Drop, V, S: StoreMut<K, V>> LiteMap<K, V, S> {
     pub fn rename_counted<Q: Query<K>>(&mut self, key: Q, new_key: K, count: &mut Count) -> bool
     where
         V: Drop,
+        S: KeepsMemory<K, V>,
         ensures renamed { Renames Q.order (Q.sought key) K.cmp new_key self.old self.new result }
         ensures cost { RisesByAtMost (2 * digits (length self.old.pairs)) count.old count.new }
     {
@@ -203,7 +235,7 @@ impl<K: Ord + Drop, V, S: StoreMut<K, V>> LiteMap<K, V, S> {
         requires { CallableOnKeys F.FnMut self.old.pairs f }
         ensures found { RemovesFound F.FnMut self.old.pairs f result self.new.pairs }
         ensures unchanged { IsNone result → self.new ≡ self.old }
-        ensures room { IsSome result → self.old.room < self.new.room }
+        ensures room { S.keeps_memory → IsSome result → self.old.room < self.new.room }
     {
         match self.find_index_by(f) {
             Ok(index) => Some(self.take_at(index).1),
@@ -216,7 +248,7 @@ impl<K: Ord + Drop, V, S: StoreMut<K, V>> LiteMap<K, V, S> {
     where
         V: Drop,
         ensures pairs { self.new.pairs ≡ [] }
-        ensures room { self.old.room + length self.old.pairs ≤ self.new.room }
+        ensures room { S.keeps_memory → self.old.room + length self.old.pairs ≤ self.new.room }
     {
         self.store.lm_clear();
     }
@@ -335,7 +367,7 @@ impl<K: Ord + Drop, V: Drop, S: StoreBulkMut<K, V>> LiteMap<K, V, S> {
         ensures gone { (key : K) → AnswersAt F.FnMut f K.cmp self.old.pairs key false
             → value_at K.cmp self.new.pairs key ≡ None }
         ensures fewer { length self.new.pairs ≤ length self.old.pairs }
-        ensures room { self.old.room + length self.old.pairs ≤ self.new.room + length self.new.pairs }
+        ensures room { S.keeps_memory → self.old.room + length self.old.pairs ≤ self.new.room + length self.new.pairs }
     {
         self.store.lm_retain(f);
     }

@@ -207,7 +207,7 @@ impl<'a, K: Ord, V, S: StoreMut<K, V>> OccupiedEntry<'a, K, V, S> {
         K: Drop,
         ensures value { entry_value (Occupied self.entry) ≡ Some result }
         ensures removed { self.exit.0.now.pairs ≡ pairs_without (Occupied self.entry) }
-        ensures room { (entry_map (Occupied self.entry)).now.room < self.exit.0.now.room }
+        ensures room { S.keeps_memory → (entry_map (Occupied self.entry)).now.room < self.exit.0.now.room }
     {
         let index = self.index;
         self.map.take_at(index).1

@@ -56,7 +56,7 @@ impl<K: Ord + Drop, V: Drop, S: StoreBulkMut<K, V>> LiteMap<K, V, S> {
         // What a look-up finds: what it found, where the other map has the key.
         ensures found { (key : K) → value_at K.cmp self.new.pairs key
             ≡ cond (is_some (at K.cmp other.now.pairs key)) (value_at K.cmp self.old.pairs key) None }
-        ensures room { self.old.room + length self.old.pairs ≤ self.new.room + length self.new.pairs }
+        ensures room { S.keeps_memory → self.old.room + length self.old.pairs ≤ self.new.room + length self.new.pairs }
     {
         let mut rest = RangeIter::all(&other.store);
         self.store.lm_retain(
@@ -73,7 +73,7 @@ impl<K: Ord + Drop, V: Drop, S: StoreBulkMut<K, V>> LiteMap<K, V, S> {
         // What a look-up finds: what it found, where the other map lacks the key.
         ensures found { (key : K) → value_at K.cmp self.new.pairs key
             ≡ cond (is_some (at K.cmp other.now.pairs key)) None (value_at K.cmp self.old.pairs key) }
-        ensures room { self.old.room + length self.old.pairs ≤ self.new.room + length self.new.pairs }
+        ensures room { S.keeps_memory → self.old.room + length self.old.pairs ≤ self.new.room + length self.new.pairs }
     {
         let mut rest = RangeIter::all(&other.store);
         self.store.lm_retain(

@@ -19,7 +19,7 @@ impl<K: Ord, V, S: StoreMut<K, V>> LiteMap<K, V, S> {
         ensures pair { result ≡ at Q.order self.old.pairs (Q.sought key) }
         ensures cut { self.new.pairs ≡ cut Q.order self.old.pairs (Q.sought key) }
         ensures unchanged { IsNone (at Q.order self.old.pairs (Q.sought key)) → self.new ≡ self.old }
-        ensures room { IsSome result → self.old.room < self.new.room }
+        ensures room { S.keeps_memory → IsSome result → self.old.room < self.new.room }
     {
         self.take_out(key, &mut Count::new())
     }
@@ -30,7 +30,7 @@ impl<K: Ord, V, S: StoreMut<K, V>> LiteMap<K, V, S> {
         ensures first { result ≡ slice_get self.old.pairs 0 }
         ensures others { self.new.pairs ≡ drop 1 self.old.pairs }
         ensures unchanged { IsNone result → self.new ≡ self.old }
-        ensures room { IsSome result → self.old.room < self.new.room }
+        ensures room { S.keeps_memory → IsSome result → self.old.room < self.new.room }
     {
         if self.is_empty() {
             return None;
@@ -43,7 +43,7 @@ impl<K: Ord, V, S: StoreMut<K, V>> LiteMap<K, V, S> {
         ensures last { result ≡ slice_get self.old.pairs (length self.old.pairs - 1) }
         ensures others { self.new.pairs ≡ take (length self.old.pairs - 1) self.old.pairs }
         ensures unchanged { IsNone result → self.new ≡ self.old }
-        ensures room { IsSome result → self.old.room < self.new.room }
+        ensures room { S.keeps_memory → IsSome result → self.old.room < self.new.room }
     {
         let len = self.len();
         if len == 0 {
@@ -57,7 +57,7 @@ impl<K: Ord, V, S: StoreMut<K, V>> LiteMap<K, V, S> {
         ensures pair { result ≡ at Q.order self.old.pairs (Q.sought key) }
         ensures cut { self.new.pairs ≡ cut Q.order self.old.pairs (Q.sought key) }
         ensures unchanged { IsNone (at Q.order self.old.pairs (Q.sought key)) → self.new ≡ self.old }
-        ensures room { IsSome result → self.old.room < self.new.room }
+        ensures room { S.keeps_memory → IsSome result → self.old.room < self.new.room }
         ensures cost { RisesByAtMost (digits (length self.old.pairs)) count.old count.new }
     {
         match self.search(key, count) {
@@ -71,7 +71,7 @@ impl<K: Ord, V, S: StoreMut<K, V>> LiteMap<K, V, S> {
         requires { index < length self.old.pairs }
         ensures old { slice_get self.old.pairs index ≡ Some result }
         ensures pairs { self.new.pairs ≡ remove self.old.pairs index }
-        ensures room { self.old.room < self.new.room }
+        ensures room { S.keeps_memory → self.old.room < self.new.room }
     {
         self.store.lm_remove(index)
     }
@@ -95,7 +95,7 @@ impl<K: Ord + Drop, V: Drop, S: StoreMut<K, V> + Drop> LiteMap<K, V, S> {
         ensures from { IfOk result
             (λ m. m.pairs ≡ within Q.order self.old.pairs (Included (Q.sought key)) Unbounded) }
         ensures all { IfOk result (λ m. self.new.pairs ++ m.pairs ≡ self.old.pairs) }
-        ensures room { IfOk result (λ m. below Q.order self.old.pairs (Q.sought key) ≢ []
+        ensures room { S.keeps_memory → IfOk result (λ m. below Q.order self.old.pairs (Q.sought key) ≢ []
             → self.old.room + length m.pairs ≤ self.new.room) }
         ensures refused { OnErr result (self.new ≡ self.old) }
         ensures unchanged { within Q.order self.old.pairs (Included (Q.sought key)) Unbounded ≡ [] → self.new ≡ self.old }

@@ -51,8 +51,7 @@ impl<'a, K: 'a, V: 'a, I: PairIter<'a, K, V>> Iterator for KeysIterWrap<'a, K, V
     fn size_hint(&self) -> (usize, Option<usize>)
         ensures { HintsExactly (length (I.rest self.now)) result }
     {
-        let len = self.len();
-        (len, Some(len))
+        self.iter.lm_size_hint()
     }
 }
 
@@ -117,8 +116,7 @@ impl<'a, K: 'a, V: 'a, I: PairIter<'a, K, V>> Iterator for ValuesIterWrap<'a, K,
     fn size_hint(&self) -> (usize, Option<usize>)
         ensures { HintsExactly (length (I.rest self.now)) result }
     {
-        let len = self.len();
-        (len, Some(len))
+        self.iter.lm_size_hint()
     }
 }
 

@@ -47,9 +47,9 @@ returns-clause-unchanged g c = λ none.
     rw (c.in_ok-later.ensures.unchanged (last ∙ ap length (sym (ap (λ m. m.pairs) c.self.view_is)))) c.self.view_is
 
 pub returns-clause-room : goal.returns-clause-room
-returns-clause-room g c = λ some.
+returns-clause-room g c = λ keeps some.
     let now = c.args.self.now.pairs in
     let place = c.place_before-place.result in
     let none = sym (take-cut _ now place c.place_before-place.ensures.cut) in
-    let kept = c.in_ok-later.ensures.room (λ zero. some (none ∙ ap (λ n. take n now) zero)) in
+    let kept = c.in_ok-later.ensures.room keeps (λ zero. some (none ∙ ap (λ n. take n now) zero)) in
     omega (arith, kept, ap (λ m. m.room) c.self.view_is, ap length (c.from_sorted_store_unchecked.ensures.pairs ∙ c.in_ok-later.ensures.later))

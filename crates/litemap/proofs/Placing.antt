@@ -1,0 +1,85 @@
+-- What `try_find_or_insert` leaves, and the value that is then shown, tell together.
+use Rattle.std.proofs.Common.{◌≡◌, ℕ, ◌+◌, ◌<◌, ◌≤◌, Result, Ok, Err, Option, Some, IsNone, IsSome, IsOk, IfOk, OnOk, OnErr, length, slice_get, unwrap_or, option_map, refl, sym, ap, ◌∙◌, subst}
+use Rattle.std.specs.Fn.{FnOnceReturnsAt, Once}
+use Rattle.std.specs.declared.cmp.Ordering.{Ordering}
+use denote.Ref.{Bor}
+use Rattle.litemap_store.specs.Contents.{Contents}
+use Rattle.litemap_store.specs.Pairs.{at, place, put, value_at, value_in}
+use Rattle.litemap_store.proofs.Lists.Seams.{put_value}
+use Rattle.litemap.specs.declared.try_fault.TryFault.{TryFault}
+use Rattle.litemap.specs.declared.try_fault.TryFault.TheVariants.{Closure, NoRoom}
+use Rattle.litemap.specs.TryFault.{FailsAs, IfClosure, IsPlaced, Shown}
+
+same_value : {V : Type 0} (v w : V) → Some v ≡ Some w → v ≡ w
+same_value {V} v w e = ap (λ (o : Option V). unwrap_or o v) e
+
+module _ {F K V E : Type 0} (g : Once F (Bor K × Unit {0}) (Result V E)) (f : F) (cmp : K → K → Ordering) (key : K) (old n : Contents K V) where
+  -- what `try_find_or_insert` ensures of its result r, and of the map n that it leaves
+  pub record Found (r : Result ℕ (TryFault K V E)) : Type 0 where
+    pub place : IfOk r (λ i. i ≡ place cmp old.pairs key)
+    pub within : IfOk r (λ i. i < length n.pairs)
+    pub there : IfOk r (λ i. slice_get n.pairs i ≡ at cmp n.pairs key)
+    pub present : IsSome (at cmp old.pairs key) → IsOk r × (n ≡ old)
+    pub put : IsNone (at cmp old.pairs key) → OnOk r ((v : V) × FnOnceReturnsAt g f key (Ok v) × (n.pairs ≡ put cmp old.pairs key v))
+    pub room : old.room ≤ n.room + 1
+    pub faults : FailsAs g f key old.room r
+    pub refused : OnErr r (n.pairs ≡ old.pairs)
+    pub unmoved : IfClosure r (λ _. n ≡ old)
+
+  fails_alike : (e : TryFault K V E) → FailsAs g f key old.room {A = ℕ} (Err e) → FailsAs g f key old.room {A = ℕ × Bor V} (Err e)
+  fails_alike (Closure e) h = record { closure = h.closure; full = tt; back = tt }
+  fails_alike (NoRoom k v) h = record { closure = tt; full = h.full; back = h.back }
+
+  still_unmoved : (e : TryFault K V E) → IfClosure {A = ℕ} (Err e) (λ _. n ≡ old) → IfClosure {A = ℕ × Bor V} (Err e) (λ _. n ≡ old)
+  still_unmoved (Closure e) h = h
+  still_unmoved (NoRoom k v) h = tt
+
+  -- all that `try_get_or_insert` ensures
+  pub record Told (t : Result (ℕ × Bor V) (TryFault K V E)) : Type 0 where
+    pub leaves : IsPlaced g f cmp key old t n
+    pub place : IfOk t (λ there. there.0 ≡ place cmp old.pairs key)
+    pub present : IsSome (at cmp old.pairs key) → IsOk t
+    pub within : IsSome (at cmp old.pairs key) → IfOk t (λ there. there.0 < length old.pairs)
+    pub value : IsSome (at cmp old.pairs key) → IfOk t (λ there. Some there.1.now ≡ value_at cmp old.pairs key)
+    pub answered : IsNone (at cmp old.pairs key) → IfOk t (λ there. FnOnceReturnsAt g f key (Ok there.1.now))
+    pub faults : FailsAs g f key old.room t
+
+  pub told : (r : Result ℕ (TryFault K V E)) → Found r → (t : Result (ℕ × Bor V) (TryFault K V E)) → Shown n.pairs r t → Told t
+  told r found (Ok there) shown =
+      let is = shown.0 in
+      let place-is = subst (λ s. IfOk s (λ i. i ≡ place cmp old.pairs key)) is found.place in
+      let made : IsNone (at cmp old.pairs key) → (v : V) × FnOnceReturnsAt g f key (Ok v) × (n.pairs ≡ put cmp old.pairs key v) =
+      λ none. subst (λ s. OnOk s ((v : V) × FnOnceReturnsAt g f key (Ok v) × (n.pairs ≡ put cmp old.pairs key v))) is (found.put none) in
+      let same : (none : IsNone (at cmp old.pairs key)) → (made none).0 ≡ there.1.now =
+      λ none. same_value (made none).0 there.1.now (sym (put_value cmp old.pairs key (made none).0) ∙ ap (value_in _) (sym place-is) ∙ ap (λ L. value_in L there.0) (sym (made none).2) ∙ shown.1) in
+      record {
+        leaves = record {
+          present = λ some. (found.present some).1;
+          put = λ none. (made none).2 ∙ ap (put cmp old.pairs key) (same none);
+          room = found.room;
+          refused = tt;
+          unmoved = tt;
+        };
+        place = place-is;
+        present = λ some. refl;
+        within = λ some. subst (λ m. there.0 < length m.pairs) (found.present some).1 (subst (λ s. IfOk s (λ i. i < length n.pairs)) is found.within);
+        value = λ some. sym shown.1 ∙ ap (option_map (λ p. p.1)) (subst (λ s. IfOk s (λ i. slice_get n.pairs i ≡ at cmp n.pairs key)) is found.there) ∙ ap (λ m. value_at cmp m.pairs key) (found.present some).1;
+        answered = λ none. subst (λ v. FnOnceReturnsAt g f key (Ok v)) (same none) (made none).1;
+        faults = record { closure = tt; full = tt; back = tt };
+      }
+  told r found (Err e) shown =
+      record {
+        leaves = record {
+          present = λ some. (found.present some).1;
+          put = λ none. tt;
+          room = found.room;
+          refused = subst (λ s. OnErr s (n.pairs ≡ old.pairs)) shown found.refused;
+          unmoved = still_unmoved e (subst (λ s. IfClosure s (λ _. n ≡ old)) shown found.unmoved);
+        };
+        place = tt;
+        present = λ some. subst IsOk shown (found.present some).0;
+        within = λ some. tt;
+        value = λ some. tt;
+        answered = λ none. tt;
+        faults = fails_alike e (subst (FailsAs g f key old.room) shown found.faults);
+      }
