@@ -9,7 +9,7 @@ block that begins with an item shows what a user writes: `bin/check code` looks 
 import re
 import textwrap
 
-from checks.sources import RUST, examples_of
+from lib.checks.sources import RUST, examples_of
 
 # The modules, and whose sources' blocks they have: the first that fits.
 MODULES = {

@@ -1,0 +1,49 @@
+"""The crates and the scripts: tables, lines of crates.txt and lists name all of them, and none that is not there."""
+import os
+import re
+import subprocess
+
+from lib.checks.api import NOT_LISTED
+from lib.checks.pages import BLOCKS, CODE, TEXTS
+from lib.checks.sources import LIBRARIES
+from lib.shared import CRATES, TOP
+
+# The libraries that bin/release does not pack: why.
+NOT_PACKED = {}
+
+
+def named_in(page, head):
+    """What the first column of a page's table names, whose first cell is `head`."""
+    tables = [it.rows() for it in BLOCKS[page] if it.kind == "table"]
+    return {name for rows in tables if rows[0][0] == head for row in rows[1:] for name in CODE.findall(row[0])}
+
+
+def lines_in(page):
+    """The lines of crates.txt that a page shows, in its text or in a block: the crate of each, and what it uses."""
+    shown = re.findall(r"`(\w+):((?: \w+)*)`|^ *(\w+):((?: \w+)*)$", TEXTS[page], re.MULTILINE)
+    return [(name or below, (uses or more).split()) for name, uses, below, more in shown if (name or below) in CRATES]
+
+
+def check(report, _):
+    folders = {it.name for it in (TOP / "crates").iterdir() if (it / "src").is_dir()}
+    scripts = {it.name for it in (TOP / "bin").iterdir() if it.is_file() and os.access(it, os.X_OK)}
+    for where, named, there in [
+        ("crates.txt", {*CRATES}, folders),
+        ("the table of crates in docs/DESIGN.md", named_in("docs/DESIGN.md", "`crates/`"), folders),
+        ("the table of scripts in docs/DESIGN.md", named_in("docs/DESIGN.md", "`bin/`"), scripts),
+    ]:
+        for name in sorted(named | there):
+            report.see(name in there, f"{where} names {name}, which is not there")
+            report.see(name in named, f"{where} does not name {name}")
+    for page in TEXTS:
+        shown = lines_in(page)
+        for name, uses in shown:
+            report.see(uses == CRATES[name], f"{page}: the line of {name} is not that of crates.txt")
+            for used in [it for it in uses if it in CRATES]:
+                report.see(used in dict(shown), f"{page} has a line of {name}, and none of {used}, which it uses")
+    report.see(lines_in("CALLING.md"), "CALLING.md shows no lines of crates.txt")
+    packed = subprocess.run([TOP / "bin" / "release", "--list"], capture_output=True, text=True).stdout.split()
+    for name in LIBRARIES:
+        told = f"docs/API.md does not name {name}, and NOT_LISTED in bin/lib/checks/api.py has no reason"
+        report.see(name in NOT_LISTED or f"../crates/{name}/" in TEXTS["docs/API.md"], told)
+        report.see(name in packed or name in NOT_PACKED, f"bin/release does not pack {name}, and NOT_PACKED has no reason")

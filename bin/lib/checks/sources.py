@@ -1,0 +1,95 @@
+"""The sources: the calls of the libraries with their contracts, and the traits of others that their types have."""
+import itertools
+import re
+import textwrap
+
+from lib.shared import CRATES, TOP
+
+LIBRARIES = [name for name in CRATES if not name.startswith(("test_", "example_"))]
+# The head of an item, up to its contract or its body.
+ITEM = re.compile(
+    r"^(?P<set_in> *)(?P<head>(?:pub (?:fn|trait|struct|enum)|fn|final fn|impl)\b[^{;]*?)(?=\s*(?:\brequires\b|\bensures\b|\{|;))",
+    re.MULTILINE,
+)
+
+
+def texts(pattern):
+    """The texts of files, by their paths in crates/."""
+    files = sorted((TOP / "crates").glob(pattern))
+    return {it.relative_to(TOP / "crates").as_posix(): it.read_text(encoding="utf-8") for it in files}
+
+
+def examples_of(text):
+    """The blocks of Rust in the `///` of a source: the comment of each, the block, and whether it begins with an item."""
+    for comment in re.finditer(r"(?:^ *///.*\n)+", text, re.MULTILINE):
+        inside = re.sub(r"^ */// ?", "", comment[0], flags=re.MULTILINE)
+        for block in re.findall(r"^```rust\n(.*?)^```$", inside, re.MULTILINE | re.DOTALL):
+            yield comment, block, re.match("///|fn |impl |pub ", block) and "\n// ...\n" not in block
+
+
+def squeezed(text):
+    """A head in one line, without its comments."""
+    text = re.sub(r"\s+", " ", re.sub(r"//[^\n]*", "", text)).strip()
+    return re.sub(r",? ([)>])", r"\1", re.sub(r"([(<]) ", r"\1", text)).rstrip(",")
+
+
+class Function:
+    """A function: its source, the head of the item that it is in, its name, its head with its clauses, and what is said above it."""
+
+    def __init__(self, source, outer, text, found):
+        rest = text[found.end() :]
+        is_bare = re.match(r"\s*[{;]\n", rest)
+        end = 0 if is_bare else re.search(rf"\s*(?:^{found['set_in']}\{{\}}?|;)$", rest, re.MULTILINE).start()
+        self.contract = textwrap.dedent(found["set_in"] + found["head"] + rest[:end])
+        self.head = re.split(r"\n\s*(?:where|requires|ensures)\b", self.contract)[0]
+        self.source, self.outer, self.name = source, outer, re.search(r"fn (\w+)", self.head)[1]
+        owner = re.match(r"pub trait (\w+)|impl(?:<.*?>)? (\w+)(?:<.*>)?\s*(?:where.*)?$", outer)
+        # The type or the trait whose call it is, "" for a function of a module, None where it is of a trait that a type has.
+        self.owner = "" if not outer else owner[1] or owner[2] if owner and " for " not in outer else None
+        self.label = f"{self.owner}::{self.name}" if self.owner else self.name
+        self.is_public = "pub fn" in self.head or outer.startswith("pub trait")
+        above = reversed(text[: found.start()].splitlines())
+        said = [*itertools.takewhile(lambda line: re.match(r" *(///|#\[)", line), above)][::-1]
+        said = "\n".join(re.sub(r"^ */// ?", "", line) for line in said if "///" in line)
+        self.said = " ".join(re.sub(r"```.*?```", "", said, flags=re.DOTALL).split())
+        self.sentence = re.match(r".*?[.:](?= |$)|.*", self.said)[0].rstrip(":")
+
+
+def functions_of(source, text):
+    """The functions of a source, but for those within functions."""
+    outer = ""
+    for found in ITEM.finditer(text):
+        if not found["set_in"]:
+            outer = "" if " fn " in f" {found['head']} " else squeezed(found["head"])
+        if re.search(r"\bfn \w", found["head"]) and len(found["set_in"]) == (4 if outer else 0):
+            yield Function(source, outer, text, found)
+
+
+def library_calls(library):
+    """The calls of a library that a user can name, by source, each once."""
+    files = "\n".join(text for path, text in RUST.items() if path.startswith(f"{library}/"))
+    names = {*re.findall(r"\w+", " ".join(re.findall(r"^pub use ([^;]*);", files, re.MULTILINE)))}
+    modules = re.findall(r"^pub mod (\w+);", RUST.get(f"{library}/src/lib.rt", ""), re.MULTILINE)
+    for source in [it for it in FUNCTIONS if it.startswith(f"{library}/")]:
+        is_module = source.partition("/")[2] in modules
+        found = [it for it in FUNCTIONS[source] if it.is_public and it.owner is not None]
+        found = [it for it in found if is_module or (it.owner or it.name) in names]
+        yield source, list({it.label: it for it in found[::-1]}.values())[::-1]
+
+
+def impls_of(text):
+    """The heads of the impls of others' traits in a source, each with the names of its functions."""
+    for found in re.finditer(r"^(impl\b[^{]*?)\s*\{(\}|\n.*?^\})", text, re.MULTILINE | re.DOTALL):
+        head = squeezed(found[1])
+        trait = re.match(r"impl(?:<.*?>)? (?:\w+::)?(\w+)(?:<.*>)? for ", re.sub(r"^impl<(?:[^<>]|<[^<>]*>)*>", "impl", head))
+        if trait and trait[1] not in OWN_TRAITS:
+            yield head, re.findall(r"^    fn (\w+)", found[2], re.MULTILINE)
+
+
+RUST, SPECS, PROOFS = texts("*/src/**/*.rt"), texts("*/specs/**/*.antt"), texts("*/proofs/**/*.antt")
+OWN_TRAITS = {"Model", *re.findall(r"^(?:pub(?:\([a-z]+\))? )?trait (\w+)", "\n".join(RUST.values()), re.MULTILINE)}
+# The sources of the libraries, as litemap/map/look: their functions, calls, and impls of others' traits.
+SOURCES = {it.replace("/src/", "/").removesuffix(".rt"): text for it, text in RUST.items() if it.split("/")[0] in LIBRARIES}
+FUNCTIONS = {source: [*functions_of(source, text)] for source, text in SOURCES.items()}
+CALLS = {source: calls for library in LIBRARIES for source, calls in library_calls(library)}
+IMPLS = {source: [*impls_of(text)] for source, text in SOURCES.items()}

@@ -1,0 +1,136 @@
+"""What the scripts in Python share: the crates, the text of --help, and how cases are counted."""
+import argparse
+import functools
+import os
+import pathlib
+import re
+import shutil
+import subprocess
+import sys
+import threading
+
+TOP = pathlib.Path(__file__).resolve().parents[2]
+# What each crate uses, by the lines of crates.txt, in their order.
+CRATES = {name: uses.split() for name, uses in re.findall(r"^(\w+)[^:\n]*:(.*)", (TOP / "crates.txt").read_text(), re.MULTILINE)}
+
+
+def parser(text):
+    """A parser of a script's words, whose --help is this text."""
+    return argparse.ArgumentParser(description=text, formatter_class=argparse.RawDescriptionHelpFormatter)
+
+
+def used_by(*names):
+    """These crates and those of the repository that they use, each behind its own."""
+    found = {}
+    for name in names:
+        found |= dict.fromkeys([*used_by(*(it for it in CRATES[name] if it in CRATES)), name])
+    return [*found]
+
+
+def copy_crates(room, *names, ignored=("out", "must-fail"), top=TOP):
+    """Copies these crates and those that they use into a folder, as a repository of its own."""
+    for name in used_by(*names):
+        shutil.copytree(top / "crates" / name, room / "crates" / name, ignore=shutil.ignore_patterns(*ignored))
+    lines = (top / "crates.txt").read_text().splitlines(keepends=True)
+    (room / "crates.txt").write_text("".join(line for line in lines if re.split("[: ]", line)[0] in used_by(*names)))
+    shutil.copy(top / "HANDLES", room)
+
+
+def texts_in(folder):
+    """The sources, specs and proofs of a crate, by their paths in its folder."""
+    files = [it for part in ("src", "specs", "proofs") for it in (folder / part).rglob("*") if it.suffix in (".rt", ".antt")]
+    return {it.relative_to(folder).as_posix(): it.read_text(encoding="utf-8") for it in files}
+
+
+class Body:
+    """A wrong body: its title, the texts that it replaces, and what catches it, if that is stored.
+
+    Of each text that it replaces `changes` has the file, the text behind which it stands ('' if it stands once), the text, and the
+    new one.
+    """
+
+    CHANGE = r"(?:file: (.+)\n)?(?:behind: (.+)\n)?old: (.+)\nnew: ?(.*)\n"
+    WHOLE = re.compile(r"(?:# )?(?P<title>[^#\n].*)\n(?P<changes>file: (?:.+\n)+?)(?:caught: (?P<caught>.+)\n)?")
+
+    def __init__(self, text):
+        found = self.WHOLE.fullmatch(text + "\n")
+        if not found or not re.fullmatch(f"(?:{self.CHANGE})+", found["changes"]):
+            raise ValueError(f"the lines below a title aren't 'file:', 'behind:', 'old:', 'new:', 'caught:', in this order: {text}")
+        self.text, self.title, self.caught, self.changes = text, found["title"], found["caught"], []
+        for path, *change in re.findall(self.CHANGE, found["changes"]):
+            self.changes.append((path or self.changes[-1][0], *change))
+
+
+def bodies(file):
+    """The wrong bodies in a file: its paragraphs, but for comments."""
+    paragraphs = re.split("\n{2,}", file.read_text(encoding="utf-8").strip("\n"))
+    return [Body(it) for it in paragraphs if not all(line.startswith("#") for line in it.split("\n"))]
+
+
+def edited(texts, body):
+    """The texts of the files that a wrong body changes, by their paths."""
+    changed = {}
+    for path, behind, old, new in body.changes:
+        if path not in texts:
+            raise ValueError(f"src, specs and proofs have no file {path}")
+        text = changed.get(path, texts[path])
+        if text.count(behind or old) != 1:
+            raise ValueError(f"the '{'behind' if behind else 'old'}:' text stands {text.count(behind or old)} times, and not once")
+        start = text.find(old, text.find(behind) + len(behind))
+        if start < 0:
+            raise ValueError("the 'old:' text doesn't stand behind the 'behind:' text")
+        changed[path] = text[:start] + new + text[start + len(old) :]
+    return changed
+
+
+@functools.cache
+def kit():
+    """The folder of the kit."""
+    return pathlib.Path(subprocess.run(["rt", "doc"], capture_output=True, text=True, check=True).stdout.strip()).parent
+
+
+class Watched:
+    """A program of tests, with bin/lib/allocator.c loaded before the C library; each line that tells of a call has a sign in it."""
+
+    def __init__(self, room, crate, sign, program=None):
+        self.folder, self.sign, self.library = TOP / "crates" / crate, sign, f"{room}/allocator.so"
+        self.program = program or self.folder / "out" / crate
+        self.given = (self.folder / "stdin").read_text(encoding="utf-8")
+        options = ["-O1", "-shared", "-fPIC", "-nostdlib", "-fuse-ld=lld", "-fno-builtin"]
+        clang = kit() / "toolchain" / "bin" / "clang"
+        subprocess.run([clang, *options, "-o", self.library, TOP / "bin" / "lib" / "allocator.c"], check=True)
+
+    def run(self, before="", **more):
+        """How it ends on its input behind this text, the lines that tell of calls, and the numbers that stand beside each."""
+        env, given = os.environ | {"LD_PRELOAD": self.library} | more, before + self.given
+        data = self.folder / "data"
+        how = {"cwd": data if data.is_dir() else self.folder, "env": env, "input": given, "capture_output": True, "text": True}
+        run = subprocess.run([self.program], **how)
+        return run.returncode, [line for line in run.stdout.splitlines() if self.sign in line], run.stderr.splitlines()
+
+
+class Report:
+    """Counts what holds, and prints what doesn't, the first 200 times."""
+
+    def __init__(self):
+        self.passed = self.failed = 0
+        self.lock = threading.Lock()
+
+    def count(self, holds):
+        with self.lock:
+            self.passed += bool(holds)
+            self.failed += not holds
+
+    def see(self, holds, text):
+        self.count(holds)
+        if not holds and self.failed <= 200:
+            print(text, flush=True)
+
+    def tell(self, name, holds, why):
+        """Counts a case, with a line of how it came out."""
+        self.count(holds)
+        print(f"{name}: ok" if holds else f"{name}: FAILED, {why}", flush=True)
+
+    def end(self):
+        print(f"{self.passed} passed, {self.failed} failed")
+        sys.exit(self.failed != 0)
