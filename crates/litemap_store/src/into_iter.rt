@@ -1,12 +1,12 @@
 //! Stores that hand over their pairs, and are joined with others of their type.
-ghost use Rattle.std.specs.Prelude.{◌≡◌, ◌⊎◌, ◌<◌, ◌++◌, List, length, IfErr, OnErr, OnOk};
+ghost use Rattle.std.specs.Prelude.{◌≡◌, ◌⊎◌, ◌<◌, ◌≤◌, ◌++◌, List, length, IfErr, OnErr, OnOk};
 ghost use Rattle.std.specs.Iterator.{YieldsFirst, at_most};
 ghost use Rattle.std.specs.Vec.Iter.{into_iter_items};
 ghost use Rattle.litemap_store.specs.Hints.{HintsExactly};
 ghost use Rattle.litemap_store.specs.IntoIter.{count_is, first_is};
 
 use crate::no_room::NoRoom;
-use crate::reserved::append_each;
+use crate::reserved::push_reserved;
 use crate::store::{Store, StoreMut};
 use std::mem;
 use std::vec::IntoIter;
@@ -85,6 +85,19 @@ pub trait StoreIntoIterator<K: Drop, V: Drop>: StoreMut<K, V> + Sized {
             }
             Err(_) => Err(NoRoom { back: other }),
         }
+    }
+}
+
+/// Puts the pairs that an iterator yields after those of the store.
+pub(crate) fn append_each<K: Drop, V: Drop, S: StoreMut<K, V>, I: PairIntoIter<K, V>>(
+    store: &mut S,
+    pairs: I,
+)
+    requires { length (I.owned pairs) ≤ S.room store.old }
+    ensures { S.pairs store.new ≡ S.pairs store.old ++ I.owned pairs }
+{
+    for (key, value) in pairs {
+        push_reserved(store, key, value);
     }
 }
 

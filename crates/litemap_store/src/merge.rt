@@ -1,19 +1,19 @@
 //! The body behind `extend_from_litemap`: one store's pairs are merged into another's.
-ghost use Rattle.std.specs.Prelude.{◌≡◌, ◌≢◌, ◌⊎◌, ◌↔◌, ◌+◌, ◌*◌, ◌<◌, ◌≤◌, ◌++◌, [], length, IsTrue, None, IfOk, IfErr, OnErr};
-ghost use Rattle.litemap_store.specs.Counts.{RisesByAtMost, digits};
-ghost use Rattle.litemap_store.specs.Merge.{Apart, IsLeft, IsUndone, Merges, MergesInto, searches_cost};
+ghost use Rattle.std.specs.Prelude.{◌≡◌, ◌≢◌, ◌⊎◌, ◌+◌, ◌<◌, ◌++◌, [], length, None, IfOk, IfErr, OnErr};
+ghost use Rattle.litemap_store.specs.Counts.{RisesByAtMost};
+ghost use Rattle.litemap_store.specs.Merge.{Apart, IsUndone, Merges, MergesInto, searches_cost};
 ghost use Rattle.litemap_store.specs.Pairs.{Rising};
-ghost use Rattle.litemap_store.specs.Splits.{Splits};
 
 mod in_one_pass;
 mod one_by_one;
 mod side_by_side;
 
-use crate::bulk::lies_below;
 use crate::merge::in_one_pass::merge_in_one_pass;
 use crate::merge::one_by_one::merge_each;
 use crate::merge::side_by_side::merge_side_by_side;
-use crate::store::{Count, NoRoom, Store, StoreIntoIterator};
+use crate::searches::{binary_digits, walk_is_cheaper};
+use crate::sorted::lies_below;
+use crate::store::{Count, NoRoom, StoreIntoIterator};
 use std::alloc::Global;
 
 // A merge puts pairs in one by one where there are fewer than so many for each binary digit of both lengths' sum.
@@ -105,38 +105,4 @@ fn merge_mixed<K: Ord + Drop, V: Drop, S: StoreIntoIterator<K, V> + Drop>(
         return merge_each(alloc, store, other, count);
     }
     merge_in_one_pass(alloc, store, other, total, count)
-}
-
-// Whether a step for each of so many pairs is no more than what the searches ask, each of so many steps.
-pub(crate) fn walk_is_cheaper(pairs: usize, searches: usize, steps: usize) -> bool
-    ensures { IsTrue result ↔ (pairs ≤ searches * steps) }
-{
-    pairs <= searches.saturating_mul(steps)
-}
-
-// How many binary digits a number has: what a search among as many pairs asks at most.
-pub(crate) fn binary_digits(number: usize) -> usize
-    ensures { result ≡ digits number }
-{
-    (usize::BITS - number.leading_zeros()) as usize
-}
-
-// What is left over, if it has pairs.
-fn unless_empty<K, V, S: Store<K, V> + Drop>(rest: S) -> Option<S>
-    ensures { IsLeft S.pairs (S.pairs rest) result }
-{
-    if rest.lm_is_empty() { None } else { Some(rest) }
-}
-
-// The place where a key splits the pairs.
-pub(crate) fn search<K: Ord, V, S: Store<K, V>>(
-    store: &S,
-    key: &K,
-    count: &mut Count,
-) -> Result<usize, usize>
-    requires { Rising K.cmp (S.pairs store.now) }
-    ensures splits { Splits K.cmp (S.pairs store.now) key.now result }
-    ensures cost { RisesByAtMost (digits (length (S.pairs store.now))) count.old count.new }
-{
-    store.lm_binary_search_by(|k| k.cmp(key), count)
 }

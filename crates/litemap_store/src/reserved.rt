@@ -1,9 +1,9 @@
 //! Room that is taken first, pairs that go into a store which has it, and pairs that leave a store from its end.
 ghost use Rattle.std.specs.Prelude.{◌≡◌, ◌+◌, ◌<◌, ◌≤◌, ◌++◌, ◌∷◌, [], drop, insert, length, reverse, take};
 ghost use Rattle.std.specs.Prelude.{vec_capacity, vec_len, IfOk};
+ghost use Rattle.litemap_store.specs.Merge.{IsLeft};
 
-use crate::into_iter::PairIntoIter;
-use crate::store::StoreMut;
+use crate::store::{Store, StoreMut};
 use std::alloc::{AllocError, Global};
 
 /// A vector and a store, both empty, with room for so many pairs each.
@@ -42,19 +42,6 @@ pub fn insert_reserved<T>(items: &mut Vec<T>, index: usize, item: T)
     items[index..].rotate_right(1);
 }
 
-/// Puts the pairs that an iterator hands over behind those of the store.
-pub(crate) fn append_each<K: Drop, V: Drop, S: StoreMut<K, V>, I: PairIntoIter<K, V>>(
-    store: &mut S,
-    pairs: I,
-)
-    requires { length (I.owned pairs) ≤ S.room store.old }
-    ensures { S.pairs store.new ≡ S.pairs store.old ++ I.owned pairs }
-{
-    for (key, value) in pairs {
-        push_reserved(store, key, value);
-    }
-}
-
 /// Puts pairs behind those of the store, in reverse order.
 pub(crate) fn put_up<K: Drop, V: Drop, S: StoreMut<K, V>>(store: &mut S, mut pairs: Vec<(K, V)>)
     requires { length pairs.items ≤ S.room store.old }
@@ -91,4 +78,11 @@ pub(crate) fn take_from<K: Drop, V: Drop, S: StoreMut<K, V>>(
     while store.lm_len() > index {
         side.push_reserved(take_last(store));
     }
+}
+
+/// The store, if it has pairs.
+pub(crate) fn unless_empty<K, V, S: Store<K, V> + Drop>(rest: S) -> Option<S>
+    ensures { IsLeft S.pairs (S.pairs rest) result }
+{
+    if rest.lm_is_empty() { None } else { Some(rest) }
 }

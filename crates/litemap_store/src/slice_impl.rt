@@ -1,7 +1,7 @@
 //! A borrowed slice of pairs as a store.
-ghost use Rattle.std.specs.Prelude.{◌≡◌, ⊤};
+ghost use Rattle.std.specs.Prelude.{◌≡◌, ⊤, Some, length, slice_get};
 
-use crate::slice_search;
+use crate::slice_search::{self, Keys};
 use crate::store::{Count, SliceIter, Store, StoreConstEmpty, StoreIterable, StoreSlice};
 use std::alloc::{AllocError, Global};
 use std::cmp::Ordering;
@@ -54,7 +54,22 @@ impl<'a, K, V> Store<K, V> for SliceStore<'a, K, V> {
         f: F,
         count: &mut Count,
     ) -> Result<usize, usize> {
-        slice_search::find(&self.lm_iter(), f, count)
+        slice_search::find(self, f, count)
+    }
+}
+
+impl<'a, K, V> Keys<K, V> for SliceStore<'a, K, V> {
+    ghost pairs = { λ s. s.pairs.now };
+
+    fn key_count(&self) -> usize {
+        self.pairs.len()
+    }
+
+    #[inline(always)]
+    fn key_at(&self, index: usize) -> &K {
+        let pairs = self.pairs;
+        let pair = &pairs[index];
+        &pair.0
     }
 }
 

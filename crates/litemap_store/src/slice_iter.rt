@@ -1,10 +1,9 @@
 //! The iterator over the pairs of a slice.
-ghost use Rattle.std.specs.Prelude.{◌≡◌, length, Some, refl};
+ghost use Rattle.std.specs.Prelude.{◌≡◌, length, refl};
 ghost use Rattle.std.specs.Iterator.{at_most};
 ghost use Rattle.std.specs.Map.Iter.{TakesFirst, TakesLast, deref_pair};
 ghost use Rattle.litemap_store.specs.Hints.{HintsExactly};
 
-use crate::slice_search::Keys;
 use crate::store::PairIter;
 use std::iter::FusedIterator;
 use std::marker::Model;
@@ -88,20 +87,5 @@ impl<'a, K: 'a, V: 'a> PairIter<'a, K, V> for SliceIter<'a, K, V> {
 
     fn lm_size_hint(&self) -> (usize, Option<usize>) {
         self.size_hint()
-    }
-}
-
-impl<'a, K, V> Keys<K, V> for SliceIter<'a, K, V> {
-    ghost pairs = { λ s. s };
-
-    fn key_count(&self) -> usize {
-        self.len()
-    }
-
-    #[inline(always)]
-    fn key_at(&self, index: usize) -> &K {
-        let pairs = self.rest;
-        let pair = &pairs[index];
-        &pair.0
     }
 }

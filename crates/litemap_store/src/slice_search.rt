@@ -1,4 +1,4 @@
-//! The search of the stores whose keys lie in slices, with no jump that hangs on an answer.
+//! The search of the stores whose keys lie in slices, with no branch on a comparison.
 ghost use Rattle.std.specs.Prelude.{◌≡◌, ◌<◌, IfOk, List, Some, length, slice_get, if◌then◌else◌};
 ghost use Rattle.litemap_store.specs.Counts.{RisesByAtMost, digits};
 ghost use Rattle.litemap_store.specs.Search.{CallableOnKeys, Found};
@@ -7,7 +7,7 @@ use crate::count::Count;
 use std::cmp::Ordering;
 use std::mem;
 
-/// The keys of pairs, which can be read at any place with no check of it.
+/// The keys of pairs, which are read at an index without a bounds check.
 pub trait Keys<K, V> {
     /// The pairs.
     ghost pairs: { Self → List (K × V) };
@@ -16,13 +16,13 @@ pub trait Keys<K, V> {
     fn key_count(&self) -> usize
         ensures { result ≡ length (pairs self.now) };
 
-    /// The key at a place.
+    /// The key at an index.
     fn key_at(&self, index: usize) -> &K
         requires { index < length (pairs self.now) }
         ensures { (value : V) × (slice_get (pairs self.now) index ≡ Some (result.now, value)) };
 }
 
-// A key of at most as many bytes is a number, or as cheap to compare as one.
+// A key of at most so many bytes is a number, or as cheap to compare as one.
 const SMALL: usize = 8;
 
 #[inline(always)]
@@ -32,12 +32,11 @@ fn choose(is_first: bool, first: usize, second: usize) -> usize
     if is_first { first } else { second }
 }
 
-/// A place where `f` answers `Equal`, or how many keys answer `Less` where none answers `Equal`.
+/// The index of a key for which `f` returns `Equal`, or else the number of keys for which it returns `Less`.
 ///
-/// The middle is asked once, and what is left is at most half. Small keys cost less than a jump that is guessed wrongly:
-/// there what is left is half whatever the answer, so that the number of steps hangs on the length alone. Among larger
-/// ones each key is asked once at most, and `Equal` ends the search. No choice is a jump in the
-/// source: each is made by `choose`.
+/// Each step calls `f` on the middle key, and leaves at most half of the keys. Comparing small keys costs less than a branch that
+/// is predicted wrongly: so among those each step leaves half, and the number of steps depends on the length alone. Among larger
+/// ones no key is compared twice, and `Equal` ends the search. No choice is a branch in the source: each is made by `choose`.
 pub fn find<K, V, S: Keys<K, V>, F: FnMut(&K) -> Ordering>(
     keys: &S,
     f: F,
@@ -51,7 +50,7 @@ pub fn find<K, V, S: Keys<K, V>, F: FnMut(&K) -> Ordering>(
     let mut f = f;
     let mut low = 0;
     let mut left = keys.key_count();
-    // The place behind the one found, or 0.
+    // The index after the one found, or 0.
     let mut hit = 0;
     while 0 < left {
         let half = left / 2;

@@ -8,8 +8,8 @@ use crate::bulk::{gather, gather_behind};
 use crate::retain::{SwapStore, retain};
 use crate::slice_search;
 use crate::store::{
-    Count, KeepsMemory, NoRoom, SliceIter, Store, StoreBulkMut, StoreConstEmpty, StoreFromIterable,
-    StoreFromIterator, StoreIterable, StoreMut, StoreSlice,
+    Count, KeepsMemory, NoRoom, SliceIter, SliceStore, Store, StoreBulkMut, StoreConstEmpty,
+    StoreFromIterable, StoreFromIterator, StoreIterable, StoreMut, StoreSlice,
 };
 use std::alloc::{AllocError, Global};
 use std::cmp::Ordering;
@@ -35,7 +35,7 @@ impl<K, V> Store<K, V> for Vec<(K, V)> {
         f: F,
         count: &mut Count,
     ) -> Result<usize, usize> {
-        slice_search::find(&self.lm_iter(), f, count)
+        slice_search::find(&SliceStore::new(self.as_slice()), f, count)
     }
 }
 

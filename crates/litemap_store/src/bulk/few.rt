@@ -7,10 +7,9 @@ ghost use Rattle.litemap_store.specs.Pairs.{Rising};
 ghost use Rattle.litemap_store.specs.PutIn.{IsPutIn};
 ghost use Rattle.litemap_store.specs.Splits.{Splits};
 
-use crate::bulk::{is_rising, lies_below};
-use crate::count::Count;
-use crate::merge::{binary_digits, search, walk_is_cheaper};
-use crate::slice_impl::SliceStore;
+use crate::searches::{binary_digits, search, walk_is_cheaper};
+use crate::sorted::{is_rising, lies_below};
+use crate::store::{Count, SliceStore};
 
 // At most so many pairs are few. Each moves later ones at once, so that so many moves take less time than a merge.
 const FEW_PAIRS: usize = 16;

@@ -5,9 +5,8 @@ ghost use Rattle.litemap_store.specs.Last.{Last};
 ghost use Rattle.litemap_store.specs.Pairs.{Rising};
 ghost use Rattle.litemap_store.specs.Taken.{IsGreaterEnd, IsTaken};
 
-use crate::count::Count;
 use crate::reserved::{put_up, room_for, take_last};
-use crate::store::{Store, StoreMut};
+use crate::store::{Count, Store, StoreMut};
 use std::alloc::{AllocError, Global};
 use std::cmp::Ordering;
 use std::mem;

@@ -9,9 +9,8 @@ ghost use Rattle.litemap_store.specs.VecStore.{vec_room};
 
 use crate::bulk::few::{is_few, settle_few};
 use crate::bulk::merge::take_down;
-use crate::bulk::{keep_rising, lies_below};
-use crate::count::Count;
-use crate::slice_impl::SliceStore;
+use crate::sorted::{keep_rising, lies_below};
+use crate::store::{Count, SliceStore};
 use std::alloc::{AllocError, Global};
 use std::mem;
 

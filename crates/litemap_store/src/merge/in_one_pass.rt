@@ -5,8 +5,8 @@ ghost use Rattle.litemap_store.specs.Counts.{RisesByAtMost, digits};
 ghost use Rattle.litemap_store.specs.Merge.{Merge, Merges, left, searches_cost};
 ghost use Rattle.litemap_store.specs.Pairs.{Rising, above, at, below, key_or};
 
-use crate::merge::{search, unless_empty};
-use crate::reserved::{put_up, room_for, take_from, take_last};
+use crate::reserved::{put_up, room_for, take_from, take_last, unless_empty};
+use crate::searches::search;
 use crate::store::{Count, NoRoom, Store, StoreMut};
 use std::alloc::Global;
 

@@ -5,8 +5,8 @@ ghost use Rattle.litemap_store.specs.Counts.{RisesByAtMost, digits};
 ghost use Rattle.litemap_store.specs.Merge.{Merge, Merges, left, searches_cost};
 ghost use Rattle.litemap_store.specs.Pairs.{Rising, at, put};
 
-use crate::merge::{search, unless_empty};
-use crate::reserved::push_reserved;
+use crate::reserved::{push_reserved, unless_empty};
+use crate::searches::search;
 use crate::store::{Count, NoRoom, Store, StoreIntoIterator, StoreMut};
 use std::alloc::Global;
 use std::mem;

@@ -8,8 +8,7 @@ ghost use Rattle.litemap_store.specs.Pairs.{Rising};
 ghost use Rattle.litemap_store.specs.Walked.{IsLowerFirst, IsTakenFirst};
 
 use crate::into_iter::PairIntoIter;
-use crate::merge::unless_empty;
-use crate::reserved::push_reserved;
+use crate::reserved::{push_reserved, unless_empty};
 use crate::store::{Count, NoRoom, Store, StoreIntoIterator, StoreMut};
 use std::alloc::Global;
 use std::cmp::Ordering;

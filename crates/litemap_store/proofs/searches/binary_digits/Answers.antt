@@ -2,7 +2,7 @@ use Rattle.std.proofs.Common.{◌≡◌, ℕ, zero, suc, ◌+◌, ◌/◌, ◌<�
 use Rattle.std.proofs.Math.Nat.{pow-suc}
 use lib.Count.{count_leading_zeros}
 use Rattle.litemap_store.specs.Counts.{digits, digits-step, digits-zero}
-use Rattle.litemap_store.proofs.merge.binary_digits.Goals as goal
+use Rattle.litemap_store.proofs.searches.binary_digits.Goals as goal
 
 leading_digits : (k n : ℕ) → n < 2 ^ k → count_leading_zeros k n + digits n ≡ k
 unfolding count_leading_zeros

@@ -2,7 +2,7 @@ use Rattle.std.proofs.Common.{rules}
 use Rattle.litemap_store.specs.Queries.{key_one_side}
 use Rattle.litemap_store.proofs.Search.Shapes.{shape_steady}
 use Rattle.litemap_store.proofs.Search.Splitting.{Ascends-by_query, Splits-from_Finds}
-use Rattle.litemap_store.proofs.merge.search.Goals as goal
+use Rattle.litemap_store.proofs.searches.search.Goals as goal
 
 pub returns-clause-splits : goal.returns-clause-splits
 returns-clause-splits g c =

@@ -1,7 +1,7 @@
 use Rattle.std.proofs.Common.{◌≡◌, append-nil, sym, ap, ◌∙◌, is_lt, refl}
 use Rattle.litemap_store.proofs.Lists.Joined.{Rising-behind, empty_from_last, empty_from_first}
 use Rattle.litemap_store.proofs.Search.Splitting.{less_from_is_lt}
-use Rattle.litemap_store.proofs.bulk.lies_below.Goals as goal
+use Rattle.litemap_store.proofs.sorted.lies_below.Goals as goal
 
 pub returns-in_default-clause-below : goal.returns-in_default-clause-below
 returns-in_default-clause-below g c = let e = empty_from_last (g.S.Store.pairs c.args.low.now) (sym c.in_default.ensures) in (λ t. rw e c.requires.high, λ r. refl)

@@ -1,6 +1,6 @@
 use Rattle.std.proofs.Common.{◌<◌, ◌+◌, length}
 use Rattle.litemap_store.proofs.Last.KeepLast.{KeptLast}
-use Rattle.litemap_store.proofs.bulk.sort.keep_last.Given as goal
+use Rattle.litemap_store.proofs.sorted.keep_last.Given as goal
 
 abbrev pub invariant-loop-i : goal.invariant-loop-i
 invariant-loop-i g l = record {

@@ -4,9 +4,9 @@ use Rattle.std.proofs.lemmas.List.{take_all, take_at}
 use Rattle.std.proofs.lemmas.Grind.{common_steps}
 use Rattle.litemap_store.proofs.Last.Pairs.{Last-rising}
 use Rattle.litemap_store.proofs.Lists.Seams.{take-written_tail}
-use Rattle.litemap_store.proofs.bulk.keep_rising.Given.{Over}
-use Rattle.litemap_store.proofs.bulk.keep_rising.Goals as goal
-use Rattle.litemap_store.proofs.bulk.keep_rising.Goals.{After-sort_last, After-truncate}
+use Rattle.litemap_store.proofs.sorted.keep_rising.Given.{Over}
+use Rattle.litemap_store.proofs.sorted.keep_rising.Goals as goal
+use Rattle.litemap_store.proofs.sorted.keep_rising.Goals.{After-sort_last, After-truncate}
 
 pub returns-then-is_rising-clause-last : goal.returns-then-is_rising-clause-last
 returns-then-is_rising-clause-last g c =

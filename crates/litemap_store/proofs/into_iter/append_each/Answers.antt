@@ -1,5 +1,5 @@
 use Rattle.std.proofs.Common.{rules, ◌≡◌, ◌∷◌, ◌++◌, [], ap, append_assoc, arith, length, sym, ◌∙◌}
-use Rattle.litemap_store.proofs.reserved.append_each.Goals as goal
+use Rattle.litemap_store.proofs.into_iter.append_each.Goals as goal
 
 pub loop-key-preserved : goal.loop-key-preserved
 loop-key-preserved g c =

@@ -1,7 +1,7 @@
 use Rattle.std.proofs.Common.{◌-◌, arith, rules}
 use Rattle.std.proofs.lemmas.Grind.{common_steps}
 use Rattle.litemap_store.proofs.Lists.Joined.{adjacent_from_Rising, Rising-from_adjacent}
-use Rattle.litemap_store.proofs.bulk.is_rising.Goals as goal
+use Rattle.litemap_store.proofs.sorted.is_rising.Goals as goal
 
 pub returns-then-is_ge-clause-rising : goal.returns-then-is_ge-clause-rising
 returns-then-is_ge-clause-rising g c = (λ f. cc, λ h. let a = adjacent_from_Rising g.K.Ord.cmp c.args.pairs.now h (c.loop-i.i - 1) c.index-pairs-i.result (omega arith) in grind (arith, common_steps, a))

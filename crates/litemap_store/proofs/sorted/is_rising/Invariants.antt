@@ -1,7 +1,7 @@
 use Rattle.std.proofs.Common.{◌≡◌, ◌-◌, length, Less}
 use Rattle.std.specs.List.{AllAdjacentBelow}
 use Rattle.litemap_store.specs.Counts.{RisesByAtMost}
-use Rattle.litemap_store.proofs.bulk.is_rising.Given as goal
+use Rattle.litemap_store.proofs.sorted.is_rising.Given as goal
 
 abbrev pub invariant-loop-i : goal.invariant-loop-i
 invariant-loop-i g l = record {

@@ -2,7 +2,7 @@ use Rattle.std.proofs.Common.{rules, is_lt}
 use Rattle.std.proofs.lemmas.List.Sorted.{answers_always, ranks_by}
 use Rattle.litemap_store.proofs.Last.Pairs.{Last-same}
 use Rattle.litemap_store.proofs.Last.KeepLast.{last_by_stable}
-use Rattle.litemap_store.proofs.bulk.sort.sort_last.Goals as goal
+use Rattle.litemap_store.proofs.sorted.sort_last.Goals as goal
 
 pub keep_last-requires : goal.keep_last-requires
 keep_last-requires g c = c.in_ok-sort_by.ensures.sorted (λ x y. is_lt (g.K.Ord.cmp x.0 y.0)) (ranks_by g.met.K.Ord.total (λ x. x.0)) (answers_always _ _ _ (λ f a r h called. search rules))

@@ -1,0 +1,34 @@
+//! A search of a store by a key, and what searches compare.
+ghost use Rattle.std.specs.Prelude.{◌≡◌, ◌↔◌, ◌*◌, ◌≤◌, IsTrue, length};
+ghost use Rattle.litemap_store.specs.Counts.{RisesByAtMost, digits};
+ghost use Rattle.litemap_store.specs.Pairs.{Rising};
+ghost use Rattle.litemap_store.specs.Splits.{Splits};
+
+use crate::store::{Count, Store};
+
+/// The index at which a key splits the pairs.
+pub(crate) fn search<K: Ord, V, S: Store<K, V>>(
+    store: &S,
+    key: &K,
+    count: &mut Count,
+) -> Result<usize, usize>
+    requires { Rising K.cmp (S.pairs store.now) }
+    ensures splits { Splits K.cmp (S.pairs store.now) key.now result }
+    ensures cost { RisesByAtMost (digits (length (S.pairs store.now))) count.old count.new }
+{
+    store.lm_binary_search_by(|k| k.cmp(key), count)
+}
+
+/// How many binary digits a number has: a search of as many pairs compares so often at most.
+pub(crate) fn binary_digits(number: usize) -> usize
+    ensures { result ≡ digits number }
+{
+    (usize::BITS - number.leading_zeros()) as usize
+}
+
+/// Whether one comparison for each of so many pairs is no more than what the searches compare, each as often as it has steps.
+pub(crate) fn walk_is_cheaper(pairs: usize, searches: usize, steps: usize) -> bool
+    ensures { IsTrue result ↔ (pairs ≤ searches * steps) }
+{
+    pairs <= searches.saturating_mul(steps)
+}
