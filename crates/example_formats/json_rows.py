@@ -1,9 +1,9 @@
-"""Maps as JSON: the rows `TYPES TEXT`, and what answers each.
+"""Maps as JSON: the rows `TYPES TEXT`, and the output of each.
 
-The rows are those below, written by hand with their answers; for each type of whole numbers its ends, one past
+The rows are those below, written by hand with their output; for each type of whole numbers its ends, one past
 each, and other spellings, as keys in arrays, as names in objects and as items; and long texts and maps of up to 1,000 pairs,
-with faults at early and late places. No answer is the program's own: those of whole numbers are told by Python's integers,
-and those of long maps by Python's order. The program reads each row over a vector and
+with errors at early and late indices. No output is the program's own: that of whole numbers is told by Python's integers,
+and that of long maps by Python's order. The program reads each row over a vector and
 over two columns, but those of `limits`, which are the rows of `levels` again, of `names` and of `overlay`.
 """
 
@@ -42,9 +42,9 @@ TONGUES = ('[[[1,"en"],"one"],[[1,"zh"],"一"],[[2,"en"],"two"],[[2,"zh"],"二"]
 MIXED = ('[[[5,"zh"],"五"],[[1,"zh"],"一"],[[7,"zh"],"七"],[[2,"en"],"two"],[[1,"en"],"one"],[[4,"en"],"four"],'
          '[[2,"zh"],"二"],[[5,"en"],"five"]]')
 
-# The answer None stands for the text itself.
+# The output None stands for the text itself.
 ROWS = [
-    # an object where the first key has a text, with its members in the byte order of their names
+    # an object if the first key has a text, with its members in the byte order of their names
     ("words", '[[1,"jat"],[4,"sei"],[3,"saam"],[2,"ji"]]', '{"1":"jat","2":"ji","3":"saam","4":"sei"}'),
     ("words", '[[10,"ten"],[2,"two"]]', '{"10":"ten","2":"two"}'),
     ("words", '{"10":"ten","2":"two"}', None),
@@ -62,7 +62,7 @@ ROWS = [
     # no maps
     *[("u32", text, NOT_A_MAP) for text in ("7", "null", "true", '"x"', "2.5")],
     ("words", "[[1,", "no JSON"), ("words", "", "no JSON"), ("words", '{"1":"a"', "no JSON"), ("words", "[] []", "no JSON"),
-    # the first fault: the pair's shape, then the key, then the item
+    # the first error: the pair's shape, then the key, then the item
     ("words", '[[1,"a"],[2]]', not_a_pair(1)),
     ("u32", "[[1,2.5]]", item(0, FLOAT)),
     ("u32", "[[-1,3]]", key(0, RANGE)),
@@ -79,7 +79,7 @@ ROWS = [
     ("evens", '[[2,"b"],[1,"a"],[4,"c"]]', '[[1,"a"],[2,"b"],[4,"c"]]'),
     ("evens", '[[2,"a"],[4,"b"]]', '{"2":"a","4":"b"}'),
     ("evens", '{"2":"a","3":"b"}', key_text(1)),
-    # truth values: their texts are names, and arrays stay readable
+    # booleans: their texts are names, and arrays stay readable
     ("flags", "[[true,1],[false,2]]", '{"false":2,"true":1}'),
     ("flags", "[[false,2],[true,1]]", '{"false":2,"true":1}'),
     ("flags", '{"true":1,"false":2}', '{"false":2,"true":1}'),
@@ -88,7 +88,7 @@ ROWS = [
     *[("flags", f"[[{word},1]]", key(0, SHAPE)) for word in ("0", "1", '"true"', "null", "[]", "{}")],
     *[("bool", f"[[true,{word}]]", item(0, SHAPE)) for word in ("0", '"true"', "null", "[true]", "{}", "1.5")],
     ("bool", '{"true":false,"false":true}', '{"false":true,"true":false}'),
-    # texts
+    # strings
     ("text", r'{"a":"\"","b":"\\"}', None),
     ("text", r'[["\"","a"],["\\","b"]]', r'{"\"":"a","\\":"b"}'),
     ("text", r'{"":"","\u0000":"\u0000","\u001f":"\u007f"}', '{"":"","\\u0000":"\\u0000","\\u001f":"\x7f"}'),
@@ -135,7 +135,7 @@ ROWS = [
 
 
 def bad_elements():
-    """A bad element at each place of three, and at two places."""
+    """A bad element at each index of three, and at two indices."""
     bad = [(text, not_a_pair) for text in ("5", "[]", "[1]", '[1,"a",2]', "null", '{"1":"a"}')]
     bad += [(text, lambda place: key(place, SHAPE)) for text in ('["x","a"]', '["x",7]', '[null,"a"]')]
     bad += [('[4294967296,"a"]', lambda place: key(place, RANGE)), ('[1.5,"a"]', lambda place: key(place, FLOAT))]
@@ -172,7 +172,7 @@ def whole_numbers():
 
 
 def told(wanted, found, at=""):
-    """A fault as it is shown to people."""
+    """An error as it is shown to people."""
     return f"{at}{wanted} is wanted, and {found} stands there"
 
 
@@ -199,7 +199,7 @@ MAP = "an object or an array of [key, item] arrays"
 
 
 def told_faults():
-    """Faults as they are shown to people: by name in an object, by place in an array."""
+    """Errors as they are shown to people: by name in an object, by index in an array."""
     for types, (name, first, second) in WANTED.items():
         written = f'"{name}"' if types == "levels" else name
         for text, found in KINDS:
@@ -272,7 +272,7 @@ def long_maps():
 
 
 def late_faults():
-    """A fault at an early place and at late ones, and at the place behind it."""
+    """An error at an early index and at late ones, and at the index after it."""
     for place in (9, 33, 51, 65, 101, 129, 999):
         good = [(str(number), f'"{number}"') for number in range(1000, 1002 + place)]
         elements = [f"[{name},{value}]" for name, value in good]
@@ -288,7 +288,7 @@ def late_faults():
 
 
 def long_texts():
-    """Names and texts of few bytes and of many."""
+    """Names and strings of few bytes and of many."""
     for length in (1, 12, 20, 21, 24, 33, 65, 100, 101, 129, 513, 5000):
         for letter in ("a", "é", '\\"'):
             text = letter * length
@@ -299,6 +299,6 @@ def long_texts():
 
 
 def rows():
-    """The lines and what answers each."""
+    """The lines, each with its output."""
     rows = [*ROWS, *bad_elements(), *whole_numbers(), *long_maps(), *late_faults(), *long_texts(), *told_faults()]
     return [(f"{types} {text}", text if answer is None else answer) for types, text, answer in rows]

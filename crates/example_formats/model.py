@@ -1,6 +1,6 @@
-"""What the program `example_formats` is run on, and what it has to answer: its files stdin and stdout, which bin/data writes.
+"""What the program `example_formats` is run on, and what it has to write: its files stdin and stdout, which bin/data writes.
 
-The rows of each kind are made by a file of its own here, with their answers; no answer is the program's own.
+The rows of each kind are made by a file of its own here, with their output; none of it is the program's own.
 """
 import pathlib
 import runpy

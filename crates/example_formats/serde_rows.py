@@ -1,7 +1,7 @@
-"""Maps through serde: the rows `WHAT TEXT`, and what answers each.
+"""Maps through serde: the rows `WHAT TEXT`, and the output of each.
 
-The answers are told by Python's readers of JSON, TOML and CSV and by its order of numbers and bytes, or written by hand with
-their rows; no answer is the program's own.
+The output is told by Python's readers of JSON, TOML and CSV and by its order of numbers and bytes, or written by hand with
+their rows; none of it is the program's own.
 """
 import csv
 import io
@@ -27,12 +27,12 @@ def map_again(what, text):
     """A map read from an object or from pairs: the last pair of each key, in the order of the keys."""
     found = json.loads(text)
     pairs = [(key_of(what, name), item) for name, item in found.items()] if isinstance(found, dict) else found
-    # A name where the keys are words, `true` where they are truth values.
+    # A name if the keys are words, `true` if they are booleans.
     named = sorted(dict(map(tuple, pairs)).items(), key=lambda pair: pair[0].encode() if isinstance(pair[0], str) else pair[0])
     return printed({name if isinstance(name, str) else printed(name): item for name, item in named})
 
 
-# What each row is read as, its text, and its answer: None stands for `map_again`, and SAME for the text itself.
+# What each row is read as, its text, and its output: None stands for `map_again`, and SAME for the text itself.
 SAME = "same"
 MAPS = [
     # a map or a sequence of pairs; the last of equal keys stays
@@ -73,7 +73,7 @@ MAPS = [
     ("config", '{"names":{"b":"2","a":"1"},"limits":[["x",1],["x",2]],"title":"t"}', '{"title":"t","names":{"a":"1","b":"2"},"limits":{"x":2}}'),
     ("config", '{"title":"t","names":{},"limits":{}}', '{"title":"t","names":{}}'), ("config", '{"title":"t","names":{}}', SAME),
     ("config", '{"title":"t"}', "data"), ("config", '{"title":"t","names":{},"names":{}}', "data"), ("config", '{"title":"t","names":null}', "data"),
-    # an escape is no borrowed text
+    # an escape is no borrowed string
     ("lent", r'{"a":"\n"}', "data"), ("lent", r'{"\u0061":"x"}', "data"),
     # as deep as the format lets values nest, and one deeper
     ("value", '{"a":' + "[" * 126 + "]" * 126 + "}", SAME), ("value", '{"a":' + "[" * 127 + "]" * 127 + "}", "syntax"),
@@ -101,7 +101,7 @@ def whole_numbers():
 
 
 def wrong_types():
-    """A value of another type at each place, as a key and as an item, and in the place of a pair and of the map."""
+    """A value of another type at each index, as a key and as an item, and in place of a pair and of the map."""
     good = ['[1,"a"]', '[2,"b"]', '[3,"c"]']
     for place in range(3):
         for bad in ("[1,7]", "[1,null]", "[1,true]", "[1,[]]", "[1,{}]", '["x","a"]', '[null,"a"]', '[[],"a"]', '[{},"a"]', '[1.5,"a"]',
@@ -109,7 +109,7 @@ def wrong_types():
             yield "words", "[" + ",".join([*good[:place], bad, *good[place + 1:]]) + "]", "data"
         members = ['"1":"a"', '"2":"b"', '"3":"c"']
         for bad in ('"1":7', '"1":null', '"1":[]', '"1":{}', '"-1":"a"', '"1.5":"a"', '"x":"a"', '"":"a"'):
-            # A name that is no number at all is a fault of the text, as in the Rust crate.
+            # A name that is no number at all is an error of the text, as in the Rust crate.
             fault = "syntax" if bad in ('"x":"a"', '"":"a"') else "data"
             yield "words", "{" + ",".join([*members[:place], bad, *members[place + 1:]]) + "}", fault
     for what in ("words", "text", "bool", "nested"):
@@ -121,7 +121,7 @@ def wrong_types():
 
 
 def many():
-    """Long maps: the text that is written is that of the rising pairs."""
+    """Long maps: the text that is written is that of the ascending pairs."""
     for count in (1000, 10000):
         size = len(printed({str(number): 2 * number for number in range(count)}))
         for step in (1, 379, count - 1):
@@ -216,6 +216,6 @@ def answer_of(what, text, answer):
 
 
 def rows():
-    """The lines and what answers each."""
+    """The lines, each with its output."""
     rows = [*MAPS, *whole_numbers(), *wrong_types(), *many(), *toml_rows(), *csv_rows()]
     return [(f"{what} {text}", answer_of(what, text, answer)) for what, text, answer in rows]

@@ -1,6 +1,6 @@
-"""Name tables and indexes of names: the rows, and what answers each.
+"""Name tables and indexes of names: the rows, and the output of each.
 
-The answers are those of the reader below, which was written from the grammar of name tables alone (docs/NAME_TABLES.md) and
+The output is that of the reader below, which was written from the grammar of name tables alone (docs/NAME_TABLES.md) and
 shares nothing with the crates.
 """
 
@@ -15,7 +15,7 @@ TABLE = bytes.fromhex(
 )
 # What the program has itself, in crates/example_formats/src/table_rows.rt.
 OWN = {"de": "German", "en": "own English", "zu": "Zulu"}
-# Keys that fall, are equal, are empty, and a proper prefix behind a longer text.
+# Keys that descend, are equal, are empty, and a proper prefix after a longer string.
 NOT_RISING = [
     bytes.fromhex("0201620001 6100".replace(" ", "")), bytes.fromhex("020161000161 00".replace(" ", "")),
     bytes.fromhex("0200000000"), bytes.fromhex("02026161000161 00".replace(" ", "")),
@@ -26,7 +26,7 @@ ALIKE = [(key, str(place)) for place, key in enumerate(["", "a", "ab", "abc", "a
 RISING = [bytes.fromhex("0100"), bytes.fromhex("010000"), bytes.fromhex("0200000161 00".replace(" ", "")),
     bytes.fromhex("020161000261 6100".replace(" ", ""))]
 ALPHABET = bytes.fromhex("0001026180ff")
-# One table each: numbers of one byte to five, longer spellings, what is too large, and texts of each kind.
+# One table each: numbers of one byte to five, longer spellings, what is too large, and strings of each kind.
 READ = [
     b"", b"\x00", b"\x00\x00", b"\x7f\x01\x61", b"\x01\x01\xff\x00", b"\x01\x00\x01\xff", b"\x01\x00\x00",
     bytes.fromhex("8080808010"), bytes.fromhex("ffffffffff01"), bytes.fromhex("ffffffff0f"), bytes.fromhex("ffffffff10"),
@@ -67,7 +67,7 @@ def text(data, at):
 
 
 def entries(data):
-    """The place and the number due before each entry, with the entry; then the place and the fault or None."""
+    """The offset and the number due before each entry, with the entry; then the offset and the error or None."""
     due, at = number(data, 0)
     found = []
     while due:
@@ -106,7 +106,7 @@ def find(key, data):
 
 
 def rising(data):
-    """The entries of a table whose keys rise."""
+    """The entries of a table whose keys ascend."""
     found, _, _, fault = entries(data)
     for index, (at, _, key, _) in enumerate(found):
         if index and key.encode() <= found[index - 1][2].encode():
@@ -157,7 +157,7 @@ def walk(data):
     except Fault as fault:
         return str(fault)
     steps = "".join(f" @{place}/{left} {key}={value}" for place, left, key, value in found)
-    # A fault ends the walk of the entries with the state before it.
+    # An error ends the walk of the entries with the state before it.
     steps += f" @{at}/{due}" if fault else ""
     end = f" {fault or 'end'}"
     return f"{steps} @{at}/{due}{end}{end} @{at}/{due}"
@@ -197,7 +197,7 @@ def index_text(data, at):
 
 
 def index_entries(data):
-    """How many entries an index has, and each of them by its place."""
+    """How many entries an index has, and each of them by its index."""
     number = index_number(data, 0)
     if 4 + 4 * number > len(data):
         raise Fault(f"the bytes end within the number or text at byte {len(data) // 4 * 4}")
@@ -228,7 +228,7 @@ def opened(data):
 
 
 def look(key, data):
-    """What an index of rising keys answers."""
+    """What an index of ascending keys returns."""
     try:
         pairs = index_pairs(data)
     except Fault as fault:
@@ -238,7 +238,7 @@ def look(key, data):
 
 
 def indexed(pairs):
-    """The index of pairs whose keys rise."""
+    """The index of pairs whose keys ascend."""
     number = lambda value: value.to_bytes(4, "little")
     parts = [b"".join(number(len(word.encode())) + word.encode() for word in pair) for pair in pairs]
     places = [sum(map(len, parts[:index])) for index in range(len(parts))]
@@ -281,10 +281,10 @@ def strings(alphabet):
     ]
 
 
-# A count of 2^32 - 1 in front of five bytes.
+# A count of 2^32 - 1 before five bytes.
 MANY_DUE = b"\xff\xff\xff\xff" + bytes(5)
-# The indexes of no pair, of one, of eleven and of texts of more bytes than characters; bytes behind one; keys that fall, are
-# equal or lie between; places that overlap; and what is cut short, has too large a number or is no text.
+# The indexes of no pair, of one, of eleven and of strings of more bytes than characters; bytes after one; keys that descend, are
+# equal or lie between; offsets that overlap; and what is cut short, has too large a number or is no string.
 INDEXES = [
     b"", b"\x00\x00\x00", indexed([]), indexed([]) + b"\x01", indexed([("a", "1")]), indexed([("", "")]), indexed(PAIRS),
     indexed(PAIRS) + b"\x00", indexed([("a", "1"), ("b", "2")]), indexed([("b", "2"), ("a", "1")]),
@@ -297,7 +297,7 @@ INDEXES = [
 
 
 def large_lines():
-    """Tables of 300 and 1,500 names, some whose keys fall, one that is cut short, and a text of 20,000 bytes."""
+    """Tables of 300 and 1,500 names, some whose keys descend, one that is cut short, and a string of 20,000 bytes."""
     names = [(f"name{number:06}", f"value{number}") for number in range(300)]
     rising_names, falling_names = written(names), written(names[::-1])
     keys = written([(f"{number:05}", "") for number in range(1500)])
@@ -318,7 +318,7 @@ def large_lines():
 
 
 def sized_lines():
-    """Tables and indexes of so many names, and a text of so many bytes."""
+    """Tables and indexes of so many names, and a string of so many bytes."""
     for count in (12, 24, 33, 65, 129):
         names = [(f"n{number:03}", "v") for number in range(count)]
         data = written(names)
@@ -331,7 +331,7 @@ def sized_lines():
 
 
 def lines():
-    """Each line with its answer."""
+    """Each line with its output."""
     for data in READ:
         yield "read", data, read(data)
     for data in READ:
@@ -386,6 +386,6 @@ def lines():
 
 
 def rows():
-    """The lines and what answers each."""
+    """The lines, each with its output."""
     assert len(TABLE) == 117 and table(TABLE) == (PAIRS, 117)
     return [(f"{words} {data.hex() or '-'}", answer) for words, data, answer in lines()]

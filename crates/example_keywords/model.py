@@ -1,6 +1,6 @@
-"""What the program `example_keywords` is run on, and what it has to answer: its files stdin and stdout, which bin/data writes.
+"""What the program `example_keywords` is run on, and what it has to write: its files stdin and stdout, which bin/data writes.
 
-The rows are those below. What answers them is told by a reader of keywords that is written here from UTS 35, with Python's
+The rows are those below. Their output is told by a reader of keywords that is written here from UTS 35, with Python's
 expressions and dicts, and never by the program.
 """
 import re
@@ -57,7 +57,7 @@ def read(text):
 
 
 def answer(text):
-    """What answers a text."""
+    """The output of a text."""
     keywords = read(text)
     if isinstance(keywords, str):
         return keywords
@@ -74,13 +74,13 @@ def walked(text):
 
 
 def falling(count):
-    """So many keywords, whose keys fall: all pairs of letters, again and again, from the second time on with a value."""
+    """So many keywords, whose keys descend: all pairs of letters, again and again, from the second time on with a value."""
     letters = "zyxwvutsrqponmlkjihgfedcba"
     return "-".join(letters[number // 26 % 26] + letters[number % 26] + ("-abc" if number >= 676 else "") for number in range(count))
 
 
 def put_count(text):
-    """How many keywords are put into the map: those before the fault of a text."""
+    """How many keywords are put into the map: those before the error of a text."""
     count = 0
     for part in text.split("-") if text else ():
         if KEY.fullmatch(part):

@@ -1,6 +1,6 @@
-"""What the program `names` has to answer: its files stdout and status, which bin/data writes, and the inputs of bin/program.
+"""What the program `names` has to write: its files stdout and status, which bin/data writes, and the inputs of bin/program.
 
-The answers are those of a plain model: a dictionary that is sorted where all pairs are asked for. None is the program's own.
+The replies are those of a plain model: a dictionary that is sorted when all pairs are wanted. None is the program's own.
 """
 import pathlib
 import re
@@ -13,23 +13,23 @@ SHAPES = {name: re.compile(shape) for name, shape in [
 
 
 def quoted(text):
-    """A text of graphic bytes as JSON."""
+    """A string of graphic bytes as JSON."""
     return b'"' + text.replace(b"\\", b"\\\\").replace(b'"', b'\\"') + b'"'
 
 
 def value_line(value):
-    """What answers `get` and `del`."""
+    """The reply to `get` and `del`."""
     return b"none\n" if value is None else b"= " + value + b"\n"
 
 
 def place_line(names, key):
-    """What answers `find`."""
+    """The reply to `find`."""
     place = sum(name < key for name in names)
     return b"%s %d\n" % (b"ok" if key in names else b"err", place)
 
 
 def answer(names, kind, words):
-    """What answers a line that is not bad; the line is done on the names."""
+    """The reply to a line that is not bad; the line is done on the names."""
     if kind == "put":
         old = names.get(words[0])
         names[words[0]] = words[1]
@@ -66,7 +66,7 @@ def puts(count, value=b"v", start=0):
 
 
 def long_values():
-    """Values and old values of few bytes and of many, read by each line that answers one."""
+    """Values and old values of few bytes and of many, read by each line whose reply has one."""
     for length in [1, 2, 3, 100, 101, 5000, 100000]:
         first, second = b"a" * length, b"b" * length
         yield from [b"put k " + first, b"get k", b"put k " + second, b"get k", b"del k", b"get k"]

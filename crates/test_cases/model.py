@@ -1,7 +1,7 @@
 """The cases of the program `test_cases`, which bin/data writes: the examples in the `///` of the libraries' calls, as functions that
 are proved and run, and its output.
 
-A block of Rust there is the body of a function that answers `true` or `Ok(true)`, and is handed `alloc` where it names it. A
+A block of Rust there is the body of a function that returns `true` or `Ok(true)`, and is given `alloc` if it names it. A
 first line `// days: ..` or `// hours: ..` stands for a map with these pairs, from the module `days`: one that is lent to all that
 only look at it. What stands before a line `// ...` is put before the function, and a block that stands twice is taken once. A
 block that begins with an item shows what a user writes: `bin/check code` looks for it in a crate.
@@ -20,7 +20,7 @@ MODULES = {
     "stores": "litemap_store/|litemap_columns/",
     "formats": "litemap_read/|litemap_json/|name_",
 }
-# What is imported, with the words that need it where these are others.
+# What is imported, with the words that need it if these are others.
 USES = {
     "crate::days": "Days Hours opening_hours three_days",
     "litemap": "Entry LiteMap TryFault VecMap",
@@ -43,7 +43,7 @@ CALL = re.compile(r"\bfn (\w+)|(?:struct|enum|trait|type) (\w+)|^ *impl\b.*?(\w+
 
 
 def name_below(text, place):
-    """The name of the call that stands behind a comment, in small letters."""
+    """The name of the call that stands after a comment, in small letters."""
     head = re.match(r"(?:\s*#\[.*\])*\s*(.*)", text[place:])[1]
     return re.sub(r"(?<=[a-z])(?=[A-Z])", "_", next(filter(None, CALL.search(head).groups()))).lower()
 
@@ -52,7 +52,7 @@ MAPS = {"// days:": ("days", "Days", "three_days(alloc)?"), "// hours:": ("hours
 
 
 def laid_out(line):
-    """A line of code as lines in the layout of `rt fmt`: where the arguments of a call are wide, the last a closure."""
+    """A line of code as lines in the layout of `rt fmt`, if the arguments of a call are wide, the last a closure."""
     found = re.fullmatch(r"( *)(\S*\w\()(.*, )(\|.*)(\)\??;)", line)
     if not found or len(found[3] + found[4]) <= 60:
         return [line]

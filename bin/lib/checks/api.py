@@ -3,7 +3,7 @@ import re
 import sys
 
 from lib.checks.pages import TEXTS, read
-from lib.checks.sources import CALLS, IMPLS, LIBRARIES
+from lib.checks.sources import CALLS, IMPLS, LIBRARIES, SOURCES
 from lib.shared import TOP
 
 sys.path.append(str(TOP / "diff"))
@@ -38,10 +38,11 @@ GROUPS = {
 NOT_LISTED = {
     **dict.fromkeys(["names_core", "names_main", "names"], "the program, which README tells"),
 }
-# The groups whose calls say what they cost in comparisons and moves, and those of their calls that compare no keys and move no
-# pairs, which a page may say in its own words once.
+# The groups whose calls say what they cost in comparisons and moves, or whose source says it of all once, and those of their
+# calls that compare no keys and move no pairs, which a page may say in its own words once.
 COSTED = [*GROUPS][: [*GROUPS].index("Read from a source")]
-COST = re.compile(r"\bcompar|\bmoves?\b|\bsearch|\basks?\b|\bis asked once", re.IGNORECASE)
+COST = re.compile(r"\bcompar|\bmoves?\b|\bsearch", re.IGNORECASE)
+COST_OF_ALL = re.compile(r"^//!.*(?:O\(|No keys are compared)", re.MULTILINE)
 FREE = {
     "LiteMap": "new_vec into_tuple_vec from_sorted_store_unchecked new with_capacity len keys_rise is_empty get_indexed first last"
     " get_indexed_mut clear iter iter_keys iter_values keys values get_indexed_range as_sliced as_slice const_len const_is_empty"
@@ -127,7 +128,7 @@ def check(report, write):
         report.see(source in CALLS, f"a group of docs/API.md names {source}, and there is no such source")
         report.see(source in grouped, f"{source} has calls or traits of others, and stands in no group of docs/API.md")
     for source in (source for group in COSTED for source in sources_of(group)):
-        for call in CALLS.get(source, ()):
+        for call in () if COST_OF_ALL.search(SOURCES.get(source, "")) else CALLS.get(source, ()):
             told = f"the comment of {call.label} says nothing of comparisons and moves, and FREE does not name it"
             report.see(call.label in FREE or COST.search(call.said), told)
     labels = {it.label for source in grouped for it in CALLS.get(source, ()) if not source.endswith("/laws")}

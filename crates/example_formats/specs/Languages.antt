@@ -1,4 +1,4 @@
--- Which name a language has, and which text a word.
+-- Which name a language has, and which string a word.
 use Rattle.std.specs.Prelude.{◌≡◌, ℕ, List, Option, Some, None}
 use Rattle.std.specs.Option.{unwrap_or}
 use Rattle.litemap.specs.ByBytes.{by_bytes}
@@ -17,6 +17,6 @@ pub record IsNamed (bytes : List ℕ) (table : List (Text × Text)) (code : Text
   pub found : IsFound bytes code there
   pub name_is : name ≡ name_of there (value_at by_bytes table code)
 
--- the text is what the pairs have at the word, or else the word itself
+-- the string is what the pairs have at the word, or else the word itself
 abbrev pub IsTranslated : List (List ℕ × List ℕ) → List ℕ → List ℕ → Type 0
 IsTranslated pairs word text = text ≡ unwrap_or (value_at text_order pairs word) word

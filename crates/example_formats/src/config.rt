@@ -44,10 +44,10 @@ pub fn to_toml(alloc: Global, config: &Config) -> Result<String, toml::ser::Writ
     toml::to_string(alloc, config)
 }
 
-/// Puts a user's limits over those that are there, or leaves them as they are where memory is refused.
+/// Puts a user's limits over those that are there, or leaves them as they are if memory runs out.
 #[tactic(auto, using(litemap::proofs::Texts::text_keys))]
 pub fn overlay(limits: &mut Limits, alloc: Global, user: Limits) -> Result<(), AllocError>
-    // The user's limit where there is one, else the one that was there.
+    // The user's limit if there is one, else the one that was there.
     ensures found { OnOk result ((name : _) → value_at by_text limits.new.pairs name
         ≡ option_or (value_at by_text user.pairs name) (value_at by_text limits.old.pairs name)) }
     ensures refused { OnErr result (limits.new.pairs ≡ limits.old.pairs) }

@@ -8,7 +8,7 @@ use litemap_json::{ItemFault, JsonItem, JsonKey};
 use serde_json::Value;
 use std::alloc::{AllocError, Global};
 
-/// A number, whose text is its decimal one where it is even, and which has none where it is odd.
+/// A number, whose text is its decimal one if it is even, and which has none if it is odd.
 #[derive(Clone, Copy, PartialEq, Eq, PartialOrd, Ord)]
 pub struct Even {
     /// The number.

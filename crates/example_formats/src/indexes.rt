@@ -1,4 +1,4 @@
-//! What bytes answer that are an index of names.
+//! What is found in bytes that are an index of names.
 use crate::texts::write_entry;
 use crate::words;
 use litemap_read::ReadFault;
@@ -8,7 +8,7 @@ use name_table::{NameWriteFault, read_names};
 use std::alloc::{AllocError, Global};
 use std::fmt::Write;
 
-/// The index of the map that bytes are read as, which is also that of its pairs; no bytes where they are read as none.
+/// The index of the map that bytes are read as, which is also that of its pairs; no bytes if they are read as none.
 pub fn index_of(alloc: Global, bytes: &[u8]) -> Result<Vec<u8>, AllocError> {
     let Ok((map, _)) = unless_memory!(read_names(alloc, bytes), ReadFault::NoRoom) else {
         return Ok(Vec::new(alloc));
@@ -38,7 +38,7 @@ pub fn write_digits(alloc: Global, bytes: &[u8], output: &mut String) -> Result<
     output.push_str(digits.as_str())
 }
 
-/// Writes each entry of an index, with a word more where one isn't found by its key, or the fault.
+/// Writes each entry of an index, with a word more if one isn't found by its key, or the error.
 pub fn write_opened(bytes: &[u8], output: &mut String) -> Result<(), AllocError> {
     let names = or_fault!(IndexedNames::open_checked(bytes), output);
     write!(output, "index {}:", names.len())?;
@@ -55,7 +55,7 @@ pub fn write_opened(bytes: &[u8], output: &mut String) -> Result<(), AllocError>
     Ok(())
 }
 
-/// Writes what an index that wasn't read before answers for a key, or the fault.
+/// Writes what an index that wasn't read before returns for a key, or the error.
 pub fn write_looked(key: &str, bytes: &[u8], output: &mut String) -> Result<(), AllocError> {
     let names = or_fault!(IndexedNames::open(bytes), output);
     let value = or_fault!(names.get(key), output);
@@ -67,7 +67,7 @@ pub fn write_looked(key: &str, bytes: &[u8], output: &mut String) -> Result<(), 
     }
 }
 
-/// An index that is asked both as it lies and read once.
+/// An index that is looked up both as it lies and read once.
 #[derive(Drop)]
 pub struct BothWays<'a> {
     names: IndexedNames<'a>,
@@ -82,7 +82,7 @@ impl<'a> BothWays<'a> {
         Ok(BothWays { names, checked })
     }
 
-    /// Whether it answers for a key as a table does.
+    /// Whether it returns for a key what a table does.
     pub fn is_asked_alike(&self, table: &NameTable<'_>, key: &str) -> bool {
         let (value, place) = (table.get(key), table.find_index(key));
         self.checked.get(key) == value
@@ -91,12 +91,12 @@ impl<'a> BothWays<'a> {
             && self.names.find_index(key) == Ok(place)
     }
 
-    /// Whether it has the text for a word.
+    /// Whether it has the string for a word.
     pub fn is_translated(&self, word: &str, text: &str) -> bool {
         words::by_checked(&self.checked, word) == text && words::by_index(&self.names, word) == text
     }
 
-    // Whether it answers for a key alike both ways.
+    // Whether it returns the same for a key both ways.
     fn is_one(&self, key: &str) -> bool {
         self.names.get(key) == Ok(self.checked.get(key))
             && self.names.find_index(key) == Ok(self.checked.find_index(key))
@@ -116,7 +116,7 @@ impl<'a> BothWays<'a> {
     }
 }
 
-/// Whether bytes are opened alike both ways, but for what reading them all finds, and answer alike at the keys of an index.
+/// Whether bytes are opened alike both ways, but for what reading them all finds, and return the same at the keys of an index.
 pub fn is_opened_alike(bytes: &[u8], keys: &CheckedNames<'_>) -> bool {
     let Ok(both) = BothWays::open(bytes) else {
         return is_asked_within(bytes, keys);
@@ -129,8 +129,8 @@ pub fn is_opened_alike(bytes: &[u8], keys: &CheckedNames<'_>) -> bool {
     alike
 }
 
-// Whether bytes that are no index answer for the keys of one by places within their number, where they answer at all. Where
-// opening is refused so is reading.
+// Whether bytes that are no index return indices within their number for the keys of one, if they return any. If opening fails,
+// reading fails too.
 fn is_asked_within(bytes: &[u8], keys: &CheckedNames<'_>) -> bool {
     let Ok(names) = IndexedNames::open(bytes) else {
         return IndexedNames::open_checked(bytes).is_err();

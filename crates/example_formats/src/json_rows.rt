@@ -1,4 +1,4 @@
-//! What answers a line.
+//! The output of a line.
 use crate::evens::Even;
 use crate::levels::Level;
 use crate::overlay::{OverlayFault, Settings, overlay};
@@ -19,7 +19,7 @@ type Map<K, V> = LiteMap<K, V, Vec<(K, V)>>;
 
 type Columns<K, V> = LiteMap<K, V, ColumnStore<K, V>>;
 
-/// What answers a line: its text at the types of this name.
+/// Returns the output of a line, at the types of this name.
 pub fn answer(alloc: Global, line: &str) -> Result<String, AllocError> {
     let Some((types, text)) = line.split_once(' ') else {
         return String::from_str(alloc, "no types");
@@ -73,7 +73,7 @@ fn written<K: JsonKey + Drop, V: JsonItem + Drop, S: StoreBulkMut<K, V>>(
     answer_of_all(alloc, over_vector, over_columns, over_short)
 }
 
-// The answer over each store, or that they differ.
+// The output over each store, or that they differ.
 fn answer_of_all(
     alloc: Global,
     over_vector: String,
@@ -180,7 +180,7 @@ fn write_parts(alloc: Global, value: &Value, out: &mut Writer) -> Result<(), All
     out.end_object()
 }
 
-// A fault, which a map was not written for, and what it says as one of std's.
+// An error, for which a map was not written, and what it says as one of std's.
 fn one_fault(
     alloc: Global,
     fault: WriteFault,

@@ -27,7 +27,7 @@ pub fn written<T: Serialize>(alloc: Global, value: &T) -> Result<String, AllocEr
     }
 }
 
-/// What kind of fault it is.
+/// What kind of error it is.
 pub fn fault_word(fault: &serde_json::Error) -> &'static str {
     match fault.classify() {
         Category::Io => "io",
@@ -56,7 +56,7 @@ where
     )
 }
 
-/// How many proper prefixes of an ASCII text end too early for a map of maps, and how many are answered otherwise.
+/// How many proper prefixes of an ASCII text end too early for a map of maps, and how many have another result.
 pub fn cuts(alloc: Global, text: &str) -> Result<String, AllocError> {
     let mut early = 0u32;
     let mut other = 0u32;

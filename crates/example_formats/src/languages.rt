@@ -1,6 +1,6 @@
-//! Names of languages: those that a program has in itself, and those that a translator sends as a name table.
-//! A map is laid over the program's table for one look-up and takes no memory. The translator's bytes are read into a map
-//! whose texts are slices of them, and what such a table can't be read by is told with its place.
+//! Names of languages: those that a program has in itself, and those that a translator sends as a name table. A map is laid
+//! over the program's table for one lookup and takes no memory. The translator's bytes are read into a map whose strings are
+//! slices of them, and an error of such a table is told with its offset.
 ghost use Rattle.std.specs.Prelude.{◌≡◌, IfErr, IfOk};
 ghost use Rattle.litemap.specs.ByBytes.{by_bytes};
 ghost use Rattle.litemap_read.specs.ReadFault.{IfSource};
@@ -14,7 +14,7 @@ use litemap_read::ReadFault;
 use name_table::{NameFault, find_name};
 use std::alloc::Global;
 
-/// The name of a language in a table of the program, whose codes rise strictly.
+/// The name of a language in a table of the program, whose codes strictly ascend.
 pub fn own_name<'a, 'k>(table: &'a [(&'k str, &'k str)], code: &str) -> Option<&'k str>
     requires { Rising by_bytes table.now }
     ensures { result ≡ value_at by_bytes table.now code.entry }
@@ -24,7 +24,7 @@ pub fn own_name<'a, 'k>(table: &'a [(&'k str, &'k str)], code: &str) -> Option<&
     Some(*name)
 }
 
-/// The name of a language: the translator's, or where its bytes have none the program's.
+/// The name of a language: the translator's, or the program's if its bytes have none.
 pub fn language_name<'a>(
     alloc: Global,
     bytes: &'a [u8],

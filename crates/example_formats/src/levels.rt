@@ -8,7 +8,7 @@ use serde::{Deserialize, Serialize};
 use serde_json::Value;
 use std::alloc::{AllocError, Global};
 
-/// How much a message matters. The variants rise in this order.
+/// How much a message matters. The variants ascend in this order.
 #[derive(Clone, Copy, PartialEq, Eq, PartialOrd, Ord, Serialize, Deserialize)]
 #[serde(rename_all = "lowercase")]
 pub enum Level {

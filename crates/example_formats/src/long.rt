@@ -3,8 +3,8 @@ use crate::kinds::map_again;
 use litemap_short::ShortStore;
 use std::alloc::{AllocError, Global};
 
-/// Reads the text of so many pairs, by a step and a number, each key twice, and tells whether what is written has the last ones,
-/// rising.
+/// Reads the text of so many pairs, by a step and a number, each key twice, and tells whether what is written has the last
+/// ones, ascending.
 pub fn many(alloc: Global, line: &str) -> Result<String, AllocError> {
     let Some((step, count)) = line.split_once(' ') else {
         return String::from_str(alloc, "no number");

@@ -1,20 +1,19 @@
 //! Callers that read and write maps in a user's own types, and a program of rows: each line of standard input is one of three
-//! kinds, by its first word, and a line of standard output answers it. Models in Python (`model.py`) make the input and tell the
-//! answers.
+//! kinds, by its first word, and has a line of standard output. Models in Python (`model.py`) make the input and tell the output.
 //!
 //! - `json TYPES TEXT`: what the map that a JSON text is read as is written as, or why it was not read or not written. `TYPES`
 //!   names the types of the keys and of the items (`json_rows`). Each text but those of `limits`, `names`, `overlay`, `told` and
-//!   `rewrite` is read over a vector, over two columns and over a short store, and the line shows where the answers differ. `json
-//!   told TYPES TEXT`: the fault as it is shown to people (`told`). `json rewrite TEXT`: what `rewrite_flags` makes of a text.
+//!   `rewrite` is read over a vector, over two columns and over a short store, and the line shows if the outputs differ. `json
+//!   told TYPES TEXT`: the error as it is shown to people (`told`). `json rewrite TEXT`: what `rewrite_flags` makes of a text.
 //! - `serde WHAT TEXT`: what is written of what a JSON text is read as through serde, or why not (`serde_rows`). For TOML and CSV
 //!   `TEXT` is the JSON string of one.
 //! - `table ..`: what is read, found or written of the bytes of a name table or an index of names (`table_rows`).
 //!
-//! Where memory is refused a line is answered by `out of memory`, or as ever if it can do without. Requests of three sizes tell a
-//! watcher of the allocator when a line begins, when its answer is made, and when that is dropped (`bin/requests`).
+//! If memory runs out, the output of a line is `out of memory`, or as ever if it can do without. Requests of three sizes tell a
+//! watcher of the allocator when a line begins, when its output is made, and when that is dropped (`bin/requests`).
 #![tactic(auto)]
 
-// What bytes are read as. Where they can't be, the fault is written, and no more.
+// What bytes are read as. If they can't be, the error is written, and no more.
 macro_rules! or_fault {
     ($read:expr, $output:ident) => {
         match $read {
@@ -24,7 +23,7 @@ macro_rules! or_fault {
     };
 }
 
-// What was read or written, or the fault. Want of memory is handed on; a pattern tells it where the fault has no `is_memory`.
+// What was read or written, or the error. An allocation error is returned; a pattern tells it if the error has no `is_memory`.
 macro_rules! unless_memory {
     ($outcome:expr) => {
         match $outcome {
@@ -65,7 +64,7 @@ pub mod words;
 use std::alloc::{AllocError, Global};
 use std::io;
 
-// The sizes of the requests that tell where a line begins, where its answer is made, and where that is dropped.
+// The sizes of the requests that tell when a line begins, when its output is made, and when that is dropped.
 const BEGIN: usize = 1_000_003;
 
 const END: usize = 1_000_033;
@@ -91,7 +90,7 @@ fn mark(alloc: Global, size: usize) {
     let _ = Vec::<u8>::with_capacity(alloc, size);
 }
 
-// What answers a line.
+// The output of a line.
 fn answer_line(alloc: Global, line: &str) -> Result<String, AllocError> {
     match line.split_once(' ') {
         Some(("table", row)) => table_rows::answer(alloc, row),

@@ -1,4 +1,4 @@
-//! The names of a table that begin with a text.
+//! The names of a table that begin with a string.
 ghost use Rattle.std.specs.Prelude.{◌≡◌, filter};
 ghost use Rattle.name_index.specs.Prefixes.{begins};
 ghost use Rattle.name_index.specs.Tables.{OfTable};
@@ -8,14 +8,14 @@ use name_index::{NameEntries, NameIndex, NameTable};
 use std::alloc::AllocError;
 use std::fmt::Write;
 
-/// The entries whose names begin with a text, in order.
+/// The entries whose names begin with a string, in order.
 pub fn beginning<'a>(index: &NameIndex<'a>, text: &str) -> NameEntries<'a>
     ensures { OfTable index.now (λ pairs. result ≡ filter (λ p. begins p.0 text.now) pairs) }
 {
     index.entries_in(index.prefix_places(text))
 }
 
-/// Writes the places of the names that begin with a text, each of these entries, and whether a scan finds others.
+/// Writes the indices of the names that begin with a string, each of these entries, and whether a scan finds others.
 pub fn write_beginning(
     table: &NameTable<'_>,
     index: &NameIndex<'_>,
@@ -33,7 +33,7 @@ pub fn write_beginning(
     Ok(())
 }
 
-/// Whether an index has the names that begin with a text where a scan of its table has them.
+/// Whether an index has the names that begin with a string where a scan of its table has them.
 pub fn is_scanned(table: &NameTable<'_>, index: &NameIndex<'_>, text: &str) -> bool {
     let places = index.prefix_places(text);
     let mut found = beginning(index, text);

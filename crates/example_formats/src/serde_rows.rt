@@ -1,4 +1,4 @@
-//! What answers a line.
+//! The output of a line.
 use crate::codes::{Row, from_csv, rows_from_csv};
 use crate::config::{self, Config, Limits};
 use crate::kinds::{again, cuts, fault_word, map_again, toml_again, written};
@@ -12,7 +12,7 @@ use serde_json::Value;
 use std::alloc::{AllocError, Global};
 use std::collections::BTreeMap;
 
-/// What answers a line.
+/// Returns the output of a line.
 pub fn answer(alloc: Global, line: &str) -> Result<String, AllocError> {
     let Some((what, text)) = line.split_once(' ') else {
         return String::from_str(alloc, "no text");
@@ -92,7 +92,7 @@ fn answer_text(alloc: Global, what: &str, text: &str) -> Result<String, AllocErr
     }
 }
 
-// What answers a CSV text that is not read.
+// The output of a CSV text that is not read.
 fn refused(alloc: Global, fault: &csv::Error) -> Result<String, AllocError> {
     match fault.kind() {
         ErrorKind::OutOfMemory => Err(AllocError),
@@ -147,6 +147,6 @@ fn with_limits(alloc: Global, mut config: Config, user: Limits) -> Result<String
     toml_text(alloc, &config)
 }
 
-// The configuration where a user says nothing.
+// The configuration if a user says nothing.
 const DEFAULTS: &str =
     r#"{"title":"defaults","names":{"de":"German"},"limits":{"depth":8,"lines":100}}"#;

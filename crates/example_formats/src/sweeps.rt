@@ -9,9 +9,9 @@ use std::fmt::Write;
 /// How many cases were read, and what came of them.
 #[derive(Drop)]
 pub struct Tally<'a> {
-    // Where each case is an index: another one, for whose keys it is asked.
+    // If each case is an index: another one, by whose keys it is looked up.
     keys: Option<CheckedNames<'a>>,
-    // How many cases there are; how many are read, truncated, not UTF-8, too large; of how many two answers differ.
+    // How many cases there are; how many are read, truncated, not UTF-8, too large; for how many two results differ.
     counts: [u64; 6],
     checksum: u64,
 }
@@ -77,7 +77,7 @@ impl<'a> Tally<'a> {
     }
 }
 
-// Whether what is written for the bytes' map is read as the same map, and is no longer; so too where no map is read.
+// Whether what is written for the bytes' map is read as the same map, and is no longer; so too if no map is read.
 fn is_read_again(alloc: Global, bytes: &[u8]) -> Result<bool, AllocError> {
     let Ok((map, size)) = unless_memory!(read_names(alloc, bytes), ReadFault::NoRoom) else {
         return Ok(true);

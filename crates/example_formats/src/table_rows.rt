@@ -1,29 +1,29 @@
-//! Lines that ask for something of a table or an index: words parted by one space, of which the last one is bytes in hexadecimal,
+//! Lines for tables and indexes: words separated by one space, of which the last one is bytes in hexadecimal,
 //! `-` for none.
 //!
-//! - `read BYTES`: what `read_names` answers.
-//! - `find KEY BYTES`: what `find_name` answers.
-//! - `walk BYTES`: the entries that `NameBytes` gives one by one, each with the place and the number due behind it, and
-//!   the answer that is no entry, twice.
+//! - `read BYTES`: what `read_names` returns.
+//! - `find KEY BYTES`: what `find_name` returns.
+//! - `walk BYTES`: the entries that `NameBytes` gives one by one, each with the offset and the number due after it, and
+//!   what comes when there is no entry, twice.
 //! - `again BYTES`: what `write_names` writes for the map that is read.
 //! - `name CODE BYTES`: the name of a language, the bytes' or else the program's (`languages`).
-//! - `table BYTES`: each entry of a `NameTable`, found again by its key there and in its `NameIndex`, and met again where both
+//! - `table BYTES`: each entry of a `NameTable`, found again by its key there and in its `NameIndex`, and met again if both
 //!   are walked.
-//! - `ask KEY BYTES`: what a `NameTable` and its `NameIndex` answer for a key.
-//! - `begin TEXT BYTES`: the places and the entries of the names that begin with a text, by a `NameIndex`.
-//! - `word WORD BYTES`: the text that a table has for a word, or the word itself, by each of its forms (`words`).
-//! - `many NUMBER -`: what a `NameTable` of so many names and its `NameIndex` answer.
+//! - `ask KEY BYTES`: what a `NameTable` and its `NameIndex` return for a key.
+//! - `begin TEXT BYTES`: the indices and the entries of the names that begin with a string, by a `NameIndex`.
+//! - `word WORD BYTES`: the string that a table has for a word, or the word itself, by each of its forms (`words`).
+//! - `many NUMBER -`: what a `NameTable` of so many names and its `NameIndex` return.
 //! - `prefixes BYTES`: what is read of each proper prefix, by kinds.
 //! - `changes BYTES`: the same with each byte changed into each other one.
 //! - `strings BYTES`: the same of every string of up to four of these bytes.
 //!
 //! The last three read each case into a map and by a `NameTable`: the texts of both are in the checksum, which another reader
-//! tells (`table_rows.py`). A map is also written and read again, and a table written as an index, which is asked as it
-//! lies and read once; a case of which two answers differ is `different`.
+//! tells (`table_rows.py`). A map is also written and read again, and a table written as an index, which is looked up as
+//! it lies and read once; a case for which two results differ is `different`.
 //!
 //! - `index BYTES`: what `write_index` writes for the map that is read.
 //! - `opened BYTES`: each entry of an index that is read once, found again by its key.
-//! - `look KEY BYTES`: what an index that isn't read before answers for a key.
+//! - `look KEY BYTES`: what an index that isn't read before returns for a key.
 //! - `cuts BYTES`, `damages BYTES`: what is opened of each proper prefix of an index, and with each byte changed, by kinds.
 use crate::languages::language_name;
 use crate::sweeps::{self, Tally};
@@ -34,7 +34,7 @@ use name_index::IndexedNames;
 use name_table::{NameWriteFault, read_names, write_names};
 use std::alloc::{AllocError, Global};
 
-/// What answers a line.
+/// Returns the output of a line.
 pub fn answer(alloc: Global, line: &str) -> Result<String, AllocError> {
     let words: Vec<&str> = line.split(' ').collect(alloc)?;
     let Some((last, words)) = words.as_slice().split_last() else {
@@ -49,7 +49,7 @@ pub fn answer(alloc: Global, line: &str) -> Result<String, AllocError> {
     Ok(output)
 }
 
-// Writes what answers a line.
+// Writes the output of a line.
 fn write_answer(
     alloc: Global,
     words: &[&str],
@@ -103,7 +103,7 @@ fn write_name(
     }
 }
 
-// Reads many cases, and writes what came of them. Those of an index are asked for its keys.
+// Reads many cases, and writes what came of them. Those of an index are looked up by its keys.
 fn sweep(alloc: Global, name: &str, bytes: &[u8], output: &mut String) -> Result<(), AllocError> {
     let keys = match name {
         "cuts" | "damages" => IndexedNames::open_checked(bytes).ok(),

@@ -1,4 +1,4 @@
-//! What a table answers that is looked up in its bytes.
+//! What is found in a table that is looked up in its bytes.
 use crate::indexes::{BothWays, index_of};
 use crate::prefixes::{is_scanned, write_beginning};
 use crate::texts::write_entry;
@@ -9,7 +9,7 @@ use name_table::NameMap;
 use std::alloc::{AllocError, Global};
 use std::fmt::Write;
 
-/// Writes what a table answers to words, as `answer_line` has them, in each of its forms.
+/// Writes what a table returns for words, as `answer_line` has them, in each of its forms.
 pub fn write_answer(
     alloc: Global,
     words: &[&str],
@@ -30,7 +30,7 @@ pub fn write_answer(
     }
 }
 
-/// Writes what a table of so many names answers.
+/// Writes what is found in a table of so many names.
 pub fn write_many(alloc: Global, number: &str, output: &mut String) -> Result<(), AllocError> {
     let bytes = many(alloc, number.parse::<u32>().unwrap_or(0))?;
     write_answer(alloc, &["many", number], bytes.as_slice(), output)
@@ -58,18 +58,18 @@ impl<'a> Forms<'a> {
         Ok(Some(Forms { table, index, both }))
     }
 
-    // Whether all answer alike for a key.
+    // Whether all return the same for a key.
     fn is_one(&self, key: &str) -> bool {
         self.is_indexed(key) && self.both.is_asked_alike(&self.table, key)
     }
 
-    // Whether the index answers as the table does for a key.
+    // Whether the index returns what the table does for a key.
     fn is_indexed(&self, key: &str) -> bool {
         self.index.get(key) == self.table.get(key)
             && self.index.find_index(key) == self.table.find_index(key)
     }
 
-    // Writes each entry, with a word more where it isn't found again in each form.
+    // Writes each entry, with a word more if it isn't found again in each form.
     fn write_entries(&self, alloc: Global, output: &mut String) -> Result<(), AllocError> {
         write!(output, "table {}:", self.index.len())?;
         let mut alike = self.is_walked() && self.both.has_entries_of(&self.table);
@@ -86,7 +86,7 @@ impl<'a> Forms<'a> {
         Ok(())
     }
 
-    // Whether the table and its index are walked through the entries at the places, and no others.
+    // Whether the table and its index are walked through the entries at the indices, and no others.
     fn is_walked(&self) -> bool {
         let (mut entries, mut others) = (self.table.iter(), self.index.iter());
         let mut alike = true;
@@ -118,7 +118,7 @@ impl<'a> Forms<'a> {
         place == self.table.len()
     }
 
-    // Writes what is there at a key, where all answer alike.
+    // Writes what is there at a key, if all return the same.
     fn write_asked(&self, key: &str, output: &mut String) -> Result<(), AllocError> {
         if !self.is_one(key) {
             return output.push_str("another answer");
@@ -130,7 +130,7 @@ impl<'a> Forms<'a> {
         }
     }
 
-    // Writes the text for a word, or the word itself, where all have the same.
+    // Writes the string for a word, or the word itself, if all have the same.
     fn write_translated(&self, word: &str, output: &mut String) -> Result<(), AllocError> {
         let text = words::by_table(&self.table, word);
         if words::by_places(&self.index, word) != text || !self.both.is_translated(word, text) {
@@ -139,7 +139,7 @@ impl<'a> Forms<'a> {
         output.push_str(text)
     }
 
-    // Writes how many of some keys of a table of `many` names are found: 16 that are there, and one behind each of these.
+    // Writes how many of some keys of a table of `many` names are found: 16 that are there, and one after each of these.
     fn write_many(&self, alloc: Global, output: &mut String) -> Result<(), AllocError> {
         let number = self.table.len();
         let mut key = String::new(alloc);
@@ -156,7 +156,7 @@ impl<'a> Forms<'a> {
         write!(output, "{number} names: {there} there, {between} between")
     }
 
-    // Whether a key has this place, or would have it, and all answer alike.
+    // Whether a key has this index, or would have it, and all return the same.
     fn is_at(&self, key: &str, place: Result<usize, usize>) -> bool {
         self.table.find_index(key) == place && self.is_one(key)
     }

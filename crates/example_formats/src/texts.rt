@@ -4,7 +4,7 @@ use name_table::{NameBytes, NameFault, NameMap, find_name, read_names};
 use std::alloc::{AllocError, Global};
 use std::fmt::Write;
 
-/// Writes what `read_names` answers.
+/// Writes what `read_names` returns.
 pub fn write_read(alloc: Global, bytes: &[u8], output: &mut String) -> Result<(), AllocError> {
     match read_names(alloc, bytes) {
         Ok((map, size)) => write_map(&map, size, output),
@@ -26,7 +26,7 @@ pub fn write_entry(key: &str, value: &str, output: &mut String) -> Result<(), Al
     write!(output, " {key}={value}")
 }
 
-/// Writes a fault, but for want of memory.
+/// Writes an error, but for an allocation error.
 pub fn write_fault(fault: &ReadFault<NameFault>, output: &mut String) -> Result<(), AllocError> {
     match fault {
         ReadFault::Source(fault) => write!(output, "{fault}"),
@@ -34,7 +34,7 @@ pub fn write_fault(fault: &ReadFault<NameFault>, output: &mut String) -> Result<
     }
 }
 
-/// Writes what `find_name` answers.
+/// Writes what `find_name` returns.
 pub fn write_found(
     alloc: Global,
     key: &str,
@@ -65,13 +65,13 @@ pub fn write_walk(bytes: &[u8], output: &mut String) -> Result<(), AllocError> {
     write_state(&names, output)
 }
 
-// Writes the place and the number of entries that are due.
+// Writes the offset and the number of entries that are due.
 fn write_state(names: &NameBytes<'_>, output: &mut String) -> Result<(), AllocError> {
     let due = names.hint().unwrap_or(0);
     write!(output, " @{}/{due}", names.place())
 }
 
-// Writes an answer that is no entry.
+// Writes what is returned when it is no entry.
 fn write_end(names: &mut NameBytes<'_>, output: &mut String) -> Result<(), AllocError> {
     match names.next_pair() {
         Ok(Some(_)) => output.push_str(" one more"),

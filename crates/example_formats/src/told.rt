@@ -1,4 +1,4 @@
-//! What answers a line that asks for a fault as it is shown to people.
+//! The output of a line that wants an error as it is shown to people.
 use crate::evens::Even;
 use crate::levels::Level;
 use litemap::VecMap;
@@ -7,7 +7,7 @@ use serde_json::Value;
 use std::alloc::{AllocError, Global};
 use std::io;
 
-/// The answer of a line `TYPES TEXT`: why the text is no map of these types, or that it is one.
+/// Returns the output of a line `TYPES TEXT`: why the text is no map of these types, or that it is one.
 pub fn answer(alloc: Global, line: &str) -> Result<String, AllocError> {
     let Some((types, text)) = line.split_once(' ') else {
         return String::from_str(alloc, "no types");
@@ -48,7 +48,7 @@ fn told<K: JsonKey + Drop, V: JsonItem + Drop>(
     }
 }
 
-// The same, told of a value that was not read, and has no places; and what it says as an error of std's.
+// The same, told of a value that was not read, and has no such index; and what it says as an error of std's.
 fn told_elsewhere(alloc: Global, text: &str) -> Result<String, AllocError> {
     let value = unless_memory!(Value::from_str(alloc, text));
     let (Ok(value), Ok(other)) = (value, unless_memory!(Value::from_str(alloc, "null"))) else {

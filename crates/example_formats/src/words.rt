@@ -5,7 +5,7 @@ ghost use Rattle.example_formats.specs.Languages.{IsTranslated};
 
 use name_index::{CheckedNames, IndexedNames, NameIndex, NameTable};
 
-/// The word's translation in a table that is scanned, or the word itself where it has none.
+/// The word's translation in a table that is scanned, or the word itself if it has none.
 pub fn by_table<'a>(table: &NameTable<'a>, word: &'a str) -> &'a str
     ensures { OfTable table.now (λ pairs. IsTranslated pairs word.now result.now) }
 {
@@ -15,7 +15,7 @@ pub fn by_table<'a>(table: &NameTable<'a>, word: &'a str) -> &'a str
     }
 }
 
-/// The same by the places of its entries.
+/// The same by the offsets of its entries.
 pub fn by_places<'a>(index: &NameIndex<'a>, word: &'a str) -> &'a str
     ensures { OfTable index.now (λ pairs. IsTranslated pairs word.now result.now) }
 {
@@ -35,7 +35,7 @@ pub fn by_checked<'a>(names: &CheckedNames<'a>, word: &'a str) -> &'a str
     }
 }
 
-/// The same in bytes that were not read before. Where they are no index the word itself may be answered too.
+/// The same in bytes that were not read before. If they are no index the word itself may be returned too.
 pub fn by_index<'a>(names: &IndexedNames<'a>, word: &'a str) -> &'a str
     ensures { IfIndex names.now (λ pairs. IsTranslated pairs word.now result.now) }
 {

@@ -1,4 +1,4 @@
--- Each text spells one list of keywords, or has one fault, and what is written for keywords spells these.
+-- Each text spells one list of keywords, or has one error, and what is written for keywords spells these.
 use Rattle.std.proofs.Common.{◌≡◌, ◌≢◌, ◌⊎◌, inl, inr, ℕ, Bool, true, false, cond, List, [], ◌∷◌, ◌++◌, Some, map, refl, sym, ap, ◌∙◌, subst, append-nil, append_assoc, IsTrue, option_map}
 use Rattle.std.proofs.lemmas.Cmp.{tied_itself}
 use Rattle.std.proofs.lemmas.List.Splits.{join_with_byte-slice_split}
@@ -52,7 +52,7 @@ NoValueFirst-keywords : (ks : List Keyword) → AllByRecursion IsKeyword ks → 
 NoValueFirst-keywords [] h = tt
 NoValueFirst-keywords (k ∷ ks) h = no_value_key k.key h.0.0
 
--- where values end is one place
+-- values end at one index
 values_end : (v w r s : List (List ℕ)) → AreParts v → AreParts w → NoValueFirst r → NoValueFirst s → v ++ r ≡ w ++ s → (v ≡ w) × (r ≡ s)
 values_end [] [] r s p q m n e = (refl, e)
 values_end [] (y ∷ w) (x ∷ r) s p q m n e =
@@ -110,7 +110,7 @@ read_unique text J K r s =
       λ i. In-value J p.0 p.1 (found p.0 ∙ value_of-In K p s.rise i),
     ))
 
--- ---- no fault
+-- ---- no error
 
 abbrev IsGood : List ℕ → Type 0
 IsGood part = (is_key part ≡ true) ⊎ (is_value_part part ≡ true)
@@ -137,7 +137,7 @@ no_fault text [] at s f = f.some s.spelled
 no_fault text (k ∷ ks) at s f =
     no_bad k ks f.before f.part f.behind s.each (sym (parts_spelled text k ks s) ∙ f.parts) f.no_key f.no_value
 
--- ---- one fault
+-- ---- one error
 
 not_good : (part other : List ℕ) → part ≡ other → is_key part ≡ false → is_value_part part ≡ false → IsGood other → ⊥
 not_good part other e n m (inl t) = let u : is_key part ≡ true = subst (λ z. is_key z ≡ true) (sym e) t in cc

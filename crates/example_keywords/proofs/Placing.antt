@@ -1,4 +1,4 @@
--- A pair put in where its key is absent, in the view of a map whose values are shown by their bytes.
+-- A pair inserted if its key is absent, in the view of a map whose values are shown by their bytes.
 use Rattle.std.proofs.Common.{◌≡◌, ◌≢◌, ◌⊎◌, ◌↔◌, inl, inr, ℕ, true, false, List, [], ◌∷◌, Option, Some, None, IsNone, IsSome, String, map, refl, sym, ap, ◌∙◌, subst, option_map, string_bytes}
 use Rattle.std.proofs.lemmas.Map.Lookups.{exact_bytes}
 use Rattle.std.specs.Cmp.Lexicographic.{nat_list_cmp_total, slice_cmp}
@@ -115,7 +115,7 @@ module _ {Z : Type 0} where
     put_first M (Some x) added put_is same =
         subst (λ N. IsPutFirst (map shown L) pair (map shown N)) (sym (same refl)) (stays (some_from (at by L k) (λ n. let e : true ≡ false = added.1 n in cc)))
 
--- ---- the keys rise in the view as they do in the map
+-- ---- the keys ascend in the view as they do in the map
 
 module _ {Z : Type 0} where
   below-shown : (k : List ℕ) (L : List (List ℕ × String Z)) → BelowAll (slice_cmp nat_cmp) k L → BelowAll (slice_cmp nat_cmp) k (map shown L)

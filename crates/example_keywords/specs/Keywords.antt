@@ -9,7 +9,7 @@ use Rattle.std.specs.Str.{bytes_eq}
 use Rattle.std.specs.Str.Parse.{true_text}
 use Rattle.litemap_store.specs.Pairs.{Rising, value_at}
 
--- the parts of a text: what stands before, between and behind its `-`
+-- the parts of a text: what stands before, between and after its `-`
 abbrev pub parts_of : List ℕ → List (List ℕ)
 parts_of text = slice_split (λ b. b == 45) text
 
@@ -59,7 +59,7 @@ pair_of k = (map to_ascii_lowercase k.key, canonical (joined k.value))
 abbrev pub Rise : List (List ℕ × List ℕ) → Type 0
 Rise pairs = Rising (slice_cmp nat_cmp) pairs
 
--- what a look-up of the key finds: the value of the first pair with it
+-- what a lookup of the key finds: the value of the first pair with it
 abbrev pub value_of : List (List ℕ × List ℕ) → List ℕ → Option (List ℕ)
 value_of pairs key = value_at (slice_cmp nat_cmp) pairs key
 
@@ -74,14 +74,14 @@ pub record IsRead (text : List ℕ) (pairs : List (List ℕ × List ℕ)) : Type
   pub rise : Rise pairs
   pub first : (key : List ℕ) → value_of pairs key ≡ value_of (map pair_of keywords) key
 
--- ---- where a text spells none
+-- ---- if a text spells none
 
--- how many bytes the parts take, each with a `-` behind it
+-- how many bytes the parts take, each with a `-` after it
 abbrev pub size_of : List (List ℕ) → ℕ
 size_of [] = 0
 size_of (part ∷ parts) = length part + 1 + size_of parts
 
--- the text is not empty, and behind keywords, at the byte `at`, stands a part that is no key, and no part of the value of a key
+-- the text is not empty, and after keywords, at the byte `at`, stands a part that is no key, and no part of the value of a key
 -- before it
 pub record IsFault (text : List ℕ) (at : ℕ) : Type 0 where
   pub before : List Keyword

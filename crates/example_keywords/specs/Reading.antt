@@ -9,7 +9,7 @@ use Rattle.example_keywords.specs.Keywords.{keyword_parts, pair_of, parts_of, va
 use Rattle.example_keywords.specs.declared.fault.KeywordFault.{KeywordFault}
 use Rattle.example_keywords.specs.declared.fault.KeywordFault.TheVariants.{NoRoom, Part}
 
--- where the fault is a part's, P holds of its place
+-- if the error is a part's, P holds of its offset
 abbrev pub IfPart : KeywordFault → (ℕ → Type 0) → Type 0
 IfPart (Part at) P = P at
 IfPart NoRoom P = ⊤

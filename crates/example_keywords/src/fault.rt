@@ -14,12 +14,12 @@ pub enum KeywordFault {
         /// Where the first such part begins.
         at: usize,
     },
-    /// Want of memory.
+    /// Memory ran out.
     #[error("out of memory")]
     NoRoom,
 }
 
-/// So that `?` hands want of memory on.
+/// For `?` after a call that takes memory.
 impl From<AllocError> for KeywordFault {
     ghost from_gives = { λ _ fault. fault ≡ NoRoom };
 

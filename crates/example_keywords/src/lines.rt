@@ -1,9 +1,9 @@
-//! What answers a line.
+//! The output of a line.
 use crate::fault::KeywordFault;
 use crate::map::Keywords;
 use std::alloc::{AllocError, Global};
 
-/// Adds the line that answers a line.
+/// Adds the output of a line.
 pub fn answer_line(alloc: Global, line: &str, output: &mut String) -> Result<(), AllocError> {
     let answer = match line.split_once(' ') {
         Some((word, rest)) => answer(alloc, word, rest),
@@ -68,7 +68,7 @@ fn find(alloc: Global, rest: &str) -> Result<String, KeywordFault> {
     }
 }
 
-// So many keywords, whose keys of two letters fall, and begin anew behind the last one. The first with a key have no value.
+// So many keywords, whose keys of two letters descend, and begin anew after the last one. The first with a key have no value.
 fn falling(alloc: Global, count: u32) -> Result<String, AllocError> {
     let mut text = String::new(alloc);
     for number in 0..count {

@@ -18,8 +18,8 @@ use std::marker::Model;
 
 /// The keywords of a locale's extension: values by their keys, both in lower case.
 ///
-/// A contract sees the list of its pairs, in the order of their keys. A value is the text of its parts, with a `-` between
-/// each two; it is empty where there is none, and for `true`. Where there is one keyword the map itself takes no memory.
+/// A contract sees the list of its pairs, in the order of their keys. A value is the text of its parts, with a `-` between each
+/// two; it is empty if there is none, and for `true`. If there is one keyword the map itself takes no memory.
 #[derive(Debug, Drop)]
 pub struct Keywords {
     pairs: Pairs,
@@ -37,7 +37,7 @@ impl Model for Keywords {
     ghost invariant = { λ k. AreCanonical (map shown k.pairs.pairs) };
 }
 
-/// Equal where the keys and their values are.
+/// Equal if the keys and their values are.
 impl PartialEq for Keywords {
     ghost eq = { equal_pairs (pointwise nat_eq) (pointwise nat_eq) };
 
@@ -50,11 +50,13 @@ impl PartialEq for Keywords {
 }
 
 impl Keywords {
-    /// The keywords that a text spells, in either case. Of two equal keys the first counts.
+    /// Reads the keywords that a text spells, in either case. Of two equal keys the first counts. Each keyword takes one search
+    /// among the keys that were read.
     ///
-    /// The fault is the place of the first part that is no key, and no part of the value of a key before it, or want of
-    /// memory: for values, and from the second key on for the map. An empty text is never refused. Each keyword takes one
-    /// search among the keys that were read.
+    /// # Errors
+    ///
+    /// If a part is no key, and no part of the value of a key before it, the error has its offset. If memory runs out, it is
+    /// `NoRoom`: for values, and from the second key on for the map. It doesn't come for an empty text.
     pub fn read(alloc: Global, text: &str) -> Result<Self, KeywordFault>
         ensures read { IfOk result (λ keywords. IsRead text.now keywords) }
         ensures fault { IfErr result (λ fault. IfPart fault (IsFault text.now)) }
@@ -64,7 +66,7 @@ impl Keywords {
         Ok(Keywords { pairs })
     }
 
-    /// The number of keywords.
+    /// Returns the number of keywords.
     pub fn len(&self) -> usize
         ensures len { result ≡ length self.now }
         ensures rise { Rise self.now }
@@ -73,21 +75,21 @@ impl Keywords {
         self.pairs.len()
     }
 
-    /// Whether there is none.
+    /// Returns whether there is none.
     pub fn is_empty(&self) -> bool
         ensures { result ≡ (length self.now == 0) }
     {
         self.pairs.is_empty()
     }
 
-    /// The keys and their values, in the order of the keys, from both ends.
+    /// Returns the keys and their values, in the order of the keys, from both ends.
     pub fn iter(&self) -> SliceIter<'_, Key, String>
         ensures { map shown result ≡ self.now }
     {
         self.pairs.iter()
     }
 
-    /// The value of a key, which is given in lower case. It is empty where the key has none, and where it is `true`.
+    /// Returns the value of a key, which is given in lower case. It is empty if the key has none, and if it is `true`.
     pub fn get(&self, key: &Key) -> Option<&str>
         ensures { option_copied result ≡ value_of self.now key.now }
     {
@@ -95,8 +97,8 @@ impl Keywords {
         Some(value.as_str())
     }
 
-    /// The text of the keywords in its canonical form: keys rise, all is in lower case, and `true` is left out. It is read as
-    /// the same keywords. It is refused only for want of memory.
+    /// Returns the text of the keywords in its canonical form: keys ascend, all is in lower case, and `true` is left out. It is
+    /// read as the same keywords. It fails only if memory runs out.
     pub fn to_text(&self, alloc: Global) -> Result<String, AllocError>
         ensures text { IfOk result (λ text. string_bytes text ≡ joined (printed self.now)) }
         ensures read_again { IfOk result (λ text. IsReadAgain (string_bytes text) self.now) }

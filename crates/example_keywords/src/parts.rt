@@ -9,7 +9,7 @@ ghost use Rattle.example_keywords.specs.Reading.{parts_in};
 /// The key of a keyword: two letters or digits, of which the second is a letter. In a map it is in lower case.
 pub type Key = [u8; 2];
 
-/// The first part of a text, and what stands behind its `-`.
+/// Returns the first part of a text, and what comes after its `-`.
 pub(crate) fn first_part(text: &str) -> (&str, Option<&str>)
     ensures { parts_of text.now ≡ result.0.now ∷ parts_in (option_copied result.1) }
 {
@@ -19,7 +19,7 @@ pub(crate) fn first_part(text: &str) -> (&str, Option<&str>)
     }
 }
 
-/// The key that a part is, in lower case.
+/// Returns the key that a part is, in lower case.
 pub(crate) fn key_of(part: &str) -> Option<Key>
     ensures key { IfSome result (λ key. IsTrue (is_key part.now) × (key ≡ map to_ascii_lowercase part.now)) }
     ensures no_key { IfNone result (is_key part.now ≡ false) }
@@ -34,7 +34,7 @@ pub(crate) fn key_of(part: &str) -> Option<Key>
     }
 }
 
-/// Whether a part can be one of a value: three to eight letters or digits.
+/// Returns whether a part can be one of a value: three to eight letters or digits.
 pub(crate) fn is_value_part(part: &str) -> bool
     ensures { result ≡ is_value_part part.now }
 {

@@ -14,7 +14,7 @@ use std::alloc::{AllocError, Global};
 /// Values by their keys. No pair and one take no memory beside the value's own.
 pub(crate) type Pairs = LiteMap<Key, String, ShortStore<Key, String>>;
 
-// Puts a pair in where its key is absent.
+// Inserts a pair if its key is absent.
 fn put_first(pairs: &mut Pairs, key: Key, value: String) -> Result<(), AllocError>
     ensures { OnOk result
         (IsPutFirst (map shown pairs.old.pairs) (key, string_bytes value) (map shown pairs.new.pairs)) }
@@ -23,7 +23,7 @@ fn put_first(pairs: &mut Pairs, key: Key, value: String) -> Result<(), AllocErro
     Ok(())
 }
 
-// Reads the keyword that the rest of a text begins with, and answers what is left behind it.
+// Reads the keyword that the rest of a text begins with, and returns what is left after it.
 fn read_keyword<'a>(
     alloc: Global,
     text: &str,

@@ -1,4 +1,4 @@
-//! Values, which are parts behind a key.
+//! Values, which are parts after a key.
 ghost use Rattle.std.specs.Prelude.{◌≡◌, IfOk, OnOk, string_bytes};
 ghost use Rattle.std.specs.Option.{option_copied};
 ghost use Rattle.example_keywords.specs.Keywords.{canonical};
@@ -8,7 +8,7 @@ ghost use Rattle.example_keywords.specs.Written.{dashed, with_part};
 use crate::parts::{first_part, is_value_part};
 use std::alloc::{AllocError, Global};
 
-/// Puts a `-` behind a text, where there is some text.
+/// Appends a `-` to a text that isn't empty.
 pub(crate) fn put_dash(text: &mut String) -> Result<(), AllocError>
     ensures { OnOk result (string_bytes text.new ≡ dashed (string_bytes text.old)) }
 {
@@ -18,7 +18,7 @@ pub(crate) fn put_dash(text: &mut String) -> Result<(), AllocError>
     Ok(())
 }
 
-/// Puts a part behind a text, with a `-` before it where there is some text.
+/// Appends a part to a text, with a `-` before it if there is some text.
 pub(crate) fn put_part(text: &mut String, part: &str) -> Result<(), AllocError>
     ensures { OnOk result (string_bytes text.new ≡ with_part (string_bytes text.old) part.now) }
 {
@@ -27,7 +27,7 @@ pub(crate) fn put_part(text: &mut String, part: &str) -> Result<(), AllocError>
     Ok(())
 }
 
-/// The parts of a value that come first in what is left of a text, and what is left behind them.
+/// Returns the parts of a value that come first in what is left of a text, and what is left after them.
 pub(crate) fn joined_value<'a>(
     alloc: Global,
     due: Option<&'a str>,

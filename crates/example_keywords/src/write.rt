@@ -9,7 +9,7 @@ use crate::read::Pairs;
 use crate::value::{put_dash, put_part};
 use std::alloc::{AllocError, Global};
 
-// Puts a key behind a text, with a `-` before it where there is some text.
+// Appends a key to a text, with a `-` before it if there is some text.
 fn put_key(text: &mut String, key: &Key) -> Result<(), AllocError>
     requires first { slice_index key.now 0 < 128 }
     requires second { slice_index key.now 1 < 128 }
@@ -22,7 +22,7 @@ fn put_key(text: &mut String, key: &Key) -> Result<(), AllocError>
     Ok(())
 }
 
-// Puts a key and its value, where it is not empty, behind a text.
+// Appends a key and its value, if that is not empty, to a text.
 fn put_keyword(text: &mut String, key: &Key, value: &str) -> Result<(), AllocError>
     requires first { slice_index key.now 0 < 128 }
     requires second { slice_index key.now 1 < 128 }

@@ -1,13 +1,13 @@
-//! A store that never asks for memory again once it is made: an example of a store of a user's own.
+//! A store that takes no memory once it is made: an example of a store of a user's own.
 //!
 //! A user who plugs in a store writes three things.
 //!
 //! 1. What a contract sees of it, by an `impl Model`: here the list of its pairs and its room. So no contract and no
 //!    proof above names its fields.
 //! 2. Its traits: `pairs` and `room` read that value, and each call has the trait's contract. `StoreConstEmpty` and
-//!    `StoreMut` are all that the keyed calls of a map ask for; `StoreBulkMut` is there for `retain` and `extend`,
+//!    `StoreMut` are all that the keyed calls of a map need; `StoreBulkMut` is there for `retain` and `extend`,
 //!    `StoreFromIterable` for `from_iter`, `StoreIterable` for `iter`, `StoreIntoIterator` for `into_iter` and merges.
-//! 3. `with_value`, what it is with another value at a place, and the two laws on it.
+//! 3. `with_value`, what it is with another value at an index, and the two laws on it.
 //!
 //! The calls of `LiteMap` are then proved over it, with no proof of theirs to be written.
 ghost use Rattle.std.specs.Prelude.{refl};
@@ -23,9 +23,9 @@ use std::marker::Model;
 use std::mem;
 use std::vec::IntoIter;
 
-/// A vector of pairs that takes its memory when it is made, and refuses each growth past that.
+/// A vector of pairs that takes its memory when it is made, and fails to grow past that.
 ///
-/// Tests of refusals use it, since its refusals come at a place that the test picks.
+/// Tests of failing calls use it, since its calls fail where the test wants.
 #[derive(Drop)]
 pub struct FixedRoom<K, V> {
     items: Vec<(K, V)>,

@@ -1,7 +1,7 @@
--- Where the names that begin with a text stand in a list whose names rise: side by side, from the text's own place on.
---     not_below      what begins with a text isn't below it
---     begins_between      what lies between a text and what begins with it begins with it, too
---     sub-begins      the names that begin with a text, from its place to before the first one that doesn't;  no_more      none stands past the end
+-- Where the names that begin with a string stand in a list whose names ascend: side by side, from the string's own index on.
+--     not_below      what begins with a string isn't below it
+--     begins_between      what lies between a string and what begins with it begins with it, too
+--     sub-begins      the names that begin with a string, from its index to before the first one that doesn't;  no_more      none stands past the end
 use Rattle.std.proofs.Common.{◌≡◌, ◌==◌, ◌&&◌, ◌-◌, ℕ, zero, suc, ◌<◌, ◌≤◌, Bool, true, false, List, [], ◌∷◌, drop, filter, length, take, String, string_bytes, eqb-true, eq-eqb, true≢false, Some, le-leb, refl, sym, ap, ◌∙◌, arith}
 use Rattle.std.proofs.lemmas.Cmp.{ranked, tied_itself}
 use Rattle.std.specs.List.{AllByRecursion, starts_with}
@@ -15,7 +15,7 @@ use Rattle.litemap_store.specs.Pairs.{BelowAll, Rising, below, place, sub}
 use Rattle.litemap_store.specs.Queries.{by_text}
 use Rattle.example_uses.specs.Prefixes.{begins, begins_at}
 
--- ---- texts, as the lists of their bytes
+-- ---- strings, as the lists of their bytes
 equal_first : (a b : ℕ) (c : Bool) → (a == b) && c ≡ true → (a ≡ b) × (c ≡ true)
 equal_first a b c h = (eqb-true a b (first_so (a == b) c h), second_so (a == b) c h)
 
@@ -59,9 +59,9 @@ begins_between (t ∷ text) (l ∷ low) (x ∷ high) n e h =
         let seen : Greater ≡ Less = sym (ap (λ o. ordering_then o (slice_cmp nat_cmp low high)) beyond) ∙ e in
         absurd (cc)
 
--- ---- lists whose names rise
+-- ---- lists whose names ascend
 module _ {Z V : Type 0} (text : List ℕ) where
-  -- a name isn't below the text
+  -- a name isn't below the string
   abbrev NotBelow : String Z × V → Type 0
   NotBelow p = slice_cmp nat_cmp (string_bytes p.0) text ≡ Less → ⊥
 

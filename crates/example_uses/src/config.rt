@@ -11,7 +11,7 @@ use litemap::LiteMap;
 use litemap::store::NoRoom;
 use std::alloc::{AllocError, Global};
 
-/// Settings that own their texts.
+/// Settings that own their strings.
 pub type Settings = LiteMap<String, String, Vec<(String, String)>>;
 
 /// The settings of a program: its defaults, and over them those of a user. Of each name the last value counts, as

@@ -7,7 +7,7 @@ ghost use Rattle.litemap.specs.TryFault.{IfClosure, IfNoRoom};
 use litemap::store::StoreMut;
 use litemap::{LiteMap, TryFault};
 
-/// The value of a key. Where the key is absent, it is what `f` answers for it, and the map has it from then on.
+/// Returns the value of a key. If the key is absent, it is what `f` returns for it, and the map has it from then on.
 ///
 /// This is how a caller gets both from one search: what `try_get_or_insert` shows, and what the map is after.
 pub fn value_or_made<K: Ord, V: Copy, S: StoreMut<K, V>, E, F: FnOnce(&K) -> Result<V, E>>(

@@ -1,5 +1,5 @@
-//! Callers of a map, as a user would write them. Each states its answer by the sorted list. The program calls each but
-//! `sums::add` on a few pairs (`shown`), and writes what it answers.
+//! Callers of a map, as a user would write them. Each states what it returns by the sorted list. The program calls each but
+//! `sums::add` on a few pairs (`shown`), and writes what it returns.
 #![tactic(auto)]
 
 pub mod borrowed;

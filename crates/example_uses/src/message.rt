@@ -1,7 +1,7 @@
-//! A header list that is read from the fields of a message: where a name is repeated, the last field counts.
+//! A header list that is read from the fields of a message: if a name is repeated, the last field counts.
 //!
-//! A source of one's own says of each of its states which list it can still give, how long that is, which faults it may
-//! answer and whether it may end; then it writes `next_pair`. What `read_pairs` promises is about that list.
+//! A source of one's own says of each of its states which list it can still give, how long that is, which errors it may return
+//! and whether it may end; then it writes `next_pair`. What `read_pairs` promises is about that list.
 ghost use Rattle.std.specs.Prelude.{◌≡◌, ◌≢◌, [], ⊤, All, IfErr, IfOk, OnOk, length, map, reverse};
 ghost use Rattle.litemap_read.specs.ReadFault.{IfSource};
 ghost use Rattle.litemap_store.specs.Pairs.{value_at};

@@ -5,7 +5,7 @@ use litemap::LiteMap;
 use litemap::store::{StoreFromIterable, StoreIntoIterator};
 use std::alloc::{AllocError, Global};
 
-/// The same map over another store. Refused for want of memory, the pairs are given up.
+/// The same map over another store. If memory runs out, the pairs are dropped.
 pub fn moved<K, V, S, T>(
     alloc: Global,
     map: LiteMap<K, V, S>,

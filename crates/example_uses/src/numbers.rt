@@ -1,4 +1,4 @@
-//! Numbers as keys, and keys of a caller's own. What look-ups find after a change follows from the lemmas that the attributes
+//! Numbers as keys, and keys of a caller's own. What lookups find after a change follows from the lemmas that the attributes
 //! name, or from the laws that a function calls.
 ghost use Rattle.std.specs.Prelude.{◌≡◌, ◌≢◌, ◌+◌, ◌<◌, ◌≤◌, None, Ok, Some, IfErr, IfSome, IsTrue, OnErr, OnOk};
 ghost use Rattle.std.specs.Prelude.{is_some, length, slice_get};
@@ -20,7 +20,7 @@ pub type Ages = LiteMap<u32, u8, Vec<(u32, u8)>>;
 /// Readings by signed times.
 pub type Readings = LiteMap<i64, u8, Vec<(i64, u8)>>;
 
-/// Sets an age, which is then found, at the place where it belongs. All others stay.
+/// Sets an age, which is then found, at the index where it belongs. All others stay.
 #[tactic(auto, using(litemap::proofs::Numbers::number_keys))]
 pub fn set_age(ages: &mut Ages, id: u32, age: u8) -> Result<(), AllocError>
     ensures there { OnOk result (value_at nat_cmp ages.new.pairs id ≡ Some age) }
@@ -33,7 +33,7 @@ pub fn set_age(ages: &mut Ages, id: u32, age: u8) -> Result<(), AllocError>
     Ok(())
 }
 
-/// Sets an age in a function that may answer faults of input, too: want of memory is told as one of them.
+/// Sets an age in a function that may return errors of input, too: an allocation error becomes one of them.
 pub fn note_age(ages: &mut Ages, id: u32, age: u8) -> io::Result<()>
     ensures set { OnOk result (ages.new.pairs ≡ put nat_cmp ages.old.pairs id age) }
     ensures refused { IfErr result (λ fault. error_kind fault ≡ OutOfMemory) }
@@ -42,7 +42,7 @@ pub fn note_age(ages: &mut Ages, id: u32, age: u8) -> io::Result<()>
     Ok(())
 }
 
-/// Forgets someone, and answers the age that was there. All others stay.
+/// Forgets someone, and returns the age that was there. All others stay.
 #[tactic(auto, using(litemap::proofs::Numbers::number_keys))]
 pub fn forget(ages: &mut Ages, id: u32) -> Option<u8>
     ensures value { result ≡ value_at nat_cmp ages.old.pairs id }
@@ -53,7 +53,7 @@ pub fn forget(ages: &mut Ages, id: u32) -> Option<u8>
     ages.remove(&id)
 }
 
-/// Writes an age where someone has the number. All others stay.
+/// Writes an age if someone has the number. All others stay.
 #[tactic(auto, using(litemap::proofs::Numbers::number_keys))]
 pub fn correct(ages: &mut Ages, id: u32, age: u8) -> bool
     ensures there { result ≡ is_some (at nat_cmp ages.old.pairs id) }
@@ -70,7 +70,7 @@ pub fn correct(ages: &mut Ages, id: u32, age: u8) -> bool
     }
 }
 
-/// Writes the age at a place. All others stay: those at other places, and those of other numbers.
+/// Writes the age at an index. All others stay: those at other indices, and those of other numbers.
 #[tactic(auto, using(litemap::proofs::Numbers::number_keys))]
 pub fn correct_at(ages: &mut Ages, index: usize, age: u8)
     ensures places { (other : _) → other ≢ index → value_in ages.new.pairs other ≡ value_in ages.old.pairs other }
@@ -138,7 +138,7 @@ pub fn take<K: Ord + Drop, V, S: StoreMut<K, V>>(map: &mut LiteMap<K, V, S>, key
     map.remove(key)
 }
 
-/// Writes a value where its key is there, over every map. All others stay.
+/// Writes a value if its key is there, over every map. All others stay.
 pub fn overwrite<K: Ord, V: Drop, S: StoreMut<K, V>>(map: &mut LiteMap<K, V, S>, key: &K, value: V)
     ensures others { (other : _) → K.cmp other key.now ≢ Equal
         → value_at K.cmp map.new.pairs other ≡ value_at K.cmp map.old.pairs other }

@@ -1,4 +1,4 @@
-//! A query of a caller's own: people are ordered by their number alone, and asked for by a number.
+//! A query of a caller's own: people are ordered by their number alone, and looked up by a number.
 ghost use Rattle.std.specs.Prelude.{◌≡◌, ◌==◌, ℕ};
 ghost use Rattle.std.proofs.Common.{rules};
 ghost use Rattle.std.specs.Cmp.{nat_cmp_total, partial_order_from_own_ties};
@@ -62,7 +62,7 @@ impl Ord for Person {
 #[derive(Clone, Copy)]
 pub struct Number(pub u32);
 
-/// A person stands to a number as the person's number does.
+/// A person compares with a number as the person's number does.
 impl Query<Person> for Number {
     ghost Sought = { ℕ };
 

@@ -15,7 +15,7 @@ pub type Prices = LiteMap<String, u32, Vec<(String, u32)>>;
 /// A part of them.
 pub type Part<'m> = LiteMap<String, u32, SliceStore<'m, String, u32>>;
 
-/// The prices of the names that begin with a text.
+/// The prices of the names that begin with a string.
 pub fn beginning_with<'m>(prices: &'m Prices, text: &str) -> Part<'m>
     ensures { result.pairs ≡ filter (λ p. begins p.0 text.now) prices.entry.now.pairs }
 {
@@ -28,7 +28,7 @@ pub fn beginning_with<'m>(prices: &'m Prices, text: &str) -> Part<'m>
     prices.get_indexed_range(first..end).unwrap()
 }
 
-// Whether a name stands at a place, and begins with a text.
+// Whether a name stands at an index, and begins with a string.
 fn does_begin(prices: &Prices, index: usize, text: &str) -> bool
     ensures { result ≡ begins_at prices.now.pairs index text.now }
 {

@@ -1,5 +1,5 @@
-//! Two pairs that are put in together or not at all.
-//! All room is taken before the first change: what follows can't be refused, and the proof says so.
+//! Two pairs that are inserted together or not at all. All capacity is reserved before the first change: what follows can't
+//! fail, and the proof says so.
 ghost use Rattle.std.specs.Prelude.{◌≡◌, OnErr, OnOk};
 ghost use Rattle.litemap_store.specs.Pairs.{put};
 

@@ -1,4 +1,4 @@
-//! What the callers answer, a line or a few for each.
+//! What the callers return, a line or a few for each.
 
 pub(crate) mod asked;
 pub(crate) mod counts;
@@ -10,7 +10,7 @@ pub(crate) mod texts;
 
 use std::alloc::{AllocError, Global};
 
-// A name and a value, as texts of their own.
+// A name and a value, as strings of their own.
 fn owned_pair(alloc: Global, name: &str, value: &str) -> Result<(String, String), AllocError> {
     let name = name.to_string(alloc)?;
     Ok((name, value.to_string(alloc)?))

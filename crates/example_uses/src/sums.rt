@@ -32,7 +32,7 @@ pub fn add(sum: &mut Vector, alloc: Global, other: Vector) -> Result<(), NoRoom<
     Ok(())
 }
 
-/// Adds another vector, where no sum rises above the greatest number.
+/// Adds another vector. A sum that is too great becomes the greatest number.
 pub fn add_capped(sum: &mut Vector, alloc: Global, other: Vector) -> Result<(), AllocError>
     ensures added { OnOk result ((i : _) → value_at nat_cmp sum.new.pairs i
         ≡ found_with (λ _ here new. min (here + new) 18446744073709551615)

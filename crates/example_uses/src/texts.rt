@@ -1,4 +1,4 @@
-//! Maps asked by what can stand for a key: texts and bytes that are borrowed, and keys.
+//! Maps looked up by what can stand for a key: strings and bytes that are borrowed, and keys.
 ghost use Rattle.std.specs.Prelude.{◌≡◌, ◌≢◌, ◌==◌, IsTrue, None, Some};
 ghost use Rattle.std.specs.Prelude.{cond, false, is_some, string_bytes};
 ghost use Rattle.std.specs.Bool.{IsFalse};
@@ -14,7 +14,7 @@ ghost use Rattle.litemap.specs.ByBytes.{by_bytes};
 use litemap::store::Store;
 use litemap::{LiteMap, Query};
 
-/// Numbers at texts that the map owns.
+/// Numbers at strings that the map owns.
 pub type Numbers = LiteMap<String, u32, Vec<(String, u32)>>;
 
 /// Numbers at bytes that the map owns.
@@ -40,7 +40,7 @@ pub fn number_of_locale(map: &Numbers, tag: &str) -> Option<u32>
     map.get(tag).or(map.get(language)).copied()
 }
 
-/// Takes a key out that is a text of its own. All others stay.
+/// Removes a key that is a string of its own. All others stay.
 #[tactic(auto, using(litemap::proofs::Texts::string_keys))]
 pub fn take_key(map: &mut Numbers, key: &String) -> Option<u32>
     ensures gone { value_at string_cmp map.new.pairs key.now ≡ None }
@@ -114,7 +114,7 @@ pub fn number_of_bytes(map: &ByteNumbers, bytes: &[u8]) -> Option<u32>
     map.get(bytes).copied()
 }
 
-/// Takes bytes out. All others stay.
+/// Removes bytes. All others stay.
 #[tactic(auto, using(litemap::proofs::Texts::byte_keys))]
 pub fn take_bytes(map: &mut ByteNumbers, bytes: &[u8]) -> Option<u32>
     ensures value { result ≡ value_at (by_slice nat_cmp) map.old.pairs bytes.now }
@@ -126,7 +126,7 @@ pub fn take_bytes(map: &mut ByteNumbers, bytes: &[u8]) -> Option<u32>
     map.remove(bytes)
 }
 
-/// Writes the number at bytes, where they are there.
+/// Writes the number at bytes, if they are there.
 #[tactic(auto, using(litemap::proofs::Texts::byte_keys))]
 pub fn set_bytes(map: &mut ByteNumbers, bytes: &[u8], number: u32) -> bool
     ensures there { result ≡ is_some (at (by_slice nat_cmp) map.old.pairs bytes.now) }
@@ -142,7 +142,7 @@ pub fn set_bytes(map: &mut ByteNumbers, bytes: &[u8], number: u32) -> bool
     }
 }
 
-/// The number at a borrowed text, asked by a text that may live shorter.
+/// The number at a borrowed string, looked up by a string that may live shorter.
 pub fn number_of_borrowed<'k>(
     map: &LiteMap<&'k str, u32, Vec<(&'k str, u32)>>,
     text: &str,

@@ -5,7 +5,7 @@ ghost use Rattle.std.specs.Map.{values_of};
 use litemap::LiteMap;
 use litemap::store::StoreIterable;
 
-/// The sum of all values, `None` where it is too great for their type.
+/// The sum of all values, `None` if it is too great for their type.
 pub fn total<'a, K: Ord + 'a, S: StoreIterable<'a, K, u32>>(
     map: &'a LiteMap<K, u32, S>,
 ) -> Option<u32>

@@ -1,6 +1,6 @@
--- A merge where a closure writes values of the other map.
---     Combined-more      one more pair;  keys-combined, length-combined      the keys stay;  combined-from      what is left is mapped, where the closure computes it
---     callable_each      what may be called by a look-up of each key may be called on each pair
+-- A merge in which a closure writes values of the other map.
+--     Combined-more      one more pair;  keys-combined, length-combined      the keys stay;  combined-from      if the closure computes a function, the list is mapped by it
+--     callable_each      if it may be called on each key that a lookup finds, it may be called on each pair
 --     found-combined      what a key finds in the merge
 use Rattle.std.proofs.Common.{◌≡◌, List, [], ◌∷◌, Option, Some, None, option_map, length, arith, refl, sym, ap, ◌∙◌, Ordering, is_eq, true, false}
 use Rattle.std.specs.Cmp.{IsTotalOrder, tied_itself}

@@ -1,4 +1,4 @@
--- What keys that keep their order become is a rising list.
+-- If keys keep their order, what they become ascends.
 use Rattle.std.proofs.Common.{◌≡◌, List, [], ◌∷◌, sym, ◌∙◌, refl, subst, inl, inr}
 use Rattle.std.specs.Cmp.{IsTotalOrder}
 use Rattle.std.proofs.lemmas.Cmp.{alike_right}
@@ -29,7 +29,7 @@ module _ {K L V W : Type 0} (cmp : K → K → Ordering) (new_cmp : L → L → 
     Rising-became before after (λ s t a b i j. k s t a b (inr i) (inr j)) c.1 r.1,
   )
 
--- clones that compare Equal to their originals keep their order, and rise as these do
+-- clones that compare Equal to their originals keep their order, and ascend as these do
 module _ {K V : Type 0} {cmp : K → K → Ordering} (o : IsTotalOrder cmp) (C : K → K → Type 0) where
   pub KeysKeepOrder-clones : (list seen : List (K × V)) → list ≡ seen → ClonesCompareEqual cmp C seen → KeysKeepOrder cmp cmp C list
   KeysKeepOrder-clones list seen is equal p q a b i j c d less =

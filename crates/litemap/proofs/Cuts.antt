@@ -1,6 +1,6 @@
--- Where a test cuts a list in two.
---     cut_before, cut_behind      the cut before a query and that behind it, from what a search found
---     length-before, take-cut, drop-cut, first_cut, last_cut, between, sub_between, length-between      what lies before a cut, behind it, and between two
+-- Lists that a test cuts in two.
+--     cut_before, cut_behind      the cut before a query and the one after it, from what a search found
+--     length-before, take-cut, drop-cut, first_cut, last_cut, between, sub_between, length-between      what is before a cut, after it, and between two
 use Rattle.std.proofs.Common.{◌≡◌, ℕ, zero, suc, ◌+◌, ◌-◌, ◌≤◌, Bool, true, false, not, ◌&&◌, cond, List, [], ◌∷◌, ◌++◌, length, filter, take, drop, slice_range, nat_le, Some, None, length-drop, length-take, refl, sym, ap, ◌∙◌, subst, arith}
 use Rattle.std.proofs.lemmas.Bool.{and_right, le-leb}
 use Rattle.std.specs.List.{AllByRecursion}
@@ -36,7 +36,7 @@ module _ {X : Type 0} (test : X → Bool) where
   IsCut-all [] h = refl
   IsCut-all (x ∷ L) h = (h x, IsCut-all L h)
 
-  -- ---- what lies before a cut, and behind it
+  -- ---- what is before a cut, and after it
   none : (L : List X) → AllByRecursion (λ y. test y ≡ false) L → filter test L ≡ []
   none L h = filter_none test L (each (λ y. test y ≡ false) L h)
 
@@ -64,14 +64,14 @@ module _ {X : Type 0} (test : X → Bool) where
   drop-cut (x ∷ L) zero h = all_left (x ∷ L) h
   drop-cut (x ∷ L) (suc n) h = rw h.0 (drop-cut L n h.1)
 
-  -- where nothing lies before a cut, and where nothing lies behind it
+  -- if nothing is before a cut, and if nothing is after it
   pub first_cut : (L : List X) (n : ℕ) → IsCut test L n → filter test L ≡ [] → n ≡ 0
   first_cut L n h e = sym (length-before L n h) ∙ ap length e
 
   pub last_cut : (L : List X) (n : ℕ) → IsCut test L n → filter (λ y. not (test y) && true) L ≡ [] → n ≡ length L
   last_cut L n h e = omega (arith, length-drop n L, ap length (drop-cut L n h ∙ e), within-cut L n h)
 
--- ---- what lies between two cuts
+-- ---- what is between two cuts
 module _ {X : Type 0} (early late : X → Bool) where
   none_late : (L : List X) → AllByRecursion (λ y. late y ≡ false) L → filter (λ x. not (early x) && late x) L ≡ []
   none_late L h = filter_none (λ x. not (early x) && late x) L (λ x i. and_right (not (early x)) (late x) (each (λ y. late y ≡ false) L h x i))
@@ -92,7 +92,7 @@ module _ {X : Type 0} (early late : X → Bool) where
   pub length-between : (L : List X) (a c : ℕ) → IsCut early L a → IsCut late L c → length (filter (λ x. not (early x) && late x) L) ≡ c - a
   length-between L a c p r = omega (arith, ap length (between L a c (c - a) refl p r), length-take (c - a) (drop a L), length-drop a L, within-cut late L c r)
 
-  -- the part of a list between two places
+  -- the part of a list between two indices
   pub sub_between : (L : List X) (a c m b : ℕ) → m ≡ c - a → b ≡ a + m → IsCut early L a → IsCut late L c
       → cond (nat_le a b && nat_le b (length L)) (Some (slice_range L a b)) None ≡ Some (filter (λ x. not (early x) && late x) L)
   sub_between L a c m b e s p r =

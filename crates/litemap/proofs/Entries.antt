@@ -1,4 +1,4 @@
--- From what stands at the place of an entry to what its calls say.
+-- From what is at the index of an entry to what its calls promise.
 use Rattle.std.proofs.Common.{◌≡◌, ℕ, zero, suc, ◌<◌, List, [], ◌∷◌, length, Some, slice_get, slice_set, true, false, refl, sym, ap, ◌∙◌, arith}
 use Rattle.std.proofs.Math.Seq.{set-append_seam}
 use Rattle.std.proofs.lemmas.Option.{slice_get_within}
@@ -15,18 +15,18 @@ use Rattle.litemap_store.proofs.Lists.Seams.{put_get, set_value-suc}
 use Rattle.litemap.specs.declared.map.entry.OccupiedEntry.{OccupiedEntry}
 use Rattle.litemap.specs.Entries.{IsWritten, Occupied, map_with_value, still_within, with_entry_value}
 
--- a write at the place of a key that was just put
+-- a write at the index of a key that was just put
 pub set_value-put : {K V : Type 0} (cmp : K → K → Ordering) (L : List (K × V)) (k : K) (v w : V) (i : ℕ) → i ≡ place cmp L k → set_value (put cmp L k v) i w ≡ put cmp L k w
 set_value-put cmp L k v w i p =
     ap (λ j. set_value (put cmp L k v) j w) p
     ∙ ap (λ o. option_map_or (λ q. slice_set (put cmp L k v) (place cmp L k) (q.0, w)) o (put cmp L k v)) (put_get cmp L k v)
     ∙ set-append_seam (below cmp L k) (key_or (at cmp L k) k, v) (above cmp L k) (key_or (at cmp L k) k, w)
 
--- which is a place of the list
+-- which is an index of the list
 pub within-put : {K V : Type 0} (cmp : K → K → Ordering) (L : List (K × V)) (k : K) (v : V) (i : ℕ) → i ≡ place cmp L k → i < length (put cmp L k v)
 within-put cmp L k v i p = slice_get_within (put cmp L k v) i _ (ap (slice_get (put cmp L k v)) p ∙ put_get cmp L k v)
 
--- of two writes at a place the last one stays
+-- of two writes at an index the last one stays
 pub set_value-set_value : {K V : Type 0} (L : List (K × V)) (i : ℕ) (v w : V) → set_value (set_value L i v) i w ≡ set_value L i w
 set_value-set_value [] i v w = refl
 set_value-set_value (p ∷ L) zero v w = refl
@@ -34,7 +34,7 @@ set_value-set_value (p ∷ L) (suc i) v w =
     ap (λ M. set_value M (suc i) w) (set_value-suc p L i v) ∙ set_value-suc p (set_value L i v) i w
     ∙ ap (λ M. p ∷ M) (set_value-set_value L i v w) ∙ sym (set_value-suc p L i w)
 
--- a write at a place leaves the others
+-- a write at an index leaves the others
 pub remove-set_value : {K V : Type 0} (L : List (K × V)) (i : ℕ) (v : V) → remove (set_value L i v) i ≡ remove L i
 remove-set_value [] i v = refl
 remove-set_value (p ∷ L) zero v = refl
@@ -52,12 +52,12 @@ value_in-set_value [] i v h = absurd (omega arith)
 value_in-set_value (p ∷ L) zero v h = refl
 value_in-set_value (p ∷ L) (suc i) v h = ap (λ M. value_in M (suc i)) (set_value-suc p L i v) ∙ value_in-set_value L i v (omega arith)
 
--- where a test that fails is said to succeed, anything holds
+-- if a test that fails is said to succeed, anything holds
 pub from_false : {P : Type 0} → false ≡ true → P
 from_false h = absurd (cc)
 
 module _ {K V S : Type 0} {g : ord.Ghosts K} {g' : eq.Ghosts K} {g'' : partial.Ghosts K} {s : store.Ghosts S K V} where
-  -- two entries that differ in a proof alone are one
+  -- two entries that differ only in a proof are one
   pub same_entry : (o : OccupiedEntry K V S g g' g'' s) (v : V) (h : o.index < length (set_value o.map.now.pairs o.index v))
       → record { map = record o.map { now = map_with_value o v }; index = o.index; within = h } ≡ with_entry_value o v
   same_entry o v h =

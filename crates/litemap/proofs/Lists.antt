@@ -1,9 +1,9 @@
--- Maps that are made of the pairs of a vector, or extended by them: what look-ups find. A caller's function takes these by an
+-- What lookups find in maps that are made of the pairs of a vector, or extended by them. A caller's function takes these by an
 -- attribute, as `#[tactic(auto, using(litemap::proofs::Lists::text_lists))]`.
---     text_lists      where keys are `String`, asked by texts;  string_lists      the same, asked by keys
---     number_lists, signed_lists      where keys are numbers
--- Each has: what is found in a map of a list, and that a list that rises is the map's; what is found after more pairs, and after
--- more pairs that rise.
+--     text_lists      for `String` keys, looked up by strings;  string_lists      the same, looked up by keys
+--     number_lists, signed_lists      for numbers as keys
+-- Each has: what is found in a map of a list, and that an ascending list is the map's; what is found after more pairs, and after
+-- more pairs that ascend.
 use Rattle.std.proofs.Common.{◌≡◌, ◌++◌, ℕ, ℤ, List, String, reverse}
 use Rattle.std.proofs.lemmas.Cmp.{int_cmp_total, nat_cmp_total}
 use Rattle.std.specs.Cmp.{IsTotalOrder}

@@ -1,8 +1,8 @@
--- Numbers as keys: what look-ups find after a put, a write, a cut and a merge. A caller's function takes these by an attribute,
+-- Numbers as keys: what lookups find after a put, a write, a cut and a merge. A caller's function takes these by an attribute,
 -- as `#[tactic(auto, using(litemap::proofs::Numbers::number_keys))]`.
---     number_keys      where keys are numbers without a sign, or `char`
---     signed_keys      where keys are numbers with a sign
--- Keys of any other type have the same lemmas by their order where a function calls the laws of `litemap_store::laws`.
+--     number_keys      for unsigned integers, and `char`
+--     signed_keys      for signed integers
+-- For keys of any other type, the laws of `litemap_store::laws`, called in a function, are the same lemmas by their order.
 use Rattle.std.proofs.Common.{◌≡◌, ◌≢◌, ◌∷◌, ◌++◌, ℕ, ℤ, List, Some, None, Ok, IsSome, cond, is_some, slice_get, slice_set}
 use Rattle.std.proofs.lemmas.Cmp.{int_cmp_total, nat_cmp_total}
 use Rattle.std.proofs.lemmas.Map.Lookups.{CmpEqualImpliesEq, exact_signed, exact_unsigned}
@@ -18,7 +18,7 @@ use Rattle.litemap_store.proofs.Callers.Lookups.{value_at-set, value_at-write, v
 use Rattle.litemap_store.proofs.Callers.MergeLookups.{key_alike, key_same, value_at-left, value_at-merged}
 use Rattle.litemap.proofs.Places.{other_places}
 
--- ---- keys that are one where their order says that they are equal
+-- ---- keys that are the same value if their order says that they are equal
 module _ {K V : Type 0} (cmp : K → K → Ordering) (o : IsTotalOrder cmp) (exact : CmpEqualImpliesEq cmp) (L : List (K × V)) where
   differs : (k q : K) → q ≢ k → cmp q k ≢ Equal
   differs k q n e = n (exact q k e)
@@ -42,7 +42,7 @@ module _ {K V : Type 0} (cmp : K → K → Ordering) (o : IsTotalOrder cmp) (exa
   left_over B k = value_at-left cmp o cmp k (key_same o k) (key_alike o k) L B
 
 module _ {V : Type 0} where
-  -- ---- without a sign
+  -- ---- unsigned
   pub number_put_found : (L : List (ℕ × V)) (k : ℕ) (v : V) → value_at nat_cmp (put nat_cmp L k v) k ≡ Some v
   number_put_found L k v = value_at-put nat_cmp_total k L v
 
@@ -55,12 +55,12 @@ module _ {V : Type 0} where
   pub number_write_found : (L : List (ℕ × V)) (k : ℕ) (v : V) → IsSome (at nat_cmp L k) → value_at nat_cmp (write nat_cmp L k v) k ≡ Some v
   number_write_found L k v there = value_at-write nat_cmp k L v there
 
-  -- what a write leaves where it finds the key
+  -- what a write leaves if it finds the key
   pub number_written_others : (L : List (ℕ × V)) (k q : ℕ) (p : ℕ × V) (v : V) → at nat_cmp L k ≡ Some p → q ≢ k
       → value_at nat_cmp (below nat_cmp L k ++ (p.0, v) ∷ above nat_cmp L k) q ≡ value_at nat_cmp L q
   number_written_others L k q p v is n = written_others nat_cmp nat_cmp_total exact_unsigned L k q p v is n
 
-  -- what a write at a place leaves where a pair is there
+  -- what a write at an index leaves if a pair is there
   pub number_set_others : (L : List (ℕ × V)) (i : ℕ) (q : ℕ) (p : ℕ × V) (v : V) → slice_get L i ≡ Some p → p.0 ≢ q
       → value_at nat_cmp (slice_set L i (p.0, v)) q ≡ value_at nat_cmp L q
   number_set_others L i q p v is n = set_others nat_cmp nat_cmp_total exact_unsigned L i q p v is n
@@ -77,7 +77,7 @@ module _ {V : Type 0} where
   pub number_left : (A B : List (ℕ × V)) (k : ℕ) → value_at nat_cmp (left nat_cmp A B) k ≡ cond (is_some (at nat_cmp B k)) (value_at nat_cmp A k) None
   number_left A B k = left_over nat_cmp nat_cmp_total exact_unsigned A B k
 
-  -- ---- with a sign
+  -- ---- signed
   pub signed_put_found : (L : List (ℤ × V)) (k : ℤ) (v : V) → value_at int_cmp (put int_cmp L k v) k ≡ Some v
   signed_put_found L k v = value_at-put int_cmp_total k L v
 
@@ -93,7 +93,7 @@ module _ {V : Type 0} where
   pub signed_write_others : (L : List (ℤ × V)) (k q : ℤ) (v : V) → q ≢ k → value_at int_cmp (write int_cmp L k v) q ≡ value_at int_cmp L q
   signed_write_others L k q v n = value_at-write_apart int_cmp k int_cmp q (int_cmp q k) (differs int_cmp int_cmp_total exact_signed L k q n) (λ x e. int_cmp_total.congr x q k e) L v
 
-  -- what a write at a place leaves where a pair is there
+  -- what a write at an index leaves if a pair is there
   pub signed_set_others : (L : List (ℤ × V)) (i : ℕ) (q : ℤ) (p : ℤ × V) (v : V) → slice_get L i ≡ Some p → p.0 ≢ q
       → value_at int_cmp (slice_set L i (p.0, v)) q ≡ value_at int_cmp L q
   signed_set_others L i q p v is n = set_others int_cmp int_cmp_total exact_signed L i q p v is n

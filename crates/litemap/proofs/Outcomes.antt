@@ -1,4 +1,4 @@
--- From what a call says of each outcome.
+-- From what a call promises for each outcome.
 use Rattle.std.proofs.Common.{◌≡◌, ◌+◌, ◌≤◌, ℕ, true, false, List, [], ◌∷◌, arith, cond, is_some, length, length-append, Result, Ok, Err, OnOk, OnErr, IsSome, sym, subst}
 use Rattle.std.specs.Ordering.{is_gt, is_lt}
 use Rattle.std.specs.declared.cmp.Ordering.{Ordering}
@@ -6,7 +6,7 @@ use Rattle.std.specs.declared.cmp.Ordering.TheVariants.{Less, Equal, Greater}
 use Rattle.litemap_store.specs.Pairs.{above, at, below, cut}
 use Rattle.litemap_store.specs.Splits.{IsMissingAt}
 
--- what holds of the value that either outcome leaves holds of the value that is left
+-- what holds after either outcome holds after the call
 pub either_way : {A E X : Type 0} (P : X → Type 0) (r : Result A E) (x a b : X) → OnOk r (x ≡ a) → OnErr r (x ≡ b) → P a → P b → P x
 either_way P (Ok y) x a b h t p q = subst P (sym h) p
 either_way P (Err y) x a b h t p q = subst P (sym t) q

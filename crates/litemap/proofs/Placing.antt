@@ -1,4 +1,4 @@
--- What `try_find_or_insert` leaves, and the value that is then shown, tell together.
+-- What `try_find_or_insert` leaves, together with the value that is then returned.
 use Rattle.std.proofs.Common.{◌≡◌, ℕ, ◌+◌, ◌<◌, ◌≤◌, Result, Ok, Err, Option, Some, IsNone, IsSome, IsOk, IfOk, OnOk, OnErr, length, slice_get, unwrap_or, option_map, refl, sym, ap, ◌∙◌, subst}
 use Rattle.std.specs.Fn.{FnOnceReturnsAt, Once}
 use Rattle.std.specs.declared.cmp.Ordering.{Ordering}

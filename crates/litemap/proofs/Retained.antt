@@ -1,5 +1,5 @@
--- What look-ups find in the pairs that a closure keeps.
---     length-kept      no more pairs than before;  value_at-kept_yes, value_at-kept_no      where the closure answers yes, or no, of the pair with the key
+-- What lookups find in the pairs that a closure keeps.
+--     length-kept      no more pairs than before;  value_at-kept_yes, value_at-kept_no      if the closure returns true, or false, for the pair with the key
 use Rattle.std.proofs.Common.{◌≡◌, ◌≤◌, ◌∙◌, Bool, true, false, List, [], ◌∷◌, Option, None, Some, length, option_map, refl, sym, ap, subst, arith}
 use Rattle.std.specs.Cmp.{IsTotalOrder}
 use Rattle.std.specs.List.{items_where_true}

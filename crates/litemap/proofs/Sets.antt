@@ -1,7 +1,7 @@
--- Two rising lists, where one is gone through beside the other.
+-- Two ascending lists, one walked beside the other.
 --     list_all-past      whether each is found, after the first one
---     at_end, at_equal, at_greater      what a key finds, and the pairs past it, by the first pair;  Kept-beside      what a closure keeps that goes through the other list
---     value_at-kept      what a look-up finds in it;  found_in_each      what it finds where each key is in the other list
+--     at_end, at_equal, at_greater      what a key finds, and the pairs past it, by the first pair;  Kept-beside      what a closure keeps that walks the other list
+--     value_at-kept      what a lookup finds in it;  found_in_each      what it finds if each key is in the other list
 use Rattle.std.proofs.Common.{◌≡◌, IsSome, Bool, true, false, cond, List, [], ◌∷◌, length, filter, is_some, slice_get, Option, None, Some, option_map, refl, sym, ap, ◌∙◌, subst, arith}
 use Rattle.std.proofs.lemmas.Bool.{and_parts}
 use Rattle.std.specs.Cmp.{IsTotalOrder}
@@ -20,7 +20,7 @@ use denote.Param.Members.{Called, Mut}
 use denote.Ref.{Bor}
 
 module _ {K : Type 0} {cmp : K → K → Ordering} (o : IsTotalOrder cmp) {W : Type 0} where
-  -- past a key a greater one finds what it found
+  -- past a key, a greater one finds what it found before
   at-above : (k q : K) → cmp k q ≡ Less → (R : List (K × W)) → at cmp (above cmp R k) q ≡ at cmp R q
   at-above k q lower R = at-filter_kept cmp q (λ x. is_gt (cmp x k)) (λ x e. ap is_gt (o.congr x q k e ∙ less_back o k q lower)) R
 
@@ -37,7 +37,7 @@ module _ {K : Type 0} {cmp : K → K → Ordering} (o : IsTotalOrder cmp) {W : T
     pub list_all-past : (R' : List (K × W)) (v : V) (L M : List (K × V)) → R' ≡ above cmp R k → is_some (at cmp R k) ≡ true → M ≡ (k, v) ∷ L → BelowAll cmp k L → list_all (λ p. is_some (at cmp R' p.0)) L ≡ list_all (λ p. is_some (at cmp R p.0)) M
     list_all-past R' v L M past there first h = rw first (rw past (rw there (list_all-above L h)))
 
-  -- ---- the keys past k, where that of the first pair is not below it
+  -- ---- the keys past k, if the first one is not below it
   module _ (k : K) where
     past : (R : List (K × W)) → AllByRecursion (λ y. cmp k y.0 ≡ Less) R → (above cmp R k ≡ R) × (at cmp R k ≡ None)
     past R h = let above_k = each-weaker (λ (y : K × W). less_back o k y.0) R h in (above_all cmp R k above_k, at_past cmp R k above_k)
@@ -57,7 +57,7 @@ module _ {K : Type 0} {cmp : K → K → Ordering} (o : IsTotalOrder cmp) {W : T
         let q : cmp y.0 k ≡ Equal = subst (λ (w : K × W). cmp w.0 k ≡ Equal) same (sym e) in
         rw q (sym rest ∙ sym (past R (each-weaker (λ (z : K × W) l. sym (o.congr y.0 k z.0 q) ∙ l) R h.0)).0, refl)
 
-    -- or above it
+    -- its first pair is above k
     pub at_greater : (x : K × W) (R : List (K × W)) → Some x ≡ slice_get R 0 → Greater ≡ cmp x.0 k → Rising cmp R → (R ≡ above cmp R k) × (false ≡ is_some (at cmp R k))
     at_greater x [] s e h = absurd (cc)
     at_greater x (y ∷ R) s e h =
@@ -66,7 +66,7 @@ module _ {K : Type 0} {cmp : K → K → Ordering} (o : IsTotalOrder cmp) {W : T
         let i = past (y ∷ R) (l, each-weaker (λ (z : K × W) m. o.trans k y.0 z.0 l m) R h.0) in
         (sym i.0, ap is_some (sym i.1))
 
-  -- ---- what is kept by a closure that goes past each key in another list, and answers by whether it was there
+  -- ---- what a closure keeps that skips each key in another list, and returns whether it was there
   module _ {V F : Type 0} (g : Mut F (Bor K × (Bor V × Unit {0})) Bool) (rest : F → List (K × W)) (t : Bool → Bool)
       (steps : (f : F) (k : Bor K) (v : Bor V) (b : Bool) (f' : F) → Called g f (k, (v, tt)) b f' → Rising cmp (rest f) → (rest f' ≡ above cmp (rest f) k.now) × (b ≡ t (is_some (at cmp (rest f) k.now)))) where
     step : (f : F) (p : K × V) (b : Bool) (f' : F) → CalledOnPair g f p b f' → Rising cmp (rest f) → (rest f' ≡ above cmp (rest f) p.0) × (b ≡ t (is_some (at cmp (rest f) p.0)))
@@ -90,7 +90,7 @@ module _ {K : Type 0} {cmp : K → K → Ordering} (o : IsTotalOrder cmp) {W : T
     pub Kept-beside : (f : F) (L L' M : List (K × V)) (R R' : List (K × W)) → Kept g f L M → Rising cmp L → L ≡ L' → rest f ≡ R → Rising cmp R → R ≡ R' → M ≡ filter (λ p. t (is_some (at cmp R' p.0))) L'
     Kept-beside f L L' M R R' k h is from r same = rw (← same) (rw (← is) (rw (← from) (k.4 ∙ kept k.0 L f k.1 k.2 h (subst (Rising cmp) (sym from) r) k.3)))
 
--- ---- what a look-up finds where the keys of another list are kept, or go
+-- ---- what a lookup finds if the keys of another list are kept, or dropped
 module _ {K : Type 0} {cmp : K → K → Ordering} (o : IsTotalOrder cmp) {W : Type 0} (t : Bool → Bool) (M : List (K × W)) (k : K) where
   abbrev keeps : K → Bool
   keeps x = t (is_some (at cmp M x))
@@ -116,7 +116,7 @@ module _ {K : Type 0} {cmp : K → K → Ordering} (o : IsTotalOrder cmp) {W : T
     pub value_at-kept : (L N : List (K × V)) → N ≡ filter (λ q. t (is_some (at cmp M q.0))) L → value_at cmp N k ≡ cond (t (is_some (at cmp M k))) (value_at cmp L k) None
     value_at-kept L N is = rw is (ap (option_map (λ q. q.1)) (at-kept L) ∙ value_at_by (at cmp L k) (keeps k))
 
--- ---- what a look-up finds where each key is in another list
+-- ---- what a lookup finds if each key is in another list
 module _ {K W : Type 0} {cmp : K → K → Ordering} (o : IsTotalOrder cmp) (M : List (K × W)) (k : K) where
   found_at : (x : K) → cmp x k ≡ Equal → is_some (at cmp M x) ≡ true → IsSome (value_at cmp M k)
   found_at x e is = rw (value_at_equal o M x k e) (elim (at cmp M x) as (λ r. is_some r ≡ true → IsSome (option_map (λ q. q.1) r)) [ None ↦ λ n. n | Some p ↦ λ n. refl ] is)

@@ -1,9 +1,9 @@
--- Texts and bytes as keys: what look-ups find after a put, a write, a cut and a merge, and what clones of texts are. A caller's
--- function takes these by an attribute, as `#[tactic(auto, using(litemap::proofs::Texts::string_keys))]`.
---     string_keys      where keys are `String`, asked by keys;  text_keys      the same, asked by texts
+-- Strings and bytes as keys: what lookups find after a put, a write, a cut and a merge, and what clones of strings are. A
+-- caller's function takes these by an attribute, as `#[tactic(auto, using(litemap::proofs::Texts::string_keys))]`.
+--     string_keys      for `String` keys, looked up by keys;  text_keys      the same, looked up by strings
 --     text_entries      those on puts and cuts alone, for a chain of `entry`
---     byte_keys      where keys are `Vec<u8>`, asked by bytes;  str_keys      where keys are `&str` or `&[u8]`
---     text_clones      the condition of `try_clone` and of the conversions where keys are `String`
+--     byte_keys      for `Vec<u8>` keys, looked up by bytes;  str_keys      for `&str` and `&[u8]` keys
+--     text_clones      the condition of `try_clone` and of the conversions, for `String` keys
 use Rattle.std.proofs.Common.{◌≡◌, ◌≢◌, ◌∷◌, ◌++◌, List, Some, None, Ok, IsSome, String, Vec, Bor, ℕ, cond, is_some, slice_get, slice_set}
 use Rattle.std.proofs.lemmas.Cmp.{tied_itself}
 use Rattle.std.proofs.lemmas.Map.Lookups.{exact_bytes}
@@ -31,7 +31,7 @@ by_bytes_total = on_texts (λ (a : Bor (List ℕ)). a.now)
 differs : (t u : List ℕ) → u ≢ t → slice_cmp nat_cmp u t ≢ Equal
 differs t u n e = n (exact_bytes u t e)
 
--- ---- keys that are seen as bytes, asked by bytes
+-- ---- keys that are seen as bytes, looked up by bytes
 module _ {K : Type 0} (bytes : K → List ℕ) where
   abbrev cmp : K → K → Ordering
   cmp a b = slice_cmp nat_cmp (bytes a) (bytes b)
@@ -65,7 +65,7 @@ module _ {K : Type 0} (bytes : K → List ℕ) where
   cut_others L t u n = value_at-cut_apart by t by u (slice_cmp nat_cmp u t) (differs t u n) (turned t u) L
 
 module _ {V Z : Type 0} where
-  -- ---- `String`, asked by keys
+  -- ---- `String`, looked up by keys
 
   pub string_put_found : (L : List (String Z × V)) (k : String Z) (v : V) → value_at string_cmp (put string_cmp L k v) k ≡ Some v
   string_put_found L k v = value_at-put string_cmp_total k L v
@@ -82,7 +82,7 @@ module _ {V Z : Type 0} where
   pub string_write_found : (L : List (String Z × V)) (k : String Z) (v : V) → IsSome (at string_cmp L k) → value_at string_cmp (write string_cmp L k v) k ≡ Some v
   string_write_found L k v there = value_at-write string_cmp k L v there
 
-  -- what a write leaves where it finds the key
+  -- what a write leaves if it finds the key
   pub string_written_others : (L : List (String Z × V)) (k q : String Z) (p : String Z × V) (v : V) → at string_cmp L k ≡ Some p → string_cmp q k ≢ Equal
       → value_at string_cmp (below string_cmp L k ++ (p.0, v) ∷ above string_cmp L k) q ≡ value_at string_cmp L q
   string_written_others L k q p v is n = value_at-written_apart string_cmp k string_cmp q (string_cmp q k) n (λ x e. string_cmp_total.congr x q k e) L p v is
@@ -93,7 +93,7 @@ module _ {V Z : Type 0} where
   pub string_left : (A B : List (String Z × V)) (k : String Z) → value_at string_cmp (left string_cmp A B) k ≡ cond (is_some (at string_cmp B k)) (value_at string_cmp A k) None
   string_left A B k = value_at-left string_cmp string_cmp_total string_cmp k (key_same string_cmp_total k) (key_alike string_cmp_total k) A B
 
-  -- ---- the same, asked by texts
+  -- ---- the same, looked up by strings
 
   pub text_put_found : (L : List (String Z × V)) (k : String Z) (v : V) → value_at by_text (put string_cmp L k v) (string_bytes k) ≡ Some v
   text_put_found L k v = value_at-put string_cmp_total k L v
@@ -107,7 +107,7 @@ module _ {V Z : Type 0} where
   pub text_write_others : (L : List (String Z × V)) (t u : List ℕ) (v : V) → u ≢ t → value_at by_text (write by_text L t v) u ≡ value_at by_text L u
   text_write_others L t u v n = write_others (λ k. string_bytes k) L t u v n
 
-  -- what a write at a place leaves where a pair is there
+  -- what a write at an index leaves if a pair is there
   pub text_set_others : (L : List (String Z × V)) (i : ℕ) (u : List ℕ) (p : String Z × V) (v : V) → slice_get L i ≡ Some p → string_bytes p.0 ≢ u
       → value_at by_text (slice_set L i (p.0, v)) u ≡ value_at by_text L u
   text_set_others L i u p v is n = set_others (λ k. string_bytes k) L i u p v is n
@@ -127,7 +127,7 @@ module _ {V Z : Type 0} where
   pub text_cut_others : (L : List (String Z × V)) (t u : List ℕ) → u ≢ t → value_at by_text (cut by_text L t) u ≡ value_at by_text L u
   text_cut_others L t u n = cut_others (λ k. string_bytes k) L t u n
 
-  -- ---- `Vec<u8>`, asked by bytes
+  -- ---- `Vec<u8>`, looked up by bytes
 
   pub byte_write_found : (L : List (Vec ℕ Z × V)) (t : List ℕ) (v : V) → IsSome (at (by_slice nat_cmp) L t) → value_at (by_slice nat_cmp) (write (by_slice nat_cmp) L t v) t ≡ Some v
   byte_write_found L t v there = value_at-write (by_slice nat_cmp) t L v there
@@ -157,7 +157,7 @@ module _ {V : Type 0} where
   pub str_write_found : (L : List (Bor (List ℕ) × V)) (k : Bor (List ℕ)) (v : V) → IsSome (at by_bytes L k) → value_at by_bytes (write by_bytes L k v) k ≡ Some v
   str_write_found L k v there = value_at-write by_bytes k L v there
 
-  -- what a write leaves where it finds the key
+  -- what a write leaves if it finds the key
   pub str_written_others : (L : List (Bor (List ℕ) × V)) (k q : Bor (List ℕ)) (p : Bor (List ℕ) × V) (v : V) → at by_bytes L k ≡ Some p → by_bytes q k ≢ Equal
       → value_at by_bytes (below by_bytes L k ++ (p.0, v) ∷ above by_bytes L k) q ≡ value_at by_bytes L q
   str_written_others L k q p v is n = value_at-written_apart by_bytes k by_bytes q (by_bytes q k) n (λ x e. by_bytes_total.congr x q k e) L p v is
@@ -194,7 +194,7 @@ pub ruleset text_keys = (
   other_places,
 )
 
--- fewer of them, for a chain of `entry`: beside the others the search comes to its bound
+-- fewer of them, for a chain of `entry`: with the others the search reaches its limit
 pub ruleset text_entries = (text_put_found, text_put_others, text_cut_gone, text_cut_others)
 
 pub ruleset byte_keys = (byte_write_found, byte_write_others, byte_cut_gone, byte_cut_others, other_places)
@@ -211,7 +211,7 @@ pub ruleset str_keys = (
   other_places,
 )
 
--- a clone of a text has its bytes
+-- a clone of a string has its bytes
 pub text_clone_equal : {Z : Type 0} (text clone : String Z) → string_bytes clone ≡ string_bytes text → string_cmp text clone ≡ Equal
 text_clone_equal text clone e = rw e (tied_itself string_cmp_total text)
 

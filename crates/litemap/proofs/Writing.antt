@@ -1,6 +1,6 @@
 -- What a closure writes into a list of pairs.
 --     Written-none, Written-more      from one pair to the next;  CallableOnValues-first, -rest      what may be called on
---     keys-written, Rising-written, map-written      what is left has the same keys, rises, and is mapped
+--     keys-written, Rising-written, map-written      what is left has the same keys, ascends, and is mapped
 use Rattle.std.proofs.Common.{◌≡◌, ℕ, ◌+◌, List, [], ◌∷◌, ◌++◌, map, take, drop, drop-set-lt, slice_get, slice_set, Some, None, refl, ap, ◌∙◌, subst, arith}
 use Rattle.std.proofs.lemmas.List.{take_more_set}
 use Rattle.std.proofs.lemmas.Option.{slice_get_within}
@@ -14,7 +14,7 @@ use denote.Param.Members.{Mut}
 use denote.Ref.{Bor, MutBor}
 
 module _ {K V : Type 0} where
-  -- with another value at place i: the pairs behind it, and those up to it
+  -- with another value at index i: the pairs after it, and those up to it
   pub drop-written : (L : List (K × V)) (i : ℕ) (v : V) → drop (i + 1) (set_value L i v) ≡ drop (i + 1) L
   drop-written L i v = elim (slice_get L i) as (λ o. drop (i + 1) (option_map_or (λ p. slice_set L i (p.0, v)) o L) ≡ drop (i + 1) L) [ None ↦ refl | Some p ↦ drop-set-lt (i + 1) L i (p.0, v) (omega arith) ]
 
@@ -49,7 +49,7 @@ module _ {K V : Type 0} (cmp : K → K → Ordering) where
   BelowAll-keys k (p ∷ L) [] e h = absurd (cc)
   BelowAll-keys k (p ∷ L) (q ∷ M) e h = let s : p.0 ≡ q.0 = cc in let t : keys_of M ≡ keys_of L = cc in (subst (λ x. cmp k x ≡ Less) s h.0, BelowAll-keys k L M t h.1)
 
-  -- a list with the keys of a rising one rises
+  -- a list with the keys of an ascending one ascends
   pub Rising-keys : (L M : List (K × V)) → keys_of M ≡ keys_of L → Rising cmp L → Rising cmp M
   Rising-keys [] [] e h = tt
   Rising-keys [] (q ∷ M) e h = absurd (cc)

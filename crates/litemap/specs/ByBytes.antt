@@ -1,4 +1,4 @@
--- Texts and byte slices behind references, as keys.
+-- String and byte slice references, as keys.
 use Rattle.std.specs.Prelude.{ℕ, List}
 use Rattle.std.specs.Cmp.Lexicographic.{slice_cmp}
 use Rattle.std.specs.Ordering.{nat_cmp}

@@ -1,4 +1,4 @@
--- What an insertion, a renaming and a merge answer and leave.
+-- What an insertion, a renaming and a merge return and leave.
 use Rattle.std.specs.Prelude.{◌≡◌, ◌↔◌, ◌+◌, ◌≤◌, Bool, List, Option, None, is_some, Result, IsNone, IsSome, IfSome}
 use Rattle.std.specs.Prelude.{IfOk, IfErr, OnOk, OnErr}
 use Rattle.std.specs.Bool.{IsFalse}
@@ -9,28 +9,28 @@ use Rattle.litemap_store.specs.Pairs.{at, cut, put, value_at}
 use Rattle.litemap_store.specs.Contents.{Contents}
 
 module _ {K V : Type 0} where
-  -- a call that adds the pair p, where it adds one, is refused only without room: the list stays, and the pair comes back
+  -- a call that may add the pair p fails only at room 0: the list stays, and the error has the pair
   pub record RefusedFull {A : Type 0} (p : K × V) (before after : Contents K V)
       (result : Result A (NoRoom (K × V))) : Type 0 where
     pub unchanged : OnErr result (after.pairs ≡ before.pairs)
     pub full : OnErr result (before.room ≡ 0)
     pub back : IfErr result (λ refused. refused.back ≡ p)
-    -- answered or refused, the room is lowered by one at most
+    -- whether it fails or not, the room is lowered by at most one
     pub room : before.room ≤ after.room + 1
 
-  -- the pair p is added where `CanAdd` holds, so that the list is L; else it comes back
+  -- if `CanAdd` holds, the pair p is added, and the list is L; else the pair is returned
   pub record AddsIf (CanAdd : Type 0) (L : List (K × V)) (p : K × V) (before after : Contents K V)
       (result : Result (Option (K × V)) (NoRoom (K × V))) : Type 0 where
     pub added : IfOk result (λ back. IsNone back ↔ CanAdd)
     pub put : IfOk result (λ back. IsNone back → after.pairs ≡ L)
     pub returned : IfOk result (λ back. IfSome back (λ q. q ≡ p))
     pub unchanged : IfOk result (λ back. IsSome back → after ≡ before)
-    -- refused only where it is to be added
+    -- it fails only if the pair is to be added
     pub can_add : OnErr result CanAdd
     pub refused : RefusedFull p before after result
 
 module _ {K Q V : Type 0} (order : K → Q → Ordering) (key : Q) where
-  -- the value of a key moves to a new one, where the key is there
+  -- the value of a key, if it is present, moves to a new key
   pub record Renames (cmp : K → K → Ordering) (new_key : K) (before after : Contents K V) (result : Bool) : Type 0 where
     pub there : result ≡ is_some (at order before.pairs key)
     pub moved : IfSome (value_at order before.pairs key) (λ value.
@@ -39,16 +39,16 @@ module _ {K Q V : Type 0} (order : K → Q → Ordering) (key : Q) where
     pub room : before.room ≤ after.room
 
 module _ {K V : Type 0} (cmp : K → K → Ordering) where
-  -- the pair is put into the map `before`, which is then `after`
+  -- the pair is inserted into the map `before`, which is then `after`
   pub record Inserts (key : K) (value : V) (before after : Contents K V)
       (result : Result (Option V) (NoRoom (K × V))) : Type 0 where
-    -- the list after, and the value before
+    -- the list after the call, and the old value
     pub put : OnOk result (after.pairs ≡ put cmp before.pairs key value)
     pub old : IfOk result (λ old. old ≡ value_at cmp before.pairs key)
-    -- refused only where a pair has to be added
+    -- it fails only if the key is absent
     pub absent : OnErr result (at cmp before.pairs key ≡ None)
     pub refused : RefusedFull (key, value) before after result
-    -- the room is kept where no pair is added
+    -- the room is kept if the key is present
     pub room_kept : IsSome (at cmp before.pairs key) → after.room ≡ before.room
 
   -- the map `other` is merged into the map `before`, which is then `after`

@@ -1,4 +1,4 @@
--- A merge of two maps where a closure may write the other map's value of each key that is here.
+-- A merge in which a closure may write the other map's value of each common key.
 use Rattle.std.specs.Prelude.{◌≡◌, List, [], ◌∷◌, map, Option, Some, None, Result}
 use Rattle.std.specs.Fn.{FnReturns, Shared}
 use Rattle.std.specs.List.{AllByRecursion}
@@ -11,15 +11,15 @@ use Rattle.litemap_store.specs.Contents.{Contents, with_pairs}
 use denote.Ref.{Bor, MutBor}
 
 module _ {K V : Type 0} where
-  -- a pair whose value is combined with the one that its key finds in L, if it finds one
+  -- the pair p, its value combined with the value of its key in L, if there is one
   abbrev pub combined_pair : (K → K → Ordering) → (K → V → V → V) → List (K × V) → K × V → K × V
   combined_pair cmp combine L p = (p.0, option_map_or (λ here. combine p.0 here p.1) (value_at cmp L p.0) p.1)
 
-  -- the pairs J so combined with L
+  -- the pairs of J, so combined with L
   abbrev pub combined : (K → K → Ordering) → (K → V → V → V) → List (K × V) → List (K × V) → List (K × V)
   combined cmp combine L J = map (combined_pair cmp combine L) J
 
-  -- what a look-up finds: the value here and the other map's pair combined, where both are there, else the value of one
+  -- what a lookup finds: if both maps have the key, both values combined, else the value of the one that has it
   abbrev pub found_with : (K → V → V → V) → Option V → Option (K × V) → Option V
   found_with combine here None = here
   found_with combine None (Some p) = Some p.1
@@ -27,12 +27,12 @@ module _ {K V : Type 0} where
 
 module _ {F K V : Type 0} (g : Shared F (Bor K × (Bor V × (MutBor V × Unit {0}))) (Unit {0} × (MutBor V × Unit {0})))
     (f : F) where
-  -- f may be called on a key, the value here and the other map's value
+  -- f may be called on a key, this map's value and the other map's value
   abbrev pub TakesBoth : K → V → V → Type 0
   TakesBoth k here w = (key : Bor K) (old : Bor V) (new : MutBor V) → key.now ≡ k → old.now ≡ here → new.now ≡ w
       → g.pre f (key, (old, (new, tt)))
 
-  -- so called it may leave w'
+  -- a call of f on k, `here` and w may leave w'
   pub record LeavesOfBoth (k : K) (here w w' : V) : Type 0 where
     pub key : Bor K
     pub old : Bor V
@@ -42,7 +42,7 @@ module _ {F K V : Type 0} (g : Shared F (Bor K × (Bor V × (MutBor V × Unit {0
     pub called : FnReturns g f (key, (old, (new, tt))) (tt, (left, tt))
     pub leaves : w' ≡ left.now
 
-  -- f may be called on each key of J that finds a value in L, with both values
+  -- f may be called on each key of J that is in L, with both values
   abbrev pub CallableOnCommon : (K → K → Ordering) → List (K × V) → List (K × V) → Type 0
   CallableOnCommon cmp L J = (k : K) (here w : V) → value_at cmp L k ≡ Some here → at cmp J k ≡ Some (k, w) → TakesBoth k here w
 
@@ -50,12 +50,12 @@ module _ {F K V : Type 0} (g : Shared F (Bor K × (Bor V × (MutBor V × Unit {0
   abbrev pub CallableOnEachOf : (K → K → Ordering) → List (K × V) → List (K × V) → Type 0
   CallableOnEachOf cmp L J = AllByRecursion (λ p. (here : V) → value_at cmp L p.0 ≡ Some here → TakesBoth p.0 here p.1) J
 
-  -- w' is what f may leave of w at the key k, where the key finds a value here; else it is w
+  -- w' is what f may leave of w at the key k, if k has a value here; else it is w
   abbrev pub Settles : K → Option V → V → V → Type 0
   Settles k None w w' = w' ≡ w
   Settles k (Some here) w w' = LeavesOfBoth k here w w'
 
-  -- M has the pairs J, each value settled by what its key finds in L
+  -- M has the pairs of J, with each value settled by the value of its key in L
   abbrev pub Combined : (K → K → Ordering) → List (K × V) → List (K × V) → List (K × V) → Type 0
   Combined cmp L [] M = M ≡ []
   Combined cmp L (p ∷ J) M = (w : V) × (N : List (K × V)) × Settles p.0 (value_at cmp L p.0) p.1 w × Combined cmp L J N
@@ -67,6 +67,6 @@ module _ {F K V : Type 0} (g : Shared F (Bor K × (Bor V × (MutBor V × Unit {0
   IsCombinedInto cmp other before after result = (M : List (K × V)) × Combined cmp before.pairs other.pairs M
       × IsMergedInto cmp (with_pairs other M) before after result
 
-  -- f leaves what `combine` makes of the key and both values
+  -- f leaves the value that `combine` computes of the key and both values
   abbrev pub Combines : (K → V → V → V) → Type 0
   Combines combine = (k : K) (here w w' : V) → LeavesOfBoth k here w w' → w' ≡ combine k here w

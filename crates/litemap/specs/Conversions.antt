@@ -1,4 +1,4 @@
--- What keys and values become where a map is made of another.
+-- What keys and values become if a map is made of another.
 use Rattle.std.specs.Prelude.{◌≡◌, List, [], Result, IfOk, IsOk}
 use Rattle.std.specs.List.{AllZip}
 use Rattle.std.specs.declared.cmp.Ordering.{Ordering}
@@ -9,18 +9,18 @@ use denote.Param.Members.{Shared}
 use denote.Ref.{Bor}
 
 module _ {K L V W : Type 0} where
-  -- the second list has, pair by pair, what the first one's key and what its value became
+  -- each key and each value of the second list is what that of the first became
   abbrev pub PairsBecame : (K → L → Type 0) → (V → W → Type 0) → List (K × V) → List (L × W) → Type 0
   PairsBecame key_became value_became before after = AllZip (λ p q. key_became p.0 q.0 × value_became p.1 q.1) before after
 
-  -- the pairs of a map become those of another, or memory is refused; where there is no pair it never is
+  -- the pairs of a map become those of another, or memory runs out; it never does for no pairs
   pub record Converts {E : Type 0} (key_became : K → L → Type 0) (value_became : V → W → Type 0) (before : List (K × V))
       (result : Result (Contents L W) E) : Type 0 where
     pub became : IfOk result (λ m. PairsBecame key_became value_became before m.pairs)
     pub succeeds : before ≡ [] → IsOk result
 
 module _ {K L V : Type 0} where
-  -- of two keys of the list, the lesser one becomes the lesser one
+  -- of two keys of the list, the lesser becomes the lesser
   abbrev pub KeysKeepOrder : (K → K → Ordering) → (L → L → Ordering) → (K → L → Type 0) → List (K × V) → Type 0
   KeysKeepOrder cmp new_cmp became list =
       (p q : K × V) (a b : L) → In p list → In q list → became p.0 a → became q.0 b → cmp p.0 q.0 ≡ Less → new_cmp a b ≡ Less

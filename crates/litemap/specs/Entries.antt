@@ -1,4 +1,4 @@
--- What an entry of a map shows: the map that it borrows, its key, its value, and what the calls on it make of the pairs.
+-- What an entry shows: the map that it borrows, its key, its value, and what calls on it make of the pairs.
 use Rattle.std.specs.Prelude.{◌≡◌, ◌+◌, ◌<◌, ◌≤◌, List, [], Option, Some, None, IsSome, Result, IfErr, IsOk, OnErr}
 use Rattle.std.specs.Prelude.{length, slice_get}
 use Rattle.std.proofs.Common.{subst, sym}
@@ -38,12 +38,12 @@ module _ {K V S : Type 0} {g : ord.Ghosts K} {g' : eq.Ghosts K} {g'' : partial.G
   entry_map (variants.Occupied o) = o.map
   entry_map (variants.Vacant e) = e.map
 
-  -- the key that is there, or else the key that was asked for
+  -- the key in the map, or the key looked up if it is absent
   abbrev pub entry_key : Entry K V S g g' g'' s → Option K
   entry_key (variants.Occupied o) = option_map (λ p. p.0) (slice_get o.map.now.pairs o.index)
   entry_key (variants.Vacant e) = Some e.key
 
-  -- the value at the key, if it is there
+  -- the value at the key, if it is present
   abbrev pub entry_value : Entry K V S g g' g'' s → Option V
   entry_value (variants.Occupied o) = value_in o.map.now.pairs o.index
   entry_value (variants.Vacant e) = None
@@ -65,11 +65,11 @@ module _ {K V S : Type 0} {g : ord.Ghosts K} {g' : eq.Ghosts K} {g'' : partial.G
   pub still_within : (o : OccupiedEntry K V S g g' g'' s) (v : V) → o.index < length (set_value o.map.now.pairs o.index v)
   still_within o v = subst (λ n. o.index < n) (sym (length-set_value o.map.now.pairs o.index v)) o.within
 
-  -- an occupied entry, once v is its value
+  -- an occupied entry with v as its value
   abbrev pub with_entry_value : OccupiedEntry K V S g g' g'' s → V → OccupiedEntry K V S g g' g'' s
   with_entry_value o v = record { map = record o.map { now = map_with_value o v }; index = o.index; within = still_within o v }
 
-  -- the second entry is the first one with the value v: what calls on it make of the pairs is the same
+  -- the second entry is the first with the value v: calls on it make the same of the pairs
   pub record IsWritten (old : Entry K V S g g' g'' s) (v : V) (new : Entry K V S g g' g'' s) : Type 0 where
     pub value : entry_value new ≡ Some v
     pub same_key : entry_key new ≡ entry_key old
@@ -78,13 +78,13 @@ module _ {K V S : Type 0} {g : ord.Ghosts K} {g' : eq.Ghosts K} {g'' : partial.G
     pub same_map : (entry_map new).ghost_name ≡ (entry_map old).ghost_name
     pub same_room : (entry_map new).now.room ≡ (entry_map old).now.room
 
-  -- the map n has v at the entry's key. The room is kept where the key was there, and else lowered by at most one
+  -- the map n has v at the entry's key; the room is kept if the key was present, else lowered by at most one
   pub record Leaves (e : Entry K V S g g' g'' s) (n : Contents K V) (v : V) : Type 0 where
     pub pairs : n.pairs ≡ pairs_with e v
     pub room : (entry_map e).now.room ≤ n.room + 1
     pub room_kept : IsSome (entry_value e) → n.room ≡ (entry_map e).now.room
 
-  -- refused only where the key is not there and there is no room: it comes back, with a value that P holds of
+  -- it fails only if the key is absent and the room is 0: the error has the key, and a value of which P holds
   pub record EntryRefused (e : Entry K V S g g' g'' s) (P : V → Type 0) {A : Type 0}
       (result : Result A (NoRoom (K × V))) : Type 0 where
     pub absent : OnErr result (entry_value e ≡ None)
@@ -97,14 +97,14 @@ module _ (K V S : RattleType) {g : ord.Ghosts K.Denot} {g' : eq.Ghosts K.Denot} 
   abbrev pub IntoLends : OccupiedEntry K.Denot V.Denot S.Denot g g' g'' s → MutBor V.Denot → Fml
   IntoLends o r = follows (the_row K V S g g' g'' s) V o.map.ghost_name r.ghost_name (map_with_value o)
 
-  -- once the reference r ends, the entry has the last value written through it. (The entry's lifetime is the second of
-  -- the signature)
+  -- once the reference r ends, the entry has the last value written through it. (The entry's lifetime is the second of the
+  -- signature)
   abbrev pub OccupiedLends : MutBor (OccupiedEntry K.Denot V.Denot S.Denot g g' g'' s) → MutBor V.Denot → Fml
   OccupiedLends o r =
       follows (occupied.the_row (record { mir = named 1; lft = [] }) K V S g g' g'' s) V o.ghost_name r.ghost_name
       (with_entry_value o.now)
 
-  -- once the reference in r ends, the map has the last value written through it at the entry's key. At Err the pairs stay
+  -- once the reference in r ends, the map has the last value written through it at the entry's key; at Err the pairs stay
   abbrev pub EntryLends : {E : Type 0} → Entry K.Denot V.Denot S.Denot g g' g'' s → Result (MutBor V.Denot) E → Fml
   EntryLends e r =
       follows_so (the_row K V S g g' g'' s) V (entry_map e).ghost_name (name_if_ok (λ x. x.ghost_name) r)

@@ -1,4 +1,4 @@
--- What a call answers and leaves by the place that a search found.
+-- What a call returns and leaves, by the index that a search found.
 use Rattle.std.specs.Prelude.{◌≡◌, ◌<◌, ℕ, List, length, Option, Some, None, IfSome, Result, Ok, Err}
 use Rattle.std.specs.Option.{option_map}
 use Rattle.std.specs.declared.cmp.Ordering.{Ordering}
@@ -9,7 +9,7 @@ use denote.Param.Members.{Mut}
 use denote.Ref.{Bor}
 
 module _ {K V : Type 0} where
-  -- the value at the place that was found
+  -- the value at the index that was found
   abbrev pub value_found : List (K × V) → Result ℕ ℕ → Option V
   value_found L (Ok i) = value_in L i
   value_found L (Err i) = None
@@ -20,20 +20,20 @@ module _ {K V : Type 0} where
   without_found L (Err i) = L
 
 module _ {F K V : Type 0} (g : Mut F (Bor K × Unit {0}) Ordering) (L : List (K × V)) (f : F) where
-  -- v is the value at a place that a search by f finds, if it finds one
+  -- v is the value at an index that a search by f may find, if it finds one
   pub record GetsFound (v : Option V) : Type 0 where
     pub place : Result ℕ ℕ
     pub found : Found g L f place
     pub value : v ≡ value_found L place
 
-  -- v is that value, and M the list without its pair
+  -- v is that value, and M is the list without its pair
   pub record RemovesFound (v : Option V) (M : List (K × V)) : Type 0 where
     pub place : Result ℕ ℕ
     pub found : Found g L f place
     pub value : v ≡ value_found L place
     pub pairs : M ≡ without_found L place
 
--- the index of the key that is equal to q, and the value there, where there is one
+-- the index of the key that is equal to q, and its value, if there is one
 module _ {K Q V : Type 0} (order : K → Q → Ordering) (L : List (K × V)) (q : Q) where
   pub record GetsWithIndex (found : Option (ℕ × Bor V)) : Type 0 where
     pub value : option_map (λ x. x.1.now) found ≡ value_at order L q

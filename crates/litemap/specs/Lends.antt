@@ -1,5 +1,5 @@
--- What a map ends as, once a reference to one of its values has ended. A contract hands these words what `K.row`,
--- `S.pairs` and the like are, since a map's type takes them in the logic.
+-- What a map is once a reference to one of its values has ended. A contract passes what `K.row`, `S.pairs` and the like are,
+-- since the map's type takes them in the logic.
 use Rattle.std.specs.Prelude.{◌≡◌, ℕ, List, Option, OnSome, IfNone, ⊤}
 use Rattle.std.specs.Borrow.{Fml, RattleType, MutBor, Lends, LendsIf, LendsSo, follows_so}
 use mathlib.Core.Option.{none}
@@ -18,16 +18,16 @@ module _ (K V S : RattleType) (key : OrdMembers K.Denot) (pairs : S.Denot → Li
       (record { pairs = pairs; room = room })
 
   module _ (m : MutBor (Contents K.Denot V.Denot)) where
-    -- once the reference in r ends, the map has the last value written through it at the key that is equal to q. Where
-    -- there is none the map stays
+    -- once the reference in r ends, the map has the last value written through it at the key that is equal to q; if there is
+    -- none the map stays
     abbrev pub LendsValue : {Q : Type 0} → (K.Denot → Q → Ordering) → Q → Option (MutBor V.Denot) → Fml
     LendsValue order q r = LendsIf map_row V m r (λ v. with_pairs m.now (write order m.now.pairs q v)) m.now
 
-    -- the same of the value at place i
+    -- the same of the value at index i
     abbrev pub LendsPlace : ℕ → Option (MutBor V.Denot) → Fml
     LendsPlace i r = LendsIf map_row V m r (λ v. with_pairs m.now (set_value m.now.pairs i v)) m.now
 
-    -- the same of the value at a place that is found, where the reference starts
+    -- the same of the value at an index that may be found, at which the reference starts
     abbrev pub LendsFound : (ℕ → Type 0) → Option (MutBor V.Denot) → Fml
     LendsFound IsFound r =
         LendsSo map_row V m r
@@ -35,14 +35,14 @@ module _ (K V S : RattleType) (key : OrdMembers K.Denot) (pairs : S.Denot → Li
         × (n ≡ with_pairs m.now (set_value m.now.pairs i v))))
         (λ n. IfNone r (n ≡ m.now))
 
-    -- the same of the value at place i, which is there
+    -- the same of the value at index i, which is below the length
     abbrev pub LendsThere : ℕ → MutBor V.Denot → Fml
     LendsThere i r = Lends map_row V m r (λ v. with_pairs m.now (set_value m.now.pairs i v))
 
-    -- the same of the value of the key that is equal to q, which is there
+    -- the same of the value of the key that is equal to q, which is present
     abbrev pub LendsKey : {Q : Type 0} → (K.Denot → Q → Ordering) → Q → MutBor V.Denot → Fml
     LendsKey order q r = Lends map_row V m r (λ v. with_pairs m.now (write order m.now.pairs q v))
 
-    -- once all that was lent of the map has ended, P holds of it
+    -- once all borrows of the map have ended, P holds of it
     abbrev pub RestsAs : (Contents K.Denot V.Denot → Type 0) → Fml
     RestsAs P = follows_so map_row map_row m.ghost_name none (λ _ _. ⊤) P

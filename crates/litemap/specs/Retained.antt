@@ -1,4 +1,4 @@
--- What a closure answers of the pair that a key finds.
+-- What a closure returns for the pair that a key finds.
 use Rattle.std.specs.Prelude.{◌≡◌, Bool, List, Some}
 use Rattle.std.specs.declared.cmp.Ordering.{Ordering}
 use Rattle.std.specs.declared.cmp.Ordering.TheVariants.{Equal}
@@ -7,7 +7,7 @@ use Rattle.litemap_store.specs.Retain.{CalledOnPair}
 use denote.Param.Members.{Mut}
 use denote.Ref.{Bor}
 
--- f keeps no state, and answers b of the pair with a key equal to k, if there is one
+-- f keeps no state, and returns b for the pair with a key equal to k, if there is one
 abbrev pub AnswersAt : {F K V : Type 0} → Mut F (Bor K × (Bor V × Unit {0})) Bool → F → (K → K → Ordering) → List (K × V)
     → K → Bool → Type 0
 AnswersAt {F} {K} {V} g f cmp L k b = (p : K × V) (c : Bool) (f' : F) → CalledOnPair g f p c f'

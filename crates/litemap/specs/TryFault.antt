@@ -1,4 +1,4 @@
--- The two faults of `try_get_or_insert`.
+-- The two errors of `try_get_or_insert`.
 use Rattle.std.specs.Prelude.{◌≡◌, ℕ, ◌+◌, ◌≤◌, List, Result, Ok, Err, Some, IsNone, IsSome, IfOk, OnErr, MatchResult, ⊤}
 use Rattle.std.specs.Fn.{FnOnceReturnsAt, Once}
 use Rattle.std.specs.declared.cmp.Ordering.{Ordering}
@@ -9,33 +9,33 @@ use Rattle.litemap.specs.declared.try_fault.TryFault.TheVariants.{Closure, NoRoo
 use denote.Ref.{Bor}
 
 module _ {A K V E : Type 0} where
-  -- where the closure answered a fault, P holds of it
+  -- if it is the closure's error, P holds of that
   abbrev pub IfClosure : Result A (TryFault K V E) → (E → Type 0) → Type 0
   IfClosure (Ok a) P = ⊤
   IfClosure (Err (Closure e)) P = P e
   IfClosure (Err (NoRoom k v)) P = ⊤
 
-  -- where there was no room, P holds of the key and the value that come back
+  -- if memory ran out, P holds of the key and the value that come back
   abbrev pub IfNoRoom : Result A (TryFault K V E) → (K → V → Type 0) → Type 0
   IfNoRoom (Ok a) P = ⊤
   IfNoRoom (Err (Closure e)) P = ⊤
   IfNoRoom (Err (NoRoom k v)) P = P k v
 
 module _ {F K V E : Type 0} (g : Once F (Bor K × Unit {0}) (Result V E)) (f : F) (key : K) (room : ℕ) where
-  -- the closure's fault; or no room, and then the key and what the closure answered come back
+  -- the closure's error; or room 0, and the key and what the closure returned come back
   pub record FailsAs {A : Type 0} (result : Result A (TryFault K V E)) : Type 0 where
     pub closure : IfClosure result (λ fault. FnOnceReturnsAt g f key (Err fault))
     pub full : IfNoRoom result (λ _ _. room ≡ 0)
     pub back : IfNoRoom result (λ k v. (k ≡ key) × FnOnceReturnsAt g f key (Ok v))
 
--- the second result is the first, with the value that stands at the place
+-- the second result is the first, with the value at the index
 abbrev pub Shown : {K V E : Type 0} → List (K × V) → Result ℕ E → Result (ℕ × Bor V) E → Type 0
 Shown L found shown =
     MatchResult shown (λ there. (found ≡ Ok there.0) × (value_in L there.0 ≡ Some there.1.now)) (λ fault. found ≡ Err fault)
 
 module _ {F K V E : Type 0} (g : Once F (Bor K × Unit {0}) (Result V E)) (f : F) (cmp : K → K → Ordering) (key : K) (old : Contents K V)
     (result : Result (ℕ × Bor V) (TryFault K V E)) where
-  -- what the map `old` is after the call: itself where the key is there, and else with the value that is shown
+  -- what the map `old` is after the call: the same if the key is present, else with the value that is returned
   pub record IsPlaced (n : Contents K V) : Type 0 where
     pub present : IsSome (at cmp old.pairs key) → n ≡ old
     pub put : IsNone (at cmp old.pairs key) → IfOk result (λ there. n.pairs ≡ put cmp old.pairs key there.1.now)

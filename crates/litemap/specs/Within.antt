@@ -1,5 +1,5 @@
--- The pairs whose keys lie within two bounds, and those that lie before the first. `order k q` is how the key k stands to the
--- query of a bound.
+-- The pairs whose keys are within two bounds, and those before the first. `order k q` is how the key k compares with the query
+-- of a bound.
 use Rattle.std.specs.Prelude.{◌≡◌, ℕ, zero, suc, ◌+◌, ◌≤◌, List, [], ◌∷◌, length, Some, Bool, true, false, not, ◌&&◌, filter}
 use Rattle.std.specs.List.{AllByRecursion}
 use Rattle.std.specs.Ordering.{is_le, is_lt}
@@ -10,35 +10,35 @@ use Rattle.std.specs.declared.ops.Range.{Range}
 use Rattle.litemap_store.specs.Pairs.{sub}
 
 module _ {K Q : Type 0} (order : K → Q → Ordering) where
-  -- the key lies before a lower bound
+  -- the key is before a lower bound
   abbrev pub is_before : Bound Q → K → Bool
   is_before (Included q) k = is_lt (order k q)
   is_before (Excluded q) k = is_le (order k q)
   is_before Unbounded k = false
 
-  -- the key does not lie past an upper bound
+  -- the key is not past an upper bound
   abbrev pub is_up_to : Bound Q → K → Bool
   is_up_to (Included q) k = is_le (order k q)
   is_up_to (Excluded q) k = is_lt (order k q)
   is_up_to Unbounded k = true
 
 module _ {K Q V : Type 0} (order : K → Q → Ordering) where
-  -- the pairs whose keys lie before a lower bound, in order
+  -- the pairs whose keys are before a lower bound, in order
   abbrev pub before : List (K × V) → Bound Q → List (K × V)
   before L from = filter (λ p. is_before order from p.0) L
 
-  -- the pairs whose keys lie within both bounds, in order
+  -- the pairs whose keys are within both bounds, in order
   abbrev pub within : List (K × V) → Bound Q → Bound Q → List (K × V)
   within L from to = filter (λ p. not (is_before order from p.0) && is_up_to order to p.0) L
 
-  -- the pairs within both bounds stand from `start` to before `end`: behind all that lie before the lower one
+  -- the pairs within both bounds are at the indices from `start` to before `end`, after all that are before the lower one
   pub record ArePlaces (L : List (K × V)) (from to : Bound Q) (places : Range ℕ) : Type 0 where
     pub pairs : sub L places.start places.end ≡ Some (within L from to)
     pub start : places.start ≡ length (before L from)
     pub len : places.end ≡ places.start + length (within L from to)
     pub inside : places.end ≤ length L
 
--- the test says yes of the first n elements, and no of all others: what the search for an end tells the calls that stand on it
+-- the test is true of the first n elements, and of no other
 abbrev pub IsCut : {X : Type 0} → (X → Bool) → List X → ℕ → Type 0
 IsCut test [] n = n ≡ 0
 IsCut test (x ∷ L) zero = AllByRecursion (λ y. test y ≡ false) (x ∷ L)

@@ -1,4 +1,4 @@
--- What is left of a list of pairs where a closure is called on each key and its value, which it may write.
+-- What is left of a list of pairs if a closure, which may write values, is called on each.
 use Rattle.std.specs.Prelude.{◌≡◌, List, [], ◌∷◌, ◌++◌}
 use Rattle.std.specs.Fn.{Called, Takes}
 use Rattle.std.specs.List.{FoldsTo}
@@ -6,7 +6,7 @@ use denote.Param.Members.{Mut}
 use denote.Ref.{Bor, MutBor}
 
 module _ {F K V : Type 0} (g : Mut F (Bor K × (MutBor V × Unit {0})) (Unit {0} × (MutBor V × Unit {0}))) where
-  -- f, called on the key and the value of the pair p, leaves the pair q, whose key is p's, and is then f'
+  -- f, called on the key and the value of the pair p, leaves the pair q, which has p's key, and is then f'
   pub record WritesPair (f : F) (p q : K × V) (f' : F) : Type 0 where
     pub key : Bor K
     pub value : MutBor V
@@ -15,12 +15,12 @@ module _ {F K V : Type 0} (g : Mut F (Bor K × (MutBor V × Unit {0})) (Unit {0}
     pub called : Called g f (key, (value, tt)) (tt, (left, tt)) f'
     pub leaves : q ≡ (p.0, left.now)
 
-  -- a chain of calls from f, one for each pair of L in order, its state passing on: M has the pairs that they left
+  -- f is called on each pair of L in order, its state passing on: M has the pairs that the calls left
   abbrev pub Written : F → List (K × V) → List (K × V) → Type 0
   Written f [] M = M ≡ []
   Written f (p ∷ L) M = (q : K × V) × (f' : F) × (N : List (K × V)) × WritesPair f p q f' × Written f' L N × (M ≡ q ∷ N)
 
-  -- f, called on p, may leave something and be f' then
+  -- a call of f on p may leave it as f'
   abbrev pub Asks : F → K × V → F → Type 0
   Asks f p f' = (q : K × V) × WritesPair f p q f'
 
@@ -28,11 +28,11 @@ module _ {F K V : Type 0} (g : Mut F (Bor K × (MutBor V × Unit {0})) (Unit {0}
   abbrev pub TakesValue : F → K × V → Type 0
   TakesValue f p = (k : Bor K) (v : MutBor V) → k.now ≡ p.0 → v.now ≡ p.1 → Takes g f (k, (v, tt))
 
-  -- f may be called on each pair of L in order, as the calls on the pairs before have left it
+  -- f may be called on each pair of L in order, in the state that the calls on the pairs before left
   pub record CallableOnValues (f : F) (L : List (K × V)) : Type 0 where
     pub at : (before after : List (K × V)) (f' : F) (p : K × V)
         → L ≡ before ++ p ∷ after → FoldsTo Asks f before f' → TakesValue f' p
 
-  -- f leaves of each pair its key with what `write` makes of both, and keeps no state
+  -- f leaves of each pair the value that `write` computes of it, and keeps no state
   abbrev pub Writes : F → (K → V → V) → Type 0
   Writes f write = (p q : K × V) (f' : F) → WritesPair f p q f' → (q ≡ (p.0, write p.0 p.1)) × (f' ≡ f)

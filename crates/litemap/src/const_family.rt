@@ -1,7 +1,8 @@
-//! Calls on a map over a borrowed slice, whose answers live as long as the slice, and its lookups by texts, bytes and numbers.
+//! Calls on a map over a borrowed slice, whose results live as long as the slice, and its lookups of strings, bytes and
+//! integers.
 //!
-//! In the Rust crate they are evaluated in constants, and have `const` in their names for that. Here they are plain calls.
-//! None takes memory.
+//! In the Rust crate they are evaluated in constants, hence the `const` in their names. Here they are plain calls. None takes
+//! memory, and a lookup makes O(log n) comparisons.
 ghost use Rattle.std.specs.Prelude.{◌≡◌, ◌<◌, ◌==◌, length, slice_get, Some};
 ghost use Rattle.litemap_store.specs.Counts.{RisesByAtMost, digits};
 ghost use Rattle.litemap.specs.ByBytes.{by_bytes};
@@ -12,7 +13,7 @@ use litemap_store::Query;
 use litemap_store::store::{Count, SliceStore};
 
 impl<'a, K: Ord, V> LiteMap<K, V, SliceStore<'a, K, V>> {
-    /// The number of pairs.
+    /// Returns the number of pairs.
     ///
     /// ```rust
     /// const DAYS: &[(u32, &str)] = &[(1, "Monday"), (3, "Wednesday"), (5, "Friday")];
@@ -26,14 +27,14 @@ impl<'a, K: Ord, V> LiteMap<K, V, SliceStore<'a, K, V>> {
         self.borrowed().len()
     }
 
-    /// Whether there is no pair.
+    /// Returns whether the map is empty.
     pub fn const_is_empty(&self) -> bool
         ensures { result ≡ (length self.now.pairs == 0) }
     {
         self.borrowed().is_empty()
     }
 
-    /// The pair at a place, where there has to be one: the Rust crate panics there, as the name says.
+    /// Returns the pair at an index, which has to be below the length. The Rust crate panics if it isn't, as the name says.
     pub fn const_get_indexed_or_panic(&self, index: usize) -> &'a (K, V)
         requires { index < length self.now.pairs }
         ensures { slice_get self.now.pairs index ≡ Some result.now }
@@ -41,8 +42,7 @@ impl<'a, K: Ord, V> LiteMap<K, V, SliceStore<'a, K, V>> {
         &self.borrowed()[index]
     }
 
-    // The place and the value of the equal key. Its callers below only hand it a fresh count: numbers and texts can't count
-    // how often they are compared.
+    // Integers and strings can't count how often they are compared. So its callers pass a fresh count.
     fn const_find<Q: Query<K>>(&self, key: Q, count: &mut Count) -> Option<(usize, &'a V)>
         ensures found { GetsWithIndex Q.order self.now.pairs (Q.sought key) result }
         ensures cost { RisesByAtMost (digits (length self.now.pairs)) count.old count.new }
@@ -55,9 +55,9 @@ impl<'a, K: Ord, V> LiteMap<K, V, SliceStore<'a, K, V>> {
 }
 
 impl<'a, 'k, V> LiteMap<&'k str, V, SliceStore<'a, &'k str, V>> {
-    /// The place and the value of an equal key, if there is one. Texts compare by their bytes.
+    /// Returns the index and the value of an equal key, or `None` if there is none. Strings compare by their bytes.
     ///
-    /// It makes O(log n) comparisons. The key that is looked up may live shorter than those of the map.
+    /// The key that is looked up may live shorter than those of the map.
     ///
     /// ```rust
     /// const CAPITALS: &[(&str, u32)] = &[("Lima", 51), ("Oslo", 47), ("Rome", 39)];
@@ -73,9 +73,10 @@ impl<'a, 'k, V> LiteMap<&'k str, V, SliceStore<'a, &'k str, V>> {
 }
 
 impl<'a, 'k, V> LiteMap<&'k [u8], V, SliceStore<'a, &'k [u8], V>> {
-    /// The place and the value of an equal key, if there is one. A proper prefix is less.
+    /// Returns the index and the value of an equal key, or `None` if there is none. Slices compare byte by byte, and a proper
+    /// prefix is less.
     ///
-    /// It makes O(log n) comparisons. The key that is looked up may live shorter than those of the map.
+    /// The key that is looked up may live shorter than those of the map.
     pub fn const_get_with_index(&self, key: &[u8]) -> Option<(usize, &'a V)>
         ensures { GetsWithIndex by_bytes self.now.pairs key.entry result }
     {
@@ -111,7 +112,7 @@ impl Integer for i128 {}
 impl Integer for isize {}
 
 impl<'a, K: Integer, V> LiteMap<K, V, SliceStore<'a, K, V>> {
-    /// The place and the value of the key, if it is there. It makes O(log n) comparisons.
+    /// Returns the index and the value of an equal key, or `None` if there is none.
     pub fn const_get_with_index(&self, key: K) -> Option<(usize, &'a V)>
         ensures { GetsWithIndex K.cmp self.now.pairs key result }
     {

@@ -26,11 +26,11 @@ use std::default::MadeWith;
 use std::fmt::{self, Debug, Formatter, Write};
 use std::marker::{Model, PhantomData};
 
-/// A map whose keys rise strictly, over a store.
+/// A map with strictly ascending keys, over a store.
 ///
-/// A contract sees the list of its pairs and, where the store can grow, its room: how many further pairs it never refuses.
+/// A contract sees the list of its pairs and, if the store can grow, its room: how many further pairs it takes without failing.
 ///
-/// The examples of the calls look at this map, `three_days`:
+/// The examples of the calls use this map, `three_days`:
 ///
 /// ```rust
 /// pub fn three_days(alloc: Global) -> Result<Days, AllocError> {
@@ -59,7 +59,7 @@ impl<K: Ord, V, S: Store<K, V>> Model for LiteMap<K, V, S> {
 }
 
 impl<K: Ord, V> LiteMap<K, V, Vec<(K, V)>> {
-    /// The empty map over a vector. It takes no memory.
+    /// Returns an empty map over a vector. It takes no memory.
     pub fn new_vec(alloc: Global) -> Self
         ensures pairs { result.pairs ≡ [] }
         ensures room { result.room ≡ 0 }
@@ -67,7 +67,7 @@ impl<K: Ord, V> LiteMap<K, V, Vec<(K, V)>> {
         LiteMap::from_sorted_store_unchecked(Vec::new(alloc))
     }
 
-    /// The pairs as a vector. Their keys rise strictly.
+    /// Returns the pairs as a vector. Their keys are strictly ascending.
     pub fn into_tuple_vec(self) -> Vec<(K, V)>
         ensures pairs { result.items ≡ self.pairs }
         ensures rising { Rising K.cmp result.items }
@@ -78,8 +78,8 @@ impl<K: Ord, V> LiteMap<K, V, Vec<(K, V)>> {
 }
 
 impl<K: Ord, V, S: Store<K, V>> LiteMap<K, V, S> {
-    /// The map over a store whose keys rise strictly, which `is_sorted_store` tests. It takes no memory. The Rust crate trusts
-    /// its caller here, as the name says; here the caller's proof shows it.
+    /// Returns the map over a store whose keys are strictly ascending. It takes no memory, and tests nothing: `is_sorted_store`
+    /// does. The Rust crate trusts its caller here, as the name says; here the caller's proof shows that they ascend.
     ///
     /// ```rust
     /// let pairs = [(1, "Monday"), (3, "Wednesday")].to_vec(alloc)?;
@@ -100,7 +100,8 @@ impl<K: Ord, V, S: Store<K, V>> LiteMap<K, V, S> {
         }
     }
 
-    /// Whether the keys of a store rise strictly (own). It compares each key with the one before it, until one doesn't rise.
+    /// Returns whether the keys of a store are strictly ascending (own). It compares each key with the one before it, up to the
+    /// first one that isn't greater.
     pub fn is_sorted_store(store: &S) -> bool
         ensures { IsTrue result ↔ Rising K.cmp (S.pairs store.now) }
     {
@@ -116,7 +117,7 @@ impl<K: Ord, V, S: Store<K, V>> LiteMap<K, V, S> {
 }
 
 impl<K: Ord, V, S: StoreConstEmpty<K, V>> LiteMap<K, V, S> {
-    /// The empty map. It takes no memory. Its room is the store's `empty_room`: 0 over a vector, 1 over a short store.
+    /// Returns an empty map. It takes no memory. Its room is the store's `empty_room`: 0 over a vector, 1 over a short store.
     pub fn new(alloc: Global) -> Self
         ensures pairs { result.pairs ≡ [] }
         ensures room { result.room ≡ S.empty_room }
@@ -134,8 +135,8 @@ impl<K: Ord, V, S: StoreConstEmpty<K, V>> MadeWith<Global> for LiteMap<K, V, S> 
 }
 
 impl<K: Ord, V, S: StoreMut<K, V>> LiteMap<K, V, S> {
-    /// An empty map with this much room at least, or a refusal for want of memory. No room is never refused, nor is room for one
-    /// pair over a short store (the store's `free_room`).
+    /// Returns an empty map with capacity for at least `capacity` pairs, or an error if memory runs out. It never fails for a
+    /// capacity of up to the store's `free_room`: 0 over a vector, 1 over a short store.
     pub fn with_capacity(alloc: Global, capacity: usize) -> Result<Self, AllocError>
         ensures empty { IfOk result (λ m. m.pairs ≡ []) }
         ensures room { IfOk result (λ m. capacity ≤ m.room) }
@@ -145,10 +146,11 @@ impl<K: Ord, V, S: StoreMut<K, V>> LiteMap<K, V, S> {
         Ok(LiteMap::from_sorted_store_unchecked(store))
     }
 
-    /// A map of clones of the keys and values, or a refusal for want of memory. The empty map is never refused.
+    /// Returns a map of clones of the keys and values, or an error if memory runs out. It never fails for an empty map.
     ///
-    /// A clone of each key has to compare `Equal` to it: where keys are texts, the caller's attribute
-    /// `using(litemap::proofs::Texts::text_clones)` shows that. No keys are compared. In the Rust crate it is `Clone`.
+    /// A clone of each key has to compare `Equal` to it; for `String` keys the caller's attribute
+    /// `using(litemap::proofs::Texts::text_clones)` shows that. No keys are compared. In the Rust crate this is the trait
+    /// `Clone`.
     pub fn try_clone(&self, alloc: Global) -> Result<Self, AllocError>
     where
         K: Clone,
@@ -165,7 +167,7 @@ impl<K: Ord, V, S: StoreMut<K, V>> LiteMap<K, V, S> {
     }
 }
 
-/// Printed as a map. No text is promised.
+/// Formats it as a map. What is printed is not promised.
 impl<K: Ord + Debug, V: Debug, S: Store<K, V>> Debug for LiteMap<K, V, S> {
     fn fmt<W: Write>(&self, f: &mut Formatter<W>) -> fmt::Result {
         let mut out = f.debug_map();

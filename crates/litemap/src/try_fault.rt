@@ -7,21 +7,21 @@ use std::error::Error;
 use std::fmt::{self, Debug, Display, Formatter, Write};
 use std::io;
 
-/// Why `try_get_or_insert` placed nothing. In the Rust crate the closure's fault stands alone: want of memory ends the process.
+/// Why `try_get_or_insert` inserted nothing. The Rust crate returns the closure's error alone, and aborts if memory runs out.
 #[derive(Debug, PartialEq, Drop)]
 pub enum TryFault<K, V, E> {
-    /// The closure's fault. The key is given up.
+    /// The closure's error. The key is dropped.
     Closure(E),
-    /// Want of memory: the key that was handed in and the value that the closure answered come back.
+    /// Memory ran out: the key passed in and the value that the closure returned come back.
     NoRoom {
-        /// The key that was handed in.
+        /// The key passed in.
         key: K,
-        /// The value that the closure answered.
+        /// The value that the closure returned.
         value: V,
     },
 }
 
-/// So that `?` hands want of memory on, where the closure's fault is that, too. What comes back is given up.
+/// Lets `?` turn both errors into an `AllocError` if the closure's is one. The key and the value are dropped.
 impl<K: Drop, V: Drop> From<TryFault<K, V, AllocError>> for AllocError {
     ghost from_gives = { λ _ e. e ≡ alloc_error };
 
@@ -30,7 +30,7 @@ impl<K: Drop, V: Drop> From<TryFault<K, V, AllocError>> for AllocError {
     }
 }
 
-/// So that `?` does so where an `io::Result` is answered.
+/// The same for `?` in a function that returns an `io::Result`.
 impl<K: Drop, V: Drop> From<TryFault<K, V, AllocError>> for io::Error {
     ghost from_gives = { λ _ e. error_kind e ≡ OutOfMemory };
 
@@ -42,11 +42,11 @@ impl<K: Drop, V: Drop> From<TryFault<K, V, AllocError>> for io::Error {
 impl<K, V, E: Display> Display for TryFault<K, V, E> {
     fn fmt<W: Write>(&self, f: &mut Formatter<W>) -> fmt::Result {
         match self {
-            TryFault::Closure(fault) => write!(f, "{fault}"),
+            TryFault::Closure(error) => write!(f, "{error}"),
             TryFault::NoRoom { key: _, value: _ } => f.write_str("there is not enough memory"),
         }
     }
 }
 
-/// So that `?` hands each fault on where an `anyhow::Result` is answered.
+/// Lets `?` return it in a function that returns an `anyhow::Result`.
 impl<K: Debug + Drop, V: Debug + Drop, E: Error> Error for TryFault<K, V, E> {}

@@ -1,6 +1,6 @@
 -- Two lists of one length, one of keys and one of values: what is done to both is done to the pairs.
 --     length-zip_same, within-zip, within-columns, within-keys, within-values      as many pairs as keys and as values
---     zip-read, columns-read, zip-key, zip-none      the pair at a place, and past the end
+--     zip-read, columns-read, zip-key, zip-none      the pair at an index, and past the end
 --     zip-append, zip-joined, zip-insert, zip-remove, zip-set, zip-set_value, zip-take      after a change of both, or of the values
 --     zip-swap      after a swap in both
 use Rattle.std.proofs.Common.{◌≡◌, ℕ, zero, suc, ◌<◌, ◌≤◌, List, [], ◌∷◌, ◌++◌, length, take, slice_get, slice_set, swap, get_or, Some, None, Vec, vec_len, refl, ap, ◌∙◌, arith}
@@ -26,7 +26,7 @@ module _ {K V : Type 0} where
   pub within-zip : (ks : List K) (vs : List V) (i : ℕ) → length ks ≡ length vs → i < length (zip ks vs) → i < length ks
   within-zip ks vs i h u = let e : length (zip ks vs) ≡ length ks = length-zip_same ks vs h in omega arith
 
-  -- the pair at a place is the key and the value there
+  -- the pair at an index is the key and the value there
   pub zip-read : (ks : List K) (vs : List V) (i : ℕ) (k : K) (v : V) → length ks ≡ length vs → i < length ks → k ≡ get_or ks i k → v ≡ get_or vs i v → slice_get (zip ks vs) i ≡ Some (k, v)
   zip-read [] vs i k v h u a b = absurd (omega arith)
   zip-read (j ∷ ks) [] i k v h u a b = absurd (omega arith)
@@ -47,7 +47,7 @@ module _ {K V : Type 0} where
     pub columns-read : (k : K) (v : V) → k ≡ get_or keys.items i k → v ≡ get_or values.items i v → slice_get (zip keys.items values.items) i ≡ Some (k, v)
     columns-read k v = zip-read keys.items values.items i k v (same_length keys values same) within-columns
 
-  -- there is a value beside the key at a place
+  -- there is a value beside the key at an index
   pub zip-key : (ks : List K) (vs : List V) (i : ℕ) (d : K) → length ks ≡ length vs → i < length ks → (v : V) × (slice_get (zip ks vs) i ≡ Some (get_or ks i d, v))
   zip-key [] vs i d h u = absurd (omega arith)
   zip-key (j ∷ ks) [] i d h u = absurd (omega arith)
@@ -95,7 +95,7 @@ module _ {K V : Type 0} where
   zip-set (j ∷ ks) (w ∷ vs) zero k v = refl
   zip-set (j ∷ ks) (w ∷ vs) (suc i) k v = ap (λ L. (j, w) ∷ L) (zip-set ks vs i k v)
 
-  -- another value at a place where there is a key
+  -- another value at an index that has a key
   pub zip-set_value : (ks : List K) (vs : List V) (i : ℕ) (v : V) → zip ks (slice_set vs i v) ≡ set_value (zip ks vs) i v
   zip-set_value [] vs i v = refl
   zip-set_value (j ∷ ks) [] i v = refl
@@ -108,7 +108,7 @@ module _ {K V : Type 0} where
   zip-take (j ∷ ks) [] (suc n) = refl
   zip-take (j ∷ ks) (w ∷ vs) (suc n) = ap (λ L. (j, w) ∷ L) (zip-take ks vs n)
 
-  -- two keys and their values in each other's place
+  -- two keys swapped, and their values
   pub zip-swap : (ks : List K) (vs : List V) (k i : ℕ) → length ks ≡ length vs → k < length ks → i < length ks → zip (swap ks k i) (swap vs k i) ≡ swap (zip ks vs) k i
   zip-swap [] vs k i h u w = absurd (omega arith)
   zip-swap (j ∷ js) [] k i h u w = absurd (omega arith)

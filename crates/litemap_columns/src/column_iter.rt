@@ -10,7 +10,7 @@ use litemap_store::store::{PairIntoIter, PairIter};
 use std::marker::Model;
 use std::vec::IntoIter;
 
-/// The pairs of two columns that are still to come. A contract sees their list.
+/// An iterator over the pairs of two columns. A contract sees it as the list of the pairs that are still to come.
 #[derive(Debug, Drop)]
 pub struct ColumnIter<'a, K, V> {
     keys: &'a [K],
@@ -29,7 +29,7 @@ impl<'a, K, V> Model for ColumnIter<'a, K, V> {
 }
 
 impl<'a, K, V> ColumnIter<'a, K, V> {
-    // The iterator over keys, each with the value at its place.
+    // The iterator over keys, each with the value at its index.
     pub(crate) fn new(keys: &'a [K], values: &'a [V]) -> Self
         requires { length keys.now ≡ length values.now }
         ensures { result ≡ zip keys.now values.now }
@@ -111,7 +111,8 @@ impl<'a, K, V> Keys<K, V> for ColumnIter<'a, K, V> {
     }
 }
 
-/// The pairs of two columns that are still to be handed over. A contract sees their list.
+/// An iterator that returns the pairs of two columns by value. A contract sees it as the list of the pairs that are still to
+/// come.
 #[derive(Debug, Drop)]
 pub struct ColumnIntoIter<K, V> {
     keys: IntoIter<K>,
@@ -131,7 +132,7 @@ impl<K, V> Model for ColumnIntoIter<K, V> {
 }
 
 impl<K, V> ColumnIntoIter<K, V> {
-    // The iterator over keys, each with the value at its place.
+    // The iterator over keys, each with the value at its index.
     pub(crate) fn new(keys: Vec<K>, values: Vec<V>) -> Self
         requires { length keys.items ≡ length values.items }
         ensures { result ≡ zip keys.items values.items }

@@ -1,4 +1,4 @@
-//! A vector of keys and a vector of values as a store. Its room is the smaller of theirs.
+//! A vector of keys and a vector of values as a store.
 ghost use Rattle.std.specs.Prelude.{◌≡◌, ◌+◌, ◌≤◌, ◌<◌, ◌++◌, length, min, refl, remove, slice_index_or, vec_capacity, vec_len};
 ghost use Rattle.std.specs.List.{zip};
 ghost use Rattle.std.specs.Map.{keys_of, values_of};
@@ -20,10 +20,10 @@ use std::cmp::Ordering;
 use std::marker::Model;
 use std::mem;
 
-/// A vector of keys, and a vector of the values that belong to them (own).
+/// A store of two vectors: one of keys, and one of the values that belong to them.
 ///
-/// A search touches the keys alone, which lie side by side whatever the size of the values: that is what it is for. An
-/// insertion or a removal moves the later keys and the later values.
+/// A search reads the keys alone, which lie side by side whatever the size of the values: that is what it is for. An insertion
+/// or a removal moves the later keys and the later values.
 #[derive(Debug, Drop)]
 pub struct ColumnStore<K, V> {
     keys: Vec<K>,
@@ -43,10 +43,10 @@ impl<K, V> Model for ColumnStore<K, V> {
 }
 
 impl<K, V> ColumnStore<K, V> {
-    /// The store of a vector of keys and a vector of as many values: each key with the value at its place. Its room is the
-    /// smaller of theirs. It takes no memory, and moves and compares no keys.
+    /// Makes a store of a vector of keys and a vector of as many values, where each key has the value at its index. Its room is
+    /// the smaller of theirs. It takes no memory, and compares and moves no keys.
     ///
-    /// For a map over it the keys have to rise, which `from_sorted_store_unchecked` asks for.
+    /// For a map over it the keys have to ascend, as `from_sorted_store_unchecked` requires.
     ///
     /// ```rust
     /// let numbers = [1, 3].to_vec(alloc)?;
@@ -61,8 +61,8 @@ impl<K, V> ColumnStore<K, V> {
         ColumnStore { keys, values }
     }
 
-    /// The vector of the keys and that of the values, in the order of the pairs, with all their memory. It takes no memory,
-    /// and moves and compares no keys.
+    /// Returns the vector of the keys and that of the values, in the order of the pairs, with all their memory. It takes no
+    /// memory, and compares and moves no keys.
     ///
     /// ```rust
     /// let days = ColumnStore::lm_from_pairs(alloc, [(1, "Monday"), (3, "Wednesday")])?;
@@ -197,7 +197,7 @@ impl<K, V> StoreMut<K, V> for ColumnStore<K, V> {
     ghost keeps_room = { λ s i v. refl };
 }
 
-// Takes out the item at an index, by one move of the later ones.
+// Removes the item at an index, by one move of the later ones.
 fn remove_at<T>(items: &mut Vec<T>, index: usize) -> T
     requires { index < vec_len items.old }
     ensures value { result ≡ slice_index_or items.old.items index result }
@@ -298,7 +298,7 @@ impl<K: Drop, V: Drop> StoreIntoIterator<K, V> for ColumnStore<K, V> {
     }
 }
 
-// Puts the items of another vector behind, where there is room for them.
+// Moves the items of another vector to the end of this one, whose capacity has room for them.
 fn append_reserved<T: Drop>(items: &mut Vec<T>, other: &mut Vec<T>)
     requires { vec_len items.old + vec_len other.old ≤ vec_capacity items.old }
     ensures items { items.new.items ≡ items.old.items ++ other.old.items }

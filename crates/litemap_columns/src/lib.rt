@@ -1,4 +1,5 @@
-//! A store of two columns for the sorted map of the crate `litemap`: a vector of the keys and one of the values.
+//! A store of two columns for the sorted map of the crate `litemap`: a vector of the keys and one of the values. All of this
+//! crate is own: the Rust crate has no such store.
 #![tactic(auto)]
 
 mod column_iter;

@@ -1,4 +1,4 @@
--- A list that is read by places.
+-- A list that is read index by index.
 use Rattle.std.proofs.Common.{◌≡◌, ℕ, suc, ◌+◌, ◌<◌, List, [], ◌∷◌, ◌++◌, length, get_or, Global, String, string_bytes, drop, slice_get, refl, Option, Some, None, option_map, Ok, Err, Result, sym, ◌∙◌, ap, add-one, drop-cons, append_assoc}
 use Rattle.std.proofs.lemmas.List.{map-append}
 use Rattle.std.proofs.lemmas.Option.{get_or_from_slice_get, slice_get_within}

@@ -1,5 +1,5 @@
--- What a look-up by a text finds in lists of one tree.
---     values_seen      items of one tree, or nothing in either;  same_values      where a tree tells the item, the same
+-- What a lookup by a string finds in lists of one tree.
+--     values_seen      items of one tree, or nothing in either;  same_values      if a tree tells the item, the same
 use Rattle.std.proofs.Common.{◌≡◌, ℕ, Bool, true, false, cond, List, [], ◌∷◌, Option, Some, None, option_map, String, string_bytes, refl, sym, ap, ◌∙◌}
 use Rattle.std.specs.Ordering.{is_eq}
 use Rattle.serde_json.specs.Data.{Data, string}

@@ -1,10 +1,10 @@
--- Members behind members, and a name above all names of members.
+-- Members after members, and a name above all names of members.
 use Rattle.std.proofs.Common.{◌≡◌, ℕ, List, Less, Greater, nat_cmp, refl, ap, ◌∙◌}
 use Rattle.std.specs.Cmp.Lexicographic.{slice_cmp, nat_list_cmp_total}
 use Rattle.std.specs.Ordering.{ordering_reverse}
 use Rattle.serde_json.specs.Data.{Data, Members, no_members, member, put}
 
--- the members, and others behind them
+-- the members, and others after them
 abbrev pub joined : Members → Members → Members
 joined no_members ns = ns
 joined (member k d ms) ns = member k d (joined ms ns)

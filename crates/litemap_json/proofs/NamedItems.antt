@@ -19,7 +19,7 @@ module _ {V : Type 0} (json : V → Data) where
   abbrev With : String Global × V → List (String Global × V) → List (String Global × V)
   With p M = below string_cmp M p.0 ++ p ∷ above string_cmp M p.0
 
-  -- where the first name is not below p's, all others are above
+  -- if the first name is not below p's, all others are above
   past : (p q : String Global × V) (M : List (String Global × V)) → string_cmp q.0 p.0 ≢ Less → BelowAll string_cmp q.0 M → (below string_cmp M p.0 ≡ []) × (above string_cmp M p.0 ≡ M)
   past p q M n b =
       let later = λ (x : String Global × V) (i : In x M).
@@ -45,7 +45,7 @@ module _ {V : Type 0} (json : V → Data) where
   named-put p (q ∷ M) r = put_at (string_cmp q.0 p.0) p q M refl r.0 (named-put p M r.1)
 
   module _ {K W : Type 0} (text : K → Option (List ℕ)) (key_json : K → Data) (json_of : W → Data) where
-    -- the names so far have the members of the pairs before a place
+    -- the names so far have the members of the pairs before an index
     abbrev pub Named : List (K × W) → ℕ → List (String Global × V) → Type 0
     Named L i names = (M : List (String Global × V)) × Last string_cmp names M
         × (object_with text key_json json_of i (named json M) (drop i L) ≡ object_with text key_json json_of 0 no_members L)

@@ -118,7 +118,7 @@ module _ {K V : Type 0} (cmp : K → K → Ordering) (total : IsTotalOrder cmp) 
       let same : Sees a.spelled ≡ Sees b.spelled = cc in
       last_alike a.spelled b.spelled L M same a.last b.last
 
--- where a tree tells its key, and another its item, the trees of a list tell the list
+-- if a tree tells its key, and another its item, the trees of a list tell the list
 module _ {K V : Type 0} (key_json : K → Data) (json : V → Data) (keys : (x y : K) → key_json x ≡ key_json y → x ≡ y) (items : (v w : V) → json v ≡ json w → v ≡ w) where
   same_pair : (p q : K × V) → pair_seen key_json json p ≡ pair_seen key_json json q → p ≡ q
   same_pair p q e =

@@ -17,7 +17,7 @@ use Rattle.litemap_json.specs.Item.{kept, signed_fits, whole_json, whole_key, wh
 use Rattle.litemap_json.specs.Widths.{IsHeld}
 use Rattle.litemap_json.proofs.Held.{held_by_128}
 
--- where it fits, what is printed is read
+-- if it fits, what is printed is read
 parse_printed : {E : Type 0} (z : ℤ) (s : List ℕ) (r : Result ℤ E) → FitsSigned w128 z → s ≡ signed_decimal z → ParsesSigned w128 10 s r → r ≡ Ok z
 parse_printed (pos n) s r fits is h =
     let k = decimal_is_IsNumeral_wide n (omega (arith, fits.sfits)) in
@@ -58,7 +58,7 @@ whole_of_text-printed z f =
 pub read_whole : (fits : ℤ → Bool) (z : ℤ) → fits z ≡ true → IsHeld z → whole_key fits (signed_decimal z) ≡ Some (whole_json z)
 read_whole fits z h held = rw (whole_of_text-printed z (fits_w128 z (held_by_128 z held)), h)
 
--- a text that `parse` refuses is no such number's
+-- a text that `parse` rejects is no such number's
 unread_at : {E : Type 0} (t u : Bool) (s : List ℕ) (z : ℤ) (r : Result ℤ E) → bytes_eq (signed_decimal z) s ≡ t → signed_fits 127 z ≡ u → ParsesSigned w128 10 s r → ((y : ℤ) → r ≡ Ok y → ⊥)
     → None ≡ kept (signed_fits 127) (if t then Some z else None)
 unread_at true true s z r e f parsed never =

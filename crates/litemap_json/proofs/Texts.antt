@@ -41,7 +41,7 @@ member_before s d ms mid new end w more = (
 )
 
 module _ {V : Type 0} (json_of : V → Data) where
-  -- the members of the named items before a place are written
+  -- the members of the named items before an index are written
   abbrev pub NamedHeld : List (String Global × V) → ℕ → List Token → Type 0
   NamedHeld M i mid = (end : List Token) → WritesMembers (named json_of (drop i M)) mid end → WritesMembers (named json_of M) (begin_object ∷ []) end
 
@@ -56,7 +56,7 @@ module _ {V : Type 0} (json_of : V → Data) where
       (json.object all.0, all.1, ap json.object all.2)
 
 module _ {K V : Type 0} (text : K → Option (List ℕ)) (key_json : K → Data) (json_of : V → Data) where
-  -- the rows of the pairs before a place are written
+  -- the rows of the pairs before an index are written
   abbrev pub RowsHeld : List (K × V) → ℕ → List Token → Type 0
   RowsHeld L i mid = (end : List Token) → WritesItems (rows text key_json json_of (drop i L)) mid end → WritesItems (rows text key_json json_of L) (begin_array ∷ []) end
 
@@ -73,7 +73,7 @@ module _ {K V : Type 0} (text : K → Option (List ℕ)) (key_json : K → Data)
       let all = held new (subst (λ M. WritesItems (rows text key_json json_of M) mid new) (sym (drop_all i L h)) (json.no_items, e, refl)) in
       (json.array all.0, all.1, ap json.array all.2)
 
-  -- The members of the pairs before a place are written, and `last` is the name of the last of them. A name above it is above
+  -- The members of the pairs before an index are written, and `last` is the name of the last of them. A name above it is above
   -- each.
   abbrev pub PairsHeld : List (K × V) → ℕ → List ℕ → List Token → Type 0
   PairsHeld L i last mid = (ms : Members)

@@ -1,4 +1,4 @@
--- A token that is written for a text, a flag or a number is the tree of it.
+-- A token that is written for a string, a boolean or a number is the tree of it.
 use Rattle.std.proofs.Common.{◌≡◌, ℕ, ◌^◌, ◌<◌, ℤ, pos, negsuc, List, [], ◌∷◌, ◌++◌, Bool, true, false, cond, Some, None, option_and_then, decimal, nat_lt, SFits, w64, refl, sym, ap, ◌∙◌, arith, append_assoc}
 use Rattle.std.specs.Fmt.{signed_decimal}
 use Rattle.json.specs.Json as json

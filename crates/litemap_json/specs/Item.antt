@@ -1,4 +1,4 @@
--- Which value of a type a JSON tree spells, or why it spells none, and which key a text spells. A value is told by its tree.
+-- Which value of a type a JSON tree spells, or why it spells none, and which key a text spells. A value is seen as its tree.
 use Rattle.std.specs.Prelude.{◌≡◌, ◌≢◌, ℕ, ◌^◌, nat_lt, ℤ, pos, negsuc, List, Bool, true, false, if◌then◌else◌}
 use Rattle.std.specs.Prelude.{Option, Some, None, Result, Ok, Err, ok_or, option_map}
 use Rattle.std.specs.Fmt.{signed_decimal}
@@ -9,7 +9,7 @@ use Rattle.serde_json.specs.Find.{as_number, as_integer, as_bool, as_str, of_int
 use Rattle.litemap_json.specs.declared.item.ItemFault.{ItemFault}
 use Rattle.litemap_json.specs.declared.item.ItemFault.TheVariants.{Memory, Shape, Range, Float}
 
--- r is the value that a tells by its tree, or the fault that a tells; or memory was refused
+-- r is the value whose tree a is, or the error that a is; or memory ran out
 abbrev pub Answers : {T : Type 0} → (T → Data) → Result Data ItemFault → Result T ItemFault → Type 0
 Answers json a (Ok x) = a ≡ Ok (json x)
 Answers json a (Err e) = e ≢ Memory → a ≡ Err e
@@ -59,12 +59,12 @@ kept fits (Some z) = if fits z then Some z else None
 abbrev pub whole_key : (ℤ → Bool) → List ℕ → Option Data
 whole_key fits s = option_map whole_json (kept fits (whole_of_text s))
 
--- ---- truth values and texts
+-- ---- booleans and strings
 
 abbrev pub bool_item : Data → Result Data ItemFault
 bool_item d = ok_or (option_map boolean (as_bool d)) Shape
 
--- a truth value's text
+-- a boolean's text
 abbrev pub bool_text : Bool → List ℕ
 bool_text true = true_text
 bool_text false = false_text
@@ -99,6 +99,6 @@ abbrev both_of : (Data → Result Data ItemFault) → (Data → Result Data Item
 both_of first second None = Err Shape
 both_of first second (Some p) = both (first p.0) (second p.1)
 
--- an array of exactly two; the first one's fault comes before the second's
+-- an array of exactly two; the first one's error comes before the second's
 abbrev pub pair_item : (Data → Result Data ItemFault) → (Data → Result Data ItemFault) → Data → Result Data ItemFault
 pair_item first second d = both_of first second (two_of d)

@@ -1,5 +1,5 @@
--- A map as JSON: the tree of a list of pairs, and the pairs that a tree spells. Keys and items are told by their trees, and
--- keys by their texts too.
+-- A map as JSON: the tree of a list of pairs, and the pairs that a tree spells. Keys and items are seen as their trees, and
+-- keys as their texts too.
 use Rattle.std.specs.Prelude.{ℕ, ◌+◌, List, [], ◌∷◌, map, cond, is_some, Option, Some, None, Result, Ok, Err}
 use Rattle.serde_json.specs.Data.{Data, array, object}
 use Rattle.serde_json.specs.Data.{Items, no_items, item, Members, no_members, member, put}
@@ -26,25 +26,25 @@ module _ {K V : Type 0} (text : K → Option (List ℕ)) (key_json : K → Data)
   abbrev pub rows : List (K × V) → Items
   rows L = items_of (map row L)
 
-  -- the object with these members and those of the pairs, the first of which has this place
+  -- the object with these members and those of the pairs, the first of which has this index
   abbrev pub object_with : ℕ → Members → List (K × V) → Result Data WriteFault
   object_with place ms [] = Ok (object ms)
   object_with place ms (p ∷ L) = named place (text p.0) (λ s. object_with (place + 1) (put s (json p.1) ms) L)
 
-  -- the first key decides: an object where it has a text, else an array; the empty array where there is none
+  -- the first key decides: an object if it has a text, else an array; the empty array if there is none
   abbrev pub tree : List (K × V) → Result Data WriteFault
   tree [] = Ok (array no_items)
   tree (p ∷ L) = cond (is_some (text p.0)) (object_with 0 no_members (p ∷ L)) (Ok (array (rows (p ∷ L))))
 
 -- ---- reading
 
--- the first fault, or the pair before the others
+-- the first error, or the pair before the others
 abbrev pub before : Result (Data × Data) JsonFault → Result (List (Data × Data)) JsonFault → Result (List (Data × Data)) JsonFault
 before (Err e) r = Err e
 before (Ok p) (Err e) = Err e
 before (Ok p) (Ok L) = Ok (p ∷ L)
 
--- the key's fault comes before the item's
+-- the key's error comes before the item's
 abbrev pub pair_at : ℕ → Result Data ItemFault → Result Data ItemFault → Result (Data × Data) JsonFault
 pair_at place (Err f) r = Err (Key place f)
 pair_at place (Ok k) (Err f) = Err (Item place f)
@@ -69,7 +69,7 @@ module _ (key : List ℕ → Option Data) (key_item json_item : Data → Result 
   member_pairs place no_members = Ok []
   member_pairs place (member s d ms) = before (member_at place (key s) d) (member_pairs (place + 1) ms)
 
-  -- the pairs that a tree spells, in its order, or the fault at the first place that spells none
+  -- the pairs that a tree spells, in its order, or the error at the first index that spells none
   abbrev pub pairs : Data → Result (List (Data × Data)) JsonFault
   pairs (array ds) = row_pairs 0 ds
   pairs (object ms) = member_pairs 0 ms

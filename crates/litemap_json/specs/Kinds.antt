@@ -1,4 +1,4 @@
--- Of which kind a fault is as one of input or output.
+-- The kind of an error as one of input or output.
 use Rattle.std.specs.declared.io.ErrorKind.{ErrorKind}
 use Rattle.std.specs.declared.io.ErrorKind.TheVariants.{InvalidData, OutOfMemory}
 use Rattle.litemap_json.specs.declared.fault.JsonFault.{JsonFault}

@@ -16,7 +16,7 @@ module _ {K V : Type 0} (cmp : K → K → Ordering) (key : List ℕ → Option 
 
 module _ {Z V : Type 0} (cmp : String Z → String Z → Ordering) (key : List ℕ → Option Data)
     (key_item json_item : Data → Result Data ItemFault) (key_json : String Z → Data) (json : V → Data) where
-  -- a look-up by a text finds items with the same tree in both, or nothing in either
+  -- a lookup by a string finds items with the same tree in both, or nothing in either
   abbrev pub OneReadingByText : Type 0
   OneReadingByText = (d : Data) (L M : List (String Z × V)) → ReadsAs cmp key key_item json_item key_json json d L
       → ReadsAs cmp key key_item json_item key_json json d M

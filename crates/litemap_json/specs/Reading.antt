@@ -24,12 +24,12 @@ module _ {K V : Type 0} (cmp : K → K → Ordering) (key : List ℕ → Option 
     pub spells : pairs key key_item json_item d ≡ Ok (seen key_json json spelled)
     pub last : Last cmp spelled L
 
--- r is what a tells, as `see` sees it, or the fault that a tells; or memory was refused
+-- r, as `see` sees it, is the value or the error that a is; or memory ran out
 abbrev pub Reads : {T S : Type 0} → (T → S) → Result S JsonFault → Result T JsonFault → Type 0
 Reads see a (Ok x) = a ≡ Ok (see x)
 Reads see a (Err e) = e ≢ Memory → a ≡ Err e
 
--- what is read of the trees of a pair is that pair
+-- what is read from the trees of a pair is that pair
 abbrev pub ReadsBack : {K V : Type 0} → (Data → Result Data ItemFault) → (Data → Result Data ItemFault)
     → (K → Data) → (V → Data) → K × V → Type 0
 ReadsBack key_item json_item key_json json p =

@@ -11,11 +11,11 @@ use Rattle.serde_json.specs.View.{members_of}
 use Rattle.serde_json.specs.Written.{blank, compact_text, has_float, IsInOrder, outline}
 
 -- The new tokens are those of the tree, in its order: its items and members, each once, and its whole numbers in decimal. Of
--- its floats alone the digits are not told.
+-- its floats alone the digits are left open.
 abbrev pub WritesTree : Data → List Token → List Token → Type 0
 WritesTree d old new = (j : Json) × (new ≡ old ++ json_tokens j) × (blank j ≡ outline d)
 
--- The text is the tree's compact one. Of a tree with a float, whose digits the definitions do not tell, it is a text with no
+-- The text is the tree's compact one. Of a tree with a float, whose digits the definitions leave open, it is a text with no
 -- space that has the tree's items and members, each once and in order.
 pub record IsTextOf (d : Data) (text : List ℕ) : Type 0 where
   pub compact : has_float d ≡ false → text ≡ compact_text d

@@ -11,21 +11,22 @@ use thiserror::Error;
 /// Why a map was not written as JSON.
 #[derive(Debug, PartialEq, Drop, Error)]
 pub enum WriteFault {
-    /// Memory was refused.
+    /// Memory ran out.
     #[error("there is not enough memory")]
     Memory,
     /// The first key has a text, and this one, the first such, has none.
     #[error("the key at place {place} (from 0) has no text, and the first key has one: give all keys a text, or none")]
     KeyWithoutText {
-        /// The key's place in the map.
+        /// The key's index in the map.
         place: usize,
     },
 }
 
 /// Why a JSON value was not read as a map.
 ///
-/// A place is that of an array's element, or that of an object's member, whose members stand in the byte order of their
-/// names. The first place that spells no pair is told; at one place the pair's shape, then the key, then the item.
+/// A `place` is the index of an array's element, or that of an object's member, whose members stand in the byte order of their
+/// names. It is the first one that spells no pair. Of an element or member the pair's shape comes first, then the key, then the
+/// item.
 ///
 /// ```rust
 /// let value = Value::from_str(alloc, r#"{"1":8,"3":300}"#)?;
@@ -35,7 +36,7 @@ pub enum WriteFault {
 /// ```
 #[derive(Debug, PartialEq, Drop, Error)]
 pub enum JsonFault {
-    /// Memory was refused. It may come in place of a fault at the same or a later place.
+    /// Memory ran out. It may come in place of an error at the same or a later index.
     #[error("there is not enough memory")]
     Memory,
     /// The value is neither an array nor an object.
@@ -44,19 +45,19 @@ pub enum JsonFault {
     /// An array's element is not an array of exactly two.
     #[error("the element at place {place} (from 0) is not an array of exactly a key and an item")]
     NotAPair {
-        /// The element's place.
+        /// The element's index.
         place: usize,
     },
     /// A member's name is no key's text.
     #[error("the name of the member at place {place} (from 0, by the byte order of the names) is not a key's text")]
     KeyText {
-        /// The member's place.
+        /// The member's index.
         place: usize,
     },
     /// The first value of an array's element is no key.
     #[error("the key at place {place} (from 0): {fault}")]
     Key {
-        /// The element's place.
+        /// The element's index.
         place: usize,
         /// Why it is no key.
         fault: ItemFault,
@@ -64,7 +65,7 @@ pub enum JsonFault {
     /// A member's value, or the second value of an array's element, is no item.
     #[error("the item at place {place} (from 0): {fault}")]
     Item {
-        /// The place of the element or member.
+        /// The index of the element or member.
         place: usize,
         /// Why it is no item.
         fault: ItemFault,
@@ -87,7 +88,7 @@ impl From<AllocError> for JsonFault {
     }
 }
 
-/// So that `?` hands a fault on where an `io::Result` is answered. The place is given up: to tell it, print the fault itself.
+/// For `?` in a function that returns an `io::Result`. The index is dropped. To tell it, print the error before.
 impl From<WriteFault> for io::Error {
     ghost use Rattle.std.specs.Prelude.{◌≡◌};
     ghost use Rattle.std.specs.IoError.{error_kind};
@@ -108,7 +109,7 @@ impl From<WriteFault> for io::Error {
     }
 }
 
-/// So that `?` does so for a map that was not read.
+/// The same for a map that was not read.
 impl From<JsonFault> for io::Error {
     ghost use Rattle.std.specs.Prelude.{◌≡◌};
     ghost use Rattle.std.specs.IoError.{error_kind};

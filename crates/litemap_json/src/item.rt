@@ -16,7 +16,7 @@ use thiserror::Error;
 /// Why a JSON value is no item of a type.
 #[derive(Debug, PartialEq, Drop, Error)]
 pub enum ItemFault {
-    /// Memory was refused.
+    /// Memory ran out.
     #[error("there is not enough memory")]
     Memory,
     /// It is a value of another kind.
@@ -32,7 +32,7 @@ pub enum ItemFault {
 
 /// A type whose values are written as JSON, and read back.
 ///
-/// A contract tells a value by its tree, `json x`, and what a tree spells by the tree of that value, `item d`.
+/// A contract sees a value as its tree, `json x`, and what a tree spells as the tree of that value, `item d`.
 pub trait JsonItem {
     /// The tree of a value. Values with one tree are the same to a reader.
     ghost json: { Self → Data };
@@ -40,19 +40,19 @@ pub trait JsonItem {
     /// The tree of the value that a tree spells, or why it spells none.
     ghost item: { Data → Result Data ItemFault };
 
-    /// The value as JSON, or a refusal for want of memory. What is made reads as the same value.
+    /// Returns the value as JSON, which reads as the same value. It fails if memory runs out.
     fn to_value(&self, alloc: Global) -> Result<Value, AllocError>
         ensures tree { IfOk result (λ value. view value ≡ json self.now) }
         ensures reads_back { OnOk result (item (json self.now) ≡ Ok (json self.now)) };
 
-    /// The value that a JSON value spells. `Memory` may come in place of any answer.
+    /// Returns the value that a JSON value spells. `Memory` may come in place of any result.
     fn from_value(alloc: Global, value: &Value) -> Result<Self, ItemFault>
         ensures { Answers json (item (view value.now)) result };
 
-    /// Writes the value behind what a writer has: the text of what `to_value` makes, without that value where a type has a
-    /// body of its own for it. A type that has none makes the value, writes it, and drops it.
+    /// Appends the value to what a writer has, as the text of what `to_value` makes. A type may have a body of its own that
+    /// does without that. Else it is made, written and dropped.
     ///
-    /// A refusal for want of memory may leave some of the value written.
+    /// If memory runs out, some of the value may be written.
     fn write_to(&self, alloc: Global, out: &mut Writer) -> Result<(), AllocError>
         ensures tree { OnOk result (WritesTree (json self.now) out.old.tokens out.new.tokens) }
         ensures before { out.new.before ≡ out.old.before }
@@ -61,17 +61,17 @@ pub trait JsonItem {
         write_value(alloc, &value, out)
     }
 
-    /// What a JSON value has to be to spell a value of the type, in words that `is wanted` can follow: for a fault that is
-    /// shown to people. A type that says nothing of it has the words here.
+    /// Returns what a JSON value has to be to spell a value of the type, in words that `is wanted` can follow, for an error
+    /// that is shown to people. A type that says nothing of it has the words here.
     fn wanted() -> &'static str {
         "a value of the type"
     }
 }
 
-/// A type whose values are written as the keys of a map: as the names of an object's members where they have texts, else
-/// as JSON values.
+/// A type whose values are written as the keys of a map: as the names of an object's members if they have texts, else as JSON
+/// values.
 ///
-/// A contract tells a key's text by `text k`, and the key that a text spells by that key's tree, `key s`.
+/// A contract sees a key as its text, `text k`, and the key that a text spells as that key's tree, `key s`.
 pub trait JsonKey: JsonItem + Ord {
     /// The text that stands for a key as a member's name, if it has one.
     ghost text: { Self → Option (List ℕ) };
@@ -79,14 +79,14 @@ pub trait JsonKey: JsonItem + Ord {
     /// The tree of the key that has this text, if there is one.
     ghost key: { List ℕ → Option Data };
 
-    /// The key's text, `None` where it has none, or a refusal for want of memory. What is made reads as the same key.
+    /// Returns the key's text, which reads as the same key, or `None` if it has none. It fails if memory runs out.
     fn key_text(&self, alloc: Global) -> Result<Option<String>, AllocError>
         ensures text { IfOk result (λ name. option_map string_bytes name ≡ text self.now) }
         ensures reads_back { OnOk result (IfSome (text self.now)
             (λ name. key name ≡ Some (Self.json self.now))) };
 
-    /// The key that has this text, `None` where no key has it, or a refusal for want of memory. A key has one text, so
-    /// another spelling is no key's.
+    /// Returns the key that has this text, or `None` if no key has it. A key has one text, so another spelling is no key's. It
+    /// fails if memory runs out.
     ///
     /// ```rust
     /// let seven = u32::from_key_text(alloc, "7")?;

@@ -1,4 +1,5 @@
-//! Maps as JSON, both ways: what a type needs to be an item or a key there, and the types that come with it.
+//! Maps as JSON, both ways: what a type needs to be an item or a key there, and the types that come with it. All of this crate
+//! is own: the Rust crate's maps go through serde.
 #![tactic(auto)]
 
 mod fault;

@@ -14,7 +14,7 @@ use litemap::store::Store;
 use litemap::{LiteMap, VecMap};
 use std::alloc::{AllocError, Global};
 
-/// The items by their keys' names, or the fault of the first key that has none.
+/// Returns the items by their keys' names, or the error of the first key that has none.
 pub(crate) fn by_name<'m, K: JsonKey, V: JsonItem, S: Store<K, V>>(
     alloc: Global,
     map: &'m LiteMap<K, V, S>,
@@ -38,7 +38,7 @@ pub(crate) fn by_name<'m, K: JsonKey, V: JsonItem, S: Store<K, V>>(
     }
 }
 
-/// The text of the object of such items.
+/// Returns the text of the object of such items.
 pub(crate) fn named_text<V: JsonItem>(
     alloc: Global,
     items: &VecMap<String, &V>,

@@ -11,7 +11,7 @@ use litemap::store::Store;
 use serde_json::Value;
 use std::alloc::{AllocError, Global};
 
-/// The two items of an array of exactly two, `None` for any other value.
+/// Returns the two items of an array of exactly two, `None` for any other value.
 ///
 /// ```rust
 /// let value = Value::from_str(alloc, "[3,true]")?;
@@ -29,7 +29,7 @@ pub fn two_items(value: &Value) -> Option<(&Value, &Value)>
     }
 }
 
-/// The array of two values, or a refusal for want of memory.
+/// Makes the array of two values. It fails if memory runs out.
 pub fn array_of_two(alloc: Global, first: Value, second: Value) -> Result<Value, AllocError>
     ensures { IfOk result (λ pair. view pair ≡ pair_json (view first) (view second)) }
 {
@@ -39,7 +39,7 @@ pub fn array_of_two(alloc: Global, first: Value, second: Value) -> Result<Value,
     Ok(Value::from(parts))
 }
 
-/// The pair at a place within a map.
+/// Returns the pair at an index within a map.
 pub(crate) fn pair_at<K: Ord, V, S: Store<K, V>>(map: &LiteMap<K, V, S>, place: usize) -> (&K, &V)
     requires { place < length map.now.pairs }
     ensures { Some (result.0.now, result.1.now) ≡ slice_get map.now.pairs place }
@@ -47,7 +47,7 @@ pub(crate) fn pair_at<K: Ord, V, S: Store<K, V>>(map: &LiteMap<K, V, S>, place: 
     map.get_indexed(place).unwrap()
 }
 
-/// Puts a pair behind others.
+/// Appends a pair to others.
 pub(crate) fn push_pair<K: Drop, V: Drop>(
     pairs: &mut Vec<(K, V)>,
     pair: (K, V),

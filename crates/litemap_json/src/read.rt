@@ -15,12 +15,17 @@ use litemap::store::StoreBulkMut;
 use serde_json::{Map, Value};
 use std::alloc::Global;
 
-/// The map that a JSON value spells: an object, whose names have to be texts of keys, or an array, whose elements have to be
-/// arrays of exactly a key and an item. Of equal keys the last pair stays, whole, in the order that the value holds.
+/// Reads the map that a JSON value spells, and returns it. The value is an object, whose names have to be texts of keys, or an
+/// array, whose elements have to be arrays of exactly a key and an item. Of each key the last pair stays, with its own key, in
+/// the order that the value holds, and the others are dropped. The Rust crate has serde's `Deserialize` here.
 ///
-/// The fault is that of the first place that spells no pair; `Memory` may come in place of a fault at the same or a later
-/// place. All pairs are gathered before a map is made, and moved into it by `extend_from_vec`: where they rise that
-/// is one comparison for each, else a sort. The Rust crate has serde's `Deserialize` here.
+/// All pairs are gathered before a map is made, and moved into it by `extend_from_vec`: if the keys ascend, that is one
+/// comparison for each, else a sort.
+///
+/// # Errors
+///
+/// The error is that of the first index that spells no pair. If memory runs out, it is `Memory`, which may come in place of an
+/// error at the same or a later index.
 ///
 /// ```rust
 /// let value = Value::from_str(alloc, r#"{"10":9,"3":8}"#)?;
@@ -61,7 +66,6 @@ fn pairs_of<K: JsonKey + Drop, V: JsonItem + Drop>(
     }
 }
 
-// The pairs that an array's elements spell.
 fn read_rows<K: JsonKey + Drop, V: JsonItem + Drop>(
     alloc: Global,
     list: &Vec<Value>,
@@ -77,7 +81,6 @@ fn read_rows<K: JsonKey + Drop, V: JsonItem + Drop>(
     Ok(found)
 }
 
-// The pair that an element spells.
 fn read_row<K: JsonKey + Drop, V: JsonItem + Drop>(
     alloc: Global,
     place: usize,
@@ -98,7 +101,6 @@ fn read_row<K: JsonKey + Drop, V: JsonItem + Drop>(
     }
 }
 
-// A key's fault at a place.
 fn key_fault(place: usize, fault: ItemFault) -> JsonFault
     ensures { result ≢ reading.Memory → (fault ≢ of_item.Memory) × (result ≡ reading.Key place fault) }
 {
@@ -108,7 +110,6 @@ fn key_fault(place: usize, fault: ItemFault) -> JsonFault
     }
 }
 
-// An item's fault at a place.
 fn item_fault(place: usize, fault: ItemFault) -> JsonFault
     ensures { result ≢ reading.Memory → (fault ≢ of_item.Memory) × (result ≡ reading.Item place fault) }
 {
@@ -118,7 +119,6 @@ fn item_fault(place: usize, fault: ItemFault) -> JsonFault
     }
 }
 
-// The pairs that an object's members spell.
 fn read_members<K: JsonKey + Drop, V: JsonItem + Drop>(
     alloc: Global,
     members: &Map<String, Value>,
@@ -128,7 +128,7 @@ fn read_members<K: JsonKey + Drop, V: JsonItem + Drop>(
 {
     let mut found = Vec::new(alloc);
     let mut place = 0usize;
-    // The places stay below the number of members: its bound is known from here on.
+    // The indices stay below the number of members: its bound is known from here on.
     let _count = members.len();
     for (name, member) in members.iter() {
         let pair = read_member(alloc, place, name, member)?;
@@ -138,7 +138,6 @@ fn read_members<K: JsonKey + Drop, V: JsonItem + Drop>(
     Ok(found)
 }
 
-// The pair that a member spells.
 fn read_member<K: JsonKey + Drop, V: JsonItem + Drop>(
     alloc: Global,
     place: usize,

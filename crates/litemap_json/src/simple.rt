@@ -1,4 +1,4 @@
-//! Truth values and texts.
+//! Booleans and strings.
 ghost use Rattle.std.specs.Prelude.{◌≡◌, ◌≢◌, Some, Ok, Err, IfOk, IfSome, IsOk, OnOk, option_map, string_bytes};
 ghost use Rattle.serde_json.specs.Data.{boolean, string};
 ghost use Rattle.serde_json.specs.View.{view};
@@ -11,7 +11,7 @@ use json::Writer;
 use serde_json::Value;
 use std::alloc::{AllocError, Global};
 
-/// No call takes memory but the writer's, so none else is refused.
+/// Only `write_to` may fail: no other call takes memory.
 impl JsonItem for bool {
     ghost json = { boolean };
 
@@ -41,7 +41,7 @@ impl JsonItem for bool {
     }
 }
 
-/// Only `key_text` takes memory; `from_key_text` is never refused.
+/// Only `key_text` may fail: `from_key_text` takes no memory.
 impl JsonKey for bool {
     ghost text = { λ b. Some (bool_text b) };
 

@@ -20,13 +20,14 @@ use litemap::LiteMap;
 use litemap::store::Store;
 use std::alloc::{AllocError, Global};
 
-/// The map as a JSON text with no space: that of the value that `to_json` makes, with the same faults, and without that value.
+/// Writes a map as a JSON text with no space, and returns the text. It is that of the value that `to_json` makes, with the same
+/// errors, but that value isn't made. The Rust crate has serde's `Serialize` here, whose members stand in the order of the
+/// keys.
 ///
-/// It is written pair by pair while the keys' texts rise in their byte order, as texts do, and unsigned numbers with equally
-/// many digits. Where one doesn't rise, as `"10"` behind `"2"`, the members' order is not that of the keys: what was written
-/// is dropped, and the texts of all keys are made and sorted. `Memory` may come in place of any answer. No keys are compared,
-/// and each pair's name with the one before; the names that are sorted by O(n log n) comparisons. The Rust crate has serde's
-/// `Serialize` here, whose members stand in the order of the keys.
+/// It is written pair by pair while the keys' texts ascend in their byte order, as strings do, and unsigned numbers with
+/// equally many digits. If one doesn't ascend, as `"10"` after `"2"`, the members' order is not that of the keys. What was
+/// written is dropped then, and the texts of all keys are made and sorted. No keys are compared, but each pair's name with the
+/// one before; sorting the names takes O(n log n) comparisons. `Memory` may come in place of any result.
 ///
 /// ```rust
 /// // hours: 1 8, 3 10
@@ -52,7 +53,6 @@ pub fn write_json<K: JsonKey, V: JsonItem, S: Store<K, V>>(
     }
 }
 
-// The text of the array of the pairs.
 fn array_text<K: JsonKey, V: JsonItem, S: Store<K, V>>(
     alloc: Global,
     map: &LiteMap<K, V, S>,
@@ -69,7 +69,6 @@ fn array_text<K: JsonKey, V: JsonItem, S: Store<K, V>>(
     Ok(text_of(out))
 }
 
-// Writes a pair as an array of two.
 fn write_row<K: JsonKey, V: JsonItem>(
     alloc: Global,
     key: &K,
@@ -85,7 +84,7 @@ fn write_row<K: JsonKey, V: JsonItem>(
     out.end_array()
 }
 
-// The text of the object of the pairs, or none where a key's text does not rise.
+// The text of the object of the pairs, or none if a key's text does not ascend.
 fn object_text<K: JsonKey, V: JsonItem, S: Store<K, V>>(
     alloc: Global,
     map: &LiteMap<K, V, S>,
@@ -114,7 +113,6 @@ fn object_text<K: JsonKey, V: JsonItem, S: Store<K, V>>(
     Ok(Some(text_of(out)))
 }
 
-/// Writes a member.
 pub(crate) fn write_member<V: JsonItem>(
     alloc: Global,
     name: &String,
@@ -129,14 +127,14 @@ pub(crate) fn write_member<V: JsonItem>(
     item.write_to(alloc, out)
 }
 
-// Whether the name at a place is above the one before; the first has none before it.
+// Whether the name at an index is above the one before; the first has none before it.
 fn rises(place: usize, last: &String, name: &String) -> bool
     ensures { result ≡ true → 0 < place → slice_cmp nat_cmp (string_bytes last.now) (string_bytes name.now) ≡ Less }
 {
     place == 0 || last < name
 }
 
-/// What was written, as a text.
+/// Returns what was written, as a string.
 pub(crate) fn text_of(out: Writer) -> String
     requires { out.before ≡ [] }
     ensures text { string_bytes result ≡ print out.tokens }

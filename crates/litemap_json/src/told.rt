@@ -1,18 +1,18 @@
-//! A fault as it is shown to people: with the name that it stands at, what is wanted there and what stands there.
+//! An error as it is shown to people: with the name of the member, what is wanted there and what stands there.
 use crate::fault::JsonFault;
 use crate::item::JsonItem;
 use crate::pairs::two_items;
 use serde_json::Value;
 use std::fmt::{self, Display, Formatter, Write};
 
-/// A fault and what stands at its place in the value that was read. `JsonFault::told_in` makes it, and `{told}` prints it.
+/// An error and what stands at its index in the value that was read. `JsonFault::told_in` makes it, and `{told}` prints it.
 #[derive(Drop)]
 pub struct Told<'a> {
     fault: &'a JsonFault,
     stands: Option<Stands<'a>>,
 }
 
-// What stands at a fault's place: of an object's member with its name.
+// What stands at an error's index, with the name if it is an object's member.
 #[derive(Drop)]
 struct Stands<'a> {
     name: Option<&'a str>,
@@ -21,11 +21,11 @@ struct Stands<'a> {
 }
 
 impl JsonFault {
-    /// The fault as it is shown to people, where `value` is what was read as a map from `K` to `V`: the member's name, what is
-    /// wanted there (`JsonItem::wanted`), and what stands there.
+    /// Returns the error as it is shown to people, with the member's name, what is wanted there (`JsonItem::wanted`), and what
+    /// stands there in `value`, which was read as a map from `K` to `V`.
     ///
-    /// An array's element has its place in place of a name. Of a value that has no such place, as one that was not read may not,
-    /// the fault is told alone, and so it is where memory was refused. No memory is taken.
+    /// An array's element has its index in place of a name. If `value` has no such index, as it may if it isn't the one that
+    /// was read, or if memory ran out, the error is shown alone. No memory is taken.
     ///
     /// ```rust
     /// let value = Value::from_str(alloc, r#"{"1":8,"3":"noon"}"#)?;
@@ -65,7 +65,6 @@ impl JsonFault {
     }
 }
 
-// What stands there, where something does.
 fn named<'a>(
     name: Option<&'a str>,
     wanted: &'static str,
@@ -79,19 +78,18 @@ fn named<'a>(
     })
 }
 
-// An array's element at a place.
-fn element(value: &Value, place: usize) -> Option<&Value> {
-    value.as_array()?.as_slice().get(place)
+fn element(value: &Value, index: usize) -> Option<&Value> {
+    value.as_array()?.as_slice().get(index)
 }
 
-// The two parts of an array's element at a place.
-fn pair(value: &Value, place: usize) -> Option<(&Value, &Value)> {
-    two_items(element(value, place)?)
+// The two parts of an array's element at an index.
+fn pair(value: &Value, index: usize) -> Option<(&Value, &Value)> {
+    two_items(element(value, index)?)
 }
 
-// An object's member at a place, in the byte order of the names.
-fn member<'a>(value: &'a Value, place: usize, wanted: &'static str) -> Option<Stands<'a>> {
-    let (name, value) = value.as_object()?.iter().nth(place)?;
+// An object's member at an index, in the byte order of the names.
+fn member<'a>(value: &'a Value, index: usize, wanted: &'static str) -> Option<Stands<'a>> {
+    let (name, value) = value.as_object()?.iter().nth(index)?;
     named(Some(name.as_str()), wanted, Some(value))
 }
 
@@ -134,7 +132,6 @@ fn write_kind<W: Write>(f: &mut Formatter<W>, value: &Value) -> fmt::Result {
     }
 }
 
-// Which kind of value it is, but a number.
 fn kind(value: &Value) -> &'static str {
     if value.is_string() {
         "a text"

@@ -28,7 +28,7 @@ pub trait Whole: Copy + Ord {
         ensures is { result ≡ number self }
         ensures fits { fits (number self) ≡ true };
 
-    /// What the type has for a number, if it has it.
+    /// The type's value for a number, if it has one.
     fn narrow(wide: i128) -> Option<Self>
         ensures { option_map number result ≡ kept fits (Some wide) };
 
@@ -42,7 +42,7 @@ pub trait Whole: Copy + Ord {
     ghost one_number: { (x y : Self) → whole_json (number x) ≡ whole_json (number y) → Self.cmp x y ≡ Equal };
 }
 
-/// No call takes memory but the writer's, so none else is refused.
+/// Only `write_to` may fail: no other call takes memory.
 impl<T: Whole> JsonItem for T {
     ghost json = { λ x. whole_json (T.number x) };
 
@@ -71,7 +71,7 @@ impl<T: Whole> JsonItem for T {
     }
 }
 
-/// Only `key_text` takes memory; `from_key_text` is never refused.
+/// Only `key_text` may fail: `from_key_text` takes no memory.
 impl<T: Whole> JsonKey for T {
     ghost text = { λ x. Some (signed_decimal (T.number x)) };
 
@@ -256,7 +256,6 @@ impl Whole for i64 {
     ghost one_number = { signed_one_tree };
 }
 
-// The whole number that a value is.
 fn whole_number(value: &Value) -> Result<i128, ItemFault>
     ensures { result ≡ whole_of (view value.now) }
 {

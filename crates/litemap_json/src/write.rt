@@ -17,12 +17,17 @@ use litemap::store::Store;
 use serde_json::{Map, Value};
 use std::alloc::{AllocError, Global};
 
-/// The map as a JSON value. The first key decides: where it has a text, an object from the keys' texts to the items; where it
-/// has none, an array of `[key, item]` arrays in the order of the keys. The empty map is the empty array.
+/// Makes a JSON value of a map, and returns it. The first key decides: if it has a text, it is an object from the keys' texts
+/// to the items; if it has none, an array of `[key, item]` arrays in the order of the keys. The empty map is the empty array.
+/// The Rust crate has serde's `Serialize` here.
 ///
-/// In an object a later key without a text is a fault, told with its place. An object's members stand and print in the
-/// byte order of their names: the keys 2 and 10 print as `"10"`, `"2"`. What is made is read by `from_json` as the same
-/// map. `Memory` may come in place of any answer. No keys are compared. The Rust crate has serde's `Serialize` here.
+/// An object's members stand and print in the byte order of their names: the keys 2 and 10 print as `"10"`, `"2"`. What is made
+/// is read by `from_json` as the same map. No keys are compared.
+///
+/// # Errors
+///
+/// In an object a later key without a text is an error, `KeyWithoutText`, with its index. `Memory` may come in place of any
+/// result.
 pub fn to_json<K: JsonKey, V: JsonItem, S: Store<K, V>>(
     alloc: Global,
     map: &LiteMap<K, V, S>,
@@ -40,7 +45,6 @@ pub fn to_json<K: JsonKey, V: JsonItem, S: Store<K, V>>(
     Ok(array_of(alloc, map)?)
 }
 
-// The array of the pairs.
 fn array_of<K: JsonKey, V: JsonItem, S: Store<K, V>>(
     alloc: Global,
     map: &LiteMap<K, V, S>,
@@ -58,7 +62,6 @@ fn array_of<K: JsonKey, V: JsonItem, S: Store<K, V>>(
     Ok(Value::from(list))
 }
 
-// A pair as an array of two.
 fn row_of<K: JsonKey, V: JsonItem>(alloc: Global, key: &K, item: &V) -> Result<Value, AllocError>
     ensures tree { IfOk result (λ value. view value ≡ pair_json (K.json key.now) (V.json item.now)) }
     ensures reads_back { OnOk result (ReadsBack K.item V.item K.json V.json (key.now, item.now)) }
@@ -96,7 +99,6 @@ fn object_of<K: JsonKey, V: JsonItem, S: Store<K, V>>(
     Ok(Value::from(members))
 }
 
-// Puts an item at a name.
 fn put_member(members: &mut Map<String, Value>, name: String, item: Value) -> Result<(), AllocError>
     ensures { OnOk result (members_view members.new.entries
         ≡ put (string_bytes name) (view item) (members_view members.old.entries)) }

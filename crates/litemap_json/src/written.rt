@@ -1,4 +1,4 @@
-//! A value's tokens, written behind those that a writer has.
+//! A value's tokens, written after those that a writer has.
 ghost use Rattle.std.specs.Prelude.{◌≡◌, ◌++◌, ◌∷◌, [], OnOk};
 ghost use Rattle.std.specs.Fmt.{signed_decimal};
 ghost use Rattle.json.specs.Lex.{tokens};
@@ -11,10 +11,10 @@ use json::{Reader, Scratch, Token, Writer};
 use serde_json::Value;
 use std::alloc::{AllocError, Global};
 
-/// Writes a JSON value. Only `null`, an array, an object and a float take memory beside the writer's: their text is made
-/// first.
+/// Appends a JSON value to what a writer has. Only `null`, an array, an object and a float take memory beside the writer's:
+/// their text is made first.
 ///
-/// A refusal may leave some of the value written.
+/// If memory runs out, some of the value may be written.
 pub fn write_value(alloc: Global, value: &Value, out: &mut Writer) -> Result<(), AllocError>
     ensures tree { OnOk result (WritesTree (view value.now) out.old.tokens out.new.tokens) }
     ensures before { out.new.before ≡ out.old.before }

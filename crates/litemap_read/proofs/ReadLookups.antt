@@ -1,6 +1,6 @@
 -- What is read from a source that gives one list: lemmas for the proofs of callers.
---     Last-read      its last pairs;  value_at-read      a key finds its last value
--- Where `gives` is an equation, an answer shows `only` by `λ L h. h`.
+--       Last-read      its last pairs;  value_at-read      a key finds its last value
+-- If `gives` is an equation, `only` is shown by `λ L h. h`.
 use Rattle.std.proofs.Common.{◌≡◌, List, ap, option_map, reverse, subst}
 use Rattle.std.specs.Cmp.{IsTotalOrder}
 use Rattle.std.specs.declared.cmp.Ordering.{Ordering}

@@ -26,7 +26,7 @@ not_both None s n = cc
 not_both (Some x) s n = cc
 
 module _ {K V : Type 0} (cmp : K → K → Ordering) (o : IsTotalOrder cmp) where
-  -- a call that is refused is answered so
+  -- the call fails with this
   refused_so : (old : Contents K V) (c : Call K V) (a : Answer K V) (new : Contents K V) → IsRefused cmp old c a new → (back : Option (K × V)) × (a ≡ NoRoom back)
   refused_so old (call.Insert k v) a new h = (Some (k, v), h.1.0)
   refused_so old (call.TryInsert k v) a new h = (Some (k, v), h.1.0)
@@ -39,7 +39,7 @@ module _ {K V : Type 0} (cmp : K → K → Ordering) (o : IsTotalOrder cmp) wher
   done old c a new (inl d) not = d
   done old c a new (inr r) not = let s = refused_so old c a new r in absurd (not s.0 s.1)
 
-  -- the answer is f of the list, and the list is kept
+  -- what is returned is f of the list, and the list is kept
   module _ (f : List (K × V) → Answer K V) (m₁ m₂ n₁ n₂ : Contents K V) (a₁ a₂ : Answer K V) (e : m₁.pairs ≡ m₂.pairs) where
     same_answer : a₁ ≡ f m₁.pairs → a₂ ≡ f m₂.pairs → a₁ ≡ a₂
     same_answer h₁ h₂ = h₁ ∙ ap f e ∙ sym h₂

@@ -9,11 +9,11 @@ use Rattle.litemap_read.specs.declared.calls.Answer.TheVariants.{NoRoom}
 use Rattle.litemap_read.specs.declared.calls.Call.{Call}
 
 module _ {K : Type 0} (cmp : K → K → Ordering) (V : Type 0) where
-  -- no call was refused for want of memory
+  -- no call failed because memory ran out
   abbrev pub NoneRefused : List (Answer K V) → Type 0
   NoneRefused answers = AllByRecursion (λ answer. (back : Option (K × V)) → answer ≢ NoRoom back) answers
 
-  -- two maps with the same list, whatever their stores, give the same answers to the same calls, and end with the same list
+  -- two maps with the same list, whatever their stores, return the same from the same calls, and end with the same list
   abbrev pub SameAnswers : Type 0
   SameAnswers = (start₁ start₂ end₁ end₂ : Contents K V) (calls : List (Call K V)) (answers₁ answers₂ : List (Answer K V))
       → start₁.pairs ≡ start₂.pairs → Run cmp start₁ calls answers₁ end₁ → Run cmp start₂ calls answers₂ end₂

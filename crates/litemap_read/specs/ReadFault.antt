@@ -5,12 +5,12 @@ use Rattle.std.specs.declared.io.ErrorKind.TheVariants.{InvalidData, OutOfMemory
 use Rattle.litemap_read.specs.declared.source.ReadFault.{ReadFault}
 use Rattle.litemap_read.specs.declared.source.ReadFault.TheVariants.{NoRoom, Source}
 
--- where it is the source's fault, P holds of it
+-- if it is the source's error, P holds of it
 abbrev pub IfSource : {E : Type 0} → ReadFault E → (E → Type 0) → Type 0
 IfSource NoRoom P = ⊤
 IfSource (Source e) P = P e
 
--- of which kind it is as a fault of input
+-- its kind as an error of input
 abbrev pub fault_kind : {E : Type 0} → ReadFault E → ErrorKind
 fault_kind NoRoom = OutOfMemory
 fault_kind (Source e) = InvalidData

@@ -1,5 +1,5 @@
--- What a call of a map answers and leaves, and what a list of calls does. `old` is the map before a call, its list and
--- its room, `new` the map after it.
+-- What a call of a map returns and leaves, and what a list of calls does. `old` is the map before a call, its list and its
+-- room, `new` the map after it.
 use Rattle.std.specs.Prelude.{◌≡◌, ◌⊎◌, ◌+◌, ◌<◌, ◌≤◌, List, [], ◌∷◌, ◌++◌, length, is_some, Some, None, IsSome, IsNone}
 use Rattle.std.specs.declared.cmp.Ordering.{Ordering}
 use Rattle.litemap_store.specs.Last.{Last}
@@ -11,7 +11,7 @@ use Rattle.litemap_read.specs.declared.calls.Call.{Call}
 use Rattle.litemap_read.specs.declared.calls.Call.TheVariants as call
 
 module _ {K V : Type 0} (cmp : K → K → Ordering) where
-  -- the pair was put in: the list is L, and the room is lowered by one at most
+  -- the pair was inserted: the list is L, and the room is lowered by one at most
   abbrev pub Adds : Contents K V → List (K × V) → Contents K V → Type 0
   Adds old L new = (new.pairs ≡ L) × (old.room ≤ new.room + 1)
 
@@ -39,11 +39,11 @@ module _ {K V : Type 0} (cmp : K → K → Ordering) where
       (answer ≡ Done) × (new.pairs ≡ old.pairs) × (old.room ≤ new.room) × (n ≤ new.room)
   IsDone old call.Clear answer new = (answer ≡ Done) × (new.pairs ≡ [])
 
-  -- a pair that would be added finds no room, and comes back
+  -- a pair that would be added has no room, and is returned
   abbrev pub HasNoRoom : Contents K V → K → V → Answer K V → Contents K V → Type 0
   HasNoRoom old k v answer new = (answer ≡ NoRoom (Some (k, v))) × (old.room ≡ 0) × (new.pairs ≡ old.pairs)
 
-  -- the call is refused for want of memory
+  -- the call fails because memory runs out
   abbrev pub IsRefused : Contents K V → Call K V → Answer K V → Contents K V → Type 0
   IsRefused old (call.Insert k v) answer new = IsNone (at cmp old.pairs k) × HasNoRoom old k v answer new
   IsRefused old (call.TryInsert k v) answer new = IsNone (at cmp old.pairs k) × HasNoRoom old k v answer new
@@ -53,11 +53,11 @@ module _ {K V : Type 0} (cmp : K → K → Ordering) where
       (answer ≡ NoRoom None) × (new.pairs ≡ old.pairs) × (old.room ≤ new.room) × (old.room < n)
   IsRefused old call answer new = ⊥
 
-  -- the call answers so, and leaves the map `new`
+  -- the call returns this, and leaves the map `new`
   abbrev pub Step : Contents K V → Call K V → Answer K V → Contents K V → Type 0
   Step old call answer new = IsDone old call answer new ⊎ IsRefused old call answer new
 
-  -- as many answers as calls, and a chain of steps, one for each call with the answer at its place
+  -- as many `Answer`s as calls, and a chain of steps, one for each call with the `Answer` at its index
   abbrev pub Run : Contents K V → List (Call K V) → List (Answer K V) → Contents K V → Type 0
   Run start [] [] end = end ≡ start
   Run start (call ∷ calls) (answer ∷ answers) end =

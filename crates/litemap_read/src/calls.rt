@@ -1,49 +1,49 @@
-//! Calls of a map as values, and what they answer.
+//! Calls of a map as values, and what they return.
 
 /// A call of a map, with its arguments.
 #[derive(Debug, PartialEq, Drop)]
 pub enum Call<K, V> {
-    /// The value of a key.
+    /// Looks up the value of a key.
     Get(K),
-    /// The value at a place.
+    /// Looks up the value at an index.
     ValueAt(usize),
-    /// Whether a key is there.
+    /// Looks whether a key is there.
     Contains(K),
-    /// The place of a key.
+    /// Looks up the index of a key.
     Find(K),
-    /// The number of pairs.
+    /// Counts the pairs.
     Len,
-    /// To put a value at a key.
+    /// Inserts a value at a key, in place of an old one.
     Insert(K, V),
-    /// To place a pair whose key is absent.
+    /// Inserts a pair if its key is absent.
     TryInsert(K, V),
-    /// To put a pair whose key is above all others behind them.
+    /// Appends a pair if its key is above all others.
     TryAppend(K, V),
-    /// To take out a key.
+    /// Removes a key.
     Remove(K),
-    /// To put pairs in, of which the last of each key stays.
+    /// Extends the map by pairs, of which the last of each key stays.
     Extend(Vec<(K, V)>),
-    /// To take this much room at least.
+    /// Reserves spare capacity for at least this many pairs.
     Reserve(usize),
-    /// To give up all pairs.
+    /// Drops all pairs.
     Clear,
 }
 
-/// What a call of a map answers.
+/// What a call of a map returns.
 #[derive(Debug, PartialEq, Drop)]
 pub enum Answer<K, V> {
-    /// A value: the one that is there, or the one that was there, if there is one.
+    /// The value that is there, or that was there, if there is one.
     Value(Option<V>),
     /// Whether the key is there.
     Flag(bool),
-    /// `Ok` of the key's place, or `Err` of the place where it would go.
+    /// `Ok` of the key's index, or `Err` of the index where it would go.
     Place(Result<usize, usize>),
     /// The number of pairs.
     Number(usize),
-    /// `None` where the pair was placed, and else the pair.
+    /// `None` if the pair was inserted, and else the pair.
     Back(Option<(K, V)>),
-    /// Want of memory, with the pair that was to be placed. The list is as it was.
+    /// Memory ran out. The list is as it was, and the pair that was to be inserted is returned, if there was one.
     NoRoom(Option<(K, V)>),
-    /// It is done.
+    /// The call is done.
     Done,
 }

@@ -9,10 +9,10 @@ use litemap::LiteMap;
 use litemap::store::{NoRoom, StoreBulkMut};
 use std::alloc::Global;
 
-/// Makes the calls of a list one after another, and answers what each of them answered (own).
+/// Makes the calls of a list one after another, and returns what each of them returned (own).
 ///
-/// A call that is refused is answered `NoRoom`, and the run goes on. The room for the answers is taken before the first call:
-/// where it is refused no call was made, and the calls come back.
+/// A call that fails because memory runs out returns `NoRoom`, and the run goes on. The memory for what the calls return is
+/// taken before the first one: if that fails, no call was made, and the calls are returned.
 pub fn run_calls<K: Ord + Drop, V: Copy, S: StoreBulkMut<K, V>>(
     alloc: Global,
     map: &mut LiteMap<K, V, S>,
@@ -31,13 +31,12 @@ pub fn run_calls<K: Ord + Drop, V: Copy, S: StoreBulkMut<K, V>>(
     Ok(answers)
 }
 
-/// Maps with the same list answer the same calls alike and end with the same list, whatever their stores, where no call is
-/// refused.
+/// Maps with the same list return the same from the same calls and end with the same list, whatever their stores, if no call
+/// fails.
 pub fn same_answers<K: Ord, V>()
     ensures { SameAnswers K.cmp V }
 {}
 
-// Makes a call.
 fn answer<K: Ord + Drop, V: Copy, S: StoreBulkMut<K, V>>(
     alloc: Global,
     map: &mut LiteMap<K, V, S>,

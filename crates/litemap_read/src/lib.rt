@@ -1,4 +1,4 @@
-//! Reading maps from sources of pairs, and runs of calls of a map.
+//! Reading maps from sources of pairs, and runs of calls of a map. The Rust crate has no call that is marked (own).
 #![tactic(auto)]
 
 mod calls;

@@ -13,17 +13,21 @@ use litemap::LiteMap;
 use litemap::store::{StoreBulkMut, StoreMut};
 use std::alloc::{AllocError, Global};
 
-/// How many pairs a source's hint makes room for at most.
+/// For how many pairs at most capacity is reserved by a source's hint.
 const MOST_HINTED: usize = 65_536;
 
-/// The map of the pairs that a source gives, up to its end. Of each key the last pair stays, whole.
+/// Reads the pairs of a source up to its end, and returns their map. Of each key the last pair stays, with its own key, and the
+/// others are dropped. The Rust crate reads by serde's `Deserialize` here.
 ///
-/// A source's fault is handed on; want of memory is `NoRoom`, which doesn't come where it has no pair. In both cases the pairs
-/// read so far are given up, and the source stays behind the pairs that it gave.
+/// A pair whose key is above the last one is appended after one comparison. Others are put aside, and at the end the map is
+/// extended by these. So ascending keys cost at most one comparison for each pair, and no sort. By the source's hint capacity
+/// is reserved for at most 65,536 pairs, if there is memory.
 ///
-/// The source's hint makes room for at most 65,536 pairs, if that isn't refused. A pair whose key is above the last one is put
-/// behind it, by one comparison. Others are put aside, and at the end the map is extended by these: so rising keys cost at most
-/// one comparison for each pair, and no sort. The Rust crate reads by serde's `Deserialize` here.
+/// # Errors
+///
+/// An error of the source is returned as `ReadFault::Source`. If memory runs out, it is `ReadFault::NoRoom`, which doesn't come
+/// if the source has no pair. In both cases the pairs read so far are dropped, and the source stays after the pairs that it
+/// gave.
 ///
 /// ```rust
 /// const LANGUAGES: &[u8] = b"\x02\x02de\x06German\x02fr\x06French";
@@ -51,12 +55,14 @@ pub fn read_pairs<K: Ord + Drop, V: Drop, S: StoreBulkMut<K, V>, P: PairSource<K
     Ok(map)
 }
 
-/// Puts the pairs that a source gives, up to its end, into a map (own). Of each key the last pair stays, whole, where an old
-/// pair counts as earlier than all new ones.
+/// Extends a map by the pairs that a source gives up to its end (own). Of each key the last pair stays, with its own key, where
+/// an old pair counts as earlier than all new ones; the others are dropped. It compares and moves as `extend_from_vec` does.
 ///
-/// The pairs are gathered before the map changes, in a vector with the room that `read_pairs` makes: a fault or want of memory
-/// leaves the map's list. The pairs read so far are then given up, and the source stays behind them. Who wants them asks
-/// `next_pair` for each, and inserts it. It compares and moves as `extend_from_vec` does.
+/// # Errors
+///
+/// They are those of `read_pairs`. The pairs are gathered in a vector before the map changes, so an error leaves the map's
+/// list. The pairs read so far are dropped then, and the source stays after them. To keep them, call `next_pair` and insert
+/// each pair.
 pub fn extend_from_source<K: Ord + Drop, V: Drop, S: StoreBulkMut<K, V>, P: PairSource<K, V>>(
     alloc: Global,
     map: &mut LiteMap<K, V, S>,
@@ -71,11 +77,14 @@ pub fn extend_from_source<K: Ord + Drop, V: Drop, S: StoreBulkMut<K, V>, P: Pair
     Ok(())
 }
 
-/// The map of the pairs that an iterator gives up to its end (own): what can be written as an iterator of `Result`s needs no
-/// `PairSource`. Of each key the last pair stays, whole.
+/// Reads the pairs of an iterator of `Result`s up to its end, and returns their map (own). Of each key the last pair stays,
+/// with its own key, and the others are dropped. What can be written as such an iterator needs no `PairSource`. It compares and
+/// moves as `read_pairs` does.
 ///
-/// The first fault that the iterator gives is handed on, and nothing is asked of it behind that; want of memory is `NoRoom`. In
-/// both cases the pairs read so far are given up. It compares and moves as `read_pairs` does.
+/// # Errors
+///
+/// The first error that the iterator gives is returned as `ReadFault::Source`, and the iterator isn't called after it. If
+/// memory runs out, it is `ReadFault::NoRoom`. In both cases the pairs read so far are dropped.
 pub fn read_results<
     K: Ord + Drop,
     V: Drop,
@@ -120,7 +129,7 @@ fn drain<K: Drop, V: Drop, P: PairSource<K, V>>(
     }
 }
 
-// An empty vector with room for what a hint promises, up to a limit, or with none where that is refused.
+// An empty vector with capacity for what a hint promises, up to a limit, or with none if memory runs out.
 fn vec_with_hint<T: Drop>(alloc: Global, hint: Option<usize>) -> Vec<T>
     ensures { result.items ≡ [] }
 {
@@ -128,7 +137,7 @@ fn vec_with_hint<T: Drop>(alloc: Global, hint: Option<usize>) -> Vec<T>
     Vec::with_capacity(alloc, capacity).unwrap_or(Vec::new(alloc))
 }
 
-// Puts an item behind those of a vector, or gives it up.
+// Pushes an item, or drops it if memory runs out.
 fn push<T: Drop>(items: &mut Vec<T>, item: T) -> Result<(), AllocError>
     ensures { OnOk result (items.new.items ≡ items.old.items ++ item ∷ []) }
 {
@@ -136,7 +145,7 @@ fn push<T: Drop>(items: &mut Vec<T>, item: T) -> Result<(), AllocError>
     Ok(())
 }
 
-// An empty map with room for what a hint promises, up to a limit, or with none where that is refused.
+// The same for a map.
 fn with_hint<K: Ord, V, S: StoreMut<K, V>>(alloc: Global, hint: Option<usize>) -> LiteMap<K, V, S>
     ensures { result.pairs ≡ [] }
 {
@@ -146,7 +155,7 @@ fn with_hint<K: Ord, V, S: StoreMut<K, V>>(alloc: Global, hint: Option<usize>) -
         .unwrap()
 }
 
-// Puts a pair behind the map's pairs where its key is above them all, and else behind those put aside.
+// Appends a pair to the map if its key is above all others, and else to the pairs put aside.
 fn append_or_defer<K: Ord + Drop, V: Drop, S: StoreMut<K, V>>(
     map: &mut LiteMap<K, V, S>,
     aside: &mut Vec<(K, V)>,

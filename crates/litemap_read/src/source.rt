@@ -9,36 +9,37 @@ use std::error::Error;
 use std::fmt::{self, Display, Formatter, Write};
 use std::io;
 
-/// What gives pairs one by one, and may answer a fault in the place of one. The Rust crate reads by serde's `MapAccess` here.
+/// A source of pairs, which gives them one by one, and may return an error in place of one. The Rust crate reads by serde's
+/// `MapAccess` here.
 ///
-/// A contract sees a source by the list of pairs that it can still give, by the faults that it may answer, and by whether it
-/// may come to its end. Each call of `next_pair` gives the first pair and drops it from the list; or `None`, only where the
-/// list is empty and the source may come to its end; or a fault that it may answer, and then the list stays. Which faults it
-/// may answer, and whether it may come to its end, never changes.
+/// A contract sees a source by the list of pairs that it can still give, by the errors that it may return, and by whether it
+/// may end. Each call of `next_pair` returns the first pair and takes it off the list; or it returns `None`, only if the list
+/// is empty and the source may end; or an error that it may return, and then the list stays. Which errors it may return, and
+/// whether it may end, never changes.
 pub trait PairSource<K, V> {
-    /// What can go wrong. A source where nothing can takes `NoFault`.
+    /// The error. A source that never fails takes `NoFault`.
     type Fault;
 
-    /// The list is one that it can still give. There is more than one only where a contract tells values apart that the
-    /// source doesn't, as texts with equal bytes at two addresses.
+    /// The list is one that it can still give. There is more than one only if a contract tells values apart that the source
+    /// doesn't, as strings with equal bytes at two addresses.
     ghost gives: { Self → List (K × V) → Type 0 };
 
     /// How many pairs it can still give.
     ghost left: { Self → ℕ };
 
-    /// Which faults it may answer.
+    /// Which errors it may return.
     ghost allows: { Self → Self.Fault → Type 0 };
 
-    /// Whether it may come to its end: answer `None` where it has no pairs left.
+    /// Whether it may end: return `None` if it has no pairs left.
     ghost ends: { Self → Type 0 };
 
     /// What holds between a state of the source and each later one.
     ghost leads: { Self → Self → Type 0 };
 
-    /// How many pairs are still to come, where the source has an idea. It may be wrong.
+    /// Returns how many pairs are still to come, if the source has an idea. It may be wrong.
     fn hint(&self) -> Option<usize>;
 
-    /// The next pair, `None` at the end, or a fault.
+    /// Returns the next pair, `None` at the end, or an error.
     fn next_pair(&mut self) -> Result<Option<(K, V)>, Self::Fault>
         ensures next { GivesNext gives left allows ends self.old result self.new }
         ensures keeps_faults { (e : Self.Fault) → allows self.new e ↔ allows self.old e }
@@ -50,16 +51,16 @@ pub trait PairSource<K, V> {
     ghost leads_on: { (s : Self) (t : Self) (u : Self) → leads s t → leads t u → leads s u };
 }
 
-/// Why no map was read. The pairs read so far are given up.
+/// Why no map was read. The pairs read so far are dropped.
 #[derive(Debug, PartialEq, Drop)]
 pub enum ReadFault<E> {
-    /// Want of memory.
+    /// Memory ran out.
     NoRoom,
-    /// The source's fault.
+    /// The error of the source.
     Source(E),
 }
 
-/// So that `?` hands want of memory on.
+/// For `?` after a call that takes memory.
 impl<E> From<AllocError> for ReadFault<E> {
     ghost from_gives = { λ _ fault. fault ≡ NoRoom };
 
@@ -68,7 +69,7 @@ impl<E> From<AllocError> for ReadFault<E> {
     }
 }
 
-/// So that `?` does so where a call of a map handed something back, which is given up.
+/// For `?` after a call of a map that returns something with its error, which is dropped.
 impl<E, T: Drop> From<store::NoRoom<T>> for ReadFault<E> {
     ghost from_gives = { λ _ fault. fault ≡ NoRoom };
 
@@ -77,8 +78,8 @@ impl<E, T: Drop> From<store::NoRoom<T>> for ReadFault<E> {
     }
 }
 
-/// So that `?` does so where an `io::Result` is answered. A source's fault is then data that is not valid, and which one it
-/// was is given up: who wants to tell it prints the fault itself.
+/// For `?` in a function that returns an `io::Result`. An error of the source is then invalid data, and which one it was is
+/// dropped. To tell it, print the error before.
 impl<E: Drop> From<ReadFault<E>> for io::Error {
     ghost use Rattle.std.specs.Prelude.{◌≡◌};
     ghost use Rattle.std.specs.IoError.{error_kind};
@@ -106,5 +107,5 @@ impl<E: Display> Display for ReadFault<E> {
     }
 }
 
-/// So that `?` hands each fault on where an `anyhow::Result` is answered.
+/// For `?` in a function that returns an `anyhow::Result`.
 impl<E: Error> Error for ReadFault<E> {}

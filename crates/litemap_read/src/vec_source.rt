@@ -5,11 +5,11 @@ use crate::PairSource;
 use std::marker::Model;
 use std::vec::IntoIter;
 
-/// The fault of a source that answers none.
+/// The error of a source that never fails.
 #[derive(Debug, PartialEq, Drop)]
 pub struct NoFault;
 
-/// The pairs of a vector, in their order, and no fault. A contract sees it as the list of the pairs left.
+/// A source of the pairs of a vector, in their order. It never fails. A contract sees it as the list of the pairs left.
 #[derive(Drop)]
 pub struct VecSource<K, V> {
     rest: IntoIter<(K, V)>,
@@ -25,7 +25,7 @@ impl<K, V> Model for VecSource<K, V> {
 }
 
 impl<K, V> VecSource<K, V> {
-    /// The source of a vector's pairs. It takes no memory.
+    /// Makes a source of a vector's pairs. It takes no memory.
     pub fn new(pairs: Vec<(K, V)>) -> Self
         ensures { result ≡ pairs.items }
     {
@@ -48,7 +48,6 @@ impl<K: Drop, V: Drop> PairSource<K, V> for VecSource<K, V> {
 
     ghost leads = { λ _ _. ⊤ };
 
-    /// The number of pairs left.
     fn hint(&self) -> Option<usize>
         ensures { result ≡ Some (length self.now) }
     {

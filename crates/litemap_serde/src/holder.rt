@@ -1,4 +1,4 @@
-//! A map where serde's traits are wanted of the type itself.
+//! A map for where the type itself needs serde's traits.
 ghost use Rattle.std.specs.Prelude.{◌≡◌, []};
 ghost use Rattle.serde.specs.Event.{WritesMap};
 

@@ -1,4 +1,5 @@
-//! Maps through serde: written to any format, and read from one.
+//! Maps through serde: written to any format, and read from one. All of this crate is own: the Rust crate's map has serde's
+//! traits itself.
 #![tactic(auto)]
 
 mod holder;

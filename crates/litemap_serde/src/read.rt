@@ -8,10 +8,11 @@ use litemap::store::StoreBulkMut;
 use serde::{Deserialize, DeserializeOwned, Deserializer, Format};
 use std::alloc::Global;
 
-/// Reads a map: a map of the format or a sequence of pairs, whichever comes. Of equal keys the last pair stays, whole.
+/// Reads a map from a map of the format or a sequence of pairs, whichever comes, and returns it. Of each key the last pair
+/// stays, with its own key, and the others are dropped. In the Rust crate it is `Deserialize`.
 ///
-/// The pairs are gathered in a vector, which grows as they come, and made a map by `from_vec`: where they rise that is one
-/// comparison for each, else a sort. Out of memory is the format's `no_memory`. In the Rust crate it is `Deserialize`.
+/// The pairs are gathered in a vector, which grows as they come, and made a map by `from_vec`: if the keys ascend, that is one
+/// comparison for each, else a sort. If memory runs out, the error is the format's `no_memory`.
 pub fn deserialize<
     'de,
     K: Deserialize<'de> + Ord,
@@ -24,7 +25,7 @@ pub fn deserialize<
     read::<Lent, K, V, S, F>(alloc, from)
 }
 
-/// `deserialize` where nothing is borrowed from the input.
+/// Reads a map as `deserialize` does, and borrows nothing from the input.
 pub fn deserialize_owned<
     K: DeserializeOwned + Ord,
     V: DeserializeOwned,
@@ -61,7 +62,6 @@ impl<'de, T: DeserializeOwned> Way<'de, T> for Owned {
     }
 }
 
-// The map that comes.
 fn read<
     'de,
     W: Way<'de, K> + Way<'de, V>,
@@ -114,7 +114,6 @@ fn next_pair<'de, W: Way<'de, K> + Way<'de, V>, K: Drop, V: Drop, F: Format>(
     Ok(Some((key, value)))
 }
 
-// The map of the pairs.
 fn made<K: Ord + Drop, V: Drop, S: StoreBulkMut<K, V>, F: Format>(
     alloc: Global,
     from: &Deserializer<'_, '_, F>,

@@ -6,8 +6,8 @@ use litemap::LiteMap;
 use litemap::store::Store;
 use serde::{Serialize, Serializer};
 
-/// Writes a map as a map of the format, its pairs in the order of the keys. A key that has no text in the format is that
-/// format's error. No keys are compared. The Rust crate has serde's `Serialize` here.
+/// Writes a map as a map of the format, its pairs in the order of the keys. If a key has no text in the format, the error is
+/// the format's. No keys are compared. The Rust crate has serde's `Serialize` here.
 ///
 /// ```rust
 /// /// Names by their codes.

@@ -1,4 +1,4 @@
--- What a short store is where a value is written in place.
+-- What a short store is after a value was written in place.
 use Rattle.std.proofs.Common.{◌≡◌, ℕ, ◌<◌, zero, suc, length, Some, slice_get, slice_set, refl, ap, ◌∙◌, sym, arith}
 use Rattle.std.specs.Option.{option_map_or}
 use Rattle.litemap_store.specs.Contents.{Contents, with_value}
@@ -19,7 +19,7 @@ module _ {T : Type 0} where
   room-with_item (Heap items) i x = refl
 
 module _ {K V : Type 0} where
-  -- the pair p at the place i with another value
+  -- what a contract sees of a short store
   abbrev pub contents : Storage (K × V) → Contents K V
   contents storage = record { pairs = storage_items storage; room = storage_room storage }
 

@@ -1,4 +1,4 @@
--- What lies where a short store keeps its items, and how many further ones it takes without refusal.
+-- The items of a short store, and how many further ones it takes without failing.
 use Rattle.std.specs.Prelude.{ℕ, List, [], ◌∷◌, ⊤}
 use Rattle.std.specs.Vec.{with_item}
 use Rattle.litemap_store.specs.VecStore.{vec_room}
@@ -11,25 +11,25 @@ module _ {T : Type 0} where
   storage_items (Inline item _) = item ∷ []
   storage_items (Heap items) = items.items
 
-  -- the first one always finds room
+  -- the first item always has room
   abbrev pub storage_room : Storage T → ℕ
   storage_room Empty = 1
   storage_room (Inline _ _) = 0
   storage_room (Heap items) = vec_room items
 
-  -- no vector is there
+  -- there is no vector
   abbrev pub IsFew : Storage T → Type 0
   IsFew Empty = ⊤
   IsFew (Inline _ _) = ⊤
   IsFew (Heap _) = ⊥
 
-  -- the one item lies in it
+  -- it holds one item itself
   abbrev pub IsOne : Storage T → Type 0
   IsOne Empty = ⊥
   IsOne (Inline _ _) = ⊤
   IsOne (Heap _) = ⊥
 
-  -- the same with another item at a place
+  -- the same with another item at an index
   abbrev pub storage_with_item : Storage T → ℕ → T → Storage T
   storage_with_item Empty i x = Empty
   storage_with_item (Inline _ none) i x = Inline x none

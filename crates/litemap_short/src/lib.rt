@@ -1,4 +1,5 @@
-//! A store for the sorted map of the crate `litemap` that keeps no pair or one in itself, and more in a vector.
+//! A store for the sorted map of the crate `litemap` that keeps no pair or one in itself, and more in a vector. All of this
+//! crate is own: the Rust crate has no such store.
 #![tactic(auto)]
 
 mod short_iter;

@@ -1,4 +1,4 @@
-//! The iterator that hands over the pairs of a short store.
+//! The iterator over the pairs of a short store, by value.
 ghost use Rattle.std.specs.Prelude.{◌≡◌, [], length, Some, IfSome, Option, refl};
 ghost use Rattle.std.specs.Iterator.{YieldsFirst, at_most};
 ghost use Rattle.std.specs.Vec.Iter.{into_iter_items};
@@ -9,7 +9,8 @@ use litemap_store::store::PairIntoIter;
 use std::marker::Model;
 use std::vec::IntoIter;
 
-/// The pairs of a short store that are still to be handed over. A contract sees their list.
+/// An iterator that returns the pairs of a short store by value. A contract sees it as the list of the pairs that are still to
+/// come.
 #[derive(Debug, Drop)]
 pub struct ShortIntoIter<K, V> {
     first: Option<(K, V)>,
@@ -29,7 +30,7 @@ impl<K, V> Model for ShortIntoIter<K, V> {
 }
 
 impl<K, V> ShortIntoIter<K, V> {
-    // The iterator over the one pair, if it is one, and the others.
+    // The iterator over the one pair, if there is one, and the others.
     pub(crate) fn new(first: Option<(K, V)>, others: IntoIter<(K, V)>) -> Self
         requires { IfSome first (λ _. into_iter_items others ≡ []) }
         ensures { result ≡ with_first first (into_iter_items others) }

@@ -1,4 +1,4 @@
-//! The store of no pair, one, or a vector of pairs.
+//! A store of no pair, one pair, or a vector of pairs.
 ghost use Rattle.std.specs.Prelude.{refl};
 ghost use Rattle.litemap_store.specs.Contents.{with_value};
 
@@ -15,13 +15,13 @@ use std::marker::Model;
 use std::mem;
 use std::ops::Range;
 
-/// Pairs of which none and one lie in the store itself, and more in a vector (own).
+/// A store that keeps no pair or one pair in itself, and more in a vector.
 ///
-/// It is for maps that mostly have no pair or one. As long as it never had more, `lm_push` and `lm_insert` take no memory, and
-/// the first pair of one that `lm_empty` made is never refused. Bulk calls (`lm_extend`, `lm_sort_from_iter`, `lm_from_pairs`)
-/// gather their pairs in a vector, one pair too, and a map's `split_off` those that go; a lone pair of a given vector
-/// (`lm_sort_from_vec`) moves in with no memory. From the second pair on all lie in a vector, which stays where pairs are
-/// removed again. Where a second pair is refused for want of memory, the first stays and the new one comes back.
+/// It is for maps that mostly have no pair or one. Until a second pair comes, `lm_push` and `lm_insert` take no memory; in a
+/// store that `lm_empty` made, the first never fails. Bulk calls (`lm_extend`, `lm_sort_from_iter`, `lm_from_pairs`) gather
+/// their pairs in a vector, even if there is only one, and so does a map's `split_off` with those that go. The only pair of a
+/// vector that is given to `lm_sort_from_vec` moves in with no memory. From the second pair on all lie in a vector, which stays
+/// when pairs are removed. If memory runs out at the second pair, the first stays, and the new one is returned.
 ///
 /// It prints as the list of its pairs.
 #[derive(Drop)]

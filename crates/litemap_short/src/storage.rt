@@ -16,11 +16,11 @@ use std::alloc::{AllocError, Global};
 use std::vec::IntoIter;
 use std::{array, mem};
 
-/// Where a short store keeps its items: none and one lie in it, more lie in a vector.
+/// The items of a short store: none or one lies in it, more lie in a vector.
 #[derive(Drop)]
 pub(crate) enum Storage<T> {
     Empty,
-    // The empty array takes no bytes: by it a proof knows that an item has the size of one in a slice.
+    // The empty array takes no bytes. By it a proof knows that the item has the size of one in a slice.
     Inline(T, [T; 0]),
     Heap(Vec<T>),
 }
@@ -30,7 +30,6 @@ impl<T> Storage<T> {
     ghost use Rattle.litemap_short.specs.Lends.{storage_lends_item};
     ghost use Rattle.litemap_short.specs.declared.storage.Storage.TheVariants.{Empty};
 
-    // All items, side by side.
     pub(crate) fn as_slice(&self) -> &[T]
         ensures { result.now ≡ storage_items self.now }
     {
@@ -41,7 +40,7 @@ impl<T> Storage<T> {
         }
     }
 
-    // Takes room for so many further items. Where the room is not there yet, they all lie in a vector then.
+    // Reserves spare capacity for so many further items. If it wasn't there, all items lie in a vector then.
     pub(crate) fn reserve(&mut self, alloc: Global, additional: usize) -> Result<(), AllocError>
         ensures items { storage_items self.new ≡ storage_items self.old }
         ensures room { OnOk result (additional ≤ storage_room self.new) }
@@ -56,7 +55,7 @@ impl<T> Storage<T> {
         }
     }
 
-    // Moves none or one to a vector that has room for so many more.
+    // Moves no item or one to a vector with spare capacity for so many more.
     fn move_to_vec(&mut self, alloc: Global, additional: usize) -> Result<(), AllocError>
         requires few { IsFew self.old }
         requires more { storage_room self.old < additional }
@@ -73,7 +72,7 @@ impl<T> Storage<T> {
         Ok(())
     }
 
-    // Puts none or one into a vector that is empty and has room.
+    // Puts no item or one into a vector that is empty and has spare capacity.
     fn keep_in(&mut self, few: Storage<T>)
         requires few { IsFew few }
         requires empty { storage_items self.old ≡ [] }
@@ -88,7 +87,7 @@ impl<T> Storage<T> {
         }
     }
 
-    // Puts an item at a place, and moves later ones up by one.
+    // Inserts an item at an index, and moves later ones up by one.
     pub(crate) fn insert_reserved(&mut self, index: usize, item: T)
         requires index { index ≤ length (storage_items self.old) }
         requires room { 0 < storage_room self.old }
@@ -102,7 +101,7 @@ impl<T> Storage<T> {
         }
     }
 
-    // Takes out the item at a place, and moves later ones down by one. A vector keeps its memory.
+    // Removes the item at an index, and moves later ones down by one. A vector keeps its memory.
     pub(crate) fn remove(&mut self, index: usize) -> T
         requires { index < length (storage_items self.old) }
         ensures old { slice_get (storage_items self.old) index ≡ Some result }
@@ -127,7 +126,6 @@ impl<T> Storage<T> {
         }
     }
 
-    // The item at a place, which may be written.
     pub(crate) fn item_mut(&mut self, index: usize) -> &mut T
         requires { index < length (storage_items self.old) }
         ensures* writes_back { sem 𝓛 (storage_lends_item T.row self.entry index result) }
@@ -140,7 +138,7 @@ impl<T> Storage<T> {
         }
     }
 
-    // The items of a vector, which stays where it has two or more, and is given up else.
+    // The items of a vector, which stays if it has two or more, and else is dropped.
     pub(crate) fn from_vec(mut items: Vec<T>) -> Self
         ensures { storage_items result ≡ items.items }
     {
@@ -170,7 +168,7 @@ impl<T> Storage<T> {
         }
     }
 
-    // A clone of each item, in the same order. None and one take no memory of their own.
+    // A clone of each item, in order. No item and one take no memory of their own.
     pub(crate) fn try_clone(&self, alloc: Global) -> Result<Self, AllocError>
     where
         T: Clone,
@@ -184,7 +182,6 @@ impl<T> Storage<T> {
         }
     }
 
-    // Gives up all items. A vector keeps its memory.
     pub(crate) fn clear(&mut self)
     where
         T: Drop,
@@ -211,7 +208,7 @@ impl<T> Storage<T> {
 impl<K: Drop, V: Drop> Storage<(K, V)> {
     ghost use Rattle.litemap_short.specs.Storage.{storage_items, storage_room, IsOne};
 
-    // Keeps the pairs of which `f` answers yes. It asks once of each, in order.
+    // Keeps the pairs for which `f` returns true. It calls `f` once on each, in order.
     pub(crate) fn retain<F: FnMut(&K, &V) -> bool>(&mut self, f: F)
     where
         K: Ord,
@@ -227,7 +224,6 @@ impl<K: Drop, V: Drop> Storage<(K, V)> {
         }
     }
 
-    // The same of the one pair.
     fn retain_one<F: FnMut(&K, &V) -> bool>(&mut self, mut f: F)
         requires one { IsOne self.old }
         requires callable { CallableOnEach F.FnMut f (storage_items self.old) }
@@ -243,7 +239,7 @@ impl<K: Drop, V: Drop> Storage<(K, V)> {
     }
 }
 
-// The pair at a place, `None` from the length on.
+// The pair at an index, `None` from the length on.
 pub(crate) fn pair_at<K, V>(pairs: &[(K, V)], index: usize) -> Option<(&K, &V)>
     ensures { option_map deref_pair result ≡ slice_get pairs.now index }
 {

@@ -1,4 +1,4 @@
--- What the proofs of callers cite.
+-- What proofs of callers cite.
 pub mod Lookups
 pub mod LastLookups
 pub mod MergeLookups

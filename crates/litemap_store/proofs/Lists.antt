@@ -1,4 +1,4 @@
--- Lists of pairs: whose keys rise, what stands in them, and their parts.
+-- Lists of pairs: which of them ascend, what is in them, and their parts.
 pub mod Alongside
 pub mod Ends
 pub mod Joined

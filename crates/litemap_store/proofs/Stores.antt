@@ -1,3 +1,3 @@
--- What a closure keeps, and how far a count rises.
+-- What a closure keeps, and by how much a count is raised.
 pub mod Counting
 pub mod Retaining

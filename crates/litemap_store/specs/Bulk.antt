@@ -1,4 +1,4 @@
--- What bulk input leaves: the last pairs of the old ones followed by what an iterator gave.
+-- What bulk input leaves: the last pairs of the old ones followed by those that an iterator yields.
 use Rattle.std.specs.Prelude.{◌≡◌, ◌⊎◌, ◌+◌, ◌*◌, List, ◌++◌, Option, Some, length}
 use Rattle.std.specs.declared.cmp.Ordering.{Ordering}
 use Rattle.std.specs.Iterator.{Drains}
@@ -7,38 +7,38 @@ use Rattle.litemap_store.specs.Counts.{RisesByAtMost}
 use Rattle.litemap_store.specs.Last.{Last, Rises}
 use Rattle.litemap_store.specs.Pairs.{Rising}
 
--- iter becomes an iterator that gives the items and then ends
+-- iter becomes an iterator that yields the items and then ends
 abbrev pub Gives : {U T X : Type 0} → (U → T → Type 0) → (T → Option X → T → Type 0) → U → List X → Type 0
 Gives {U} {T} becomes steps iter items = (it : T) × becomes iter it × Drains steps it items
 
--- iter becomes an iterator that gives an item first
+-- iter becomes an iterator that yields an item first
 abbrev pub GivesSome : {U T X : Type 0} → (U → T → Type 0) → (T → Option X → T → Type 0) → U → Type 0
 GivesSome {U} {T} {X} becomes steps iter = (it rest : T) × (x : X) × becomes iter it × steps it (Some x) rest
 
--- what comes back of the pairs that a refused call was given: these, or the last of each key, in rising order
+-- what a failed call returns of the pairs that it was given: these, or the last of each key, in ascending order
 abbrev pub IsHandedBack : {K V : Type 0} → (K → K → Ordering) → List (K × V) → List (K × V) → Type 0
 IsHandedBack cmp given back = (back ≡ given) ⊎ Last cmp given back
 
--- how many comparisons are counted at most where the pairs `given` are put to the old ones
+-- how many comparisons are counted at most if the pairs `given` are added to the old ones
 pub record IsCountedFor {K V : Type 0} (cmp : K → K → Ordering) (old given : List (K × V)) (before after : Count) : Type 0 where
-  -- where they rise past the last old key: one for each new pair
+  -- if they ascend above the last old key: one for each new pair
   pub behind : Rises cmp old given → RisesByAtMost (length given) before after
-  -- where they rise, wherever they fall: one for each old and two for each new pair
+  -- if they ascend: one for each old and two for each new pair
   pub rising : Rising cmp given → RisesByAtMost (length old + 2 * length given) before after
 
 module _ {U T K V : Type 0} (cmp : K → K → Ordering) (becomes : U → T → Type 0) (steps : T → Option (K × V) → T → Type 0) where
-  -- iter gave the pairs `given` and then ended, and new has the last pairs of the old ones followed by these
+  -- iter yields the pairs `given` and then ends, and new has the last pairs of the old ones followed by these
   pub record IsExtended (iter : U) (old new : List (K × V)) : Type 0 where
     pub given : List (K × V)
     pub gives : Gives becomes steps iter given
     pub last : Last cmp (old ++ given) new
 
-  -- new has the last pairs of the old ones followed by what iter gave, by so many counted comparisons
+  -- the same, with so many comparisons counted
   pub record IsExtendedCounted (iter : U) (old new : List (K × V)) (before after : Count) : Type 0 where
     pub extended : IsExtended iter old new
     pub counted : IsCountedFor cmp old extended.given before after
 
-  -- where the call is refused: none was counted, or iter gave the pairs `given` and then ended, and no more than for these
+  -- if the call fails, none was counted, or no more than for the pairs that iter yields before it ends
   abbrev pub IsRefusedCounted : U → List (K × V) → Count → Count → Type 0
   IsRefusedCounted iter old before after = RisesByAtMost 0 before after
       ⊎ ((given : List (K × V)) × Gives becomes steps iter given × IsCountedFor cmp old given before after)

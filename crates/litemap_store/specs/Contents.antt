@@ -1,4 +1,4 @@
--- What a contract sees of a map, and of a store: its pairs in their order, and how many further pairs it takes without refusal.
+-- What a contract sees of a map, and of a store: its pairs in order, and how many further pairs it takes without failing.
 use Rattle.std.specs.Prelude.{ℕ, List}
 use Rattle.litemap_store.specs.Pairs.{set_value}
 
@@ -6,7 +6,7 @@ pub record Contents (K V : Type 0) : Type 0 where
   pub pairs : List (K × V)
   pub room : ℕ
 
--- the same with another value at a place
+-- the same with another value at an index
 abbrev pub with_value : {K V : Type 0} → Contents K V → ℕ → V → Contents K V
 with_value s i v = record s { pairs = set_value s.pairs i v }
 

@@ -1,12 +1,12 @@
--- The last pair of each key: what is left of a list of pairs where a later pair takes the place of every earlier one
--- with an equal key. Equal is what the order answers; the pair that is left is whole, its key with its value.
+-- The last pair of each key: what is left of a list of pairs if a later pair replaces every earlier one with an equal key. Keys
+-- are equal if the order returns Equal; a pair that is left has its own key and value.
 use Rattle.std.specs.Prelude.{◌≡◌, ◌≢◌, ◌⊎◌, ◌↔◌, List, [], ◌∷◌}
 use Rattle.std.specs.declared.cmp.Ordering.{Ordering}
 use Rattle.std.specs.declared.cmp.Ordering.TheVariants.{Equal}
 use Rattle.std.specs.List.{AllByRecursion}
 use Rattle.litemap_store.specs.Pairs.{BelowAll, Rising}
 
--- x stands in the list
+-- x is in the list
 abbrev pub In : {X : Type 0} → X → List X → Type 0
 In x [] = ⊥
 In x (y ∷ L) = (y ≡ x) ⊎ In x L
@@ -16,17 +16,17 @@ module _ {K V : Type 0} (cmp : K → K → Ordering) where
   abbrev pub NoneEqual : K → List (K × V) → Type 0
   NoneEqual k L = AllByRecursion (λ q. cmp k q.0 ≢ Equal) L
 
-  -- p stands at some place of the list behind which no pair has an equal key
+  -- p is in the list, and no later pair has an equal key
   abbrev pub StandsLast : K × V → List (K × V) → Type 0
   StandsLast p [] = ⊥
   StandsLast p (q ∷ L) = ((q ≡ p) × NoneEqual p.0 L) ⊎ StandsLast p L
 
-  -- M has, in rising order, exactly the pairs that stand last in J
+  -- M has, in ascending order, exactly the pairs that are last in J
   pub record Last (J M : List (K × V)) : Type 0 where
     pub rising : Rising cmp M
     pub exactly : (p : K × V) → In p M ↔ StandsLast p J
 
-  -- the keys of B rise, and all lie above every key of A
+  -- the keys of B ascend, and all are above every key of A
   pub record Rises (A B : List (K × V)) : Type 0 where
     pub rising : Rising cmp B
     pub below : AllByRecursion (λ p. BelowAll cmp p.0 B) A

@@ -1,5 +1,5 @@
--- Merging two maps: what is left where the pairs of B are put into A one after the other, and what they drive out. A key
--- that is there stays and takes the new value; the old value is left over, with the new key.
+-- Merging two maps: what is left if the pairs of B are put into A one after the other, and what they displace. A present key
+-- stays and takes the new value; the old value is displaced, with the new key.
 use Rattle.std.specs.Prelude.{◌≡◌, ◌≢◌, ◌⊎◌, ◌↔◌, ℕ, ◌+◌, ◌*◌, ◌≤◌, List, [], length, filter_map, Option, option_map, Result}
 use Rattle.std.specs.Prelude.{IfSome, IsNone, IfOk, IfErr, IsOk, OnOk, OnErr}
 use Rattle.std.specs.declared.cmp.Ordering.{Ordering}
@@ -18,32 +18,32 @@ module _ {K V : Type 0} (cmp : K → K → Ordering) where
   abbrev pub IsMerged : List (K × V) → List (K × V) → K × V → Type 0
   IsMerged A B p = (In p A × NoneEqual cmp p.0 B) ⊎ ((In p B × NoneEqual cmp p.0 A) ⊎ IsOfBoth A B p)
 
-  -- M has, in rising order, exactly the merged pairs of A and B
+  -- M has, in ascending order, exactly the merged pairs of A and B
   pub record Merge (A B M : List (K × V)) : Type 0 where
     pub rising : Rising cmp M
     pub exactly : (p : K × V) → In p M ↔ IsMerged A B p
 
-  -- for each pair of B whose key is equal to one of A, in B's order: B's key with A's value
+  -- what is displaced: for each pair of B whose key is equal to one of A, in B's order, B's key with A's value
   abbrev pub left : List (K × V) → List (K × V) → List (K × V)
   left A B = filter_map (λ b. option_map (λ a. (b.0, a.1)) (at cmp A b.0)) B
 
-  -- one is empty, or the keys of one lie above all of the other
+  -- one is empty, or all keys of one are above the other's
   abbrev pub Apart : List (K × V) → List (K × V) → Type 0
   Apart A B = (A ≡ []) ⊎ ((B ≡ []) ⊎ (Rises cmp A B ⊎ Rises cmp B A))
 
--- the store that is left over has the pairs of L, and there is none where L has none
+-- the displaced pairs L are in a store; there is none if L is empty
 abbrev pub IsLeft : {X S : Type 0} → (S → List X) → List X → Option S → Type 0
 IsLeft pairs L rest = (IsNone rest ↔ (L ≡ [])) × IfSome rest (λ s. pairs s ≡ L)
 
--- a refused merge of t into s left the pairs of s as they were, and hands back those of t
+-- a failed merge of t into s leaves the pairs of s as they were, and returns those of t
 abbrev pub IsUndone : {X S : Type 0} → (S → List X) → S → S → S → S → Type 0
 IsUndone pairs s t now back = (pairs now ≡ pairs s) × (pairs back ≡ pairs t)
 
--- how much the searches of a merge compare at most: one for each pair of B, among the pairs of both
+-- the comparisons of a merge by searches, at most: one search for each pair of B, among the pairs of both
 abbrev pub searches_cost : {X : Type 0} → List X → List X → ℕ
 searches_cost A B = length B * digits (length A + length B)
 
--- what a merge of t into s leaves and answers where neither is empty: the merged pairs, and what is left over
+-- what a merge of t into s leaves and returns if neither is empty: the merged pairs, and the displaced ones
 pub record Merges {K V S : Type 0} (cmp : K → K → Ordering) (pairs : S → List (K × V)) (s t now : S)
     (result : Result (Option S) (NoRoom S)) : Type 0 where
   pub merged : OnOk result (Merge cmp (pairs s) (pairs t) (pairs now))
@@ -53,14 +53,14 @@ pub record Merges {K V S : Type 0} (cmp : K → K → Ordering) (pairs : S → L
 -- `other` is merged into `before`, which is then `after`: all three are stores, or maps
 pub record MergesInto {K V S : Type 0} (cmp : K → K → Ordering) (pairs : S → List (K × V)) (room : S → ℕ) (other before after : S)
     (result : Result (Option S) (NoRoom S)) : Type 0 where
-  -- what is left, and what is driven out
+  -- what is left, and what is displaced
   pub merge : OnOk result (Merge cmp (pairs before) (pairs other) (pairs after))
   pub none : IfOk result (λ rest. IsNone rest ↔ (left cmp (pairs before) (pairs other) ≡ []))
   pub left : IfOk result (λ rest. IfSome rest (λ s. pairs s ≡ left cmp (pairs before) (pairs other)))
-  -- refused: the list stays, and the other one comes back whole
+  -- if it fails, the list stays, and the other one comes back whole
   pub refused : OnErr result (pairs after ≡ pairs before)
   pub back : IfErr result (λ refused. pairs refused.back ≡ pairs other)
-  -- never refused: where one is empty, and where the other's keys lie behind or in front, within the room
+  -- it never fails if one is empty, nor if the other's keys are all above or all below, within the room
   pub succeeds : (pairs before ≡ []) ⊎ (pairs other ≡ []) → IsOk result
   pub behind : Rises cmp (pairs before) (pairs other) → length (pairs other) ≤ room before → IsOk result
   pub in_front : Rises cmp (pairs other) (pairs before) → length (pairs other) ≤ room before

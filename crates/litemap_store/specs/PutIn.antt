@@ -1,10 +1,10 @@
--- A pair that is put in among the first of a list, from behind them.
+-- A pair that is moved to its place among the first of a list, from after them.
 use Rattle.std.specs.Prelude.{◌≡◌, ℕ, ◌+◌, List, ◌∷◌, ◌++◌, Some, drop, slice_get, take}
 use Rattle.std.specs.declared.cmp.Ordering.{Ordering}
 use Rattle.litemap_store.specs.Pairs.{above, below}
 
--- the pair at place i of L stands among the first n of M: these are the first k of L without an equal key, and the pair. Those
--- behind place i stay
+-- the first n of M are the first k of L without a key equal to that of the pair at index i of L, and that pair, in order. Those
+-- after index i stay
 pub record IsPutIn {K V : Type 0} (cmp : K → K → Ordering) (L M : List (K × V)) (k n i : ℕ) : Type 0 where
   pub pair : K × V
   pub is : slice_get L i ≡ Some pair

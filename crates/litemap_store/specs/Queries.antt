@@ -1,4 +1,4 @@
--- What a lookup asks of a query, that each key is one, and how keys stand to texts and to slices.
+-- What a lookup needs of a query, that each key is one, and how keys compare with strings and slices.
 use Rattle.std.specs.Prelude.{◌≡◌, ◌⊎◌, ℕ, List, String, Vec, string_bytes}
 use Rattle.std.proofs.Common.{inl, inr, refl, sym, ap, ◌∙◌}
 use Rattle.std.specs.declared.cmp.Ordering.{Ordering}
@@ -7,12 +7,12 @@ use Rattle.std.specs.Ordering.{nat_cmp, ordering_reverse}
 use Rattle.std.specs.Cmp.{IsTotalOrder}
 use Rattle.std.specs.Cmp.Lexicographic.{slice_cmp}
 
--- of two keys that rise, the lower one is below the query or the higher one above it: so over rising keys a query finds
+-- of two ascending keys, the lower one is below the query or the higher one above it: so over ascending keys a query finds
 -- Less, then at most one Equal, then Greater
 abbrev pub OneSide : {K Q : Type 0} → (K → K → Ordering) → (K → Q → Ordering) → Type 0
 OneSide {K} {Q} cmp order = (q : Q) (x y : K) → cmp x y ≡ Less → (order x q ≡ Less) ⊎ (order y q ≡ Greater)
 
--- a key is a query, by the order on the keys
+-- a key is a query, by the order of the keys
 pub key_one_side : {K : Type 0} {cmp : K → K → Ordering} → IsTotalOrder cmp → OneSide cmp cmp
 key_one_side {cmp = cmp} o k x y h = by (cmp x k) refl
   where
@@ -24,10 +24,10 @@ key_one_side {cmp = cmp} o k x y h = by (cmp x k) refl
     by Equal e = inr (above (sym (o.congr x k y e) ∙ h))
     by Greater e = inr (above (o.trans k x y (o.antisymm k x ∙ ap ordering_reverse e) h))
 
--- how a string stands to a text: by the bytes of both, where a proper prefix is less
+-- how a string compares with a query, by the bytes of both: a proper prefix is less
 abbrev pub by_text : {Z : Type 0} → String Z → List ℕ → Ordering
 by_text key text = slice_cmp nat_cmp (string_bytes key) text
 
--- how a vector stands to a slice: item by item, where a proper prefix is less
+-- how a vector compares with a slice, item by item: a proper prefix is less
 abbrev pub by_slice : {T Z : Type 0} → (T → T → Ordering) → Vec T Z → List T → Ordering
 by_slice cmp key slice = slice_cmp cmp key.items slice

@@ -1,4 +1,4 @@
--- Which of two rising lists has the greatest key, and what is left where its pair is taken.
+-- Which of two ascending lists has the greatest key, and what is left if its pair is taken.
 use Rattle.std.specs.Prelude.{◌≡◌, ◌+◌, ◌<◌, List, [], ◌∷◌, ◌++◌, Option, Some, None, length}
 use Rattle.std.specs.declared.cmp.Ordering.{Ordering}
 use Rattle.std.specs.declared.cmp.Ordering.TheVariants.{Less, Equal, Greater}
@@ -6,7 +6,7 @@ use Rattle.litemap_store.specs.Last.{Last}
 use Rattle.litemap_store.specs.Pairs.{AllBelow, Rising}
 
 module _ {K V : Type 0} (cmp : K → K → Ordering) where
-  -- none where both lists are empty, else how the last key of A stands to that of B; an empty list's is below all
+  -- none if both lists are empty, else how the last key of A compares with that of B; an empty list's is below all
   abbrev pub IsGreaterEnd : List (K × V) → List (K × V) → Option Ordering → Type 0
   IsGreaterEnd A B None = (A ≡ []) × (B ≡ [])
   IsGreaterEnd A B (Some Greater) = (A₀ : List (K × V)) × (a : K × V) × (A ≡ A₀ ++ a ∷ []) × AllBelow cmp B a.0
@@ -14,7 +14,7 @@ module _ {K V : Type 0} (cmp : K → K → Ordering) where
   IsGreaterEnd A B (Some Equal) = (A₀ : List (K × V)) × (a : K × V) × (B₀ : List (K × V)) × (b : K × V)
       × (A ≡ A₀ ++ a ∷ []) × (B ≡ B₀ ++ b ∷ []) × (cmp a.0 b.0 ≡ Equal)
 
-  -- p was taken from the end of A or of B, which are A' and B' then: it goes behind the last pairs of what is left
+  -- p was taken from the end of A or of B, which are then A' and B': it goes after the last pairs of what is left
   pub record IsTaken (A B A' B' : List (K × V)) (p : K × V) : Type 0 where
     pub old_rises : Rising cmp A'
     pub new_rise : Rising cmp B'

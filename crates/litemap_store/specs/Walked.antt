@@ -1,4 +1,4 @@
--- Which of two rising lists has the lower first key, and what is left to merge where its pair is taken.
+-- Which of two ascending lists has the lower first key, and what is left to merge if its pair is taken.
 use Rattle.std.specs.Prelude.{◌≡◌, ◌+◌, ◌<◌, List, ◌∷◌, [], ◌++◌, Option, Some, None, length}
 use Rattle.std.specs.declared.cmp.Ordering.{Ordering}
 use Rattle.std.specs.declared.cmp.Ordering.TheVariants.{Less, Equal, Greater}
@@ -6,7 +6,7 @@ use Rattle.litemap_store.specs.Merge.{Merge, left}
 use Rattle.litemap_store.specs.Pairs.{BelowAll, Rising}
 
 module _ {K V : Type 0} (cmp : K → K → Ordering) where
-  -- none where both lists are empty, else how the first key of A stands to that of B; an empty list's is above all
+  -- none if both lists are empty, else how the first key of A compares with that of B; an empty list's is above all
   abbrev pub IsLowerFirst : List (K × V) → List (K × V) → Option Ordering → Type 0
   IsLowerFirst A B None = (A ≡ []) × (B ≡ [])
   IsLowerFirst A B (Some Less) = (a : K × V) × (A' : List (K × V)) × (A ≡ a ∷ A') × BelowAll cmp a.0 B
@@ -14,8 +14,8 @@ module _ {K V : Type 0} (cmp : K → K → Ordering) where
   IsLowerFirst A B (Some Equal) = (a : K × V) × (A' : List (K × V)) × (b : K × V) × (B' : List (K × V))
       × (A ≡ a ∷ A') × (B ≡ b ∷ B') × (cmp a.0 b.0 ≡ Equal)
 
-  -- p was made of the first pairs of A and B, which are A' and B' then: it goes before what is merged of these; and R, what
-  -- was left over so far, is R' then
+  -- p was made of the first pairs of A and B, which are then A' and B': it goes before the merge of these. R, what was
+  -- displaced so far, is then R'
   pub record IsTakenFirst (A B A' B' : List (K × V)) (p : K × V) (R R' : List (K × V)) : Type 0 where
     pub old_rises : Rising cmp A'
     pub new_rise : Rising cmp B'

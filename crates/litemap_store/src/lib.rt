@@ -1,5 +1,5 @@
-//! Stores of pairs for the sorted map of the crate `litemap`: the traits of a store, a vector and a borrowed
-//! slice as stores, and the count of comparisons. What is marked (own) isn't in the Rust crate.
+//! Stores of pairs for the sorted map of the crate `litemap`: the store traits, a vector and a borrowed slice as stores, and
+//! the count of comparisons. The Rust crate lacks what is marked (own).
 #![tactic(auto)]
 
 mod bulk;

@@ -1,4 +1,4 @@
-//! What can stand for a key in a lookup.
+//! What a key can be looked up by.
 ghost use Rattle.std.specs.Prelude.{◌≡◌, ℕ, List};
 ghost use Rattle.std.specs.Arc.{arc_str_bytes};
 ghost use Rattle.std.specs.Box.{boxed_slice_items, boxed_str_bytes};
@@ -16,29 +16,31 @@ use std::cmp::Ordering;
 use std::rc::RcStr;
 use std::sync::ArcStr;
 
-/// A query into keys of the type `K`: a reference to a key, a text for keys that are texts, a slice for keys that are
-/// lists, or a type of a user's own.
+/// What a key of the type `K` can be looked up by: a reference to a key, a `&str` if keys are strings, a slice if they are
+/// vectors or slices, or a type of the user's own.
 ///
-/// The Rust crate has `K: Borrow<Q>` with `Q: Ord` here.
+/// Strings compare by their bytes, slices item by item, and a proper prefix is less. A string or a slice may live shorter than
+/// the keys.
+///
+/// In the Rust crate this is `K: Borrow<Q>` with `Q: Ord`.
 pub trait Query<K: Ord>: Copy {
-    /// What it looks for: a key, or what keys are compared with.
+    /// What keys are compared with.
     ghost Sought: { Type 0 };
 
-    /// What this query looks for.
+    /// What this query compares keys with.
     ghost sought: { Self → Sought };
 
-    /// How a key stands to what is looked for: `Less` where it is below it.
+    /// How a key compares with it: `Less` if the key is below it.
     ghost order: { K → Sought → Ordering };
 
-    /// How the key stands to the query: `Less` where it is below it.
+    /// Returns how a key compares with the query: `Less` if the key is below it.
     fn compare_key(&self, key: &K) -> Ordering
         ensures { result ≡ order key.now (sought self.now) };
 
-    /// Of two keys that rise, the lower one is below the query or the higher one above it.
+    /// Of two ascending keys, the lower one is below the query or the higher one above it.
     ghost one_side: { OneSide K.cmp order };
 }
 
-/// A key, by the keys' own order.
 impl<K: Ord> Query<K> for &K {
     ghost Sought = { K };
 
@@ -53,21 +55,18 @@ impl<K: Ord> Query<K> for &K {
     }
 }
 
-// By the bytes, both texts at one lifetime.
 fn compare_texts<'x>(left: &'x str, right: &'x str) -> Ordering
     ensures { result ≡ slice_cmp nat_cmp left.now right.now }
 {
     left.cmp(right)
 }
 
-// Item by item, both slices at one lifetime.
 fn compare_slices<'x, T: Ord>(left: &'x [T], right: &'x [T]) -> Ordering
     ensures { result ≡ slice_cmp T.cmp left.now right.now }
 {
     left.cmp(right)
 }
 
-/// A text, by the bytes.
 impl Query<String> for &str {
     ghost Sought = { List ℕ };
 
@@ -82,7 +81,6 @@ impl Query<String> for &str {
     }
 }
 
-/// A text, by the bytes. It may live shorter than the keys.
 impl<'k> Query<&'k str> for &str {
     ghost Sought = { Self };
 
@@ -97,7 +95,6 @@ impl<'k> Query<&'k str> for &str {
     }
 }
 
-/// A text, by the bytes.
 impl Query<BoxedStr> for &str {
     ghost Sought = { List ℕ };
 
@@ -112,7 +109,6 @@ impl Query<BoxedStr> for &str {
     }
 }
 
-/// A text, by the bytes.
 impl Query<RcStr> for &str {
     ghost Sought = { List ℕ };
 
@@ -127,7 +123,6 @@ impl Query<RcStr> for &str {
     }
 }
 
-/// A text, by the bytes.
 impl Query<ArcStr> for &str {
     ghost Sought = { List ℕ };
 
@@ -142,7 +137,6 @@ impl Query<ArcStr> for &str {
     }
 }
 
-/// A text, by the bytes.
 impl<'k> Query<CowStr<'k>> for &str {
     ghost Sought = { List ℕ };
 
@@ -157,7 +151,6 @@ impl<'k> Query<CowStr<'k>> for &str {
     }
 }
 
-/// A slice, item by item: a proper prefix is less.
 impl<T: Ord> Query<Vec<T>> for &[T] {
     ghost Sought = { List T };
 
@@ -172,7 +165,6 @@ impl<T: Ord> Query<Vec<T>> for &[T] {
     }
 }
 
-/// A slice, item by item: a proper prefix is less. It may live shorter than the keys.
 impl<'k, T: Ord> Query<&'k [T]> for &[T] {
     ghost Sought = { Self };
 
@@ -187,7 +179,6 @@ impl<'k, T: Ord> Query<&'k [T]> for &[T] {
     }
 }
 
-/// A slice, item by item: a proper prefix is less.
 impl<T: Ord> Query<BoxedSlice<T>> for &[T] {
     ghost Sought = { List T };
 

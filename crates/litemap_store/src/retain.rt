@@ -6,28 +6,29 @@ ghost use Rattle.litemap_store.specs.Retain.{CallableOnEach, CalledOnPair, Kept,
 
 use crate::store::Store;
 
-/// A store whose pairs can be swapped, and given up from an index on: `retain` is its `lm_retain` (own).
+/// A store whose pairs can be swapped, and dropped from an index on (own). Its `lm_retain` is `retain`.
 pub trait SwapStore<K, V>: Store<K, V> {
-    /// The pair at an index.
+    /// Returns the pair at an index.
     fn lm_pair(&self, index: usize) -> (&K, &V)
         requires { index < length (Self.pairs self.now) }
         ensures { slice_get (Self.pairs self.now) index ≡ Some (deref_pair result) };
 
-    /// Swaps two pairs. It takes no memory and gives none back.
+    /// Swaps two pairs. It takes no memory, and frees none.
     fn lm_swap(&mut self, a: usize, b: usize)
         requires a { a < length (Self.pairs self.old) }
         requires b { b < length (Self.pairs self.old) }
         ensures pairs { Self.pairs self.new ≡ swap (Self.pairs self.old) a b }
         ensures room { Self.room self.new ≡ Self.room self.old };
 
-    /// Gives up the pairs from an index on. There is room for as many then.
+    /// Drops the pairs from an index on. The room grows by their number.
     fn lm_truncate(&mut self, len: usize)
         ensures pairs { Self.pairs self.new ≡ take len (Self.pairs self.old) }
         ensures room { Self.room self.old + length (Self.pairs self.old)
             ≡ Self.room self.new + length (Self.pairs self.new) };
 }
 
-/// Keeps the pairs of which `f` answers yes, as `lm_retain` does (own). It moves those that stay behind one that goes.
+/// Keeps the pairs for which `f` returns true, and drops the others, as `lm_retain` does (own). Pairs before the first dropped
+/// one don't move.
 pub fn retain<K, V, S: SwapStore<K, V>, F: FnMut(&K, &V) -> bool>(store: &mut S, f: &mut F)
     requires { CallableOnEach F.FnMut f.old (S.pairs store.old) }
     ensures kept { Kept F.FnMut f.old (S.pairs store.old) (S.pairs store.new) }
@@ -39,7 +40,7 @@ pub fn retain<K, V, S: SwapStore<K, V>, F: FnMut(&K, &V) -> bool>(store: &mut S,
     for index in asked..store.lm_len() {
         let (key, value) = store.lm_pair(index);
         let stays = is_kept(f, key, value);
-        // It moves whatever the answer, so that no jump hangs on it.
+        // It swaps whatever `f` returned, so that no branch depends on it.
         store.lm_swap(kept, index);
         if stays {
             kept += 1;
@@ -48,7 +49,8 @@ pub fn retain<K, V, S: SwapStore<K, V>, F: FnMut(&K, &V) -> bool>(store: &mut S,
     store.lm_truncate(kept);
 }
 
-// Asks of the pairs until one stays behind one that goes, and moves that one. It answers how many stay, and how many were asked.
+// Tests pairs up to the first one that is kept after a dropped one, and moves that one. Returns how many are kept, and how many
+// were tested.
 fn keep_in_place<K, V, S: SwapStore<K, V>, F: FnMut(&K, &V) -> bool>(
     store: &mut S,
     f: &mut F,
@@ -74,7 +76,7 @@ fn keep_in_place<K, V, S: SwapStore<K, V>, F: FnMut(&K, &V) -> bool>(
     (kept, len)
 }
 
-/// Whether a closure keeps a pair (own). It is called once.
+/// Returns whether a closure keeps a pair, by calling it once (own).
 pub fn is_kept<K, V, F: FnMut(&K, &V) -> bool>(f: &mut F, key: &K, value: &V) -> bool
     requires { TakesPair F.FnMut f.old (key.now, value.now) }
     ensures { CalledOnPair F.FnMut f.old (key.now, value.now) result f.new }

@@ -1,5 +1,6 @@
--- The entries between two places, and parts of a list.
---     between_are, between_is      at the first place stand so many entries, which are those between;  slice_none, slice_clamped      what a range past the end has
+-- The entries between two indices, and parts of a list.
+--     between_are, between_is      at the first index stand so many entries, which are those between
+--     slice_none, slice_clamped      what a range past the end has
 use Rattle.std.proofs.Common.{◌≡◌, ℕ, zero, suc, ◌-◌, ◌<◌, ◌≤◌, List, [], ◌∷◌, length, min, take, drop, get_or, slice_range, Some, refl, sym, ap, ◌∙◌, arith}
 use Rattle.std.proofs.lemmas.Bool.{le-leb}
 use Rattle.std.proofs.lemmas.List.{length-drop, length-take-le, take-append-drop, take_min}

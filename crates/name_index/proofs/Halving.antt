@@ -1,6 +1,6 @@
--- A search that halves the places of pairs: what it knows of them, whichever they are, and what it asked.
---     halved_start      at first;  halved_less, halved_greater, halved_equal, halved_asked      after an answer at the middle
---     halved_end, halved_cost      where no place is left
+-- A search that halves the indices of pairs: what it knows of them, whichever they are, and how often it compared.
+--     halved_start      at first;  halved_less, halved_greater, halved_equal, halved_asked      after a comparison with the middle one
+--     halved_end, halved_cost      if no index is left
 use Rattle.std.proofs.Common.{◌≡◌, ℕ, ◌+◌, ◌-◌, ◌/◌, ◌<◌, ◌≤◌, List, length, Ok, Err, refl, ◌∙◌, arith}
 use Rattle.std.specs.declared.cmp.Ordering.{Ordering}
 use Rattle.std.specs.declared.cmp.Ordering.TheVariants.{Less, Equal, Greater}
@@ -11,7 +11,7 @@ use Rattle.litemap_store.proofs.Search.Halving.{Narrowed, Narrowed-whole, Narrow
 use Rattle.name_index.specs.Placed.{IsKeyAt}
 
 module _ {X : Type 0} (pairs : X → List (List ℕ × List ℕ)) (order : List ℕ → Ordering) where
-  -- the answers ascend over the pairs, those in front of the places that are left are less, and those behind them greater
+  -- the order ascends over the pairs, those before the indices that are left are less, and those after them greater
   pub record Halved (size low high : ℕ) (old new : Count) : Type 0 where
     pub known : (x : X) → (length (pairs x) ≡ size) × Ascends order (pairs x)
     pub ordered : low ≤ high

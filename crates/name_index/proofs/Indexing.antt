@@ -1,4 +1,4 @@
--- What the bytes of an index have at a place, they have once; and what a search and a check know.
+-- What the bytes of an index have at an offset, they have once; and what a search and a check know.
 use Rattle.std.proofs.Common.{◌≡◌, Bool, true, false, ℕ, zero, suc, ◌+◌, ◌-◌, ◌*◌, ◌<◌, ◌≤◌, List, [], ◌∷◌, ◌++◌, length, take, drop, get_or, slice_get, Some, None, Option, Bor, refl, sym, ap, ◌∙◌, subst, arith, length-append}
 use Rattle.std.specs.Prelude.{IfNone, IfSome, IsTrue}
 use Rattle.std.specs.Ordering.{is_lt}
@@ -18,7 +18,7 @@ use Rattle.name_index.proofs.Rises.{IsAbove, LastKey, asked_next, last_at, rises
 use Rattle.name_index.proofs.Scanning.{ascends, to_key}
 use Rattle.name_index.specs.Placed.{IsKeyAt}
 
--- ---- one number, one text, one entry
+-- ---- one number, one string, one entry
 
 pub number_unique : (bytes : List ℕ) (at n m : ℕ) → IsNumberAt bytes at n → IsNumberAt bytes at m → n ≡ m
 number_unique bytes at n m p q = sym p.value ∙ q.value
@@ -71,13 +71,13 @@ module _ (bytes : List ℕ) (count : ℕ) (offsets : HasOffsets bytes count) (pa
       let k : t.0.0 ≡ key = text_unique bytes r.0 t.0.0 key (rw (← e) t.2.2.0) r.2 in
       (t.0.1, t.1 ∙ ap (λ s. Some (s, t.0.1)) k)
 
--- where an entry is missing, the bytes are no index
+-- if an entry is missing, the bytes are no index
 pub no_index : (bytes : List ℕ) (count index : ℕ) → HasOffsets bytes count → index < count → NoEntry bytes count index → NoIndex bytes
 no_index bytes count index offsets l none pairs x =
     let t = entry_there bytes count offsets pairs x index l in
     none t.0 t.2
 
--- where there is no room for the places, too
+-- and if they are too short for the offsets
 pub no_room : (bytes : List ℕ) (count : ℕ) → IsNumberAt bytes 0 count → length bytes < 4 + 4 * count → NoIndex bytes
 no_room bytes count number l pairs x =
     let e : length pairs ≡ count = number_unique bytes 0 (length pairs) count x.number number in
@@ -105,7 +105,7 @@ module _ {bytes : List ℕ} {count : ℕ} (offsets : HasOffsets bytes count) (x 
 
 -- ---- a check's state
 
--- the first entries were read, and their keys rise
+-- the first entries were read, and their keys ascend
 pub record Followed (bytes : List ℕ) (count : ℕ) (last : Option (Bor (List ℕ))) (index : ℕ) (old new : Count) : Type 0 where
   pub pairs : List (List ℕ × List ℕ)
   pub number : length pairs ≡ index
@@ -143,7 +143,7 @@ followed_end bytes count index last old new offsets f e =
       },
     )
 
--- where the next key isn't above the last one, the bytes are no index
+-- if the next key isn't above the last one, the bytes are no index
 pub falls_there : (bytes : List ℕ) (count index : ℕ) (last : Bor (List ℕ)) (key value : List ℕ) (old new : Count) → HasOffsets bytes count → index < count → Followed bytes count (Some last) index old new → IsEntry bytes count index (key, value) → (text_order last.now key ≡ Less → ⊥) → NoIndex bytes
 falls_there bytes count index last key value old new offsets l f r never pairs x =
     let front = f.last_is.0 in

@@ -1,4 +1,4 @@
--- What is read where it is known what stands there.
+-- What is read, if it is known what stands there.
 use Rattle.std.proofs.Common.{◌≡◌, ℕ, List, [], ◌∷◌, ◌++◌, refl}
 use Rattle.name_table.specs.Faults.{AreOfText, Fault}
 use Rattle.name_table.specs.Parts.{Part, Begins, Number, text_parts, pair_parts}
@@ -21,12 +21,12 @@ one_number {n} {m} bytes p q =
     let f : n ≡ m = cc in
     (u.0, f, u.2)
 
--- a text that is there has no fault
+-- a string that is there has no error
 pub text_no_fault : (bytes rest text : List ℕ) (place : ℕ) (fault : NameFault) → Begins bytes (text_parts text) rest → Fault AreOfText bytes place fault → ⊥
 text_no_fault bytes rest text place fault b w =
     parts_no_fault bytes rest (text_parts text) place fault (λ ys a. rw a.1 (agree_text text a.0)) b w
 
--- the text that is read is the one that is there, and what follows it stands behind
+-- the string that is read is the one that is there, and what follows it comes after
 pub text_next : (bytes rest middle s t : List ℕ) (xs : List Part) → Begins bytes (text_parts t ++ xs) rest → Begins bytes (text_parts s) middle → (s ≡ t) × Begins middle xs rest
 text_next bytes rest middle s t xs p q =
     let d = begins_split bytes rest (text_parts t) xs p in

@@ -22,7 +22,7 @@ pub left_begins : (bytes : List ℕ) (count : ℕ) (J : List (List ℕ × List �
 left_begins bytes count [] a l = absurd (omega (arith, a.count_is, l))
 left_begins bytes count (p ∷ J) a l = let f = pair_first bytes a.behind p J a.spelled in (p, f.0, f.1)
 
--- it is the first of them, and the others are left behind it
+-- it is the first of them, and the others are left after it
 pub left_next : (bytes : List ℕ) (count : ℕ) (J : List (List ℕ × List ℕ)) (pair : List ℕ × List ℕ) (rest : List ℕ) → AreLeft bytes count J → 0 < count
     → Begins bytes (pair_parts (pair ∷ [])) rest → (later : List (List ℕ × List ℕ)) × (J ≡ pair ∷ later) × AreLeft rest (count - 1) later
 left_next bytes count [] pair rest a l b = absurd (omega (arith, a.count_is, l))

@@ -1,4 +1,4 @@
--- Bytes that begin with a table whose keys rise have no fault, and others one at most.
+-- Bytes that begin with a table whose keys ascend have no error, and others one at most.
 use Rattle.std.proofs.Common.{◌≡◌, ⊎_elim, ℕ, ◌+◌, ◌<◌, List, [], ◌∷◌, ◌++◌, length, refl, sym, ap, ◌∙◌, subst, arith, append_assoc}
 use Rattle.std.proofs.lemmas.Bool.{cases_lt}
 use Rattle.litemap_store.proofs.Last.Taken.{Rising-left}
@@ -36,7 +36,7 @@ counted_one bytes s t c d =
     let p : s.place ≡ t.place = c.place ∙ ap length u.0 ∙ sym d.place in
     λ i. record { rest = u.2 i; place = p i; left = u.1 i }
 
--- ---- the entries behind it
+-- ---- the entries after it
 
 -- of pairs that bytes begin with and more of them, these are the first ones
 first_pairs : (J K : List (List ℕ × List ℕ)) (bytes middle behind : List ℕ) → Begins bytes (pair_parts J) middle → Begins bytes (pair_parts K) behind → length J < length K → (q : List ℕ × List ℕ) × (more : List (List ℕ × List ℕ)) × (K ≡ J ++ q ∷ more) × Begins middle (pair_parts (q ∷ more)) behind
@@ -57,7 +57,7 @@ agree_next xs ys a b =
 next_no_fault : (t : Remaining) (f : NameFault) (q : List ℕ × List ℕ) (rest : List ℕ) → Begins t.rest (pair_parts (q ∷ [])) rest → NextFault t f → ⊥
 next_no_fault t f q rest b w = parts_no_fault t.rest rest (pair_parts (q ∷ [])) t.place f (λ ys a. agree_next (pair_parts (q ∷ [])) ys (q ∷ [], refl, refl) a) b w.1
 
--- nothing stops where a pair is the next one of some whose keys rise
+-- nothing stops if a pair is the next one of some whose keys ascend
 next_stops_not : (t : Remaining) (J more : List (List ℕ × List ℕ)) (q : List ℕ × List ℕ) (behind : List ℕ) (f : NameTableFault) → Rising text_order (J ++ q ∷ more) → Begins t.rest (pair_parts (q ∷ more)) behind → NextStops J t f → ⊥
 next_stops_not t J more q behind (Format f) r b w = let p = pair_first t.rest behind q more b in next_no_fault t f q p.0 p.1 w
 next_stops_not t J more q behind (NotRising at) r b w =
@@ -71,7 +71,7 @@ next_stops_one t J (Format f) (NotRising b) p q = absurd (next_no_fault t f q.1 
 next_stops_one t J (NotRising a) (Format g) p q = absurd (next_no_fault t g p.1 p.0.rest p.2.spelled q)
 next_stops_one t J (NotRising a) (NotRising b) p q = ap (λ i. NotRising i) (p.3 ∙ sym q.3)
 
--- nor in front of the last of them
+-- nor before the last of them
 stops_not : (s : Remaining) (K : List (List ℕ × List ℕ)) (behind : List ℕ) (f : NameTableFault) → Begins s.rest (pair_parts K) behind → Rising text_order K → (w : StopsAt s f) → length w.1.on.pairs < length K → ⊥
 stops_not s K behind f k r w l =
     let on = w.1.on in

@@ -1,4 +1,4 @@
--- Places of entries: one more of them, and what is read at one.
+-- Offsets of entries: one more of them, and what is read at one.
 use Rattle.std.proofs.Common.{◌≡◌, ⊎_elim, ℕ, zero, suc, ◌+◌, ◌-◌, ◌<◌, ◌≤◌, List, [], ◌∷◌, ◌++◌, length, take, drop, get_or, slice_get, Some, Result, refl, sym, ap, ◌∙◌, subst, arith, length-append}
 use Rattle.std.proofs.Math.Seq.{take-length}
 use Rattle.std.proofs.lemmas.Bool.{cases_lt}
@@ -23,14 +23,14 @@ use Rattle.name_index.specs.Tables.{OfTable, text_order}
 use Rattle.name_index.proofs.Rises.{rising_table}
 use Rattle.name_index.proofs.Scanning.{Walked, ascends, one_side, to_key, walked_begins, walked_next, walked_pair}
 
--- what holds of each element by its place, and of one more
+-- what holds of each element by its index, and of one more
 pub each_push : {X : Type 0} (P : ℕ → X → Type 0) (L : List X) (x : X) → ((i : ℕ) (y : X) → slice_get L i ≡ Some y → P i y) → P (length L) x → (i : ℕ) (y : X) → slice_get (L ++ x ∷ []) i ≡ Some y → P i y
 each_push P [] x each h zero y e = let s : x ≡ y = cc in subst (λ z. P 0 z) s h
 each_push P [] x each h (suc i) y e = absurd (cc)
 each_push P (z ∷ L) x each h zero y e = each zero y e
 each_push P (z ∷ L) x each h (suc i) y e = each_push (λ j w. P (suc j) w) L x (λ j w f. each (suc j) w f) h i y e
 
--- so many places are noted, and the bytes from the next one on are the rest
+-- so many offsets are noted, and the bytes from the next one on are the rest
 pub record Noted (entries : List ℕ) (count : ℕ) (offsets rest : List ℕ) (index : ℕ) : Type 0 where
   pub walked : Walked entries count rest index
   pub number : length offsets ≡ index
@@ -57,7 +57,7 @@ noted_start entries count these = record {
     none zero place e = absurd (cc)
     none (suc i) place e = absurd (cc)
 
--- how far the rest stands behind the first entry
+-- how far the rest comes after the first entry
 pub place_is_front : (entries : List ℕ) (count : ℕ) (offsets rest : List ℕ) (index place : ℕ) → (n : Noted entries count offsets rest index) → place + length rest ≡ length entries → length n.read.front ≡ place
 place_is_front entries count offsets rest index place n e = omega (arith, e, ap length n.read.split, length-append n.read.front rest)
 
@@ -108,9 +108,9 @@ placed_end entries count offsets rest index n e =
       there = n.there;
     }
 
--- ---- at a place
+-- ---- at an offset
 
--- what a slice from a place on has
+-- what a slice from an offset on has
 pub tail_is : (l : List ℕ) (n : ℕ) → take (length l - n) (drop n l) ≡ drop n l
 tail_is l n = ap (λ k. take k (drop n l)) (sym (length-drop n l)) ∙ take-length (drop n l)
 
@@ -146,7 +146,7 @@ module _ (entries offsets : List ℕ) (index : ℕ) (d : ℕ) (placed : ArePlace
 
 -- ---- what a search knows
 
--- the pairs at the places
+-- the pairs at the offsets
 abbrev pub pairs_at : {entries offsets : List ℕ} → ArePlaced entries offsets → List (List ℕ × List ℕ)
 pairs_at placed = placed.these.pairs
 
@@ -164,6 +164,6 @@ of_indexed bytes entries items offsets x e h =
     let y = rw (sym e) at x in
     (y.placed.these.pairs, rising_table bytes entries (length offsets) (record { counted = y.counted; these = y.placed.these }), h y.placed)
 
--- a count of as many pairs as places
+-- a bound by the number of pairs, which is that of the offsets
 pub cost_by_pairs : (entries offsets : List ℕ) (placed : ArePlaced entries offsets) (old new : Count) → RisesByAtMost (digits (length offsets)) old new → RisesByAtMost (digits (length placed.these.pairs)) old new
 cost_by_pairs entries offsets placed old new r = rw placed.these.count_is r

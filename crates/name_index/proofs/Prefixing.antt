@@ -1,5 +1,5 @@
--- How the fronts of names that rise stand to a text, and where this cuts the names.
---     head_below, head_begins      what the answers of its front say of a name;  side      how it answers a search
+-- How the first bytes of ascending names compare with a string, and where this splits the names.
+--     head_below, head_begins      what its first bytes say of a name;  side      on which side of the split it lies
 --     edge_place, edges_part      what the two edges say
 use Rattle.std.proofs.Common.{◌≡◌, ◌==◌, ◌&&◌, ◌⊎◌, inl, inr, ℕ, zero, suc, ◌+◌, ◌-◌, ◌≤◌, Bool, true, false, not, cond, List, [], ◌∷◌, length, filter, eqb-true, eq-eqb, true≢false, Some, Err, refl, sym, ap, ◌∙◌, arith}
 use Rattle.std.proofs.lemmas.Cmp.{ranked, tied_itself}
@@ -20,8 +20,8 @@ use Rattle.name_index.specs.Tables.{text_order}
 use Rattle.name_index.proofs.Placing.{pairs_at}
 use Rattle.name_index.proofs.Scanning.{text_order_total}
 
--- ---- the front of one name
--- where the front of a name is not behind the text, those of the names below it are not
+-- ---- the first bytes of one name
+-- if those of a name are not above the string, neither are those of the names below it
 head_le : (text a b : List ℕ) → text_order a b ≡ Less → is_le (head_order b text) ≡ true → is_le (head_order a text) ≡ true
 head_le (t ∷ text) (x ∷ a) [] e h = absurd (cc)
 head_le (t ∷ text) (x ∷ a) (y ∷ b) e h = by (head_le text a b) (nat_cmp x y) refl (nat_cmp y t) refl h
@@ -38,7 +38,7 @@ head_le (t ∷ text) (x ∷ a) (y ∷ b) e h = by (head_le text a b) (nat_cmp x 
     by rest _ d Greater f g = let k : false ≡ true = rw f at g in absurd (cc)
 head_le _ _ b e h = refl
 
--- it is below the text where the name is
+-- they are below the string exactly if the name is
 pub head_below : (text name : List ℕ) → is_lt (head_order name text) ≡ is_lt (text_order name text)
 head_below [] [] = refl
 head_below [] (x ∷ name) = refl
@@ -58,7 +58,7 @@ unequal x t o e n = by (t == x) refl
     by false d = d
     by true d = absurd (n (sym e ∙ ap (nat_cmp x) (eqb-true t x d) ∙ tied_itself nat_cmp_total x))
 
--- it is neither below nor above it where the name begins with it
+-- they are neither below nor above it exactly if the name begins with it
 pub head_begins : (text name : List ℕ) → not (is_lt (head_order name text)) && is_le (head_order name text) ≡ begins name text
 head_begins (t ∷ text) (x ∷ name) = by (head_begins text name) (nat_cmp x t) refl
   where
@@ -70,18 +70,18 @@ head_begins (t ∷ text) (x ∷ name) = by (head_begins text name) (nat_cmp x t)
     by rest Greater e = rw (e, unequal x t Greater e (λ d. cc)) refl
 head_begins _ _ = refl
 
--- ---- names that rise
+-- ---- names that ascend
 led_before : (behind : Bool) (text a b : List ℕ) → text_order a b ≡ Less → leads_to behind text b ≡ true → leads_to behind text a ≡ true
 led_before false text a b e h =
     let l : text_order b text ≡ Less = Less-from_is_lt (text_order b text) (sym h ∙ head_below text b) in
     head_below text a ∙ ap is_lt (text_order_total.trans a b text e l)
 led_before true text a b e h = head_le text a b e h
 
--- how a name answers: that it lies before, or behind
+-- on which side a name lies: before, or after
 abbrev pub side : Bool → List ℕ → List ℕ → Ordering
 side behind text name = cond (leads_to behind text name) Less Greater
 
--- of two names that rise the lower one lies before, or the higher one behind
+-- of two ascending names the lower one lies before, or the higher one after
 side_one : (behind : Bool) → OneSide text_order (λ name text. side behind text name)
 side_one behind text a b l = by (leads_to behind text b) refl
   where

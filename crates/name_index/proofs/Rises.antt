@@ -1,4 +1,4 @@
--- Reading on while the keys rise, and where they don't.
+-- Reading on while the keys ascend, and where they don't.
 use Rattle.std.proofs.Common.{◌≡◌, true, false, ℕ, ◌-◌, List, [], ◌∷◌, ◌++◌, length, Option, Some, None, slice_get, refl, sym, ap, ◌∙◌, subst, arith, length-append, Bor}
 use Rattle.std.specs.Ordering.{is_lt}
 use Rattle.std.specs.Prelude.{Bool, IfNone, IfSome, IsTrue}
@@ -38,7 +38,7 @@ checked_start s count = record {
   asked = not_asked count;
 }
 
--- one question more, but for the first key
+-- one comparison more, but for the first key
 pub asked_next : {c d e : Count} (last : Option (Bor (List ℕ))) (L : List (List ℕ × List ℕ)) (p : List ℕ × List ℕ) → LastKey last L → RisesByAtMost (length L - 1) c d → IfNone last (RisesByAtMost 0 d e) → RisesByAtMost 1 d e → RisesByAtMost (length (L ++ p ∷ []) - 1) c e
 asked_next None L p l r z o = in_turn (length L - 1) 0 (length (L ++ p ∷ []) - 1) (omega (arith, length-append L (p ∷ []), ap length l)) r z
 asked_next (Some last) L p l r z o =
@@ -111,7 +111,7 @@ parts bytes entries s c e a =
       };
     })
 
--- a table that was opened is one whose keys rise
+-- a table that was opened is one whose keys ascend
 pub rising_table : (bytes entries : List ℕ) (count : ℕ) → (o : IsOpened bytes entries count) → IsRisingTable bytes o.these.pairs
 rising_table bytes entries count o = record {
   rest = o.these.rest;

@@ -1,4 +1,4 @@
--- What a walk over entries knows: the pairs from a place on are still to be read, and those in front of it are below the key.
+-- What a walk over entries knows: the pairs from an index on are still to be read, and those before it are below the key.
 use Rattle.std.proofs.Common.{◌≡◌, ℕ, ◌+◌, ◌<◌, ◌≤◌, List, [], ◌∷◌, length, drop, get_or, slice_get, Some, None, Ok, Err, refl, sym, ap, ◌∙◌, subst, arith, Bor}
 use Rattle.std.proofs.lemmas.List.{drop_more}
 use Rattle.std.proofs.lemmas.Option.{slice_get-get_or}
@@ -26,11 +26,11 @@ text_order_total = on_texts (λ (a : List ℕ). a)
 abbrev pub one_side : OneSide text_order text_order
 one_side = key_one_side text_order_total
 
--- how a key stands to the one that is looked for
+-- how a key compares with the one that is looked up
 abbrev pub to_key : List ℕ → List ℕ → Ordering
 to_key key k = text_order k key
 
--- the pairs from the place on stand at the rest
+-- the pairs from the index on stand at the rest
 pub record Walked (entries : List ℕ) (count : ℕ) (rest : List ℕ) (index : ℕ) : Type 0 where
   pub these : AreEntries entries count
   pub here : Begins rest (pair_parts (drop index these.pairs)) these.rest
@@ -49,14 +49,14 @@ module _ {entries : List ℕ} {count : ℕ} {rest : List ℕ} {index : ℕ} (w :
     pub next_here : (pair ≡ get_or w.these.pairs index ([], [])) × Begins later (pair_parts (drop (index + 1) w.these.pairs)) w.these.rest
     next_here = pair_next rest later w.these.rest (get_or w.these.pairs index ([], [])) pair (drop (index + 1) w.these.pairs) cut_here read
 
-    -- the pair that is read stands there, and behind it the next ones
+    -- the pair that is read stands there, and after it the next ones
     pub walked_pair : slice_get w.these.pairs index ≡ Some pair
     walked_pair = slice_get-get_or w.these.pairs index ([], []) within ∙ ap Some (sym next_here.0)
 
     abbrev pub walked_next : Walked entries count later (index + 1)
     walked_next = record { these = w.these; here = next_here.1 }
 
--- ---- what a search's answers say
+-- ---- what a search finds
 
 pub value_at_split : (pairs : List (List ℕ × List ℕ)) (key : List ℕ) (i : ℕ) (p : List ℕ × List ℕ) → Splits text_order pairs key (Ok i) → slice_get pairs i ≡ Some p → value_at text_order pairs key ≡ Some p.1
 value_at_split pairs key i p s e =

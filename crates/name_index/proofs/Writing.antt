@@ -1,4 +1,4 @@
--- What is written of an index stays as it is, and further bytes stand behind it.
+-- What is written of an index stays as it is when further bytes come after it.
 use Rattle.std.proofs.Common.{◌≡◌, ℕ, ◌+◌, ◌*◌, ◌<◌, ◌≤◌, List, [], ◌∷◌, ◌++◌, length, take, drop, map, get_or, slice_get, Some, refl, sym, ap, ◌∙◌, arith, append_assoc, length-append, inl, inr}
 use Rattle.std.specs.Int.{from_le_bytes, w32}
 use Rattle.std.proofs.Math.Nat.{eq-or-lt_of_le}
@@ -16,7 +16,7 @@ use Rattle.name_table.specs.Remaining.{shown}
 use Rattle.name_table.proofs.ReadAgain.{shown_rise}
 use Rattle.name_index.specs.Writes.{Adds, AddsPairs, AreOffsets, entries_size, pair_size}
 
--- ---- bytes behind bytes
+-- ---- bytes after bytes
 
 pub adds_length : (old new : List ℕ) (n : ℕ) → Adds old new n → length new ≡ length old + n
 adds_length old new n a = omega (arith, ap length a.added, length-append old a.more, a.size_is)
@@ -117,7 +117,7 @@ index_written old new pairs p a rises = record {
   rises = rises;
 }
 
--- ---- a map's pairs, as what they show
+-- ---- a map's pairs, as what they refer to
 
 pub shown_at : (pairs : List (Text × Text)) (index : ℕ) (d : Text × Text) → index < length pairs → slice_get (map shown pairs) index ≡ Some (shown (get_or pairs index d))
 shown_at pairs index d l = slice_get-map shown pairs index ∙ ap (λ o. option_map shown o) (slice_get-get_or pairs index d l)
@@ -129,7 +129,7 @@ length_less (p ∷ pairs) = omega (arith, sum_by-cons pair_size p pairs, length_
 pub too_many : (pairs : List (Text × Text)) → number_limit ≤ length pairs → number_limit ≤ entries_size (map shown pairs)
 too_many pairs h = omega (arith, h, length_less (map shown pairs), length-map pairs shown)
 
--- where a pair is too large, all are
+-- if a pair is too large, all are
 module _ (pairs : List (Text × Text)) (index : ℕ) (d : Text × Text) (l : index < length pairs) where
   pub too_large_at : number_limit ≤ pair_size (shown (get_or pairs index d)) → number_limit ≤ entries_size (map shown pairs)
   too_large_at h = omega (arith, h, size_within (map shown pairs) index (shown (get_or pairs index d)) (shown_at pairs index d l))

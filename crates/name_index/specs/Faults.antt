@@ -1,5 +1,5 @@
--- Which fault bytes have that are no name table whose keys rise: that of the first entry that can't be read, or whose key
--- doesn't rise.
+-- Which error bytes have that are no name table whose keys ascend: that of the first entry that can't be read, or whose key
+-- doesn't ascend.
 use Rattle.std.specs.Prelude.{◌≡◌, ◌⊎◌, ℕ, List, [], ◌∷◌, ◌++◌}
 use Rattle.litemap_store.specs.Pairs.{Rising}
 use Rattle.name_table.specs.Faults.{NextFault, NumberFault}
@@ -9,22 +9,22 @@ use Rattle.name_index.specs.Tables.{IsRisingTable, text_order}
 use Rattle.name_index.specs.declared.fault.NameTableFault.{NameTableFault}
 use Rattle.name_index.specs.declared.fault.NameTableFault.TheVariants.{Format, NotRising}
 
--- t is s once some pairs were read, whose keys rise
+-- t is s after some pairs were read, whose keys ascend
 pub record RisesTo (s t : Remaining) : Type 0 where
   pub on : IsReadOn s t
   pub rises : Rising text_order on.pairs
 
--- all pairs that are due can be read, and their keys rise
+-- all pairs that are due can be read, and their keys ascend
 abbrev pub AllRise : Remaining → Type 0
 AllRise s = (t : Remaining) × RisesTo s t × (t.left ≡ 0)
 
--- the next one of the pairs that are due, behind those that were read, can't be read, or its key doesn't rise
+-- the next one of the pairs that are due, after those that were read, can't be read, or its key doesn't ascend
 abbrev pub NextStops : List (List ℕ × List ℕ) → Remaining → NameTableFault → Type 0
 NextStops pairs t (Format fault) = NextFault t fault
 NextStops pairs t (NotRising at) =
     (u : Remaining) × (next : List ℕ × List ℕ) × IsNext t u next × (at ≡ t.place) × (Rising text_order (pairs ++ next ∷ []) → ⊥)
 
--- some pairs can be read, and their keys rise. The next one stops
+-- some pairs can be read, and their keys ascend. The next one stops
 abbrev pub StopsAt : Remaining → NameTableFault → Type 0
 StopsAt s fault = (t : Remaining) × (read : RisesTo s t) × NextStops read.on.pairs t fault
 
@@ -33,15 +33,15 @@ abbrev pub NumberStops : List ℕ → NameTableFault → Type 0
 NumberStops bytes (Format fault) = NumberFault bytes 0 fault
 NumberStops bytes (NotRising at) = ⊥
 
--- the number of entries can't be read, or what is due behind it stops
+-- the number of entries can't be read, or what is due after it stops
 abbrev pub IsFault : List ℕ → NameTableFault → Type 0
 IsFault bytes fault = NumberStops bytes fault ⊎ ((s : Remaining) × IsCounted bytes s × StopsAt s fault)
 
--- bytes have one fault at most
+-- bytes have one error at most
 abbrev pub RisingFaultIsOne : Type 0
 RisingFaultIsOne = (bytes : List ℕ) (f g : NameTableFault) → IsFault bytes f → IsFault bytes g → f ≡ g
 
--- bytes that begin with a table whose keys rise have no fault
+-- bytes that begin with a table whose keys ascend have no error
 abbrev pub RisingHasNoFault : Type 0
 RisingHasNoFault = (bytes : List ℕ) (pairs : List (List ℕ × List ℕ)) (fault : NameTableFault)
     → IsRisingTable bytes pairs → IsFault bytes fault → ⊥

@@ -1,25 +1,25 @@
--- An index of names: the number of its entries, the place of each, and the entries. A text is the list of its bytes.
+-- An index of names: the number of its entries, the offset of each, and the entries. A string is the list of its bytes.
 use Rattle.std.specs.Prelude.{◌≡◌, ℕ, ◌+◌, ◌*◌, ◌≤◌, List, length, take, drop, IsUtf8, Some, slice_get}
 use Rattle.std.specs.Int.{from_le_bytes, w32}
 use Rattle.litemap_store.specs.Pairs.{Rising}
 use Rattle.name_index.specs.Tables.{text_order}
 
--- at a place stand the four bytes of the number, the lowest first
+-- at an offset stand the four bytes of the number, the lowest first
 pub record IsNumberAt (bytes : List ℕ) (at n : ℕ) : Type 0 where
   pub within : at + 4 ≤ length bytes
   pub value : from_le_bytes w32 (take 4 (drop at bytes)) ≡ n
 
--- at a place stands the number of the text's bytes, and behind it the text
+-- at an offset stands the number of the string's bytes, and after it the string
 pub record IsTextAt (bytes : List ℕ) (at : ℕ) (text : List ℕ) : Type 0 where
   pub size : IsNumberAt bytes at (length text)
   pub there : take (length text) (drop (at + 4) bytes) ≡ text
   pub utf8 : IsUtf8 text
 
--- at a place stands the key, and behind it the value
+-- at an offset stands the key, and after it the value
 abbrev pub IsPairAt : List ℕ → ℕ → List ℕ × List ℕ → Type 0
 IsPairAt bytes at pair = IsTextAt bytes at pair.0 × IsTextAt bytes (at + 4 + length pair.0) pair.1
 
--- of so many entries this one begins at a place: among the places stands how far it is from behind these
+-- of so many entries this one begins at the offset `at`: the bytes note how far that is from the first entry
 pub record BeginsAt (bytes : List ℕ) (count index at : ℕ) : Type 0 where
   pub far : ℕ
   pub noted : IsNumberAt bytes (4 + 4 * index) far
@@ -29,7 +29,7 @@ pub record BeginsAt (bytes : List ℕ) (count index at : ℕ) : Type 0 where
 abbrev pub IsEntry : List ℕ → ℕ → ℕ → List ℕ × List ℕ → Type 0
 IsEntry bytes count index pair = (at : ℕ) × BeginsAt bytes count index at × IsPairAt bytes at pair
 
--- the bytes are an index of the pairs, whose keys rise
+-- the bytes are an index of the pairs, whose keys ascend
 pub record IsIndex (bytes : List ℕ) (pairs : List (List ℕ × List ℕ)) : Type 0 where
   pub number : IsNumberAt bytes 0 (length pairs)
   pub entries : (i : ℕ) (pair : List ℕ × List ℕ) → slice_get pairs i ≡ Some pair → IsEntry bytes (length pairs) i pair
@@ -47,9 +47,9 @@ IfIndex bytes P = (pairs : List (List ℕ × List ℕ)) → IsIndex bytes pairs 
 abbrev pub NoIndex : List ℕ → Type 0
 NoIndex bytes = IfIndex bytes (λ _. ⊥)
 
--- ---- what the steps of a look-up find
+-- ---- what the steps of a lookup find
 
--- the bytes begin with the number of entries, and have room for so many places
+-- the bytes begin with the number of entries, and are long enough for so many offsets
 pub record HasOffsets (bytes : List ℕ) (count : ℕ) : Type 0 where
   pub number : IsNumberAt bytes 0 count
   pub fits : 4 + 4 * count ≤ length bytes

@@ -1,4 +1,4 @@
--- Name tables whose keys rise. A text is the list of its bytes.
+-- Name tables whose keys ascend. A string is the list of its bytes.
 use Rattle.std.specs.Prelude.{◌≡◌, ℕ, List, map}
 use Rattle.std.specs.Cmp.Lexicographic.{slice_cmp}
 use Rattle.std.specs.Ordering.{nat_cmp}
@@ -9,21 +9,22 @@ use Rattle.name_table.specs.Parts.{Begins, IsTable, table_parts}
 use Rattle.name_table.specs.Reads.{Text}
 use Rattle.name_table.specs.Remaining.{shown}
 
--- the order of texts: by their bytes, where a proper prefix is less
+-- the order of strings: by their bytes, where a proper prefix is less
 abbrev pub text_order : List ℕ → List ℕ → Ordering
 text_order a b = slice_cmp nat_cmp a b
 
--- the bytes begin with a table of the pairs, whose keys rise
+-- the bytes begin with a table of the pairs, whose keys ascend
 pub record IsRisingTable (bytes : List ℕ) (pairs : List (List ℕ × List ℕ)) : Type 0 where
   pub rest : List ℕ
   pub table : Begins bytes (table_parts pairs) rest
   pub rises : Rising text_order pairs
 
--- the bytes begin with a table whose keys rise, and P holds of its pairs: by a law of name tables there is no other one
+-- the bytes begin with a table whose keys ascend, and P holds of its pairs: by a law of name tables there is no other one
 abbrev pub OfTable : List ℕ → (List (List ℕ × List ℕ) → Type 0) → Type 0
 OfTable bytes P = (pairs : List (List ℕ × List ℕ)) × IsRisingTable bytes pairs × P pairs
 
--- bytes that are a table of a map's pairs, as those that are written for it, begin with a table of these pairs, whose keys rise
+-- bytes that are a table of a map's pairs, as those that are written for it, begin with a table of these pairs, whose keys
+-- ascend
 abbrev pub WrittenIsOpened : Type 0
 WrittenIsOpened = (bytes : List ℕ) (pairs : List (Text × Text)) → Rising by_bytes pairs → IsTable bytes (map shown pairs)
     → OfTable bytes (λ parts. parts ≡ map shown pairs)

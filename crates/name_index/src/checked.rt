@@ -13,9 +13,9 @@ use crate::indexed_search::follow;
 use litemap_store::store::Count;
 use std::marker::Model;
 
-/// An index of names that was read once: no call answers a fault.
+/// An index of names that was read once, so that no call returns an error.
 ///
-/// A contract sees it as the bytes, and what a call answers is said of the list of its pairs (`OfIndex`).
+/// A contract sees it as the bytes, and says what a call returns of the list of its pairs (`OfIndex`).
 #[derive(Drop)]
 pub struct CheckedNames<'a> {
     names: IndexedNames<'a>,
@@ -33,10 +33,10 @@ impl<'a> Model for CheckedNames<'a> {
 }
 
 impl<'a> IndexedNames<'a> {
-    /// The index that the bytes are, read once, so that no look-up answers a fault.
+    /// Opens the index that the bytes are, and reads it once, so that no lookup returns an error.
     ///
-    /// There is one comparison for each key but the first, and no memory is taken. The fault is that of the first entry that
-    /// can't be read, or whose key isn't above the one before it.
+    /// It makes one comparison for each key but the first, and takes no memory. The error is that of the first entry that can't
+    /// be read, or whose key isn't above the one before it.
     pub fn open_checked(bytes: &'a [u8]) -> Result<CheckedNames<'a>, IndexFault>
         ensures bytes { IfOk result (λ names. names ≡ bytes.now) }
         ensures index { IfOk result (λ _. OfIndex bytes.now (λ _. ⊤)) }
@@ -63,21 +63,21 @@ impl<'a> IndexedNames<'a> {
 }
 
 impl<'a> CheckedNames<'a> {
-    /// The number of entries.
+    /// Returns the number of entries.
     pub fn len(&self) -> usize
         ensures { OfIndex self.now (λ pairs. result ≡ length pairs) }
     {
         self.names.len()
     }
 
-    /// Whether there is no entry.
+    /// Returns whether there is no entry.
     pub fn is_empty(&self) -> bool
         ensures { OfIndex self.now (λ pairs. result ≡ (length pairs == 0)) }
     {
         self.names.is_empty()
     }
 
-    /// The value of a key, if it is there. It makes O(log n) comparisons.
+    /// Returns the value of a key, if it is there. It makes O(log n) comparisons.
     pub fn get(&self, key: &str) -> Option<&'a str>
         ensures { OfIndex self.now (λ pairs. option_copied result ≡ value_at text_order pairs key.now) }
     {
@@ -92,7 +92,7 @@ impl<'a> CheckedNames<'a> {
         self.names.get_counted(key, count).unwrap()
     }
 
-    /// The place of a key, or where it would go. It costs what `get` does.
+    /// Returns `Ok` of the index of a key, or `Err` of the index where it would go. It costs what `get` does.
     pub fn find_index(&self, key: &str) -> Result<usize, usize>
         ensures { OfIndex self.now (λ pairs. result ≡ index_of text_order pairs key.now) }
     {
@@ -107,7 +107,7 @@ impl<'a> CheckedNames<'a> {
         self.names.find_index_counted(key, count).unwrap()
     }
 
-    /// The entry at a place, `None` from the length on. No other entry is read.
+    /// Returns the entry at an index, `None` from the length on. No other entry is read.
     pub fn get_indexed(&self, index: usize) -> Option<(&'a str, &'a str)>
         ensures { OfIndex self.now (λ pairs. option_map shown result ≡ slice_get pairs index) }
     {

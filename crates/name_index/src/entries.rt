@@ -15,7 +15,7 @@ use name_table::parts::Cursor;
 use std::alloc::{AllocError, Global};
 use std::cmp::Ordering;
 
-/// The text that the bytes begin with, behind its length, and the bytes behind it.
+/// Reads the string that the bytes begin with, after its length, and returns it with the bytes after it.
 pub fn read_valid_text(bytes: &[u8]) -> (&str, &[u8])
     requires { BeginsText bytes.now }
     ensures { Begins bytes.now (text_parts result.0.now) result.1.now }
@@ -26,7 +26,7 @@ pub fn read_valid_text(bytes: &[u8]) -> (&str, &[u8])
     }
 }
 
-/// The key and the value that the bytes begin with, and the bytes behind them.
+/// Reads the key and the value that the bytes begin with, and returns them with the bytes after them.
 pub fn read_valid_pair(bytes: &[u8]) -> ((&str, &str), &[u8])
     requires { BeginsPair bytes.now }
     ensures { Begins bytes.now (pair_parts (shown result.0 ∷ [])) result.1.now }
@@ -36,7 +36,7 @@ pub fn read_valid_pair(bytes: &[u8]) -> ((&str, &str), &[u8])
     ((key, value), rest)
 }
 
-/// The place of the key among so many entries, with its value, or else the place where it would go.
+/// Returns the index of the key among so many entries, with its value, or else the index where it would go.
 pub fn scan<'a>(
     entries: &'a [u8],
     size: usize,
@@ -59,7 +59,7 @@ pub fn scan<'a>(
     Err(size)
 }
 
-/// The entry at a place.
+/// Returns the entry at an index.
 pub fn entry_at<'a>(entries: &'a [u8], count: usize, index: usize) -> (&'a str, &'a str)
     requires entries { AreEntries entries.now count }
     requires within { index < count }
@@ -74,7 +74,7 @@ pub fn entry_at<'a>(entries: &'a [u8], count: usize, index: usize) -> (&'a str, 
     pair
 }
 
-/// The map of entries whose keys rise. No keys are compared.
+/// Makes the map of entries whose keys ascend. No keys are compared.
 pub fn map_of<'a>(alloc: Global, entries: NameEntries<'a>) -> Result<NameMap<'a>, AllocError>
     requires { Rising text_order entries }
     ensures pairs { IfOk result (λ made. map shown made.pairs ≡ entries.entry) }

@@ -7,10 +7,10 @@ use name_table::NameFault;
 use std::alloc::AllocError;
 use thiserror::Error;
 
-/// Why bytes are no name table whose keys rise.
+/// Why bytes are no name table whose keys ascend.
 #[derive(Debug, PartialEq, Drop, Error)]
 pub enum NameTableFault {
-    /// A number or a text can't be read: the bytes are no name table.
+    /// A number or a string can't be read: the bytes are no name table.
     #[error("{0}")]
     Format(NameFault),
     /// A key isn't above the one before it.
@@ -21,7 +21,7 @@ pub enum NameTableFault {
     },
 }
 
-/// So that `?` hands a fault of the format on.
+/// For `?` after a call that reads a table.
 impl From<NameFault> for NameTableFault {
     ghost from_gives = { λ fault result. result ≡ Format fault };
 
@@ -33,15 +33,15 @@ impl From<NameFault> for NameTableFault {
 /// Why no `NameIndex` of a table was made.
 #[derive(Debug, PartialEq, Drop, Error)]
 pub enum NameIndexFault {
-    /// Want of memory.
+    /// Memory ran out.
     #[error("out of memory")]
     NoRoom,
-    /// An entry begins 4,294,967,296 bytes or more behind the first.
+    /// An entry begins 4,294,967,296 bytes or more after the first.
     #[error("an entry of the name table begins too far behind the first")]
     TooFar,
 }
 
-/// So that `?` hands want of memory on.
+/// For `?` after a call that takes memory.
 impl From<AllocError> for NameIndexFault {
     ghost from_gives = { λ _ fault. fault ≡ NoRoom };
 
@@ -53,16 +53,16 @@ impl From<AllocError> for NameIndexFault {
 /// Why bytes are no index of names.
 #[derive(Debug, PartialEq, Drop, Error)]
 pub enum IndexFault {
-    /// The bytes end before the number or text does, or before it begins.
+    /// The bytes end before the number or string does, or before it begins.
     #[error("the bytes end within the number or text at byte {at}")]
     Truncated {
-        /// Where the number or text begins.
+        /// Where the number or string begins.
         at: usize,
     },
-    /// The text's bytes aren't UTF-8.
+    /// The string's bytes aren't UTF-8.
     #[error("the text at byte {at} is not UTF-8")]
     NotUtf8 {
-        /// Where the text begins.
+        /// Where the string begins.
         at: usize,
     },
     /// A key isn't above the one before it.

@@ -21,7 +21,7 @@ use std::alloc::{AllocError, Global};
 use std::marker::Model;
 use std::ops::Range;
 
-/// A name table whose keys rise, with the offset of each entry: four bytes for each.
+/// A name table whose keys ascend, with the offset of each entry, which takes four bytes.
 ///
 /// A contract sees it as the bytes, as it does a `NameTable`.
 #[derive(Drop)]
@@ -43,10 +43,12 @@ impl<'a> Model for NameIndex<'a> {
 }
 
 impl<'a> NameIndex<'a> {
-    /// The index of a table: its entries are read once, with no comparison.
+    /// Makes the index of a table. Its entries are read once, with no comparison.
     ///
-    /// It is refused for want of memory, that of a table with no entry never, and exactly where an entry begins 4,294,967,296
-    /// bytes or more behind the first.
+    /// # Errors
+    ///
+    /// `TooFar` comes if an entry begins 4,294,967,296 bytes or more after the first, and only then. If memory runs out, it is
+    /// `NoRoom`, which doesn't come if the table has no entry.
     pub fn new(alloc: Global, table: &NameTable<'a>) -> Result<Self, NameIndexFault>
         ensures bytes { IfOk result (λ index. index ≡ table.now) }
         ensures refused { OnErr result (OfTable table.now (λ pairs. 0 < length pairs)) }
@@ -62,21 +64,21 @@ impl<'a> NameIndex<'a> {
         })
     }
 
-    /// The number of entries.
+    /// Returns the number of entries.
     pub fn len(&self) -> usize
         ensures { OfTable self.now (λ pairs. result ≡ length pairs) }
     {
         self.offsets.len()
     }
 
-    /// Whether there is no entry.
+    /// Returns whether there is no entry.
     pub fn is_empty(&self) -> bool
         ensures { OfTable self.now (λ pairs. result ≡ (length pairs == 0)) }
     {
         self.len() == 0
     }
 
-    /// The value of a key, if it is there. It makes O(log n) comparisons.
+    /// Returns the value of a key, if it is there. It makes O(log n) comparisons.
     pub fn get(&self, key: &str) -> Option<&'a str>
         ensures { OfTable self.now (λ pairs. option_copied result ≡ value_at text_order pairs key.now) }
     {
@@ -95,7 +97,7 @@ impl<'a> NameIndex<'a> {
         }
     }
 
-    /// The place of a key, or where it would go. It costs what `get` does.
+    /// Returns `Ok` of the index of a key, or `Err` of the index where it would go. It costs what `get` does.
     pub fn find_index(&self, key: &str) -> Result<usize, usize>
         ensures { OfTable self.now (λ pairs. result ≡ index_of text_order pairs key.now) }
     {
@@ -110,7 +112,7 @@ impl<'a> NameIndex<'a> {
         search(self.entries, self.offsets.as_slice(), key, count)
     }
 
-    /// The entry at a place, `None` from the length on. No other entry is read.
+    /// Returns the entry at an index, `None` from the length on. No other entry is read.
     pub fn get_indexed(&self, index: usize) -> Option<(&'a str, &'a str)>
         ensures { OfTable self.now (λ pairs. option_map shown result ≡ slice_get pairs index) }
     {
@@ -120,10 +122,10 @@ impl<'a> NameIndex<'a> {
         Some(pair_of(self.entries, self.offsets.as_slice(), index))
     }
 
-    /// The places of the names that begin with a text. They start behind all names that are below the text, and where no name
-    /// begins with it the range is empty there. An empty text begins each name.
+    /// Returns the range of the indices of the names that begin with a string. It starts after all names that are below the
+    /// string, and if no name begins with it, it is empty there. An empty string begins each name.
     ///
-    /// It makes O(log n) comparisons, each of a name with the text, as far as this reaches.
+    /// It makes O(log n) comparisons, each of the string with as many bytes of a name.
     pub fn prefix_places(&self, prefix: &str) -> Range<usize>
         ensures start { OfTable self.now (λ pairs. result.start ≡ place text_order pairs prefix.now) }
         ensures names { OfTable self.now (λ pairs. sub pairs result.start result.end
@@ -145,7 +147,8 @@ impl<'a> NameIndex<'a> {
         start..end
     }
 
-    /// The entries at the places of a range, in order; none past the last one. Each is read when asked for, with no comparison.
+    /// Returns the entries at the indices of a range, in order, and none past the last one. Each is read when the iterator
+    /// comes to it, with no comparison.
     pub fn entries_in(&self, range: Range<usize>) -> NameEntries<'a>
         ensures { OfTable self.now (λ pairs. result ≡ slice_range pairs range.start range.end) }
     {
@@ -158,9 +161,10 @@ impl<'a> NameIndex<'a> {
         }
     }
 
-    /// The map of all entries, whose keys and values are slices of the bytes. Each is read once, moved once, and not compared.
+    /// Makes the map of all entries, whose keys and values are slices of the bytes. Each is read once, moved once, and not
+    /// compared.
     ///
-    /// It is refused for want of memory alone: it takes room for all entries at once, and none where there is no entry.
+    /// It fails only if memory runs out. It takes memory for all entries at once, and none if there is no entry.
     pub fn to_map(&self, alloc: Global) -> Result<NameMap<'a>, AllocError>
         ensures pairs { IfOk result (λ made. OfTable self.now (λ pairs. map shown made.pairs ≡ pairs)) }
         ensures refused { OnErr result (OfTable self.now (λ pairs. 0 < length pairs)) }
@@ -168,7 +172,7 @@ impl<'a> NameIndex<'a> {
         map_of(alloc, self.iter())
     }
 
-    /// All entries in order. Each is read when it is asked for, with no comparison.
+    /// Returns an iterator over all entries in order. Each is read when the iterator comes to it, with no comparison.
     pub fn iter(&self) -> NameEntries<'a>
         ensures { OfTable self.now (λ pairs. result ≡ pairs) }
     {
@@ -176,7 +180,7 @@ impl<'a> NameIndex<'a> {
     }
 }
 
-/// All entries in order, as `iter` gives them.
+/// The iterator of `iter`.
 impl<'t, 'a> IntoIterator for &'t NameIndex<'a> {
     type Item = (&'a str, &'a str);
 

@@ -1,4 +1,4 @@
-//! Numbers, texts and entries at places of an index.
+//! Numbers, strings and entries at offsets of an index.
 ghost use Rattle.std.specs.Prelude.{◌+◌, ◌<◌, ◌^◌, IfErr, IfOk, length};
 ghost use Rattle.name_index.specs.Index.{BeginsAt, HasKey, HasOffsets, IsEntry, IsNumberAt, IsPairAt, IsTextAt, NoEntry};
 ghost use Rattle.name_table.specs.Remaining.{shown};
@@ -6,7 +6,7 @@ ghost use Rattle.name_table.specs.Remaining.{shown};
 use crate::fault::IndexFault;
 use std::str;
 
-/// The number at a place.
+/// Reads the number at an offset.
 pub fn number_at(bytes: &[u8], at: usize) -> Result<usize, IndexFault>
     ensures number { IfOk result (λ number. IsNumberAt bytes.now at number) }
     ensures small { IfOk result (λ number. number < 2 ^ 32) }
@@ -22,7 +22,7 @@ pub fn number_at(bytes: &[u8], at: usize) -> Result<usize, IndexFault>
     }
 }
 
-// The text at a place, behind the number of its bytes.
+// The string at an offset, after the number of its bytes.
 fn text_at(bytes: &[u8], at: usize) -> Result<&str, IndexFault>
     ensures text { IfOk result (λ text. IsTextAt bytes.now at text.now) }
     ensures fault { IfErr result (λ _. (text : _) → IsTextAt bytes.now at text → ⊥) }
@@ -39,7 +39,6 @@ fn text_at(bytes: &[u8], at: usize) -> Result<&str, IndexFault>
     }
 }
 
-// The key and the value at a place.
 fn pair_at(bytes: &[u8], at: usize) -> Result<(&str, &str), IndexFault>
     ensures pair { IfOk result (λ pair. IsPairAt bytes.now at (shown pair)) }
     ensures fault { IfErr result (λ _. (pair : _) → IsPairAt bytes.now at pair → ⊥) }
@@ -49,7 +48,6 @@ fn pair_at(bytes: &[u8], at: usize) -> Result<(&str, &str), IndexFault>
     Ok((key, value))
 }
 
-// Where an entry begins.
 fn offset_of(bytes: &[u8], count: usize, index: usize) -> Result<usize, IndexFault>
     requires offsets { HasOffsets bytes.now count }
     requires within { index < count }
@@ -60,7 +58,7 @@ fn offset_of(bytes: &[u8], count: usize, index: usize) -> Result<usize, IndexFau
     Ok(4 + 4 * count + far)
 }
 
-/// The entry of an index.
+/// Reads the entry at an index.
 pub fn entry_at(bytes: &[u8], count: usize, index: usize) -> Result<(&str, &str), IndexFault>
     requires offsets { HasOffsets bytes.now count }
     requires within { index < count }
@@ -72,7 +70,7 @@ pub fn entry_at(bytes: &[u8], count: usize, index: usize) -> Result<(&str, &str)
     Ok(pair)
 }
 
-/// Its key alone.
+/// Reads its key alone.
 pub fn key_at(bytes: &[u8], count: usize, index: usize) -> Result<&str, IndexFault>
     requires offsets { HasOffsets bytes.now count }
     requires within { index < count }

@@ -1,4 +1,4 @@
-//! Indexes written from maps.
+//! Indexes of names written from maps.
 ghost use Rattle.std.specs.Prelude.{◌≡◌, ◌+◌, ◌≤◌, ◌<◌, Err, IfErr, IfOk, OnOk, length, map};
 ghost use Rattle.litemap.specs.ByBytes.{by_bytes};
 ghost use Rattle.litemap_store.specs.Pairs.{Rising};
@@ -12,9 +12,11 @@ ghost use Rattle.name_table.specs.declared.fault.NameWriteFault.TheVariants.{Too
 use name_table::{NameMap, NameWriteFault};
 use std::alloc::Global;
 
-/// The index of a map.
+/// Writes the index of a map, and returns its bytes.
 ///
-/// It is refused for want of memory, and exactly where the entries take 4,294,967,296 bytes or more.
+/// # Errors
+///
+/// `TooLarge` comes if the entries take 4,294,967,296 bytes or more, and only then. If memory runs out, it is `NoRoom`.
 pub fn write_index(alloc: Global, names: &NameMap<'_>) -> Result<Vec<u8>, NameWriteFault>
     ensures index { IfOk result (λ bytes. IsIndex bytes.items (map shown names.now.pairs)) }
     ensures size { IfOk result (λ bytes. length bytes.items ≡ index_size (map shown names.now.pairs)) }
@@ -24,7 +26,8 @@ pub fn write_index(alloc: Global, names: &NameMap<'_>) -> Result<Vec<u8>, NameWr
     write_index_of(alloc, names.as_slice())
 }
 
-/// The index of pairs whose keys rise strictly, as those of a table of the program do. It is refused where `write_index` is.
+/// Writes the index of pairs whose keys strictly ascend, as those of a constant table do, and returns its bytes. Its errors are
+/// those of `write_index`.
 pub fn write_index_of(alloc: Global, names: &[(&str, &str)]) -> Result<Vec<u8>, NameWriteFault>
     requires { Rising by_bytes names.now }
     ensures index { IfOk result (λ bytes. IsIndex bytes.items (map shown names.now)) }
@@ -48,12 +51,11 @@ fn put_offsets(alloc: Global, pairs: &[(&str, &str)]) -> Result<Vec<u8>, NameWri
     let mut offset = 0;
     for pair in pairs {
         put_number(&mut bytes, offset)?;
-        offset = behind(offset, pair.0, pair.1)?;
+        offset = offset_after(offset, pair.0, pair.1)?;
     }
     Ok(bytes)
 }
 
-// Writes the pairs.
 fn put_entries(bytes: &mut Vec<u8>, pairs: &[(&str, &str)]) -> Result<(), NameWriteFault>
     ensures pairs { OnOk result (AddsPairs bytes.old.items bytes.new.items (map shown pairs.now) (length pairs.now)) }
     ensures too_large { IfErr result (λ fault. IfTooLarge fault (number_limit ≤ entries_size (map shown pairs.now))) }
@@ -64,8 +66,8 @@ fn put_entries(bytes: &mut Vec<u8>, pairs: &[(&str, &str)]) -> Result<(), NameWr
     Ok(())
 }
 
-// The offset behind a pair, where four bytes can note it.
-fn behind(offset: usize, key: &str, value: &str) -> Result<usize, NameWriteFault>
+// The offset after a pair, if four bytes can hold it.
+fn offset_after(offset: usize, key: &str, value: &str) -> Result<usize, NameWriteFault>
     requires { offset < number_limit }
     ensures next { IfOk result (λ next. next ≡ offset + pair_size (key.now, value.now)) }
     ensures small { IfOk result (λ next. next < number_limit) }
@@ -82,7 +84,6 @@ fn behind(offset: usize, key: &str, value: &str) -> Result<usize, NameWriteFault
     }
 }
 
-// Writes a key and its value.
 fn put_pair(bytes: &mut Vec<u8>, key: &str, value: &str) -> Result<(), NameWriteFault>
     ensures adds { OnOk result (Adds bytes.old.items bytes.new.items (pair_size (key.now, value.now))) }
     ensures pair { OnOk result (IsPairAt bytes.new.items (length bytes.old.items) (key.now, value.now)) }
@@ -93,7 +94,6 @@ fn put_pair(bytes: &mut Vec<u8>, key: &str, value: &str) -> Result<(), NameWrite
     Ok(())
 }
 
-// Writes a text behind the number of its bytes.
 fn put_text(bytes: &mut Vec<u8>, text: &str) -> Result<(), NameWriteFault>
     ensures adds { OnOk result (Adds bytes.old.items bytes.new.items (4 + length text.now)) }
     ensures text { OnOk result (IsTextAt bytes.new.items (length bytes.old.items) text.now) }
@@ -104,7 +104,6 @@ fn put_text(bytes: &mut Vec<u8>, text: &str) -> Result<(), NameWriteFault>
     Ok(())
 }
 
-// Writes a number.
 fn put_number(bytes: &mut Vec<u8>, number: usize) -> Result<(), NameWriteFault>
     ensures adds { OnOk result (Adds bytes.old.items bytes.new.items 4) }
     ensures number { OnOk result (IsNumberAt bytes.new.items (length bytes.old.items) number) }

@@ -1,4 +1,4 @@
-//! Names looked up by the offsets that stand in front of them in the bytes.
+//! Names looked up by the offsets that stand before them in the bytes.
 ghost use Rattle.std.specs.Prelude.{◌≡◌, ◌==◌, IfErr, IfOk, length, slice_get};
 ghost use Rattle.std.specs.Option.{option_copied, option_map};
 ghost use Rattle.litemap_store.specs.Counts.{RisesByAtMost, digits};
@@ -13,10 +13,10 @@ use crate::indexed_search::find;
 use litemap_store::store::Count;
 use std::marker::Model;
 
-/// An index of names that lies in bytes: `write_index` writes one.
+/// An index of names that lies in bytes, as `write_index` writes it.
 ///
-/// It takes no memory, and is opened in constant time: a look-up reads what it needs and checks that. Where the bytes are an
-/// index (`IsIndex`) no call answers a fault; of other bytes it may answer one, or anything that stands in them.
+/// It takes no memory, and is opened in constant time: a lookup reads what it needs and checks that. If the bytes are an index
+/// (`IsIndex`), no call returns an error. Of other bytes a call may return one, or anything that stands in them.
 ///
 /// A contract sees it as the bytes.
 #[derive(Drop)]
@@ -37,7 +37,8 @@ impl<'a> Model for IndexedNames<'a> {
 }
 
 impl<'a> IndexedNames<'a> {
-    /// The index that the bytes are. Only the number of entries is read, and whether the bytes have room for their offsets.
+    /// Opens the index that the bytes are. It reads only the number of entries, and whether the bytes are long enough for their
+    /// offsets.
     pub fn open(bytes: &'a [u8]) -> Result<Self, IndexFault>
         ensures bytes { IfOk result (λ names. names ≡ bytes.now) }
         ensures fault { IfErr result (λ _. NoIndex bytes.now) }
@@ -50,7 +51,6 @@ impl<'a> IndexedNames<'a> {
         Ok(IndexedNames { bytes, size })
     }
 
-    // The bytes, and the number of entries.
     pub(crate) fn parts(&self) -> (&'a [u8], usize)
         ensures offsets { HasOffsets result.0.now result.1 }
         ensures bytes { result.0.now ≡ self.now }
@@ -58,21 +58,21 @@ impl<'a> IndexedNames<'a> {
         (self.bytes, self.size)
     }
 
-    /// The number of entries.
+    /// Returns the number of entries.
     pub fn len(&self) -> usize
         ensures { IfIndex self.now (λ pairs. result ≡ length pairs) }
     {
         self.size
     }
 
-    /// Whether there is no entry.
+    /// Returns whether there is no entry.
     pub fn is_empty(&self) -> bool
         ensures { IfIndex self.now (λ pairs. result ≡ (length pairs == 0)) }
     {
         self.size == 0
     }
 
-    /// The value of a key, if it is there. It makes O(log n) comparisons.
+    /// Returns the value of a key, if it is there. It makes O(log n) comparisons.
     pub fn get(&self, key: &str) -> Result<Option<&'a str>, IndexFault>
         ensures value { IfOk result (λ found. IfIndex self.now
             (λ pairs. option_copied found ≡ value_at text_order pairs key.now)) }
@@ -97,7 +97,7 @@ impl<'a> IndexedNames<'a> {
         }
     }
 
-    /// The place of a key, or where it would go. It costs what `get` does.
+    /// Returns `Ok` of the index of a key, or `Err` of the index where it would go. It costs what `get` does.
     pub fn find_index(&self, key: &str) -> Result<Result<usize, usize>, IndexFault>
         ensures place { IfOk result (λ found. IfIndex self.now (λ pairs. found ≡ index_of text_order pairs key.now)) }
         ensures fault { IfErr result (λ _. NoIndex self.now) }
@@ -118,7 +118,7 @@ impl<'a> IndexedNames<'a> {
         find(self.bytes, self.size, key, count)
     }
 
-    /// The entry at a place, `None` from the length on. No other entry is read.
+    /// Returns the entry at an index, `None` from the length on. No other entry is read.
     pub fn get_indexed(&self, index: usize) -> Result<Option<(&'a str, &'a str)>, IndexFault>
         ensures entry { IfOk result (λ found. IfIndex self.now (λ pairs. option_map shown found ≡ slice_get pairs index)) }
         ensures fault { IfErr result (λ _. NoIndex self.now) }

@@ -11,7 +11,7 @@ use crate::rising::is_above;
 use litemap_store::store::Count;
 use std::cmp::Ordering;
 
-/// The place of the key, or where it would go.
+/// Returns `Ok` of the index of the key, or `Err` of the index where it would go.
 pub fn find(
     bytes: &[u8],
     size: usize,
@@ -38,7 +38,7 @@ pub fn find(
     Ok(Err(low))
 }
 
-/// Reads all entries. The fault is that of the first one that can't be read, or whose key doesn't rise.
+/// Reads all entries. The error is that of the first one that can't be read, or whose key doesn't ascend.
 pub fn follow(bytes: &[u8], size: usize, count: &mut Count) -> Result<(), IndexFault>
     requires { HasOffsets bytes.now size }
     ensures ok { OnOk result (OfIndex bytes.now (λ _. ⊤)) }

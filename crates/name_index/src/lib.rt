@@ -1,6 +1,6 @@
 //! Name tables looked up in their bytes, with no map made: `NameTable` scans them and takes no memory, and `NameIndex` keeps
-//! the offset of each entry. `IndexedNames` and `CheckedNames` are bytes with the offsets in front, which `write_index` writes.
-//! `docs/NAME_TABLES.md` says when to use which.
+//! the offset of each entry. `IndexedNames` and `CheckedNames` are bytes that begin with the offsets, as `write_index` writes
+//! them. `docs/NAME_TABLES.md` says when to use which. All of this crate is own: the Rust crate has nothing like it.
 #![tactic(auto)]
 
 mod checked;

@@ -11,7 +11,8 @@ use crate::entries::read_valid_pair;
 use std::iter::FusedIterator;
 use std::marker::Model;
 
-/// The entries of a table that are still to come. A contract sees their list, in which a text is the list of its bytes.
+/// An iterator over the entries of a table. A contract sees it as the list of those still to come, in which a string is the
+/// list of its bytes.
 #[derive(Drop)]
 pub struct NameEntries<'a> {
     rest: &'a [u8],

@@ -17,7 +17,7 @@ use litemap_store::store::Count;
 use std::alloc::{AllocError, Global};
 use std::cmp::Ordering;
 
-/// The offsets of `count` entries from the first one.
+/// Returns the offsets of `count` entries from the first one.
 pub fn offsets_of(alloc: Global, entries: &[u8], count: usize) -> Result<Vec<u32>, NameIndexFault>
     requires { AreEntries entries.now count }
     ensures number { IfOk result (λ offsets. length offsets.items ≡ count) }
@@ -36,7 +36,6 @@ pub fn offsets_of(alloc: Global, entries: &[u8], count: usize) -> Result<Vec<u32
     Ok(offsets)
 }
 
-// Puts an offset behind the others.
 fn push(offsets: &mut Vec<u32>, offset: u32) -> Result<(), AllocError>
     ensures { OnOk result (offsets.new.items ≡ offsets.old.items ++ offset ∷ []) }
 {
@@ -44,7 +43,7 @@ fn push(offsets: &mut Vec<u32>, offset: u32) -> Result<(), AllocError>
     Ok(())
 }
 
-// How far the rest begins behind the first entry, where four bytes can note it.
+// How far the rest begins after the first entry, if four bytes can hold it.
 fn offset_of(entries: &[u8], rest: &[u8]) -> Result<u32, NameIndexFault>
     requires { length rest.now ≤ length entries.now }
     ensures offset { IfOk result (λ offset. offset + length rest.now ≡ length entries.now) }
@@ -56,7 +55,7 @@ fn offset_of(entries: &[u8], rest: &[u8]) -> Result<u32, NameIndexFault>
     }
 }
 
-/// The entry at a place.
+/// Returns the entry at an index.
 pub fn pair_of<'a>(entries: &'a [u8], offsets: &[u32], index: usize) -> (&'a str, &'a str)
     requires placed { ArePlaced entries.now offsets.now }
     requires within { index < length offsets.now }
@@ -66,7 +65,7 @@ pub fn pair_of<'a>(entries: &'a [u8], offsets: &[u32], index: usize) -> (&'a str
     pair
 }
 
-/// The entries from one place to before another.
+/// Returns the entries from one index to before another.
 pub fn entries_between<'a>(
     entries: &'a [u8],
     offsets: &[u32],
@@ -81,7 +80,7 @@ pub fn entries_between<'a>(
     NameEntries::new(&entries[offsets[start] as usize..], end - start)
 }
 
-/// The key of the entry at a place.
+/// Returns the key of the entry at an index.
 pub fn key_of<'a>(entries: &'a [u8], offsets: &[u32], index: usize) -> &'a str
     requires placed { ArePlaced entries.now offsets.now }
     requires within { index < length offsets.now }
@@ -91,7 +90,7 @@ pub fn key_of<'a>(entries: &'a [u8], offsets: &[u32], index: usize) -> &'a str
     key
 }
 
-/// The place of the key, or where it would go.
+/// Returns `Ok` of the index of the key, or `Err` of the index where it would go.
 pub fn search(entries: &[u8], offsets: &[u32], key: &str, count: &mut Count) -> Result<usize, usize>
     requires { ArePlaced entries.now offsets.now }
     ensures splits { AsPlaced entries.now offsets.now (λ pairs. Splits text_order pairs key.now result) }

@@ -1,4 +1,4 @@
-//! Where the names that begin with a text stand.
+//! The names that begin with a string.
 ghost use Rattle.std.specs.Prelude.{◌≡◌, ◌+◌, length, take};
 ghost use Rattle.litemap.specs.Within.{IsCut};
 ghost use Rattle.litemap_store.specs.Counts.{RisesByAtMost, digits};
@@ -8,7 +8,7 @@ ghost use Rattle.name_index.specs.Prefixes.{leads_to};
 use crate::offsets::key_of;
 use litemap_store::store::Count;
 
-/// How many names lie before those that begin with the text, these counted too where `behind` is true.
+/// Returns how many names come before those that begin with the string, with these counted too if `behind` is true.
 pub fn partition_point(
     entries: &[u8],
     offsets: &[u32],
@@ -33,7 +33,7 @@ pub fn partition_point(
     low
 }
 
-// Whether a name lies before those that begin with the text, or, where `behind` is true, not behind them.
+// Whether a name comes before those that begin with the string, or, if `behind` is true, not after them.
 fn is_led(name: &str, text: &str, behind: bool, count: &mut Count) -> bool
     ensures led { result ≡ leads_to behind text.now name.now }
     ensures same { count.new.name ≡ count.old.name }

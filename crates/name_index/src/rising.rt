@@ -1,4 +1,4 @@
-//! Whether the keys of a table rise.
+//! Whether the keys of a table ascend.
 ghost use Rattle.std.specs.Prelude.{◌≡◌, ◌-◌, IfErr, IfNone, IfSome, IsTrue, OnOk};
 ghost use Rattle.std.specs.Ordering.{is_lt};
 ghost use Rattle.litemap_store.specs.Counts.{RisesByAtMost};
@@ -10,7 +10,7 @@ use litemap_read::PairSource;
 use litemap_store::store::Count;
 use name_table::NameBytes;
 
-/// Reads what is left of a table. The fault is that of the first entry that can't be read or whose key doesn't rise.
+/// Reads what is left of a table. The error is that of the first entry that can't be read or whose key doesn't ascend.
 pub fn check(names: &mut NameBytes<'_>, count: &mut Count) -> Result<(), NameTableFault>
     ensures ok { OnOk result (AllRise names.old) }
     ensures fault { IfErr result (λ fault. StopsAt names.old fault) }
@@ -29,7 +29,7 @@ pub fn check(names: &mut NameBytes<'_>, count: &mut Count) -> Result<(), NameTab
     }
 }
 
-/// Whether a key is above the last one, if there is one.
+/// Returns whether a key is above the last one, if there is one.
 pub fn is_above(last: Option<&str>, key: &str, count: &mut Count) -> bool
     ensures first { IfNone last.entry (IsTrue result) }
     ensures later { IfSome last.entry (λ last. result ≡ is_lt (text_order last.now key.now)) }

@@ -18,10 +18,10 @@ use name_table::{NameBytes, NameMap};
 use std::alloc::{AllocError, Global};
 use std::marker::Model;
 
-/// A name table whose keys rise, looked up in its bytes. It takes no memory.
+/// A name table whose keys ascend, looked up in its bytes. It takes no memory.
 ///
-/// A contract sees it as the bytes. They begin with one table, and what a call answers is said of the list of its pairs
-/// (`OfTable`), whose texts are compared by their bytes.
+/// A contract sees it as the bytes. They begin with one table, and what a call returns is said of the list of its pairs
+/// (`OfTable`), whose strings are compared by their bytes.
 #[derive(Drop)]
 pub struct NameTable<'a> {
     bytes: &'a [u8],
@@ -41,11 +41,10 @@ impl<'a> Model for NameTable<'a> {
 }
 
 impl<'a> NameTable<'a> {
-    /// The table that the bytes begin with.
+    /// Opens the table that the bytes begin with. Bytes after the table are left unread.
     ///
-    /// It is read once, with one comparison for each key but the first, and no memory is taken. The fault is that of the
-    /// first entry that can't be read, as `read_names` tells it, or whose key isn't above the one before it. Bytes behind
-    /// the table are left unread.
+    /// The table is read once, with one comparison for each key but the first, and no memory is taken. The error is that of the
+    /// first entry that can't be read, as `read_names` returns it, or whose key isn't above the one before it.
     pub fn new(bytes: &'a [u8]) -> Result<Self, NameTableFault>
         ensures bytes { IfOk result (λ table. table ≡ bytes.now) }
         ensures table { IfOk result (λ _. OfTable bytes.now (λ _. ⊤)) }
@@ -80,21 +79,21 @@ impl<'a> NameTable<'a> {
         (self.bytes, self.entries, self.count)
     }
 
-    /// The number of entries.
+    /// Returns the number of entries.
     pub fn len(&self) -> usize
         ensures { OfTable self.now (λ pairs. result ≡ length pairs) }
     {
         self.count
     }
 
-    /// Whether there is no entry.
+    /// Returns whether there is no entry.
     pub fn is_empty(&self) -> bool
         ensures { OfTable self.now (λ pairs. result ≡ (length pairs == 0)) }
     {
         self.count == 0
     }
 
-    /// The value of a key, if it is there.
+    /// Returns the value of a key, if it is there.
     ///
     /// The entries are read from the first on, with one comparison for each, up to the first key that isn't below this one.
     pub fn get(&self, key: &str) -> Option<&'a str>
@@ -114,7 +113,7 @@ impl<'a> NameTable<'a> {
         }
     }
 
-    /// The place of a key, or where it would go. It costs what `get` does.
+    /// Returns `Ok` of the index of a key, or `Err` of the index where it would go. It costs what `get` does.
     pub fn find_index(&self, key: &str) -> Result<usize, usize>
         ensures { OfTable self.now (λ pairs. result ≡ index_of text_order pairs key.now) }
     {
@@ -132,7 +131,7 @@ impl<'a> NameTable<'a> {
         }
     }
 
-    /// The entry at a place, `None` from the length on. The entries in front of it are read.
+    /// Returns the entry at an index, `None` from the length on. The entries before it are read.
     pub fn get_indexed(&self, index: usize) -> Option<(&'a str, &'a str)>
         ensures { OfTable self.now (λ pairs. option_map shown result ≡ slice_get pairs index) }
     {
@@ -142,9 +141,10 @@ impl<'a> NameTable<'a> {
         Some(entry_at(self.entries, self.count, index))
     }
 
-    /// The map of all entries, whose keys and values are slices of the bytes. Each is read once, moved once, and not compared.
+    /// Makes the map of all entries, whose keys and values are slices of the bytes. Each is read once, moved once, and not
+    /// compared.
     ///
-    /// It is refused for want of memory alone: it takes room for all entries at once, and none where there is no entry.
+    /// It fails only if memory runs out. It takes memory for all entries at once, and none if there is no entry.
     pub fn to_map(&self, alloc: Global) -> Result<NameMap<'a>, AllocError>
         ensures pairs { IfOk result (λ made. OfTable self.now (λ pairs. map shown made.pairs ≡ pairs)) }
         ensures refused { OnErr result (OfTable self.now (λ pairs. 0 < length pairs)) }
@@ -152,7 +152,7 @@ impl<'a> NameTable<'a> {
         map_of(alloc, self.iter())
     }
 
-    /// All entries in order. Each is read when it is asked for, with no comparison.
+    /// Returns an iterator over all entries in order. Each is read when the iterator comes to it, with no comparison.
     pub fn iter(&self) -> NameEntries<'a>
         ensures { OfTable self.now (λ pairs. result ≡ pairs) }
     {
@@ -160,7 +160,7 @@ impl<'a> NameTable<'a> {
     }
 }
 
-/// All entries in order, as `iter` gives them.
+/// The iterator of `iter`.
 impl<'t, 'a> IntoIterator for &'t NameTable<'a> {
     type Item = (&'a str, &'a str);
 

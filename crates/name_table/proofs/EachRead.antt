@@ -1,4 +1,4 @@
--- Each list of bytes begins with a table, or has a fault.
+-- Each list of bytes begins with a table, or has an error.
 use Rattle.std.proofs.Common.{◌≡◌, ◌≢◌, ◌⊎◌, inl, inr, ℕ, zero, suc, ◌+◌, ◌-◌, ◌*◌, ◌%◌, ◌≤◌, Bool, true, false, List, [], ◌∷◌, length, take, drop, refl, sym, arith, ⊎_elim}
 use Rattle.std.proofs.lemmas.Bool.{cases_lt}
 use Rattle.std.proofs.lemmas.List.{length-take-le, take-append-drop}
@@ -55,7 +55,7 @@ length_read bytes place =
     (λ w. inr (unread_fault w.0 bytes place w.1))
     (number_read 5 bytes)
 
--- ---- a text
+-- ---- a string
 
 abbrev TextRead : List ℕ → ℕ → Type 0
 TextRead bytes place = ((text : List ℕ) × (rest : List ℕ) × Begins bytes (text_parts text) rest) ⊎ ((f : NameFault) × Fault AreOfText bytes place f)

@@ -1,4 +1,4 @@
--- Faults of the parts in front, and of those behind what was read.
+-- Errors of the first parts, and of those after what was read.
 use Rattle.std.proofs.Common.{◌≡◌, ℕ, ◌+◌, List, [], ◌∷◌, ◌++◌, length, refl, sym, ap, ◌∙◌, subst, arith, append-nil, append_assoc, length-append}
 use Rattle.std.proofs.Math.ListN.{replicate}
 use Rattle.std.proofs.lemmas.List.{length-replicate}
@@ -14,7 +14,7 @@ module _ {Allowed : List Part → Type 0} (bytes : List ℕ) (place : ℕ) (faul
       let e : place ≡ place + 0 = omega arith in
       record { done = []; due = due; more = more; allowed = a; front = []; rest = bytes; split = refl; spelled = refl; why = rw (← e) w }
 
-  -- one of those behind what was read can't be read
+  -- one of those after what was read can't be read
   pub fault_behind : (xs : List Part) (middle : List ℕ) (b : Begins bytes xs middle) (next : ℕ) → next ≡ place + length b.front → Fault (λ ys. Allowed (xs ++ ys)) middle next fault → Fault Allowed bytes place fault
   fault_behind xs middle b next n w =
       let e : next + length w.front ≡ place + length (b.front ++ w.front) = simp length-append (omega (arith, n)) in
@@ -31,7 +31,7 @@ module _ {Allowed : List Part → Type 0} (bytes : List ℕ) (place : ℕ) (faul
         why = rw (← e) w.why;
       }
 
--- where each list of parts that is allowed begins one that is allowed there too
+-- if each list of parts that is allowed begins one that is allowed there too
 pub fault_wider : {A B : List Part → Type 0} (bytes : List ℕ) (place : ℕ) (fault : NameFault) → ((xs : List Part) → A xs → (ys : List Part) × B (xs ++ ys)) → Fault A bytes place fault → Fault B bytes place fault
 fault_wider {A} {B} bytes place fault wider w =
     let b = wider (w.done ++ w.due ∷ w.more) w.allowed in
@@ -50,12 +50,12 @@ fault_wider {A} {B} bytes place fault wider w =
 pub fault_where : {A B : List Part → Type 0} (bytes : List ℕ) (place : ℕ) (fault : NameFault) → ((xs : List Part) → A xs → B xs) → Fault A bytes place fault → Fault B bytes place fault
 fault_where {A} {B} bytes place fault wider w = fault_wider bytes place fault (λ xs a. ([], rw (append-nil xs) (wider xs a))) w
 
--- ---- a text behind its length
+-- ---- a string after its length
 
 pub length_fault : (bytes : List ℕ) (place : ℕ) (fault : NameFault) → NumberFault bytes place fault → Fault AreOfText bytes place fault
 length_fault bytes place fault w = fault_first bytes place fault (Number 0) (Text [] ∷ []) ([], refl) w
 
--- the text itself: some text is as long
+-- the string itself: some string is as long
 pub text_fault : (bytes tail : List ℕ) (place next size : ℕ) (fault : NameFault) → (b : Begins bytes (Number size ∷ []) tail) → next ≡ place + length b.front → TextFault size tail next fault → Fault AreOfText bytes place fault
 text_fault bytes tail place next size fault b n w =
     let text : List ℕ = replicate size 0 in

@@ -1,4 +1,4 @@
--- Numbers as bytes: one byte more in front, and what a reader of them tells.
+-- Numbers as bytes: one byte more in front, and what a reader of them returns.
 use Rattle.std.proofs.Common.{◌≡◌, ◌≢◌, ℕ, ◌+◌, ◌-◌, ◌*◌, ◌%◌, ◌^◌, ◌<◌, ◌≤◌, List, [], ◌∷◌, length, refl, sym, ap, ◌∙◌, arith, inl, inr, append-nil}
 use Rattle.std.proofs.Math.Nat.{pow-succ', pow-le-pow_right}
 use Rattle.name_table.specs.Faults.{NumberFault}

@@ -1,4 +1,4 @@
--- Bytes have one reading at most: one table, or one fault.
+-- Bytes have one reading at most: one table, or one error.
 use Rattle.std.proofs.Common.{◌≡◌, ℕ, ◌+◌, List, [], ◌∷◌, ◌++◌, length, refl, sym, ap, ◌∙◌, subst, arith, ⊎_elim, append_assoc, append-nil, length-append}
 use Rattle.name_table.specs.Faults.{Fault, NumberFault, TextFault, PartFault, TableFault}
 use Rattle.name_table.specs.Numbers.{IsCut, IsTooLarge}
@@ -16,13 +16,13 @@ table_unique bytes J K rest rest' p q =
     let g : pair_parts J ≡ pair_parts K = cc in
     (pair_parts-inj J K g, u.2)
 
--- ---- a table, and no fault
+-- ---- a table, and no error
 
 agree_longer : (xs ys : List Part) (y : Part) → Agree xs (xs ++ y ∷ ys) → ⊥
 agree_longer [] ys y g = g
 agree_longer (x ∷ xs) ys y g = agree_longer xs ys y (g.1 refl)
 
--- where bytes begin with parts that agree with all that are allowed, none of these has a fault
+-- if bytes begin with parts that agree with all that are allowed, none of these has an error
 pub parts_no_fault : {Allowed : List Part → Type 0} (bytes rest : List ℕ) (xs : List Part) (place : ℕ) (fault : NameFault) → ((ys : List Part) → Allowed ys → Agree xs ys) → Begins bytes xs rest → Fault Allowed bytes place fault → ⊥
 parts_no_fault bytes rest xs place fault agrees p w =
     let g : Agree xs (w.done ++ w.due ∷ w.more) = agrees (w.done ++ w.due ∷ w.more) w.allowed in
@@ -38,7 +38,7 @@ pub table_no_fault : (bytes : List ℕ) (J : List (List ℕ × List ℕ)) (rest 
 table_no_fault bytes J rest fault p w =
     parts_no_fault bytes rest (table_parts J) 0 fault (λ ys a. rw a.1 (agree_tables J a.0)) p w
 
--- ---- one fault
+-- ---- one error
 
 cut_not_large : (bytes : List ℕ) → IsCut bytes → IsTooLarge bytes → ⊥
 cut_not_large bytes c l =
@@ -76,7 +76,7 @@ agree_rest : (xs ys zs : List Part) → Agree (xs ++ ys) (xs ++ zs) → Agree ys
 agree_rest [] ys zs g = g
 agree_rest (x ∷ xs) ys zs g = agree_rest xs ys zs (g.1 refl)
 
--- where all lists of parts that are allowed agree: neither fault is behind the other
+-- if all lists of parts that are allowed agree: neither error comes after the other
 pub fault_unique : {Allowed : List Part → Type 0} (bytes : List ℕ) (place : ℕ) (f g : NameFault) → ((xs ys : List Part) → Allowed xs → Allowed ys → Agree xs ys) → Fault Allowed bytes place f → Fault Allowed bytes place g → f ≡ g
 fault_unique bytes place f g agreed p q = by b.parts b.bytes b.is_front b.is_rest b.spelled (agree_rest p.done (p.due ∷ p.more) (b.parts ++ q.due ∷ q.more) h)
   where

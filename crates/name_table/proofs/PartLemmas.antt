@@ -1,4 +1,4 @@
--- Parts, one behind another.
+-- Parts, one after another.
 use Rattle.std.proofs.Common.{◌≡◌, ℕ, ◌+◌, List, [], ◌∷◌, ◌++◌, length, refl, sym, ap, ◌∙◌, arith, append_assoc, append-nil, length-append}
 use Rattle.std.specs.Prelude.{IsUtf8}
 use Rattle.name_table.specs.ReadOn.{begins_then}
@@ -8,7 +8,7 @@ use Rattle.name_table.specs.Position.{IsPast, Position}
 pub AreParts-one : (bytes : List ℕ) (x : Part) → IsPart bytes x → AreParts bytes (x ∷ [])
 AreParts-one bytes x p = (bytes, [], sym (append-nil bytes), p, refl)
 
--- what spells two lists of parts is a spelling of the first with one of the second behind it
+-- what spells two lists of parts is a spelling of the first with one of the second after it
 pub record Split (bytes : List ℕ) (xs ys : List Part) : Type 0 where
   pub first : List ℕ
   pub second : List ℕ
@@ -28,13 +28,13 @@ AreParts-split bytes (x ∷ xs) ys p =
       of_second = s.of_second;
     }
 
--- a text of so many bytes behind their number
+-- a string of so many bytes after their number
 pub begins_text : (bytes tail rest text : List ℕ) (size : ℕ) → Begins bytes (Number size ∷ []) tail → tail ≡ text ++ rest → length text ≡ size → IsUtf8 text → Begins bytes (text_parts text) rest
 begins_text bytes tail rest text size p e l u =
     begins_then bytes tail rest (Number (length text) ∷ []) (Text text ∷ []) (rw l p)
     (record { front = text; split = e; spelled = AreParts-one text (Text text) (refl, u) })
 
--- the same from place to place
+-- the same from position to position
 pub past_text : (s : Position) (tail rest text : List ℕ) (place size : ℕ) → IsPast s (record { rest = tail; place = place }) (Number size ∷ []) → tail ≡ text ++ rest → length text ≡ size → IsUtf8 text → IsPast s (record { rest = rest; place = place + size }) (text_parts text)
 past_text s tail rest text place size p e l u =
     let b = begins_text s.rest tail rest text size p.spelled e l u in

@@ -12,7 +12,7 @@ use Rattle.name_table.specs.Remaining.{shown}
 use Rattle.name_table.specs.Writes.{IsReadAgain}
 use Rattle.name_table.proofs.OneReading.{table_no_fault, table_unique}
 
--- the keys rise in what pairs show as they do in the pairs
+-- the keys ascend in what references refer to as they do in the references
 below_shown : (key : Text) (pairs : List (Text × Text)) → BelowAll by_bytes key pairs → BelowAll (slice_cmp nat_cmp) key.now (map shown pairs)
 below_shown key [] b = tt
 below_shown key (p ∷ pairs) b = (b.0, below_shown key pairs b.1)

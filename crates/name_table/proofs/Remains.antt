@@ -34,7 +34,7 @@ value_fault s middle key place f h b e w =
           (fault_wider middle place f (λ xs a. (none, ((key, a.0) ∷ [], refl, ap (λ ys. text_parts key ++ (ys ++ none)) a.1))) w),
     )
 
--- the fault of the next one is that of all that are due
+-- the error of the next one is that of all that are due
 pub pairs_from_next : (s : Remaining) (f : NameFault) → NextFault s f → PairsFault s f
 pairs_from_next s f w =
     let more : List (List ℕ × List ℕ) = replicate (s.left - 1) ([], []) in
@@ -42,12 +42,12 @@ pairs_from_next s f w =
     fault_wider s.rest s.place f
     (λ xs a. (pair_parts more, (a.0 ++ more, omega (arith, l, w.0, a.1, length-append a.0 more), ap (λ ys. ys ++ pair_parts more) a.2 ∙ sym (pair_parts-append a.0 more)))) w.1
 
--- ---- t is s once the next pair p is read
+-- ---- t is s after the next pair p was read
 
 abbrev pub position : Remaining → Position
 position s = record { rest = s.rest; place = s.place }
 
--- from the texts of its key and its value
+-- from the strings of its key and its value
 pub is_next : (s : Remaining) (key value : List ℕ) (middle behind : Position) → IsPast (position s) middle (text_parts key) → IsPast middle behind (text_parts value) → s.left ≢ 0 → IsNext s (record { rest = behind.rest; place = behind.place; left = s.left - 1 }) (key, value)
 is_next s key value middle behind k v h =
     let b = begins_then s.rest middle.rest behind.rest (text_parts key) (text_parts value) k.spelled v.spelled in

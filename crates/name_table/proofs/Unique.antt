@@ -1,4 +1,4 @@
--- Bytes begin with one spelling at most, and what they begin with has no fault.
+-- Bytes begin with one spelling at most, and what they begin with has no error.
 use Rattle.std.proofs.Common.{◌≡◌, ℕ, ◌≤◌, List, [], ◌∷◌, ◌++◌, length, refl, sym, ap, ◌∙◌, arith, ⊎_elim, append_assoc, length-append}
 use Rattle.std.proofs.lemmas.List.{append_cancel_left, take_at}
 use Rattle.std.specs.Prelude.{IsUtf8}
@@ -8,7 +8,7 @@ use Rattle.name_table.specs.Parts.{Part, Number, Text, IsPart, AreParts, Begins,
 use Rattle.name_table.specs.declared.fault.NameFault.{NameFault}
 use Rattle.name_table.specs.declared.fault.NameFault.TheVariants.{Truncated, NotUtf8, NumberTooLarge}
 
--- ---- numbers and texts
+-- ---- numbers and strings
 
 same_front : (a b u v : List ℕ) → length a ≡ length b → a ++ u ≡ b ++ v → a ≡ b
 same_front [] [] u v h e = refl
@@ -48,13 +48,13 @@ ends_long (p ∷ q ∷ ps) u (f ∷ front) rest s h g e = let k : (q ∷ ps) ++ 
 
 -- ---- parts
 
--- two parts of a kind: numbers, or texts of the same number of bytes
+-- two parts of a kind: numbers, or strings of the same number of bytes
 abbrev pub IsLike : Part → Part → Type 0
 IsLike (Number n) (Number m) = Unit {0}
 IsLike (Text s) (Text t) = length s ≡ length t
 IsLike _ _ = ⊥
 
--- what is spelled in two, with more behind it
+-- what is spelled in two, with more after it
 pub regroup : (whole a b u : List ℕ) → whole ≡ a ++ b → whole ++ u ≡ a ++ (b ++ u)
 regroup whole a b u e = ap (λ c. c ++ u) e ∙ append_assoc a b u
 
@@ -113,7 +113,7 @@ begins_unique {xs} {ys} {u} {v} bytes g p q =
     let h = parts_unique xs ys p.front q.front u v g p.spelled q.spelled e in
     (h.0, h.1, same_rest p.front q.front u v h.0 e)
 
--- what a fault behind the parts xs leaves to be read behind them
+-- what an error after the parts xs leaves to be read after them
 pub record Behind (xs done : List Part) (front rest front' rest' : List ℕ) : Type 0 where
   pub parts : List Part
   pub bytes : List ℕ
@@ -122,7 +122,7 @@ pub record Behind (xs done : List Part) (front rest front' rest' : List ℕ) : T
   pub is_rest : rest ≡ bytes ++ rest'
   pub spelled : AreParts bytes parts
 
--- where bytes begin with the parts xs, their first fault is behind these
+-- if bytes begin with the parts xs, their first error comes after these
 pub fault_past : (xs zs done : List Part) (due : Part) (more : List Part) (front rest front' rest' : List ℕ) (place : ℕ) (f : NameFault) → Agree (xs ++ zs) (done ++ due ∷ more) → AreParts front xs → AreParts front' done → front ++ rest ≡ front' ++ rest' → PartFault due rest' place f → Behind xs done front rest front' rest'
 fault_past [] zs done due more front rest front' rest' place f g p q e w =
     record { parts = done; bytes = front'; is_done = refl; is_front = ap (λ c. c ++ front') (sym p); is_rest = ap (λ c. c ++ rest) (sym p) ∙ e; spelled = q }

@@ -13,7 +13,7 @@ use Rattle.name_table.proofs.FaultLemmas.{fault_behind, fault_first, fault_where
 use Rattle.name_table.proofs.PartLemmas.{begins_split}
 use Rattle.name_table.proofs.Unique.{agree_pairs, begins_unique}
 
--- ---- faults
+-- ---- errors
 
 pub count_fault : (bytes : List ℕ) (fault : NameFault) → NumberFault bytes 0 fault → TableFault bytes fault
 count_fault bytes fault w = fault_first bytes 0 fault (Number 0) [] ([], refl) w
@@ -27,7 +27,7 @@ pub if_source_weaker : {E : Type 0} {P Q : E → Type 0} (fault : ReadFault E) �
 if_source_weaker NoRoom h p = tt
 if_source_weaker (Source e) h p = h e p
 
--- ---- none is due where all can be read and no pair begins the bytes behind
+-- ---- none is due if all can be read and the bytes after them don't begin with a pair
 
 begins_nothing : (bytes rest : List ℕ) → Begins bytes [] rest → bytes ≡ rest
 begins_nothing bytes rest b = b.split ∙ ap (λ c. c ++ rest) b.spelled

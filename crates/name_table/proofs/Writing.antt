@@ -1,4 +1,4 @@
--- Shortest spellings, one behind another, and what no bytes spell.
+-- Shortest spellings, one after another, and what no bytes spell.
 use Rattle.std.proofs.Common.{◌≡◌, ℕ, zero, suc, ◌+◌, ◌/◌, ◌%◌, ◌^◌, ◌<◌, ◌≤◌, List, [], ◌∷◌, ◌++◌, length, map, take, drop, get_or, refl, sym, ap, ◌∙◌, arith, append_assoc, length-append}
 use Rattle.std.proofs.Math.Nat.{pow-succ'}
 use Rattle.std.proofs.lemmas.List.{drop_more, map-append, take_more, take-append-drop}
@@ -55,7 +55,7 @@ appends_then old middle new xs ys p q = record {
   shortest = shortest_append p.bytes q.bytes xs ys p.shortest q.shortest;
 }
 
--- behind what is shortest
+-- after what is shortest
 pub shortest_more : (old new : List ℕ) (xs ys : List Part) → IsShortest old xs → Appends old new ys → IsShortest new (xs ++ ys)
 shortest_more old new xs ys p q =
     rw q.appended (shortest_append old q.bytes xs ys p q.shortest)
@@ -82,7 +82,7 @@ appends_text old middle new text p e u =
       };
     })
 
--- ---- pairs: the one at a place, which stands behind those before it
+-- ---- pairs: the one at an index, which comes after those before it
 
 module _ {X : Type 0} (view : X → List ℕ × List ℕ) (pairs : List X) (i : ℕ) (d : X) (l : i < length pairs) where
   pub shortest_pair : (old new : List ℕ) (n : ℕ) → IsShortest old (Number n ∷ pair_parts (map view (take i pairs))) → Appends old new (pair_parts (view (get_or pairs i d) ∷ [])) → IsShortest new (Number n ∷ pair_parts (map view (take (i + 1) pairs)))
@@ -92,7 +92,7 @@ module _ {X : Type 0} (view : X → List ℕ × List ℕ) (pairs : List X) (i : 
       let e : pair_parts (map view (take (i + 1) pairs)) ≡ pair_parts (map view (take i pairs)) ++ pair_parts (view next ∷ []) = ap (λ xs. pair_parts (map view xs)) (take_more pairs i d l) ∙ ap pair_parts (map-append view (take i pairs) (next ∷ [])) ∙ pair_parts-append (map view (take i pairs)) (view next ∷ []) in
       rw e (shortest_more old new (Number n ∷ pair_parts (map view (take i pairs))) (pair_parts (view next ∷ [])) p q)
 
-  -- where one pair has no table, all have none
+  -- if one pair has no table, all have none
   pub no_table_at : NoTable (view (get_or pairs i d) ∷ []) → NoTable (map view pairs)
   no_table_at none bytes p =
       let front = take i pairs in

@@ -1,4 +1,4 @@
--- Which fault a table has: that of the first part that can't be read, at the place where it begins.
+-- Which error a table has: that of the first part that can't be read, at the offset where it begins.
 use Rattle.std.specs.Prelude.{◌≡◌, ℕ, ◌+◌, ◌<◌, ◌≤◌, List, ◌∷◌, ◌++◌, length, take, IsUtf8}
 use Rattle.name_table.specs.Numbers.{IsCut, IsTooLarge}
 use Rattle.name_table.specs.Parts.{Part, Number, Text, AreParts, text_parts, pair_parts, table_parts}
@@ -6,24 +6,24 @@ use Rattle.name_table.specs.Remaining.{Remaining}
 use Rattle.name_table.specs.declared.fault.NameFault.{NameFault}
 use Rattle.name_table.specs.declared.fault.NameFault.TheVariants.{Truncated, NotUtf8, NumberTooLarge}
 
--- the bytes, which stand at the place, don't begin with a number
+-- the bytes, which stand at the offset, don't begin with a number
 abbrev pub NumberFault : List ℕ → ℕ → NameFault → Type 0
 NumberFault bytes place (Truncated at) = (at ≡ place) × IsCut bytes
 NumberFault bytes place (NotUtf8 at) = ⊥
 NumberFault bytes place (NumberTooLarge at) = (at ≡ place) × IsTooLarge bytes
 
--- they don't begin with a text of so many bytes
+-- they don't begin with a string of so many bytes
 abbrev pub TextFault : ℕ → List ℕ → ℕ → NameFault → Type 0
 TextFault size bytes place (Truncated at) = (at ≡ place) × (length bytes < size)
 TextFault size bytes place (NotUtf8 at) = (at ≡ place) × (size ≤ length bytes) × (IsUtf8 (take size bytes) → ⊥)
 TextFault size bytes place (NumberTooLarge at) = ⊥
 
--- they don't begin with a part of the kind that is due there: a number, or a text of so many bytes
+-- they don't begin with a part of the kind that is due there: a number, or a string of so many bytes
 abbrev pub PartFault : Part → List ℕ → ℕ → NameFault → Type 0
 PartFault (Number n) bytes place fault = NumberFault bytes place fault
 PartFault (Text text) bytes place fault = TextFault (length text) bytes place fault
 
--- they begin with some of the first parts of an allowed list of parts, and the part that is due behind these can't be read
+-- they begin with some of the first parts of an allowed list of parts, and the part that is due after these can't be read
 pub record Fault (Allowed : List Part → Type 0) (bytes : List ℕ) (place : ℕ) (fault : NameFault) : Type 0 where
   pub done : List Part
   pub due : Part
@@ -35,7 +35,7 @@ pub record Fault (Allowed : List Part → Type 0) (bytes : List ℕ) (place : �
   pub spelled : AreParts front done
   pub why : PartFault due rest (place + length front) fault
 
--- the parts are those of a text
+-- the parts are those of a string
 abbrev pub AreOfText : List Part → Type 0
 AreOfText parts = (text : List ℕ) × (parts ≡ text_parts text)
 

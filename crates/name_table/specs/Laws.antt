@@ -4,21 +4,21 @@ use Rattle.name_table.specs.Faults.{TableFault}
 use Rattle.name_table.specs.Parts.{Begins, table_parts}
 use Rattle.name_table.specs.declared.fault.NameFault.{NameFault}
 
--- bytes begin with one table at most, and end it at one place
+-- bytes begin with one table at most, which ends at one offset
 abbrev pub TableIsOne : Type 0
 TableIsOne = (bytes : List ℕ) (J K : List (List ℕ × List ℕ)) (rest rest' : List ℕ)
     → Begins bytes (table_parts J) rest → Begins bytes (table_parts K) rest' → (J ≡ K) × (rest ≡ rest')
 
--- bytes that begin with a table have no fault
+-- bytes that begin with a table have no error
 abbrev pub TableHasNoFault : Type 0
 TableHasNoFault = (bytes : List ℕ) (J : List (List ℕ × List ℕ)) (rest : List ℕ) (fault : NameFault)
     → Begins bytes (table_parts J) rest → TableFault bytes fault → ⊥
 
--- bytes have one fault at most
+-- bytes have one error at most
 abbrev pub FaultIsOne : Type 0
 FaultIsOne = (bytes : List ℕ) (f g : NameFault) → TableFault bytes f → TableFault bytes g → f ≡ g
 
--- each list of bytes begins with a table, or has a fault
+-- each list of bytes begins with a table, or has an error
 abbrev pub EachIsRead : Type 0
 EachIsRead = (bytes : List ℕ)
     → ((J : List (List ℕ × List ℕ)) × (rest : List ℕ) × Begins bytes (table_parts J) rest)

@@ -42,9 +42,9 @@ pub record IsTooLarge (bytes : List ℕ) : Type 0 where
   pub split : bytes ≡ front ++ rest
   pub large : (GoesOn front × (length front ≡ 5)) ⊎ (EndsAtLast front × (length front ≤ 5) × (number_limit ≤ value_of front))
 
--- ---- what a reader of at most so many bytes tells
+-- ---- what a reader of at most so many bytes returns
 
--- the bytes begin with those of the number, however large, and the rest stands behind them
+-- the bytes begin with those of the number, however large, and the rest comes after them
 pub record BeginsNumber (bytes : List ℕ) (room n : ℕ) (rest : List ℕ) : Type 0 where
   pub front : List ℕ
   pub split : bytes ≡ front ++ rest

@@ -1,4 +1,4 @@
--- A name table is a list of parts, numbers and texts, spelled one behind another. A text is the list of its bytes.
+-- A name table is a list of parts, numbers and strings, spelled one after another. A string is the list of its bytes.
 use Rattle.std.specs.Prelude.{◌≡◌, ℕ, List, [], ◌∷◌, ◌++◌, length, IsUtf8}
 use Rattle.name_table.specs.Numbers.{IsNumber}
 
@@ -12,12 +12,12 @@ abbrev pub IsPart : List ℕ → Part → Type 0
 IsPart bytes (Number n) = IsNumber bytes n
 IsPart bytes (Text text) = (bytes ≡ text) × IsUtf8 text
 
--- the bytes spell the parts, one behind another
+-- the bytes spell the parts, one after another
 abbrev pub AreParts : List ℕ → List Part → Type 0
 AreParts bytes [] = bytes ≡ []
 AreParts bytes (x ∷ xs) = (first : List ℕ) × (rest : List ℕ) × (bytes ≡ first ++ rest) × IsPart first x × AreParts rest xs
 
--- a text stands behind the number of its bytes
+-- a string comes after the number of its bytes
 abbrev pub text_parts : List ℕ → List Part
 text_parts text = Number (length text) ∷ Text text ∷ []
 
@@ -34,7 +34,7 @@ table_parts pairs = Number (length pairs) ∷ pair_parts pairs
 abbrev pub IsTable : List ℕ → List (List ℕ × List ℕ) → Type 0
 IsTable bytes pairs = AreParts bytes (table_parts pairs)
 
--- the bytes begin with the parts, and the rest stands behind them
+-- the bytes begin with the parts, and the rest comes after them
 pub record Begins (bytes : List ℕ) (parts : List Part) (rest : List ℕ) : Type 0 where
   pub front : List ℕ
   pub split : bytes ≡ front ++ rest

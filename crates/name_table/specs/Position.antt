@@ -1,4 +1,4 @@
--- Where bytes are read on.
+-- A position in bytes.
 use Rattle.std.specs.Prelude.{◌≡◌, ℕ, ◌+◌, List, length}
 use Rattle.name_table.specs.Parts.{Begins, Part}
 
@@ -7,7 +7,7 @@ pub record Position : Type 0 where
   pub rest : List ℕ
   pub place : ℕ
 
--- t is s once the parts were read
+-- t is s after the parts were read
 pub record IsPast (s t : Position) (parts : List Part) : Type 0 where
   pub spelled : Begins s.rest parts t.rest
   pub place : t.place ≡ s.place + length spelled.front

@@ -1,10 +1,10 @@
--- What a source of a table's pairs has read on from one state to a later one, and the laws of it.
+-- What a source of a table's pairs reads between one state and a later one, and its laws.
 use Rattle.std.specs.Prelude.{◌≡◌, ℕ, ◌+◌, List, [], ◌∷◌, ◌++◌, length}
 use Rattle.std.proofs.Common.{refl, sym, ap, ◌∙◌, append_assoc, length-append, add-zero, zero-add, arith}
 use Rattle.name_table.specs.Parts.{Part, AreParts, Begins, text_parts, pair_parts}
 use Rattle.name_table.specs.Remaining.{Remaining}
 
--- t is s once some pairs were read
+-- t is s after some pairs were read
 pub record IsReadOn (s t : Remaining) : Type 0 where
   pub pairs : List (List ℕ × List ℕ)
   pub spelled : Begins s.rest (pair_parts pairs) t.rest
@@ -32,7 +32,7 @@ begins_then bytes middle rest xs ys p q = record {
   spelled = AreParts-append p.front q.front xs ys p.spelled q.spelled;
 }
 
--- more pairs behind pairs
+-- more pairs after pairs
 abbrev pub begins_pairs : (bytes middle rest : List ℕ) (J K : List (List ℕ × List ℕ)) → Begins bytes (pair_parts J) middle
     → Begins middle (pair_parts K) rest → Begins bytes (pair_parts (J ++ K)) rest
 begins_pairs bytes middle rest J K p q =

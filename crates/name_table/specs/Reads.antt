@@ -1,4 +1,4 @@
--- What reading a table answers, and what looking a name up in it does.
+-- What reading a table returns, and what looking a name up in it returns.
 use Rattle.std.specs.Prelude.{◌≡◌, ◌≤◌, ℕ, List, Option, IfSome, length, map, option_map}
 use Rattle.litemap.specs.ByBytes.{by_bytes}
 use Rattle.litemap_store.specs.Last.{Last}
@@ -7,7 +7,7 @@ use Rattle.name_table.specs.Parts.{Begins, table_parts}
 use Rattle.name_table.specs.Remaining.{IsCounted, Remaining, shown}
 use denote.Ref.{Bor}
 
--- a text behind a reference
+-- a reference to a string
 abbrev pub Text : Type 0
 Text = Bor (List ℕ)
 
@@ -23,7 +23,7 @@ pub record IsRead (bytes : List ℕ) (M : List (Text × Text)) (size : ℕ) : Ty
   pub size_is : size ≡ length table.front
   pub last : Last by_bytes pairs M
 
--- the place and the value of the key in the map that is read of the bytes, if it is there
+-- the index and the value of the key in the map that is read from the bytes, if it is there
 pub record IsFound (bytes : List ℕ) (key : Text) (found : Option (ℕ × Text)) : Type 0 where
   pub pairs : List (Text × Text)
   pub size : ℕ

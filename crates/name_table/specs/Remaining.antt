@@ -3,21 +3,21 @@ use Rattle.std.specs.Prelude.{◌≡◌, ℕ, ◌+◌, ◌⊎◌, List, [], ◌�
 use Rattle.name_table.specs.Parts.{Begins, Number, pair_parts}
 use denote.Ref.{Bor}
 
--- what stands behind the parts that were read, how many bytes these were, and how many pairs are due
+-- the bytes after the parts that were read, how many bytes these were, and how many pairs are due
 pub record Remaining : Type 0 where
   pub rest : List ℕ
   pub place : ℕ
   pub left : ℕ
 
--- what a pair of references shows
+-- the pair that two references refer to
 abbrev pub shown : Bor (List ℕ) × Bor (List ℕ) → List ℕ × List ℕ
 shown pair = (pair.0.now, pair.1.now)
 
--- no pair begins the bytes
+-- the bytes don't begin with a pair
 abbrev pub NoPair : List ℕ → Type 0
 NoPair bytes = (pair : List ℕ × List ℕ) (rest : List ℕ) → Begins bytes (pair_parts (pair ∷ [])) rest → ⊥
 
--- the pairs are those that can still be read: all that are due, or as many as stand before one that no pair begins
+-- the pairs are those that can still be read: all that are due, or as many as come before one that can't be read
 pub record CanBeRead (s : Remaining) (pairs : List (Bor (List ℕ) × Bor (List ℕ))) : Type 0 where
   pub behind : List ℕ
   pub spelled : Begins s.rest (pair_parts (map shown pairs)) behind
@@ -37,7 +37,7 @@ pub record IsCounted (bytes : List ℕ) (s : Remaining) : Type 0 where
   pub spelled : Begins bytes (Number s.left ∷ []) s.rest
   pub place : s.place ≡ length spelled.front
 
--- t is s once the next pair is read
+-- t is s after the next pair was read
 pub record IsNext (s t : Remaining) (pair : List ℕ × List ℕ) : Type 0 where
   pub spelled : Begins s.rest (pair_parts (pair ∷ [])) t.rest
   pub place : t.place ≡ s.place + length spelled.front

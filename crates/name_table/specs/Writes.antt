@@ -14,7 +14,7 @@ pub record IsShortest (bytes : List ℕ) (parts : List Part) : Type 0 where
   pub spelled : AreParts bytes parts
   pub fewest : (other : List ℕ) → AreParts other parts → length bytes ≤ length other
 
--- new is old with such a spelling behind it
+-- new is old with such a spelling after it
 pub record Appends (old new : List ℕ) (parts : List Part) : Type 0 where
   pub bytes : List ℕ
   pub appended : new ≡ old ++ bytes
@@ -29,7 +29,7 @@ pub record AppendsNumber (old new : List ℕ) (n : ℕ) : Type 0 where
   pub fewest : (other : List ℕ) → EndsAtLast other → value_of other ≡ n → length bytes ≤ length other
   pub short : (room : ℕ) → 0 < room → n < 128 ^ room → length bytes ≤ room
 
--- the bytes are read whole, and as the pairs, by the bytes of their texts
+-- the bytes are read to their end, and as the pairs, by the bytes of their strings
 pub record IsReadAgain (bytes : List ℕ) (pairs : List (Text × Text)) : Type 0 where
   pub same : (M : List (Text × Text)) (size : ℕ) → IsRead bytes M size → (map shown M ≡ map shown pairs) × (size ≡ length bytes)
   pub no_fault : (fault : NameFault) → TableFault bytes fault → ⊥
@@ -38,7 +38,7 @@ pub record IsReadAgain (bytes : List ℕ) (pairs : List (Text × Text)) : Type 0
 abbrev pub NoTable : List (List ℕ × List ℕ) → Type 0
 NoTable pairs = (bytes : List ℕ) → IsTable bytes pairs → ⊥
 
--- where a number was too large, P holds
+-- if a number was too large, P holds
 abbrev pub IfTooLarge : NameWriteFault → Type 0 → Type 0
 IfTooLarge NoRoom P = ⊤
 IfTooLarge TooLarge P = P

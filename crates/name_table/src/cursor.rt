@@ -1,4 +1,4 @@
-//! Bytes that are read on from a place.
+//! A cursor over bytes.
 ghost use Rattle.std.specs.Prelude.{◌≡◌, ◌∷◌, [], IfErr, IfOk};
 ghost use Rattle.name_table.specs.Faults.{AreOfText, Fault, NumberFault};
 ghost use Rattle.name_table.specs.Parts.{Number, text_parts};
@@ -9,9 +9,9 @@ use crate::number::{Unread, number_within};
 use std::marker::Model;
 use std::str;
 
-/// A place in bytes: those that lie ahead, and how many lie before.
+/// A position in bytes: those that lie ahead, and how many lie before.
 ///
-/// A number or a text is read where it stands, and told with the cursor behind it. A contract sees it as a `Position`.
+/// A number or a string is read there, and returned with the cursor after it. A contract sees it as a `Position`.
 #[derive(Drop)]
 pub struct Cursor<'a> {
     rest: &'a [u8],
@@ -30,7 +30,7 @@ impl<'a> Model for Cursor<'a> {
 }
 
 impl<'a> Cursor<'a> {
-    /// The cursor in front of all bytes.
+    /// Makes a cursor before all bytes.
     pub fn new(bytes: &'a [u8]) -> Self
         ensures rest { result.rest ≡ bytes.now }
         ensures place { result.place ≡ 0 }
@@ -41,21 +41,21 @@ impl<'a> Cursor<'a> {
         }
     }
 
-    /// The bytes that lie ahead.
+    /// Returns the bytes that lie ahead.
     pub fn rest(&self) -> &'a [u8]
         ensures { result.now ≡ self.now.rest }
     {
         self.rest
     }
 
-    /// How many bytes lie before.
+    /// Returns how many bytes lie before.
     pub fn place(&self) -> usize
         ensures { result ≡ self.now.place }
     {
         self.place
     }
 
-    /// The number that the bytes begin with, and the cursor behind it. A fault's place is that of the number.
+    /// Returns the number that the bytes begin with, and the cursor after it. An error has the offset of the number.
     pub fn number(&self) -> Result<(usize, Self), NameFault>
         ensures ok { IfOk result (λ read. IsPast self.now read.1 (Number read.0 ∷ [])) }
         ensures err { IfErr result (λ fault. NumberFault self.now.rest self.now.place fault) }
@@ -75,7 +75,8 @@ impl<'a> Cursor<'a> {
         }
     }
 
-    /// The text at the start, behind its length, and the cursor behind it. A fault's place is that of the length or the text.
+    /// Returns the string that the bytes begin with, after its length, and the cursor after it. An error has the offset of the
+    /// length or of the string.
     pub fn text(&self) -> Result<(&'a str, Self), NameFault>
         ensures ok { IfOk result (λ read. IsPast self.now read.1 (text_parts read.0.now)) }
         ensures err { IfErr result (λ fault. Fault AreOfText self.now.rest self.now.place fault) }

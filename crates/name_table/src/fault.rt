@@ -7,7 +7,7 @@ use litemap_read::ReadFault;
 use std::alloc::AllocError;
 use thiserror::Error;
 
-/// Why a name table can't be read, and the place of the first byte of the number or text that can't.
+/// Why a name table can't be read, and the offset of the first byte of the number or string that can't.
 ///
 /// ```rust
 /// let fault = read_names(alloc, b"\x01\x02de\x06Ger").err();
@@ -15,16 +15,16 @@ use thiserror::Error;
 /// ```
 #[derive(Debug, PartialEq, Drop, Error)]
 pub enum NameFault {
-    /// The bytes end within the number or text, or before it.
+    /// The bytes end within the number or string, or before it.
     #[error("the bytes end within the number or text at byte {at}")]
     Truncated {
-        /// Where the number or text begins.
+        /// Where the number or string begins.
         at: usize,
     },
-    /// The text's bytes aren't UTF-8.
+    /// The string's bytes aren't UTF-8.
     #[error("the text at byte {at} is not UTF-8")]
     NotUtf8 {
-        /// Where the text begins.
+        /// Where the string begins.
         at: usize,
     },
     /// The number takes more than five bytes, or isn't below 4,294,967,296.
@@ -38,15 +38,15 @@ pub enum NameFault {
 /// Why no name table was written.
 #[derive(Debug, PartialEq, Drop, Error)]
 pub enum NameWriteFault {
-    /// Want of memory.
+    /// Memory ran out.
     #[error("out of memory")]
     NoRoom,
-    /// No table has such pairs: their number, or the number of a text's bytes, isn't below 4,294,967,296.
+    /// No table has such pairs: their number, or the length of a string in bytes, isn't below 4,294,967,296.
     #[error("a number of the name table is too large")]
     TooLarge,
 }
 
-/// So that `?` hands want of memory on.
+/// For `?` after a call that takes memory.
 impl From<AllocError> for NameWriteFault {
     ghost from_gives = { λ _ fault. fault ≡ NoRoom };
 
@@ -55,7 +55,7 @@ impl From<AllocError> for NameWriteFault {
     }
 }
 
-/// So that `?` hands a fault of the format on where reading a map may also want memory.
+/// For `?` in a function that reads a map, which may also run out of memory.
 impl From<NameFault> for ReadFault<NameFault> {
     ghost from_gives = { λ fault result. result ≡ Source fault };
 

@@ -1,5 +1,5 @@
-//! Name tables: maps from texts to texts as bytes, where numbers are spelled in groups of seven bits and each text stands
-//! behind its length. `docs/NAME_TABLES.md` has the format.
+//! Name tables: maps from strings to strings as bytes, where numbers are spelled in groups of seven bits and each string comes
+//! after its length. `docs/NAME_TABLES.md` has the format. All of this crate is own: the Rust crate's maps go through `postcard`.
 #![tactic(auto)]
 
 mod cursor;

@@ -10,13 +10,12 @@ use crate::fault::NameFault;
 use litemap_read::PairSource;
 use std::marker::Model;
 
-/// The entries of a name table that are still to be read. Their keys and values are slices of the table's bytes, and nothing
-/// is copied.
+/// A source of the entries of a name table. Their keys and values are slices of the table's bytes, and nothing is copied.
 ///
-/// As a source of pairs it comes to its end, and answers no fault, exactly where all entries can be read; else it answers
-/// the fault of the first number or text that can't. After a fault it answers the same one again.
+/// If all entries can be read, it comes to its end and returns no error. Else it returns the error of the first number or
+/// string that can't be read, and the same one again if it is called after that.
 ///
-/// A contract sees it as the bytes behind those read, the number of those read, and the number of entries that are due.
+/// A contract sees it as the bytes after those read, the number of those read, and the number of entries that are due.
 ///
 /// ```rust
 /// const LANGUAGES: &[u8] = b"\x02\x02de\x06German\x02fr\x06French";
@@ -40,7 +39,7 @@ impl<'a> Model for NameBytes<'a> {
 }
 
 impl<'a> NameBytes<'a> {
-    /// The entries of a table. Its number of entries is read here, and a fault is that number's.
+    /// Makes the source of a table's entries. It reads their number, and an error is that number's.
     pub fn new(bytes: &'a [u8]) -> Result<Self, NameFault>
         ensures ok { IfOk result (λ names. IsCounted bytes.now names) }
         ensures err { IfErr result (λ fault. NumberFault bytes.now 0 fault) }
@@ -49,7 +48,7 @@ impl<'a> NameBytes<'a> {
         Ok(NameBytes { cursor, left })
     }
 
-    /// How many bytes were read: those of the number of entries and of whole entries.
+    /// Returns how many bytes were read, those of the number of entries and of whole entries.
     pub fn place(&self) -> usize
         ensures { result ≡ self.now.place }
     {
@@ -70,14 +69,14 @@ impl<'a> PairSource<&'a str, &'a str> for NameBytes<'a> {
 
     ghost leads = { IsReadOn };
 
-    /// The number of entries that are due.
+    /// Returns the number of entries that are due.
     fn hint(&self) -> Option<usize>
         ensures { result ≡ Some self.now.left }
     {
         Some(self.left)
     }
 
-    /// The next entry, `None` at the end, or the fault of the first number or text that can't be read.
+    /// Returns the next entry, `None` at the end, or the error of the first number or string that can't be read.
     #[tactic(auto, using(crate::specs::ReadOn::read_on_itself))]
     fn next_pair(&mut self) -> Result<Option<(&'a str, &'a str)>, NameFault>
         ensures next { GivesNext CanBeRead (λ s. s.left) PairsFault AllCanBeRead self.old result self.new }

@@ -4,13 +4,13 @@ ghost use Rattle.name_table.specs.Numbers.{BeginsNumber, WhyUnread};
 
 /// What keeps bytes from being a number.
 pub enum Unread {
-    /// They end before it does.
+    /// They end before the number does.
     Ends,
-    /// It goes on for too long.
+    /// The number goes on for too long.
     TooLong,
 }
 
-/// The number of at most so many bytes that the bytes begin with, however large, and the bytes behind it.
+/// Reads the number of at most `room` bytes that the bytes begin with, however large, and returns it with the bytes after it.
 pub fn number_within(bytes: &[u8], room: u8) -> Result<(u64, &[u8]), Unread>
     requires { room ≤ 5 }
     ensures ok { IfOk result (λ read. BeginsNumber bytes.now room read.0 read.1.now) }

@@ -11,14 +11,19 @@ use litemap::LiteMap;
 use litemap_read::{ReadFault, read_pairs};
 use std::alloc::Global;
 
-/// A map of texts that lie in the bytes of a name table.
+/// A map of strings that lie in the bytes of a name table.
 pub type NameMap<'a> = LiteMap<&'a str, &'a str, Vec<(&'a str, &'a str)>>;
 
-/// The map of a name table that the bytes begin with, and how many bytes the table takes. Of each key the last entry stays.
+/// Reads the name table that the bytes begin with, and returns its map and how many bytes it takes. Keys and values are slices
+/// of the bytes. Of each key the last entry stays, and the others are dropped. Bytes after the table are left unread. The Rust
+/// crate reads by `postcard`'s `from_bytes` here.
 ///
-/// Keys and values are slices of the bytes. The fault is that of the first number or text that can't be read, or want of
-/// memory; bytes behind the table are left unread. It compares as `read_pairs`, which reads the entries: in a table whose keys
-/// rise at most once for each. The Rust crate reads by `postcard`'s `from_bytes` here.
+/// It compares as `read_pairs`, which reads the entries: at most once for each if the keys ascend.
+///
+/// # Errors
+///
+/// `ReadFault::Source` has the error of the first number or string that can't be read. If memory runs out, it is
+/// `ReadFault::NoRoom`, which doesn't come if the table has no entry.
 pub fn read_names<'a>(
     alloc: Global,
     bytes: &'a [u8],
@@ -35,11 +40,12 @@ pub fn read_names<'a>(
     Ok((map, names.place()))
 }
 
-/// The place and the value of a name in the map that `read_names` answers for the bytes, `None` where the name isn't there.
+/// Looks a name up in the map that `read_names` returns for the bytes, and returns its index and its value, or `None` if the
+/// name isn't there. The value is a slice of the bytes.
 ///
-/// The value is a slice of the bytes. Each call reads the whole table into a map that is given up again, with the comparisons
-/// and the memory of `read_names`; then the lookup makes O(log n) comparisons. Where more than one name is sought, read the map
-/// once, or look a table whose keys rise up in its bytes, by the crate `name_index`.
+/// Each call reads the whole table into a map, with the comparisons, the memory and the errors of `read_names`, and drops the
+/// map in the end. The lookup makes O(log n) comparisons more. To look up several names, read the map once; if the keys ascend,
+/// the crate `name_index` looks them up in the bytes.
 ///
 /// ```rust
 /// const LANGUAGES: &[u8] = b"\x02\x02de\x06German\x02fr\x06French";

@@ -10,8 +10,8 @@ use crate::fault::NameWriteFault;
 use crate::read::NameMap;
 use std::alloc::{AllocError, Global};
 
-/// The name table of a map, in the fewest bytes that spell it. `read_names` answers the same map for it, and all of its bytes.
-/// The Rust crate writes by `postcard`'s `to_stdvec` here.
+/// Writes a map as a name table, and returns the fewest bytes that spell it. `read_names` reads the same map from them, and all
+/// of them. The Rust crate writes by `postcard`'s `to_stdvec` here.
 ///
 /// ```rust
 /// let mut languages: NameMap = LiteMap::new_vec(alloc);
@@ -40,7 +40,6 @@ fn write_pairs(alloc: Global, pairs: &[(&str, &str)]) -> Result<Vec<u8>, NameWri
     Ok(bytes)
 }
 
-// Writes a key and its value.
 fn put_pair(bytes: &mut Vec<u8>, pair: &(&str, &str)) -> Result<(), NameWriteFault>
     ensures ok { OnOk result (Appends bytes.old.items bytes.new.items (pair_parts (shown pair.now ∷ []))) }
     ensures too_large { IfErr result (λ fault. IfTooLarge fault (NoTable (shown pair.now ∷ []))) }
@@ -50,7 +49,6 @@ fn put_pair(bytes: &mut Vec<u8>, pair: &(&str, &str)) -> Result<(), NameWriteFau
     Ok(())
 }
 
-// Writes a text behind its length.
 fn put_text(bytes: &mut Vec<u8>, text: &str) -> Result<(), NameWriteFault>
     ensures ok { OnOk result (Appends bytes.old.items bytes.new.items (text_parts text.now)) }
     ensures too_large { IfErr result (λ fault. IfTooLarge fault (number_limit ≤ length text.now)) }
@@ -60,7 +58,6 @@ fn put_text(bytes: &mut Vec<u8>, text: &str) -> Result<(), NameWriteFault>
     Ok(())
 }
 
-// Writes a length.
 fn put_length(bytes: &mut Vec<u8>, size: usize) -> Result<(), NameWriteFault>
     ensures ok { OnOk result (Appends bytes.old.items bytes.new.items (Number size ∷ [])) }
     ensures too_large { IfErr result (λ fault. IfTooLarge fault (number_limit ≤ size)) }

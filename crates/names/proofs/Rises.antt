@@ -1,4 +1,4 @@
--- Lines leave a map whose keys rise.
+-- Lines leave a map whose keys ascend.
 use Rattle.std.proofs.Common.{◌≡◌, List, [], ◌∷◌, ℕ, sym, subst}
 use Rattle.std.specs.Cmp.Lexicographic.{nat_list_cmp_total}
 use Rattle.litemap_store.specs.Pairs.{Rising}
@@ -8,7 +8,7 @@ use Rattle.names_core.specs.Told.{Answers, Does, DoesEach, Nothing, Obeys, Shows
 use Rattle.names_core.specs.declared.line.Command.{Command}
 use Rattle.names_core.specs.declared.line.Command.TheVariants.{Del, Find, Get, Put}
 
--- the texts rise by their bytes
+-- the strings ascend by their bytes
 abbrev pub TextsRise : List (List ℕ × List ℕ) → Type 0
 TextsRise L = Rising by_bytes L
 

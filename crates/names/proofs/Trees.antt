@@ -1,4 +1,4 @@
--- The JSON value of rising texts is an object of the pairs in their order, and its text that of the pairs one by one.
+-- The JSON value of ascending strings is an object of the pairs in their order, and its text that of the pairs one by one.
 use Rattle.std.proofs.Common.{◌≡◌, ℕ, ◌+◌, List, [], ◌∷◌, ◌++◌, true, Some, Ok, Less, inl, inr, nat_cmp, refl, sym, ap, ◌∙◌, append_assoc}
 use Rattle.std.specs.Cmp.Lexicographic.{slice_cmp}
 use Rattle.json.specs.Print.{quoted}
@@ -11,7 +11,7 @@ use Rattle.litemap_json.specs.Json.{object_with, tree}
 use Rattle.litemap_json.proofs.Joined.{IsAbove, above, above-joined, joined, joined-none, joined-one, put-above}
 use Rattle.names_core.specs.Told.{json_text, later_members, member_text}
 
--- pairs of texts, by their bytes
+-- pairs of strings, by their bytes
 abbrev Texts : Type 0
 Texts = List (List ℕ × List ℕ)
 
@@ -20,7 +20,7 @@ abbrev members_of : Texts → Members
 members_of [] = no_members
 members_of (p ∷ L) = member p.0 (string p.1) (members_of L)
 
--- what rising pairs leave where they are above all members
+-- what ascending pairs leave if they are above all members
 object_with-rising : (place : ℕ) (ms : Members) (L : Texts) → Rising (slice_cmp nat_cmp) L → ((q : List ℕ × List ℕ) → In q L → IsAbove q.0 ms)
     → object_with (λ k. Some k) string string place ms L ≡ Ok (object (joined ms (members_of L)))
 object_with-rising place ms [] r h = ap (λ m. Ok (object m)) (sym (joined-none ms))
@@ -42,7 +42,7 @@ members_text-later (p ∷ L) =
     ∙ ap (λ t. member_text p ++ t) (members_text-later L)
     ∙ sym (append_assoc (member_text p) (later_members L) (125 ∷ [])))
 
--- the text of rising pairs is that of their tree
+-- the text of ascending pairs is that of their tree
 pub json_text-tree : (L : Texts) → Rising (slice_cmp nat_cmp) L
     → (value : Data) × (tree (λ key. Some key) string string L ≡ Ok value) × (json_text L ≡ compact_text value)
 json_text-tree [] r = (array no_items, refl, refl)

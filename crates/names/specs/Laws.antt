@@ -33,8 +33,8 @@ LinesAreARun = (start end : TextMap) (said : List (List ℕ)) (text : List ℕ) 
     (calls : List (Call (List ℕ) (List ℕ))) × (answers : List (Answer (List ℕ) (List ℕ)))
     × SpellEach said calls × Run by_bytes start calls answers end
 
--- wherever lines have led from an empty map, the text that answers `json` is the compact one of the map's JSON value, the
--- tree that `to_json` makes of it
+-- wherever lines have led from an empty map, the reply to `json` is the compact text of the map's JSON value, the tree that
+-- `to_json` makes of it
 abbrev pub JsonIsTheTree : Type 0
 JsonIsTheTree = (start end : TextMap) (said : List (List ℕ)) (text : List ℕ) → start.pairs ≡ [] → DoesEach start said text end →
     (value : Data) × (tree (λ key. Some key) string string end.pairs ≡ Ok value) × (json_text end.pairs ≡ compact_text value)

@@ -1,4 +1,4 @@
--- What rewriting of flags reads and writes. A truth value's text is `true` or `false`, and items are numbers below 2 ^ 32.
+-- What rewriting of flags reads and writes. A boolean's text is `true` or `false`, and items are numbers below 2 ^ 32.
 use Rattle.std.specs.Prelude.{◌≡◌, ◌≢◌, ℕ, pos, Bool, List, Some, None, Result, Ok, Err, IsUtf8, ⊤}
 use Rattle.std.specs.Ordering.{bool_cmp}
 use Rattle.serde_json.specs.Data.{Data, boolean}
@@ -17,7 +17,7 @@ use Rattle.names.specs.declared.flags.FlagsFault.TheVariants.{Memory, NotJson, J
 abbrev pub IsJsonText : List ℕ → Data → Type 0
 IsJsonText bytes value = IsUtf8 bytes × (read_text bytes ≡ Some value)
 
--- the pairs that the value spells, or its first fault
+-- the pairs that the value spells, or its first error
 abbrev pub flag_pairs : Data → Result (List (Data × Data)) JsonFault
 flag_pairs value = pairs bool_key bool_item (whole_item (unsigned_fits 32)) value
 
@@ -40,7 +40,7 @@ pub record IsRewritten (bytes text : List ℕ) : Type 0 where
   pub made : flags_tree flags ≡ Ok new
   pub written : text ≡ compact_text new
 
--- the fault is the bytes' own, or that of the value that they are the text of; or memory was refused
+-- the error is the bytes' own, or that of the value that they are the text of; or memory ran out
 abbrev pub IsFlagsFault : List ℕ → FlagsFault → Type 0
 IsFlagsFault bytes Memory = ⊤
 IsFlagsFault bytes NotJson = IsUtf8 bytes → read_text bytes ≡ None

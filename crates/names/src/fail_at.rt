@@ -1,4 +1,4 @@
-//! A reader or a writer for tests: one of its calls meets a fault.
+//! A reader or a writer for tests: one of its calls fails.
 ghost use Rattle.std.specs.Prelude.{◌≡◌, IfOk, IfSome, IsSome, None};
 ghost use Rattle.std.specs.Io.{ReadsAtMost, WritesAtMost};
 ghost use Rattle.std.specs.Io.KnownBytes.{ReadConsumes, WriteAppends};
@@ -7,22 +7,22 @@ ghost use Rattle.names.specs.FailsAt.{Meets};
 use std::io;
 use std::io::{ErrorKind, Read, Write};
 
-/// What the call does that meets a fault.
+/// How the call fails.
 #[derive(Clone, Copy, Debug)]
 pub enum Fault {
-    /// It answers an error of this kind.
+    /// It returns an error of this kind.
     Answers(ErrorKind),
     /// It moves no byte: a read finds the end, and a write takes nothing.
     MovesNothing,
 }
 
-/// A reader or a writer that counts its calls, and passes all on but one, which meets a fault. It is for tests.
+/// A reader or a writer that counts its calls, and passes all on but one, which fails. It is for tests.
 #[derive(Drop)]
 pub struct FailAt<T> {
     inner: T,
-    /// The number of the call that meets the fault, from 0.
+    /// The number of the call that fails, from 0.
     pub at: u64,
-    /// What it does.
+    /// How it fails.
     pub fault: Fault,
     /// How many calls were made: reads, writes and flushes.
     pub calls: u64,
@@ -31,7 +31,7 @@ pub struct FailAt<T> {
 }
 
 impl<T> FailAt<T> {
-    /// Passes the calls on, but for the one of this number, from 0.
+    /// Makes a reader or a writer that passes the calls on, but for the one of this number, from 0.
     pub fn new(inner: T, at: u64, fault: Fault) -> FailAt<T>
         ensures at { result.at ≡ at }
         ensures fault { result.fault ≡ fault }
@@ -46,7 +46,7 @@ impl<T> FailAt<T> {
         }
     }
 
-    // Counts a call, and gives what it answers if it is the one that meets the fault.
+    // Counts a call, and returns what it returns if it is the one that fails.
     fn begin(&mut self) -> Option<io::Result<usize>>
         ensures none { IfSome result (λ answer. IfOk answer (λ n. n ≡ 0)) }
         ensures meets { IfSome result (λ answer. Meets self.old.fault answer) }
@@ -65,7 +65,7 @@ impl<T> FailAt<T> {
 }
 
 impl<R: Read> Read for FailAt<R> {
-    /// Reads, or meets the fault.
+    /// Reads, or fails.
     fn read(&mut self, buf: &mut [u8]) -> io::Result<usize>
         ensures bound { ReadsAtMost result buf.new }
         ensures bytes { ReadConsumes None None result buf.new }
@@ -80,7 +80,7 @@ impl<R: Read> Read for FailAt<R> {
 }
 
 impl<W: Write> Write for FailAt<W> {
-    /// Writes, or meets the fault.
+    /// Writes, or fails.
     fn write(&mut self, buf: &[u8]) -> io::Result<usize>
         ensures bound { WritesAtMost result buf.now }
         ensures bytes { WriteAppends None None result buf.now }
@@ -93,7 +93,7 @@ impl<W: Write> Write for FailAt<W> {
         self.inner.write(&buf[..most])
     }
 
-    /// Passes the flush on, or answers the fault's error. A flush moves no byte: the fault that moves none leaves it as it is.
+    /// Passes the flush on, or returns the error. A flush moves no byte, so `MovesNothing` leaves it as it is.
     fn flush(&mut self) -> io::Result<()> {
         if let Some(Err(error)) = self.begin() {
             return Err(error);

@@ -15,25 +15,27 @@ use thiserror::Error;
 /// Why flags were not rewritten.
 #[derive(Debug, PartialEq, Drop, Error)]
 pub enum FlagsFault {
-    /// Memory was refused.
+    /// Memory ran out.
     #[error("there is not enough memory")]
     Memory,
     /// The bytes can't be read as JSON.
     #[error("the bytes are not a JSON text")]
     NotJson,
-    /// The JSON value is no map from flags to numbers. The fault is never `Memory`.
+    /// The JSON value is no map from flags to numbers. The error is never `Memory`.
     #[error("the JSON value is not a map from flags to numbers: {0}")]
     Json(JsonFault),
 }
 
 type FlagMap = LiteMap<bool, u32, Vec<(bool, u32)>>;
 
-/// Brings old data over: reads a JSON text of a map whose keys are `true` and `false` and whose items are numbers of 32
-/// bits, and gives the compact text of the map as it is written now, as an object. Older maps were written as arrays, since
-/// flags had no texts: these are read too, and so is an object.
+/// Brings old data over (own). It reads a JSON text of a map whose keys are `true` and `false` and whose items are numbers of
+/// 32 bits, and returns the compact text of the map as it is written now, as an object. Older maps were written as arrays,
+/// since flags had no texts: these are read too, and so is an object.
 ///
-/// `NotJson` comes where the bytes can't be read, and `Json` with the first fault of the value that they spell. `Memory`
-/// may come in place of any answer. The Rust crate has no such call.
+/// # Errors
+///
+/// `NotJson` comes if the bytes can't be read, and `Json` with the first error of the value that they spell. `Memory` may come
+/// in place of any result.
 pub fn rewrite_flags(alloc: Global, bytes: &[u8]) -> Result<String, FlagsFault>
     ensures rewritten { IfOk result (λ text. IsRewritten bytes.now (string_bytes text)) }
     ensures refused { IfErr result (IsFlagsFault bytes.now) }
@@ -43,7 +45,6 @@ pub fn rewrite_flags(alloc: Global, bytes: &[u8]) -> Result<String, FlagsFault>
     flags_text(alloc, &flags)
 }
 
-// The JSON value whose text this is.
 fn read_value(alloc: Global, bytes: &[u8]) -> Result<Value, FlagsFault>
     ensures read { IfOk result (λ value. IsJsonText bytes.now (view value)) }
     ensures refused { IfErr result (IsFlagsFault bytes.now) }
@@ -55,7 +56,6 @@ fn read_value(alloc: Global, bytes: &[u8]) -> Result<Value, FlagsFault>
     }
 }
 
-// The flags that a JSON value spells.
 fn read_flags(alloc: Global, value: &Value) -> Result<FlagMap, FlagsFault>
     ensures read { IfOk result (λ flags. FlagsReadAs (view value.now) flags.pairs) }
     ensures refused { IfErr result
@@ -68,7 +68,6 @@ fn read_flags(alloc: Global, value: &Value) -> Result<FlagMap, FlagsFault>
     }
 }
 
-// The compact text of flags.
 fn flags_text(alloc: Global, flags: &FlagMap) -> Result<String, FlagsFault>
     ensures text { IfOk result
         (λ text. (value : Data) × (flags_tree flags.now.pairs ≡ Ok value) × (string_bytes text ≡ compact_text value)) }

@@ -6,7 +6,7 @@ pub fn lines_are_a_run()
     ensures { LinesAreARun }
 {}
 
-/// The text that answers `json` is the compact one of the value that `to_json` makes of the map, after any lines.
+/// The reply to `json` is the compact text of the value that `to_json` makes of the map, after any lines.
 pub fn json_is_the_tree()
     ensures { JsonIsTheTree }
 {}

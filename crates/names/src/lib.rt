@@ -1,5 +1,5 @@
-//! Keeps names and their values, as the lines of standard input say, and answers each line on standard output. The runs are
-//! those of `names_core`, the name tables those of `name_table`.
+//! Keeps names and their values, as the lines of standard input say, and writes a reply to each line to standard output. The
+//! runs are those of `names_core`, the name tables those of `name_table`.
 #![tactic(auto)]
 
 mod fail_at;

@@ -10,7 +10,7 @@ use Rattle.std.proofs.lemmas.Str.{IsUtf8-from_ascii}
 use Rattle.std.proofs.lemmas.Str.Ascii.{IsAscii-from_all}
 use Rattle.names_core.specs.Line.{IsGraphic, IsWord}
 
--- a word is text
+-- a word is UTF-8
 pub IsUtf8_word : (bytes : List ℕ) → IsWord bytes → IsUtf8 bytes
 IsUtf8_word bytes w = IsUtf8-from_ascii bytes (IsAscii-from_all bytes (All-weaker IsGraphic (λ b. b < 128) (λ b p. omega arith) bytes w.1))
 

@@ -7,7 +7,7 @@ use Rattle.json.specs.Token.{begin_object, end_object}
 use Rattle.names_core.specs.Reply.{pair_bytes, pair_tokens}
 use Rattle.names_core.specs.Told.{json_text, later_members, member_text}
 
--- what one more element adds behind a front
+-- what one more element adds after a front
 pub flat_map_one_more : {A B : Type 0} (front : List B) (f : A → List B) (xs : List A) (i : ℕ) (old new : List B) → i < length xs
     → old ≡ front ++ flat_map f (take i xs) → IfSome (slice_get xs i) (λ x. new ≡ old ++ f x) → new ≡ front ++ flat_map f (take (i + 1) xs)
 flat_map_one_more front f xs i old new low so_far more =

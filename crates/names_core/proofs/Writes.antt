@@ -15,7 +15,7 @@ module _ {W : Type 0} (contents : W → Option (List ℕ)) where
   pub Writes-nil : (w : Watch W) → Writes contents w w [] false
   Writes-nil w = record { takes = Appends-nil _; failed = refl; met = refl; nothing_after = λ unmet. refl }
 
-  -- one text behind another
+  -- one text after another
   pub Writes-behind : (old mid new : Watch W) (s t : List ℕ) (fault : Bool) → Writes contents old mid s false → Writes contents mid new t fault → Writes contents old new (s ++ t) fault
   Writes-behind old mid new s t fault first then = record {
     takes = Takes-behind _ _ _ s t fault first.takes then.takes;

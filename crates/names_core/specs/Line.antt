@@ -1,11 +1,11 @@
--- The lines of the input, and what a line says. A text is the list of its bytes.
+-- The lines of the input, and what a line says. A string is the list of its bytes.
 use Rattle.std.specs.Prelude.{◌≡◌, ◌≢◌, ◌<◌, ◌≤◌, ◌++◌, ◌==◌, ℕ, List, [], ◌∷◌, length, All, codes, Option, Some, None}
 use Rattle.std.specs.Borrow.{Bor}
 use Rattle.std.specs.List.{slice_split}
 use Rattle.names_core.specs.declared.line.Command.{Command}
 use Rattle.names_core.specs.declared.line.Command.TheVariants.{Del, Find, Get, Put}
 
--- what stands between line feeds; behind a last line feed stands an empty line, which does nothing
+-- what stands between line feeds; after a last line feed comes an empty line, which does nothing
 abbrev pub lines_of : List ℕ → List (List ℕ)
 lines_of bytes = slice_split (λ b. b == 10) bytes
 
@@ -22,7 +22,7 @@ IsGraphic b = (33 ≤ b) × (b ≤ 126)
 abbrev pub IsWord : List ℕ → Type 0
 IsWord word = (0 < length word) × All IsGraphic word
 
--- the line spells the command: its name and its words, parted by single spaces
+-- the line spells the command: its name and its words, separated by single spaces
 abbrev pub Spells : List ℕ → Command → Type 0
 Spells line (Put key value) = (line ≡ codes "put " ++ (key.now ++ (32 ∷ value.now))) × IsWord key.now × IsWord value.now
 Spells line (Get key) = (line ≡ codes "get " ++ key.now) × IsWord key.now

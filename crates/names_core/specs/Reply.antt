@@ -1,4 +1,4 @@
--- A map of strings, by their bytes, and what answers a line.
+-- A map of strings, by their bytes, and the reply to a line.
 use Rattle.std.specs.Prelude.{◌≡◌, ℕ, List, [], ◌∷◌, map, String, string_bytes}
 use Rattle.std.specs.declared.alloc.Global.{Global}
 use Rattle.json.specs.Token.{Token, key, string}
@@ -20,7 +20,7 @@ names_of seen = record { pairs = map pair_bytes seen.pairs; room = seen.room }
 abbrev pub pair_tokens : List ℕ × List ℕ → List Token
 pair_tokens pair = key pair.0 ∷ string pair.1 ∷ []
 
--- the line of the number n, done on the map `old`, has this answer and leaves the map `next`
+-- the line of the number n, done on the map `old`, has this reply and leaves the map `next`
 abbrev pub IsAnswer : TextMap → ℕ → List ℕ → TextMap → Answer → Type 0
 IsAnswer old n line next (Done text) = Does old line (string_bytes text) next
 IsAnswer old n line next (Bad text) = IsBad line × (string_bytes text ≡ bad_line n)

@@ -7,19 +7,19 @@ use Rattle.names_core.specs.Watched.{NoCallAfterFault, is_unsettled, met_fault, 
 use Rattle.names_core.specs.Writes.{Ends}
 
 -- a run leaves the reader and the writer as `input` and `output`, and ends with the status: `remaining` gives the bytes that a
--- reader has left, and `contents` those that a writer took, where they tell
+-- reader has left, and `contents` those that a writer took, if they tell
 pub record IsRun {R W : Type 0} (remaining : R → Option (List ℕ)) (contents : W → Option (List ℕ))
     (reader input : Watch R) (writer output : Watch W) (status : ℕ) : Type 0 where
-  -- the status is 4 exactly where a call met a fault
+  -- the status is 4 exactly if a call failed
   pub faults : reader.failed ≡ false → writer.failed ≡ false → (status ≡ 4) ↔ ((input.failed || output.failed) ≡ true)
-  -- where no read met one, the bytes that were read tell what is written and the status
+  -- if no read failed, the bytes that were read tell what is written and the status
   pub told : input.failed ≡ false
       → (bytes : List ℕ) × (out : List ℕ) × (told : ℕ) × Consumes (remaining (watched reader)) (remaining (watched input)) bytes
       × Told bytes out told × Ends contents writer output out told status
       × (told ≢ 3 → length bytes ≤ most_bytes → IsAtEnd (remaining (watched input)))
-  -- where a read met one, that line alone is written
+  -- if a read failed, that line alone is written
   pub read_fault : reader.failed ≡ false → input.failed ≡ true → Ends contents writer output (line (codes "read fault")) 4 status
-  -- no call is made through either after a fault of its own, and none through the reader after a fault of the writer
+  -- no call is made through either after a failed one of its own, and none through the reader after a failed one of the writer
   pub reader_stops : NoCallAfterFault reader input
   pub writer_stops : NoCallAfterFault writer output
   pub reads_come_first : met_fault writer ≡ false → is_unsettled input ≡ false

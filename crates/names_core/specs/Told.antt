@@ -1,4 +1,4 @@
--- What a run writes for its input, and its status. A map is seen as the list of its pairs, and its room. That what answers
+-- What a run writes for its input, and its status. A map is seen as the list of its pairs, and its room. That the reply to
 -- `json` is the text of the map's JSON value is a law of the crate `names`.
 use Rattle.std.specs.Prelude.{◌≡◌, ◌≤◌, ◌+◌, ◌++◌, ℕ, List, [], ◌∷◌, length, Option, Some, None, IsSome, IsNone, Result, Ok, Err}
 use Rattle.std.specs.Prelude.{codes, flat_map}
@@ -17,11 +17,11 @@ use Rattle.names_core.specs.declared.line.Command.TheVariants.{Del, Find, Get, P
 abbrev pub most_bytes : ℕ
 most_bytes = 1048576
 
--- a map from texts to texts, which are ordered by their bytes
+-- a map from strings to strings, which are ordered by their bytes
 abbrev pub TextMap : Type 0
 TextMap = Contents (List ℕ) (List ℕ)
 
--- the order of texts by their bytes
+-- the order of strings by their bytes
 abbrev pub by_bytes : List ℕ → List ℕ → Ordering
 by_bytes = slice_cmp nat_cmp
 
@@ -29,7 +29,7 @@ by_bytes = slice_cmp nat_cmp
 abbrev pub line : List ℕ → List ℕ
 line text = text ++ (10 ∷ [])
 
--- what answers `put`, by the value before
+-- the reply to `put`, by the value before
 abbrev pub old_text : Option (List ℕ) → List ℕ
 old_text None = line (codes "new")
 old_text (Some old) = line (codes "old " ++ old)
@@ -52,26 +52,26 @@ pair_text pair = line (pair.0 ++ (32 ∷ pair.1))
 abbrev pub member_text : List ℕ × List ℕ → List ℕ
 member_text pair = quoted pair.0 ++ (58 ∷ quoted pair.1)
 
--- the pairs as members of a JSON object, each behind a comma
+-- the pairs as members of a JSON object, each after a comma
 abbrev pub later_members : List (List ℕ × List ℕ) → List ℕ
 later_members L = flat_map (λ pair. 44 ∷ member_text pair) L
 
--- the pairs as JSON: an object of them in their order, and where there are none the empty array
+-- the pairs as JSON: an object of them in their order, or the empty array if there are none
 abbrev pub json_text : List (List ℕ × List ℕ) → List ℕ
 json_text [] = codes "[]"
 json_text (pair ∷ more) = 123 ∷ (member_text pair ++ (later_members more ++ (125 ∷ [])))
 
--- what answers `json`
+-- the reply to `json`
 abbrev pub json_answer : List (List ℕ × List ℕ) → List ℕ
 json_answer L = line (json_text L)
 
--- the value is put at the key: the room is lowered by one at most, and stays where the key was there
+-- the value is put at the key: the room is lowered by one at most, and stays if the key was there
 abbrev pub Puts : TextMap → List ℕ → List ℕ → TextMap → Type 0
 Puts old key value next =
     (next.pairs ≡ put by_bytes old.pairs key value) × (old.room ≤ next.room + 1)
     × (IsSome (at by_bytes old.pairs key) → next.room ≡ old.room)
 
--- the command, done on the map `old`, is answered by the text and leaves the map `next`
+-- the command, done on the map `old`, has the text as its reply and leaves the map `next`
 abbrev pub Answers : TextMap → Command → List ℕ → TextMap → Type 0
 Answers old (Put key value) text next =
     (text ≡ old_text (value_at by_bytes old.pairs key.now)) × Puts old key.now value.now next
@@ -99,14 +99,14 @@ DoesEach old (said ∷ more) text end =
 abbrev pub Leaves : List (List ℕ) → List ℕ → TextMap → Type 0
 Leaves said text end = (start : TextMap) × (start.pairs ≡ []) × DoesEach start said text end
 
--- the last line where line n is bad, and where memory was refused
+-- the last line if line n is bad, and if memory ran out
 abbrev pub bad_line : ℕ → List ℕ
 bad_line n = line (codes "bad line " ++ decimal n)
 
 abbrev pub no_memory : List ℕ
 no_memory = line (codes "no memory")
 
--- what a run wrote for the bytes that it read, and its status, where no read and no write met a fault
+-- what a run wrote for the bytes that it read, and its status, if no read and no write failed
 pub data Told (bytes out : List ℕ) (status : ℕ) : Type 0 where
   TooLong : length bytes ≡ most_bytes + 1 → out ≡ line (codes "input too long") → status ≡ 2 → Told bytes out status
   NotRead : length bytes ≤ most_bytes → out ≡ no_memory → status ≡ 3 → Told bytes out status

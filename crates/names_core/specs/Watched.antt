@@ -6,26 +6,26 @@ use Rattle.names_core.specs.declared.watch.Watch.{Watch}
 abbrev pub watched : {T : Type 0} → Watch T → T
 watched watch = watch.inner
 
--- whether a call through it met a fault
+-- whether a call through it failed
 abbrev pub met_fault : {T : Type 0} → Watch T → Bool
 met_fault watch = watch.has_met_fault
 
--- whether a call was made through it after one had met a fault
+-- whether a call was made through it after one had failed
 abbrev pub called_after_fault : {T : Type 0} → Watch T → Bool
 called_after_fault watch = watch.has_late_call
 
--- whether a call was made through it that may have followed a fault of the watch beside it: the calls so far are settled
--- where that watch is seen to have met no fault until then
+-- whether a call was made through it that may have followed a failed one of the watch beside it: the calls so far are settled
+-- if that watch is seen to have none until then
 abbrev pub is_unsettled : {T : Type 0} → Watch T → Bool
 is_unsettled watch = watch.has_open_call
 
--- one call was made through it, and met a fault or none
+-- one call was made through it, and failed or not
 abbrev pub NotesCall : {T : Type 0} → Watch T → Watch T → Bool → Type 0
 NotesCall old new fault =
     (met_fault new ≡ (fault || met_fault old))
     × (called_after_fault new ≡ (met_fault old || called_after_fault old))
     × (is_unsettled new ≡ true)
 
--- where it had met no fault before, no call was made through it after one met a fault
+-- if none had failed before, no call was made through it after one failed
 abbrev pub NoCallAfterFault : {T : Type 0} → Watch T → Watch T → Type 0
 NoCallAfterFault old new = met_fault old ≡ false → called_after_fault new ≡ called_after_fault old

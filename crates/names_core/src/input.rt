@@ -10,7 +10,7 @@ use std::io::Read;
 /// The most bytes that a run takes.
 pub const MOST_BYTES: usize = 1_048_576;
 
-// The most bytes that one read asks for.
+// The most bytes of one read.
 const CHUNK: usize = 4096;
 
 /// How reading ended.
@@ -20,13 +20,14 @@ pub enum InputEnd {
     Whole,
     /// There is more than a run takes.
     TooLong,
-    /// Memory for the next read was refused.
+    /// There was no memory for the next read.
     NoMemory,
-    /// A read met a fault.
+    /// A read failed.
     Fault,
 }
 
-/// Reads to the end of the input, or until there is more than a run takes. Room is made before each read: no byte is lost.
+/// Reads to the end of the input, or until there is more than a run takes, and returns how it ended. Capacity is reserved
+/// before each read, so that no byte is lost.
 pub fn read_input<R: Read>(reader: &mut Watch<R>, input: &mut Vec<u8>) -> InputEnd
     requires { input.old.items ≡ [] }
     ensures consumed { Consumes (R.remaining reader.old.inner) (R.remaining reader.new.inner) input.new.items }
@@ -42,7 +43,6 @@ pub fn read_input<R: Read>(reader: &mut Watch<R>, input: &mut Vec<u8>) -> InputE
     InputEnd::TooLong
 }
 
-// One read, onto the end of the input.
 fn read_some<R: Read>(reader: &mut Watch<R>, input: &mut Vec<u8>) -> Option<InputEnd>
     requires { vec_len input.old ≤ MOST_BYTES }
     ensures consumed { (more : List ℕ) × (input.new.items ≡ input.old.items ++ more)

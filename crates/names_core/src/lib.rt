@@ -1,4 +1,4 @@
-//! Keeps names and their values, as the lines of standard input say, and answers each line on standard output.
+//! Keeps names and their values, as the lines of standard input say, and writes a reply to each line to standard output.
 #![tactic(auto)]
 
 mod input;

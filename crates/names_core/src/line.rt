@@ -7,17 +7,17 @@ use std::str;
 
 /// A command with its words.
 pub enum Command<'a> {
-    /// To put a value at a key.
+    /// Inserts a value at a key, in place of an old one.
     Put(&'a str, &'a str),
-    /// The value of a key.
+    /// Looks up the value of a key.
     Get(&'a str),
-    /// To remove a key, with its value.
+    /// Removes a key, with its value.
     Del(&'a str),
-    /// The place of a key.
+    /// Looks up the index of a key.
     Find(&'a str),
 }
 
-/// The first line of the bytes, and what follows its line feed.
+/// Returns the first line of the bytes, and what follows its line feed.
 #[tactic(auto, using(std::proofs::lemmas::List::Splits::slice_split_at, std::proofs::lemmas::List::Splits::slice_split_none))]
 pub fn first_line(bytes: &[u8]) -> (&[u8], Option<&[u8]>)
     ensures { lines_of bytes.now ≡ result.0.now ∷ lines_left result.1 }
@@ -28,7 +28,7 @@ pub fn first_line(bytes: &[u8]) -> (&[u8], Option<&[u8]>)
     }
 }
 
-// What stands before the first such byte, and what follows it.
+// What comes before the first such byte, and what follows it.
 fn cut_at(bytes: &[u8], byte: u8) -> Option<(&[u8], &[u8])>
     ensures { MatchOption result (All (λ b. (b == byte) ≡ false) bytes.now)
         (λ parts. (bytes.now ≡ parts.0.now ++ (byte ∷ parts.1.now)) × All (λ b. (b == byte) ≡ false) parts.0.now) }
@@ -37,7 +37,7 @@ fn cut_at(bytes: &[u8], byte: u8) -> Option<(&[u8], &[u8])>
     Some((&bytes[..at], &bytes[at + 1..]))
 }
 
-/// The command that a line spells, if it spells one.
+/// Returns the command that a line spells, if it spells one.
 pub fn parse(line: &[u8]) -> Option<Command<'_>>
     ensures { MatchOption result ((command : Command) → Spells line.now command → ⊥) (Spells line.now) }
 {
@@ -62,7 +62,7 @@ fn word_behind<'a>(line: &'a [u8], name: &[u8]) -> Option<&'a str>
     Some(word(behind(line, name)?)?)
 }
 
-// What follows the name in the line, if that is two words parted by one space.
+// What follows the name in the line, if that is two words separated by one space.
 fn words_behind<'a>(line: &'a [u8], name: &[u8]) -> Option<(&'a str, &'a str)>
     ensures { MatchOption result
         ((key value : List ℕ) → line.now ≡ name.now ++ (key ++ (32 ∷ value)) → IsWord key → IsWord value → ⊥)
@@ -73,7 +73,6 @@ fn words_behind<'a>(line: &'a [u8], name: &[u8]) -> Option<(&'a str, &'a str)>
     Some((word(key)?, word(value)?))
 }
 
-// What follows the name in the line.
 fn behind<'a>(line: &'a [u8], name: &[u8]) -> Option<&'a [u8]>
     ensures { MatchOption result ((rest : List ℕ) → line.now ≡ name.now ++ rest → ⊥)
         (λ rest. line.now ≡ name.now ++ rest.now) }
@@ -81,7 +80,6 @@ fn behind<'a>(line: &'a [u8], name: &[u8]) -> Option<&'a [u8]>
     line.strip_prefix(name)
 }
 
-// The bytes as a word.
 #[tactic(auto, using(crate::proofs::Cuts::IsUtf8_word))]
 fn word(bytes: &[u8]) -> Option<&str>
     ensures { MatchOption result (IsWord bytes.now → ⊥) (λ text. (text.now ≡ bytes.now) × IsWord bytes.now) }

@@ -1,4 +1,4 @@
-//! A run of the program: it reads the lines, and writes what answers them.
+//! A run of the program: it reads the lines, and writes the replies to them.
 ghost use Rattle.std.specs.Prelude.{◌≡◌, ◌≤◌, ◌↔◌, ℕ, List, false, true, length};
 ghost use Rattle.names_core.specs.Run.{IsRun};
 ghost use Rattle.names_core.specs.Told.{Told, most_bytes};
@@ -13,12 +13,12 @@ use litemap::store::{StoreConstEmpty, StoreMut};
 use std::alloc::Global;
 use std::io::{Read, Write};
 
-/// Reads all input, at most one byte more than 1,048,576, then does its lines in order, writes the answer of each as the
-/// line is done, and gives the exit status.
+/// Reads all input, at most one byte more than 1,048,576, then does its lines in order, writes the reply to each as the line is
+/// done, and returns the exit status.
 ///
-/// The status is 0 where all lines are done. It is 2 where a line is bad, after `bad line N`, and where the input is too
-/// long, after `input too long` alone. It is 3 where memory is refused, after `no memory`. It is 4 where a read met a
-/// fault, after `read fault` alone, and where a write met one.
+/// The status is 0 if all lines are done. It is 2 after `bad line N` if a line is bad, and after `input too long` alone if the
+/// input is too long. It is 3 after `no memory` if memory runs out. It is 4 after `read fault` alone if a read fails, and if a
+/// write fails.
 ///
 /// The names are kept in a vector.
 pub fn run<R: Read, W: Write>(alloc: Global, reader: &mut Watch<R>, writer: &mut Watch<W>) -> u8
@@ -48,7 +48,7 @@ where
     }
 }
 
-// Does the lines in order, writes their answers and the last line, and gives the status.
+// Does the lines in order, writes their replies and the last line, and returns the status.
 fn answer_lines<S, W: Write>(alloc: Global, input: &[u8], writer: &mut Watch<W>) -> u8
 where
     S: StoreConstEmpty<String, String> + StoreMut<String, String> + Drop,
@@ -78,7 +78,7 @@ where
     0
 }
 
-// Writes the last line, and gives the status, or that of a fault.
+// Writes the last line, and returns the status, or that of a failed write.
 fn finish<W: Write>(writer: &mut Watch<W>, text: &[u8], status: u8) -> u8
     ensures { Ends W.contents writer.old writer.new text.now status result }
 {

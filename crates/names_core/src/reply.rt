@@ -1,4 +1,4 @@
-//! What answers a line, and what the line does to the names.
+//! The reply to a line, and what the line does to the names.
 ghost use Rattle.std.specs.Prelude.{◌≡◌, ◌++◌, [], IfOk, IfSome, OnOk, flat_map};
 ghost use Rattle.std.specs.Prelude.{option_copied, option_map, slice_get, string_bytes};
 ghost use Rattle.json.specs.Print.{print};
@@ -15,15 +15,15 @@ use std::alloc::{AllocError, Global};
 /// The names and their values, kept in a store.
 pub type Names<S> = LiteMap<String, String, S>;
 
-/// What answers a line.
+/// The reply to a line.
 pub enum Answer {
-    /// The line is done, and this text answers it.
+    /// The line is done, and this is the reply.
     Done(String),
-    /// The line is bad, and this text says so.
+    /// The line is bad, and this says so.
     Bad(String),
 }
 
-/// Does the line of this number, and gives what answers it.
+/// Does the line of this number, and returns the reply.
 pub fn reply<S: StoreMut<String, String>>(
     alloc: Global,
     names: &mut Names<S>,
@@ -47,7 +47,7 @@ pub fn reply<S: StoreMut<String, String>>(
     }
 }
 
-// Does a command, and gives the text that answers it.
+// Does a command, and returns the text of the reply.
 #[tactic(auto, using(crate::proofs::Bytes::in_bytes))]
 fn obey<S: StoreMut<String, String>>(
     alloc: Global,
@@ -65,7 +65,7 @@ fn obey<S: StoreMut<String, String>>(
     }
 }
 
-// Puts a value at a key, and gives the text that answers it.
+// Inserts a value at a key, and returns the text of the reply.
 fn put<S: StoreMut<String, String>>(
     alloc: Global,
     names: &mut Names<S>,
@@ -84,7 +84,6 @@ fn put<S: StoreMut<String, String>>(
     }
 }
 
-// What answers `put`, by the value before.
 fn old_text(alloc: Global, old: Option<String>) -> Result<String, AllocError>
     ensures { IfOk result (λ text. string_bytes text ≡ old_text (option_map string_bytes old)) }
 {
@@ -94,7 +93,6 @@ fn old_text(alloc: Global, old: Option<String>) -> Result<String, AllocError>
     }
 }
 
-// What answers `get` and `del`, by the value.
 fn value_text(alloc: Global, value: Option<&String>) -> Result<String, AllocError>
     ensures { IfOk result
         (λ text. string_bytes text ≡ value_text (option_map string_bytes (option_copied value.entry))) }
@@ -105,7 +103,6 @@ fn value_text(alloc: Global, value: Option<&String>) -> Result<String, AllocErro
     }
 }
 
-// What answers `find`, by the place.
 fn place_text(alloc: Global, place: Result<usize, usize>) -> Result<String, AllocError>
     ensures { IfOk result (λ text. string_bytes text ≡ place_text place) }
 {
@@ -115,7 +112,6 @@ fn place_text(alloc: Global, place: Result<usize, usize>) -> Result<String, Allo
     }
 }
 
-// All pairs, each on a line.
 fn all<S: Store<String, String>>(alloc: Global, names: &Names<S>) -> Result<String, AllocError>
     ensures { IfOk result (λ text. string_bytes text ≡ flat_map pair_text (names_of names.now).pairs) }
 {
@@ -126,7 +122,6 @@ fn all<S: Store<String, String>>(alloc: Global, names: &Names<S>) -> Result<Stri
     Ok(text)
 }
 
-// Adds the pair at a place to the text.
 fn push_pair<S: Store<String, String>>(
     text: &mut String,
     names: &Names<S>,
@@ -159,7 +154,7 @@ fn json<S: Store<String, String>>(alloc: Global, names: &Names<S>) -> Result<Str
     Ok(text)
 }
 
-// Writes the pair at a place as a member of an object.
+// Writes the pair at an index as a member of an object.
 fn write_pair<S: Store<String, String>>(
     writer: &mut Writer,
     names: &Names<S>,
@@ -176,7 +171,6 @@ fn write_pair<S: Store<String, String>>(
     writer.string(value.as_str())
 }
 
-// What was written.
 fn written(writer: Writer) -> String
     requires { writer.before ≡ [] }
     ensures { string_bytes result ≡ print writer.tokens }

@@ -1,4 +1,4 @@
-//! A reader or a writer that notes whether a call through it met a fault, and whether one was made after.
+//! A reader or a writer that notes whether a call through it failed, and whether one was made after.
 ghost use Rattle.std.specs.Prelude.{◌≡◌, ◌||◌, ◌&&◌, true, false, is_err, OnOk};
 ghost use Rattle.std.specs.Io.{ReadsAtMost, WritesAtMost};
 ghost use Rattle.std.specs.Io.KnownBytes.{Appends, Keeps, ReadConsumes, WriteAppends};
@@ -7,27 +7,27 @@ ghost use Rattle.names_core.specs.Writes.{Writes, is_write_fault};
 use std::io;
 use std::io::{ErrorKind, Read, Write};
 
-/// A reader or a writer, with a note of whether a call through it met a fault.
+/// A reader or a writer, with a note of whether a call through it failed.
 ///
-/// A fault is a read or a write that answers an error, or a write that takes nothing of a text that isn't empty. An
-/// interrupted call is a fault like any other, and isn't tried again.
+/// A read or a write fails if it returns an error, and a write also if it takes nothing of a text that isn't empty. An
+/// interrupted call fails like any other, and isn't tried again.
 #[derive(Drop)]
 pub struct Watch<T> {
-    /// Whether a call met a fault. It is false at first, and no call sets it but one that meets a fault.
+    /// Whether a call failed. It is false at first, and only a call that fails sets it.
     pub failed: bool,
     inner: T,
-    // Whether a call met a fault. Nothing sets it back.
+    // Whether a call failed. Nothing sets it back.
     has_met_fault: bool,
-    // Whether a call was made after one had met a fault. Nothing sets it back.
+    // Whether a call was made after one had failed. Nothing sets it back.
     has_late_call: bool,
-    // Whether a call was made that may have followed a fault of the watch beside this one.
+    // Whether a call was made that may have followed a failed one of the watch beside this one.
     has_open_call: bool,
 }
 
 impl<T> Watch<T> {
     ghost use Rattle.names_core.specs.Watched.{watched, met_fault, called_after_fault, is_unsettled};
 
-    /// Watches a reader or a writer.
+    /// Makes a watch of a reader or a writer.
     pub fn new(inner: T) -> Watch<T>
         ensures failed { result.failed ≡ false }
         ensures watched { watched result ≡ inner }
@@ -44,7 +44,7 @@ impl<T> Watch<T> {
         }
     }
 
-    // Settles the calls so far: they came before any fault of `other`, if that has met none until now.
+    // Settles the calls so far: they came before any failed call of `other`, if that has none until now.
     pub(crate) fn settle_before<U>(&mut self, other: &Watch<U>)
         ensures { self.new ≡ record self.old { has_open_call = self.old.has_open_call && other.now.has_met_fault } }
     {
@@ -53,7 +53,6 @@ impl<T> Watch<T> {
         }
     }
 
-    // Notes that a call is made now.
     fn note_call(&mut self)
         ensures { self.new ≡ record self.old {
           has_late_call = self.old.has_met_fault || self.old.has_late_call;
@@ -66,7 +65,6 @@ impl<T> Watch<T> {
         self.has_open_call = true;
     }
 
-    // Notes that a call met a fault.
     fn note_fault(&mut self)
         ensures { self.new ≡ record self.old { failed = true; has_met_fault = true } }
     {
@@ -118,7 +116,7 @@ impl<W: Write> Write for Watch<W> {
         result
     }
 
-    /// Passes the flush on. It is a call, and never a fault: it sets `failed` in no case.
+    /// Passes the flush on. It counts as a call that doesn't fail, and never sets `failed`.
     fn flush(&mut self) -> io::Result<()>
         ensures bytes { Keeps (W.contents self.old.inner) (W.contents self.new.inner) }
         ensures failed { self.new.failed ≡ self.old.failed }
@@ -128,9 +126,8 @@ impl<W: Write> Write for Watch<W> {
         self.inner.flush()
     }
 
-    /// Writes the whole text, or answers the first fault.
-    ///
-    /// After a fault the front of the text was taken, and not all of it, and no call was made after the fault.
+    /// Writes all bytes, or returns the first error. After an error some of the first bytes were taken, but not all, and no
+    /// call was made after it.
     fn write_all(&mut self, buf: &[u8]) -> io::Result<()>
         ensures bytes { OnOk result (Appends (W.contents self.old.inner) (W.contents self.new.inner) buf.now) }
         ensures writes { Writes W.contents self.old self.new buf.now (is_err result) }

@@ -1,4 +1,4 @@
-//! Calls by a closure that answers `Equal` for more than one key, or that compares with another type than the keys'.
+//! Calls by a closure that returns `Equal` for more than one key, or that compares with another type than the keys'.
 use litemap::store::{StoreFromIterable, StoreMut};
 use litemap::{LiteMap, VecMap};
 use litemap_short::ShortStore;
@@ -6,7 +6,7 @@ use std::alloc::{AllocError, Global};
 
 const PAIRS: [(u32, u8); 5] = [(1, b'a'), (2, b'b'), (3, b'c'), (4, b'd'), (9, b'e')];
 
-// A half, the place of the first key of which it is the half, and the values of those keys.
+// A half, the index of the first key of which it is the half, and the values of those keys.
 const HALVES: [(u32, usize, &[u8]); 6] = [
     (0, 0, b"a"),
     (1, 1, b"bc"),

@@ -1,4 +1,4 @@
-//! Tables in constants: maps over a slice, asked by each type of key that the calls `const_..` take.
+//! Tables in constants: maps over a slice, looked up by each type of key that the calls `const_..` take.
 ghost use Rattle.std.specs.Prelude.{◌≡◌};
 ghost use Rattle.litemap_store.specs.Pairs.{Rising};
 
@@ -8,7 +8,7 @@ use std::alloc::{AllocError, Global};
 
 type Table<'a, K, V> = LiteMap<K, V, SliceStore<'a, K, V>>;
 
-// The map over a slice whose keys rise.
+// The map over a slice whose keys ascend.
 fn table<K: Ord, V>(pairs: &[(K, V)]) -> Table<'_, K, V>
     requires { Rising K.cmp pairs.now }
     ensures { result.pairs ≡ pairs.now }
@@ -16,7 +16,7 @@ fn table<K: Ord, V>(pairs: &[(K, V)]) -> Table<'_, K, V>
     LiteMap::from_sorted_store_unchecked(SliceStore::new(pairs))
 }
 
-// Whether a map with 7 and the greatest number of a type finds that at its place, and not the number behind 7.
+// Whether a map with 7 and the greatest number of a type finds that at its index, and not the number after 7.
 macro_rules! finds_end {
     ($number:ty) => {{
         let pairs: [($number, u8); 2] = [(7, 1), (<$number>::MAX, 2)];
@@ -49,7 +49,7 @@ pub(crate) fn numbers_of_each_type_are_found(_: Global) -> Result<bool, AllocErr
     Ok(is_none && found == [[true; 3]; 4])
 }
 
-// Whether the keys of a slice rise, each of them is found at its place, and a greater one is not found: of texts, and of
+// Whether the keys of a slice ascend, each of them is found at its index, and a greater one is not found: of strings, and of
 // their bytes.
 macro_rules! are_found {
     ($pairs:expr, $absent:expr) => {{

@@ -1,4 +1,4 @@
-//! How much is read of an input with no end. What lines answer is for `bin/program`.
+//! How much is read of an input with no end. What lines write is for `bin/program`.
 use crate::runs::{STORES, run_kept};
 use names::Watch;
 use std::alloc::{AllocError, Global};

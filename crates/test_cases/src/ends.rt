@@ -1,4 +1,5 @@
-//! Rooms and lengths near the greatest that there are: more is refused, and nothing wraps; and what stores and counts take.
+//! Capacities and lengths near the greatest that there are: growing further fails, and nothing wraps; and what stores and
+//! counts take.
 //!
 //! A map of keys that take no memory has one pair at most, since all of them are equal. So the greatest length is tried on a
 //! store.
@@ -13,7 +14,7 @@ use std::mem;
 // The most pairs that a vector holds, of whatever size.
 const MOST: usize = usize::MAX / 2;
 
-// Whether a map of pairs that take no memory is refused more room than a vector holds pairs, and keeps its pair.
+// Whether a map of pairs that take no memory fails to reserve for more pairs than a vector holds, and keeps its pair.
 fn is_refused<S: StoreMut<(), ()> + Drop>(alloc: Global) -> Result<bool, AllocError> {
     let mut is_right = LiteMap::<(), (), S>::with_capacity(alloc, usize::MAX).is_err();
     let mut map: LiteMap<(), (), S> = LiteMap::with_capacity(alloc, 1)?;
@@ -46,7 +47,7 @@ fn longest(alloc: Global) -> Result<Vec<((), ())>, AllocError> {
     Ok(pairs)
 }
 
-// The longest store shows its last pair, and each growth is refused and leaves its length.
+// The longest store shows its last pair, and each growth fails and leaves its length.
 pub(crate) fn the_longest_store_grows_no_more(alloc: Global) -> Result<bool, AllocError> {
     let mut store = longest(alloc)?;
     let shows = store.lm_get(MOST - 1).is_some() && store.lm_get(MOST).is_none();
@@ -55,7 +56,7 @@ pub(crate) fn the_longest_store_grows_no_more(alloc: Global) -> Result<bool, All
     let joins = store.lm_extend_end([((), ())].to_vec(alloc)?).is_ok()
         || store.lm_extend_start([((), ())].to_vec(alloc)?).is_ok();
     let len = store.lm_len();
-    // Its pairs aren't given up one by one.
+    // Its pairs aren't dropped one by one.
     mem::forget(store);
     Ok(shows && reserves && !takes && !joins && len == MOST)
 }

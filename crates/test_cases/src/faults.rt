@@ -1,4 +1,4 @@
-//! Runs that meet a fault of each kind at each read and at each write in turn: after it no further call is made.
+//! Runs in which each read and each write fails in turn, by an error of each kind: after it no further call is made.
 use crate::runs::{FAULTS, Kept, NEVER, STORES, run_kept, run_with_faults};
 use names::{Fault, Watch};
 use std::alloc::{AllocError, Global};
@@ -10,7 +10,7 @@ struct Case<'a> {
     // How many bytes a read gives at most, and how many reads there are, of which the last one finds the end.
     most: usize,
     reads: u64,
-    // What answers the lines, and how many bytes of it each write takes.
+    // What is written for the lines, and how many bytes of it each write takes.
     answers: &'a [u8],
     writes: &'a [usize],
 }
@@ -40,7 +40,7 @@ const CASES: [Case<'static>; 3] = [
     },
 ];
 
-// Whether each run ends as it has to, where the fault is met at each read, and then at none.
+// Whether each run ends as it has to, if each read fails in turn, and then none.
 fn is_right_at_each_read(alloc: Global, kept: Kept, case: Case<'_>, fault: Fault) -> bool {
     for at in 0..=case.reads {
         let (read, write) = ((at, case.most), (NEVER, usize::MAX));
@@ -58,7 +58,7 @@ fn is_right_at_each_read(alloc: Global, kept: Kept, case: Case<'_>, fault: Fault
     true
 }
 
-// The same of each write, which takes `most` bytes at most: a whole answer, or one byte. What is written is all that the writes
+// The same of each write, which takes `most` bytes at most: a whole reply, or one byte. What is written is all that the writes
 // before took.
 fn is_right_at_each_write(
     alloc: Global,

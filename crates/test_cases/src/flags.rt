@@ -3,7 +3,7 @@ use litemap_json::{ItemFault, JsonFault};
 use names::{FlagsFault, rewrite_flags};
 use std::alloc::{AllocError, Global};
 
-// Whether the bytes are rewritten as this text, or for this fault are not.
+// Whether the bytes are rewritten as this text, or are not for this error.
 fn is_told(alloc: Global, bytes: &[u8], wanted: &Result<&str, FlagsFault>) -> bool {
     match (rewrite_flags(alloc, bytes), wanted) {
         (Ok(made), Ok(text)) => made.as_str() == *text,
@@ -59,7 +59,7 @@ pub(crate) fn flags_are_rewritten_or_refused(alloc: Global) -> Result<bool, Allo
     Ok(is_right)
 }
 
-// The text of an array of so many pairs, and one element more, behind so many spaces.
+// The text of an array of so many pairs, and one element more, after so many spaces.
 fn flags_text(
     alloc: Global,
     spaces: usize,

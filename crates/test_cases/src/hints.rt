@@ -7,7 +7,7 @@ use litemap_columns::ColumnStore;
 use litemap_short::ShortStore;
 use std::alloc::{AllocError, Global};
 
-// Gives so many pairs: each number below, from the last one on, behind its half.
+// Gives so many pairs: each number below, from the last one on, after its half.
 #[derive(Clone, Copy)]
 struct Halves {
     number: u32,

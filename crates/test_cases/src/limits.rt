@@ -1,5 +1,5 @@
 //! Stores with a limit: one of a user's own, which grows up to it and no further, and one whose limit is set when it is made,
-//! so that it goes with the store where a fresh one takes its place.
+//! so that it goes with the store when a fresh one replaces it.
 use example_store::Bounded;
 use example_store::fixed_room::FixedRoom;
 use litemap::LiteMap;
@@ -10,8 +10,8 @@ const LIMIT: usize = 20;
 
 type Few = LiteMap<u32, u32, Bounded<u32, u32, LIMIT>>;
 
-// Whether a map that begins with this room, which is made or reserved, refuses more room than its limit leaves at each length,
-// grows up to it, and hands back what comes then.
+// Whether a map that begins with this room, which is made or reserved, fails to reserve more than its limit leaves at each
+// length, grows up to it, and returns what comes then.
 fn grows(alloc: Global, made: usize, reserved: usize) -> Result<bool, AllocError> {
     let mut map: Few = LiteMap::with_capacity(alloc, made)?;
     map.reserve(reserved)?;
@@ -38,7 +38,7 @@ pub(crate) fn a_bounded_store_grows_to_its_limit(alloc: Global) -> Result<bool, 
 
 type Fixed = LiteMap<u32, u32, FixedRoom<u32, u32>>;
 
-// Whether a map of two pairs takes so many further pairs and no more, made with room for 1,000, once so many were put to it from
+// Whether a map of two pairs takes so many further pairs and no more, made with room for 1,000, after so many were added from
 // this key on: by a map that was made with as much room, or by themselves.
 fn has_room_after(
     alloc: Global,

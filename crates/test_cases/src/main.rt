@@ -2,9 +2,9 @@
 //! program writes how each came out.
 //!
 //! `bin/data` writes the modules of examples (`make`, `look`, `entries`, `change`, `stores`, `formats`). The other cases are of
-//! maps: closures that call several keys equal, queries of each kind, constant tables, iterators that lie, the greatest rooms,
-//! stores with a limit, what is printed, and reading; and of the program `names`, over readers and writers in memory, with its
-//! names kept in one vector and in two columns: how much it reads, and a fault at each read and each write.
+//! maps: closures that call several keys equal, queries of each kind, constant tables, iterators that lie, the greatest
+//! capacities, stores with a limit, what is printed, and reading; and of the program `names`, over readers and writers in
+//! memory, with its names kept in one vector and in two columns: how much it reads, and an error at each read and each write.
 #![tactic(auto)]
 
 // Cases by their names, each with how it came out.

@@ -73,7 +73,7 @@ fn full() -> TryFault<u8, u8, AllocError> {
     TryFault::NoRoom { key: 1, value: 2 }
 }
 
-// Whether want of memory is written alike, by itself and as std's error.
+// Whether an allocation error is written alike, by itself and as std's error.
 fn is_written_of_memory(alloc: Global) -> Result<bool, AllocError> {
     let text = "there is not enough memory";
     let of_std = format!(in alloc; "{}", io::Error::from(AllocError))?;

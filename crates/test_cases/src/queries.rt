@@ -1,4 +1,4 @@
-//! Keys of each kind asked by what can stand for them: by a text, by a slice, and by the key itself.
+//! Keys of each kind looked up by what can stand for them: by a string, by a slice, and by the key itself.
 use litemap::store::Count;
 use litemap::{LiteMap, Query};
 use std::alloc::{AllocError, Global};
@@ -10,10 +10,10 @@ use std::sync::ArcStr;
 // Numbers at keys.
 type Numbers<K> = LiteMap<K, u32, Vec<(K, u32)>>;
 
-// The texts of the keys, and the number at each.
+// The strings of the keys, and the number at each.
 const LIST: [(&str, u32); 5] = [("", 1), ("a", 2), ("aab", 3), ("ab", 4), ("b\u{e9}", 5)];
 
-// Texts that are asked for, with the number and the place of each.
+// Strings that are looked up, with the number and the index of each.
 const ASKED: [(&str, (Option<u32>, Result<usize, usize>)); 8] = [
     ("", (Some(1), Ok(0))),
     (" ", (None, Err(1))),
@@ -25,7 +25,7 @@ const ASKED: [(&str, (Option<u32>, Result<usize, usize>)); 8] = [
     ("c", (None, Err(5))),
 ];
 
-// Whether a key is found by what stands for it: its number and its place.
+// Whether a key is found by what stands for it: its number and its index.
 fn is_found<K: Ord, Q: Query<K>>(
     map: &Numbers<K>,
     query: Q,
@@ -39,7 +39,7 @@ fn is_found<K: Ord, Q: Query<K>>(
         && map.find_index_counted(query, &mut Count::new()) == index
 }
 
-// Whether the number at a key is written and taken out by what stands for it.
+// Whether the number at a key is written and removed by what stands for it.
 fn is_taken<K: Ord + Drop, Q: Query<K>>(
     map: &mut Numbers<K>,
     query: Q,
@@ -54,7 +54,7 @@ fn is_taken<K: Ord + Drop, Q: Query<K>>(
     number == Some(taken.wrapping_sub(100))
 }
 
-// Whether a key is found by what stands for it and by itself, and is taken out; then it is put in again.
+// Whether a key is found by what stands for it and by itself, and is removed; then it is inserted again.
 fn is_asked<K: Ord + Drop, Q: Query<K>>(
     map: &mut Numbers<K>,
     key: K,
@@ -70,7 +70,7 @@ fn is_asked<K: Ord + Drop, Q: Query<K>>(
     Ok(is_right)
 }
 
-// Whether each text is asked right in a map of the list, by what stands for its key and by the key.
+// Whether each string is looked up right in a map of the list, by what stands for its key and by the key.
 fn are_asked<'t, K, Q, F, G>(alloc: Global, key_of: F, query_of: G) -> Result<bool, AllocError>
 where
     K: Ord + Drop,

@@ -1,4 +1,4 @@
-//! What is read of an iterator of results, and lists of calls with their answers.
+//! What is read from an iterator of results, and lists of calls with what they return.
 use crate::printing::prints;
 use example_store::fixed_room::FixedRoom;
 use litemap::LiteMap;
@@ -10,7 +10,7 @@ use std::alloc::{AllocError, Global};
 
 type Results = &'static [Result<(u32, u8), u8>];
 
-// What an iterator gives, and the map that is read, or its first fault.
+// What an iterator gives, and the map that is read, or its first error.
 const ROWS: &[(Results, Result<&str, u8>)] = &[
     (&[], Ok("{}")),
     (&[Ok((1, 10)), Ok((1, 11))], Ok("{1: 11}")),
@@ -20,7 +20,7 @@ const ROWS: &[(Results, Result<&str, u8>)] = &[
     (&[Ok((2, 20)), Ok((1, 10)), Err(4)], Err(4)),
 ];
 
-// Whether what is read is what a row says, or what has no room is refused.
+// Whether what is read is what a row says, or what has no room fails.
 fn is_read<S: StoreBulkMut<u32, u8>>(
     alloc: Global,
     given: Results,
@@ -45,10 +45,10 @@ pub(crate) fn results_are_read_up_to_the_first_fault(alloc: Global) -> Result<bo
     Ok(is_right)
 }
 
-// A call, and what it has to answer.
+// A call, and what it has to return.
 type Row = (Call<u32, u32>, Answer<u32, u32>);
 
-// Calls of which some are refused, where there is room for two pairs.
+// Calls of which some fail, with room for two pairs.
 fn rows(alloc: Global) -> Result<[Row; 15], AllocError> {
     let both = [(1, 11), (3, 30), (3, 31)].to_vec(alloc)?;
     let other = [(4, 22)].to_vec(alloc)?;

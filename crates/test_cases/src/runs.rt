@@ -1,4 +1,4 @@
-//! Runs with names kept in one vector or in two columns, where a read or a write meets a fault.
+//! Runs with names kept in one vector or in two columns, in which a read or a write fails.
 use litemap_columns::ColumnStore;
 use names::{FailAt, Fault, Watch, run, run_with};
 use std::alloc::Global;
@@ -23,7 +23,7 @@ macro_rules! faults {
     ($($kind:ident)+) => { [$(Fault::Answers(ErrorKind::$kind),)+ Fault::MovesNothing] };
 }
 
-/// An error of each kind. The last fault is of a write alone: a read that moves nothing finds the end.
+/// An error of each kind. The last one is of a write alone: a read that moves nothing finds the end.
 pub const FAULTS: [Fault; 43] = faults! {
     Interrupted BrokenPipe WouldBlock WriteZero Other NotFound PermissionDenied ConnectionRefused
     ConnectionReset HostUnreachable NetworkUnreachable ConnectionAborted NotConnected AddrInUse
@@ -34,7 +34,7 @@ pub const FAULTS: [Fault; 43] = faults! {
     OutOfMemory InProgress Uncategorized
 };
 
-/// Runs the program with its names kept there, and gives its status.
+/// Runs the program with its names kept there, and returns its status.
 pub fn run_kept<R: Read, W: Write>(
     alloc: Global,
     kept: Kept,
@@ -52,8 +52,8 @@ pub fn run_kept<R: Read, W: Write>(
 /// How a run ended: its status, whether a read and whether a write failed, and how many reads and writes were made.
 pub type Ran = (u8, [bool; 2], [u64; 2]);
 
-/// Runs the program on the input, and gives how it ended and what it wrote. The read and the write of those numbers meet the
-/// fault, and the others move at most so many bytes.
+/// Runs the program on the input, and returns how it ended and what it wrote. The read and the write of those numbers fail, and
+/// the others move at most so many bytes.
 pub fn run_with_faults(
     alloc: Global,
     kept: Kept,

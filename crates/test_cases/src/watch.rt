@@ -19,8 +19,7 @@ enum Call {
 // The first calls that were made, in their order.
 type Made = [Option<Call>; 3];
 
-// A reader at its end and a writer that takes at most so many bytes, which notes the first calls. The call of a number meets
-// the fault.
+// A reader at its end and a writer that takes at most so many bytes, which notes the first calls. The call of a number fails.
 #[derive(Drop)]
 struct Noting {
     made: Made,
@@ -31,7 +30,7 @@ struct Noting {
 }
 
 impl Noting {
-    // Notes a call, and answers it by so many bytes.
+    // Notes a call, and returns so many bytes for it.
     fn note(&mut self, call: Call, bytes: usize) -> io::Result<usize>
         ensures { IfOk result (λ moved. moved ≤ bytes) }
     {
@@ -67,7 +66,7 @@ impl Write for Noting {
 }
 
 // The calls that one through a `Watch` makes, of 5,000 bytes at most, where a write takes at most `most`, and the call number
-// `at` meets the fault.
+// `at` fails.
 fn made_by(call: Call, most: usize, at: u64, fault: Fault) -> Made {
     let mut bytes = [b'a'; 5_000];
     let mut noting = Noting {
@@ -102,7 +101,7 @@ pub(crate) fn a_call_is_one_call(_: Global) -> Result<bool, AllocError> {
 }
 
 pub(crate) fn a_whole_write_ends_at_a_fault(_: Global) -> Result<bool, AllocError> {
-    // How many bytes, how many of them a write takes at most, which write meets the fault, and the lengths of the writes.
+    // How many bytes, how many of them a write takes at most, which write fails, and the lengths of the writes.
     let rows = [
         (0, usize::MAX, 0, [None, None]),
         (1, usize::MAX, 0, [Some(1), None]),

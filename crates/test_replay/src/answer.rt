@@ -1,11 +1,11 @@
-//! What a call answered, as it is written.
+//! What a call returned, as it is written.
 use crate::counted::{Key, Order, Value, write_code};
 use litemap::LiteMap;
 use litemap::store::{NoRoom, Store};
 use std::alloc::{AllocError, Global};
 use std::fmt::{self, Debug, Formatter, Write};
 
-/// The text of an answer, whose memory is taken once.
+/// The text of what a call returned, whose memory is taken once.
 #[derive(Drop)]
 pub struct Answer {
     text: String,
@@ -13,7 +13,7 @@ pub struct Answer {
 }
 
 impl Answer {
-    /// No answer yet, with room for this many bytes.
+    /// An empty text, with capacity for this many bytes.
     pub fn with_capacity(alloc: Global, capacity: usize) -> Result<Self, AllocError> {
         let text = String::with_capacity(alloc, capacity)?;
         let is_lost = false;
@@ -26,7 +26,7 @@ impl Answer {
         self.is_lost = false;
     }
 
-    /// What was written, or `lost` where memory for it was refused.
+    /// What was written, or `lost` if memory for it ran out.
     pub fn text(&self) -> &str {
         if self.is_lost {
             "lost"
@@ -74,7 +74,7 @@ impl Answer {
         }
     }
 
-    /// Writes a pair that was taken out, if there was one.
+    /// Writes a pair that was removed, if there was one.
     pub fn taken(&mut self, pair: Option<(Key, Value)>) {
         match pair {
             Some((key, value)) => self.pair(&key, &value),
@@ -96,12 +96,12 @@ impl Answer {
         }
     }
 
-    /// Writes whether there was room.
+    /// Writes whether there was memory.
     pub fn room(&mut self, outcome: Result<(), AllocError>) {
         self.word(if outcome.is_ok() { "ok" } else { "refused" });
     }
 
-    /// Puts what was made in a place, and writes whether it was.
+    /// Replaces a value by what was made, and writes whether it was.
     pub fn made<T: Drop>(&mut self, place: &mut T, made: Result<T, AllocError>) {
         self.word(if made.is_ok() { "ok" } else { "refused" });
         if let Ok(made) = made {

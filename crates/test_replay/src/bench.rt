@@ -9,7 +9,7 @@ use litemap::LiteMap;
 use litemap::store::{Store, StoreConstEmpty};
 use std::alloc::{AllocError, Global};
 
-/// With how many pairs a line begins, and with how much room in all.
+/// How many pairs a line begins with, and with how much room in all.
 #[derive(Clone, Copy)]
 pub struct Start {
     /// How many pairs there are.
@@ -84,7 +84,7 @@ impl<S: Tested<Key, Value>> Bench<S> {
         }
     }
 
-    /// Writes what a line leaves behind its answer, and compares all with what it says.
+    /// Writes what a line leaves after what it returned, and compares all with what it says.
     pub fn end(
         &mut self,
         line: &Line<'_>,

@@ -28,7 +28,7 @@ pub fn gather<S: Tested<Key, Value>>(map: &mut Map<S>, call: &Call<'_>, to: &mut
         || run(call, to).is_some()
 }
 
-// A map with no pair takes the place of the old one, or its clone.
+// A map with no pair replaces the old one, or its clone does.
 fn renew<S: Tested<Key, Value>>(map: &mut Map<S>, call: &Call<'_>, to: &mut Answer) -> Made {
     let made = match call.name {
         "new" => Ok(LiteMap::new(call.alloc)),
@@ -40,7 +40,7 @@ fn renew<S: Tested<Key, Value>>(map: &mut Map<S>, call: &Call<'_>, to: &mut Answ
     Some(())
 }
 
-// A map of these pairs takes the place of the old one.
+// A map of these pairs replaces the old one.
 fn make<S: Tested<Key, Value>>(map: &mut Map<S>, call: &Call<'_>, to: &mut Answer) -> Made {
     let (pairs, mut count) = (call.pairs(0)?, Count::new());
     call.begin();
@@ -94,7 +94,7 @@ fn merge<S: Tested<Key, Value>>(map: &mut Map<S>, call: &Call<'_>, to: &mut Answ
     Some(())
 }
 
-// What a merge answers.
+// What a merge returns.
 fn show_merged<'a, S: Tested<Key, Value>>(
     merged: Result<Option<Map<S>>, NoRoom<Map<S>>>,
     to: &mut Answer,
@@ -107,7 +107,7 @@ fn show_merged<'a, S: Tested<Key, Value>>(
 }
 
 // The merges with a closure, which adds to each value that is here already three times the one here, and what its key's code
-// leaves by seven. The last word of the answer tells how often it was asked.
+// leaves by seven. The last word tells how often it was called.
 fn combine<S: Tested<Key, Value>>(map: &mut Map<S>, call: &Call<'_>, to: &mut Answer) -> Made {
     if !call.name.starts_with("extend_with") {
         return None;
@@ -174,8 +174,8 @@ fn split_off<S: Tested<Key, Value>>(map: &mut Map<S>, call: &Call<'_>, to: &mut 
     Some(())
 }
 
-// What a source gives takes the place of the map, or is put into it. The first word is how many pairs the source promises, or
-// `-`; the second one is after how many pairs it has an error, or `-`.
+// What a source gives replaces the map, or is put into it. The first word is how many pairs the source promises, or `-`; the
+// second one is after how many pairs it has an error, or `-`.
 fn read<S: Tested<Key, Value>>(map: &mut Map<S>, call: &Call<'_>, to: &mut Answer) -> Made {
     let (hint, error) = (call.size(0), call.size(1));
     let mut source = Script {
@@ -218,7 +218,7 @@ fn run(call: &Call<'_>, to: &mut Answer) -> Made {
     }
 }
 
-// The answers of the list and the map, or the list that came back.
+// What the calls of a list returned, and the map; or the list, if memory ran out.
 fn run_list<S: StoreBulkMut<Key, u64>>(call: &Call<'_>, to: &mut Answer) -> Made {
     let mut list = Vec::new(call.alloc);
     for (key, value) in call.pairs(0)? {
@@ -248,7 +248,7 @@ struct Script {
     hint: Option<usize>,
     // After how many pairs it has an error.
     error: Option<usize>,
-    // How often it was asked.
+    // How often it was called.
     asked: usize,
 }
 

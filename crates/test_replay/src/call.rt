@@ -11,7 +11,7 @@ pub type Map<S> = LiteMap<Key, Value, S>;
 /// A pair of a key and a value.
 pub type Pair = (Key, Value);
 
-/// Whether a call was made: none is where its name is another one, or words are missing.
+/// Whether a call was made: none is if its name is another one, or words are missing.
 pub type Made = Option<()>;
 
 /// A call: its name and its words, read as keys, values and numbers.
@@ -27,7 +27,7 @@ pub struct Call<'w> {
     pub is_marked: bool,
     /// The name of the call.
     pub name: &'w str,
-    /// The words behind it.
+    /// The words after it.
     pub words: &'w [&'w str],
 }
 
@@ -98,8 +98,8 @@ impl Call<'_> {
         }
     }
 
-    /// The pairs that the words from a place on spell: `KEY:VALUE`, or `FIRST,COUNT,STEP` for as many keys from the first
-    /// one on by steps, each with its place as its value. They are made before the call begins.
+    /// The pairs that the words from an index on spell: `KEY:VALUE`, or `FIRST,COUNT,STEP` for as many keys from the first one
+    /// on by steps, each with its index as its value. They are made before the call begins.
     pub fn pairs(&self, place: usize) -> Option<Vec<Pair>> {
         self.end();
         let mut pairs = Vec::new(self.alloc);
@@ -137,7 +137,7 @@ impl Call<'_> {
         Some(())
     }
 
-    /// The pair at a place, from 1 on, of those that a line begins with: `2:20`, `4:40` and so on.
+    /// The pair at an index, from 1 on, of those that a line begins with: `2:20`, `4:40` and so on.
     pub fn pair_at(&self, place: u64) -> Result<Pair, AllocError> {
         let key = Key::new(self.order, place.wrapping_mul(2), self.seen)?;
         Ok((key, Value::new(place.wrapping_mul(20), self.seen)?))

@@ -1,4 +1,4 @@
-//! Calls that place a pair, write a value or take out pairs.
+//! Calls that insert a pair, write a value or remove pairs.
 use crate::answer::Answer;
 use crate::call::{Call, Made, Map, Pair};
 use crate::counted::{Key, Value};
@@ -31,7 +31,7 @@ fn put<S: StoreMut<Key, Value>>(map: &mut Map<S>, call: &Call<'_>, to: &mut Answ
     Some(())
 }
 
-// What `insert` answers.
+// What `insert` returns.
 fn show_old<'a>(outcome: Result<Option<Value>, NoRoom<Pair>>, to: &mut Answer) {
     match outcome {
         Ok(old) => to.some(old.as_ref()),
@@ -39,7 +39,7 @@ fn show_old<'a>(outcome: Result<Option<Value>, NoRoom<Pair>>, to: &mut Answer) {
     }
 }
 
-// What `try_insert` and `try_append` answer.
+// What `try_insert` and `try_append` return.
 fn show_back<'a>(outcome: Result<Option<Pair>, NoRoom<Pair>>, to: &mut Answer) {
     match outcome {
         Ok(None) => to.word("placed"),
@@ -51,7 +51,7 @@ fn show_back<'a>(outcome: Result<Option<Pair>, NoRoom<Pair>>, to: &mut Answer) {
     }
 }
 
-// The calls that ask a closure for the value of an absent key. The last word of the answer tells how often.
+// The calls that call a closure for the value of an absent key. The last word tells how often.
 fn make_where_absent<S: StoreMut<Key, Value>>(
     map: &mut Map<S>,
     call: &Call<'_>,
@@ -74,7 +74,7 @@ fn make_where_absent<S: StoreMut<Key, Value>>(
     Some(())
 }
 
-// `try_get_or_insert`, whose closure answers `made`.
+// `try_get_or_insert`, whose closure returns `made`.
 fn try_get<S: StoreMut<Key, Value>>(
     map: &mut Map<S>,
     key: Key,
@@ -95,7 +95,7 @@ fn try_get<S: StoreMut<Key, Value>>(
     }
 }
 
-// `try_find_or_insert`, whose closure answers `made`.
+// `try_find_or_insert`, whose closure returns `made`.
 fn try_find<S: StoreMut<Key, Value>>(
     map: &mut Map<S>,
     key: Key,
@@ -123,7 +123,7 @@ fn show_fault<'a>(fault: TryFault<Key, Value, Value>, to: &mut Answer) {
     }
 }
 
-// The calls that lend a value, to which a number is written. They answer the old one.
+// The calls that lend a value, to which a number is written. They tell the old one.
 fn write<S: StoreMut<Key, Value>>(map: &mut Map<S>, call: &Call<'_>, to: &mut Answer) -> Made {
     let (key, number) = (call.key(0)?, call.number(1)?);
     match call.name {
@@ -192,7 +192,7 @@ fn whole<S: StoreMut<Key, Value>>(map: &mut Map<S>, call: &Call<'_>, to: &mut An
     Some(())
 }
 
-// The calls with a closure that is asked of each pair. They answer how often. `update` adds to each value a number and how many
+// The calls with a closure that is called on each pair. They tell how often. `update` adds to each value a number and how many
 // came before it. `retain` keeps, of the pairs in their order, those whose bit is set in the number, which is turned by one bit
 // after each.
 fn by_number<S: StoreBulkMut<Key, Value>>(
@@ -215,7 +215,7 @@ fn by_number<S: StoreBulkMut<Key, Value>>(
     Some(())
 }
 
-/// Whether a bit is set in a number, by how often this was asked before.
+/// Whether a bit is set in a number, by how often this was called before.
 pub(crate) fn is_kept(number: u64, times: &mut u64) -> bool {
     let bit = (*times % 64) as u32;
     *times = times.wrapping_add(1);

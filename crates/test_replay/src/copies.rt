@@ -9,7 +9,7 @@ use std::alloc::{AllocError, Global};
 use std::cmp::Ordering;
 use std::hash::{FoldHasher, Hash, Hasher};
 
-/// Makes a call that copies, if the name is one. The last word of the answer tells how many keys and values were cloned.
+/// Makes a call that copies, if the name is one. The last word tells how many keys and values were cloned.
 pub fn copy<S: Tested<Key, Value>>(map: &Map<S>, call: &Call<'_>, to: &mut Answer) -> Made {
     let alloc = call.alloc;
     let made = match call.name {

@@ -48,9 +48,9 @@ pub enum Order {
     Same,
     /// Letters, whose case is ignored.
     Letter,
-    /// Texts of up to eight bytes, by their bytes.
+    /// Strings of up to eight bytes, by their bytes.
     Text,
-    /// Such texts, by their lengths alone.
+    /// Such strings, by their lengths alone.
     Length,
 }
 
@@ -68,7 +68,7 @@ impl Order {
         })
     }
 
-    // What a word tells: a number, or the bytes of a text from the highest one on.
+    // What a word tells: a number, or the bytes of a string from the highest one on.
     pub(crate) fn code(self, word: &str) -> Option<u64> {
         match self {
             Order::Number | Order::Falling | Order::Same => word.parse().ok(),
@@ -99,7 +99,7 @@ fn code_of_text(word: &str) -> Option<u64> {
     (!word.is_empty()).then_some(u64::from_be_bytes(bytes))
 }
 
-// How many bytes stand in front of the zeros.
+// How many bytes come before the zeros.
 fn length_of_code(code: u64) -> u64 {
     (71 - (code.trailing_zeros().min(64)) as u64) / 8
 }
@@ -259,7 +259,7 @@ impl Value {
         self.number
     }
 
-    /// Writes another number, and gives the old one.
+    /// Writes another number, and returns the old one.
     pub fn write(&mut self, number: u64) -> u64 {
         let old = self.number;
         self.number = number;

@@ -51,7 +51,7 @@ fn show_kind<S: StoreMut<Key, Value>>(entry: &Entry<'_, Key, Value, S>, to: &mut
     to.show(key);
 }
 
-// Adds one to the value that is lent, and gives what it was.
+// Adds one to the value that is lent, and returns what it was.
 fn raised(slot: &mut Value) -> u64 {
     let number = slot.number();
     slot.write(number.wrapping_add(1))

@@ -1,13 +1,13 @@
 //! A line of data that makes a call.
 
-/// A call, and what it has to answer.
+/// A call, and what it has to return.
 #[derive(Clone, Copy)]
 pub struct Line<'t> {
     /// Whether it is made of what the line before left.
     pub goes_on: bool,
     /// The call and its words.
     pub call: &'t str,
-    /// What it answers, and the pairs after it.
+    /// What it returns, and the pairs after it.
     pub wanted: &'t str,
     /// How often it compares two keys at most, if there is a bound.
     pub most: Option<u32>,

@@ -48,7 +48,7 @@ fn by_key<S: Store<Key, Value>>(map: &Map<S>, call: &Call<'_>, to: &mut Answer) 
     Some(())
 }
 
-// `index`, where the key is there. What tells that is no part of the call.
+// `index`, if the key is there. What tells that is no part of the call.
 fn index<S: Store<Key, Value>>(map: &Map<S>, call: &Call<'_>, to: &mut Answer) -> Made {
     let key = call.key(0)?;
     if call.name != "index" {
@@ -105,7 +105,7 @@ pub fn view<S: StoreSlice<Key, Value>>(map: &Map<S>, call: &Call<'_>, to: &mut A
     Some(())
 }
 
-// What the calls of a constant table answer, but for those by a key.
+// What the calls of a constant table return, but for those by a key.
 fn show_table(table: &LiteMap<Key, Value, SliceStore<'_, Key, Value>>, to: &mut Answer) {
     to.show(Pairs::of_map(table));
     to.show(table.const_len());

@@ -1,4 +1,4 @@
-//! Makes the calls of lines of data over each kind of store, and writes each line that is not answered as it says.
+//! Makes the calls of lines of data over each kind of store, and writes each line that returns something else than it says.
 //!
 //! Standard input names files, a line each; they lie where the program runs. In a file, empty lines and lines that begin with
 //! `#` are passed over, and the others are:
@@ -6,13 +6,13 @@
 //! - `on STORE ..`: the stores over which the next lines are made, of `vec`, `columns`, `short` and `fixed`;
 //! - `with ORDER LEN ROOM`: the map, or the store, that each of the next lines begins with: the order of its keys, how many
 //!   pairs it has (`2:20`, `4:40` and so on), and for how many more it is made with room;
-//! - `CALL WORD .. = ANSWER | PAIRS | COMPARED`: a call, what it answers, the pairs after it (`same`, if they are as before),
+//! - `CALL WORD .. = ANSWER | PAIRS | COMPARED`: a call, what it returns, the pairs after it (`same`, if they are as before),
 //!   and how often it compares two keys at most (`*`: as often as it likes). With `+` in front it is made of what the line
 //!   before left.
 //!
 //! What a line leaves alive are the keys and values of its map, or of its store, and no others.
 //!
-//! After a line `marked` of the input every line is written with what it answers, and requests of three sizes tell a watcher
+//! After a line `marked` of the input every line is written with what it returns, and requests of three sizes tell a watcher
 //! of the allocator when each call begins and ends (`bin/requests`). Lines with `+` are left out. After a line `lines` the rest
 //! of the input is the text of a file.
 #![tactic(auto)]

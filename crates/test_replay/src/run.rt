@@ -18,7 +18,7 @@ use std::{fs, io};
 // The names of the stores, in their order below.
 const STORES: [&str; 5] = ["vec", "columns", "short", "fixed", "shrinking"];
 
-// How many bytes an answer takes at most.
+// How many bytes the text of what is returned takes at most.
 const LONGEST: usize = 1 << 14;
 
 // Makes the call of a line over a store, which may have some calls of its own.
@@ -110,7 +110,7 @@ impl Replay {
         Some(())
     }
 
-    // Makes the call of a line over the store at a place.
+    // Makes the call of a line over the store at an index.
     fn make(
         &mut self,
         place: usize,
@@ -139,13 +139,13 @@ impl Replay {
     }
 }
 
-/// Makes the calls of a file, and writes the lines that are answered otherwise.
+/// Makes the calls of a file, and writes the lines that return something else.
 pub fn file(rt: &HostRuntime, name: &str, is_marked: bool) -> io::Result<()> {
     let text = fs::read_to_string(rt, name)?;
     lines(rt, name, text.as_str(), is_marked)
 }
 
-/// Makes the calls of the lines of a text, which has a name, and writes those that are answered otherwise.
+/// Makes the calls of the lines of a text, which has a name, and writes those that return something else.
 pub fn lines(rt: &HostRuntime, name: &str, text: &str, is_marked: bool) -> io::Result<()> {
     let mut replay = Replay::new(rt.alloc(), is_marked)?;
     each_line(rt, &mut replay, name, text)?;

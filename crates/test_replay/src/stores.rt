@@ -105,7 +105,7 @@ fn put_at<S: StoreMut<Key, Value>>(store: &mut S, call: &Call<'_>, to: &mut Answ
     Some(())
 }
 
-// A store with no pair takes the place of the old one.
+// A store with no pair replaces the old one.
 fn renew<S: Tested<Key, Value>>(store: &mut S, call: &Call<'_>, to: &mut Answer) -> Made {
     let capacity = call.size(0).unwrap_or(0);
     let made = match call.name {
@@ -117,7 +117,7 @@ fn renew<S: Tested<Key, Value>>(store: &mut S, call: &Call<'_>, to: &mut Answer)
     Some(())
 }
 
-// A store of these pairs takes the place of the old one.
+// A store of these pairs replaces the old one.
 fn make<S: Tested<Key, Value>>(store: &mut S, call: &Call<'_>, to: &mut Answer) -> Made {
     let (mut pairs, mut count) = (call.pairs(0)?, Count::new());
     call.begin();

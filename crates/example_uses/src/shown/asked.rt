@@ -1,11 +1,10 @@
-//! Lookups in maps of borrowed texts and in tables, and by what stands for a key.
+//! Lookups in maps of borrowed strings and in tables, and by what stands for a key.
 use crate::names::find_in_table;
 use crate::people::{Person, kept_for};
 use crate::texts;
 use litemap::LiteMap;
 use std::alloc::{AllocError, Global};
 
-/// Writes what the callers answer.
 pub(crate) fn show(rt: &impl Print, alloc: Global) -> anyhow::Result<()> {
     let mut words = LiteMap::new_vec(alloc);
     words.insert("en", 1)?;

@@ -6,7 +6,6 @@ use litemap::LiteMap;
 use std::alloc::{AllocError, Global};
 use std::io;
 
-/// Writes what the callers answer.
 pub(crate) fn show(rt: &impl Print, alloc: Global) -> anyhow::Result<()> {
     let words = ["the", "map", "of", "the", "list", "of", "the", ""];
     println!(rt; "words {:?}", count_words(alloc, words.as_slice())?)?;

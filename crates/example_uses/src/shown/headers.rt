@@ -1,4 +1,4 @@
-//! Header lists that own their texts, that borrow them, and that are read from fields.
+//! Header lists that own their strings, that borrow them, and that are read from fields.
 use crate::borrowed::{self, Borrowed};
 use crate::headers::{self, Headers};
 use crate::message::{Field, read_headers};
@@ -9,7 +9,6 @@ use std::io;
 
 const FIELDS: &[(&str, &str)] = &[("host", "a"), ("accept", "b"), ("host", "c")];
 
-/// Writes what the callers answer.
 pub(crate) fn show(rt: &impl Print, alloc: Global) -> anyhow::Result<()> {
     let mut owned = owned(alloc)?;
     let mut borrowed = borrowed(alloc)?;

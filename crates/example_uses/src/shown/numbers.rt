@@ -2,7 +2,6 @@
 use crate::numbers::{self, Ages, Readings, Shelf, Stock};
 use std::alloc::Global;
 
-/// Writes what the callers answer.
 pub(crate) fn show(rt: &impl Print, alloc: Global) -> anyhow::Result<()> {
     show_ages(rt, alloc)?;
     let mut readings = Readings::new_vec(alloc);
@@ -12,7 +11,7 @@ pub(crate) fn show(rt: &impl Print, alloc: Global) -> anyhow::Result<()> {
     show_stock(rt, alloc)
 }
 
-// Ages that are set and noted, corrected by number and at a place, dropped below 2, and forgotten.
+// Ages that are set and noted, corrected by number and at an index, dropped below 2, and forgotten.
 fn show_ages(rt: &impl Print, alloc: Global) -> anyhow::Result<()> {
     let mut ages = Ages::new_vec(alloc);
     for (id, age) in [(3, 30), (1, 10), (2, 20), (5, 50)] {

@@ -11,7 +11,6 @@ use litemap_columns::ColumnMap;
 use std::alloc::{AllocError, Global};
 use std::io;
 
-/// Writes what the callers answer.
 pub(crate) fn show(rt: &impl Print, alloc: Global) -> anyhow::Result<()> {
     show_made(rt, alloc)?;
     show_log(rt, &mut three_entries(alloc)?)?;

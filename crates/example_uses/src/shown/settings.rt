@@ -9,7 +9,6 @@ const USER: &[(&str, &str)] = &[("port", "81"), ("user", "me"), ("port", "82")];
 
 const LATER: &[(&str, &str)] = &[("log", "on"), ("a", "b")];
 
-/// Writes what the callers answer.
 pub(crate) fn show(rt: &impl Print, alloc: Global) -> anyhow::Result<()> {
     let mut settings = of_texts(alloc, DEFAULTS, USER)?;
     println!(rt; "configured {settings:?}")?;

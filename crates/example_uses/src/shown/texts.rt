@@ -5,7 +5,6 @@ use litemap::LiteMap;
 use std::alloc::{AllocError, Global};
 use std::io;
 
-/// Writes what the callers answer.
 pub(crate) fn show(rt: &impl Print, alloc: Global) -> anyhow::Result<()> {
     for name in ["", "one", "ones", "two"] {
         show_name(rt, alloc, name)?;
@@ -26,7 +25,7 @@ fn two_names(alloc: Global) -> Result<Numbers, AllocError> {
     Ok(map)
 }
 
-// Whether a name is there, by two callers; what is found once 7 is written there, and taken out.
+// Whether a name is there, by two callers; what is found once 7 is written there, and removed.
 fn show_name(rt: &impl Print, alloc: Global, name: &str) -> anyhow::Result<()> {
     let mut map = two_names(alloc)?;
     let key = name.to_string(alloc)?;
@@ -72,7 +71,7 @@ fn one_at_bytes(alloc: Global) -> Result<ByteNumbers, AllocError> {
     Ok(map)
 }
 
-// What is found at bytes, whether 7 is written there, and the number that is taken out.
+// What is found at bytes, whether 7 is written there, and the number that is removed.
 fn show_bytes(rt: &impl Print, map: &mut ByteNumbers, bytes: &[u8]) -> io::Result<()> {
     let number = texts::number_of_bytes(map, bytes);
     let is_set = texts::set_bytes(map, bytes, 7);

@@ -1,15 +1,15 @@
-//! What a key or a value becomes in a map that is made of another.
+//! How a key or a value is converted when a map is made of another.
 ghost use Rattle.std.specs.Prelude.{◌≡◌, ⊤, IfOk};
 ghost use Rattle.std.specs.Fn.{FnReturnsAt};
 
 use std::alloc::{AllocError, Global};
 
-/// A way to make a value of another one.
+/// A conversion of a value.
 pub(super) trait Becomes<'a, X, Y> {
-    /// Whether something may be made of a value.
+    /// Whether it accepts a value.
     ghost takes: { Self → X → Type 0 };
 
-    /// What may be made of a value.
+    /// What it may make of a value.
     ghost became: { Self → X → Y → Type 0 };
 
     fn made_of(&self, alloc: Global, value: &'a X) -> Result<Y, AllocError>
@@ -20,13 +20,13 @@ pub(super) trait Becomes<'a, X, Y> {
 /// A clone.
 pub(super) struct Cloned;
 
-/// The box of a clone.
+/// A box of a clone.
 pub(super) struct Boxed;
 
 /// A reference.
 pub(super) struct Lent;
 
-/// What a closure answers.
+/// What a closure returns.
 #[derive(Drop)]
 pub(super) struct Answered<F> {
     pub(super) f: F,

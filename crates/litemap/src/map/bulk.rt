@@ -1,4 +1,4 @@
-//! Calls that take many pairs at once. Of each key the last pair stays.
+//! Calls that take many pairs at once. The last pair of each key stays.
 ghost use Rattle.std.specs.Prelude.{◌≡◌, ◌≤◌, ◌++◌, [], IfErr, IfOk, IsOk, OnOk, OnErr, length};
 ghost use Rattle.std.specs.Iterator.{IsFiniteIterable};
 ghost use Rattle.litemap_store.specs.Bulk.{GivesSome, IsCountedFor, IsExtended, IsExtendedCounted, IsHandedBack};
@@ -12,11 +12,11 @@ use litemap_store::store::{Count, NoRoom, StoreBulkMut, StoreFromIterable};
 use std::alloc::{AllocError, Global};
 
 impl<K: Ord + Drop, V: Drop, S: StoreFromIterable<K, V>> LiteMap<K, V, S> {
-    /// The map of the pairs that an iterator gives, or a refusal for want of memory. Of each key the last pair stays, whole:
-    /// its key is the last one's too.
+    /// Returns a map of the pairs that an iterator yields, or an error if memory runs out. The last pair of each key stays, its
+    /// key included.
     ///
-    /// It is the empty map extended: it compares each key with the one before it, and sorts only where one doesn't rise. The
-    /// Rust crate has the trait `FromIterator` here.
+    /// It compares each key with the one before it, and sorts the pairs only if they don't ascend. It never fails for an
+    /// iterator that yields nothing. In the Rust crate this is the trait `FromIterator`.
     ///
     /// ```rust
     /// let days: Days = LiteMap::from_iter(alloc, [(2, "Tue"), (1, "Mon"), (2, "Tuesday")])?;
@@ -34,7 +34,7 @@ impl<K: Ord + Drop, V: Drop, S: StoreFromIterable<K, V>> LiteMap<K, V, S> {
         Self::from_iter_counted(alloc, iter, &mut Count::new())
     }
 
-    /// `from_iter`, with its comparisons counted: at most one a pair where they rise, also where it is refused (own).
+    /// `from_iter`, counting its comparisons: at most one for each pair if they ascend, also if it fails (own).
     pub fn from_iter_counted<I: IntoIterator<Item = (K, V)>>(
         alloc: Global,
         iter: I,
@@ -54,11 +54,12 @@ impl<K: Ord + Drop, V: Drop, S: StoreFromIterable<K, V>> LiteMap<K, V, S> {
 }
 
 impl<K: Ord + Drop, V: Drop, S: StoreBulkMut<K, V>> LiteMap<K, V, S> {
-    /// The map of the pairs of a vector, or a refusal for want of memory (own). Of each key the last pair stays, whole.
+    /// Returns a map of the pairs of a vector, or an error if memory runs out (own). The last pair of each key stays, its key
+    /// included.
     ///
-    /// It answers as `from_iter` does, but takes the vector as it is: over a vector no pair moves where they rise, and nothing is
-    /// gathered. What it leaves is told by the vector's list. Refused, it hands the pairs back, or the last of each key in rising
-    /// order. No pair is never refused, nor one over a short store.
+    /// It compares and keeps what `from_iter` does, but takes the vector itself: nothing is gathered, and over a vector
+    /// ascending pairs stay where they are. Its contract speaks of the vector's list. If memory runs out, the error returns the
+    /// pairs, or the last pair of each key in ascending order. It never fails for no pairs, nor for one over a short store.
     pub fn from_vec(alloc: Global, pairs: Vec<(K, V)>) -> Result<Self, NoRoom<Vec<(K, V)>>>
         ensures made { IfOk result (λ m. Last K.cmp pairs.items m.pairs) }
         ensures succeeds { Rising K.cmp pairs.items → length pairs.items ≤ S.free_room → IsOk result }
@@ -67,7 +68,7 @@ impl<K: Ord + Drop, V: Drop, S: StoreBulkMut<K, V>> LiteMap<K, V, S> {
         Self::from_vec_counted(alloc, pairs, &mut Count::new())
     }
 
-    /// `from_vec`, with its comparisons counted: at most one for each pair where the pairs rise, refused or not (own).
+    /// `from_vec`, counting its comparisons: at most one for each pair if they ascend, also if it fails (own).
     pub fn from_vec_counted(
         alloc: Global,
         mut pairs: Vec<(K, V)>,
@@ -84,16 +85,17 @@ impl<K: Ord + Drop, V: Drop, S: StoreBulkMut<K, V>> LiteMap<K, V, S> {
         }
     }
 
-    /// Puts the pairs that an iterator gives in, or is refused for want of memory. Of each key the last pair stays, whole,
-    /// where an old pair counts as earlier than all new ones: a new key takes the place of an equal old one.
+    /// Extends the map by the pairs that an iterator yields, or fails if memory runs out. The last pair of each key stays, its
+    /// key included. Old pairs count as earlier than new ones: so a new key replaces an equal old one.
     ///
-    /// A refusal leaves the list, and the pairs taken from the iterator are given up; one that gives nothing is never refused.
-    /// Its size hint isn't used. Nothing is promised of the room: where a new pair falls between others a fresh store takes the
-    /// place of the map's, with its limit, if it had one.
+    /// If it fails, the map keeps its pairs, and those taken from the iterator are dropped. It never fails for an iterator that
+    /// yields nothing. It does not use the iterator's size hint. Nothing is promised of the room: if a new pair goes between
+    /// others, a fresh store may replace the map's, and a limit set on the old one is lost.
     ///
-    /// New pairs that rise past the last key are put behind it, by at most one comparison for each. Others that rise are
-    /// merged, by at most one comparison for each old and two for each new pair, and each pair moves a constant number of
-    /// times. Else they are sorted before that, by comparisons that aren't counted. The Rust crate has the trait `Extend` here.
+    /// Ascending pairs above the last key are appended, with at most one comparison for each. Other ascending pairs are merged,
+    /// with at most one comparison for each old and two for each new pair, and each pair moves a constant number of times.
+    /// Pairs that don't ascend are sorted first, by comparisons that aren't counted. In the Rust crate this is the trait
+    /// `Extend`.
     ///
     /// ```rust
     /// let mut days = three_days(alloc)?;
@@ -114,7 +116,7 @@ impl<K: Ord + Drop, V: Drop, S: StoreBulkMut<K, V>> LiteMap<K, V, S> {
         self.extend_counted(alloc, iter, &mut Count::new())
     }
 
-    /// `extend`, with its comparisons counted, but for those of the sort (own). A refused call makes no more.
+    /// `extend`, counting its comparisons but for those of the sort; a failed call keeps the bounds, too (own).
     pub fn extend_counted<I: IntoIterator<Item = (K, V)>>(
         &mut self,
         alloc: Global,
@@ -133,13 +135,13 @@ impl<K: Ord + Drop, V: Drop, S: StoreBulkMut<K, V>> LiteMap<K, V, S> {
         self.store.lm_extend(alloc, iter, count)
     }
 
-    /// Puts the pairs of a vector in, or is refused for want of memory (own). Of each key the last pair stays, whole, where an
-    /// old pair counts as earlier than all new ones.
+    /// Extends the map by the pairs of a vector, or fails if memory runs out (own). The last pair of each key stays, its key
+    /// included. Old pairs count as earlier than new ones.
     ///
-    /// It answers as `extend` does, by as many comparisons, but takes the vector as it is, and nothing is gathered. What it
-    /// leaves is told by the vector's list. A refusal leaves the list, and hands the pairs back, or the last of each key in
-    /// rising order. Where its keys rise past the last one, and there is room for all, it is never refused. Nothing is promised
-    /// of the room after it.
+    /// It leaves and compares what `extend` does, but takes the vector itself: nothing is gathered. Its contract speaks of the
+    /// vector's list. If memory runs out, the map keeps its pairs, and the error returns the new ones, or the last of each key
+    /// in ascending order. It never fails if the new pairs ascend above the last key and there is room for all. Nothing is
+    /// promised of the room after it.
     pub fn extend_from_vec(
         &mut self,
         alloc: Global,
@@ -153,7 +155,7 @@ impl<K: Ord + Drop, V: Drop, S: StoreBulkMut<K, V>> LiteMap<K, V, S> {
         self.extend_from_vec_counted(alloc, pairs, &mut Count::new())
     }
 
-    /// `extend_from_vec`, with its comparisons counted, but for those of a sort: the bounds hold where it is refused too (own).
+    /// `extend_from_vec`, counting its comparisons but for those of a sort; a failed call keeps the bounds, too (own).
     pub fn extend_from_vec_counted(
         &mut self,
         alloc: Global,

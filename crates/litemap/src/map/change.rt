@@ -22,10 +22,12 @@ use std::cmp::Ordering;
 use std::mem;
 
 impl<K: Ord + Drop, V, S: StoreMut<K, V>> LiteMap<K, V, S> {
-    /// Puts a value at a key. Where an equal key is there, that key stays, the old value is answered, and no memory is taken.
+    /// Inserts a key-value pair, and returns the old value if the key was present.
     ///
-    /// It makes O(log n) comparisons. Where the key is absent the pairs with greater keys move up by one, and without room the
-    /// pair comes back and the list stays.
+    /// A present key stays, the new one is dropped, and no memory is taken. If memory runs out for a new key, the pair comes
+    /// back in the error, and the map keeps its pairs.
+    ///
+    /// It makes O(log n) comparisons. For a new key it moves the pairs with greater keys up by one.
     ///
     /// ```rust
     /// let mut days = three_days(alloc)?;
@@ -37,7 +39,7 @@ impl<K: Ord + Drop, V, S: StoreMut<K, V>> LiteMap<K, V, S> {
         self.insert_counted(key, value, &mut Count::new())
     }
 
-    /// `insert`, with its comparisons counted (own).
+    /// `insert`, counting its comparisons (own).
     pub fn insert_counted(
         &mut self,
         key: K,
@@ -56,10 +58,10 @@ impl<K: Ord + Drop, V, S: StoreMut<K, V>> LiteMap<K, V, S> {
         }
     }
 
-    /// The place and the value of a key. It compares, moves and leaves of the map what `try_find_or_insert` does.
+    /// Returns the index and the value of a key; if the key was absent, inserts it first with what `f` returns for it.
     ///
-    /// What it leaves is in its contract (`leaves`), which a proof by hand can use, and no other (docs/DECISIONS.md). So who goes
-    /// on to use the map calls `try_find_or_insert`.
+    /// Errors, comparisons and moves are those of `try_find_or_insert`. The clause `leaves` says what it leaves of the map, and
+    /// only a proof by hand can use it (docs/DECISIONS.md): to go on using the map, call `try_find_or_insert`.
     ///
     /// ```rust
     /// let mut days = three_days(alloc)?;
@@ -74,11 +76,11 @@ impl<K: Ord + Drop, V, S: StoreMut<K, V>> LiteMap<K, V, S> {
         f: F,
     ) -> Result<(usize, &V), TryFault<K, V, E>>
         requires { IsNone (at K.cmp self.old.pairs key) → FnOnceTakesAt F.FnOnce f key }
-        // What the map is, once the value is lent no more.
+        // The map once the borrow of the value has ended.
         ensures* leaves { sem 𝓛 (RestsAs K.row V.row S.row K.Ord S.pairs S.room self.entry
             (IsPlaced F.FnOnce f K.cmp key self.old result)) }
 
-        // The place and the value: found, or what the closure answered.
+        // The index and the value: what was found, or what the closure returned.
         ensures place { IfOk result (λ there. there.0 ≡ place K.cmp self.old.pairs key) }
         ensures present { IsSome (at K.cmp self.old.pairs key) → IsOk result }
         ensures within { IsSome (at K.cmp self.old.pairs key)
@@ -95,7 +97,7 @@ impl<K: Ord + Drop, V, S: StoreMut<K, V>> LiteMap<K, V, S> {
         map.shown(found)
     }
 
-    // The map, for all the time that the reference has left.
+    // The map, shared for the rest of the borrow.
     fn shared(&mut self) -> &LiteMap<K, V, S>
         ensures* rests { sem 𝓛 (RestsAs K.row V.row S.row K.Ord S.pairs S.room self.entry (λ n. n ≡ self.old)) }
         ensures same { result.now ≡ self.old }
@@ -103,7 +105,7 @@ impl<K: Ord + Drop, V, S: StoreMut<K, V>> LiteMap<K, V, S> {
         self
     }
 
-    // The value at a place that was found.
+    // Adds the value at the index that was found.
     fn shown<E>(
         &self,
         found: Result<usize, TryFault<K, V, E>>,
@@ -117,11 +119,15 @@ impl<K: Ord + Drop, V, S: StoreMut<K, V>> LiteMap<K, V, S> {
         }
     }
 
-    /// The place of a key. Where the key is absent, its value is what `f` answers for it, and is placed.
+    /// Returns the index of a key; if the key was absent, inserts it first with what `f` returns for it (own).
     ///
-    /// Where an equal key is there, `f` is not called. Where `f` answers a fault, nothing is changed. The key is given up in
-    /// both cases. Without room the key and what `f` answered come back and the list stays. It makes O(log n) comparisons, and
-    /// moves the pairs with greater keys up by one where a pair is placed. The Rust crate has `try_get_or_insert` alone.
+    /// If the key was present, `f` is not called, and the key passed in is dropped. It compares and moves as `insert` does. The
+    /// Rust crate has `try_get_or_insert` alone.
+    ///
+    /// # Errors
+    ///
+    /// `TryFault::Closure` is the error of `f`: nothing changes, and the key is dropped. `TryFault::NoRoom` says that memory
+    /// ran out, and returns the key and the value of `f`: the map keeps its pairs.
     ///
     /// ```rust
     /// let mut days = three_days(alloc)?;
@@ -136,18 +142,18 @@ impl<K: Ord + Drop, V, S: StoreMut<K, V>> LiteMap<K, V, S> {
         f: F,
     ) -> Result<usize, TryFault<K, V, E>>
         requires { IsNone (at K.cmp self.old.pairs key) → FnOnceTakesAt F.FnOnce f key }
-        // The place, and the pair that stands there after the call.
+        // The index, and the pair that is there after the call.
         ensures place { IfOk result (λ index. index ≡ place K.cmp self.old.pairs key) }
         ensures within { IfOk result (λ index. index < length self.new.pairs) }
         ensures there { IfOk result (λ index. slice_get self.new.pairs index ≡ at K.cmp self.new.pairs key) }
 
-        // The map as it was where the key is there, and else with what the closure answered.
+        // The map as it was if the key is present, else with what the closure returned.
         ensures present { IsSome (at K.cmp self.old.pairs key) → IsOk result × (self.new ≡ self.old) }
         ensures put { IsNone (at K.cmp self.old.pairs key) → OnOk result
             ((v : V) × FnOnceReturnsAt F.FnOnce f key (Ok v) × (self.new.pairs ≡ put K.cmp self.old.pairs key v)) }
         ensures room { self.old.room ≤ self.new.room + 1 }
 
-        // The list stays where nothing is placed, and where the closure answers a fault the room, too.
+        // If nothing is inserted the list stays; if the closure returns an error, so does the room.
         ensures faults { FailsAs F.FnOnce f key self.old.room result }
         ensures refused { OnErr result (self.new.pairs ≡ self.old.pairs) }
         ensures unmoved { IfClosure result (λ _. self.new ≡ self.old) }
@@ -169,8 +175,8 @@ impl<K: Ord + Drop, V, S: StoreMut<K, V>> LiteMap<K, V, S> {
         }
     }
 
-    /// Takes out the pair with an equal key, and answers its value. Its key is given up. It makes O(log n) comparisons, and
-    /// moves the pairs with greater keys down by one.
+    /// Removes the pair with an equal key, and returns its value, or `None` if there is none. The key of the pair is dropped.
+    /// It makes O(log n) comparisons, and moves the pairs with greater keys down by one.
     ///
     /// ```rust
     /// let mut days = three_days(alloc)?;
@@ -185,7 +191,7 @@ impl<K: Ord + Drop, V, S: StoreMut<K, V>> LiteMap<K, V, S> {
         self.remove_counted(key, &mut Count::new())
     }
 
-    /// `remove`, with its comparisons counted (own).
+    /// `remove`, counting its comparisons (own).
     pub fn remove_counted<Q: Query<K>>(&mut self, key: Q, count: &mut Count) -> Option<V>
         ensures value { result ≡ value_at Q.order self.old.pairs (Q.sought key) }
         ensures cut { self.new.pairs ≡ cut Q.order self.old.pairs (Q.sought key) }
@@ -196,10 +202,13 @@ impl<K: Ord + Drop, V, S: StoreMut<K, V>> LiteMap<K, V, S> {
         Some(self.take_out(key, count)?.1)
     }
 
-    /// Moves the value at a key to another key, and answers whether the key was there (own). The key that was there is given up.
+    /// Moves the value at a key to another key, and returns whether the first key was present (own).
     ///
-    /// A key that is equal to the new one stays, and its old value is given up. Where the key is absent nothing changes. It is
-    /// `remove`, which leaves room, and `insert`, at the cost of both: so it is never refused.
+    /// The first key is dropped. If the other key was present, it stays, and its old value is dropped. If the first key was
+    /// absent, nothing changes.
+    ///
+    /// It is `remove`, which leaves room for a pair, and then `insert`: so it never fails, and makes the comparisons and moves
+    /// of both.
     ///
     /// ```rust
     /// let mut days = three_days(alloc)?;
@@ -214,7 +223,7 @@ impl<K: Ord + Drop, V, S: StoreMut<K, V>> LiteMap<K, V, S> {
         self.rename_counted(key, new_key, &mut Count::new())
     }
 
-    /// `rename`, with its comparisons counted (own).
+    /// `rename`, counting its comparisons (own).
     pub fn rename_counted<Q: Query<K>>(&mut self, key: Q, new_key: K, count: &mut Count) -> bool
     where
         V: Drop,
@@ -229,8 +238,8 @@ impl<K: Ord + Drop, V, S: StoreMut<K, V>> LiteMap<K, V, S> {
         true
     }
 
-    /// Takes out a pair for whose key `f` answers `Equal`, and answers its value (own). Its key is given up. It asks `f` as
-    /// `get_by` does, and moves the pairs with greater keys down by one.
+    /// Removes a pair for whose key `f` returns `Equal`, and returns its value, or `None` if there is none (own). The key of
+    /// the pair is dropped. It calls `f` as `get_by` does, and moves the pairs with greater keys down by one.
     pub fn remove_by<F: FnMut(&K) -> Ordering>(&mut self, f: F) -> Option<V>
         requires { CallableOnKeys F.FnMut self.old.pairs f }
         ensures found { RemovesFound F.FnMut self.old.pairs f result self.new.pairs }
@@ -243,7 +252,7 @@ impl<K: Ord + Drop, V, S: StoreMut<K, V>> LiteMap<K, V, S> {
         }
     }
 
-    /// Gives up all pairs. There is room for as many then.
+    /// Removes and drops all pairs. A store that keeps its memory has room for as many then.
     pub fn clear(&mut self)
     where
         V: Drop,
@@ -255,7 +264,8 @@ impl<K: Ord + Drop, V, S: StoreMut<K, V>> LiteMap<K, V, S> {
 }
 
 impl<K: Ord, V, S: StoreMut<K, V>> LiteMap<K, V, S> {
-    /// Places a pair whose key is absent; else the pair comes back. It compares, moves and is refused as `insert`.
+    /// Inserts a pair if its key is absent, and returns `None`; else changes nothing, and returns the pair. It compares, moves
+    /// and fails as `insert` does.
     ///
     /// ```rust
     /// let mut days = three_days(alloc)?;
@@ -276,8 +286,9 @@ impl<K: Ord, V, S: StoreMut<K, V>> LiteMap<K, V, S> {
         }
     }
 
-    /// Puts a pair whose key is above all others behind them; else the pair comes back. It compares at most once, with the last
-    /// key, and moves no pair but where the store takes more memory. Without room the pair comes back and the list stays.
+    /// Appends a pair if its key is above all others, and returns `None`; else changes nothing, and returns the pair. It makes
+    /// at most one comparison, with the last key, and moves other pairs only if the store takes more memory. If memory runs
+    /// out, the pair comes back in the error, and the map keeps its pairs.
     ///
     /// ```rust
     /// let mut days = three_days(alloc)?;
@@ -296,7 +307,8 @@ impl<K: Ord, V, S: StoreMut<K, V>> LiteMap<K, V, S> {
         Ok(None)
     }
 
-    /// Takes this much room at least, or is refused for want of memory where there was less. The room is not lowered.
+    /// Reserves capacity for at least `additional` more pairs. It fails only if memory runs out and there was less room, and
+    /// never lowers the room.
     pub fn reserve(&mut self, additional: usize) -> Result<(), AllocError>
         ensures pairs { self.new.pairs ≡ self.old.pairs }
         ensures room { OnOk result (additional ≤ self.new.room) }
@@ -306,7 +318,7 @@ impl<K: Ord, V, S: StoreMut<K, V>> LiteMap<K, V, S> {
         self.store.lm_reserve(additional)
     }
 
-    // Whether the key is above all others. It compares with the last one.
+    // Compares with the last key alone.
     fn is_above_all(&self, key: &K) -> bool
         ensures { IsTrue result ↔ AllBelow K.cmp self.now.pairs key.now }
     {
@@ -316,7 +328,6 @@ impl<K: Ord, V, S: StoreMut<K, V>> LiteMap<K, V, S> {
         }
     }
 
-    // Puts a pair whose key is above all others behind them.
     fn append(&mut self, key: K, value: V) -> Result<(), NoRoom<(K, V)>>
         requires { AllBelow K.cmp self.old.pairs key }
         ensures appended { OnOk result (self.new.pairs ≡ self.old.pairs ++ (key, value) ∷ []) }
@@ -325,7 +336,6 @@ impl<K: Ord, V, S: StoreMut<K, V>> LiteMap<K, V, S> {
         self.store.lm_push(key, value)
     }
 
-    // Replaces the value at a place, and answers the old one.
     fn replace_value(&mut self, index: usize, value: V) -> V
         requires { index < length self.old.pairs }
         ensures old { value_in self.old.pairs index ≡ Some result }
@@ -335,7 +345,6 @@ impl<K: Ord, V, S: StoreMut<K, V>> LiteMap<K, V, S> {
         mem::replace(self.value_in_mut(index), value)
     }
 
-    // Puts a pair in at the place of its key, which is absent.
     pub(super) fn insert_at(&mut self, index: usize, key: K, value: V) -> Result<(), NoRoom<(K, V)>>
         requires { IsMissingAt K.cmp self.old.pairs key index }
         ensures put { OnOk result (self.new.pairs ≡ put K.cmp self.old.pairs key value) }
@@ -346,10 +355,11 @@ impl<K: Ord, V, S: StoreMut<K, V>> LiteMap<K, V, S> {
 }
 
 impl<K: Ord + Drop, V: Drop, S: StoreBulkMut<K, V>> LiteMap<K, V, S> {
-    /// Keeps the pairs of which `f` answers yes, in their order, and gives up the others. There is room for as many then.
+    /// Keeps the pairs for which `f` returns true, in their order, and drops the others. A store that keeps its memory has room
+    /// for as many pairs as were dropped.
     ///
-    /// `f` is asked once of each pair, in order, and has to take each as its earlier answers left it. Where its answers are
-    /// those of a test, and it keeps no state, what is left is the list filtered by the test. No keys are compared.
+    /// `f` is called once for each pair, in order, and has to accept each one in the state that the calls before left. If `f`
+    /// keeps no state, the pairs are filtered by it. No keys are compared.
     ///
     /// ```rust
     /// let mut days = three_days(alloc)?;
@@ -361,7 +371,7 @@ impl<K: Ord + Drop, V: Drop, S: StoreBulkMut<K, V>> LiteMap<K, V, S> {
         ensures kept { Kept F.FnMut f self.old.pairs self.new.pairs }
         ensures filtered { (test : K × V → Bool)
             → Tests F.FnMut f test → self.new.pairs ≡ filter test self.old.pairs }
-        // What a look-up finds: what it found, where `f` answers yes of that pair; nothing, where it answers no.
+        // What a lookup finds: if `f` returns true for the pair, what it found before; if false, nothing.
         ensures stays { (key : K) → AnswersAt F.FnMut f K.cmp self.old.pairs key true
             → value_at K.cmp self.new.pairs key ≡ value_at K.cmp self.old.pairs key }
         ensures gone { (key : K) → AnswersAt F.FnMut f K.cmp self.old.pairs key false

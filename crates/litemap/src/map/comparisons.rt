@@ -13,7 +13,7 @@ use litemap_store::store::Store;
 use std::cmp::Ordering;
 use std::hash::{Hash, Hasher};
 
-/// Maps are equal where they have as many pairs, and equal keys and equal values at each place.
+/// Maps are equal if they have the same length, and equal keys and equal values at each index.
 impl<K: Ord, V: PartialEq, S: Store<K, V>> PartialEq for LiteMap<K, V, S> {
     ghost eq = { λ m n. equal_pairs K.eq V.eq m.pairs n.pairs };
 
@@ -30,7 +30,8 @@ impl<K: Ord, V: Eq, S: Store<K, V>> Eq for LiteMap<K, V, S> {
         (on_equiv (λ p. p.1) V.Eq.laws))) };
 }
 
-/// The first place where maps differ decides, its keys before its values; a map is less than one that it begins.
+/// Maps compare by the first index at which they differ, keys before values; a map is less than a longer one that starts with
+/// it.
 ///
 /// ```rust
 /// // days: 1 Monday, 3 Wednesday, 5 Friday
@@ -49,7 +50,7 @@ impl<K: Ord, V: PartialOrd, S: Store<K, V>> PartialOrd for LiteMap<K, V, S> {
     }
 }
 
-/// The same order, where all values have one.
+/// The same order, if that of the values is total.
 impl<K: Ord, V: Ord, S: Store<K, V>> Ord for LiteMap<K, V, S> {
     ghost cmp = { λ m n. pairs_cmp K.cmp V.cmp m.pairs n.pairs };
 
@@ -71,7 +72,7 @@ impl<K: Ord, V: Ord, S: Store<K, V>> Ord for LiteMap<K, V, S> {
     }
 }
 
-/// The length, then each key and its value in turn: so equal maps hash alike.
+/// Hashes the length, then each key and its value in turn: so equal maps hash alike.
 impl<K: Ord + Hash, V: Hash, S: Store<K, V>> Hash for LiteMap<K, V, S> {
     ghost hash_input = { λ m. pairs_hashed K.hash_input V.hash_input m.pairs };
 

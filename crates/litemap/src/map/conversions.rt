@@ -1,7 +1,7 @@
-//! Maps made of the pairs of another, in the same order, over any store that grows, or a refusal for want of memory.
+//! Maps made of the pairs of another one, in the same order, over any store that can grow. No keys are compared.
 //!
-//! All room is taken first, and none for no pair: the empty map is never refused. A clone of a key has to compare `Equal` to it.
-//! The Rust crate boxes and lends any type that keys and values borrow as, and has no `to_keys_by`.
+//! Room for all pairs is taken first. An empty map takes none, and its conversion never fails. A clone of a key has to compare
+//! `Equal` to it. The Rust crate boxes and borrows keys and values as any type that they borrow as, and has no `to_keys_by`.
 ghost use Rattle.std.specs.Prelude.{◌≡◌, ◌<◌, ◌≤◌, ◌+◌, ◌++◌, ◌∷◌, [], length, IsOk, OnOk};
 ghost use Rattle.std.specs.Fn.{FnReturnsAt};
 ghost use Rattle.litemap_store.specs.Last.{In};
@@ -15,7 +15,7 @@ use litemap_store::store::{Store, StoreMut};
 use std::alloc::{AllocError, Global};
 
 impl<K: Ord + Clone, V: Clone, S: Store<K, V>> LiteMap<K, V, S> {
-    /// A map of boxes of clones of the keys and values, or a refusal for want of memory. No keys are compared.
+    /// Returns a map with boxes of clones of the keys and values, or an error if memory runs out.
     pub fn to_boxed_keys_values<B: StoreMut<Box<K>, Box<V>> + Drop>(
         &self,
         alloc: Global,
@@ -26,7 +26,7 @@ impl<K: Ord + Clone, V: Clone, S: Store<K, V>> LiteMap<K, V, S> {
         converted(&self.store, alloc, &Boxed, &Boxed)
     }
 
-    /// A map of boxes of clones of the keys, and clones of the values, or a refusal for want of memory. No keys are compared.
+    /// Returns a map with boxes of clones of the keys, and clones of the values, or an error if memory runs out.
     pub fn to_boxed_keys<B: StoreMut<Box<K>, V> + Drop>(
         &self,
         alloc: Global,
@@ -37,7 +37,7 @@ impl<K: Ord + Clone, V: Clone, S: Store<K, V>> LiteMap<K, V, S> {
         converted(&self.store, alloc, &Boxed, &Cloned)
     }
 
-    /// A map of clones of the keys, and boxes of clones of the values, or a refusal for want of memory. No keys are compared.
+    /// Returns a map with clones of the keys, and boxes of clones of the values, or an error if memory runs out.
     pub fn to_boxed_values<B: StoreMut<K, Box<V>> + Drop>(
         &self,
         alloc: Global,
@@ -50,8 +50,8 @@ impl<K: Ord + Clone, V: Clone, S: Store<K, V>> LiteMap<K, V, S> {
 }
 
 impl<K: Ord, V: Clone, S: Store<K, V>> LiteMap<K, V, S> {
-    /// A map with the keys that `f` answers, which have to rise as the keys do, and clones of the values (own), or a refusal
-    /// for want of memory. `f` is called once for each key. No keys are compared.
+    /// Returns a map with the keys that `f` returns, and clones of the values, or an error if memory runs out (own). The new
+    /// keys have to ascend as the old ones do. `f` is called once for each key.
     ///
     /// ```rust
     /// // hours: 1 8, 3 10
@@ -72,7 +72,7 @@ impl<K: Ord, V: Clone, S: Store<K, V>> LiteMap<K, V, S> {
 }
 
 impl<'a, K: Ord + 'a, V: 'a, S: Store<K, V>> LiteMap<K, V, S> {
-    /// A map of references to the keys and values, or a refusal for want of memory. No keys are compared.
+    /// Returns a map with references to the keys and values, or an error if memory runs out.
     ///
     /// ```rust
     /// // hours: 1 8, 3 10
@@ -88,7 +88,7 @@ impl<'a, K: Ord + 'a, V: 'a, S: Store<K, V>> LiteMap<K, V, S> {
         converted(&self.store, alloc, &Lent, &Lent)
     }
 
-    /// A map of references to the keys, and clones of the values, or a refusal for want of memory. No keys are compared.
+    /// Returns a map with references to the keys, and clones of the values, or an error if memory runs out.
     pub fn to_borrowed_keys<B: StoreMut<&'a K, V> + Drop>(
         &'a self,
         alloc: Global,
@@ -100,7 +100,7 @@ impl<'a, K: Ord + 'a, V: 'a, S: Store<K, V>> LiteMap<K, V, S> {
         converted(&self.store, alloc, &Lent, &Cloned)
     }
 
-    /// A map of clones of the keys, and references to the values, or a refusal for want of memory. No keys are compared.
+    /// Returns a map with clones of the keys, and references to the values, or an error if memory runs out.
     pub fn to_borrowed_values<B: StoreMut<K, &'a V> + Drop>(
         &'a self,
         alloc: Global,
@@ -114,7 +114,6 @@ impl<'a, K: Ord + 'a, V: 'a, S: Store<K, V>> LiteMap<K, V, S> {
     }
 }
 
-// The map with the keys that a closure answers for those of a store, and clones of the values.
 fn keyed_by<'a, K, V, S, L, B, F>(
     store: &'a S,
     alloc: Global,
@@ -135,7 +134,7 @@ where
     converted(store, alloc, &Answered { f }, &Cloned)
 }
 
-// The map of what the pairs of a store become.
+// The one body of all conversions.
 fn converted<'a, K, V, S, L, W, B, X, Y>(
     store: &'a S,
     alloc: Global,
@@ -161,7 +160,6 @@ where
     Ok(LiteMap::from_sorted_store_unchecked(made))
 }
 
-// Puts what the pairs of a store become into an empty one that has room.
 fn push_all<'a, K: 'a, V: 'a, S, L: Drop, W, B, X, Y>(
     store: &'a S,
     alloc: Global,
@@ -189,7 +187,6 @@ where
     Ok(())
 }
 
-// Puts what a key and its value become behind the others, in a store that has room.
 fn push_converted<'a, K: 'a, V: 'a, L: Drop, W, B, X, Y>(
     alloc: Global,
     made: &mut B,

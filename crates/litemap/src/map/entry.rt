@@ -1,6 +1,6 @@
-//! The place of a key in a map, whether the key is there or not.
+//! Entries: a key of a map, present or absent, that is looked up once for all that is then done with it.
 //!
-//! An entry borrows its map: the call that takes the entry, or the reference that this call answers, ends the borrow.
+//! An entry borrows its map. The call that consumes the entry ends the borrow, or the reference that this call returns does.
 ghost use Rattle.std.specs.Prelude.{◌<◌, length};
 ghost use Rattle.litemap_store.specs.Splits.{IsMissingAt};
 
@@ -9,16 +9,16 @@ use litemap_store::store::{Count, NoRoom, Store, StoreMut};
 use std::fmt::{self, Debug, Formatter, Write};
 use std::mem;
 
-/// The entry of a key.
+/// A key of a map, present or absent.
 #[derive(Drop)]
 pub enum Entry<'a, K: Ord, V, S: Store<K, V>> {
-    /// An equal key is there.
+    /// The key is present.
     Occupied(OccupiedEntry<'a, K, V, S>),
-    /// No equal key is there.
+    /// The key is absent.
     Vacant(VacantEntry<'a, K, V, S>),
 }
 
-/// The entry of a key that is there. No call on it takes memory, compares keys, or can be refused.
+/// The entry of a present key. No call on it takes memory, compares keys, or fails.
 #[derive(Drop)]
 pub struct OccupiedEntry<'a, K: Ord, V, S: Store<K, V>> {
     map: &'a mut LiteMap<K, V, S>,
@@ -26,7 +26,7 @@ pub struct OccupiedEntry<'a, K: Ord, V, S: Store<K, V>> {
     ghost within: { index < length map.now.pairs },
 }
 
-/// The entry of a key that is not there.
+/// The entry of an absent key.
 #[derive(Drop)]
 pub struct VacantEntry<'a, K: Ord, V, S: Store<K, V>> {
     map: &'a mut LiteMap<K, V, S>,
@@ -40,15 +40,15 @@ impl<K: Ord + Drop, V, S: StoreMut<K, V>> LiteMap<K, V, S> {
     ghost use Rattle.litemap_store.specs.Pairs.{at, cut, key_or, put, value_at};
     ghost use Rattle.litemap.specs.Entries.{MatchEntry, entry_key, entry_map, entry_value, pairs_with, pairs_without};
 
-    /// The entry of a key. Where an equal key is there, that key stays, and the new one is given up.
+    /// Returns the entry of a key. If an equal key is present, that key stays, and the one passed in is dropped.
     ///
-    /// It takes no memory, and changes nothing. It makes O(log n) comparisons; what is then done through the entry makes none.
+    /// It takes no memory, and changes nothing. It makes O(log n) comparisons; calls on the entry make none.
     pub fn entry(&mut self, key: K) -> Entry<'_, K, V, S>
-        // The map that it borrows, as it is.
+        // The map that it borrows, unchanged.
         ensures same_map { (entry_map result).ghost_name ≡ self.entry.ghost_name }
         ensures unchanged { (entry_map result).now ≡ self.old }
 
-        // Occupied exactly where an equal key is there.
+        // Occupied exactly if an equal key is present.
         ensures found { MatchEntry result
             (IsSome (at K.cmp self.old.pairs key)) (IsNone (at K.cmp self.old.pairs key)) }
         ensures key { entry_key result ≡ Some (key_or (at K.cmp self.old.pairs key) key) }
@@ -77,8 +77,10 @@ impl<'a, K: Ord, V, S: StoreMut<K, V>> Entry<'a, K, V, S> {
     ghost use Rattle.litemap.specs.Entries.{EntryLends, EntryRefused, entry_key, entry_map, entry_value};
     ghost use Rattle.litemap.specs.Entries.{pairs_with, pairs_without};
 
-    /// The value, to be written. Where the key is not there, `default` is placed first, and the pairs with greater keys move up
-    /// by one; without room key and value come back and the list stays.
+    /// Returns a mutable reference to the value; if the key is absent, inserts it first with `default`.
+    ///
+    /// If the key is present, `default` is dropped. An insertion moves the pairs with greater keys up by one. If memory runs
+    /// out, the key and the value come back in the error, and the map keeps its pairs.
     pub fn or_insert(self, default: V) -> Result<&'a mut V, NoRoom<(K, V)>>
     where
         V: Drop,
@@ -92,8 +94,8 @@ impl<'a, K: Ord, V, S: StoreMut<K, V>> Entry<'a, K, V, S> {
         }
     }
 
-    /// The value, to be written. Where the key is not there, `V::default()`, which is made in each case, is placed first, with
-    /// the moves of `or_insert`.
+    /// Returns a mutable reference to the value; if the key is absent, inserts it first with `V::default()`, which is made in
+    /// either case. It moves and fails as `or_insert` does.
     pub fn or_default(self) -> Result<&'a mut V, NoRoom<(K, V)>>
     where
         V: Default + Drop,
@@ -104,8 +106,8 @@ impl<'a, K: Ord, V, S: StoreMut<K, V>> Entry<'a, K, V, S> {
         self.or_insert(V::default())
     }
 
-    /// The value, to be written. Where the key is not there, what `default` answers is placed first, with the moves of
-    /// `or_insert`; else it is not called.
+    /// Returns a mutable reference to the value; if the key is absent, inserts it first with what `default` returns. If the key
+    /// is present, `default` is not called. It moves and fails as `or_insert` does.
     pub fn or_insert_with<F: FnOnce() -> V>(self, default: F) -> Result<&'a mut V, NoRoom<(K, V)>>
         requires { entry_value self ≡ None → F.pre default }
         ensures* writes_back { sem 𝓛 (EntryLends K.row V.row S.row self.entry result) }
@@ -119,7 +121,7 @@ impl<'a, K: Ord, V, S: StoreMut<K, V>> Entry<'a, K, V, S> {
         }
     }
 
-    /// Changes the value by `f`. Where the key is not there, `f` is not called.
+    /// Calls `f` on the value if the key is present, and returns the entry.
     ///
     /// ```rust
     /// // days: 1 Monday, 3 Wednesday, 5 Friday
@@ -151,21 +153,21 @@ impl<'a, K: Ord, V, S: StoreMut<K, V>> OccupiedEntry<'a, K, V, S> {
     ghost use Rattle.litemap.specs.Entries.{IntoLends, IsWritten, Occupied, OccupiedLends, entry_key, entry_map};
     ghost use Rattle.litemap.specs.Entries.{entry_value, pairs_without, with_entry_value};
 
-    /// The key that is there, which need not be the one that was asked for.
+    /// Returns the key in the map, which may differ from the one that was looked up.
     pub fn key(&self) -> &K
         ensures { entry_key (Occupied self.now) ≡ Some result.now }
     {
         self.map.get_indexed(self.index).unwrap().0
     }
 
-    /// The value.
+    /// Returns a reference to the value.
     pub fn get(&self) -> &V
         ensures { entry_value (Occupied self.now) ≡ Some result.now }
     {
         self.map.value_there(self.index)
     }
 
-    /// The value, to be written.
+    /// Returns a mutable reference to the value.
     pub fn get_mut(&mut self) -> &mut V
         ensures* writes_back { sem 𝓛 (OccupiedLends K.row V.row S.row self.entry result) }
         ensures value { entry_value (Occupied self.old) ≡ Some result.now }
@@ -176,7 +178,7 @@ impl<'a, K: Ord, V, S: StoreMut<K, V>> OccupiedEntry<'a, K, V, S> {
         self.map.value_in_mut(index)
     }
 
-    /// The value, to be written as long as the map is borrowed.
+    /// Returns a mutable reference to the value that lives as long as the borrow of the map.
     pub fn into_mut(self) -> &'a mut V
         ensures* writes_back { sem 𝓛 (IntoLends K.row V.row S.row self.entry result) }
         ensures value { entry_value (Occupied self.entry) ≡ Some result.now }
@@ -184,7 +186,7 @@ impl<'a, K: Ord, V, S: StoreMut<K, V>> OccupiedEntry<'a, K, V, S> {
         self.map.value_in_mut(self.index)
     }
 
-    /// Replaces the value, and answers the old one. The key that is there stays.
+    /// Replaces the value, and returns the old one. The key in the map stays.
     ///
     /// ```rust
     /// // days: 1 Monday, 3 Wednesday, 5 Friday
@@ -200,8 +202,8 @@ impl<'a, K: Ord, V, S: StoreMut<K, V>> OccupiedEntry<'a, K, V, S> {
         mem::replace(self.get_mut(), value)
     }
 
-    /// Takes out the pair, and answers its value. Its key is given up. The pairs with greater keys move down by one, and there
-    /// is room for another pair then.
+    /// Removes the pair, and returns its value. The key is dropped. The pairs with greater keys move down by one, and a store
+    /// that keeps its memory has room for another pair then.
     pub fn remove(self) -> V
     where
         K: Drop,
@@ -219,15 +221,15 @@ impl<'a, K: Ord, V, S: StoreMut<K, V>> VacantEntry<'a, K, V, S> {
     ghost use Rattle.std.specs.Borrow.{sem};
     ghost use Rattle.litemap.specs.Entries.{EntryLends, EntryRefused, Vacant, entry_key};
 
-    /// The key that was asked for.
+    /// Returns the key that was looked up.
     pub fn key(&self) -> &K
         ensures { entry_key (Vacant self.now) ≡ Some result.now }
     {
         &self.key
     }
 
-    /// Places the key with a value, and answers the value, to be written. The pairs with greater keys move up by one; without
-    /// room key and value come back and the list stays.
+    /// Inserts the key with a value, and returns a mutable reference to the value. The pairs with greater keys move up by one.
+    /// If memory runs out, the key and the value come back in the error, and the map keeps its pairs.
     ///
     /// ```rust
     /// // days: 1 Monday, 3 Wednesday, 5 Friday
@@ -247,7 +249,7 @@ impl<'a, K: Ord, V, S: StoreMut<K, V>> VacantEntry<'a, K, V, S> {
     }
 }
 
-/// Printed with its key and its value. No text is promised.
+/// Formats its key and its value. What is printed is not promised.
 impl<K: Ord + Debug, V: Debug, S: StoreMut<K, V>> Debug for Entry<'_, K, V, S> {
     fn fmt<W: Write>(&self, f: &mut Formatter<W>) -> fmt::Result {
         match self {
@@ -257,7 +259,7 @@ impl<K: Ord + Debug, V: Debug, S: StoreMut<K, V>> Debug for Entry<'_, K, V, S> {
     }
 }
 
-/// Printed with its key and its value. No text is promised.
+/// Formats its key and its value. What is printed is not promised.
 impl<K: Ord + Debug, V: Debug, S: StoreMut<K, V>> Debug for OccupiedEntry<'_, K, V, S> {
     fn fmt<W: Write>(&self, f: &mut Formatter<W>) -> fmt::Result {
         f.debug_struct("OccupiedEntry")
@@ -267,7 +269,7 @@ impl<K: Ord + Debug, V: Debug, S: StoreMut<K, V>> Debug for OccupiedEntry<'_, K,
     }
 }
 
-/// Printed with its key. No text is promised.
+/// Formats its key. What is printed is not promised.
 impl<K: Ord + Debug, V, S: Store<K, V>> Debug for VacantEntry<'_, K, V, S> {
     fn fmt<W: Write>(&self, f: &mut Formatter<W>) -> fmt::Result {
         f.debug_struct("VacantEntry")

@@ -1,4 +1,5 @@
-//! What goes through the pairs, the keys or the values of a map. None of it takes memory.
+//! Double-ended iterators over the pairs, the keys or the values of a map. None takes memory. After `None` they return `None`
+//! for good.
 ghost use Rattle.std.specs.Prelude.{◌≡◌};
 
 mod keys_values;
@@ -10,14 +11,14 @@ use litemap_store::store::{StoreIntoIterator, StoreIterable};
 pub use range::RangeIter;
 
 impl<'a, K: Ord + 'a, V: 'a, S: StoreIterable<'a, K, V>> LiteMap<K, V, S> {
-    /// All pairs once, in the order of their keys, from both ends, then `None` for good.
+    /// Returns an iterator over all pairs, in the order of their keys.
     pub fn iter(&'a self) -> S::KeyValueIter
         ensures { S.KeyValueIter.rest result ≡ self.now.pairs }
     {
         self.store.lm_iter()
     }
 
-    /// All keys once, in their order, from both ends, then `None` for good.
+    /// Returns an iterator over all keys, in their order.
     #[deprecated = "use keys() instead"]
     pub fn iter_keys(&'a self) -> KeysIterWrap<'a, K, V, S::KeyValueIter>
         ensures { S.KeyValueIter.rest result ≡ self.now.pairs }
@@ -25,7 +26,7 @@ impl<'a, K: Ord + 'a, V: 'a, S: StoreIterable<'a, K, V>> LiteMap<K, V, S> {
         self.keys()
     }
 
-    /// All values once, in the order of their keys, from both ends, then `None` for good.
+    /// Returns an iterator over all values, in the order of their keys.
     #[deprecated = "use values() instead"]
     pub fn iter_values(&'a self) -> ValuesIterWrap<'a, K, V, S::KeyValueIter>
         ensures { S.KeyValueIter.rest result ≡ self.now.pairs }
@@ -33,14 +34,14 @@ impl<'a, K: Ord + 'a, V: 'a, S: StoreIterable<'a, K, V>> LiteMap<K, V, S> {
         self.values()
     }
 
-    /// All keys once, in their order, from both ends, then `None` for good.
+    /// Returns an iterator over all keys, in their order.
     pub fn keys(&'a self) -> KeysIterWrap<'a, K, V, S::KeyValueIter>
         ensures { S.KeyValueIter.rest result ≡ self.now.pairs }
     {
         KeysIterWrap::over(self.iter())
     }
 
-    /// All values once, in the order of their keys, from both ends, then `None` for good.
+    /// Returns an iterator over all values, in the order of their keys.
     pub fn values(&'a self) -> ValuesIterWrap<'a, K, V, S::KeyValueIter>
         ensures { S.KeyValueIter.rest result ≡ self.now.pairs }
     {
@@ -48,7 +49,7 @@ impl<'a, K: Ord + 'a, V: 'a, S: StoreIterable<'a, K, V>> LiteMap<K, V, S> {
     }
 }
 
-/// All pairs once, in the order of their keys, by reference.
+/// Iterates over references to all pairs, in the order of their keys.
 ///
 /// ```rust
 /// // days: 1 Monday, 3 Wednesday, 5 Friday
@@ -70,7 +71,7 @@ impl<'a, K: Ord + 'a, V: 'a, S: StoreIterable<'a, K, V>> IntoIterator for &'a Li
     }
 }
 
-/// All pairs once, in the order of their keys, handed over.
+/// Iterates over all pairs by value, in the order of their keys.
 impl<K: Ord + Drop, V: Drop, S: StoreIntoIterator<K, V>> IntoIterator for LiteMap<K, V, S> {
     type Item = (K, V);
 

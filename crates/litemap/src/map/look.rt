@@ -1,4 +1,4 @@
-//! Calls that look at a map. None takes memory.
+//! Calls that look at a map. None takes memory. A lookup of a key makes O(log n) comparisons.
 ghost use Rattle.std.specs.Prelude.{◌≡◌, ◌==◌, ◌-◌, ◌<◌, IfOk, IsSome, Some, is_some, length, slice_get};
 ghost use Rattle.std.specs.Map.Iter.{deref_pair};
 ghost use Rattle.std.specs.Option.{option_copied, option_map};
@@ -14,7 +14,7 @@ use litemap_store::store::{Count, Store};
 use std::cmp::Ordering;
 
 impl<K: Ord, V, S: Store<K, V>> LiteMap<K, V, S> {
-    /// The number of pairs.
+    /// Returns the number of pairs.
     pub fn len(&self) -> usize
         ensures len { result ≡ length self.now.pairs }
         ensures rising { Rising K.cmp self.now.pairs }
@@ -22,45 +22,45 @@ impl<K: Ord, V, S: Store<K, V>> LiteMap<K, V, S> {
         self.store.lm_len()
     }
 
-    /// That the keys rise strictly, as those of every map do: for a caller whose proof needs it (own). It does nothing.
+    /// Does nothing, but promises to a caller's proof that the keys are strictly ascending, as those of every map are (own).
     pub fn keys_rise(&self)
         ensures { Rising K.cmp self.now.pairs }
     {
         let _opened = &self.store;
     }
 
-    /// Whether there is no pair.
+    /// Returns whether the map is empty.
     pub fn is_empty(&self) -> bool
         ensures { result ≡ (length self.now.pairs == 0) }
     {
         self.store.lm_is_empty()
     }
 
-    /// The pair at a place, `None` from the length on.
+    /// Returns the pair at an index, or `None` from the length on.
     pub fn get_indexed(&self, index: usize) -> Option<(&K, &V)>
         ensures { option_map deref_pair result ≡ slice_get self.now.pairs index }
     {
         self.store.lm_get(index)
     }
 
-    /// The pair with the smallest key, `None` where there is no pair.
+    /// Returns the pair with the smallest key, or `None` if the map is empty.
     pub fn first(&self) -> Option<(&K, &V)>
         ensures { option_map deref_pair result ≡ slice_get self.now.pairs 0 }
     {
         self.store.lm_get(0)
     }
 
-    /// The pair with the greatest key, `None` where there is no pair.
+    /// Returns the pair with the greatest key, or `None` if the map is empty.
     pub fn last(&self) -> Option<(&K, &V)>
         ensures { option_map deref_pair result ≡ slice_get self.now.pairs (length self.now.pairs - 1) }
     {
         self.store.lm_last()
     }
 
-    /// The value of the pair with an equal key, if there is one. It makes O(log n) comparisons.
+    /// Returns the value of the pair with an equal key, or `None` if there is none.
     ///
-    /// What is asked for is a `Query`: a key behind a `&`, a text where keys are texts, a slice where they are lists, or a type
-    /// of the caller's own.
+    /// The key is a `Query`: a reference to a key, a `&str` if keys are strings, a slice if they are vectors or slices, or a
+    /// type of the caller's own.
     ///
     /// ```rust
     /// // days: 1 Monday, 3 Wednesday, 5 Friday
@@ -72,7 +72,7 @@ impl<K: Ord, V, S: Store<K, V>> LiteMap<K, V, S> {
         self.get_counted(key, &mut Count::new())
     }
 
-    /// `get`, with its comparisons counted (own).
+    /// `get`, counting its comparisons (own).
     pub fn get_counted<Q: Query<K>>(&self, key: Q, count: &mut Count) -> Option<&V>
         ensures value { option_copied result ≡ value_at Q.order self.now.pairs (Q.sought key) }
         ensures cost { RisesByAtMost (digits (length self.now.pairs)) count.old count.new }
@@ -83,7 +83,8 @@ impl<K: Ord, V, S: Store<K, V>> LiteMap<K, V, S> {
         }
     }
 
-    /// The pair with an equal key: the key that is there, where equal keys differ (own). It makes O(log n) comparisons.
+    /// Returns the pair with an equal key, or `None` if there is none (own). Its key is the one in the map, if equal keys
+    /// differ.
     pub fn get_key_value<Q: Query<K>>(&self, key: Q) -> Option<(&K, &V)>
         ensures { option_map deref_pair result ≡ at Q.order self.now.pairs (Q.sought key) }
     {
@@ -93,11 +94,11 @@ impl<K: Ord, V, S: Store<K, V>> LiteMap<K, V, S> {
         }
     }
 
-    /// The value at a place that `f` answers `Equal` for, `None` where it answers `Equal` nowhere. It asks `f` O(log n) times.
+    /// Returns the value of a pair for whose key `f` returns `Equal`, or `None` if there is none. It calls `f` O(log n) times.
     ///
-    /// It is for what no `Query` says: a closure that finds several keys, or that keeps a state. The answer of `f` should hang
-    /// on the key alone, and over the keys be `Less`, then `Equal`, then `Greater`: else what is found means nothing. Where
-    /// several keys answer `Equal` any of them may be found.
+    /// It is for what no `Query` says: a closure that matches several keys, or that keeps state. The result of `f` should
+    /// depend on the key alone, and over the keys be `Less`, then `Equal`, then `Greater`; else nothing is promised of what is
+    /// found. If `f` returns `Equal` for several keys, any of them may be found.
     ///
     /// ```rust
     /// // days: 1 Monday, 3 Wednesday, 5 Friday
@@ -114,15 +115,15 @@ impl<K: Ord, V, S: Store<K, V>> LiteMap<K, V, S> {
         }
     }
 
-    /// Whether there is a pair with an equal key. It makes O(log n) comparisons.
+    /// Returns whether there is a pair with an equal key.
     pub fn contains_key<Q: Query<K>>(&self, key: Q) -> bool
         ensures { result ≡ is_some (at Q.order self.now.pairs (Q.sought key)) }
     {
         self.search(key, &mut Count::new()).is_ok()
     }
 
-    /// The value of the pair with an equal key, which has to be there. It makes O(log n) comparisons. The Rust crate has the
-    /// operator `[]` here, which panics where there is no such pair.
+    /// Returns the value of the pair with an equal key, which has to be there. In the Rust crate this is the operator `[]`,
+    /// which panics if there is none.
     pub fn index<Q: Query<K>>(&self, key: Q) -> &V
         requires { IsSome (at Q.order self.now.pairs (Q.sought key)) }
         ensures { Some result.now ≡ value_at Q.order self.now.pairs (Q.sought key) }
@@ -130,8 +131,8 @@ impl<K: Ord, V, S: Store<K, V>> LiteMap<K, V, S> {
         self.get(key).unwrap()
     }
 
-    /// `Ok` of the key's place where an equal key is there, else `Err` of the place where it would go: the number of smaller
-    /// keys. It makes O(log n) comparisons.
+    /// Returns `Ok` with the index of the pair with an equal key, or `Err` with the index where it would be inserted, the
+    /// number of smaller keys.
     ///
     /// ```rust
     /// // days: 1 Monday, 3 Wednesday, 5 Friday
@@ -146,7 +147,7 @@ impl<K: Ord, V, S: Store<K, V>> LiteMap<K, V, S> {
         self.find_index_counted(key, &mut Count::new())
     }
 
-    /// `find_index`, with its comparisons counted (own).
+    /// `find_index`, counting its comparisons (own).
     pub fn find_index_counted<Q: Query<K>>(&self, key: Q, count: &mut Count) -> Result<usize, usize>
         ensures place { result ≡ index_of Q.order self.now.pairs (Q.sought key) }
         ensures within { IfOk result (λ index. index < length self.now.pairs) }
@@ -157,8 +158,8 @@ impl<K: Ord, V, S: Store<K, V>> LiteMap<K, V, S> {
         self.search(key, count)
     }
 
-    /// `Ok` of a place where `f` answers `Equal`, or `Err` of the number of keys that answer `Less` where it answers `Equal`
-    /// for none (own). It asks `f` as `get_by` does.
+    /// Returns `Ok` with the index of a pair for whose key `f` returns `Equal`, or, if there is none, `Err` with the number of
+    /// keys for which it returns `Less` (own). It calls `f` as `get_by` does.
     pub fn find_index_by<F: FnMut(&K) -> Ordering>(&self, f: F) -> Result<usize, usize>
         requires { CallableOnKeys F.FnMut self.now.pairs f }
         ensures found { Found F.FnMut self.now.pairs f result }
@@ -167,7 +168,6 @@ impl<K: Ord, V, S: Store<K, V>> LiteMap<K, V, S> {
         self.store.lm_binary_search_by(f, &mut Count::new())
     }
 
-    // The value at a place, `None` from the length on.
     fn value_in(&self, index: usize) -> Option<&V>
         ensures { option_copied result ≡ value_in self.now.pairs index }
     {
@@ -175,7 +175,6 @@ impl<K: Ord, V, S: Store<K, V>> LiteMap<K, V, S> {
         Some(value)
     }
 
-    // The value at a place where a pair stands.
     pub(super) fn value_there(&self, index: usize) -> &V
         requires { index < length self.now.pairs }
         ensures { value_in self.now.pairs index ≡ Some result.now }
@@ -183,7 +182,7 @@ impl<K: Ord, V, S: Store<K, V>> LiteMap<K, V, S> {
         self.value_in(index).unwrap()
     }
 
-    // The one search of all calls by key: the place where the query splits the pairs.
+    // The one search of all calls by key: the index where the query splits the pairs.
     pub(crate) fn search<Q: Query<K>>(&self, key: Q, count: &mut Count) -> Result<usize, usize>
         ensures splits { Splits Q.order self.now.pairs (Q.sought key) result }
         ensures cost { RisesByAtMost (digits (length self.now.pairs)) count.old count.new }

@@ -15,19 +15,20 @@ use litemap_store::store::{Count, NoRoom, StoreIntoIterator};
 use std::alloc::Global;
 
 impl<K: Ord + Drop, V: Drop, S: StoreIntoIterator<K, V> + Drop> LiteMap<K, V, S> {
-    /// Puts the pairs of another map in. Where an equal key is there, that key stays and takes the new value.
+    /// Merges another map into this one, and returns a map of what it displaced, or `None` if no key is common.
     ///
-    /// It answers a map of what was driven out, keys of the other map with the old values; `None` where no key is common.
+    /// For a common key, this map's key stays and takes the other's value; the displaced pair is the other's key with the old
+    /// value.
     ///
-    /// Where one map is empty nothing is compared, no memory is taken, and an empty map takes the other's store whole. Where all
-    /// keys of one map lie above the other's, it makes at most two comparisons, and the pairs of one map move once. Else it makes
-    /// a search for each pair of the other map, or compares once for each pair of both where these are no more, and the pairs
-    /// move O((n + m) log(n + m)) times for m new ones.
+    /// If a map is empty, nothing is compared and no memory taken; an empty map takes over the other's store. If all keys of
+    /// one map are above the other's, it makes at most two comparisons, and moves the pairs of one map once. Else it makes one
+    /// search for each pair of the other map, or one comparison for each pair of both if that is no more. The pairs then move
+    /// O((n + m) log(n + m)) times, where m is the other map's length.
     ///
-    /// Refused for want of memory, the list stays and the other map comes back whole: all room is taken before the first change.
-    /// It is never refused where a map is empty, or where maps that lie apart have room for each other's pairs; where the other's
-    /// keys lie above, this map's room will do. Nothing is promised of the room after it. The Rust crate asks `StoreFromIterator`
-    /// too, and puts pairs that fall between others in one by one.
+    /// If memory runs out, the map keeps its pairs, and the error returns the other map whole: all room is taken before the
+    /// first change. It never fails if a map is empty, or if all keys of one map are above the other's and both have room for
+    /// each other's pairs; if the other's keys are above, room in this map is enough. Nothing is promised of the room after it.
+    /// The Rust crate requires `StoreFromIterator` too, and inserts pairs that go between others one by one.
     ///
     /// ```rust
     /// let mut days = three_days(alloc)?;
@@ -44,14 +45,14 @@ impl<K: Ord + Drop, V: Drop, S: StoreIntoIterator<K, V> + Drop> LiteMap<K, V, S>
     ) -> Result<Option<Self>, NoRoom<Self>>
         ensures merged { IsMergedInto K.cmp other self.old self.new result }
 
-        // What a look-up finds: the other map's value where it has the key, else the one that was there.
+        // What a lookup finds: the other map's value if it has the key, else what it found before.
         ensures found { OnOk result ((key : K) → value_at K.cmp self.new.pairs key
             ≡ option_or (value_at K.cmp other.pairs key) (value_at K.cmp self.old.pairs key)) }
     {
         self.extend_from_litemap_counted(alloc, other, &mut Count::new())
     }
 
-    /// `extend_from_litemap`, with its comparisons counted (own).
+    /// `extend_from_litemap`, counting its comparisons (own).
     pub fn extend_from_litemap_counted(
         &mut self,
         alloc: Global,
@@ -60,7 +61,7 @@ impl<K: Ord + Drop, V: Drop, S: StoreIntoIterator<K, V> + Drop> LiteMap<K, V, S>
     ) -> Result<Option<Self>, NoRoom<Self>>
         ensures merged { IsMergedInto K.cmp other self.old self.new result }
 
-        // The comparisons: none where a map is empty, and two where they lie apart.
+        // The comparisons: none if a map is empty, and two if all keys of one are above the other's.
         ensures uncounted { (self.old.pairs ≡ []) ⊎ (other.pairs ≡ []) → RisesByAtMost 0 count.old count.new }
         ensures apart { Apart K.cmp self.old.pairs other.pairs → RisesByAtMost 2 count.old count.new }
         ensures cost { RisesByAtMost
@@ -70,17 +71,19 @@ impl<K: Ord + Drop, V: Drop, S: StoreIntoIterator<K, V> + Drop> LiteMap<K, V, S>
         match extend_from_store(alloc, &mut self.store, store, count) {
             Ok(None) => Ok(None),
             Ok(Some(rest)) => Ok(Some(LiteMap::from_sorted_store_unchecked(rest))),
-            Err(refused) => Err(NoRoom {
-                back: LiteMap::from_sorted_store_unchecked(refused.back),
+            Err(error) => Err(NoRoom {
+                back: LiteMap::from_sorted_store_unchecked(error.back),
             }),
         }
     }
 
-    /// Puts the pairs of another map in, as `extend_from_litemap` (own). Where a key is here, `f` may write the new value first:
-    /// it is called on the other's key, the value here and the new value.
+    /// Merges another map into this one, and returns what it displaced, as `extend_from_litemap` does; for a common key, `f`
+    /// may change the new value first (own).
     ///
-    /// It makes one search here for each pair of the other map, and then the merge. Where that is refused, the other map comes
-    /// back with what `f` wrote: `extend_from_litemap` of it finishes the work.
+    /// `f` is called on the other map's key, this map's value and the new value.
+    ///
+    /// It makes one search for each pair of the other map, and then merges. If memory runs out, the map keeps its pairs, and
+    /// the error returns the other map with what `f` wrote: to merge that by `extend_from_litemap` completes the call.
     ///
     /// ```rust
     /// let mut counts: VecMap<u32, u32> = LiteMap::from_iter(alloc, [(1, 10), (2, 20)])?;
@@ -99,7 +102,7 @@ impl<K: Ord + Drop, V: Drop, S: StoreIntoIterator<K, V> + Drop> LiteMap<K, V, S>
         ensures combined { (combine : K → V → V → V) → Combines F.Fn f combine → IsMergedInto K.cmp
             (with_pairs other (combined K.cmp combine self.old.pairs other.pairs)) self.old self.new result }
 
-        // What a look-up finds: both values combined where both maps have the key, else the value of one.
+        // What a lookup finds: both values combined if both maps have the key, else the value of the one that has it.
         ensures found { (combine : K → V → V → V) → Combines F.Fn f combine → OnOk result ((key : K)
             → value_at K.cmp self.new.pairs key
             ≡ found_with combine (value_at K.cmp self.old.pairs key) (at K.cmp other.pairs key)) }
@@ -107,7 +110,7 @@ impl<K: Ord + Drop, V: Drop, S: StoreIntoIterator<K, V> + Drop> LiteMap<K, V, S>
         self.extend_with_counted(alloc, other, f, &mut Count::new())
     }
 
-    /// `extend_with`, with its comparisons counted (own).
+    /// `extend_with`, counting its comparisons (own).
     pub fn extend_with_counted<F: Fn(&K, &V, &mut V)>(
         &mut self,
         alloc: Global,
@@ -129,7 +132,7 @@ impl<K: Ord + Drop, V: Drop, S: StoreIntoIterator<K, V> + Drop> LiteMap<K, V, S>
         self.extend_from_litemap_counted(alloc, combined, count)
     }
 
-    // Lets `f` write each value of a store whose key is here.
+    // Calls `f` on each pair of a store whose key is in the map.
     fn combine_each<F: Fn(&K, &V, &mut V)>(&self, store: &mut S, f: &F, count: &mut Count)
         requires { CallableOnEachOf F.Fn f.now K.cmp self.now.pairs (S.pairs store.old) }
         ensures combined { Combined F.Fn f.now K.cmp self.now.pairs (S.pairs store.old) (S.pairs store.new) }
@@ -142,7 +145,6 @@ impl<K: Ord + Drop, V: Drop, S: StoreIntoIterator<K, V> + Drop> LiteMap<K, V, S>
         }
     }
 
-    // Lets `f` write a value whose key is here.
     fn combine<F: Fn(&K, &V, &mut V)>(&self, key: &K, value: &mut V, f: &F, count: &mut Count)
         requires { (here : V) → value_at K.cmp self.now.pairs key.now ≡ Some here
             → TakesBoth F.Fn f.now key.now here value.old }

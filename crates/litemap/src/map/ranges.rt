@@ -1,4 +1,4 @@
-//! Calls for the keys that lie within two bounds. None takes memory.
+//! Calls for the keys within two bounds. None takes memory, and each makes O(log n) comparisons for each bound.
 ghost use Rattle.std.specs.Prelude.{◌≡◌, ◌+◌, ◌*◌, Some, length};
 ghost use Rattle.std.specs.Ordering.{is_le, is_lt};
 ghost use Rattle.std.specs.Range.Bound.{bound_map};
@@ -12,10 +12,10 @@ use litemap_store::store::{Count, SliceStore, Store, StoreSlice};
 use std::ops::{Bound, Range};
 
 impl<K: Ord, V, S: Store<K, V>> LiteMap<K, V, S> {
-    /// The places of the keys within two bounds (own).
+    /// Returns the range of the indices whose keys are within two bounds (own).
     ///
-    /// They start behind all keys that lie before the first bound. Where no key lies within, and where the bounds cross, the
-    /// range is empty there: it never faults. Each bound is asked as `get` is: for each it makes O(log n) comparisons.
+    /// It starts after all keys that are before the first bound. If no key is within the bounds, or if they cross, it is empty;
+    /// it never panics. A bound is a `Query`, as the key of `get` is.
     ///
     /// ```rust
     /// // days: 1 Monday, 3 Wednesday, 5 Friday
@@ -29,7 +29,7 @@ impl<K: Ord, V, S: Store<K, V>> LiteMap<K, V, S> {
         self.places_counted(from, to, &mut Count::new())
     }
 
-    /// `places`, with its comparisons counted (own).
+    /// `places`, counting its comparisons (own).
     pub fn places_counted<Q: Query<K>>(
         &self,
         from: Bound<Q>,
@@ -41,13 +41,13 @@ impl<K: Ord, V, S: Store<K, V>> LiteMap<K, V, S> {
     {
         let start = self.start_of(from, count);
         let end = self.end_of(to, count);
-        // Where the bounds cross, no place lies between.
+        // If the bounds cross, no index is between them.
         start..start + end.saturating_sub(start)
     }
 
-    /// The pairs whose keys lie within two bounds, in order, from both ends (own).
+    /// Returns a double-ended iterator over the pairs whose keys are within two bounds, in order (own).
     ///
-    /// The bounds are those of `places`: where they cross, there are none. For each bound it makes O(log n) comparisons.
+    /// The bounds are those of `places`: if they cross, there are none.
     ///
     /// ```rust
     /// // days: 1 Monday, 3 Wednesday, 5 Friday
@@ -61,7 +61,6 @@ impl<K: Ord, V, S: Store<K, V>> LiteMap<K, V, S> {
         RangeIter::between(&self.store, self.places(from, to))
     }
 
-    // How many keys lie before a lower bound.
     fn start_of<Q: Query<K>>(&self, from: Bound<Q>, count: &mut Count) -> usize
         ensures cut { IsCut (λ p. is_before Q.order (bound_map Q.sought from) p.0) self.now.pairs result }
         ensures cost { RisesByAtMost (digits (length self.now.pairs)) count.old count.new }
@@ -73,7 +72,6 @@ impl<K: Ord, V, S: Store<K, V>> LiteMap<K, V, S> {
         }
     }
 
-    // How many keys do not lie past an upper bound.
     fn end_of<Q: Query<K>>(&self, to: Bound<Q>, count: &mut Count) -> usize
         ensures cut { IsCut (λ p. is_up_to Q.order (bound_map Q.sought to) p.0) self.now.pairs result }
         ensures cost { RisesByAtMost (digits (length self.now.pairs)) count.old count.new }
@@ -85,7 +83,6 @@ impl<K: Ord, V, S: Store<K, V>> LiteMap<K, V, S> {
         }
     }
 
-    // How many keys are smaller than a query.
     pub(super) fn place_before<Q: Query<K>>(&self, key: Q, count: &mut Count) -> usize
         ensures cut { IsCut (λ p. is_lt (Q.order p.0 (Q.sought key))) self.now.pairs result }
         ensures cost { RisesByAtMost (digits (length self.now.pairs)) count.old count.new }
@@ -100,7 +97,7 @@ impl<K: Ord, V, S: Store<K, V>> LiteMap<K, V, S> {
         ensures cut { IsCut (λ p. is_le (Q.order p.0 (Q.sought key))) self.now.pairs result }
         ensures cost { RisesByAtMost (digits (length self.now.pairs)) count.old count.new }
     {
-        // The place behind a pair is at most the length, which is a `usize`.
+        // The index after a pair is at most the length, which is a `usize`.
         let _len = self.len();
         match self.search(key, count) {
             Ok(index) => index + 1,
@@ -110,9 +107,9 @@ impl<K: Ord, V, S: Store<K, V>> LiteMap<K, V, S> {
 }
 
 impl<K: Ord, V, S: StoreSlice<K, V>> LiteMap<K, V, S> {
-    /// The pairs whose keys lie within two bounds, as a map that borrows them (own).
+    /// Returns the pairs whose keys are within two bounds, as a map that borrows them (own).
     ///
-    /// The bounds are those of `places`: where they cross, the part is empty. For each bound it makes O(log n) comparisons.
+    /// The bounds are those of `places`: if they cross, it is empty.
     pub fn range<Q: Query<K>>(
         &self,
         from: Bound<Q>,

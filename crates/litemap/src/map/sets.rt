@@ -1,4 +1,4 @@
-//! The keys of two maps side by side: what both have, and what one lacks.
+//! Compares the keys of two maps side by side: those that both have, and those that one lacks.
 ghost use Rattle.std.specs.Prelude.{◌≡◌, ◌+◌, ◌≤◌, IsSome, IsTrue, None, cond, filter, is_some, length, not};
 ghost use Rattle.std.specs.List.{list_all};
 ghost use Rattle.litemap_store.specs.Counts.{GoesOn, RisesByAtMost};
@@ -10,10 +10,10 @@ use litemap_store::store::{Count, Store, StoreBulkMut};
 use std::cmp::Ordering;
 
 impl<K: Ord, V, S: Store<K, V>> LiteMap<K, V, S> {
-    /// Whether another map has each key (own). Its values and its store may be of other types.
+    /// Returns whether another map has all keys of this one (own). Its values and its store may be of other types.
     ///
-    /// It goes through both side by side, up to the first key that the other lacks, and makes at most one comparison for each
-    /// key of both.
+    /// It walks both maps side by side, up to the first key that the other lacks, with at most one comparison for each key of
+    /// both.
     pub fn is_subset<W, T: Store<K, W>>(&self, other: &LiteMap<K, W, T>) -> bool
         ensures all { result ≡ list_all (λ p. is_some (at K.cmp other.now.pairs p.0)) self.now.pairs }
         ensures found { IsTrue result → (key : K)
@@ -22,7 +22,7 @@ impl<K: Ord, V, S: Store<K, V>> LiteMap<K, V, S> {
         self.is_subset_counted(other, &mut Count::new())
     }
 
-    /// `is_subset`, with its comparisons counted: at most one for each key of both (own).
+    /// `is_subset`, counting its comparisons (own).
     pub fn is_subset_counted<W, T: Store<K, W>>(
         &self,
         other: &LiteMap<K, W, T>,
@@ -40,10 +40,11 @@ impl<K: Ord, V, S: Store<K, V>> LiteMap<K, V, S> {
 }
 
 impl<K: Ord + Drop, V: Drop, S: StoreBulkMut<K, V>> LiteMap<K, V, S> {
-    /// Keeps the pairs whose keys another map has, and gives up the others (own). There is room for as many then.
+    /// Keeps the pairs whose keys another map has, and drops the others (own). A store that keeps its memory has room for as
+    /// many pairs as were dropped.
     ///
-    /// It goes through both side by side, and makes at most one comparison for each key of both. The values and the store of
-    /// the other map may be of other types.
+    /// It walks both maps side by side, with at most one comparison for each key of both. The values and the store of the other
+    /// map may be of other types.
     ///
     /// ```rust
     /// let mut days = three_days(alloc)?;
@@ -53,7 +54,7 @@ impl<K: Ord + Drop, V: Drop, S: StoreBulkMut<K, V>> LiteMap<K, V, S> {
     /// ```
     pub fn keep_keys_of<W, T: Store<K, W>>(&mut self, other: &LiteMap<K, W, T>)
         ensures pairs { self.new.pairs ≡ filter (λ p. is_some (at K.cmp other.now.pairs p.0)) self.old.pairs }
-        // What a look-up finds: what it found, where the other map has the key.
+        // What a lookup finds: what it found before, if the other map has the key.
         ensures found { (key : K) → value_at K.cmp self.new.pairs key
             ≡ cond (is_some (at K.cmp other.now.pairs key)) (value_at K.cmp self.old.pairs key) None }
         ensures room { S.keeps_memory → self.old.room + length self.old.pairs ≤ self.new.room + length self.new.pairs }
@@ -67,10 +68,11 @@ impl<K: Ord + Drop, V: Drop, S: StoreBulkMut<K, V>> LiteMap<K, V, S> {
         );
     }
 
-    /// Gives up the pairs whose keys another map has (own). It compares as `keep_keys_of`, and leaves as much room.
+    /// Drops the pairs whose keys another map has, and keeps the others (own). It compares and leaves room as `keep_keys_of`
+    /// does.
     pub fn remove_keys_of<W, T: Store<K, W>>(&mut self, other: &LiteMap<K, W, T>)
         ensures pairs { self.new.pairs ≡ filter (λ p. not (is_some (at K.cmp other.now.pairs p.0))) self.old.pairs }
-        // What a look-up finds: what it found, where the other map lacks the key.
+        // What a lookup finds: what it found before, if the other map lacks the key.
         ensures found { (key : K) → value_at K.cmp self.new.pairs key
             ≡ cond (is_some (at K.cmp other.now.pairs key)) None (value_at K.cmp self.old.pairs key) }
         ensures room { S.keeps_memory → self.old.room + length self.old.pairs ≤ self.new.room + length self.new.pairs }
@@ -104,7 +106,7 @@ fn has_each<'a, 'b, K: Ord + 'a + 'b, V: 'b, W: 'a, S: Store<K, V>, T: Store<K, 
     true
 }
 
-// Goes past the pairs whose keys are not above this one, and answers whether one of them is equal.
+// Skips the pairs whose keys are at most `key`, and returns whether one of them is equal.
 fn passes<'a, K: Ord + 'a, W: 'a, T: Store<K, W>>(
     rest: &mut RangeIter<'a, K, W, T>,
     key: &K,

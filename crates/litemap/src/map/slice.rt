@@ -1,5 +1,4 @@
-//! Calls that lend the pairs of a map, or a part of them. None takes memory, and the map cannot be changed while what they
-//! lend is in use.
+//! Calls that borrow the pairs of a map, or a part of them. None takes memory. The map can't be changed while the borrow lives.
 ghost use Rattle.std.specs.Prelude.{◌≡◌};
 ghost use Rattle.std.specs.Option.{option_map};
 ghost use Rattle.litemap_store.specs.Pairs.{Rising, sub};
@@ -9,8 +8,8 @@ use litemap_store::store::{SliceStore, StoreSlice};
 use std::ops::Range;
 
 impl<K: Ord, V, S: StoreSlice<K, V>> LiteMap<K, V, S> {
-    /// The pairs from a place to before another as a map of their own, whose places count from its start; `None` where the
-    /// start lies past the end or the end past the length.
+    /// Returns the pairs at a range of indices as a map that borrows them, or `None` if the start is past the end or the end
+    /// past the length. Its indices count from the start of the range.
     ///
     /// ```rust
     /// // days: 1 Monday, 3 Wednesday, 5 Friday
@@ -29,14 +28,14 @@ impl<K: Ord, V, S: StoreSlice<K, V>> LiteMap<K, V, S> {
         Some(LiteMap::from_sorted_store_unchecked(SliceStore::new(pairs)))
     }
 
-    /// All the pairs as a map that borrows them.
+    /// Returns all pairs as a map that borrows them.
     pub fn as_sliced(&self) -> LiteMap<K, V, SliceStore<'_, K, V>>
         ensures { result.pairs ≡ self.now.pairs }
     {
         LiteMap::from_sorted_store_unchecked(SliceStore::new(self.as_slice()))
     }
 
-    /// All the pairs as a slice. Their keys rise strictly.
+    /// Returns all pairs as a slice. Their keys are strictly ascending.
     pub fn as_slice(&self) -> &[(K, V)]
         ensures pairs { result.now ≡ self.now.pairs }
         ensures rising { Rising K.cmp result.now }

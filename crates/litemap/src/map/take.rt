@@ -1,4 +1,4 @@
-//! Calls that take out pairs whole, keys with their values. A call for one pair takes no memory.
+//! Calls that remove pairs and return them, keys with their values. A call for one pair takes no memory.
 ghost use Rattle.std.specs.Prelude.{◌≡◌, ◌≢◌, ◌⊎◌, ◌+◌, ◌-◌, ◌++◌, ◌<◌, ◌≤◌, [], IsNone, IsSome, Some, IfOk, IsOk, OnErr, OnOk};
 ghost use Rattle.std.specs.Prelude.{drop, length, remove, slice_get, take};
 ghost use Rattle.std.specs.declared.ops.Bound.TheVariants.{Included, Unbounded};
@@ -13,8 +13,8 @@ use litemap_store::store::{Count, StoreMut};
 use std::alloc::{AllocError, Global};
 
 impl<K: Ord, V, S: StoreMut<K, V>> LiteMap<K, V, S> {
-    /// Takes out the pair with an equal key, and answers it whole: the key that was there, where equal keys differ (own). It
-    /// makes O(log n) comparisons, and moves the pairs with greater keys down by one.
+    /// Removes the pair with an equal key, and returns it, or `None` if there is none (own). Its key is the one in the map, if
+    /// equal keys differ. It compares and moves as `remove` does.
     pub fn remove_entry<Q: Query<K>>(&mut self, key: Q) -> Option<(K, V)>
         ensures pair { result ≡ at Q.order self.old.pairs (Q.sought key) }
         ensures cut { self.new.pairs ≡ cut Q.order self.old.pairs (Q.sought key) }
@@ -24,7 +24,7 @@ impl<K: Ord, V, S: StoreMut<K, V>> LiteMap<K, V, S> {
         self.take_out(key, &mut Count::new())
     }
 
-    /// Takes out the pair with the smallest key, and answers it; `None` where there is no pair (own). It compares no keys, and
+    /// Removes the pair with the smallest key, and returns it, or `None` if the map is empty (own). It compares no keys, and
     /// moves all other pairs down by one.
     pub fn pop_first(&mut self) -> Option<(K, V)>
         ensures first { result ≡ slice_get self.old.pairs 0 }
@@ -38,7 +38,8 @@ impl<K: Ord, V, S: StoreMut<K, V>> LiteMap<K, V, S> {
         Some(self.take_at(0))
     }
 
-    /// Takes out the pair with the greatest key, `None` where there is none (own). It compares no keys, and moves no other pair.
+    /// Removes the pair with the greatest key, and returns it, or `None` if the map is empty (own). It compares no keys, and
+    /// moves no other pair.
     pub fn pop_last(&mut self) -> Option<(K, V)>
         ensures last { result ≡ slice_get self.old.pairs (length self.old.pairs - 1) }
         ensures others { self.new.pairs ≡ take (length self.old.pairs - 1) self.old.pairs }
@@ -52,7 +53,6 @@ impl<K: Ord, V, S: StoreMut<K, V>> LiteMap<K, V, S> {
         Some(self.take_at(len - 1))
     }
 
-    // Takes out the pair with an equal key.
     pub(super) fn take_out<Q: Query<K>>(&mut self, key: Q, count: &mut Count) -> Option<(K, V)>
         ensures pair { result ≡ at Q.order self.old.pairs (Q.sought key) }
         ensures cut { self.new.pairs ≡ cut Q.order self.old.pairs (Q.sought key) }
@@ -66,7 +66,6 @@ impl<K: Ord, V, S: StoreMut<K, V>> LiteMap<K, V, S> {
         }
     }
 
-    // Takes out the pair at a place.
     pub(super) fn take_at(&mut self, index: usize) -> (K, V)
         requires { index < length self.old.pairs }
         ensures old { slice_get self.old.pairs index ≡ Some result }
@@ -78,12 +77,12 @@ impl<K: Ord, V, S: StoreMut<K, V>> LiteMap<K, V, S> {
 }
 
 impl<K: Ord + Drop, V: Drop, S: StoreMut<K, V> + Drop> LiteMap<K, V, S> {
-    /// Parts the map: the pairs with smaller keys stay, and those from the key on are answered as another map (own).
+    /// Splits the map at a key, keeps the pairs with smaller keys, and returns the others as another map (own).
     ///
-    /// It is asked as `get` is, and makes O(log n) comparisons. Where no pair goes the map is untouched, and where all go they
-    /// go in the map's own store: neither takes memory. Else the pairs that go move twice, into a vector and from there into a
-    /// fresh store, each made for them before anything changes. The others stay where they are, and there is room for as many
-    /// pairs more as went. Only those two requests are refused for want of memory, and the map stays.
+    /// It makes O(log n) comparisons. If all pairs stay nothing changes, and if all go the new map takes over the store:
+    /// neither takes memory. Else the pairs that go move twice, into a vector and from there into a fresh store, and the others
+    /// stay where they are; a store that keeps its memory has room for as many more as went. It fails only if memory runs out
+    /// for one of these two, and then nothing changes.
     ///
     /// ```rust
     /// let mut days = three_days(alloc)?;

@@ -1,7 +1,8 @@
-//! Calls that lend a value of a map, to be written, and one that writes all. None takes memory, and each keeps the room.
+//! Calls that return a mutable reference to a value, and one that writes all values. None takes memory, and each keeps the
+//! room. A search for a key makes O(log n) comparisons.
 //!
-//! A reference that is lent starts at the value there, and the map ends with that one value replaced by what the
-//! reference holds at its end.
+//! A reference starts at the value in the map, and the map ends with that one value replaced by what the reference holds at its
+//! end.
 ghost use Rattle.std.specs.Prelude.{◌≡◌, ◌<◌, length, map, ℕ, Ok, Err, Some, IfNone, IfSome, IsSome};
 ghost use Rattle.std.specs.Borrow.{sem};
 ghost use Rattle.std.specs.Map.{keys_of};
@@ -17,7 +18,7 @@ use litemap_store::store::{Count, StoreMut};
 use std::cmp::Ordering;
 
 impl<K: Ord, V, S: StoreMut<K, V>> LiteMap<K, V, S> {
-    /// The value of a key, to be written; `None` where no equal key is there. It makes O(log n) comparisons.
+    /// Returns a mutable reference to the value of the pair with an equal key, or `None` if there is none.
     ///
     /// ```rust
     /// let mut days = three_days(alloc)?;
@@ -37,7 +38,8 @@ impl<K: Ord, V, S: StoreMut<K, V>> LiteMap<K, V, S> {
         }
     }
 
-    /// The value at a place where `f` answers `Equal`, to be written, `None` where it never does (own). It asks as `get_by` does.
+    /// Returns a mutable reference to the value of a pair for whose key `f` returns `Equal`, or `None` if there is none (own).
+    /// It calls `f` as `get_by` does.
     pub fn get_mut_by<F: FnMut(&K) -> Ordering>(&mut self, f: F) -> Option<&mut V>
         requires { CallableOnKeys F.FnMut self.old.pairs f }
         ensures* writes_back { sem 𝓛
@@ -53,8 +55,8 @@ impl<K: Ord, V, S: StoreMut<K, V>> LiteMap<K, V, S> {
         }
     }
 
-    /// The value of a key that is there, to be written. It makes O(log n) comparisons. The Rust crate has the operator
-    /// `IndexMut` here, which panics where the key isn't there.
+    /// Returns a mutable reference to the value of the pair with an equal key, which has to be there. In the Rust crate this is
+    /// the operator of `IndexMut`, which panics if there is none.
     pub fn index_mut<Q: Query<K>>(&mut self, key: Q) -> &mut V
         requires { IsSome (at Q.order self.old.pairs (Q.sought key)) }
         ensures* writes_back { sem 𝓛
@@ -67,7 +69,8 @@ impl<K: Ord, V, S: StoreMut<K, V>> LiteMap<K, V, S> {
         }
     }
 
-    /// The value at a place, to be written; `None` from the length on. It stands in place of the Rust crate's `iter_mut`.
+    /// Returns a mutable reference to the value at an index, or `None` from the length on (own). The Rust crate has `iter_mut`
+    /// instead.
     pub fn get_indexed_mut(&mut self, index: usize) -> Option<&mut V>
         ensures* writes_back { sem 𝓛
             (LendsPlace K.row V.row S.row K.Ord S.pairs S.room self.entry index result) }
@@ -80,7 +83,6 @@ impl<K: Ord, V, S: StoreMut<K, V>> LiteMap<K, V, S> {
         }
     }
 
-    // The value at a place, to be written.
     pub(super) fn value_in_mut(&mut self, index: usize) -> &mut V
         requires { index < length self.old.pairs }
         ensures* writes_back { sem 𝓛
@@ -90,10 +92,10 @@ impl<K: Ord, V, S: StoreMut<K, V>> LiteMap<K, V, S> {
         self.store.lm_pair_mut(index).1
     }
 
-    /// Calls `f` once on each key and its value, in order: it may write the value (own). It stands in place of `iter_mut`.
+    /// Calls `f` once on each key and a mutable reference to its value, in order (own). The Rust crate has `iter_mut` instead.
     ///
-    /// `f` has to take each pair as its earlier calls left it. Where it keeps no state and what it leaves hangs on the pair
-    /// alone, the list is that of the old pairs with the new values. It takes no memory, compares no keys, and moves no pair.
+    /// `f` has to accept each pair in the state that the calls before left. If it keeps no state, and what it writes depends on
+    /// the pair alone, the list is the old one with these values. It compares no keys, and moves no pair.
     ///
     /// ```rust
     /// let mut days = three_days(alloc)?;
@@ -112,7 +114,6 @@ impl<K: Ord, V, S: StoreMut<K, V>> LiteMap<K, V, S> {
     }
 }
 
-// Calls `f` on each key and its value.
 fn write_each<K, V, S: StoreMut<K, V>, F: FnMut(&K, &mut V)>(store: &mut S, mut f: F)
     requires { CallableOnValues F.FnMut f (S.pairs store.old) }
     ensures written { Written F.FnMut f (S.pairs store.old) (S.pairs store.new) }
@@ -124,7 +125,6 @@ fn write_each<K, V, S: StoreMut<K, V>, F: FnMut(&K, &mut V)>(store: &mut S, mut 
     }
 }
 
-// Calls `f` on a key and its value.
 fn write<K, V, F: FnMut(&K, &mut V)>(f: &mut F, key: &K, value: &mut V)
     requires { TakesValue F.FnMut f.old (key.now, value.old) }
     ensures { WritesPair F.FnMut f.old (key.now, value.old) (key.now, value.new) f.new }

@@ -1,7 +1,7 @@
--- What a look-up finds after an extension by a vector of pairs: lemmas for the proofs of callers.
---     given_by_vec      what a vector gives;  Last-extended      what is left of it;  value_at-extended, new_wins, old_stays      what is found after `extend`
+-- What a lookup finds after an extension by a vector of pairs: lemmas for the proofs of callers.
+--     given_by_vec      what a vector yields;  Last-extended      what is left of it;  value_at-extended, new_wins, old_stays      what is found after `extend`
 --     value_at-collected      what is found after `from_iter`
--- An answer shows `holds` by `λ v it h. h.0`.
+-- A proof shows `holds` by `λ v it h. h.0`.
 use Rattle.std.proofs.Common.{◌≡◌, List, [], ◌++◌, Some, None, option_map, reverse, ap, ◌∙◌, subst, Vec}
 use Rattle.std.proofs.IntoIterSteps.{All-taken}
 use Rattle.std.specs.Cmp.{IsTotalOrder}
@@ -24,7 +24,7 @@ module _ {K V Z : Type 0} {cmp : K → K → Ordering} (o : IsTotalOrder cmp) (b
     pub Last-extended : Last cmp (old ++ v.items) new
     Last-extended = subst (λ J. Last cmp (old ++ J) new) (given_by_vec becomes holds v e.given e.gives) e.last
 
-    -- a key finds its last new value, or where there is none what it found
+    -- a key finds its last new value, or, if there is none, what it found before
     pub value_at-extended : Rising cmp old → (k : K) → value_at cmp new k ≡ option_or (value_at cmp (reverse v.items) k) (value_at cmp old k)
     value_at-extended r k = value_at-Last_of_more o old v.items new r Last-extended k
 

@@ -1,6 +1,6 @@
--- What is made of pairs that are handed over one by one: lemmas for the proofs of callers.
---     given_by_owned      what an iterator that owns a list gives
---     rebuilt      no pairs, extended by a list that rises, are that list
+-- What is made of pairs that are passed one by one: lemmas for the proofs of callers.
+--     given_by_owned      what an iterator that owns a list yields
+--     rebuilt      no pairs, extended by an ascending list, are that list
 use Rattle.std.proofs.Common.{◌≡◌, List, [], length, Option, Some, None, sym, ap, ◌∙◌, subst, map-id}
 use Rattle.std.proofs.iter.Yields.{gives_Drains, listed}
 use Rattle.std.specs.Cmp.{IsTotalOrder}

@@ -1,8 +1,8 @@
--- What a look-up finds among the last pairs of a list: lemmas for the proofs of callers. `laws::last_is_found` has them as
--- its contract. An answer takes the order's laws as those of `Lookups` do.
---     at-Last      what it finds in the list read backwards;  value_at-Last_of_more      what it finds after more pairs
---     value_at-Last_of_rising      the same where both lists rise
---     at-last, value_at-last, value_at-last_of_more, value_at-last_of_rising      the same of whatever stands for a key, as in `MergeLookups`
+-- What a lookup finds among the last pairs of a list: lemmas for the proofs of callers. `laws::last_is_found` has them as its
+-- contract. A proof takes the order's laws as those of `Lookups` do.
+--     at-Last      what it finds in the list reversed;  value_at-Last_of_more      what it finds after more pairs
+--     value_at-Last_of_rising      the same if both lists ascend
+--     at-last, value_at-last, value_at-last_of_more, value_at-last_of_rising      the same of any query, as in `MergeLookups`
 use Rattle.std.proofs.Common.{◌≡◌, ◌≢◌, ◌⊎◌, List, [], ◌∷◌, ◌++◌, Option, Some, None, option_map, reverse, refl, sym, ap, ◌∙◌, inl, inr}
 use Rattle.std.proofs.lemmas.List.{reverse-append}
 use Rattle.std.proofs.lemmas.List.Folds.{find-append}
@@ -26,11 +26,11 @@ map-option_or f (Some x) b = refl
 module _ {K Q V : Type 0} (cmp : K → K → Ordering) (o : IsTotalOrder cmp) (order : K → Q → Ordering) (q : Q)
     (same : (x y : K) → order x q ≡ Equal → order y q ≡ Equal → cmp x y ≡ Equal)
     (alike : (x y : K) → cmp x y ≡ Equal → order x q ≡ Equal → order y q ≡ Equal) where
-  -- the list read backwards
+  -- the list reversed
   behind : (x : K × V) (J : List (K × V)) → at order (reverse (x ∷ J)) q ≡ option_or (at order (reverse J) q) (at order (x ∷ []) q)
   behind x J = ap (λ L. at order L q) (reverse-append (x ∷ []) J) ∙ find-append (λ p. is_eq (order p.0 q)) (reverse J) (x ∷ [])
 
-  -- the last pair that is found, where there is one
+  -- the last pair that is found, if there is one
   abbrev Backwards : List (K × V) → Type 0
   Backwards J = ((p : K × V) × StandsLast cmp p J × (order p.0 q ≡ Equal) × (at order (reverse J) q ≡ Some p))
       ⊎ (AllByRecursion (λ p. order p.0 q ≢ Equal) J × (at order (reverse J) q ≡ None))
@@ -47,7 +47,7 @@ module _ {K Q V : Type 0} (cmp : K → K → Ordering) (o : IsTotalOrder cmp) (o
       by Equal e n f = let g : at order (x ∷ []) q ≡ Some x = rw e refl in inl (x, inl (refl, none_like cmp o order q same alike x.0 J e n), e, f ∙ g)
       by Greater e n f = let g : at order (x ∷ []) q ≡ None = rw e refl in inr (((λ h. cc), n), f ∙ g)
 
-  -- a look-up finds among the last pairs what it finds in the list read backwards
+  -- a lookup finds among the last pairs what it finds in the list reversed
   pub at-last : (J M : List (K × V)) → Last cmp J M → at order M q ≡ at order (reverse J) q
   at-last J M last = elim (last_backwards J) [
     | inl h ↦ at-rising cmp o order q same alike M h.0 last.rising ((last.exactly h.0).1 h.1) h.2 ∙ sym h.3
@@ -67,7 +67,7 @@ module _ {K Q V : Type 0} (cmp : K → K → Ordering) (o : IsTotalOrder cmp) (o
       ∙ ap (option_or (at order (reverse J) q)) (sym (at-last L L (Last-rising cmp L r))) in
       ap (option_map (λ p. p.1)) found ∙ map-option_or (λ p. p.1) (at order (reverse J) q) (at order L q)
 
-  -- where both rise, it finds the new one, or what it found before
+  -- if both ascend, it finds the new one, or what it found before
   pub value_at-last_of_rising : (L J M : List (K × V)) → Last cmp (L ++ J) M → Rising cmp L → Rising cmp J → value_at order M q ≡ option_or (value_at order J q) (value_at order L q)
   value_at-last_of_rising L J M last r s =
       value_at-last_of_more L J M last r
@@ -75,7 +75,7 @@ module _ {K Q V : Type 0} (cmp : K → K → Ordering) (o : IsTotalOrder cmp) (o
 
 -- ---- the same of a key
 module _ {K V : Type 0} {cmp : K → K → Ordering} (o : IsTotalOrder cmp) where
-  -- the pair of a rising list with an equal key is found
+  -- the pair of an ascending list with an equal key is found
   pub at-Rising : (M : List (K × V)) (k : K) (q : K × V) → Rising cmp M → In q M → cmp q.0 k ≡ Equal → at cmp M k ≡ Some q
   at-Rising M k = at-rising cmp o cmp k (key_same o k) (key_alike o k) M
 

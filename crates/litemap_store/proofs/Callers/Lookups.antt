@@ -1,11 +1,11 @@
--- What a look-up finds in a list after a put and after a cut: lemmas for the proofs of callers. The functions of the
--- module `laws` have them as their contracts. An answer takes the order's laws from its bound, as `g.met.K.Ord.total`,
--- or from std, as `nat_cmp_total` and `string_cmp_total`.
+-- What a lookup finds in a list after a put and after a cut: lemmas for the proofs of callers. The functions of the module
+-- `laws` have them as their contracts. A proof takes the order's laws from its bound, as `g.met.K.Ord.total`, or from std, as
+-- `nat_cmp_total` and `string_cmp_total`.
 --     at-put, value_at-put, value_at-put_other, place-put, index_of-put      after a put
 --     value_at-cut, value_at-cut_other, value_at-cut_apart      after a cut, by the query, by another key, and by another query
---     value_at-write, value_at-write_apart      the same after a write;  value_at-written_apart      where a write finds the key
---     value_in-set_value_other, value_at-set_value      after a write at a place;  value_in-set, value_at-set      where a pair is there
---     length-put_present, length-put_absent, length-cut_present, length-cut_absent, Rising-cut      what both leave of a rising list
+--     value_at-write, value_at-write_apart      the same after a write;  value_at-written_apart      if a write finds the key
+--     value_in-set_value_other, value_at-set_value      after a write at an index;  value_in-set, value_at-set      if a pair is there
+--     length-put_present, length-put_absent, length-cut_present, length-cut_absent, Rising-cut      what both leave of an ascending list
 use Rattle.std.proofs.Common.{◌≡◌, ◌≢◌, ℕ, zero, suc, cond, IfSome, slice_get, slice_set, ◌+◌, Bool, true, false, List, [], ◌∷◌, ◌++◌, length, filter, Option, Some, None, IsSome, Ok, option_map, refl, sym, ap, ◌∙◌, arith}
 use Rattle.std.specs.Ordering.{is_lt, is_eq, is_gt}
 use Rattle.std.specs.Option.{option_map_or, option_or}
@@ -32,7 +32,7 @@ or_none : {X : Type 0} (o : Option X) → option_or o None ≡ o
 or_none None = refl
 or_none (Some x) = refl
 
--- ---- a filter of keys, and a look-up behind it
+-- ---- a filter of keys, and a lookup after it
 module _ {K Q V : Type 0} (order : K → Q → Ordering) (q : Q) (keep : K → Bool) where
   pub at-filter_kept : ((x : K) → order x q ≡ Equal → keep x ≡ true) → (L : List (K × V)) → at order (filter (λ p. keep p.0) L) q ≡ at order L q
   at-filter_kept same [] = refl
@@ -80,7 +80,7 @@ module _ {K Q V : Type 0} (order : K → Q → Ordering) (q : Q) where
     | Some p ↦ λ e h. ap (option_map (λ p. p.1)) (at-between L (p.0, v) (at_in order L q p e).1)
   ]) refl there
 
--- ---- another query q', where each key that it finds stands alike to q, and not as Equal
+-- ---- another query q', if all keys that it finds compare alike with q, and not as Equal
 module _ {K Q Q' V : Type 0} (order : K → Q → Ordering) (q : Q) (order' : K → Q' → Ordering) (q' : Q')
     (c : Ordering) (differs : c ≢ Equal) (turned : (x : K) → order' x q' ≡ Equal → order x q ≡ c) where
   -- the parts below and above q together find what the list finds
@@ -116,12 +116,12 @@ module _ {K Q Q' V : Type 0} (order : K → Q → Ordering) (q : Q) (order' : K 
     | Some p ↦ λ e. value_at-between_apart L (p.0, v) (at_in order L q p e).1
   ]) refl
 
-  -- where a write finds the key, it leaves this
+  -- if a write finds the key, it leaves this
   pub value_at-written_apart : (L : List (K × V)) (p : K × V) (v : V) → at order L q ≡ Some p
       → value_at order' (below order L q ++ (p.0, v) ∷ above order L q) q' ≡ value_at order' L q'
   value_at-written_apart L p v e = value_at-between_apart L (p.0, v) (at_in order L q p e).1
 
--- ---- a write at a place
+-- ---- a write at an index
 pub value_in-set_value_other : {K V : Type 0} (L : List (K × V)) (i j : ℕ) (v : V) → j ≢ i → value_in (set_value L i v) j ≡ value_in L j
 value_in-set_value_other [] i j v n = refl
 value_in-set_value_other (p ∷ L) zero zero v n = absurd (n refl)
@@ -130,7 +130,7 @@ value_in-set_value_other (p ∷ L) (suc i) zero v n = ap (λ M. value_in M 0) (s
 value_in-set_value_other (p ∷ L) (suc i) (suc j) v n =
     ap (λ M. value_in M (suc j)) (set_value-suc p L i v) ∙ value_in-set_value_other L i j v (λ e. n (ap suc e))
 
--- where there is a pair, it leaves this
+-- if a pair is there, it leaves this
 pub value_in-set : {K V : Type 0} (L : List (K × V)) (i j : ℕ) (p : K × V) (v : V) → slice_get L i ≡ Some p → j ≢ i
     → value_in (slice_set L i (p.0, v)) j ≡ value_in L j
 value_in-set L i j p v e n = let h : value_in (set_value L i v) j ≡ value_in L j = value_in-set_value_other L i j v n in rw e at h
@@ -194,9 +194,9 @@ module _ {K V : Type 0} {cmp : K → K → Ordering} (o : IsTotalOrder cmp) wher
     pub value_at-cut_other : value_at cmp (cut cmp L k) q ≡ value_at cmp L q
     value_at-cut_other = value_at-cut_apart cmp k cmp q (cmp q k) differs (λ x e. o.congr x q k e) L
 
-  -- ---- what both leave of a rising list
+  -- ---- what both leave of an ascending list
   module _ (L : List (K × V)) (k : K) (r : Rising cmp L) where
-    -- where the key is there, a put leaves the length, and a cut takes one
+    -- if the key is present, a put leaves the length, and a cut takes one
     module _ (there : IsSome (at cmp L k)) where
       whole : length L ≡ length (below cmp L k) + suc (length (above cmp L k))
       whole = by (at cmp L k) there (parted (key_one_side o) L k r)
@@ -211,7 +211,7 @@ module _ {K V : Type 0} {cmp : K → K → Ordering} (o : IsTotalOrder cmp) wher
       pub length-cut_present : length (cut cmp L k) + 1 ≡ length L
       length-cut_present = let e : length (cut cmp L k) ≡ length (below cmp L k) + length (above cmp L k) = length-append (below cmp L k) (above cmp L k) in let w = whole in omega arith
 
-    -- where it is not, a put adds one, and a cut leaves the list
+    -- if it is absent, a put adds one, and a cut leaves the list
     module _ (missing : at cmp L k ≡ None) where
       parts : L ≡ below cmp L k ++ above cmp L k
       parts = rw missing at (parted (key_one_side o) L k r)
@@ -225,6 +225,6 @@ module _ {K V : Type 0} {cmp : K → K → Ordering} (o : IsTotalOrder cmp) wher
       pub cut-absent : cut cmp L k ≡ L
       cut-absent = sym parts
 
-    -- a cut leaves a list that rises
+    -- a cut leaves an ascending list
     pub Rising-cut : Rising cmp (cut cmp L k)
     Rising-cut = Rising-append cmp (below cmp L k) (above cmp L k) (Rising-filter cmp _ L r) (Rising-filter cmp _ L r) (λ x y i j. o.trans x.0 k y.0 (kept_below o L k x i) (kept_above o L k y j))

@@ -1,9 +1,9 @@
--- What a look-up finds in a merge, and in what is left over: lemmas for the proofs of callers. `laws::merge_is_found` has them
--- as its contract. They hold for whatever stands for a key: `same` says that the keys it finds are equal, `alike` that with a
--- key it finds every equal one.
---     value_at-merged      the value of B where B has the key, else that of A
---     value_at-left      the value of A where B has the key, else none
---     key_same, key_alike      both, where a key is looked for
+-- What a lookup finds in a merge, and in what is displaced: lemmas for the proofs of callers. `laws::merge_is_found` has them
+-- as its contract. They hold for any query: `same` says that the keys it finds are equal, `alike` that with a key it finds
+-- every equal one.
+--     value_at-merged      the value of B if B has the key, else that of A
+--     value_at-left      the value of A if B has the key, else none
+--     key_same, key_alike      both, if the query is a key
 use Rattle.std.proofs.Common.{◌≡◌, ◌≢◌, Bool, true, false, cond, List, [], ◌∷◌, Option, Some, None, is_some, option_map, refl, sym, ap, ◌∙◌, subst, inl, inr, Ordering, Less, Equal, is_eq}
 use Rattle.std.specs.List.{AllByRecursion, cons_option}
 use Rattle.std.specs.Option.{option_or}
@@ -37,7 +37,7 @@ module _ {K Q : Type 0} (cmp : K → K → Ordering) (o : IsTotalOrder cmp) (ord
   ]
 
   module _ {V : Type 0} where
-    -- the pair of a rising list whose key is found
+    -- the pair of an ascending list whose key is found
     pub at-rising : (M : List (K × V)) (p : K × V) → Rising cmp M → In p M → order p.0 q ≡ Equal → at order M q ≡ Some p
     at-rising [] p r i e = absurd i
     at-rising (x ∷ M) p r (inl f) e = let g : order x.0 q ≡ Equal = subst (λ (y : K × V). order y.0 q ≡ Equal) (sym f) e in rw g (ap Some f)
@@ -62,7 +62,7 @@ module _ {K Q : Type 0} (cmp : K → K → Ordering) (o : IsTotalOrder cmp) (ord
       by_both None (Some b) e f = let t = at_in order B q b f in shown b (inr (inl (t.0, none_like b.0 A t.1 (none_equal order A q e)))) t.1
       by_both (Some a) (Some b) e f = let s = at_in order A q a e in let t = at_in order B q b f in shown (a.0, b.1) (inr (inr ((a.1, s.0), (b.0, same a.0 b.0 s.1 t.1, t.0)))) s.1
 
-      -- the value of B where B has the key, else that of A
+      -- the value of B if B has the key, else that of A
       pub value_at-merged : value_at order M q ≡ option_or (value_at order B q) (value_at order A q)
       value_at-merged = by_both (at order A q) (at order B q) refl refl
 
@@ -70,7 +70,7 @@ module _ {K Q : Type 0} (cmp : K → K → Ordering) (o : IsTotalOrder cmp) (ord
     at-same [] b e = refl
     at-same (x ∷ L) b e = rw (same_test x.0 b e) (ap (λ r. cond (is_eq (order x.0 q)) (Some x) r) (at-same L b e))
 
-    -- the value of A where B has the key, else none
+    -- the value of A if B has the key, else none
     pub value_at-left : (A B : List (K × V)) → value_at order (left cmp A B) q ≡ cond (is_some (at order B q)) (value_at order A q) None
     value_at-left A [] = refl
     value_at-left A (b ∷ B) = by (is_eq (order b.0 q)) (at cmp A b.0) refl refl (value_at-left A B)

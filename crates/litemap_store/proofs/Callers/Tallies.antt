@@ -1,6 +1,6 @@
--- Numbers at keys, as in a count of words: what each key's number is after one is raised. For the proofs of callers.
+-- Numbers at keys, as in a count of words: each key's number after one is raised. For the proofs of callers.
 --     value_at_equal      equal keys find the same value
---     number_at_raised      one more at each equal key, and else as it was
+--     number_at_raised      one more at each equal key, else as before
 use Rattle.std.proofs.Common.{◌≡◌, ℕ, ◌+◌, List, [], ◌∷◌, Some, cond, unwrap_or, refl, sym, ap, ◌∙◌}
 use Rattle.std.specs.Cmp.{IsTotalOrder, alike_right, tied_back}
 use Rattle.std.specs.Ordering.{is_eq}

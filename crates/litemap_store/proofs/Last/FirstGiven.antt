@@ -1,5 +1,5 @@
--- Whether an iterator gives a pair.
---     GivesSome-from_Yields      where any call gave one, the first did;  GivesSome-from_some      where there is one;  some_refused, GivesSome-from_refused      where what goes behind the old pairs is refused
+-- Whether an iterator yields a pair.
+--     GivesSome-from_Yields      if any call yielded one, the first did;  GivesSome-from_some      if there is one;  some_refused, GivesSome-from_refused      if appending the pairs fails
 use Rattle.std.proofs.Common.{ℕ, ◌≤◌, List, [], ◌∷◌, length, Option, Some, Result, Ok, Err, sym, subst, arith}
 use Rattle.std.specs.Iterator.{Yields}
 use Rattle.std.specs.Result.{IsOk, OnErr}
@@ -21,7 +21,7 @@ module _ {U T X : Type 0} (becomes : U → T → Type 0) (steps : T → Option X
 pub Rises-none : {K V : Type 0} (cmp : K → K → Ordering) (old : List (K × V)) → Rises cmp old []
 Rises-none {K} {V} cmp old = record { rising = tt; below = from_each (λ (p : K × V). BelowAll {K = K} {V = V} cmp p.0 []) old (λ x i. tt) }
 
--- what is refused is no empty list
+-- pairs for which a call fails are not none
 pub some_refused : {K V R E : Type 0} (cmp : K → K → Ordering) (r : Result R E) (old given : List (K × V)) (room : ℕ) → (Rises cmp old given → length given ≤ room → IsOk r) → OnErr r (1 ≤ length given)
 some_refused cmp (Ok x) old given room ok = tt
 some_refused cmp (Err e) old [] room ok = absurd (cc (ok (Rises-none cmp old) (omega arith)))

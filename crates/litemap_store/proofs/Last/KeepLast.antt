@@ -1,6 +1,6 @@
 -- What a stable sort keeps, and a pass that keeps the last of each run of equal keys.
---     last_by_stable      the same pairs stand last after it;  KeptLast, passed_over, passed_more      what the pass has kept so far, and after one more pair
---     Last-push      a pair above all goes behind the last pairs;  all_below      keys below one above the last;  filter_all, filter_none, last_cases      lists
+--     last_by_stable      the same pairs are last after it;  KeptLast, passed_over, passed_more      what the pass has kept so far, and after one more pair
+--     Last-push      a pair above all goes after the last pairs;  all_below      keys below one above the last;  filter_all, filter_none, last_cases      lists
 use Rattle.std.proofs.Common.{ℕ, zero, suc, ◌<◌, ◌≤◌, ◌+◌, length, get_or, arith, ◌≡◌, ◌⊎◌, ◌≢◌, ◌↔◌, Bool, true, false, cond, List, [], ◌∷◌, ◌++◌, filter, take, drop, set, swap, refl, sym, ap, ◌∙◌, subst, subst₂, inl, inr, append-nil, Ordering, Less, Equal, Greater, is_lt, is_gt, is_eq}
 use Rattle.std.specs.List.Sorted.{IsStableBy, ties, IsSortedByKey}
 use Rattle.std.specs.Cmp.{IsTotalOrder}
@@ -58,13 +58,13 @@ rising_across cmp [] B r a b i j = absurd i
 rising_across {K} {V} cmp (x ∷ A) B r a b (inl e) j = subst (λ (y : K × V). cmp y.0 b.0 ≡ Less) e (each (λ (q : K × V). cmp x.0 q.0 ≡ Less) (A ++ B) r.0 b (In-right A B b j))
 rising_across cmp (x ∷ A) B r a b (inr i) j = rising_across cmp A B r.1 a b i j
 
--- where the last key is below k, so are all
+-- if the last key is below k, so are all
 pub all_below : {K V : Type 0} {cmp : K → K → Ordering} → IsTotalOrder cmp → (L N : List (K × V)) (l : K × V) (k : K) → Rising cmp L → L ≡ N ++ l ∷ [] → cmp l.0 k ≡ Less → AllBelow cmp L k
 all_below {K} {V} {cmp} o L N l k r e less =
     rw e (each-append (λ (q : K × V). cmp q.0 k ≡ Less) N (l ∷ [])
     (from_each (λ (q : K × V). cmp q.0 k ≡ Less) N (λ x i. o.trans x.0 l.0 k (rising_across cmp N (l ∷ []) (subst (Rising cmp) e r) x l i (inl refl)) less)) (less, tt))
 
--- the first i pairs of S are passed, and the first k of xs are what is kept of them
+-- the first i pairs of S are passed, and the first k of xs are those kept of them
 pub record KeptLast {K V : Type 0} (cmp : K → K → Ordering) (S xs : List (K × V)) (k i : ℕ) : Type 0 where
   pub long : length xs ≡ length S
   pub last : Last cmp (take i S) (take k xs)
@@ -106,7 +106,7 @@ module _ {K : Type 0} (cmp : K → K → Ordering) (o : IsTotalOrder cmp) where
   less_of a b Equal e n l = absurd (n refl)
   less_of a b Greater e n l = let h = greater_back o a b e in absurd (true≢false (sym (ap is_lt h) ∙ l))
 
-  -- ---- one more pair, that is not below any
+  -- ---- one more pair, which is not below any
   module _ {V : Type 0} (J M : List (K × V)) (last : Last cmp J M) (p : K × V) where
     pub Last-push : ((x : K × V) → In x M → cmp x.0 p.0 ≡ Less) → Last cmp (J ++ p ∷ []) (M ++ p ∷ [])
     Last-push f =
@@ -133,7 +133,7 @@ module _ {K : Type 0} (cmp : K → K → Ordering) (o : IsTotalOrder cmp) where
         let c = kept.rest in
         (cc, cc)
 
-    -- the next pair goes over the last kept one, which has an equal key
+    -- the next pair replaces the last kept one, which has an equal key
     pub kept_over : cmp (get_or xs k d).0 (get_or xs i d).0 ≡ Equal → KeptLast cmp S (swap xs k i) (k + 1) (i + 1)
     kept_over same =
         let long = kept.long in
@@ -146,7 +146,7 @@ module _ {K : Type 0} (cmp : K → K → Ordering) (o : IsTotalOrder cmp) where
           rest = drop-swap xs k i d (omega arith) (omega arith) ∙ next_same.1;
         }
 
-    -- or is put behind it
+    -- or goes after it
     pub kept_more : IsSortedByKey (λ (x : K × V). x.0) cmp S → cmp (get_or xs k d).0 (get_or xs i d).0 ≢ Equal → KeptLast cmp S (swap xs (k + 1) i) ((k + 1) + 1) (i + 1)
     kept_more sorted differ =
         let long = kept.long in

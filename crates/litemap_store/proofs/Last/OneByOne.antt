@@ -1,5 +1,5 @@
--- A pair that is put in among the first of a list, from behind them.
---     put_over, put_between      in the place of an equal key's pair, and between others
+-- A pair that is moved to its place among the first of a list, from after them.
+--     put_over, put_between      replacing the pair of an equal key, and between others
 --     kept_put      what is kept so far, with one more pair
 use Rattle.std.proofs.Common.{◌≡◌, ℕ, suc, ◌+◌, ◌-◌, ◌<◌, ◌≤◌, arith, List, [], ◌∷◌, ◌++◌, length, length-drop, get_or, set, swap, take, drop, Some, slice_get, sym, ap, ◌∙◌, subst₂, Ordering}
 use Rattle.std.specs.Cmp.{IsTotalOrder}

@@ -1,8 +1,8 @@
 -- The last pair of each key: there is one such list and no other, and what adds to it.
---     last_of, Last-unique      there is one, and only one;  Last-rising      a rising list is its own;  Last-put      one more pair
---     Last-join, Last-join_right      the last pairs of a part in place of the part;  Last-same      the same pairs stand last
---     StandsLast-left, StandsLast-right, StandsLast-cases      where a pair of a joined list stands last;  stands_before, stands_behind      and where a part changes
---     in_put, put_has      what stands in a list after a put
+--     last_of, Last-unique      there is one, and only one;  Last-rising      an ascending list is its own;  Last-put      one more pair
+--     Last-join, Last-join_right      the last pairs of a part in place of the part;  Last-same      the same pairs are last
+--     StandsLast-left, StandsLast-right, StandsLast-cases      which pairs of a joined list are last;  stands_before, stands_behind      and if a part changes
+--     in_put, put_has      what is in a list after a put
 use Rattle.std.proofs.Common.{◌≡◌, ◌⊎◌, ◌≢◌, ◌↔◌, List, [], ◌∷◌, ◌++◌, Option, Some, None, refl, sym, ap, ◌∙◌, subst, inl, inr, append-nil, append_assoc, Ordering, Less, Equal, Greater, is_lt, is_gt}
 use Rattle.std.specs.Cmp.{IsTotalOrder}
 use Rattle.std.proofs.lemmas.Cmp.{tied_back, tied_itself, alike_right}
@@ -11,7 +11,7 @@ use Rattle.litemap_store.specs.Pairs.{Rising, above, at, below}
 use Rattle.litemap_store.proofs.Lists.Membership.{In-left, In-right, In-cases, In-filter, In-from_filter, each, from_each}
 use Rattle.litemap_store.proofs.Search.Splitting.{Rising-between, at_in, each-append, each-weaker, greater_from_is_gt, less_back, less_from_is_lt, none_equal}
 
--- ---- where a pair of a joined list stands last
+-- ---- which pairs of a joined list are last
 pub StandsLast-left : {K V : Type 0} (cmp : K → K → Ordering) (p : K × V) (A B : List (K × V)) → StandsLast cmp p A → NoneEqual cmp p.0 B → StandsLast cmp p (A ++ B)
 StandsLast-left cmp p [] B h n = absurd h
 StandsLast-left {K} {V} cmp p (a ∷ A) B (inl h) n = inl (h.0, each-append (λ (q : K × V). cmp p.0 q.0 ≢ Equal) A B h.1 n)
@@ -26,7 +26,7 @@ StandsLast-cases cmp p [] B h = inr h
 StandsLast-cases {K} {V} cmp p (a ∷ A) B (inl h) = inl (inl (h.0, from_each (λ (q : K × V). cmp p.0 q.0 ≢ Equal) A (λ x i. each (λ (q : K × V). cmp p.0 q.0 ≢ Equal) (A ++ B) h.1 x (In-left A B x i))), from_each (λ (q : K × V). cmp p.0 q.0 ≢ Equal) B (λ x i. each (λ (q : K × V). cmp p.0 q.0 ≢ Equal) (A ++ B) h.1 x (In-right A B x i)))
 StandsLast-cases cmp p (a ∷ A) B (inr h) = elim (StandsLast-cases cmp p A B h) [ inl j ↦ inl (inr j.0, j.1) | inr j ↦ inr j ]
 
--- so where a part stands in the place of another
+-- so if one part replaces another
 pub stands_before : {K V : Type 0} (cmp : K → K → Ordering) (p : K × V) (P Q B : List (K × V)) → (StandsLast cmp p P → StandsLast cmp p Q) → StandsLast cmp p (P ++ B) → StandsLast cmp p (Q ++ B)
 stands_before cmp p P Q B f h = elim (StandsLast-cases cmp p P B h) [ inl j ↦ StandsLast-left cmp p Q B (f j.0) j.1 | inr j ↦ StandsLast-right cmp p Q B j ]
 
@@ -34,13 +34,13 @@ pub stands_behind : {K V : Type 0} (cmp : K → K → Ordering) (p : K × V) (A 
     → StandsLast cmp p (A ++ P) → StandsLast cmp p (A ++ Q)
 stands_behind cmp p A P Q n f h = elim (StandsLast-cases cmp p A P h) [ inl j ↦ StandsLast-left cmp p A Q j.0 (n j.1) | inr j ↦ StandsLast-right cmp p A Q (f j) ]
 
--- what stands last stands there
+-- a pair that is last in a list is in it
 pub In-from_last : {K V : Type 0} (cmp : K → K → Ordering) (p : K × V) (J : List (K × V)) → StandsLast cmp p J → In p J
 In-from_last cmp p [] h = h
 In-from_last cmp p (q ∷ J) (inl h) = inl h.0
 In-from_last cmp p (q ∷ J) (inr h) = inr (In-from_last cmp p J h)
 
--- in a list that rises each pair stands last
+-- in an ascending list each pair is last
 pub last_in_rising : {K V : Type 0} (cmp : K → K → Ordering) (p : K × V) (L : List (K × V)) → Rising cmp L → In p L → StandsLast cmp p L
 last_in_rising cmp p [] r h = h
 last_in_rising {K} {V} cmp p (q ∷ L) r (inl e) = inl (e, from_each (λ (x : K × V). cmp p.0 x.0 ≢ Equal) L (λ x i same. let less : cmp q.0 x.0 ≡ Less = each (λ (y : K × V). cmp q.0 y.0 ≡ Less) L r.0 x i in let here : cmp p.0 x.0 ≡ Less = subst (λ (y : K × V). cmp y.0 x.0 ≡ Less) e less in cc))
@@ -51,7 +51,7 @@ Last-rising cmp L r = record { rising = r; exactly = λ p. (last_in_rising cmp p
 
 module _ {K : Type 0} (cmp : K → K → Ordering) (o : IsTotalOrder cmp) where
   -- ---- only one list
-  -- a pair that two rising lists both begin with, and their tails
+  -- a pair that two ascending lists both begin with, and their tails
   pub same_head : {V : Type 0} (m n : K × V) (M N : List (K × V)) → Rising cmp (m ∷ M) → Rising cmp (n ∷ N) → In m (n ∷ N) → In n (m ∷ M) → m ≡ n
   same_head m n M N r s (inl e) j = sym e
   same_head m n M N r s (inr i) (inl e) = e
@@ -125,12 +125,11 @@ module _ {K : Type 0} (cmp : K → K → Ordering) (o : IsTotalOrder cmp) where
   pub last_of : {V : Type 0} (J : List (K × V)) → (M : List (K × V)) × Last cmp J M × ((N : List (K × V)) → Last cmp J N → N ≡ M)
   last_of J = let h = made [] [] J (Last-rising cmp [] tt) in (h.0, h.1, λ N k. Last-unique J N h.0 k h.1)
 
-  -- ---- lists in the place of one another
-  -- where the same pairs stand last
+  -- ---- lists with the same last pairs
   pub Last-same : {V : Type 0} (J J' M : List (K × V)) → ((p : K × V) → StandsLast cmp p J ↔ StandsLast cmp p J') → Last cmp J M → Last cmp J' M
   Last-same J J' M f h = record { rising = h.rising; exactly = λ p. (λ i. (f p).0 ((h.exactly p).0 i), λ i. (h.exactly p).1 ((f p).1 i)) }
 
-  -- the last of the last and more is the last of all
+  -- the last pairs of a list's last pairs and of more pairs are the last pairs of all
   pub Last-join : {V : Type 0} (J₁ J₂ M₁ M : List (K × V)) → Last cmp J₁ M₁ → Last cmp (M₁ ++ J₂) M → Last cmp (J₁ ++ J₂) M
   Last-join J₁ J₂ M₁ M a b = Last-same (M₁ ++ J₂) (J₁ ++ J₂) M (λ p. (
     stands_before cmp p M₁ J₁ J₂ (λ h. (a.exactly p).0 (In-from_last cmp p M₁ h)),
@@ -147,7 +146,7 @@ module _ {K : Type 0} (cmp : K → K → Ordering) (o : IsTotalOrder cmp) where
       by None e = inr (none_from_at J k e)
       by (Some q) e = let h = at_in cmp J k q e in inl (q, h.0, tied_back o q.0 k h.1)
 
-  -- each key has a pair that stands last
+  -- each key has a pair that is last
   pub has_last : {V : Type 0} (J : List (K × V)) (p : K × V) → In p J → (q : K × V) × (cmp p.0 q.0 ≡ Equal) × StandsLast cmp q J
   has_last [] p i = absurd i
   has_last {V} (x ∷ J) p i = elim (some_equal p.0 J) [

@@ -1,5 +1,5 @@
--- A list that is read by appending what rises and putting the rest aside.
---     Last-sifted      its last pairs are those of what was appended, extended by what was put aside
+-- A list that is read by appending pairs that ascend and deferring the others.
+--     Last-sifted      its last pairs are those of the appended ones, extended by the deferred ones
 use Rattle.std.proofs.Common.{◌≡◌, ◌≢◌, ◌↔◌, List, [], ◌∷◌, ◌++◌, append-nil, append_assoc, sym, ◌∙◌, subst, inl, inr}
 use Rattle.std.proofs.lemmas.Cmp.{alike_right, tied_back}
 use Rattle.std.specs.Cmp.{IsTotalOrder}
@@ -14,7 +14,7 @@ use Rattle.litemap_store.proofs.Lists.Membership.{In-cases, In-left, In-right, e
 use Rattle.litemap_store.proofs.Search.Splitting.{each-append}
 
 module _ {K V : Type 0} {cmp : K → K → Ordering} (o : IsTotalOrder cmp) where
-  -- the two lists have the same elements, and the same pairs stand last
+  -- the two lists have the same elements, and the same pairs are last
   pub record Alike (P Q : List (K × V)) : Type 0 where
     pub elements : (x : K × V) → In x P ↔ In x Q
     pub last : (x : K × V) → StandsLast cmp x P ↔ StandsLast cmp x Q
@@ -22,7 +22,7 @@ module _ {K V : Type 0} {cmp : K → K → Ordering} (o : IsTotalOrder cmp) wher
   none_in : (k : K) (P Q : List (K × V)) → ((x : K × V) → In x Q → In x P) → NoneEqual cmp k P → NoneEqual cmp k Q
   none_in k P Q f n = from_each (λ (q : K × V). cmp k q.0 ≢ Equal) Q (λ x i. each (λ (q : K × V). cmp k q.0 ≢ Equal) P n x (f x i))
 
-  -- so it is behind any list
+  -- so they do after any list
   pub last_behind : (A P Q : List (K × V)) → Alike P Q → (x : K × V) → StandsLast cmp x (A ++ P) ↔ StandsLast cmp x (A ++ Q)
   last_behind A P Q s x = (
     stands_behind cmp x A P Q (none_in x.0 P Q (λ y. (s.elements y).1)) (s.last x).0,
@@ -57,7 +57,7 @@ module _ {K V : Type 0} {cmp : K → K → Ordering} (o : IsTotalOrder cmp) wher
       );
     }
 
-  -- each of B is not above all of A
+  -- no key of B is above all of A
   abbrev Aside : List (K × V) → List (K × V) → Type 0
   Aside A B = AllByRecursion (λ b. ¬ (AllBelow cmp A b.0)) B
 

@@ -1,5 +1,5 @@
--- Taking the greatest pair of two rising lists from their ends.
---     end_none, end_new, end_old, end_from_cmp      which list has it;  take_old, take_new, take_both      what is left where its pair is taken
+-- Taking the greatest pair of two ascending lists from their ends.
+--     end_none, end_new, end_old, end_from_cmp      which list has it;  take_old, take_new, take_both      what is left if its pair is taken
 --     taken_last      a list without its last element
 --     reverse_behind, Last-of_none      the side vector
 use Rattle.std.proofs.Common.{ℕ, zero, suc, ◌-◌, length, arith, ◌≡◌, ◌≢◌, ◌↔◌, List, [], ◌∷◌, ◌++◌, refl, sym, ap, ◌∙◌, subst, subst₂, inl, inr, append-nil, append_assoc, length-append, Ordering, Less, Equal, Greater, slice_get, Some, None, ◌==◌, eqb-true, reverse, true, false}
@@ -23,7 +23,7 @@ Rising-left cmp [] B r = tt
 Rising-left {K} {V} cmp (a ∷ A) B r = (from_each (λ (q : K × V). cmp a.0 q.0 ≡ Less) A (λ x i. each (λ (q : K × V). cmp a.0 q.0 ≡ Less) (A ++ B) r.0 x (In-left A B x i)), Rising-left cmp A B r.1)
 
 module _ {K V : Type 0} (cmp : K → K → Ordering) (o : IsTotalOrder cmp) where
-  -- the pairs of a list of which p is behind all
+  -- the pairs of a list that ends with p are below p
   below_end : (A₀ : List (K × V)) (a : K × V) → Rising cmp (A₀ ++ a ∷ []) → (x : K × V) → In x A₀ → cmp x.0 a.0 ≡ Less
   below_end A₀ a r x i = rising_across cmp A₀ (a ∷ []) r x a i (inl refl)
 
@@ -102,7 +102,7 @@ end_from_cmp {K} {V} cmp o A B a b r s t last_a last_b asked = by r asked
     by Equal e = (split_a.0, a, split_b.0, b, split_a.1, split_b.1, sym e)
     by Greater e = (split_a.0, a, split_a.1, all_below o B split_b.0 b a.0 t split_b.1 (greater_back o a.0 b.0 (sym e)))
 
--- ---- where a list is empty
+-- ---- if a list is empty
 pub end_none : {K V : Type 0} (cmp : K → K → Ordering) (A B : List (K × V)) → slice_get A (length A - 1) ≡ None → (length B == 0) ≡ true → IsGreaterEnd cmp A B None
 end_none cmp A B e f = (empty_from_last A e, nil_from_length B (eqb-true (length B) 0 f))
 

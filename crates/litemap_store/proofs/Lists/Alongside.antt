@@ -1,5 +1,5 @@
--- Lists whose elements stand in a relation, place by place.
---     alongside-push      one more element behind each;  alongside-more      the element at the next place, and one behind the other list
+-- Lists whose elements are in a relation, index by index.
+--     alongside-push      one more element at the end of each;  alongside-more      the element at the next index, and one at the end of the other list
 --     alongside-zip      of keys and of values, and so of the pairs
 use Rattle.std.proofs.Common.{◌≡◌, ℕ, ◌+◌, List, [], ◌∷◌, ◌++◌, Some, slice_get, take, sym, ap, subst, ◌∙◌}
 use Rattle.std.specs.List.{AllZip, zip}

@@ -1,6 +1,6 @@
--- Lists that rise, by their neighbours and joined.
+-- Ascending lists, by their neighbours, and joined.
 --     adjacent_from_Rising, Rising-from_adjacent, adjacent_more      of two neighbours the later one has the greater key
---     Rising-behind      where the last key of one lies below the first of the other;  Rising-from_Rises, not_above      where all of one lie below the other, or do not
+--     Rising-behind      if the last key of one is below the first of the other;  Rising-from_Rises, not_above      if all of one are below the other, or are not
 --     empty_from_last, empty_from_first, last_split, first_split      an empty list, and what one begins and ends with
 --     below_all      a key below all
 use Rattle.std.proofs.Common.{ℕ, suc, ◌+◌, ◌-◌, length, arith, ◌≡◌, ◌↔◌, List, [], ◌∷◌, ◌++◌, refl, sym, ap, ◌∙◌, subst, inl, inr, Bool, false, Ordering, Less, slice_get, Some, None, sub-one, suc-add}
@@ -16,7 +16,7 @@ use Rattle.litemap_store.proofs.Lists.Membership.{In-get_or, each}
 use Rattle.litemap_store.proofs.Lists.Places.{AllPairs-from_Rising, slice_get-None}
 use Rattle.litemap_store.proofs.Search.Splitting.{Rising-append, each-weaker}
 
--- where k is below the first key, it is below all
+-- if k is below the first key, it is below all
 pub below_all : {K V : Type 0} {cmp : K → K → Ordering} → IsTotalOrder cmp → (k : K) (b : K × V) (L : List (K × V)) → cmp k b.0 ≡ Less → Rising cmp (b ∷ L) → BelowAll cmp k (b ∷ L)
 below_all {K} {V} o k b L l r = (l, each-weaker (λ (x : K × V). o.trans k b.0 x.0 l) L r.0)
 
@@ -43,7 +43,7 @@ adjacent_more cmp L n p q a first second less k d h = elim (cases_lt (k + 1) n) 
       rw (get_or_from_slice_get L k p d here, get_or_from_slice_get L (k + 1) q d next) less
 ]
 
--- ---- one rising list behind another
+-- ---- one ascending list after another
 pub In-slice_get : {X : Type 0} (L : List X) (i : ℕ) (x : X) → slice_get L i ≡ Some x → In x L
 In-slice_get L i x e = subst (λ y. In y L) (get_or_from_slice_get L i x x e) (In-get_or L i x (slice_get_within L i x e))
 
@@ -84,6 +84,6 @@ Rising-behind {K} {V} cmp o A B a b is_last is_first r s =
 pub Rising-from_Rises : {K V : Type 0} (cmp : K → K → Ordering) (A B : List (K × V)) → Rising cmp A → Rises cmp A B → Rising cmp (A ++ B)
 Rising-from_Rises {K} {V} cmp A B r h = Rising-append cmp A B r h.rising (λ a b i j. each (λ (q : K × V). cmp a.0 q.0 ≡ Less) B (each (λ (p : K × V). AllByRecursion (λ (q : K × V). cmp p.0 q.0 ≡ Less) B) A h.below a i) b j)
 
--- where a test whether they do so fails, they do not
+-- if a test of that fails, it does not hold
 pub not_above : {K V : Type 0} (cmp : K → K → Ordering) (A B : List (K × V)) (r : Bool) → Rising cmp A → (Rising cmp (A ++ B) → IsTrue r) → r ≡ false → Rises cmp A B → ⊥
 not_above cmp A B r rising says not h = true≢false (sym (says (Rising-from_Rises cmp A B rising h)) ∙ not)

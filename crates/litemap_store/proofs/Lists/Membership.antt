@@ -1,11 +1,11 @@
--- What stands in a list, and what holds of each element.
---     In-left, In-right, In-cases      where a joined list has an element;  In-filter, In-from_filter      what a filter keeps
---     each, from_each      what holds of each element;  In-get_or      what stands at a place
+-- What is in a list, and what holds of each element.
+--     In-left, In-right, In-cases      elements of a joined list;  In-filter, In-from_filter      what a filter keeps
+--     each, from_each      what holds of each element;  In-get_or      what is at an index
 use Rattle.std.proofs.Common.{ℕ, zero, suc, ◌<◌, length, get_or, arith, ◌≡◌, ◌⊎◌, Bool, true, false, cond, List, [], ◌∷◌, ◌++◌, filter, refl, sym, ap, ◌∙◌, subst, inl, inr}
 use Rattle.std.specs.List.{AllByRecursion}
 use Rattle.litemap_store.specs.Last.{In}
 
--- ---- where a joined list has an element
+-- ---- elements of a joined list
 pub In-left : {X : Type 0} (A B : List X) (x : X) → In x A → In x (A ++ B)
 In-left [] B x h = absurd h
 In-left (a ∷ A) B x (inl e) = inl e

@@ -1,5 +1,5 @@
--- Parts of a list whose keys rise.
---     Rising-sub, Rising-drop      the pairs between two places rise, and those from one on
+-- Parts of a list whose keys ascend.
+--     Rising-sub, Rising-drop      the pairs between two indices ascend, and those from one on
 --     Less-from_Rising      of two neighbours the later one has the greater key
 use Rattle.std.proofs.Common.{◌≡◌, ℕ, ◌+◌, ◌-◌, ◌<◌, ◌≤◌, Bool, true, false, ◌&&◌, cond, nat_le, List, length, length-drop, length-take, min, take, drop, slice_range, Some, None, slice_get, get_or, sym, subst, arith}
 use Rattle.std.proofs.lemmas.List.{get_or-drop, get_or-take}
@@ -29,7 +29,7 @@ module _ {K V : Type 0} (cmp : K → K → Ordering) where
   pub Rising-sub : (L : List (K × V)) (a b : ℕ) (M : List (K × V)) → Rising cmp L → Some M ≡ sub L a b → Rising cmp M
   Rising-sub L a b M r e = where_defined (nat_le a b && nat_le b (length L)) (slice_range L a b) M (Rising-take (drop a L) (b - a) (Rising-drop L a r)) e
 
-  -- of two neighbours of a rising list the later one has the greater key
+  -- of two neighbours of an ascending list the later one has the greater key
   pub Less-from_Rising : (L : List (K × V)) (n : ℕ) (p q : K × V) → 1 ≤ n → Rising cmp L → slice_get L (n - 1) ≡ Some p → slice_get L n ≡ Some q → cmp p.0 q.0 ≡ Less
   Less-from_Rising L n p q l r a b =
       let h : n < length L = slice_get_within L n q b in

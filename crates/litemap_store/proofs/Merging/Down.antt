@@ -1,8 +1,8 @@
 -- A merge from the last pair of B down to the first.
 --     Merge-one      one pair into another with an equal key;  length-parts      how long the parts below and above a key are
---     taken_found, found_drop, missing_drop      the parts by the place that a search found
---     Merge-down, left-down      one step: what is merged above the last key of B, and what is left over there
---     left-same      what is left over hangs on what the keys of B find;  length-behind, length-option      how long a list is that was read from its end
+--     taken_found, found_drop, missing_drop      the parts by the index that a search found
+--     Merge-down, left-down      one step: what is merged above the last key of B, and what is displaced there
+--     left-same      what is displaced depends on what the keys of B find;  length-behind, length-option      how long a list is that was read from its end
 use Rattle.std.proofs.Common.{◌≡◌, ℕ, ◌+◌, ◌≤◌, arith, List, [], ◌∷◌, ◌++◌, append_assoc, length, length-append, drop, take, Option, Some, None, option_map, inl, inr, refl, sym, ap, ◌∙◌, subst, reverse, Ordering, Less, Equal, is_lt, is_gt}
 use Rattle.std.specs.Cmp.{IsTotalOrder}
 use Rattle.std.specs.List.{cons_option}
@@ -30,7 +30,7 @@ module _ {K V : Type 0} (cmp : K → K → Ordering) (o : IsTotalOrder cmp) wher
       by None e = omega (arith, length-append (below cmp L k) (above cmp L k))
       by (Some a) e = omega (arith, length-append (below cmp L k) (a ∷ above cmp L k))
 
-  -- ---- the parts by a place
+  -- ---- the parts by an index
   module _ (L : List (K × V)) (k : K) (i : ℕ) where
     pub found_drop : IsFoundAt cmp L k i → drop (i + 1) L ≡ above cmp L k
     found_drop f =
@@ -82,7 +82,7 @@ module _ {K V : Type 0} (cmp : K → K → Ordering) (o : IsTotalOrder cmp) wher
         ]) in
         Merge-join cmp o (a ∷ []) (above cmp A b.0) (b ∷ []) [] ((a.0, b.1) ∷ []) (above cmp A b.0) (Merge-one a b same) (Merge-none cmp (above cmp A b.0) above_rises) over
 
-    -- what lies below b lies below its pair in A, and above
+    -- what is below b is below its pair in A, and above
     under : (t : Option (K × V)) → at cmp A b.0 ≡ t → (x y : K × V) → cmp x.0 b.0 ≡ Less → In y (cons_option t (above cmp A b.0)) → cmp x.0 y.0 ≡ Less
     under None e x y l i = o.trans x.0 b.0 y.0 l (kept_above o A b.0 y i)
     under (Some a) e x y l (inl f) = subst (λ (q : K × V). cmp x.0 q.0 ≡ Less) f (alike_right o a.0 b.0 x.0 (at_in cmp A b.0 a e).1 ∙ l)
@@ -104,7 +104,7 @@ module _ {K V : Type 0} (cmp : K → K → Ordering) (o : IsTotalOrder cmp) wher
         subst (λ (L : List (K × V)). Merge cmp L (B ++ b ∷ []) whole) (sym (parted (key_one_side o) A b.0 r))
         (Merge-join cmp o (below cmp A b.0) (cons_option (at cmp A b.0) (above cmp A b.0)) B (b ∷ []) M ((key_or (at cmp A b.0) b.0, b.1) ∷ above cmp A b.0) m (top (at cmp A b.0) refl) apart)
 
-  -- ---- what is left over
+  -- ---- what is displaced
   -- a lower key finds below a key what it finds in the whole list
   at-below : (L : List (K × V)) (k j : K) → cmp j k ≡ Less → at cmp (below cmp L k) j ≡ at cmp L j
   at-below L k j l = at-filter_kept cmp j (λ x. is_lt (cmp x k)) (λ x e. ap is_lt (o.congr x j k e ∙ l)) L

@@ -1,6 +1,6 @@
--- Merges of lists that lie apart, and merges that are joined.
---     Merge-none, Merge-all      one list is empty;  Merge-behind, Merge-before      one lies above the other
---     left-behind, left-before      and nothing is left over;  Merge-join      merges of which one lies above the other are joined
+-- Merges of lists with all keys of one above the other's, and merges that are joined.
+--     Merge-none, Merge-all      one list is empty;  Merge-behind, Merge-before      one is above the other
+--     left-behind, left-before      and nothing is displaced;  Merge-join      merges of which one is above the other are joined
 use Rattle.std.proofs.Common.{◌≡◌, ◌≢◌, ◌⊎◌, List, [], ◌++◌, refl, subst₂, inl, inr, append-nil, Ordering, Less, Equal, Greater}
 use Rattle.std.specs.Cmp.{IsTotalOrder}
 use Rattle.litemap_store.specs.Last.{In, NoneEqual}
@@ -48,7 +48,7 @@ module _ {K V : Type 0} (cmp : K → K → Ordering) (o : IsTotalOrder cmp) wher
   side A B p (inr (inl h)) = (p, In-right A B p h.0, refl)
   side A B p (inr (inr h)) = ((p.0, h.0.0), In-left A B (p.0, h.0.0) h.0.1, refl)
 
-  -- every key of X lies below every key of Y
+  -- every key of X is below every key of Y
   abbrev pub Across : List (K × V) → List (K × V) → Type 0
   Across X Y = (x y : K × V) → In x X → In y Y → cmp x.0 y.0 ≡ Less
 
@@ -101,7 +101,7 @@ module _ {K V : Type 0} (cmp : K → K → Ordering) (o : IsTotalOrder cmp) wher
     pub Merge-join : Merge cmp (A₁ ++ A₂) (B₁ ++ B₂) (M₁ ++ M₂)
     Merge-join = record { rising = Rising-append cmp M₁ M₂ m.rising n.rising across; exactly = λ p. (there p, back p) }
 
-  -- ---- one lies above the other
+  -- ---- one is above the other
   module _ (A B : List (K × V)) (r : Rising cmp A) (s : Rising cmp B) where
     in_left : (X : List (K × V)) (x : K × V) → In x (X ++ []) → In x X
     in_left X x i = elim (In-cases X [] x i) [ inl j ↦ j | inr j ↦ absurd j ]
@@ -122,12 +122,12 @@ module _ {K V : Type 0} (cmp : K → K → Ordering) (o : IsTotalOrder cmp) wher
     pub left-before : Rising cmp (B ++ A) → left cmp A B ≡ []
     left-before t = left_none cmp o A B (from_each (λ (b : K × V). NoneEqual cmp b.0 A) B (λ y j. none_above y.0 A (λ x i. rising_across cmp B A t y x j i)))
 
-    -- where B's keys do not all lie above those of A, both have pairs
+    -- if B's keys are not all above those of A, both have pairs
     pub one_empty : (Rising cmp (A ++ B) → ⊥) → (A ≡ []) ⊎ (B ≡ []) → ⊥
     one_empty n (inl e) = n (rw e s)
     one_empty n (inr e) = n (rw (e, append-nil) r)
 
-    -- they lie apart only where one is joined to the other
+    -- they are apart only if one can be joined to the other
     pub not_apart : (Rising cmp (A ++ B) → ⊥) → (Rising cmp (B ++ A) → ⊥) → Apart cmp A B → ⊥
     not_apart n m (inl e) = one_empty n (inl e)
     not_apart n m (inr (inl e)) = one_empty n (inr e)

@@ -1,6 +1,6 @@
--- What a merge has, what is left over, and how merges are joined.
---     left_none, none_from_left      nothing is left over where no key is common;  keys_of_merge, Merge-unique      what a merge has
---     Merge-put, left-put      one more pair of B;  at-merged      what a look-up finds among the merged pairs
+-- What a merge has, what it displaces, and how merges are joined.
+--     left_none, none_from_left      nothing is displaced if no key is common;  keys_of_merge, Merge-unique      what a merge has
+--     Merge-put, left-put      one more pair of B;  at-merged      what a lookup finds among the merged pairs
 use Rattle.std.proofs.Common.{◌≡◌, ◌⊎◌, ◌≢◌, ◌↔◌, List, [], ◌∷◌, ◌++◌, Option, Some, None, refl, sym, ap, ◌∙◌, subst, inl, inr, Ordering, Equal, option_map}
 use Rattle.std.specs.List.{AllByRecursion, cons_option}
 use Rattle.std.specs.Cmp.{IsTotalOrder}
@@ -31,7 +31,7 @@ module _ {K : Type 0} (cmp : K → K → Ordering) (o : IsTotalOrder cmp) where
       by None f rest e = (none_from_at cmp o A b.0 f, rest e)
       by (Some a) f rest e = absurd (cc)
 
-  -- what is left over rises as B does
+  -- what is displaced ascends as B does
   BelowAll-left : {V : Type 0} (A : List (K × V)) (k : K) (B : List (K × V)) → BelowAll cmp k B → BelowAll cmp k (left cmp A B)
   BelowAll-left A k [] h = tt
   BelowAll-left {V} A k (b ∷ B) h =
@@ -62,7 +62,7 @@ module _ {K : Type 0} (cmp : K → K → Ordering) (o : IsTotalOrder cmp) where
     apart : (p : K × V) → In p B → cmp p.0 b.0 ≢ Equal
     apart p i e = each (λ (q : K × V). cmp b.0 q.0 ≢ Equal) B new p i (tied_back o p.0 b.0 e)
 
-    -- a key equal to b's is not in B, and where A has none, M has none
+    -- a key equal to b's is not in B, and if A has none, M has none
     unlike : (k : K) → cmp k b.0 ≡ Equal → NoneEqual cmp k B
     unlike k same = each-weaker (λ x d f. d (sym (o.congr k b.0 x.0 same) ∙ f)) B new
 
@@ -130,7 +130,7 @@ module _ {K : Type 0} (cmp : K → K → Ordering) (o : IsTotalOrder cmp) where
         by None e = at_none M b.0 (absent (none_from_at cmp o A b.0 e)) ∙ sym e
         by (Some q) e = let h = at_in cmp A b.0 q e in at-Rising o M b.0 q merge.rising ((merge.exactly q).1 (inl (h.0, unlike q.0 h.1))) h.1 ∙ sym e
 
-    -- and what is left over is the value that it finds there
+    -- and the value that it finds there is displaced
     pub left-put : left cmp A (B ++ b ∷ []) ≡ left cmp A B ++ cons_option (option_map (λ (a : K × V). let p : K × V = (b.0, a.1) in p) (at cmp M b.0)) []
     left-put = filter_map-append (λ (x : K × V). option_map (λ (a : K × V). let p : K × V = (x.0, a.1) in p) (at cmp A x.0)) B (b ∷ []) ∙ ap (λ r. left cmp A B ++ cons_option (option_map (λ (a : K × V). let p : K × V = (b.0, a.1) in p) r) []) (sym at-merged)
 

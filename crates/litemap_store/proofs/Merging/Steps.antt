@@ -23,7 +23,7 @@ module _ {K V : Type 0} (cmp : K → K → Ordering) (o : IsTotalOrder cmp) wher
       by None e = let h = length-put_absent o M k r e v in omega arith
       by (Some q) e = let h = length-put_present o M k r (rw e refl) v in omega arith
 
-  -- Y is merged of B, and is followed there by the pairs that are to come
+  -- Y is merged of B, and is followed there by the pairs that are still to come
   pub record MergedUpTo (A B Y Z M rest : List (K × V)) (before now : Count) : Type 0 where
     pub given : Y ++ Z ≡ B
     pub merged : Merge cmp A Y M

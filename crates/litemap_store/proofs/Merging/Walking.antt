@@ -1,6 +1,6 @@
--- Walking two rising lists from their first pairs.
+-- Walking two ascending lists from their first pairs.
 --     lower_none, lower_new, lower_old, lower_from_cmp      which list has the lower first key
---     walk_old, walk_new, walk_both      what is left to merge where its pair is taken
+--     walk_old, walk_new, walk_both      what is left to merge if its pair is taken
 use Rattle.std.proofs.Common.{◌≡◌, arith, List, [], ◌∷◌, ◌++◌, append_assoc, length, Some, None, option_map, slice_get, inl, inr, refl, sym, ap, ◌∙◌, subst, Ordering, Less, Equal, Greater}
 use Rattle.std.specs.Cmp.{IsTotalOrder}
 use Rattle.std.specs.List.{cons_option}
@@ -46,7 +46,7 @@ module _ {K V : Type 0} (cmp : K → K → Ordering) (o : IsTotalOrder cmp) wher
       by Equal e = (a, of_a.0, b, of_b.0, of_a.1, of_b.1, sym e)
       by Greater e = (b, of_b.0, of_b.1, subst (BelowAll cmp b.0) (sym of_a.1) (below_all o b.0 a of_a.0 (greater_back o a.0 b.0 (sym e)) (subst (Rising cmp) of_a.1 s)))
 
-  -- a pair below all keys of B finds nothing there, and nothing of it is left over
+  -- a pair below all keys of B finds nothing there, and displaces nothing
   left-past : (a : K × V) (A B : List (K × V)) → ((x : K × V) → In x B → cmp a.0 x.0 ≡ Less) → left cmp (a ∷ A) B ≡ left cmp A B
   left-past a A B f = left-same cmp o (a ∷ A) A B (λ y i. let less : cmp a.0 y.0 ≡ Less = f y i in rw less refl)
 

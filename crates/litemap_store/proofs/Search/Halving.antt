@@ -1,9 +1,9 @@
 -- A search that halves an interval: what its steps keep, and what its end says.
---     Narrowed ord l low high      what is known of the places below low and from high on
---     Narrowed-whole, -less, -greater      at the start, and after an answer at the place m;  Finds-here, Finds-nowhere      at the two ends
---     Seen ord l hit low left, Seen-next, left_next      the same for the search that notes a hit and the number of places left
---     takes, takes_next      from `Callable`: the closure may be asked for a key of the list; each answer uses up a question
---     next      the same of `Shape`, and what the closure answers
+--     Narrowed ord l low high      what is known of the indices below low and from high on
+--     Narrowed-whole, -less, -greater      at the start, and after a result at the index m;  Finds-here, Finds-nowhere      at the two ends
+--     Seen ord l hit low left, Seen-next, left_next      the same for the search that notes a hit and the number of indices left
+--     takes, takes_next      from `Callable`: the closure may be called on a key of the list; each call uses up one of n
+--     next      the same of `Shape`, and what the closure returns
 use Rattle.std.proofs.Common.{◌≡◌, ◌≢◌, ℕ, zero, suc, ◌+◌, ◌-◌, ◌/◌, ◌<◌, ◌≤◌, Bool, true, false, cond, List, [], ◌∷◌, length, Some, Ok, Err, slice_get, slice_index_or, Bor, refl, sym, ap, ◌∙◌, subst, arith, inl, inr}
 use denote.Param.Members.{Mut}
 use Rattle.std.specs.Fn.{CalledAt, TakesAt}
@@ -26,7 +26,7 @@ bottom Less h = refl
 bottom Equal h = absurd (omega arith)
 bottom Greater h = absurd (omega arith)
 
--- what passes a test stands at the first n places
+-- what passes a test is at the first n indices
 counted : {X : Type 0} (p : X → Bool) (xs : List X) (n : ℕ) → n ≤ length xs
     → ((k : ℕ) (d : X) → k < n → p (slice_index_or xs k d) ≡ true) → ((k : ℕ) (d : X) → n ≤ k → k < length xs → p (slice_index_or xs k d) ≡ false)
     → n ≡ length (filter p xs)
@@ -41,7 +41,7 @@ counted p (x ∷ xs) (suc n) h passes fails =
     let r : n ≡ length (filter p xs) = counted p xs n (omega arith) (λ k d l. passes (suc k) d (omega arith)) (λ k d a b. fails (suc k) d (omega arith) (omega arith)) in
     rw e (ap suc r)
 
--- how many places are left of some after an answer at the middle
+-- how many indices are left of some after a result at the middle
 abbrev pub left_after : Bool → Ordering → ℕ → ℕ
 left_after is_small answer left =
     cond (is_lt answer) (left / 2) (cond (is_eq answer) (cond is_small (left / 2) 0) (cond is_small (left / 2) (left - left / 2 - 1)))
@@ -96,7 +96,7 @@ module _ {K V : Type 0} (ord : K → Ordering) (l : List (K × V)) where
   Narrowed-wider : (low high a b : ℕ) → a ≤ low → high ≤ b → Narrowed low high → Narrowed a b
   Narrowed-wider low high a b h j n = record { front = λ k d c e. n.front k d c (omega arith); back = λ k d c e. n.back k d (omega arith) e }
 
-  -- ord is Equal at the place before hit, or, where hit is 0, it is known of all but the places from low on that are left
+  -- ord is Equal at the index before hit, or, if hit is 0, it is known of all but the indices from low on that are left
   pub record Seen (hit low left : ℕ) : Type 0 where
     pub open_ : hit ≡ 0 → Narrowed low (low + left)
     pub closed : 0 < hit → Finds ord l (Ok (hit - 1))
@@ -104,7 +104,7 @@ module _ {K V : Type 0} (ord : K → Ordering) (l : List (K × V)) where
   pub Seen-whole : (n : ℕ) → length l ≤ n → Seen 0 0 n
   Seen-whole n h = record { open_ = λ u. Narrowed-whole (0 + n) (omega arith); closed = λ u. absurd (omega arith) }
 
-  -- after an answer at the middle
+  -- after a result at the middle
   pub Seen-next : Ascends ord l → (is_small : Bool) (hit low left : ℕ) (k : K) (v : V) (answer : Ordering) → 0 < left
       → slice_get l (low + (left - left / 2) - 1) ≡ Some (k, v) → Seen hit low left → ord k ≡ answer
       → Seen (cond (is_eq answer) (low + (left - left / 2)) hit) (cond (is_lt answer) (low + (left - left / 2)) low)
@@ -129,7 +129,7 @@ module _ {K V : Type 0} (ord : K → Ordering) (l : List (K × V)) where
     closed = seen.closed;
   }
 
--- what is left after an answer lies within the list, and has a digit less
+-- what is left after a result is within the list, and has a digit less
 pub left_next : (is_small : Bool) (answer : Ordering) (low left n : ℕ) → low + left ≤ n → 0 < left
     → (cond (is_lt answer) (low + (left - left / 2)) low + left_after is_small answer left ≤ n)
     × (digits (left_after is_small answer left) + 1 ≤ digits left)
@@ -139,7 +139,7 @@ left_next false Equal low left n w p = (omega arith, digits-halved _ _ p (omega 
 left_next true Greater low left n w p = (omega arith, digits-halved _ _ p (omega arith))
 left_next false Greater low left n w p = (omega arith, digits-halved _ _ p (omega arith))
 
--- the place behind a hit lies within the list
+-- the index after a hit is within the list
 pub hit_next : (answer : Ordering) (low left n hit : ℕ) → low + left ≤ n → 0 < left → hit ≤ n → cond (is_eq answer) (low + (left - left / 2)) hit ≤ n
 hit_next Less low left n hit w p h = h
 hit_next Equal low left n hit w p h = omega arith
@@ -152,7 +152,7 @@ module _ {F K V : Type 0} (g : Mut F (Bor K × Unit {0}) Ordering) (l : List (K 
   pub takes : (n i : ℕ) (f : F) (k : K) (v : V) → 1 ≤ n → Callable g l n f → slice_get l i ≡ Some (k, v) → TakesAt g f k
   takes n i f k v h s there p e = s.at [] f p (omega arith) refl (subst (λ (x : K). Any (λ q. q.0 ≡ x) l) (sym e) (known l i k v there))
 
-  -- one question less may be asked after an answer
+  -- after a call, one call less is left
   pub takes_next : (m n i : ℕ) (f : F) (k : K) (v : V) (r : Ordering) (f' : F) → m + 1 ≤ n → Callable g l n f → slice_get l i ≡ Some (k, v)
       → CalledAt g f k r f' → Callable g l m f'
   takes_next m n i f k v r f' h s there c =
@@ -160,7 +160,7 @@ module _ {F K V : Type 0} (g : Mut F (Bor K × Unit {0}) Ordering) (l : List (K 
       record { at = λ asked f'' p few calls there. s.at (c.shown ∷ asked) f'' p (omega arith) (f', (b, (r, c.called)), calls) there }
 
 module _ {F K V : Type 0} (g : Mut F (Bor K × Unit {0}) Ordering) (l : List (K × V)) (ord : K → Ordering) where
-  -- one question less may be asked after an answer
+  -- after a call, one call less is left
   pub next : (m n i : ℕ) (f : F) (k : K) (v : V) (r : Ordering) (f' : F) → m + 1 ≤ n → Shape g l ord n f → slice_get l i ≡ Some (k, v) → CalledAt g f k r f' → (ord k ≡ r) × Shape g l ord m f'
   next m n i f k v r f' h s there c =
       let b : Any (λ q. q.0 ≡ c.shown.now) l = subst (λ (x : K). Any (λ q. q.0 ≡ x) l) (sym c.shows) (known l i k v there) in (

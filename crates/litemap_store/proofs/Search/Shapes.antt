@@ -1,7 +1,7 @@
--- How the caller of a search by a closure shows that the closure answers by the key, and so what was found: each gives a
--- `Shape`, for the `at` of `Found`.
---     shape_counted      by a fact of the closure and of how many questions are left;  shape_kept      however many are left
---     shape_steady      where a call leaves the closure alone
+-- How the caller of a search by a closure shows that the result of the closure depends on the key alone, and so what was found:
+-- each lemma gives a `Shape`, for the `at` of `Found`.
+--     shape_counted      by a fact of the closure and of how many calls are left;  shape_kept      however many are left
+--     shape_steady      if a call leaves the closure as it is
 use Rattle.std.proofs.Common.{◌≡◌, ℕ, zero, suc, ◌≤◌, List, [], ◌∷◌, length, refl, sym, subst, arith}
 use Rattle.std.specs.declared.cmp.Ordering.{Ordering}
 use Rattle.std.specs.List.{Any}
@@ -11,13 +11,13 @@ use denote.Param.Members.{Mut}
 use denote.Ref.{Bor}
 
 module _ {F K V : Type 0} (g : Mut F (Bor K × Unit {0}) Ordering) (l : List (K × V)) (ord : K → Ordering) where
-  -- f may be asked for the key p, answers what ord says of it, and has the fact `Then` afterwards
+  -- f may be called on the key p, returns what ord says of it, and has the fact `Then` afterwards
   abbrev AnswersOne : (F → Type 0) → F → Bor K → Type 0
   AnswersOne Then f p =
       g.pre f (p, tt) × ((r : Ordering) (f' : F) → Called g f (p, tt) r f' → (r ≡ ord p.now) × Then f')
 
-  -- by a fact I of the closure and of how many questions are left, which lets it be asked for a key of the list, and
-  -- which each answer keeps
+  -- by a fact I of the closure and of how many calls are left, which allows a call on a key of the list, and which each call
+  -- keeps
   module _
       (I : ℕ → F → Type 0)
       (step : (n : ℕ) (f : F) (p : Bor K) → Any (λ q. q.0 ≡ p.now) l → I (suc n) f → AnswersOne (I n) f p) where
@@ -32,13 +32,13 @@ module _ {F K V : Type 0} (g : Mut F (Bor K × Unit {0}) Ordering) (l : List (K 
     shape_counted n f i ascends =
         record { answers = record { at = λ ps h. answers_each n ps f h i }; ascends = ascends }
 
-  -- by such a fact, however many questions are left
+  -- by such a fact, however many calls are left
   pub shape_kept : {n : ℕ} (I : F → Type 0)
       → ((f : F) (p : Bor K) → Any (λ q. q.0 ≡ p.now) l → I f → AnswersOne I f p)
       → (f : F) → I f → Ascends ord l → Shape g l ord n f
   shape_kept {n} I step f i ascends = shape_counted (λ _. I) (λ _ f p a i. step f p a i) n f i ascends
 
-  -- where a call leaves the closure as it is
+  -- if a call leaves the closure as it is
   pub shape_steady : {n : ℕ} (f : F) → ((p : Bor K) → Any (λ q. q.0 ≡ p.now) l → g.pre f (p, tt))
       → ((p : Bor K) (r : Ordering) (f' : F) → Called g f (p, tt) r f' → (r ≡ ord p.now) × (f' ≡ f))
       → Ascends ord l → Shape g l ord n f

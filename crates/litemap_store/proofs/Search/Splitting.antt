@@ -1,7 +1,7 @@
--- Where a query stands in a list whose keys rise, from what a search found. All that is needed of the order is here.
---     Ascends-by_query      how keys stand to a query ascends over a rising list
+-- Where a query is in an ascending list, from what a search found. All that is needed of the order is here.
+--     Ascends-by_query      how keys compare with a query ascends over an ascending list
 --     Splits-from_Finds      what such a search finds splits the list
---     index_of-, within-, there-from_Splits      and is the query's index, a place of the list, where its pair stands;  Rising-put, Rising-remove, ..      what the calls leave rises
+--     index_of-, within-, there-from_Splits      and is the query's index, an index of the list, at which its pair is;  Rising-put, Rising-remove, ..      what the calls leave ascends
 use Rattle.std.proofs.Common.{◌≡◌, ◌≢◌, inl, inr, ℕ, zero, suc, ◌<◌, ◌≤◌, Bool, true, false, cond, List, [], ◌∷◌, ◌++◌, length, filter, Some, None, Result, Ok, Err, IfOk, slice_get, get_or, refl, sym, ap, ◌∙◌, subst, arith}
 use Rattle.std.proofs.lemmas.Cmp.{alike_right, tied_itself}
 use Rattle.std.proofs.lemmas.List.Elements.{recursion_from_All}
@@ -19,7 +19,7 @@ use Rattle.litemap_store.proofs.Lists.Membership.{In-from_filter, each, from_eac
 use Rattle.litemap_store.proofs.Lists.Seams.{each-set_value, found_there, found_within, set_value-suc}
 use Rattle.litemap_store.proofs.Lists.Places.{AllPairs-from_Rising}
 
--- ---- an answer by its test
+-- ---- an ordering by its test
 pub less_from_is_lt : (r : Ordering) → is_lt r ≡ true → r ≡ Less
 less_from_is_lt Less h = refl
 less_from_is_lt Equal h = absurd (cc)
@@ -40,9 +40,9 @@ not_is_eq Less n = refl
 not_is_eq Equal n = absurd (n refl)
 not_is_eq Greater n = refl
 
--- ---- what each element has
+-- ---- what holds of each element
 
--- what each element has, each has by what follows from it
+-- if P implies Q, and P holds of each element, so does Q
 pub each-weaker : {X : Type 0} {P Q : X → Type 0} → ((x : X) → P x → Q x) → (L : List X) → AllByRecursion P L → AllByRecursion Q L
 each-weaker f [] h = tt
 each-weaker f (x ∷ L) h = (f x h.0, each-weaker f L h.1)
@@ -60,7 +60,7 @@ each-remove P [] (suc i) h = tt
 each-remove P (x ∷ L) zero h = h.1
 each-remove P (x ∷ L) (suc i) h = (h.0, each-remove P L i h.1)
 
--- ---- a joined list, and a filtered one, rise
+-- ---- joined and filtered lists ascend
 module _ {K V : Type 0} (cmp : K → K → Ordering) where
   pub Rising-append : (A B : List (K × V)) → Rising cmp A → Rising cmp B → ((a b : K × V) → In a A → In b B → cmp a.0 b.0 ≡ Less) → Rising cmp (A ++ B)
   Rising-append [] B r s f = s
@@ -96,7 +96,7 @@ module _ {K Q V : Type 0} (order : K → Q → Ordering) where
   at_past [] q h = refl
   at_past (p ∷ L) q h = rw h.0 (at_past L q h.1)
 
-  -- what a look-up that finds nothing tells, and what it finds
+  -- what a lookup that finds nothing tells, and what it finds
   pub none_equal : (L : List (K × V)) (q : Q) → at order L q ≡ None → AllByRecursion (λ p. order p.0 q ≢ Equal) L
   none_equal [] q e = tt
   none_equal (p ∷ L) q e = by (is_eq (order p.0 q)) refl e (none_equal L q)
@@ -115,12 +115,12 @@ module _ {K Q V : Type 0} (order : K → Q → Ordering) where
       by true f h rest = let s : x ≡ p = cc in (inl s, subst (λ (y : K × V). order y.0 q ≡ Equal) s (equal_from_is_eq _ f))
       by false f h rest = let t = rest h in (inr t.0, t.1)
 
-  -- the place of a search's answer is the query's index
+  -- the index in a search's result is the query's index
   pub index_of-from_Splits : (L : List (K × V)) (q : Q) (r : Result ℕ ℕ) → Splits order L q r → r ≡ index_of order L q
   index_of-from_Splits L q (Ok i) s = rw s.found (ap Ok s.place)
   index_of-from_Splits L q (Err i) s = rw s.missing (ap Err s.place)
 
-  -- a place that is found is one of the list's, and the pair there is that of the key
+  -- an index that is found is one of the list's, and the pair there is that of the key
   pub within-from_Splits : (L : List (K × V)) (q : Q) (r : Result ℕ ℕ) → Splits order L q r → IfOk r (λ i. i < length L)
   within-from_Splits L q (Ok i) s = found_within order L q i s
   within-from_Splits L q (Err i) s = tt
@@ -129,7 +129,7 @@ module _ {K Q V : Type 0} (order : K → Q → Ordering) where
   there-from_Splits L q (Ok i) s = found_there order L q i s
   there-from_Splits L q (Err i) s = tt
 
--- ---- what a query finds in a rising list
+-- ---- what a query finds in an ascending list
 module _ {K Q : Type 0} {cmp : K → K → Ordering} {order : K → Q → Ordering} (one : OneSide cmp order) where
   past : (q : Q) (x y : K) → order x q ≢ Less → cmp x y ≡ Less → order y q ≡ Greater
   past q x y n l = elim (one q x y l) [ inl h ↦ absurd (n h) | inr g ↦ g ]
@@ -180,7 +180,7 @@ module _ {K Q : Type 0} {cmp : K → K → Ordering} {order : K → Q → Orderi
         let later : AllPast order L q = each-weaker (λ (x : K × V). past q p.0 x.0 (λ n. cc)) L b in
         rw e (rw (below_none order L q later) (rw (at_past order L q later) (rw (above_all order L q later) refl)))
 
-    -- what lies below the query, the pair that it finds if there is one, and what lies above
+    -- what is below the query, the pair that it finds if there is one, and what is above
     pub parted : (L : List (K × V)) (q : Q) → Rising cmp L → L ≡ below order L q ++ cons_option (at order L q) (above order L q)
     parted [] q r = refl
     parted (p ∷ L) q r = parted_by p L q (order p.0 q) refl r.0 (parted L q r.1)

@@ -1,10 +1,10 @@
--- How far a count rises over several calls.
+-- By how much several calls raise a count.
 use Rattle.std.proofs.Common.{ℕ, ◌+◌, ◌≤◌, Result, Ok, Err, refl, ◌∙◌, arith}
 use Rattle.std.specs.Result.{OnErr}
 use Rattle.litemap_store.specs.declared.count.Count.{Count}
 use Rattle.litemap_store.specs.Counts.{RisesByAtMost}
 
--- a count that nothing was asked through
+-- a count through which nothing was compared
 pub not_asked : (c : Count) → RisesByAtMost 0 c c
 not_asked c = record { same = refl; not_lowered = omega arith; most = omega arith }
 
@@ -17,7 +17,7 @@ in_turn a b n h r s =
     let m = r.most in let k = s.most in let l = r.not_lowered in let u = s.not_lowered in
     record { same = s.same ∙ r.same; not_lowered = omega arith; most = omega arith }
 
--- what holds in each case holds where a call is refused
+-- what holds in each case holds if a call fails
 pub always_on_err : {T E P : Type 0} (r : Result T E) → P → OnErr r P
 always_on_err (Ok x) h = tt
 always_on_err (Err e) h = h

@@ -1,6 +1,6 @@
 -- What a closure keeps of a list of pairs.
 --     Kept-none, Kept-more      from one pair to the next;  Moved, Moved_if      what a pair that moves to the front leaves
---     KeptSoFar-takes, -yes, -no, Kept-all      the steps of a loop that brings pairs to the front;  Rising-from_Kept      what is kept of a rising list rises
+--     KeptSoFar-takes, -yes, -no, Kept-all      the steps of a loop that brings pairs to the front;  Rising-from_Kept      what is kept of an ascending list ascends
 use Rattle.std.proofs.Common.{◌≡◌, ℕ, suc, ◌+◌, ◌<◌, ◌≤◌, Bool, true, false, cond, List, [], ◌∷◌, ◌++◌, length, take, drop, slice_get, slice_set, swap, get_or, Some, add-one, append_assoc, append-nil, inl, inr, refl, sym, ap, ◌∙◌, subst, arith}
 use Rattle.std.proofs.Math.Seq.{drop-cons}
 use Rattle.std.proofs.lemmas.List.{drop_all, take-set-le, take_more}
@@ -18,17 +18,17 @@ use Rattle.litemap_store.proofs.Last.KeepLast.{drop-swap, take-swap}
 use Rattle.litemap_store.specs.Retain.{CallableOnEach, CalledOnPair, Kept, KeptSoFar, TakesPair}
 
 module _ {X : Type 0} where
-  -- the elements from place i on, of which x is the first
+  -- the elements from index i on, of which x is the first
   pub drop-first : (L : List X) (i : ℕ) (x : X) → i < length L → x ≡ get_or L i x → drop i L ≡ x ∷ drop (i + 1) L
   drop-first L i x h at = rw add-one (drop-cons L i x h ∙ ap (λ z. z ∷ drop (suc i) L) (sym at))
 
-  -- L' has what stands behind place i of L and before place k, and x there, if it stays
+  -- L' has what is after index i of L and before index k, and x there, if it stays
   pub record Moved (L L' : List X) (k i : ℕ) (x : X) (stays : Bool) : Type 0 where
     pub behind : drop (i + 1) L' ≡ drop (i + 1) L
     pub before : take k L' ≡ take k L
     pub front : stays ≡ true → take (k + 1) L' ≡ take k L ++ x ∷ []
 
-  -- a swap with the element at place i, or nothing where that is in its place, or goes
+  -- a swap with the element at index i, or nothing if that is in its place, or is dropped
   pub Moved_if : (L L' : List X) (k i : ℕ) (x : X) (stays moves : Bool) → k ≤ i → slice_get L i ≡ Some x
       → (stays ≡ true → k < i → moves ≡ true) → L' ≡ cond moves (swap L k i) L → Moved L L' k i x stays
   Moved_if L L' k i x stays true u at goes is = let h = slice_get_within L i x at in record {
@@ -49,7 +49,7 @@ module _ {F K V : Type 0} (g : Mut F (Bor K × (Bor V × Unit {0})) Bool) where
   pub Kept-none : (f : F) → Kept g f [] []
   Kept-none f = ([], f, refl, refl, refl)
 
-  -- the answer to the first pair, and then what is kept of the others
+  -- the result for the first pair, and then what is kept of the others
   pub Kept-more : (f : F) (p : K × V) (b : Bool) (f' : F) (L M : List (K × V)) → CalledOnPair g f p b f' → Kept g f' L M → Kept g f (p ∷ L) (cond b (p ∷ M) M)
   Kept-more f p true f' L M c k = (true ∷ k.0, k.1, ap suc k.2, (f', c, k.3), ap (λ N. p ∷ N) k.4)
   Kept-more f p false f' L M c k = (false ∷ k.0, k.1, ap suc k.2, (f', c, k.3), k.4)
@@ -69,7 +69,7 @@ module _ {F K V : Type 0} (g : Mut F (Bor K × (Bor V × Unit {0})) Bool) where
       pub KeptSoFar-takes : TakesPair g f p
       KeptSoFar-takes = CallableOnEach-first f p (drop (i + 1) L) (subst (CallableOnEach g f) here now.callable)
 
-      -- p is moved to place k, if it stays
+      -- p is moved to index k, if it stays
       module _ (b : Bool) (f' : F) (called : CalledOnPair g f p b f') (L' : List (K × V)) (moved : Moved L L' k i p b) where
         callable' : CallableOnEach g f' (drop (i + 1) L')
         callable' = subst (CallableOnEach g f') (sym moved.behind) (CallableOnEach-rest f p b f' (drop (i + 1) L) called (subst (CallableOnEach g f) here now.callable))
@@ -113,6 +113,6 @@ module _ {K V : Type 0} (cmp : K → K → Ordering) where
   Rising-picked (true ∷ bs) (p ∷ L) h = (each-picked (λ (q : K × V). cmp p.0 q.0 ≡ Less) bs L h.0, Rising-picked bs L h.1)
   Rising-picked (false ∷ bs) (p ∷ L) h = Rising-picked bs L h.1
 
-  -- what is kept of a rising list rises
+  -- what is kept of an ascending list ascends
   pub Rising-from_Kept : {F : Type 0} (g : Mut F (Bor K × (Bor V × Unit {0})) Bool) (f : F) (L M : List (K × V)) → Kept g f L M → Rising cmp L → Rising cmp M
   Rising-from_Kept g f L M k h = subst (Rising cmp) (sym k.4) (Rising-picked k.0 L h)

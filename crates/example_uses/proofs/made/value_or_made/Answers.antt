@@ -5,7 +5,7 @@ use Rattle.litemap_store.specs.Pairs.{at, put}
 use Rattle.litemap_store.proofs.Lists.Seams.{put_value}
 use Rattle.example_uses.proofs.made.value_or_made.Goals as goal
 
--- the value that was placed is the one that the reference shows
+-- the value that was inserted is the one that the reference shows
 placed : (g : _) (c : goal.After-result-1 g) (n : IsNone (at g.K.Ord.cmp c.args.map.now.pairs c.args.key)) → (c.in_ok-index.ensures.put n).0 ≡ c.unwrap.result.1.now
 placed g c n =
     let e = c.in_ok-index.ensures in let p = e.put n in let cmp = g.K.Ord.cmp in let old = c.args.map.now.pairs in

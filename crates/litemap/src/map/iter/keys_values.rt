@@ -1,4 +1,4 @@
-//! The keys and the values of a map, from both ends.
+//! Double-ended iterators over the keys and over the values of a map.
 ghost use Rattle.std.specs.Prelude.{◌≡◌, length, Some};
 ghost use Rattle.std.specs.Iterator.{at_most};
 ghost use Rattle.std.specs.Map.{keys_of, values_of};
@@ -9,7 +9,7 @@ use litemap_store::store::PairIter;
 use std::iter::FusedIterator;
 use std::marker::{Model, PhantomData};
 
-/// The keys of the pairs that are still to come. A contract sees the iterator over these pairs.
+/// An iterator over keys. A contract sees the iterator over their pairs.
 #[derive(Debug, Drop)]
 pub struct KeysIterWrap<'a, K, V, I> {
     iter: I,
@@ -23,7 +23,6 @@ impl<'a, K, V, I> Model for KeysIterWrap<'a, K, V, I> {
 }
 
 impl<'a, K, V, I> KeysIterWrap<'a, K, V, I> {
-    // The keys of the pairs that an iterator gives.
     pub(super) fn over(iter: I) -> Self
         ensures { result ≡ iter }
     {
@@ -41,13 +40,11 @@ impl<'a, K: 'a, V: 'a, I: PairIter<'a, K, V>> Iterator for KeysIterWrap<'a, K, V
 
     ghost remaining = { λ s. at_most (length (I.rest s)) };
 
-    /// The first key still to come.
     fn next(&mut self) -> Option<&'a K> {
         let (key, _) = self.iter.next()?;
         Some(key)
     }
 
-    /// The number of keys still to come, twice.
     fn size_hint(&self) -> (usize, Option<usize>)
         ensures { HintsExactly (length (I.rest self.now)) result }
     {
@@ -58,7 +55,6 @@ impl<'a, K: 'a, V: 'a, I: PairIter<'a, K, V>> Iterator for KeysIterWrap<'a, K, V
 impl<'a, K: 'a, V: 'a, I: PairIter<'a, K, V>> DoubleEndedIterator for KeysIterWrap<'a, K, V, I> {
     ghost next_back_gives = { λ s r t. TakesLast deref (keys_of (I.rest s)) r (keys_of (I.rest t)) };
 
-    /// The last key still to come.
     fn next_back(&mut self) -> Option<&'a K> {
         let (key, _) = self.iter.next_back()?;
         Some(key)
@@ -66,7 +62,6 @@ impl<'a, K: 'a, V: 'a, I: PairIter<'a, K, V>> DoubleEndedIterator for KeysIterWr
 }
 
 impl<'a, K: 'a, V: 'a, I: PairIter<'a, K, V>> ExactSizeIterator for KeysIterWrap<'a, K, V, I> {
-    /// The number of keys still to come.
     fn len(&self) -> usize {
         self.iter.len()
     }
@@ -74,7 +69,7 @@ impl<'a, K: 'a, V: 'a, I: PairIter<'a, K, V>> ExactSizeIterator for KeysIterWrap
 
 impl<'a, K: 'a, V: 'a, I: PairIter<'a, K, V>> FusedIterator for KeysIterWrap<'a, K, V, I> {}
 
-/// The values of the pairs that are still to come. A contract sees the iterator over these pairs.
+/// An iterator over values. A contract sees the iterator over their pairs.
 #[derive(Debug, Drop)]
 pub struct ValuesIterWrap<'a, K, V, I> {
     iter: I,
@@ -88,7 +83,6 @@ impl<'a, K, V, I> Model for ValuesIterWrap<'a, K, V, I> {
 }
 
 impl<'a, K, V, I> ValuesIterWrap<'a, K, V, I> {
-    // The values of the pairs that an iterator gives.
     pub(super) fn over(iter: I) -> Self
         ensures { result ≡ iter }
     {
@@ -106,13 +100,11 @@ impl<'a, K: 'a, V: 'a, I: PairIter<'a, K, V>> Iterator for ValuesIterWrap<'a, K,
 
     ghost remaining = { λ s. at_most (length (I.rest s)) };
 
-    /// The first value still to come.
     fn next(&mut self) -> Option<&'a V> {
         let (_, value) = self.iter.next()?;
         Some(value)
     }
 
-    /// The number of values still to come, twice.
     fn size_hint(&self) -> (usize, Option<usize>)
         ensures { HintsExactly (length (I.rest self.now)) result }
     {
@@ -123,7 +115,6 @@ impl<'a, K: 'a, V: 'a, I: PairIter<'a, K, V>> Iterator for ValuesIterWrap<'a, K,
 impl<'a, K: 'a, V: 'a, I: PairIter<'a, K, V>> DoubleEndedIterator for ValuesIterWrap<'a, K, V, I> {
     ghost next_back_gives = { λ s r t. TakesLast deref (values_of (I.rest s)) r (values_of (I.rest t)) };
 
-    /// The last value still to come.
     fn next_back(&mut self) -> Option<&'a V> {
         let (_, value) = self.iter.next_back()?;
         Some(value)
@@ -131,7 +122,6 @@ impl<'a, K: 'a, V: 'a, I: PairIter<'a, K, V>> DoubleEndedIterator for ValuesIter
 }
 
 impl<'a, K: 'a, V: 'a, I: PairIter<'a, K, V>> ExactSizeIterator for ValuesIterWrap<'a, K, V, I> {
-    /// The number of values still to come.
     fn len(&self) -> usize {
         self.iter.len()
     }

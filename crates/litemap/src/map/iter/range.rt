@@ -1,4 +1,4 @@
-//! The pairs between two places of a store of any kind, from both ends.
+//! A double-ended iterator over the pairs between two indices of a store of any kind.
 ghost use Rattle.std.specs.Prelude.{◌≡◌, ◌≤◌, Some, length, slice_get};
 ghost use Rattle.std.specs.Iterator.{at_most};
 ghost use Rattle.std.specs.Map.Iter.{TakesFirst, TakesLast, deref_pair};
@@ -11,7 +11,8 @@ use std::iter::FusedIterator;
 use std::marker::{Model, PhantomData};
 use std::ops::Range;
 
-/// The pairs of a map that are still to come, of those whose keys lie within two bounds. A contract sees their list.
+/// An iterator over the pairs of a map whose keys are within two bounds. A contract sees the list of those that are still to
+/// come.
 #[derive(Drop)]
 pub struct RangeIter<'a, K, V, S: Store<K, V>> {
     store: &'a S,
@@ -31,14 +32,12 @@ impl<'a, K, V, S: Store<K, V>> Model for RangeIter<'a, K, V, S> {
 }
 
 impl<'a, K, V, S: Store<K, V>> RangeIter<'a, K, V, S> {
-    // All pairs.
     pub(in crate::map) fn all(store: &'a S) -> Self
         ensures { result ≡ S.pairs store.now }
     {
         RangeIter::between(store, 0..store.lm_len())
     }
 
-    // The pairs at these places.
     pub(in crate::map) fn between(store: &'a S, places: Range<usize>) -> Self
         requires ascend { places.start ≤ places.end }
         requires inside { places.end ≤ length (S.pairs store.now) }
@@ -52,7 +51,7 @@ impl<'a, K, V, S: Store<K, V>> RangeIter<'a, K, V, S> {
         }
     }
 
-    // The first pair, which stays.
+    // Returns the first pair, without taking it.
     pub(in crate::map) fn first(&self) -> Option<(&'a K, &'a V)>
         ensures { option_map deref_pair result ≡ slice_get self.now 0 }
     {

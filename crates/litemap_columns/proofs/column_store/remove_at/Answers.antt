@@ -4,7 +4,7 @@ use Rattle.std.specs.List.{remove}
 use Rattle.litemap_columns.proofs.column_store.remove_at.Goals as goal
 use Rattle.litemap_store.proofs.Lists.Seams.{take-written_tail}
 
--- an item that is turned to the end, and taken
+-- an item that is rotated to the end, and taken
 remove-turned : {X : Type 0} (L now : List X) (x : X) (i : ℕ) → i < length L → take i L ++ (drop 1 (drop i L) ++ take 1 (drop i L)) ≡ now ++ x ∷ [] → now ≡ remove L i
 remove-turned L now x i within turned =
     let end = take 1 (drop i L) in

@@ -3,7 +3,7 @@ use Rattle.litemap_store.proofs.Stores.Counting.{always_on_err}
 use Rattle.litemap_read.proofs.Sifted.{always_if_err}
 use Rattle.litemap_read.proofs.read.drain.Goals as goal
 
--- the pair that found no room stood before what is left
+-- the pair that had no room stood before what is left
 pub returns-in_err-push-in-Ok-Some-clause-rest : goal.returns-in_err-push-in-Ok-Some-clause-rest
 returns-in_err-push-in-Ok-Some-clause-rest g c =
     let before = c.loop-pair.invariant in

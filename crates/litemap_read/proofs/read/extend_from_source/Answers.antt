@@ -4,7 +4,7 @@ use Rattle.litemap_store.proofs.Last.FirstGiven.{some_refused}
 use Rattle.litemap_read.proofs.Sifted.{always_if_err}
 use Rattle.litemap_read.proofs.read.extend_from_source.Goals as goal
 
--- what was read is refused, and so is no empty list
+-- the pairs that were read didn't go in, so there are some
 pub returns-in_err-extend_from_vec-clause-asked : goal.returns-in_err-extend_from_vec-clause-asked
 returns-in_err-extend_from_vec-clause-asked g c =
     let pairs = c.in_ok-pairs.pairs in

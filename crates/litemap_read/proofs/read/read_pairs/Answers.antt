@@ -24,7 +24,7 @@ loop-key-preserved g c =
       led = g.met.P.PairSource.leads_on _ _ _ before.led step.leads;
     }
 
--- the pair that found no room stood before what is left
+-- the pair that had no room stood before what is left
 pub returns-in_err-append_or_defer-in-Ok-Some-clause-asked : goal.returns-in_err-append_or_defer-in-Ok-Some-clause-asked
 returns-in_err-append_or_defer-in-Ok-Some-clause-asked g c =
     let before = c.loop-key.invariant in
@@ -51,7 +51,7 @@ returns-in-Err-clause-asked g c =
       refused_some = search rules;
     }
 
--- what was put aside is refused, and so is no empty list
+-- the pairs put aside didn't go in, so there are some
 pub returns-in_err-extend_from_vec-clause-asked : goal.returns-in_err-extend_from_vec-clause-asked
 returns-in_err-extend_from_vec-clause-asked g c =
     let before = c.loop-key.invariant in

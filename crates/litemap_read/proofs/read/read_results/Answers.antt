@@ -32,7 +32,7 @@ returns-in_err-append_or_defer-in-Ok-clause-refused_some g c =
     always_if_err _ c.from_residual.result (GivesSome-from_Yields g.I.IntoIterator.into_iter_gives g.I.IntoIter.Iterator.next_gives c.args.iter
     c.into_iter-item-iterator.result c.loop-item.item-iterator c.next.new.self c.loop-item.yielded c.in-Some.item c.into_iter-item-iterator.ensures.into_iter_gives c.loop-item.yielded_by c.in-Some.ensures.steps)
 
--- where no item came, nothing was put aside
+-- if no item came, nothing was put aside
 pub returns-in_err-extend_from_vec-clause-refused_some : goal.returns-in_err-extend_from_vec-clause-refused_some
 returns-in_err-extend_from_vec-clause-refused_some g c =
     let before = c.loop-item.invariant in

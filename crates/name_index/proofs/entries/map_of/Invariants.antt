@@ -2,6 +2,6 @@ use Rattle.std.proofs.Common.{◌≡◌, ◌++◌, map}
 use Rattle.name_table.specs.Remaining.{shown}
 use Rattle.name_index.proofs.entries.map_of.Given as goal
 
--- what was read, and behind it what is still to come
+-- what was read, and after it what is still to come
 abbrev pub invariant-loop-pair : goal.invariant-loop-pair
 invariant-loop-pair l = map shown l.pairs.items ++ l.pair-iterator ≡ l.fn.entries

@@ -1,6 +1,6 @@
 use Rattle.name_index.proofs.Scanning.{Scanned}
 use Rattle.name_index.proofs.entries.scan.Given as goal
 
--- the pairs in front of the place are below the key
+-- the pairs before the index are below the key
 abbrev pub invariant-loop-index : goal.invariant-loop-index
 invariant-loop-index l = Scanned l.entries l.size l.key l.rest l.index l.fn.count l.count

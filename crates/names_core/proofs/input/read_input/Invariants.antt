@@ -1,4 +1,4 @@
--- the input so far is what the reader gave, with no fault
+-- the input so far is what the reader gave, with no error
 use Rattle.std.proofs.Common.{◌≡◌, ◌-◌, ◌≤◌, vec_len}
 use Rattle.std.specs.Io.KnownBytes.{Consumes}
 use Rattle.names_core.specs.Watched.{NoCallAfterFault, met_fault}

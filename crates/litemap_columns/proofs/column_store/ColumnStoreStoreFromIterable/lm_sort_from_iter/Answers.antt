@@ -8,7 +8,7 @@ use Rattle.litemap_store.proofs.Stores.Counting.{always_on_err}
 use Rattle.litemap_columns.proofs.Columns.{same_length, zip-append}
 use Rattle.litemap_columns.proofs.column_store.ColumnStoreStoreFromIterable.lm_sort_from_iter.Goals as goal
 
--- where pairs are left, some were given
+-- if pairs are left, some were given
 some_given : {K V : Type 0} (cmp : K → K → Ordering) (given pairs : List (K × V)) → Last cmp given pairs → (length pairs ≤ 0 → ⊥) → 1 ≤ length given
 some_given cmp [] [] last some = absurd (some (omega arith))
 some_given cmp [] (p ∷ pairs) last some = absurd ((last.exactly p).0 (inl refl))
