@@ -30,7 +30,7 @@ def check(report, _):
     for where, named, there in [
         ("crates.txt", {*CRATES}, folders),
         ("the table of crates in docs/DESIGN.md", named_in("docs/DESIGN.md", "`crates/`"), folders),
-        ("the table of scripts in docs/DESIGN.md", named_in("docs/DESIGN.md", "`bin/`"), scripts),
+        ("the table of scripts in CONTRIBUTING.md", named_in("CONTRIBUTING.md", "`bin/`"), scripts),
     ]:
         for name in sorted(named | there):
             report.see(name in there, f"{where} names {name}, which is not there")

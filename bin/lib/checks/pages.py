@@ -48,5 +48,5 @@ def read(page):
 
 
 TEXTS, BLOCKS = {}, {}
-for name in ["README.md", "CALLING.md", "CHANGELOG.md", *sorted(f"docs/{it.name}" for it in (TOP / "docs").glob("*.md"))]:
+for name in ["README.md", "CALLING.md", "CONTRIBUTING.md", "CHANGELOG.md", *sorted(f"docs/{it.name}" for it in (TOP / "docs").glob("*.md"))]:
     read(name)
