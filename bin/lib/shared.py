@@ -95,7 +95,8 @@ class Watched:
     def __init__(self, room, crate, sign, program=None):
         self.folder, self.sign, self.library = TOP / "crates" / crate, sign, f"{room}/allocator.so"
         self.program = program or self.folder / "out" / crate
-        self.given = (self.folder / "stdin").read_text(encoding="utf-8")
+        stdin = self.folder / "stdin"
+        self.given = stdin.read_text(encoding="utf-8") if stdin.is_file() else ""
         options = ["-O1", "-shared", "-fPIC", "-nostdlib", "-fuse-ld=lld", "-fno-builtin"]
         clang = kit() / "toolchain" / "bin" / "clang"
         subprocess.run([clang, *options, "-o", self.library, TOP / "bin" / "lib" / "allocator.c"], check=True)

@@ -45,41 +45,53 @@ MIXED = ('[[[5,"zh"],"五"],[[1,"zh"],"一"],[[7,"zh"],"七"],[[2,"en"],"two"],[
 # The output None stands for the text itself.
 ROWS = [
     # an object if the first key has a text, with its members in the byte order of their names
+    # numbers are written as the names of an object
     ("words", '[[1,"jat"],[4,"sei"],[3,"saam"],[2,"ji"]]', '{"1":"jat","2":"ji","3":"saam","4":"sei"}'),
+    # 10 is written before 2, and both are read again
     ("words", '[[10,"ten"],[2,"two"]]', '{"10":"ten","2":"two"}'),
     ("words", '{"10":"ten","2":"two"}', None),
     ("words", ' { "2" : "two" , "10" : "ten" } ', '{"10":"ten","2":"two"}'),
+    # what was written is read again
     ("words", '{"1":"one","2":"two","4":"four","5":"five"}', None),
     # else an array, in the order of the keys
+    # pairs as keys are written as an array
     ("tongues", TONGUES, None),
     ("tongues", MIXED, TONGUES),
     ("tongues", '{"1":"one"}', key_text(0)),
-    # the empty map
+    # the empty map is written as an array, and read of both
     ("words", "[]", None), ("words", "{}", "[]"), ("tongues", "{}", "[]"), ("flags", "[]", None), ("flags", "{}", "[]"),
     # of equal keys the last pair stays
     ("flags", "[[true,1],[true,5]]", '{"true":5}'),
     ("tongues", '[[[1,"a"],"x"],[[0,"b"],"y"],[[1,"a"],"z"]]', '[[[0,"b"],"y"],[[1,"a"],"z"]]'),
-    # no maps
+    # a number, `null`, a truth value and a string are no maps
     *[("u32", text, NOT_A_MAP) for text in ("7", "null", "true", '"x"', "2.5")],
     ("words", "[[1,", "no JSON"), ("words", "", "no JSON"), ("words", '{"1":"a"', "no JSON"), ("words", "[] []", "no JSON"),
     # the first error: the pair's shape, then the key, then the item
+    # an element of one item is no pair
     ("words", '[[1,"a"],[2]]', not_a_pair(1)),
+    # an item with a fraction is none
     ("u32", "[[1,2.5]]", item(0, FLOAT)),
+    # a key below 0 is out of range
     ("u32", "[[-1,3]]", key(0, RANGE)),
+    # a name out of range is no key
     ("u8", '{"300":1}', key_text(0)),
     ("u32", "[[-1,2.5]]", key(0, RANGE)),
     ("u32", '{"x":2.5}', key_text(0)),
+    # an item of another kind, and a name that is no key, after a member that is right
     ("words", '{"1":"a","2":7}', item(1, SHAPE)),
     ("words", '{"1":"a","x":"b"}', key_text(1)),
     ("words", '{"x":"b","1":7}', item(0, SHAPE)),
     # keys of which some have a text
+    # a later key without a text can't be written
     ("evens", '[[2,"a"],[3,"b"]]', no_text(1)),
     ("evens", '[[4,"a"],[2,"b"],[6,"c"],[7,"d"],[9,"e"]]', no_text(3)),
+    # a first key without a text makes an array
     ("evens", '[[1,"a"],[2,"b"]]', None),
     ("evens", '[[2,"b"],[1,"a"],[4,"c"]]', '[[1,"a"],[2,"b"],[4,"c"]]'),
     ("evens", '[[2,"a"],[4,"b"]]', '{"2":"a","4":"b"}'),
     ("evens", '{"2":"a","3":"b"}', key_text(1)),
     # booleans: their texts are names, and arrays stay readable
+    # flags are written as names, and read of both shapes
     ("flags", "[[true,1],[false,2]]", '{"false":2,"true":1}'),
     ("flags", "[[false,2],[true,1]]", '{"false":2,"true":1}'),
     ("flags", '{"true":1,"false":2}', '{"false":2,"true":1}'),
@@ -136,6 +148,7 @@ ROWS = [
 
 def bad_elements():
     """A bad element at each index of three, and at two indices."""
+    # a bad element at each index of three, and at two
     bad = [(text, not_a_pair) for text in ("5", "[]", "[1]", '[1,"a",2]', "null", '{"1":"a"}')]
     bad += [(text, lambda place: key(place, SHAPE)) for text in ('["x","a"]', '["x",7]', '[null,"a"]')]
     bad += [('[4294967296,"a"]', lambda place: key(place, RANGE)), ('[1.5,"a"]', lambda place: key(place, FLOAT))]
@@ -165,6 +178,7 @@ def whole_numbers():
         for text in ("null", "true", '"1"', "[1]", '{"1":1}'):
             yield types, f"[[{text},0]]", key(0, SHAPE)
             yield types, f'{{"0":{text}}}', item(0, SHAPE)
+        # other spellings of a number are no names
         for name in ("", "+1", "01", "00", "-0", "-01", "+0", " 1", "1 ", "1.0", "1e2", "0x1", "-", "+", "--1", "1_0", "١"):
             yield types, f'{{"{name}":0}}', key_text(0)
         for text in ("01", "+1", ".5", "1.", "0x1"):

@@ -4,6 +4,7 @@ The output is that of the reader below, which was written from the grammar of na
 shares nothing with the crates.
 """
 
+# eleven languages as the bytes of a name table
 PAIRS = [
     ("ar", "Arabic"), ("bn", "Bangla"), ("ccp", "Chakma"), ("en", "English"), ("es", "Spanish"), ("fr", "French"),
     ("ja", "Japanese"), ("ru", "Russian"), ("sr", "Serbian"), ("th", "Thai"), ("tr", "Turkish"),
@@ -28,16 +29,34 @@ RISING = [bytes.fromhex("0100"), bytes.fromhex("010000"), bytes.fromhex("0200000
 ALPHABET = bytes.fromhex("0001026180ff")
 # One table each: numbers of one byte to five, longer spellings, what is too large, and strings of each kind.
 READ = [
-    b"", b"\x00", b"\x00\x00", b"\x7f\x01\x61", b"\x01\x01\xff\x00", b"\x01\x00\x01\xff", b"\x01\x00\x00",
-    bytes.fromhex("8080808010"), bytes.fromhex("ffffffffff01"), bytes.fromhex("ffffffff0f"), bytes.fromhex("ffffffff10"),
+    # no bytes are no table, and a zero is the empty one
+    b"", b"\x00", b"\x00\x00",
+    # bytes that end within an entry
+    b"\x7f\x01\x61",
+    # a key and a value that are not UTF-8
+    b"\x01\x01\xff\x00", b"\x01\x00\x01\xff", b"\x01\x00\x00",
+    # numbers that are too large
+    bytes.fromhex("8080808010"), bytes.fromhex("ffffffffff01"),
+    # the greatest number, and one above it
+    bytes.fromhex("ffffffff0f"), bytes.fromhex("ffffffff10"),
     bytes.fromhex("8000"), bytes.fromhex("8080808000"), bytes.fromhex("808080808000"), bytes.fromhex("80"),
-    bytes.fromhex("80808080"), bytes.fromhex("8080808080"), bytes.fromhex("8001"), bytes.fromhex("ac02"),
-    bytes.fromhex("020161013101610132"), bytes.fromhex("020162013101610132"), bytes.fromhex("0182006100"),
+    bytes.fromhex("80808080"), bytes.fromhex("8080808080"),
+    # 128 and 300 in two bytes
+    bytes.fromhex("8001"), bytes.fromhex("ac02"),
+    # of equal keys the last entry stays
+    bytes.fromhex("020161013101610132"),
+    # entries that descend
+    bytes.fromhex("020162013101610132"), bytes.fromhex("0182006100"),
     bytes.fromhex("018200616200"), bytes.fromhex("01 81 80 80 80 00 61 01 62".replace(" ", "")),
     bytes.fromhex("01 81 80 80 80 10 61 01 62".replace(" ", "")), bytes.fromhex("0102c3a902c3b6"),
     bytes.fromhex("0101c302c3b6"), bytes.fromhex("01016101c3"), bytes.fromhex("0103eda080"), bytes.fromhex("0104f4908080"),
     bytes.fromhex("01ff7f61"), bytes.fromhex("0102ff"), bytes.fromhex("010561626364"), bytes.fromhex("01ffffffff0f"),
-    TABLE, TABLE[:116], TABLE[:1], TABLE[:4], TABLE[:10], TABLE + b"\x00\x00", b"\x8b\x00" + TABLE[1:],
+    # eleven languages are read, and of 116 bytes, 1, 4 and 10 where they end
+    TABLE, TABLE[:116], TABLE[:1], TABLE[:4], TABLE[:10],
+    # bytes after the last entry are not read
+    TABLE + b"\x00\x00",
+    # a count may be spelled in more bytes than it needs
+    b"\x8b\x00" + TABLE[1:],
 ]
 
 
@@ -338,9 +357,11 @@ def lines():
         yield "walk", data, walk(data)
     for data in READ:
         yield "again", data, again(data)
+    # strings of 127 bytes, 128 and 300
     for size in (127, 128, 300):
         data = b"\x01\x00" + spelled(size) + b"x" * size
         yield "again", data, again(data)
+    # a language is found by its code in the bytes, and an unknown code is not
     for key in ("tr", "ar", "zz", "", "t", "trx", "ccp"):
         yield f"find {key}", TABLE, find(key, TABLE)
     for data in (b"", b"\x00", TABLE[:116], READ[19], b"\x01\x01\xff\x00"):
@@ -378,6 +399,7 @@ def lines():
     for data in (b"", indexed([]), MANY_DUE):
         yield "look a", data, look("a", data)
     yield "many 100000", b"", "100000 names: 16 there, 16 between"
+    # each proper prefix of eleven languages ends too early
     yield "prefixes", TABLE, sweep([TABLE[:size] for size in range(len(TABLE))])
     yield "changes", TABLE, sweep(changes(TABLE))
     yield "cuts", indexed(PAIRS), sweep_of_indexes([indexed(PAIRS)[:size] for size in range(len(indexed(PAIRS)))])

@@ -100,15 +100,18 @@ def removals():
     yield from [b"all", b"find 01000", b"json"]
 
 
+# bad lines in front of others
 BAD = [
     b" ", b"put", b"put ", b"put a", b"put a ", b"put  a 1", b"put a  1", b"put a 1 ", b"put a 1 2", b" put a 1", b"put a\t1",
     b"put a \xc3\xa9", b"put a \x7f", b"PUT a 1", b"putt a 1", b"find", b"find ", b"find a ", b"find  a", b"find a b", b"get", b"get a ", b" get a",
     b"get a b", b"del a ", b"del\ta", b" all", b"all ", b"all x", b"all\r", b" json", b"json ", b"json x", b"JSON", b"get a\0"]
+# short runs: a bad line after an empty one, a name that is removed, quotation marks in JSON
 SHORT = [
     b"put a 1,,put a,all", b"put a 1,get a,del a,get a,", b"put b 2,put c 3,put a 1,del b,del b,find c,get c,all", b"all", b",,,all",
     b"put a 1,find a,find 0,find b", b"put ! ~,put B b,put a A,all", b"put a 1,put a 2,put a 2,all", b'put a ",put b \\,json']
 LONGEST = b"put " + b"k" * (MOST - 6) + b" v"
 LINES = {
+    # the stored run: names are put, one of them twice, and listed
     "each line": [b"put b 2", b"put a 1", b"put b 3", b"find c", b"all", b""],
     "lines of each kind": b"put b 2,put a 1,get b,get c,del b,del b,,json,find a".split(b","),
     "no input": [],

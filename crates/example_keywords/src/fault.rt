@@ -19,7 +19,7 @@ pub enum KeywordFault {
     NoRoom,
 }
 
-/// For `?` after a call that takes memory.
+/// Lets `?` turn an `AllocError` into `NoRoom`.
 impl From<AllocError> for KeywordFault {
     ghost from_gives = { λ _ fault. fault ≡ NoRoom };
 

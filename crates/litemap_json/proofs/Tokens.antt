@@ -1,10 +1,14 @@
 -- A token that is written for a string, a boolean or a number is the tree of it.
-use Rattle.std.proofs.Common.{◌≡◌, ℕ, ◌^◌, ◌<◌, ℤ, pos, negsuc, List, [], ◌∷◌, ◌++◌, Bool, true, false, cond, Some, None, option_and_then, decimal, nat_lt, SFits, w64, refl, sym, ap, ◌∙◌, arith, append_assoc}
+use Rattle.std.proofs.Common.{◌≡◌, ℕ, ◌^◌, ◌<◌, ℤ, pos, negsuc, List, [], ◌∷◌, ◌++◌, Bool, true, false, cond, Some, None, option_and_then, decimal, nat_lt, SFits, w64, refl, sym, ap, ◌∙◌, arith, append-nil, append_assoc}
 use Rattle.std.specs.Fmt.{signed_decimal}
 use Rattle.json.specs.Json as json
-use Rattle.json.specs.Tree.{json_tokens}
+use Rattle.json.specs.Lex.{tokens}
+use Rattle.json.specs.Print.{ArePrintable}
+use Rattle.json.specs.Tree.{depth, json_tokens}
 use Rattle.json.specs.Token as token
 use Rattle.json.specs.Token.{Token}
+use Rattle.json.proofs.Numbered.{ArePrintableOrBad-tokens, value-HasNumbers}
+use Rattle.json.proofs.Printed.Trees.{ArePrintable-json_tokens, value-json_tokens}
 use Rattle.serde_json.specs.Data.{Num, unsigned, negative, float, Data, boolean, number, string}
 use Rattle.serde_json.specs.Find.{as_bool, as_i64, as_number, as_str, as_u64, is_float}
 use Rattle.serde_json.specs.Read.{number_of}
@@ -66,3 +70,9 @@ writes_two d e old opened first second new o a b c = (
       ∙ simp append_assoc,
   rw (a.2, b.2),
 )
+
+-- a text that has the tokens of a tree has no bad one
+pub printable : (text : List ℕ) (j : json.Json) → tokens text ≡ json_tokens j → ArePrintable (tokens text)
+printable text j e =
+    let read = ap (json.value (depth j)) (e ∙ sym (append-nil (json_tokens j))) ∙ value-json_tokens j (depth j) [] (omega arith) in
+    rw e (ArePrintable-json_tokens j (value-HasNumbers (depth j) (tokens text) [] j (ArePrintableOrBad-tokens text) read))

@@ -16,7 +16,7 @@ use serde_json::{Map, Value};
 use std::alloc::Global;
 
 /// Reads the map that a JSON value spells, and returns it. The value is an object, whose names have to be texts of keys, or an
-/// array, whose elements have to be arrays of exactly a key and an item. Of each key the last pair stays, with its own key, in
+/// array, whose elements have to be arrays of exactly a key and an item. The last pair of each key stays, its key included, in
 /// the order that the value holds, and the others are dropped. The Rust crate has serde's `Deserialize` here.
 ///
 /// All pairs are gathered before a map is made, and moved into it by `extend_from_vec`: if the keys ascend, that is one

@@ -2,12 +2,13 @@
 ghost use Rattle.std.specs.Prelude.{◌≡◌, ◌++◌, ◌∷◌, [], OnOk};
 ghost use Rattle.std.specs.Fmt.{signed_decimal};
 ghost use Rattle.json.specs.Lex.{tokens};
+ghost use Rattle.json.specs.Print.{ArePrintable};
 ghost use Rattle.json.specs.Token.{number as number_token};
 ghost use Rattle.serde_json.specs.View.{view};
 ghost use Rattle.serde_json.specs.Written.{unless_float};
 ghost use Rattle.litemap_json.specs.Written.{WritesTree};
 
-use json::{Reader, Scratch, Token, Writer};
+use json::{Reader, Scratch, Writer};
 use serde_json::Value;
 use std::alloc::{AllocError, Global};
 
@@ -44,17 +45,15 @@ fn write_signed(number: i64, out: &mut Writer) -> Result<(), AllocError>
     out.i64(number)
 }
 
-// Writes the tokens of a text; one that is no JSON is not written.
+// Writes the tokens of a text, none of which is bad.
 fn write_tokens(alloc: Global, text: &str, out: &mut Writer) -> Result<(), AllocError>
+    requires { ArePrintable (tokens text.now) }
     ensures tokens { OnOk result (out.new.tokens ≡ out.old.tokens ++ tokens text.now) }
     ensures before { out.new.before ≡ out.old.before }
 {
     let mut scratch = Scratch::new(alloc);
     let mut reader = Reader::new(text, &mut scratch)?;
     while let Some(token) = reader.next() {
-        if let Token::Bad = token {
-            return Err(AllocError);
-        }
         out.token(token)?;
     }
     Ok(())

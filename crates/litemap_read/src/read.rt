@@ -13,15 +13,15 @@ use litemap::LiteMap;
 use litemap::store::{StoreBulkMut, StoreMut};
 use std::alloc::{AllocError, Global};
 
-/// For how many pairs at most capacity is reserved by a source's hint.
+/// The most pairs for which a source's hint reserves capacity.
 const MOST_HINTED: usize = 65_536;
 
-/// Reads the pairs of a source up to its end, and returns their map. Of each key the last pair stays, with its own key, and the
-/// others are dropped. The Rust crate reads by serde's `Deserialize` here.
+/// Reads the pairs of a source up to its end, and returns their map. The last pair of each key stays, its key included, and
+/// the others are dropped. The Rust crate reads by serde's `Deserialize` here.
 ///
 /// A pair whose key is above the last one is appended after one comparison. Others are put aside, and at the end the map is
-/// extended by these. So ascending keys cost at most one comparison for each pair, and no sort. By the source's hint capacity
-/// is reserved for at most 65,536 pairs, if there is memory.
+/// extended by these. So ascending keys cost at most one comparison for each pair, and no sort. The source's hint reserves
+/// capacity for at most 65,536 pairs, if there is memory.
 ///
 /// # Errors
 ///
@@ -55,8 +55,8 @@ pub fn read_pairs<K: Ord + Drop, V: Drop, S: StoreBulkMut<K, V>, P: PairSource<K
     Ok(map)
 }
 
-/// Extends a map by the pairs that a source gives up to its end (own). Of each key the last pair stays, with its own key, where
-/// an old pair counts as earlier than all new ones; the others are dropped. It compares and moves as `extend_from_vec` does.
+/// Extends a map by the pairs that a source gives up to its end (own). The last pair of each key stays, its key included, and
+/// the others are dropped. Old pairs count as earlier than new ones. It compares and moves as `extend_from_vec` does.
 ///
 /// # Errors
 ///
@@ -77,8 +77,8 @@ pub fn extend_from_source<K: Ord + Drop, V: Drop, S: StoreBulkMut<K, V>, P: Pair
     Ok(())
 }
 
-/// Reads the pairs of an iterator of `Result`s up to its end, and returns their map (own). Of each key the last pair stays,
-/// with its own key, and the others are dropped. What can be written as such an iterator needs no `PairSource`. It compares and
+/// Reads the pairs of an iterator of `Result`s up to its end, and returns their map (own). The last pair of each key stays,
+/// its key included, and the others are dropped. What can be written as such an iterator needs no `PairSource`. It compares and
 /// moves as `read_pairs` does.
 ///
 /// # Errors

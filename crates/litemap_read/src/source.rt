@@ -60,7 +60,7 @@ pub enum ReadFault<E> {
     Source(E),
 }
 
-/// For `?` after a call that takes memory.
+/// Lets `?` turn an `AllocError` into `NoRoom`.
 impl<E> From<AllocError> for ReadFault<E> {
     ghost from_gives = { λ _ fault. fault ≡ NoRoom };
 
@@ -69,7 +69,7 @@ impl<E> From<AllocError> for ReadFault<E> {
     }
 }
 
-/// For `?` after a call of a map that returns something with its error, which is dropped.
+/// Lets `?` do so with the error of a map's call, too. What was passed in is dropped.
 impl<E, T: Drop> From<store::NoRoom<T>> for ReadFault<E> {
     ghost from_gives = { λ _ fault. fault ≡ NoRoom };
 
@@ -78,8 +78,8 @@ impl<E, T: Drop> From<store::NoRoom<T>> for ReadFault<E> {
     }
 }
 
-/// For `?` in a function that returns an `io::Result`. An error of the source is then invalid data, and which one it was is
-/// dropped. To tell it, print the error before.
+/// The same for `?` in a function that returns an `io::Result`. An error of the source becomes invalid data, and which one it
+/// was is dropped. To tell it, print the error before.
 impl<E: Drop> From<ReadFault<E>> for io::Error {
     ghost use Rattle.std.specs.Prelude.{◌≡◌};
     ghost use Rattle.std.specs.IoError.{error_kind};
@@ -107,5 +107,5 @@ impl<E: Display> Display for ReadFault<E> {
     }
 }
 
-/// For `?` in a function that returns an `anyhow::Result`.
+/// Lets `?` return it in a function that returns an `anyhow::Result`.
 impl<E: Error> Error for ReadFault<E> {}

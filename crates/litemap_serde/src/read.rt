@@ -8,8 +8,8 @@ use litemap::store::StoreBulkMut;
 use serde::{Deserialize, DeserializeOwned, Deserializer, Format};
 use std::alloc::Global;
 
-/// Reads a map from a map of the format or a sequence of pairs, whichever comes, and returns it. Of each key the last pair
-/// stays, with its own key, and the others are dropped. In the Rust crate it is `Deserialize`.
+/// Reads a map from a map of the format or a sequence of pairs, whichever comes, and returns it. The last pair of each key
+/// stays, its key included, and the others are dropped. In the Rust crate it is `Deserialize`.
 ///
 /// The pairs are gathered in a vector, which grows as they come, and made a map by `from_vec`: if the keys ascend, that is one
 /// comparison for each, else a sort. If memory runs out, the error is the format's `no_memory`.

@@ -1,4 +1,3 @@
 -- The definitions that the contracts cite.
 pub mod Storage
 pub mod Lends
-pub mod Left

@@ -3,7 +3,7 @@ ghost use Rattle.std.specs.Prelude.{◌≡◌, [], length, Some, IfSome, Option,
 ghost use Rattle.std.specs.Iterator.{YieldsFirst, at_most};
 ghost use Rattle.std.specs.Vec.Iter.{into_iter_items};
 ghost use Rattle.litemap_store.specs.Hints.{HintsExactly};
-ghost use Rattle.litemap_short.specs.Left.{with_first};
+ghost use Rattle.std.specs.List.{cons_option};
 
 use litemap_store::store::PairIntoIter;
 use std::marker::Model;
@@ -20,11 +20,11 @@ pub struct ShortIntoIter<K, V> {
 impl<K, V> Model for ShortIntoIter<K, V> {
     ghost use Rattle.std.specs.Prelude.{◌≡◌, List, [], IfSome};
     ghost use Rattle.std.specs.Vec.Iter.{into_iter_items};
-    ghost use Rattle.litemap_short.specs.Left.{with_first};
+    ghost use Rattle.std.specs.List.{cons_option};
 
     ghost Value = { List (K × V) };
 
-    ghost view = { λ a. with_first a.first (into_iter_items a.others) };
+    ghost view = { λ a. cons_option a.first (into_iter_items a.others) };
 
     ghost invariant = { λ a. IfSome a.first (λ _. into_iter_items a.others ≡ []) };
 }
@@ -33,7 +33,7 @@ impl<K, V> ShortIntoIter<K, V> {
     // The iterator over the one pair, if there is one, and the others.
     pub(crate) fn new(first: Option<(K, V)>, others: IntoIter<(K, V)>) -> Self
         requires { IfSome first (λ _. into_iter_items others ≡ []) }
-        ensures { result ≡ with_first first (into_iter_items others) }
+        ensures { result ≡ cons_option first (into_iter_items others) }
     {
         ShortIntoIter { first, others }
     }

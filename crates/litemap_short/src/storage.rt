@@ -6,7 +6,7 @@ ghost use Rattle.std.specs.List.{AllZip};
 ghost use Rattle.std.specs.Map.Iter.{deref_pair};
 ghost use Rattle.std.specs.Option.{option_map};
 ghost use Rattle.std.specs.Vec.Iter.{into_iter_items};
-ghost use Rattle.litemap_short.specs.Left.{with_first};
+ghost use Rattle.std.specs.List.{cons_option};
 ghost use Rattle.litemap_store.specs.Retain.{CallableOnEach, Kept};
 
 use litemap_store::reserved::insert_reserved;
@@ -158,7 +158,7 @@ impl<T> Storage<T> {
 
     // The inline item, if there is one, and an iterator over those on the heap.
     pub(crate) fn into_parts(self, alloc: Global) -> (Option<T>, IntoIter<T>)
-        ensures items { with_first result.0 (into_iter_items result.1) ≡ storage_items self }
+        ensures items { cons_option result.0 (into_iter_items result.1) ≡ storage_items self }
         ensures alone { IfSome result.0 (λ _. into_iter_items result.1 ≡ []) }
     {
         match self {

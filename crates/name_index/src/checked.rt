@@ -45,7 +45,7 @@ impl<'a> IndexedNames<'a> {
         Self::open_checked_counted(bytes, &mut Count::new())
     }
 
-    /// `open_checked`, with its comparisons counted.
+    /// `open_checked`, counting its comparisons.
     pub fn open_checked_counted(
         bytes: &'a [u8],
         count: &mut Count,
@@ -77,14 +77,14 @@ impl<'a> CheckedNames<'a> {
         self.names.is_empty()
     }
 
-    /// Returns the value of a key, if it is there. It makes O(log n) comparisons.
+    /// Returns the value of a key, or `None` if it isn't there. It makes O(log n) comparisons.
     pub fn get(&self, key: &str) -> Option<&'a str>
         ensures { OfIndex self.now (λ pairs. option_copied result ≡ value_at text_order pairs key.now) }
     {
         self.get_counted(key, &mut Count::new())
     }
 
-    /// `get`, with its comparisons counted.
+    /// `get`, counting its comparisons.
     pub fn get_counted(&self, key: &str, count: &mut Count) -> Option<&'a str>
         ensures value { OfIndex self.now (λ pairs. option_copied result ≡ value_at text_order pairs key.now) }
         ensures cost { OfIndex self.now (λ pairs. RisesByAtMost (digits (length pairs)) count.old count.new) }
@@ -92,14 +92,14 @@ impl<'a> CheckedNames<'a> {
         self.names.get_counted(key, count).unwrap()
     }
 
-    /// Returns `Ok` of the index of a key, or `Err` of the index where it would go. It costs what `get` does.
+    /// Returns `Ok` with the index of a key, or `Err` with the index where it would go. It costs what `get` does.
     pub fn find_index(&self, key: &str) -> Result<usize, usize>
         ensures { OfIndex self.now (λ pairs. result ≡ index_of text_order pairs key.now) }
     {
         self.find_index_counted(key, &mut Count::new())
     }
 
-    /// `find_index`, with its comparisons counted.
+    /// `find_index`, counting its comparisons.
     pub fn find_index_counted(&self, key: &str, count: &mut Count) -> Result<usize, usize>
         ensures place { OfIndex self.now (λ pairs. result ≡ index_of text_order pairs key.now) }
         ensures cost { OfIndex self.now (λ pairs. RisesByAtMost (digits (length pairs)) count.old count.new) }
@@ -107,7 +107,7 @@ impl<'a> CheckedNames<'a> {
         self.names.find_index_counted(key, count).unwrap()
     }
 
-    /// Returns the entry at an index, `None` from the length on. No other entry is read.
+    /// Returns the entry at an index, or `None` from the length on. No other entry is read.
     pub fn get_indexed(&self, index: usize) -> Option<(&'a str, &'a str)>
         ensures { OfIndex self.now (λ pairs. option_map shown result ≡ slice_get pairs index) }
     {

@@ -21,7 +21,7 @@ pub enum NameTableFault {
     },
 }
 
-/// For `?` after a call that reads a table.
+/// Lets `?` turn an error of the format into `Format`.
 impl From<NameFault> for NameTableFault {
     ghost from_gives = { λ fault result. result ≡ Format fault };
 
@@ -41,7 +41,7 @@ pub enum NameIndexFault {
     TooFar,
 }
 
-/// For `?` after a call that takes memory.
+/// Lets `?` turn an `AllocError` into `NoRoom`.
 impl From<AllocError> for NameIndexFault {
     ghost from_gives = { λ _ fault. fault ≡ NoRoom };
 

@@ -78,14 +78,14 @@ impl<'a> NameIndex<'a> {
         self.len() == 0
     }
 
-    /// Returns the value of a key, if it is there. It makes O(log n) comparisons.
+    /// Returns the value of a key, or `None` if it isn't there. It makes O(log n) comparisons.
     pub fn get(&self, key: &str) -> Option<&'a str>
         ensures { OfTable self.now (λ pairs. option_copied result ≡ value_at text_order pairs key.now) }
     {
         self.get_counted(key, &mut Count::new())
     }
 
-    /// `get`, with its comparisons counted.
+    /// `get`, counting its comparisons.
     pub fn get_counted(&self, key: &str, count: &mut Count) -> Option<&'a str>
         ensures value { OfTable self.now (λ pairs. option_copied result ≡ value_at text_order pairs key.now) }
         ensures cost { OfTable self.now (λ pairs. RisesByAtMost (digits (length pairs)) count.old count.new) }
@@ -97,14 +97,14 @@ impl<'a> NameIndex<'a> {
         }
     }
 
-    /// Returns `Ok` of the index of a key, or `Err` of the index where it would go. It costs what `get` does.
+    /// Returns `Ok` with the index of a key, or `Err` with the index where it would go. It costs what `get` does.
     pub fn find_index(&self, key: &str) -> Result<usize, usize>
         ensures { OfTable self.now (λ pairs. result ≡ index_of text_order pairs key.now) }
     {
         self.find_index_counted(key, &mut Count::new())
     }
 
-    /// `find_index`, with its comparisons counted.
+    /// `find_index`, counting its comparisons.
     pub fn find_index_counted(&self, key: &str, count: &mut Count) -> Result<usize, usize>
         ensures place { OfTable self.now (λ pairs. result ≡ index_of text_order pairs key.now) }
         ensures cost { OfTable self.now (λ pairs. RisesByAtMost (digits (length pairs)) count.old count.new) }
@@ -112,7 +112,7 @@ impl<'a> NameIndex<'a> {
         search(self.entries, self.offsets.as_slice(), key, count)
     }
 
-    /// Returns the entry at an index, `None` from the length on. No other entry is read.
+    /// Returns the entry at an index, or `None` from the length on. No other entry is read.
     pub fn get_indexed(&self, index: usize) -> Option<(&'a str, &'a str)>
         ensures { OfTable self.now (λ pairs. option_map shown result ≡ slice_get pairs index) }
     {
@@ -134,7 +134,7 @@ impl<'a> NameIndex<'a> {
         self.prefix_places_counted(prefix, &mut Count::new())
     }
 
-    /// `prefix_places`, with its comparisons counted.
+    /// `prefix_places`, counting its comparisons.
     pub fn prefix_places_counted(&self, prefix: &str, count: &mut Count) -> Range<usize>
         ensures start { OfTable self.now (λ pairs. result.start ≡ place text_order pairs prefix.now) }
         ensures names { OfTable self.now (λ pairs. sub pairs result.start result.end

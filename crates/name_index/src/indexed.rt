@@ -72,7 +72,7 @@ impl<'a> IndexedNames<'a> {
         self.size == 0
     }
 
-    /// Returns the value of a key, if it is there. It makes O(log n) comparisons.
+    /// Returns the value of a key, or `None` if it isn't there. It makes O(log n) comparisons.
     pub fn get(&self, key: &str) -> Result<Option<&'a str>, IndexFault>
         ensures value { IfOk result (λ found. IfIndex self.now
             (λ pairs. option_copied found ≡ value_at text_order pairs key.now)) }
@@ -81,7 +81,7 @@ impl<'a> IndexedNames<'a> {
         self.get_counted(key, &mut Count::new())
     }
 
-    /// `get`, with its comparisons counted.
+    /// `get`, counting its comparisons.
     pub fn get_counted(&self, key: &str, count: &mut Count) -> Result<Option<&'a str>, IndexFault>
         ensures value { IfOk result (λ found. IfIndex self.now
             (λ pairs. option_copied found ≡ value_at text_order pairs key.now)) }
@@ -97,7 +97,7 @@ impl<'a> IndexedNames<'a> {
         }
     }
 
-    /// Returns `Ok` of the index of a key, or `Err` of the index where it would go. It costs what `get` does.
+    /// Returns `Ok` with the index of a key, or `Err` with the index where it would go. It costs what `get` does.
     pub fn find_index(&self, key: &str) -> Result<Result<usize, usize>, IndexFault>
         ensures place { IfOk result (λ found. IfIndex self.now (λ pairs. found ≡ index_of text_order pairs key.now)) }
         ensures fault { IfErr result (λ _. NoIndex self.now) }
@@ -105,7 +105,7 @@ impl<'a> IndexedNames<'a> {
         self.find_index_counted(key, &mut Count::new())
     }
 
-    /// `find_index`, with its comparisons counted.
+    /// `find_index`, counting its comparisons.
     pub fn find_index_counted(
         &self,
         key: &str,
@@ -118,7 +118,7 @@ impl<'a> IndexedNames<'a> {
         find(self.bytes, self.size, key, count)
     }
 
-    /// Returns the entry at an index, `None` from the length on. No other entry is read.
+    /// Returns the entry at an index, or `None` from the length on. No other entry is read.
     pub fn get_indexed(&self, index: usize) -> Result<Option<(&'a str, &'a str)>, IndexFault>
         ensures entry { IfOk result (λ found. IfIndex self.now (λ pairs. option_map shown found ≡ slice_get pairs index)) }
         ensures fault { IfErr result (λ _. NoIndex self.now) }

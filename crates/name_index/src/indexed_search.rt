@@ -11,7 +11,7 @@ use crate::rising::is_above;
 use litemap_store::store::Count;
 use std::cmp::Ordering;
 
-/// Returns `Ok` of the index of the key, or `Err` of the index where it would go.
+/// Returns `Ok` with the index of the key, or `Err` with the index where it would go.
 pub fn find(
     bytes: &[u8],
     size: usize,

@@ -90,7 +90,7 @@ pub fn key_of<'a>(entries: &'a [u8], offsets: &[u32], index: usize) -> &'a str
     key
 }
 
-/// Returns `Ok` of the index of the key, or `Err` of the index where it would go.
+/// Returns `Ok` with the index of the key, or `Err` with the index where it would go.
 pub fn search(entries: &[u8], offsets: &[u32], key: &str, count: &mut Count) -> Result<usize, usize>
     requires { ArePlaced entries.now offsets.now }
     ensures splits { AsPlaced entries.now offsets.now (λ pairs. Splits text_order pairs key.now result) }

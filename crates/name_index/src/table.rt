@@ -53,7 +53,7 @@ impl<'a> NameTable<'a> {
         Self::new_counted(bytes, &mut Count::new())
     }
 
-    /// `new`, with its comparisons counted.
+    /// `new`, counting its comparisons.
     pub fn new_counted(bytes: &'a [u8], count: &mut Count) -> Result<Self, NameTableFault>
         ensures bytes { IfOk result (λ table. table ≡ bytes.now) }
         ensures table { IfOk result (λ _. OfTable bytes.now (λ _. ⊤)) }
@@ -93,7 +93,7 @@ impl<'a> NameTable<'a> {
         self.count == 0
     }
 
-    /// Returns the value of a key, if it is there.
+    /// Returns the value of a key, or `None` if it isn't there.
     ///
     /// The entries are read from the first on, with one comparison for each, up to the first key that isn't below this one.
     pub fn get(&self, key: &str) -> Option<&'a str>
@@ -102,7 +102,7 @@ impl<'a> NameTable<'a> {
         self.get_counted(key, &mut Count::new())
     }
 
-    /// `get`, with its comparisons counted.
+    /// `get`, counting its comparisons.
     pub fn get_counted(&self, key: &str, count: &mut Count) -> Option<&'a str>
         ensures value { OfTable self.now (λ pairs. option_copied result ≡ value_at text_order pairs key.now) }
         ensures cost { OfTable self.now (λ pairs. RisesByAtMost (place text_order pairs key.now + 1) count.old count.new) }
@@ -113,14 +113,14 @@ impl<'a> NameTable<'a> {
         }
     }
 
-    /// Returns `Ok` of the index of a key, or `Err` of the index where it would go. It costs what `get` does.
+    /// Returns `Ok` with the index of a key, or `Err` with the index where it would go. It costs what `get` does.
     pub fn find_index(&self, key: &str) -> Result<usize, usize>
         ensures { OfTable self.now (λ pairs. result ≡ index_of text_order pairs key.now) }
     {
         self.find_index_counted(key, &mut Count::new())
     }
 
-    /// `find_index`, with its comparisons counted.
+    /// `find_index`, counting its comparisons.
     pub fn find_index_counted(&self, key: &str, count: &mut Count) -> Result<usize, usize>
         ensures place { OfTable self.now (λ pairs. result ≡ index_of text_order pairs key.now) }
         ensures cost { OfTable self.now (λ pairs. RisesByAtMost (place text_order pairs key.now + 1) count.old count.new) }
@@ -131,7 +131,7 @@ impl<'a> NameTable<'a> {
         }
     }
 
-    /// Returns the entry at an index, `None` from the length on. The entries before it are read.
+    /// Returns the entry at an index, or `None` from the length on. The entries before it are read.
     pub fn get_indexed(&self, index: usize) -> Option<(&'a str, &'a str)>
         ensures { OfTable self.now (λ pairs. option_map shown result ≡ slice_get pairs index) }
     {

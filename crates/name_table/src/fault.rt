@@ -46,7 +46,7 @@ pub enum NameWriteFault {
     TooLarge,
 }
 
-/// For `?` after a call that takes memory.
+/// Lets `?` turn an `AllocError` into `NoRoom`.
 impl From<AllocError> for NameWriteFault {
     ghost from_gives = { λ _ fault. fault ≡ NoRoom };
 
@@ -55,7 +55,7 @@ impl From<AllocError> for NameWriteFault {
     }
 }
 
-/// For `?` in a function that reads a map, which may also run out of memory.
+/// Lets `?` return it in a function that reads a map, which may also run out of memory.
 impl From<NameFault> for ReadFault<NameFault> {
     ghost from_gives = { λ fault result. result ≡ Source fault };
 

@@ -15,7 +15,7 @@ use std::alloc::Global;
 pub type NameMap<'a> = LiteMap<&'a str, &'a str, Vec<(&'a str, &'a str)>>;
 
 /// Reads the name table that the bytes begin with, and returns its map and how many bytes it takes. Keys and values are slices
-/// of the bytes. Of each key the last entry stays, and the others are dropped. Bytes after the table are left unread. The Rust
+/// of the bytes. The last entry of each key stays, and the others are dropped. Bytes after the table are left unread. The Rust
 /// crate reads by `postcard`'s `from_bytes` here.
 ///
 /// It compares as `read_pairs`, which reads the entries: at most once for each if the keys ascend.

@@ -38,6 +38,7 @@ fn finds_one<S: StoreMut<u32, u8> + StoreFromIterable<u32, u8> + Drop>(
     })
 }
 
+// A closure that returns `Equal` for two keys finds one of them.
 pub(crate) fn one_of_the_keys_called_equal_is_found(alloc: Global) -> Result<bool, AllocError> {
     let mut is_right = true;
     for (half, first, equal) in HALVES {
@@ -47,6 +48,7 @@ pub(crate) fn one_of_the_keys_called_equal_is_found(alloc: Global) -> Result<boo
     Ok(is_right)
 }
 
+// A closure compares keys with a string.
 pub(crate) fn a_closure_compares_with_another_type(alloc: Global) -> Result<bool, AllocError> {
     let map: VecMap<String, u8> = LiteMap::from_iter(
         alloc,

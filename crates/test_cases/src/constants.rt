@@ -8,6 +8,18 @@ use std::alloc::{AllocError, Global};
 
 type Table<'a, K, V> = LiteMap<K, V, SliceStore<'a, K, V>>;
 
+const TWO: &[(&str, u32)] = &[("a", 11), ("b", 22)];
+
+const FIVE: &[(&str, u32)] = &[
+    ("abc", 11),
+    ("bcd", 22),
+    ("cde", 33),
+    ("def", 44),
+    ("efg", 55),
+];
+
+const BYTES: &[(&[u8], u32)] = &[(b"a", 1), (b"aa", 2)];
+
 // The map over a slice whose keys ascend.
 fn table<K: Ord, V>(pairs: &[(K, V)]) -> Table<'_, K, V>
     requires { Rising K.cmp pairs.now }
@@ -44,9 +56,42 @@ fn wide_signed() -> [bool; 3] {
 
 pub(crate) fn numbers_of_each_type_are_found(_: Global) -> Result<bool, AllocError> {
     let none: Table<u8, u8> = table(&[]);
-    let is_none = none.const_is_empty() && none.const_get_with_index(0).is_none();
+    // An empty table has no pair.
+    let is_none = none.const_len() == 0
+        && none.const_is_empty()
+        && none.const_get_with_index(0).is_none();
     let found = [unsigned(), wide_unsigned(), signed(), wide_signed()];
     Ok(is_none && found == [[true; 3]; 4])
+}
+
+// The least and the greatest number of a type are found, and one between them is not.
+pub(crate) fn both_ends_of_a_type_are_found(_: Global) -> Result<bool, AllocError> {
+    let pairs: [(i8, u8); 3] = [(-128, 1), (0, 2), (127, 3)];
+    let map = table(&pairs);
+    Ok(
+        map.const_get_with_index(127) == Some((2, &3))
+            && map.const_get_with_index(1).is_none()
+            && map.const_get_with_index(-128) == Some((0, &1)),
+    )
+}
+
+// Of five strings the fourth is found, and one between the fourth and the fifth is not.
+fn finds_one_of_five() -> bool {
+    let map = LiteMap::from_sorted_store_unchecked(SliceStore::new(FIVE));
+    map.const_get_with_index("def") == Some((3, &44)) && map.const_get_with_index("dng").is_none()
+}
+
+// Of two keys of bytes the second, which begins with the first, is found, and a third one is not.
+fn finds_one_of_two() -> bool {
+    let map = LiteMap::from_sorted_store_unchecked(SliceStore::new(BYTES));
+    map.const_get_with_index(b"aa") == Some((1, &2)) && map.const_get_with_index(b"ab").is_none()
+}
+
+pub(crate) fn strings_and_bytes_are_found(_: Global) -> Result<bool, AllocError> {
+    // A table of two strings shows its length and its first pair.
+    let two = LiteMap::from_sorted_store_unchecked(SliceStore::new(TWO));
+    let shows = two.const_len() == 2 && *two.const_get_indexed_or_panic(0) == ("a", 11);
+    Ok(shows && finds_one_of_five() && finds_one_of_two())
 }
 
 // Whether the keys of a slice ascend, each of them is found at its index, and a greater one is not found: of strings, and of
@@ -75,10 +120,12 @@ fn finds_bytes(pairs: &[(&[u8], u8)]) -> bool {
     are_found!(pairs, b"zz")
 }
 
+// Strings, and their bytes, are compared with one another.
+//
 // Among three keys a search looks at the middle one first, and among two at the second: so each of two is compared with the
 // other, both ways.
 pub(crate) fn texts_and_bytes_are_compared_with_one_another(_: Global) -> Result<bool, AllocError> {
-    let rising = ["", "a", "aa", "abc", "abde", "bcd", "\u{10FFFF}"];
+    let rising = ["", "a", "aa", "abc", "abde", "bcd", "bcde", "\u{10FFFF}"];
     for (i, a) in rising.iter().enumerate() {
         for (j, b) in rising.iter().enumerate() {
             let (first, second) = (a.as_bytes(), b.as_bytes());

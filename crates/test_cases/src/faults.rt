@@ -15,8 +15,8 @@ struct Case<'a> {
     writes: &'a [usize],
 }
 
-// A few lines; lines of each kind, of which one is empty and the last has no line feed; `json` of no names and of two.
 const CASES: [Case<'static>; 3] = [
+    // Names are put, one of them twice, and listed.
     Case {
         lines: b"put b 2\nput a 1\nput b 3\nfind c\nall\n",
         most: usize::MAX,
@@ -24,6 +24,7 @@ const CASES: [Case<'static>; 3] = [
         answers: b"new\nnew\nold 2\nerr 2\na 1\nb 3\n",
         writes: &[4, 4, 6, 6, 8],
     },
+    // Lines of each kind, of which one is empty and the last has no line feed.
     Case {
         lines: b"put b 2\nput a 1\nput b 3\nget b\nget c\nfind c\ndel a\ndel a\nall\njson\n\nput c \"\njson",
         most: 7,
@@ -31,6 +32,7 @@ const CASES: [Case<'static>; 3] = [
         answers: b"new\nnew\nold 2\n= 3\nnone\nerr 2\n= 1\nnone\nb 3\n{\"b\":\"3\"}\nnew\n{\"b\":\"3\",\"c\":\"\\\"\"}\n",
         writes: &[4, 4, 6, 4, 5, 6, 4, 5, 4, 10, 4, 19],
     },
+    // Names are put, written as JSON and removed.
     Case {
         lines: b"del a\njson\nput b 2\nput a 1\njson\ndel b\nget b\n",
         most: 7,
@@ -87,6 +89,7 @@ fn is_right_at_each_write(
     true
 }
 
+// An error at each read of a run, the names kept in one vector and in two columns.
 pub(crate) fn each_read_fails(alloc: Global) -> Result<bool, AllocError> {
     let input = vec![in alloc; b'\n'; 10_000]?;
     let long = Case {
@@ -110,6 +113,7 @@ pub(crate) fn each_read_fails(alloc: Global) -> Result<bool, AllocError> {
     Ok(is_right)
 }
 
+// An error at each write of a run, the names kept in one vector and in two columns.
 pub(crate) fn each_write_fails(alloc: Global) -> Result<bool, AllocError> {
     let mut is_right = true;
     for kept in STORES {

@@ -29,10 +29,13 @@ fn no_pair(place: usize) -> FlagsFault {
 pub(crate) fn flags_are_rewritten_or_refused(alloc: Global) -> Result<bool, AllocError> {
     let no_name = FlagsFault::Json(JsonFault::KeyText { place: 0 });
     let rows: [(&[u8], Result<&str, FlagsFault>); 19] = [
+        // Flags in an array and in an object become an object.
         (b"[[false,2],[true,1]]", Ok("{\"false\":2,\"true\":1}")),
         (b"{\"true\":1,\"false\":2}", Ok("{\"false\":2,\"true\":1}")),
+        // No flags become an array.
         (b"[]", Ok("[]")),
         (b"{}", Ok("[]")),
+        // Of equal flags the last one stays.
         (b"[[true,1],[true,5]]", Ok("{\"true\":5}")),
         (
             b"[[true,1],[false,2],[true,3]]",
@@ -41,6 +44,7 @@ pub(crate) fn flags_are_rewritten_or_refused(alloc: Global) -> Result<bool, Allo
         (b" [ [ false , 0 ] ] \n", Ok("{\"false\":0}")),
         (b"{\"true\":4294967295}", Ok("{\"true\":4294967295}")),
         (b"{\"\\u0074rue\":7}", Ok("{\"true\":7}")),
+        // A name that is no flag, a key that is none, and what is no JSON.
         (b"{\"True\":1}", Err(no_name)),
         (b"[[0,1]]", Err(no_key(0))),
         (b"[[true,1],[\"true\",1]]", Err(no_key(1))),

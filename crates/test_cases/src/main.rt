@@ -3,12 +3,15 @@
 //!
 //! `bin/data` writes the modules of examples (`make`, `look`, `entries`, `change`, `stores`, `formats`). The other cases are of
 //! maps: closures that call several keys equal, queries of each kind, constant tables, iterators that lie, the greatest
-//! capacities, stores with a limit, what is printed, and reading; and of the program `names`, over readers and writers in
-//! memory, with its names kept in one vector and in two columns: how much it reads, and an error at each read and each write.
+//! stores with a limit, what is printed, reading, and small maps; and of the program `names`, over readers and writers in memory, with its
+//! names kept in one vector and in two columns: lines with their answers, how much it reads, and a fault at each read and each
+//! write.
+//!
+//! If there is standard input, it is lines of `names` instead, whose names are kept in two columns (`bin/requests`).
 #![tactic(auto)]
 
 // Cases by their names, each with how it came out.
-macro_rules! cases {
+macro_rules! outcomes {
     ($alloc:ident; $($module:ident::$name:ident),+ $(,)?) => {
         [$((stringify!($name), $module::$name($alloc))),+]
     };
@@ -26,19 +29,24 @@ mod flags;
 mod formats;
 mod hints;
 mod limits;
+mod lines;
 mod look;
 mod make;
 mod printing;
 mod queries;
 mod reading;
 mod runs;
+mod small;
 mod stores;
 mod watch;
 
 use days::{Days, Hours};
+use names::{FailAt, Watch};
+use runs::{FAULTS, Kept, NEVER, run_kept};
 use std::alloc::{AllocError, Global};
 use std::error::Error;
 use std::io;
+use std::process::ExitCode;
 
 // The name of a case, and whether all was as it has to be.
 type Case = (&'static str, Result<bool, AllocError>);
@@ -56,12 +64,26 @@ impl<E: Error> From<E> for Failed {
 /// The name of a call, and whether its example came out as it shows.
 pub(crate) type Shown = (&'static str, Result<bool, Failed>);
 
-fn main(rt: HostRuntime) -> io::Result<()> {
+fn main(rt: HostRuntime) -> ExitCode {
+    let mut source = FailAt::new(rt.stdin(), NEVER, FAULTS[0]);
+    let (mut reader, mut writer) = (Watch::new(&mut source), Watch::new(rt.stdout()));
+    let status = run_kept(rt.alloc(), Kept::InTwoColumns, &mut reader, &mut writer);
+    // Where there is no input, one read finds that.
+    if (status, source.calls) != (0, 1) {
+        return ExitCode::from(status);
+    }
+    match cases(&rt) {
+        Ok(()) => ExitCode::SUCCESS,
+        Err(_) => ExitCode::FAILURE,
+    }
+}
+
+fn cases(rt: &HostRuntime) -> io::Result<()> {
     let alloc = rt.alloc();
     let (days, hours) = (days::three_days(alloc)?, days::opening_hours(alloc)?);
-    of_calls(&rt, &days, &hours)?;
-    report(&rt, &of_maps(alloc))?;
-    report(&rt, &of_the_program(alloc))
+    of_calls(rt, &days, &hours)?;
+    report(rt, &of_maps(alloc))?;
+    report(rt, &of_the_program(alloc))
 }
 
 fn of_calls(rt: &HostRuntime, days: &Days, hours: &Hours) -> io::Result<()> {
@@ -74,11 +96,13 @@ fn of_calls(rt: &HostRuntime, days: &Days, hours: &Hours) -> io::Result<()> {
     report(rt, &formats::examples(alloc))
 }
 
-fn of_maps(alloc: Global) -> [Case; 18] {
-    cases! { alloc;
+fn of_maps(alloc: Global) -> [Case; 23] {
+    outcomes! { alloc;
         closures::one_of_the_keys_called_equal_is_found,
         closures::a_closure_compares_with_another_type,
         constants::numbers_of_each_type_are_found,
+        constants::both_ends_of_a_type_are_found,
+        constants::strings_and_bytes_are_found,
         constants::texts_and_bytes_are_compared_with_one_another,
         ends::room_past_the_end_is_refused,
         ends::the_longest_store_grows_no_more,
@@ -94,11 +118,14 @@ fn of_maps(alloc: Global) -> [Case; 18] {
         queries::keys_are_asked_by_slices,
         reading::results_are_read_up_to_the_first_fault,
         reading::calls_are_answered_one_after_another,
+        small::languages_are_found_by_their_codes,
+        small::a_range_has_ranges,
+        small::keys_are_made_by_a_closure,
     }
 }
 
-fn of_the_program(alloc: Global) -> [Case; 9] {
-    cases! { alloc;
+fn of_the_program(alloc: Global) -> [Case; 12] {
+    outcomes! { alloc;
         endless::one_byte_too_many_is_read,
         faults::each_read_fails,
         faults::each_write_fails,
@@ -106,6 +133,9 @@ fn of_the_program(alloc: Global) -> [Case; 9] {
         faults::a_writer_takes_nothing,
         flags::flags_are_rewritten_or_refused,
         flags::long_flags,
+        lines::lines_are_answered,
+        lines::bad_lines_end_the_run,
+        lines::the_longest_input_is_answered,
         watch::a_call_is_one_call,
         watch::a_whole_write_ends_at_a_fault,
     }

@@ -1,4 +1,4 @@
-//! Few new pairs, which stand behind those of a vector, are put in one by one where they stand.
+//! Few new pairs, which stand after those of a vector, are put in one by one where they stand.
 ghost use Rattle.std.specs.Prelude.{◌≡◌, ◌↔◌, ◌<◌, ◌≤◌, ◌+◌, ◌-◌, ◌*◌, IfErr, IfOk, IsTrue, Some, drop, length, slice_get, take};
 ghost use Rattle.std.specs.Prelude.{vec_len};
 ghost use Rattle.litemap_store.specs.Counts.{RisesByAtMost, digits};
@@ -14,16 +14,18 @@ use crate::store::{Count, SliceStore};
 // At most so many pairs are few. Each moves later ones at once, so that so many moves take less time than a merge.
 const FEW_PAIRS: usize = 16;
 
-/// Whether the pairs from an index on are few, and searches for them compare no more than there are pairs.
-pub fn is_few(from: usize, total: usize) -> bool
-    requires { from ≤ total }
-    ensures { IsTrue result → (total - from) * digits total ≤ total }
+/// Whether so many new pairs are few, and searches for them compare no more than there are pairs, old and new.
+pub fn is_few(old: usize, given: usize) -> bool
+    ensures { IsTrue result → given * digits (old + given) ≤ old + given }
 {
-    let given = total - from;
+    let Some(total) = old.checked_add(given) else {
+        return false;
+    };
     given <= FEW_PAIRS && !walk_is_cheaper(total, given, binary_digits(total))
 }
 
-/// Makes few pairs from an index on, below which keys rise, part of the store: of each key the last stays. It takes no memory.
+/// Puts the pairs from an index on, which are few, among those before, whose keys ascend: of each key the last stays. It takes no
+/// memory.
 pub fn settle_few<K: Ord + Drop, V: Drop>(store: &mut Vec<(K, V)>, from: usize, count: &mut Count)
     requires from { from ≤ vec_len store.old }
     requires rising { Rising K.cmp (take from store.old.items) }
@@ -39,7 +41,7 @@ pub fn settle_few<K: Ord + Drop, V: Drop>(store: &mut Vec<(K, V)>, from: usize, 
     put_each(store, from, count);
 }
 
-// Whether all keys rise, where those below an index do.
+// Whether all keys ascend, if those before an index do.
 fn rises_on<K: Ord, V>(pairs: &[(K, V)], from: usize, count: &mut Count) -> bool
     requires from { from ≤ length pairs.now }
     requires rising { Rising K.cmp (take from pairs.now) }
@@ -53,7 +55,7 @@ fn rises_on<K: Ord, V>(pairs: &[(K, V)], from: usize, count: &mut Count) -> bool
     lies_below(&SliceStore::new(old), &SliceStore::new(given), count)
 }
 
-// Puts each pair from an index on in, in their order, by one search. What is given up gathers behind, and is dropped at the end.
+// Puts each pair from an index on in, in their order, by one search. Displaced pairs gather at the end, and are dropped last.
 fn put_each<K: Ord + Drop, V: Drop>(store: &mut Vec<(K, V)>, from: usize, count: &mut Count)
     requires from { from ≤ vec_len store.old }
     requires rising { Rising K.cmp (take from store.old.items) }
@@ -67,7 +69,7 @@ fn put_each<K: Ord + Drop, V: Drop>(store: &mut Vec<(K, V)>, from: usize, count:
     store.truncate(kept);
 }
 
-// Puts the pair at a place in among the first so many, whose number it answers then. An equal key's pair takes its place.
+// Puts the pair at an index in among the first `kept`, and returns how many these are then. It replaces the pair of an equal key.
 fn put_next<K: Ord, V>(pairs: &mut [(K, V)], kept: usize, at: usize, count: &mut Count) -> usize
     requires kept { kept ≤ at }
     requires at { at < length pairs.old }
@@ -89,7 +91,7 @@ fn put_next<K: Ord, V>(pairs: &mut [(K, V)], kept: usize, at: usize, count: &mut
     }
 }
 
-// The place where the key at a place splits the first so many pairs.
+// The index at which the key at another index splits the first `kept` pairs.
 fn place_among<K: Ord, V>(
     pairs: &[(K, V)],
     kept: usize,

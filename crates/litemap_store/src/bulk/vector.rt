@@ -1,5 +1,5 @@
-//! The bodies behind a vector's `lm_extend`: new pairs behind its own become part of it where they stand. Few are put in one by
-//! one; else a merge turns its side vector round, which becomes the store.
+//! The bodies of a vector's `lm_extend` and `lm_extend_from_vec`. Few new pairs are put in one by one, where they stand after its
+//! own. A merge reverses its side vector, which becomes the store.
 ghost use Rattle.std.specs.Prelude.{◌≡◌, ◌⊎◌, ◌≤◌, ◌+◌, ◌*◌, ◌++◌, [], IsOk, OnOk, OnErr, drop, length, take, vec_len};
 ghost use Rattle.litemap_store.specs.Bulk.{IsHandedBack};
 ghost use Rattle.litemap_store.specs.Counts.{RisesByAtMost};
@@ -14,7 +14,7 @@ use crate::store::{Count, SliceStore};
 use std::alloc::{AllocError, Global};
 use std::mem;
 
-/// Makes the pairs from an index on, below which keys rise, part of the store: of each key the last stays. Refused, they go.
+/// Puts the pairs from an index on among those before, whose keys ascend: of each key the last stays. On an error they go.
 pub fn settle<K: Ord + Drop, V: Drop>(
     alloc: Global,
     store: &mut Vec<(K, V)>,
@@ -30,7 +30,7 @@ pub fn settle<K: Ord + Drop, V: Drop>(
     ensures cost { RisesByAtMost (from + 2 * length (drop from store.old.items)) count.old count.new }
     ensures succeeds { Rises K.cmp (take from store.old.items) (drop from store.old.items) → IsOk result }
 {
-    if is_few(from, store.len()) {
+    if is_few(from, store.len() - from) {
         settle_few(store, from, count);
         return Ok(());
     }
@@ -49,8 +49,8 @@ pub fn settle<K: Ord + Drop, V: Drop>(
     merge_in_vec(alloc, store, &mut given, count)
 }
 
-/// Puts the pairs of a vector in, which is left empty: of each key the last pair stays. Where they rise past the last old key
-/// they are put behind in one move; where there is no old one, it is never refused then.
+/// Puts the pairs of a vector in, which is left empty: of each key the last pair stays. If they ascend and come after the last
+/// old key, they are appended in one move; if there is no old one either, it never fails.
 pub fn put_in_vec<K: Ord + Drop, V: Drop>(
     alloc: Global,
     store: &mut Vec<(K, V)>,
@@ -68,6 +68,12 @@ pub fn put_in_vec<K: Ord + Drop, V: Drop>(
     ensures empty { OnOk result (pairs.new.items ≡ []) }
     ensures back { OnErr result (IsHandedBack K.cmp pairs.old.items pairs.new.items) }
 {
+    let from = store.len();
+    if is_few(from, pairs.len()) {
+        append_in_vec(store, pairs)?;
+        settle_few(store, from, count);
+        return Ok(());
+    }
     keep_rising(alloc, pairs, 0, count)?;
     if lies_below(store, pairs, count) {
         return append_in_vec(store, pairs);
@@ -75,7 +81,7 @@ pub fn put_in_vec<K: Ord + Drop, V: Drop>(
     merge_in_vec(alloc, store, pairs, count)
 }
 
-// Puts items behind the others in one move. Where there are none, and no room for the new ones, their vector takes the place.
+// Appends items in one move. If there are none, and the capacity is less than the new ones' number, their vector takes the place.
 fn append_in_vec<T>(store: &mut Vec<T>, items: &mut Vec<T>) -> Result<(), AllocError>
     ensures behind { OnOk result (store.new.items ≡ store.old.items ++ items.old.items) }
     ensures refused { OnErr result (store.new.items ≡ store.old.items) }
@@ -90,7 +96,7 @@ fn append_in_vec<T>(store: &mut Vec<T>, items: &mut Vec<T>) -> Result<(), AllocE
     store.append(items)
 }
 
-// Puts pairs in, by at most one comparison for each pair of both. Room for all pairs is taken first.
+// Puts pairs in, by at most one comparison for each pair of both. Capacity for all pairs is taken first.
 fn merge_in_vec<K: Ord + Drop, V: Drop>(
     alloc: Global,
     store: &mut Vec<(K, V)>,

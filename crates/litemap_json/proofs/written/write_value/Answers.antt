@@ -1,9 +1,9 @@
-use Rattle.std.proofs.Common.{◌≡◌, arith, ap, ◌∙◌, option_and_then, option_map, rules, Some, sym, w64}
+use Rattle.std.proofs.Common.{◌≡◌, arith, ap, ◌∙◌, option_and_then, option_map, rules, Some, string_bytes, sym, w64}
 use mir.Val.{to_z, of_z}
 use Rattle.serde_json.specs.Find.{as_i64, as_number}
 use Rattle.std.proofs.lemmas.Result.{on_ok_weaker}
 use Rattle.serde_json.specs.View.{view}
-use Rattle.litemap_json.proofs.Tokens.{writes_flag, writes_signed, writes_text, writes_unsigned}
+use Rattle.litemap_json.proofs.Tokens.{printable, writes_flag, writes_signed, writes_text, writes_unsigned}
 use Rattle.litemap_json.proofs.written.write_value.Goals as goal
 
 pub returns-in-Some-clause-tree : goal.returns-in-Some-clause-tree
@@ -21,3 +21,6 @@ returns-in-Some-as_i64-clause-tree c =
     let z = to_z w64 (of_z w64 c.in-Some-as_i64.number) in
     let is : option_and_then as_i64 (as_number (view c.args.value.now)) ≡ Some z = search rules in
     on_ok_weaker c.write_signed.result (writes_signed (view c.args.value.now) z c.args.out.now.tokens c.write_signed.new.out.tokens c.write_signed.ensures.kept is) c.write_signed.ensures.token
+
+pub write_tokens-requires : goal.write_tokens-requires
+write_tokens-requires c = grind (arith, printable (string_bytes c.in_ok-text.text) c.in_ok-text.ensures.order.0 c.in_ok-text.ensures.order.1)

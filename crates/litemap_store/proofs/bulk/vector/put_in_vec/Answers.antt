@@ -16,4 +16,4 @@ pub returns-then-lies_below-clause-last : goal.returns-then-lies_below-clause-la
 returns-then-lies_below-clause-last g c =
     let up = Last-rising g.K.Ord.cmp _ (c.lies_below.ensures.below.0 c.if-lies_below.true) in
     let all = Last-join_right g.K.Ord.cmp g.met.K.Ord.total _ _ _ _ c.in_ok-keep_rising.ensures.last up in
-    on_ok_weaker c.append_in_vec.result (λ d. rw d all) c.append_in_vec.ensures.behind
+    on_ok_weaker c.append_in_vec-then-lies_below.result (λ d. rw d all) c.append_in_vec-then-lies_below.ensures.behind

@@ -1,0 +1,75 @@
+//! Lines of the program, whose names are kept in one vector and in two columns.
+use crate::runs::{STORES, run_kept};
+use names::Watch;
+use std::alloc::{AllocError, Global};
+
+// Lines, the output, and the status.
+type Row = (&'static [u8], &'static [u8], u8);
+
+const ROWS: [Row; 5] = [
+    // No input has no output.
+    (b"", b"", 0),
+    // A name is put, looked up, removed and looked up again.
+    (
+        b"put a 1\nget a\ndel a\nget a\n",
+        b"new\n= 1\n= 1\nnone\n",
+        0,
+    ),
+    // An empty line is counted, and a bad line ends the run.
+    (b"put a 1\n\nput a\nall\n", b"new\nbad line 3\n", 2),
+    // A quotation mark and a backslash are escaped in JSON.
+    (
+        b"put a \"\nput b \\\njson\n",
+        b"new\nnew\n{\"a\":\"\\\"\",\"b\":\"\\\\\"}\n",
+        0,
+    ),
+    // A line of JSON takes no word.
+    (b"json x\n", b"bad line 1\n", 2),
+];
+
+// Two spaces, a space in front and one at the end, a word too many, a carriage return, and a letter that is no graphic byte.
+const BAD: [&[u8]; 6] = [
+    b"put  a 1\nall\n",
+    b" get a\nall\n",
+    b"get a \nall\n",
+    b"all x\nall\n",
+    b"all\r\nall\n",
+    b"put a \xc3\xa9\nall\n",
+];
+
+// Whether lines have this output and status, wherever the names are kept.
+fn are_answered(alloc: Global, (lines, output, wanted): (&[u8], &[u8], u8)) -> bool {
+    let mut is_right = true;
+    for kept in STORES {
+        let mut out = Vec::new(alloc);
+        let (mut reader, mut writer) = (Watch::new(lines), Watch::new(&mut out));
+        let status = run_kept(alloc, kept, &mut reader, &mut writer);
+        is_right &= status == wanted && out.as_slice() == output;
+    }
+    is_right
+}
+
+pub(crate) fn lines_are_answered(alloc: Global) -> Result<bool, AllocError> {
+    let mut is_right = true;
+    for row in ROWS {
+        is_right &= are_answered(alloc, row);
+    }
+    Ok(is_right)
+}
+
+// A bad line in front of others ends the run at once.
+pub(crate) fn bad_lines_end_the_run(alloc: Global) -> Result<bool, AllocError> {
+    let mut is_right = true;
+    for lines in BAD {
+        is_right &= are_answered(alloc, (lines, b"bad line 1\n", 2));
+    }
+    Ok(is_right)
+}
+
+pub(crate) fn the_longest_input_is_answered(alloc: Global) -> Result<bool, AllocError> {
+    let input = vec![in alloc; b'\n'; 1_048_577]?;
+    // The longest input, of empty lines, has no output.
+    let longest = are_answered(alloc, (&input[..1_048_576], b"", 0));
+    // One byte more is too long.
+    Ok(longest && are_answered(alloc, (&input, b"input too long\n", 2)))
+}
