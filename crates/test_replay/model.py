@@ -4,6 +4,7 @@ The files data/*.calls have each call of a map and of a store, at lengths around
 answers, the pairs after it, and how often it compares two keys at most. Nothing here runs the code under test. The cases of
 data/rows are written by hand there, without answers.
 """
+import bisect
 import itertools
 import pathlib
 import re
@@ -11,7 +12,7 @@ import re
 FOLDER = pathlib.Path(__file__).resolve().parent
 STEP = 1099511628211
 # Around what the libraries treat in another way: none, one, a sort without memory, a vector's first room, and more.
-LENGTHS = [0, 1, 2, 3, 4, 5, 8, 9, 12, 16, 17, 20, 21, 24, 30, 33, 65, 100, 129, 513, 1000]
+LENGTHS = [0, 1, 2, 3, 4, 5, 7, 8, 9, 12, 16, 17, 20, 21, 24, 30, 33, 65, 100, 129, 513, 1000]
 GROWING = "vec columns short"
 ALL = GROWING + " fixed"
 
@@ -21,6 +22,14 @@ def digits(number):
     return number.bit_length()
 
 
+def summed(total, text):
+    """A sum, with the bytes of a text put to it."""
+    for byte in text.encode():
+        total = (total ^ byte) * STEP % 2**64
+        total ^= total >> 29
+    return total
+
+
 class Order:
     """How the words of keys are read, and where they stand."""
 
@@ -28,7 +37,7 @@ class Order:
         self.name = name
 
     def code(self, word):
-        if self.name in ("number", "falling", "same"):
+        if self.name in ("number", "falling"):
             return int(word)
         return int.from_bytes(word.encode().ljust(8, b"\0"), "big")
 
@@ -65,7 +74,7 @@ class Model:
     def place(self, key):
         """How many keys are smaller, and whether an equal one is there."""
         rank = self.order.rank
-        below = sum(rank(k) < rank(key) for k, _ in self.pairs)
+        below = bisect.bisect_left(self.pairs, rank(key), key=lambda pair: rank(pair[0]))
         return below, below < len(self.pairs) and rank(self.pairs[below][0]) == rank(key)
 
     def last(self, pairs):
@@ -126,12 +135,27 @@ class Model:
     def make(self, call):
         """Makes a call: what it answers, and how often it compares at most (None: as often as it likes)."""
         name, *words = call.split(" ")
+        if name == "sweep":
+            return self.sweep(*words)
         search = digits(len(self.pairs))
         for group in [self.look, self.by_key, self.put_in, self.enter, self.take, self.walk, self.many]:
             answer = group(name, words, search)
             if answer is not None:
                 return answer if isinstance(answer, tuple) else (answer, 0)
         raise ValueError(call)
+
+    def sweep(self, name, *words):
+        """Makes a call of each key and each gap: a sum of what it answers and leaves of the key, and how often one compares at most."""
+        pairs, room, most, total = self.pairs, self.room, 0, 0
+        for code in map(str, range(1, 2 * len(pairs) + 2)):
+            self.pairs, self.room = list(pairs), room
+            answer, cost = self.make(" ".join([name, code, *words]))
+            if not name.startswith("lm_"):
+                place, there = self.place(code)
+                answer += f" {self.pairs[place][1] if there else 'none'} {len(self.pairs)}"
+            most, total = max(most, cost), summed(total, answer)
+        self.pairs, self.room = pairs, room
+        return f"swept {total % 10**9}", most
 
     def pair_at(self, index):
         return self.text([self.pairs[index]]) if -1 <= index < len(self.pairs) and self.pairs else "none"
@@ -229,13 +253,15 @@ class Model:
         return (f"{refused or (f'{place} {value}' if 'get' in name else place)} asked 1"), search
 
     def enter(self, name, words, search):
-        if name not in ENTRIES:
+        if name not in ENTRIES + TWICE:
             return None
         key, value = words[0], int(words[1]) if len(words) > 1 else 0
         place, there = self.place(key)
         if name == "entry_debug":
             stored, old = self.pairs[place] if there else (key, 0)
             return (f"OccupiedEntry {{ key: {stored}, value: {old} }}" if there else f"VacantEntry {{ key: {key} }}"), search
+        if "_then_" in name:
+            return self.enter_twice(name, place, there, value), search
         if name == "entry":
             return (f"occupied {self.pairs[place][0]}" if there else f"vacant {key}"), search
         if name in ("entry_get", "entry_remove") and not there:
@@ -261,6 +287,17 @@ class Model:
         old = value if name == "and_modify" else old
         self.pairs[place] = (stored, old + 1)
         return f"{old}{asked}", search
+
+    def enter_twice(self, name, place, there, value):
+        """Two calls of one entry."""
+        if not there:
+            return "vacant"
+        key, old = self.pairs.pop(place)
+        if name.endswith("remove"):
+            self.freed()
+        else:
+            self.pairs.insert(place, (key, value + 1))
+        return f"{old} {value}"
 
     def take(self, name, words, search):
         if name in ("remove", "remove_counted", "remove_by", "remove_entry"):
@@ -312,6 +349,8 @@ class Model:
             front, back = map(int, words)
             ahead, behind = self.pairs[:front], self.pairs[max(front, len(self.pairs) - back) :][::-1]
             return self.text(part(name, pair) for pair in ahead + behind) + " exact"
+        if name == "keys_in_turns":
+            return self.keys_in_turns(words)
         if name == "into_iter":
             text, self.pairs = self.text(self.pairs[: int(words[0])]), []
             return text + " exact"
@@ -324,6 +363,14 @@ class Model:
         if name == "lm_try_clone":
             return self.text(self.pairs)
         return None
+
+    def keys_in_turns(self, words):
+        """The keys that words ask for, from either end, or how many are left."""
+        left, answers = [key for key, _ in self.pairs], []
+        for word in words:
+            key = left.pop(0 if word == "next" else -1) if left and word != "len" else "none"
+            answers.append(str(len(left)) if word == "len" else key)
+        return " ".join(answers)
 
     def cost(self, pairs):
         """How often bulk input is compared at most: None where it has to be sorted."""
@@ -359,9 +406,9 @@ class Model:
             place, _ = self.place(words[0])
             self.pairs, later = self.pairs[:place], self.pairs[place:]
             return self.text(later), search
-        pairs = self.given(words)
         if name in RUNS:
-            return self.run(pairs)
+            return self.run(words)
+        pairs = self.given(words)
         if name in (*MAKES, "read_results", "lm_sort_from_iter", "lm_sort_from_vec"):
             cost = len(pairs) if self.rises(pairs) else None
             self.pairs = self.last(pairs)
@@ -370,7 +417,9 @@ class Model:
             self.pairs = pairs
             return "ok"
         if name in EXTENSIONS:
-            return self.extend(pairs)
+            return self.extend(name, pairs)
+        if name == "extend_from_clone":
+            return self.merge(self.pairs)
         if name in ("extend_from_litemap", "extend_from_litemap_counted"):
             return self.merge(self.last(pairs))
         if name in COMBINES:
@@ -392,12 +441,12 @@ class Model:
         self.pairs.insert(index, (words[0], int(words[1])))
         return "ok"
 
-    def extend(self, pairs):
+    def extend(self, name, pairs):
         cost = self.cost(pairs)
         fresh = self.last(pairs)
         above = not self.pairs or not fresh or self.order.rank(self.pairs[-1][0]) < self.order.rank(fresh[0][0])
         if above and not self.taken(len(fresh)):
-            return "refused", cost
+            return "refused" + (f" {self.text(pairs)}" if "_vec" in name else ""), cost
         self.pairs = self.last(self.pairs + pairs)
         return "ok", cost
 
@@ -443,13 +492,43 @@ class Model:
         self.pairs = self.last(start + pairs)
         return f"ok asked {len(pairs) + 1}", cost
 
-    def run(self, pairs):
-        made, answers = Model(self.order), []
-        for key, value in pairs:
-            place, there = made.place(key)
-            answers.append(f"Value(Some({made.pairs[place][1]}))" if there else "Value(None)")
-            made.pairs = made.last([*made.pairs, (key, value)])
-        return f"[{', '.join(answers)}] {made.look('debug', [], 0)}", len(pairs) * digits(len(pairs))
+    def run(self, words):
+        """A list of calls of an empty map: their answers, and the map."""
+        made = Model(self.order)
+        answers = [made.step(word)[0] for word in words]
+        is_put = all(word.startswith("insert:") for word in words)
+        return f"[{', '.join(answers)}] {made.look('debug', [], 0)}", len(words) * digits(len(words)) if is_put else None
+
+    def step(self, word):
+        """Makes a call of a list: what it answers, and what it answers where memory is refused, if it may ask for some."""
+        kind, _, rest = word.partition(":")
+        if kind in ("insert", "try_insert", "try_append"):
+            return self.step_put(kind, *rest.split(":"))
+        if kind in ("extend", "reserve", "clear"):
+            self.pairs = self.last([*self.pairs, *self.given(rest.split("+"))]) if kind == "extend" else [] if kind == "clear" else self.pairs
+            return "Done", None if kind == "clear" else "NoRoom(None)"
+        if kind in ("len", "value_at"):
+            index = int(rest or 0)
+            value = f"Some({self.pairs[index][1]})" if index < len(self.pairs) else "None"
+            return (f"Number({len(self.pairs)})" if kind == "len" else f"Value({value})"), None
+        place, there = self.place(rest)
+        if kind == "find":
+            return f"Place({'Ok' if there else 'Err'}({place}))", None
+        if kind == "contains":
+            return f"Flag({'true' if there else 'false'})", None
+        value = f"Some({self.pairs[place][1]})" if there else "None"
+        self.pairs = [pair for at, pair in enumerate(self.pairs) if kind == "get" or not there or at != place]
+        return f"Value({value})", None
+
+    def step_put(self, kind, key, value):
+        place, there = self.place(key)
+        if kind == "insert" and there:
+            self.pairs[place], old = (self.pairs[place][0], int(value)), self.pairs[place][1]
+            return f"Value(Some({old}))", None
+        if there or kind == "try_append" and place < len(self.pairs):
+            return f"Back(Some(({key}, {value})))", None
+        self.pairs.insert(place, (key, int(value)))
+        return ("Value(None)" if kind == "insert" else "Back(None)"), f"NoRoom(Some(({key}, {value})))"
 
     def compare(self, name, other):
         mine = [(self.order.rank(key), value) for key, value in self.pairs]
@@ -468,6 +547,7 @@ PUTS = ["insert", "insert_counted", "try_insert", "try_append", "try_get_or_inse
 PUTS += ["try_get_or_fail", "try_find_or_fail"]
 ENTRIES = ["or_insert", "or_insert_with", "and_modify", "entry_insert", "entry_get_mut", "entry_into_mut"]
 ENTRIES += ["or_default", "entry", "entry_get", "entry_remove", "entry_debug"]
+TWICE = [f"entry_{first}_then_{last}" for first in ("insert", "get_mut") for last in ("remove", "into_mut")]
 EXTENSIONS = ["extend", "extend_counted", "extend_from_vec", "extend_from_vec_counted", "lm_extend", "lm_extend_from_vec"]
 # How many clones each conversion makes of a pair.
 CONVERSIONS = {"try_clone": 2, "to_boxed_keys_values": 2, "to_boxed_keys": 2, "to_boxed_values": 2, "to_keys_by": 1}
@@ -481,8 +561,11 @@ def part(name, pair):
 
 def line(model, call, mark=""):
     """The line of a call, which changes the model."""
+    *first, last = call.split("; ")
+    for earlier in first:
+        model.make(earlier)
     before = list(model.pairs)
-    answer, cost = model.make(call)
+    answer, cost = model.make(last)
     after = "same" if model.pairs == before else model.text(model.pairs)
     return f"{mark}{call} = {answer} | {after} | {'*' if cost is None else cost}"
 
@@ -575,7 +658,8 @@ def changes():
         writes += [f"{name} {key}" for name in TAKES for key in keys(length)]
         writes += ["pop_first", "pop_last", "clear", "update 5", "reserve 0", "reserve 1"]
         writes += [f"retain {bits}" for bits in RETAINED]
-        yield from block(ALL, length, 1, calls + writes, is_fixed=False)
+        twice = [f"{name} {key} 7" for name in TWICE for key in present(length) + absent(length)]
+        yield from block(ALL, length, 1, calls + writes + twice, is_fixed=False)
         yield from block(GROWING, length, 0, calls + writes + [f"reserve {more}" for more in (2, 8, 100)])
         yield from block("fixed", length, 0, calls + writes[:-8] + ["reserve 0", "reserve 1"], is_fixed=True)
 
@@ -616,7 +700,7 @@ def bulk():
         if length in (0, 5, 30):
             made = [f"{name} {pairs}".strip() for name in MAKES for pairs in given]
             yield from block(ALL, length, 0, made + ["new", "with_capacity 0", "with_capacity 1", "with_capacity 16", "with_capacity 100", "with_capacity 100000"])
-            hints = [0, 1, 3, 17, 2**40, 2**63, 2**64 - 1]
+            hints = [0, 1, 3, 17, 65536, 65537, 2**40, 2**63, 2**64 - 1]
             errors = [f"{name} {hint} {error} 1,5,2" for name in READS for hint in hints for error in ("-", 0, 1, 4, 5)]
             yield from block(GROWING, length, 0, errors)
     above = [f"{name} 1001,{count},1" for name in EXTENSIONS[:4] for count in (0, 1, 2, 40)]
@@ -692,7 +776,8 @@ def listed():
     for length in [*range(41), 100, 129, 513]:
         given = [f"1,{length},1", f"{2 * length},{length},-2", f"1,{length},3 2,{length},1"]
         yield from block(GROWING, 3, 0, [f"read_results {pairs}" for pairs in given])
-        yield from block("vec", 3, 0, [f"{name} {pairs}" for name in RUNS for pairs in given] if length <= 40 else [])
+        lists = [" ".join(f"insert:{key}:{value}" for key, value in Model(Order("number")).given(pairs.split(" "))) for pairs in given]
+        yield from block("vec", 3, 0, [f"{name} {calls}".strip() for name in RUNS for calls in lists] if length <= 40 else [])
 
 
 def scattered():
@@ -780,7 +865,7 @@ def twenty():
     put = [f"insert {pair.replace(':', ' ')}" for pair in OTHERS]
     steps = [*append, *look, *back, *look, *put, *look]
     evens, whole, merge = f"retain {0xF697}", " ".join(every), "extend_from_litemap"
-    changes = [f"{merge} {whole}", evens, f"{merge} {whole}", evens, f"extend {whole}", "remove 175", "remove 176", f"retain {0xAAAAA}"]
+    changes = ["extend_from_clone", f"{merge} {whole}", evens, f"{merge} {whole}", evens, f"extend {whole}", "remove 175", "remove 176", f"retain {0xAAAAA}"]
     changes += [" ".join([merge, *pairs]) for pairs in (every[::2], ["900:1", "901:2"], ["1:1", "2:2"], OTHERS[::-1], [])]
     changes += ["retain 1048575", "extend " + " ".join(OTHERS), "try_clone", "clear"]
     searched = itertools.chain.from_iterable([change, *look, "clone", *look] for change in changes)
@@ -805,7 +890,7 @@ class Generator:
 WORDS = {
     "number": [str(number) for number in range(30)],
     "falling": [str(number) for number in range(30)],
-    "same": ["1", "2", "3"],
+    "same": ["p", "q", "r"],
     "letter": list("AbCdEfGhIjKlMnOpQrStUvWxYzaBcD"),
     "text": "a aa ab aba b ba bab c ca d de def e f fa faa fab g h ha i j k l m n é ä ж 0".split(),
     "length": "a z aa zz é long longer texts".split(),
@@ -843,17 +928,18 @@ def picked():
 
 
 def rows():
-    """The cases written by hand, each a paragraph: comments, its stores, order and room, and its calls."""
+    """The cases written by hand, each a paragraph: comments, its stores, order and room, and its calls, which may begin anew."""
     for case in (FOLDER / "rows").read_text(encoding="utf-8").strip().split("\n\n"):
         lines = case.split("\n")
         yield from (text for text in lines if text.startswith("#"))
         lines = [text for text in lines if not text.startswith("#")]
         if not lines:
             continue
-        names, order, room = lines[0].split()
+        names, order, room, *anew = lines[0].split()
         for name in ALL.split() if names == "all" else names.split(","):
             is_fixed = name == "fixed"
-            yield from chain(name, lines[1:], order, int(room), is_fixed)
+            made = block(name, 0, int(room), lines[1:], order, is_fixed) if anew else chain(name, lines[1:], order, int(room), is_fixed)
+            yield from made
 
 
 # Calls that no line makes, and what runs them.

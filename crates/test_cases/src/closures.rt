@@ -52,7 +52,7 @@ pub(crate) fn one_of_the_keys_called_equal_is_found(alloc: Global) -> Result<boo
 pub(crate) fn a_closure_compares_with_another_type(alloc: Global) -> Result<bool, AllocError> {
     let map: VecMap<String, u8> = LiteMap::from_iter(
         alloc,
-        [("c".to_string(alloc)?, 0), ("a".to_string(alloc)?, 0)],
+        [("c".to_string(alloc)?, 3), ("a".to_string(alloc)?, 1)],
     )?;
     let mut is_right = true;
     for (text, place) in [

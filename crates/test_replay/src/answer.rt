@@ -109,6 +109,12 @@ impl Answer {
         }
     }
 
+    /// Writes the pairs that came back.
+    pub fn refused(&mut self, pairs: Pairs) {
+        self.word("refused");
+        self.show(pairs);
+    }
+
     /// Writes a pair that had no room.
     pub fn no_room(&mut self, refused: NoRoom<(Key, Value)>) {
         let (key, value) = refused.back;
@@ -202,7 +208,7 @@ impl Pairs {
 }
 
 // What the sum is multiplied by.
-const STEP: u64 = 1_099_511_628_211;
+pub(crate) const STEP: u64 = 1_099_511_628_211;
 
 impl Debug for Pairs {
     fn fmt<W: Write>(&self, f: &mut Formatter<W>) -> fmt::Result {

@@ -1,6 +1,6 @@
 //! A map and a store of one kind, of which lines make calls.
-use crate::answer::{Answer, Pairs};
-use crate::call::{Call, Map};
+use crate::answer::{Answer, Pairs, STEP};
+use crate::call::{Call, Made, Map};
 use crate::counted::{Key, Value};
 use crate::line::Line;
 use crate::stores;
@@ -62,11 +62,16 @@ impl<S: Tested<Key, Value>> Bench<S> {
         line: &Line<'_>,
         start: Start,
         call: &Call<'_>,
+        to: &mut Answer,
     ) -> Result<Before, AllocError> {
         if line.goes_on {} else if line.is_of_store() {
             self.store = store_of(call, start.len, start.capacity)?;
         } else {
             self.map = map_of(call, start.len, start.capacity)?;
+        }
+        if let Some(calls) = line.set_up {
+            self.set_up(calls, line, call, to)?;
+            to.clear();
         }
         Ok(Before {
             pairs: self.pairs(line),
@@ -75,8 +80,96 @@ impl<S: Tested<Key, Value>> Bench<S> {
         })
     }
 
+    // Makes the calls before that of a line.
+    fn set_up(
+        &mut self,
+        calls: &str,
+        line: &Line<'_>,
+        call: &Call<'_>,
+        to: &mut Answer,
+    ) -> Result<(), AllocError> {
+        for text in calls.split("; ") {
+            let words: Vec<&str> = text.split(' ').collect(call.alloc)?;
+            let name = words.first().copied().unwrap_or("");
+            let earlier = call.another(name, words.get(1..).unwrap_or(&[]));
+            self.one(line, &earlier, to);
+        }
+        Ok(())
+    }
+
     /// Makes the call of a line, if every store has it.
     pub fn call(&mut self, line: &Line<'_>, call: &Call<'_>, to: &mut Answer) -> bool {
+        if call.name == "sweep" {
+            self.sweep(line, call, to).is_some()
+        } else {
+            self.one(line, call, to)
+        }
+    }
+
+    // Makes a call of each key that is there and of each in a gap, after which the list is put back. The answer is a sum of all
+    // answers; the comparisons are those of the call that made the most.
+    fn sweep(&mut self, line: &Line<'_>, call: &Call<'_>, to: &mut Answer) -> Made {
+        let (mut most, mut sum) = (0u32, 0u64);
+        let codes = self.pairs(line).len().wrapping_mul(2).wrapping_add(2);
+        for code in 1..codes {
+            most = most.max(self.sweep_key(line, call, code, to)?);
+            sum = summed(sum, to.text());
+        }
+        to.clear();
+        to.word("swept");
+        to.show(sum % 1_000_000_000);
+        call.seen.compared.set(most);
+        Some(())
+    }
+
+    // Makes a call of a key: how often it compares.
+    fn sweep_key(
+        &mut self,
+        line: &Line<'_>,
+        call: &Call<'_>,
+        code: u64,
+        to: &mut Answer,
+    ) -> Option<u32> {
+        let text = format!(in call.alloc; "{code}").ok()?;
+        let words = [text.as_str(), call.words.get(1).copied().unwrap_or("")];
+        let one = call.another(call.words.first().copied()?, &words);
+        let key = one.key(0)?;
+        let old = self.map.get(&key).map(Value::number);
+        to.clear();
+        call.seen.compared.set(0);
+        if !self.one(line, &one, to) {
+            return None;
+        }
+        let compared = call.seen.compared.get();
+        if !line.is_of_store() {
+            self.put_back(key, old, call, to)?;
+        }
+        Some(compared)
+    }
+
+    // Writes what there is of a key after a call, and puts back what there was before.
+    fn put_back(
+        &mut self,
+        key: Key,
+        old: Option<u64>,
+        call: &Call<'_>,
+        to: &mut Answer,
+    ) -> Option<()> {
+        to.some(self.map.get(&key));
+        to.show(self.map.len());
+        match old {
+            Some(number) => {
+                let value = Value::new(number, call.seen).ok()?;
+                self.map.insert(key, value).ok()?;
+            }
+            None => {
+                self.map.remove(&key);
+            }
+        }
+        Some(())
+    }
+
+    fn one(&mut self, line: &Line<'_>, call: &Call<'_>, to: &mut Answer) -> bool {
         if line.is_of_store() {
             stores::call(&mut self.store, call, to)
         } else {
@@ -124,4 +217,14 @@ impl<S: Tested<Key, Value>> Bench<S> {
             Pairs::of_map(&self.map)
         }
     }
+}
+
+// A sum, with the bytes of a text put to it.
+fn summed(sum: u64, text: &str) -> u64 {
+    let mut sum = sum;
+    for byte in text.bytes() {
+        sum = (sum ^ byte as u64).wrapping_mul(STEP);
+        sum ^= sum >> 29;
+    }
+    sum
 }

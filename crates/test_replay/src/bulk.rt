@@ -5,11 +5,11 @@ ghost use Rattle.std.specs.Vec.Iter.{into_iter_items};
 use crate::answer::{Answer, Pairs};
 use crate::call::{Call, Made, Map, Pair};
 use crate::counted::{Key, Value};
+use crate::lists;
 use crate::tested::Tested;
 use litemap::LiteMap;
-use litemap::store::{Count, NoRoom, Store, StoreBulkMut};
+use litemap::store::{Count, NoRoom, Store};
 use litemap_columns::ColumnStore;
-use litemap_read::laws::{self, run_calls};
 use litemap_read::{PairSource, ReadFault, extend_from_source, read_pairs, read_results};
 use std::alloc::AllocError;
 use std::cell::Cell;
@@ -20,12 +20,14 @@ pub fn gather<S: Tested<Key, Value>>(map: &mut Map<S>, call: &Call<'_>, to: &mut
     renew(map, call, to).is_some()
         || split_off(map, call, to).is_some()
         || make(map, call, to).is_some()
+        || make_from_vec(map, call, to).is_some()
         || extend(map, call, to).is_some()
+        || extend_from_vec(map, call, to).is_some()
         || merge(map, call, to).is_some()
         || combine(map, call, to).is_some()
         || go_beside(map, call, to).is_some()
         || read(map, call, to).is_some()
-        || run(call, to).is_some()
+        || lists::run(call, to).is_some()
 }
 
 // A map with no pair replaces the old one, or its clone does.
@@ -47,10 +49,6 @@ fn make<S: Tested<Key, Value>>(map: &mut Map<S>, call: &Call<'_>, to: &mut Answe
     let made = match call.name {
         "from_iter" => LiteMap::from_iter(call.alloc, pairs),
         "from_iter_counted" => LiteMap::from_iter_counted(call.alloc, pairs, &mut count),
-        "from_vec" => LiteMap::from_vec(call.alloc, pairs).map_err(AllocError::from),
-        "from_vec_counted" => {
-            LiteMap::from_vec_counted(call.alloc, pairs, &mut count).map_err(AllocError::from)
-        }
         "read_results" => {
             let results = pairs.into_iter().map(|pair| Ok::<_, u8>(pair));
             read_results(call.alloc, results).map_err(|_| AllocError)
@@ -61,30 +59,70 @@ fn make<S: Tested<Key, Value>>(map: &mut Map<S>, call: &Call<'_>, to: &mut Answe
     Some(())
 }
 
+// The same of a vector, whose pairs come back if memory runs out.
+fn make_from_vec<S: Tested<Key, Value>>(
+    map: &mut Map<S>,
+    call: &Call<'_>,
+    to: &mut Answer,
+) -> Made {
+    let (pairs, mut count) = (call.pairs(0)?, Count::new());
+    call.begin();
+    let made = match call.name {
+        "from_vec" => LiteMap::from_vec(call.alloc, pairs),
+        "from_vec_counted" => LiteMap::from_vec_counted(call.alloc, pairs, &mut count),
+        _ => return None,
+    };
+    match made {
+        Ok(made) => {
+            *map = made;
+            to.word("ok");
+        }
+        Err(refused) => to.refused(Pairs::of_slice(refused.back.as_slice())),
+    }
+    Some(())
+}
+
 fn extend<S: Tested<Key, Value>>(map: &mut Map<S>, call: &Call<'_>, to: &mut Answer) -> Made {
     let (pairs, mut count) = (call.pairs(0)?, Count::new());
     call.begin();
     to.room(match call.name {
         "extend" => map.extend(call.alloc, pairs),
         "extend_counted" => map.extend_counted(call.alloc, pairs, &mut count),
-        "extend_from_vec" => map
-            .extend_from_vec(call.alloc, pairs)
-            .map_err(AllocError::from),
-        "extend_from_vec_counted" => {
-            map.extend_from_vec_counted(call.alloc, pairs, &mut count)
-                .map_err(AllocError::from)
-        }
         _ => return None,
     });
     Some(())
 }
 
+// The same of a vector, whose pairs come back if memory runs out.
+fn extend_from_vec<S: Tested<Key, Value>>(
+    map: &mut Map<S>,
+    call: &Call<'_>,
+    to: &mut Answer,
+) -> Made {
+    let (pairs, mut count) = (call.pairs(0)?, Count::new());
+    call.begin();
+    let extended = match call.name {
+        "extend_from_vec" => map.extend_from_vec(call.alloc, pairs),
+        "extend_from_vec_counted" => map.extend_from_vec_counted(call.alloc, pairs, &mut count),
+        _ => return None,
+    };
+    match extended {
+        Ok(()) => to.word("ok"),
+        Err(refused) => to.refused(Pairs::of_slice(refused.back.as_slice())),
+    }
+    Some(())
+}
+
+// The merges with a map of the pairs, or with a clone of the map.
 fn merge<S: Tested<Key, Value>>(map: &mut Map<S>, call: &Call<'_>, to: &mut Answer) -> Made {
     let pairs = call.pairs(0)?;
-    let other: Map<S> = LiteMap::from_vec(call.alloc, pairs).ok()?;
+    let other: Map<S> = match call.name {
+        "extend_from_clone" => map.try_clone(call.alloc).ok()?,
+        _ => LiteMap::from_vec(call.alloc, pairs).ok()?,
+    };
     call.begin();
     let merged = match call.name {
-        "extend_from_litemap" => map.extend_from_litemap(call.alloc, other),
+        "extend_from_litemap" | "extend_from_clone" => map.extend_from_litemap(call.alloc, other),
         "extend_from_litemap_counted" => {
             map.extend_from_litemap_counted(call.alloc, other, &mut Count::new())
         }
@@ -101,8 +139,11 @@ fn show_merged<'a, S: Tested<Key, Value>>(
 ) {
     match merged {
         Ok(None) => to.word("none"),
-        Ok(Some(left)) => show_map("left", &left, to),
-        Err(refused) => show_map("refused", &refused.back, to),
+        Ok(Some(left)) => {
+            to.word("left");
+            to.show(Pairs::of_map(&left));
+        }
+        Err(refused) => to.refused(Pairs::of_map(&refused.back)),
     }
 }
 
@@ -157,11 +198,6 @@ fn go_beside<S: Tested<Key, Value>>(map: &mut Map<S>, call: &Call<'_>, to: &mut 
     Some(())
 }
 
-fn show_map<S: Store<Key, Value>>(word: &str, map: &Map<S>, to: &mut Answer) {
-    to.word(word);
-    to.show(Pairs::of_map(map));
-}
-
 fn split_off<S: Tested<Key, Value>>(map: &mut Map<S>, call: &Call<'_>, to: &mut Answer) -> Made {
     if call.name != "split_off" {
         return None;
@@ -206,38 +242,6 @@ fn read<S: Tested<Key, Value>>(map: &mut Map<S>, call: &Call<'_>, to: &mut Answe
     }
     to.word("asked");
     to.show(source.asked);
-    Some(())
-}
-
-// Puts pairs into a map beside this one by a list of calls: over a vector, or over two columns.
-fn run(call: &Call<'_>, to: &mut Answer) -> Made {
-    match call.name {
-        "run_calls" => run_list::<Vec<(Key, u64)>>(call, to),
-        "run_calls_in_columns" => run_list::<ColumnStore<Key, u64>>(call, to),
-        _ => None,
-    }
-}
-
-// What the calls of a list returned, and the map; or the list, if memory ran out.
-fn run_list<S: StoreBulkMut<Key, u64>>(call: &Call<'_>, to: &mut Answer) -> Made {
-    let mut list = Vec::new(call.alloc);
-    for (key, value) in call.pairs(0)? {
-        list.push(laws::Call::Insert(key, value.number())).ok()?;
-    }
-    let mut map: LiteMap<Key, u64, S> = LiteMap::with_capacity(call.alloc, 0).ok()?;
-    call.begin();
-    let ran = run_calls(call.alloc, &mut map, list);
-    call.end();
-    match ran {
-        Ok(answers) => {
-            to.show(answers);
-            to.show(map);
-        }
-        Err(refused) => {
-            to.word("refused");
-            to.show(refused.back);
-        }
-    }
     Some(())
 }
 

@@ -38,7 +38,19 @@ const END: usize = 1_000_033;
 
 const IDLE: usize = 1_000_063;
 
-impl Call<'_> {
+impl<'w> Call<'w> {
+    /// Another call by this name and these words, which tells nothing.
+    pub fn another(&self, name: &'w str, words: &'w [&'w str]) -> Call<'w> {
+        Call {
+            alloc: self.alloc,
+            seen: self.seen,
+            order: self.order,
+            is_marked: false,
+            name,
+            words,
+        }
+    }
+
     /// Tells that the call comes next: what was seen before it is forgotten.
     pub fn begin(&self) {
         self.seen.compared.set(0);
@@ -78,8 +90,12 @@ impl Call<'_> {
 
     /// The key that a word spells.
     pub fn key(&self, place: usize) -> Option<Key> {
-        let code = self.order.code(self.word(place)?)?;
-        Key::new(self.order, code, self.seen).ok()
+        self.key_of(self.word(place)?)
+    }
+
+    /// The key of a word.
+    pub fn key_of(&self, word: &str) -> Option<Key> {
+        Key::new(self.order, self.order.code(word)?, self.seen).ok()
     }
 
     /// The pair that two words spell.

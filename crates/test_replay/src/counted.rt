@@ -44,7 +44,7 @@ pub enum Order {
     Number,
     /// Numbers, the greatest one first.
     Falling,
-    /// Numbers that are all equal.
+    /// Texts that are all equal.
     Same,
     /// Letters, whose case is ignored.
     Letter,
@@ -71,8 +71,8 @@ impl Order {
     // What a word tells: a number, or the bytes of a string from the highest one on.
     pub(crate) fn code(self, word: &str) -> Option<u64> {
         match self {
-            Order::Number | Order::Falling | Order::Same => word.parse().ok(),
-            Order::Letter | Order::Text | Order::Length => code_of_text(word),
+            Order::Number | Order::Falling => word.parse().ok(),
+            Order::Same | Order::Letter | Order::Text | Order::Length => code_of_text(word),
         }
     }
 
@@ -228,7 +228,7 @@ impl Debug for Key {
 
 /// Writes the word of a key.
 pub(crate) fn write_code<W: Write>(f: &mut W, order: Order, code: u64) -> fmt::Result {
-    if matches!(order, Order::Number | Order::Falling | Order::Same) {
+    if matches!(order, Order::Number | Order::Falling) {
         return write!(f, "{code}");
     }
     match str::from_utf8(&code.to_be_bytes()) {

@@ -20,6 +20,7 @@ pub fn enter<S: StoreMut<Key, Value>>(map: &mut Map<S>, call: &Call<'_>, to: &mu
     one_key(map, call, to).is_some()
         || put(map, call, to).is_some()
         || of_one_kind(map, call, to).is_some()
+        || twice(map, call, to).is_some()
 }
 
 fn one_key<S: StoreMut<Key, Value>>(map: &mut Map<S>, call: &Call<'_>, to: &mut Answer) -> Made {
@@ -103,6 +104,27 @@ fn of_one_kind<S: StoreMut<Key, Value>>(
             "entry_get_mut" => to.show(entry.get_mut().write(value.number())),
             _ => to.show(entry.into_mut().write(value.number())),
         },
+    }
+    Some(())
+}
+
+// Two calls of one occupied entry: its value is written by `insert` or `get_mut`, and then taken out, or written again.
+fn twice<S: StoreMut<Key, Value>>(map: &mut Map<S>, call: &Call<'_>, to: &mut Answer) -> Made {
+    let (first, last) = call.name.strip_prefix("entry_")?.split_once("_then_")?;
+    let (key, value) = call.pair(0)?;
+    let Entry::Occupied(mut entry) = map.entry(key) else {
+        to.word("vacant");
+        return Some(());
+    };
+    match first {
+        "insert" => to.show(entry.insert(value)),
+        "get_mut" => to.show(entry.get_mut().write(value.number())),
+        _ => return None,
+    }
+    match last {
+        "remove" => to.show(entry.remove()),
+        "into_mut" => to.show(raised(entry.into_mut())),
+        _ => return None,
     }
     Some(())
 }

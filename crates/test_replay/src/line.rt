@@ -5,6 +5,10 @@
 pub struct Line<'t> {
     /// Whether it is made of what the line before left.
     pub goes_on: bool,
+    /// The whole call, as it is written.
+    pub text: &'t str,
+    /// The calls that are made before it, if there are some.
+    pub set_up: Option<&'t str>,
     /// The call and its words.
     pub call: &'t str,
     /// What it returns, and the pairs after it.
@@ -16,7 +20,8 @@ pub struct Line<'t> {
 impl Line<'_> {
     /// Whether it is a call of a store, and not of a map.
     pub fn is_of_store(&self) -> bool {
-        self.call.starts_with("lm_") || self.call == "is_sorted_store"
+        let call = self.call.strip_prefix("sweep ").unwrap_or(self.call);
+        call.starts_with("lm_") || call == "is_sorted_store"
     }
 }
 
@@ -28,9 +33,13 @@ pub fn parse(text: &str) -> Option<Line<'_>> {
         "*" => None,
         number => Some(number.parse().ok()?),
     };
+    let text = call.strip_prefix("+ ").unwrap_or(call);
+    let parts = text.rsplit_once("; ");
     Some(Line {
         goes_on: call.starts_with("+ "),
-        call: call.strip_prefix("+ ").unwrap_or(call),
+        text,
+        set_up: parts.map(|(set_up, _)| set_up),
+        call: parts.map_or(text, |(_, call)| call),
         wanted,
         most,
     })

@@ -8,7 +8,11 @@
 //!   pairs it has (`2:20`, `4:40` and so on), and for how many more it is made with room;
 //! - `CALL WORD .. = ANSWER | PAIRS | COMPARED`: a call, what it returns, the pairs after it (`same`, if they are as before),
 //!   and how often it compares two keys at most (`*`: as often as it likes). With `+` in front it is made of what the line
-//!   before left.
+//!   before left. Before a `; ` stand calls that are made first.
+//!
+//! `sweep CALL ..` makes a call of each key of a map whose keys are `2`, `4` and so on, and of each key between two of them, below
+//! them all and above. After each the list is put back. It returns a sum of what was returned and left, and compares as often as
+//! the call that compares most.
 //!
 //! What a line leaves alive are the keys and values of its map, or of its store, and no others.
 //!
@@ -26,6 +30,7 @@ mod copies;
 mod counted;
 mod entries;
 mod line;
+mod lists;
 mod looks;
 mod run;
 mod stores;

@@ -24,7 +24,7 @@ const LONGEST: usize = 1 << 14;
 // Makes the call of a line over a store, which may have some calls of its own.
 macro_rules! make_over {
     ($bench:expr, $line:ident, $start:ident, $call:ident, $to:ident $(, $own:ident)*) => {{
-        let before = $bench.begin($line, $start, &$call)?;
+        let before = $bench.begin($line, $start, &$call, $to)?;
         $call.begin();
         let is_made = $bench.call($line, &$call, $to)
             || lent(&$bench.map, &$call, $to).is_some()
@@ -188,7 +188,7 @@ fn each_store(
             let leaks = if outcome.leaks { ", leaks" } else { "" };
             println!(rt;
                 "{file}:{number} {name} {} = {text} | {made}{leaks}",
-                line.call
+                line.text
             )?;
         }
     }

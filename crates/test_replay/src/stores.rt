@@ -15,6 +15,7 @@ pub fn call<S: Tested<Key, Value>>(store: &mut S, call: &Call<'_>, to: &mut Answ
         || put_at(store, call, to).is_some()
         || renew(store, call, to).is_some()
         || make(store, call, to).is_some()
+        || take_vec(store, call, to).is_some()
         || extend(store, call, to).is_some()
         || join(store, call, to).is_some()
 }
@@ -119,11 +120,10 @@ fn renew<S: Tested<Key, Value>>(store: &mut S, call: &Call<'_>, to: &mut Answer)
 
 // A store of these pairs replaces the old one.
 fn make<S: Tested<Key, Value>>(store: &mut S, call: &Call<'_>, to: &mut Answer) -> Made {
-    let (mut pairs, mut count) = (call.pairs(0)?, Count::new());
+    let (pairs, mut count) = (call.pairs(0)?, Count::new());
     call.begin();
     let made = match call.name {
         "lm_sort_from_iter" => S::lm_sort_from_iter(call.alloc, pairs, &mut count),
-        "lm_sort_from_vec" => S::lm_sort_from_vec(call.alloc, &mut pairs, &mut count),
         "lm_from_pairs" => S::lm_from_pairs(call.alloc, pairs),
         _ => return None,
     };
@@ -133,16 +133,33 @@ fn make<S: Tested<Key, Value>>(store: &mut S, call: &Call<'_>, to: &mut Answer) 
 
 // A call with many pairs of a store that is sorted.
 fn extend<S: Tested<Key, Value>>(store: &mut S, call: &Call<'_>, to: &mut Answer) -> Made {
-    let (mut pairs, mut count) = (call.pairs(0)?, Count::new());
-    if !LiteMap::is_sorted_store(&*store) {
+    let (pairs, mut count) = (call.pairs(0)?, Count::new());
+    if call.name != "lm_extend" || !LiteMap::is_sorted_store(&*store) {
         return None;
     }
     call.begin();
-    to.room(match call.name {
-        "lm_extend" => store.lm_extend(call.alloc, pairs, &mut count),
-        "lm_extend_from_vec" => store.lm_extend_from_vec(call.alloc, &mut pairs, &mut count),
+    to.room(store.lm_extend(call.alloc, pairs, &mut count));
+    Some(())
+}
+
+// A call that takes its pairs out of a vector. What the vector has after it stands behind its answer.
+fn take_vec<S: Tested<Key, Value>>(store: &mut S, call: &Call<'_>, to: &mut Answer) -> Made {
+    let (mut pairs, mut count) = (call.pairs(0)?, Count::new());
+    let is_sorted = LiteMap::is_sorted_store(&*store);
+    call.begin();
+    match call.name {
+        "lm_sort_from_vec" => {
+            let made = S::lm_sort_from_vec(call.alloc, &mut pairs, &mut count);
+            to.made(store, made);
+        }
+        "lm_extend_from_vec" if is_sorted => {
+            to.room(store.lm_extend_from_vec(call.alloc, &mut pairs, &mut count));
+        }
         _ => return None,
-    });
+    }
+    if !pairs.is_empty() {
+        to.show(Pairs::of_slice(pairs.as_slice()));
+    }
     Some(())
 }
 
@@ -158,10 +175,7 @@ fn join<S: Tested<Key, Value>>(store: &mut S, call: &Call<'_>, to: &mut Answer) 
     };
     match outcome {
         Ok(()) => to.word("ok"),
-        Err(refused) => {
-            to.word("refused");
-            to.show(Pairs::of_store(&refused.back));
-        }
+        Err(refused) => to.refused(Pairs::of_store(&refused.back)),
     }
     Some(())
 }

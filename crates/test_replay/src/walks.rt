@@ -100,6 +100,24 @@ fn walk_values<'a, S: StoreIterable<'a, Key, Value>>(
     walk!(map.values(), call, met, value)
 }
 
+// The keys that the words ask for, from either end, or how many are left.
+fn keys_in_turns<'a, S: StoreIterable<'a, Key, Value>>(
+    map: &'a Map<S>,
+    call: &Call<'_>,
+    to: &mut Answer,
+) -> Made {
+    let mut rest = map.keys();
+    for word in call.words.iter() {
+        match *word {
+            "len" => to.show(rest.len()),
+            "next" => to.some(rest.next()),
+            "next_back" => to.some(rest.next_back()),
+            _ => return None,
+        }
+    }
+    Some(())
+}
+
 /// Walks over a map that lends its pairs, if the name is one of these.
 #[allow(deprecated)]
 pub fn lent<'a, S: StoreIterable<'a, Key, Value>>(
@@ -109,6 +127,7 @@ pub fn lent<'a, S: StoreIterable<'a, Key, Value>>(
 ) -> Made {
     let mut met = Met::new(map.len());
     match call.name {
+        "keys_in_turns" => return keys_in_turns(map, call, to),
         "iter" => walk_pairs(map, call, &mut met)?,
         "keys" => walk_keys(map, call, &mut met)?,
         "values" => walk_values(map, call, &mut met)?,
