@@ -1,5 +1,5 @@
 -- A text that spells keywords: parts with a `-` between each two, where a keyword is a key and the parts of its value.
-use Rattle.std.specs.Prelude.{◌≡◌, ◌≢◌, ◌⊎◌, ◌==◌, ◌&&◌, ◌+◌, ℕ, Bool, false, IsTrue, cond, nat_le}
+use Rattle.std.specs.Prelude.{◌≡◌, ◌≢◌, ◌⊎◌, ◌==◌, ◌&&◌, ◌+◌, ℕ, Bool, false, IsTrue, if◌then◌else◌, nat_le}
 use Rattle.std.specs.Prelude.{List, [], ◌∷◌, ◌++◌, Option, length, map}
 use Rattle.std.specs.Char.{is_ascii_alphabetic, is_ascii_alphanumeric, to_ascii_lowercase}
 use Rattle.std.specs.Cmp.Lexicographic.{slice_cmp}
@@ -49,7 +49,7 @@ pub record Spells (text : List ℕ) (keywords : List Keyword) : Type 0 where
 
 -- lower case, and nothing for `true`
 abbrev pub canonical : List ℕ → List ℕ
-canonical text = cond (bytes_eq (map to_ascii_lowercase text) true_text) [] (map to_ascii_lowercase text)
+canonical text = if bytes_eq (map to_ascii_lowercase text) true_text then [] else map to_ascii_lowercase text
 
 -- the key and the value of a keyword in their canonical form
 abbrev pub pair_of : Keyword → List ℕ × List ℕ

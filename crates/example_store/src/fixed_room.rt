@@ -18,7 +18,6 @@ use litemap::store::{
     StoreFromIterator, StoreIntoIterator, StoreIterable, StoreMut,
 };
 use std::alloc::{AllocError, Global};
-use std::cmp::Ordering;
 use std::marker::Model;
 use std::mem;
 use std::vec::IntoIter;
@@ -55,14 +54,6 @@ impl<K, V> Store<K, V> for FixedRoom<K, V> {
     fn lm_get(&self, index: usize) -> Option<(&K, &V)> {
         let (key, value) = self.items.as_slice().get(index)?;
         Some((key, value))
-    }
-
-    fn lm_binary_search_by<F: FnMut(&K) -> Ordering>(
-        &self,
-        f: F,
-        count: &mut Count,
-    ) -> Result<usize, usize> {
-        self.items.lm_binary_search_by(f, count)
     }
 }
 

@@ -10,9 +10,8 @@ ghost use Rattle.litemap_store.specs.Contents.{with_value};
 pub mod fixed_room;
 pub mod shrinking;
 
-use litemap::store::{Count, KeepsMemory, NoRoom, Store, StoreConstEmpty, StoreMut};
+use litemap::store::{KeepsMemory, NoRoom, Store, StoreConstEmpty, StoreMut};
 use std::alloc::{AllocError, Global};
-use std::cmp::Ordering;
 use std::marker::Model;
 use std::mem;
 
@@ -46,14 +45,6 @@ impl<K, V, const LIMIT: usize> Store<K, V> for Bounded<K, V, LIMIT> {
     fn lm_get(&self, index: usize) -> Option<(&K, &V)> {
         let (key, value) = self.items.as_slice().get(index)?;
         Some((key, value))
-    }
-
-    fn lm_binary_search_by<F: FnMut(&K) -> Ordering>(
-        &self,
-        f: F,
-        count: &mut Count,
-    ) -> Result<usize, usize> {
-        self.items.lm_binary_search_by(f, count)
     }
 }
 

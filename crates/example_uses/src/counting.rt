@@ -1,5 +1,5 @@
 //! How often each word occurs in a list.
-ghost use Rattle.std.specs.Prelude.{◌≡◌, ◌≢◌, ◌==◌, ◌+◌, ◌<◌, IfOk, OnOk, OnErr, Some, cond, filter, string_bytes, unwrap_or};
+ghost use Rattle.std.specs.Prelude.{◌≡◌, ◌≢◌, ◌==◌, ◌+◌, ◌<◌, IfOk, OnOk, OnErr, Some, filter, if◌then◌else◌, string_bytes, unwrap_or};
 ghost use Rattle.std.specs.List.{count_by};
 ghost use Rattle.std.specs.Ordering.{is_eq};
 ghost use Rattle.litemap_store.specs.Pairs.{put, value_at};
@@ -17,8 +17,8 @@ pub fn count_word<K: Ord + Drop, S: StoreMut<K, usize>>(
 ) -> Result<(), AllocError>
     requires { unwrap_or (value_at K.cmp counts.old.pairs word) 0 < usize.MAX }
     ensures counted { OnOk result ((other : K) → unwrap_or (value_at K.cmp counts.new.pairs other) 0
-        ≡ cond (is_eq (K.cmp word other)) (unwrap_or (value_at K.cmp counts.old.pairs other) 0 + 1)
-        (unwrap_or (value_at K.cmp counts.old.pairs other) 0)) }
+        ≡ if is_eq (K.cmp word other) then unwrap_or (value_at K.cmp counts.old.pairs other) 0 + 1
+        else unwrap_or (value_at K.cmp counts.old.pairs other) 0) }
     ensures refused { OnErr result (counts.new.pairs ≡ counts.old.pairs) }
 {
     put_count(counts, word)

@@ -1,6 +1,6 @@
 //! Maps looked up by what can stand for a key: strings and bytes that are borrowed, and keys.
 ghost use Rattle.std.specs.Prelude.{◌≡◌, ◌≢◌, ◌==◌, IsTrue, None, Some};
-ghost use Rattle.std.specs.Prelude.{cond, false, is_some, string_bytes};
+ghost use Rattle.std.specs.Prelude.{false, if◌then◌else◌, is_some, string_bytes};
 ghost use Rattle.std.specs.Bool.{IsFalse};
 ghost use Rattle.std.specs.List.{before_first};
 ghost use Rattle.std.specs.Option.{option_or};
@@ -66,8 +66,8 @@ pub fn rename(map: &mut Numbers, old: &str, new: String) -> bool
 
 /// Moves the number at a name to a name that is free, and returns whether it did.
 pub fn rename_to_free(map: &mut Numbers, old: &str, new: String) -> bool
-    ensures free { result ≡ cond (is_some (at by_text map.old.pairs (string_bytes new))) false
-        (is_some (at by_text map.old.pairs old.now)) }
+    ensures free { result ≡ if is_some (at by_text map.old.pairs (string_bytes new)) then false
+        else is_some (at by_text map.old.pairs old.now) }
     ensures moved { IsTrue result
         → value_at by_text map.new.pairs (string_bytes new) ≡ value_at by_text map.old.pairs old.now }
     ensures gone { IsTrue result → value_at by_text map.new.pairs old.now ≡ None }

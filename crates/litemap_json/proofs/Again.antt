@@ -22,10 +22,6 @@ module _ {K V : Type 0} (cmp : K → K → Ordering) (total : IsTotalOrder cmp) 
   Distinct [] = Unit {0}
   Distinct (p ∷ ps) = ((q : K × V) → In q ps → cmp p.0 q.0 ≢ Equal) × Distinct ps
 
-  pub rising_distinct : (L : List (K × V)) → Rising cmp L → Distinct L
-  rising_distinct [] h = tt
-  rising_distinct (p ∷ ps) h = (λ q i e. (let less : cmp p.0 q.0 ≡ Less = each (λ (x : K × V). cmp p.0 x.0 ≡ Less) ps h.0 q i in cc), rising_distinct ps h.1)
-
   last_from : (p : K × V) (J : List (K × V)) → Distinct J → In p J → StandsLast cmp p J
   last_from p [] d i = absurd i
   last_from p (q ∷ qs) d (inl e) = inl (e, from_each (λ (r : K × V). cmp p.0 r.0 ≢ Equal) qs (λ r i. rw (sym e) (d.0 r i)))

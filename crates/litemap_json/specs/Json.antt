@@ -1,6 +1,6 @@
 -- A map as JSON: the tree of a list of pairs, and the pairs that a tree spells. Keys and items are seen as their trees, and
 -- keys as their texts too.
-use Rattle.std.specs.Prelude.{ℕ, ◌+◌, List, [], ◌∷◌, map, cond, is_some, Option, Some, None, Result, Ok, Err}
+use Rattle.std.specs.Prelude.{ℕ, ◌+◌, List, [], ◌∷◌, map, if◌then◌else◌, is_some, Option, Some, None, Result, Ok, Err}
 use Rattle.serde_json.specs.Data.{Data, array, object}
 use Rattle.serde_json.specs.Data.{Items, no_items, item, Members, no_members, member, put}
 use Rattle.serde_json.specs.View.{items_of}
@@ -34,7 +34,7 @@ module _ {K V : Type 0} (text : K → Option (List ℕ)) (key_json : K → Data)
   -- the first key decides: an object if it has a text, else an array; the empty array if there is none
   abbrev pub tree : List (K × V) → Result Data WriteFault
   tree [] = Ok (array no_items)
-  tree (p ∷ L) = cond (is_some (text p.0)) (object_with 0 no_members (p ∷ L)) (Ok (array (rows (p ∷ L))))
+  tree (p ∷ L) = if is_some (text p.0) then object_with 0 no_members (p ∷ L) else Ok (array (rows (p ∷ L)))
 
 -- ---- reading
 

@@ -19,7 +19,7 @@ use std::alloc::Global;
 /// array, whose elements have to be arrays of exactly a key and an item. The last pair of each key stays, its key included, in
 /// the order that the value holds, and the others are dropped. The Rust crate has serde's `Deserialize` here.
 ///
-/// All pairs are gathered before a map is made, and moved into it by `extend_from_vec`: if the keys ascend, that is one
+/// All pairs are gathered before a map is made, and moved into it by `from_vec`: if the keys ascend, that is one
 /// comparison for each, else a sort.
 ///
 /// # Errors
@@ -42,9 +42,8 @@ pub fn from_json<K: JsonKey + Drop, V: JsonItem + Drop, S: StoreBulkMut<K, V>>(
         (λ e. e ≢ reading.Memory → pairs K.key K.item V.item (view value.now) ≡ Err e) }
 {
     let pairs = pairs_of(alloc, value)?;
-    let mut map = LiteMap::with_capacity(alloc, 0)?;
-    match map.extend_from_vec(alloc, pairs) {
-        Ok(()) => Ok(map),
+    match LiteMap::from_vec(alloc, pairs) {
+        Ok(map) => Ok(map),
         Err(_) => Err(JsonFault::Memory),
     }
 }

@@ -1,5 +1,5 @@
 //! Compares the keys of two maps side by side: those that both have, and those that one lacks.
-ghost use Rattle.std.specs.Prelude.{◌≡◌, ◌+◌, ◌≤◌, IsSome, IsTrue, None, cond, filter, is_some, length, not};
+ghost use Rattle.std.specs.Prelude.{◌≡◌, ◌+◌, ◌≤◌, IsSome, IsTrue, None, filter, if◌then◌else◌, is_some, length, not};
 ghost use Rattle.std.specs.List.{list_all};
 ghost use Rattle.litemap_store.specs.Counts.{GoesOn, RisesByAtMost};
 ghost use Rattle.litemap_store.specs.Pairs.{Rising, above, at, value_at};
@@ -56,7 +56,7 @@ impl<K: Ord + Drop, V: Drop, S: StoreBulkMut<K, V>> LiteMap<K, V, S> {
         ensures pairs { self.new.pairs ≡ filter (λ p. is_some (at K.cmp other.now.pairs p.0)) self.old.pairs }
         // What a lookup finds: what it found before, if the other map has the key.
         ensures found { (key : K) → value_at K.cmp self.new.pairs key
-            ≡ cond (is_some (at K.cmp other.now.pairs key)) (value_at K.cmp self.old.pairs key) None }
+            ≡ if is_some (at K.cmp other.now.pairs key) then value_at K.cmp self.old.pairs key else None }
         ensures room { S.keeps_memory → self.old.room + length self.old.pairs ≤ self.new.room + length self.new.pairs }
     {
         let mut rest = RangeIter::all(&other.store);
@@ -74,7 +74,7 @@ impl<K: Ord + Drop, V: Drop, S: StoreBulkMut<K, V>> LiteMap<K, V, S> {
         ensures pairs { self.new.pairs ≡ filter (λ p. not (is_some (at K.cmp other.now.pairs p.0))) self.old.pairs }
         // What a lookup finds: what it found before, if the other map lacks the key.
         ensures found { (key : K) → value_at K.cmp self.new.pairs key
-            ≡ cond (is_some (at K.cmp other.now.pairs key)) None (value_at K.cmp self.old.pairs key) }
+            ≡ if is_some (at K.cmp other.now.pairs key) then None else value_at K.cmp self.old.pairs key }
         ensures room { S.keeps_memory → self.old.room + length self.old.pairs ≤ self.new.room + length self.new.pairs }
     {
         let mut rest = RangeIter::all(&other.store);

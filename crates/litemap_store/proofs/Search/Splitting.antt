@@ -120,11 +120,7 @@ module _ {K Q V : Type 0} (order : K → Q → Ordering) where
   index_of-from_Splits L q (Ok i) s = rw s.found (ap Ok s.place)
   index_of-from_Splits L q (Err i) s = rw s.missing (ap Err s.place)
 
-  -- an index that is found is one of the list's, and the pair there is that of the key
-  pub within-from_Splits : (L : List (K × V)) (q : Q) (r : Result ℕ ℕ) → Splits order L q r → IfOk r (λ i. i < length L)
-  within-from_Splits L q (Ok i) s = found_within order L q i s
-  within-from_Splits L q (Err i) s = tt
-
+  -- the pair at an index that is found is that of the key
   pub there-from_Splits : (L : List (K × V)) (q : Q) (r : Result ℕ ℕ) → Splits order L q r → IfOk r (λ i. slice_get L i ≡ at order L q)
   there-from_Splits L q (Ok i) s = found_there order L q i s
   there-from_Splits L q (Err i) s = tt
