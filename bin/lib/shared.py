@@ -4,6 +4,7 @@ import functools
 import os
 import pathlib
 import re
+import runpy
 import shutil
 import subprocess
 import sys
@@ -89,14 +90,31 @@ def kit():
     return pathlib.Path(subprocess.run(["rt", "doc"], capture_output=True, text=True, check=True).stdout.strip()).parent
 
 
+def model(crate):
+    """What the model of a crate has."""
+    return runpy.run_path(f"{TOP}/crates/{crate}/model.py")
+
+
+def write_files(folder, files):
+    """Writes texts into a folder, by the names of their files."""
+    for name, text in files.items():
+        (folder / name).parent.mkdir(parents=True, exist_ok=True)
+        (folder / name).write_bytes(text.encode())
+
+
 class Watched:
-    """A program of tests, with bin/lib/allocator.c loaded before the C library; each line that tells of a call has a sign in it."""
+    """A program of tests on all that its model makes, with bin/lib/allocator.c loaded before the C library.
+
+    What the model makes is written into a folder of the program's own in `room`. A line that tells of a call has `sign` in it.
+    """
 
     def __init__(self, room, crate, sign, program=None):
         self.folder, self.sign, self.library = TOP / "crates" / crate, sign, f"{room}/allocator.so"
         self.program = program or self.folder / "out" / crate
-        stdin = self.folder / "stdin"
-        self.given = stdin.read_text(encoding="utf-8") if stdin.is_file() else ""
+        self.model, self.whole, stdin = model(crate), pathlib.Path(room) / "whole" / crate, self.folder / "stdin"
+        self.files = self.model["files"]()
+        write_files(self.whole, self.files)
+        self.given = self.files.get("stdin") or (stdin.read_text(encoding="utf-8") if stdin.is_file() else "")
         options = ["-O1", "-shared", "-fPIC", "-nostdlib", "-fuse-ld=lld", "-fno-builtin"]
         clang = kit() / "toolchain" / "bin" / "clang"
         subprocess.run([clang, *options, "-o", self.library, TOP / "bin" / "lib" / "allocator.c"], check=True)
@@ -104,7 +122,7 @@ class Watched:
     def run(self, before="", **more):
         """How it ends on its input behind this text, the lines that tell of calls, and the numbers that stand beside each."""
         env, given = os.environ | {"LD_PRELOAD": self.library} | more, before + self.given
-        data = self.folder / "data"
+        data = self.whole / "data"
         how = {"cwd": data if data.is_dir() else self.folder, "env": env, "input": given, "capture_output": True, "text": True}
         run = subprocess.run([self.program], **how)
         return run.returncode, [line for line in run.stdout.splitlines() if self.sign in line], run.stderr.splitlines()

@@ -1,7 +1,9 @@
-"""What the program `example_formats` is run on, and what it has to write: its files stdin and stdout, which bin/data writes.
+"""What the program `example_formats` is run on, and what it has to write: its files stdin and stdout.
 
-The rows of each kind are made by a file of its own here, with their output; none of it is the program's own.
+The rows of each kind are made by a file of its own here, with their output; none of it is the program's own. A sample of the rows
+is stored, which bin/data writes, and bin/requests runs all of them.
 """
+import collections
 import pathlib
 import runpy
 
@@ -16,3 +18,13 @@ def files():
         "stdin": "".join(f"{kind} {line}\n" for kind, line, _ in rows),
         "stdout": "".join(f"{answer}\n" for _, _, answer in rows),
     }
+
+
+def sample(files):
+    """What is stored: of the rows that begin with the same two words the first one, the second, the fourth, the eighth and so on."""
+    counts, kept = collections.Counter(), []
+    for row, answer in zip(files["stdin"].splitlines(), files["stdout"].splitlines(), strict=True):
+        kind = " ".join(row.split(" ")[:2])
+        counts[kind] += 1
+        kept += [(row, answer)] if not counts[kind] & (counts[kind] - 1) else []
+    return {name: "".join(line + "\n" for line in lines) for name, lines in zip(["stdin", "stdout"], zip(*kept))}

@@ -2,9 +2,10 @@
 
 The files data/*.calls have each call of a map and of a store, at lengths around every limit, at each kind of place, with what it
 answers, the pairs after it, and how often it compares two keys at most. Nothing here runs the code under test. The cases of
-data/rows are written by hand there, without answers.
+`rows` are written by hand there, without answers. A sample of the lines is stored, and bin/requests runs all of them.
 """
 import bisect
+import collections
 import itertools
 import pathlib
 import re
@@ -145,7 +146,7 @@ class Model:
         raise ValueError(call)
 
     def sweep(self, name, *words):
-        """Makes a call of each key and each gap: a sum of what it answers and leaves of the key, and how often one compares at most."""
+        """Makes a call of each key and each gap: a sum of what it returns and leaves of the key, and how often one compares at most."""
         pairs, room, most, total = self.pairs, self.room, 0, 0
         for code in map(str, range(1, 2 * len(pairs) + 2)):
             self.pairs, self.room = list(pairs), room
@@ -462,15 +463,19 @@ class Model:
         cost = 0 if not old or not pairs else 2 if apart else cost
         return (f"left {self.text(left)}" if left else "none"), cost
 
-    def combine(self, pairs):
-        here = {self.order.rank(key): value for key, value in self.pairs}
-        new, search, asked = [], digits(len(self.pairs)), 0
+    def combined(self, pairs):
+        """The pairs, with the values of common keys combined."""
+        here, new = {self.order.rank(key): value for key, value in self.pairs}, []
         for key, value in pairs:
             if self.order.rank(key) in here:
                 value += 3 * here[self.order.rank(key)] + self.order.code(key) % 7
-                asked += 1
             new.append((key, value))
-        answer, cost = self.merge(new)
+        return new
+
+    def combine(self, pairs):
+        search, there = digits(len(self.pairs)), {self.order.rank(key) for key, _ in self.pairs}
+        asked = sum(self.order.rank(key) in there for key, _ in pairs)
+        answer, cost = self.merge(self.combined(pairs))
         return f"{answer} asked {asked}", cost + len(pairs) * search
 
     def beside(self, name, pairs):
@@ -493,20 +498,23 @@ class Model:
         return f"ok asked {len(pairs) + 1}", cost
 
     def run(self, words):
-        """A list of calls of an empty map: their answers, and the map."""
+        """A list of calls of an empty map: what they return, and the map."""
         made = Model(self.order)
         answers = [made.step(word)[0] for word in words]
         is_put = all(word.startswith("insert:") for word in words)
         return f"[{', '.join(answers)}] {made.look('debug', [], 0)}", len(words) * digits(len(words)) if is_put else None
 
     def step(self, word):
-        """Makes a call of a list: what it answers, and what it answers where memory is refused, if it may ask for some."""
+        """Makes a call of a list: what it returns, and what it returns if memory runs out, if it may need some."""
         kind, _, rest = word.partition(":")
         if kind in ("insert", "try_insert", "try_append"):
             return self.step_put(kind, *rest.split(":"))
-        if kind in ("extend", "reserve", "clear"):
-            self.pairs = self.last([*self.pairs, *self.given(rest.split("+"))]) if kind == "extend" else [] if kind == "clear" else self.pairs
-            return "Done", None if kind == "clear" else "NoRoom(None)"
+        if kind == "clear":
+            self.pairs = []
+            return "Done", None
+        if kind in ("extend", "reserve"):
+            self.pairs = self.last(self.pairs + self.given(rest.split("+"))) if kind == "extend" else self.pairs
+            return "Done", "NoRoom(None)"
         if kind in ("len", "value_at"):
             index = int(rest or 0)
             value = f"Some({self.pairs[index][1]})" if index < len(self.pairs) else "None"
@@ -570,13 +578,17 @@ def line(model, call, mark=""):
     return f"{mark}{call} = {answer} | {after} | {'*' if cost is None else cost}"
 
 
+def first_pairs(length):
+    """The pairs with which a line begins."""
+    return [(str(2 * place), 20 * place) for place in range(1, length + 1)]
+
+
 def block(stores, length, room, calls, order="number", is_fixed=False):
     """Calls that each begin with the same pairs."""
     yield f"on {stores}"
     yield f"with {order} {length} {room}"
     for call in calls:
-        pairs = [(str(2 * place), 20 * place) for place in range(1, length + 1)]
-        yield line(Model(Order(order), pairs, room if is_fixed else None), call)
+        yield line(Model(Order(order), first_pairs(length), room if is_fixed else None), call)
 
 
 def chain(stores, calls, order="number", room=None, is_fixed=False):
@@ -776,8 +788,8 @@ def listed():
     for length in [*range(41), 100, 129, 513]:
         given = [f"1,{length},1", f"{2 * length},{length},-2", f"1,{length},3 2,{length},1"]
         yield from block(GROWING, 3, 0, [f"read_results {pairs}" for pairs in given])
-        lists = [" ".join(f"insert:{key}:{value}" for key, value in Model(Order("number")).given(pairs.split(" "))) for pairs in given]
-        yield from block("vec", 3, 0, [f"{name} {calls}".strip() for name in RUNS for calls in lists] if length <= 40 else [])
+        lists = [[f"insert:{key}:{value}" for key, value in Model(Order("number")).given(pairs.split(" "))] for pairs in given]
+        yield from block("vec", 3, 0, [" ".join([name, *calls]) for name in RUNS for calls in lists] if length <= 40 else [])
 
 
 def scattered():
@@ -938,8 +950,10 @@ def rows():
         names, order, room, *anew = lines[0].split()
         for name in ALL.split() if names == "all" else names.split(","):
             is_fixed = name == "fixed"
-            made = block(name, 0, int(room), lines[1:], order, is_fixed) if anew else chain(name, lines[1:], order, int(room), is_fixed)
-            yield from made
+            if anew:
+                yield from block(name, 0, int(room), lines[1:], order, is_fixed)
+            else:
+                yield from chain(name, lines[1:], order, int(room), is_fixed)
 
 
 # Calls that no line makes, and what runs them.
@@ -955,7 +969,9 @@ ELSEWHERE = {
     "lm_get_range": "get_indexed_range",
     "lm_iter": "iter",
     "lm_into_iter": "into_iter",
+    "lm_size_hint": "into_iter; what `size_hint` of keys and values returns",
     "into_mut": "entry_into_mut",
+    "lm_size_hint": "iter",
 }
 SOURCES = ["litemap/src/map.rt", "litemap/src/map", "litemap/src/const_family.rt", "litemap_read/src/read.rt"]
 SOURCES += ["litemap_read/src/laws.rt", "litemap_store/src/store.rt", "litemap_store/src/into_iter.rt"]
@@ -987,13 +1003,43 @@ def calls_of(lines):
     return made
 
 
-def files():
-    """The files of the crate, by their names."""
-    made = {name: list(lines()) for name, lines in FILES.items()}
+def written(made):
+    """The files of the crate, by their names, of these lines of each."""
     files = {f"data/{name}.calls": lines for name, lines in made.items()}
     files["stdin"] = [f"{name}.calls" for name in made]
     files["stdout"] = [f"{name}.calls: {calls_of(lines)} calls" for name, lines in made.items()]
     return {name: "".join(text + "\n" for text in lines) for name, lines in files.items()}
+
+
+def files():
+    """All lines."""
+    return written({name: list(lines()) for name, lines in FILES.items()})
+
+
+# So many lines of a sample at most go on from one another.
+MOST_TOGETHER = 12
+
+
+def sampled(lines):
+    """Of each call the first line, the second, the fourth, the eighth and so on, and some of those that go on from these."""
+    heads, counts, left = {}, collections.Counter(), 0
+    for text in lines:
+        word = text.split(" ")[0]
+        if word in ("on", "with"):
+            heads[word] = text
+        elif word == "+":
+            left -= 1
+            yield from [text] * (left > 0)
+        elif word != "#":
+            counts[word] += 1
+            left = 0 if counts[word] & (counts[word] - 1) else MOST_TOGETHER
+            yield from [*heads.values(), text] if left else ()
+            heads = {} if left else heads
+
+
+def sample(files):
+    """The lines that are stored, of all those in the files."""
+    return written({name: list(sampled(files[f"data/{name}.calls"].splitlines())) for name in FILES})
 
 
 def faults(files):

@@ -46,11 +46,8 @@ MEMORY = re.compile(r"\balloc: Global\b|->.*\b(?:AllocError|NoRoom|(?!NameFault|
 
 
 def check(report, _):
-    folder, unused = TOP / "crates" / "example_formats", {*SHOWN}
-    rows = (folder / "stdin").read_text(encoding="utf-8").splitlines()
-    counted = (folder / "requests").read_text(encoding="utf-8").splitlines()
-    places = [int(line.split(" ")[0]) - 1 for line in counted if not line.startswith("#")]
-    kinds = {" ".join(rows[place].split(" ")[:2]) for place in places if place < len(rows)}
+    counted, unused = (TOP / "crates" / "example_formats" / "requests").read_text(encoding="utf-8"), {*SHOWN}
+    kinds = {" ".join(line.split(" ")[:2]) for line in counted.splitlines()}
     for source, calls in CALLS.items():
         library = source.split("/")[0]
         for call in calls if library not in WITHOUT else ():

@@ -10,9 +10,9 @@
 //!   and how often it compares two keys at most (`*`: as often as it likes). With `+` in front it is made of what the line
 //!   before left. Before a `; ` stand calls that are made first.
 //!
-//! `sweep CALL ..` makes a call of each key of a map whose keys are `2`, `4` and so on, and of each key between two of them, below
-//! them all and above. After each the list is put back. It returns a sum of what was returned and left, and compares as often as
-//! the call that compares most.
+//! `sweep CALL ..` makes a call of each key of a map whose keys are `2`, `4` and so on, and of each key in a gap: between two of
+//! them, below all and above all. After each the list is put back. It returns a sum of what was returned and left, and compares
+//! as often as the call that compares most.
 //!
 //! What a line leaves alive are the keys and values of its map, or of its store, and no others.
 //!

@@ -4,7 +4,7 @@ use crate::call::{Call, Made, Map};
 use crate::counted::{Key, Order, Value};
 use crate::tested::Tested;
 use litemap::LiteMap;
-use litemap::store::StoreIterable;
+use litemap::store::{PairIntoIter, StoreIterable};
 use std::mem;
 
 // What a walk met, and whether each of its hints told exactly how many items were left.
@@ -158,6 +158,7 @@ pub fn taken<S: Tested<Key, Value>>(map: &mut Map<S>, call: &Call<'_>, to: &mut 
             met.pair(Some((key, value)));
         }
         met.hint(rest.size_hint());
+        met.hint(rest.lm_size_hint());
     }
     met.show(to);
     Some(())
