@@ -1,9 +1,12 @@
 """Runs of calls of one map, which a generator picks, as lines that `test_replay` reads."""
+import pathlib
 import random
+import runpy
 
+MODEL = runpy.run_path(str(pathlib.Path(__file__).resolve().parents[1] / "crates" / "test_replay" / "model.py"))
 # How many calls a run has.
 LENGTH = 500
-STORES = ["vec", "columns", "short"]
+STORES, SLICED = MODEL["GROWING"].split(), MODEL["SLICED"].split()
 ORDERS = ["number", "text", "letter"]
 # Keys have numbers below one of these, and some of those in lists lie above.
 RANGES = [3, 8, 20, 60, 60, 200, 600, 2**27]
@@ -45,7 +48,7 @@ CALLS = [
 # The calls of a map over a store that lends a slice, and over a vector.
 OF_A_SLICE = [(3, "PLACE PLACE", "get_indexed_range"), (2, "", "as_slice as_sliced")]
 OF_A_VECTOR = [(1, "", "into_tuple_vec")]
-CALLS_OVER = {"vec": CALLS + OF_A_SLICE + OF_A_VECTOR, "columns": CALLS, "short": CALLS + OF_A_SLICE}
+CALLS_OVER = {it: CALLS + OF_A_SLICE * (it in SLICED) + OF_A_VECTOR * (it == "vec") for it in STORES}
 
 
 def word(order, number):
@@ -62,7 +65,7 @@ class Run:
 
     def __init__(self, seed, number):
         self.random = random.Random(f"{seed} {number}")
-        self.order, self.store = ORDERS[number % 3], STORES[number // 3 % 3]
+        self.order, self.store = ORDERS[number % len(ORDERS)], STORES[number // len(ORDERS) % len(STORES)]
         self.range = self.random.choice(RANGES)
         self.calls = []
         groups = CALLS_OVER[self.store]

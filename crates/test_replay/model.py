@@ -14,7 +14,9 @@ FOLDER = pathlib.Path(__file__).resolve().parent
 STEP = 1099511628211
 # Around what the libraries treat in another way: none, one, a sort without memory, a vector's first room, and more.
 LENGTHS = [0, 1, 2, 3, 4, 5, 7, 8, 9, 12, 16, 17, 20, 21, 24, 30, 33, 65, 100, 129, 513, 1000]
+# The stores by their names in src/run.rt: those that grow, of these those that lend a slice, and all that lines are made over.
 GROWING = "vec columns short"
+SLICED = "vec short"
 ALL = GROWING + " fixed"
 
 
@@ -146,7 +148,7 @@ class Model:
         raise ValueError(call)
 
     def sweep(self, name, *words):
-        """Makes a call of each key and each gap: a sum of what it returns and leaves of the key, and how often one compares at most."""
+        """Makes a call of each key and each gap: a sum of what it returns and leaves there, and how often one compares at most."""
         pairs, room, most, total = self.pairs, self.room, 0, 0
         for code in map(str, range(1, 2 * len(pairs) + 2)):
             self.pairs, self.room = list(pairs), room
@@ -631,7 +633,7 @@ def looks():
         yield from block(ALL, length, 1, calls)
         parts = [f"get_indexed_range {start} {end}" for start in indices for end in indices]
         parts += [f"range {low} {first} {high} {last}" for low, high in ends for first, last in pairs[::3]]
-        yield from block("vec short", length, 1, ["as_slice", "as_sliced", *parts])
+        yield from block(SLICED, length, 1, ["as_slice", "as_sliced", *parts])
         yield from block("vec", length, 1, ["into_tuple_vec"])
 
 
@@ -881,7 +883,7 @@ def twenty():
     changes += [" ".join([merge, *pairs]) for pairs in (every[::2], ["900:1", "901:2"], ["1:1", "2:2"], OTHERS[::-1], [])]
     changes += ["retain 1048575", "extend " + " ".join(OTHERS), "try_clone", "clear"]
     searched = itertools.chain.from_iterable([change, *look, "clone", *look] for change in changes)
-    yield from chain("vec columns short", ["with_capacity 64", *steps, *searched])
+    yield from chain(GROWING, ["with_capacity 64", *steps, *searched])
     yield from chain("fixed", ["with_capacity 64", *steps], room=64, is_fixed=True)
 
 

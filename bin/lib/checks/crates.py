@@ -1,15 +1,21 @@
-"""The crates and the scripts: tables, lines of crates.txt and lists name all of them, and none that is not there."""
+"""The crates and the scripts: tables, lines of crates.txt and lists name all of them, and none that is not there. No two modules
+of a crate import each other."""
 import os
 import re
 import subprocess
 
 from lib.checks.api import NOT_LISTED
 from lib.checks.pages import BLOCKS, CODE, TEXTS
-from lib.checks.sources import LIBRARIES
+from lib.checks.sources import LIBRARIES, RUST
 from lib.shared import CRATES, TOP
 
 # The libraries that bin/release does not pack: why.
 NOT_PACKED = {}
+# The modules that may import what imports them: why.
+BOTH_WAYS = {"litemap_store/store": "bodies of its traits call what is written over the traits"}
+# What a module imports of its crate, and a list within such a path.
+IMPORT = re.compile(r"^(?:pub(?:\(crate\))? )?use crate::([^;]+);", re.MULTILINE)
+LIST = re.compile(r"((?:\w+::)*)\{([^{}]*)\}")
 
 
 def named_in(page, head):
@@ -24,6 +30,29 @@ def lines_in(page):
     return [(name or below, (uses or more).split()) for name, uses, below, more in shown if (name or below) in CRATES]
 
 
+def imported(text):
+    """The paths that a module imports of its crate."""
+    for tree in IMPORT.findall(text):
+        tree = "".join(tree.split())
+        while LIST.search(tree):
+            tree = LIST.sub(lambda it: ",".join(it[1] + path for path in it[2].split(",") if path), tree)
+        yield from tree.split(",")
+
+
+def module_of(path, modules):
+    """The module in which an item stands: the longest one that its path begins with, "" for the crate's root."""
+    parts = path.split("::")
+    return next((it for it in ("/".join(parts[:end]) for end in range(len(parts), 0, -1)) if it in modules), "")
+
+
+def both_ways(crate):
+    """The modules of a crate, two by two, that import each other."""
+    modules = {path.split("/", 2)[2].removesuffix(".rt"): text for path, text in RUST.items() if path.startswith(f"{crate}/src/")}
+    imports = {name: {module_of(path, modules) for path in imported(text)} for name, text in modules.items()}
+    for name, others in imports.items():
+        yield from ((name, other) for other in others if name < other and name in imports.get(other, ()))
+
+
 def check(report, _):
     folders = {it.name for it in (TOP / "crates").iterdir() if (it / "src").is_dir()}
     scripts = {it.name for it in (TOP / "bin").iterdir() if it.is_file() and os.access(it, os.X_OK)}
@@ -35,6 +64,9 @@ def check(report, _):
         for name in sorted(named | there):
             report.see(name in there, f"{where} names {name}, which is not there")
             report.see(name in named, f"{where} does not name {name}")
+    for crate in CRATES:
+        found = [it for it in both_ways(crate) if not {f"{crate}/{name}" for name in it} & {*BOTH_WAYS}]
+        report.see(not found, f"modules of {crate} import each other: {found}")
     for page in TEXTS:
         shown = lines_in(page)
         for name, uses in shown:

@@ -7,7 +7,8 @@ from lib.shared import TOP
 
 PAGE = "docs/ROWS.md"
 # The lines of a comment, the sign in front of them, and a string in one line.
-COMMENT, SIGN, STRING = re.compile(r"(?:^ *(?:#|//+)(?: .*)?\n)+", re.MULTILINE), re.compile(r"^ *(?:#|//+) ?"), re.compile(r'"([^"\n]+)"')
+COMMENT = re.compile(r"(?:^ *(?:#|//+)(?: .*)?\n)+", re.MULTILINE)
+SIGN, STRING = re.compile(r"^ *(?:#|//+) ?"), re.compile(r'"([^"\n]+)"')
 
 
 def bare(title):

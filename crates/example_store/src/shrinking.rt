@@ -2,7 +2,7 @@
 //!
 //! The calls of a map over it are proved as over any other. Only their clauses on the room after a removal, which hold for stores
 //! that keep their memory (`KeepsMemory`), say nothing of it, and `rename`, which lives on such a clause, can't be called.
-ghost use Rattle.std.specs.Prelude.{refl};
+ghost use Rattle.std.specs.Prelude.{◌≡◌, refl};
 ghost use Rattle.litemap_store.specs.Contents.{with_value};
 
 use litemap::store::{

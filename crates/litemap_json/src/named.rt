@@ -1,18 +1,16 @@
-//! The items of a map in the order of their keys' names, and their text.
-ghost use Rattle.std.specs.Prelude.{◌≡◌, ◌≢◌, Ok, Err, IfOk, IfErr, string_bytes};
+//! The items of a map in the order of their keys' names.
+ghost use Rattle.std.specs.Prelude.{◌≡◌, ◌≢◌, Ok, Err, IfOk, IfErr};
 ghost use Rattle.serde_json.specs.Data.{no_members, object};
 ghost use Rattle.litemap_json.specs.Json.{object_with};
-ghost use Rattle.litemap_json.specs.Written.{IsTextOf, named};
+ghost use Rattle.litemap_json.specs.Written.{named};
 ghost use Rattle.litemap_json.specs.declared.fault.WriteFault.TheVariants.{Memory};
 
 use crate::fault::WriteFault;
 use crate::item::{JsonItem, JsonKey};
 use crate::pairs::{pair_at, push_pair};
-use crate::text::{text_of, write_member};
-use json::Writer;
 use litemap::store::Store;
 use litemap::{LiteMap, VecMap};
-use std::alloc::{AllocError, Global};
+use std::alloc::Global;
 
 /// Returns the items by their keys' names, or the error of the first key that has none.
 pub(crate) fn by_name<'m, K: JsonKey, V: JsonItem, S: Store<K, V>>(
@@ -36,22 +34,4 @@ pub(crate) fn by_name<'m, K: JsonKey, V: JsonItem, S: Store<K, V>>(
         Ok(named) => Ok(named),
         Err(_) => Err(WriteFault::Memory),
     }
-}
-
-/// Returns the text of the object of such items.
-pub(crate) fn named_text<V: JsonItem>(
-    alloc: Global,
-    items: &VecMap<String, &V>,
-) -> Result<String, AllocError>
-    ensures { IfOk result
-        (λ text. IsTextOf (object (named (λ item. V.json item.now) items.now.pairs)) (string_bytes text)) }
-{
-    let mut out = Writer::new(Vec::new(alloc));
-    out.begin_object()?;
-    for place in 0..items.len() {
-        let (name, item) = pair_at(items, place);
-        write_member(alloc, name, *item, &mut out)?;
-    }
-    out.end_object()?;
-    Ok(text_of(out))
 }

@@ -6,18 +6,18 @@ ghost use Rattle.std.specs.declared.cmp.Ordering.TheVariants.{Less};
 ghost use Rattle.json.specs.Lex.{tokens};
 ghost use Rattle.json.specs.Print.{print};
 ghost use Rattle.json.specs.Token.{key as key_token};
-ghost use Rattle.serde_json.specs.Data.{Data, array, no_members};
+ghost use Rattle.serde_json.specs.Data.{Data, array, no_members, object};
 ghost use Rattle.litemap_json.specs.Json.{object_with, row, rows, tree};
-ghost use Rattle.litemap_json.specs.Written.{IsTextOf, WritesTree};
+ghost use Rattle.litemap_json.specs.Written.{IsTextOf, WritesTree, named};
 ghost use Rattle.litemap_json.specs.declared.fault.WriteFault.TheVariants.{Memory};
 
 use crate::fault::WriteFault;
 use crate::item::{JsonItem, JsonKey};
-use crate::named::{by_name, named_text};
+use crate::named::by_name;
 use crate::pairs::pair_at;
 use json::Writer;
-use litemap::LiteMap;
 use litemap::store::Store;
+use litemap::{LiteMap, VecMap};
 use std::alloc::{AllocError, Global};
 
 /// Writes a map as a JSON text with no space, and returns the text. It is that of the value that `to_json` makes, with the same
@@ -113,7 +113,22 @@ fn object_text<K: JsonKey, V: JsonItem, S: Store<K, V>>(
     Ok(Some(text_of(out)))
 }
 
-pub(crate) fn write_member<V: JsonItem>(
+// Returns the text of the object of items by their keys' names.
+fn named_text<V: JsonItem>(alloc: Global, items: &VecMap<String, &V>) -> Result<String, AllocError>
+    ensures { IfOk result
+        (λ text. IsTextOf (object (named (λ item. V.json item.now) items.now.pairs)) (string_bytes text)) }
+{
+    let mut out = Writer::new(Vec::new(alloc));
+    out.begin_object()?;
+    for place in 0..items.len() {
+        let (name, item) = pair_at(items, place);
+        write_member(alloc, name, *item, &mut out)?;
+    }
+    out.end_object()?;
+    Ok(text_of(out))
+}
+
+fn write_member<V: JsonItem>(
     alloc: Global,
     name: &String,
     item: &V,
@@ -134,8 +149,8 @@ fn rises(place: usize, last: &String, name: &String) -> bool
     place == 0 || last < name
 }
 
-/// Returns what was written, as a string.
-pub(crate) fn text_of(out: Writer) -> String
+// Returns what was written, as a string.
+fn text_of(out: Writer) -> String
     requires { out.before ≡ [] }
     ensures text { string_bytes result ≡ print out.tokens }
     ensures tokens { tokens (string_bytes result) ≡ out.tokens }

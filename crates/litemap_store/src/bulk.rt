@@ -41,7 +41,7 @@ pub fn gather<T: Drop, I: IntoIterator<Item = T>>(
     Ok(items)
 }
 
-/// Pushes the items of an iterator after those of a vector. No size hint is used. If one is refused, all of them are dropped.
+/// Pushes the items of an iterator after those of a vector. No size hint is used. On an error all of them are dropped.
 pub fn gather_behind<T: Drop, I: IntoIterator<Item = T>>(
     items: &mut Vec<T>,
     iter: I,

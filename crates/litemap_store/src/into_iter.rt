@@ -1,4 +1,4 @@
-//! Stores that hand over their pairs, and are joined with others of their type.
+//! Stores that yield their pairs, and are joined with others of their type.
 ghost use Rattle.std.specs.Prelude.{◌≡◌, ◌⊎◌, ◌<◌, ◌≤◌, ◌++◌, List, length, IfErr, OnErr, OnOk};
 ghost use Rattle.std.specs.Iterator.{YieldsFirst, at_most};
 ghost use Rattle.std.specs.Vec.Iter.{into_iter_items};
@@ -11,11 +11,11 @@ use crate::store::{Store, StoreMut};
 use std::mem;
 use std::vec::IntoIter;
 
-/// An iterator that hands over the pairs of a store: a contract sees it as the list of those that are left.
+/// An iterator over the pairs of a store, by value. A contract sees it as the list of those still to come.
 ///
 /// Its `len` is their number, by the law `count`.
 pub trait PairIntoIter<K, V>: Iterator<Item = (K, V)> + ExactSizeIterator + Drop {
-    /// The pairs that are left, in their order.
+    /// The pairs still to come, in their order.
     ghost owned: { Self → List (K × V) };
 
     /// Returns the number of pairs that are left, twice (own), as `PairIter::lm_size_hint`.
@@ -30,7 +30,7 @@ pub trait PairIntoIter<K, V>: Iterator<Item = (K, V)> + ExactSizeIterator + Drop
     ghost count: { (it : Self) → Self.remaining it ≡ at_most (length (owned it)) };
 }
 
-/// A store that hands over its pairs, and is joined with others of its type.
+/// A store that yields its pairs, and is joined with others of its type.
 pub trait StoreIntoIterator<K: Drop, V: Drop>: StoreMut<K, V> + Sized {
     /// The iterator over the pairs.
     type KeyValueIntoIter: PairIntoIter<K, V>;
@@ -39,10 +39,10 @@ pub trait StoreIntoIterator<K: Drop, V: Drop>: StoreMut<K, V> + Sized {
     fn lm_into_iter(self) -> Self::KeyValueIntoIter
         ensures { Self.KeyValueIntoIter.owned result ≡ Self.pairs self };
 
-    /// Puts the pairs of another store behind the own ones.
+    /// Appends the pairs of another store.
     ///
-    /// It takes its room first. Refused for want of memory, the list stays as it was and the other store comes back
-    /// whole; that is only where there was less room than it has pairs. Nothing is said of the room after it.
+    /// It takes its room first. It fails if memory runs out: then the list stays as it was, and the other store comes back whole.
+    /// That is only if there was less room than it has pairs. Nothing is said of the room after it.
     ///
     /// ```rust
     /// let mut begin = [(1, "Monday")].to_vec(alloc)?;
@@ -64,12 +64,12 @@ pub trait StoreIntoIterator<K: Drop, V: Drop>: StoreMut<K, V> + Sized {
         }
     }
 
-    /// Puts the pairs of another store before the own ones, which are put behind those of the other store. So each own
-    /// pair moves once, and each of the other's at most once, where its memory grows.
+    /// Puts the pairs of another store before the own ones, by appending the own ones to that store. So each own pair moves once,
+    /// and each of the other's at most once, if its memory grows.
     ///
-    /// The other store takes its room first. Refused for want of memory, the list stays and the other store comes back whole;
-    /// that is only where one of the two had less room than the other has pairs. Nothing is said of the room after it. A store
-    /// that can grow in front may do so. The Rust crate inserts pair by pair at the front; its vector has one `splice`.
+    /// The other store takes its room first. It fails if memory runs out: then the list stays, and the other store comes back
+    /// whole. That is only if one of the two had less room than the other has pairs. Nothing is said of the room after it. A
+    /// store that can grow in front may do so. The Rust crate inserts pair by pair at the front; its vector has one `splice`.
     fn lm_extend_start(&mut self, mut other: Self) -> Result<(), NoRoom<Self>>
         ensures ok { OnOk result (Self.pairs self.new ≡ Self.pairs other ++ Self.pairs self.old) }
         ensures refused { OnErr result (Self.pairs self.new ≡ Self.pairs self.old) }
@@ -88,7 +88,7 @@ pub trait StoreIntoIterator<K: Drop, V: Drop>: StoreMut<K, V> + Sized {
     }
 }
 
-/// Puts the pairs that an iterator yields after those of the store.
+/// Appends the pairs that an iterator yields.
 pub(crate) fn append_each<K: Drop, V: Drop, S: StoreMut<K, V>, I: PairIntoIter<K, V>>(
     store: &mut S,
     pairs: I,

@@ -1,4 +1,4 @@
-//! The body behind `extend_from_litemap`: one store's pairs are merged into another's.
+//! The body of `extend_from_litemap`: one store's pairs are merged into another's.
 ghost use Rattle.std.specs.Prelude.{◌≡◌, ◌≢◌, ◌⊎◌, ◌+◌, ◌<◌, ◌++◌, [], length, None, IfOk, IfErr, OnErr};
 ghost use Rattle.litemap_store.specs.Counts.{RisesByAtMost};
 ghost use Rattle.litemap_store.specs.Merge.{Apart, IsUndone, Merges, MergesInto, searches_cost};
@@ -16,13 +16,13 @@ use crate::sorted::lies_below;
 use crate::store::{Count, NoRoom, StoreIntoIterator};
 use std::alloc::Global;
 
-// A merge puts pairs in one by one where there are fewer than so many for each binary digit of both lengths' sum.
+// A merge puts pairs in one by one if there are fewer than so many for each binary digit of both lengths' sum.
 const FEW_PER_DIGIT: usize = 3;
 
-/// Merges a store's pairs into another's. Where an equal key is there, that key stays and takes the new value; the old
-/// values are answered, each with its new key, in order, or `None` where there are none.
+/// Merges a store's pairs into another's. A key that is there stays, and takes the new value. Returns the displaced values, each
+/// with its new key, in order, or `None` if there are none.
 ///
-/// It is the body of a map's `extend_from_litemap`, which says what it compares, what it moves and when it is refused.
+/// It is the body of a map's `extend_from_litemap`, which says what it compares, what it moves and when it fails.
 pub fn extend_from_store<K: Ord + Drop, V: Drop, S: StoreIntoIterator<K, V> + Drop>(
     alloc: Global,
     store: &mut S,
@@ -45,7 +45,7 @@ pub fn extend_from_store<K: Ord + Drop, V: Drop, S: StoreIntoIterator<K, V> + Dr
     merge_mixed(alloc, store, other, count)
 }
 
-// Puts the pairs of another store behind. Where one of them is empty it takes no memory.
+// Appends the pairs of another store. If one of them is empty it takes no memory.
 fn put_behind<K: Drop, V: Drop, S: StoreIntoIterator<K, V> + Drop>(
     store: &mut S,
     other: S,
@@ -80,8 +80,8 @@ fn put_in_front<K: Drop, V: Drop, S: StoreIntoIterator<K, V>>(
     Ok(None)
 }
 
-// Merges stores whose pairs lie mixed, and answers what is left over: side by side where the other one has many pairs, pair by
-// pair where it has few, else by one search for each of its pairs in one pass.
+// Merges stores whose pairs are mixed, and returns what is displaced: side by side if the other one has many pairs, pair by pair
+// if it has few, else by one search for each of its pairs in one pass.
 fn merge_mixed<K: Ord + Drop, V: Drop, S: StoreIntoIterator<K, V> + Drop>(
     alloc: Global,
     store: &mut S,

@@ -1,4 +1,4 @@
-//! Room that is taken first, pairs that go into a store which has it, and pairs that leave a store from its end.
+//! Capacity that is taken first, pairs that go into a store which has it, and pairs that leave a store from its end.
 ghost use Rattle.std.specs.Prelude.{◌≡◌, ◌+◌, ◌<◌, ◌≤◌, ◌++◌, ◌∷◌, [], drop, insert, length, reverse, take};
 ghost use Rattle.std.specs.Prelude.{vec_capacity, vec_len, IfOk};
 ghost use Rattle.litemap_store.specs.Merge.{IsLeft};
@@ -21,7 +21,7 @@ pub(crate) fn room_for<K: Drop, V: Drop, S: StoreMut<K, V>>(
     Ok((side, store))
 }
 
-/// Puts a pair behind those of the store.
+/// Appends a pair.
 pub(crate) fn push_reserved<K: Drop, V: Drop, S: StoreMut<K, V>>(store: &mut S, key: K, value: V)
     requires { 0 < S.room store.old }
     ensures pairs { S.pairs store.new ≡ S.pairs store.old ++ (key, value) ∷ [] }
@@ -42,7 +42,7 @@ pub fn insert_reserved<T>(items: &mut Vec<T>, index: usize, item: T)
     items[index..].rotate_right(1);
 }
 
-/// Puts pairs behind those of the store, in reverse order.
+/// Appends pairs, in reverse order.
 pub(crate) fn put_up<K: Drop, V: Drop, S: StoreMut<K, V>>(store: &mut S, mut pairs: Vec<(K, V)>)
     requires { length pairs.items ≤ S.room store.old }
     ensures { S.pairs store.new ≡ S.pairs store.old ++ reverse pairs.items }
@@ -52,7 +52,7 @@ pub(crate) fn put_up<K: Drop, V: Drop, S: StoreMut<K, V>>(store: &mut S, mut pai
     }
 }
 
-/// The last pair, which leaves the store.
+/// Takes the last pair out of the store.
 pub(crate) fn take_last<K, V, S: StoreMut<K, V>>(store: &mut S) -> (K, V)
     requires { 0 < length (S.pairs store.old) }
     ensures pairs { S.pairs store.old ≡ S.pairs store.new ++ result ∷ [] }

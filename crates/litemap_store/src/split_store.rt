@@ -1,4 +1,4 @@
-//! The body behind `split_off`: the pairs of a store from an index on become a store of their own.
+//! The body of `split_off`: the pairs of a store from an index on become a store of their own.
 ghost use Rattle.std.specs.Prelude.{◌≡◌, ◌≢◌, ◌⊎◌, ◌+◌, ◌≤◌, IfOk, IsOk, OnErr, OnOk, drop, length, take};
 
 use crate::reserved::{put_up, room_for, take_from};
@@ -8,7 +8,7 @@ use std::mem;
 
 /// Takes the pairs from an index on out of a store, into one of their own (own). The other pairs stay where they are.
 ///
-/// It is the body of a map's `split_off`, which says what it moves and when it is refused.
+/// It is the body of a map's `split_off`, which says what it moves and when it fails.
 pub fn split_store<K: Drop, V: Drop, S: StoreMut<K, V> + Drop>(
     alloc: Global,
     store: &mut S,

@@ -1,18 +1,14 @@
-//! Entries that are known to be there, read one by one, and a map of them.
-ghost use Rattle.std.specs.Prelude.{◌≡◌, ◌+◌, ◌<◌, ◌∷◌, [], IfOk, OnErr, Some, length, map, slice_get};
+//! Entries that are known to be there, read one by one.
+ghost use Rattle.std.specs.Prelude.{◌≡◌, ◌+◌, ◌<◌, ◌∷◌, [], Some, slice_get};
 ghost use Rattle.litemap_store.specs.Counts.{RisesByAtMost};
-ghost use Rattle.litemap_store.specs.Pairs.{Rising, place};
+ghost use Rattle.litemap_store.specs.Pairs.{place};
 ghost use Rattle.name_index.specs.Entries.{AreEntries, BeginsPair, BeginsText, IsScanned, OfEntries};
 ghost use Rattle.name_index.specs.Tables.{text_order};
 ghost use Rattle.name_table.specs.Parts.{Begins, pair_parts, text_parts};
 ghost use Rattle.name_table.specs.Remaining.{shown};
 
-use crate::name_entries::NameEntries;
-use litemap::LiteMap;
 use litemap_store::store::Count;
-use name_table::NameMap;
 use name_table::parts::Cursor;
-use std::alloc::{AllocError, Global};
 use std::cmp::Ordering;
 
 /// Reads the string that the bytes begin with, after its length, and returns it with the bytes after it.
@@ -72,17 +68,4 @@ pub fn entry_at<'a>(entries: &'a [u8], count: usize, index: usize) -> (&'a str, 
     }
     let (pair, _) = read_valid_pair(rest);
     pair
-}
-
-/// Makes the map of entries whose keys ascend. No keys are compared.
-pub fn map_of<'a>(alloc: Global, entries: NameEntries<'a>) -> Result<NameMap<'a>, AllocError>
-    requires { Rising text_order entries }
-    ensures pairs { IfOk result (λ made. map shown made.pairs ≡ entries.entry) }
-    ensures refused { OnErr result (0 < length entries.entry) }
-{
-    let mut pairs = Vec::with_capacity(alloc, entries.len())?;
-    for pair in entries {
-        pairs.push(pair)?;
-    }
-    Ok(LiteMap::from_sorted_store_unchecked(pairs))
 }

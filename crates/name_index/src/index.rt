@@ -9,9 +9,8 @@ ghost use Rattle.name_index.specs.Prefixes.{begins};
 ghost use Rattle.name_index.specs.Tables.{OfTable, text_order};
 ghost use Rattle.name_table.specs.Remaining.{shown};
 
-use crate::entries::map_of;
 use crate::fault::NameIndexFault;
-use crate::name_entries::NameEntries;
+use crate::name_entries::{NameEntries, map_of};
 use crate::offsets::{entries_between, offsets_of, pair_of, search};
 use crate::prefixes::partition_point;
 use crate::table::NameTable;

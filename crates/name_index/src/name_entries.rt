@@ -1,13 +1,18 @@
-//! The iterator over the entries of a table.
-ghost use Rattle.std.specs.Prelude.{◌≡◌, length, Some};
+//! The iterator over the entries of a table, and a map of them.
+ghost use Rattle.std.specs.Prelude.{◌≡◌, ◌<◌, IfOk, OnErr, Some, length, map};
 ghost use Rattle.std.specs.Iterator.{at_most};
 ghost use Rattle.std.specs.Map.Iter.{TakesFirst};
 ghost use Rattle.litemap_store.specs.Hints.{HintsExactly};
+ghost use Rattle.litemap_store.specs.Pairs.{Rising};
 ghost use Rattle.name_index.specs.Entries.{AreEntries, OfEntries};
 ghost use Rattle.name_index.specs.Left.{Left, Left-prop};
+ghost use Rattle.name_index.specs.Tables.{text_order};
 ghost use Rattle.name_table.specs.Remaining.{shown};
 
 use crate::entries::read_valid_pair;
+use litemap::LiteMap;
+use name_table::NameMap;
+use std::alloc::{AllocError, Global};
 use std::iter::FusedIterator;
 use std::marker::Model;
 
@@ -76,3 +81,16 @@ impl<'a> ExactSizeIterator for NameEntries<'a> {
 }
 
 impl<'a> FusedIterator for NameEntries<'a> {}
+
+/// Makes the map of entries whose keys ascend. No keys are compared.
+pub fn map_of<'a>(alloc: Global, entries: NameEntries<'a>) -> Result<NameMap<'a>, AllocError>
+    requires { Rising text_order entries }
+    ensures pairs { IfOk result (λ made. map shown made.pairs ≡ entries.entry) }
+    ensures refused { OnErr result (0 < length entries.entry) }
+{
+    let mut pairs = Vec::with_capacity(alloc, entries.len())?;
+    for pair in entries {
+        pairs.push(pair)?;
+    }
+    Ok(LiteMap::from_sorted_store_unchecked(pairs))
+}

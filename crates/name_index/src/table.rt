@@ -8,9 +8,9 @@ ghost use Rattle.name_index.specs.Faults.{IsFault};
 ghost use Rattle.name_index.specs.Tables.{OfTable, text_order};
 ghost use Rattle.name_table.specs.Remaining.{shown};
 
-use crate::entries::{entry_at, map_of, scan};
+use crate::entries::{entry_at, scan};
 use crate::fault::NameTableFault;
-use crate::name_entries::NameEntries;
+use crate::name_entries::{NameEntries, map_of};
 use crate::rising::check;
 use litemap_read::PairSource;
 use litemap_store::store::Count;

@@ -3,8 +3,8 @@ use crate::answer::{Answer, Pairs, STEP};
 use crate::call::{Call, Made, Map};
 use crate::counted::{Key, Value};
 use crate::line::Line;
-use crate::stores;
-use crate::tested::{self, Tested, map_of, store_of};
+use crate::tested::{Tested, map_of, store_of};
+use crate::{bulk, changes, copies, entries, looks, stores, walks};
 use litemap::LiteMap;
 use litemap::store::{Store, StoreConstEmpty};
 use std::alloc::{AllocError, Global};
@@ -173,7 +173,7 @@ impl<S: Tested<Key, Value>> Bench<S> {
         if line.is_of_store() {
             stores::call(&mut self.store, call, to)
         } else {
-            tested::call(&mut self.map, call, to)
+            call_of_map(&mut self.map, call, to)
         }
     }
 
@@ -227,4 +227,15 @@ fn summed(sum: u64, text: &str) -> u64 {
         sum ^= sum >> 29;
     }
     sum
+}
+
+// Makes a call of a map that every store has, but for walks that lend, if the name is one.
+fn call_of_map<S: Tested<Key, Value>>(map: &mut Map<S>, call: &Call<'_>, to: &mut Answer) -> bool {
+    looks::look(map, call, to)
+        || changes::change(map, call, to)
+        || entries::enter(map, call, to)
+        || copies::copy(map, call, to).is_some()
+        || walks::taken(map, call, to).is_some()
+        || bulk::gather(map, call, to)
+        || copies::compare(map, call, to).is_some()
 }

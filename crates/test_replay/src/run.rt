@@ -15,9 +15,6 @@ use std::alloc::{AllocError, Global};
 use std::rc::Rc;
 use std::{fs, io};
 
-// The names of the stores, in their order below.
-const STORES: [&str; 5] = ["vec", "columns", "short", "fixed", "shrinking"];
-
 // How many bytes the text of what is returned takes at most.
 const LONGEST: usize = 1 << 14;
 
@@ -45,7 +42,6 @@ struct Replay {
     short: Bench<ShortStore<Key, Value>>,
     fixed: Bench<FixedRoom<Key, Value>>,
     shrinking: Bench<Shrinking<Key, Value>>,
-    is_on: [bool; 5],
     order: Order,
     start: Start,
     seen: Rc<Seen>,
@@ -64,7 +60,6 @@ impl Replay {
             short: Bench::new(alloc),
             fixed: Bench::new(alloc),
             shrinking: Bench::new(alloc),
-            is_on: [false; 5],
             order: Order::Number,
             start: Start {
                 len: 0,
@@ -80,15 +75,6 @@ impl Replay {
     // Does a line that makes no call: whether it is one.
     fn settle(&mut self, text: &str) -> bool {
         if text.is_empty() || text.starts_with('#') {
-            return true;
-        }
-        if let Some(names) = text.strip_prefix("on ") {
-            self.is_on = [false; 5];
-            for name in names.split(' ') {
-                for (is_on, store) in self.is_on.iter_mut().zip(STORES) {
-                    *is_on |= name == store;
-                }
-            }
             return true;
         }
         match text.strip_prefix("with ") {
@@ -110,10 +96,10 @@ impl Replay {
         Some(())
     }
 
-    // Makes the call of a line over the store at an index.
+    // Makes the call of a line over the store of a name.
     fn make(
         &mut self,
-        place: usize,
+        store: &str,
         line: &Line<'_>,
         words: &[&str],
         alloc: Global,
@@ -129,13 +115,24 @@ impl Replay {
         let (start, to) = (self.start, &mut self.answer);
         to.clear();
         self.made = self.made.wrapping_add(1);
-        match place {
-            0 => make_over!(self.vec, line, start, call, to, rename, view, vector),
-            1 => make_over!(self.columns, line, start, call, to, rename),
-            2 => make_over!(self.short, line, start, call, to, rename, view),
-            3 => make_over!(self.fixed, line, start, call, to, rename),
-            _ => make_over!(self.shrinking, line, start, call, to),
+        match store {
+            "vec" => make_over!(self.vec, line, start, call, to, rename, view, vector),
+            "columns" => make_over!(self.columns, line, start, call, to, rename),
+            "short" => make_over!(self.short, line, start, call, to, rename, view),
+            "fixed" => make_over!(self.fixed, line, start, call, to, rename),
+            "shrinking" => make_over!(self.shrinking, line, start, call, to),
+            _ => Ok(no_store(to)),
         }
+    }
+}
+
+// What comes of a line over a store that is not there.
+fn no_store(to: &mut Answer) -> Outcome {
+    to.word("no store");
+    Outcome {
+        is_right: false,
+        compared: 0,
+        leaks: false,
     }
 }
 
@@ -153,31 +150,34 @@ pub fn lines(rt: &HostRuntime, name: &str, text: &str, is_marked: bool) -> io::R
 }
 
 fn each_line(rt: &HostRuntime, replay: &mut Replay, name: &str, text: &str) -> io::Result<()> {
+    let mut stores = "";
     for (place, text) in text.lines().enumerate() {
+        if let Some(names) = text.strip_prefix("on ") {
+            stores = names;
+            continue;
+        }
         if replay.settle(text) {
             continue;
         }
         match line::parse(text) {
             Some(line) if line.goes_on && replay.is_marked => {}
-            Some(line) => each_store(rt, replay, (name, place), &line)?,
+            Some(line) => each_store(rt, replay, stores, (name, place), &line)?,
             None => println!(rt; "{name}:{}: bad line", place.wrapping_add(1))?,
         }
     }
     Ok(())
 }
 
-// Makes the call of a line over each store that is on.
+// Makes the call of a line over each of these stores.
 fn each_store(
     rt: &HostRuntime,
     replay: &mut Replay,
+    stores: &str,
     (file, place): (&str, usize),
     line: &Line<'_>,
 ) -> io::Result<()> {
     let words: Vec<&str> = line.call.split(' ').collect(rt.alloc())?;
-    for (store, name) in STORES.iter().enumerate() {
-        if !replay.is_on.get(store).copied().unwrap_or(false) {
-            continue;
-        }
+    for store in stores.split(' ') {
         let outcome = replay.make(store, line, &words, rt.alloc())?;
         if replay.is_marked || !outcome.is_right {
             let (number, made, text) = (
@@ -187,7 +187,7 @@ fn each_store(
             );
             let leaks = if outcome.leaks { ", leaks" } else { "" };
             println!(rt;
-                "{file}:{number} {name} {} = {text} | {made}{leaks}",
+                "{file}:{number} {store} {} = {text} | {made}{leaks}",
                 line.text
             )?;
         }

@@ -1,8 +1,6 @@
-//! The stores, and how a call of a map over one is made.
-use crate::answer::Answer;
+//! The stores, and the maps and stores that lines begin with.
 use crate::call::{Call, Map};
 use crate::counted::{Key, Value};
-use crate::{bulk, changes, copies, entries, looks, walks};
 use example_store::fixed_room::FixedRoom;
 use example_store::shrinking::Shrinking;
 use litemap::LiteMap;
@@ -29,17 +27,6 @@ impl<K: Ord + Drop, V: Drop> Tested<K, V> for ColumnStore<K, V> {}
 impl<K: Ord + Drop, V: Drop> Tested<K, V> for FixedRoom<K, V> {}
 
 impl<K: Ord + Drop, V: Drop> Tested<K, V> for Shrinking<K, V> {}
-
-/// Makes a call of a map that every store has, but for walks that lend, if the name is one.
-pub fn call<S: Tested<Key, Value>>(map: &mut Map<S>, call: &Call<'_>, to: &mut Answer) -> bool {
-    looks::look(map, call, to)
-        || changes::change(map, call, to)
-        || entries::enter(map, call, to)
-        || copies::copy(map, call, to).is_some()
-        || walks::taken(map, call, to).is_some()
-        || bulk::gather(map, call, to)
-        || copies::compare(map, call, to).is_some()
-}
 
 /// A map of so many pairs, `2:20`, `4:40` and so on, made with room for so many.
 pub fn map_of<S: Tested<Key, Value>>(

@@ -1,4 +1,4 @@
-//! One linear merge of pairs that rise into a store.
+//! One linear merge of ascending pairs into a store.
 ghost use Rattle.std.specs.Prelude.{◌≡◌, ◌+◌, ◌≤◌, ◌++◌, [], reverse, OnOk, OnErr, length, Some, vec_capacity};
 ghost use Rattle.litemap_store.specs.Counts.{RisesByAtMost};
 ghost use Rattle.litemap_store.specs.Last.{Last};
@@ -11,12 +11,12 @@ use std::alloc::{AllocError, Global};
 use std::cmp::Ordering;
 use std::mem;
 
-/// Puts the pairs of a vector in, which is left empty, by at most one comparison for each pair of both. Refused, it keeps them.
+/// Puts the pairs of a vector in, which is left empty, by at most one comparison for each pair of both. On an error the vector
+/// keeps them.
 ///
-/// All room is taken first: a side vector and a fresh store, each for all pairs. Each pair then moves into the side
-/// vector and from there into the fresh store, which becomes the store. So at its peak it holds each pair once, in room
-/// for three pairs for each of the store and up to four for each new one (six for up to 512), that which they were gathered
-/// in included.
+/// All capacity is taken first: a side vector and a fresh store, each for all pairs. Each pair then moves into the side vector,
+/// and from there into the fresh store, which becomes the store. So at its peak it holds each pair once, with capacity for three
+/// pairs for each of the store, and up to four for each new one (six for up to 512), with the vector in which they were gathered.
 pub fn merge<K: Ord + Drop, V: Drop, S: StoreMut<K, V> + Drop>(
     alloc: Global,
     store: &mut S,
@@ -42,7 +42,7 @@ pub fn merge<K: Ord + Drop, V: Drop, S: StoreMut<K, V> + Drop>(
     Ok(())
 }
 
-// How the greatest key of the store stands to that of the pairs.
+// How the greatest key of the store compares with that of the pairs.
 fn greater_end<K: Ord, V, S: Store<K, V>>(
     store: &S,
     pairs: &[(K, V)],
@@ -67,7 +67,7 @@ fn greater_end<K: Ord, V, S: Store<K, V>>(
     Some(count.cmp(old, new))
 }
 
-// Takes all pairs from the two ends, the greater key first; of equal keys the store's pair is given up.
+// Takes all pairs from the two ends, the greater key first; of equal keys the store's pair is dropped.
 pub(crate) fn take_down<K: Ord + Drop, V: Drop, S: StoreMut<K, V>>(
     store: &mut S,
     mut pairs: Vec<(K, V)>,
@@ -87,7 +87,7 @@ pub(crate) fn take_down<K: Ord + Drop, V: Drop, S: StoreMut<K, V>>(
     }
 }
 
-// The pair of the greatest key, which leaves the store or the pairs; of equal keys the store's pair is given up.
+// Takes the pair of the greatest key out of the store or the pairs; of equal keys the store's pair is dropped.
 fn take_greatest<K: Ord + Drop, V: Drop, S: StoreMut<K, V>>(
     store: &mut S,
     pairs: &mut Vec<(K, V)>,

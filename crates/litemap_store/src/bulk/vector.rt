@@ -81,7 +81,7 @@ pub fn put_in_vec<K: Ord + Drop, V: Drop>(
     merge_in_vec(alloc, store, pairs, count)
 }
 
-// Appends items in one move. If there are none, and the capacity is less than the new ones' number, their vector takes the place.
+// Appends items in one move. If there are none, and the capacity is less than the new ones' number, their vector replaces it.
 fn append_in_vec<T>(store: &mut Vec<T>, items: &mut Vec<T>) -> Result<(), AllocError>
     ensures behind { OnOk result (store.new.items ≡ store.old.items ++ items.old.items) }
     ensures refused { OnErr result (store.new.items ≡ store.old.items) }

@@ -10,9 +10,9 @@ use crate::searches::search;
 use crate::store::{Count, NoRoom, Store, StoreMut};
 use std::alloc::Global;
 
-/// Merges a store's pairs into another's, each by one search, and answers what is left over.
+/// Merges a store's pairs into another's, each by one search, and returns what is displaced.
 ///
-/// All room is taken first: a side vector and a fresh store for the pairs of both, and the same for what is left over.
+/// All capacity is taken first: a side vector and a fresh store for the pairs of both, and the same for what is displaced.
 /// Each pair then moves into a side vector and from there into its store, so each moves a constant number of times.
 pub fn merge_in_one_pass<K: Ord + Drop, V: Drop, S: StoreMut<K, V> + Drop>(
     alloc: Global,
@@ -40,7 +40,7 @@ pub fn merge_in_one_pass<K: Ord + Drop, V: Drop, S: StoreMut<K, V> + Drop>(
     Ok(unless_empty(rest))
 }
 
-// Takes all pairs of both stores aside, the greatest key first, and the old values that new ones drive out.
+// Takes all pairs of both stores aside, the greatest key first, and the values that new ones displace.
 fn take_aside<K: Ord + Drop, V: Drop, S: StoreMut<K, V> + Drop>(
     store: &mut S,
     mut other: S,
@@ -67,8 +67,8 @@ fn take_aside<K: Ord + Drop, V: Drop, S: StoreMut<K, V> + Drop>(
     take_from(store, 0, side);
 }
 
-// Takes the pairs above a key aside, and then the new pair: where an equal key is there, that key with the new value, which
-// drives out the old one.
+// Takes the pairs above a key aside, and then the new pair: if an equal key is there, that key with the new value, which
+// displaces the old one.
 fn take_above<K: Ord + Drop, V: Drop, S: StoreMut<K, V>>(
     store: &mut S,
     key: K,

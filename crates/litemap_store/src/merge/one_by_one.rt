@@ -11,9 +11,9 @@ use crate::store::{Count, NoRoom, Store, StoreIntoIterator, StoreMut};
 use std::alloc::Global;
 use std::mem;
 
-/// Merges a store's pairs into another's, each by one search, and answers what is left over. All room is taken first.
+/// Merges a store's pairs into another's, each by one search, and returns what is displaced. All capacity is taken first.
 ///
-/// A pair that falls between others moves those behind it, so the moves are up to the product of the two lengths.
+/// A pair that falls between others moves those after it, so the moves are up to the product of the two lengths.
 pub fn merge_each<K: Ord + Drop, V: Drop, S: StoreIntoIterator<K, V> + Drop>(
     alloc: Global,
     store: &mut S,
@@ -36,7 +36,7 @@ pub fn merge_each<K: Ord + Drop, V: Drop, S: StoreIntoIterator<K, V> + Drop>(
     Ok(unless_empty(rest))
 }
 
-// Puts each pair in, and what it drives out behind the rest. Both stores have room for all.
+// Puts each pair in, and appends what it displaces to the rest. Both stores have room for all.
 fn put_each<K: Ord + Drop, V: Drop, S: StoreIntoIterator<K, V>>(
     store: &mut S,
     other: S,
@@ -58,7 +58,7 @@ fn put_each<K: Ord + Drop, V: Drop, S: StoreIntoIterator<K, V>>(
     }
 }
 
-// Puts a pair in by one search, and answers its key with the value that it drives out. The store has room for it.
+// Puts a pair in by one search, and returns its key with the value that it displaces. The store has room for it.
 fn put_in<K: Ord + Drop, V: Drop, S: StoreMut<K, V>>(
     store: &mut S,
     key: K,
@@ -84,7 +84,7 @@ fn put_in<K: Ord + Drop, V: Drop, S: StoreMut<K, V>>(
     }
 }
 
-// Puts a pair behind those of the store, if there is one. The store has room for it.
+// Appends a pair, if there is one. The store has room for it.
 fn push_some<K: Drop, V: Drop, S: StoreMut<K, V>>(store: &mut S, pair: Option<(K, V)>)
     requires { 0 < S.room store.old }
     ensures pairs { S.pairs store.new ≡ S.pairs store.old ++ cons_option pair [] }

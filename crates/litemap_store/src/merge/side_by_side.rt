@@ -15,9 +15,9 @@ use std::cmp::Ordering;
 use std::marker::Model;
 use std::mem;
 
-/// Merges a store's pairs into another's, by at most one comparison for each pair of both, and answers what is left over.
+/// Merges a store's pairs into another's, by at most one comparison for each pair of both, and returns what is displaced.
 ///
-/// All room is taken first: a fresh store for the pairs of both, which becomes the store, and one for what is left over. Each
+/// All capacity is taken first: a fresh store for the pairs of both, which becomes the store, and one for what is displaced. Each
 /// pair then moves a constant number of times.
 pub fn merge_side_by_side<K: Ord + Drop, V: Drop, S: StoreIntoIterator<K, V> + Drop>(
     alloc: Global,
@@ -44,7 +44,7 @@ pub fn merge_side_by_side<K: Ord + Drop, V: Drop, S: StoreIntoIterator<K, V> + D
     Ok(unless_empty(rest))
 }
 
-// Puts the pairs of both into the store, the lower key first, and what is left over into the rest. They have room for all.
+// Puts the pairs of both into the store, the lower key first, and what is displaced into the rest. They have room for all.
 fn put_both<K: Ord + Drop, V: Drop, S: StoreMut<K, V>, I: PairIntoIter<K, V>>(
     store: &mut S,
     rest: &mut S,
@@ -68,7 +68,7 @@ fn put_both<K: Ord + Drop, V: Drop, S: StoreMut<K, V>, I: PairIntoIter<K, V>>(
     }
 }
 
-// How the first old key stands to the first new one: where there is no pair it is above all.
+// How the first old key compares with the first new one. If there is no pair, it counts as above all.
 fn lower_first<K: Ord, V, I: PairIntoIter<K, V>>(
     olds: &Peekable<K, V, I>,
     news: &Peekable<K, V, I>,
@@ -119,7 +119,7 @@ fn take_lower<K: Ord + Drop, V: Drop, S: StoreMut<K, V>, I: PairIntoIter<K, V>>(
     }
 }
 
-// The pairs that an iterator has still to hand over, of which the first can be looked at. A contract sees their list.
+// The pairs that an iterator has still to yield, of which the first can be looked at. A contract sees their list.
 #[derive(Drop)]
 struct Peekable<K, V, I: PairIntoIter<K, V>> {
     first: Option<(K, V)>,

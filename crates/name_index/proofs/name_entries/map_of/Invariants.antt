@@ -1,6 +1,6 @@
 use Rattle.std.proofs.Common.{◌≡◌, ◌++◌, map}
 use Rattle.name_table.specs.Remaining.{shown}
-use Rattle.name_index.proofs.entries.map_of.Given as goal
+use Rattle.name_index.proofs.name_entries.map_of.Given as goal
 
 -- what was read, and after it what is still to come
 abbrev pub invariant-loop-pair : goal.invariant-loop-pair

@@ -3,7 +3,7 @@ use Rattle.serde_json.specs.Data.{object}
 use Rattle.litemap_json.specs.Written.{named}
 use Rattle.litemap_json.proofs.ByPlace.{at_place}
 use Rattle.litemap_json.proofs.Texts.{named_end, named_more, text_of_tree}
-use Rattle.litemap_json.proofs.named.named_text.Goals as goal
+use Rattle.litemap_json.proofs.text.named_text.Goals as goal
 
 pub loop-place-preserved : goal.loop-place-preserved
 loop-place-preserved g c =

@@ -1,7 +1,7 @@
 -- the members so far
 use Rattle.std.proofs.Common.{◌≡◌, []}
 use Rattle.litemap_json.proofs.Texts.{NamedHeld}
-use Rattle.litemap_json.proofs.named.named_text.Given as goal
+use Rattle.litemap_json.proofs.text.named_text.Given as goal
 
 abbrev pub invariant-loop-place : goal.invariant-loop-place
 invariant-loop-place g l = (l.out.before ≡ []) × NamedHeld (λ r. g.V.JsonItem.json r.now) l.items.pairs l.place l.out.tokens
