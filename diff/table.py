@@ -1,4 +1,4 @@
-"""The table of all calls, diff/calls.txt, compared with docs/API.md, with the calls of lines, and with the Rust crate."""
+"""The table of all calls, diff/calls.txt, compared with docs/api, with the calls of lines, and with the Rust crate."""
 import re
 
 import lines
@@ -15,12 +15,12 @@ def rows(top):
 
 
 def listed(top):
-    """The calls of docs/API.md, each with its group, and the traits of others that a map has."""
+    """The calls of the pages in docs/api, each with its group, and the traits of others that a map has."""
     group = call = ""
-    for line in (top / "docs" / "API.md").read_text().splitlines():
-        if line.startswith("### "):
-            group = line.removeprefix("### ")
-        elif found := re.match(r"\[([\w:]+)\]\(\.\./crates/", line):
+    for line in "\n".join(page.read_text() for page in sorted((top / "docs" / "api").glob("*.md"))).splitlines():
+        if line.startswith("# "):
+            group = line.removeprefix("# ")
+        elif found := re.match(r"## ([\w:]+)$", line):
             call = found[1]
             yield call, group
         elif re.match(rf"(?:pub )?fn {call.split(':')[-1]}_counted\b", line):
@@ -33,13 +33,13 @@ def missing(top, crate=None):
     """What the table lacks of ours, and of a Rust crate's, and what it has and isn't there."""
     table, calls = list(rows(top)), dict(listed(top))
     named = {ours for ours, _, _ in table}
-    lacks = [f"{it}, which docs/API.md lists" for it, group in calls.items() if not {it, f"group {group}"} & named]
+    lacks = [f"{it}, which docs/api lists" for it, group in calls.items() if not {it, f"group {group}"} & named]
     theirs = set(re.findall(r"\bpub (?:const )?fn (\w+)", (crate / "src" / "map.rs").read_text() if crate else ""))
     lacks += [f"the Rust crate's {it}" for it in sorted(theirs - set(re.findall(r"\w+", " ".join(row[2] for row in table))))]
     made = {call for _, calls_of_lines, _ in table for call in calls_of_lines} - {"-"}
     picked = {name for groups in lines.CALLS_OVER.values() for _, _, names in groups for name in names.split(" ")}
     lacks += [f"{it}, which lines call" for it in sorted(picked - made)]
     there = {*calls, *(f"group {group}" for group in calls.values()), "-"}
-    spare = [f"{it}, which docs/API.md does not list" for it in sorted(named - there)]
+    spare = [f"{it}, which docs/api does not list" for it in sorted(named - there)]
     spare += [f"{it}, which no line calls" for it in sorted(made - picked)]
     return [f"diff/calls.txt has no row for {it}" for it in lacks] + [f"diff/calls.txt names {it}" for it in spare]

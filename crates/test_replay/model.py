@@ -771,7 +771,7 @@ STORED = [("lm_pair_mut", " 7"), ("lm_replace", " 1 7"), ("lm_remove", "")]
 
 
 def refusable():
-    """Each call that may be refused, at each length up to 70, and at two that are longer."""
+    """Each call that may be refused, at each length up to 70, and at three that are longer."""
     for length in [*range(71), 100, 129, 513]:
         end = 2 * length + 1
         given = [f"{end},1,1", f"1,{length},2", f"{2 * end},{length},-1"]

@@ -1,39 +1,17 @@
-"""The list of all calls in docs/API.md, and diff/calls.txt, are of the sources; each call says what it costs, and is tried."""
+"""The pages of all calls, and diff/calls.txt, are of the sources; each call says what it costs, and is tried."""
 import re
 import sys
 
-from lib.checks.pages import TEXTS, read
+from lib.checks.manual import END, ENTRIES, GROUPS, INDEX, START, index_text, pages, sources_of
+from lib.checks.pages import BLOCKS, CODE, TEXTS, read
+from lib.checks.scopes import NAME, SCOPES, names_in
 from lib.checks.sources import CALLS, IMPLS, LIBRARIES, SOURCES
+from lib.checks.words import WORDS
 from lib.shared import TOP
 
 sys.path.append(str(TOP / "diff"))
 import table
 
-PAGE = "docs/API.md"
-START = "<!-- The list below is written by bin/check. -->\n"
-# What one wants to do, and the sources of its calls.
-GROUPS = {
-    "Make a map": "litemap: map",
-    "Look up": "litemap: map/look map/ranges",
-    "Change": "litemap: map/change map/take try_fault",
-    "Write a value in place": "litemap: map/write",
-    "Entries": "litemap: map/entry",
-    "Many at once": "litemap: map/bulk",
-    "Merge and compare keys": "litemap: map/merge map/sets",
-    "Walk": "litemap: map/iter map/iter/keys_values map/iter/range",
-    "Compare and hash": "litemap: map/comparisons",
-    "Convert and borrow": "litemap: map/conversions map/becomes map/slice",
-    "Tables in constants": "litemap: const_family",
-    "Read from a source": "litemap_read: source vec_source read laws",
-    "JSON": "litemap_json: write text read fault told laws item pairs written",
-    "Through serde": "litemap_serde: write read pairs holder",
-    "Name tables": "name_table: read write name_bytes cursor fault laws; "
-    "name_index: table index name_entries indexed checked index_write fault laws",
-    "What a call can be asked by": "litemap_store: query",
-    "Stores": "litemap_store: store into_iter vec_impl slice_impl slice_iter count no_room retain reserved slice_search merge "
-    "split_store; litemap_short: short_store short_iter; litemap_columns: lib column_store column_iter",
-    "Laws, for proofs": "litemap_store: laws",
-}
 # The libraries with no call for the page: why.
 NOT_LISTED = {
     **dict.fromkeys(["names_core", "names_main", "names"], "the program, which README tells"),
@@ -53,6 +31,8 @@ FREE = {
     "Entry": "and_modify",
 }
 FREE = [f"{owner}::{name}" for owner, names in FREE.items() for name in names.split()]
+# The words that mean the same in Rust, and those that the page tells with the signs.
+OF_RUST = "Some None Ok Err Option Result Bool true false String List ℕ ⊤ Data Type".split()
 # The crates of tests, and the examples that are programs of rows too.
 TESTS = "crates/test_*/src crates/example_formats/src crates/example_uses/src".split()
 # The calls that no test names, and those that no wrong body names, beside laws, whose bodies do nothing: why.
@@ -81,48 +61,71 @@ NOT_TURNED = {
 }
 
 
-def sources_of(group):
-    """The sources of a group."""
-    parts = [part.split(": ") for part in GROUPS[group].split("; ")]
-    return [f"{library}/{name}" for library, names in parts for name in names.split()]
-
-
-def block(text):
-    return f"```text\n{text}\n```\n\n"
-
-
-def entries(calls):
-    """What stands in the page of the calls of a source, each with its counted twin below it."""
-    labels = {call.label: call for call in calls}
-    for call in calls:
-        twin = labels.get(f"{call.label}_counted")
-        if call.label.removesuffix("_counted") not in labels or not call.label.endswith("_counted"):
-            yield f"[{call.label}](../crates/{call.source.replace('/', '/src/', 1)}.rt): {call.sentence}\n\n"
-            yield block("\n\n".join(it.contract for it in (call, twin) if it))
-
-
-def written():
-    """The list of all calls, by groups."""
-    text = START
-    for group in GROUPS:
-        heads = [head for source in sources_of(group) for head, _ in IMPLS.get(source, ())]
-        text += f"\n### {group}\n\n" + "".join(it for source in sources_of(group) for it in entries(CALLS.get(source, ())))
-        text += "Traits of others:\n\n" + block("\n".join(heads)) if heads else ""
-    return text.rstrip("\n") + "\n"
-
-
 def words_of(*patterns):
     """The text of files without comments, each behind its own name."""
     files = [file for pattern in patterns for file in TOP.glob(pattern)]
     return " ".join(f"{file.stem} " + re.sub(r"//.*", "", file.read_text(encoding="utf-8")) for file in files)
 
 
-def check(report, write):
-    by_hand, text = re.split("<!-- The list below .*\n", TEXTS[PAGE])[0], written()
+def write_pages(texts):
+    """Writes these pages, by their paths, and removes other ones of groups."""
+    for page in {it for it in TEXTS if it.startswith("docs/api/")} - {*texts}:
+        (TOP / page).unlink()
+        del TEXTS[page], BLOCKS[page]
+    for page, text in texts.items():
+        (TOP / page).parent.mkdir(exist_ok=True)
+        (TOP / page).write_text(text, encoding="utf-8")
+        read(page)
+
+
+def see_pages(report, write):
+    """The pages are as the sources have them; with `write` they are written."""
+    before, _, rest = TEXTS[INDEX].partition(START)
+    texts = {INDEX: before + index_text() + rest.partition(END)[2]} | pages()
     if write:
-        (TOP / PAGE).write_text(by_hand + text, encoding="utf-8")
-        read(PAGE)
-    report.see(by_hand + text == TEXTS[PAGE], f"{PAGE} has another list than the sources: bin/check api --write writes it")
+        write_pages(texts)
+    for page in sorted({*texts, *(it for it in TEXTS if it.startswith("docs/api/"))}):
+        told = f"{page} has other calls, contracts, words or lines than the sources: bin/check api --write writes it"
+        report.see(texts.get(page) == TEXTS.get(page), told)
+
+
+def told_words():
+    """The words of others that docs/API.md tells, those of traits as .member."""
+    tables = [it for it in BLOCKS[INDEX] if it.kind == "table" and it.rows()[0][0] == "Word"]
+    firsts = [NAME.findall(code)[0] for table in tables for row in table.rows()[1:] for code in CODE.findall(row[0])]
+    return {f".{it.split('.')[-1]}" if "." in it else it for it in firsts}
+
+
+def names_of(entry):
+    """The names in the contracts of an entry and in the definitions of its words, each with the scope and the key of its word."""
+    yield from ((SCOPES[entry.call.path], name, key) for name, key in entry.names.items())
+    yield from ((SCOPES[word.path], name, key) for word in entry.words for name, key in names_in(word))
+
+
+def other_word(scope, name):
+    """The word of others that a name is, as `told_words` has it, or None if it needs no telling."""
+    first, *rest = name.split(".")
+    module = scope.modules.get(first, "")
+    if module:
+        return None if ".declared." in module or first in OF_RUST else first
+    return f".{rest[-1]}" if rest and first[0].isupper() else None
+
+
+def see_words(report):
+    """Each word of a contract is a definition of ours, or one of others that docs/API.md tells, and it tells no more."""
+    told, used = told_words(), {}
+    for entry in (it for entries in ENTRIES.values() for it in entries):
+        for scope, name, key in names_of(entry):
+            report.see(not key or key in WORDS, f"{key}, a word of {entry.title}, is in no specs")
+            used |= {it: entry.title for it in [key or other_word(scope, name)] if it and not key}
+    for name in sorted({*used} | told):
+        report.see(name in told, f"{INDEX} says nothing of {name}, a word of {used.get(name)}")
+        report.see(name in used, f"{INDEX} tells the word {name}, which no contract uses")
+
+
+def check(report, write):
+    see_pages(report, write)
+    see_words(report)
     grouped = {source for group in GROUPS for source in sources_of(group)}
     for source in sorted(grouped | {it for it in CALLS if it.split("/")[0] not in NOT_LISTED and (CALLS[it] or IMPLS[it])}):
         report.see(source in CALLS, f"a group of docs/API.md names {source}, and there is no such source")

@@ -47,7 +47,8 @@ def not_called():
 
 
 def check(report, _):
-    for block in (it for blocks in BLOCKS.values() for it in blocks if it.language == "rust"):
+    by_hand = [it for page, blocks in BLOCKS.items() if not page.startswith("docs/api/") for it in blocks]
+    for block in (it for it in by_hand if it.language == "rust"):
         report.see(stands_in(block.inside, RUST.values()), f"{block.where}: the block stands in no crate")
     shown = [trimmed(text) for path, text in RUST.items() if re.fullmatch(rf"({'|'.join(SHOWN)})/src/\w+\.rt", path)]
     for path, text in RUST.items():

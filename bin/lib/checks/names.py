@@ -3,7 +3,7 @@ import collections
 import os
 import re
 
-from lib.checks.pages import BLOCKS, CODE, LINK, TEXTS
+from lib.checks.pages import BLOCKS, CODE, LINK, TEXTS, slug
 from lib.checks.sources import PROOFS, RUST, SPECS
 from lib.shared import CRATES, TOP
 
@@ -50,15 +50,12 @@ def paths_of(block):
     yield from (f"{crate}{rest.replace('.', '/')}" for crate, rest in MODULE.findall(block.text) if crate in CRATES)
 
 
-def slug(heading):
-    """The anchor of a heading."""
-    return re.sub(r"[^\w\- ]", "", LINK.sub(r"\1", heading).lstrip("# ").lower()).replace(" ", "-")
-
-
 def is_link(page, target):
     """Whether what a link leads to is there."""
     path, _, anchor = target.partition("#")
     path = os.path.normpath(os.path.join(os.path.dirname(page), path)) if path else page
+    if re.fullmatch(r"L\d+", anchor) and (TOP / path).is_file():
+        return int(anchor[1:]) <= (TOP / path).read_text(encoding="utf-8").count("\n")
     return (TOP / path).exists() and (not anchor or anchor in [slug(it.text) for it in BLOCKS.get(path, ()) if it.kind == "head"])
 
 

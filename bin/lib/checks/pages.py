@@ -41,6 +41,11 @@ def blocks_of(page, text):
         yield Block(page, text.count("\n", 0, found.start()) + 1, heading, found)
 
 
+def slug(heading):
+    """The anchor of a heading."""
+    return re.sub(r"[^\w\- ]", "", LINK.sub(r"\1", heading).lstrip("# ").lower()).replace(" ", "-")
+
+
 def read(page):
     """Reads a page, for the first time or once more."""
     TEXTS[page] = (TOP / page).read_text(encoding="utf-8")
@@ -48,5 +53,6 @@ def read(page):
 
 
 TEXTS, BLOCKS = {}, {}
-for name in ["README.md", "CALLING.md", "CONTRIBUTING.md", "CHANGELOG.md", *sorted(f"docs/{it.name}" for it in (TOP / "docs").glob("*.md"))]:
+PAGES = sorted(it.relative_to(TOP).as_posix() for it in (TOP / "docs").rglob("*.md"))
+for name in ["README.md", "CALLING.md", "CONTRIBUTING.md", "CHANGELOG.md", *PAGES]:
     read(name)

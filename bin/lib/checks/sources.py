@@ -33,8 +33,20 @@ def squeezed(text):
     return re.sub(r",? ([)>])", r"\1", re.sub(r"([(<]) ", r"\1", text)).rstrip(",")
 
 
+def comment_above(text, start):
+    """The lines of the `///` above an item."""
+    above = reversed(text[:start].splitlines())
+    said = [*itertools.takewhile(lambda line: re.match(r" *(///|#\[)", line), above)][::-1]
+    return "\n".join(re.sub(r"^ */// ?", "", line) for line in said if "///" in line)
+
+
+def without_examples(comment):
+    """A comment in one line, without its examples."""
+    return " ".join(re.sub(r"```.*?```", "", comment, flags=re.DOTALL).split())
+
+
 class Function:
-    """A function: its source, the head of the item that it is in, its name, its head with its clauses, and what is said above it."""
+    """A function: its source and line, the item that it is in, its name, its head with its clauses, and what is said above it."""
 
     def __init__(self, source, outer, text, found):
         rest = text[found.end() :]
@@ -48,11 +60,9 @@ class Function:
         self.owner = "" if not outer else owner[1] or owner[2] if owner and " for " not in outer else None
         self.label = f"{self.owner}::{self.name}" if self.owner else self.name
         self.is_public = "pub fn" in self.head or outer.startswith("pub trait")
-        above = reversed(text[: found.start()].splitlines())
-        said = [*itertools.takewhile(lambda line: re.match(r" *(///|#\[)", line), above)][::-1]
-        said = "\n".join(re.sub(r"^ */// ?", "", line) for line in said if "///" in line)
-        self.said = " ".join(re.sub(r"```.*?```", "", said, flags=re.DOTALL).split())
-        self.sentence = re.match(r".*?[.:](?= |$)|.*", self.said)[0].rstrip(":")
+        self.path, self.line = source.replace("/", "/src/", 1) + ".rt", text.count("\n", 0, found.start()) + 1
+        self.comment = comment_above(text, found.start())
+        self.said = without_examples(self.comment)
 
 
 def functions_of(source, text):
@@ -65,25 +75,30 @@ def functions_of(source, text):
             yield Function(source, outer, text, found)
 
 
-def library_calls(library):
-    """The calls of a library that a user can name, by source, each once."""
+def exported(library):
+    """What names an item of a library that a user can name: whether its source or its name does."""
     files = "\n".join(text for path, text in RUST.items() if path.startswith(f"{library}/"))
     names = {*re.findall(r"\w+", " ".join(re.findall(r"^pub use ([^;]*);", files, re.MULTILINE)))}
-    modules = re.findall(r"^pub mod (\w+);", RUST.get(f"{library}/src/lib.rt", ""), re.MULTILINE)
+    modules = {"lib", *re.findall(r"^pub mod (\w+);", RUST.get(f"{library}/src/lib.rt", ""), re.MULTILINE)}
+    return lambda source, name: source.partition("/")[2] in modules or name in names
+
+
+def library_calls(library):
+    """The calls of a library that a user can name, by source, each once."""
+    is_exported = exported(library)
     for source in [it for it in FUNCTIONS if it.startswith(f"{library}/")]:
-        is_module = source.partition("/")[2] in modules
         found = [it for it in FUNCTIONS[source] if it.is_public and it.owner is not None]
-        found = [it for it in found if is_module or (it.owner or it.name) in names]
+        found = [it for it in found if is_exported(source, it.owner or it.name)]
         yield source, list({it.label: it for it in found[::-1]}.values())[::-1]
 
 
 def impls_of(text):
-    """The heads of the impls of others' traits in a source, each with the names of its functions."""
+    """The heads of the impls of others' traits in a source, each with the name of the trait and its comment."""
     for found in re.finditer(r"^(impl\b[^{]*?)\s*\{(\}|\n.*?^\})", text, re.MULTILINE | re.DOTALL):
         head = squeezed(found[1])
         trait = re.match(r"impl(?:<.*?>)? (?:\w+::)?(\w+)(?:<.*>)? for ", re.sub(r"^impl<(?:[^<>]|<[^<>]*>)*>", "impl", head))
         if trait and trait[1] not in OWN_TRAITS:
-            yield head, re.findall(r"^    fn (\w+)", found[2], re.MULTILINE)
+            yield head, trait[1], without_examples(comment_above(text, found.start()))
 
 
 RUST, SPECS, PROOFS = texts("*/src/**/*.rt"), texts("*/specs/**/*.antt"), texts("*/proofs/**/*.antt")

@@ -1,4 +1,4 @@
-//! A store that takes no memory once it is made: an example of a store of a user's own.
+//! A store that never grows past the capacity that it was made with: an example of a store of a user's own.
 //!
 //! A user who plugs in a store writes three things.
 //!
@@ -22,7 +22,7 @@ use std::marker::Model;
 use std::mem;
 use std::vec::IntoIter;
 
-/// A vector of pairs that takes its memory when it is made, and fails to grow past that.
+/// A vector of pairs with the capacity that it was made with, which fails to grow past that.
 ///
 /// Tests of failing calls use it, since its calls fail where the test wants.
 #[derive(Drop)]

@@ -15,7 +15,7 @@ module _ {K V : Type 0} where
   abbrev pub combined_pair : (K → K → Ordering) → (K → V → V → V) → List (K × V) → K × V → K × V
   combined_pair cmp combine L p = (p.0, option_map_or (λ here. combine p.0 here p.1) (value_at cmp L p.0) p.1)
 
-  -- the pairs of J, so combined with L
+  -- the pairs of J, each value combined with the value of its key in L, if there is one
   abbrev pub combined : (K → K → Ordering) → (K → V → V → V) → List (K × V) → List (K × V) → List (K × V)
   combined cmp combine L J = map (combined_pair cmp combine L) J
 
@@ -32,7 +32,7 @@ module _ {F K V : Type 0} (g : Shared F (Bor K × (Bor V × (MutBor V × Unit {0
   TakesBoth k here w = (key : Bor K) (old : Bor V) (new : MutBor V) → key.now ≡ k → old.now ≡ here → new.now ≡ w
       → g.pre f (key, (old, (new, tt)))
 
-  -- a call of f on k, `here` and w may leave w'
+  -- a call of f on the key k, this map's value `here` and the other map's value w may leave w' in its place
   pub record LeavesOfBoth (k : K) (here w w' : V) : Type 0 where
     pub key : Bor K
     pub old : Bor V

@@ -22,9 +22,11 @@ use Rattle.litemap.specs.contracts.map.LiteMap.{the_row}
 use Rattle.litemap.specs.contracts.map.entry.OccupiedEntry as occupied
 
 module _ {K V S : Type 0} {g : ord.Ghosts K} {g' : eq.Ghosts K} {g'' : partial.Ghosts K} {s : store.Ghosts S K V} where
+  -- the occupied entry o, as an `Entry`
   abbrev pub Occupied : OccupiedEntry K V S g g' g'' s → Entry K V S g g' g'' s
   Occupied o = variants.Occupied o
 
+  -- the vacant entry e, as an `Entry`
   abbrev pub Vacant : VacantEntry K V S g g' g'' s → Entry K V S g g' g'' s
   Vacant e = variants.Vacant e
 
@@ -48,12 +50,12 @@ module _ {K V S : Type 0} {g : ord.Ghosts K} {g' : eq.Ghosts K} {g'' : partial.G
   entry_value (variants.Occupied o) = value_in o.map.now.pairs o.index
   entry_value (variants.Vacant e) = None
 
-  -- the pairs with v at the key
+  -- the pairs of the map with v at the entry's key: written if it is present, else inserted
   abbrev pub pairs_with : Entry K V S g g' g'' s → V → List (K × V)
   pairs_with (variants.Occupied o) v = set_value o.map.now.pairs o.index v
   pairs_with (variants.Vacant e) v = put g.cmp e.map.now.pairs e.key v
 
-  -- the pairs without the key
+  -- the pairs of the map without the entry's key
   abbrev pub pairs_without : Entry K V S g g' g'' s → List (K × V)
   pairs_without (variants.Occupied o) = remove o.map.now.pairs o.index
   pairs_without (variants.Vacant e) = e.map.now.pairs
@@ -62,6 +64,7 @@ module _ {K V S : Type 0} {g : ord.Ghosts K} {g' : eq.Ghosts K} {g'' : partial.G
   abbrev pub map_with_value : OccupiedEntry K V S g g' g'' s → V → Contents K V
   map_with_value o v = with_pairs o.map.now (set_value o.map.now.pairs o.index v)
 
+  -- the index of an entry is still within the list after a write of its value
   pub still_within : (o : OccupiedEntry K V S g g' g'' s) (v : V) → o.index < length (set_value o.map.now.pairs o.index v)
   still_within o v = subst (λ n. o.index < n) (sym (length-set_value o.map.now.pairs o.index v)) o.within
 

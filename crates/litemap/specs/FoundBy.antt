@@ -26,15 +26,15 @@ module _ {F K V : Type 0} (g : Mut F (Bor K × Unit {0}) Ordering) (L : List (K 
     pub found : Found g L f place
     pub value : v ≡ value_found L place
 
-  -- v is that value, and M is the list without its pair
+  -- v is the value at an index that a search by f may find, and M is the list without its pair
   pub record RemovesFound (v : Option V) (M : List (K × V)) : Type 0 where
     pub place : Result ℕ ℕ
     pub found : Found g L f place
     pub value : v ≡ value_found L place
     pub pairs : M ≡ without_found L place
 
--- the index of the key that is equal to q, and its value, if there is one
 module _ {K Q V : Type 0} (order : K → Q → Ordering) (L : List (K × V)) (q : Q) where
+  -- the index of the key that is equal to q, and its value, if there is one
   pub record GetsWithIndex (found : Option (ℕ × Bor V)) : Type 0 where
     pub value : option_map (λ x. x.1.now) found ≡ value_at order L q
     pub place : IfSome found (λ x. x.0 ≡ place order L q)

@@ -23,11 +23,11 @@ module _ (K V S : RattleType) (key : OrdMembers K.Denot) (pairs : S.Denot → Li
     abbrev pub LendsValue : {Q : Type 0} → (K.Denot → Q → Ordering) → Q → Option (MutBor V.Denot) → Fml
     LendsValue order q r = LendsIf map_row V m r (λ v. with_pairs m.now (write order m.now.pairs q v)) m.now
 
-    -- the same of the value at index i
+    -- once the reference in r ends, the map has the last value written through it at index i; if there is none, the map stays
     abbrev pub LendsPlace : ℕ → Option (MutBor V.Denot) → Fml
     LendsPlace i r = LendsIf map_row V m r (λ v. with_pairs m.now (set_value m.now.pairs i v)) m.now
 
-    -- the same of the value at an index that may be found, at which the reference starts
+    -- once the reference in r ends, the map has the last value written through it at an index that may be found
     abbrev pub LendsFound : (ℕ → Type 0) → Option (MutBor V.Denot) → Fml
     LendsFound IsFound r =
         LendsSo map_row V m r
@@ -39,7 +39,7 @@ module _ (K V S : RattleType) (key : OrdMembers K.Denot) (pairs : S.Denot → Li
     abbrev pub LendsThere : ℕ → MutBor V.Denot → Fml
     LendsThere i r = Lends map_row V m r (λ v. with_pairs m.now (set_value m.now.pairs i v))
 
-    -- the same of the value of the key that is equal to q, which is present
+    -- once the reference r ends, the map has the last value written through it at the key that is equal to q
     abbrev pub LendsKey : {Q : Type 0} → (K.Denot → Q → Ordering) → Q → MutBor V.Denot → Fml
     LendsKey order q r = Lends map_row V m r (λ v. with_pairs m.now (write order m.now.pairs q v))
 

@@ -22,7 +22,7 @@ module _ {A K V E : Type 0} where
   IfNoRoom (Err (NoRoom k v)) P = P k v
 
 module _ {F K V E : Type 0} (g : Once F (Bor K × Unit {0}) (Result V E)) (f : F) (key : K) (room : ℕ) where
-  -- the closure's error; or room 0, and the key and what the closure returned come back
+  -- a call that fails has the closure's error; or the room is 0, and the key and what the closure returned come back
   pub record FailsAs {A : Type 0} (result : Result A (TryFault K V E)) : Type 0 where
     pub closure : IfClosure result (λ fault. FnOnceReturnsAt g f key (Err fault))
     pub full : IfNoRoom result (λ _ _. room ≡ 0)
@@ -33,8 +33,8 @@ abbrev pub Shown : {K V E : Type 0} → List (K × V) → Result ℕ E → Resul
 Shown L found shown =
     MatchResult shown (λ there. (found ≡ Ok there.0) × (value_in L there.0 ≡ Some there.1.now)) (λ fault. found ≡ Err fault)
 
-module _ {F K V E : Type 0} (g : Once F (Bor K × Unit {0}) (Result V E)) (f : F) (cmp : K → K → Ordering) (key : K) (old : Contents K V)
-    (result : Result (ℕ × Bor V) (TryFault K V E)) where
+module _ {F K V E : Type 0} (g : Once F (Bor K × Unit {0}) (Result V E)) (f : F) (cmp : K → K → Ordering) (key : K)
+    (old : Contents K V) (result : Result (ℕ × Bor V) (TryFault K V E)) where
   -- what the map `old` is after the call: the same if the key is present, else with the value that is returned
   pub record IsPlaced (n : Contents K V) : Type 0 where
     pub present : IsSome (at cmp old.pairs key) → n ≡ old

@@ -77,7 +77,7 @@ text_item d = ok_or (option_map string (as_str d)) Shape
 
 -- ---- pairs
 
--- the array of two
+-- the array of two values
 abbrev pub pair_json : Data → Data → Data
 pair_json d e = array (item d (item e no_items))
 
@@ -86,6 +86,7 @@ abbrev pub two_items : Items → Option (Data × Data)
 two_items (item d (item e no_items)) = Some (d, e)
 two_items _ = None
 
+-- the two items, if the value is an array of exactly two
 abbrev pub two_of : Data → Option (Data × Data)
 two_of (array ds) = two_items ds
 two_of _ = None

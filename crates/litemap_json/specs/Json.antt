@@ -13,7 +13,7 @@ use Rattle.litemap_json.specs.declared.fault.JsonFault.TheVariants.{NotAMap, Not
 
 -- ---- writing
 
--- what follows a key's text, if it has one
+-- `next` of the key's text, or the error that the key at this index has none
 abbrev pub named : ℕ → Option (List ℕ) → (List ℕ → Result Data WriteFault) → Result Data WriteFault
 named place None next = Err (KeyWithoutText place)
 named place (Some s) next = next s
@@ -23,6 +23,7 @@ module _ {K V : Type 0} (text : K → Option (List ℕ)) (key_json : K → Data)
   abbrev pub row : K × V → Data
   row p = pair_json (key_json p.0) (json p.1)
 
+  -- the pairs, each as an array of two
   abbrev pub rows : List (K × V) → Items
   rows L = items_of (map row L)
 
@@ -31,7 +32,7 @@ module _ {K V : Type 0} (text : K → Option (List ℕ)) (key_json : K → Data)
   object_with place ms [] = Ok (object ms)
   object_with place ms (p ∷ L) = named place (text p.0) (λ s. object_with (place + 1) (put s (json p.1) ms) L)
 
-  -- the first key decides: an object if it has a text, else an array; the empty array if there is none
+  -- the tree of a list of pairs, of which the first key decides: an object if it has a text, else an array; the empty array if there is none
   abbrev pub tree : List (K × V) → Result Data WriteFault
   tree [] = Ok (array no_items)
   tree (p ∷ L) = if is_some (text p.0) then object_with 0 no_members (p ∷ L) else Ok (array (rows (p ∷ L)))
@@ -44,7 +45,7 @@ before (Err e) r = Err e
 before (Ok p) (Err e) = Err e
 before (Ok p) (Ok L) = Ok (p ∷ L)
 
--- the key's error comes before the item's
+-- the pair of a key and an item, or the error of the first that is none, the key's before the item's
 abbrev pub pair_at : ℕ → Result Data ItemFault → Result Data ItemFault → Result (Data × Data) JsonFault
 pair_at place (Err f) r = Err (Key place f)
 pair_at place (Ok k) (Err f) = Err (Item place f)
@@ -56,6 +57,7 @@ module _ (key : List ℕ → Option Data) (key_item json_item : Data → Result 
   row_at place None = Err (NotAPair place)
   row_at place (Some p) = pair_at place (key_item p.0) (json_item p.1)
 
+  -- the pairs that the elements of an array spell, the first of which has this index, or the first error
   abbrev pub row_pairs : ℕ → Items → Result (List (Data × Data)) JsonFault
   row_pairs place no_items = Ok []
   row_pairs place (item d ds) = before (row_at place (two_of d)) (row_pairs (place + 1) ds)
@@ -65,6 +67,7 @@ module _ (key : List ℕ → Option Data) (key_item json_item : Data → Result 
   member_at place None d = Err (KeyText place)
   member_at place (Some k) d = pair_at place (Ok k) (json_item d)
 
+  -- the pairs that the members of an object spell, the first of which has this index, or the first error
   abbrev pub member_pairs : ℕ → Members → Result (List (Data × Data)) JsonFault
   member_pairs place no_members = Ok []
   member_pairs place (member s d ms) = before (member_at place (key s) d) (member_pairs (place + 1) ms)

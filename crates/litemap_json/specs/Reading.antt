@@ -9,10 +9,11 @@ use Rattle.litemap_json.specs.Json.{pairs}
 use Rattle.litemap_json.specs.declared.fault.JsonFault.{JsonFault}
 use Rattle.litemap_json.specs.declared.fault.JsonFault.TheVariants.{Memory}
 
--- a pair, and a list of pairs, as their trees
+-- a pair, as its trees
 abbrev pub pair_seen : {K V : Type 0} → (K → Data) → (V → Data) → K × V → Data × Data
 pair_seen key_json json p = (key_json p.0, json p.1)
 
+-- the pairs of a list, as their trees
 abbrev pub seen : {K V : Type 0} → (K → Data) → (V → Data) → List (K × V) → List (Data × Data)
 seen key_json json L = map (pair_seen key_json json) L
 

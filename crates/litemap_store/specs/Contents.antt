@@ -2,6 +2,7 @@
 use Rattle.std.specs.Prelude.{ℕ, List}
 use Rattle.litemap_store.specs.Pairs.{set_value}
 
+-- what a contract sees of a map or a store: its pairs, and how many further ones it takes without failing
 pub record Contents (K V : Type 0) : Type 0 where
   pub pairs : List (K × V)
   pub room : ℕ
@@ -10,6 +11,6 @@ pub record Contents (K V : Type 0) : Type 0 where
 abbrev pub with_value : {K V : Type 0} → Contents K V → ℕ → V → Contents K V
 with_value s i v = record s { pairs = set_value s.pairs i v }
 
--- the same with other pairs
+-- s with the pairs L, its room as it was
 abbrev pub with_pairs : {K V : Type 0} → Contents K V → List (K × V) → Contents K V
 with_pairs s L = record { pairs = L; room = s.room }

@@ -35,7 +35,7 @@ pub trait StoreIntoIterator<K: Drop, V: Drop>: StoreMut<K, V> + Sized {
     /// The iterator over the pairs.
     type KeyValueIntoIter: PairIntoIter<K, V>;
 
-    /// All pairs once, in order.
+    /// Returns an iterator over all pairs by value, in order.
     fn lm_into_iter(self) -> Self::KeyValueIntoIter
         ensures { Self.KeyValueIntoIter.owned result ≡ Self.pairs self };
 

@@ -29,7 +29,7 @@ impl<'a, K, V> Clone for SliceStore<'a, K, V> {
 impl<'a, K, V> Copy for SliceStore<'a, K, V> {}
 
 impl<'a, K, V> SliceStore<'a, K, V> {
-    /// The store of the slice's pairs.
+    /// Returns the store of a slice's pairs (own).
     pub fn new(pairs: &'a [(K, V)]) -> Self
         ensures { result.pairs.now ≡ pairs.now }
     {

@@ -25,7 +25,7 @@ impl<'a, K, V> Model for SliceIter<'a, K, V> {
 }
 
 impl<'a, K, V> SliceIter<'a, K, V> {
-    /// The iterator over all pairs of a slice.
+    /// Returns an iterator over all pairs of a slice (own).
     pub fn new(pairs: &'a [(K, V)]) -> Self
         ensures { result ≡ pairs.now }
     {

@@ -12,11 +12,11 @@ pub trait Keys<K, V> {
     /// The pairs.
     ghost pairs: { Self → List (K × V) };
 
-    /// The number of pairs.
+    /// Returns the number of pairs.
     fn key_count(&self) -> usize
         ensures { result ≡ length (pairs self.now) };
 
-    /// The key at an index.
+    /// Returns the key at an index.
     fn key_at(&self, index: usize) -> &K
         requires { index < length (pairs self.now) }
         ensures { (value : V) × (slice_get (pairs self.now) index ≡ Some (result.now, value)) };
@@ -32,7 +32,7 @@ fn choose(is_first: bool, first: usize, second: usize) -> usize
     if is_first { first } else { second }
 }
 
-/// The index of a key for which `f` returns `Equal`, or else the number of keys for which it returns `Less`.
+/// Returns the index of a key for which `f` returns `Equal`, or else the number of keys for which it returns `Less`.
 ///
 /// Each step calls `f` on the middle key, and leaves at most half of the keys. Comparing small keys costs less than a branch that
 /// is predicted wrongly: so among those each step leaves half, and the number of steps depends on the length alone. Among larger

@@ -12,18 +12,18 @@ NumberFault bytes place (Truncated at) = (at ≡ place) × IsCut bytes
 NumberFault bytes place (NotUtf8 at) = ⊥
 NumberFault bytes place (NumberTooLarge at) = (at ≡ place) × IsTooLarge bytes
 
--- they don't begin with a string of so many bytes
+-- the bytes don't begin with a string of so many bytes
 abbrev pub TextFault : ℕ → List ℕ → ℕ → NameFault → Type 0
 TextFault size bytes place (Truncated at) = (at ≡ place) × (length bytes < size)
 TextFault size bytes place (NotUtf8 at) = (at ≡ place) × (size ≤ length bytes) × (IsUtf8 (take size bytes) → ⊥)
 TextFault size bytes place (NumberTooLarge at) = ⊥
 
--- they don't begin with a part of the kind that is due there: a number, or a string of so many bytes
+-- the bytes don't begin with a part of the kind that is due there: a number, or a string of so many bytes
 abbrev pub PartFault : Part → List ℕ → ℕ → NameFault → Type 0
 PartFault (Number n) bytes place fault = NumberFault bytes place fault
 PartFault (Text text) bytes place fault = TextFault (length text) bytes place fault
 
--- they begin with some of the first parts of an allowed list of parts, and the part that is due after these can't be read
+-- the bytes begin with some of the first parts of an allowed list of parts, and the part that is due after these can't be read
 pub record Fault (Allowed : List Part → Type 0) (bytes : List ℕ) (place : ℕ) (fault : NameFault) : Type 0 where
   pub done : List Part
   pub due : Part

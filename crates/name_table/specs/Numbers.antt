@@ -17,7 +17,7 @@ value_of (b ∷ bytes) = b % 128 + 128 * value_of bytes
 abbrev pub GoesOn : List ℕ → Type 0
 GoesOn bytes = AllByRecursion (λ b. 128 ≤ b) bytes
 
--- it is set on all bytes but the last
+-- the high bit is set on all bytes but the last
 abbrev pub EndsAtLast : List ℕ → Type 0
 EndsAtLast [] = ⊥
 EndsAtLast (b ∷ []) = b < 128

@@ -1,7 +1,7 @@
 -- Where a query is in an ascending list, from what a search found. All that is needed of the order is here.
 --     Ascends-by_query      how keys compare with a query ascends over an ascending list
 --     Splits-from_Finds      what such a search finds splits the list
---     index_of-, within-, there-from_Splits      and is the query's index, an index of the list, at which its pair is;  Rising-put, Rising-remove, ..      what the calls leave ascends
+--     index_of-, there-from_Splits      and is the query's index, at which its pair is;  Rising-put, Rising-remove, ..      what the calls leave ascends
 use Rattle.std.proofs.Common.{◌≡◌, ◌≢◌, inl, inr, ℕ, zero, suc, ◌<◌, ◌≤◌, Bool, true, false, cond, List, [], ◌∷◌, ◌++◌, length, filter, Some, None, Result, Ok, Err, IfOk, slice_get, get_or, refl, sym, ap, ◌∙◌, subst, arith}
 use Rattle.std.proofs.lemmas.Cmp.{alike_right, tied_itself}
 use Rattle.std.proofs.lemmas.List.Elements.{recursion_from_All}

@@ -16,7 +16,7 @@ pub returns-in_err-keep_rising-clause-cost : goal.returns-in_err-keep_rising-cla
 returns-in_err-keep_rising-clause-cost g c =
     let given = c.args.pairs.now in at_most (vec_len given - 0 - 1) (length (g.S.Store.pairs c.args.store.now) + 2 * length given.items) (omega (arith, given.ok.0)) c.keep_rising.ensures.cost
 
--- where the ends were compared
+-- if the ends were compared
 both_ends : (g : Over) (c : After-lies_below g) → RisesByAtMost (length c.args.pairs.now.items) c.args.count.now c.lies_below.new.count
 both_ends g c =
     let given = c.args.pairs.now in let kept = c.keep_rising.new.pairs in

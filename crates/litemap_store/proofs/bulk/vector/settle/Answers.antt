@@ -19,7 +19,7 @@ module _ {K V : Type 0} (cmp : K → K → Ordering) (from : ℕ) (L : List (K �
   Last-behind : IsTotalOrder cmp → (D M : List (K × V)) → Last cmp (drop from L) D → Last cmp (take from L ++ D) M → Last cmp L M
   Last-behind o D M d h = subst (λ N. Last cmp N M) (take-append-drop from L) (Last-join_right cmp o (take from L) (drop from L) D M d h)
 
--- where the ends were compared in vain, the new pairs do not rise past the old ones
+-- if the ends were compared in vain, the new pairs do not come after the old ones
 mixed : (g : Over) (c : After-split_off g) → Rises g.K.Ord.cmp (take c.args.from c.args.store.now.items) (drop c.args.from c.args.store.now.items) → ⊥
 mixed g c h =
     let L = c.args.store.now.items in
@@ -27,7 +27,7 @@ mixed g c h =
     not_above g.K.Ord.cmp (take c.args.from L) (drop c.args.from L) _ c.requires.rising
     (λ up. below (subst (Rising g.K.Ord.cmp) (take-append-drop c.args.from L ∙ sym (c.keep_rising.ensures.same h.rising).1) up)) c.if-lies_below.false h
 
--- where the ends were compared
+-- if the ends were compared
 both_ends : (g : Over) (c : After-lies_below g) → RisesByAtMost (length (drop c.args.from c.args.store.now.items)) c.args.count.now c.lies_below.new.count
 both_ends g c =
     let old = c.args.store.now in

@@ -9,7 +9,7 @@ use Rattle.litemap_store.proofs.vec_impl.VecTuple2StoreBulkMut.lm_extend.Goals a
 front : {X : Type 0} (old given : List X) (n : ℕ) {all : List X} → all ≡ old ++ given → n ≡ length old → take n all ≡ old
 front old given n all len = rw (all, len) (take-append_seam old given)
 
--- the old pairs, and behind them those that were pushed
+-- the old pairs, and after them those that were pushed
 parts : (g : Over) (c : goal.After-settle g) → let given = c.in_ok-gather_behind.ensures.gathered.0 in (take c.len-len.result c.gather_behind.new.items.items ≡ c.args.self.now.items) × (drop c.len-len.result c.gather_behind.new.items.items ≡ given)
 parts g c =
     let old = c.args.self.now.items in

@@ -1,0 +1,203 @@
+"""docs/API.md and the pages in docs/api, as they are written from the sources: each call, its contract, and the words of that."""
+import re
+import textwrap
+
+from lib.checks.pages import slug
+from lib.checks.scopes import SCOPES, bounds_of, closure, displayed, types_in
+from lib.checks.sources import CALLS, IMPLS, exported
+from lib.checks.words import WORDS
+
+INDEX = "docs/API.md"
+START, END = "<!-- bin/check writes what follows. -->\n", "<!-- bin/check writes what is above. -->\n"
+# What one wants to do, and the sources of its calls.
+GROUPS = {
+    "Make a map": "litemap: lib map",
+    "Look up": "litemap: map/look map/ranges",
+    "Change": "litemap: map/change map/take try_fault",
+    "Write a value in place": "litemap: map/write",
+    "Entries": "litemap: map/entry",
+    "Many at once": "litemap: map/bulk",
+    "Merge and compare keys": "litemap: map/merge map/sets",
+    "Walk": "litemap: map/iter map/iter/keys_values map/iter/range",
+    "Compare and hash": "litemap: map/comparisons",
+    "Convert and borrow": "litemap: map/conversions map/becomes map/slice",
+    "Tables in constants": "litemap: const_family",
+    "Read from a source": "litemap_read: source vec_source read laws",
+    "JSON": "litemap_json: write text read fault told laws item pairs written",
+    "Through serde": "litemap_serde: write read pairs holder",
+    "Name tables": "name_table: read write name_bytes cursor fault laws",
+    "Lookups in name tables": "name_index: table index name_entries indexed checked index_write fault laws",
+    "What a call can be asked by": "litemap_store: query",
+    "Stores": "litemap_store: store into_iter vec_impl slice_impl slice_iter count no_room retain reserved slice_search merge "
+    "split_store; litemap_short: short_store short_iter; litemap_columns: lib column_store column_iter",
+    "Laws, for proofs": "litemap_store: laws",
+}
+# A word that this many groups use is told once, in docs/API.md. Of the others a call tells those that are so near: 0 are those
+# that its contract names, 1 those of their definitions.
+MANY, NEAR, NEAR_TYPES = 4, 2, 1
+TYPES, TWINS = ("struct", "enum", "type", "trait"), "\n\n"
+CLAUSE = re.compile(r"\b(?:requires|ensures\*?)(?: \w+)? (?=\{)")
+
+
+def sources_of(group):
+    """The sources of a group."""
+    parts = [part.split(": ") for part in GROUPS[group].split("; ")]
+    return [f"{library}/{name}" for library, names in parts for name in names.split()]
+
+
+def page_of(group):
+    """The page of a group."""
+    return f"docs/api/{slug(group)}.md"
+
+
+def block(text, language="text"):
+    return f"```{language}\n{text}\n```\n\n"
+
+
+class Entry:
+    """A call in a page: its title there, its counted twin if it has one, and the names that their contracts use."""
+
+    def __init__(self, call, twin, title):
+        self.call, self.title = call, title
+        self.contracts = [it.contract for it in (call, twin) if it]
+        scope, names = SCOPES[call.path], {call.owner: call.owner} if call.owner in WORDS else {}
+        for it in (call, twin) if twin else (call,):
+            bounds = bounds_of(f"{it.outer}, {it.contract}") | ({"Self": [it.owner]} if it.outer.startswith("pub trait") else {})
+            clauses = CLAUSE.sub("", it.contract[len(it.head) :])
+            names |= dict(scope.used(clauses, bounds)) | {name: name for name in types_in(it.head)}
+        self.names, self.words = names, closure(key for key in names.values() if key)
+
+    def sentence(self):
+        """The first sentence of its comment, with the mark of what the Rust crate lacks."""
+        first = " ".join(self.call.comment.split("\n\n")[0].split())
+        said = re.match(r".*?\.(?= |$)|.*", first)[0]
+        return said + " (own)" * ("(own)" in first and "(own)" not in said)
+
+
+def entries_of(calls, titles):
+    """The entries of the calls of a source, whose titles are none of these."""
+    labels = {call.label: call for call in calls}
+    for call in calls:
+        if call.label.removesuffix("_counted") in labels and call.label.endswith("_counted"):
+            continue
+        title = f"{call.source.split('/')[-1]}::{call.label}" if call.label in titles else call.label
+        titles.add(title)
+        yield Entry(call, labels.get(f"{call.label}_counted"), title)
+
+
+def group_entries(group):
+    """The entries of a group."""
+    titles = set()
+    return [it for source in sources_of(group) for it in entries_of(CALLS.get(source, ()), titles)]
+
+
+def types_of(group):
+    """The types and the traits that the sources of a group export."""
+    paths = {f"{source.replace('/', '/src/', 1)}.rt": source for source in sources_of(group)}
+    words = [it for it in dict.fromkeys(WORDS.values()) if it.kind in TYPES and it.path in paths]
+    return [it for it in words if exported(it.path.split("/")[0])(paths[it.path], it.name)]
+
+
+ENTRIES = {group: group_entries(group) for group in GROUPS}
+USED = {group: {word for it in entries for word in it.words} for group, entries in ENTRIES.items()}
+OF_MANY = [it for it in dict.fromkeys(WORDS.values()) if sum(it in used for used in USED.values()) >= MANY]
+OF_MANY.sort(key=lambda word: word.head.lower())
+HEAD = """A word that isn't explained below a contract is explained at the end, or among the [words of many
+groups](../API.md#words-of-many-groups) or the [words of others](../API.md#words-of-others).
+
+"""
+
+
+def source_link(text, place, page):
+    """A link to the line where a word or a call is."""
+    return f"[{text}]({'../' * page.count('/')}crates/{place.path}#L{place.line})"
+
+
+def said(word, link):
+    """A line of a list that says what a word means."""
+    means = [word.said, f"A contract sees it as `{word.seen}`." if word.seen and "contract sees" not in word.said else ""]
+    return f"- {': '.join(filter(None, [link, ' '.join(filter(None, means))]))}\n"
+
+
+def told(word, page):
+    """What a page says of a word: how it is written, what its comment says, and what it is made of."""
+    line = said(word, source_link(f"`{word.head}`", word, page))
+    return line + (f"\n{textwrap.indent(block(displayed(word)), '  ').rstrip()}\n" if word.shown else "")
+
+
+def comment(text):
+    """A comment as a page has it: its paragraphs, each in a line, and its examples, as code."""
+    paragraphs, examples = "", ""
+    for part in re.split(r"(^```rust\n.*?^```$)", text, flags=re.MULTILINE | re.DOTALL):
+        if part.startswith("```"):
+            examples += f"{part}\n\n"
+        else:
+            lines = [re.sub(r"\n(?!- )", " ", it) for it in re.split(r"\n{2,}", part.strip("\n"))]
+            paragraphs += "".join(re.sub(r"^# (.*)", r"**\1**", it) + "\n\n" for it in lines if it)
+    return paragraphs, examples
+
+
+def words_text(it, page, above):
+    """What a page says of the words of a call. `above` has the titles below which words were told before: these are linked."""
+    text, types = "", []
+    for word, far in it.words.items():
+        link = f"[`{word.name if word.kind in TYPES else word.head}`](#{slug(above.get(word, ''))})"
+        if word in above and far == 0:
+            types += [link] if word.kind in TYPES else []
+            text += "" if word.kind in TYPES else said(word, link)
+        elif word not in above and far <= (NEAR_TYPES if word.kind in TYPES else NEAR) and word not in OF_MANY:
+            text += told(word, page)
+            above[word] = it.title
+    text += f"- {', '.join(types)}\n" if types else ""
+    return f"Its words:\n\n{text}\n" if text else ""
+
+
+def entry(it, page, above):
+    """What stands in a page of a call."""
+    paragraphs, examples = comment(it.call.comment)
+    link = source_link(f"`{it.call.path.replace('/src/', '/')}`", it.call, page)
+    return f"## {it.title}\n\n{paragraphs}{link}:\n\n{block(TWINS.join(it.contracts))}{examples}{words_text(it, page, above)}"
+
+
+def listed(title, words, page):
+    """A list of words under a title, if there are some."""
+    text = "".join(told(word, page) for word in sorted(words, key=lambda word: word.head.lower()))
+    return f"## {title}\n\n{text}\n" if text else ""
+
+
+def impls_text(group):
+    """The heads of the impls of others' traits in the sources of a group, each below its comment."""
+    for head, _, said in (it for source in sources_of(group) for it in IMPLS.get(source, ())):
+        yield from (*textwrap.wrap(said, 120, initial_indent="/// ", subsequent_indent="/// "), head)
+
+
+def page_text(group):
+    """The page of a group."""
+    page, above = page_of(group), {}
+    text = f"# {group}\n\n{START}\n{HEAD}" if ENTRIES[group] else f"# {group}\n\n{START}\n"
+    text += "".join(entry(it, page, above) for it in ENTRIES[group])
+    types = [it for it in types_of(group) if it not in OF_MANY and it not in above]
+    text += listed("Other types", types, page)
+    impls = "\n".join(impls_text(group))
+    text += f"## Traits of others\n\n{block(impls)}" if impls else ""
+    text += listed("Words of these definitions", USED[group] - {*OF_MANY, *above, *types}, page)
+    return re.sub(r"\n{3,}", "\n\n", text).rstrip("\n") + "\n"
+
+
+def index_text():
+    """The part of docs/API.md that is written: an index by groups, and the words of many."""
+    text = START + "\n" + "".join(f"- [{group}](#{slug(group)})\n" for group in GROUPS)
+    for group, entries in ENTRIES.items():
+        target = page_of(group).removeprefix("docs/")
+        text += f"\n### [{group}]({target})\n\n"
+        rows = [(f"[{it.title}]({target}#{slug(it.title)})", it.sentence().replace("|", "\\|")) for it in entries]
+        text += "| Call | What it does |\n|---|---|\n" * bool(rows) + "".join(f"| {call} | {said} |\n" for call, said in rows)
+        traits = dict.fromkeys(f"`{trait}`" for source in sources_of(group) for _, trait, _ in IMPLS.get(source, ()))
+        text += f"\nTraits of others: {', '.join(traits)}.\n" if traits else ""
+    text = re.sub(r"\n{3,}", "\n\n", text)
+    return f"{text}\n## Words of many groups\n\n" + "".join(told(it, INDEX) for it in OF_MANY) + END
+
+
+def pages():
+    """The pages of all groups, by their paths."""
+    return {page_of(group): page_text(group) for group in GROUPS}

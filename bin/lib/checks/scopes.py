@@ -1,0 +1,111 @@
+"""What the names in contracts and in definitions mean: which word of ours, or that it is one of others."""
+import re
+
+from lib.checks.sources import RUST, SPECS
+from lib.checks.words import IMPORT, WORDS
+from lib.shared import CRATES
+
+# A name with its parts, as a contract writes it, and the names that it binds.
+NAME = re.compile(r"(?<![\w.'-])(?:⟦<[^⟧]*⟧|[^\W\d][\w'-]*)(?:\.[^\W\d][\w'-]*)*")
+BOUND = re.compile(r"λ ([^.]*)\.|\(([\w' ]+) : ")
+# The modules of the logic's own language: a definition that uses them says nothing to a reader of a page.
+INNER = re.compile(
+    r"(?:denote\.Param|mir|mathlib|std\.proofs|std\.specs\.(?:Borrow|BTreeMap)|json\.specs|serde\.specs|\w+\.specs\.contracts)\b"
+)
+TRAITS = {name: text for text in RUST.values() for name, text in re.findall(r"^pub trait (\w+)([^{]*)", text, re.MULTILINE)}
+
+
+def supers(trait):
+    """A trait of ours, and those that it builds on."""
+    return [trait, *(it for name in re.findall(r"\w+", TRAITS[trait]) if name in TRAITS for it in supers(name))]
+
+
+def own_key(module, name):
+    """The key of what a module has under a name, None if it is none of ours."""
+    if module.split(".")[0] not in CRATES:
+        return None
+    declared = re.search(r"\.declared\..*?\b([A-Z]\w*)(?:\.TheVariants)?$", module)
+    return declared[1] if declared else f"{module}.{name}"
+
+
+class Scope:
+    """What names mean in a file: those that it imports, and its own."""
+
+    def __init__(self, path, text):
+        self.modules = {}
+        for module, names, alias in IMPORT.findall(text):
+            self.modules |= dict.fromkeys(filter(None, [*re.split(r",\s*", names.strip()), alias]), module)
+        crate, _, rest = path.removesuffix(".antt").split("/", 2)
+        self.own = f"{crate}.specs.{rest.replace('/', '.')}" if path.endswith(".antt") else ""
+
+    def key(self, name, bounds):
+        """The key of the word that a name means, where its first part may have traits as bounds."""
+        first, *rest = re.sub(r"⟦<.* as (\w+)>⟧", r"\1", name).split(".")
+        if first in self.modules:
+            return own_key(self.modules[first], first)
+        traits = [it for bound in bounds.get(first if rest else "Self", ()) for it in supers(bound)]
+        traits += [first, *(TRAITS if len(rest) > 1 and first[0].isupper() else ())]
+        keys = [f"{self.own}.{first}", *(f"{trait}.{(rest or [first])[-1]}" for trait in traits)]
+        return next((key for key in keys if key in WORDS), None)
+
+    def used(self, text, bounds):
+        """The names in a text that it doesn't bind itself, each with the key of the word that it means, None if not of ours."""
+        text = re.sub(r"(?:--|//).*", "", text)
+        bound = {name for names in BOUND.findall(text) for name in " ".join(names).split()}
+        for name in dict.fromkeys(NAME.findall(text)):
+            if name.split(".")[0] not in {*bound, "λ"}:
+                yield name, self.key(name, bounds)
+
+
+SCOPES = {path: Scope(path, text) for path, text in (SPECS | RUST).items()}
+
+
+def types_in(text):
+    """The keys of our types that a signature names."""
+    return [name for name in dict.fromkeys(re.findall(r"\b[A-Z]\w*", text)) if name in WORDS]
+
+
+def bounds_of(text):
+    """The traits of ours that a head names as bounds, by the parameters."""
+    parts = re.split(r"\b([A-Z]\w*): ", text)
+    return {name: [it for it in re.findall(r"\w+", bound) if it in TRAITS] for name, bound in zip(parts[1::2], parts[2::2])}
+
+
+def is_hidden(word):
+    """Whether the comment alone is shown of a definition: one in the logic's own language, or over a private one."""
+    scope, text = SCOPES[word.path], (SPECS | RUST)[word.path]
+    private = re.findall(r"^ *(?:abbrev |unfoldable )*(?!pub |module )(\w+) :", text, re.MULTILINE)
+    names = [name.split(".")[0] for name in NAME.findall(word.shown)]
+    private = [name for name in private if f"{scope.own}.{name}" not in WORDS]
+    return not word.kind and any(name in private or INNER.match(scope.modules.get(name, "")) for name in names)
+
+
+def names_in(word):
+    """The names in what a definition shows, with the keys that they mean."""
+    if word.path.endswith(".rt"):
+        of_types = [(name, name) for name in types_in(word.shown) if name != word.name]
+        return of_types + [*SCOPES[word.path].used(word.seen, {})] if word.kind != "member" else []
+    shown = re.sub(r"^\w+ :", "", word.shown, flags=re.MULTILINE) if word.kind else word.shown
+    return [(name, key) for name, key in SCOPES[word.path].used(shown, {}) if name not in word.head.split()]
+
+
+def closure(keys):
+    """The words of these keys, and those that their definitions use, by how far off they are: 0 for those of the keys."""
+    found, new = {}, [(key, 0) for key in keys]
+    while new:
+        key, far = new.pop(0)
+        word = WORDS.get(key)
+        if word and word not in found:
+            found[word] = far
+            new += [(it, far + 1) for _, it in names_in(word) if it]
+    return found
+
+
+def displayed(word):
+    """What a page shows of a definition: its lines, with variants by their names alone."""
+    aliases = [name for name, module in SCOPES[word.path].modules.items() if module.endswith(".TheVariants") and name.islower()]
+    return re.sub(rf"\b(?:{'|'.join(aliases)})\.(?=[A-Z])", "", word.shown) if aliases else word.shown
+
+
+for it in WORDS.values():
+    it.shown = "" if is_hidden(it) else it.shown
