@@ -3,7 +3,8 @@ import pathlib
 import random
 import runpy
 
-MODEL = runpy.run_path(str(pathlib.Path(__file__).resolve().parents[1] / "crates" / "test_replay" / "model.py"))
+FOLDER = pathlib.Path(__file__).resolve().parent
+MODEL = runpy.run_path(f"{FOLDER.parent}/crates/test_replay/model.py")
 # How many calls a run has.
 LENGTH = 500
 STORES, SLICED = MODEL["GROWING"].split(), MODEL["SLICED"].split()
@@ -14,41 +15,13 @@ RANGES = [3, 8, 20, 60, 60, 200, 600, 2**27]
 PLACES = [2, 6, 20, 60, 200]
 # Lengths of lists at which a body takes another form here.
 LENGTHS = [7, 8, 9, 15, 16, 17, 18, 20, 21, 30, 31, 32, 33, 41, 63, 64, 65, 100, 255, 256]
-CLONES = "try_clone to_boxed_keys_values to_boxed_keys to_boxed_values"
-LOANS = "to_borrowed_keys_values to_borrowed_keys to_borrowed_values"
-EXTENSIONS = "extend extend_counted extend_from_vec extend_from_vec_counted"
-# How often one of some calls is picked, what words stand behind it, and the calls: one that stands twice is picked twice as often.
-CALLS = [
-    (18, "KEY VALUE", "insert insert insert_counted try_insert try_append"),
-    (8, "KEY VALUE", "try_get_or_insert try_get_or_insert try_find_or_insert try_get_or_fail try_find_or_fail"),
-    (14, "KEY VALUE", "or_insert or_insert_with and_modify and_modify entry_insert entry_get_mut entry_into_mut"),
-    (5, "KEY VALUE", "get_mut get_mut_by index_mut"),
-    (6, "KEY", "get get_counted get_by contains_key index"),
-    (3, "KEY", "find_index find_index_counted find_index_by"),
-    (4, "KEY", "entry entry_get or_default"),
-    (11, "KEY", "remove remove remove_counted remove_by entry_remove"),
-    (3, "KEY KEY", "rename rename rename_counted"),
-    (2, "PLACE VALUE", "get_indexed_mut"),
-    (2, "PLACE", "get_indexed reserve"),
-    (1, "PLACE", "with_capacity into_iter"),
-    (3, "", "len is_empty first last"),
-    (1, "", "clear new"),
-    (2, "BITS", "retain"),
-    (1, "VALUE", "update"),
-    (1, "PAIRS", "from_iter from_iter_counted from_vec from_vec_counted"),
-    (6, "PAIRS", EXTENSIONS),
-    (7, "PAIRS", "extend_from_litemap extend_from_litemap_counted"),
-    (3, "PAIRS", "extend_with extend_with_counted"),
-    (1, "PAIRS", "keep_keys_of remove_keys_of remove_keys_of is_subset is_subset_counted"),
-    (4, "PLACE PLACE", "iter keys values"),
-    (1, "ZERO ZERO", "for iter_keys iter_values"),
-    (3, "", f"{CLONES} {LOANS}"),
-    (1, "ALIKE", "eq cmp partial_cmp"),
-]
-# The calls of a map over a store that lends a slice, and over a vector.
-OF_A_SLICE = [(3, "PLACE PLACE", "get_indexed_range"), (2, "", "as_slice as_sliced")]
-OF_A_VECTOR = [(1, "", "into_tuple_vec")]
-CALLS_OVER = {it: CALLS + OF_A_SLICE * (it in SLICED) + OF_A_VECTOR * (it == "vec") for it in STORES}
+# The rows of calls.txt that tell of the calls of lines, and the stores that these name.
+ROWS = [line.split(" | ") for line in (FOLDER / "calls.txt").read_text(encoding="utf-8").splitlines() if line.count(" | ") == 3]
+OVER = {"all": STORES, "slice": SLICED, "vec": ["vec"]}
+# By their stores, how often one of some calls is picked, what words stand behind it, and the calls.
+CALLS_OVER = {
+    store: [(int(often), words, names) for often, over, words, names in ROWS if store in OVER[over]] for store in STORES
+}
 
 
 def word(order, number):

@@ -7,7 +7,7 @@ import lines
 def rows(top):
     """Each call of ours, the calls of lines that make it, and what the table says of the crate's."""
     for line in (top / "diff" / "calls.txt").read_text().splitlines():
-        if line and not line.startswith("#"):
+        if line.count("|") == 2 and not line.startswith("#"):
             ours, made, theirs = (part.strip() for part in line.split("|"))
             owner, colons, names = ours.rpartition("::")
             for name in names.split(" ") if colons else [ours]:

@@ -1019,7 +1019,7 @@ def files():
 
 
 # So many lines of a sample at most go on from one another.
-MOST_TOGETHER = 12
+MOST_TOGETHER = 8
 
 
 def sampled(lines):
@@ -1040,8 +1040,9 @@ def sampled(lines):
 
 
 def sample(files):
-    """The lines that are stored, of all those in the files."""
-    return written({name: list(sampled(files[f"data/{name}.calls"].splitlines())) for name in FILES})
+    """The lines that are stored, of all those in the files: in one file, each part below its name."""
+    parts = [[f"# {name}", *sampled(files[f"data/{name}.calls"].splitlines())] for name in FILES]
+    return written({"sample": list(itertools.chain.from_iterable(parts))})
 
 
 def faults(files):

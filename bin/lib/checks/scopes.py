@@ -24,6 +24,8 @@ def own_key(module, name):
     """The key of what a module has under a name, None if it is none of ours."""
     if module.split(".")[0] not in CRATES:
         return None
+    if module.endswith(".TheConstants"):
+        return name
     declared = re.search(r"\.declared\..*?\b([A-Z]\w*)(?:\.TheVariants)?$", module)
     return declared[1] if declared else f"{module}.{name}"
 

@@ -13,7 +13,7 @@ PATTERN = re.compile(r"\((?:[^()]|\([^()]*\))*\)|\{[^}]*\}|\S+")
 VARIABLE = re.compile(r"(?<![\w.'])(?:[a-z][\w']*|[A-Z]['₀-₉]?)(?![\w.])")
 # An item of a source that a signature can name, and a ghost member of a trait.
 TYPE = re.compile(
-    r"^pub (?P<kind>struct|enum|type|trait) (?P<name>\w+)(?P<rest>[^;{]*)(?P<inside>;|\{\}|\{\n.*?^\})$", re.MULTILINE | re.DOTALL
+    r"^pub (?P<kind>struct|enum|type|trait|const) (?P<name>\w+)(?P<rest>[^;{]*)(?P<inside>;|\{\}|\{\n.*?^\})$", re.MULTILINE | re.DOTALL
 )
 MEMBER = re.compile(
     r"^    (?:type (?P<type>\w+)[^;{]*|ghost (?P<name>\w+): \{ (?P<of>.*?) \}(?: = \{.*?\})?);", re.MULTILINE | re.DOTALL
@@ -123,7 +123,7 @@ def type_word(path, text, found):
     """The word of a type or a trait of a source: what can be named of it is shown, and of a model what a contract sees."""
     line = text.count("\n", 0, found.start())
     shown = re.sub(r"^ *#\[.*\n", "", found[0], flags=re.MULTILINE)
-    is_shown = found["kind"] in ("enum", "type") or found["kind"] == "struct" and "pub " in found["rest"] + found["inside"]
+    is_shown = found["kind"] in ("enum", "type", "const") or found["kind"] == "struct" and "pub " in found["rest"] + found["inside"]
     said = above(text.splitlines(), line)
     model = re.search(rf"Model for {found['name']}\b(?:(?!^\}}).)*?ghost Value = \{{ (.*?) \}};", text, re.DOTALL | re.MULTILINE)
     seen = model[1] if model else ""

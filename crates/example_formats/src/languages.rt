@@ -3,9 +3,8 @@
 //! slices of them, and an error of such a table is told with its offset.
 ghost use Rattle.std.specs.Prelude.{◌≡◌, IfErr, IfOk};
 ghost use Rattle.litemap.specs.ByBytes.{by_bytes};
-ghost use Rattle.litemap_read.specs.ReadFault.{IfSource};
 ghost use Rattle.litemap_store.specs.Pairs.{Rising, value_at};
-ghost use Rattle.name_table.specs.Faults.{TableFault};
+ghost use Rattle.name_table.specs.Faults.{IsUnread};
 ghost use Rattle.example_formats.specs.Languages.{IsNamed};
 
 use litemap::LiteMap;
@@ -33,7 +32,7 @@ pub fn language_name<'a>(
 ) -> Result<Option<&'a str>, ReadFault<NameFault>>
     requires { Rising by_bytes table.now }
     ensures named { IfOk result (IsNamed bytes.now table.now code.entry) }
-    ensures fault { IfErr result (λ fault. IfSource fault (TableFault bytes.now)) }
+    ensures fault { IfErr result (IsUnread bytes.now) }
 {
     match find_name(alloc, bytes, code)? {
         Some((_, name)) => Ok(Some(name)),

@@ -13,18 +13,10 @@ module _ {S P : Type 0} (gives : S → List P → Type 0) where
   abbrev pub IsBehind : S → S → Type 0
   IsBehind s t = (front : List P) × ((rest : List P) → gives t rest → gives s (front ++ rest))
 
--- s gives a list, and M is its last pairs
-pub record IsRead {S K V : Type 0} (cmp : K → K → Ordering) (gives : S → List (K × V) → Type 0)
-    (s : S) (M : List (K × V)) : Type 0 where
+-- a list is given, and M is the last pairs of the old ones followed by it
+pub record IsGathered {K V : Type 0} (cmp : K → K → Ordering) (Gives : List (K × V) → Type 0) (old M : List (K × V)) : Type 0 where
   pub given : List (K × V)
-  pub gives_it : gives s given
-  pub last : Last cmp given M
-
--- s gives a list, and M is the last pairs of the old ones followed by it
-pub record IsReadBehind {S K V : Type 0} (cmp : K → K → Ordering) (gives : S → List (K × V) → Type 0)
-    (s : S) (old M : List (K × V)) : Type 0 where
-  pub given : List (K × V)
-  pub gives_it : gives s given
+  pub gives : Gives given
   pub last : Last cmp (old ++ given) M
 
 module _ {S P : Type 0} (gives : S → List P → Type 0) (left : S → ℕ) where

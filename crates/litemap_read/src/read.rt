@@ -4,9 +4,9 @@ ghost use Rattle.std.specs.Iterator.{IsFiniteIterable};
 ghost use Rattle.litemap_store.specs.Bulk.{GivesSome};
 ghost use Rattle.litemap_store.specs.Laws.{Sifted};
 ghost use Rattle.litemap_read.specs.ReadFault.{IfSource};
-ghost use Rattle.litemap_read.specs.Results.{GivesFault, IsReadOf};
+ghost use Rattle.litemap_read.specs.Results.{GivesFault, GivesPairs};
 ghost use Rattle.litemap_read.specs.declared.source.ReadFault.TheVariants.{NoRoom};
-ghost use Rattle.litemap_read.specs.Source.{IsAsked, IsBehind, IsRead, IsReadBehind};
+ghost use Rattle.litemap_read.specs.Source.{IsAsked, IsBehind, IsGathered};
 
 use crate::{PairSource, ReadFault};
 use litemap::LiteMap;
@@ -39,7 +39,7 @@ pub fn read_pairs<K: Ord + Drop, V: Drop, S: StoreBulkMut<K, V>, P: PairSource<K
     alloc: Global,
     source: &mut P,
 ) -> Result<LiteMap<K, V, S>, ReadFault<P::Fault>>
-    ensures read { IfOk result (λ map. IsRead K.cmp P.gives source.old map.pairs) }
+    ensures read { IfOk result (λ map. IsGathered K.cmp (P.gives source.old) [] map.pairs) }
     ensures asked { IsAsked P.gives P.left P.allows P.ends P.leads source.old source.new result }
 {
     let mut map = with_hint(alloc, source.hint());
@@ -68,7 +68,7 @@ pub fn extend_from_source<K: Ord + Drop, V: Drop, S: StoreBulkMut<K, V>, P: Pair
     map: &mut LiteMap<K, V, S>,
     source: &mut P,
 ) -> Result<(), ReadFault<P::Fault>>
-    ensures read { OnOk result (IsReadBehind K.cmp P.gives source.old map.old.pairs map.new.pairs) }
+    ensures read { OnOk result (IsGathered K.cmp (P.gives source.old) map.old.pairs map.new.pairs) }
     ensures unchanged { OnErr result (map.new.pairs ≡ map.old.pairs) }
     ensures asked { IsAsked P.gives P.left P.allows P.ends P.leads source.old source.new result }
 {
@@ -93,7 +93,7 @@ pub fn read_results<
     I: IntoIterator<Item = Result<(K, V), E>>,
 >(alloc: Global, iter: I) -> Result<LiteMap<K, V, S>, ReadFault<E>>
     requires { IsFiniteIterable I.into_iter_gives I.IntoIter.can_next I.IntoIter.remaining iter }
-    ensures read { IfOk result (λ map. IsReadOf K.cmp I.into_iter_gives I.IntoIter.next_gives iter map.pairs) }
+    ensures read { IfOk result (λ map. IsGathered K.cmp (GivesPairs I.into_iter_gives I.IntoIter.next_gives iter) [] map.pairs) }
     ensures fault { IfErr result (λ fault. IfSource fault (GivesFault I.into_iter_gives I.IntoIter.next_gives iter)) }
     ensures refused_some { IfErr result (λ fault. fault ≡ NoRoom → GivesSome I.into_iter_gives I.IntoIter.next_gives iter) }
 {

@@ -9,11 +9,9 @@ use Rattle.litemap_store.proofs.Lists.Parts.{Rising-sub}
 use Rattle.name_table.proofs.PartLemmas.{begins_split}
 use Rattle.name_table.specs.ReadOn.{pair_parts-append}
 use Rattle.name_table.specs.Parts.{pair_parts}
-use Rattle.name_index.specs.Entries.{AreEntries}
 use Rattle.name_index.specs.Left.{left_one}
-use Rattle.name_index.specs.Placed.{ArePlaced}
+use Rattle.name_index.specs.Steps.{AreEntries, ArePlaced}
 use Rattle.name_index.specs.Tables.{text_order}
-use Rattle.name_index.proofs.LeftLemmas.{entries_left}
 use Rattle.name_index.proofs.Placing.{walked_at}
 
 sub_is : (L : List (List ℕ × List ℕ)) (a b : ℕ) → a ≤ b → b ≤ length L → Some (slice_range L a b) ≡ sub L a b
@@ -27,24 +25,20 @@ module _ (entries offsets : List ℕ) (from to d : ℕ) (placed : ArePlaced entr
       let K = drop from L in
       let n = to - from in
       let first : from < length offsets = omega (arith, l, h) in
-      let long : to ≤ length L = omega (arith, h, placed.these.count_is) in
+      let long : to ≤ length L = omega (arith, h, placed.these.left.len_is) in
       let s =
-      begins_split bytes placed.these.rest (pair_parts (take n K)) (pair_parts (drop n K))
+      begins_split bytes placed.these.left.behind (pair_parts (take n K)) (pair_parts (drop n K))
       (rw (← (ap pair_parts (sym (take-append-drop n K)) ∙ pair_parts-append (take n K) (drop n K))) (walked_at entries offsets from d placed first).here) in
       record {
         pairs = slice_range L from to;
-        rest = s.0;
-        spelled = s.1;
-        count_is = length-take-le n K (omega (arith, long, length-drop from L));
+        left = record { behind = s.0; spelled = s.1; len_is = length-take-le n K (omega (arith, long, length-drop from L)) };
         rises = Rising-sub text_order L from to (slice_range L from to) placed.these.rises (sub_is L from to (omega (arith, l)) long);
       }
 
   pub between_is : (these : AreEntries (drop (get_or offsets from d) entries) (to - from)) → these.pairs ≡ slice_range placed.these.pairs from to
   unfolding between_are
   between_is these =
-      left_one (drop (get_or offsets from d) entries) (to - from) these.pairs between_are.pairs
-      (entries_left (drop (get_or offsets from d) entries) (to - from) these)
-      (entries_left (drop (get_or offsets from d) entries) (to - from) between_are)
+      left_one (drop (get_or offsets from d) entries) (to - from) these.pairs between_are.pairs these.left between_are.left
 
 -- ---- parts of a list
 take_none : {X : Type 0} (n : ℕ) → take {A = X} n [] ≡ []

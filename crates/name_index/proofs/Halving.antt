@@ -1,6 +1,6 @@
 -- A search that halves the indices of pairs: what it knows of them, whichever they are, and how often it compared.
 --     halved_start      at first;  halved_less, halved_greater, halved_equal, halved_asked      after a comparison with the middle one
---     halved_end, halved_cost      if no index is left
+--     halved_end      if no index is left
 use Rattle.std.proofs.Common.{◌≡◌, ℕ, ◌+◌, ◌-◌, ◌/◌, ◌<◌, ◌≤◌, List, length, Ok, Err, refl, ◌∙◌, arith}
 use Rattle.std.specs.declared.cmp.Ordering.{Ordering}
 use Rattle.std.specs.declared.cmp.Ordering.TheVariants.{Less, Equal, Greater}
@@ -8,7 +8,7 @@ use Rattle.litemap_store.specs.Counts.{RisesByAtMost, digits, digits-halved}
 use Rattle.litemap_store.specs.Search.{Ascends, Finds}
 use Rattle.litemap_store.specs.declared.count.Count.{Count}
 use Rattle.litemap_store.proofs.Search.Halving.{Narrowed, Narrowed-whole, Narrowed-less, Narrowed-greater, Finds-here, Finds-nowhere}
-use Rattle.name_index.specs.Placed.{IsKeyAt}
+use Rattle.name_index.specs.Steps.{IsKeyAt}
 
 module _ {X : Type 0} (pairs : X → List (List ℕ × List ℕ)) (order : List ℕ → Ordering) where
   -- the order ascends over the pairs, those before the indices that are left are less, and those after them greater
@@ -72,6 +72,3 @@ module _ {X : Type 0} (pairs : X → List (List ℕ × List ℕ)) (order : List 
 
   pub halved_end : {size low high : ℕ} {old new : Count} → Halved size low high old new → high ≤ low → (x : X) → Finds order (pairs x) (Err low)
   halved_end {low = low} {high = high} h l x = Finds-nowhere order (pairs x) low high l (omega (arith, h.ordered, h.within, (h.known x).0)) (h.narrowed x)
-
-  pub halved_cost : {size low high : ℕ} {old new : Count} → Halved size low high old new → RisesByAtMost (digits size) old new
-  halved_cost h = record { same = h.same; not_lowered = h.not_lowered; most = omega arith }

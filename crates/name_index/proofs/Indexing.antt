@@ -11,12 +11,12 @@ use Rattle.litemap_store.specs.declared.count.Count.{Count}
 use Rattle.litemap_store.proofs.Stores.Counting.{not_asked}
 use Rattle.litemap_store.proofs.Lists.Parts.{Less-from_Rising}
 use Rattle.litemap_store.specs.Search.{Ascends}
-use Rattle.name_index.specs.Index.{BeginsAt, HasKey, HasOffsets, IsEntry, IsIndex, IsNumberAt, IsPairAt, IsTextAt, NoEntry, NoIndex}
+use Rattle.name_index.specs.Index.{BeginsAt, IsEntry, IsIndex, IsNumberAt, IsPairAt, IsTextAt, NoIndex}
+use Rattle.name_index.specs.Steps.{HasKey, HasOffsets, IsKeyAt, NoEntry}
 use Rattle.name_index.specs.Tables.{text_order}
 use Rattle.name_index.proofs.Placing.{each_push}
 use Rattle.name_index.proofs.Rises.{IsAbove, LastKey, asked_next, last_at, rises_on}
 use Rattle.name_index.proofs.Scanning.{ascends, to_key}
-use Rattle.name_index.specs.Placed.{IsKeyAt}
 
 -- ---- one number, one string, one entry
 
@@ -113,12 +113,6 @@ pub record Followed (bytes : List ℕ) (count : ℕ) (last : Option (Bor (List �
   pub rises : Rising text_order pairs
   pub last_is : LastKey last pairs
   pub asked : RisesByAtMost (length pairs - 1) old new
-
-pub followed_start : (bytes : List ℕ) (count : ℕ) (c : Count) → Followed bytes count None 0 c c
-followed_start bytes count c = record { pairs = []; number = refl; entries = none; rises = tt; last_is = refl; asked = not_asked c }
-  where
-    none : (i : ℕ) (pair : List ℕ × List ℕ) → slice_get [] i ≡ Some pair → IsEntry bytes count i pair
-    none i pair e = absurd (cc)
 
 pub followed_next : (bytes : List ℕ) (count index : ℕ) (last : Option (Bor (List ℕ))) (key value : Bor (List ℕ)) (old middle new : Count) → Followed bytes count last index old middle → IsEntry bytes count index (key.now, value.now) → IsAbove last key.now → IfNone last (RisesByAtMost 0 middle new) → RisesByAtMost 1 middle new → Followed bytes count (Some key) (index + 1) old new
 followed_next bytes count index last key value old middle new f r a z o =

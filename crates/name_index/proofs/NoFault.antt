@@ -72,25 +72,24 @@ next_stops_one t J (NotRising a) (Format g) p q = absurd (next_no_fault t g p.1 
 next_stops_one t J (NotRising a) (NotRising b) p q = ap (λ i. NotRising i) (p.3 ∙ sym q.3)
 
 -- nor before the last of them
-stops_not : (s : Remaining) (K : List (List ℕ × List ℕ)) (behind : List ℕ) (f : NameTableFault) → Begins s.rest (pair_parts K) behind → Rising text_order K → (w : StopsAt s f) → length w.1.on.pairs < length K → ⊥
+stops_not : (s : Remaining) (K : List (List ℕ × List ℕ)) (behind : List ℕ) (f : NameTableFault) → Begins s.rest (pair_parts K) behind → Rising text_order K → (w : StopsAt s f) → length w.1 < length K → ⊥
 stops_not s K behind f k r w l =
-    let on = w.1.on in
-    let n = first_pairs on.pairs K s.rest w.0.rest behind on.spelled k l in
-    next_stops_not w.0 on.pairs n.1 n.0 behind f (rw (← n.2) r) n.3 w.2
+    let n = first_pairs w.1 K s.rest w.0.rest behind w.2.spelled k l in
+    next_stops_not w.0 w.1 n.1 n.0 behind f (rw (← n.2) r) n.3 w.4
 
 stops_one : (s : Remaining) (f g : NameTableFault) → StopsAt s f → StopsAt s g → f ≡ g
 stops_one s f g p q =
-    ⊎_elim (λ h. absurd (stops_not s q.1.on.pairs q.0.rest f q.1.on.spelled q.1.rises p h))
-    (λ h. ⊎_elim (λ k. absurd (stops_not s p.1.on.pairs p.0.rest g p.1.on.spelled p.1.rises q k)) (λ k. same (omega (arith, h, k))) (cases_lt (length q.1.on.pairs) (length p.1.on.pairs)))
-    (cases_lt (length p.1.on.pairs) (length q.1.on.pairs))
+    ⊎_elim (λ h. absurd (stops_not s q.1 q.0.rest f q.2.spelled q.3 p h))
+    (λ h. ⊎_elim (λ k. absurd (stops_not s p.1 p.0.rest g p.2.spelled p.3 q k)) (λ k. same (omega (arith, h, k))) (cases_lt (length q.1) (length p.1)))
+    (cases_lt (length p.1) (length q.1))
   where
-    same : length p.1.on.pairs ≡ length q.1.on.pairs → f ≡ g
+    same : length p.1 ≡ length q.1 → f ≡ g
     same l =
-        let u = begins_unique s.rest (agree_pairs p.1.on.pairs q.1.on.pairs l) p.1.on.spelled q.1.on.spelled in
-        let place : p.0.place ≡ q.0.place = p.1.on.place ∙ ap (λ c. s.place + length c) u.0 ∙ sym q.1.on.place in
-        let left : p.0.left ≡ q.0.left = omega (arith, l, p.1.on.count, q.1.on.count) in
+        let u = begins_unique s.rest (agree_pairs p.1 q.1 l) p.2.spelled q.2.spelled in
+        let place : p.0.place ≡ q.0.place = p.2.place ∙ ap (λ c. s.place + length c) u.0 ∙ sym q.2.place in
+        let left : p.0.left ≡ q.0.left = omega (arith, l, p.2.count, q.2.count) in
         let t : p.0 ≡ q.0 = λ i. record { rest = u.2 i; place = place i; left = left i } in
-        next_stops_one q.0 q.1.on.pairs f g (rw (← (pair_parts-inj p.1.on.pairs q.1.on.pairs u.1)) (rw (← t) p.2)) q.2
+        next_stops_one q.0 q.1 f g (rw (← (pair_parts-inj p.1 q.1 u.1)) (rw (← t) p.4)) q.4
 
 -- ---- bytes
 
@@ -104,7 +103,7 @@ rising_no_fault bytes pairs fault t =
     ⊎_elim (λ w. number_stops_not bytes d.0 (length pairs) fault d.1 w)
     (λ w.
     let u = one_number bytes d.1 w.1.spelled in
-    stops_not w.0 pairs t.rest fault (rw (← u.2) d.2) t.rises w.2 (omega (arith, u.1, w.2.1.on.count, is_due w.2.0 w.2.1.on.pairs fault w.2.2)))
+    stops_not w.0 pairs t.rest fault (rw (← u.2) d.2) t.rises w.2 (omega (arith, u.1, w.2.2.count, is_due w.2.0 w.2.1 fault w.2.4)))
 
 pub rising_fault_unique : (bytes : List ℕ) (f g : NameTableFault) → IsFault bytes f → IsFault bytes g → f ≡ g
 rising_fault_unique bytes f g p q =

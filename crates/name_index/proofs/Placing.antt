@@ -9,17 +9,17 @@ use Rattle.litemap_store.specs.Splits.{Splits}
 use Rattle.litemap_store.specs.declared.count.Count.{Count}
 use Rattle.litemap_store.specs.Search.{Ascends, Finds}
 use Rattle.litemap_store.proofs.Search.Splitting.{Splits-from_Finds}
-use Rattle.name_table.specs.Numbers.{number_limit}
+use Rattle.name_table.specs.declared.number.TheConstants.{NUMBER_LIMIT}
 use Rattle.name_table.proofs.PartLemmas.{begins_split}
 use Rattle.name_table.specs.ReadOn.{begins_none, begins_pairs}
 use Rattle.name_table.proofs.Unique.{agree_pairs, begins_unique}
 use Rattle.name_table.specs.Parts.{Begins, Number, pair_parts, text_parts}
-use Rattle.name_index.specs.Entries.{AreEntries, BeginsPair, BeginsText}
-use Rattle.name_index.specs.Placed.{AreFar, ArePlaced, AsPlaced, IfTooFar, IsFar, IsIndexed, IsKeyAt}
+use Rattle.name_index.specs.Far.{AreFar, IfTooFar, IsFar}
+use Rattle.name_index.specs.Steps.{AreEntries, ArePlaced, AsPlaced, BeginsPair, BeginsText, IsIndexed, IsKeyAt}
+use Rattle.name_index.specs.Tables.{OfTable, text_order}
 use Rattle.name_index.specs.declared.fault.NameIndexFault.{NameIndexFault}
 use Rattle.name_index.specs.declared.fault.NameIndexFault.TheVariants.{NoRoom, TooFar}
 use Rattle.name_index.proofs.KnownParts.{one_number, text_next}
-use Rattle.name_index.specs.Tables.{OfTable, text_order}
 use Rattle.name_index.proofs.Rises.{rising_table}
 use Rattle.name_index.proofs.Scanning.{Walked, ascends, one_side, to_key, walked_begins, walked_next, walked_pair}
 
@@ -39,11 +39,11 @@ pub record Noted (entries : List ℕ) (count : ℕ) (offsets rest : List ℕ) (i
   pub so_many : length before ≡ index
   pub near : (f : AreFar entries index) → ⊥
   pub within : (i place : ℕ) → slice_get offsets i ≡ Some place → place ≤ length entries
-  pub there : (i place : ℕ) → slice_get offsets i ≡ Some place → Begins (drop place entries) (pair_parts (drop i walked.these.pairs)) walked.these.rest
+  pub there : (i place : ℕ) → slice_get offsets i ≡ Some place → Begins (drop place entries) (pair_parts (drop i walked.these.pairs)) walked.these.left.behind
 
 pub noted_start : (entries : List ℕ) (count : ℕ) → AreEntries entries count → Noted entries count [] entries 0
 noted_start entries count these = record {
-  walked = record { these = these; here = these.spelled };
+  walked = record { these = these; here = these.left.spelled };
   number = refl;
   before = [];
   read = begins_none entries;
@@ -61,7 +61,7 @@ noted_start entries count these = record {
 pub place_is_front : (entries : List ℕ) (count : ℕ) (offsets rest : List ℕ) (index place : ℕ) → (n : Noted entries count offsets rest index) → place + length rest ≡ length entries → length n.read.front ≡ place
 place_is_front entries count offsets rest index place n e = omega (arith, e, ap length n.read.split, length-append n.read.front rest)
 
-pub far_here : (entries : List ℕ) (count : ℕ) (offsets rest : List ℕ) (index : ℕ) → Noted entries count offsets rest index → index < count → number_limit + length rest ≤ length entries → AreFar entries count
+pub far_here : (entries : List ℕ) (count : ℕ) (offsets rest : List ℕ) (index : ℕ) → Noted entries count offsets rest index → index < count → NUMBER_LIMIT + length rest ≤ length entries → AreFar entries count
 far_here entries count offsets rest index n l h = record {
   before = n.before;
   rest = rest;
@@ -70,7 +70,7 @@ far_here entries count offsets rest index n l h = record {
   far = omega (arith, h, ap length n.read.split, length-append n.read.front rest);
 }
 
-pub noted_next : (entries : List ℕ) (count : ℕ) (offsets rest : List ℕ) (index place : ℕ) (pair : List ℕ × List ℕ) (behind : List ℕ) → (n : Noted entries count offsets rest index) → index < count → place + length rest ≡ length entries → place < number_limit → Begins rest (pair_parts (pair ∷ [])) behind → Noted entries count (offsets ++ place ∷ []) behind (index + 1)
+pub noted_next : (entries : List ℕ) (count : ℕ) (offsets rest : List ℕ) (index place : ℕ) (pair : List ℕ × List ℕ) (behind : List ℕ) → (n : Noted entries count offsets rest index) → index < count → place + length rest ≡ length entries → place < NUMBER_LIMIT → Begins rest (pair_parts (pair ∷ [])) behind → Noted entries count (offsets ++ place ∷ []) behind (index + 1)
 noted_next entries count offsets rest index place pair behind n within e small b =
     let f = place_is_front entries count offsets rest index place n e in
     let d : drop place entries ≡ rest = ap (λ c. drop place c) n.read.split ∙ drop_at n.read.front rest place f in
@@ -86,7 +86,7 @@ noted_next entries count offsets rest index place pair behind n within e small b
           (cases_lt (length g.before) index);
       within = each_push (λ i p. p ≤ length entries) offsets place n.within (omega (arith, e));
       there =
-          each_push (λ i p. Begins (drop p entries) (pair_parts (drop i n.walked.these.pairs)) n.walked.these.rest) offsets place n.there
+          each_push (λ i p. Begins (drop p entries) (pair_parts (drop i n.walked.these.pairs)) n.walked.these.left.behind) offsets place n.there
           (rw n.number (rw d n.walked.here));
     }
 
@@ -103,7 +103,11 @@ too_far_weaker TooFar h p = h p
 pub placed_end : (entries : List ℕ) (count : ℕ) (offsets rest : List ℕ) (index : ℕ) → Noted entries count offsets rest index → index ≡ count → ArePlaced entries offsets
 placed_end entries count offsets rest index n e =
     record {
-      these = record { pairs = n.walked.these.pairs; rest = n.walked.these.rest; spelled = n.walked.these.spelled; count_is = omega (arith, n.walked.these.count_is, n.number, e); rises = n.walked.these.rises };
+      these = record {
+        pairs = n.walked.these.pairs;
+        left = record { behind = n.walked.these.left.behind; spelled = n.walked.these.left.spelled; len_is = omega (arith, n.walked.these.left.len_is, n.number, e) };
+        rises = n.walked.these.rises;
+      };
       within = n.within;
       there = n.there;
     }
@@ -117,9 +121,6 @@ tail_is l n = ap (λ k. take k (drop n l)) (sym (length-drop n l)) ∙ take-leng
 module _ (entries offsets : List ℕ) (index : ℕ) (d : ℕ) (placed : ArePlaced entries offsets) (l : index < length offsets) where
   pub place_is : slice_get offsets index ≡ Some (get_or offsets index d)
   place_is = slice_get-get_or offsets index d l
-
-  pub place_within : get_or offsets index d ≤ length entries
-  place_within = placed.within index (get_or offsets index d) place_is
 
   abbrev pub walked_at : Walked entries (length offsets) (drop (get_or offsets index d) entries) index
   walked_at = record { these = placed.these; here = placed.there index (get_or offsets index d) place_is }
@@ -151,7 +152,7 @@ abbrev pub pairs_at : {entries offsets : List ℕ} → ArePlaced entries offsets
 pairs_at placed = placed.these.pairs
 
 pub known_at : {entries offsets : List ℕ} (key : List ℕ) (placed : ArePlaced entries offsets) → (length (pairs_at placed) ≡ length offsets) × Ascends (to_key key) (pairs_at placed)
-known_at key placed = (placed.these.count_is, ascends placed.these.pairs key placed.these.rises)
+known_at key placed = (placed.these.left.len_is, ascends placed.these.pairs key placed.these.rises)
 
 pub splits_at : {entries offsets : List ℕ} (key : List ℕ) (r : Result ℕ ℕ) (placed : ArePlaced entries offsets) → Finds (to_key key) (pairs_at placed) r → Splits text_order (pairs_at placed) key r
 splits_at key r placed f = Splits-from_Finds one_side placed.these.pairs key placed.these.rises r f
@@ -166,4 +167,4 @@ of_indexed bytes entries items offsets x e h =
 
 -- a bound by the number of pairs, which is that of the offsets
 pub cost_by_pairs : (entries offsets : List ℕ) (placed : ArePlaced entries offsets) (old new : Count) → RisesByAtMost (digits (length offsets)) old new → RisesByAtMost (digits (length placed.these.pairs)) old new
-cost_by_pairs entries offsets placed old new r = rw placed.these.count_is r
+cost_by_pairs entries offsets placed old new r = rw placed.these.left.len_is r

@@ -14,8 +14,8 @@ use Rattle.litemap_store.specs.Queries.{OneSide}
 use Rattle.litemap_store.specs.Search.{Ascends, Finds}
 use Rattle.litemap_store.proofs.Lists.Parts.{Less-from_is_lt}
 use Rattle.litemap_store.proofs.Search.Splitting.{Ascends-by_query, Splits-from_Finds, each-weaker}
-use Rattle.name_index.specs.Placed.{ArePlaced}
-use Rattle.name_index.specs.Prefixes.{begins, head_order, leads_to}
+use Rattle.name_index.specs.Prefixes.{begins}
+use Rattle.name_index.specs.Steps.{ArePlaced, head_order, leads_to}
 use Rattle.name_index.specs.Tables.{text_order}
 use Rattle.name_index.proofs.Placing.{pairs_at}
 use Rattle.name_index.proofs.Scanning.{text_order_total}
@@ -100,7 +100,7 @@ same_cut f g (x ∷ L) (suc n) e h = (sym (e x) ∙ h.0, same_cut f g L n e h.1)
 
 module _ {entries offsets : List ℕ} (behind : Bool) (text : List ℕ) (placed : ArePlaced entries offsets) where
   pub known_sides : (length (pairs_at placed) ≡ length offsets) × Ascends (side behind text) (pairs_at placed)
-  known_sides = (placed.these.count_is, Ascends-by_query (side_one behind) placed.these.pairs text placed.these.rises)
+  known_sides = (placed.these.left.len_is, Ascends-by_query (side_one behind) placed.these.pairs text placed.these.rises)
 
   pub cut_sides : (n : ℕ) → Finds (side behind text) (pairs_at placed) (Err n) → IsCut (λ p. leads_to behind text p.0) placed.these.pairs n
   cut_sides n f =

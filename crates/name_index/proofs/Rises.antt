@@ -10,10 +10,10 @@ use Rattle.litemap_store.proofs.Stores.Counting.{in_turn, not_asked}
 use Rattle.litemap_store.proofs.Lists.Parts.{Less-from_is_lt}
 use Rattle.litemap_store.proofs.Lists.Ends.{AllBelow-from_last, Rising-push}
 use Rattle.name_table.specs.Parts.{Begins, Number, pair_parts}
-use Rattle.name_table.specs.ReadOn.{begins_none, begins_pairs, begins_then}
-use Rattle.name_table.specs.Remaining.{IsCounted, IsNext, Remaining}
-use Rattle.name_index.specs.Entries.{IsOpened, OfEntries}
-use Rattle.name_index.specs.Faults.{AllRise, RisesTo}
+use Rattle.name_table.specs.ReadOn.{after_further, begins_none, begins_then}
+use Rattle.name_table.specs.Remaining.{IsAfter, IsCounted, Remaining}
+use Rattle.name_index.specs.Faults.{AllRise}
+use Rattle.name_index.specs.Steps.{IsOpened, OfEntries}
 use Rattle.name_index.specs.Tables.{IsRisingTable, OfTable, text_order}
 use Rattle.name_index.proofs.Scanning.{text_order_total}
 
@@ -24,16 +24,17 @@ LastKey (Some key) pairs = (front : List (List ℕ × List ℕ)) × (value : Lis
 
 -- what the walk knows at t
 pub record Checked (s t : Remaining) (last : Option (Bor (List ℕ))) (old new : Count) : Type 0 where
-  pub to : RisesTo s t
-  pub last_is : LastKey last to.on.pairs
-  pub asked : RisesByAtMost (length to.on.pairs - 1) old new
+  pub pairs : List (List ℕ × List ℕ)
+  pub read : IsAfter s t pairs
+  pub rises : Rising text_order pairs
+  pub last_is : LastKey last pairs
+  pub asked : RisesByAtMost (length pairs - 1) old new
 
 pub checked_start : (s : Remaining) (count : Count) → Checked s s None count count
 checked_start s count = record {
-  to = record {
-    on = record { pairs = []; spelled = begins_none s.rest; place = omega arith; count = omega arith };
-    rises = tt;
-  };
+  pairs = [];
+  read = record { spelled = begins_none s.rest; place = omega arith; count = omega arith };
+  rises = tt;
   last_is = refl;
   asked = not_asked count;
 }
@@ -79,22 +80,15 @@ above_false None L p b e n s f r = let h : b ≡ true = n in absurd (cc)
 above_false (Some last) L p b e n s f r = let h : b ≡ true = s ∙ ap is_lt (falls_on last L p e r) in absurd (cc)
 
 -- one more pair was read, and its key is above the last one
-pub checked_next : (s t u : Remaining) (last : Option (Bor (List ℕ))) (key value : Bor (List ℕ)) (old middle new : Count) → Checked s t last old middle → IsNext t u (key.now, value.now) → IsAbove last key.now → IfNone last (RisesByAtMost 0 middle new) → RisesByAtMost 1 middle new → Checked s u (Some key) old new
+pub checked_next : (s t u : Remaining) (last : Option (Bor (List ℕ))) (key value : Bor (List ℕ)) (old middle new : Count) → Checked s t last old middle → IsAfter t u ((key.now, value.now) ∷ []) → IsAbove last key.now → IfNone last (RisesByAtMost 0 middle new) → RisesByAtMost 1 middle new → Checked s u (Some key) old new
 checked_next s t u last key value old middle new c n a z o =
-    let on = c.to.on in
     let p : List ℕ × List ℕ = (key.now, value.now) in
     record {
-      to = record {
-        on = record {
-          pairs = on.pairs ++ p ∷ [];
-          spelled = begins_pairs s.rest t.rest u.rest on.pairs (p ∷ []) on.spelled n.spelled;
-          place = omega (arith, on.place, n.place, length-append on.spelled.front n.spelled.front);
-          count = omega (arith, on.count, n.count, length-append on.pairs (p ∷ []));
-        };
-        rises = rises_on last on.pairs p c.last_is c.to.rises a;
-      };
-      last_is = (on.pairs, value.now, refl);
-      asked = asked_next last on.pairs p c.last_is c.asked z o;
+      pairs = c.pairs ++ p ∷ [];
+      read = after_further s t u c.pairs (p ∷ []) c.read n;
+      rises = rises_on last c.pairs p c.last_is c.rises a;
+      last_is = (c.pairs, value.now, refl);
+      asked = asked_next last c.pairs p c.last_is c.asked z o;
     }
 
 -- the whole table was read
@@ -103,19 +97,17 @@ parts bytes entries s c e a =
     rw e (record {
       counted = c.spelled;
       these = record {
-        pairs = a.1.on.pairs;
-        rest = a.0.rest;
-        spelled = a.1.on.spelled;
-        count_is = omega (arith, a.1.on.count, a.2);
-        rises = a.1.rises;
+        pairs = a.1;
+        left = record { behind = a.0.rest; spelled = a.2.spelled; len_is = omega (arith, a.2.count, a.4) };
+        rises = a.3;
       };
     })
 
 -- a table that was opened is one whose keys ascend
 pub rising_table : (bytes entries : List ℕ) (count : ℕ) → (o : IsOpened bytes entries count) → IsRisingTable bytes o.these.pairs
 rising_table bytes entries count o = record {
-  rest = o.these.rest;
-  table = begins_then bytes entries o.these.rest (Number (length o.these.pairs) ∷ []) (pair_parts o.these.pairs) (rw o.these.count_is o.counted) o.these.spelled;
+  rest = o.these.left.behind;
+  table = begins_then bytes entries o.these.left.behind (Number (length o.these.pairs) ∷ []) (pair_parts o.these.pairs) (rw o.these.left.len_is o.counted) o.these.left.spelled;
   rises = o.these.rises;
 }
 

@@ -8,13 +8,14 @@ use Rattle.std.specs.Option.{option_map}
 use Rattle.std.proofs.lemmas.Option.{get_or_from_slice_get, slice_get-get_or, slice_get-map, slice_get_within}
 use Rattle.litemap.specs.ByBytes.{by_bytes}
 use Rattle.litemap_store.specs.Pairs.{Rising}
-use Rattle.name_table.specs.Numbers.{number_limit}
+use Rattle.name_table.specs.declared.number.TheConstants.{NUMBER_LIMIT}
 use Rattle.name_index.specs.Index.{BeginsAt, IsIndex, IsNumberAt, IsPairAt, IsTextAt}
+use Rattle.name_index.specs.Steps.{Adds, AddsPairs, AreOffsets}
 use Rattle.name_index.specs.Tables.{text_order}
-use Rattle.name_table.specs.Reads.{Text}
+use Rattle.name_index.specs.Writes.{entries_size, pair_size}
+use denote.Ref.{Bor}
 use Rattle.name_table.specs.Remaining.{shown}
 use Rattle.name_table.proofs.ReadAgain.{shown_rise}
-use Rattle.name_index.specs.Writes.{Adds, AddsPairs, AreOffsets, entries_size, pair_size}
 
 -- ---- bytes after bytes
 
@@ -119,34 +120,34 @@ index_written old new pairs p a rises = record {
 
 -- ---- a map's pairs, as what they refer to
 
-pub shown_at : (pairs : List (Text × Text)) (index : ℕ) (d : Text × Text) → index < length pairs → slice_get (map shown pairs) index ≡ Some (shown (get_or pairs index d))
+pub shown_at : (pairs : List (Bor (List ℕ) × Bor (List ℕ))) (index : ℕ) (d : Bor (List ℕ) × Bor (List ℕ)) → index < length pairs → slice_get (map shown pairs) index ≡ Some (shown (get_or pairs index d))
 shown_at pairs index d l = slice_get-map shown pairs index ∙ ap (λ o. option_map shown o) (slice_get-get_or pairs index d l)
 
 length_less : (pairs : List (List ℕ × List ℕ)) → length pairs ≤ entries_size pairs
 length_less [] = omega arith
 length_less (p ∷ pairs) = omega (arith, sum_by-cons pair_size p pairs, length_less pairs)
 
-pub too_many : (pairs : List (Text × Text)) → number_limit ≤ length pairs → number_limit ≤ entries_size (map shown pairs)
+pub too_many : (pairs : List (Bor (List ℕ) × Bor (List ℕ))) → NUMBER_LIMIT ≤ length pairs → NUMBER_LIMIT ≤ entries_size (map shown pairs)
 too_many pairs h = omega (arith, h, length_less (map shown pairs), length-map pairs shown)
 
 -- if a pair is too large, all are
-module _ (pairs : List (Text × Text)) (index : ℕ) (d : Text × Text) (l : index < length pairs) where
-  pub too_large_at : number_limit ≤ pair_size (shown (get_or pairs index d)) → number_limit ≤ entries_size (map shown pairs)
+module _ (pairs : List (Bor (List ℕ) × Bor (List ℕ))) (index : ℕ) (d : Bor (List ℕ) × Bor (List ℕ)) (l : index < length pairs) where
+  pub too_large_at : NUMBER_LIMIT ≤ pair_size (shown (get_or pairs index d)) → NUMBER_LIMIT ≤ entries_size (map shown pairs)
   too_large_at h = omega (arith, h, size_within (map shown pairs) index (shown (get_or pairs index d)) (shown_at pairs index d l))
 
-  pub too_far_at : (place : ℕ) → place ≡ entries_size (take index (map shown pairs)) → number_limit ≤ place + pair_size (shown (get_or pairs index d)) → number_limit ≤ entries_size (map shown pairs)
+  pub too_far_at : (place : ℕ) → place ≡ entries_size (take index (map shown pairs)) → NUMBER_LIMIT ≤ place + pair_size (shown (get_or pairs index d)) → NUMBER_LIMIT ≤ entries_size (map shown pairs)
   too_far_at place e h = omega (arith, e, h, size_within (map shown pairs) index (shown (get_or pairs index d)) (shown_at pairs index d l))
 
-pub place_next : (pairs : List (Text × Text)) (index : ℕ) (d : Text × Text) (place next : ℕ) → index < length pairs → place ≡ entries_size (take index (map shown pairs)) → next ≡ place + pair_size (shown (get_or pairs index d)) → next ≡ entries_size (take (index + 1) (map shown pairs))
+pub place_next : (pairs : List (Bor (List ℕ) × Bor (List ℕ))) (index : ℕ) (d : Bor (List ℕ) × Bor (List ℕ)) (place next : ℕ) → index < length pairs → place ≡ entries_size (take index (map shown pairs)) → next ≡ place + pair_size (shown (get_or pairs index d)) → next ≡ entries_size (take (index + 1) (map shown pairs))
 place_next pairs index d place next l e n =
     n ∙ ap (λ k. k + pair_size (shown (get_or pairs index d))) e ∙ sym (size_more (map shown pairs) index (shown (get_or pairs index d)) (shown_at pairs index d l))
 
-pub all_small : (pairs : List (Text × Text)) (index place : ℕ) → index ≡ length pairs → place ≡ entries_size (take index (map shown pairs)) → place < number_limit → entries_size (map shown pairs) < number_limit
+pub all_small : (pairs : List (Bor (List ℕ) × Bor (List ℕ))) (index place : ℕ) → index ≡ length pairs → place ≡ entries_size (take index (map shown pairs)) → place < NUMBER_LIMIT → entries_size (map shown pairs) < NUMBER_LIMIT
 all_small pairs index place i e h =
     let a : take index (map shown pairs) ≡ map shown pairs = take_all index (map shown pairs) (omega (arith, i, length-map pairs shown)) in
     omega (arith, h, e, ap entries_size a)
 
-pub shown_written : (old new : List ℕ) (pairs : List (Text × Text)) → AreOffsets old (map shown pairs) (length pairs) → AddsPairs old new (map shown pairs) (length pairs) → Rising by_bytes pairs → IsIndex new (map shown pairs)
+pub shown_written : (old new : List ℕ) (pairs : List (Bor (List ℕ) × Bor (List ℕ))) → AreOffsets old (map shown pairs) (length pairs) → AddsPairs old new (map shown pairs) (length pairs) → Rising by_bytes pairs → IsIndex new (map shown pairs)
 shown_written old new pairs p a rises =
     let e : length pairs ≡ length (map shown pairs) = sym (length-map pairs shown) in
     index_written old new (map shown pairs) (rw (← e) p) (rw (← e) a) (shown_rise pairs rises)

@@ -3,30 +3,26 @@
 use Rattle.std.specs.Prelude.{◌≡◌, ◌⊎◌, ℕ, List, [], ◌∷◌, ◌++◌}
 use Rattle.litemap_store.specs.Pairs.{Rising}
 use Rattle.name_table.specs.Faults.{NextFault, NumberFault}
-use Rattle.name_table.specs.ReadOn.{IsReadOn}
-use Rattle.name_table.specs.Remaining.{IsCounted, IsNext, Remaining}
+use Rattle.name_table.specs.Remaining.{IsAfter, IsCounted, Remaining}
 use Rattle.name_index.specs.Tables.{IsRisingTable, text_order}
 use Rattle.name_index.specs.declared.fault.NameTableFault.{NameTableFault}
 use Rattle.name_index.specs.declared.fault.NameTableFault.TheVariants.{Format, NotRising}
 
--- t is s after some pairs were read, whose keys ascend
-pub record RisesTo (s t : Remaining) : Type 0 where
-  pub on : IsReadOn s t
-  pub rises : Rising text_order on.pairs
-
 -- all pairs that are due can be read, and their keys ascend
 abbrev pub AllRise : Remaining → Type 0
-AllRise s = (t : Remaining) × RisesTo s t × (t.left ≡ 0)
+AllRise s = (t : Remaining) × (pairs : List (List ℕ × List ℕ)) × IsAfter s t pairs × Rising text_order pairs × (t.left ≡ 0)
 
 -- the next one of the pairs that are due, after those that were read, can't be read, or its key doesn't ascend
 abbrev pub NextStops : List (List ℕ × List ℕ) → Remaining → NameTableFault → Type 0
 NextStops pairs t (Format fault) = NextFault t fault
 NextStops pairs t (NotRising at) =
-    (u : Remaining) × (next : List ℕ × List ℕ) × IsNext t u next × (at ≡ t.place) × (Rising text_order (pairs ++ next ∷ []) → ⊥)
+    (u : Remaining) × (next : List ℕ × List ℕ)
+    × IsAfter t u (next ∷ []) × (at ≡ t.place) × (Rising text_order (pairs ++ next ∷ []) → ⊥)
 
 -- some pairs can be read, and their keys ascend. The next one stops
 abbrev pub StopsAt : Remaining → NameTableFault → Type 0
-StopsAt s fault = (t : Remaining) × (read : RisesTo s t) × NextStops read.on.pairs t fault
+StopsAt s fault = (t : Remaining) × (pairs : List (List ℕ × List ℕ))
+    × IsAfter s t pairs × Rising text_order pairs × NextStops pairs t fault
 
 -- the number of entries can't be read
 abbrev pub NumberStops : List ℕ → NameTableFault → Type 0

@@ -20,14 +20,14 @@ abbrev pub IsPairAt : List ℕ → ℕ → List ℕ × List ℕ → Type 0
 IsPairAt bytes at pair = IsTextAt bytes at pair.0 × IsTextAt bytes (at + 4 + length pair.0) pair.1
 
 -- of so many entries this one begins at the offset `at`: the bytes note how far that is from the first entry
-pub record BeginsAt (bytes : List ℕ) (count index at : ℕ) : Type 0 where
+pub record BeginsAt (bytes : List ℕ) (len index at : ℕ) : Type 0 where
   pub far : ℕ
   pub noted : IsNumberAt bytes (4 + 4 * index) far
-  pub at_is : at ≡ 4 + 4 * count + far
+  pub at_is : at ≡ 4 + 4 * len + far
 
 -- of so many entries this one is the pair
 abbrev pub IsEntry : List ℕ → ℕ → ℕ → List ℕ × List ℕ → Type 0
-IsEntry bytes count index pair = (at : ℕ) × BeginsAt bytes count index at × IsPairAt bytes at pair
+IsEntry bytes len index pair = (at : ℕ) × BeginsAt bytes len index at × IsPairAt bytes at pair
 
 -- the bytes are an index of the pairs, whose keys ascend
 pub record IsIndex (bytes : List ℕ) (pairs : List (List ℕ × List ℕ)) : Type 0 where
@@ -46,18 +46,3 @@ IfIndex bytes P = (pairs : List (List ℕ × List ℕ)) → IsIndex bytes pairs 
 -- the bytes are no index
 abbrev pub NoIndex : List ℕ → Type 0
 NoIndex bytes = IfIndex bytes (λ _. ⊥)
-
--- ---- what the steps of a lookup find
-
--- the bytes begin with the number of entries, and are long enough for so many offsets
-pub record HasOffsets (bytes : List ℕ) (count : ℕ) : Type 0 where
-  pub number : IsNumberAt bytes 0 count
-  pub fits : 4 + 4 * count ≤ length bytes
-
--- of so many entries this one has the key
-abbrev pub HasKey : List ℕ → ℕ → ℕ → List ℕ → Type 0
-HasKey bytes count index key = (at : ℕ) × BeginsAt bytes count index at × IsTextAt bytes at key
-
--- there is no such entry
-abbrev pub NoEntry : List ℕ → ℕ → ℕ → Type 0
-NoEntry bytes count index = (pair : List ℕ × List ℕ) → IsEntry bytes count index pair → ⊥

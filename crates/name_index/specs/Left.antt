@@ -8,24 +8,24 @@ use Rattle.name_table.specs.Parts.{Begins, pair_parts}
 use Rattle.name_table.proofs.Unique.{agree_pairs, begins_unique, pair_parts-inj}
 
 -- the bytes begin with the pairs, which are so many
-pub record AreLeft (bytes : List ℕ) (count : ℕ) (pairs : List (List ℕ × List ℕ)) : Type 0 where
+pub record AreLeft (bytes : List ℕ) (len : ℕ) (pairs : List (List ℕ × List ℕ)) : Type 0 where
   pub behind : List ℕ
   pub spelled : Begins bytes (pair_parts pairs) behind
-  pub count_is : length pairs ≡ count
+  pub len_is : length pairs ≡ len
 
 -- the pairs, so many, that the bytes begin with
 abbrev pub Left : List ℕ → ℕ → Type 0
-Left bytes count = (pairs : List (List ℕ × List ℕ)) × ∥ AreLeft bytes count pairs ∥₁
+Left bytes len = (pairs : List (List ℕ × List ℕ)) × ∥ AreLeft bytes len pairs ∥₁
 
-pub left_one : (bytes : List ℕ) (count : ℕ) (J K : List (List ℕ × List ℕ)) → AreLeft bytes count J → AreLeft bytes count K → J ≡ K
-left_one bytes count J K a b =
-    pair_parts-inj J K (begins_unique bytes (agree_pairs J K (a.count_is ∙ sym b.count_is)) a.spelled b.spelled).1
+pub left_one : (bytes : List ℕ) (len : ℕ) (J K : List (List ℕ × List ℕ)) → AreLeft bytes len J → AreLeft bytes len K → J ≡ K
+left_one bytes len J K a b =
+    pair_parts-inj J K (begins_unique bytes (agree_pairs J K (a.len_is ∙ sym b.len_is)) a.spelled b.spelled).1
 
 pub pairs_set : (J K : List (List ℕ × List ℕ)) → IsProp (J ≡ K)
 pairs_set J K = Coded-set (coded_list (coded× (coded_list coded_ℕ) (coded_list coded_ℕ))) J K
 
 -- there is one such list at most
-pub Left-prop : (bytes : List ℕ) (count : ℕ) → IsProp (Left bytes count)
-Left-prop bytes count s t =
+pub Left-prop : (bytes : List ℕ) (len : ℕ) → IsProp (Left bytes len)
+Left-prop bytes len s t =
     Σ_prop_path (λ pairs. ∥∥₁_prop)
-    (∥∥₁_elim s.1 (pairs_set s.0 t.0) (λ a. ∥∥₁_elim t.1 (pairs_set s.0 t.0) (λ b. left_one bytes count s.0 t.0 a b)))
+    (∥∥₁_elim s.1 (pairs_set s.0 t.0) (λ a. ∥∥₁_elim t.1 (pairs_set s.0 t.0) (λ b. left_one bytes len s.0 t.0 a b)))

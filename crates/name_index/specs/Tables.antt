@@ -6,8 +6,8 @@ use Rattle.std.specs.declared.cmp.Ordering.{Ordering}
 use Rattle.litemap_store.specs.Pairs.{Rising}
 use Rattle.litemap.specs.ByBytes.{by_bytes}
 use Rattle.name_table.specs.Parts.{Begins, IsTable, table_parts}
-use Rattle.name_table.specs.Reads.{Text}
 use Rattle.name_table.specs.Remaining.{shown}
+use denote.Ref.{Bor}
 
 -- the order of strings: by their bytes, where a proper prefix is less
 abbrev pub text_order : List ℕ → List ℕ → Ordering
@@ -26,5 +26,6 @@ OfTable bytes P = (pairs : List (List ℕ × List ℕ)) × IsRisingTable bytes p
 -- bytes that are a table of a map's pairs, as those that are written for it, begin with a table of these pairs, whose keys
 -- ascend
 abbrev pub WrittenIsOpened : Type 0
-WrittenIsOpened = (bytes : List ℕ) (pairs : List (Text × Text)) → Rising by_bytes pairs → IsTable bytes (map shown pairs)
+WrittenIsOpened = (bytes : List ℕ) (pairs : List (Bor (List ℕ) × Bor (List ℕ)))
+    → Rising by_bytes pairs → IsTable bytes (map shown pairs)
     → OfTable bytes (λ parts. parts ≡ map shown pairs)

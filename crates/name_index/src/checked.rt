@@ -56,8 +56,8 @@ impl<'a> IndexedNames<'a> {
         ensures cost { OnOk result (OfIndex bytes.now (λ pairs. RisesByAtMost (length pairs - 1) count.old count.new)) }
     {
         let names = IndexedNames::open(bytes)?;
-        let (bytes, size) = names.parts();
-        follow(bytes, size, count)?;
+        let (bytes, len) = names.parts();
+        follow(bytes, len, count)?;
         Ok(CheckedNames { names })
     }
 }

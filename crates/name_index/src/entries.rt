@@ -2,7 +2,7 @@
 ghost use Rattle.std.specs.Prelude.{◌≡◌, ◌+◌, ◌<◌, ◌∷◌, [], Some, slice_get};
 ghost use Rattle.litemap_store.specs.Counts.{RisesByAtMost};
 ghost use Rattle.litemap_store.specs.Pairs.{place};
-ghost use Rattle.name_index.specs.Entries.{AreEntries, BeginsPair, BeginsText, IsScanned, OfEntries};
+ghost use Rattle.name_index.specs.Steps.{AreEntries, BeginsPair, BeginsText, IsScanned, OfEntries};
 ghost use Rattle.name_index.specs.Tables.{text_order};
 ghost use Rattle.name_table.specs.Parts.{Begins, pair_parts, text_parts};
 ghost use Rattle.name_table.specs.Remaining.{shown};
@@ -35,16 +35,16 @@ pub fn read_valid_pair(bytes: &[u8]) -> ((&str, &str), &[u8])
 /// Returns the index of the key among so many entries, with its value, or else the index where it would go.
 pub fn scan<'a>(
     entries: &'a [u8],
-    size: usize,
+    len: usize,
     key: &str,
     count: &mut Count,
 ) -> Result<(usize, &'a str), usize>
-    requires { AreEntries entries.now size }
-    ensures { OfEntries entries.now size (λ pairs. IsScanned pairs key.now result
+    requires { AreEntries entries.now len }
+    ensures { OfEntries entries.now len (λ pairs. IsScanned pairs key.now result
         × RisesByAtMost (place text_order pairs key.now + 1) count.old count.new) }
 {
     let mut rest = entries;
-    for index in 0..size {
+    for index in 0..len {
         let ((name, value), behind) = read_valid_pair(rest);
         match count.cmp(&name, &key) {
             Ordering::Less => rest = behind,
@@ -52,14 +52,14 @@ pub fn scan<'a>(
             Ordering::Greater => return Err(index),
         }
     }
-    Err(size)
+    Err(len)
 }
 
 /// Returns the entry at an index.
-pub fn entry_at<'a>(entries: &'a [u8], count: usize, index: usize) -> (&'a str, &'a str)
-    requires entries { AreEntries entries.now count }
-    requires within { index < count }
-    ensures { OfEntries entries.now count (λ pairs. slice_get pairs index ≡ Some (shown result)) }
+pub fn entry_at<'a>(entries: &'a [u8], len: usize, index: usize) -> (&'a str, &'a str)
+    requires entries { AreEntries entries.now len }
+    requires within { index < len }
+    ensures { OfEntries entries.now len (λ pairs. slice_get pairs index ≡ Some (shown result)) }
 {
     let mut rest = entries;
     for _ in 0..index {

@@ -4,7 +4,7 @@ ghost use Rattle.std.specs.Prelude.{slice_range};
 ghost use Rattle.std.specs.Option.{option_copied, option_map};
 ghost use Rattle.litemap_store.specs.Counts.{RisesByAtMost, digits};
 ghost use Rattle.litemap_store.specs.Pairs.{index_of, place, sub, value_at};
-ghost use Rattle.name_index.specs.Placed.{IfTooFar, IsFar};
+ghost use Rattle.name_index.specs.Far.{IfTooFar, IsFar};
 ghost use Rattle.name_index.specs.Prefixes.{begins};
 ghost use Rattle.name_index.specs.Tables.{OfTable, text_order};
 ghost use Rattle.name_table.specs.Remaining.{shown};
@@ -32,7 +32,7 @@ pub struct NameIndex<'a> {
 
 impl<'a> Model for NameIndex<'a> {
     ghost use Rattle.std.specs.Prelude.{ℕ, List};
-    ghost use Rattle.name_index.specs.Placed.{IsIndexed};
+    ghost use Rattle.name_index.specs.Steps.{IsIndexed};
 
     ghost Value = { List ℕ };
 
@@ -54,8 +54,8 @@ impl<'a> NameIndex<'a> {
         ensures too_far { IfErr result (λ fault. IfTooFar fault (IsFar table.now)) }
         ensures near { OnOk result (IsFar table.now → ⊥) }
     {
-        let (bytes, entries, count) = table.parts();
-        let offsets = offsets_of(alloc, entries, count)?;
+        let (bytes, entries, len) = table.parts();
+        let offsets = offsets_of(alloc, entries, len)?;
         Ok(NameIndex {
             bytes,
             entries,

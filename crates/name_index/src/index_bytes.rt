@@ -1,6 +1,7 @@
 //! Numbers, strings and entries at offsets of an index.
 ghost use Rattle.std.specs.Prelude.{◌+◌, ◌<◌, ◌^◌, IfErr, IfOk, length};
-ghost use Rattle.name_index.specs.Index.{BeginsAt, HasKey, HasOffsets, IsEntry, IsNumberAt, IsPairAt, IsTextAt, NoEntry};
+ghost use Rattle.name_index.specs.Index.{BeginsAt, IsEntry, IsNumberAt, IsPairAt, IsTextAt};
+ghost use Rattle.name_index.specs.Steps.{HasKey, HasOffsets, NoEntry};
 ghost use Rattle.name_table.specs.Remaining.{shown};
 
 use crate::fault::IndexFault;
@@ -48,36 +49,36 @@ fn pair_at(bytes: &[u8], at: usize) -> Result<(&str, &str), IndexFault>
     Ok((key, value))
 }
 
-fn offset_of(bytes: &[u8], count: usize, index: usize) -> Result<usize, IndexFault>
-    requires offsets { HasOffsets bytes.now count }
-    requires within { index < count }
-    ensures place { IfOk result (λ at. BeginsAt bytes.now count index at) }
-    ensures fault { IfErr result (λ _. NoEntry bytes.now count index) }
+fn offset_of(bytes: &[u8], len: usize, index: usize) -> Result<usize, IndexFault>
+    requires offsets { HasOffsets bytes.now len }
+    requires within { index < len }
+    ensures place { IfOk result (λ at. BeginsAt bytes.now len index at) }
+    ensures fault { IfErr result (λ _. NoEntry bytes.now len index) }
 {
     let far = number_at(bytes, 4 + 4 * index)?;
-    Ok(4 + 4 * count + far)
+    Ok(4 + 4 * len + far)
 }
 
 /// Reads the entry at an index.
-pub fn entry_at(bytes: &[u8], count: usize, index: usize) -> Result<(&str, &str), IndexFault>
-    requires offsets { HasOffsets bytes.now count }
-    requires within { index < count }
-    ensures entry { IfOk result (λ pair. IsEntry bytes.now count index (shown pair)) }
-    ensures fault { IfErr result (λ _. NoEntry bytes.now count index) }
+pub fn entry_at(bytes: &[u8], len: usize, index: usize) -> Result<(&str, &str), IndexFault>
+    requires offsets { HasOffsets bytes.now len }
+    requires within { index < len }
+    ensures entry { IfOk result (λ pair. IsEntry bytes.now len index (shown pair)) }
+    ensures fault { IfErr result (λ _. NoEntry bytes.now len index) }
 {
-    let at = offset_of(bytes, count, index)?;
+    let at = offset_of(bytes, len, index)?;
     let pair = pair_at(bytes, at)?;
     Ok(pair)
 }
 
 /// Reads its key alone.
-pub fn key_at(bytes: &[u8], count: usize, index: usize) -> Result<&str, IndexFault>
-    requires offsets { HasOffsets bytes.now count }
-    requires within { index < count }
-    ensures key { IfOk result (λ key. HasKey bytes.now count index key.now) }
-    ensures fault { IfErr result (λ _. NoEntry bytes.now count index) }
+pub fn key_at(bytes: &[u8], len: usize, index: usize) -> Result<&str, IndexFault>
+    requires offsets { HasOffsets bytes.now len }
+    requires within { index < len }
+    ensures key { IfOk result (λ key. HasKey bytes.now len index key.now) }
+    ensures fault { IfErr result (λ _. NoEntry bytes.now len index) }
 {
-    let at = offset_of(bytes, count, index)?;
+    let at = offset_of(bytes, len, index)?;
     let key = text_at(bytes, at)?;
     Ok(key)
 }

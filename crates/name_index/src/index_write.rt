@@ -3,14 +3,18 @@ ghost use Rattle.std.specs.Prelude.{◌≡◌, ◌+◌, ◌≤◌, ◌<◌, Err,
 ghost use Rattle.litemap.specs.ByBytes.{by_bytes};
 ghost use Rattle.litemap_store.specs.Pairs.{Rising};
 ghost use Rattle.name_index.specs.Index.{IsIndex, IsNumberAt, IsPairAt, IsTextAt};
-ghost use Rattle.name_table.specs.Numbers.{number_limit};
+ghost use Rattle.name_index.specs.Steps.{Adds, AddsPairs, AreOffsets};
+ghost use Rattle.name_index.specs.Writes.{entries_size, index_size, pair_size};
 ghost use Rattle.name_table.specs.Remaining.{shown};
-ghost use Rattle.name_index.specs.Writes.{Adds, AddsPairs, AreOffsets, entries_size, index_size, pair_size};
 ghost use Rattle.name_table.specs.Writes.{IfTooLarge};
 ghost use Rattle.name_table.specs.declared.fault.NameWriteFault.TheVariants.{TooLarge};
 
+use name_table::parts::NUMBER_LIMIT;
 use name_table::{NameMap, NameWriteFault};
 use std::alloc::Global;
+
+/// The bytes of the two numbers of an entry, which stand before its key and its value.
+const ENTRY_NUMBERS: usize = 8;
 
 /// Writes the index of a map, and returns its bytes.
 ///
@@ -20,8 +24,8 @@ use std::alloc::Global;
 pub fn write_index(alloc: Global, names: &NameMap<'_>) -> Result<Vec<u8>, NameWriteFault>
     ensures index { IfOk result (λ bytes. IsIndex bytes.items (map shown names.now.pairs)) }
     ensures size { IfOk result (λ bytes. length bytes.items ≡ index_size (map shown names.now.pairs)) }
-    ensures too_large { IfErr result (λ fault. IfTooLarge fault (number_limit ≤ entries_size (map shown names.now.pairs))) }
-    ensures small { OnOk result (entries_size (map shown names.now.pairs) < number_limit) }
+    ensures too_large { IfErr result (λ fault. IfTooLarge fault (NUMBER_LIMIT ≤ entries_size (map shown names.now.pairs))) }
+    ensures small { OnOk result (entries_size (map shown names.now.pairs) < NUMBER_LIMIT) }
 {
     write_index_of(alloc, names.as_slice())
 }
@@ -32,8 +36,8 @@ pub fn write_index_of(alloc: Global, names: &[(&str, &str)]) -> Result<Vec<u8>, 
     requires { Rising by_bytes names.now }
     ensures index { IfOk result (λ bytes. IsIndex bytes.items (map shown names.now)) }
     ensures size { IfOk result (λ bytes. length bytes.items ≡ index_size (map shown names.now)) }
-    ensures too_large { IfErr result (λ fault. IfTooLarge fault (number_limit ≤ entries_size (map shown names.now))) }
-    ensures small { OnOk result (entries_size (map shown names.now) < number_limit) }
+    ensures too_large { IfErr result (λ fault. IfTooLarge fault (NUMBER_LIMIT ≤ entries_size (map shown names.now))) }
+    ensures small { OnOk result (entries_size (map shown names.now) < NUMBER_LIMIT) }
 {
     let mut bytes = put_offsets(alloc, names)?;
     put_entries(&mut bytes, names)?;
@@ -43,8 +47,8 @@ pub fn write_index_of(alloc: Global, names: &[(&str, &str)]) -> Result<Vec<u8>, 
 // Writes the number of pairs, and the offset of each.
 fn put_offsets(alloc: Global, pairs: &[(&str, &str)]) -> Result<Vec<u8>, NameWriteFault>
     ensures offsets { IfOk result (λ bytes. AreOffsets bytes.items (map shown pairs.now) (length pairs.now)) }
-    ensures too_large { IfErr result (λ fault. IfTooLarge fault (number_limit ≤ entries_size (map shown pairs.now))) }
-    ensures small { OnOk result (entries_size (map shown pairs.now) < number_limit) }
+    ensures too_large { IfErr result (λ fault. IfTooLarge fault (NUMBER_LIMIT ≤ entries_size (map shown pairs.now))) }
+    ensures small { OnOk result (entries_size (map shown pairs.now) < NUMBER_LIMIT) }
 {
     let mut bytes = Vec::new(alloc);
     put_number(&mut bytes, pairs.len())?;
@@ -58,7 +62,7 @@ fn put_offsets(alloc: Global, pairs: &[(&str, &str)]) -> Result<Vec<u8>, NameWri
 
 fn put_entries(bytes: &mut Vec<u8>, pairs: &[(&str, &str)]) -> Result<(), NameWriteFault>
     ensures pairs { OnOk result (AddsPairs bytes.old.items bytes.new.items (map shown pairs.now) (length pairs.now)) }
-    ensures too_large { IfErr result (λ fault. IfTooLarge fault (number_limit ≤ entries_size (map shown pairs.now))) }
+    ensures too_large { IfErr result (λ fault. IfTooLarge fault (NUMBER_LIMIT ≤ entries_size (map shown pairs.now))) }
 {
     for pair in pairs {
         put_pair(bytes, pair.0, pair.1)?;
@@ -68,16 +72,16 @@ fn put_entries(bytes: &mut Vec<u8>, pairs: &[(&str, &str)]) -> Result<(), NameWr
 
 // The offset after a pair, if four bytes can hold it.
 fn offset_after(offset: usize, key: &str, value: &str) -> Result<usize, NameWriteFault>
-    requires { offset < number_limit }
+    requires { offset < NUMBER_LIMIT }
     ensures next { IfOk result (λ next. next ≡ offset + pair_size (key.now, value.now)) }
-    ensures small { IfOk result (λ next. next < number_limit) }
-    ensures too_large { IfErr result (λ fault. (fault ≡ TooLarge) × (number_limit ≤ offset + pair_size (key.now, value.now))) }
+    ensures small { IfOk result (λ next. next < NUMBER_LIMIT) }
+    ensures too_large { IfErr result (λ fault. (fault ≡ TooLarge) × (NUMBER_LIMIT ≤ offset + pair_size (key.now, value.now))) }
 {
-    if key.len() >= 4_294_967_296 || value.len() >= 4_294_967_296 {
+    if key.len() >= NUMBER_LIMIT || value.len() >= NUMBER_LIMIT {
         return Err(NameWriteFault::TooLarge);
     }
-    let next = offset + 8 + key.len() + value.len();
-    if next < 4_294_967_296 {
+    let next = offset + ENTRY_NUMBERS + key.len() + value.len();
+    if next < NUMBER_LIMIT {
         Ok(next)
     } else {
         Err(NameWriteFault::TooLarge)
@@ -87,7 +91,7 @@ fn offset_after(offset: usize, key: &str, value: &str) -> Result<usize, NameWrit
 fn put_pair(bytes: &mut Vec<u8>, key: &str, value: &str) -> Result<(), NameWriteFault>
     ensures adds { OnOk result (Adds bytes.old.items bytes.new.items (pair_size (key.now, value.now))) }
     ensures pair { OnOk result (IsPairAt bytes.new.items (length bytes.old.items) (key.now, value.now)) }
-    ensures too_large { IfErr result (λ fault. IfTooLarge fault (number_limit ≤ pair_size (key.now, value.now))) }
+    ensures too_large { IfErr result (λ fault. IfTooLarge fault (NUMBER_LIMIT ≤ pair_size (key.now, value.now))) }
 {
     put_text(bytes, key)?;
     put_text(bytes, value)?;
@@ -97,7 +101,7 @@ fn put_pair(bytes: &mut Vec<u8>, key: &str, value: &str) -> Result<(), NameWrite
 fn put_text(bytes: &mut Vec<u8>, text: &str) -> Result<(), NameWriteFault>
     ensures adds { OnOk result (Adds bytes.old.items bytes.new.items (4 + length text.now)) }
     ensures text { OnOk result (IsTextAt bytes.new.items (length bytes.old.items) text.now) }
-    ensures too_large { IfErr result (λ fault. IfTooLarge fault (number_limit ≤ length text.now)) }
+    ensures too_large { IfErr result (λ fault. IfTooLarge fault (NUMBER_LIMIT ≤ length text.now)) }
 {
     put_number(bytes, text.len())?;
     bytes.extend_from_slice(text.as_bytes())?;
@@ -107,11 +111,11 @@ fn put_text(bytes: &mut Vec<u8>, text: &str) -> Result<(), NameWriteFault>
 fn put_number(bytes: &mut Vec<u8>, number: usize) -> Result<(), NameWriteFault>
     ensures adds { OnOk result (Adds bytes.old.items bytes.new.items 4) }
     ensures number { OnOk result (IsNumberAt bytes.new.items (length bytes.old.items) number) }
-    ensures small { OnOk result (number < number_limit) }
-    ensures too_large { IfErr result (λ fault. IfTooLarge fault (number_limit ≤ number)) }
-    ensures refused { number_limit ≤ number → result ≡ Err TooLarge }
+    ensures small { OnOk result (number < NUMBER_LIMIT) }
+    ensures too_large { IfErr result (λ fault. IfTooLarge fault (NUMBER_LIMIT ≤ number)) }
+    ensures refused { NUMBER_LIMIT ≤ number → result ≡ Err TooLarge }
 {
-    if number >= 4_294_967_296 {
+    if number >= NUMBER_LIMIT {
         return Err(NameWriteFault::TooLarge);
     }
     bytes.extend_from_slice(&(number as u32).to_le_bytes())?;

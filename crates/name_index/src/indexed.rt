@@ -3,7 +3,8 @@ ghost use Rattle.std.specs.Prelude.{◌≡◌, ◌==◌, IfErr, IfOk, length, sl
 ghost use Rattle.std.specs.Option.{option_copied, option_map};
 ghost use Rattle.litemap_store.specs.Counts.{RisesByAtMost, digits};
 ghost use Rattle.litemap_store.specs.Pairs.{index_of, value_at};
-ghost use Rattle.name_index.specs.Index.{HasOffsets, IfIndex, NoIndex};
+ghost use Rattle.name_index.specs.Index.{IfIndex, NoIndex};
+ghost use Rattle.name_index.specs.Steps.{HasOffsets};
 ghost use Rattle.name_index.specs.Tables.{text_order};
 ghost use Rattle.name_table.specs.Remaining.{shown};
 
@@ -22,18 +23,18 @@ use std::marker::Model;
 #[derive(Drop)]
 pub struct IndexedNames<'a> {
     bytes: &'a [u8],
-    size: usize,
+    len: usize,
 }
 
 impl<'a> Model for IndexedNames<'a> {
     ghost use Rattle.std.specs.Prelude.{ℕ, List};
-    ghost use Rattle.name_index.specs.Index.{HasOffsets};
+    ghost use Rattle.name_index.specs.Steps.{HasOffsets};
 
     ghost Value = { List ℕ };
 
     ghost view = { λ t. t.bytes.now };
 
-    ghost invariant = { λ t. HasOffsets t.bytes.now t.size };
+    ghost invariant = { λ t. HasOffsets t.bytes.now t.len };
 }
 
 impl<'a> IndexedNames<'a> {
@@ -43,33 +44,33 @@ impl<'a> IndexedNames<'a> {
         ensures bytes { IfOk result (λ names. names ≡ bytes.now) }
         ensures fault { IfErr result (λ _. NoIndex bytes.now) }
     {
-        let size = number_at(bytes, 0)?;
-        if bytes.len() < 4 + 4 * size {
+        let len = number_at(bytes, 0)?;
+        if bytes.len() < 4 + 4 * len {
             let at = bytes.len() - bytes.len() % 4;
             return Err(IndexFault::Truncated { at });
         }
-        Ok(IndexedNames { bytes, size })
+        Ok(IndexedNames { bytes, len })
     }
 
     pub(crate) fn parts(&self) -> (&'a [u8], usize)
         ensures offsets { HasOffsets result.0.now result.1 }
         ensures bytes { result.0.now ≡ self.now }
     {
-        (self.bytes, self.size)
+        (self.bytes, self.len)
     }
 
     /// Returns the number of entries.
     pub fn len(&self) -> usize
         ensures { IfIndex self.now (λ pairs. result ≡ length pairs) }
     {
-        self.size
+        self.len
     }
 
     /// Returns whether there is no entry.
     pub fn is_empty(&self) -> bool
         ensures { IfIndex self.now (λ pairs. result ≡ (length pairs == 0)) }
     {
-        self.size == 0
+        self.len == 0
     }
 
     /// Returns the value of a key, or `None` if it isn't there. It makes O(log n) comparisons.
@@ -88,9 +89,9 @@ impl<'a> IndexedNames<'a> {
         ensures fault { IfErr result (λ _. NoIndex self.now) }
         ensures cost { IfIndex self.now (λ pairs. RisesByAtMost (digits (length pairs)) count.old count.new) }
     {
-        match find(self.bytes, self.size, key, count)? {
+        match find(self.bytes, self.len, key, count)? {
             Ok(index) => {
-                let (_, value) = entry_at(self.bytes, self.size, index)?;
+                let (_, value) = entry_at(self.bytes, self.len, index)?;
                 Ok(Some(value))
             }
             Err(_) => Ok(None),
@@ -115,7 +116,7 @@ impl<'a> IndexedNames<'a> {
         ensures fault { IfErr result (λ _. NoIndex self.now) }
         ensures cost { IfIndex self.now (λ pairs. RisesByAtMost (digits (length pairs)) count.old count.new) }
     {
-        find(self.bytes, self.size, key, count)
+        find(self.bytes, self.len, key, count)
     }
 
     /// Returns the entry at an index, or `None` from the length on. No other entry is read.
@@ -123,10 +124,10 @@ impl<'a> IndexedNames<'a> {
         ensures entry { IfOk result (λ found. IfIndex self.now (λ pairs. option_map shown found ≡ slice_get pairs index)) }
         ensures fault { IfErr result (λ _. NoIndex self.now) }
     {
-        if index >= self.size {
+        if index >= self.len {
             return Ok(None);
         }
-        let pair = entry_at(self.bytes, self.size, index)?;
+        let pair = entry_at(self.bytes, self.len, index)?;
         Ok(Some(pair))
     }
 }

@@ -4,8 +4,8 @@ ghost use Rattle.std.specs.Iterator.{at_most};
 ghost use Rattle.std.specs.Map.Iter.{TakesFirst};
 ghost use Rattle.litemap_store.specs.Hints.{HintsExactly};
 ghost use Rattle.litemap_store.specs.Pairs.{Rising};
-ghost use Rattle.name_index.specs.Entries.{AreEntries, OfEntries};
 ghost use Rattle.name_index.specs.Left.{Left, Left-prop};
+ghost use Rattle.name_index.specs.Steps.{AreEntries, OfEntries};
 ghost use Rattle.name_index.specs.Tables.{text_order};
 ghost use Rattle.name_table.specs.Remaining.{shown};
 
@@ -21,8 +21,8 @@ use std::marker::Model;
 #[derive(Drop)]
 pub struct NameEntries<'a> {
     rest: &'a [u8],
-    count: usize,
-    ghost pairs: { Left rest.now count } by { Left-prop rest.now count },
+    len: usize,
+    ghost pairs: { Left rest.now len } by { Left-prop rest.now len },
 }
 
 impl<'a> Model for NameEntries<'a> {
@@ -33,18 +33,18 @@ impl<'a> Model for NameEntries<'a> {
 
     ghost view = { λ s. s.pairs.0 };
 
-    ghost invariant = { λ s. AreLeft s.rest.now s.count s.pairs.0 };
+    ghost invariant = { λ s. AreLeft s.rest.now s.len s.pairs.0 };
 }
 
 impl<'a> NameEntries<'a> {
     // The iterator over so many entries, which the bytes begin with.
-    pub(crate) fn new(entries: &'a [u8], count: usize) -> Self
-        requires { AreEntries entries.now count }
-        ensures { OfEntries entries.now count (λ pairs. result ≡ pairs) }
+    pub(crate) fn new(entries: &'a [u8], len: usize) -> Self
+        requires { AreEntries entries.now len }
+        ensures { OfEntries entries.now len (λ pairs. result ≡ pairs) }
     {
         NameEntries {
             rest: entries,
-            count,
+            len,
         }
     }
 }
@@ -57,12 +57,12 @@ impl<'a> Iterator for NameEntries<'a> {
     ghost remaining = { λ s. at_most (length s) };
 
     fn next(&mut self) -> Option<(&'a str, &'a str)> {
-        if self.count == 0 {
+        if self.len == 0 {
             return None;
         }
         let (pair, behind) = read_valid_pair(self.rest);
         self.rest = behind;
-        self.count -= 1;
+        self.len -= 1;
         Some(pair)
     }
 
@@ -76,7 +76,7 @@ impl<'a> Iterator for NameEntries<'a> {
 
 impl<'a> ExactSizeIterator for NameEntries<'a> {
     fn len(&self) -> usize {
-        self.count
+        self.len
     }
 }
 

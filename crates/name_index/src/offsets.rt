@@ -3,11 +3,11 @@ ghost use Rattle.std.specs.Prelude.{◌≡◌, ◌+◌, ◌<◌, ◌≤◌, ◌�
 ghost use Rattle.std.specs.Prelude.{slice_range};
 ghost use Rattle.litemap_store.specs.Counts.{RisesByAtMost, digits};
 ghost use Rattle.litemap_store.specs.Splits.{Splits};
-ghost use Rattle.name_index.specs.Entries.{AreEntries};
-ghost use Rattle.name_index.specs.Placed.{AreFar, ArePlaced, AsPlaced, IfTooFar, IsKeyAt};
+ghost use Rattle.name_index.specs.Far.{AreFar, IfTooFar};
+ghost use Rattle.name_index.specs.Steps.{AreEntries, ArePlaced, AsPlaced, IsKeyAt};
 ghost use Rattle.name_index.specs.Tables.{text_order};
 ghost use Rattle.name_index.specs.declared.fault.NameIndexFault.TheVariants.{TooFar};
-ghost use Rattle.name_table.specs.Numbers.{number_limit};
+ghost use Rattle.name_table.specs.declared.number.TheConstants.{NUMBER_LIMIT};
 ghost use Rattle.name_table.specs.Remaining.{shown};
 
 use crate::entries::{read_valid_pair, read_valid_text};
@@ -17,18 +17,18 @@ use litemap_store::store::Count;
 use std::alloc::{AllocError, Global};
 use std::cmp::Ordering;
 
-/// Returns the offsets of `count` entries from the first one.
-pub fn offsets_of(alloc: Global, entries: &[u8], count: usize) -> Result<Vec<u32>, NameIndexFault>
-    requires { AreEntries entries.now count }
-    ensures number { IfOk result (λ offsets. length offsets.items ≡ count) }
+/// Returns the offsets of `len` entries from the first one.
+pub fn offsets_of(alloc: Global, entries: &[u8], len: usize) -> Result<Vec<u32>, NameIndexFault>
+    requires { AreEntries entries.now len }
+    ensures number { IfOk result (λ offsets. length offsets.items ≡ len) }
     ensures placed { IfOk result (λ offsets. ArePlaced entries.now offsets.items) }
-    ensures refused { OnErr result (0 < count) }
-    ensures too_far { IfErr result (λ fault. IfTooFar fault (AreFar entries.now count)) }
-    ensures near { OnOk result (AreFar entries.now count → ⊥) }
+    ensures refused { OnErr result (0 < len) }
+    ensures too_far { IfErr result (λ fault. IfTooFar fault (AreFar entries.now len)) }
+    ensures near { OnOk result (AreFar entries.now len → ⊥) }
 {
-    let mut offsets = Vec::with_capacity(alloc, count)?;
+    let mut offsets = Vec::with_capacity(alloc, len)?;
     let mut rest = entries;
-    for _ in 0..count {
+    for _ in 0..len {
         push(&mut offsets, offset_of(entries, rest)?)?;
         let (_, behind) = read_valid_pair(rest);
         rest = behind;
@@ -47,7 +47,7 @@ fn push(offsets: &mut Vec<u32>, offset: u32) -> Result<(), AllocError>
 fn offset_of(entries: &[u8], rest: &[u8]) -> Result<u32, NameIndexFault>
     requires { length rest.now ≤ length entries.now }
     ensures offset { IfOk result (λ offset. offset + length rest.now ≡ length entries.now) }
-    ensures far { IfErr result (λ fault. (fault ≡ TooFar) × (number_limit + length rest.now ≤ length entries.now)) }
+    ensures far { IfErr result (λ fault. (fault ≡ TooFar) × (NUMBER_LIMIT + length rest.now ≤ length entries.now)) }
 {
     match u32::try_from(entries.len() - rest.len()) {
         Ok(offset) => Ok(offset),

@@ -2,8 +2,7 @@
 ghost use Rattle.std.specs.Prelude.{◌≡◌, ◌+◌, length, take};
 ghost use Rattle.litemap.specs.Within.{IsCut};
 ghost use Rattle.litemap_store.specs.Counts.{RisesByAtMost, digits};
-ghost use Rattle.name_index.specs.Placed.{ArePlaced, AsPlaced};
-ghost use Rattle.name_index.specs.Prefixes.{leads_to};
+ghost use Rattle.name_index.specs.Steps.{ArePlaced, AsPlaced, leads_to};
 
 use crate::offsets::key_of;
 use litemap_store::store::Count;

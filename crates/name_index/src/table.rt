@@ -3,8 +3,8 @@ ghost use Rattle.std.specs.Prelude.{◌≡◌, ◌==◌, ◌+◌, ◌-◌, ◌<�
 ghost use Rattle.std.specs.Option.{option_copied, option_map};
 ghost use Rattle.litemap_store.specs.Counts.{RisesByAtMost};
 ghost use Rattle.litemap_store.specs.Pairs.{index_of, place, value_at};
-ghost use Rattle.name_index.specs.Entries.{IsOpened};
 ghost use Rattle.name_index.specs.Faults.{IsFault};
+ghost use Rattle.name_index.specs.Steps.{IsOpened};
 ghost use Rattle.name_index.specs.Tables.{OfTable, text_order};
 ghost use Rattle.name_table.specs.Remaining.{shown};
 
@@ -26,18 +26,18 @@ use std::marker::Model;
 pub struct NameTable<'a> {
     bytes: &'a [u8],
     entries: &'a [u8],
-    count: usize,
+    len: usize,
 }
 
 impl<'a> Model for NameTable<'a> {
     ghost use Rattle.std.specs.Prelude.{ℕ, List};
-    ghost use Rattle.name_index.specs.Entries.{IsOpened};
+    ghost use Rattle.name_index.specs.Steps.{IsOpened};
 
     ghost Value = { List ℕ };
 
     ghost view = { λ t. t.bytes.now };
 
-    ghost invariant = { λ t. IsOpened t.bytes.now t.entries.now t.count };
+    ghost invariant = { λ t. IsOpened t.bytes.now t.entries.now t.len };
 }
 
 impl<'a> NameTable<'a> {
@@ -62,12 +62,12 @@ impl<'a> NameTable<'a> {
     {
         let mut names = NameBytes::new(bytes)?;
         let entries = &bytes[names.place()..];
-        let size = names.hint().unwrap_or(0);
+        let len = names.hint().unwrap_or(0);
         check(&mut names, count)?;
         Ok(NameTable {
             bytes,
             entries,
-            count: size,
+            len,
         })
     }
 
@@ -76,21 +76,21 @@ impl<'a> NameTable<'a> {
         ensures parts { IsOpened result.0.now result.1.now result.2 }
         ensures bytes { result.0.now ≡ self.now }
     {
-        (self.bytes, self.entries, self.count)
+        (self.bytes, self.entries, self.len)
     }
 
     /// Returns the number of entries.
     pub fn len(&self) -> usize
         ensures { OfTable self.now (λ pairs. result ≡ length pairs) }
     {
-        self.count
+        self.len
     }
 
     /// Returns whether there is no entry.
     pub fn is_empty(&self) -> bool
         ensures { OfTable self.now (λ pairs. result ≡ (length pairs == 0)) }
     {
-        self.count == 0
+        self.len == 0
     }
 
     /// Returns the value of a key, or `None` if it isn't there.
@@ -107,7 +107,7 @@ impl<'a> NameTable<'a> {
         ensures value { OfTable self.now (λ pairs. option_copied result ≡ value_at text_order pairs key.now) }
         ensures cost { OfTable self.now (λ pairs. RisesByAtMost (place text_order pairs key.now + 1) count.old count.new) }
     {
-        match scan(self.entries, self.count, key, count) {
+        match scan(self.entries, self.len, key, count) {
             Ok((_, value)) => Some(value),
             Err(_) => None,
         }
@@ -125,7 +125,7 @@ impl<'a> NameTable<'a> {
         ensures place { OfTable self.now (λ pairs. result ≡ index_of text_order pairs key.now) }
         ensures cost { OfTable self.now (λ pairs. RisesByAtMost (place text_order pairs key.now + 1) count.old count.new) }
     {
-        match scan(self.entries, self.count, key, count) {
+        match scan(self.entries, self.len, key, count) {
             Ok((index, _)) => Ok(index),
             Err(index) => Err(index),
         }
@@ -135,10 +135,10 @@ impl<'a> NameTable<'a> {
     pub fn get_indexed(&self, index: usize) -> Option<(&'a str, &'a str)>
         ensures { OfTable self.now (λ pairs. option_map shown result ≡ slice_get pairs index) }
     {
-        if index >= self.count {
+        if index >= self.len {
             return None;
         }
-        Some(entry_at(self.entries, self.count, index))
+        Some(entry_at(self.entries, self.len, index))
     }
 
     /// Makes the map of all entries, whose keys and values are slices of the bytes. Each is read once, moved once, and not
@@ -156,7 +156,7 @@ impl<'a> NameTable<'a> {
     pub fn iter(&self) -> NameEntries<'a>
         ensures { OfTable self.now (λ pairs. result ≡ pairs) }
     {
-        NameEntries::new(self.entries, self.count)
+        NameEntries::new(self.entries, self.len)
     }
 }
 

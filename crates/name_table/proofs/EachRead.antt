@@ -5,12 +5,13 @@ use Rattle.std.proofs.lemmas.List.{length-take-le, take-append-drop}
 use Rattle.std.proofs.lemmas.Str.{IsUtf8-from_is_utf8, is_utf8-from_IsUtf8}
 use Rattle.std.specs.Str.{is_utf8}
 use Rattle.name_table.specs.Faults.{AreOfPairs, AreOfText, Fault, NumberFault, TableFault}
-use Rattle.name_table.specs.Numbers.{BeginsNumber, WhyUnread, number_limit}
 use Rattle.name_table.specs.Parts.{Begins, Number, pair_parts, table_parts, text_parts}
 use Rattle.name_table.specs.Position.{Position}
-use Rattle.name_table.specs.Remaining.{IsCounted, IsNext, Remaining}
+use Rattle.name_table.specs.Remaining.{IsAfter, IsCounted, Remaining}
+use Rattle.name_table.specs.Steps.{BeginsNumber, WhyUnread}
 use Rattle.name_table.specs.declared.fault.NameFault.{NameFault}
 use Rattle.name_table.specs.declared.fault.NameFault.TheVariants.{Truncated, NotUtf8, NumberTooLarge}
+use Rattle.name_table.specs.declared.number.TheConstants.{MOST_BYTES, NUMBER_LIMIT}
 use Rattle.name_table.specs.declared.number.Unread.{Unread}
 use Rattle.name_table.specs.declared.number.Unread.TheVariants.{Ends, TooLong}
 use Rattle.name_table.proofs.FaultLemmas.{length_fault, text_fault}
@@ -41,7 +42,7 @@ number_read (suc room) (b ∷ bytes) =
 abbrev LengthRead : List ℕ → ℕ → Type 0
 LengthRead bytes place = ((n : ℕ) × (rest : List ℕ) × Begins bytes (Number n ∷ []) rest) ⊎ ((f : NameFault) × NumberFault bytes place f)
 
-unread_fault : (why : Unread) (bytes : List ℕ) (place : ℕ) → WhyUnread why 5 bytes → (f : NameFault) × NumberFault bytes place f
+unread_fault : (why : Unread) (bytes : List ℕ) (place : ℕ) → WhyUnread why MOST_BYTES bytes → (f : NameFault) × NumberFault bytes place f
 unread_fault Ends bytes place w = (Truncated place, cut_fault bytes place w)
 unread_fault TooLong bytes place w = (NumberTooLarge place, long_fault bytes place w)
 
@@ -51,9 +52,9 @@ length_read bytes place =
     (λ r. ⊎_elim
     (λ h. inl (r.0, r.1, begins_number bytes r.1 r.0 r.2 h))
     (λ h. inr (NumberTooLarge place, large_fault bytes r.1 r.0 place r.2 h))
-    (cases_lt r.0 number_limit))
+    (cases_lt r.0 NUMBER_LIMIT))
     (λ w. inr (unread_fault w.0 bytes place w.1))
-    (number_read 5 bytes)
+    (number_read MOST_BYTES bytes)
 
 -- ---- a string
 
@@ -65,14 +66,14 @@ sized_read bytes tail place size n h true u =
     inl (take size tail, drop size tail, begins_text bytes tail (drop size tail) (take size tail) size n (sym (take-append-drop size tail)) (length-take-le size tail h) (IsUtf8-from_is_utf8 (take size tail) u))
 sized_read bytes tail place size n h false u =
     let next = place + length n.front in
-    inr (NotUtf8 next, text_fault bytes tail place next size (NotUtf8 next) n refl (refl, h, λ v. let w : is_utf8 (take size tail) ≡ true = is_utf8-from_IsUtf8 (take size tail) v in absurd (cc)))
+    inr (NotUtf8 next, text_fault bytes tail place next size (NotUtf8 next) n refl (λ text l. (refl, omega (arith, l, h), λ v. let w : is_utf8 (take size tail) ≡ true = is_utf8-from_IsUtf8 (take size tail) (rw l at v) in absurd (cc))))
 
 text_read : (bytes : List ℕ) (place : ℕ) → TextRead bytes place
 text_read bytes place =
     ⊎_elim
     (λ r. let next = place + length r.2.front in
     ⊎_elim
-    (λ h. inr (Truncated next, text_fault bytes r.1 place next r.0 (Truncated next) r.2 refl (refl, h)))
+    (λ h. inr (Truncated next, text_fault bytes r.1 place next r.0 (Truncated next) r.2 refl (λ text l. (refl, omega (arith, l, h)))))
     (λ h. sized_read bytes r.1 place r.0 r.2 h (is_utf8 (take r.0 r.1)) refl)
     (cases_lt (length r.1) r.0))
     (λ w. inr (w.0, length_fault bytes place w.0 w.1))
@@ -85,7 +86,7 @@ PairsRead s =
     ((pairs : List (List ℕ × List ℕ)) × (rest : List ℕ) × Begins s.rest (pair_parts pairs) rest × (length pairs ≡ s.left))
     ⊎ ((f : NameFault) × Fault (AreOfPairs s.left) s.rest s.place f)
 
-one_more : (s t : Remaining) (p : List ℕ × List ℕ) → IsNext s t p → PairsRead t → PairsRead s
+one_more : (s t : Remaining) (p : List ℕ × List ℕ) → IsAfter s t (p ∷ []) → PairsRead t → PairsRead s
 one_more s t p next =
     ⊎_elim
     (λ r. inl (p ∷ r.0, r.1, begins_pairs s.rest t.rest r.1 (p ∷ []) r.0 next.spelled r.2, omega (arith, r.3, next.count)))
@@ -100,7 +101,7 @@ pairs_read (suc n) s e =
     ⊎_elim
     (λ v. let behind : Position = record { rest = v.1; place = middle.place + length v.2.front } in
     let t : Remaining = record { rest = behind.rest; place = behind.place; left = s.left - 1 } in
-    let next : IsNext s t (k.0, v.0) = is_next s k.0 v.0 middle behind (record { spelled = k.2; place = refl }) (record { spelled = v.2; place = refl }) h in
+    let next : IsAfter s t ((k.0, v.0) ∷ []) = is_next s k.0 v.0 middle behind (record { spelled = k.2; place = refl }) (record { spelled = v.2; place = refl }) h in
     one_more s t (k.0, v.0) next (pairs_read n t (omega (arith, e))))
     (λ f. inr (f.0, pairs_from_next s f.0 (value_fault s k.1 k.0 middle.place f.0 h k.2 refl f.1)))
     (text_read k.1 middle.place))

@@ -2,7 +2,7 @@
 use Rattle.std.proofs.Common.{◌≡◌, ℕ, ◌+◌, List, [], ◌∷◌, ◌++◌, length, refl, sym, ap, ◌∙◌, subst, arith, append-nil, append_assoc, length-append}
 use Rattle.std.proofs.Math.ListN.{replicate}
 use Rattle.std.proofs.lemmas.List.{length-replicate}
-use Rattle.name_table.specs.Faults.{NumberFault, TextFault, PartFault, Fault, AreOfText}
+use Rattle.name_table.specs.Faults.{NumberFault, PartFault, Fault, AreOfText}
 use Rattle.name_table.specs.Parts.{Part, Number, Text, Begins}
 use Rattle.name_table.specs.declared.fault.NameFault.{NameFault}
 use Rattle.name_table.specs.ReadOn.{AreParts-append}
@@ -56,9 +56,9 @@ pub length_fault : (bytes : List ℕ) (place : ℕ) (fault : NameFault) → Numb
 length_fault bytes place fault w = fault_first bytes place fault (Number 0) (Text [] ∷ []) ([], refl) w
 
 -- the string itself: some string is as long
-pub text_fault : (bytes tail : List ℕ) (place next size : ℕ) (fault : NameFault) → (b : Begins bytes (Number size ∷ []) tail) → next ≡ place + length b.front → TextFault size tail next fault → Fault AreOfText bytes place fault
+pub text_fault : (bytes tail : List ℕ) (place next size : ℕ) (fault : NameFault) → (b : Begins bytes (Number size ∷ []) tail) → next ≡ place + length b.front → ((text : List ℕ) → length text ≡ size → PartFault (Text text) tail next fault) → Fault AreOfText bytes place fault
 text_fault bytes tail place next size fault b n w =
     let text : List ℕ = replicate size 0 in
     let l : length text ≡ size = length-replicate size 0 in
     fault_behind bytes place fault (Number size ∷ []) tail b next n
-    (fault_first tail next fault (Text text) [] (text, ap (λ i. Number i ∷ Text text ∷ []) (sym l)) (rw l w))
+    (fault_first tail next fault (Text text) [] (text, ap (λ i. Number i ∷ Text text ∷ []) (sym l)) (w text l))

@@ -1,5 +1,6 @@
 pub mod EachRead
 pub mod FaultLemmas
+pub mod Found
 pub mod NumberLemmas
 pub mod OneReading
 pub mod PartLemmas

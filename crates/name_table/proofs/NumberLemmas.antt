@@ -2,9 +2,11 @@
 use Rattle.std.proofs.Common.{◌≡◌, ◌≢◌, ℕ, ◌+◌, ◌-◌, ◌*◌, ◌%◌, ◌^◌, ◌<◌, ◌≤◌, List, [], ◌∷◌, length, refl, sym, ap, ◌∙◌, arith, inl, inr, append-nil}
 use Rattle.std.proofs.Math.Nat.{pow-succ', pow-le-pow_right}
 use Rattle.name_table.specs.Faults.{NumberFault}
-use Rattle.name_table.specs.Numbers.{value_of, EndsAtLast, BeginsNumber, WhyUnread, number_limit}
+use Rattle.name_table.specs.Numbers.{value_of, EndsAtLast}
 use Rattle.name_table.specs.Parts.{Begins, Number}
+use Rattle.name_table.specs.Steps.{BeginsNumber, WhyUnread}
 use Rattle.name_table.specs.declared.fault.NameFault.TheVariants.{Truncated, NumberTooLarge}
+use Rattle.name_table.specs.declared.number.TheConstants.{MOST_BYTES, NUMBER_LIMIT}
 use Rattle.name_table.specs.declared.number.Unread.{Unread}
 use Rattle.name_table.specs.declared.number.Unread.TheVariants.{Ends, TooLong}
 
@@ -48,19 +50,19 @@ module _ (bytes tail : List ℕ) (b low room : ℕ) (e : bytes ≡ b ∷ tail) (
   unread_more TooLong h w = (b ∷ w.0, w.1, e ∙ ap (λ bs. b ∷ bs) w.2, (omega (arith, h, l), w.3), omega (arith, w.4, k))
 
 -- a number below 2^32
-pub begins_number : (bytes rest : List ℕ) (n : ℕ) → BeginsNumber bytes 5 n rest → n < number_limit → Begins bytes (Number n ∷ []) rest
+pub begins_number : (bytes rest : List ℕ) (n : ℕ) → BeginsNumber bytes MOST_BYTES n rest → n < NUMBER_LIMIT → Begins bytes (Number n ∷ []) rest
 begins_number bytes rest n r h = record {
   front = r.front;
   split = r.split;
   spelled = (r.front, [], sym (append-nil r.front), record { ends = r.ends; value = r.value; short = r.short; small = h }, refl);
 }
 
-pub large_fault : (bytes rest : List ℕ) (n place : ℕ) → BeginsNumber bytes 5 n rest → number_limit ≤ n → NumberFault bytes place (NumberTooLarge place)
+pub large_fault : (bytes rest : List ℕ) (n place : ℕ) → BeginsNumber bytes MOST_BYTES n rest → NUMBER_LIMIT ≤ n → NumberFault bytes place (NumberTooLarge place)
 large_fault bytes rest n place r h =
     (refl, record { front = r.front; rest = rest; split = r.split; large = inr (r.ends, r.short, omega (arith, r.value, h)) })
 
-pub cut_fault : (bytes : List ℕ) (place : ℕ) → WhyUnread Ends 5 bytes → NumberFault bytes place (Truncated place)
-cut_fault bytes place w = (refl, record { goes_on = w.0; short = w.1 })
+pub cut_fault : (bytes : List ℕ) (place : ℕ) → WhyUnread Ends MOST_BYTES bytes → NumberFault bytes place (Truncated place)
+cut_fault bytes place w = (refl, w.0, w.1)
 
-pub long_fault : (bytes : List ℕ) (place : ℕ) → WhyUnread TooLong 5 bytes → NumberFault bytes place (NumberTooLarge place)
+pub long_fault : (bytes : List ℕ) (place : ℕ) → WhyUnread TooLong MOST_BYTES bytes → NumberFault bytes place (NumberTooLarge place)
 long_fault bytes place w = (refl, record { front = w.0; rest = w.1; split = w.2; large = inl (w.3, w.4) })

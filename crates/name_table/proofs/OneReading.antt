@@ -1,10 +1,11 @@
 -- Bytes have one reading at most: one table, or one error.
-use Rattle.std.proofs.Common.{◌≡◌, ℕ, ◌+◌, List, [], ◌∷◌, ◌++◌, length, refl, sym, ap, ◌∙◌, subst, arith, ⊎_elim, append_assoc, append-nil, length-append}
-use Rattle.name_table.specs.Faults.{Fault, NumberFault, TextFault, PartFault, TableFault}
-use Rattle.name_table.specs.Numbers.{IsCut, IsTooLarge}
+use Rattle.std.proofs.Common.{◌≡◌, ℕ, ◌+◌, ◌<◌, List, [], ◌∷◌, ◌++◌, length, refl, sym, ap, ◌∙◌, subst, arith, ⊎_elim, append_assoc, append-nil, length-append}
+use Rattle.name_table.specs.Faults.{Fault, PartFault, TableFault}
+use Rattle.name_table.specs.Numbers.{GoesOn, IsTooLarge}
 use Rattle.name_table.specs.Parts.{Part, Number, Text, AreParts, Begins, pair_parts, table_parts}
 use Rattle.name_table.specs.declared.fault.NameFault.{NameFault}
 use Rattle.name_table.specs.declared.fault.NameFault.TheVariants.{Truncated, NotUtf8, NumberTooLarge}
+use Rattle.name_table.specs.declared.number.TheConstants.{MOST_BYTES}
 use Rattle.name_table.proofs.Unique.{Agree, IsLike, agree_tables, Behind, begins_unique, ends_goes_on, fault_past, pair_parts-inj, part_clash, regroup}
 
 -- ---- one table
@@ -40,31 +41,30 @@ table_no_fault bytes J rest fault p w =
 
 -- ---- one error
 
-cut_not_large : (bytes : List ℕ) → IsCut bytes → IsTooLarge bytes → ⊥
-cut_not_large bytes c l =
-    ⊎_elim (λ g. omega (arith, c.short, g.1, ap length l.split, length-append l.front l.rest))
-    (λ g. ends_goes_on l.front l.rest g.0 (rw (← l.split) c.goes_on)) l.large
+cut_not_large : (bytes : List ℕ) → GoesOn bytes → length bytes < MOST_BYTES → IsTooLarge bytes → ⊥
+cut_not_large bytes goes_on short l =
+    ⊎_elim (λ g. omega (arith, short, g.1, ap length l.split, length-append l.front l.rest))
+    (λ g. ends_goes_on l.front l.rest g.0 (rw (← l.split) goes_on)) l.large
 
-number_fault_unique : (bytes : List ℕ) (place : ℕ) (f g : NameFault) → NumberFault bytes place f → NumberFault bytes place g → f ≡ g
-number_fault_unique bytes place (Truncated a) (Truncated b) p q = ap (λ i. Truncated i) (p.0 ∙ sym q.0)
-number_fault_unique bytes place (Truncated a) (NumberTooLarge b) p q = absurd (cut_not_large bytes p.1 q.1)
-number_fault_unique bytes place (NotUtf8 a) g p q = absurd p
-number_fault_unique bytes place (NumberTooLarge a) (Truncated b) p q = absurd (cut_not_large bytes q.1 p.1)
-number_fault_unique bytes place (NumberTooLarge a) (NumberTooLarge b) p q = ap (λ i. NumberTooLarge i) (p.0 ∙ sym q.0)
-number_fault_unique bytes place _ _ p q = absurd q
+number_fault_unique : (n m : ℕ) (bytes : List ℕ) (place : ℕ) (f g : NameFault) → PartFault (Number n) bytes place f → PartFault (Number m) bytes place g → f ≡ g
+number_fault_unique n m bytes place (Truncated a) (Truncated b) p q = ap (λ i. Truncated i) (p.0 ∙ sym q.0)
+number_fault_unique n m bytes place (Truncated a) (NumberTooLarge b) p q = absurd (cut_not_large bytes p.1 p.2 q.1)
+number_fault_unique n m bytes place (NotUtf8 a) g p q = absurd p
+number_fault_unique n m bytes place (NumberTooLarge a) (Truncated b) p q = absurd (cut_not_large bytes q.1 q.2 p.1)
+number_fault_unique n m bytes place (NumberTooLarge a) (NumberTooLarge b) p q = ap (λ i. NumberTooLarge i) (p.0 ∙ sym q.0)
+number_fault_unique n m bytes place _ _ p q = absurd q
 
-text_fault_unique : (size : ℕ) (bytes : List ℕ) (place : ℕ) (f g : NameFault) → TextFault size bytes place f → TextFault size bytes place g → f ≡ g
-text_fault_unique size bytes place (Truncated a) (Truncated b) p q = ap (λ i. Truncated i) (p.0 ∙ sym q.0)
-text_fault_unique size bytes place (Truncated a) (NumberTooLarge b) p q = absurd q
-text_fault_unique size bytes place (NotUtf8 a) (NotUtf8 b) p q = ap (λ i. NotUtf8 i) (p.0 ∙ sym q.0)
-text_fault_unique size bytes place (NotUtf8 a) (NumberTooLarge b) p q = absurd q
-text_fault_unique size bytes place (NumberTooLarge a) g p q = absurd p
-text_fault_unique size bytes place _ _ p q = absurd (omega (arith, p.1, q.1))
+text_fault_unique : (s t bytes : List ℕ) (place : ℕ) (f g : NameFault) → length s ≡ length t → PartFault (Text s) bytes place f → PartFault (Text t) bytes place g → f ≡ g
+text_fault_unique s t bytes place (Truncated a) (Truncated b) l p q = ap (λ i. Truncated i) (p.0 ∙ sym q.0)
+text_fault_unique s t bytes place (Truncated a) (NumberTooLarge b) l p q = absurd q
+text_fault_unique s t bytes place (NotUtf8 a) (NotUtf8 b) l p q = ap (λ i. NotUtf8 i) (p.0 ∙ sym q.0)
+text_fault_unique s t bytes place (NotUtf8 a) (NumberTooLarge b) l p q = absurd q
+text_fault_unique s t bytes place (NumberTooLarge a) g l p q = absurd p
+text_fault_unique s t bytes place _ _ l p q = absurd (omega (arith, l, p.1, q.1))
 
 part_fault_unique : (x y : Part) (bytes : List ℕ) (place : ℕ) (f g : NameFault) → IsLike x y → PartFault x bytes place f → PartFault y bytes place g → f ≡ g
-part_fault_unique (Number n) (Number m) bytes place f g l p q = number_fault_unique bytes place f g p q
-part_fault_unique (Text s) (Text t) bytes place f g l p q =
-    text_fault_unique (length t) bytes place f g (rw (← l) p) q
+part_fault_unique (Number n) (Number m) bytes place f g l p q = number_fault_unique n m bytes place f g p q
+part_fault_unique (Text s) (Text t) bytes place f g l p q = text_fault_unique s t bytes place f g l p q
 part_fault_unique _ _ bytes place f g l p q = absurd l
 
 like_sym : (x y : Part) → IsLike x y → IsLike y x

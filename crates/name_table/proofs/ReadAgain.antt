@@ -7,32 +7,32 @@ use Rattle.litemap.specs.ByBytes.{by_bytes}
 use Rattle.litemap_store.proofs.Last.Pairs.{Last-rising, Last-unique}
 use Rattle.litemap_store.specs.Pairs.{BelowAll, Rising}
 use Rattle.name_table.specs.Parts.{Begins, IsTable, table_parts}
-use Rattle.name_table.specs.Reads.{Text}
 use Rattle.name_table.specs.Remaining.{shown}
 use Rattle.name_table.specs.Writes.{IsReadAgain}
+use denote.Ref.{Bor}
 use Rattle.name_table.proofs.OneReading.{table_no_fault, table_unique}
 
 -- the keys ascend in what references refer to as they do in the references
-below_shown : (key : Text) (pairs : List (Text × Text)) → BelowAll by_bytes key pairs → BelowAll (slice_cmp nat_cmp) key.now (map shown pairs)
+below_shown : (key : Bor (List ℕ)) (pairs : List (Bor (List ℕ) × Bor (List ℕ))) → BelowAll by_bytes key pairs → BelowAll (slice_cmp nat_cmp) key.now (map shown pairs)
 below_shown key [] b = tt
 below_shown key (p ∷ pairs) b = (b.0, below_shown key pairs b.1)
 
-pub shown_rise : (pairs : List (Text × Text)) → Rising by_bytes pairs → Rising (slice_cmp nat_cmp) (map shown pairs)
+pub shown_rise : (pairs : List (Bor (List ℕ) × Bor (List ℕ))) → Rising by_bytes pairs → Rising (slice_cmp nat_cmp) (map shown pairs)
 shown_rise [] r = tt
 shown_rise (p ∷ pairs) r = (below_shown p.0 pairs r.0, shown_rise pairs r.1)
 
-shown_below : (key : Text) (pairs : List (Text × Text)) → BelowAll (slice_cmp nat_cmp) key.now (map shown pairs) → BelowAll by_bytes key pairs
+shown_below : (key : Bor (List ℕ)) (pairs : List (Bor (List ℕ) × Bor (List ℕ))) → BelowAll (slice_cmp nat_cmp) key.now (map shown pairs) → BelowAll by_bytes key pairs
 shown_below key [] b = tt
 shown_below key (p ∷ pairs) b = (b.0, shown_below key pairs b.1)
 
-pub rise_shown : (pairs : List (Text × Text)) → Rising (slice_cmp nat_cmp) (map shown pairs) → Rising by_bytes pairs
+pub rise_shown : (pairs : List (Bor (List ℕ) × Bor (List ℕ))) → Rising (slice_cmp nat_cmp) (map shown pairs) → Rising by_bytes pairs
 rise_shown [] r = tt
 rise_shown (p ∷ pairs) r = (shown_below p.0 pairs r.0, rise_shown pairs r.1)
 
-by_bytes_total : IsTotalOrder by_bytes
-by_bytes_total = on_texts (λ (a : Text). a.now)
+pub by_bytes_total : IsTotalOrder by_bytes
+by_bytes_total = on_texts (λ (a : Bor (List ℕ)). a.now)
 
-pub read_again : (bytes : List ℕ) (pairs : List (Text × Text)) → IsTable bytes (map shown pairs) → Rising by_bytes pairs → IsReadAgain bytes pairs
+pub read_again : (bytes : List ℕ) (pairs : List (Bor (List ℕ) × Bor (List ℕ))) → IsTable bytes (map shown pairs) → Rising by_bytes pairs → IsReadAgain bytes pairs
 read_again bytes pairs table rising =
     let whole : Begins bytes (table_parts (map shown pairs)) [] = record { front = bytes; split = sym (append-nil bytes); spelled = table } in
     record {

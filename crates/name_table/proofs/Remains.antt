@@ -5,8 +5,8 @@ use Rattle.std.proofs.lemmas.List.{length-replicate}
 use Rattle.name_table.specs.Faults.{Fault, PartFault, AreOfPairs, AreOfText, NextFault, PairsFault}
 use Rattle.name_table.specs.Parts.{Part, Begins, text_parts, pair_parts}
 use Rattle.name_table.specs.Position.{IsPast, Position}
-use Rattle.name_table.specs.ReadOn.{IsReadOn, begins_none, begins_pairs, begins_then, pair_parts-append}
-use Rattle.name_table.specs.Remaining.{Remaining, shown, CanBeRead, AllCanBeRead, IsNext}
+use Rattle.name_table.specs.ReadOn.{begins_none, begins_pairs, begins_then, pair_parts-append}
+use Rattle.name_table.specs.Remaining.{Remaining, shown, CanBeRead, AllCanBeRead, IsAfter}
 use Rattle.name_table.specs.declared.fault.NameFault.{NameFault}
 use Rattle.name_table.proofs.FaultLemmas.{fault_behind, fault_where, fault_wider}
 use Rattle.name_table.proofs.PartLemmas.{begins_split}
@@ -48,7 +48,7 @@ abbrev pub position : Remaining → Position
 position s = record { rest = s.rest; place = s.place }
 
 -- from the strings of its key and its value
-pub is_next : (s : Remaining) (key value : List ℕ) (middle behind : Position) → IsPast (position s) middle (text_parts key) → IsPast middle behind (text_parts value) → s.left ≢ 0 → IsNext s (record { rest = behind.rest; place = behind.place; left = s.left - 1 }) (key, value)
+pub is_next : (s : Remaining) (key value : List ℕ) (middle behind : Position) → IsPast (position s) middle (text_parts key) → IsPast middle behind (text_parts value) → s.left ≢ 0 → IsAfter s (record { rest = behind.rest; place = behind.place; left = s.left - 1 }) ((key, value) ∷ [])
 is_next s key value middle behind k v h =
     let b = begins_then s.rest middle.rest behind.rest (text_parts key) (text_parts value) k.spelled v.spelled in
     record {
@@ -57,10 +57,7 @@ is_next s key value middle behind k v h =
       count = omega (arith, h);
     }
 
-module _ (s t : Remaining) (p : List ℕ × List ℕ) (n : IsNext s t p) where
-  pub read_on_one : IsReadOn s t
-  read_on_one = record { pairs = p ∷ []; spelled = n.spelled; place = n.place; count = omega (arith, n.count) }
-
+module _ (s t : Remaining) (p : List ℕ × List ℕ) (n : IsAfter s t (p ∷ [])) where
   pub gives_one_more : (q : Bor (List ℕ) × Bor (List ℕ)) (L : List (Bor (List ℕ) × Bor (List ℕ))) → shown q ≡ p → CanBeRead t L → CanBeRead s (q ∷ L)
   gives_one_more q L e r =
       let P : List ℕ × List ℕ → Type 0 = λ u. Begins s.rest (pair_parts (u ∷ map shown L)) r.behind in

@@ -2,7 +2,7 @@
 use Rattle.std.proofs.Common.{◌≡◌, ℕ, ◌≤◌, List, [], ◌∷◌, ◌++◌, length, refl, sym, ap, ◌∙◌, arith, ⊎_elim, append_assoc, length-append}
 use Rattle.std.proofs.lemmas.List.{append_cancel_left, take_at}
 use Rattle.std.specs.Prelude.{IsUtf8}
-use Rattle.name_table.specs.Faults.{NumberFault, TextFault, PartFault}
+use Rattle.name_table.specs.Faults.{PartFault}
 use Rattle.name_table.specs.Numbers.{value_of, GoesOn, EndsAtLast, IsNumber}
 use Rattle.name_table.specs.Parts.{Part, Number, Text, IsPart, AreParts, Begins, text_parts, pair_parts, table_parts}
 use Rattle.name_table.specs.declared.fault.NameFault.{NameFault}
@@ -73,25 +73,25 @@ part_unique (Text s) (Text t) a b u v p q l e =
     (h, ap (λ i. Text i) (sym p.0 ∙ h ∙ q.0))
 part_unique _ _ a b u v p q l e = absurd l
 
-number_clash : (n : ℕ) (a u : List ℕ) (place : ℕ) (f : NameFault) → IsNumber a n → NumberFault (a ++ u) place f → ⊥
-number_clash n a u place (Truncated at) p w = ends_goes_on a u p.ends w.1.goes_on
-number_clash n a u place (NotUtf8 at) p w = w
-number_clash n a u place (NumberTooLarge at) p w =
+number_clash : (n m : ℕ) (a u : List ℕ) (place : ℕ) (f : NameFault) → IsNumber a n → PartFault (Number m) (a ++ u) place f → ⊥
+number_clash n m a u place (Truncated at) p w = ends_goes_on a u p.ends w.1
+number_clash n m a u place (NotUtf8 at) p w = w
+number_clash n m a u place (NumberTooLarge at) p w =
     ⊎_elim
     (λ g. ends_long a u w.1.front w.1.rest p.ends (omega (arith, p.short, g.1)) g.0 w.1.split)
     (λ g. omega (arith, p.small, p.value, g.2, ap value_of (ends_unique a w.1.front u w.1.rest p.ends g.0 w.1.split)))
     w.1.large
 
-text_clash : (size : ℕ) (a u : List ℕ) (place : ℕ) (f : NameFault) → IsUtf8 a → length a ≡ size → TextFault size (a ++ u) place f → ⊥
-text_clash size a u place (Truncated at) p l w = omega (arith, w.1, l, length-append a u)
-text_clash size a u place (NotUtf8 at) p l w =
-    w.2 (rw (take_at a u size l) p)
-text_clash size a u place (NumberTooLarge at) p l w = w
+text_clash : (text a u : List ℕ) (place : ℕ) (f : NameFault) → IsUtf8 a → length a ≡ length text → PartFault (Text text) (a ++ u) place f → ⊥
+text_clash text a u place (Truncated at) p l w = omega (arith, w.1, l, length-append a u)
+text_clash text a u place (NotUtf8 at) p l w =
+    w.2 (rw (take_at a u (length text) l) p)
+text_clash text a u place (NumberTooLarge at) p l w = w
 
 pub part_clash : (x due : Part) (a u : List ℕ) (place : ℕ) (f : NameFault) → IsPart a x → IsLike x due → PartFault due (a ++ u) place f → ⊥
-part_clash (Number n) (Number m) a u place f p l w = number_clash n a u place f p w
+part_clash (Number n) (Number m) a u place f p l w = number_clash n m a u place f p w
 part_clash (Text s) (Text t) a u place f p l w =
-    text_clash (length t) a u place f (rw p.0 p.1) (ap length p.0 ∙ l) w
+    text_clash t a u place f (rw p.0 p.1) (ap length p.0 ∙ l) w
 part_clash _ _ a u place f p l w = l
 
 -- ---- lists of parts

@@ -1,13 +1,13 @@
 -- A whole table: its number of pairs, and the pairs that are due by it.
-use Rattle.std.proofs.Common.{◌≡◌, ℕ, ◌+◌, ◌⊎◌, List, [], ◌∷◌, ◌++◌, length, map, refl, sym, ap, ◌∙◌, subst, arith, ⊎_elim, length-append, Bor}
+use Rattle.std.proofs.Common.{◌≡◌, ℕ, ◌+◌, ◌≤◌, ◌⊎◌, List, [], ◌∷◌, ◌++◌, length, map, refl, sym, ap, ◌∙◌, subst, arith, ⊎_elim, length-append, Bor}
 use Rattle.std.proofs.lemmas.List.{length-map}
 use Rattle.litemap_read.specs.ReadFault.{IfSource}
 use Rattle.litemap_read.specs.declared.source.ReadFault.{ReadFault}
 use Rattle.litemap_read.specs.declared.source.ReadFault.TheVariants.{NoRoom, Source}
-use Rattle.name_table.specs.Faults.{NumberFault, Fault, AreOfPairs, TableFault}
+use Rattle.name_table.specs.Faults.{NumberFault, Fault, AreOfPairs, IsUnread, PairsFault, TableFault}
 use Rattle.name_table.specs.Parts.{Number, Begins, pair_parts, table_parts}
-use Rattle.name_table.specs.ReadOn.{IsReadOn, begins_then}
-use Rattle.name_table.specs.Remaining.{Remaining, shown, NoPair, CanBeRead, AllCanBeRead, IsCounted}
+use Rattle.name_table.specs.ReadOn.{begins_then}
+use Rattle.name_table.specs.Remaining.{Remaining, shown, NoPair, CanBeRead, AllCanBeRead, IsAfter, IsCounted}
 use Rattle.name_table.specs.declared.fault.NameFault.{NameFault}
 use Rattle.name_table.proofs.FaultLemmas.{fault_behind, fault_first, fault_where}
 use Rattle.name_table.proofs.PartLemmas.{begins_split}
@@ -23,9 +23,9 @@ pairs_fault bytes s fault c w =
     fault_behind bytes 0 fault (Number s.left ∷ []) s.rest c.spelled s.place (omega (arith, c.place))
     (fault_where s.rest s.place fault (λ xs a. (a.0, λ i. Number (sym a.1 i) ∷ a.2 i)) w)
 
-pub if_source_weaker : {E : Type 0} {P Q : E → Type 0} (fault : ReadFault E) → ((e : E) → P e → Q e) → IfSource fault P → IfSource fault Q
-if_source_weaker NoRoom h p = tt
-if_source_weaker (Source e) h p = h e p
+pub unread : (bytes : List ℕ) (s : Remaining) (fault : ReadFault NameFault) → IsCounted bytes s → IfSource fault (PairsFault s) → (fault ≡ NoRoom → 1 ≤ s.left) → IsUnread bytes fault
+unread bytes s NoRoom c w some = (s.left, s.rest, c.spelled, some refl)
+unread bytes s (Source e) c w some = pairs_fault bytes s e c w
 
 -- ---- none is due if all can be read and the bytes after them don't begin with a pair
 
@@ -51,22 +51,22 @@ pub record WholeTable (bytes : List ℕ) (pairs : List (List ℕ × List ℕ)) (
   pub table : Begins bytes (table_parts pairs) rest
   pub size_is : size ≡ length table.front
 
-module _ (bytes : List ℕ) (s t : Remaining) (given : List (Bor (List ℕ) × Bor (List ℕ))) (counted : IsCounted bytes s) (gives : CanBeRead s given) (all : AllCanBeRead s) (empty : CanBeRead t []) (on : IsReadOn s t) where
+module _ (bytes : List ℕ) (s t : Remaining) (given : List (Bor (List ℕ) × Bor (List ℕ))) (counted : IsCounted bytes s) (gives : CanBeRead s given) (all : AllCanBeRead s) (empty : CanBeRead t []) (read : List (List ℕ × List ℕ)) (on : IsAfter s t read) where
   given_all : length given ≡ s.left
   given_all =
       let l : length (map shown given) ≡ length given = length-map given shown in
       omega (arith, none_due (map shown given) all.pairs s.rest gives.behind all.behind gives.due gives.spelled all.spelled (omega (arith, gives.count, all.count, l)) gives.stops, gives.count)
 
-  on_all : length on.pairs ≡ s.left
+  on_all : length read ≡ s.left
   on_all =
       let stops : (empty.due ≡ 0) ⊎ NoPair t.rest = rw (begins_nothing t.rest empty.behind empty.spelled) empty.stops in
-      let e : empty.due ≡ 0 = none_due on.pairs all.pairs s.rest t.rest all.behind empty.due on.spelled all.spelled (omega (arith, on.count, all.count, empty.count)) stops in
+      let e : empty.due ≡ 0 = none_due read all.pairs s.rest t.rest all.behind empty.due on.spelled all.spelled (omega (arith, on.count, all.count, empty.count)) stops in
       omega (arith, e, on.count, empty.count)
 
   same_bytes : gives.spelled.front ≡ on.spelled.front
   same_bytes =
-      let l : length (map shown given) ≡ length on.pairs = length-map given shown ∙ given_all ∙ sym on_all in
-      (begins_unique s.rest (agree_pairs (map shown given) on.pairs l) gives.spelled on.spelled).0
+      let l : length (map shown given) ≡ length read = length-map given shown ∙ given_all ∙ sym on_all in
+      (begins_unique s.rest (agree_pairs (map shown given) read l) gives.spelled on.spelled).0
 
   pub whole_table : WholeTable bytes (map shown given) t.place
   whole_table =

@@ -3,12 +3,14 @@ use Rattle.std.proofs.Common.{◌≡◌, ℕ, zero, suc, ◌+◌, ◌/◌, ◌%�
 use Rattle.std.proofs.Math.Nat.{pow-succ'}
 use Rattle.std.proofs.lemmas.List.{drop_more, map-append, take_more, take-append-drop}
 use Rattle.std.specs.Prelude.{IsUtf8}
-use Rattle.name_table.specs.Numbers.{value_of, EndsAtLast, IsNumber, number_limit}
+use Rattle.name_table.specs.Numbers.{value_of, EndsAtLast, IsNumber}
 use Rattle.name_table.specs.Parts.{Part, Number, Text, text_parts, pair_parts}
 use Rattle.name_table.specs.ReadOn.{AreParts-append, pair_parts-append}
-use Rattle.name_table.specs.Writes.{Appends, AppendsNumber, IfTooLarge, IsShortest, NoTable}
+use Rattle.name_table.specs.Steps.{Appends, AppendsNumber}
+use Rattle.name_table.specs.Writes.{IfTooLarge, IsShortest, NoTable}
 use Rattle.name_table.specs.declared.fault.NameWriteFault.{NameWriteFault}
 use Rattle.name_table.specs.declared.fault.NameWriteFault.TheVariants.{NoRoom, TooLarge}
+use Rattle.name_table.specs.declared.number.TheConstants.{NUMBER_LIMIT}
 use Rattle.name_table.proofs.NumberLemmas.{EndsAtLast-more}
 use Rattle.name_table.proofs.PartLemmas.{AreParts-one, AreParts-split}
 
@@ -60,7 +62,7 @@ pub shortest_more : (old new : List ℕ) (xs ys : List Part) → IsShortest old 
 shortest_more old new xs ys p q =
     rw q.appended (shortest_append old q.bytes xs ys p q.shortest)
 
-pub appends_number : (old new : List ℕ) (n : ℕ) → n < number_limit → AppendsNumber old new n → Appends old new (Number n ∷ [])
+pub appends_number : (old new : List ℕ) (n : ℕ) → n < NUMBER_LIMIT → AppendsNumber old new n → Appends old new (Number n ∷ [])
 appends_number old new n h r = record {
   bytes = r.bytes;
   appended = r.appended;

@@ -1,27 +1,27 @@
 -- Which error a table has: that of the first part that can't be read, at the offset where it begins.
-use Rattle.std.specs.Prelude.{◌≡◌, ℕ, ◌+◌, ◌<◌, ◌≤◌, List, ◌∷◌, ◌++◌, length, take, IsUtf8}
-use Rattle.name_table.specs.Numbers.{IsCut, IsTooLarge}
-use Rattle.name_table.specs.Parts.{Part, Number, Text, AreParts, text_parts, pair_parts, table_parts}
+use Rattle.std.specs.Prelude.{◌≡◌, ℕ, ◌+◌, ◌<◌, ◌≤◌, List, [], ◌∷◌, ◌++◌, length, take, IsUtf8}
+use Rattle.litemap_read.specs.declared.source.ReadFault.{ReadFault}
+use Rattle.litemap_read.specs.declared.source.ReadFault.TheVariants.{NoRoom, Source}
+use Rattle.name_table.specs.Numbers.{GoesOn, IsTooLarge}
+use Rattle.name_table.specs.Parts.{Part, Number, Text, AreParts, Begins, text_parts, pair_parts, table_parts}
 use Rattle.name_table.specs.Remaining.{Remaining}
 use Rattle.name_table.specs.declared.fault.NameFault.{NameFault}
 use Rattle.name_table.specs.declared.fault.NameFault.TheVariants.{Truncated, NotUtf8, NumberTooLarge}
+use Rattle.name_table.specs.declared.number.TheConstants.{MOST_BYTES}
 
--- the bytes, which stand at the offset, don't begin with a number
-abbrev pub NumberFault : List ℕ → ℕ → NameFault → Type 0
-NumberFault bytes place (Truncated at) = (at ≡ place) × IsCut bytes
-NumberFault bytes place (NotUtf8 at) = ⊥
-NumberFault bytes place (NumberTooLarge at) = (at ≡ place) × IsTooLarge bytes
-
--- the bytes don't begin with a string of so many bytes
-abbrev pub TextFault : ℕ → List ℕ → ℕ → NameFault → Type 0
-TextFault size bytes place (Truncated at) = (at ≡ place) × (length bytes < size)
-TextFault size bytes place (NotUtf8 at) = (at ≡ place) × (size ≤ length bytes) × (IsUtf8 (take size bytes) → ⊥)
-TextFault size bytes place (NumberTooLarge at) = ⊥
-
--- the bytes don't begin with a part of the kind that is due there: a number, or a string of so many bytes
+-- the bytes, which stand at the offset, don't begin with a part of the kind that is due there: a number, or a string of so many
+-- bytes
 abbrev pub PartFault : Part → List ℕ → ℕ → NameFault → Type 0
-PartFault (Number n) bytes place fault = NumberFault bytes place fault
-PartFault (Text text) bytes place fault = TextFault (length text) bytes place fault
+PartFault (Number n) bytes place (Truncated at) = (at ≡ place) × GoesOn bytes × (length bytes < MOST_BYTES)
+PartFault (Number n) bytes place (NumberTooLarge at) = (at ≡ place) × IsTooLarge bytes
+PartFault (Text text) bytes place (Truncated at) = (at ≡ place) × (length bytes < length text)
+PartFault (Text text) bytes place (NotUtf8 at) =
+    (at ≡ place) × (length text ≤ length bytes) × (IsUtf8 (take (length text) bytes) → ⊥)
+PartFault part bytes place fault = ⊥
+
+-- they don't begin with a number
+abbrev pub NumberFault : List ℕ → ℕ → NameFault → Type 0
+NumberFault bytes place fault = PartFault (Number 0) bytes place fault
 
 -- the bytes begin with some of the first parts of an allowed list of parts, and the part that is due after these can't be read
 pub record Fault (Allowed : List Part → Type 0) (bytes : List ℕ) (place : ℕ) (fault : NameFault) : Type 0 where
@@ -51,10 +51,11 @@ PairsFault s fault = Fault (AreOfPairs s.left) s.rest s.place fault
 abbrev pub NextFault : Remaining → NameFault → Type 0
 NextFault s fault = (0 < s.left) × Fault (AreOfPairs 1) s.rest s.place fault
 
--- the parts are those of a table
-abbrev pub AreOfTable : List Part → Type 0
-AreOfTable parts = (pairs : List (List ℕ × List ℕ)) × (parts ≡ table_parts pairs)
-
 -- no table begins the bytes: this is why
 abbrev pub TableFault : List ℕ → NameFault → Type 0
-TableFault bytes fault = Fault AreOfTable bytes 0 fault
+TableFault bytes fault = Fault (λ parts. (pairs : List (List ℕ × List ℕ)) × (parts ≡ table_parts pairs)) bytes 0 fault
+
+-- why no map is read: a number of pairs begins the bytes that isn't 0, and memory runs out; or no table begins them
+abbrev pub IsUnread : List ℕ → ReadFault NameFault → Type 0
+IsUnread bytes NoRoom = (n : ℕ) × (rest : List ℕ) × Begins bytes (Number n ∷ []) rest × (0 < n)
+IsUnread bytes (Source fault) = TableFault bytes fault

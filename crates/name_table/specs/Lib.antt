@@ -7,4 +7,5 @@ pub mod Remaining
 pub mod ReadOn
 pub mod Reads
 pub mod Writes
+pub mod Steps
 pub mod Laws

@@ -17,14 +17,14 @@ abbrev pub AreParts : List ℕ → List Part → Type 0
 AreParts bytes [] = bytes ≡ []
 AreParts bytes (x ∷ xs) = (first : List ℕ) × (rest : List ℕ) × (bytes ≡ first ++ rest) × IsPart first x × AreParts rest xs
 
--- a string comes after the number of its bytes
-abbrev pub text_parts : List ℕ → List Part
-text_parts text = Number (length text) ∷ Text text ∷ []
-
--- each key, and its value
+-- each key, and its value, each after the number of its bytes
 abbrev pub pair_parts : List (List ℕ × List ℕ) → List Part
 pair_parts [] = []
-pair_parts (p ∷ pairs) = text_parts p.0 ++ (text_parts p.1 ++ pair_parts pairs)
+pair_parts (p ∷ pairs) = Number (length p.0) ∷ Text p.0 ∷ Number (length p.1) ∷ Text p.1 ∷ pair_parts pairs
+
+-- a string after the number of its bytes
+abbrev pub text_parts : List ℕ → List Part
+text_parts text = Number (length text) ∷ Text text ∷ []
 
 -- the number of pairs, and the pairs
 abbrev pub table_parts : List (List ℕ × List ℕ) → List Part

@@ -2,14 +2,11 @@
 use Rattle.std.specs.Prelude.{◌≡◌, ℕ, ◌+◌, List, [], ◌∷◌, ◌++◌, length}
 use Rattle.std.proofs.Common.{refl, sym, ap, ◌∙◌, append_assoc, length-append, add-zero, zero-add, arith}
 use Rattle.name_table.specs.Parts.{Part, AreParts, Begins, text_parts, pair_parts}
-use Rattle.name_table.specs.Remaining.{Remaining}
+use Rattle.name_table.specs.Remaining.{IsAfter, Remaining}
 
 -- t is s after some pairs were read
-pub record IsReadOn (s t : Remaining) : Type 0 where
-  pub pairs : List (List ℕ × List ℕ)
-  pub spelled : Begins s.rest (pair_parts pairs) t.rest
-  pub place : t.place ≡ s.place + length spelled.front
-  pub count : s.left ≡ length pairs + t.left
+abbrev pub IsReadOn : Remaining → Remaining → Type 0
+IsReadOn s t = (pairs : List (List ℕ × List ℕ)) × IsAfter s t pairs
 
 pub AreParts-append : (a b : List ℕ) (xs ys : List Part) → AreParts a xs → AreParts b ys → AreParts (a ++ b) (xs ++ ys)
 AreParts-append a b [] ys p q = rw p q
@@ -40,13 +37,14 @@ begins_pairs bytes middle rest J K p q =
     record { front = r.front; split = r.split; spelled = rw (pair_parts-append J K) r.spelled }
 
 pub read_on_itself : (s : Remaining) → IsReadOn s s
-read_on_itself s =
-    record { pairs = []; spelled = begins_none s.rest; place = sym (add-zero s.place); count = sym (zero-add s.left) }
+read_on_itself s = ([], record { spelled = begins_none s.rest; place = sym (add-zero s.place); count = sym (zero-add s.left) })
+
+pub after_further : (s t u : Remaining) (J K : List (List ℕ × List ℕ)) → IsAfter s t J → IsAfter t u K → IsAfter s u (J ++ K)
+after_further s t u J K p q = record {
+  spelled = begins_pairs s.rest t.rest u.rest J K p.spelled q.spelled;
+  place = omega (arith, p.place, q.place, length-append p.spelled.front q.spelled.front);
+  count = omega (arith, p.count, q.count, length-append J K);
+}
 
 pub read_on_further : (s t u : Remaining) → IsReadOn s t → IsReadOn t u → IsReadOn s u
-read_on_further s t u p q = record {
-  pairs = p.pairs ++ q.pairs;
-  spelled = begins_pairs s.rest t.rest u.rest p.pairs q.pairs p.spelled q.spelled;
-  place = omega (arith, p.place, q.place, length-append p.spelled.front q.spelled.front);
-  count = omega (arith, p.count, q.count, length-append p.pairs q.pairs);
-}
+read_on_further s t u p q = (p.0 ++ q.0, after_further s t u p.0 q.0 p.1 q.1)

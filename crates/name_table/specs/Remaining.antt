@@ -37,8 +37,8 @@ pub record IsCounted (bytes : List ℕ) (s : Remaining) : Type 0 where
   pub spelled : Begins bytes (Number s.left ∷ []) s.rest
   pub place : s.place ≡ length spelled.front
 
--- t is s after the next pair was read
-pub record IsNext (s t : Remaining) (pair : List ℕ × List ℕ) : Type 0 where
-  pub spelled : Begins s.rest (pair_parts (pair ∷ [])) t.rest
+-- t is s after the pairs were read
+pub record IsAfter (s t : Remaining) (pairs : List (List ℕ × List ℕ)) : Type 0 where
+  pub spelled : Begins s.rest (pair_parts pairs) t.rest
   pub place : t.place ≡ s.place + length spelled.front
-  pub count : s.left ≡ t.left + 1
+  pub count : s.left ≡ length pairs + t.left

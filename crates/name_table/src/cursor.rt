@@ -5,7 +5,7 @@ ghost use Rattle.name_table.specs.Parts.{Number, text_parts};
 ghost use Rattle.name_table.specs.Position.{IsPast};
 
 use crate::fault::NameFault;
-use crate::number::{Unread, number_within};
+use crate::number::{MOST_BYTES, NUMBER_LIMIT, Unread, number_within};
 use std::marker::Model;
 use std::str;
 
@@ -61,11 +61,11 @@ impl<'a> Cursor<'a> {
         ensures err { IfErr result (λ fault. NumberFault self.now.rest self.now.place fault) }
     {
         let at = self.place;
-        match number_within(self.rest, 5) {
+        match number_within(self.rest, MOST_BYTES) {
             Ok((number, rest)) => {
-                if number < 4_294_967_296 {
+                if number < NUMBER_LIMIT {
                     let place = at + (self.rest.len() - rest.len());
-                    Ok((number as usize, Cursor { rest, place }))
+                    Ok((number, Cursor { rest, place }))
                 } else {
                     Err(NameFault::NumberTooLarge { at })
                 }

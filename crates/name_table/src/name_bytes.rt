@@ -1,8 +1,8 @@
 //! The entries of a name table as a source of pairs.
-ghost use Rattle.std.specs.Prelude.{◌≡◌, ◌↔◌, IfErr, IfOk, IfSome, Some};
+ghost use Rattle.std.specs.Prelude.{◌≡◌, ◌↔◌, ◌∷◌, [], IfErr, IfOk, IfSome, Some};
 ghost use Rattle.litemap_read.specs.Source.{GivesNext};
 ghost use Rattle.name_table.specs.Faults.{NextFault, NumberFault, PairsFault};
-ghost use Rattle.name_table.specs.Remaining.{AllCanBeRead, CanBeRead, IsCounted, IsNext, shown};
+ghost use Rattle.name_table.specs.Remaining.{AllCanBeRead, CanBeRead, IsAfter, IsCounted, shown};
 ghost use Rattle.name_table.specs.ReadOn.{IsReadOn, read_on_itself, read_on_further};
 
 use crate::cursor::Cursor;
@@ -84,7 +84,7 @@ impl<'a> PairSource<&'a str, &'a str> for NameBytes<'a> {
         ensures keeps_end { AllCanBeRead self.new ↔ AllCanBeRead self.old }
         ensures leads { IsReadOn self.old self.new }
         ensures fault { IfErr result (λ fault. NextFault self.old fault) }
-        ensures read { IfOk result (λ read. IfSome read (λ pair. IsNext self.old self.new (shown pair))) }
+        ensures read { IfOk result (λ read. IfSome read (λ pair. IsAfter self.old self.new (shown pair ∷ []))) }
     {
         if self.left == 0 {
             return Ok(None);

@@ -1,6 +1,15 @@
 //! Numbers as bytes.
 ghost use Rattle.std.specs.Prelude.{◌≤◌, IfOk, IfErr};
-ghost use Rattle.name_table.specs.Numbers.{BeginsNumber, WhyUnread};
+ghost use Rattle.name_table.specs.Steps.{BeginsNumber, WhyUnread};
+
+/// A number is below this.
+pub const NUMBER_LIMIT: usize = 4_294_967_296;
+
+/// The most bytes of a number.
+pub const MOST_BYTES: u8 = 5;
+
+/// Each byte of a number has a digit below this, and is that much greater if another digit comes after it.
+pub const BASE: usize = 128;
 
 /// What keeps bytes from being a number.
 pub enum Unread {
@@ -11,8 +20,8 @@ pub enum Unread {
 }
 
 /// Reads the number of at most `room` bytes that the bytes begin with, however large, and returns it with the bytes after it.
-pub fn number_within(bytes: &[u8], room: u8) -> Result<(u64, &[u8]), Unread>
-    requires { room ≤ 5 }
+pub fn number_within(bytes: &[u8], room: u8) -> Result<(usize, &[u8]), Unread>
+    requires { room ≤ MOST_BYTES }
     ensures ok { IfOk result (λ read. BeginsNumber bytes.now room read.0 read.1.now) }
     ensures err { IfErr result (λ why. WhyUnread why room bytes.now) }
 {
@@ -22,10 +31,10 @@ pub fn number_within(bytes: &[u8], room: u8) -> Result<(u64, &[u8]), Unread>
     let Some((first, rest)) = bytes.split_first() else {
         return Err(Unread::Ends);
     };
-    let low = u64::from(*first);
-    if low < 128 {
+    let low = usize::from(*first);
+    if low < BASE {
         return Ok((low, rest));
     }
     let (high, rest) = number_within(rest, room - 1)?;
-    Ok((low % 128 + 128 * high, rest))
+    Ok((low % BASE + BASE * high, rest))
 }

@@ -1,9 +1,7 @@
 //! Maps read from name tables, and names looked up in them.
-ghost use Rattle.std.specs.Prelude.{◌≡◌, IfErr, IfOk};
-ghost use Rattle.litemap_read.specs.ReadFault.{IfSource};
-ghost use Rattle.name_table.specs.Faults.{TableFault};
-ghost use Rattle.litemap_read.specs.declared.source.ReadFault.TheVariants.{NoRoom};
-ghost use Rattle.name_table.specs.Reads.{HasEntries, IsFound, IsRead};
+ghost use Rattle.std.specs.Prelude.{IfErr, IfOk};
+ghost use Rattle.name_table.specs.Faults.{IsUnread};
+ghost use Rattle.name_table.specs.Reads.{IsFound, IsRead};
 
 use crate::fault::NameFault;
 use crate::name_bytes::NameBytes;
@@ -29,8 +27,7 @@ pub fn read_names<'a>(
     bytes: &'a [u8],
 ) -> Result<(NameMap<'a>, usize), ReadFault<NameFault>>
     ensures read { IfOk result (λ read. IsRead bytes.now read.0.pairs read.1) }
-    ensures fault { IfErr result (λ fault. IfSource fault (TableFault bytes.now)) }
-    ensures refused_some { IfErr result (λ fault. fault ≡ NoRoom → HasEntries bytes.now) }
+    ensures fault { IfErr result (IsUnread bytes.now) }
 {
     let mut names = match NameBytes::new(bytes) {
         Ok(names) => names,
@@ -59,8 +56,7 @@ pub fn find_name<'a>(
     key: &str,
 ) -> Result<Option<(usize, &'a str)>, ReadFault<NameFault>>
     ensures found { IfOk result (λ found. IsFound bytes.now key.entry found) }
-    ensures fault { IfErr result (λ fault. IfSource fault (TableFault bytes.now)) }
-    ensures refused_some { IfErr result (λ fault. fault ≡ NoRoom → HasEntries bytes.now) }
+    ensures fault { IfErr result (IsUnread bytes.now) }
 {
     let (map, _) = read_names(alloc, bytes)?;
     match map.as_sliced().const_get_with_index(key) {

@@ -1,12 +1,13 @@
 //! Name tables written from maps.
 ghost use Rattle.std.specs.Prelude.{◌≡◌, Err, IfErr, IfOk, OnOk, ◌∷◌, [], ◌≤◌, length, map};
-ghost use Rattle.name_table.specs.Numbers.{number_limit};
 ghost use Rattle.name_table.specs.Parts.{Number, pair_parts, table_parts, text_parts};
 ghost use Rattle.name_table.specs.Remaining.{shown};
 ghost use Rattle.name_table.specs.declared.fault.NameWriteFault.TheVariants.{TooLarge};
-ghost use Rattle.name_table.specs.Writes.{Appends, AppendsNumber, IfTooLarge, IsReadAgain, IsShortest, NoTable};
+ghost use Rattle.name_table.specs.Steps.{Appends, AppendsNumber};
+ghost use Rattle.name_table.specs.Writes.{IfTooLarge, IsReadAgain, IsShortest, NoTable};
 
 use crate::fault::NameWriteFault;
+use crate::number::{BASE, NUMBER_LIMIT};
 use crate::read::NameMap;
 use std::alloc::{AllocError, Global};
 
@@ -51,7 +52,7 @@ fn put_pair(bytes: &mut Vec<u8>, pair: &(&str, &str)) -> Result<(), NameWriteFau
 
 fn put_text(bytes: &mut Vec<u8>, text: &str) -> Result<(), NameWriteFault>
     ensures ok { OnOk result (Appends bytes.old.items bytes.new.items (text_parts text.now)) }
-    ensures too_large { IfErr result (λ fault. IfTooLarge fault (number_limit ≤ length text.now)) }
+    ensures too_large { IfErr result (λ fault. IfTooLarge fault (NUMBER_LIMIT ≤ length text.now)) }
 {
     put_length(bytes, text.len())?;
     bytes.extend_from_slice(text.as_bytes())?;
@@ -60,10 +61,10 @@ fn put_text(bytes: &mut Vec<u8>, text: &str) -> Result<(), NameWriteFault>
 
 fn put_length(bytes: &mut Vec<u8>, size: usize) -> Result<(), NameWriteFault>
     ensures ok { OnOk result (Appends bytes.old.items bytes.new.items (Number size ∷ [])) }
-    ensures too_large { IfErr result (λ fault. IfTooLarge fault (number_limit ≤ size)) }
-    ensures refused { number_limit ≤ size → result ≡ Err TooLarge }
+    ensures too_large { IfErr result (λ fault. IfTooLarge fault (NUMBER_LIMIT ≤ size)) }
+    ensures refused { NUMBER_LIMIT ≤ size → result ≡ Err TooLarge }
 {
-    if size >= 4_294_967_296 {
+    if size >= NUMBER_LIMIT {
         return Err(NameWriteFault::TooLarge);
     }
     put_number(bytes, size)?;
@@ -74,11 +75,11 @@ fn put_length(bytes: &mut Vec<u8>, size: usize) -> Result<(), NameWriteFault>
 fn put_number(bytes: &mut Vec<u8>, number: usize) -> Result<(), AllocError>
     ensures { OnOk result (AppendsNumber bytes.old.items bytes.new.items number) }
 {
-    if number < 128 {
+    if number < BASE {
         bytes.push(number as u8)?;
         return Ok(());
     }
-    bytes.push((number % 128 + 128) as u8)?;
-    put_number(bytes, number / 128)?;
+    bytes.push((number % BASE + BASE) as u8)?;
+    put_number(bytes, number / BASE)?;
     Ok(())
 }

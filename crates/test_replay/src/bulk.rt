@@ -44,13 +44,12 @@ fn renew<S: Tested<Key, Value>>(map: &mut Map<S>, call: &Call<'_>, to: &mut Answ
 
 // A map of these pairs replaces the old one.
 fn make<S: Tested<Key, Value>>(map: &mut Map<S>, call: &Call<'_>, to: &mut Answer) -> Made {
-    let (pairs, mut count) = (call.pairs(0)?, Count::new());
-    call.begin();
+    let count = &mut Count::new();
     let made = match call.name {
-        "from_iter" => LiteMap::from_iter(call.alloc, pairs),
-        "from_iter_counted" => LiteMap::from_iter_counted(call.alloc, pairs, &mut count),
+        "from_iter" => LiteMap::from_iter(call.alloc, call.given()?),
+        "from_iter_counted" => LiteMap::from_iter_counted(call.alloc, call.given()?, count),
         "read_results" => {
-            let results = pairs.into_iter().map(|pair| Ok::<_, u8>(pair));
+            let results = call.given()?.into_iter().map(|pair| Ok::<_, u8>(pair));
             read_results(call.alloc, results).map_err(|_| AllocError)
         }
         _ => return None,
@@ -65,11 +64,10 @@ fn make_from_vec<S: Tested<Key, Value>>(
     call: &Call<'_>,
     to: &mut Answer,
 ) -> Made {
-    let (pairs, mut count) = (call.pairs(0)?, Count::new());
-    call.begin();
+    let count = &mut Count::new();
     let made = match call.name {
-        "from_vec" => LiteMap::from_vec(call.alloc, pairs),
-        "from_vec_counted" => LiteMap::from_vec_counted(call.alloc, pairs, &mut count),
+        "from_vec" => LiteMap::from_vec(call.alloc, call.given()?),
+        "from_vec_counted" => LiteMap::from_vec_counted(call.alloc, call.given()?, count),
         _ => return None,
     };
     match made {
@@ -83,11 +81,10 @@ fn make_from_vec<S: Tested<Key, Value>>(
 }
 
 fn extend<S: Tested<Key, Value>>(map: &mut Map<S>, call: &Call<'_>, to: &mut Answer) -> Made {
-    let (pairs, mut count) = (call.pairs(0)?, Count::new());
-    call.begin();
+    let count = &mut Count::new();
     to.room(match call.name {
-        "extend" => map.extend(call.alloc, pairs),
-        "extend_counted" => map.extend_counted(call.alloc, pairs, &mut count),
+        "extend" => map.extend(call.alloc, call.given()?),
+        "extend_counted" => map.extend_counted(call.alloc, call.given()?, count),
         _ => return None,
     });
     Some(())
@@ -99,11 +96,10 @@ fn extend_from_vec<S: Tested<Key, Value>>(
     call: &Call<'_>,
     to: &mut Answer,
 ) -> Made {
-    let (pairs, mut count) = (call.pairs(0)?, Count::new());
-    call.begin();
+    let count = &mut Count::new();
     let extended = match call.name {
-        "extend_from_vec" => map.extend_from_vec(call.alloc, pairs),
-        "extend_from_vec_counted" => map.extend_from_vec_counted(call.alloc, pairs, &mut count),
+        "extend_from_vec" => map.extend_from_vec(call.alloc, call.given()?),
+        "extend_from_vec_counted" => map.extend_from_vec_counted(call.alloc, call.given()?, count),
         _ => return None,
     };
     match extended {
@@ -113,18 +109,26 @@ fn extend_from_vec<S: Tested<Key, Value>>(
     Some(())
 }
 
+/// A map of the given pairs. The call begins after it is made.
+pub fn other<S: Tested<Key, Value>>(call: &Call<'_>) -> Option<Map<S>> {
+    let map = LiteMap::from_vec(call.alloc, call.pairs(0)?).ok()?;
+    call.begin();
+    Some(map)
+}
+
 // The merges with a map of the pairs, or with a clone of the map.
 fn merge<S: Tested<Key, Value>>(map: &mut Map<S>, call: &Call<'_>, to: &mut Answer) -> Made {
-    let pairs = call.pairs(0)?;
-    let other: Map<S> = match call.name {
-        "extend_from_clone" => map.try_clone(call.alloc).ok()?,
-        _ => LiteMap::from_vec(call.alloc, pairs).ok()?,
-    };
-    call.begin();
+    let count = &mut Count::new();
     let merged = match call.name {
-        "extend_from_litemap" | "extend_from_clone" => map.extend_from_litemap(call.alloc, other),
+        "extend_from_clone" => {
+            call.end();
+            let clone = map.try_clone(call.alloc).ok()?;
+            call.begin();
+            map.extend_from_litemap(call.alloc, clone)
+        }
+        "extend_from_litemap" => map.extend_from_litemap(call.alloc, other(call)?),
         "extend_from_litemap_counted" => {
-            map.extend_from_litemap_counted(call.alloc, other, &mut Count::new())
+            map.extend_from_litemap_counted(call.alloc, other(call)?, count)
         }
         _ => return None,
     };
@@ -153,15 +157,13 @@ fn combine<S: Tested<Key, Value>>(map: &mut Map<S>, call: &Call<'_>, to: &mut An
     if !call.name.starts_with("extend_with") {
         return None;
     }
-    let pairs = call.pairs(0)?;
-    let other: Map<S> = LiteMap::from_vec(call.alloc, pairs).ok()?;
+    let other: Map<S> = other(call)?;
     let times = Cell::new(0u64);
     let add = |key: &Key, here: &Value, new: &mut Value| {
         times.set(times.get().wrapping_add(1));
         let more = here.number().wrapping_mul(3).wrapping_add(key.code() % 7);
         new.write(new.number().wrapping_add(more));
     };
-    call.begin();
     show_merged(
         match call.name {
             "extend_with" => map.extend_with(call.alloc, other, add),
@@ -179,18 +181,18 @@ fn combine<S: Tested<Key, Value>>(map: &mut Map<S>, call: &Call<'_>, to: &mut An
 
 // The calls that go through another map, over two columns, beside this one.
 fn go_beside<S: Tested<Key, Value>>(map: &mut Map<S>, call: &Call<'_>, to: &mut Answer) -> Made {
-    let pairs = call.pairs(0)?;
-    let other: Map<ColumnStore<Key, Value>> = LiteMap::from_vec(call.alloc, pairs).ok()?;
-    call.begin();
+    let count = &mut Count::new();
     match call.name {
-        "is_subset" => to.show(map.is_subset(&other)),
-        "is_subset_counted" => to.show(map.is_subset_counted(&other, &mut Count::new())),
+        "is_subset" => to.show(map.is_subset(&other::<ColumnStore<_, _>>(call)?)),
+        "is_subset_counted" => {
+            to.show(map.is_subset_counted(&other::<ColumnStore<_, _>>(call)?, count));
+        }
         "keep_keys_of" => {
-            map.keep_keys_of(&other);
+            map.keep_keys_of(&other::<ColumnStore<_, _>>(call)?);
             to.word("ok");
         }
         "remove_keys_of" => {
-            map.remove_keys_of(&other);
+            map.remove_keys_of(&other::<ColumnStore<_, _>>(call)?);
             to.word("ok");
         }
         _ => return None,
@@ -213,6 +215,9 @@ fn split_off<S: Tested<Key, Value>>(map: &mut Map<S>, call: &Call<'_>, to: &mut 
 // What a source gives replaces the map, or is put into it. The first word is how many pairs the source promises, or `-`; the
 // second one is after how many pairs it has an error, or `-`.
 fn read<S: Tested<Key, Value>>(map: &mut Map<S>, call: &Call<'_>, to: &mut Answer) -> Made {
+    if call.name != "read_pairs" && call.name != "extend_from_source" {
+        return None;
+    }
     let (hint, error) = (call.size(0), call.size(1));
     let mut source = Script {
         rest: call.pairs(2)?.into_iter(),
@@ -229,8 +234,7 @@ fn read<S: Tested<Key, Value>>(map: &mut Map<S>, call: &Call<'_>, to: &mut Answe
             }
             Err(fault) => Err(fault),
         },
-        "extend_from_source" => extend_from_source(call.alloc, map, &mut source),
-        _ => return None,
+        _ => extend_from_source(call.alloc, map, &mut source),
     };
     match outcome {
         Ok(()) => to.word("ok"),

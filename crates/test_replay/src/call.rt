@@ -114,6 +114,13 @@ impl<'w> Call<'w> {
         }
     }
 
+    /// The pairs that all words spell. The call begins after them.
+    pub fn given(&self) -> Option<Vec<Pair>> {
+        let pairs = self.pairs(0)?;
+        self.begin();
+        Some(pairs)
+    }
+
     /// The pairs that the words from an index on spell: `KEY:VALUE`, or `FIRST,COUNT,STEP` for as many keys from the first one
     /// on by steps, each with its index as its value. They are made before the call begins.
     pub fn pairs(&self, place: usize) -> Option<Vec<Pair>> {

@@ -57,16 +57,17 @@ fn make_where_absent<S: StoreMut<Key, Value>>(
     call: &Call<'_>,
     to: &mut Answer,
 ) -> Made {
+    let (kind, end) = call.name.strip_prefix("try_")?.split_once("_or_")?;
     let (key, value) = call.pair(0)?;
-    let made = if call.name.ends_with("_insert") {
+    let made = if end == "insert" {
         Ok(value)
     } else {
         Err(value)
     };
     let mut times = 0u64;
-    match call.name {
-        "try_get_or_insert" | "try_get_or_fail" => try_get(map, key, made, &mut times, to),
-        "try_find_or_insert" | "try_find_or_fail" => try_find(map, key, made, &mut times, to),
+    match kind {
+        "get" => try_get(map, key, made, &mut times, to),
+        "find" => try_find(map, key, made, &mut times, to),
         _ => return None,
     }
     to.word("asked");
@@ -151,28 +152,29 @@ fn write_slot(slot: Option<&mut Value>, number: u64, to: &mut Answer) {
 }
 
 fn take<S: StoreMut<Key, Value>>(map: &mut Map<S>, call: &Call<'_>, to: &mut Answer) -> Made {
-    let key = call.key(0)?;
     match call.name {
-        "remove" => to.some(map.remove(&key)),
-        "remove_counted" => to.some(map.remove_counted(&key, &mut Count::new())),
-        "remove_by" => to.some(map.remove_by(|there| there.cmp(&key))),
-        "remove_entry" => to.taken(map.remove_entry(&key)),
+        "remove" => to.some(map.remove(&call.key(0)?)),
+        "remove_counted" => to.some(map.remove_counted(&call.key(0)?, &mut Count::new())),
+        "remove_by" => {
+            let key = call.key(0)?;
+            to.some(map.remove_by(|there| there.cmp(&key)));
+        }
+        "remove_entry" => to.taken(map.remove_entry(&call.key(0)?)),
         _ => return None,
     }
     Some(())
 }
 
-// The calls that move a value to another key.
 /// Renames a key, which a store that keeps its memory has, if the name is one.
 pub fn rename<S: KeepsMemory<Key, Value>>(
     map: &mut Map<S>,
     call: &Call<'_>,
     to: &mut Answer,
 ) -> Made {
-    let (key, new_key) = (call.key(0)?, call.key(1)?);
+    let count = &mut Count::new();
     match call.name {
-        "rename" => to.show(map.rename(&key, new_key)),
-        "rename_counted" => to.show(map.rename_counted(&key, new_key, &mut Count::new())),
+        "rename" => to.show(map.rename(&call.key(0)?, call.key(1)?)),
+        "rename_counted" => to.show(map.rename_counted(&call.key(0)?, call.key(1)?, count)),
         _ => return None,
     }
     Some(())

@@ -1,5 +1,6 @@
 //! Calls that make another map of a map's pairs, or compare two maps.
 use crate::answer::{Answer, Pairs};
+use crate::bulk::other;
 use crate::call::{Call, Made, Map};
 use crate::counted::{Key, Order, Value};
 use crate::tested::Tested;
@@ -87,14 +88,11 @@ fn keyed<S: Store<Key, Value>>(map: &Map<S>, alloc: Global) -> Result<Pairs, All
 
 /// Compares a map with one of the given pairs, if the name is such a call. `hash`: whether both are hashed alike.
 pub fn compare<S: Tested<Key, Value>>(map: &Map<S>, call: &Call<'_>, to: &mut Answer) -> Made {
-    let pairs = call.pairs(0)?;
-    let other: Map<S> = LiteMap::from_vec(call.alloc, pairs).ok()?;
-    call.begin();
     match call.name {
-        "eq" => to.show(*map == other),
-        "hash" => to.show(hash_of(map) == hash_of(&other)),
-        "cmp" => to.word(word_of(map.cmp(&other))),
-        "partial_cmp" => to.word(map.partial_cmp(&other).map_or("none", word_of)),
+        "eq" => to.show(*map == other(call)?),
+        "hash" => to.show(hash_of(map) == hash_of(&other::<S>(call)?)),
+        "cmp" => to.word(word_of(map.cmp(&other(call)?))),
+        "partial_cmp" => to.word(map.partial_cmp(&other(call)?).map_or("none", word_of)),
         _ => return None,
     }
     Some(())

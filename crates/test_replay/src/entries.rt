@@ -24,16 +24,15 @@ pub fn enter<S: StoreMut<Key, Value>>(map: &mut Map<S>, call: &Call<'_>, to: &mu
 }
 
 fn one_key<S: StoreMut<Key, Value>>(map: &mut Map<S>, call: &Call<'_>, to: &mut Answer) -> Made {
-    let key = call.key(0)?;
     match call.name {
-        "entry" => show_kind(&map.entry(key), to),
-        "entry_debug" => to.show(map.entry(key)),
-        "or_default" => show_lent!(map.entry(key).or_default(), to),
-        "entry_get" => match map.entry(key) {
+        "entry" => show_kind(&map.entry(call.key(0)?), to),
+        "entry_debug" => to.show(map.entry(call.key(0)?)),
+        "or_default" => show_lent!(map.entry(call.key(0)?).or_default(), to),
+        "entry_get" => match map.entry(call.key(0)?) {
             Entry::Occupied(entry) => to.show(entry.get()),
             Entry::Vacant(_entry) => to.word("vacant"),
         },
-        "entry_remove" => match map.entry(key) {
+        "entry_remove" => match map.entry(call.key(0)?) {
             Entry::Occupied(entry) => to.show(entry.remove()),
             Entry::Vacant(_entry) => to.word("vacant"),
         },

@@ -32,17 +32,22 @@ fn with_no_key<S: Store<Key, Value>>(map: &Map<S>, call: &Call<'_>, to: &mut Ans
 }
 
 fn by_key<S: Store<Key, Value>>(map: &Map<S>, call: &Call<'_>, to: &mut Answer) -> Made {
-    let key = call.key(0)?;
-    let mut count = Count::new();
+    let count = &mut Count::new();
     match call.name {
-        "get" => to.some(map.get(&key)),
-        "get_counted" => to.some(map.get_counted(&key, &mut count)),
-        "get_key_value" => to.pair_or_none(map.get_key_value(&key)),
-        "get_by" => to.some(map.get_by(|there| there.cmp(&key))),
-        "contains_key" => to.show(map.contains_key(&key)),
-        "find_index" => to.index(map.find_index(&key)),
-        "find_index_counted" => to.index(map.find_index_counted(&key, &mut count)),
-        "find_index_by" => to.index(map.find_index_by(|there| there.cmp(&key))),
+        "get" => to.some(map.get(&call.key(0)?)),
+        "get_counted" => to.some(map.get_counted(&call.key(0)?, count)),
+        "get_key_value" => to.pair_or_none(map.get_key_value(&call.key(0)?)),
+        "contains_key" => to.show(map.contains_key(&call.key(0)?)),
+        "find_index" => to.index(map.find_index(&call.key(0)?)),
+        "find_index_counted" => to.index(map.find_index_counted(&call.key(0)?, count)),
+        "get_by" => {
+            let key = call.key(0)?;
+            to.some(map.get_by(|there| there.cmp(&key)));
+        }
+        "find_index_by" => {
+            let key = call.key(0)?;
+            to.index(map.find_index_by(|there| there.cmp(&key)));
+        }
         _ => return None,
     }
     Some(())
@@ -50,10 +55,10 @@ fn by_key<S: Store<Key, Value>>(map: &Map<S>, call: &Call<'_>, to: &mut Answer) 
 
 // `index`, if the key is there. What tells that is no part of the call.
 fn index<S: Store<Key, Value>>(map: &Map<S>, call: &Call<'_>, to: &mut Answer) -> Made {
-    let key = call.key(0)?;
     if call.name != "index" {
         return None;
     }
+    let key = call.key(0)?;
     if map.contains_key(&key) {
         call.begin();
         to.show(map.index(&key));
@@ -63,8 +68,13 @@ fn index<S: Store<Key, Value>>(map: &Map<S>, call: &Call<'_>, to: &mut Answer) -
     Some(())
 }
 
+const BETWEEN: [&str; 3] = ["iter_range", "places", "places_counted"];
+
 // Calls whose words are a bound of either end and their keys. `iter_range` gives its last pair, and then the others.
 fn bounds<S: Store<Key, Value>>(map: &Map<S>, call: &Call<'_>, to: &mut Answer) -> Made {
+    if !BETWEEN.contains(&call.name) {
+        return None;
+    }
     let (first, last) = (call.key(1), call.key(3));
     let (from, till) = (call.bound(0, &first)?, call.bound(2, &last)?);
     if call.name == "iter_range" {
@@ -76,10 +86,10 @@ fn bounds<S: Store<Key, Value>>(map: &Map<S>, call: &Call<'_>, to: &mut Answer) 
         to.show(pairs);
         return Some(());
     }
-    let places = match call.name {
-        "places" => map.places(from, till),
-        "places_counted" => map.places_counted(from, till, &mut Count::new()),
-        _ => return None,
+    let places = if call.name == "places" {
+        map.places(from, till)
+    } else {
+        map.places_counted(from, till, &mut Count::new())
     };
     to.show(places.start);
     to.show(places.end);

@@ -120,11 +120,10 @@ fn renew<S: Tested<Key, Value>>(store: &mut S, call: &Call<'_>, to: &mut Answer)
 
 // A store of these pairs replaces the old one.
 fn make<S: Tested<Key, Value>>(store: &mut S, call: &Call<'_>, to: &mut Answer) -> Made {
-    let (pairs, mut count) = (call.pairs(0)?, Count::new());
-    call.begin();
+    let count = &mut Count::new();
     let made = match call.name {
-        "lm_sort_from_iter" => S::lm_sort_from_iter(call.alloc, pairs, &mut count),
-        "lm_from_pairs" => S::lm_from_pairs(call.alloc, pairs),
+        "lm_sort_from_iter" => S::lm_sort_from_iter(call.alloc, call.given()?, count),
+        "lm_from_pairs" => S::lm_from_pairs(call.alloc, call.given()?),
         _ => return None,
     };
     to.made(store, made);
@@ -133,29 +132,26 @@ fn make<S: Tested<Key, Value>>(store: &mut S, call: &Call<'_>, to: &mut Answer) 
 
 // A call with many pairs of a store that is sorted.
 fn extend<S: Tested<Key, Value>>(store: &mut S, call: &Call<'_>, to: &mut Answer) -> Made {
-    let (pairs, mut count) = (call.pairs(0)?, Count::new());
     if call.name != "lm_extend" || !LiteMap::is_sorted_store(&*store) {
         return None;
     }
-    call.begin();
+    let (pairs, mut count) = (call.given()?, Count::new());
     to.room(store.lm_extend(call.alloc, pairs, &mut count));
     Some(())
 }
 
 // A call that takes its pairs out of a vector. What the vector has after it stands behind its answer.
 fn take_vec<S: Tested<Key, Value>>(store: &mut S, call: &Call<'_>, to: &mut Answer) -> Made {
-    let (mut pairs, mut count) = (call.pairs(0)?, Count::new());
-    let is_sorted = LiteMap::is_sorted_store(&*store);
-    call.begin();
-    match call.name {
-        "lm_sort_from_vec" => {
-            let made = S::lm_sort_from_vec(call.alloc, &mut pairs, &mut count);
-            to.made(store, made);
-        }
-        "lm_extend_from_vec" if is_sorted => {
-            to.room(store.lm_extend_from_vec(call.alloc, &mut pairs, &mut count));
-        }
-        _ => return None,
+    let is_extended = call.name == "lm_extend_from_vec" && LiteMap::is_sorted_store(&*store);
+    if call.name != "lm_sort_from_vec" && !is_extended {
+        return None;
+    }
+    let (mut pairs, mut count) = (call.given()?, Count::new());
+    if is_extended {
+        to.room(store.lm_extend_from_vec(call.alloc, &mut pairs, &mut count));
+    } else {
+        let made = S::lm_sort_from_vec(call.alloc, &mut pairs, &mut count);
+        to.made(store, made);
     }
     if !pairs.is_empty() {
         to.show(Pairs::of_slice(pairs.as_slice()));
@@ -165,13 +161,14 @@ fn take_vec<S: Tested<Key, Value>>(store: &mut S, call: &Call<'_>, to: &mut Answ
 
 // A call with another store, of these pairs in their order.
 fn join<S: Tested<Key, Value>>(store: &mut S, call: &Call<'_>, to: &mut Answer) -> Made {
-    let pairs = call.pairs(0)?;
-    let other = S::lm_from_pairs(call.alloc, pairs).ok()?;
+    if call.name != "lm_extend_end" && call.name != "lm_extend_start" {
+        return None;
+    }
+    let other = S::lm_from_pairs(call.alloc, call.pairs(0)?).ok()?;
     call.begin();
     let outcome = match call.name {
         "lm_extend_end" => store.lm_extend_end(other),
-        "lm_extend_start" => store.lm_extend_start(other),
-        _ => return None,
+        _ => store.lm_extend_start(other),
     };
     match outcome {
         Ok(()) => to.word("ok"),

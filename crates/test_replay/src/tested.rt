@@ -1,14 +1,10 @@
 //! The stores, and the maps and stores that lines begin with.
 use crate::call::{Call, Map};
 use crate::counted::{Key, Value};
-use example_store::fixed_room::FixedRoom;
-use example_store::shrinking::Shrinking;
 use litemap::LiteMap;
 use litemap::store::{
     StoreBulkMut, StoreConstEmpty, StoreFromIterable, StoreFromIterator, StoreIntoIterator,
 };
-use litemap_columns::ColumnStore;
-use litemap_short::ShortStore;
 use std::alloc::AllocError;
 
 /// A store whose calls, and those of a map over it, are made.
@@ -18,15 +14,14 @@ pub trait Tested<K: Ord + Drop, V: Drop>: StoreConstEmpty<K, V>
     + StoreFromIterator<K, V>
     + StoreIntoIterator<K, V> {}
 
-impl<K: Ord + Drop, V: Drop> Tested<K, V> for Vec<(K, V)> {}
-
-impl<K: Ord + Drop, V: Drop> Tested<K, V> for ShortStore<K, V> {}
-
-impl<K: Ord + Drop, V: Drop> Tested<K, V> for ColumnStore<K, V> {}
-
-impl<K: Ord + Drop, V: Drop> Tested<K, V> for FixedRoom<K, V> {}
-
-impl<K: Ord + Drop, V: Drop> Tested<K, V> for Shrinking<K, V> {}
+impl<K: Ord + Drop, V: Drop, S> Tested<K, V> for S
+where
+    S: StoreConstEmpty<K, V>
+        + StoreBulkMut<K, V>
+        + StoreFromIterable<K, V>
+        + StoreFromIterator<K, V>
+        + StoreIntoIterator<K, V>,
+{}
 
 /// A map of so many pairs, `2:20`, `4:40` and so on, made with room for so many.
 pub fn map_of<S: Tested<Key, Value>>(

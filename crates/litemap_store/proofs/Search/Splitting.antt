@@ -16,7 +16,7 @@ use Rattle.litemap_store.specs.Queries.{OneSide}
 use Rattle.litemap_store.specs.Search.{Ascends, Finds}
 use Rattle.litemap_store.specs.Splits.{IsFoundAt, Splits}
 use Rattle.litemap_store.proofs.Lists.Membership.{In-from_filter, each, from_each}
-use Rattle.litemap_store.proofs.Lists.Seams.{each-set_value, found_there, found_within, set_value-suc}
+use Rattle.litemap_store.proofs.Lists.Seams.{each-set_value, found_there, set_value-suc}
 use Rattle.litemap_store.proofs.Lists.Places.{AllPairs-from_Rising}
 
 -- ---- an ordering by its test

@@ -75,7 +75,7 @@ returns-clause-read g c =
     let o = g.met.K.Ord.total in
     record {
       given = seen;
-      gives_it = rw append-nil at (before.seen.1 [] ((next.1.0 []).0 next.2));
+      gives = rw append-nil at (before.seen.1 [] ((next.1.0 []).0 next.2));
       last = Last-sifted o seen c.loop-key.map.pairs c.loop-key.aside.items c.extend_from_vec.new.self.pairs before.seen.2
           c.in_ok-extend_from_vec.ensures.last;
     }

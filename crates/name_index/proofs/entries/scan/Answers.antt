@@ -5,7 +5,7 @@ use Rattle.name_index.proofs.Scanning.{ascends, asked_one, scanned_found, scanne
 use Rattle.name_index.proofs.entries.scan.Goals as goal
 
 pub loop-index-init : goal.loop-index-init
-loop-index-init c = scanned_start c.args.entries.now c.args.key.now c.args.size _ c.requires
+loop-index-init c = scanned_start c.args.entries.now c.args.key.now c.args.len _ c.requires
 
 pub read_valid_pair-requires : goal.read_valid_pair-requires
 read_valid_pair-requires c = walked_begins c.loop-index.invariant.walked (omega arith)
@@ -25,7 +25,7 @@ returns-in-Greater c =
     let pairs = inv.walked.these.pairs in
     let e = walked_pair inv.walked (omega arith) (pair.0.now, pair.1.now) _ c.read_valid_pair.ensures in
     let n = Narrowed-greater (to_key c.args.key.now) pairs (ascends pairs c.args.key.now inv.walked.these.rises) _ _ c.loop-index.index _ _ e inv.narrowed (sym c.cmp.ensures.answer ∙ c.in-Greater.is) in
-    let s = scanned_missing pairs c.args.key.now inv.walked.these.rises c.loop-index.index c.loop-index.index (omega arith) (omega (arith, inv.walked.these.count_is)) n in
+    let s = scanned_missing pairs c.args.key.now inv.walked.these.rises c.loop-index.index c.loop-index.index (omega arith) (omega (arith, inv.walked.these.left.len_is)) n in
     (inv.walked.these, (s, in_turn c.loop-index.index 1 _ (omega (arith, s.place)) inv.asked (asked_one c.cmp.ensures.same c.cmp.ensures.counted)))
 
 pub loop-index-preserved : goal.loop-index-preserved
@@ -44,6 +44,6 @@ pub returns : goal.returns
 returns c =
     let inv = c.loop-index.invariant in
     let pairs = inv.walked.these.pairs in
-    let end : c.loop-index.index ≡ c.args.size = omega arith in
-    let s = scanned_missing pairs c.args.key.now inv.walked.these.rises c.args.size (length pairs) (omega (arith, inv.walked.these.count_is)) (omega (arith, inv.walked.these.count_is)) (rw (← end) inv.narrowed) in
+    let end : c.loop-index.index ≡ c.args.len = omega arith in
+    let s = scanned_missing pairs c.args.key.now inv.walked.these.rises c.args.len (length pairs) (omega (arith, inv.walked.these.left.len_is)) (omega (arith, inv.walked.these.left.len_is)) (rw (← end) inv.narrowed) in
     (inv.walked.these, (s, at_most c.loop-index.index _ (omega (arith, s.place, end)) inv.asked))

@@ -1,7 +1,8 @@
 use Rattle.std.proofs.Common.{◌≡◌, ◌<◌, map, take}
-use Rattle.name_table.specs.Numbers.{number_limit}
+use Rattle.name_table.specs.declared.number.TheConstants.{NUMBER_LIMIT}
 use Rattle.name_table.specs.Remaining.{shown}
-use Rattle.name_index.specs.Writes.{AreOffsets, entries_size}
+use Rattle.name_index.specs.Steps.{AreOffsets}
+use Rattle.name_index.specs.Writes.{entries_size}
 use Rattle.name_index.proofs.index_write.put_offsets.Given as goal
 
 -- the offsets of the first pairs are written, and the next one is known
@@ -9,5 +10,5 @@ abbrev pub invariant-loop-pair : goal.invariant-loop-pair
 invariant-loop-pair l = record {
   offsets : AreOffsets l.bytes.items (map shown l.pairs) l.pair-index;
   offset_is : l.offset ≡ entries_size (take l.pair-index (map shown l.pairs));
-  small : l.offset < number_limit;
+  small : l.offset < NUMBER_LIMIT;
 }

@@ -3,4 +3,4 @@ use Rattle.name_index.proofs.offsets.offsets_of.Given as goal
 
 -- the offsets so far, and the next entry begins at the rest
 abbrev pub invariant-loop : goal.invariant-loop
-invariant-loop l = Noted l.entries l.count l.offsets.items l.rest l.counter
+invariant-loop l = Noted l.entries l.len l.offsets.items l.rest l.counter

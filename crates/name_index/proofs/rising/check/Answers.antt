@@ -9,13 +9,15 @@ returns-then-not-is_above-clause-fault c =
     let inv = c.loop-key.invariant in
     let n = rw c.in-Some.is at c.in_ok-key.ensures.read in (
       c.loop-key.names,
-      inv.to,
+      inv.pairs,
+      inv.read,
+      inv.rises,
       (
         c.next_pair.new.self,
         (c.in-Some.key.now, c.in-Some.field-0-1.now),
         n,
         c.place-at.ensures,
-        above_false c.loop-key.last inv.to.on.pairs (c.in-Some.key.now, c.in-Some.field-0-1.now) c.is_above.result inv.last_is c.is_above.ensures.first c.is_above.ensures.later c.if-not-is_above.true,
+        above_false c.loop-key.last inv.pairs (c.in-Some.key.now, c.in-Some.field-0-1.now) c.is_above.result inv.last_is c.is_above.ensures.first c.is_above.ensures.later c.if-not-is_above.true,
       ),
     )
 

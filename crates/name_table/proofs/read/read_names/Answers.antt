@@ -1,5 +1,5 @@
 use Rattle.std.proofs.lemmas.Result.{err_from_is_err_and}
-use Rattle.name_table.proofs.WholeTables.{count_fault, pairs_fault, if_source_weaker, whole_table}
+use Rattle.name_table.proofs.WholeTables.{count_fault, unread, whole_table}
 use Rattle.name_table.proofs.read.read_names.Goals as goal
 
 pub returns-in-Err-clause-fault : goal.returns-in-Err-clause-fault
@@ -9,10 +9,10 @@ pub returns-in_err-map-clause-fault : goal.returns-in_err-map-clause-fault
 returns-in_err-map-clause-fault c =
     let p = err_from_is_err_and c.from_residual.result c.from_residual.ensures.1 in
     rw (p.1, p.2)
-    (if_source_weaker c.in_err-map.field-0.0 (λ f w. pairs_fault c.args.bytes.now c.in-Ok.names f c.in-Ok.ensures.ok w) c.in_err-map.ensures.asked.fault)
+    (unread c.args.bytes.now c.in-Ok.names c.in_err-map.field-0.0 c.in-Ok.ensures.ok c.in_err-map.ensures.asked.fault c.in_err-map.ensures.asked.refused_some)
 
 pub returns-clause-read : goal.returns-clause-read
 returns-clause-read c =
     let r = c.in_ok-map.ensures in
-    let w = whole_table c.args.bytes.now c.in-Ok.names c.read_pairs.new.source r.read.given c.in-Ok.ensures.ok r.read.gives_it r.asked.ends r.asked.empty r.asked.leads in
+    let w = whole_table c.args.bytes.now c.in-Ok.names c.read_pairs.new.source r.read.given c.in-Ok.ensures.ok r.read.gives r.asked.ends r.asked.empty r.asked.leads.0 r.asked.leads.1 in
     rw c.place.ensures (record { pairs = r.read.given; rest = w.rest; table = w.table; size_is = w.size_is; last = r.read.last })

@@ -6,7 +6,7 @@ use Rattle.name_index.proofs.index.NameIndex.get_indexed.Goals as goal
 pub returns-then-index-len : goal.returns-then-index-len
 returns-then-index-len c =
     rw (← c.self.view_is)
-    (of_indexed _ _ _ _ c.self.invariant refl (λ p. sym (slice_get_past p.these.pairs c.args.index (omega (arith, p.these.count_is)))))
+    (of_indexed _ _ _ _ c.self.invariant refl (λ p. sym (slice_get_past p.these.pairs c.args.index (omega (arith, p.these.left.len_is)))))
 
 pub returns : goal.returns
 returns c = rw (← c.self.view_is) (of_indexed _ _ _ _ c.self.invariant c.as_slice.ensures.value (λ p. sym (c.pair_of.ensures p)))

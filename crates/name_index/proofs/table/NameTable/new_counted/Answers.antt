@@ -13,4 +13,4 @@ pub returns-clause-cost : goal.returns-clause-cost
 returns-clause-cost c =
     let s = c.in_ok-names.names in
     let o = parts c.args.bytes.now s.rest s c.in_ok-names.ensures.ok refl c.in_ok-check.ensures.ok in
-    (o.these.pairs, rising_table _ _ _ o, at_most (s.left - 1) (length o.these.pairs - 1) (omega (arith, o.these.count_is)) c.in_ok-check.ensures.cost)
+    (o.these.pairs, rising_table _ _ _ o, at_most (s.left - 1) (length o.these.pairs - 1) (omega (arith, o.these.left.len_is)) c.in_ok-check.ensures.cost)

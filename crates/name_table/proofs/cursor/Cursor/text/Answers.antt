@@ -13,7 +13,7 @@ returns-in_err-size-clause-err c =
 pub returns-then-size-tail-clause-err : goal.returns-then-size-tail-clause-err
 returns-then-size-tail-clause-err c =
     let b = rw (sym c.tail.view_is) at c.in_ok-size.ensures.ok in
-    text_fault c.args.self.now.rest c.tail.inside.rest.now c.args.self.now.place c.tail.inside.place c.in_ok-size.size _ b.spelled b.place (refl, c.if-size-tail.true)
+    text_fault c.args.self.now.rest c.tail.inside.rest.now c.args.self.now.place c.tail.inside.place c.in_ok-size.size _ b.spelled b.place (λ text l. (refl, omega (arith, l, c.if-size-tail.true)))
 
 pub returns-in-Ok-clause-ok : goal.returns-in-Ok-clause-ok
 returns-in-Ok-clause-ok c =
@@ -27,4 +27,4 @@ pub returns-in-Err-clause-err : goal.returns-in-Err-clause-err
 returns-in-Err-clause-err c =
     let b = rw (sym c.tail.view_is) at c.in_ok-size.ensures.ok in
     text_fault c.args.self.now.rest c.tail.inside.rest.now c.args.self.now.place c.tail.inside.place c.in_ok-size.size _ b.spelled b.place
-    (refl, omega (arith, c.if-size-tail.false), λ u. c.in-Err.ensures.cases.0 (rw c.split_at.ensures.front u))
+    (λ text l. (refl, omega (arith, l, c.if-size-tail.false), λ u. c.in-Err.ensures.cases.0 (rw c.split_at.ensures.front (rw l at u))))

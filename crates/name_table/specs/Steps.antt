@@ -1,0 +1,35 @@
+-- What the steps of reading and writing do. Only private contracts cite these.
+use Rattle.std.specs.Prelude.{◌≡◌, ℕ, ◌<◌, ◌≤◌, ◌^◌, List, ◌++◌, length}
+use Rattle.name_table.specs.Numbers.{EndsAtLast, GoesOn, value_of}
+use Rattle.name_table.specs.Parts.{Part}
+use Rattle.name_table.specs.Writes.{IsShortest}
+use Rattle.name_table.specs.declared.number.Unread.{Unread}
+use Rattle.name_table.specs.declared.number.Unread.TheVariants.{Ends, TooLong}
+
+-- the bytes begin with those of the number, however large, and the rest comes after them
+pub record BeginsNumber (bytes : List ℕ) (room n : ℕ) (rest : List ℕ) : Type 0 where
+  pub front : List ℕ
+  pub split : bytes ≡ front ++ rest
+  pub ends : EndsAtLast front
+  pub value : value_of front ≡ n
+  pub short : length front ≤ room
+
+-- the bytes end within a number of at most so many bytes, or it would go on past these
+abbrev pub WhyUnread : Unread → ℕ → List ℕ → Type 0
+WhyUnread Ends room bytes = GoesOn bytes × (length bytes < room)
+WhyUnread TooLong room bytes = (front : List ℕ) × (rest : List ℕ) × (bytes ≡ front ++ rest) × GoesOn front × (length front ≡ room)
+
+-- new is old with a shortest spelling of the parts after it
+pub record Appends (old new : List ℕ) (parts : List Part) : Type 0 where
+  pub bytes : List ℕ
+  pub appended : new ≡ old ++ bytes
+  pub shortest : IsShortest bytes parts
+
+-- the same of a number, however large
+pub record AppendsNumber (old new : List ℕ) (n : ℕ) : Type 0 where
+  pub bytes : List ℕ
+  pub appended : new ≡ old ++ bytes
+  pub ends : EndsAtLast bytes
+  pub value : value_of bytes ≡ n
+  pub fewest : (other : List ℕ) → EndsAtLast other → value_of other ≡ n → length bytes ≤ length other
+  pub short : (room : ℕ) → 0 < room → n < 128 ^ room → length bytes ≤ room
