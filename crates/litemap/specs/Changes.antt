@@ -52,5 +52,6 @@ module _ {K V : Type 0} (cmp : K → K → Ordering) where
     pub room_kept : IsSome (at cmp before.pairs key) → after.room ≡ before.room
 
   -- the map `other` is merged into the map `before`, which is then `after`
-  abbrev pub IsMergedInto : (other before after : Contents K V) → Result (Option (Contents K V)) (NoRoom (Contents K V)) → Type 0
+  abbrev pub IsMergedInto : (other before after : Contents K V)
+      (result : Result (Option (Contents K V)) (NoRoom (Contents K V))) → Type 0
   IsMergedInto = MergesInto cmp (λ m. m.pairs) (λ m. m.room)

@@ -109,7 +109,7 @@ impl From<WriteFault> for io::Error {
     }
 }
 
-/// The same for a map that was not read.
+/// Lets `?` return it in a function that returns an `io::Result`. The index is dropped.
 impl From<JsonFault> for io::Error {
     ghost use Rattle.std.specs.Prelude.{◌≡◌};
     ghost use Rattle.std.specs.IoError.{error_kind};

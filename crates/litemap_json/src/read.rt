@@ -16,15 +16,15 @@ use serde_json::{Map, Value};
 use std::alloc::Global;
 
 /// Reads the map that a JSON value spells, and returns it. The value is an object, whose names have to be texts of keys, or an
-/// array, whose elements have to be arrays of exactly a key and an item. The last pair of each key stays, its key included, in
-/// the order that the value holds, and the others are dropped. The Rust crate has serde's `Deserialize` here.
+/// array, whose elements have to be arrays of exactly a key and an item. Of equal keys the pair that comes last in the value stays,
+/// with its own key, and the others are dropped. The Rust crate has serde's `Deserialize` here.
 ///
 /// All pairs are gathered before a map is made, and moved into it by `from_vec`: if the keys ascend, that is one
 /// comparison for each, else a sort.
 ///
 /// # Errors
 ///
-/// The error is that of the first index that spells no pair. If memory runs out, it is `Memory`, which may come in place of an
+/// A value that is no object and no array is `NotAMap`. Else the error is that of the first index that spells no pair. If memory runs out, it is `Memory`, which may come in place of an
 /// error at the same or a later index.
 ///
 /// ```rust
@@ -100,6 +100,7 @@ fn read_row<K: JsonKey + Drop, V: JsonItem + Drop>(
     }
 }
 
+// Returns the error of the map for that of its key at an index. If it isn't `Memory`, it is `Key` of that error.
 fn key_fault(place: usize, fault: ItemFault) -> JsonFault
     ensures { result ≢ reading.Memory → (fault ≢ of_item.Memory) × (result ≡ reading.Key place fault) }
 {

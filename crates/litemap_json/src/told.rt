@@ -132,6 +132,7 @@ fn write_kind<W: Write>(f: &mut Formatter<W>, value: &Value) -> fmt::Result {
     }
 }
 
+// Which kind a value is that is no number.
 fn kind(value: &Value) -> &'static str {
     if value.is_string() {
         "a text"

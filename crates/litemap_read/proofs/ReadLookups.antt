@@ -1,6 +1,6 @@
 -- What is read from a source that gives one list: lemmas for the proofs of callers.
 --       Last-read      its last pairs;  value_at-read      a key finds its last value
--- If `gives` is an equation, `only` is shown by `λ L h. h`.
+-- If `Gives` is an equation, `only` is shown by `λ L h. h`.
 use Rattle.std.proofs.Common.{◌≡◌, List, [], ap, option_map, reverse, subst}
 use Rattle.std.specs.Cmp.{IsTotalOrder}
 use Rattle.std.specs.declared.cmp.Ordering.{Ordering}
@@ -9,8 +9,8 @@ use Rattle.litemap_store.specs.Pairs.{value_at}
 use Rattle.litemap_store.proofs.Callers.LastLookups.{at-Last}
 use Rattle.litemap_read.specs.Source.{IsGathered}
 
-module _ {S K V : Type 0} {cmp : K → K → Ordering} (gives : S → List (K × V) → Type 0) (s : S) (J M : List (K × V))
-    (only : (L : List (K × V)) → gives s L → L ≡ J) (r : IsGathered cmp (gives s) [] M) where
+module _ {K V : Type 0} {cmp : K → K → Ordering} (Gives : List (K × V) → Type 0) (J M : List (K × V))
+    (only : (L : List (K × V)) → Gives L → L ≡ J) (r : IsGathered cmp Gives [] M) where
   pub Last-read : Last cmp J M
   Last-read = subst (λ L. Last cmp L M) (only r.given r.gives) r.last
 

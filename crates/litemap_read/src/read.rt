@@ -55,7 +55,7 @@ pub fn read_pairs<K: Ord + Drop, V: Drop, S: StoreBulkMut<K, V>, P: PairSource<K
     Ok(map)
 }
 
-/// Extends a map by the pairs that a source gives up to its end (own). The last pair of each key stays, its key included, and
+/// Extends a map by the pairs that a source gives until its end (own). The last pair of each key stays, its key included, and
 /// the others are dropped. Old pairs count as earlier than new ones. It compares and moves as `extend_from_vec` does.
 ///
 /// # Errors
@@ -109,7 +109,7 @@ pub fn read_results<
     Ok(map)
 }
 
-// The pairs that a source gives up to its end.
+// Returns the pairs that a source gives until its end, or its error.
 fn drain<K: Drop, V: Drop, P: PairSource<K, V>>(
     alloc: Global,
     source: &mut P,

@@ -8,7 +8,6 @@ use Rattle.std.specs.declared.cmp.Ordering.TheVariants.{Less}
 use Rattle.litemap_store.specs.Counts.{RisesByAtMost}
 use Rattle.litemap_store.specs.Pairs.{Rising}
 use Rattle.litemap_store.specs.declared.count.Count.{Count}
-use Rattle.litemap_store.proofs.Stores.Counting.{not_asked}
 use Rattle.litemap_store.proofs.Lists.Parts.{Less-from_Rising}
 use Rattle.litemap_store.specs.Search.{Ascends}
 use Rattle.name_index.specs.Index.{BeginsAt, IsEntry, IsIndex, IsNumberAt, IsPairAt, IsTextAt, NoIndex}

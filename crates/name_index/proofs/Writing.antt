@@ -2,7 +2,7 @@
 use Rattle.std.proofs.Common.{◌≡◌, ℕ, ◌+◌, ◌*◌, ◌<◌, ◌≤◌, List, [], ◌∷◌, ◌++◌, length, take, drop, map, get_or, slice_get, Some, refl, sym, ap, ◌∙◌, arith, append_assoc, length-append, inl, inr}
 use Rattle.std.specs.Int.{from_le_bytes, w32}
 use Rattle.std.proofs.Math.Nat.{eq-or-lt_of_le}
-use Rattle.std.proofs.lemmas.List.{drop-append-le, length-drop, length-take, take-append-le, take_all, length-map}
+use Rattle.std.proofs.lemmas.List.{drop-append-le, length-drop, length-take, take-append-le, length-map}
 use Rattle.std.proofs.lemmas.List.Sums.{sum_by-cons, sum_by-take-le, sum_by_more}
 use Rattle.std.specs.Option.{option_map}
 use Rattle.std.proofs.lemmas.Option.{get_or_from_slice_get, slice_get-get_or, slice_get-map, slice_get_within}
@@ -58,8 +58,6 @@ text_kept old new size at text a p = record {
 pub pair_kept : (old new : List ℕ) (size at : ℕ) (pair : List ℕ × List ℕ) → Adds old new size → IsPairAt old at pair → IsPairAt new at pair
 pair_kept old new size at pair a p =
     (text_kept old new size at pair.0 a p.0, text_kept old new size (at + 4 + length pair.0) pair.1 a p.1)
-
--- ---- what is written stands at the end
 
 -- ---- the first pairs, and one more
 
@@ -141,11 +139,6 @@ module _ (pairs : List (Bor (List ℕ) × Bor (List ℕ))) (index : ℕ) (d : Bo
 pub place_next : (pairs : List (Bor (List ℕ) × Bor (List ℕ))) (index : ℕ) (d : Bor (List ℕ) × Bor (List ℕ)) (place next : ℕ) → index < length pairs → place ≡ entries_size (take index (map shown pairs)) → next ≡ place + pair_size (shown (get_or pairs index d)) → next ≡ entries_size (take (index + 1) (map shown pairs))
 place_next pairs index d place next l e n =
     n ∙ ap (λ k. k + pair_size (shown (get_or pairs index d))) e ∙ sym (size_more (map shown pairs) index (shown (get_or pairs index d)) (shown_at pairs index d l))
-
-pub all_small : (pairs : List (Bor (List ℕ) × Bor (List ℕ))) (index place : ℕ) → index ≡ length pairs → place ≡ entries_size (take index (map shown pairs)) → place < NUMBER_LIMIT → entries_size (map shown pairs) < NUMBER_LIMIT
-all_small pairs index place i e h =
-    let a : take index (map shown pairs) ≡ map shown pairs = take_all index (map shown pairs) (omega (arith, i, length-map pairs shown)) in
-    omega (arith, h, e, ap entries_size a)
 
 pub shown_written : (old new : List ℕ) (pairs : List (Bor (List ℕ) × Bor (List ℕ))) → AreOffsets old (map shown pairs) (length pairs) → AddsPairs old new (map shown pairs) (length pairs) → Rising by_bytes pairs → IsIndex new (map shown pairs)
 shown_written old new pairs p a rises =

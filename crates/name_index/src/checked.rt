@@ -45,7 +45,8 @@ impl<'a> IndexedNames<'a> {
         Self::open_checked_counted(bytes, &mut Count::new())
     }
 
-    /// `open_checked`, counting its comparisons.
+    /// `open_checked`, counting its comparisons: at most one for each key but the first. If it returns an error, nothing is promised
+    /// of them.
     pub fn open_checked_counted(
         bytes: &'a [u8],
         count: &mut Count,

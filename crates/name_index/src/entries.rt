@@ -32,7 +32,8 @@ pub fn read_valid_pair(bytes: &[u8]) -> ((&str, &str), &[u8])
     ((key, value), rest)
 }
 
-/// Returns the index of the key among so many entries, with its value, or else the index where it would go.
+/// Reads `len` entries up to the first key that isn't below `key`. Returns `Ok` with its index and value if it is equal, or else
+/// `Err` with the index where `key` would go.
 pub fn scan<'a>(
     entries: &'a [u8],
     len: usize,

@@ -77,7 +77,9 @@ impl<'a> NameIndex<'a> {
         self.len() == 0
     }
 
-    /// Returns the value of a key, or `None` if it isn't there. It makes O(log n) comparisons.
+    /// Returns the value of a key, or `None` if it isn't there. It makes O(log n) comparisons for n entries.
+    ///
+    /// The value is borrowed from the bytes of the table, and outlives the index.
     pub fn get(&self, key: &str) -> Option<&'a str>
         ensures { OfTable self.now (λ pairs. option_copied result ≡ value_at text_order pairs key.now) }
     {

@@ -23,7 +23,7 @@ pub fn number_at(bytes: &[u8], at: usize) -> Result<usize, IndexFault>
     }
 }
 
-// The string at an offset, after the number of its bytes.
+// Returns the string whose length stands at an offset, in front of it, or an error if there is none.
 fn text_at(bytes: &[u8], at: usize) -> Result<&str, IndexFault>
     ensures text { IfOk result (λ text. IsTextAt bytes.now at text.now) }
     ensures fault { IfErr result (λ _. (text : _) → IsTextAt bytes.now at text → ⊥) }

@@ -42,10 +42,7 @@ impl<'a> NameEntries<'a> {
         requires { AreEntries entries.now len }
         ensures { OfEntries entries.now len (λ pairs. result ≡ pairs) }
     {
-        NameEntries {
-            rest: entries,
-            len,
-        }
+        NameEntries { rest: entries, len }
     }
 }
 

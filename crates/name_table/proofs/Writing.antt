@@ -6,8 +6,8 @@ use Rattle.std.specs.Prelude.{IsUtf8}
 use Rattle.name_table.specs.Numbers.{value_of, EndsAtLast, IsNumber}
 use Rattle.name_table.specs.Parts.{Part, Number, Text, text_parts, pair_parts}
 use Rattle.name_table.specs.ReadOn.{AreParts-append, pair_parts-append}
-use Rattle.name_table.specs.Steps.{Appends, AppendsNumber}
-use Rattle.name_table.specs.Writes.{IfTooLarge, IsShortest, NoTable}
+use Rattle.name_table.specs.Steps.{Appends, AppendsNumber, NoTable}
+use Rattle.name_table.specs.Writes.{IfTooLarge, IsShortest}
 use Rattle.name_table.specs.declared.fault.NameWriteFault.{NameWriteFault}
 use Rattle.name_table.specs.declared.fault.NameWriteFault.TheVariants.{NoRoom, TooLarge}
 use Rattle.name_table.specs.declared.number.TheConstants.{NUMBER_LIMIT}

@@ -1,8 +1,9 @@
 -- Which error a table has: that of the first part that can't be read, at the offset where it begins.
 use Rattle.std.specs.Prelude.{◌≡◌, ℕ, ◌+◌, ◌<◌, ◌≤◌, List, [], ◌∷◌, ◌++◌, length, take, IsUtf8}
+use Rattle.std.specs.List.{AllByRecursion}
 use Rattle.litemap_read.specs.declared.source.ReadFault.{ReadFault}
 use Rattle.litemap_read.specs.declared.source.ReadFault.TheVariants.{NoRoom, Source}
-use Rattle.name_table.specs.Numbers.{GoesOn, IsTooLarge}
+use Rattle.name_table.specs.Numbers.{IsTooLarge}
 use Rattle.name_table.specs.Parts.{Part, Number, Text, AreParts, Begins, text_parts, pair_parts, table_parts}
 use Rattle.name_table.specs.Remaining.{Remaining}
 use Rattle.name_table.specs.declared.fault.NameFault.{NameFault}
@@ -12,7 +13,8 @@ use Rattle.name_table.specs.declared.number.TheConstants.{MOST_BYTES}
 -- the bytes, which stand at the offset, don't begin with a part of the kind that is due there: a number, or a string of so many
 -- bytes
 abbrev pub PartFault : Part → List ℕ → ℕ → NameFault → Type 0
-PartFault (Number n) bytes place (Truncated at) = (at ≡ place) × GoesOn bytes × (length bytes < MOST_BYTES)
+PartFault (Number n) bytes place (Truncated at) =
+    (at ≡ place) × AllByRecursion (λ b. 128 ≤ b) bytes × (length bytes < MOST_BYTES)
 PartFault (Number n) bytes place (NumberTooLarge at) = (at ≡ place) × IsTooLarge bytes
 PartFault (Text text) bytes place (Truncated at) = (at ≡ place) × (length bytes < length text)
 PartFault (Text text) bytes place (NotUtf8 at) =
@@ -55,7 +57,7 @@ NextFault s fault = (0 < s.left) × Fault (AreOfPairs 1) s.rest s.place fault
 abbrev pub TableFault : List ℕ → NameFault → Type 0
 TableFault bytes fault = Fault (λ parts. (pairs : List (List ℕ × List ℕ)) × (parts ≡ table_parts pairs)) bytes 0 fault
 
--- why no map is read: a number of pairs begins the bytes that isn't 0, and memory runs out; or no table begins them
+-- why no map is read: memory runs out, and the bytes begin with a number of pairs above 0; or no table begins them
 abbrev pub IsUnread : List ℕ → ReadFault NameFault → Type 0
 IsUnread bytes NoRoom = (n : ℕ) × (rest : List ℕ) × Begins bytes (Number n ∷ []) rest × (0 < n)
 IsUnread bytes (Source fault) = TableFault bytes fault

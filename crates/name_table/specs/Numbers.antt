@@ -8,10 +8,6 @@ abbrev pub value_of : List ℕ → ℕ
 value_of [] = 0
 value_of (b ∷ bytes) = b % 128 + 128 * value_of bytes
 
--- the high bit is set on all bytes: a number that they begin goes on
-abbrev pub GoesOn : List ℕ → Type 0
-GoesOn bytes = AllByRecursion (λ b. 128 ≤ b) bytes
-
 -- the high bit is set on all bytes but the last
 abbrev pub EndsAtLast : List ℕ → Type 0
 EndsAtLast [] = ⊥
@@ -30,5 +26,5 @@ pub record IsTooLarge (bytes : List ℕ) : Type 0 where
   pub front : List ℕ
   pub rest : List ℕ
   pub split : bytes ≡ front ++ rest
-  pub large : (GoesOn front × (length front ≡ MOST_BYTES))
+  pub large : (AllByRecursion (λ b. 128 ≤ b) front × (length front ≡ MOST_BYTES))
       ⊎ (EndsAtLast front × (length front ≤ MOST_BYTES) × (NUMBER_LIMIT ≤ value_of front))

@@ -1,10 +1,15 @@
 -- What the steps of reading and writing do. Only private contracts cite these.
 use Rattle.std.specs.Prelude.{◌≡◌, ℕ, ◌<◌, ◌≤◌, ◌^◌, List, ◌++◌, length}
-use Rattle.name_table.specs.Numbers.{EndsAtLast, GoesOn, value_of}
-use Rattle.name_table.specs.Parts.{Part}
+use Rattle.std.specs.List.{AllByRecursion}
+use Rattle.name_table.specs.Numbers.{EndsAtLast, value_of}
+use Rattle.name_table.specs.Parts.{AreParts, Part, table_parts}
 use Rattle.name_table.specs.Writes.{IsShortest}
 use Rattle.name_table.specs.declared.number.Unread.{Unread}
 use Rattle.name_table.specs.declared.number.Unread.TheVariants.{Ends, TooLong}
+
+-- the high bit is set on all bytes: a number that they begin goes on
+abbrev pub GoesOn : List ℕ → Type 0
+GoesOn bytes = AllByRecursion (λ b. 128 ≤ b) bytes
 
 -- the bytes begin with those of the number, however large, and the rest comes after them
 pub record BeginsNumber (bytes : List ℕ) (room n : ℕ) (rest : List ℕ) : Type 0 where
@@ -18,6 +23,10 @@ pub record BeginsNumber (bytes : List ℕ) (room n : ℕ) (rest : List ℕ) : Ty
 abbrev pub WhyUnread : Unread → ℕ → List ℕ → Type 0
 WhyUnread Ends room bytes = GoesOn bytes × (length bytes < room)
 WhyUnread TooLong room bytes = (front : List ℕ) × (rest : List ℕ) × (bytes ≡ front ++ rest) × GoesOn front × (length front ≡ room)
+
+-- no bytes are a table of the pairs
+abbrev pub NoTable : List (List ℕ × List ℕ) → Type 0
+NoTable pairs = (bytes : List ℕ) → AreParts bytes (table_parts pairs) → ⊥
 
 -- new is old with a shortest spelling of the parts after it
 pub record Appends (old new : List ℕ) (parts : List Part) : Type 0 where

@@ -1,7 +1,7 @@
 -- What is written for a table, and that it is read again.
 use Rattle.std.specs.Prelude.{◌≡◌, ℕ, ◌≤◌, List, length, map, ⊤}
 use Rattle.name_table.specs.Faults.{TableFault}
-use Rattle.name_table.specs.Parts.{Part, AreParts, IsTable}
+use Rattle.name_table.specs.Parts.{Part, AreParts}
 use Rattle.name_table.specs.Reads.{IsRead}
 use Rattle.name_table.specs.Remaining.{shown}
 use Rattle.name_table.specs.declared.fault.NameFault.{NameFault}
@@ -19,10 +19,6 @@ pub record IsReadAgain (bytes : List ℕ) (pairs : List (Bor (List ℕ) × Bor (
   pub same : (M : List (Bor (List ℕ) × Bor (List ℕ))) (size : ℕ) → IsRead bytes M size
       → (map shown M ≡ map shown pairs) × (size ≡ length bytes)
   pub no_fault : (fault : NameFault) → TableFault bytes fault → ⊥
-
--- no bytes are a table of the pairs
-abbrev pub NoTable : List (List ℕ × List ℕ) → Type 0
-NoTable pairs = (bytes : List ℕ) → IsTable bytes pairs → ⊥
 
 -- if a number was too large, P holds
 abbrev pub IfTooLarge : NameWriteFault → Type 0 → Type 0

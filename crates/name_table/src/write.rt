@@ -1,10 +1,10 @@
 //! Name tables written from maps.
-ghost use Rattle.std.specs.Prelude.{◌≡◌, Err, IfErr, IfOk, OnOk, ◌∷◌, [], ◌≤◌, length, map};
-ghost use Rattle.name_table.specs.Parts.{Number, pair_parts, table_parts, text_parts};
+ghost use Rattle.std.specs.Prelude.{◌≡◌, ℕ, Err, IfErr, IfOk, List, OnOk, ◌∷◌, [], ◌≤◌, length, map};
+ghost use Rattle.name_table.specs.Parts.{AreParts, Number, pair_parts, table_parts, text_parts};
 ghost use Rattle.name_table.specs.Remaining.{shown};
 ghost use Rattle.name_table.specs.declared.fault.NameWriteFault.TheVariants.{TooLarge};
-ghost use Rattle.name_table.specs.Steps.{Appends, AppendsNumber};
-ghost use Rattle.name_table.specs.Writes.{IfTooLarge, IsReadAgain, IsShortest, NoTable};
+ghost use Rattle.name_table.specs.Steps.{Appends, AppendsNumber, NoTable};
+ghost use Rattle.name_table.specs.Writes.{IfTooLarge, IsReadAgain, IsShortest};
 
 use crate::fault::NameWriteFault;
 use crate::number::{BASE, NUMBER_LIMIT};
@@ -23,7 +23,8 @@ use std::alloc::{AllocError, Global};
 pub fn write_names(alloc: Global, names: &NameMap<'_>) -> Result<Vec<u8>, NameWriteFault>
     ensures table { IfOk result (λ bytes. IsShortest bytes.items (table_parts (map shown names.now.pairs))) }
     ensures read_again { IfOk result (λ bytes. IsReadAgain bytes.items names.now.pairs) }
-    ensures too_large { IfErr result (λ fault. IfTooLarge fault (NoTable (map shown names.now.pairs))) }
+    ensures too_large { IfErr result (λ fault. IfTooLarge fault
+        ((bytes : List ℕ) → AreParts bytes (table_parts (map shown names.now.pairs)) → ⊥)) }
 {
     let bytes = write_pairs(alloc, names.as_slice())?;
     Ok(bytes)
@@ -41,6 +42,7 @@ fn write_pairs(alloc: Global, pairs: &[(&str, &str)]) -> Result<Vec<u8>, NameWri
     Ok(bytes)
 }
 
+// Appends a key and its value, each after its length. `TooLarge` comes only of a string that is too long.
 fn put_pair(bytes: &mut Vec<u8>, pair: &(&str, &str)) -> Result<(), NameWriteFault>
     ensures ok { OnOk result (Appends bytes.old.items bytes.new.items (pair_parts (shown pair.now ∷ []))) }
     ensures too_large { IfErr result (λ fault. IfTooLarge fault (NoTable (shown pair.now ∷ []))) }

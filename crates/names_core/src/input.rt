@@ -43,6 +43,7 @@ pub fn read_input<R: Read>(reader: &mut Watch<R>, input: &mut Vec<u8>) -> InputE
     InputEnd::TooLong
 }
 
+// Makes one read. Returns how reading ended, or `None` if it got at least a byte.
 fn read_some<R: Read>(reader: &mut Watch<R>, input: &mut Vec<u8>) -> Option<InputEnd>
     requires { vec_len input.old ≤ MOST_BYTES }
     ensures consumed { (more : List ℕ) × (input.new.items ≡ input.old.items ++ more)

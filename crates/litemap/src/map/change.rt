@@ -204,8 +204,8 @@ impl<K: Ord + Drop, V, S: StoreMut<K, V>> LiteMap<K, V, S> {
 
     /// Moves the value at a key to another key, and returns whether the first key was present (own).
     ///
-    /// The first key is dropped. If the other key was present, it stays, and its old value is dropped. If the first key was
-    /// absent, nothing changes.
+    /// The first key is dropped. If the other key was present, it stays, and its old value is dropped; if both keys are equal,
+    /// the new one takes the place of the old. If the first key was absent, nothing changes.
     ///
     /// It is `remove`, which leaves room for a pair, and then `insert`: so it never fails, and makes the comparisons and moves
     /// of both.

@@ -80,7 +80,8 @@ impl<K: Ord + Drop, V: Drop, S: StoreIntoIterator<K, V> + Drop> LiteMap<K, V, S>
     /// Merges another map into this one, and returns what it displaced, as `extend_from_litemap` does; for a common key, `f`
     /// may change the new value first (own).
     ///
-    /// `f` is called on the other map's key, this map's value and the new value.
+    /// `f` is called on the other map's key, this map's value and the new value. For a common key the other map's key comes back
+    /// with this map's old value.
     ///
     /// It makes one search for each pair of the other map, and then merges. If memory runs out, the map keeps its pairs, and
     /// the error returns the other map with what `f` wrote: to merge that by `extend_from_litemap` completes the call.

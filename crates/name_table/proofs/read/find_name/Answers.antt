@@ -1,4 +1,3 @@
-use Rattle.std.proofs.Common.{ap}
 use Rattle.name_table.proofs.Found.{none_found, pair_found}
 use Rattle.name_table.proofs.read.find_name.Goals as goal
 
