@@ -1,13 +1,15 @@
 // Loaded before the C library into a program of tests: counts the requests for memory of each call, and refuses one of them.
 //
 // The program makes a request of BEGIN bytes before each call, one of END bytes after it, and one of IDLE bytes once all that
-// the call was given and left is dropped. Then a line of three numbers goes to standard error: the requests between the first
-// two (up to the third, if there is no second), their bytes, and how many blocks are held. With REFUSE=N in the environment the
-// Nth request of each call is refused. With WHOLE in it the run of a program that makes no such requests is one call, and the
-// numbers follow its end.
+// the call was given and left is dropped. Then a line of four numbers goes to standard error: the requests between the first
+// two (up to the third, if there is no second), their bytes, how many blocks are held, and how many bytes more were held after
+// the call than before it (0, if there is no second). With REFUSE=N in the environment the Nth request of each call is refused.
+// With WHOLE in it the run of a program that makes no such requests is one call, and the numbers follow its end.
+//
+// Before each block stand where it begins for the C library, and its size.
 typedef unsigned long size_t;
 
-enum { BEGIN = 1000003, END = 1000033, IDLE = 1000063 };
+enum { BEGIN = 1000003, END = 1000033, IDLE = 1000063, HEAD = 2 * sizeof(size_t) };
 
 void *__libc_malloc(size_t size);
 void *__libc_calloc(size_t many, size_t size);
@@ -18,7 +20,7 @@ char *getenv(const char *name);
 long atol(const char *text);
 int dprintf(int file, const char *format, ...);
 
-static long is_counting, requests, bytes, held, refused = -1;
+static long is_counting, requests, bytes, held, bytes_held, before, more, refused = -1;
 
 // Whether a request is refused; it is counted, or tells where a call begins or ends.
 static int refuses(size_t size) {
@@ -29,11 +31,13 @@ static int refuses(size_t size) {
     }
     if (size == BEGIN) {
         is_counting = 1;
-        requests = bytes = 0;
+        requests = bytes = more = 0;
+        before = bytes_held;
     } else if (size == END) {
+        more = is_counting ? bytes_held - before : more;
         is_counting = 0;
     } else if (size == IDLE) {
-        dprintf(2, "%ld %ld %ld\n", requests, bytes, held);
+        dprintf(2, "%ld %ld %ld %ld\n", requests, bytes, held, more);
     } else if (is_counting) {
         requests++;
         bytes += size;
@@ -44,45 +48,66 @@ static int refuses(size_t size) {
 
 __attribute__((destructor)) static void end(void) {
     if (getenv("WHOLE")) {
-        dprintf(2, "%ld %ld %ld\n", requests, bytes, held);
+        dprintf(2, "%ld %ld %ld %ld\n", requests, bytes, held, more);
     }
 }
 
-static void *counted(void *block) {
-    held += block != 0;
+// The block of `size` bytes behind the `head` ones that begin where the C library says.
+static void *counted(void *begin, size_t head, size_t size) {
+    if (begin == 0) {
+        return 0;
+    }
+    size_t *block = (size_t *)((char *)begin + head);
+    block[-2] = head;
+    block[-1] = size;
+    held++;
+    bytes_held += size;
     return block;
 }
 
+static void *given_back(void *block) {
+    size_t *sizes = block;
+    held--;
+    bytes_held -= sizes[-1];
+    return (char *)block - sizes[-2];
+}
+
 void *malloc(size_t size) {
-    return refuses(size) ? 0 : counted(__libc_malloc(size));
+    return refuses(size) ? 0 : counted(__libc_malloc(size + HEAD), HEAD, size);
 }
 
 void *calloc(size_t many, size_t size) {
-    return refuses(many * size) ? 0 : counted(__libc_calloc(many, size));
+    size_t bytes;
+    if (__builtin_mul_overflow(many, size, &bytes) || refuses(bytes)) {
+        return 0;
+    }
+    return counted(__libc_calloc(1, bytes + HEAD), HEAD, bytes);
 }
 
 void *aligned_alloc(size_t alignment, size_t size) {
-    return refuses(size) ? 0 : counted(__libc_memalign(alignment, size));
+    size_t head = alignment > HEAD ? alignment : HEAD;
+    return refuses(size) ? 0 : counted(__libc_memalign(head, size + head), head, size);
 }
 
 int posix_memalign(void **block, size_t alignment, size_t size) {
-    if (refuses(size)) {
-        return 12;
-    }
-    *block = counted(__libc_memalign(alignment, size));
+    *block = aligned_alloc(alignment, size);
     return *block == 0 ? 12 : 0;
 }
 
 void *realloc(void *block, size_t size) {
+    if (block == 0) {
+        return malloc(size);
+    }
     if (refuses(size)) {
         return 0;
     }
-    void *grown = __libc_realloc(block, size);
-    held += block == 0 && grown != 0;
-    return grown;
+    size_t head = ((size_t *)block)[-2], old = ((size_t *)block)[-1];
+    void *begin = given_back(block), *grown = __libc_realloc(begin, size + head);
+    return grown ? counted(grown, head, size) : (counted(begin, head, old), (void *)0);
 }
 
 void free(void *block) {
-    held -= block != 0;
-    __libc_free(block);
+    if (block != 0) {
+        __libc_free(given_back(block));
+    }
 }

@@ -6,6 +6,7 @@ answers, the pairs after it, and how often it compares two keys at most. Nothing
 """
 import bisect
 import collections
+import functools
 import itertools
 import pathlib
 import re
@@ -23,6 +24,11 @@ ALL = GROWING + " fixed"
 def digits(number):
     """How often a search compares at most."""
     return number.bit_length()
+
+
+def sorting(number):
+    """How often pairs that don't ascend are compared at most, until they do. No contract says it."""
+    return number + 3 * number * digits(number)
 
 
 def summed(total, text):
@@ -127,6 +133,8 @@ class Model:
         """The pairs that words spell."""
         pairs = []
         for word in words:
+            if word.startswith("room="):
+                continue
             if ":" in word:
                 key, value = word.split(":")
                 pairs.append((key, int(value)))
@@ -179,6 +187,13 @@ class Model:
             return "ok"
         if name == "debug":
             return "{" + ", ".join(f"{key}: {value}" for key, value in self.pairs) + "}"
+        if name == "debug_lines":
+            return " ".join(["{", *(f"    {key}: {value}," for key, value in self.pairs), "}"]) if size else "{}"
+        if name == "lm_debug":
+            return "[" + ", ".join(f"({key}, {value})" for key, value in self.pairs) + "]"
+        if name == "lm_debug_lines":
+            parts = [f"    (         {key},         {value},     )," for key, value in self.pairs]
+            return " ".join(["[", *parts, "]"]) if size else "[]"
         if name in ("as_slice",):
             return self.text(self.pairs)
         if name == "as_sliced":
@@ -260,9 +275,10 @@ class Model:
             return None
         key, value = words[0], int(words[1]) if len(words) > 1 else 0
         place, there = self.place(key)
-        if name == "entry_debug":
+        if name in ("entry_debug", "entry_debug_lines"):
             stored, old = self.pairs[place] if there else (key, 0)
-            return (f"OccupiedEntry {{ key: {stored}, value: {old} }}" if there else f"VacantEntry {{ key: {key} }}"), search
+            text = f"OccupiedEntry {{ key: {stored}, value: {old} }}" if there else f"VacantEntry {{ key: {key} }}"
+            return (re.sub(r"(\w+: \w+),?", r"    \1,", text) if name == "entry_debug_lines" else text), search
         if "_then_" in name:
             return self.enter_twice(name, place, there, value), search
         if name == "entry":
@@ -362,7 +378,7 @@ class Model:
             return self.text(part(name[5:], pair) for pair in pairs) + " exact"
         if name in CONVERSIONS:
             cloned = len(self.pairs) * CONVERSIONS[name]
-            return f"{self.text(self.pairs)} cloned {cloned}"
+            return f"{'in order ' * (name == 'to_keys_by')}{self.text(self.pairs)} cloned {cloned}"
         if name == "lm_try_clone":
             return self.text(self.pairs)
         return None
@@ -376,9 +392,9 @@ class Model:
         return " ".join(answers)
 
     def cost(self, pairs):
-        """How often bulk input is compared at most: None where it has to be sorted."""
+        """How often bulk input is compared at most."""
         if not self.rises(pairs):
-            return None
+            return len(self.pairs) + sorting(len(pairs))
         above = not self.pairs or not pairs or self.order.rank(self.pairs[-1][0]) < self.order.rank(pairs[0][0])
         return len(pairs) if above else len(self.pairs) + 2 * len(pairs)
 
@@ -411,14 +427,20 @@ class Model:
             return self.text(later), search
         if name in RUNS:
             return self.run(words)
+        if name.startswith("grow_"):
+            count, step = map(int, words)
+            keys = sorted(place * step % 10007 for place in range(count))
+            return self.text((str(key), 0 if "_set_" in name else key) for key in keys)
         pairs = self.given(words)
         if name in (*MAKES, "read_results", "lm_sort_from_iter", "lm_sort_from_vec"):
-            cost = len(pairs) if self.rises(pairs) else None
+            cost = len(pairs) if self.rises(pairs) else sorting(len(pairs))
             self.pairs = self.last(pairs)
             return "ok", cost
         if name == "lm_from_pairs":
             self.pairs = pairs
             return "ok"
+        if name == "insert_each":
+            return self.insert_each(pairs)
         if name in EXTENSIONS:
             return self.extend(name, pairs)
         if name == "extend_from_clone":
@@ -444,6 +466,11 @@ class Model:
         self.pairs.insert(index, (words[0], int(words[1])))
         return "ok"
 
+    def insert_each(self, pairs):
+        size, fresh = len(self.pairs), len({self.order.rank(key) for key, _ in self.pairs + pairs}) - len(self.pairs)
+        self.pairs = self.last(self.pairs + pairs)
+        return str(fresh), sum(digits(size + place) for place in range(len(pairs)))
+
     def extend(self, name, pairs):
         cost = self.cost(pairs)
         fresh = self.last(pairs)
@@ -467,10 +494,11 @@ class Model:
 
     def combined(self, pairs):
         """The pairs, with the values of common keys combined."""
-        here, new = {self.order.rank(key): value for key, value in self.pairs}, []
+        here, new, asked = {self.order.rank(key): value for key, value in self.pairs}, [], 0
         for key, value in pairs:
             if self.order.rank(key) in here:
-                value += 3 * here[self.order.rank(key)] + self.order.code(key) % 7
+                value += 3 * here[self.order.rank(key)] + self.order.code(key) % 7 + 1000 * asked
+                asked += 1
             new.append((key, value))
         return new
 
@@ -485,7 +513,9 @@ class Model:
         found, old = [self.order.rank(key) in theirs for key, _ in self.pairs], len(self.pairs)
         cost = old + len(pairs) - sum(found)
         if name.startswith("is_subset"):
-            return ("true" if all(found) else "false"), cost
+            # it ends at the first key that the other one lacks
+            own = self.order.rank(self.pairs[found.index(False) if not all(found) else -1][0]) if old else None
+            return ("true" if all(found) else "false"), 1 + sum(rank < own for rank in theirs) if old else 0
         self.pairs = [pair for pair, there in zip(self.pairs, found) if there == (name == "keep_keys_of")]
         self.freed(old - len(self.pairs))
         return "ok", cost
@@ -493,9 +523,9 @@ class Model:
     def read(self, name, words):
         pairs, error = self.given(words[2:]), None if words[1] == "-" else int(words[1])
         if error is not None and error <= len(pairs):
-            return f"error {error + 1} asked {error + 1}", None
+            return f"error {error + 1} asked {error + 1}", max(error - 1, 0)
         start = self.pairs if name == "extend_from_source" else []
-        cost = self.cost(pairs) if start else len(pairs) if self.rises(pairs) else None
+        cost = self.cost(pairs) if start else len(pairs) if self.rises(pairs) else sorting(len(pairs))
         self.pairs = self.last(start + pairs)
         return f"ok asked {len(pairs) + 1}", cost
 
@@ -543,7 +573,9 @@ class Model:
     def compare(self, name, other):
         mine = [(self.order.rank(key), value) for key, value in self.pairs]
         theirs = [(self.order.rank(key), value) for key, value in other]
-        most = min(len(mine), len(theirs))
+        # they end at the first difference
+        same = sum(1 for _ in itertools.takewhile(lambda pair: pair[0] == pair[1], zip(mine, theirs)))
+        most = min(same + 1, len(mine), len(theirs))
         if name == "hash":
             return "true" if mine == theirs else "false"
         if name == "eq":
@@ -556,7 +588,7 @@ LOOK_UPS |= {"get", "get_counted", "get_by", "index", "get_mut", "get_mut_by", "
 PUTS = ["insert", "insert_counted", "try_insert", "try_append", "try_get_or_insert", "try_find_or_insert"]
 PUTS += ["try_get_or_fail", "try_find_or_fail"]
 ENTRIES = ["or_insert", "or_insert_with", "and_modify", "entry_insert", "entry_get_mut", "entry_into_mut"]
-ENTRIES += ["or_default", "entry", "entry_get", "entry_remove", "entry_debug"]
+ENTRIES += ["or_default", "entry", "entry_get", "entry_remove", "entry_debug", "entry_debug_lines"]
 TWICE = [f"entry_{first}_then_{last}" for first in ("insert", "get_mut") for last in ("remove", "into_mut")]
 EXTENSIONS = ["extend", "extend_counted", "extend_from_vec", "extend_from_vec_counted", "lm_extend", "lm_extend_from_vec"]
 # How many clones each conversion makes of a pair.
@@ -580,6 +612,7 @@ def line(model, call, mark=""):
     return f"{mark}{call} = {answer} | {after} | {'*' if cost is None else cost}"
 
 
+@functools.cache
 def first_pairs(length):
     """The pairs with which a line begins."""
     return [(str(2 * place), 20 * place) for place in range(1, length + 1)]
@@ -602,14 +635,26 @@ def chain(stores, calls, order="number", room=None, is_fixed=False):
         yield line(model, call, "+ " if place else "")
 
 
+# Of the lengths past nine those at which the second key and the last but one are taken too, with the gaps beside them.
+WITH_SECOND = (12, 33)
+
+
 def present(length):
-    """The first key, the middle one and the last one."""
-    return sorted({2, length // 2 * 2 + 2 * (length % 2), 2 * length} - {0}) if length else []
+    """The first key, the middle one and the last one, and perhaps those next to the ends."""
+    more = {4, 2 * length - 2} if length in WITH_SECOND else set()
+    return sorted({2, length // 2 * 2 + 2 * (length % 2), 2 * length} - {0} | more) if length else []
 
 
 def absent(length):
-    """A key below all, two between others, and one above all."""
-    return sorted({1, length // 2 * 2 + 1, max(2 * length - 1, 1), 2 * length + 1})
+    """A key below all, two between others, and one above all, and perhaps those next to the ends."""
+    more = {3, 2 * length - 3} if length in WITH_SECOND else set()
+    return sorted({1, length // 2 * 2 + 1, max(2 * length - 1, 1), 2 * length + 1} | more)
+
+
+def indices(length):
+    """The first index, the middle one and the last one, and perhaps those next to the ends."""
+    more = {1, length - 2} if length in WITH_SECOND else set()
+    return sorted({0, length // 2, max(length - 1, 0)} | more)
 
 
 def keys(length):
@@ -620,19 +665,20 @@ def keys(length):
 def looks():
     """What changes nothing, by keys, indices and bounds."""
     for length in LENGTHS + [3000]:
-        indices = sorted({0, length // 2, max(length - 1, 0), length, length + 1, 2**64 - 1})
+        ends = [*indices(length), length, length + 1, 2**64 - 1]
         calls = ["len", "is_empty", "first", "last", "keys_rise"] + (["debug"] if length <= 1000 else [])
-        calls += [f"get_indexed {index}" for index in indices]
+        calls += ["debug_lines"] if length <= 129 else []
+        calls += [f"get_indexed {index}" for index in ends]
         calls += [f"{name} {key}" for name in LOOK_KEYS for key in keys(length)]
         some = [1, *present(length), 2 * length + 1]
-        ends = [(low, high) for low in ("in", "out", "-") for high in ("in", "out", "-")]
+        bounds = [(low, high) for low in ("in", "out", "-") for high in ("in", "out", "-")]
         pairs = [(first, last) for first in some for last in some]
-        calls += [f"places {low} {first} {high} {last}" for low, high in ends for first, last in pairs]
-        calls += [f"places_counted {low} {some[0]} {high} {some[-1]}" for low, high in ends]
-        calls += [f"iter_range {low} {first} {high} {last}" for low, high in ends for first, last in pairs[1::8]]
+        calls += [f"places {low} {first} {high} {last}" for low, high in bounds for first, last in pairs]
+        calls += [f"places_counted {low} {some[0]} {high} {some[-1]}" for low, high in bounds]
+        calls += [f"iter_range {low} {first} {high} {last}" for low, high in bounds for first, last in pairs[1::8]]
         yield from block(ALL, length, 1, calls)
-        parts = [f"get_indexed_range {start} {end}" for start in indices for end in indices]
-        parts += [f"range {low} {first} {high} {last}" for low, high in ends for first, last in pairs[::3]]
+        parts = [f"get_indexed_range {start} {end}" for start in ends for end in ends]
+        parts += [f"range {low} {first} {high} {last}" for low, high in bounds for first, last in pairs[::3]]
         yield from block(SLICED, length, 1, ["as_slice", "as_sliced", *parts])
         yield from block("vec", length, 1, ["into_tuple_vec"])
 
@@ -664,11 +710,10 @@ def walks():
 def changes():
     """What places, writes or takes out one pair, or goes over all."""
     for length in LENGTHS + [3000]:
-        indices = sorted({0, length // 2, max(length - 1, 0), length, 2**64 - 1})
         calls = [f"{name} {key} 7" for name in PUTS + ENTRIES[:6] for key in keys(length)]
         calls += [f"{name} {key}" for name in ENTRIES[6:] for key in keys(length)]
         writes = [f"{name} {key} 7" for name in ("get_mut", "get_mut_by", "index_mut") for key in keys(length)]
-        writes += [f"get_indexed_mut {index} 7" for index in indices]
+        writes += [f"get_indexed_mut {index} 7" for index in (*indices(length), length, 2**64 - 1)]
         writes += [f"{name} {key}" for name in TAKES for key in keys(length)]
         writes += ["pop_first", "pop_last", "clear", "update 5", "reserve 0", "reserve 1"]
         writes += [f"retain {bits}" for bits in RETAINED]
@@ -702,10 +747,21 @@ def inputs(length):
     yield "5,9,0"
 
 
+def astray(length):
+    """Many pairs above all others that ascend, but for the last one, the first or the second."""
+    low = 2 * length + 1
+    for count in (10, 40):
+        high = low + 2 * count
+        yield f"{low},{count - 1},2 {low + 1},1,1"
+        yield f"{high},1,1 {low},{count - 1},2"
+        yield f"{low},1,1 {high},1,1 {low + 2},{count - 2},2"
+
+
 def bulk():
     """What takes or makes many pairs at once, merges, parts and reads."""
     for length in [0, 1, 2, 3, 5, 12, 16, 17, 24, 30, 33, 65, 100, 129, 1000]:
         given = list(inputs(length)) + ([f"{2 * length + 1},1000,1", "1,1000,2", "4000,1000,-4"] if length in (0, 17, 1000) else [])
+        given += astray(length) if length in (0, 1, 12, 33, 129) else []
         calls = [f"{name} {pairs}".strip() for name in EXTENSIONS[:4] + MERGES for pairs in given]
         calls += [f"split_off {key}" for key in keys(length)]
         yield from block(GROWING, length, 0, [*calls, *(f"{name} - - {pairs}".strip() for name in READS for pairs in given)])
@@ -740,16 +796,17 @@ MAKES = ["from_iter", "from_iter_counted", "from_vec", "from_vec_counted"]
 def stores():
     """The calls of a store itself."""
     for length in LENGTHS:
-        indices = sorted({0, length // 2, max(length - 1, 0)})
+        places = indices(length)
         looks = ["lm_len", "lm_is_empty", "lm_last", "lm_try_clone", "lm_clear", "is_sorted_store"]
-        looks += [f"lm_get {index}" for index in [*indices, length, 2**64 - 1]]
-        looks += [f"lm_get_mut {index} 7" for index in [*indices, length]]
+        looks += [f"lm_get {index}" for index in [*places, length, 2**64 - 1]]
+        looks += [f"lm_get_mut {index} 7" for index in [*places, length]]
         looks += [f"lm_binary_search_by {key}" for key in keys(length)]
         looks += [f"lm_retain {bits}" for bits in RETAINED]
         if length:
-            looks += [f"{name} {index}{tail}" for name, tail in STORED for index in indices]
-        puts = ["lm_push 9999 7", *(f"lm_insert {index} 1 7" for index in {*indices, length})]
+            looks += [f"{name} {index}{tail}" for name, tail in STORED for index in places]
+        puts = ["lm_push 9999 7", *(f"lm_insert {index} 1 7" for index in {*places, length})]
         yield from block(ALL, length, 1, looks + puts + ["lm_reserve 0", "lm_reserve 1"])
+        yield from block(SLICED, length, 1, ["lm_debug", "lm_debug_lines"] if length <= 129 else [])
         yield from block(GROWING, length, 0, looks + puts + ["lm_reserve 0", "lm_reserve 1", "lm_reserve 8"])
         yield from block("fixed", length, 0, puts + ["lm_reserve 0", "lm_reserve 1"], is_fixed=True)
         if length:
@@ -783,6 +840,48 @@ def refusable():
 
 
 RESERVED = ["reserve", "lm_reserve", "with_capacity", "lm_with_capacity"]
+
+
+def grown():
+    """What places one pair where there is no room, around the powers of two up to 2,048; small pairs, sets, and 5,000 pairs."""
+    for power in range(6, 12):
+        for length in (2**power - 1, 2**power):
+            end = 2 * length + 1
+            calls = [f"{name} {key} 7" for name in PLACING for key in (1, end) if key == end or name != "try_append"]
+            yield from block(GROWING, length, 0, [*calls, f"lm_push {end} 7", "lm_insert 0 1 7", f"lm_insert {length} {end} 7"])
+    names = [f"grow_{kind}_{store}" for kind in ("small", "set") for store in GROWING.split(" ")]
+    counts = [*range(1, 71), 100, 129, 257, 513, 1025]
+    yield from block("vec", 0, 0, [f"{name} {count} {step}" for name in names for count in counts for step in (1, 10006, 7919)])
+    scattered = " ".join(f"{first},500,10" for first in (3, 9, 1, 7, 0, 5, 2, 8, 4, 6))
+    yield from block(GROWING, 0, 0, [f"insert_each {pairs}" for pairs in ("0,5000,1", "5000,5000,-1", scattered)])
+
+
+PLACING = ["insert", "try_insert", "try_append", "try_find_or_insert", "or_insert", "entry_insert"]
+
+
+def roomy():
+    """Maps that have room and no pair, and vectors and other maps that have room, with no pair or with some."""
+    taking = EXTENSIONS + MERGES + COMBINES + MAKES + MADE + ["lm_extend_end", "lm_extend_start"]
+    for room in (5, 47):
+        calls = [f"{name} 1 7" for name in PUTS + ENTRIES[:6]] + ["or_default 1", "split_off 1", "lm_push 1 7", "lm_insert 0 1 7"]
+        calls += [*CONVERSIONS, "lm_try_clone", "clone", "clear", "pop_last", "into_iter 1", "iter 1 1", "debug", "hash", "eq", "retain 1"]
+        calls += [f"{name} {more}" for name in RESERVED[:2] for more in (room - 1, room, room + 1)]
+        calls += [f"{name} {first},{count},1" for name in taking for first in (1, 9) for count in (3, 9, 60)]
+        calls += [f"{name} {pairs}".strip() for name in taking for pairs in ("", "room=9", "1,3,1 room=90")]
+        calls += [f"{name} 2,3,1" for name in BESIDE] + [f"{name} - - {pairs}".strip() for name in READS for pairs in ("", "1,9,1")]
+        yield from block(GROWING, 0, room, calls)
+    for length in (1, 2, 24):
+        given = [f"{pairs} room={room}".strip() for pairs in ("", "1,1,1", "1,9,2", f"{2 * length + 1},9,1") for room in (1, 90)]
+        yield from block(GROWING, length, 0, [f"{name} {pairs}" for name in taking for pairs in given])
+
+
+def long():
+    """Calls at a hundred thousand pairs, whose time bin/requests bounds: lookups, walks, removals and input of as many again."""
+    count, calls = 100000, ["retain 0", "clear", "lm_retain 0", "insert_each 200001,100000,1"]
+    calls += [f"{name} {steps} {count - steps}" for name in ("iter", "keys", "values") for steps in (0, count)]
+    calls += [f"into_iter {count}", "iter_range in 1 in 200001", "for 0 0", "try_clone", "to_keys_by", "cmp", "hash"]
+    calls += [f"{name} 1,{count},2" for name in ("extend_from_litemap", "extend", "extend_with", *BESIDE)]
+    yield from block(GROWING, count, 0, calls)
 
 
 def listed():
@@ -838,6 +937,8 @@ def beside():
     for length in (5, 12, 20, 24, 33, 65, 100, 129, 513, 1000):
         yield from block(ALL, length, 0, [f"{name} {pairs}".strip() for name in BESIDE for pairs in inputs(length)])
     yield from block(ALL, 20, 0, [f"{name} 2,{count},2" for name in BESIDE for count in range(71)])
+    for length in (1, 3, 20, 1000):
+        yield from block(ALL, length, 0, [f"{name} {first},1000,{step}" for name in BESIDE for first, step in ((1, 2), (2, 2), (3, 5))])
 
 
 def renamed():
@@ -991,7 +1092,7 @@ def unmade(made):
 
 FILES = {"looks": looks, "walks": walks, "changes": changes, "bulk": bulk, "stores": stores, "scattered": scattered}
 FILES |= {"refusable": refusable, "merged": merged, "beside": beside, "twenty": twenty, "picked": picked, "rows": rows}
-FILES |= {"renamed": renamed, "combined": combined, "listed": listed}
+FILES |= {"renamed": renamed, "combined": combined, "listed": listed, "grown": grown, "roomy": roomy, "long": long}
 
 
 def calls_of(lines):
@@ -1040,8 +1141,8 @@ def sampled(lines):
 
 
 def sample(files):
-    """The lines that are stored, of all those in the files: in one file, each part below its name."""
-    parts = [[f"# {name}", *sampled(files[f"data/{name}.calls"].splitlines())] for name in FILES]
+    """The lines that are stored, of all those in the files but `long`: in one file, each part below its name."""
+    parts = [[f"# {name}", *sampled(files[f"data/{name}.calls"].splitlines())] for name in FILES if name != "long"]
     return written({"sample": list(itertools.chain.from_iterable(parts))})
 
 

@@ -51,6 +51,18 @@ impl Answer {
         self.is_lost |= write!(self.text, "{space}{it:?}").is_err();
     }
 
+    /// Writes the lines that `{:#?}` prints, one behind the other.
+    pub fn show_lines<T: Debug + Drop>(&mut self, alloc: Global, it: T) {
+        match format!(in alloc; "{it:#?}") {
+            Ok(text) => {
+                for line in text.lines() {
+                    self.word(line);
+                }
+            }
+            Err(_) => self.is_lost = true,
+        }
+    }
+
     /// Writes what may be there.
     pub fn some<T: Debug + Drop>(&mut self, it: Option<T>) {
         match it {

@@ -42,7 +42,8 @@ pub struct Outcome {
 pub struct Bench<S: Store<Key, Value>> {
     /// The map.
     pub map: Map<S>,
-    store: S,
+    /// The store.
+    pub store: S,
 }
 
 impl<S: StoreConstEmpty<Key, Value>> Bench<S> {
@@ -186,6 +187,7 @@ impl<S: Tested<Key, Value>> Bench<S> {
         to: &mut Answer,
     ) -> Outcome {
         let compared = call.seen.compared.get();
+        let most = compared.max(call.seen.values_compared.get());
         let after = self.pairs(line);
         to.word("|");
         if before.pairs.is_same(&after) {
@@ -202,7 +204,7 @@ impl<S: Tested<Key, Value>> Bench<S> {
             *self = Bench::new(call.alloc);
             call.idle();
         }
-        let is_bounded = compared <= line.most.unwrap_or(u32::MAX);
+        let is_bounded = most <= line.most.unwrap_or(u32::MAX);
         Outcome {
             is_right: to.text() == line.wanted && is_bounded && !leaks,
             compared,

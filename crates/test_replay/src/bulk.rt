@@ -5,8 +5,8 @@ ghost use Rattle.std.specs.Vec.Iter.{into_iter_items};
 use crate::answer::{Answer, Pairs};
 use crate::call::{Call, Made, Map, Pair};
 use crate::counted::{Key, Value};
-use crate::lists;
 use crate::tested::Tested;
+use crate::{lists, sizes};
 use litemap::LiteMap;
 use litemap::store::{Count, NoRoom, Store};
 use litemap_columns::ColumnStore;
@@ -21,6 +21,7 @@ pub fn gather<S: Tested<Key, Value>>(map: &mut Map<S>, call: &Call<'_>, to: &mut
         || split_off(map, call, to).is_some()
         || make(map, call, to).is_some()
         || make_from_vec(map, call, to).is_some()
+        || insert_each(map, call, to).is_some()
         || extend(map, call, to).is_some()
         || extend_from_vec(map, call, to).is_some()
         || merge(map, call, to).is_some()
@@ -28,6 +29,7 @@ pub fn gather<S: Tested<Key, Value>>(map: &mut Map<S>, call: &Call<'_>, to: &mut
         || go_beside(map, call, to).is_some()
         || read(map, call, to).is_some()
         || lists::run(call, to).is_some()
+        || sizes::grow(call, to).is_some()
 }
 
 // A map with no pair replaces the old one, or its clone does.
@@ -80,6 +82,26 @@ fn make_from_vec<S: Tested<Key, Value>>(
     Some(())
 }
 
+// `insert` of each of the pairs, until one has no room. It tells how many were new.
+fn insert_each<S: Tested<Key, Value>>(map: &mut Map<S>, call: &Call<'_>, to: &mut Answer) -> Made {
+    if call.name != "insert_each" {
+        return None;
+    }
+    let (pairs, mut fresh) = (call.given()?, 0u64);
+    for (key, value) in pairs {
+        match map.insert(key, value) {
+            Ok(None) => fresh = fresh.wrapping_add(1),
+            Ok(Some(_old)) => {}
+            Err(refused) => {
+                to.no_room(refused);
+                return Some(());
+            }
+        }
+    }
+    to.show(fresh);
+    Some(())
+}
+
 fn extend<S: Tested<Key, Value>>(map: &mut Map<S>, call: &Call<'_>, to: &mut Answer) -> Made {
     let count = &mut Count::new();
     to.room(match call.name {
@@ -109,9 +131,10 @@ fn extend_from_vec<S: Tested<Key, Value>>(
     Some(())
 }
 
-/// A map of the given pairs. The call begins after it is made.
+/// A map of the given pairs, with the given room. The call begins after it is made.
 pub fn other<S: Tested<Key, Value>>(call: &Call<'_>) -> Option<Map<S>> {
-    let map = LiteMap::from_vec(call.alloc, call.pairs(0)?).ok()?;
+    let mut map: Map<S> = LiteMap::from_vec(call.alloc, call.pairs(0)?).ok()?;
+    map.reserve(call.room()).ok()?;
     call.begin();
     Some(map)
 }
@@ -151,8 +174,8 @@ fn show_merged<'a, S: Tested<Key, Value>>(
     }
 }
 
-// The merges with a closure, which adds to each value that is here already three times the one here, and what its key's code
-// leaves by seven. The last word tells how often it was called.
+// The merges with a closure, which adds to each value that is here already three times the one here, what its key's code leaves
+// by seven, and a thousand for each time that it was called before. The last word tells how often it was called.
 fn combine<S: Tested<Key, Value>>(map: &mut Map<S>, call: &Call<'_>, to: &mut Answer) -> Made {
     if !call.name.starts_with("extend_with") {
         return None;
@@ -160,8 +183,10 @@ fn combine<S: Tested<Key, Value>>(map: &mut Map<S>, call: &Call<'_>, to: &mut An
     let other: Map<S> = other(call)?;
     let times = Cell::new(0u64);
     let add = |key: &Key, here: &Value, new: &mut Value| {
-        times.set(times.get().wrapping_add(1));
+        let before = times.get();
+        times.set(before.wrapping_add(1));
         let more = here.number().wrapping_mul(3).wrapping_add(key.code() % 7);
+        let more = more.wrapping_add(before.wrapping_mul(1000));
         new.write(new.number().wrapping_add(more));
     };
     show_merged(

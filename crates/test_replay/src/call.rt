@@ -38,6 +38,9 @@ const END: usize = 1_000_033;
 
 const IDLE: usize = 1_000_063;
 
+// What a word begins with that spells room.
+const ROOM: &str = "room=";
+
 impl<'w> Call<'w> {
     /// Another call by this name and these words, which tells nothing.
     pub fn another(&self, name: &'w str, words: &'w [&'w str]) -> Call<'w> {
@@ -54,6 +57,7 @@ impl<'w> Call<'w> {
     /// Tells that the call comes next: what was seen before it is forgotten.
     pub fn begin(&self) {
         self.seen.compared.set(0);
+        self.seen.values_compared.set(0);
         self.seen.cloned.set(0);
         self.mark(BEGIN);
     }
@@ -122,20 +126,36 @@ impl<'w> Call<'w> {
     }
 
     /// The pairs that the words from an index on spell: `KEY:VALUE`, or `FIRST,COUNT,STEP` for as many keys from the first one
-    /// on by steps, each with its index as its value. They are made before the call begins.
+    /// on by steps, each with its index as its value. After `room=N` their vector has room for so many more. They are made before
+    /// the call begins.
     pub fn pairs(&self, place: usize) -> Option<Vec<Pair>> {
         self.end();
         let mut pairs = Vec::new(self.alloc);
         for word in self.words.iter().skip(place) {
-            match word.split_once(':') {
-                Some((key, value)) => {
-                    let (code, value) = (self.order.code(key)?, value.parse().ok()?);
-                    self.add(&mut pairs, code, value).ok()?;
-                }
-                None => self.add_series(&mut pairs, word)?,
-            }
+            self.add_word(&mut pairs, word)?;
         }
         Some(pairs)
+    }
+
+    // Adds the pairs that a word spells, or room.
+    fn add_word(&self, pairs: &mut Vec<Pair>, word: &str) -> Option<()> {
+        if let Some(room) = word.strip_prefix(ROOM) {
+            return pairs.reserve(room.parse().ok()?).ok();
+        }
+        match word.split_once(':') {
+            Some((key, value)) => {
+                let (code, value) = (self.order.code(key)?, value.parse().ok()?);
+                self.add(pairs, code, value).ok()
+            }
+            None => self.add_series(pairs, word),
+        }
+    }
+
+    /// The room that the last word spells, or none.
+    pub fn room(&self) -> usize {
+        let word = self.words.last().copied().unwrap_or("");
+        let room = word.strip_prefix(ROOM).unwrap_or("");
+        room.parse().unwrap_or(0)
     }
 
     fn add(&self, pairs: &mut Vec<Pair>, code: u64, value: u64) -> Result<(), AllocError> {

@@ -2,11 +2,11 @@
 use crate::answer::{Answer, Pairs};
 use crate::bulk::other;
 use crate::call::{Call, Made, Map};
-use crate::counted::{Key, Order, Value};
+use crate::counted::{Key, Order, Value, with_rank};
 use crate::tested::Tested;
 use litemap::LiteMap;
 use litemap::store::Store;
-use std::alloc::{AllocError, Global};
+use std::alloc::AllocError;
 use std::cmp::Ordering;
 use std::hash::{FoldHasher, Hash, Hasher};
 
@@ -24,7 +24,7 @@ pub fn copy<S: Tested<Key, Value>>(map: &Map<S>, call: &Call<'_>, to: &mut Answe
         "to_borrowed_keys_values" => pairs_of::<&Key, &Value>(map.to_borrowed_keys_values(alloc)),
         "to_borrowed_keys" => pairs_of::<&Key, Value>(map.to_borrowed_keys(alloc)),
         "to_borrowed_values" => pairs_of::<Key, &Value>(map.to_borrowed_values(alloc)),
-        "to_keys_by" => keyed(map, alloc),
+        "to_keys_by" => keyed(map, call, to),
         _ => return None,
     };
     match made {
@@ -76,13 +76,27 @@ fn pairs_of<K: Ord + LeadsTo<Key> + Drop, V: LeadsTo<Value> + Drop>(
     Ok(pairs)
 }
 
-// The keys become their ranks, which lie in the same order.
-fn keyed<S: Store<Key, Value>>(map: &Map<S>, alloc: Global) -> Result<Pairs, AllocError> {
-    let made: LiteMap<u64, Value, Vec<(u64, Value)>> = map.to_keys_by(alloc, |key| key.rank())?;
-    let mut pairs = Pairs::new();
+// The keys become their ranks, which lie in the same order. It writes whether the closure was called once for each, in order.
+fn keyed<S: Store<Key, Value>>(
+    map: &Map<S>,
+    call: &Call<'_>,
+    to: &mut Answer,
+) -> Result<Pairs, AllocError> {
+    call.seen.ranks.set(0);
+    let made: LiteMap<u64, Value, Vec<(u64, Value)>> = map.to_keys_by(
+        call.alloc,
+        |key| key.rank(),
+    )?;
+    let (mut pairs, mut ranks) = (Pairs::new(), 0u64);
     for (key, value) in &made {
         pairs.add_codes(Order::Number, *key, value.number());
+        ranks = with_rank(ranks, *key);
     }
+    to.word(if call.seen.ranks.get() == ranks {
+        "in order"
+    } else {
+        "in another order"
+    });
     Ok(pairs)
 }
 

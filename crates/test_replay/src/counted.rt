@@ -21,10 +21,19 @@ pub struct Seen {
     pub compared: Cell<u32>,
     /// How many keys and values were cloned.
     pub cloned: Cell<u32>,
+    /// A sum of the ranks that keys were called for, by their order.
+    pub ranks: Cell<u64>,
     /// How many keys are alive.
     pub keys: Cell<u32>,
+    /// How often two values were compared.
+    pub values_compared: Cell<u32>,
     /// How many values are alive. Those that a type makes by itself are not among them.
     pub values: Cell<u32>,
+}
+
+/// A sum of ranks by their order, with one more.
+pub fn with_rank(sum: u64, rank: u64) -> u64 {
+    sum.wrapping_add(rank).wrapping_add(1).wrapping_mul(31)
 }
 
 // Adds one to a number.
@@ -129,10 +138,13 @@ impl Key {
         self.order
     }
 
-    /// Where it stands among all keys.
+    /// Where it stands among all keys, which is noted.
     pub fn rank(&self) -> u64
         ensures { result ≡ self.now.rank }
     {
+        self.seen
+            .ranks
+            .set(with_rank(self.seen.ranks.get(), self.rank));
         self.rank
     }
 
@@ -259,6 +271,12 @@ impl Value {
         self.number
     }
 
+    fn note_compared(&self) {
+        if let Some(seen) = &self.seen {
+            raise(&seen.values_compared);
+        }
+    }
+
     /// Writes another number, and returns the old one.
     pub fn write(&mut self, number: u64) -> u64 {
         let old = self.number;
@@ -304,6 +322,7 @@ impl PartialEq for Value {
     ghost laws = { Prim.search (comparing, rules) };
 
     fn eq(&self, other: &Self) -> bool {
+        self.note_compared();
         self.number == other.number
     }
 }
@@ -332,6 +351,7 @@ impl Ord for Value {
     ghost matches_eq = { Prim.search (comparing, rules) };
 
     fn cmp(&self, other: &Self) -> Ordering {
+        self.note_compared();
         self.number.cmp(&other.number)
     }
 }

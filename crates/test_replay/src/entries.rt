@@ -27,6 +27,11 @@ fn one_key<S: StoreMut<Key, Value>>(map: &mut Map<S>, call: &Call<'_>, to: &mut 
     match call.name {
         "entry" => show_kind(&map.entry(call.key(0)?), to),
         "entry_debug" => to.show(map.entry(call.key(0)?)),
+        "entry_debug_lines" => {
+            let entry = map.entry(call.key(0)?);
+            call.end();
+            to.show_lines(call.alloc, entry);
+        }
         "or_default" => show_lent!(map.entry(call.key(0)?).or_default(), to),
         "entry_get" => match map.entry(call.key(0)?) {
             Entry::Occupied(entry) => to.show(entry.get()),

@@ -26,6 +26,10 @@ fn with_no_key<S: Store<Key, Value>>(map: &Map<S>, call: &Call<'_>, to: &mut Ans
             to.word("ok");
         }
         "debug" => to.show(map),
+        "debug_lines" => {
+            call.end();
+            to.show_lines(call.alloc, map);
+        }
         _ => return None,
     }
     Some(())

@@ -7,8 +7,8 @@
 //! - `with ORDER LEN ROOM`: the map, or the store, that each of the next lines begins with: the order of its keys, how many
 //!   pairs it has (`2:20`, `4:40` and so on), and for how many more it is made with room;
 //! - `CALL WORD .. = ANSWER | PAIRS | COMPARED`: a call, what it returns, the pairs after it (`same`, if they are as before),
-//!   and how often it compares two keys at most (`*`: as often as it likes). With `+` in front it is made of what the line
-//!   before left. Before a `; ` stand calls that are made first.
+//!   and how often it compares two keys, or two values, at most (`*`: as often as it likes). With `+` in front it is made of
+//!   what the line before left. Before a `; ` stand calls that are made first.
 //!
 //! `sweep CALL ..` makes a call of each key of a map whose keys are `2`, `4` and so on, and of each key in a gap: between two of
 //! them, below all and above all. After each the list is put back. It returns a sum of what was returned and left, and compares
@@ -33,6 +33,7 @@ mod line;
 mod lists;
 mod looks;
 mod run;
+mod sizes;
 mod stores;
 mod tested;
 mod walks;

@@ -6,6 +6,7 @@ use crate::changes::rename;
 use crate::counted::{Key, Order, Seen, Value};
 use crate::line::{self, Line};
 use crate::looks::{vector, view};
+use crate::stores::text;
 use crate::walks::lent;
 use example_store::fixed_room::FixedRoom;
 use example_store::shrinking::Shrinking;
@@ -20,12 +21,13 @@ const LONGEST: usize = 1 << 14;
 
 // Makes the call of a line over a store, which may have some calls of its own.
 macro_rules! make_over {
-    ($bench:expr, $line:ident, $start:ident, $call:ident, $to:ident $(, $own:ident)*) => {{
+    ($bench:expr, $line:ident, $start:ident, $call:ident, $to:ident $(, $own:ident)* $(; $text:ident)?) => {{
         let before = $bench.begin($line, $start, &$call, $to)?;
         $call.begin();
         let is_made = $bench.call($line, &$call, $to)
             || lent(&$bench.map, &$call, $to).is_some()
-            $(|| $own(&mut $bench.map, &$call, $to).is_some())*;
+            $(|| $own(&mut $bench.map, &$call, $to).is_some())*
+            $(|| $text(&$bench.store, &$call, $to).is_some())?;
         $call.end();
         if !is_made {
             $to.word("no call");
@@ -116,9 +118,9 @@ impl Replay {
         to.clear();
         self.made = self.made.wrapping_add(1);
         match store {
-            "vec" => make_over!(self.vec, line, start, call, to, rename, view, vector),
+            "vec" => make_over!(self.vec, line, start, call, to, rename, view, vector; text),
             "columns" => make_over!(self.columns, line, start, call, to, rename),
-            "short" => make_over!(self.short, line, start, call, to, rename, view),
+            "short" => make_over!(self.short, line, start, call, to, rename, view; text),
             "fixed" => make_over!(self.fixed, line, start, call, to, rename),
             "shrinking" => make_over!(self.shrinking, line, start, call, to),
             _ => Ok(no_store(to)),

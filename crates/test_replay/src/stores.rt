@@ -6,6 +6,7 @@ use crate::counted::{Key, Value};
 use crate::tested::Tested;
 use litemap::LiteMap;
 use litemap::store::{Count, NoRoom, StoreBulkMut, StoreMut};
+use std::fmt::Debug;
 
 /// Makes a call of a store, if the name is one.
 pub fn call<S: Tested<Key, Value>>(store: &mut S, call: &Call<'_>, to: &mut Answer) -> bool {
@@ -34,6 +35,19 @@ fn whole<S: StoreMut<Key, Value> + Drop>(store: &mut S, call: &Call<'_>, to: &mu
             Ok(clone) => to.show(Pairs::of_store(&clone)),
             Err(_) => to.word("refused"),
         },
+        _ => return None,
+    }
+    Some(())
+}
+
+/// Writes the text of a store that prints its pairs as a list, if the name is one of these.
+pub fn text<S: Debug>(store: &S, call: &Call<'_>, to: &mut Answer) -> Made {
+    match call.name {
+        "lm_debug" => to.show(store),
+        "lm_debug_lines" => {
+            call.end();
+            to.show_lines(call.alloc, store);
+        }
         _ => return None,
     }
     Some(())
@@ -164,7 +178,8 @@ fn join<S: Tested<Key, Value>>(store: &mut S, call: &Call<'_>, to: &mut Answer) 
     if call.name != "lm_extend_end" && call.name != "lm_extend_start" {
         return None;
     }
-    let other = S::lm_from_pairs(call.alloc, call.pairs(0)?).ok()?;
+    let mut other = S::lm_from_pairs(call.alloc, call.pairs(0)?).ok()?;
+    other.lm_reserve(call.room()).ok()?;
     call.begin();
     let outcome = match call.name {
         "lm_extend_end" => store.lm_extend_end(other),

@@ -1,0 +1,88 @@
+//! Maps of small pairs, and sets, that grow beside the map of the line.
+use crate::answer::{Answer, Pairs};
+use crate::call::{Call, Made};
+use crate::counted::Order;
+use litemap::LiteMap;
+use litemap::store::StoreBulkMut;
+use litemap_columns::ColumnStore;
+use litemap_short::ShortStore;
+
+/// Inserts so many keys into an empty map, if the name is one of these: over a store, with values or as a set.
+pub fn grow(call: &Call<'_>, to: &mut Answer) -> Made {
+    match call.name {
+        "grow_small_vec" => grow_over::<u32, Vec<(u32, u32)>>(call, to),
+        "grow_small_columns" => grow_over::<u32, ColumnStore<u32, u32>>(call, to),
+        "grow_small_short" => grow_over::<u32, ShortStore<u32, u32>>(call, to),
+        "grow_set_vec" => grow_over::<(), Vec<(u32, ())>>(call, to),
+        "grow_set_columns" => grow_over::<(), ColumnStore<u32, ()>>(call, to),
+        "grow_set_short" => grow_over::<(), ShortStore<u32, ()>>(call, to),
+        _ => None,
+    }
+}
+
+// A value of a small pair.
+trait Small {
+    // That of a key.
+    fn of(key: u32) -> Self;
+
+    // What is written of it.
+    fn number(&self) -> u64;
+}
+
+impl Small for u32 {
+    fn of(key: u32) -> Self {
+        key
+    }
+
+    fn number(&self) -> u64 {
+        *self as u64
+    }
+}
+
+impl Small for () {
+    fn of(_key: u32) -> Self {}
+
+    fn number(&self) -> u64 {
+        0
+    }
+}
+
+// The keys are what the multiples of the second number leave by a prime.
+fn grow_over<V: Small + Drop, S: StoreBulkMut<u32, V>>(call: &Call<'_>, to: &mut Answer) -> Made {
+    let (count, step) = (call.number(0)?, call.number(1)?);
+    let mut map: LiteMap<u32, V, S> = LiteMap::with_capacity(call.alloc, 0).ok()?;
+    call.begin();
+    let len = insert_all(&mut map, count, step);
+    call.end();
+    if len < count {
+        to.word(if map.len() as u64 == len {
+            "refused"
+        } else {
+            "lost"
+        });
+        return Some(());
+    }
+    let mut pairs = Pairs::new();
+    for index in 0..map.len() {
+        if let Some((key, value)) = map.get_indexed(index) {
+            pairs.add_codes(Order::Number, *key as u64, value.number());
+        }
+    }
+    to.show(pairs);
+    Some(())
+}
+
+// How many keys were inserted.
+fn insert_all<V: Small + Drop, S: StoreBulkMut<u32, V>>(
+    map: &mut LiteMap<u32, V, S>,
+    count: u64,
+    step: u64,
+) -> u64 {
+    for place in 0..count {
+        let key = (place.wrapping_mul(step) % 10_007) as u32;
+        if map.insert(key, V::of(key)).is_err() {
+            return place;
+        }
+    }
+    count
+}
