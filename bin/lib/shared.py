@@ -21,7 +21,7 @@ def parser(text):
 
 
 def used_by(*names):
-    """These crates and those of the repository that they use, each behind its own."""
+    """These crates and those of the repository that they use, each after its own."""
     found = {}
     for name in names:
         found |= dict.fromkeys([*used_by(*(it for it in CRATES[name] if it in CRATES)), name])
@@ -120,7 +120,7 @@ class Watched:
         subprocess.run([clang, *options, "-o", self.library, TOP / "bin" / "lib" / "allocator.c"], check=True)
 
     def run(self, before="", **more):
-        """How it ends on its input behind this text, the lines that tell of calls, and the numbers that stand beside each."""
+        """How it ends on its input after this text, the lines that tell of calls, and the numbers that stand beside each."""
         env, given = os.environ | {"LD_PRELOAD": self.library} | more, before + self.given
         data = self.whole / "data"
         how = {"cwd": data if data.is_dir() else self.folder, "env": env, "input": given, "capture_output": True, "text": True}

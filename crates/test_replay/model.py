@@ -1120,7 +1120,7 @@ def files():
 
 
 # So many lines of a sample at most go on from one another.
-MOST_TOGETHER = 8
+MOST_TOGETHER = 5
 
 
 def sampled(lines):

@@ -14,7 +14,7 @@ def texts_of(crate):
 
 
 def misfit(texts, body):
-    """Why a wrong body doesn't fit, None where it does."""
+    """Why a wrong body doesn't fit, None if it does."""
     try:
         edited(texts, body)
     except ValueError as error:

@@ -91,11 +91,22 @@ impl<S: Tested<Key, Value>> Bench<S> {
     ) -> Result<(), AllocError> {
         for text in calls.split("; ") {
             let words: Vec<&str> = text.split(' ').collect(call.alloc)?;
-            let name = words.first().copied().unwrap_or("");
-            let earlier = call.another(name, words.get(1..).unwrap_or(&[]));
-            self.one(line, &earlier, to);
+            self.earlier(words.as_slice(), line, call, to);
         }
         Ok(())
+    }
+
+    // Makes one of them, which tells nothing.
+    fn earlier(&mut self, words: &[&str], line: &Line<'_>, call: &Call<'_>, to: &mut Answer) {
+        let earlier = Call {
+            alloc: call.alloc,
+            seen: call.seen,
+            order: call.order,
+            is_marked: false,
+            name: words.first().copied().unwrap_or(""),
+            words: words.get(1..).unwrap_or(&[]),
+        };
+        self.one(line, &earlier, to);
     }
 
     /// Makes the call of a line, if every store has it.

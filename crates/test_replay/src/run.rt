@@ -152,10 +152,10 @@ pub fn lines(rt: &HostRuntime, name: &str, text: &str, is_marked: bool) -> io::R
 }
 
 fn each_line(rt: &HostRuntime, replay: &mut Replay, name: &str, text: &str) -> io::Result<()> {
-    let mut stores = "";
+    let mut stores = String::new(rt.alloc());
     for (place, text) in text.lines().enumerate() {
         if let Some(names) = text.strip_prefix("on ") {
-            stores = names;
+            stores = String::from_str(rt.alloc(), names)?;
             continue;
         }
         if replay.settle(text) {
@@ -163,7 +163,7 @@ fn each_line(rt: &HostRuntime, replay: &mut Replay, name: &str, text: &str) -> i
         }
         match line::parse(text) {
             Some(line) if line.goes_on && replay.is_marked => {}
-            Some(line) => each_store(rt, replay, stores, (name, place), &line)?,
+            Some(line) => each_store(rt, replay, stores.as_str(), (name, place), &line)?,
             None => println!(rt; "{name}:{}: bad line", place.wrapping_add(1))?,
         }
     }
