@@ -1,6 +1,6 @@
-// Loaded before the C library into a program of the benchmark, whose clock then tells bytes in place of time: between two looks
-// at it a microsecond goes by for each byte that was held at the peak beyond those that were held at the first look. So a
-// measure whose time is limited ends after its first round.
+// Loaded before the C library into a program of the benchmark, whose clock then shows bytes in place of time: between two
+// readings it advances by a microsecond for each byte that was held at the peak beyond those held at the first reading. So a
+// measure with a limited time ends after its first round.
 typedef unsigned long size_t;
 
 struct timespec {
@@ -14,11 +14,11 @@ void *__libc_realloc(void *block, size_t size);
 void __libc_free(void *block);
 size_t malloc_usable_size(void *block);
 
-// The bytes that are held now, that were held at the last look and at the peak since then, and what the clock tells. The
+// The bytes that are held now, that were held at the last reading and at the peak since then, and what the clock shows. The
 // programs have one thread.
 static long held, last, peak, told;
 
-// Counts a block that is held now, where there is one.
+// Counts a block that is held from now on, unless it is null.
 static void *counted(void *block) {
     held += malloc_usable_size(block);
     if (held > peak) {
@@ -35,7 +35,7 @@ void *calloc(size_t many, size_t size) {
     return counted(__libc_calloc(many, size));
 }
 
-// A block that grows counts as one, though the C library may hold both for a while.
+// A block that grows counts as one, although the C library may hold both the old and the new one for a while.
 void *realloc(void *block, size_t size) {
     long before = malloc_usable_size(block);
     void *grown = __libc_realloc(block, size);

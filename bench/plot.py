@@ -1,13 +1,13 @@
-"""The plot of bench/run: for each call and size how many times as long it takes here as in the Rust crate, as SVG."""
+"""The plot of bench/run, as SVG: for each call and size how many times as long it takes here as in the Rust crate."""
 import html
 import math
 
 import tables
 
 COLOURS = ["#9ecae1", "#4292c6", "#08519c", "#e6550d"]
-# The scale is by powers of two, from a quarter to eight times; what lies outside of it is an arrow at its end.
+# The scale is by powers of two, from a quarter to eight times; a ratio outside of it is an arrow at its end.
 LOWEST, HIGHEST = -2, 3
-# The panels of a type of keys stand beside one another, one for each store or format, and below them those of the next type.
+# The panels of a type of keys are in one row, one for each store or format; those of the next type are below.
 NAMES_WIDTH, PANEL_WIDTH, GAP, ROW, TOP, HEAD, BOTTOM = 340, 250, 30, 28, 56, 44, 34
 TEXT = 'font-family="sans-serif" font-size="13" fill="#222"'
 
@@ -21,7 +21,7 @@ def line(x, top, bottom, colour, width):
 
 
 def place(ratio):
-    """Where a ratio lies in its panel."""
+    """The horizontal position of a ratio in its panel."""
     power = min(max(math.log2(ratio), LOWEST), HIGHEST)
     return (power - LOWEST) / (HIGHEST - LOWEST) * PANEL_WIDTH
 
@@ -38,7 +38,7 @@ def arrow(x, y, step, colour, words):
 
 
 def legend(sizes):
-    """What the colours and the arrows stand for."""
+    """The legend of the colours and the arrows."""
     x, y = NAMES_WIDTH, 20
     drawn = [text(16, 24, "Time here : in the Rust crate", more=' font-weight="bold"')]
     for size, colour in zip(sizes, COLOURS):
@@ -51,7 +51,7 @@ def legend(sizes):
 
 
 def panel(left, top, title, bottom):
-    """A title, and the lines of the scale."""
+    """A panel's title, and the lines of its scale."""
     drawn = [text(left + PANEL_WIDTH / 2, top - 22, title, "middle", ' font-weight="bold"')]
     for power in range(LOWEST, HIGHEST + 1):
         x = left + place(2**power)
@@ -62,19 +62,19 @@ def panel(left, top, title, bottom):
 
 
 def dots(ours, theirs, left, top, part, calls, sizes):
-    """The ratios of a type of keys and a store."""
+    """The dots of a type of keys and a store."""
     keys, store = part
     for row, call in enumerate(calls):
         for number, (size, colour) in enumerate(zip(sizes, COLOURS)):
             measure = tables.Measure(call, keys, store, size)
             if measure in ours:
                 ratio = tables.ratio(ours, theirs, measure)
-                # Each size a little lower than the one before, so that no dot hides another.
+                # Each size is a little lower than the one before, so that no dot hides another.
                 yield mark(left + place(ratio), top + ROW * row + 6 + 5 * number, ratio, colour)
 
 
 def names(calls, top, width):
-    """The calls, one a row, on stripes."""
+    """The names of the calls, one a row, on stripes."""
     for row, call in enumerate(calls):
         y = top + ROW * row
         if row % 2 == 0:
@@ -83,7 +83,7 @@ def names(calls, top, width):
 
 
 def ratios(ours, theirs):
-    """The plot: a row of panels for each type of keys, in it a panel for each store; a row for each call, a dot for each size."""
+    """The plot: a row of panels for each type of keys, a panel for each store, in it a row for each call and a dot for each size."""
     plotted = [measure for measure in ours if measure.keys in tables.PLOTTED]
     drawn_ones = [measure for measure in plotted if tables.found_there(theirs, measure) is not None]
     calls = tables.distinct(measure.call for measure in drawn_ones)

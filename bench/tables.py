@@ -1,7 +1,7 @@
 """The tables of bench/run, as text and as Markdown."""
 import typing
 
-# What the lines of the programs call the calls. A measure that is added has a line here.
+# The calls, by their names in the lines of the programs. A new measure gets a line here.
 TITLES = {
     "get": "`get`, present",
     "get_missing": "`get`, absent",
@@ -59,12 +59,12 @@ KEYS = {
     "few": "few `u64` keys, a call,",
     "name": "names of 50 bytes,",
 }
-# The calls whose bytes at the peak have a table, and the number of pairs there.
+# The calls in the table of bytes at the peak, and its number of pairs.
 HELD = ["from_iter_rising", "from_iter", "extend_rising", "extend", "merge_apart", "merge_interleaved", "merge_equal", "clone"]
 HELD_SIZE = 100_000
-# The keys whose rows the plot has, and what they are called there.
+# The keys whose rows the plot has, and their names there.
 PLOTTED = {"number": "numbers", "text": "strings"}
-# Where the pairs are kept, or the format that they are written in.
+# The store of the pairs, or the format in which they are written.
 STORES = {
     "vec": "over `Vec`",
     "column": "over `ColumnStore`",
@@ -77,7 +77,7 @@ STORES = {
 
 
 class Measure(typing.NamedTuple):
-    """What is measured."""
+    """A measure: its call, keys, store and size."""
 
     call: str
     keys: str
@@ -85,12 +85,12 @@ class Measure(typing.NamedTuple):
     size: int
 
     def over(self, store):
-        """The same over another store."""
+        """The same measure over another store."""
         return self._replace(store=store)
 
 
 class Found(typing.NamedTuple):
-    """What came of a measure: picoseconds a pair, the lowest of each pass, and a number that stands for the answers."""
+    """The outcome of a measure: picoseconds a pair, the lowest of each pass, and a number that stands for the results."""
 
     times: list
     answer: str
@@ -99,18 +99,18 @@ class Found(typing.NamedTuple):
         return min(self.times)
 
     def spread(self):
-        """Noise: how far the lowest times of each second pass and of the other passes lie apart, as a ratio."""
+        """The noise: the lowest time of every second pass and that of the other passes, the greater divided by the smaller one."""
         halves = min(self.times[::2]), min(self.times[1::2] or self.times)
         return max(halves) / max(min(halves), 1)
 
 
 def distinct(items):
-    """The items, each once, in the order of their first places."""
+    """The items, each once, in the order of their first occurrences."""
     return list(dict.fromkeys(items))
 
 
 def shown(picos):
-    """Nanoseconds, with about two digits that count."""
+    """Nanoseconds, with about two significant digits."""
     nanos = picos / 1000
     if nanos < 1:
         return f"{nanos:.2f}"
@@ -118,18 +118,18 @@ def shown(picos):
 
 
 def found_there(theirs, measure):
-    """What came of the measure in the Rust crate, which has one store, and JSON where it was built with serde."""
+    """The outcome of the measure in the Rust crate, which has one store, and JSON if it was built with serde."""
     return (theirs or {}).get(measure.over("vec"))
 
 
 def ratio(ours, theirs, measure):
-    """How many times as long it takes here as in the Rust crate, where that has such a measure."""
+    """How many times as long it takes here as in the Rust crate, if that has such a measure."""
     there = found_there(theirs, measure)
     return None if there is None else ours[measure].lowest() / max(there.lowest(), 1)
 
 
 def cell(ours, theirs, measure):
-    """The time of a measure, and where the Rust crate has it, too, how many times as long it takes here."""
+    """The time of a measure, and if the Rust crate has it too, how many times as long it takes here."""
     if measure not in ours:
         return ""
     here, times = shown(ours[measure].lowest()), ratio(ours, theirs, measure)
@@ -137,7 +137,7 @@ def cell(ours, theirs, measure):
 
 
 def parts(ours, theirs):
-    """A part for each type of keys and each store: its title, its sizes, and its rows."""
+    """A table for each type of keys and each store: its title, its sizes, and its rows."""
     for keys, store in distinct((measure.keys, measure.store) for measure in ours):
         of_part = [measure for measure in ours if (measure.keys, measure.store) == (keys, store)]
         sizes = distinct(measure.size for measure in of_part)
@@ -149,13 +149,13 @@ def parts(ours, theirs):
 
 
 def held_cell(ours, theirs, measure):
-    """The bytes a pair at the peak, here and there: the clock told a microsecond for each byte."""
+    """The bytes a pair at the peak, here and there: the clock advanced by a microsecond for each byte."""
     here, there = ours[measure], found_there(theirs, measure)
     return " : ".join(f"{found.lowest() / 1_000_000:.0f}" for found in (here, there) if found is not None)
 
 
 def held_rows(ours, theirs=None):
-    """The columns of such a table, for each type of keys and each store, and its rows."""
+    """The columns of the table of bytes, for each type of keys and each store, and its rows."""
     columns = distinct((measure.keys, measure.store) for measure in ours if measure.call in HELD)
     rows = []
     for call in HELD:
@@ -166,7 +166,7 @@ def held_rows(ours, theirs=None):
 
 
 def every_table(ours, theirs, held):
-    """The rows of each table, its head first: those of the times, and that of the bytes at the peak."""
+    """The rows of each table, its head first: of the tables of times, and of that of the bytes at the peak."""
     for title, sizes, rows in parts(ours, theirs):
         yield [[f"{title}, pairs", *(f"{size:,}" for size in sizes)], *rows]
     heads, rows = held_rows(*held)
@@ -175,7 +175,7 @@ def every_table(ours, theirs, held):
 
 
 def plain(ours, theirs, held):
-    """The tables as text. What is held is that of both programs."""
+    """The tables as text. `held` has the bytes of both programs."""
     there = ", and how many times as long as in the Rust crate" if theirs else ""
     lines = [f"Nanoseconds a pair, or what a title says: here{there}.", ""]
     for rows in every_table(ours, theirs, held):
@@ -188,7 +188,7 @@ def plain(ours, theirs, held):
 
 
 def markdown(ours, theirs, held):
-    """The tables as Markdown. What is held is that of both programs."""
+    """The tables as Markdown. `held` has the bytes of both programs."""
     lines = []
     for (title, *heads), *rows in every_table(ours, theirs, held):
         lines += ["", "| " + " | ".join([f"{title[0].upper()}{title[1:]}", *heads]) + " |"]
@@ -198,7 +198,7 @@ def markdown(ours, theirs, held):
 
 
 def noise(ours, theirs):
-    """How well the measures repeat, in words."""
+    """A sentence on how well the measures repeat."""
     every = [*ours.values(), *(theirs or {}).values()]
     spreads = sorted(found.spread() for found in every)
     half, most = [(spreads[len(spreads) * part // 100] - 1) * 100 for part in (50, 90)]

@@ -1,4 +1,4 @@
-"""Runs of calls of one map, which a generator picks, as lines that `test_replay` reads."""
+"""Runs of calls of one map, picked by a generator, as lines that `test_replay` reads."""
 import pathlib
 import random
 import runpy
@@ -9,23 +9,23 @@ MODEL = runpy.run_path(f"{FOLDER.parent}/crates/test_replay/model.py")
 LENGTH = 500
 STORES, SLICED = MODEL["GROWING"].split(), MODEL["SLICED"].split()
 ORDERS = ["number", "text", "letter"]
-# Keys have numbers below one of these, and some of those in lists lie above.
+# The numbers of keys are below one of these, and some of those in lists are above it.
 RANGES = [3, 8, 20, 60, 60, 200, 600, 2**27]
-# Indices lie below one of these.
+# Indices are below one of these.
 PLACES = [2, 6, 20, 60, 200]
-# Lengths of lists at which a body takes another form here.
+# Lengths of lists at which a body here takes another way.
 LENGTHS = [7, 8, 9, 15, 16, 17, 18, 20, 21, 30, 31, 32, 33, 41, 63, 64, 65, 100, 255, 256]
-# The rows of calls.txt that tell of the calls of lines, and the stores that these name.
+# The rows of calls.txt about the calls of lines, and the stores that these name.
 ROWS = [line.split(" | ") for line in (FOLDER / "calls.txt").read_text(encoding="utf-8").splitlines() if line.count(" | ") == 3]
 OVER = {"all": STORES, "slice": SLICED, "vec": ["vec"]}
-# By their stores, how often one of some calls is picked, what words stand behind it, and the calls.
+# By store, how often one of some calls is picked, the words after it, and the calls.
 CALLS_OVER = {
     store: [(int(often), words, names) for often, over, words, names in ROWS if store in OVER[over]] for store in STORES
 }
 
 
 def word(order, number):
-    """The key of a number, in whose order keys lie. Two letters are equal keys where only their case differs."""
+    """The key with a number. Keys are in the order of their numbers. Letters that differ only in case are equal keys."""
     if order == "number":
         return str(number)
     if order == "text":
@@ -49,7 +49,7 @@ class Run:
         del self.calls[LENGTH:]
 
     def below(self, limit):
-        """A number below this one."""
+        """Picks a number below this one."""
         return int(self.random.random() * limit)
 
     def add(self, name, words):
@@ -63,7 +63,7 @@ class Run:
         self.calls.append(" ".join([name, *given]).rstrip())
 
     def given(self, kind):
-        """The words of a kind."""
+        """Picks the words of a kind."""
         match kind:
             case "KEY":
                 return word(self.order, self.below(self.range))
@@ -79,8 +79,7 @@ class Run:
                 return "0" if kind == "ZERO" else ""
 
     def pairs(self):
-        """A list of pairs: rising, falling, equal but for what the order doesn't see, above the others, between them, or none of
-        these."""
+        """Picks a list of pairs: their keys ascend, descend, are equal, lie above the others or between them, or none of these."""
         pick = self.below
         form, start = pick(8), pick(self.range)
         length = pick(6) if pick(2) else pick(30) if pick(2) else self.random.choice([*LENGTHS, pick(301)])
@@ -95,7 +94,7 @@ class Run:
         return [f"{word(self.order, number(place))}:{pick(1000)}" for place in range(length)]
 
     def changed(self, pairs):
-        """The pairs, or these with one less, with one more, or with another value."""
+        """The pairs as they are, or with one less, with one more, or with another value."""
         form = self.below(4)
         if form == 0 or not pairs:
             return pairs
@@ -105,6 +104,6 @@ class Run:
         return pairs[:place] + other + pairs[place + 1 :]
 
     def text(self, calls):
-        """The lines of calls that begin with an empty map. None says what it is answered."""
+        """The lines of these calls, which begin with an empty map and state no results."""
         lines = [f"on {self.store}", f"with {self.order} 0 0", " = ? | *\n+ ".join(calls) + " = ? | *\n"]
         return "\n".join(lines)

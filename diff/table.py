@@ -1,11 +1,11 @@
-"""The table of all calls, diff/calls.txt, compared with docs/api, with the calls of lines, and with the Rust crate."""
+"""Compares the table of all calls, diff/calls.txt, with docs/api, with the calls of lines, and with the Rust crate."""
 import re
 
 import lines
 
 
 def rows(top):
-    """Each call of ours, the calls of lines that make it, and what the table says of the crate's."""
+    """Each call of ours, the calls of lines that make it, and what the table says about the Rust crate's."""
     for line in (top / "diff" / "calls.txt").read_text().splitlines():
         if line.count("|") == 2 and not line.startswith("#"):
             ours, made, theirs = (part.strip() for part in line.split("|"))
@@ -15,7 +15,7 @@ def rows(top):
 
 
 def listed(top):
-    """The calls of the pages in docs/api, each with its group, and the traits of others that a map has."""
+    """The calls of the pages in docs/api, each with its group, and the traits of others that a map implements."""
     group = call = ""
     for line in "\n".join(page.read_text() for page in sorted((top / "docs" / "api").glob("*.md"))).splitlines():
         if line.startswith("# "):
@@ -30,7 +30,7 @@ def listed(top):
 
 
 def missing(top, crate=None):
-    """What the table lacks of ours, and of a Rust crate's, and what it has and isn't there."""
+    """What the table lacks of our calls and of the Rust crate's, and what it names that doesn't exist."""
     table, calls = list(rows(top)), dict(listed(top))
     named = {ours for ours, _, _ in table}
     lacks = [f"{it}, which docs/api lists" for it, group in calls.items() if not {it, f"group {group}"} & named]

@@ -1,4 +1,4 @@
-// Loaded before the C library into a program of tests: counts the requests for memory of each call, and refuses one of them.
+// Loaded before the C library into a test program: counts the requests for memory of each call, and refuses one of them.
 //
 // The program makes a request of BEGIN bytes before each call, one of END bytes after it, and one of IDLE bytes once all that
 // the call was given and left is dropped. Then a line of four numbers goes to standard error: the requests between the first
@@ -6,7 +6,7 @@
 // the call than before it (0, if there is no second). With REFUSE=N in the environment the Nth request of each call is refused.
 // With WHOLE in it the run of a program that makes no such requests is one call, and the numbers follow its end.
 //
-// Before each block stand where it begins for the C library, and its size.
+// Before each block are stored the address that the C library knows it by, and its size.
 typedef unsigned long size_t;
 
 enum { BEGIN = 1000003, END = 1000033, IDLE = 1000063, HEAD = 2 * sizeof(size_t) };
@@ -22,7 +22,7 @@ int dprintf(int file, const char *format, ...);
 
 static long is_counting, requests, bytes, held, bytes_held, before, more, refused = -1;
 
-// Whether a request is refused; it is counted, or tells where a call begins or ends.
+// Returns whether a request is refused. Counts it, unless it says that a call begins or ends.
 static int refuses(size_t size) {
     if (refused < 0) {
         const char *number = getenv("REFUSE");
@@ -52,7 +52,7 @@ __attribute__((destructor)) static void end(void) {
     }
 }
 
-// The block of `size` bytes behind the `head` ones that begin where the C library says.
+// The block of `size` bytes after the `head` ones that begin at the C library's address.
 static void *counted(void *begin, size_t head, size_t size) {
     if (begin == 0) {
         return 0;

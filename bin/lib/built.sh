@@ -1,8 +1,8 @@
-# What bin/names, bin/program, bin/release and bin/test share: the program, proved and built where its sources have changed.
+# What bin/names, bin/program, bin/release and bin/test share: it proves and builds the program if its sources have changed.
 # The caller sets `top`, the top of the repository.
 program=$top/crates/names_main/out/names_main
 
-# These crates and the libraries of the repository that they stand on, each behind its own.
+# Prints these crates and the libraries of the repository below them, each after the ones that it uses.
 with_libraries() {
     awk -F '[: ]+' -v names="$*" '
         function add(crate, i, count, words) {
@@ -15,7 +15,7 @@ with_libraries() {
         END { split(names, wanted, " "); for (place = 1; place in wanted; place++) add(wanted[place]) }' "$top/crates.txt"
 }
 
-# The checksum of what the program is made from, by contents alone: the time of a file is no part of it.
+# Prints the checksum of what the program is made from: of the contents of files, and not of their times.
 sources_sum() {
     (
         cd -- "$top/crates" && with_libraries names_main | sed 's/.*/^&:/' | grep -f - ../crates.txt
@@ -24,20 +24,20 @@ sources_sum() {
     ) | sha256sum
 }
 
-# The checksum of the sources and of the program; whether the program was built from the sources as they are; and what keeps the
-# checksum beside the program, if it was made from the sources of this sum.
+# `built_sum` prints the checksum of the sources and of the program. `is_built` tests whether the program was built from the
+# sources as they are. `keep_sum` stores the checksum beside the program, if the sources still have the given sum.
 built_sum() { echo "$(sources_sum) $(sha256sum < "$program")"; }
 is_built() { [ -x "$program" ] && [ -f "$program.sum" ] && [ "$(< "$program.sum")" = "$(built_sum)" ]; }
 keep_sum() { [ -x "$program" ] && [ "$(sources_sum)" = "$1" ] && built_sum > "$program.sum"; }
 
-# Proves and builds a crate and those that it stands on, and tells on standard error how far that is, on a terminal in one line.
+# Proves and builds a crate and those below it, and reports its progress on standard error, in one line if that is a terminal.
 build() {
     local sum log running far told='' status=0 line='%s\n' start=$SECONDS
     [ ! -t 2 ] || line='\r\033[K%s'
     sum=$(sources_sum)
     log=$(mktemp)
     set -m
-    # The lowest first: if one below isn't proved, rt goes through all sources once more.
+    # The lowest crate comes first: if a crate below isn't proved, rt goes through all sources once more.
     (for crate in $(with_libraries "$1"); do
         cd -- "$top/crates/$crate" && if [ -f src/main.rt ]; then rt run; else rt lib; fi || exit 1
     done) < /dev/null > "$log" 2>&1 &

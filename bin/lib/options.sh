@@ -1,6 +1,6 @@
-# What scripts of this folder share. The caller is a script whose first lines are a comment that says what it does.
+# What the shell scripts of `bin` share. The caller is a script whose first lines are a comment that says what it does.
 
-# Answers `--help` with that comment. Any other word is refused, but those in the first one.
+# Prints that comment for `--help`. Rejects any other word that the first argument doesn't list.
 take_options() {
     local word
     for word in "${@:2}"; do

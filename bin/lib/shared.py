@@ -16,7 +16,7 @@ CRATES = {name: uses.split() for name, uses in re.findall(r"^(\w+)[^:\n]*:(.*)",
 
 
 def parser(text):
-    """A parser of a script's words, whose --help is this text."""
+    """A parser of a script's words, with this text as its --help."""
     return argparse.ArgumentParser(description=text, formatter_class=argparse.RawDescriptionHelpFormatter)
 
 
@@ -46,8 +46,7 @@ def texts_in(folder):
 class Body:
     """A wrong body: its title, the texts that it replaces, and what catches it, if that is stored.
 
-    Of each text that it replaces `changes` has the file, the text behind which it stands ('' if it stands once), the text, and the
-    new one.
+    For each text that it replaces `changes` has the file, a text before it ('' if it occurs once), the text, and the new one.
     """
 
     CHANGE = r"(?:file: (.+)\n)?(?:behind: (.+)\n)?old: (.+)\nnew: ?(.*)\n"
@@ -63,7 +62,7 @@ class Body:
 
 
 def bodies(file):
-    """The wrong bodies in a file: its paragraphs, but for comments."""
+    """The wrong bodies in a file: its paragraphs that aren't comments."""
     paragraphs = re.split("\n{2,}", file.read_text(encoding="utf-8").strip("\n"))
     return [Body(it) for it in paragraphs if not all(line.startswith("#") for line in it.split("\n"))]
 
@@ -91,7 +90,7 @@ def kit():
 
 
 def model(crate):
-    """What the model of a crate has."""
+    """The functions and constants of a crate's model."""
     return runpy.run_path(f"{TOP}/crates/{crate}/model.py")
 
 
@@ -103,9 +102,10 @@ def write_files(folder, files):
 
 
 class Watched:
-    """A program of tests on all that its model makes, with bin/lib/allocator.c loaded before the C library.
+    """A test program that runs on all that its model makes, with bin/lib/allocator.c loaded before the C library.
 
-    What the model makes is written into a folder of the program's own in `room`. A line that tells of a call has `sign` in it.
+    What the model makes is written into a folder of the program's own in `room`. A line of output is that of a call if it has
+    `sign`.
     """
 
     def __init__(self, room, crate, sign, program=None):
@@ -120,7 +120,7 @@ class Watched:
         subprocess.run([clang, *options, "-o", self.library, TOP / "bin" / "lib" / "allocator.c"], check=True)
 
     def run(self, before="", **more):
-        """How it ends on its input after this text, the lines that tell of calls, and the numbers that stand beside each."""
+        """Runs the program on this text and then its input: the status, the lines of calls, and the numbers of each call."""
         env, given = os.environ | {"LD_PRELOAD": self.library} | more, before + self.given
         data = self.whole / "data"
         how = {"cwd": data if data.is_dir() else self.folder, "env": env, "input": given, "capture_output": True, "text": True}
@@ -146,7 +146,7 @@ class Report:
             print(text, flush=True)
 
     def tell(self, name, holds, why):
-        """Counts a case, with a line of how it came out."""
+        """Counts a case, and prints a line with its name and result."""
         self.count(holds)
         print(f"{name}: ok" if holds else f"{name}: FAILED, {why}", flush=True)
 

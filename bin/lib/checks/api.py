@@ -1,4 +1,4 @@
-"""The pages of all calls, and diff/calls.txt, are of the sources; each call says what it costs, and is tried."""
+"""The pages of all calls, and diff/calls.txt, agree with the sources; each call says what it costs, and is tried."""
 import re
 import sys
 
@@ -12,30 +12,30 @@ from lib.shared import TOP
 sys.path.append(str(TOP / "diff"))
 import table
 
-# The libraries with no call for the page: why.
+# The libraries that have no call for the pages, and why.
 NOT_LISTED = {
     **dict.fromkeys(["names_core", "names_main", "names"], "the program, which README tells"),
 }
-# The groups whose calls say what they cost in comparisons and moves, or whose source says it of all once, and those of their
-# calls that compare no keys and move no pairs, which a page may say in its own words once.
+# The groups whose calls say what they cost in comparisons and moves, or whose source says it once for all calls; and the calls of
+# these groups that compare no keys and move no pairs, of which a page may say so once.
 COSTED = [*GROUPS][: [*GROUPS].index("Read from a source")]
 COST = re.compile(r"\bcompar|\bmoves?\b|\bsearch", re.IGNORECASE)
 COST_OF_ALL = re.compile(r"^//!.*(?:O\(|No keys are compared)", re.MULTILINE)
 FREE = {
     "LiteMap": "new_vec into_tuple_vec from_sorted_store_unchecked new with_capacity len keys_rise is_empty get_indexed first last"
     " get_indexed_mut clear iter iter_keys iter_values keys values get_indexed_range as_sliced as_slice const_len const_is_empty"
-    # Its pairs move where the store takes other memory.
+    # This call moves pairs if the store takes other memory.
     " const_get_indexed_or_panic reserve",
     "OccupiedEntry": "key get get_mut into_mut insert",
     "VacantEntry": "key",
     "Entry": "and_modify",
 }
 FREE = [f"{owner}::{name}" for owner, names in FREE.items() for name in names.split()]
-# The words that mean the same in Rust, and those that the page tells with the signs.
+# Words that mean the same in Rust, and those that the page explains with the signs.
 OF_RUST = "Some None Ok Err Option Result Bool true false String List ℕ ⊤ Data Type".split()
-# The crates of tests, and the examples that are programs of rows too.
+# The crates of tests, and the examples that are programs over rows too.
 TESTS = "crates/test_*/src crates/example_formats/src crates/example_uses/src".split()
-# The calls that no test names, and those that no wrong body names, beside laws, whose bodies do nothing: why.
+# The calls that no test names, and those that no wrong body names, and why. Laws are left out, since their bodies do nothing.
 NOT_CALLED = {
     "Keys::key_count": "what the search over slices asks",
     "Keys::key_at": "what the search over slices asks",
@@ -62,13 +62,13 @@ NOT_TURNED = {
 
 
 def words_of(*patterns):
-    """The text of files without comments, each behind its own name."""
+    """The text of files without comments, each after the name of its file."""
     files = [file for pattern in patterns for file in TOP.glob(pattern)]
     return " ".join(f"{file.stem} " + re.sub(r"//.*", "", file.read_text(encoding="utf-8")) for file in files)
 
 
 def write_pages(texts):
-    """Writes these pages, by their paths, and removes other ones of groups."""
+    """Writes these pages, by their paths, and removes the pages of other groups."""
     for page in {it for it in TEXTS if it.startswith("docs/api/")} - {*texts}:
         (TOP / page).unlink()
         del TEXTS[page], BLOCKS[page]
@@ -79,7 +79,7 @@ def write_pages(texts):
 
 
 def see_pages(report, write):
-    """The pages are as the sources have them; with `write` they are written."""
+    """Compares the pages with what the sources make of them; with `write` they are written first."""
     before, _, rest = TEXTS[INDEX].partition(START)
     texts = {INDEX: before + index_text() + rest.partition(END)[2]} | pages()
     if write:
@@ -90,20 +90,20 @@ def see_pages(report, write):
 
 
 def told_words():
-    """The words of others that docs/API.md tells, those of traits as .member."""
+    """The words of others that docs/API.md explains, those of traits as .member."""
     tables = [it for it in BLOCKS[INDEX] if it.kind == "table" and it.rows()[0][0] == "Word"]
     firsts = [NAME.findall(code)[0] for table in tables for row in table.rows()[1:] for code in CODE.findall(row[0])]
     return {f".{it.split('.')[-1]}" if "." in it else it for it in firsts}
 
 
 def names_of(entry):
-    """The names in the contracts of an entry and in the definitions of its words, each with the scope and the key of its word."""
+    """The names in the contracts of an entry and in the definitions of its words, each with its scope and the key of its word."""
     yield from ((SCOPES[entry.call.path], name, key) for name, key in entry.names.items())
     yield from ((SCOPES[word.path], name, key) for word in entry.words for name, key in names_in(word))
 
 
 def other_word(scope, name):
-    """The word of others that a name is, as `told_words` has it, or None if it needs no telling."""
+    """The word of others that a name stands for, as `told_words` has it, or None if it needs no explanation."""
     first, *rest = name.split(".")
     module = scope.modules.get(first, "")
     if module:
@@ -112,7 +112,7 @@ def other_word(scope, name):
 
 
 def see_words(report):
-    """Each word of a contract is a definition of ours, or one of others that docs/API.md tells, and it tells no more."""
+    """Sees that each word of a contract is defined here, or is another's that docs/API.md explains, which explains no more."""
     told, used = told_words(), {}
     for entry in (it for entries in ENTRIES.values() for it in entries):
         for scope, name, key in names_of(entry):

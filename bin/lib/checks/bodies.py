@@ -1,4 +1,4 @@
-"""Each wrong body fits the sources by its text: those of wrong/, of must-fail/ and of planted."""
+"""The text of each wrong body fits the sources: of those in wrong/, in must-fail/ and in planted."""
 import collections
 import functools
 
@@ -7,7 +7,7 @@ from lib.shared import CRATES, TOP, bodies, edited, texts_in
 
 @functools.cache
 def texts_of(crate):
-    """The texts that a wrong body of a crate may change; of none, those of all crates."""
+    """The texts that a wrong body of a crate may change: with no crate, those of all crates."""
     if crate:
         return texts_in(TOP / "crates" / crate)
     return {f"{name}/{path}": text for name in CRATES for path, text in texts_of(name).items()}
@@ -23,7 +23,7 @@ def misfit(texts, body):
 
 
 def place(texts, body):
-    """Where a wrong body stands in the sources."""
+    """The position of a wrong body in the sources."""
     path, behind, old, _ = body.changes[0]
     return path, texts[path].find(old, texts[path].find(behind))
 
@@ -40,7 +40,7 @@ def see_order(file, found, is_written, report):
 
 
 def see(file, crate, is_written, report):
-    """Looks at the wrong bodies of a file."""
+    """Checks the wrong bodies of a file."""
     found, texts, name = bodies(file), texts_of(crate), file.relative_to(TOP)
     whys = [(misfit(texts, it), it.title) for it in found]
     for why, title in whys:

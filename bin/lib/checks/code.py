@@ -1,23 +1,23 @@
-"""The code in pages and in comments is code of a crate that is proved, and the callers that pages show are run."""
+"""The code in pages and comments is code of a proved crate, and the callers that pages show are run."""
 import re
 
 from lib.checks.pages import BLOCKS
 from lib.checks.sources import RUST, examples_of
 from lib.shared import CRATES
 
-# The lines that a block leaves out.
+# Lines that a block may leave out.
 LEFT_OUT = re.compile(r"^ *// \.\.\.\n", re.MULTILINE)
-# The crates whose items stand in comments, and those whose functions a program or a test has to call, by whatever way.
+# The crates whose items stand in comments, and those whose functions a program or a test has to call, directly or not.
 SHOWN = ("example_uses", "example_formats", "example_store", "test_cases")
 CALLERS = ("example_uses", "example_formats", "example_store")
-# What is called by no name of its own: a program, and calls of traits.
+# Functions that are called without their names: a program's, and those of traits.
 UNNAMED = {"main", "compare_key", "eq", "lm_iter", "lm_into_iter", "to_value", "from_value", "key_text"}
-# A function, by the space before it, its name and its body.
+# A function: the space before it, its name and its body.
 FUNCTION = re.compile(r"^( *)(?:pub(?:\(crate\))? )?fn (\w+)(.*?)^\1\}$", re.MULTILINE | re.DOTALL)
 
 
 def trimmed(text):
-    """The lines of a text without the space around them, each ended."""
+    """The lines of a text, without the space around them."""
     return "".join(line.strip() + "\n" for line in text.splitlines())
 
 

@@ -1,5 +1,5 @@
-"""The crates and the scripts: tables, lines of crates.txt and lists name all of them, and none that is not there. No two modules
-of a crate import each other."""
+"""Tables, lines of crates.txt and lists name all crates and all scripts, and no others. No two modules of a crate import each
+other."""
 import os
 import re
 import subprocess
@@ -9,29 +9,29 @@ from lib.checks.pages import BLOCKS, CODE, TEXTS
 from lib.checks.sources import LIBRARIES, RUST
 from lib.shared import CRATES, TOP
 
-# The libraries that bin/release does not pack: why.
+# The libraries that bin/release does not pack, and why.
 NOT_PACKED = {}
-# The modules that may import what imports them: why.
+# The modules that may import what imports them, and why.
 BOTH_WAYS = {"litemap_store/store": "bodies of its traits call what is written over the traits"}
-# What a module imports of its crate, and a list within such a path.
+# What a module imports from its crate, and a list within such a path.
 IMPORT = re.compile(r"^(?:pub(?:\(crate\))? )?use crate::([^;]+);", re.MULTILINE)
 LIST = re.compile(r"((?:\w+::)*)\{([^{}]*)\}")
 
 
 def named_in(page, head):
-    """What the first column of a page's table names, whose first cell is `head`."""
+    """What the first column names in the table of a page that begins with the cell `head`."""
     tables = [it.rows() for it in BLOCKS[page] if it.kind == "table"]
     return {name for rows in tables if rows[0][0] == head for row in rows[1:] for name in CODE.findall(row[0])}
 
 
 def lines_in(page):
-    """The lines of crates.txt that a page shows, in its text or in a block: the crate of each, and what it uses."""
+    """The lines of crates.txt that a page shows, in its prose or in a block: the crate of each, and what it uses."""
     shown = re.findall(r"`(\w+):((?: \w+)*)`|^ *(\w+):((?: \w+)*)$", TEXTS[page], re.MULTILINE)
     return [(name or below, (uses or more).split()) for name, uses, below, more in shown if (name or below) in CRATES]
 
 
 def imported(text):
-    """The paths that a module imports of its crate."""
+    """The paths that a module imports from its crate."""
     for tree in IMPORT.findall(text):
         tree = "".join(tree.split())
         while LIST.search(tree):
@@ -40,13 +40,13 @@ def imported(text):
 
 
 def module_of(path, modules):
-    """The module in which an item stands: the longest one that its path begins with, "" for the crate's root."""
+    """The module of an item: the longest one that its path begins with, "" for the crate's root."""
     parts = path.split("::")
     return next((it for it in ("/".join(parts[:end]) for end in range(len(parts), 0, -1)) if it in modules), "")
 
 
 def both_ways(crate):
-    """The modules of a crate, two by two, that import each other."""
+    """The pairs of modules of a crate that import each other."""
     modules = {path.split("/", 2)[2].removesuffix(".rt"): text for path, text in RUST.items() if path.startswith(f"{crate}/src/")}
     imports = {name: {module_of(path, modules) for path in imported(text)} for name, text in modules.items()}
     for name, others in imports.items():

@@ -1,4 +1,4 @@
-"""No sentence of a page is longer than it may be, but for those of definitions, which docs/API.md and docs/api repeat."""
+"""No sentence of a page is too long. Those of definitions, which docs/API.md and docs/api repeat, may have any length."""
 import re
 
 from lib.checks.pages import BLOCKS, CODE, LINK
@@ -8,7 +8,7 @@ END = re.compile(r"(?<=[^.][.!?])[\"')*]*(?:\s+|$)")
 
 
 def words(text):
-    """How many words a text has: what stands between white space and has a letter or a digit."""
+    """The number of words in a text: parts between white space that have a letter or a digit."""
     return sum(any(map(str.isalnum, word)) for word in text.split())
 
 

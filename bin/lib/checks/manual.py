@@ -1,4 +1,4 @@
-"""docs/API.md and the pages in docs/api, as they are written from the sources: each call, its contract, and the words of that."""
+"""docs/API.md and the pages in docs/api, which are written from the sources: each call, its contract, and the words in that."""
 import re
 import textwrap
 
@@ -9,7 +9,7 @@ from lib.checks.words import WORDS
 
 INDEX = "docs/API.md"
 START, END = "<!-- bin/check writes what follows. -->\n", "<!-- bin/check writes what is above. -->\n"
-# What one wants to do, and the sources of its calls.
+# What a caller wants to do, and the sources of the calls for it.
 GROUPS = {
     "Make a map": "litemap: lib map",
     "Look up": "litemap: map/look map/ranges",
@@ -32,8 +32,8 @@ GROUPS = {
     "split_store; litemap_short: short_store short_iter; litemap_columns: lib column_store column_iter",
     "Laws, for proofs": "litemap_store: laws",
 }
-# A word that this many groups use is told once, in docs/API.md. Of the others a call tells those that are so near: 0 are those
-# that its contract names, 1 those of their definitions.
+# A word that this many groups use is explained once, in docs/API.md. Of the others a call explains those that are so near: 0 are
+# those that its contract names, 1 those of their definitions.
 MANY, NEAR, NEAR_TYPES = 4, 2, 1
 TYPES, TWINS = ("struct", "enum", "type", "trait"), "\n\n"
 CLAUSE = re.compile(r"\b(?:requires|ensures\*?)(?: \w+)? (?=\{)")
@@ -55,7 +55,7 @@ def block(text, language="text"):
 
 
 class Entry:
-    """A call in a page: its title there, its counted twin if it has one, and the names that their contracts use."""
+    """A call in a page: its title there, its counted variant if it has one, and the names that their contracts use."""
 
     def __init__(self, call, twin, title):
         self.call, self.title = call, title
@@ -68,14 +68,14 @@ class Entry:
         self.names, self.words = names, closure(key for key in names.values() if key)
 
     def sentence(self):
-        """The first sentence of its comment, with the mark of what the Rust crate lacks."""
+        """The first sentence of a call's comment, with the mark of what the Rust crate lacks."""
         first = " ".join(self.call.comment.split("\n\n")[0].split())
         said = re.match(r".*?\.(?= |$)|.*", first)[0]
         return said + " (own)" * ("(own)" in first and "(own)" not in said)
 
 
 def entries_of(calls, titles):
-    """The entries of the calls of a source, whose titles are none of these."""
+    """The entries of the calls of a source, with titles that are none of these."""
     labels = {call.label: call for call in calls}
     for call in calls:
         if call.label.removesuffix("_counted") in labels and call.label.endswith("_counted"):
@@ -114,13 +114,13 @@ def source_link(text, place, page):
 
 
 def said(word, link):
-    """A line of a list that says what a word means."""
+    """A list item that says what a word means."""
     means = [word.said, f"A contract sees it as `{word.seen}`." if word.seen and "contract sees" not in word.said else ""]
     return f"- {': '.join(filter(None, [link, ' '.join(filter(None, means))]))}\n"
 
 
 def told(word, page):
-    """What a page says of a word: how it is written, what its comment says, and what it is made of."""
+    """What a page says about a word: how it is written, what its comment says, and what it is made of."""
     line = said(word, source_link(f"`{word.head}`", word, page))
     return line + (f"\n{textwrap.indent(block(displayed(word)), '  ').rstrip()}\n" if word.shown else "")
 
@@ -138,7 +138,7 @@ def comment(text):
 
 
 def words_text(it, page, above):
-    """What a page says of the words of a call. `above` has the titles below which words were told before: these are linked."""
+    """What a page says about the words of a call. `above` has the titles that already explain a word: these are linked."""
     text, types = "", []
     for word, far in it.words.items():
         link = f"[`{word.name if word.kind in TYPES else word.head}`](#{slug(above.get(word, ''))})"
@@ -153,20 +153,20 @@ def words_text(it, page, above):
 
 
 def entry(it, page, above):
-    """What stands in a page of a call."""
+    """The text of a call in a page."""
     paragraphs, examples = comment(it.call.comment)
     link = source_link(f"`{it.call.path.replace('/src/', '/')}`", it.call, page)
     return f"## {it.title}\n\n{paragraphs}{link}:\n\n{block(TWINS.join(it.contracts))}{examples}{words_text(it, page, above)}"
 
 
 def listed(title, words, page):
-    """A list of words under a title, if there are some."""
+    """A list of words under a title, or nothing if there are none."""
     text = "".join(told(word, page) for word in sorted(words, key=lambda word: word.head.lower()))
     return f"## {title}\n\n{text}\n" if text else ""
 
 
 def impls_text(group):
-    """The heads of the impls of others' traits in the sources of a group, each below its comment."""
+    """The heads of the impls of others' traits in the sources of a group, each after its comment."""
     for head, _, said in (it for source in sources_of(group) for it in IMPLS.get(source, ())):
         yield from (*textwrap.wrap(said, 120, initial_indent="/// ", subsequent_indent="/// "), head)
 
@@ -185,7 +185,7 @@ def page_text(group):
 
 
 def index_text():
-    """The part of docs/API.md that is written: an index by groups, and the words of many."""
+    """The generated part of docs/API.md: an index by groups, and the words that many groups use."""
     text = START + "\n" + "".join(f"- [{group}](#{slug(group)})\n" for group in GROUPS)
     for group, entries in ENTRIES.items():
         target = page_of(group).removeprefix("docs/")

@@ -1,14 +1,14 @@
 """Each call of a library that takes memory has lines of data, of which bin/requests refuses each request.
 
-A call takes memory where it is handed an allocator, or answers a fault that want of memory may be. `SHOWN` says how a line of
-`example_formats` begins that makes it.
+A call takes memory if an allocator is passed to it, or if it returns an error that may mean that memory ran out. `SHOWN` has the
+first words of the lines of `example_formats` that make a call.
 """
 import re
 
 from lib.checks.sources import CALLS, LIBRARIES
 from lib.shared import TOP
 
-# The libraries whose calls are shown elsewhere: why.
+# The libraries whose calls are shown elsewhere, and why.
 WITHOUT = {
     **dict.fromkeys(
         ["litemap_store", "litemap", "litemap_short", "litemap_columns", "litemap_read"],
@@ -17,7 +17,7 @@ WITHOUT = {
     **dict.fromkeys(["names_core", "names_main"], "whole runs of the program, in bin/requests"),
 }
 SHOWN = {
-    # Name tables, what is looked up in them, and indexes.
+    # Name tables, lookups in them, and indexes.
     "read_names": "table read",
     "find_name": "table find",
     "write_names": "table again",
@@ -38,7 +38,7 @@ SHOWN = {
     "array_of_two": "json nested",
     "write_value": "json nested",
     "rewrite_flags": "json rewrite",
-    # Maps that are read through serde, of JSON and of TOML, whose texts are owned.
+    # Maps that are read through serde, from JSON and from TOML, whose strings are owned.
     "deserialize": "serde config",
     "deserialize_owned": "serde toml-config",
 }

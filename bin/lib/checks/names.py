@@ -1,4 +1,4 @@
-"""What a page names is there: paths, links and their anchors, what a file has, and calls."""
+"""What pages name exists: paths, links and their anchors, what a file is said to have, and calls."""
 import collections
 import os
 import re
@@ -7,19 +7,19 @@ from lib.checks.pages import BLOCKS, CODE, LINK, TEXTS, slug
 from lib.checks.sources import PROOFS, RUST, SPECS
 from lib.shared import CRATES, TOP
 
-# A path in backticks, one from the top anywhere, and a module of specs or proofs.
+# A path in backticks, a path from the top of the repository anywhere, and a module of specs or proofs.
 PATH = re.compile(r"[\w.*-]*(?:/[\w.*-]+)+/?|\w+/|[\w-]+\.(?:rt|antt|md|txt|py|sh|c|svg|edit|calls)")
 FROM_TOP = re.compile(r"(?<![\w./])(?:bin|crates|docs|wrong|diff|bench)/[\w.*/-]*[\w*]")
 MODULE = re.compile(r"\bRattle\.(\w+)((?:\.(?!declared\b|Given\b|Goals\b)\w+)+)")
-# What stands in a path for any name.
+# A part of a path that stands for any name.
 ANY = re.compile(r"\b(?:[A-Z]{4,}|game)\b(?!\.md)|\*")
-# A word in a file, either way round.
+# A word and the file that has it, in either order.
 WORD_IN = re.compile(r"`([\w./]*\.\w+|\w+/\w+)`\s`(\w+)`|`(\w+)` in\s`([\w./]*\.\w+)`")
 CODE_OF = {path: re.sub(r"^ *(?://|--).*", "", text, flags=re.MULTILINE) for path, text in (RUST | SPECS | PROOFS).items()}
 
 
 def all_paths():
-    """The files and folders, by each end of their paths: also without `src/`, and without a suffix."""
+    """The files and folders, by each end of their paths, also without `src/` and without a suffix."""
     ends = {}
     for folder, folders, files in os.walk(TOP):
         folders[:] = [it for it in folders if it not in (".git", "out")]
@@ -51,7 +51,7 @@ def paths_of(block):
 
 
 def is_link(page, target):
-    """Whether what a link leads to is there."""
+    """Whether the target of a link exists."""
     path, _, anchor = target.partition("#")
     path = os.path.normpath(os.path.join(os.path.dirname(page), path)) if path else page
     if re.fullmatch(r"L\d+", anchor) and (TOP / path).is_file():
@@ -60,13 +60,13 @@ def is_link(page, target):
 
 
 def own_text(block):
-    """The text of a block, without the column of a table that is of other libraries."""
+    """The text of a block, without a table's column about other libraries."""
     rows = block.rows() if block.kind == "table" else []
     return "\n".join(" ".join(row[1:]) for row in rows) if rows and {"Here", "Port"} & {*rows[0]} else block.text
 
 
 def owners():
-    """The code of each file, crate, and type but those of tests, by its name."""
+    """The code of each file, crate and type, by its name, except those of tests."""
     found, types = collections.defaultdict(str), set()
     for path, text in CODE_OF.items():
         types.update(() if path.startswith("test_") else re.findall(r"^pub (?:struct|enum|trait|type) (\w+)", text, re.MULTILINE))

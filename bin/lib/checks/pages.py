@@ -1,9 +1,9 @@
-"""The pages, by their blocks: headings, prose, items of lists, tables, code."""
+"""The pages in blocks: headings, prose, items of lists, tables, code."""
 import re
 
 from lib.shared import TOP
 
-# The lines that go on with a paragraph or an item.
+# Lines that continue a paragraph or an item.
 MORE = r".*(?:\n(?! *(?:$|\||```|#+ |(?:-|\d+\.) )).+)*"
 SHAPES = {
     "code": r"^(?P<set_in> *)```(?P<language>\w*)\n(?P<inside>[\s\S]*?)^(?P=set_in)```$",
@@ -20,7 +20,7 @@ CODE = re.compile(r"`([^`\n]+)`")
 
 
 class Block:
-    """A block of a page, which stands at a line below a heading."""
+    """A block of a page, with its line and the heading above it."""
 
     def __init__(self, page, line, heading, found):
         self.page, self.line, self.heading, self.kind, self.text = page, line, heading, found.lastgroup, found[0]
@@ -28,7 +28,7 @@ class Block:
         self.language, self.inside = found["language"], found["inside"]
 
     def rows(self):
-        """The cells of a table, row by row, but for the row of dashes."""
+        """The cells of a table, row by row, without the row of dashes."""
         rows = [[cell.strip() for cell in re.split(r"(?<!\\)\|", line.strip())[1:-1]] for line in self.text.splitlines()]
         return [row for row in rows if not re.fullmatch(r"[-: ]+", "".join(row))]
 
@@ -47,7 +47,7 @@ def slug(heading):
 
 
 def read(page):
-    """Reads a page, for the first time or once more."""
+    """Reads a page, or reads it again."""
     TEXTS[page] = (TOP / page).read_text(encoding="utf-8")
     BLOCKS[page] = [*blocks_of(page, TEXTS[page])]
 

@@ -1,4 +1,4 @@
-"""The names of clauses that docs/PROVED.md explains are there, and ratios of time on other pages are those of docs/TIMES.md."""
+"""The names of clauses that docs/PROVED.md explains exist, and ratios of time on other pages are those of docs/TIMES.md."""
 import re
 
 from lib.checks.pages import BLOCKS, CODE
@@ -14,7 +14,7 @@ def tables(page):
 
 
 def ratios(table):
-    """The cells of a table of times, by title, row and column: what stands in brackets, or the cell itself."""
+    """The cells of a table of times, by title, row and column: the number in parentheses, or the cell itself."""
     (title, *columns), *rows = table.rows()
     for name, *cells in rows:
         for column, cell in zip(columns, cells):

@@ -1,14 +1,14 @@
-"""What the names in contracts and in definitions mean: which word of ours, or that it is one of others."""
+"""What the names in contracts and definitions mean: which of our words, or another's."""
 import re
 
 from lib.checks.sources import RUST, SPECS
 from lib.checks.words import IMPORT, WORDS
 from lib.shared import CRATES
 
-# A name with its parts, as a contract writes it, and the names that it binds.
+# A name with its parts, as a contract writes it, and the names that a contract binds.
 NAME = re.compile(r"(?<![\w.'-])(?:⟦<[^⟧]*⟧|[^\W\d][\w'-]*)(?:\.[^\W\d][\w'-]*)*")
 BOUND = re.compile(r"λ ([^.]*)\.|\(([\w' ]+) : ")
-# The modules of the logic's own language: a definition that uses them says nothing to a reader of a page.
+# The modules of the logic's own language: a definition that uses them tells a reader of a page nothing.
 INNER = re.compile(
     r"(?:denote\.Param|mir|mathlib|std\.proofs|std\.specs\.(?:Borrow|BTreeMap)|json\.specs|serde\.specs|\w+\.specs\.contracts)\b"
 )
@@ -16,12 +16,12 @@ TRAITS = {name: text for text in RUST.values() for name, text in re.findall(r"^p
 
 
 def supers(trait):
-    """A trait of ours, and those that it builds on."""
+    """A trait of ours, and its supertraits."""
     return [trait, *(it for name in re.findall(r"\w+", TRAITS[trait]) if name in TRAITS for it in supers(name))]
 
 
 def own_key(module, name):
-    """The key of what a module has under a name, None if it is none of ours."""
+    """The key of what a module has under a name, or None if it isn't ours."""
     if module.split(".")[0] not in CRATES:
         return None
     if module.endswith(".TheConstants"):
@@ -31,7 +31,7 @@ def own_key(module, name):
 
 
 class Scope:
-    """What names mean in a file: those that it imports, and its own."""
+    """What names mean in a file: those that it imports, and those that it defines."""
 
     def __init__(self, path, text):
         self.modules = {}
@@ -41,7 +41,7 @@ class Scope:
         self.own = f"{crate}.specs.{rest.replace('/', '.')}" if path.endswith(".antt") else ""
 
     def key(self, name, bounds):
-        """The key of the word that a name means, where its first part may have traits as bounds."""
+        """The key of the word that a name means, if its first part may have these traits as bounds."""
         first, *rest = re.sub(r"⟦<.* as (\w+)>⟧", r"\1", name).split(".")
         if first in self.modules:
             return own_key(self.modules[first], first)
@@ -51,7 +51,7 @@ class Scope:
         return next((key for key in keys if key in WORDS), None)
 
     def used(self, text, bounds):
-        """The names in a text that it doesn't bind itself, each with the key of the word that it means, None if not of ours."""
+        """The names that a text uses and doesn't bind, each with the key of its word, or with None if the word isn't ours."""
         text = re.sub(r"(?:--|//).*", "", text)
         bound = {name for names in BOUND.findall(text) for name in " ".join(names).split()}
         for name in dict.fromkeys(NAME.findall(text)):
@@ -68,13 +68,13 @@ def types_in(text):
 
 
 def bounds_of(text):
-    """The traits of ours that a head names as bounds, by the parameters."""
+    """Our traits that a head names as bounds, by the parameters."""
     parts = re.split(r"\b([A-Z]\w*): ", text)
     return {name: [it for it in re.findall(r"\w+", bound) if it in TRAITS] for name, bound in zip(parts[1::2], parts[2::2])}
 
 
 def is_hidden(word):
-    """Whether the comment alone is shown of a definition: one in the logic's own language, or over a private one."""
+    """Whether only the comment of a definition is shown: if it is in the logic's own language, or uses a private definition."""
     scope, text = SCOPES[word.path], (SPECS | RUST)[word.path]
     private = re.findall(r"^ *(?:abbrev |unfoldable )*(?!pub |module )(\w+) :", text, re.MULTILINE)
     names = [name.split(".")[0] for name in NAME.findall(word.shown)]
@@ -92,7 +92,7 @@ def names_in(word):
 
 
 def closure(keys):
-    """The words of these keys, and those that their definitions use, by how far off they are: 0 for those of the keys."""
+    """The words of these keys, and those that their definitions use, with their distance: 0 for those of the keys."""
     found, new = {}, [(key, 0) for key in keys]
     while new:
         key, far = new.pop(0)
@@ -104,7 +104,7 @@ def closure(keys):
 
 
 def displayed(word):
-    """What a page shows of a definition: its lines, with variants by their names alone."""
+    """What a page shows of a definition: its lines, with only the names of variants."""
     aliases = [name for name, module in SCOPES[word.path].modules.items() if module.endswith(".TheVariants") and name.islower()]
     return re.sub(rf"\b(?:{'|'.join(aliases)})\.(?=[A-Z])", "", word.shown) if aliases else word.shown
 

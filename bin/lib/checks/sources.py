@@ -1,4 +1,4 @@
-"""The sources: the calls of the libraries with their contracts, and the traits of others that their types have."""
+"""The sources: the calls of the libraries with their contracts, and the traits of others that their types implement."""
 import itertools
 import re
 import textwrap
@@ -20,7 +20,7 @@ def texts(pattern):
 
 
 def examples_of(text):
-    """The blocks of Rust in the `///` of a source: the comment of each, the block, and whether it begins with an item."""
+    """The blocks of Rust in the `///` of a source: the comment of each, its code, and whether that begins with an item."""
     for comment in re.finditer(r"(?:^ *///.*\n)+", text, re.MULTILINE):
         inside = re.sub(r"^ */// ?", "", comment[0], flags=re.MULTILINE)
         for block in re.findall(r"^```rust\n(.*?)^```$", inside, re.MULTILINE | re.DOTALL):
@@ -28,7 +28,7 @@ def examples_of(text):
 
 
 def squeezed(text):
-    """A head in one line, without its comments."""
+    """A head as one line, without its comments."""
     text = re.sub(r"\s+", " ", re.sub(r"//[^\n]*", "", text)).strip()
     return re.sub(r",? ([)>])", r"\1", re.sub(r"([(<]) ", r"\1", text)).rstrip(",")
 
@@ -41,12 +41,12 @@ def comment_above(text, start):
 
 
 def without_examples(comment):
-    """A comment in one line, without its examples."""
+    """A comment as one line, without its examples."""
     return " ".join(re.sub(r"```.*?```", "", comment, flags=re.DOTALL).split())
 
 
 class Function:
-    """A function: its source and line, the item that it is in, its name, its head with its clauses, and what is said above it."""
+    """A function: its source and line, the item around it, its name, its head with its clauses, and the comment above it."""
 
     def __init__(self, source, outer, text, found):
         rest = text[found.end() :]
@@ -56,7 +56,7 @@ class Function:
         self.head = re.split(r"\n\s*(?:where|requires|ensures)\b", self.contract)[0]
         self.source, self.outer, self.name = source, outer, re.search(r"fn (\w+)", self.head)[1]
         owner = re.match(r"pub trait (\w+)|impl(?:<.*?>)? (\w+)(?:<.*>)?\s*(?:where.*)?$", outer)
-        # The type or the trait whose call it is, "" for a function of a module, None where it is of a trait that a type has.
+    # The type or trait that it is a call of, "" for a function of a module, None for one of a trait that a type implements.
         self.owner = "" if not outer else owner[1] or owner[2] if owner and " for " not in outer else None
         self.label = f"{self.owner}::{self.name}" if self.owner else self.name
         self.is_public = "pub fn" in self.head or outer.startswith("pub trait")
@@ -66,7 +66,7 @@ class Function:
 
 
 def functions_of(source, text):
-    """The functions of a source, but for those within functions."""
+    """The functions of a source, except those within functions."""
     outer = ""
     for found in ITEM.finditer(text):
         if not found["set_in"]:
@@ -76,7 +76,7 @@ def functions_of(source, text):
 
 
 def exported(library):
-    """What names an item of a library that a user can name: whether its source or its name does."""
+    """A function that says whether a user of a library can name an item, by the item's source and name."""
     files = "\n".join(text for path, text in RUST.items() if path.startswith(f"{library}/"))
     names = {*re.findall(r"\w+", " ".join(re.findall(r"^pub use ([^;]*);", files, re.MULTILINE)))}
     modules = {"lib", *re.findall(r"^pub mod (\w+);", RUST.get(f"{library}/src/lib.rt", ""), re.MULTILINE)}
@@ -84,7 +84,7 @@ def exported(library):
 
 
 def library_calls(library):
-    """The calls of a library that a user can name, by source, each once."""
+    """The calls of a library that a user can name, by source, each listed once."""
     is_exported = exported(library)
     for source in [it for it in FUNCTIONS if it.startswith(f"{library}/")]:
         found = [it for it in FUNCTIONS[source] if it.is_public and it.owner is not None]

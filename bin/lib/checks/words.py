@@ -1,4 +1,4 @@
-"""The words that contracts cite: our definitions, each with its comment, its line, how it is written and what it is made of."""
+"""The words that contracts use: our definitions, each with its comment, its line, how it is written and what it is made of."""
 import re
 import textwrap
 
@@ -23,7 +23,7 @@ MEMBER = re.compile(
 class Word:
     """A definition: its file and line, its kind and name, how it is written with its arguments, its comment, and its lines.
 
-    Of a type, `seen` is what a contract sees of it.
+    If it is a type, `seen` is what a contract sees of it.
     """
 
     def __init__(self, path, line, kind, name, head, said, shown, seen=""):
@@ -31,7 +31,7 @@ class Word:
         self.path, self.line, self.name, self.head, self.said, self.shown = path, line, name, head, said, shown
 
     def names(self):
-        """Its name, and those of its cases."""
+        """The name of the word, and those of its cases."""
         return [self.name, *re.findall(r"^(\w+) : ", self.shown if self.kind == "data" else "", re.MULTILINE)]
 
 
@@ -40,7 +40,7 @@ def indent(line):
 
 
 def explicit(text):
-    """The names of the parameters in a header that a use has to give: those in parentheses."""
+    """The names of the parameters in a header that each use has to pass: those in parentheses."""
     names, depth, start = [], 0, 0
     for at, sign in enumerate(text):
         start = at if not depth and sign in "({" else start
@@ -51,7 +51,7 @@ def explicit(text):
 
 
 def argument(patterns, known):
-    """A name for an argument of a definition, which has these patterns in its cases. The known names are no variables."""
+    """A name for an argument of a definition that has these patterns in its cases. The known names are no variables."""
     plain = [it for it in patterns if VARIABLE.fullmatch(it) and it not in known]
     inside = [name for it in patterns for name in VARIABLE.findall(it) if name not in known]
     is_result = any(re.match(r"\((?:Ok|Err)\b", it) for it in patterns)
@@ -120,7 +120,7 @@ def spec_words(path, text):
 
 
 def type_word(path, text, found):
-    """The word of a type or a trait of a source: what can be named of it is shown, and of a model what a contract sees."""
+    """The word of a type or a trait of a source. It shows what a user can name, and of a model what a contract sees."""
     line = text.count("\n", 0, found.start())
     shown = re.sub(r"^ *#\[.*\n", "", found[0], flags=re.MULTILINE)
     is_shown = found["kind"] in ("enum", "type", "const") or found["kind"] == "struct" and "pub " in found["rest"] + found["inside"]
