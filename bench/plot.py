@@ -83,7 +83,7 @@ def names(calls, top, width):
 
 
 def ratios(ours, theirs):
-    """The plot: a row of panels for each type of keys, a panel for each store, in it a row for each call and a dot for each size."""
+    """The plot: a row of panels for each type of keys, one for each store, in it a row for each call and a dot for each size."""
     plotted = [measure for measure in ours if measure.keys in tables.PLOTTED]
     drawn_ones = [measure for measure in plotted if tables.found_there(theirs, measure) is not None]
     calls = tables.distinct(measure.call for measure in drawn_ones)

@@ -99,7 +99,7 @@ class Found(typing.NamedTuple):
         return min(self.times)
 
     def spread(self):
-        """The noise: the lowest time of every second pass and that of the other passes, the greater divided by the smaller one."""
+        """The noise: the lowest times of every second pass and of the other passes, the greater divided by the smaller one."""
         halves = min(self.times[::2]), min(self.times[1::2] or self.times)
         return max(halves) / max(min(halves), 1)
 

@@ -79,7 +79,7 @@ class Run:
                 return "0" if kind == "ZERO" else ""
 
     def pairs(self):
-        """Picks a list of pairs: their keys ascend, descend, are equal, lie above the others or between them, or none of these."""
+        """Picks a list of pairs: the keys ascend, descend, are equal, lie above the others or between them, or none of these."""
         pick = self.below
         form, start = pick(8), pick(self.range)
         length = pick(6) if pick(2) else pick(30) if pick(2) else self.random.choice([*LENGTHS, pick(301)])

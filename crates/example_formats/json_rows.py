@@ -1,10 +1,10 @@
 """Maps as JSON: the rows `TYPES TEXT`, and the output of each.
 
-The rows are those below, written by hand with their output; for each type of whole numbers its ends, one past
-each, and other spellings, as keys in arrays, as names in objects and as items; and long texts and maps of up to 1,000 pairs,
-with errors at early and late indices. No output is the program's own: that of whole numbers is told by Python's integers,
-and that of long maps by Python's order. The program reads each row over a vector and
-over two columns, but those of `limits`, which are the rows of `levels` again, of `names` and of `overlay`.
+The rows are those below, written by hand with their output; for each type of whole numbers its least and its greatest value, one
+past each, and other spellings, as keys in arrays, as names in objects and as items; and long strings and maps of up to 1,000
+pairs, with errors at early and late indices. No output comes from the program itself: that of whole numbers comes from Python's
+integers, and that of long maps from Python's order. The program reads each row over a vector and over two columns, except those
+of `limits` (the rows of `levels` again), of `names` and of `overlay`.
 """
 
 WHOLE = {f"{kind}{bits}": (0 if kind == "u" else -(2 ** (bits - 1)), 2 ** (bits if kind == "u" else bits - 1) - 1)
@@ -163,7 +163,7 @@ def bad_elements():
 
 
 def whole_numbers():
-    """Each type's ends, one past them, and other spellings."""
+    """Each type's least and greatest value, one past each, and other spellings."""
     for types, (least, most) in WHOLE.items():
         for number in sorted({least - 1, least, least + 1, -1, 0, 1, most - 1, most, most + 1, 2**63, 2**64 - 1, 2**64}):
             held = -(2**63) <= number < 2**64
@@ -198,9 +198,9 @@ def told_at(part, place):
     return f"the {part} at place {place} (from 0): "
 
 
-# A value of each kind, and what is said of it.
+# A value of each kind, and its name in errors.
 KINDS = [("null", "null"), ("true", "a truth value"), ("1.5", "1.5"), ("[0]", "an array"), ("{}", "an object"), ('"x"', "a text")]
-# A key that can be written, what is wanted of keys and what of items.
+# A key that can be written, and what errors say that keys and items should be.
 WANTED = {
     **{types: ("0", *(f"a whole number of {types[1:]} bits{' with a sign' if types[0] == 'i' else ''}",) * 2) for types in WHOLE},
     "flags": ("true", "a truth value", "a truth value"),
@@ -302,7 +302,7 @@ def late_faults():
 
 
 def long_texts():
-    """Names and strings of few bytes and of many."""
+    """Names and strings of a few bytes and of many."""
     for length in (1, 12, 20, 21, 24, 33, 65, 100, 101, 129, 513, 5000):
         for letter in ("a", "é", '\\"'):
             text = letter * length

@@ -1,7 +1,7 @@
-"""What the program `example_formats` is run on, and what it has to write: its files stdin and stdout.
+"""Makes the input of the program `example_formats`, and the output that it must write: its files stdin and stdout.
 
-The rows of each kind are made by a file of its own here, with their output; none of it is the program's own. A sample of the rows
-is stored, which bin/data writes, and bin/requests runs all of them.
+Each kind of rows is made, with the output, by a file of its own here; no output comes from the program itself. bin/data stores a
+sample of the rows, and bin/requests runs all of them.
 """
 import collections
 import pathlib
@@ -21,7 +21,7 @@ def files():
 
 
 def sample(files):
-    """What is stored: of the rows that begin with the same two words the first one, the second, the fourth, the eighth and so on."""
+    """The stored rows: of those with the same first two words the first, the second, the fourth, the eighth and so on."""
     counts, kept = collections.Counter(), []
     for row, answer in zip(files["stdin"].splitlines(), files["stdout"].splitlines(), strict=True):
         kind = " ".join(row.split(" ")[:2])

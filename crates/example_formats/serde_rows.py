@@ -1,7 +1,7 @@
 """Maps through serde: the rows `WHAT TEXT`, and the output of each.
 
-The output is told by Python's readers of JSON, TOML and CSV and by its order of numbers and bytes, or written by hand with
-their rows; none of it is the program's own.
+The output comes from Python's readers of JSON, TOML and CSV and from its order of numbers and bytes, or is written by hand with
+the rows; none of it comes from the program itself.
 """
 import csv
 import io
@@ -17,14 +17,14 @@ def printed(value):
 
 
 def key_of(what, name):
-    """The key that a name of an object spells."""
+    """The key that is read from a name in an object."""
     if what in WHOLE or what == "words":
         return int(name)
     return {"true": True, "false": False}[name] if what == "bool" else name
 
 
 def map_again(what, text):
-    """A map read from an object or from pairs: the last pair of each key, in the order of the keys."""
+    """The output for a map that is read from an object or from pairs: the last pair of each key, in the order of the keys."""
     found = json.loads(text)
     pairs = [(key_of(what, name), item) for name, item in found.items()] if isinstance(found, dict) else found
     # A name if the keys are words, `true` if they are booleans.
@@ -32,7 +32,7 @@ def map_again(what, text):
     return printed({name if isinstance(name, str) else printed(name): item for name, item in named})
 
 
-# What each row is read as, its text, and its output: None stands for `map_again`, and SAME for the text itself.
+# The type that each row is read as, its text, and its output. None stands for `map_again`, and SAME for the text itself.
 SAME = "same"
 MAPS = [
     # a map or a sequence of pairs; the last of equal keys stays
@@ -57,7 +57,7 @@ MAPS = [
     ("nested", '[["a",[[2,[]],[1,[["x",1]]]]]]', '{"a":{"1":{"x":1},"2":{}}}'), ("nested", '{"a":{"x":{}}}', "syntax"), ("nested", '{"a":{"-1":{}}}', "data"),
     ("vector", '[{"b":1,"a":2},{},[["c",3]]]', '[{"a":2,"b":1},{},{"c":3}]'), ("vector", "[]", SAME), ("vector", '[{"a":1},7]', "data"),
     ("perhaps", "null", SAME), ("perhaps", '{"b":1,"a":2}', '{"a":2,"b":1}'), ("perhaps", "7", "data"),
-    # keys that have no text: as pairs they are written, as a map not
+    # keys that have no text: they are written as pairs, and not as a map
     ("places", '{"at":[[[2,1],"p"],[[-1,5],"q"],[[2,1],"r"]]}', '{"at":[[[-1,5],"q"],[[2,1],"r"]]}'),
     ("places", printed({"at": [[[number, 0], str(number)] for number in range(30, 0, -1)]}),
      printed({"at": [[[number, 0], str(number)] for number in range(1, 31)]})),
@@ -73,13 +73,13 @@ MAPS = [
     ("config", '{"names":{"b":"2","a":"1"},"limits":[["x",1],["x",2]],"title":"t"}', '{"title":"t","names":{"a":"1","b":"2"},"limits":{"x":2}}'),
     ("config", '{"title":"t","names":{},"limits":{}}', '{"title":"t","names":{}}'), ("config", '{"title":"t","names":{}}', SAME),
     ("config", '{"title":"t"}', "data"), ("config", '{"title":"t","names":{},"names":{}}', "data"), ("config", '{"title":"t","names":null}', "data"),
-    # an escape is no borrowed string
+    # a string with an escape can't be borrowed
     ("lent", r'{"a":"\n"}', "data"), ("lent", r'{"\u0061":"x"}', "data"),
     # as deep as the format lets values nest, and one deeper
     ("value", '{"a":' + "[" * 126 + "]" * 126 + "}", SAME), ("value", '{"a":' + "[" * 127 + "]" * 127 + "}", "syntax"),
     ("value", '[["a",' + "[" * 125 + "]" * 125 + "]]", '{"a":' + "[" * 125 + "]" * 125 + "}"),
     ("value", '[["a",' + "[" * 126 + "]" * 126 + "]]", "syntax"),
-    # texts that are no JSON, and what ends early
+    # texts that aren't JSON, and texts that end early
     *[("text", text, "syntax") for text in (
         '{"a":"b",}', '{"a" "b"}', "{a:1}", '{"a":"b"}}', '{"a":"b"} 7', '{"a":"b"]', '[["a","b"],]', '[["a","b"]}', "[[,]]", "}", "]", "?")],
     *[("text", text, "eof") for text in ("", " ", "{", "[", "[[", '[["a"', '{"a', '{"a":', '{"a":"b"', '{"a":"b",', '[["a","b"],', '"a')],
@@ -89,7 +89,7 @@ MAPS = [
 
 
 def whole_numbers():
-    """Each type's ends and one past each, as names, as keys in pairs, and as items."""
+    """Each type's least and greatest value and one past each, as names, as keys in pairs, and as items."""
     for what, (least, most) in WHOLE.items():
         for number in (least, least + 1, most - 1, most):
             yield what, f'{{"{number}":{number}}}', None
@@ -109,7 +109,7 @@ def wrong_types():
             yield "words", "[" + ",".join([*good[:place], bad, *good[place + 1:]]) + "]", "data"
         members = ['"1":"a"', '"2":"b"', '"3":"c"']
         for bad in ('"1":7', '"1":null', '"1":[]', '"1":{}', '"-1":"a"', '"1.5":"a"', '"x":"a"', '"":"a"'):
-            # A name that is no number at all is an error of the text, as in the Rust crate.
+            # A name that isn't a number is a syntax error, as in the Rust crate.
             fault = "syntax" if bad in ('"x":"a"', '"":"a"') else "data"
             yield "words", "{" + ",".join([*members[:place], bad, *members[place + 1:]]) + "}", fault
     for what in ("words", "text", "bool", "nested"):
@@ -121,7 +121,7 @@ def wrong_types():
 
 
 def many():
-    """Long maps: the text that is written is that of the ascending pairs."""
+    """Long maps: what is written is the text of the ascending pairs."""
     for count in (1000, 10000):
         size = len(printed({str(number): 2 * number for number in range(count)}))
         for step in (1, 379, count - 1):
@@ -140,7 +140,7 @@ DEFAULTS = {"title": "defaults", "names": {"de": "German"}, "limits": {"depth": 
 
 
 def table_of(value, of):
-    """The map that a table or an array of pairs is, with items of a type."""
+    """The map that is read from a table or an array of pairs, with items of a type."""
     pairs = value.items() if isinstance(value, dict) else [tuple(pair) for pair in value]
     if any(len(pair) != 2 or type(pair[1]) is not of or of is int and not 0 <= pair[1] < 2**32 for pair in pairs):
         raise ValueError
@@ -148,7 +148,7 @@ def table_of(value, of):
 
 
 def config_of(text):
-    """The configuration that a TOML text is, or None."""
+    """The configuration that is read from a TOML text, or None."""
     try:
         found = tomllib.loads(text)
         config = {"title": found["title"], "names": table_of(found["names"], str), "limits": table_of(found.get("limits", {}), int)}
@@ -158,7 +158,7 @@ def config_of(text):
 
 
 def toml_of(config):
-    """The TOML text of a configuration: a table for each map, but for limits that are none."""
+    """The TOML text of a configuration: a table for each map, without the limits if there are none."""
     lines = [f'title = {printed(config["title"])}', "", "[names]"]
     lines += [f"{name_of(name)} = {printed(item)}" for name, item in sorted(config["names"].items())]
     if config["limits"]:
@@ -173,7 +173,7 @@ def name_of(name):
 
 
 def toml_rows():
-    """Configurations from TOML, and as they lie over the defaults."""
+    """Configurations from TOML, and the same over the defaults."""
     for text in TOML:
         config = config_of(text)
         yield "toml-config", printed(text), toml_of(config) if config else "refused"

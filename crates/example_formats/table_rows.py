@@ -1,7 +1,7 @@
 """Name tables and indexes of names: the rows, and the output of each.
 
-The output is that of the reader below, which was written from the grammar of name tables alone (docs/NAME_TABLES.md) and
-shares nothing with the crates.
+The output comes from the reader below, which was written from the grammar of name tables alone (docs/NAME_TABLES.md) and shares
+nothing with the crates.
 """
 
 # eleven languages as the bytes of a name table
@@ -14,9 +14,9 @@ TABLE = bytes.fromhex(
     "6e697368 0266720646726 56e6368 026a61084a6170616e657365 0272750752757373 69616e 0273720753657262 69616e"
     " 02746804546861 69 0274720754757 26b697368".replace(" ", "")
 )
-# What the program has itself, in crates/example_formats/src/table_rows.rt.
+# The program's own names, in crates/example_formats/src/table_rows.rt.
 OWN = {"de": "German", "en": "own English", "zu": "Zulu"}
-# Keys that descend, are equal, are empty, and a proper prefix after a longer string.
+# Keys that descend, that are equal, that are empty, and a prefix after a longer string.
 NOT_RISING = [
     bytes.fromhex("0201620001 6100".replace(" ", "")), bytes.fromhex("020161000161 00".replace(" ", "")),
     bytes.fromhex("0200000000"), bytes.fromhex("02026161000161 00".replace(" ", "")),
@@ -27,7 +27,7 @@ ALIKE = [(key, str(place)) for place, key in enumerate(["", "a", "ab", "abc", "a
 RISING = [bytes.fromhex("0100"), bytes.fromhex("010000"), bytes.fromhex("0200000161 00".replace(" ", "")),
     bytes.fromhex("020161000261 6100".replace(" ", ""))]
 ALPHABET = bytes.fromhex("0001026180ff")
-# One table each: numbers of one byte to five, longer spellings, what is too large, and strings of each kind.
+# A table each: numbers of one to five bytes, longer spellings, numbers that are too large, and strings of each kind.
 READ = [
     # no bytes are no table, and a zero is the empty one
     b"", b"\x00", b"\x00\x00",
@@ -86,7 +86,7 @@ def text(data, at):
 
 
 def entries(data):
-    """The offset and the number due before each entry, with the entry; then the offset and the error or None."""
+    """The entries, each with its offset and how many come from it on; then both of these at the end, and the error or None."""
     due, at = number(data, 0)
     found = []
     while due:
@@ -125,7 +125,7 @@ def find(key, data):
 
 
 def rising(data):
-    """The entries of a table whose keys ascend."""
+    """The entries of a table, which is an error unless its keys ascend."""
     found, _, _, fault = entries(data)
     for index, (at, _, key, _) in enumerate(found):
         if index and key.encode() <= found[index - 1][2].encode():
@@ -247,7 +247,7 @@ def opened(data):
 
 
 def look(key, data):
-    """What an index of ascending keys returns."""
+    """What lookups in an index of ascending keys return."""
     try:
         pairs = index_pairs(data)
     except Fault as fault:
@@ -302,8 +302,8 @@ def strings(alphabet):
 
 # A count of 2^32 - 1 before five bytes.
 MANY_DUE = b"\xff\xff\xff\xff" + bytes(5)
-# The indexes of no pair, of one, of eleven and of strings of more bytes than characters; bytes after one; keys that descend, are
-# equal or lie between; offsets that overlap; and what is cut short, has too large a number or is no string.
+# Indexes of no pair, of one, of eleven, and of strings with more bytes than characters; bytes after an index; keys that descend,
+# are equal or lie between; offsets that overlap; and indexes that are cut short, or have too large a number or no valid string.
 INDEXES = [
     b"", b"\x00\x00\x00", indexed([]), indexed([]) + b"\x01", indexed([("a", "1")]), indexed([("", "")]), indexed(PAIRS),
     indexed(PAIRS) + b"\x00", indexed([("a", "1"), ("b", "2")]), indexed([("b", "2"), ("a", "1")]),
@@ -316,7 +316,7 @@ INDEXES = [
 
 
 def large_lines():
-    """Tables of 300 and 1,500 names, some whose keys descend, one that is cut short, and a string of 20,000 bytes."""
+    """Tables of 300 and 1,500 names, of which some have descending keys and one is cut short, and a string of 20,000 bytes."""
     names = [(f"name{number:06}", f"value{number}") for number in range(300)]
     rising_names, falling_names = written(names), written(names[::-1])
     keys = written([(f"{number:05}", "") for number in range(1500)])
@@ -337,7 +337,7 @@ def large_lines():
 
 
 def sized_lines():
-    """Tables and indexes of so many names, and a string of so many bytes."""
+    """Tables and indexes of various numbers of names, and strings of various numbers of bytes."""
     for count in (12, 24, 33, 65, 129):
         names = [(f"n{number:03}", "v") for number in range(count)]
         data = written(names)

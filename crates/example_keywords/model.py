@@ -1,7 +1,7 @@
-"""What the program `example_keywords` is run on, and what it has to write: its files stdin and stdout, which bin/data writes.
+"""Makes the input of the program `example_keywords`, and the output that it must write: its files stdin and stdout, by bin/data.
 
-The rows are those below. Their output is told by a reader of keywords that is written here from UTS 35, with Python's
-expressions and dicts, and never by the program.
+The rows are those below. Their output comes from a reader of keywords that is written here from UTS 35, with Python's regular
+expressions and dicts, and never from the program.
 """
 import re
 
@@ -43,7 +43,7 @@ FOUND = "NU-thai-kn-True-ca-islamic-civil-nu-latn"
 
 
 def read(text):
-    """The keywords of a text, by their keys; or why it spells none."""
+    """The keywords of a text, by their keys; or the error, if it has none."""
     keywords, value, at = {}, None, 0
     for part in text.split("-") if text else ():
         if KEY.fullmatch(part):
@@ -65,7 +65,7 @@ def answer(text):
 
 
 def walked(text):
-    """The values of a text from the last key's on, and what Rattle prints of the keywords."""
+    """The output of `walk`: the values of a text, from the last key to the first, and its keywords as `{:?}` prints them."""
     keywords = read(text)
     if isinstance(keywords, str):
         return keywords
@@ -74,13 +74,13 @@ def walked(text):
 
 
 def falling(count):
-    """So many keywords, whose keys descend: all pairs of letters, again and again, from the second time on with a value."""
+    """So many keywords with descending keys: all pairs of letters, again and again, from the second time on with a value."""
     letters = "zyxwvutsrqponmlkjihgfedcba"
     return "-".join(letters[number // 26 % 26] + letters[number % 26] + ("-abc" if number >= 676 else "") for number in range(count))
 
 
 def put_count(text):
-    """How many keywords are put into the map: those before the error of a text."""
+    """The number of keywords that are put into the map: those before the error of a text."""
     count = 0
     for part in text.split("-") if text else ():
         if KEY.fullmatch(part):
@@ -91,7 +91,7 @@ def put_count(text):
 
 
 def searched():
-    """No further lines, and how often those of stdin search a map: once for each keyword that is put, and for each one looked up."""
+    """No lines before those of stdin, and how often these search a map: once for each keyword that is put or looked up."""
     count = 0
     for line in files()["stdin"].splitlines():
         word, rest = line.split(" ", 1)

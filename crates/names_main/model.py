@@ -1,6 +1,6 @@
-"""What the program `names` has to write: its files stdout and status, which bin/data writes, and the inputs of bin/program.
+"""Makes what the program `names` must write: its files stdout and status, by bin/data; and the inputs of bin/program.
 
-The replies are those of a plain model: a dictionary that is sorted when all pairs are wanted. None is the program's own.
+The replies come from a plain model, a dictionary that is sorted when all pairs are wanted, and never from the program itself.
 """
 import pathlib
 import re
@@ -29,7 +29,7 @@ def place_line(names, key):
 
 
 def answer(names, kind, words):
-    """The reply to a line that is not bad; the line is done on the names."""
+    """The reply to a line that is not bad, which is carried out on the names."""
     if kind == "put":
         old = names.get(words[0])
         names[words[0]] = words[1]
@@ -48,7 +48,7 @@ def answer(names, kind, words):
 
 
 def told(given):
-    """What a run writes for its input, and its status."""
+    """The output of a run on this input, and its status."""
     if len(given) > MOST:
         return b"input too long\n", 2
     names, out = {}, []
@@ -66,14 +66,14 @@ def puts(count, value=b"v", start=0):
 
 
 def long_values():
-    """Values and old values of few bytes and of many, read by each line whose reply has one."""
+    """Values and old values of a few bytes and of many, in the replies of each kind of line that has one."""
     for length in [1, 2, 3, 100, 101, 5000, 100000]:
         first, second = b"a" * length, b"b" * length
         yield from [b"put k " + first, b"get k", b"put k " + second, b"get k", b"del k", b"get k"]
 
 
 def long_keys():
-    """Keys of few bytes and of many, each beside one that it begins."""
+    """Keys of a few bytes and of many, each beside a longer key that begins with it."""
     for length in [1, 2, 21, 101, 5000, 50000]:
         key = b"k" * length
         yield from [b"put " + key + b" v", b"put " + key + b"k w", b"find " + key, b"get " + key + b"k", b"json", b"all"]
@@ -81,7 +81,7 @@ def long_keys():
 
 
 def changes(count):
-    """All pairs and the map as JSON twice, with no change between, and with changes of each kind at each end and between."""
+    """All pairs and the map as JSON, twice with no change in between, and after changes of each kind at both ends and within."""
     some = [b"00000", b"%05d" % (count // 2), b"%05d" % (count - 1)]
     yield from puts(count, b'"')
     yield from [b"all", b"all", b"json", b"json", b"all", b"json"]
@@ -93,14 +93,14 @@ def changes(count):
 
 
 def removals():
-    """Names that are removed from the front, from the end and from between."""
+    """Names that are removed at the front, at the end and in the middle."""
     yield from puts(2001)
     for key in [*range(0, 150), *range(2000, 1850, -1), *range(150, 1851, 3)]:
         yield from [b"del %05d" % key, b"get %05d" % key]
     yield from [b"all", b"find 01000", b"json"]
 
 
-# bad lines in front of others
+# bad lines before others
 BAD = [
     b" ", b"put", b"put ", b"put a", b"put a ", b"put  a 1", b"put a  1", b"put a 1 ", b"put a 1 2", b" put a 1", b"put a\t1",
     b"put a \xc3\xa9", b"put a \x7f", b"PUT a 1", b"putt a 1", b"find", b"find ", b"find a ", b"find  a", b"find a b", b"get", b"get a ", b" get a",
@@ -147,7 +147,7 @@ def rows():
 
 
 def searched():
-    """Lines that are done before those of stdin, and how often all of them search the names: each one that is a call does once."""
+    """Lines before those of stdin, and how often all of them search the names: each line that calls the map does so once."""
     some = [b"%s %05d" % (word, key) for word in (b"get", b"find", b"del", b"get") for key in range(0, 400, 3)]
     lines = [*puts(300), *puts(40, b"w", 100), *some, *long_values(), *long_keys(), b"json", b"all"]
     given = b"\n".join([*lines, pathlib.Path(__file__).with_name("stdin").read_bytes()]).decode()

@@ -1,4 +1,4 @@
-//! The calls, many at a time.
+//! The calls that are measured, many at a time.
 use crate::cases::Case;
 use crate::keys::Key;
 use litemap::LiteMap;
@@ -8,55 +8,55 @@ use std::mem::take;
 /// A call that is measured.
 #[derive(Clone, Copy)]
 pub enum Call {
-    /// To look up keys that are there.
+    /// Looks up present keys.
     Get,
-    /// To look up keys that are not.
+    /// Looks up absent keys.
     GetMissing,
-    /// To go through all pairs.
+    /// Iterates over all pairs.
     Iterate,
-    /// To compare with a map of the same pairs.
+    /// Compares with a map of the same pairs.
     Equal,
-    /// To put pairs in one by one, in no order.
+    /// Inserts pairs one by one, in no order.
     Insert,
-    /// To put pairs behind one by one.
+    /// Appends pairs one by one.
     Append,
-    /// To take out keys one by one, in no order.
+    /// Removes keys one by one, in no order.
     Remove,
-    /// To move values to absent keys one by one, in no order.
+    /// Moves values to absent keys one by one, in no order.
     Rename,
-    /// To keep about half of the pairs.
+    /// Keeps about half of the pairs.
     Retain,
-    /// To keep all pairs.
+    /// Keeps all pairs.
     RetainAll,
-    /// To keep no pair.
+    /// Keeps no pair.
     RetainNone,
-    /// A map of pairs that rise.
+    /// Makes a map of ascending pairs.
     FromIterRising,
-    /// A map of pairs in no order.
+    /// Makes a map of pairs in no order.
     FromIter,
-    /// To put in pairs that rise, each between two that are there.
+    /// Inserts ascending pairs, each between two that are there.
     ExtendRising,
-    /// To put in pairs that rise, behind all others.
+    /// Inserts ascending pairs after all others.
     ExtendAbove,
-    /// To put in pairs in no order.
+    /// Inserts pairs in no order.
     Extend,
-    /// To put in a few pairs in no order.
+    /// Inserts a few pairs in no order.
     ExtendFew,
-    /// To put in a map whose keys lie above all others.
+    /// Merges a map whose keys are above all others.
     MergeApart,
-    /// To put in a map whose keys lie between the others.
+    /// Merges a map whose keys lie between the others.
     MergeInterleaved,
-    /// To put in a map with the same keys.
+    /// Merges a map with the same keys.
     MergeEqual,
-    /// To put in a map, of which each second key is there, and to add to the values that are there.
+    /// Merges a map of which every second key is there, and adds to the values of those keys.
     ExtendWith,
-    /// Every second pair stays, by the keys of another map.
+    /// Keeps every second pair, by the keys of another map.
     KeepKeys,
-    /// Every second pair goes, by the keys of another map.
+    /// Removes every second pair, by the keys of another map.
     RemoveKeys,
-    /// Whether another map has all keys, which it has.
+    /// Tests whether another map has all keys, which it has.
     IsSubset,
-    /// A copy of the map.
+    /// Copies the map.
     Clone,
 }
 
@@ -123,7 +123,7 @@ impl Display for Call {
     }
 }
 
-/// Makes a call of each case, and gives the sum of what was answered.
+/// Makes a call of each case, and returns the sum of the results.
 pub fn call_all<K: Key>(call: Call, cases: &mut [Case<K>]) -> u64 {
     let mut sum: u64 = 0;
     for case in cases {

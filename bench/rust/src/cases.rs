@@ -1,37 +1,37 @@
-//! What the calls are made of.
+//! The maps and the arguments of the calls.
 use crate::calls::Call;
 use crate::keys::{self, Data, Draw, Key, FEW, LOOKS};
 use litemap::LiteMap;
 
-/// A map, what it is called with, and what the call makes.
+/// A map, the arguments of its call, and what the call makes.
 pub struct Case<K> {
     /// The map.
     pub map: LiteMap<K, u64>,
-    /// The pairs that it is given.
+    /// The pairs that are passed to it.
     pub given: Vec<(K, u64)>,
-    /// The map that it is given.
+    /// The map that is passed to it.
     pub other: LiteMap<K, u64>,
-    /// The keys that it is asked for.
+    /// The keys that are looked up in it.
     pub keys: Vec<K>,
     /// The map that the call makes, if it makes one.
     pub made: Option<LiteMap<K, u64>>,
 }
 
-/// The numbers of the pairs in a map, in those that it is given, and in the map that it is given.
+/// The numbers of the pairs in a map, of those that are passed to it, and of those in the map that is passed to it.
 struct Parts<'a> {
     map: &'a [u64],
     given: &'a [u64],
     other: &'a [u64],
 }
 
-/// The cases of a round: as many maps as make some thousands of calls.
+/// The cases of a round: so many maps that some thousands of calls are made.
 pub fn cases<K: Key>(data: &Data, call: Call, round: usize) -> Vec<Case<K>> {
     (0..how_many(data, call))
         .map(|map| make_case(data.draw(round, map), call, round))
         .collect()
 }
 
-/// How many maps a round calls.
+/// The number of maps in a round.
 fn how_many(data: &Data, call: Call) -> usize {
     match call {
         Call::Get | Call::GetMissing => 1,
@@ -39,7 +39,7 @@ fn how_many(data: &Data, call: Call) -> usize {
     }
 }
 
-/// How many pairs or keys a round asks for, puts in, takes out or goes through.
+/// The number of pairs or keys that a round looks up, inserts, removes or iterates over.
 pub fn how_many_pairs(data: &Data, call: Call) -> usize {
     let each = match call {
         Call::Get | Call::GetMissing => LOOKS,
@@ -72,7 +72,7 @@ fn make_case<K: Key>(draw: &Draw, call: Call, round: usize) -> Case<K> {
     }
 }
 
-// How much larger the values of the map are that it is given.
+// The difference between the values of the map that is passed and those of the map itself.
 fn more_of(call: Call) -> u64 {
     match call {
         Call::Equal => 0,

@@ -1,4 +1,4 @@
-//! Maps over a borrowed slice, asked by the calls that are named for constants.
+//! Lookups in maps over a borrowed slice, by the calls that are named for constants.
 use crate::keys::{self, Data, Key, LOOKS};
 use crate::measure::{nanos_used, rounds, Round};
 use litemap::LiteMap;
@@ -6,7 +6,7 @@ use litemap::LiteMap;
 /// A map of numbers over a slice.
 type Numbers<'a> = LiteMap<u64, u64, &'a [(u64, u64)]>;
 
-/// A map of texts over a slice.
+/// A map of strings over a slice.
 type Texts<'a> = LiteMap<&'a str, u64, &'a [(&'a str, u64)]>;
 
 /// Writes the line of numbers.
@@ -14,7 +14,7 @@ pub fn measure_numbers(data: &Data) {
     report::<u64>(data.size, rounds(|round| numbers_round(data, round)));
 }
 
-/// Writes the line of texts.
+/// Writes the line of strings.
 pub fn measure_texts(data: &Data) {
     report::<String>(data.size, rounds(|round| texts_round(data, round)));
 }

@@ -1,17 +1,17 @@
-//! Maps of few pairs, many in a round, which are made anew for each round, of keys of its own: no pattern is there to learn.
+//! Maps of few pairs, many in a round. Each round makes them anew, of its own keys, so that no pattern can be learned.
 use crate::keys;
 use crate::measure::{nanos_used, weight};
 use litemap::LiteMap;
 
-/// How many pairs the maps have.
+/// The numbers of pairs in the maps.
 const SIZES: [usize; 4] = [0, 1, 2, 8];
 
-/// How many maps a round has, and how many rounds there are.
+/// The number of maps in a round, and the number of rounds.
 const MAPS: usize = 2000;
 
 const ROUNDS: usize = 30;
 
-/// A map, a key that it is asked for, and one that is put in.
+/// A map, a key to look up, and one to insert.
 struct Few {
     map: LiteMap<u64, u64>,
     asked: u64,
@@ -41,7 +41,7 @@ fn measure_call(call: &str, size: usize) {
     );
 }
 
-/// The time of a round, and a number that stands for what was answered and left.
+/// The time of a round, and a number that stands for the results and the maps after it.
 fn few_round(call: &str, size: usize, round: usize) -> (u128, u64) {
     let mut maps = few_maps(size, round);
     let mut left = Vec::with_capacity(MAPS);
@@ -63,7 +63,7 @@ fn few_round(call: &str, size: usize, round: usize) -> (u128, u64) {
     (nanos, answer)
 }
 
-/// The maps of a round, whose pairs were put in one by one.
+/// The maps of a round, whose pairs were inserted one by one.
 fn few_maps(size: usize, round: usize) -> Vec<Few> {
     let mut maps = Vec::with_capacity(MAPS);
     let mut place = round as u64 * 1_000_000;

@@ -1,12 +1,12 @@
-//! Maps as JSON texts, by serde and serde_json.
+//! Maps as JSON text, by serde and serde_json.
 use crate::keys::{self, Data, Key};
 use crate::measure::{nanos_used, rounds, Round};
 use litemap::LiteMap;
 use serde::{de::DeserializeOwned, Deserialize, Serialize};
 use serde_json::Value;
 
-/// Writes the lines of JSON: a map written as a text, by a value and with none, and read from a value and from a text. Here serde
-/// is how each is made, so that some calls stand twice.
+/// Writes the lines of JSON: a map that is written as text, through a value and without one, and that is read from a value and
+/// from text. Here serde does each of these, so that some calls are made twice.
 pub fn measure_json<K: Key + Serialize + DeserializeOwned>(data: &Data) {
     for (call, work) in [
         ("to_json", printed::<K> as fn(&Json<K>) -> usize),
@@ -46,7 +46,7 @@ fn json_round<K: Key + Serialize>(data: &Data, work: fn(&Json<K>) -> usize, roun
     Round { nanos, answer }
 }
 
-/// The length of a map's text, which is printed of its value.
+/// The length of a map's text, which is printed from its value.
 #[inline(never)]
 fn printed<K: Serialize + Key>(case: &Json<K>) -> usize {
     let value = serde_json::to_value(&case.map).expect("a value");
@@ -59,14 +59,14 @@ fn written<K: Serialize + Key>(case: &Json<K>) -> usize {
     serde_json::to_string(&case.map).expect("a text").len()
 }
 
-/// How many pairs the map has that a value spells.
+/// The number of pairs in the map that is read from a value.
 #[inline(never)]
 fn spelled<K: DeserializeOwned + Key>(case: &Json<K>) -> usize {
     let map: LiteMap<K, u64> = LiteMap::deserialize(&case.value).expect("a map");
     map.len()
 }
 
-/// How many pairs the map has that is read from a text.
+/// The number of pairs in the map that is read from text.
 #[inline(never)]
 fn read<K: DeserializeOwned + Key>(case: &Json<K>) -> usize {
     let map: LiteMap<K, u64> = serde_json::from_str(&case.text).expect("a map");

@@ -1,13 +1,13 @@
-//! The keys of the measures: even numbers that look like chance, so that each odd one is missing, and texts of them.
+//! The keys of the measures: pseudo-random even numbers, so that each odd one is absent, and strings of them.
 use crate::measure::ROUNDS;
 
-/// How many keys a round looks up, and how many its maps have together at least.
+/// The number of keys that a round looks up, and the least number that its maps have together.
 pub const LOOKS: usize = 10_000;
 
-/// How many keys a round puts in or takes out of one map at most, one by one.
+/// The greatest number of keys that a round inserts into or removes from one map, one by one.
 const CHANGES: usize = 1000;
 
-/// How many pairs are few.
+/// The number of pairs in a call with few.
 pub const FEW: usize = 10;
 
 /// A type of keys.
@@ -18,7 +18,7 @@ pub trait Key: Ord + Clone {
     /// The key of a number.
     fn of(number: u64) -> Self;
 
-    /// A number that stands for the key in what was answered.
+    /// A number that stands for the key in the results.
     fn weight(&self) -> u64;
 }
 
@@ -46,7 +46,7 @@ impl Key for String {
     }
 }
 
-/// A number of a sequence that looks like chance.
+/// A number of a pseudo-random sequence.
 pub fn number(place: u64) -> u64 {
     let first = place.wrapping_mul(0x9E37_79B9_7F4A_7C15);
     let second = (first ^ (first >> 30)).wrapping_mul(0xBF58_476D_1CE4_E5B9);
@@ -54,7 +54,7 @@ pub fn number(place: u64) -> u64 {
     (third ^ (third >> 31)) & !1
 }
 
-/// The pairs of numbers: each key with its number as the value, or with one that is larger by so much.
+/// The pairs of these numbers: each key with its number, plus a difference, as the value.
 pub fn pairs<K: Key>(numbers: &[u64], more: u64) -> Vec<(K, u64)> {
     numbers
         .iter()
@@ -67,7 +67,7 @@ pub fn keys<K: Key>(numbers: &[u64]) -> Vec<K> {
     numbers.iter().map(|number| K::of(*number)).collect()
 }
 
-/// How many maps a round makes of a size, where it makes more than one.
+/// The number of maps of a size in a round that makes more than one.
 pub fn maps_of(size: usize) -> usize {
     (LOOKS / size).max(1)
 }
@@ -78,16 +78,16 @@ pub struct Draw {
     pub scattered: Vec<u64>,
     /// In the order of the keys.
     pub rising: Vec<u64>,
-    /// Each second one of these, from the first on.
+    /// Every second one of these, from the first on.
     pub evens: Vec<u64>,
-    /// Each second one of these, from the second on.
+    /// Every second one of these, from the second on.
     pub odds: Vec<u64>,
     /// Some more, in no order.
     pub few: Vec<u64>,
 }
 
 impl Draw {
-    /// As many numbers, from a place of the sequence on.
+    /// So many numbers, from an index of the sequence on.
     fn new<K: Key>(size: usize, first: u64) -> Self {
         let scattered = drawn(first, size);
         let rising = rising::<K>(&scattered);
@@ -100,29 +100,29 @@ impl Draw {
         }
     }
 
-    /// The numbers of keys that are there, other ones in each round.
+    /// The numbers of present keys, other ones in each round.
     pub fn asked(&self, round: usize) -> Vec<u64> {
         chances(round)
             .map(|chance| self.scattered[(chance >> 1) as usize % self.scattered.len()])
             .collect()
     }
 
-    /// The numbers of keys that are not there, other ones in each round.
+    /// The numbers of absent keys, other ones in each round.
     pub fn missing(&self, round: usize) -> Vec<u64> {
         chances(round).map(|chance| chance | 1).collect()
     }
 
-    /// The numbers of the keys to be taken out.
+    /// The numbers of the keys to be removed.
     pub fn removed(&self) -> &[u64] {
         &self.scattered[..changes(self.scattered.len())]
     }
 }
 
-/// What the measures of one size and type of keys are made from.
+/// The data of the measures of one size and type of keys.
 pub struct Data {
-    /// How many pairs a map has.
+    /// The number of pairs in a map.
     pub size: usize,
-    /// The keys of the maps of all rounds, or of one map, where that has more than a round needs.
+    /// The keys of the maps of all rounds, or of one map, if that has more than a round needs.
     draws: Vec<Draw>,
 }
 
@@ -146,7 +146,7 @@ impl Data {
     }
 }
 
-/// How many keys are put in or taken out one by one, of a map of a size.
+/// The number of keys that are inserted into or removed from a map of a size, one by one.
 pub fn changes(size: usize) -> usize {
     size.min(CHANGES)
 }
@@ -155,7 +155,7 @@ fn drawn(first: u64, many: usize) -> Vec<u64> {
     (first..first + many as u64).map(number).collect()
 }
 
-/// Numbers that choose the keys that a round asks for.
+/// Numbers that choose the keys that a round looks up.
 fn chances(round: usize) -> impl Iterator<Item = u64> {
     let first = ((round + 1) << 32) as u64;
     (first..first + LOOKS as u64).map(number)

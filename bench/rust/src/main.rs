@@ -1,4 +1,4 @@
-//! The measures of bench/rattle, of the Rust crate: the same work on the same keys, and lines of the same form.
+//! The measures of bench/rattle, for the Rust crate: the same work on the same keys, and lines of the same form.
 mod calls;
 mod cases;
 mod consts;
@@ -13,7 +13,7 @@ use keys::{Data, Key};
 
 const SIZES: [usize; 4] = [8, 64, 1000, 100_000];
 
-/// Times each call, with one type of keys.
+/// Measures each call, with one type of keys.
 fn measure_keys<K: Key>(data: &Data) {
     for call in Call::ALL {
         measure::measure::<K>(data, call);

@@ -4,16 +4,16 @@ use crate::cases::{self, Case};
 use crate::keys::{Data, Key};
 use litemap::LiteMap;
 
-/// How often a measure is made at most.
+/// The greatest number of rounds of a measure.
 pub const ROUNDS: usize = 30;
 
-/// How often a measure is made at least: what a first round takes hangs on the memory that is at hand by then.
+/// The least number of rounds of a measure: the time of a first round depends on the memory that is free by then.
 const FEWEST_ROUNDS: usize = 3;
 
-/// How long a measure goes on: no further round begins after that.
+/// The time after which no further round of a measure begins.
 const LONGEST_NANOS: u128 = 20_000_000;
 
-/// The time of a round, and a number that stands for what was answered and left.
+/// The time of a round, and a number that stands for the results and the maps after it.
 pub struct Round {
     pub nanos: u128,
     pub answer: u64,
@@ -25,7 +25,7 @@ struct Timespec {
     nanos: i64,
 }
 
-/// The clock of the processor time of a thread, on Linux.
+/// The number of the clock of a thread's processor time, on Linux.
 const CLOCK_THREAD_CPUTIME_ID: i32 = 3;
 
 // std has no such clock, and links the C library, which has one.
@@ -33,19 +33,19 @@ extern "C" {
     fn clock_gettime(clock: i32, time: *mut Timespec) -> i32;
 }
 
-/// The processor time that was used so far: work of others on a busy machine is no part of it.
+/// The processor time used so far, without that of other programs on a busy machine.
 pub fn nanos_used() -> u128 {
     let mut time = Timespec {
         seconds: 0,
         nanos: 0,
     };
-    // The C function writes the one struct that it is lent.
+    // The C function writes only the struct that is passed to it.
     let status = unsafe { clock_gettime(CLOCK_THREAD_CPUTIME_ID, &mut time) };
     assert_eq!(status, 0, "no clock");
     time.seconds as u128 * 1_000_000_000 + time.nanos as u128
 }
 
-/// Makes rounds, and gives the lowest time and the answer of the first one.
+/// Makes rounds, and returns the lowest time and the result of the first one.
 pub fn rounds(mut round: impl FnMut(usize) -> Round) -> Round {
     let began = nanos_used();
     let mut found = round(0);
@@ -77,7 +77,7 @@ pub fn measure<K: Key>(data: &Data, call: Call) {
     );
 }
 
-/// A number that stands for what was answered, and for all maps that were left and made.
+/// A number that stands for the result, and for all maps after the calls and all that they made.
 fn all_weights<K: Key>(sum: u64, cases: &[Case<K>]) -> u64 {
     let mut answer = sum;
     for case in cases {

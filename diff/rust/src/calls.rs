@@ -4,17 +4,17 @@ use litemap::{Entry, LiteMap};
 use std::cmp::Ordering;
 use std::mem;
 
-/// A map whose calls are made.
+/// A map with keys of one type, whose calls are made.
 pub type Map = LiteMap<Key, Value>;
 
-/// The words behind the name of a call.
+/// The words after the name of a call.
 pub struct Given<'w> {
     order: Order,
     words: Vec<&'w str>,
 }
 
 impl<'w> Given<'w> {
-    /// The words of a text.
+    /// The words of a line.
     pub fn new(order: Order, words: &'w str) -> Self {
         let words = words.split(' ').filter(|word| !word.is_empty()).collect();
         Given { order, words }
@@ -45,7 +45,7 @@ impl<'w> Given<'w> {
     }
 }
 
-/// Makes a call: what it answers.
+/// Makes a call, and returns its result.
 pub fn make(map: &mut Map, name: &str, given: &Given) -> String {
     look(map, name, given)
         .or_else(|| find(map, name, given))
@@ -84,7 +84,7 @@ fn look(map: &Map, name: &str, given: &Given) -> Option<String> {
     })
 }
 
-/// What the calls of a constant table answer.
+/// The results of the calls of a constant table.
 fn table(table: &LiteMap<Key, Value, &[(Key, Value)]>) -> String {
     let (len, is_empty) = (table.const_len(), table.const_is_empty());
     let answer = format!("{} {len} {is_empty}", text(table.iter().map(pair)));
@@ -128,12 +128,12 @@ fn walk(map: &mut Map, name: &str, given: &Given) -> Option<String> {
     })
 }
 
-/// What a walk over keys shows.
+/// What an iterator of keys yields.
 fn key(key: &Key) -> Pair {
     (key.code, 0)
 }
 
-/// What a walk over values shows.
+/// What an iterator of values yields.
 fn value(value: &Value) -> Pair {
     (NO_KEY, value.0)
 }

@@ -1,4 +1,4 @@
-//! Keys and values, whose clones are counted, and the words that spell them, as `test_replay` reads and writes them.
+//! Keys and values, whose clones are counted, and the words for them that `test_replay` reads and writes.
 use litemap::LiteMap;
 use std::borrow::Borrow;
 use std::cell::Cell;
@@ -6,29 +6,29 @@ use std::cmp::Ordering;
 use std::fmt::{self, Display, Formatter};
 
 thread_local! {
-    /// How many keys and values were cloned.
+    /// The number of keys and values that were cloned.
     pub static CLONED: Cell<u64> = const { Cell::new(0) };
 }
 
-/// How keys are written, and in which order they lie.
+/// How keys are written, and their order.
 #[derive(Clone, Copy, PartialEq)]
 pub enum Order {
     /// Numbers.
     Number,
-    /// Texts of up to eight bytes, by their bytes.
+    /// Strings of up to eight bytes, by their bytes.
     Text,
-    /// Such texts, the case of whose first letter is ignored.
+    /// Such strings, whose first letter counts without its case.
     Letter,
 }
 
-/// What a word of a key spells: a number, or the bytes of a text from the highest one on.
+/// The number that a key's word stands for: itself, or the bytes of a string, the first one highest.
 #[derive(Clone, Copy, PartialEq)]
 pub struct Code {
     is_text: bool,
     pub number: u64,
 }
 
-/// What a walk over values shows in the place of a key.
+/// The key that is shown for an iterator of values.
 pub const NO_KEY: Code = Code {
     is_text: false,
     number: 0,
@@ -44,7 +44,7 @@ impl Display for Code {
     }
 }
 
-/// Lets a type lie in the order of one of its parts.
+/// Gives a type the order of one of its parts.
 macro_rules! order_by {
     ($type:ty, $part:tt) => {
         impl PartialEq for $type {
@@ -72,14 +72,14 @@ macro_rules! order_by {
 order_by!(Key, rank);
 order_by!(Value, 0);
 
-/// A key: its code, and where it stands among all keys.
+/// A key: its code, and its rank among all keys.
 pub struct Key {
     pub code: Code,
     rank: u64,
 }
 
 impl Key {
-    /// The key that a word spells.
+    /// The key of a word.
     pub fn new(order: Order, word: &str) -> Self {
         let is_text = order != Order::Number;
         let number = if is_text {
@@ -175,5 +175,5 @@ pub fn text(pairs: impl IntoIterator<Item = Pair>) -> String {
     format!("#{}:{}", pairs.len(), sum % 1_000_000_000)
 }
 
-// What the sum is multiplied by.
+// The factor of the sum.
 const STEP: u64 = 1_099_511_628_211;

@@ -1,5 +1,5 @@
-//! Makes the calls of lines, as `test_replay` does, of a map of the Rust crate, and writes what each answers and leaves. Over
-//! each store the map is one over a vector.
+//! Makes the calls of lines, as `test_replay` does, on a map of the Rust crate, and writes what each returns and leaves. Whatever
+//! the store of a line is, the map is one over a vector.
 mod calls;
 mod keys;
 
@@ -7,7 +7,7 @@ use calls::{Given, Map};
 use keys::{pairs, text, Order};
 use std::io::{self, Write};
 
-/// What is left of the lines before: the map, the store's name and the order of keys.
+/// The state after the lines so far: the map, the store's name and the order of keys.
 struct Replay<'t> {
     map: Map,
     store: &'t str,
@@ -15,7 +15,7 @@ struct Replay<'t> {
 }
 
 impl<'t> Replay<'t> {
-    /// Does a line that makes no call: whether it is one.
+    /// Carries out a line that makes no call. Returns whether it is such a line.
     fn settle(&mut self, line: &'t str) -> bool {
         if let Some(store) = line.strip_prefix("on ") {
             self.store = store;
@@ -30,7 +30,7 @@ impl<'t> Replay<'t> {
         true
     }
 
-    /// Makes a call: what it answers, and what it leaves.
+    /// Makes a call, and returns its result and what it leaves.
     fn make(&mut self, call: &str) -> String {
         let (name, words) = call.split_once(' ').unwrap_or((call, ""));
         let given = Given::new(self.order, words);
