@@ -21,7 +21,7 @@ def files():
 
 
 def sample(files):
-    """The stored rows: of those with the same first two words the first, the second, the fourth, the eighth and so on."""
+    """What is stored: of the rows that begin with the same two words the first one, the second, the fourth, the eighth and so on."""
     counts, kept = collections.Counter(), []
     for row, answer in zip(files["stdin"].splitlines(), files["stdout"].splitlines(), strict=True):
         kind = " ".join(row.split(" ")[:2])

@@ -1,17 +1,17 @@
-"""Makes the cases of the program `test_cases`, by bin/data: the examples in the `///` of the libraries' calls, as functions that
-are proved and run, and the program's output.
+"""The cases of the program `test_cases`, which bin/data writes: the examples in the `///` of the libraries' calls, as functions that
+are proved and run, and its output.
 
-A block of Rust there is the body of a function that returns `true` or `Ok(true)`, with a parameter `alloc` if it names that. A
-first line `// days: ..` or `// hours: ..` stands for a map with these pairs, from the module `days`: blocks that only read it
-share one. The lines before a line `// ...` are put before the function, and a block that occurs twice is taken once. A block that
-begins with an item shows what a user writes: `bin/check code` looks for it in a crate.
+A block of Rust there is the body of a function that returns `true` or `Ok(true)`, and is given `alloc` if it names it. A
+first line `// days: ..` or `// hours: ..` stands for a map with these pairs, from the module `days`: one that is lent to all that
+only look at it. What stands before a line `// ...` is put before the function, and a block that stands twice is taken once. A
+block that begins with an item shows what a user writes: `bin/check code` looks for it in a crate.
 """
 import re
 import textwrap
 
 from lib.checks.sources import RUST, examples_of
 
-# The modules, and the sources whose blocks they have. The first that fits is taken.
+# The modules, and whose sources' blocks they have: the first that fits.
 MODULES = {
     "make": r"litemap_columns/src/lib|litemap/src/(lib|map|const_family|map/conversions)\.",
     "look": r"litemap/src/map/(look|ranges|slice|iter|comparisons)\.",
@@ -20,7 +20,7 @@ MODULES = {
     "stores": "litemap_store/|litemap_columns/",
     "formats": "litemap_read/|litemap_json/|name_",
 }
-# What is imported, with the words that need it, if they are not its own name.
+# What is imported, with the words that need it if these are others.
 USES = {
     "crate::days": "Days Hours opening_hours three_days",
     "litemap": "Entry LiteMap TryFault VecMap",
@@ -38,12 +38,12 @@ USES = {
     "std::ops": "Bound",
 }
 IMPORTED = {entry.partition("=")[0] for entries in USES.values() for entry in entries.split()}
-# The call that a comment belongs to: the next function, type or trait.
+# The call that a comment is of: a function, a type or a trait that is met.
 CALL = re.compile(r"\bfn (\w+)|(?:struct|enum|trait|type) (\w+)|^ *impl\b.*?(\w+)(?:<[^ ]*>)? for ")
 
 
 def name_below(text, place):
-    """The name of the call after a comment, in small letters."""
+    """The name of the call that stands after a comment, in small letters."""
     head = re.match(r"(?:\s*#\[.*\])*\s*(.*)", text[place:])[1]
     return re.sub(r"(?<=[a-z])(?=[A-Z])", "_", next(filter(None, CALL.search(head).groups()))).lower()
 
@@ -52,7 +52,7 @@ MAPS = {"// days:": ("days", "Days", "three_days(alloc)?"), "// hours:": ("hours
 
 
 def laid_out(line):
-    """A line of code in the layout of `rt fmt`: in several lines, if it is a wide call whose last argument is a closure."""
+    """A line of code as lines in the layout of `rt fmt`, if the arguments of a call are wide, the last a closure."""
     found = re.fullmatch(r"( *)(\S*\w\()(.*, )(\|.*)(\)\??;)", line)
     if not found or len(found[3] + found[4]) <= 60:
         return [line]
@@ -84,7 +84,7 @@ def function(name, lines):
 
 
 def filled(words, width, indent):
-    """Words in indented lines of a width."""
+    """Words in lines of a width, set in."""
     return textwrap.fill(words, width, initial_indent=" " * indent, subsequent_indent=" " * indent)
 
 
@@ -109,7 +109,7 @@ def blocks_of(name):
 
 
 def module(name, seen):
-    """The text of a module with the blocks that no earlier one has, and the names of its functions."""
+    """The text of a module, and the names of its functions, of the blocks that weren't seen before."""
     items, functions = [], {}
     for path, comment, lines in blocks_of(name):
         if lines in seen:

@@ -7,7 +7,7 @@ from lib.shared import CRATES
 
 # Lines that a block may leave out.
 LEFT_OUT = re.compile(r"^ *// \.\.\.\n", re.MULTILINE)
-# The crates whose items stand in comments, and those whose functions a program or a test has to call, directly or not.
+# The crates whose items stand in comments, and those whose functions a program or a test has to call, by whatever way.
 SHOWN = ("example_uses", "example_formats", "example_store", "test_cases")
 CALLERS = ("example_uses", "example_formats", "example_store")
 # Functions that are called without their names: a program's, and those of traits.
