@@ -5,12 +5,12 @@ from lib.checks.pages import BLOCKS
 from lib.checks.sources import RUST, examples_of
 from lib.shared import CRATES
 
-# Lines that a block may leave out.
+# The lines that a block leaves out.
 LEFT_OUT = re.compile(r"^ *// \.\.\.\n", re.MULTILINE)
 # The crates whose items stand in comments, and those whose functions a program or a test has to call, by whatever way.
 SHOWN = ("example_uses", "example_formats", "example_store", "test_cases")
 CALLERS = ("example_uses", "example_formats", "example_store")
-# Functions that are called without their names: a program's, and those of traits.
+# What is called by no name of its own: a program, and calls of traits.
 UNNAMED = {"main", "compare_key", "eq", "lm_iter", "lm_into_iter", "to_value", "from_value", "key_text"}
 # A function: the space before it, its name and its body.
 FUNCTION = re.compile(r"^( *)(?:pub(?:\(crate\))? )?fn (\w+)(.*?)^\1\}$", re.MULTILINE | re.DOTALL)
