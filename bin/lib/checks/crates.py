@@ -1,5 +1,4 @@
-"""Tables, lines of crates.txt and lists name all crates and all scripts, and no others. No two modules of a crate import each
-other."""
+"""Tables, lines of crates.txt and lists name all crates and all scripts, and no others; modules don't import each other."""
 import os
 import re
 import subprocess
