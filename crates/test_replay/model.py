@@ -1,8 +1,8 @@
 """A model of a map as a plain list of pairs, and the lines of data that `test_replay` reads, which bin/data writes.
 
-The files data/*.calls have each call of a map and of a store, at lengths around every limit, at each kind of place, with what it
-answers, the pairs after it, and how often it compares two keys at most. Nothing here runs the code under test. The cases of
-`rows` are written by hand there, without answers. A sample of the lines is stored, and bin/requests runs all of them.
+The files data/*.calls have each call of a map and of a store, at lengths around every limit and at each kind of index, with what
+it returns, the pairs after it, and a bound on its comparisons. Nothing here runs the code under test. The cases of `rows` are
+written by hand there, without results. A sample of the lines is stored, and bin/requests runs all of them.
 """
 import bisect
 import collections
@@ -13,26 +13,26 @@ import re
 
 FOLDER = pathlib.Path(__file__).resolve().parent
 STEP = 1099511628211
-# Around what the libraries treat in another way: none, one, a sort without memory, a vector's first room, and more.
+# Lengths around those at which the libraries take another way: none, one, a sort without memory, a vector's first room, and more.
 LENGTHS = [0, 1, 2, 3, 4, 5, 7, 8, 9, 12, 16, 17, 20, 21, 24, 30, 33, 65, 100, 129, 513, 1000]
-# The stores by their names in src/run.rt: those that grow, of these those that lend a slice, and all that lines are made over.
+# The stores, by their names in src/run.rt: those that grow, those of them that lend a slice, and all that have lines.
 GROWING = "vec columns short"
 SLICED = "vec short"
 ALL = GROWING + " fixed"
 
 
 def digits(number):
-    """How often a search compares at most."""
+    """The most comparisons of a search."""
     return number.bit_length()
 
 
 def sorting(number):
-    """How often pairs that don't ascend are compared at most, until they do. No contract says it."""
+    """The most comparisons that are allowed for a sort. No contract bounds them."""
     return number + 3 * number * digits(number)
 
 
 def summed(total, text):
-    """A sum, with the bytes of a text put to it."""
+    """A checksum that continues another one with the bytes of a text."""
     for byte in text.encode():
         total = (total ^ byte) * STEP % 2**64
         total ^= total >> 29
@@ -40,7 +40,7 @@ def summed(total, text):
 
 
 class Order:
-    """How the words of keys are read, and where they stand."""
+    """An order of keys: how their words are read, and how they compare."""
 
     def __init__(self, name):
         self.name = name
@@ -63,13 +63,13 @@ class Order:
 
 
 class Model:
-    """A map: its pairs as words, and how many more a fixed room takes (None: as many as come)."""
+    """A map: its pairs as words, and its room, if that is fixed (None if it grows)."""
 
     def __init__(self, order, pairs=(), room=None):
         self.order, self.pairs, self.room = order, list(pairs), room
 
     def text(self, pairs):
-        """Pairs as they are written."""
+        """The text of pairs in a line."""
         pairs = list(pairs)
         if len(pairs) <= 6:
             return " ".join(f"{key}:{value}" for key, value in pairs) or "-"
@@ -81,13 +81,13 @@ class Model:
         return f"#{len(pairs)}:{total % 10**9}"
 
     def place(self, key):
-        """How many keys are smaller, and whether an equal one is there."""
+        """The number of smaller keys, and whether an equal one is present."""
         rank = self.order.rank
         below = bisect.bisect_left(self.pairs, rank(key), key=lambda pair: rank(pair[0]))
         return below, below < len(self.pairs) and rank(self.pairs[below][0]) == rank(key)
 
     def last(self, pairs):
-        """Of each key the last pair, in order."""
+        """The last pair of each key, in ascending order."""
         kept = {}
         for key, value in pairs:
             kept[self.order.rank(key)] = (key, value)
@@ -98,7 +98,7 @@ class Model:
         return all(low < high for low, high in zip(ranks, ranks[1:]))
 
     def taken(self, count=1):
-        """Takes room for so many, if it is there."""
+        """Takes room for so many pairs, if it is there."""
         if self.room is not None and self.room < count:
             return False
         if self.room is not None:
@@ -106,7 +106,7 @@ class Model:
         return True
 
     def put(self, key, value):
-        """Puts an absent key in, if there is room: what is answered where there isn't."""
+        """Inserts an absent key, if there is room. Returns the error if there isn't."""
         place, _ = self.place(key)
         if not self.taken():
             return f"refused {key}:{value}"
@@ -118,7 +118,7 @@ class Model:
             self.room += count
 
     def bounds(self, words):
-        """The indices that two bounds part."""
+        """The indices between two bounds."""
         low, first, high, last = words
         start, end = 0, len(self.pairs)
         if low != "-":
@@ -130,7 +130,7 @@ class Model:
         return start, max(start, end)
 
     def given(self, words):
-        """The pairs that words spell."""
+        """The pairs that these words stand for."""
         pairs = []
         for word in words:
             if word.startswith("room="):
@@ -144,7 +144,7 @@ class Model:
         return pairs
 
     def make(self, call):
-        """Makes a call: what it answers, and how often it compares at most (None: as often as it likes)."""
+        """Makes a call: what it returns, and the most comparisons that it makes (None: they have no bound)."""
         name, *words = call.split(" ")
         if name == "sweep":
             return self.sweep(*words)
@@ -156,7 +156,7 @@ class Model:
         raise ValueError(call)
 
     def sweep(self, name, *words):
-        """Makes a call of each key and each gap: a sum of what it returns and leaves there, and how often one compares at most."""
+        """Makes a call at each key and each gap: a checksum of what it returns and leaves, and the most comparisons of one."""
         pairs, room, most, total = self.pairs, self.room, 0, 0
         for code in map(str, range(1, 2 * len(pairs) + 2)):
             self.pairs, self.room = list(pairs), room
@@ -308,7 +308,7 @@ class Model:
         return f"{old}{asked}", search
 
     def enter_twice(self, name, place, there, value):
-        """Two calls of one entry."""
+        """Makes two calls of one entry."""
         if not there:
             return "vacant"
         key, old = self.pairs.pop(place)
@@ -384,7 +384,7 @@ class Model:
         return None
 
     def keys_in_turns(self, words):
-        """The keys that words ask for, from either end, or how many are left."""
+        """The keys that are taken from either end, as words say, or the number of keys that are left."""
         left, answers = [key for key, _ in self.pairs], []
         for word in words:
             key = left.pop(0 if word == "next" else -1) if left and word != "len" else "none"
@@ -392,7 +392,7 @@ class Model:
         return " ".join(answers)
 
     def cost(self, pairs):
-        """How often bulk input is compared at most."""
+        """The most comparisons of bulk input."""
         if not self.rises(pairs):
             return len(self.pairs) + sorting(len(pairs))
         above = not self.pairs or not pairs or self.order.rank(self.pairs[-1][0]) < self.order.rank(pairs[0][0])
@@ -493,7 +493,7 @@ class Model:
         return (f"left {self.text(left)}" if left else "none"), cost
 
     def combined(self, pairs):
-        """The pairs, with the values of common keys combined."""
+        """These pairs, with the values of common keys combined."""
         here, new, asked = {self.order.rank(key): value for key, value in self.pairs}, [], 0
         for key, value in pairs:
             if self.order.rank(key) in here:
@@ -530,14 +530,14 @@ class Model:
         return f"ok asked {len(pairs) + 1}", cost
 
     def run(self, words):
-        """A list of calls of an empty map: what they return, and the map."""
+        """Makes a list of calls of an empty map: what they return, and the map after them."""
         made = Model(self.order)
         answers = [made.step(word)[0] for word in words]
         is_put = all(word.startswith("insert:") for word in words)
         return f"[{', '.join(answers)}] {made.look('debug', [], 0)}", len(words) * digits(len(words)) if is_put else None
 
     def step(self, word):
-        """Makes a call of a list: what it returns, and what it returns if memory runs out, if it may need some."""
+        """Makes a call of a list: what it returns, and its error out of memory, if it may need some."""
         kind, _, rest = word.partition(":")
         if kind in ("insert", "try_insert", "try_append"):
             return self.step_put(kind, *rest.split(":"))
@@ -591,18 +591,18 @@ ENTRIES = ["or_insert", "or_insert_with", "and_modify", "entry_insert", "entry_g
 ENTRIES += ["or_default", "entry", "entry_get", "entry_remove", "entry_debug", "entry_debug_lines"]
 TWICE = [f"entry_{first}_then_{last}" for first in ("insert", "get_mut") for last in ("remove", "into_mut")]
 EXTENSIONS = ["extend", "extend_counted", "extend_from_vec", "extend_from_vec_counted", "lm_extend", "lm_extend_from_vec"]
-# How many clones each conversion makes of a pair.
+# The number of clones that each conversion makes of a pair.
 CONVERSIONS = {"try_clone": 2, "to_boxed_keys_values": 2, "to_boxed_keys": 2, "to_boxed_values": 2, "to_keys_by": 1}
 CONVERSIONS |= {"to_borrowed_keys_values": 0, "to_borrowed_keys": 1, "to_borrowed_values": 1}
 
 
 def part(name, pair):
-    """What a walk over keys or values shows of a pair."""
+    """What an iterator of keys or of values shows of a pair."""
     return (pair[0], 0) if name == "keys" else (0, pair[1]) if name == "values" else pair
 
 
 def line(model, call, mark=""):
-    """The line of a call, which changes the model."""
+    """Makes a call of the model, and returns its line."""
     *first, last = call.split("; ")
     for earlier in first:
         model.make(earlier)
@@ -627,7 +627,7 @@ def block(stores, length, room, calls, order="number", is_fixed=False):
 
 
 def chain(stores, calls, order="number", room=None, is_fixed=False):
-    """Calls that go on from one another, from an empty map with this room."""
+    """Calls that each continue from the one before, the first from an empty map with this room."""
     yield f"on {stores}"
     yield f"with {order} 0 {room or 0}"
     model = Model(Order(order), [], room if is_fixed else None)
@@ -635,35 +635,35 @@ def chain(stores, calls, order="number", room=None, is_fixed=False):
         yield line(model, call, "+ " if place else "")
 
 
-# Of the lengths past nine those at which the second key and the last but one are taken too, with the gaps beside them.
+# The lengths past nine at which the second key and the last but one are taken too, with the gaps beside them.
 WITH_SECOND = (12, 33)
 
 
 def present(length):
-    """The first key, the middle one and the last one, and perhaps those next to the ends."""
+    """The first key, the middle one and the last one, and at some lengths those next to the ends."""
     more = {4, 2 * length - 2} if length in WITH_SECOND else set()
     return sorted({2, length // 2 * 2 + 2 * (length % 2), 2 * length} - {0} | more) if length else []
 
 
 def absent(length):
-    """A key below all, two between others, and one above all, and perhaps those next to the ends."""
+    """A key below all, two between others, and one above all, and at some lengths those next to the ends."""
     more = {3, 2 * length - 3} if length in WITH_SECOND else set()
     return sorted({1, length // 2 * 2 + 1, max(2 * length - 1, 1), 2 * length + 1} | more)
 
 
 def indices(length):
-    """The first index, the middle one and the last one, and perhaps those next to the ends."""
+    """The first index, the middle one and the last one, and at some lengths those next to the ends."""
     more = {1, length - 2} if length in WITH_SECOND else set()
     return sorted({0, length // 2, max(length - 1, 0)} | more)
 
 
 def keys(length):
-    """Each key and each gap of a short list, and of a longer one those at the ends and in the middle."""
+    """Each key and each gap of a short list; of a longer one those at the ends and in the middle."""
     return list(range(1, 2 * length + 2)) if length <= 9 else present(length) + absent(length)
 
 
 def looks():
-    """What changes nothing, by keys, indices and bounds."""
+    """The calls that change nothing, by keys, indices and bounds."""
     for length in LENGTHS + [3000]:
         ends = [*indices(length), length, length + 1, 2**64 - 1]
         calls = ["len", "is_empty", "first", "last", "keys_rise"] + (["debug"] if length <= 1000 else [])
@@ -688,7 +688,7 @@ LOOK_KEYS += ["find_index_by", "index"]
 
 
 def walks():
-    """Walks from both ends, conversions and comparisons."""
+    """Iterators from both ends, conversions and comparisons."""
     for length in LENGTHS:
         steps = sorted({0, 1, 2, length // 2, max(length - 1, 0), length, length + 2})
         calls = [f"{name} {front} {back}" for name in ("iter", "keys", "values") for front in steps for back in steps]
@@ -708,7 +708,7 @@ def walks():
 
 
 def changes():
-    """What places, writes or takes out one pair, or goes over all."""
+    """The calls that insert, write or remove one pair, or visit all pairs."""
     for length in LENGTHS + [3000]:
         calls = [f"{name} {key} 7" for name in PUTS + ENTRIES[:6] for key in keys(length)]
         calls += [f"{name} {key}" for name in ENTRIES[6:] for key in keys(length)]
@@ -730,7 +730,7 @@ RETAINED = [0, 2**64 - 1, 1, 2**64 - 2, 0x5555555555555555, 0xAAAAAAAAAAAAAAAA, 
 
 
 def inputs(length):
-    """Bulk input of each kind: none, above, below, between, equal, falling, doubled, scattered."""
+    """Bulk input of each kind: none, above, below, between, equal, descending, each key twice, in no order."""
     end = 2 * length
     yield ""
     for count in (1, 2, 5, 17, 40):
@@ -748,7 +748,7 @@ def inputs(length):
 
 
 def astray(length):
-    """Many pairs above all others that ascend, but for the last one, the first or the second."""
+    """Many pairs above all others, which ascend except for the last one, the first or the second."""
     low = 2 * length + 1
     for count in (10, 40):
         high = low + 2 * count
@@ -758,7 +758,7 @@ def astray(length):
 
 
 def bulk():
-    """What takes or makes many pairs at once, merges, parts and reads."""
+    """The calls that take or make many pairs at once, merge, split and read."""
     for length in [0, 1, 2, 3, 5, 12, 16, 17, 24, 30, 33, 65, 100, 129, 1000]:
         given = list(inputs(length)) + ([f"{2 * length + 1},1000,1", "1,1000,2", "4000,1000,-4"] if length in (0, 17, 1000) else [])
         given += astray(length) if length in (0, 1, 12, 33, 129) else []
@@ -779,7 +779,7 @@ def bulk():
 
 
 def is_before(call):
-    """Whether it merges pairs before all others: a store with a fixed room would have to move into the other one, without room."""
+    """Whether a call merges pairs before all others: a store with a fixed room would then have to move into the other one."""
     name, *words = call.split(" ")
     codes = [int(key) for key, _ in Model(Order("number")).given(words)] if name in MERGES + COMBINES else []
     return bool(codes) and max(codes) < 2
@@ -843,7 +843,7 @@ RESERVED = ["reserve", "lm_reserve", "with_capacity", "lm_with_capacity"]
 
 
 def grown():
-    """What places one pair where there is no room, around the powers of two up to 2,048; small pairs, sets, and 5,000 pairs."""
+    """Insertions of one pair without room, around the powers of two up to 2,048; of small pairs, in sets, and to 5,000 pairs."""
     for power in range(6, 12):
         for length in (2**power - 1, 2**power):
             end = 2 * length + 1
@@ -860,7 +860,7 @@ PLACING = ["insert", "try_insert", "try_append", "try_find_or_insert", "or_inser
 
 
 def roomy():
-    """Maps that have room and no pair, and vectors and other maps that have room, with no pair or with some."""
+    """Maps with room and no pair, and vectors and other maps with room, with no pair or with some."""
     taking = EXTENSIONS + MERGES + COMBINES + MAKES + MADE + ["lm_extend_end", "lm_extend_start"]
     for room in (5, 47):
         calls = [f"{name} 1 7" for name in PUTS + ENTRIES[:6]] + ["or_default 1", "split_off 1", "lm_push 1 7", "lm_insert 0 1 7"]
@@ -876,7 +876,7 @@ def roomy():
 
 
 def long():
-    """Calls at a hundred thousand pairs, whose time bin/requests bounds: lookups, walks, removals and input of as many again."""
+    """Calls at a hundred thousand pairs, whose time bin/requests limits: lookups, iterators, removals and as many new pairs."""
     count, calls = 100000, ["retain 0", "clear", "lm_retain 0", "insert_each 200001,100000,1"]
     calls += [f"{name} {steps} {count - steps}" for name in ("iter", "keys", "values") for steps in (0, count)]
     calls += [f"into_iter {count}", "iter_range in 1 in 200001", "for 0 0", "try_clone", "to_keys_by", "cmp", "hash"]
@@ -885,7 +885,7 @@ def long():
 
 
 def listed():
-    """Results of iterators that are read, and lists of insertions: rising, falling, and with keys twice, of each length up to 40."""
+    """Iterators of `Result`s, and lists of insertions: ascending, descending, and with keys twice, of up to 40 pairs."""
     for length in [*range(41), 100, 129, 513]:
         given = [f"1,{length},1", f"{2 * length},{length},-2", f"1,{length},3 2,{length},1"]
         yield from block(GROWING, 3, 0, [f"read_results {pairs}" for pairs in given])
@@ -894,7 +894,7 @@ def listed():
 
 
 def scattered():
-    """Input in no order around the length that a sort takes with no memory, and every short list into every short map."""
+    """Input in no order around the length that is sorted without memory, and every short list into every short map."""
     for count in (19, 20, 21, 40, 41, 1000):
         pairs = " ".join(f"{place * 7919 % (count // 3 + 1)}:{place}" for place in range(count))
         yield from chain(ALL, [f"from_iter {pairs}", f"extend {pairs}", f"from_vec {pairs}"], room=4000)
@@ -910,7 +910,7 @@ def scattered():
 
 
 def merged():
-    """Every two maps over four letters, longer maps where one way of merging gives place to another, and each total up to 600."""
+    """Every two maps over four letters, longer maps at the lengths where the way of merging changes, and each total up to 600."""
     sets = ["".join(it) for length in range(5) for it in itertools.combinations("abcd", length)]
     for old in sets:
         for new in sets:
@@ -929,7 +929,7 @@ def merged():
 
 
 def beside():
-    """Short maps beside each one of keys at their places and gaps, longer ones, and one beside each length up to 70."""
+    """Short maps beside each map of their keys and gaps, longer ones, and one beside each length up to 70."""
     for length in range(4):
         places = range(1, 2 * length + 2)
         theirs = [" ".join(f"{key}:9" for key in keys) for count in range(len(places) + 1) for keys in itertools.combinations(places, count)]
@@ -942,7 +942,7 @@ def beside():
 
 
 def renamed():
-    """Values that move from each kind of key to each other, and between letters that are equal keys."""
+    """Values that move from each kind of key to every other, and between letters that are equal keys."""
     for length in (0, 1, 2, 3, 5, 12, 17, 24, 30, 33, 65, 100, 129, 513, 1000):
         ends = [1, *present(length), 2 * length + 1]
         calls = [f"rename {key} {new_key}" for key in ends for new_key in keys(length)]
@@ -967,7 +967,7 @@ def combined():
         yield from block(ALL, length, 3000, [call for call in calls if not is_before(call)])
 
 
-# Ten pairs that rise, and ten that don't, of which none lies above the last of those.
+# Ten pairs that ascend, and ten that don't, of which none is above the last of the former.
 RISING = "106:4816 147:9864 188:8588 252:6031 434:2518 574:8500 607:3756 619:4965 663:2669 724:9211".split()
 OTHERS = "546:7490 273:4999 167:8078 176:2101 373:1304 339:9613 561:3620 301:1214 483:4453 704:5359".split()
 
@@ -1043,7 +1043,7 @@ def picked():
 
 
 def rows():
-    """The cases written by hand, each a paragraph: comments, its stores, order and room, and its calls, which may begin anew."""
+    """The cases that are written by hand, a paragraph each: comments, stores, order and room, and calls, which may begin anew."""
     for case in (FOLDER / "rows").read_text(encoding="utf-8").strip().split("\n\n"):
         lines = case.split("\n")
         yield from (text for text in lines if text.startswith("#"))
@@ -1059,7 +1059,7 @@ def rows():
                 yield from chain(name, lines[1:], order, int(room), is_fixed)
 
 
-# Calls that no line makes, and what runs them.
+# The calls that no line makes, and what runs them.
 ELSEWHERE = {
     "const_get_with_index": "test_cases: each type of keys",
     "const_len": "as_sliced",
@@ -1096,7 +1096,7 @@ FILES |= {"renamed": renamed, "combined": combined, "listed": listed, "grown": g
 
 
 def calls_of(lines):
-    """How many calls lines make, over all their stores."""
+    """The number of calls that lines make, over all their stores."""
     made = stores = 0
     for text in lines:
         if text.startswith("on "):
@@ -1119,12 +1119,12 @@ def files():
     return written({name: list(lines()) for name, lines in FILES.items()})
 
 
-# So many lines of a sample at most go on from one another.
+# The most lines of a sample that continue from one another.
 MOST_TOGETHER = 5
 
 
 def sampled(lines):
-    """Of each call the first line, the second, the fourth, the eighth and so on, and some of those that go on from these."""
+    """Of each call the first line, the second, the fourth, the eighth and so on, and some of those that continue from these."""
     heads, counts, left = {}, collections.Counter(), 0
     for text in lines:
         word = text.split(" ")[0]
@@ -1141,12 +1141,12 @@ def sampled(lines):
 
 
 def sample(files):
-    """The lines that are stored, of all those in the files but `long`: in one file, each part below its name."""
+    """The stored lines, in one file, from all files but `long`, each part under its name."""
     parts = [[f"# {name}", *sampled(files[f"data/{name}.calls"].splitlines())] for name in FILES if name != "long"]
     return written({"sample": list(itertools.chain.from_iterable(parts))})
 
 
 def faults(files):
-    """What the files lack: a line of each call."""
+    """A message for each call that no line makes."""
     made = {found for text in files.values() for found in re.findall(r"^(?:\+ )?(\w+)(?= .*= )", text, re.MULTILINE)}
     return [f"no line makes {call}" for call in unmade(made)]
