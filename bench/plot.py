@@ -27,7 +27,7 @@ def place(ratio):
 
 
 def mark(x, y, ratio, colour):
-    """A dot, or outside of the scale an arrow that points there."""
+    """A dot, or an arrow at the end of the scale if the ratio is outside of it."""
     if LOWEST <= math.log2(ratio) <= HIGHEST:
         return f'<circle cx="{x:.1f}" cy="{y:.1f}" r="4.5" fill="{colour}" stroke="#fff" stroke-width="0.7"/>'
     return arrow(x, y, 10 if ratio > 1 else -10, colour, f"{ratio:.2g}")

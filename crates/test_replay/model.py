@@ -989,7 +989,7 @@ def twenty():
 
 
 class Generator:
-    """Numbers that only look random, the same ones in each run."""
+    """Pseudo-random numbers, the same ones in each run."""
 
     def __init__(self, seed):
         self.state = seed
