@@ -29,7 +29,7 @@ pub fn merge_side_by_side<K: Ord + Drop, V: Drop, S: StoreIntoIterator<K, V> + D
     requires store { Rising K.cmp (S.pairs store.old) }
     requires other { Rising K.cmp (S.pairs other) }
     requires total { total ≡ length (S.pairs store.old) + length (S.pairs other) }
-    ensures merges { Merges K.cmp S.pairs store.old other store.new result }
+    ensures merges { Merges K.cmp S.pairs other store.old store.new result }
     ensures cost { RisesByAtMost total count.old count.new }
 {
     let Ok(fresh) = S::lm_with_capacity(alloc, total) else {

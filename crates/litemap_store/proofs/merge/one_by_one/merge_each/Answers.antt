@@ -7,4 +7,5 @@ returns-clause-merges g c = record {
   merged = grind (arith, common_steps);
   left = grind (arith, common_steps);
   refused = tt;
+  back = tt;
 }

@@ -11,6 +11,7 @@ returns g c =
         merged = rw (olds, news) at c.put_both.ensures.merged;
         left = rw left at c.unless_empty.ensures;
         refused = tt;
+        back = tt;
       };
       cost = rw (olds, news, ← c.requires.total) at c.put_both.ensures.cost;
     }
