@@ -44,7 +44,8 @@ pub record Merges {K V S : Type 0} (cmp : K → K → Ordering) (pairs : S → L
     (result : Result (Option S) (NoRoom S)) : Type 0 where
   -- the merged pairs, and the displaced ones
   pub merged : OnOk result (Merge cmp (pairs before) (pairs other) (pairs after))
-  pub left : IfOk result (IsLeft pairs (left cmp (pairs before) (pairs other)))
+  pub none : IfOk result (λ rest. IsNone rest ↔ (left cmp (pairs before) (pairs other) ≡ []))
+  pub left : IfOk result (λ rest. IfSome rest (λ s. pairs s ≡ left cmp (pairs before) (pairs other)))
   -- if it fails, the list stays, and the other one comes back whole
   pub refused : OnErr result (pairs after ≡ pairs before)
   pub back : IfErr result (λ refused. pairs refused.back ≡ pairs other)

@@ -138,7 +138,6 @@ impl<K, V, I: PairIntoIter<K, V>> Model for Peekable<K, V, I> {
 }
 
 impl<K, V, I: PairIntoIter<K, V>> Peekable<K, V, I> {
-    // All pairs of an iterator.
     fn new(mut pairs: I) -> Self
         ensures { result ≡ I.owned pairs }
     {
@@ -149,7 +148,6 @@ impl<K, V, I: PairIntoIter<K, V>> Peekable<K, V, I> {
         }
     }
 
-    // The first pair, if there is one.
     fn peek(&self) -> Option<(&K, &V)>
         ensures { option_map deref_pair result ≡ slice_get self.now 0 }
     {
@@ -157,7 +155,6 @@ impl<K, V, I: PairIntoIter<K, V>> Peekable<K, V, I> {
         Some((key, value))
     }
 
-    // Takes the first pair.
     fn take_first(&mut self) -> (K, V)
         requires { 0 < length self.old }
         ensures { self.old ≡ result ∷ self.new }

@@ -38,7 +38,8 @@ returns-then-lies_below g c =
       merged = record {
         merges = record {
           merged = IfOk-weaker c.append_other.result _ _ (λ rest e. rw e.1 (Merge-behind g.K.Ord.cmp g.met.K.Ord.total _ _ c.requires.store c.requires.other up)) c.append_other.ensures.joined;
-          left = IfOk-weaker c.append_other.result _ _ (λ rest e. rw e.0 ((λ _. left-behind g.K.Ord.cmp g.met.K.Ord.total _ _ c.requires.store c.requires.other up, λ _. refl), tt)) c.append_other.ensures.joined;
+          none = IfOk-weaker c.append_other.result _ _ (λ rest e. (λ _. left-behind g.K.Ord.cmp g.met.K.Ord.total _ _ c.requires.store c.requires.other up, λ _. rw e.0 refl)) c.append_other.ensures.joined;
+          left = IfOk-weaker c.append_other.result _ _ (λ rest e. rw e.0 tt) c.append_other.ensures.joined;
           refused = c.append_other.ensures.refused;
           back = c.append_other.ensures.back;
         };
@@ -61,7 +62,8 @@ returns-then-lies_below-2 g c =
       merged = record {
         merges = record {
           merged = IfOk-weaker c.prepend_other.result _ _ (λ rest e. rw e.1 (Merge-before g.K.Ord.cmp g.met.K.Ord.total _ _ c.requires.store c.requires.other up)) c.prepend_other.ensures.joined;
-          left = IfOk-weaker c.prepend_other.result _ _ (λ rest e. rw e.0 ((λ _. left-before g.K.Ord.cmp g.met.K.Ord.total _ _ c.requires.store c.requires.other up, λ _. refl), tt)) c.prepend_other.ensures.joined;
+          none = IfOk-weaker c.prepend_other.result _ _ (λ rest e. (λ _. left-before g.K.Ord.cmp g.met.K.Ord.total _ _ c.requires.store c.requires.other up, λ _. rw e.0 refl)) c.prepend_other.ensures.joined;
+          left = IfOk-weaker c.prepend_other.result _ _ (λ rest e. rw e.0 tt) c.prepend_other.ensures.joined;
           refused = c.prepend_other.ensures.refused;
           back = c.prepend_other.ensures.back;
         };
