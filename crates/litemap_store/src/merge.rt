@@ -45,8 +45,8 @@ pub fn extend_from_store<K: Ord + Drop, V: Drop, S: StoreIntoIterator<K, V> + Dr
     merge_mixed(alloc, store, other, count)
 }
 
-// Appends the pairs of another store, whose keys are all above. No key is common, so nothing is displaced. If a store is empty, no
-// memory is taken.
+// Appends the pairs of another store, whose keys are all above. No key is common, so nothing is displaced. If a store is empty,
+// no memory is taken.
 fn append_other<K: Drop, V: Drop, S: StoreIntoIterator<K, V> + Drop>(
     store: &mut S,
     other: S,
