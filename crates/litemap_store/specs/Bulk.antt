@@ -26,16 +26,16 @@ pub record IsCountedFor {K V : Type 0} (cmp : K → K → Ordering) (old given :
   -- if they ascend: one for each old and two for each new pair
   pub rising : Rising cmp given → RisesByAtMost (length old + 2 * length given) before after
 
--- a list is given, and new has the last pairs of the old ones followed by it
-pub record IsGathered {K V : Type 0} (cmp : K → K → Ordering) (IsGiven : List (K × V) → Type 0) (old new : List (K × V)) : Type 0 where
-  pub given : List (K × V)
-  pub gives : IsGiven given
-  pub last : Last cmp (old ++ given) new
-
 module _ {U T K V : Type 0} (cmp : K → K → Ordering) (becomes : U → T → Type 0) (steps : T → Option (K × V) → T → Type 0) where
-  -- iter yields pairs and then ends, new has the last pairs of the old ones and of these, for which so many comparisons are counted
+  -- iter yields the pairs `given` and then ends, and new has the last pairs of the old ones followed by these
+  pub record IsExtended (iter : U) (old new : List (K × V)) : Type 0 where
+    pub given : List (K × V)
+    pub gives : Gives becomes steps iter given
+    pub last : Last cmp (old ++ given) new
+
+  -- the same, and for these pairs so many comparisons are counted
   pub record IsExtendedCounted (iter : U) (old new : List (K × V)) (before after : Count) : Type 0 where
-    pub extended : IsGathered cmp (Gives becomes steps iter) old new
+    pub extended : IsExtended iter old new
     pub counted : IsCountedFor cmp old extended.given before after
 
   -- if the call fails, none was counted, or no more than for the pairs that iter yields before it ends

@@ -1,7 +1,7 @@
 //! Calls that take many pairs at once. The last pair of each key stays.
 ghost use Rattle.std.specs.Prelude.{◌≡◌, ◌≤◌, ◌++◌, [], IfErr, IfOk, IsOk, OnOk, OnErr, length};
 ghost use Rattle.std.specs.Iterator.{IsFiniteIterable};
-ghost use Rattle.litemap_store.specs.Bulk.{Gives, GivesSome, IsCountedFor, IsExtendedCounted, IsGathered, IsHandedBack};
+ghost use Rattle.litemap_store.specs.Bulk.{GivesSome, IsCountedFor, IsExtended, IsExtendedCounted, IsHandedBack};
 ghost use Rattle.litemap_store.specs.Bulk.{IsRefusedCounted};
 ghost use Rattle.litemap_store.specs.Counts.{GoesOn};
 ghost use Rattle.litemap_store.specs.Last.{Last, Rises};
@@ -28,7 +28,7 @@ impl<K: Ord + Drop, V: Drop, S: StoreFromIterable<K, V>> LiteMap<K, V, S> {
     ) -> Result<Self, AllocError>
         requires { IsFiniteIterable I.into_iter_gives I.IntoIter.can_next I.IntoIter.remaining iter }
         ensures made { IfOk result
-            (λ m. IsGathered K.cmp (Gives I.into_iter_gives I.IntoIter.next_gives iter) [] m.pairs) }
+            (λ m. IsExtended K.cmp I.into_iter_gives I.IntoIter.next_gives iter [] m.pairs) }
         ensures refused_some { OnErr result (GivesSome I.into_iter_gives I.IntoIter.next_gives iter) }
     {
         Self::from_iter_counted(alloc, iter, &mut Count::new())
@@ -109,7 +109,7 @@ impl<K: Ord + Drop, V: Drop, S: StoreBulkMut<K, V>> LiteMap<K, V, S> {
     ) -> Result<(), AllocError>
         requires { IsFiniteIterable I.into_iter_gives I.IntoIter.can_next I.IntoIter.remaining iter }
         ensures extended { OnOk result
-            (IsGathered K.cmp (Gives I.into_iter_gives I.IntoIter.next_gives iter) self.old.pairs self.new.pairs) }
+            (IsExtended K.cmp I.into_iter_gives I.IntoIter.next_gives iter self.old.pairs self.new.pairs) }
         ensures refused { OnErr result (self.new.pairs ≡ self.old.pairs) }
         ensures refused_some { OnErr result (GivesSome I.into_iter_gives I.IntoIter.next_gives iter) }
     {

@@ -6,7 +6,7 @@ use Rattle.std.proofs.iter.Yields.{gives_Drains, listed}
 use Rattle.std.specs.Cmp.{IsTotalOrder}
 use Rattle.std.specs.Iterator.{Drains, YieldsFirst}
 use Rattle.std.specs.declared.cmp.Ordering.{Ordering}
-use Rattle.litemap_store.specs.Bulk.{Gives, IsGathered}
+use Rattle.litemap_store.specs.Bulk.{IsExtended}
 use Rattle.litemap_store.specs.Last.{Last}
 use Rattle.litemap_store.specs.Pairs.{Rising}
 use Rattle.litemap_store.proofs.Last.Pairs.{Last-rising, Last-unique}
@@ -20,7 +20,7 @@ module _ {T X : Type 0} (steps : T → Option X → T → Type 0) (owned : T →
 module _ {U T K V : Type 0} {cmp : K → K → Ordering} (o : IsTotalOrder cmp) (becomes : U → T → Type 0) (steps : T → Option (K × V) → T → Type 0)
     (owned : T → List (K × V)) (first : (s : T) (r : Option (K × V)) (t : T) → steps s r t → YieldsFirst owned s r t)
     (pairs : U → List (K × V)) (shown : (u : U) (t : T) → becomes u t → owned t ≡ pairs u) where
-  pub rebuilt : (u : U) (new : List (K × V)) → Rising cmp (pairs u) → IsGathered cmp (Gives becomes steps u) [] new → new ≡ pairs u
+  pub rebuilt : (u : U) (new : List (K × V)) → Rising cmp (pairs u) → IsExtended cmp becomes steps u [] new → new ≡ pairs u
   rebuilt u new r e =
       let given : e.given ≡ pairs u = given_by_owned steps owned first e.gives.0 e.given e.gives.2 ∙ shown u e.gives.0 e.gives.1 in
       Last-unique cmp o (pairs u) new (pairs u) (subst (λ J. Last cmp J new) given e.last) (Last-rising cmp (pairs u) r)
