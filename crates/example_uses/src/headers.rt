@@ -4,7 +4,7 @@ ghost use Rattle.std.specs.Prelude.{◌≡◌, ◌≢◌, None, Some, IfOk, OnOk
 ghost use Rattle.std.specs.Option.{option_copied};
 ghost use Rattle.litemap_store.specs.Pairs.{value_at};
 ghost use Rattle.litemap_store.specs.Queries.{by_text};
-ghost use Rattle.litemap_store.specs.Clones.{PairsAreClones};
+ghost use Rattle.litemap_store.specs.Clones.{PairsBecame};
 
 use litemap::LiteMap;
 use std::alloc::{AllocError, Global};
@@ -45,7 +45,7 @@ pub fn remove(headers: &mut Headers, name: &str) -> Option<String>
 /// A copy of the headers, with strings of its own that have the same bytes.
 #[tactic(auto, using(litemap::proofs::Texts::text_clones))]
 pub fn copy_of(alloc: Global, headers: &Headers) -> Result<Headers, AllocError>
-    ensures { IfOk result (λ copy. PairsAreClones
+    ensures { IfOk result (λ copy. PairsBecame
         (λ text clone. string_bytes clone ≡ string_bytes text) (λ text clone. string_bytes clone ≡ string_bytes text)
         headers.now.pairs copy.pairs) }
 {

@@ -12,8 +12,12 @@ use Rattle.litemap_store.proofs.Lists.Membership.{from_each}
 use Rattle.litemap_store.proofs.Callers.MergeLookups.{at-rising, key_alike, key_same}
 use Rattle.litemap_store.proofs.Search.Splitting.{at_in}
 use Rattle.litemap_store.proofs.Callers.Tallies.{value_at_equal}
-use Rattle.litemap.specs.Combined.{CallableOnCommon, CallableOnEachOf, Combined, Combines, Settles, combined, combined_pair, found_with}
+use Rattle.litemap.specs.Combined.{CallableOnCommon, CallableOnEachOf, Combined, Combines, Settles, combined, found_with}
 use denote.Ref.{Bor, MutBor}
+
+-- one pair of them
+abbrev combined_pair : {K V : Type 0} → (K → K → Ordering) → (K → V → V → V) → List (K × V) → K × V → K × V
+combined_pair cmp combine L p = (p.0, option_map_or (λ here. combine p.0 here p.1) (value_at cmp L p.0) p.1)
 
 module _ {F K V : Type 0} (g : Shared F (Bor K × (Bor V × (MutBor V × Unit {0}))) (Unit {0} × (MutBor V × Unit {0}))) (f : F) (cmp : K → K → Ordering) (L : List (K × V)) where
   pub Combined-more : (p : K × V) (w : V) (J M : List (K × V)) → Settles g f p.0 (value_at cmp L p.0) p.1 w → Combined g f cmp L J M → Combined g f cmp L (p ∷ J) ((p.0, w) ∷ M)

@@ -4,10 +4,10 @@ use Rattle.std.specs.Cmp.{IsTotalOrder}
 use Rattle.std.proofs.lemmas.Cmp.{alike_right}
 use Rattle.std.specs.declared.cmp.Ordering.{Ordering}
 use Rattle.std.specs.declared.cmp.Ordering.TheVariants.{Less}
-use Rattle.litemap_store.specs.Clones.{ClonesCompareEqual, PairsAreClones}
+use Rattle.litemap_store.specs.Clones.{ClonesCompareEqual, PairsBecame}
 use Rattle.litemap_store.specs.Last.{In}
 use Rattle.litemap_store.specs.Pairs.{BelowAll, Rising}
-use Rattle.litemap.specs.Conversions.{KeysKeepOrder, PairsBecame}
+use Rattle.litemap.specs.Conversions.{KeysKeepOrder}
 
 module _ {K L V W : Type 0} (cmp : K → K → Ordering) (new_cmp : L → L → Ordering) (C : K → L → Type 0) (D : V → W → Type 0) where
   BelowAll-became : (p : K × V) (a : L) (before : List (K × V)) (after : List (L × W))
@@ -35,5 +35,5 @@ module _ {K V : Type 0} {cmp : K → K → Ordering} (o : IsTotalOrder cmp) (C :
   KeysKeepOrder-clones list seen is equal p q a b i j c d less =
       sym (o.congr p.0 a b (equal p a (subst (In p) is i) c)) ∙ sym (alike_right o q.0 b p.0 (equal q b (subst (In q) is j) d)) ∙ less
 
-  pub Rising-clones : (D : V → V → Type 0) (before seen after : List (K × V)) → before ≡ seen → ClonesCompareEqual cmp C seen → PairsAreClones C D before after → Rising cmp before → Rising cmp after
+  pub Rising-clones : (D : V → V → Type 0) (before seen after : List (K × V)) → before ≡ seen → ClonesCompareEqual cmp C seen → PairsBecame C D before after → Rising cmp before → Rising cmp after
   Rising-clones D before seen after is equal = Rising-became cmp cmp C D before after (KeysKeepOrder-clones before seen is equal)

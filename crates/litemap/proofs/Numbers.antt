@@ -13,10 +13,9 @@ use Rattle.std.specs.declared.cmp.Ordering.{Ordering}
 use Rattle.std.specs.declared.cmp.Ordering.TheVariants.{Equal}
 use Rattle.litemap_store.specs.Merge.{Merge, left}
 use Rattle.litemap_store.specs.Pairs.{above, at, below, cut, index_of, place, put, value_at, write}
-use Rattle.litemap_store.proofs.Callers.Lookups.{index_of-put, value_at-cut, value_at-cut_other, value_at-put, value_at-put_other}
+use Rattle.litemap_store.proofs.Callers.Lookups.{index_of-put, value_at-cut, value_at-cut_other, value_at-put, value_at-put_other, value_in-set}
 use Rattle.litemap_store.proofs.Callers.Lookups.{value_at-set, value_at-write, value_at-write_apart, value_at-written_apart}
 use Rattle.litemap_store.proofs.Callers.MergeLookups.{key_alike, key_same, value_at-left, value_at-merged}
-use Rattle.litemap.proofs.Places.{other_places}
 
 -- ---- keys that are the same value if their order says that they are equal
 module _ {K V : Type 0} (cmp : K → K → Ordering) (o : IsTotalOrder cmp) (exact : CmpEqualImpliesEq cmp) (L : List (K × V)) where
@@ -121,7 +120,7 @@ pub ruleset number_keys = (
   number_cut_others,
   number_merged,
   number_left,
-  other_places,
+  value_in-set,
 )
 
 pub ruleset signed_keys = (
@@ -135,5 +134,5 @@ pub ruleset signed_keys = (
   signed_cut_others,
   signed_merged,
   signed_left,
-  other_places,
+  value_in-set,
 )

@@ -17,13 +17,12 @@ use Rattle.std.specs.declared.cmp.Ordering.TheVariants.{Equal}
 use Rattle.litemap_store.specs.Merge.{Merge, left}
 use Rattle.litemap_store.specs.Pairs.{above, at, below, cut, index_of, key_or, place, put, value_at, write}
 use Rattle.litemap_store.specs.Queries.{by_slice, by_text}
-use Rattle.litemap_store.proofs.Callers.Lookups.{value_at-cut, value_at-cut_other, value_at-put, value_at-put_other, value_at-write, value_at-write_apart}
+use Rattle.litemap_store.proofs.Callers.Lookups.{value_at-cut, value_at-cut_other, value_at-put, value_at-put_other, value_at-write, value_at-write_apart, value_in-set}
 use Rattle.litemap_store.proofs.Callers.Lookups.{index_of-put, value_at-between_apart, value_at-cut_apart, value_at-set}
 use Rattle.litemap_store.proofs.Callers.Lookups.{value_at-written_apart}
 use Rattle.litemap_store.proofs.Callers.MergeLookups.{key_alike, key_same, value_at-left, value_at-merged}
 use Rattle.litemap_store.proofs.Search.Splitting.{key_or_equal}
 use Rattle.litemap.specs.ByBytes.{by_bytes}
-use Rattle.litemap.proofs.Places.{other_places}
 
 by_bytes_total : IsTotalOrder by_bytes
 by_bytes_total = on_texts (λ (a : Bor (List ℕ)). a.now)
@@ -177,7 +176,7 @@ pub ruleset string_keys = (
   string_cut_others,
   string_merged,
   string_left,
-  other_places,
+  value_in-set,
 )
 
 pub ruleset text_keys = (
@@ -191,13 +190,13 @@ pub ruleset text_keys = (
   text_cut_others,
   text_merged,
   text_left,
-  other_places,
+  value_in-set,
 )
 
 -- fewer of them, for a chain of `entry`: with the others the search reaches its limit
 pub ruleset text_entries = (text_put_found, text_put_others, text_cut_gone, text_cut_others)
 
-pub ruleset byte_keys = (byte_write_found, byte_write_others, byte_cut_gone, byte_cut_others, other_places)
+pub ruleset byte_keys = (byte_write_found, byte_write_others, byte_cut_gone, byte_cut_others, value_in-set)
 
 pub ruleset str_keys = (
   str_put_found,
@@ -208,7 +207,7 @@ pub ruleset str_keys = (
   str_cut_others,
   str_merged,
   str_left,
-  other_places,
+  value_in-set,
 )
 
 -- a clone of a string has its bytes

@@ -1,5 +1,5 @@
--- What an insertion, a renaming and a merge return and leave.
-use Rattle.std.specs.Prelude.{◌≡◌, ◌↔◌, ◌+◌, ◌≤◌, Bool, List, Option, None, is_some, Result, IsNone, IsSome, IfSome}
+-- What an insertion, a removal, a renaming and a merge return and leave.
+use Rattle.std.specs.Prelude.{◌≡◌, ◌↔◌, ◌+◌, ◌<◌, ◌≤◌, Bool, List, Option, None, is_some, Result, IsNone, IsSome, IfSome}
 use Rattle.std.specs.Prelude.{IfOk, IfErr, OnOk, OnErr}
 use Rattle.std.specs.Bool.{IsFalse}
 use Rattle.std.specs.declared.cmp.Ordering.{Ordering}
@@ -30,6 +30,13 @@ module _ {K V : Type 0} where
     pub refused : RefusedFull p before after result
 
 module _ {K Q V : Type 0} (order : K → Q → Ordering) (key : Q) where
+  -- the pair of a key is removed, if there is one; the result has what is returned of it
+  pub record Removes {A : Type 0} (keeps_memory : Type 0) (before after : Contents K V) (result : Option A) : Type 0 where
+    pub cut : after.pairs ≡ cut order before.pairs key
+    pub unchanged : IsNone (at order before.pairs key) → after ≡ before
+    -- if the store keeps its memory, there is room for another pair then
+    pub room : keeps_memory → IsSome result → before.room < after.room
+
   -- the value of a key, if it is present, moves to a new key
   pub record Renames (cmp : K → K → Ordering) (new_key : K) (before after : Contents K V) (result : Bool) : Type 0 where
     pub there : result ≡ is_some (at order before.pairs key)

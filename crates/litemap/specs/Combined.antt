@@ -11,13 +11,9 @@ use Rattle.litemap_store.specs.Contents.{Contents, with_pairs}
 use denote.Ref.{Bor, MutBor}
 
 module _ {K V : Type 0} where
-  -- the pair p, its value combined with the value of its key in L, if there is one
-  abbrev pub combined_pair : (K → K → Ordering) → (K → V → V → V) → List (K × V) → K × V → K × V
-  combined_pair cmp combine L p = (p.0, option_map_or (λ here. combine p.0 here p.1) (value_at cmp L p.0) p.1)
-
   -- the pairs of J, each value combined with the value of its key in L, if there is one
   abbrev pub combined : (K → K → Ordering) → (K → V → V → V) → List (K × V) → List (K × V) → List (K × V)
-  combined cmp combine L J = map (combined_pair cmp combine L) J
+  combined cmp combine L J = map (λ p. (p.0, option_map_or (λ here. combine p.0 here p.1) (value_at cmp L p.0) p.1)) J
 
   -- what a lookup finds: if both maps have the key, both values combined, else the value of the one that has it
   abbrev pub found_with : (K → V → V → V) → Option V → Option (K × V) → Option V

@@ -1,23 +1,18 @@
 -- What keys and values become if a map is made of another.
 use Rattle.std.specs.Prelude.{◌≡◌, List, [], Result, IfOk, IsOk}
-use Rattle.std.specs.List.{AllZip}
 use Rattle.std.specs.declared.cmp.Ordering.{Ordering}
 use Rattle.std.specs.declared.cmp.Ordering.TheVariants.{Less}
+use Rattle.litemap_store.specs.Clones.{PairsBecame}
 use Rattle.litemap_store.specs.Contents.{Contents}
 use Rattle.litemap_store.specs.Last.{In}
 use denote.Param.Members.{Shared}
 use denote.Ref.{Bor}
 
-module _ {K L V W : Type 0} where
-  -- each key and each value of the second list is what that of the first became
-  abbrev pub PairsBecame : (K → L → Type 0) → (V → W → Type 0) → List (K × V) → List (L × W) → Type 0
-  PairsBecame key_became value_became before after = AllZip (λ p q. key_became p.0 q.0 × value_became p.1 q.1) before after
-
-  -- the pairs of a map become those of another, or memory runs out; it never does for no pairs
-  pub record Converts {E : Type 0} (key_became : K → L → Type 0) (value_became : V → W → Type 0) (before : List (K × V))
-      (result : Result (Contents L W) E) : Type 0 where
-    pub became : IfOk result (λ m. PairsBecame key_became value_became before m.pairs)
-    pub succeeds : before ≡ [] → IsOk result
+-- the pairs of a map become those of another, or memory runs out; it never does for no pairs
+pub record Converts {K L V W E : Type 0} (key_became : K → L → Type 0) (value_became : V → W → Type 0) (before : List (K × V))
+    (result : Result (Contents L W) E) : Type 0 where
+  pub became : IfOk result (λ m. PairsBecame key_became value_became before m.pairs)
+  pub succeeds : before ≡ [] → IsOk result
 
 module _ {K L V : Type 0} where
   -- of two keys of the list, the lesser becomes the lesser

@@ -1,9 +1,9 @@
 -- What a call returns and leaves, by the index that a search found.
-use Rattle.std.specs.Prelude.{◌≡◌, ◌<◌, ℕ, List, length, Option, Some, None, IfSome, Result, Ok, Err}
+use Rattle.std.specs.Prelude.{◌≡◌, ◌<◌, ℕ, List, length, slice_get, Option, Some, None, IfSome, Result, Ok, Err, IfOk}
 use Rattle.std.specs.Option.{option_map}
 use Rattle.std.specs.declared.cmp.Ordering.{Ordering}
 use Rattle.std.specs.List.{remove}
-use Rattle.litemap_store.specs.Pairs.{place, value_at, value_in}
+use Rattle.litemap_store.specs.Pairs.{at, index_of, place, value_at, value_in}
 use Rattle.litemap_store.specs.Search.{Found}
 use denote.Param.Members.{Mut}
 use denote.Ref.{Bor}
@@ -34,6 +34,12 @@ module _ {F K V : Type 0} (g : Mut F (Bor K × Unit {0}) Ordering) (L : List (K 
     pub pairs : M ≡ without_found L place
 
 module _ {K Q V : Type 0} (order : K → Q → Ordering) (L : List (K × V)) (q : Q) where
+  -- the index of the key that is equal to q, and its pair is there; or the index where it would be inserted
+  pub record FindsIndex (found : Result ℕ ℕ) : Type 0 where
+    pub place : found ≡ index_of order L q
+    pub within : IfOk found (λ index. index < length L)
+    pub there : IfOk found (λ index. slice_get L index ≡ at order L q)
+
   -- the index of the key that is equal to q, and its value, if there is one
   pub record GetsWithIndex (found : Option (ℕ × Bor V)) : Type 0 where
     pub value : option_map (λ x. x.1.now) found ≡ value_at order L q

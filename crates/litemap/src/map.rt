@@ -1,7 +1,7 @@
 //! The map: its type, and how one is made.
 ghost use Rattle.std.specs.Prelude.{◌≡◌, ◌↔◌, ◌≤◌, [], IfOk, IsOk, IsTrue};
 ghost use Rattle.litemap_store.specs.Pairs.{Rising};
-ghost use Rattle.litemap_store.specs.Clones.{ClonesAreSame, ClonesCompareEqual, PairsAreClones};
+ghost use Rattle.litemap_store.specs.Clones.{ClonesAreSame, ClonesCompareEqual, PairsBecame};
 
 mod becomes;
 mod bulk;
@@ -157,7 +157,7 @@ impl<K: Ord, V, S: StoreMut<K, V>> LiteMap<K, V, S> {
         V: Clone,
         S: Drop,
         requires { ClonesCompareEqual K.cmp K.is_clone self.now.pairs }
-        ensures clones { IfOk result (λ m. PairsAreClones K.is_clone V.is_clone self.now.pairs m.pairs) }
+        ensures clones { IfOk result (λ m. PairsBecame K.is_clone V.is_clone self.now.pairs m.pairs) }
         ensures same { IfOk result
             (λ m. ClonesAreSame K.is_clone → ClonesAreSame V.is_clone → m.pairs ≡ self.now.pairs) }
         ensures succeeds { self.now.pairs ≡ [] → IsOk result }

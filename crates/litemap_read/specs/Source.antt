@@ -14,7 +14,8 @@ module _ {S P : Type 0} (gives : S → List P → Type 0) where
   IsBehind s t = (front : List P) × ((rest : List P) → gives t rest → gives s (front ++ rest))
 
 -- a list is given, and M is the last pairs of the old ones followed by it
-pub record IsGathered {K V : Type 0} (cmp : K → K → Ordering) (Gives : List (K × V) → Type 0) (old M : List (K × V)) : Type 0 where
+pub record IsGathered {K V : Type 0} (cmp : K → K → Ordering) (Gives : List (K × V) → Type 0)
+    (old M : List (K × V)) : Type 0 where
   pub given : List (K × V)
   pub gives : Gives given
   pub last : Last cmp (old ++ given) M

@@ -33,7 +33,7 @@ module _ {U T K V : Type 0} (cmp : K → K → Ordering) (becomes : U → T → 
     pub gives : Gives becomes steps iter given
     pub last : Last cmp (old ++ given) new
 
-  -- iter yields pairs and then ends, new has the last pairs of the old ones followed by these, and so many comparisons are counted
+  -- the same, and for these pairs so many comparisons are counted
   pub record IsExtendedCounted (iter : U) (old new : List (K × V)) (before after : Count) : Type 0 where
     pub extended : IsExtended iter old new
     pub counted : IsCountedFor cmp old extended.given before after

@@ -35,31 +35,25 @@ module _ {K V : Type 0} (cmp : K → K → Ordering) where
 abbrev pub IsLeft : {X S : Type 0} → (S → List X) → List X → Option S → Type 0
 IsLeft pairs L rest = (IsNone rest ↔ (L ≡ [])) × IfSome rest (λ s. pairs s ≡ L)
 
--- a failed merge of t into s leaves the pairs of s as they were, and returns those of t
-abbrev pub IsUndone : {X S : Type 0} → (S → List X) → S → S → S → S → Type 0
-IsUndone pairs s t now back = (pairs now ≡ pairs s) × (pairs back ≡ pairs t)
-
 -- the comparisons of a merge by searches, at most: one search for each pair of B, among the pairs of both
 abbrev pub searches_cost : {X : Type 0} → List X → List X → ℕ
 searches_cost A B = length B * digits (length A + length B)
 
--- what a merge of t into s leaves and returns if neither is empty: the merged pairs, and the displaced ones
-pub record Merges {K V S : Type 0} (cmp : K → K → Ordering) (pairs : S → List (K × V)) (s t now : S)
+-- what a merge of `other` into `before` leaves and returns
+pub record Merges {K V S : Type 0} (cmp : K → K → Ordering) (pairs : S → List (K × V)) (other before after : S)
     (result : Result (Option S) (NoRoom S)) : Type 0 where
-  pub merged : OnOk result (Merge cmp (pairs s) (pairs t) (pairs now))
-  pub left : IfOk result (IsLeft pairs (left cmp (pairs s) (pairs t)))
-  pub refused : IfErr result (λ refused. IsUndone pairs s t now refused.back)
-
--- `other` is merged into `before`, which is then `after`: all three are stores, or maps
-pub record MergesInto {K V S : Type 0} (cmp : K → K → Ordering) (pairs : S → List (K × V)) (room : S → ℕ) (other before after : S)
-    (result : Result (Option S) (NoRoom S)) : Type 0 where
-  -- what is left, and what is displaced
-  pub merge : OnOk result (Merge cmp (pairs before) (pairs other) (pairs after))
+  -- the merged pairs, and the displaced ones
+  pub merged : OnOk result (Merge cmp (pairs before) (pairs other) (pairs after))
   pub none : IfOk result (λ rest. IsNone rest ↔ (left cmp (pairs before) (pairs other) ≡ []))
   pub left : IfOk result (λ rest. IfSome rest (λ s. pairs s ≡ left cmp (pairs before) (pairs other)))
   -- if it fails, the list stays, and the other one comes back whole
   pub refused : OnErr result (pairs after ≡ pairs before)
   pub back : IfErr result (λ refused. pairs refused.back ≡ pairs other)
+
+-- `other` is merged into `before`, which is then `after`: all three are stores, or maps
+pub record MergesInto {K V S : Type 0} (cmp : K → K → Ordering) (pairs : S → List (K × V)) (room : S → ℕ) (other before after : S)
+    (result : Result (Option S) (NoRoom S)) : Type 0 where
+  pub merges : Merges cmp pairs other before after result
   -- it never fails if one is empty, nor if the other's keys are all above or all below, within the room
   pub succeeds : (pairs before ≡ []) ⊎ (pairs other ≡ []) → IsOk result
   pub behind : Rises cmp (pairs before) (pairs other) → length (pairs other) ≤ room before → IsOk result

@@ -24,9 +24,13 @@ key_one_side {cmp = cmp} o k x y h = by (cmp x k) refl
     by Equal e = inr (above (sym (o.congr x k y e) ∙ h))
     by Greater e = inr (above (o.trans k x y (o.antisymm k x ∙ ap ordering_reverse e) h))
 
--- how a string compares with a query, by the bytes of both: a proper prefix is less
+-- the order of strings: by their bytes, where a proper prefix is less
+abbrev pub bytes_cmp : List ℕ → List ℕ → Ordering
+bytes_cmp = slice_cmp nat_cmp
+
+-- how a string compares with a query, by the bytes of both
 abbrev pub by_text : {Z : Type 0} → String Z → List ℕ → Ordering
-by_text key text = slice_cmp nat_cmp (string_bytes key) text
+by_text key text = bytes_cmp (string_bytes key) text
 
 -- how a vector compares with a slice, item by item: a proper prefix is less
 abbrev pub by_slice : {T Z : Type 0} → (T → T → Ordering) → Vec T Z → List T → Ordering

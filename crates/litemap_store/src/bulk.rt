@@ -63,7 +63,8 @@ pub fn gather_behind<T: Drop, I: IntoIterator<Item = T>>(
     Ok(())
 }
 
-// Makes room in a vector that is full, or returns an error if memory runs out. It is a function of its own, so that the loop over the items stays short.
+// Makes room in a vector that is full, or returns an error if memory runs out. It is a function of its own, so that the loop over
+// the items stays short.
 #[cold]
 #[inline(never)]
 fn make_room<T>(items: &mut Vec<T>) -> Result<(), AllocError>

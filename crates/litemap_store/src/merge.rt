@@ -1,7 +1,7 @@
 //! The body of `extend_from_litemap`: one store's pairs are merged into another's.
 ghost use Rattle.std.specs.Prelude.{◌≡◌, ◌≢◌, ◌⊎◌, ◌+◌, ◌<◌, ◌++◌, [], length, None, IfOk, IfErr, OnErr};
 ghost use Rattle.litemap_store.specs.Counts.{RisesByAtMost};
-ghost use Rattle.litemap_store.specs.Merge.{Apart, IsUndone, Merges, MergesInto, searches_cost};
+ghost use Rattle.litemap_store.specs.Merge.{Apart, Merges, MergesInto, searches_cost};
 ghost use Rattle.litemap_store.specs.Pairs.{Rising};
 
 mod in_one_pass;
@@ -37,21 +37,23 @@ pub fn extend_from_store<K: Ord + Drop, V: Drop, S: StoreIntoIterator<K, V> + Dr
     ensures cost { RisesByAtMost (2 + searches_cost (S.pairs store.old) (S.pairs other)) count.old count.new }
 {
     if lies_below(store, &other, count) {
-        return put_behind(store, other);
+        return append_other(store, other);
     }
     if lies_below(&other, store, count) {
-        return put_in_front(store, other);
+        return prepend_other(store, other);
     }
     merge_mixed(alloc, store, other, count)
 }
 
-// Appends the pairs of another store. If one of them is empty it takes no memory.
-fn put_behind<K: Drop, V: Drop, S: StoreIntoIterator<K, V> + Drop>(
+// Appends the pairs of another store, whose keys are all above. No key is common, so nothing is displaced. If a store is empty,
+// no memory is taken.
+fn append_other<K: Drop, V: Drop, S: StoreIntoIterator<K, V> + Drop>(
     store: &mut S,
     other: S,
 ) -> Result<Option<S>, NoRoom<S>>
     ensures joined { IfOk result (λ rest. (rest ≡ None) × (S.pairs store.new ≡ S.pairs store.old ++ S.pairs other)) }
-    ensures refused { IfErr result (λ refused. IsUndone S.pairs store.old other store.new refused.back) }
+    ensures refused { OnErr result (S.pairs store.new ≡ S.pairs store.old) }
+    ensures back { IfErr result (λ refused. S.pairs refused.back ≡ S.pairs other) }
     ensures full { OnErr result ((S.pairs store.old ≢ []) × (S.room store.old < length (S.pairs other))) }
     ensures unchanged { S.pairs other ≡ [] → store.new ≡ store.old }
     ensures taken { S.pairs store.old ≡ [] → S.pairs other ≢ [] → store.new ≡ other }
@@ -67,13 +69,14 @@ fn put_behind<K: Drop, V: Drop, S: StoreIntoIterator<K, V> + Drop>(
     Ok(None)
 }
 
-// Puts the pairs of another store in front.
-fn put_in_front<K: Drop, V: Drop, S: StoreIntoIterator<K, V>>(
+// Puts the pairs of another store, whose keys are all below, in front. Nothing is displaced.
+fn prepend_other<K: Drop, V: Drop, S: StoreIntoIterator<K, V>>(
     store: &mut S,
     other: S,
 ) -> Result<Option<S>, NoRoom<S>>
     ensures joined { IfOk result (λ rest. (rest ≡ None) × (S.pairs store.new ≡ S.pairs other ++ S.pairs store.old)) }
-    ensures refused { IfErr result (λ refused. IsUndone S.pairs store.old other store.new refused.back) }
+    ensures refused { OnErr result (S.pairs store.new ≡ S.pairs store.old) }
+    ensures back { IfErr result (λ refused. S.pairs refused.back ≡ S.pairs other) }
     ensures full { OnErr result ((S.room store.old < length (S.pairs other)) ⊎ (S.room other < length (S.pairs store.old))) }
 {
     store.lm_extend_start(other)?;
@@ -90,7 +93,7 @@ fn merge_mixed<K: Ord + Drop, V: Drop, S: StoreIntoIterator<K, V> + Drop>(
 ) -> Result<Option<S>, NoRoom<S>>
     requires store { Rising K.cmp (S.pairs store.old) }
     requires other { Rising K.cmp (S.pairs other) }
-    ensures merges { Merges K.cmp S.pairs store.old other store.new result }
+    ensures merges { Merges K.cmp S.pairs other store.old store.new result }
     ensures cost { RisesByAtMost (searches_cost (S.pairs store.old) (S.pairs other)) count.old count.new }
 {
     let len = other.lm_len();

@@ -4,11 +4,10 @@ ghost use Rattle.std.specs.Arc.{arc_str_bytes};
 ghost use Rattle.std.specs.Box.{boxed_slice_items, boxed_str_bytes};
 ghost use Rattle.std.specs.Cmp.Lexicographic.{slice_cmp, lists_total, nat_list_cmp_total};
 ghost use Rattle.std.specs.Cow.{cow_str_bytes};
-ghost use Rattle.std.specs.Ordering.{nat_cmp};
 ghost use Rattle.std.specs.Rc.{rc_str_bytes};
 ghost use Rattle.std.specs.String.{string_bytes};
 ghost use Rattle.std.specs.declared.cmp.Ordering.{Ordering};
-ghost use Rattle.litemap_store.specs.Queries.{OneSide, by_slice, by_text, key_one_side};
+ghost use Rattle.litemap_store.specs.Queries.{OneSide, by_slice, by_text, bytes_cmp, key_one_side};
 
 use std::borrow::CowStr;
 use std::boxed::{BoxedSlice, BoxedStr};
@@ -56,7 +55,7 @@ impl<K: Ord> Query<K> for &K {
 }
 
 fn compare_texts<'x>(left: &'x str, right: &'x str) -> Ordering
-    ensures { result ≡ slice_cmp nat_cmp left.now right.now }
+    ensures { result ≡ bytes_cmp left.now right.now }
 {
     left.cmp(right)
 }
@@ -86,7 +85,7 @@ impl<'k> Query<&'k str> for &str {
 
     ghost sought = { λ q. q };
 
-    ghost order = { λ key text. slice_cmp nat_cmp key.now text.now };
+    ghost order = { λ key text. bytes_cmp key.now text.now };
 
     ghost one_side = { λ text x y. key_one_side nat_list_cmp_total text.now x.now y.now };
 
@@ -100,7 +99,7 @@ impl Query<BoxedStr> for &str {
 
     ghost sought = { λ q. q.now };
 
-    ghost order = { λ key text. slice_cmp nat_cmp (boxed_str_bytes key) text };
+    ghost order = { λ key text. bytes_cmp (boxed_str_bytes key) text };
 
     ghost one_side = { λ text x y. key_one_side nat_list_cmp_total text (boxed_str_bytes x) (boxed_str_bytes y) };
 
@@ -114,7 +113,7 @@ impl Query<RcStr> for &str {
 
     ghost sought = { λ q. q.now };
 
-    ghost order = { λ key text. slice_cmp nat_cmp (rc_str_bytes key) text };
+    ghost order = { λ key text. bytes_cmp (rc_str_bytes key) text };
 
     ghost one_side = { λ text x y. key_one_side nat_list_cmp_total text (rc_str_bytes x) (rc_str_bytes y) };
 
@@ -128,7 +127,7 @@ impl Query<ArcStr> for &str {
 
     ghost sought = { λ q. q.now };
 
-    ghost order = { λ key text. slice_cmp nat_cmp (arc_str_bytes key) text };
+    ghost order = { λ key text. bytes_cmp (arc_str_bytes key) text };
 
     ghost one_side = { λ text x y. key_one_side nat_list_cmp_total text (arc_str_bytes x) (arc_str_bytes y) };
 
@@ -142,7 +141,7 @@ impl<'k> Query<CowStr<'k>> for &str {
 
     ghost sought = { λ q. q.now };
 
-    ghost order = { λ key text. slice_cmp nat_cmp (cow_str_bytes key) text };
+    ghost order = { λ key text. bytes_cmp (cow_str_bytes key) text };
 
     ghost one_side = { λ text x y. key_one_side nat_list_cmp_total text (cow_str_bytes x) (cow_str_bytes y) };
 

@@ -21,7 +21,6 @@ pub(crate) fn room_for<K: Drop, V: Drop, S: StoreMut<K, V>>(
     Ok((side, store))
 }
 
-/// Appends a pair.
 pub(crate) fn push_reserved<K: Drop, V: Drop, S: StoreMut<K, V>>(store: &mut S, key: K, value: V)
     requires { 0 < S.room store.old }
     ensures pairs { S.pairs store.new ≡ S.pairs store.old ++ (key, value) ∷ [] }
@@ -52,7 +51,6 @@ pub(crate) fn put_up<K: Drop, V: Drop, S: StoreMut<K, V>>(store: &mut S, mut pai
     }
 }
 
-/// Takes the last pair out of the store.
 pub(crate) fn take_last<K, V, S: StoreMut<K, V>>(store: &mut S) -> (K, V)
     requires { 0 < length (S.pairs store.old) }
     ensures pairs { S.pairs store.old ≡ S.pairs store.new ++ result ∷ [] }

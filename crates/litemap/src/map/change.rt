@@ -3,11 +3,11 @@ ghost use Rattle.std.specs.Prelude.{◌≡◌, ◌↔◌, ◌+◌, ◌*◌, ◌�
 ghost use Rattle.std.specs.Prelude.{IsNone, IsSome, IsTrue, IsOk, None, Ok, IfOk, OnOk, OnErr, true, false};
 ghost use Rattle.std.specs.Fn.{FnOnceReturnsAt, FnOnceTakesAt};
 ghost use Rattle.litemap_store.specs.Counts.{RisesByAtMost, digits};
-ghost use Rattle.litemap_store.specs.Pairs.{AllBelow, at, cut, place, put, set_value, value_at, value_in};
+ghost use Rattle.litemap_store.specs.Pairs.{AllBelow, at, place, put, set_value, value_at, value_in};
 ghost use Rattle.litemap_store.specs.Retain.{CallableOnEach, Kept, Tests};
 ghost use Rattle.litemap_store.specs.Search.{CallableOnKeys};
 ghost use Rattle.litemap_store.specs.Splits.{IsMissingAt};
-ghost use Rattle.litemap.specs.Changes.{AddsIf, Inserts, RefusedFull, Renames};
+ghost use Rattle.litemap.specs.Changes.{AddsIf, Inserts, RefusedFull, Removes, Renames};
 ghost use Rattle.litemap.specs.FoundBy.{RemovesFound};
 ghost use Rattle.litemap.specs.Retained.{AnswersAt};
 ghost use Rattle.std.specs.Borrow.{sem};
@@ -60,8 +60,9 @@ impl<K: Ord + Drop, V, S: StoreMut<K, V>> LiteMap<K, V, S> {
 
     /// Returns the index and the value of a key; if the key was absent, inserts it first with what `f` returns for it.
     ///
-    /// Errors, comparisons and moves are those of `try_find_or_insert`. The clause `leaves` says what it leaves of the map, and
-    /// only a proof by hand can use it (docs/DECISIONS.md): to go on using the map, call `try_find_or_insert`.
+    /// Errors, comparisons and moves are those of `try_find_or_insert`. If the key was absent, nothing is said of the length
+    /// while the value is borrowed. The clause `leaves` says what the call leaves of the map, and only a proof by hand can use it
+    /// (docs/DECISIONS.md): to go on using the map, call `try_find_or_insert`.
     ///
     /// ```rust
     /// let mut days = three_days(alloc)?;
@@ -184,9 +185,7 @@ impl<K: Ord + Drop, V, S: StoreMut<K, V>> LiteMap<K, V, S> {
     /// ```
     pub fn remove<Q: Query<K>>(&mut self, key: Q) -> Option<V>
         ensures value { result ≡ value_at Q.order self.old.pairs (Q.sought key) }
-        ensures cut { self.new.pairs ≡ cut Q.order self.old.pairs (Q.sought key) }
-        ensures unchanged { IsNone (at Q.order self.old.pairs (Q.sought key)) → self.new ≡ self.old }
-        ensures room { S.keeps_memory → IsSome result → self.old.room < self.new.room }
+        ensures removed { Removes Q.order (Q.sought key) S.keeps_memory self.old self.new result }
     {
         self.remove_counted(key, &mut Count::new())
     }
@@ -194,9 +193,7 @@ impl<K: Ord + Drop, V, S: StoreMut<K, V>> LiteMap<K, V, S> {
     /// `remove`, counting its comparisons (own).
     pub fn remove_counted<Q: Query<K>>(&mut self, key: Q, count: &mut Count) -> Option<V>
         ensures value { result ≡ value_at Q.order self.old.pairs (Q.sought key) }
-        ensures cut { self.new.pairs ≡ cut Q.order self.old.pairs (Q.sought key) }
-        ensures unchanged { IsNone (at Q.order self.old.pairs (Q.sought key)) → self.new ≡ self.old }
-        ensures room { S.keeps_memory → IsSome result → self.old.room < self.new.room }
+        ensures removed { Removes Q.order (Q.sought key) S.keeps_memory self.old self.new result }
         ensures cost { RisesByAtMost (digits (length self.old.pairs)) count.old count.new }
     {
         Some(self.take_out(key, count)?.1)

@@ -6,8 +6,8 @@ ghost use Rattle.std.specs.Prelude.{◌≡◌, ◌<◌, ◌≤◌, ◌+◌, ◌+
 ghost use Rattle.std.specs.Fn.{FnReturnsAt};
 ghost use Rattle.litemap_store.specs.Last.{In};
 ghost use Rattle.litemap_store.specs.Pairs.{Rising};
-ghost use Rattle.litemap_store.specs.Clones.{ClonesCompareEqual};
-ghost use Rattle.litemap.specs.Conversions.{Converts, KeysKeepOrder, PairsBecame, TakesKeys};
+ghost use Rattle.litemap_store.specs.Clones.{ClonesCompareEqual, PairsBecame};
+ghost use Rattle.litemap.specs.Conversions.{Converts, KeysKeepOrder, TakesKeys};
 
 use super::becomes::{Answered, Becomes, Boxed, Cloned, Lent};
 use crate::LiteMap;

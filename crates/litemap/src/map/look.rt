@@ -3,10 +3,10 @@ ghost use Rattle.std.specs.Prelude.{◌≡◌, ◌==◌, ◌-◌, ◌<◌, IfOk,
 ghost use Rattle.std.specs.Map.Iter.{deref_pair};
 ghost use Rattle.std.specs.Option.{option_copied, option_map};
 ghost use Rattle.litemap_store.specs.Counts.{RisesByAtMost, digits};
-ghost use Rattle.litemap_store.specs.Pairs.{Rising, at, index_of, value_at, value_in};
+ghost use Rattle.litemap_store.specs.Pairs.{Rising, at, value_at, value_in};
 ghost use Rattle.litemap_store.specs.Search.{CallableOnKeys, Found};
 ghost use Rattle.litemap_store.specs.Splits.{Splits};
-ghost use Rattle.litemap.specs.FoundBy.{GetsFound};
+ghost use Rattle.litemap.specs.FoundBy.{FindsIndex, GetsFound};
 
 use crate::LiteMap;
 use litemap_store::Query;
@@ -139,20 +139,14 @@ impl<K: Ord, V, S: Store<K, V>> LiteMap<K, V, S> {
     /// days.find_index(&3) == Ok(1) && days.find_index(&4) == Err(2)
     /// ```
     pub fn find_index<Q: Query<K>>(&self, key: Q) -> Result<usize, usize>
-        ensures place { result ≡ index_of Q.order self.now.pairs (Q.sought key) }
-        ensures within { IfOk result (λ index. index < length self.now.pairs) }
-        ensures there { IfOk result
-            (λ index. slice_get self.now.pairs index ≡ at Q.order self.now.pairs (Q.sought key)) }
+        ensures { FindsIndex Q.order self.now.pairs (Q.sought key) result }
     {
         self.find_index_counted(key, &mut Count::new())
     }
 
     /// `find_index`, counting its comparisons (own).
     pub fn find_index_counted<Q: Query<K>>(&self, key: Q, count: &mut Count) -> Result<usize, usize>
-        ensures place { result ≡ index_of Q.order self.now.pairs (Q.sought key) }
-        ensures within { IfOk result (λ index. index < length self.now.pairs) }
-        ensures there { IfOk result
-            (λ index. slice_get self.now.pairs index ≡ at Q.order self.now.pairs (Q.sought key)) }
+        ensures finds { FindsIndex Q.order self.now.pairs (Q.sought key) result }
         ensures cost { RisesByAtMost (digits (length self.now.pairs)) count.old count.new }
     {
         self.search(key, count)

@@ -3,7 +3,8 @@ ghost use Rattle.std.specs.Prelude.{◌≡◌, ◌≢◌, ◌⊎◌, ◌+◌, �
 ghost use Rattle.std.specs.Prelude.{drop, length, remove, slice_get, take};
 ghost use Rattle.std.specs.declared.ops.Bound.TheVariants.{Included, Unbounded};
 ghost use Rattle.litemap_store.specs.Counts.{RisesByAtMost, digits};
-ghost use Rattle.litemap_store.specs.Pairs.{at, below, cut};
+ghost use Rattle.litemap_store.specs.Pairs.{at, below};
+ghost use Rattle.litemap.specs.Changes.{Removes};
 ghost use Rattle.litemap.specs.Within.{within};
 
 use crate::LiteMap;
@@ -17,9 +18,7 @@ impl<K: Ord, V, S: StoreMut<K, V>> LiteMap<K, V, S> {
     /// equal keys differ. It compares and moves as `remove` does.
     pub fn remove_entry<Q: Query<K>>(&mut self, key: Q) -> Option<(K, V)>
         ensures pair { result ≡ at Q.order self.old.pairs (Q.sought key) }
-        ensures cut { self.new.pairs ≡ cut Q.order self.old.pairs (Q.sought key) }
-        ensures unchanged { IsNone (at Q.order self.old.pairs (Q.sought key)) → self.new ≡ self.old }
-        ensures room { S.keeps_memory → IsSome result → self.old.room < self.new.room }
+        ensures removed { Removes Q.order (Q.sought key) S.keeps_memory self.old self.new result }
     {
         self.take_out(key, &mut Count::new())
     }
@@ -55,9 +54,7 @@ impl<K: Ord, V, S: StoreMut<K, V>> LiteMap<K, V, S> {
 
     pub(super) fn take_out<Q: Query<K>>(&mut self, key: Q, count: &mut Count) -> Option<(K, V)>
         ensures pair { result ≡ at Q.order self.old.pairs (Q.sought key) }
-        ensures cut { self.new.pairs ≡ cut Q.order self.old.pairs (Q.sought key) }
-        ensures unchanged { IsNone (at Q.order self.old.pairs (Q.sought key)) → self.new ≡ self.old }
-        ensures room { S.keeps_memory → IsSome result → self.old.room < self.new.room }
+        ensures removed { Removes Q.order (Q.sought key) S.keeps_memory self.old self.new result }
         ensures cost { RisesByAtMost (digits (length self.old.pairs)) count.old count.new }
     {
         match self.search(key, count) {

@@ -1,8 +1,7 @@
 -- What a closure keeps of a list of pairs.
 --     Kept-none, Kept-more      from one pair to the next;  Moved, Moved_if      what a pair that moves to the front leaves
 --     KeptSoFar-takes, -yes, -no, Kept-all      the steps of a loop that brings pairs to the front;  Rising-from_Kept      what is kept of an ascending list ascends
-use Rattle.std.proofs.Common.{◌≡◌, ℕ, suc, ◌+◌, ◌<◌, ◌≤◌, Bool, true, false, cond, List, [], ◌∷◌, ◌++◌, length, take, drop, slice_get, slice_set, swap, get_or, Some, add-one, append_assoc, append-nil, inl, inr, refl, sym, ap, ◌∙◌, subst, arith}
-use Rattle.std.proofs.Math.Seq.{drop-cons}
+use Rattle.std.proofs.Common.{◌≡◌, ℕ, suc, ◌+◌, ◌<◌, ◌≤◌, Bool, true, false, cond, List, [], ◌∷◌, ◌++◌, length, take, drop, slice_get, slice_set, swap, get_or, Some, append_assoc, append-nil, inl, inr, refl, sym, ap, ◌∙◌, subst, arith}
 use Rattle.std.proofs.lemmas.List.{drop_all, take-set-le, take_more}
 use Rattle.std.proofs.lemmas.List.Edits.{swap_is}
 use Rattle.std.proofs.lemmas.Bool.{cases_lt}
@@ -15,13 +14,10 @@ use Rattle.std.specs.declared.cmp.Ordering.TheVariants.{Less}
 use Rattle.std.specs.List.{AllByRecursion, items_where_true}
 use Rattle.litemap_store.specs.Pairs.{Rising}
 use Rattle.litemap_store.proofs.Last.KeepLast.{drop-swap, take-swap}
+use Rattle.litemap_store.proofs.Lists.Places.{drop_at}
 use Rattle.litemap_store.specs.Retain.{CallableOnEach, CalledOnPair, Kept, KeptSoFar, TakesPair}
 
 module _ {X : Type 0} where
-  -- the elements from index i on, of which x is the first
-  pub drop-first : (L : List X) (i : ℕ) (x : X) → i < length L → x ≡ get_or L i x → drop i L ≡ x ∷ drop (i + 1) L
-  drop-first L i x h at = rw add-one (drop-cons L i x h ∙ ap (λ z. z ∷ drop (suc i) L) (sym at))
-
   -- L' has what is after index i of L and before index k, and x there, if it stays
   pub record Moved (L L' : List X) (k i : ℕ) (x : X) (stays : Bool) : Type 0 where
     pub behind : drop (i + 1) L' ≡ drop (i + 1) L
@@ -64,7 +60,7 @@ module _ {F K V : Type 0} (g : Mut F (Bor K × (Bor V × Unit {0})) Bool) where
   module _ (f₀ : F) (L₀ : List (K × V)) where
     module _ (f : F) (L : List (K × V)) (k i : ℕ) (p : K × V) (now : KeptSoFar g f₀ L₀ f L k i) (at : slice_get L i ≡ Some p) where
       here : drop i L ≡ p ∷ drop (i + 1) L
-      here = drop-first L i p (slice_get_within L i p at) (sym (get_or_from_slice_get L i p p at))
+      here = drop_at L i p at
 
       pub KeptSoFar-takes : TakesPair g f p
       KeptSoFar-takes = CallableOnEach-first f p (drop (i + 1) L) (subst (CallableOnEach g f) here now.callable)

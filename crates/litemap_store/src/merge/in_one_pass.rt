@@ -24,7 +24,7 @@ pub fn merge_in_one_pass<K: Ord + Drop, V: Drop, S: StoreMut<K, V> + Drop>(
     requires store { Rising K.cmp (S.pairs store.old) }
     requires other { Rising K.cmp (S.pairs other) }
     requires total { total ≡ length (S.pairs store.old) + length (S.pairs other) }
-    ensures merges { Merges K.cmp S.pairs store.old other store.new result }
+    ensures merges { Merges K.cmp S.pairs other store.old store.new result }
     ensures cost { RisesByAtMost (searches_cost (S.pairs store.old) (S.pairs other)) count.old count.new }
 {
     let Ok((mut side, mut fresh)) = room_for(alloc, total) else {

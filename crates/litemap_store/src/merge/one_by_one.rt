@@ -22,7 +22,7 @@ pub fn merge_each<K: Ord + Drop, V: Drop, S: StoreIntoIterator<K, V> + Drop>(
 ) -> Result<Option<S>, NoRoom<S>>
     requires store { Rising K.cmp (S.pairs store.old) }
     requires other { Rising K.cmp (S.pairs other) }
-    ensures merges { Merges K.cmp S.pairs store.old other store.new result }
+    ensures merges { Merges K.cmp S.pairs other store.old store.new result }
     ensures cost { RisesByAtMost (searches_cost (S.pairs store.old) (S.pairs other)) count.old count.new }
 {
     let len = other.lm_len();

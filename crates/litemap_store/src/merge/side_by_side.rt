@@ -29,7 +29,7 @@ pub fn merge_side_by_side<K: Ord + Drop, V: Drop, S: StoreIntoIterator<K, V> + D
     requires store { Rising K.cmp (S.pairs store.old) }
     requires other { Rising K.cmp (S.pairs other) }
     requires total { total ≡ length (S.pairs store.old) + length (S.pairs other) }
-    ensures merges { Merges K.cmp S.pairs store.old other store.new result }
+    ensures merges { Merges K.cmp S.pairs other store.old store.new result }
     ensures cost { RisesByAtMost total count.old count.new }
 {
     let Ok(fresh) = S::lm_with_capacity(alloc, total) else {
@@ -138,7 +138,6 @@ impl<K, V, I: PairIntoIter<K, V>> Model for Peekable<K, V, I> {
 }
 
 impl<K, V, I: PairIntoIter<K, V>> Peekable<K, V, I> {
-    // All pairs of an iterator.
     fn new(mut pairs: I) -> Self
         ensures { result ≡ I.owned pairs }
     {
@@ -149,7 +148,6 @@ impl<K, V, I: PairIntoIter<K, V>> Peekable<K, V, I> {
         }
     }
 
-    // The first pair, if there is one.
     fn peek(&self) -> Option<(&K, &V)>
         ensures { option_map deref_pair result ≡ slice_get self.now 0 }
     {
@@ -157,7 +155,6 @@ impl<K, V, I: PairIntoIter<K, V>> Peekable<K, V, I> {
         Some((key, value))
     }
 
-    // Takes the first pair.
     fn take_first(&mut self) -> (K, V)
         requires { 0 < length self.old }
         ensures { self.old ≡ result ∷ self.new }

@@ -1,6 +1,6 @@
 use Rattle.std.proofs.Common.{◌≡◌, ◌⊎◌, ◌≢◌, ℕ, ◌<◌, ◌≤◌, Bool, false, List, [], Result, Ok, Err, length, min, sym, ap, ◌∙◌, refl, inl, inr, arith}
 use Rattle.std.proofs.lemmas.Bool.{true≢false}
-use Rattle.std.proofs.lemmas.Result.{IfErr-weaker, IfOk-weaker}
+use Rattle.std.proofs.lemmas.Result.{IfOk-weaker}
 use Rattle.std.specs.Bool.{IsTrue}
 use Rattle.std.specs.Result.{IsOk, OnErr}
 use Rattle.litemap_store.specs.Counts.{RisesByAtMost}
@@ -36,16 +36,18 @@ returns-then-lies_below g c =
     let up = c.lies_below.ensures.below.0 c.if-lies_below.true in
     record {
       merged = record {
-        merge = IfOk-weaker c.put_behind.result _ _ (λ rest e. rw e.1 (Merge-behind g.K.Ord.cmp g.met.K.Ord.total _ _ c.requires.store c.requires.other up)) c.put_behind.ensures.joined;
-        none = IfOk-weaker c.put_behind.result _ _ (λ rest e. (λ _. left-behind g.K.Ord.cmp g.met.K.Ord.total _ _ c.requires.store c.requires.other up, λ _. rw e.0 refl)) c.put_behind.ensures.joined;
-        left = IfOk-weaker c.put_behind.result _ _ (λ rest e. rw e.0 tt) c.put_behind.ensures.joined;
-        refused = IfErr-weaker c.put_behind.result _ _ (λ e undone. undone.0) c.put_behind.ensures.refused;
-        back = IfErr-weaker c.put_behind.result _ _ (λ e undone. undone.1) c.put_behind.ensures.refused;
-        succeeds = λ e. not_refused c.put_behind.result c.put_behind.ensures.full (no_reason e);
-        behind = λ h r. not_refused c.put_behind.result c.put_behind.ensures.full (λ f. let full = f.1 in omega arith);
-        in_front = λ h r s. not_refused c.put_behind.result c.put_behind.ensures.full (λ f. let full = f.1 in omega arith);
-        unchanged = c.put_behind.ensures.unchanged;
-        taken = c.put_behind.ensures.taken;
+        merges = record {
+          merged = IfOk-weaker c.append_other.result _ _ (λ rest e. rw e.1 (Merge-behind g.K.Ord.cmp g.met.K.Ord.total _ _ c.requires.store c.requires.other up)) c.append_other.ensures.joined;
+          none = IfOk-weaker c.append_other.result _ _ (λ rest e. (λ _. left-behind g.K.Ord.cmp g.met.K.Ord.total _ _ c.requires.store c.requires.other up, λ _. rw e.0 refl)) c.append_other.ensures.joined;
+          left = IfOk-weaker c.append_other.result _ _ (λ rest e. rw e.0 tt) c.append_other.ensures.joined;
+          refused = c.append_other.ensures.refused;
+          back = c.append_other.ensures.back;
+        };
+        succeeds = λ e. not_refused c.append_other.result c.append_other.ensures.full (no_reason e);
+        behind = λ h r. not_refused c.append_other.result c.append_other.ensures.full (λ f. let full = f.1 in omega arith);
+        in_front = λ h r s. not_refused c.append_other.result c.append_other.ensures.full (λ f. let full = f.1 in omega arith);
+        unchanged = c.append_other.ensures.unchanged;
+        taken = c.append_other.ensures.taken;
       };
       uncounted = c.lies_below.ensures.uncounted;
       apart = λ apart. at_most (min 1 _) 2 (omega arith) c.lies_below.ensures.cost;
@@ -58,14 +60,16 @@ returns-then-lies_below-2 g c =
     let some = one_empty g.K.Ord.cmp g.met.K.Ord.total _ _ c.requires.store c.requires.other (denied _ c.lies_below.ensures.below.1 c.if-lies_below.false) in
     record {
       merged = record {
-        merge = IfOk-weaker c.put_in_front.result _ _ (λ rest e. rw e.1 (Merge-before g.K.Ord.cmp g.met.K.Ord.total _ _ c.requires.store c.requires.other up)) c.put_in_front.ensures.joined;
-        none = IfOk-weaker c.put_in_front.result _ _ (λ rest e. (λ _. left-before g.K.Ord.cmp g.met.K.Ord.total _ _ c.requires.store c.requires.other up, λ _. rw e.0 refl)) c.put_in_front.ensures.joined;
-        left = IfOk-weaker c.put_in_front.result _ _ (λ rest e. rw e.0 tt) c.put_in_front.ensures.joined;
-        refused = IfErr-weaker c.put_in_front.result _ _ (λ e undone. undone.0) c.put_in_front.ensures.refused;
-        back = IfErr-weaker c.put_in_front.result _ _ (λ e undone. undone.1) c.put_in_front.ensures.refused;
+        merges = record {
+          merged = IfOk-weaker c.prepend_other.result _ _ (λ rest e. rw e.1 (Merge-before g.K.Ord.cmp g.met.K.Ord.total _ _ c.requires.store c.requires.other up)) c.prepend_other.ensures.joined;
+          none = IfOk-weaker c.prepend_other.result _ _ (λ rest e. (λ _. left-before g.K.Ord.cmp g.met.K.Ord.total _ _ c.requires.store c.requires.other up, λ _. rw e.0 refl)) c.prepend_other.ensures.joined;
+          left = IfOk-weaker c.prepend_other.result _ _ (λ rest e. rw e.0 tt) c.prepend_other.ensures.joined;
+          refused = c.prepend_other.ensures.refused;
+          back = c.prepend_other.ensures.back;
+        };
         succeeds = λ e. absurd (some e);
         behind = λ h r. absurd (not_above g.K.Ord.cmp _ _ _ c.requires.store c.lies_below.ensures.below.1 c.if-lies_below.false h);
-        in_front = λ h r s. not_refused c.put_in_front.result c.put_in_front.ensures.full (there_is_room r s);
+        in_front = λ h r s. not_refused c.prepend_other.result c.prepend_other.ensures.full (there_is_room r s);
         unchanged = λ e. absurd (some (inr e));
         taken = λ e n. absurd (some (inl e));
       };
@@ -79,11 +83,7 @@ returns g c =
     let some = one_empty g.K.Ord.cmp g.met.K.Ord.total _ _ c.requires.store c.requires.other (denied _ c.lies_below.ensures.below.1 c.if-lies_below.false) in
     record {
       merged = record {
-        merge = c.merge_mixed.ensures.merges.merged;
-        none = IfOk-weaker c.merge_mixed.result _ _ (λ rest l. l.0) c.merge_mixed.ensures.merges.left;
-        left = IfOk-weaker c.merge_mixed.result _ _ (λ rest l. l.1) c.merge_mixed.ensures.merges.left;
-        refused = IfErr-weaker c.merge_mixed.result _ _ (λ e undone. undone.0) c.merge_mixed.ensures.merges.refused;
-        back = IfErr-weaker c.merge_mixed.result _ _ (λ e undone. undone.1) c.merge_mixed.ensures.merges.refused;
+        merges = c.merge_mixed.ensures.merges;
         succeeds = λ e. absurd (some e);
         behind = λ h r. absurd (not_above g.K.Ord.cmp _ _ _ c.requires.store c.lies_below.ensures.below.1 c.if-lies_below.false h);
         in_front = λ h r s. absurd (not_above g.K.Ord.cmp _ _ _ c.requires.other c.lies_below-2.ensures.below.1 c.if-lies_below-2.false h);

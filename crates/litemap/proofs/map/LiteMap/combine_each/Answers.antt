@@ -5,7 +5,7 @@ use Rattle.litemap_store.proofs.Stores.Counting.{in_turn}
 use Rattle.litemap_store.proofs.Lists.Seams.{length-set_value}
 use Rattle.litemap.specs.Combined.{CallableOnEachOf, Combined}
 use Rattle.litemap.proofs.Combining.{Combined-more}
-use Rattle.litemap.proofs.Places.{drop_at}
+use Rattle.litemap_store.proofs.Lists.Places.{drop_at}
 use Rattle.litemap.proofs.Writing.{drop-written, take-written}
 use Rattle.litemap.proofs.map.LiteMap.combine_each.Goals as goal
 

@@ -8,4 +8,4 @@ returns-clause-found g c =
     let o = g.met.K.Ord.total in
     on_ok_weaker c.extend_from_litemap_counted.result
     (λ merged key. value_at-merged cmp o cmp key (key_same o key) (key_alike o key) c.args.self.now.pairs c.args.other.pairs _ merged)
-    c.extend_from_litemap_counted.ensures.merged.merge
+    c.extend_from_litemap_counted.ensures.merged.merges.merged

@@ -21,4 +21,4 @@ returns-clause-found g c = λ combine by.
     let old = c.args.self.now.pairs in
     on_ok_weaker c.extend_with_counted.result
     (λ merged key. value_at-merged cmp o cmp key (key_same o key) (key_alike o key) old (combined cmp combine old c.args.other.pairs) _ merged ∙ found-combined o combine old key c.args.other.pairs)
-    (returns-clause-combined g c combine by).merge
+    (returns-clause-combined g c combine by).merges.merged

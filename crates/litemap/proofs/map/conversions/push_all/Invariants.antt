@@ -1,5 +1,5 @@
 use Rattle.std.proofs.Common.{◌+◌, ◌≤◌, length, take}
-use Rattle.litemap.specs.Conversions.{PairsBecame}
+use Rattle.litemap_store.specs.Clones.{PairsBecame}
 use Rattle.litemap.proofs.map.conversions.push_all.Given as goal
 
 abbrev pub invariant-loop-index : goal.invariant-loop-index

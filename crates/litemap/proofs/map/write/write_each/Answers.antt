@@ -2,7 +2,7 @@ use Rattle.std.proofs.Common.{◌≡◌, ◌+◌, [], ◌∷◌, ◌++◌, take,
 use Rattle.std.proofs.lemmas.List.{drop_all, take_all}
 use Rattle.litemap_store.proofs.Lists.Seams.{length-set_value}
 use Rattle.litemap.specs.Written.{CallableOnValues, Written}
-use Rattle.litemap.proofs.Places.{drop_at}
+use Rattle.litemap_store.proofs.Lists.Places.{drop_at}
 use Rattle.litemap.proofs.Writing.{CallableOnValues-first, CallableOnValues-rest, Written-more, drop-written, take-written}
 use Rattle.litemap.proofs.map.write.write_each.Goals as goal
 

@@ -6,11 +6,14 @@ returns g c =
     let olds = c.new-olds.ensures ∙ c.lm_into_iter.ensures ∙ ap g.S.Store.pairs c.replace.ensures.value in
     let news = c.new-news.ensures ∙ c.lm_into_iter-2.ensures in
     let left = rw (olds, news) at c.put_both.ensures.left in
+    let rest = rw left at c.unless_empty.ensures in
     record {
       merges = record {
         merged = rw (olds, news) at c.put_both.ensures.merged;
-        left = rw left at c.unless_empty.ensures;
+        none = rest.0;
+        left = rest.1;
         refused = tt;
+        back = tt;
       };
       cost = rw (olds, news, ← c.requires.total) at c.put_both.ensures.cost;
     }
