@@ -31,10 +31,6 @@ module _ {K V : Type 0} (cmp : K → K → Ordering) where
   abbrev pub Apart : List (K × V) → List (K × V) → Type 0
   Apart A B = (A ≡ []) ⊎ ((B ≡ []) ⊎ (Rises cmp A B ⊎ Rises cmp B A))
 
--- the displaced pairs L are in a store; there is none if L is empty
-abbrev pub IsLeft : {X S : Type 0} → (S → List X) → List X → Option S → Type 0
-IsLeft pairs L rest = (IsNone rest ↔ (L ≡ [])) × IfSome rest (λ s. pairs s ≡ L)
-
 -- the comparisons of a merge by searches, at most: one search for each pair of B, among the pairs of both
 abbrev pub searches_cost : {X : Type 0} → List X → List X → ℕ
 searches_cost A B = length B * digits (length A + length B)

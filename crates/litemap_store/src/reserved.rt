@@ -1,7 +1,6 @@
 //! Capacity that is taken first, pairs that go into a store which has it, and pairs that leave a store from its end.
-ghost use Rattle.std.specs.Prelude.{◌≡◌, ◌+◌, ◌<◌, ◌≤◌, ◌++◌, ◌∷◌, [], drop, insert, length, reverse, take};
-ghost use Rattle.std.specs.Prelude.{vec_capacity, vec_len, IfOk};
-ghost use Rattle.litemap_store.specs.Merge.{IsLeft};
+ghost use Rattle.std.specs.Prelude.{◌≡◌, ◌↔◌, ◌+◌, ◌<◌, ◌≤◌, ◌++◌, ◌∷◌, [], drop, insert, length, reverse, take};
+ghost use Rattle.std.specs.Prelude.{vec_capacity, vec_len, IfOk, IfSome, IsNone};
 
 use crate::store::{Store, StoreMut};
 use std::alloc::{AllocError, Global};
@@ -80,7 +79,8 @@ pub(crate) fn take_from<K: Drop, V: Drop, S: StoreMut<K, V>>(
 
 /// The store, if it has pairs.
 pub(crate) fn unless_empty<K, V, S: Store<K, V> + Drop>(rest: S) -> Option<S>
-    ensures { IsLeft S.pairs (S.pairs rest) result }
+    ensures none { IsNone result ↔ (S.pairs rest ≡ []) }
+    ensures some { IfSome result (λ s. S.pairs s ≡ S.pairs rest) }
 {
     if rest.lm_is_empty() { None } else { Some(rest) }
 }

@@ -6,12 +6,11 @@ returns g c =
     let olds = c.new-olds.ensures ∙ c.lm_into_iter.ensures ∙ ap g.S.Store.pairs c.replace.ensures.value in
     let news = c.new-news.ensures ∙ c.lm_into_iter-2.ensures in
     let left = rw (olds, news) at c.put_both.ensures.left in
-    let rest = rw left at c.unless_empty.ensures in
     record {
       merges = record {
         merged = rw (olds, news) at c.put_both.ensures.merged;
-        none = rest.0;
-        left = rest.1;
+        none = rw left at c.unless_empty.ensures.none;
+        left = rw left at c.unless_empty.ensures.some;
         refused = tt;
         back = tt;
       };
