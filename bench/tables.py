@@ -5,7 +5,9 @@ import typing
 TITLES = {
     "get": "`get`, present",
     "get_missing": "`get`, absent",
+    "get_indexed": "`get_indexed`, each index",
     "iterate": "`iter`",
+    "into_iter": "`into_iter` to the end",
     "equal": "`==`",
     "insert": "`insert`, no order",
     "append": "`try_append`",
@@ -20,6 +22,7 @@ TITLES = {
     "extend_above": "`extend`, ascending, past the end",
     "extend": "`extend`, no order",
     "extend_few": "`extend` by 10, no order",
+    "extend_from_vec": "`extend_from_vec` of 10, no order",
     "merge_apart": "`extend_from_litemap`, keys above",
     "merge_interleaved": "`extend_from_litemap`, keys between",
     "merge_equal": "`extend_from_litemap`, equal keys",

@@ -12,8 +12,12 @@ pub enum Call {
     Get,
     /// Looks up absent keys.
     GetMissing,
+    /// Looks up each pair by its index.
+    GetIndexed,
     /// Iterates over all pairs.
     Iterate,
+    /// Iterates over a map that is moved, to the end.
+    IntoIter,
     /// Compares with a map of the same pairs.
     Equal,
     /// Inserts pairs one by one, in no order.
@@ -42,6 +46,8 @@ pub enum Call {
     Extend,
     /// Inserts a few pairs in no order.
     ExtendFew,
+    /// Inserts a few pairs in no order, by `extend` here too.
+    ExtendFromVec,
     /// Merges a map whose keys are above all others.
     MergeApart,
     /// Merges a map whose keys lie between the others.
@@ -62,10 +68,12 @@ pub enum Call {
 
 impl Call {
     /// All calls.
-    pub const ALL: [Call; 25] = [
+    pub const ALL: [Call; 28] = [
         Call::Get,
         Call::GetMissing,
+        Call::GetIndexed,
         Call::Iterate,
+        Call::IntoIter,
         Call::Equal,
         Call::Insert,
         Call::Append,
@@ -80,6 +88,7 @@ impl Call {
         Call::ExtendAbove,
         Call::Extend,
         Call::ExtendFew,
+        Call::ExtendFromVec,
         Call::MergeApart,
         Call::MergeInterleaved,
         Call::MergeEqual,
@@ -96,7 +105,9 @@ impl Display for Call {
         f.write_str(match self {
             Call::Get => "get",
             Call::GetMissing => "get_missing",
+            Call::GetIndexed => "get_indexed",
             Call::Iterate => "iterate",
+            Call::IntoIter => "into_iter",
             Call::Equal => "equal",
             Call::Insert => "insert",
             Call::Append => "append",
@@ -111,6 +122,7 @@ impl Display for Call {
             Call::ExtendAbove => "extend_above",
             Call::Extend => "extend",
             Call::ExtendFew => "extend_few",
+            Call::ExtendFromVec => "extend_from_vec",
             Call::MergeApart => "merge_apart",
             Call::MergeInterleaved => "merge_interleaved",
             Call::MergeEqual => "merge_equal",
@@ -129,7 +141,9 @@ pub fn call_all<K: Key>(call: Call, cases: &mut [Case<K>]) -> u64 {
     for case in cases {
         match call {
             Call::Get | Call::GetMissing => sum = sum.wrapping_add(get(&case.map, &case.keys)),
+            Call::GetIndexed => sum = sum.wrapping_add(get_indexed(&case.map)),
             Call::Iterate => sum = sum.wrapping_add(total(&case.map)),
+            Call::IntoIter => sum = sum.wrapping_add(into_iter(take(&mut case.map))),
             Call::Equal => sum = sum.wrapping_add(are_equal(&case.map, &case.other)),
             Call::Insert => insert(&mut case.map, take(&mut case.given)),
             Call::Append => append(&mut case.map, take(&mut case.given)),
@@ -142,7 +156,11 @@ pub fn call_all<K: Key>(call: Call, cases: &mut [Case<K>]) -> u64 {
             Call::RetainAll => retain_all(&mut case.map),
             Call::RetainNone => retain_none(&mut case.map),
             Call::FromIterRising | Call::FromIter => case.map = from_iter(take(&mut case.given)),
-            Call::ExtendRising | Call::ExtendAbove | Call::Extend | Call::ExtendFew => {
+            Call::ExtendRising
+            | Call::ExtendAbove
+            | Call::Extend
+            | Call::ExtendFew
+            | Call::ExtendFromVec => {
                 extend(&mut case.map, take(&mut case.given))
             }
             Call::MergeApart | Call::MergeInterleaved | Call::MergeEqual => {
@@ -175,6 +193,26 @@ pub fn total<K: Key>(map: &LiteMap<K, u64>) -> u64 {
     let mut sum: u64 = 0;
     for (_, value) in map {
         sum = sum.wrapping_add(*value);
+    }
+    sum
+}
+
+#[inline(never)]
+fn get_indexed<K: Key>(map: &LiteMap<K, u64>) -> u64 {
+    let mut sum: u64 = 0;
+    for index in 0..map.len() {
+        if let Some((_, value)) = map.get_indexed(index) {
+            sum = sum.wrapping_add(*value);
+        }
+    }
+    sum
+}
+
+#[inline(never)]
+fn into_iter<K: Key>(map: LiteMap<K, u64>) -> u64 {
+    let mut sum: u64 = 0;
+    for (_, value) in map {
+        sum = sum.wrapping_add(value);
     }
     sum
 }

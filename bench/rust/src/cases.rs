@@ -45,7 +45,7 @@ pub fn how_many_pairs(data: &Data, call: Call) -> usize {
         Call::Get | Call::GetMissing => LOOKS,
         Call::Insert | Call::Remove => keys::changes(data.size),
         Call::Rename => keys::changes(data.size).min(data.size / 2),
-        Call::ExtendFew => FEW,
+        Call::ExtendFew | Call::ExtendFromVec => FEW,
         Call::ExtendRising
         | Call::ExtendAbove
         | Call::Extend
@@ -93,7 +93,7 @@ fn parts_of(draw: &Draw, call: Call) -> Parts<'_> {
         Call::ExtendRising => (evens, odds, &[]),
         Call::ExtendAbove => (lower, upper, &[]),
         Call::Extend | Call::Rename => (first, second, &[]),
-        Call::ExtendFew => (rising, &draw.few, &[]),
+        Call::ExtendFew | Call::ExtendFromVec => (rising, &draw.few, &[]),
         Call::MergeApart => (lower, &[], upper),
         Call::MergeInterleaved => (evens, &[], odds),
         Call::Equal | Call::MergeEqual | Call::IsSubset => (rising, &[], rising),

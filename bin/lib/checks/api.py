@@ -47,6 +47,7 @@ NOT_CALLED = {
     "extend_from_store": "what `extend_from_litemap` hands on",
     "split_store": "what `split_off` hands on",
     "insert_reserved": "what `lm_insert` hands on",
+    "remove_at": "what `lm_remove` hands on",
     **dict.fromkeys(["SwapStore::lm_pair", "SwapStore::lm_swap", "SwapStore::lm_truncate"], "what `lm_retain` asks"),
     "serialize": "what `with` of a field in example_formats asks",
     "deserialize_owned": "what `with` of a field in example_formats asks",

@@ -1,5 +1,5 @@
 //! A vector of keys and a vector of values as a store.
-ghost use Rattle.std.specs.Prelude.{◌≡◌, ◌+◌, ◌≤◌, ◌<◌, ◌++◌, length, min, refl, remove, slice_index_or, vec_capacity, vec_len};
+ghost use Rattle.std.specs.Prelude.{◌≡◌, ◌+◌, ◌≤◌, ◌<◌, ◌++◌, length, min, refl, vec_capacity, vec_len};
 ghost use Rattle.std.specs.List.{zip};
 ghost use Rattle.std.specs.Map.{keys_of, values_of};
 ghost use Rattle.litemap_columns.specs.Columns.{columns};
@@ -8,7 +8,7 @@ ghost use Rattle.litemap_store.specs.Retain.{CallableOnEach, Kept};
 ghost use Rattle.litemap_store.specs.VecStore.{vec_room};
 
 use crate::column_iter::{ColumnIntoIter, ColumnIter};
-use litemap_store::reserved::insert_reserved;
+use litemap_store::reserved::{insert_reserved, remove_at};
 use litemap_store::retain::{SwapStore, retain};
 use litemap_store::slice_search;
 use litemap_store::store::{
@@ -195,18 +195,6 @@ impl<K, V> StoreMut<K, V> for ColumnStore<K, V> {
     ghost writes = { λ s i v. refl };
 
     ghost keeps_room = { λ s i v. refl };
-}
-
-// Removes the item at an index, by one move of the later ones.
-fn remove_at<T>(items: &mut Vec<T>, index: usize) -> T
-    requires { index < vec_len items.old }
-    ensures value { result ≡ slice_index_or items.old.items index result }
-    ensures items { items.new.items ≡ remove items.old.items index }
-    ensures len { vec_len items.new + 1 ≡ vec_len items.old }
-    ensures capacity { vec_capacity items.new ≡ vec_capacity items.old }
-{
-    items[index..].rotate_left(1);
-    items.take_last()
 }
 
 impl<K: Drop, V: Drop> SwapStore<K, V> for ColumnStore<K, V> {

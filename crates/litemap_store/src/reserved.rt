@@ -1,9 +1,13 @@
 //! Capacity that is taken first, pairs that go into a store which has it, and pairs that leave a store from its end.
-ghost use Rattle.std.specs.Prelude.{◌≡◌, ◌↔◌, ◌+◌, ◌<◌, ◌≤◌, ◌++◌, ◌∷◌, [], drop, insert, length, reverse, take};
-ghost use Rattle.std.specs.Prelude.{vec_capacity, vec_len, IfOk, IfSome, IsNone};
+ghost use Rattle.std.specs.Prelude.{◌≡◌, ◌↔◌, ◌+◌, ◌<◌, ◌≤◌, List, ◌++◌, ◌∷◌, [], drop, insert, length, remove, reverse, slice_index_or};
+ghost use Rattle.std.specs.Prelude.{take, vec_capacity, vec_len, IfOk, IfSome, IsNone};
 
 use crate::store::{Store, StoreMut};
 use std::alloc::{AllocError, Global};
+use std::mem;
+
+// A part of so many bytes moves at once: std moves a longer one by a loop.
+const PART_BYTES: usize = 2048;
 
 /// A vector and a store, both empty, with room for so many pairs each.
 pub(crate) fn room_for<K: Drop, V: Drop, S: StoreMut<K, V>>(
@@ -38,6 +42,45 @@ pub fn insert_reserved<T>(items: &mut Vec<T>, index: usize, item: T)
 {
     items.push_reserved(item);
     items[index..].rotate_right(1);
+}
+
+/// Removes the item at an index, and moves the later ones down by one (own).
+pub fn remove_at<T>(items: &mut Vec<T>, index: usize) -> T
+    requires { index < vec_len items.old }
+    ensures value { result ≡ slice_index_or items.old.items index result }
+    ensures items { items.new.items ≡ remove items.old.items index }
+    ensures len { vec_len items.new + 1 ≡ vec_len items.old }
+    ensures capacity { vec_capacity items.new ≡ vec_capacity items.old }
+{
+    move_to_end(items, index);
+    items.take_last()
+}
+
+// Moves an item to the end, and the later ones down by one: in parts, each of which is compiled to one move of memory.
+#[inline(never)]
+fn move_to_end<T>(items: &mut [T], index: usize)
+    requires { index < length items.old }
+    ensures moved { (rest : List T) (item : T) → items.old ≡ insert rest index item → items.new ≡ insert rest (length rest) item }
+    ensures len { length items.new ≡ length items.old }
+{
+    let part = (PART_BYTES / mem::size_of_val(&items[..1]).max(1)).max(1);
+    let last = items.len() - 1;
+    let mut at = index;
+    while last - at > part {
+        move_up(items, at, at + part);
+        at += part;
+    }
+    move_up(items, at, last);
+}
+
+// Moves an item to a later index, and those between down by one.
+fn move_up<T>(items: &mut [T], from: usize, to: usize)
+    requires order { from ≤ to }
+    requires within { to < length items.old }
+    ensures moved { (rest : List T) (item : T) → items.old ≡ insert rest from item → items.new ≡ insert rest to item }
+    ensures len { length items.new ≡ length items.old }
+{
+    items[from..=to].rotate_right(to - from);
 }
 
 /// Appends pairs, in reverse order.

@@ -5,6 +5,7 @@ ghost use Rattle.litemap_store.specs.VecStore.{vec_room, vec_with_value, vec_wri
 
 use crate::bulk::vector::{put_in_vec, settle};
 use crate::bulk::{gather, gather_behind};
+use crate::reserved::remove_at;
 use crate::retain::{SwapStore, retain};
 use crate::slice_search;
 use crate::store::{
@@ -95,7 +96,7 @@ impl<K, V> StoreMut<K, V> for Vec<(K, V)> {
         if index == self.len() - 1 {
             return self.take_last();
         }
-        self.remove(index)
+        remove_at(self, index)
     }
 
     fn lm_clear(&mut self)
