@@ -5,6 +5,7 @@
 mod fault;
 mod item;
 pub mod laws;
+mod name;
 mod named;
 mod pairs;
 mod read;
