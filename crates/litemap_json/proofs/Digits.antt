@@ -1,12 +1,13 @@
 -- The decimal digits of numbers, compared as strings.
-use Rattle.std.proofs.Common.{◌≡◌, ℕ, zero, suc, ◌+◌, ◌-◌, ◌*◌, ◌/◌, ◌%◌, ◌^◌, ◌<◌, ◌≤◌, List, [], ◌∷◌, ◌++◌, length, decimal, nat_cmp, Ordering, Less, Equal, Greater, Option, None, Some, IfNone, IfSome, unwrap_or, refl, sym, ap, ◌∙◌, arith}
-use Rattle.std.proofs.Math.Nat.{add-mul, mul-le-mul_right, mul_assoc, mul_comm, one-le-pow, one-mul, pow-suc, pow-zero}
+use Rattle.std.proofs.Common.{◌≡◌, ℕ, zero, suc, ◌+◌, ◌-◌, ◌*◌, ◌/◌, ◌%◌, ◌^◌, ◌<◌, ◌≤◌, List, [], ◌∷◌, ◌++◌, length, decimal, nat_cmp, true, Ordering, Less, Equal, Greater, Option, None, Some, IfNone, IfSome, unwrap_or, refl, sym, ap, ◌∙◌, arith}
+use Rattle.std.proofs.Math.Nat.{add-mul, mul-le-mul_right, mul_assoc, mul_comm, mul-one, one-le-pow, one-mul, pow-suc, pow-zero}
 use Rattle.std.proofs.lemmas.Cmp.{by_ranked, ranked}
-use Rattle.std.proofs.lemmas.Fmt.{decimal_by_steps, decimal_digit}
+use Rattle.std.proofs.lemmas.Fmt.{decimal_by_steps, decimal_digit, length-decimal-le}
 use Rattle.std.proofs.lemmas.List.{length-append}
 use Rattle.std.specs.Cmp.{nat_cmp_is}
 use Rattle.std.specs.Cmp.Lexicographic.{slice_cmp}
-use Rattle.std.specs.Ordering.{MatchOrdering, ordering_then}
+use Rattle.std.specs.Ordering.{MatchOrdering, is_ne, ordering_then}
+use Rattle.litemap_json.specs.Digits.{first_digits}
 
 abbrev AreDigits : List ℕ → Type 0
 AreDigits [] = Unit {0}
@@ -139,3 +140,42 @@ slice_cmp-decimal a b i j small_a small_b long_a long_b =
     let right = of_b.value m (omega (arith, long_b)) ∙ ap (λ k. b * 10 ^ k) y in
     let lengths = shifted 1 i j (length (decimal a)) (length (decimal b)) (omega (arith, long_a)) (omega (arith, long_b)) in
     order (decimal a) (decimal b) m of_a.digits of_b.digits (omega (arith, long_a)) (omega (arith, long_b)) ∙ rw (left, right, lengths) refl
+
+-- zeros after the digits of n, to 20 digits
+abbrev whole : ℕ → ℕ
+whole n = n * 10 ^ (20 - length (decimal n))
+
+to_20 : (a b : ℕ) → a < 2 ^ 64 → b < 2 ^ 64 → slice_cmp nat_cmp (decimal a) (decimal b) ≡ ordering_then (nat_cmp (whole a) (whole b)) (nat_cmp (length (decimal a)) (length (decimal b)))
+to_20 a b small_a small_b =
+    let of_a = digits_of a small_a in
+    let of_b = digits_of b small_b in
+    let short_a = length-decimal-le 20 a (omega arith) (omega (arith, small_a)) small_a in
+    let short_b = length-decimal-le 20 b (omega arith) (omega (arith, small_b)) small_b in
+    order (decimal a) (decimal b) 20 of_a.digits of_b.digits short_a short_b ∙ rw (of_a.value 20 short_a, of_b.value 20 short_b) refl
+
+-- the first digits decide if they differ
+pub slice_cmp-first : (a b : ℕ) (o : Ordering) → a < 2 ^ 64 → b < 2 ^ 64 → o ≡ nat_cmp (first_digits a) (first_digits b) → is_ne o ≡ true → o ≡ slice_cmp nat_cmp (decimal a) (decimal b)
+slice_cmp-first a b o small_a small_b e apart = by o (ranked (first_digits a) (first_digits b) o e) apart
+  where
+    by : (o : Ordering) → MatchOrdering o (first_digits a < first_digits b) (first_digits a ≡ first_digits b) (first_digits b < first_digits a) → is_ne o ≡ true → o ≡ slice_cmp nat_cmp (decimal a) (decimal b)
+    by Less h n = let less : nat_cmp (whole a) (whole b) ≡ Less = sym (nat_cmp_is (whole a) (whole b) Less (omega (arith, h))) in sym (to_20 a b small_a small_b ∙ rw less refl)
+    by Equal h n = absurd cc
+    by Greater h n = let more : nat_cmp (whole a) (whole b) ≡ Greater = sym (nat_cmp_is (whole a) (whole b) Greater (omega (arith, h))) in sym (to_20 a b small_a small_b ∙ rw more refl)
+
+pub first_digits-all : (n i : ℕ) → length (decimal n) ≡ i + 1 → i ≡ 19 → n / 10 ≡ first_digits n
+first_digits-all n i long e =
+    let f : 20 - length (decimal n) ≡ 0 = omega (arith, long, e) in
+    let whole_is : whole n ≡ n = ap (λ k. n * 10 ^ k) f ∙ ap (λ t. n * t) (pow-zero 10) ∙ mul-one n in
+    ap (λ k. k / 10) (sym whole_is)
+
+-- the first digits of a number of fewer than 20 digits, whose number is i after the first
+pub first_digits-zeros : (n i : ℕ) → n < 2 ^ 64 → length (decimal n) ≡ i + 1 → i < 19 → (n * 10 ^ (18 - i) ≡ first_digits n) × (n * 10 ^ (18 - i) < 2 ^ 64)
+first_digits-zeros n i small long few =
+    let of = digits_of n small in
+    let short : length (decimal n) ≤ 19 = omega (arith, long, few) in
+    let e : 19 - length (decimal n) ≡ 18 - i = omega (arith, long) in
+    let f : 20 - length (decimal n) ≡ suc (18 - i) = omega (arith, long, few) in
+    let value : filled (decimal n) 19 ≡ n * 10 ^ (18 - i) = of.value 19 short ∙ ap (λ k. n * 10 ^ k) e in
+    let bound = filled-below (decimal n) 19 of.digits short in
+    let ten : whole n ≡ n * 10 ^ (18 - i) * 10 = ap (λ k. n * 10 ^ k) f ∙ ap (λ t. n * t) (pow-suc 10 (18 - i)) ∙ sym (mul_assoc n (10 ^ (18 - i)) 10) in
+    (omega (arith, ten), omega (arith, value, bound))

@@ -2,6 +2,7 @@
 //! is own: the Rust crate's maps go through serde.
 #![tactic(auto)]
 
+mod decimal;
 mod fault;
 mod item;
 pub mod laws;

@@ -5,6 +5,7 @@ ghost use Rattle.std.specs.Cmp.Lexicographic.{nat_list_cmp_total, nat_list_eq_eq
 ghost use Rattle.std.specs.Ordering.{nat_cmp};
 ghost use Rattle.litemap_json.specs.Written.{name_bytes};
 
+use crate::decimal::{Decimal, cmp_digits};
 use crate::item::JsonKey;
 use itoa::Buffer;
 use std::alloc::{AllocError, Global};
@@ -14,7 +15,7 @@ use std::cmp::Ordering;
 #[derive(Drop)]
 pub(crate) enum Name {
     /// The decimal digits of an integer.
-    Unsigned(u64),
+    Unsigned(Decimal),
     /// The same of one with a sign.
     Signed(i64),
     /// A string.
@@ -28,7 +29,7 @@ impl Name {
     {
         if let Some(number) = key.key_number() {
             if let Ok(number) = u64::try_from(number) {
-                return Ok(Some(Name::Unsigned(number)));
+                return Ok(Some(Name::Unsigned(Decimal::new(number))));
             }
             if let Ok(number) = i64::try_from(number) {
                 return Ok(Some(Name::Signed(number)));
@@ -45,7 +46,7 @@ impl Name {
         ensures { result.now ≡ name_bytes self.now }
     {
         match self {
-            Name::Unsigned(number) => buffer.format(*number),
+            Name::Unsigned(digits) => buffer.format(digits.number()),
             Name::Signed(number) => buffer.format(*number),
             Name::Text(text) => text.as_str(),
         }
@@ -88,7 +89,7 @@ impl Ord for Name {
     fn cmp(&self, other: &Self) -> Ordering {
         if let Name::Unsigned(a) = self {
             if let Name::Unsigned(b) = other {
-                return cmp_digits(*a, *b);
+                return a.compare(b);
             }
         }
         if let Name::Signed(a) = self {
@@ -101,31 +102,4 @@ impl Ord for Name {
         self.as_str(&mut Buffer::new())
             .cmp(other.as_str(&mut Buffer::new()))
     }
-}
-
-// Compares the decimal digits of two integers as strings. They are brought to the same number of digits by zeros at the end. If
-// they are equal then, the shorter one is the beginning of the longer one.
-fn cmp_digits(a: u64, b: u64) -> Ordering
-    ensures { result ≡ slice_cmp nat_cmp (decimal a) (decimal b) }
-{
-    let (first, second) = (digits(a), digits(b));
-    let left = padded(a, second.saturating_sub(first));
-    let right = padded(b, first.saturating_sub(second));
-    left.cmp(&right).then(first.cmp(&second))
-}
-
-// Returns how many decimal digits a number has after the first.
-fn digits(number: u64) -> u32
-    ensures length { length (decimal number) ≡ result + 1 }
-    ensures bound { result < 20 }
-{
-    number.checked_ilog10().unwrap_or(0)
-}
-
-// Returns the number with as many zeros at its end.
-fn padded(number: u64, zeros: u32) -> u128
-    requires { zeros < 20 }
-    ensures { result ≡ number * 10 ^ zeros }
-{
-    u128::from(number) * u128::from(10u64.pow(zeros))
 }

@@ -50,10 +50,12 @@ pub fn write_json<K: JsonKey, V: JsonItem, S: Store<K, V>>(
     if Name::of(alloc, first)?.is_none() {
         return Ok(array_text(alloc, map)?);
     }
-    match object_text(alloc, map)? {
-        Some(text) => Ok(text),
-        None => Ok(named_text(alloc, &by_name(alloc, map)?)?),
+    if first.key_number().is_none() {
+        if let Some(text) = object_text(alloc, map)? {
+            return Ok(text);
+        }
     }
+    Ok(named_text(alloc, &by_name(alloc, map)?)?)
 }
 
 fn array_text<K: JsonKey, V: JsonItem, S: Store<K, V>>(
@@ -100,7 +102,7 @@ fn object_text<K: JsonKey, V: JsonItem, S: Store<K, V>>(
 {
     let mut out = Writer::new(Vec::new(alloc));
     out.begin_object()?;
-    let mut last = Name::Unsigned(0);
+    let mut last = Name::Signed(0);
     for place in 0..map.len() {
         let (key, item) = pair_at(map, place);
         let Some(name) = Name::of(alloc, key)? else {

@@ -1,4 +1,5 @@
-use Rattle.std.proofs.Common.{◌≡◌, ◌++◌, ◌∷◌, [], arith, ◌∙◌, option_map, Some, decimal, string_bytes, subst, sym, ap}
+use Rattle.std.proofs.Common.{◌≡◌, ◌++◌, ◌∷◌, [], arith, ◌∙◌, option_map, Some, pos, string_bytes, subst, sym, ap}
+use Rattle.std.specs.Fmt.{signed_decimal}
 use Rattle.json.specs.Token.{begin_object}
 use Rattle.litemap_json.specs.Written.{name_bytes}
 use Rattle.litemap_json.proofs.ByPlace.{at_place, made_stop}
@@ -9,9 +10,9 @@ pub loop-place-init : goal.loop-place-init
 loop-place-init g c =
     let start = c.in_ok-begin_object.ensures.ok in (
       c.begin_object.ensures.room.0 ∙ c.new-out.ensures.before ∙ c.new.ensures.items,
-      subst (λ ts. PairsHeld g.K.JsonKey.text g.K.JsonItem.json g.V.JsonItem.json c.args.map.now.pairs 0 (decimal 0) ts)
+      subst (λ ts. PairsHeld g.K.JsonKey.text g.K.JsonItem.json g.V.JsonItem.json c.args.map.now.pairs 0 (signed_decimal (pos 0)) ts)
           (sym (start ∙ ap (λ ts. ts ++ begin_object ∷ []) c.new-out.ensures.tokens))
-          (pairs_none g.K.JsonKey.text g.K.JsonItem.json g.V.JsonItem.json c.args.map.now.pairs (decimal 0)),
+          (pairs_none g.K.JsonKey.text g.K.JsonItem.json g.V.JsonItem.json c.args.map.now.pairs (signed_decimal (pos 0))),
     )
 
 pub returns-in_default-clause-refused : goal.returns-in_default-clause-refused

@@ -1,6 +1,6 @@
 use Rattle.std.proofs.Common.{◌∙◌, arith, sym}
 use Rattle.litemap_json.proofs.Digits.{slice_cmp-decimal}
-use Rattle.litemap_json.proofs.name.cmp_digits.Goals as goal
+use Rattle.litemap_json.proofs.decimal.cmp_digits.Goals as goal
 
 pub returns : goal.returns
 returns c =

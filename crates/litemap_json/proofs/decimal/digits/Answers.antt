@@ -1,6 +1,6 @@
 use Rattle.std.proofs.Common.{arith}
 use Rattle.litemap_json.proofs.Digits.{length-decimal}
-use Rattle.litemap_json.proofs.name.digits.Goals as goal
+use Rattle.litemap_json.proofs.decimal.digits.Goals as goal
 
 pub returns-clause-length : goal.returns-clause-length
 returns-clause-length c =
