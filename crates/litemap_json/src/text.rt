@@ -64,7 +64,7 @@ fn array_text<K: JsonKey, V: JsonItem, S: Store<K, V>>(
 ) -> Result<String, AllocError>
     ensures { IfOk result (λ text. IsTextOf (array (rows K.text K.json V.json map.now.pairs)) (string_bytes text)) }
 {
-    let mut out = Writer::new(Vec::new(alloc));
+    let mut out = writer(alloc, map.len())?;
     out.begin_array()?;
     for place in 0..map.len() {
         let (key, item) = pair_at(map, place);
@@ -100,7 +100,7 @@ fn object_text<K: JsonKey, V: JsonItem, S: Store<K, V>>(
     ensures refused { IfErr result
         (λ fault. fault ≢ Memory → object_with K.text K.json V.json 0 no_members map.now.pairs ≡ Err fault) }
 {
-    let mut out = Writer::new(Vec::new(alloc));
+    let mut out = writer(alloc, map.len())?;
     out.begin_object()?;
     let mut last = Name::Signed(0);
     for place in 0..map.len() {
@@ -123,7 +123,7 @@ fn named_text<V: JsonItem>(alloc: Global, items: &VecMap<Name, &V>) -> Result<St
     ensures { IfOk result
         (λ text. IsTextOf (object (named (λ item. V.json item.now) items.now.pairs)) (string_bytes text)) }
 {
-    let mut out = Writer::new(Vec::new(alloc));
+    let mut out = writer(alloc, items.len())?;
     out.begin_object()?;
     for place in 0..items.len() {
         let (name, item) = pair_at(items, place);
@@ -152,6 +152,13 @@ fn rises(place: usize, last: &Name, name: &Name) -> bool
     ensures { result ≡ true → 0 < place → slice_cmp nat_cmp (name_bytes last.now) (name_bytes name.now) ≡ Less }
 {
     place == 0 || last < name
+}
+
+// Returns a writer with the memory that so many short pairs take.
+fn writer(alloc: Global, pairs: usize) -> Result<Writer, AllocError>
+    ensures { IfOk result (λ out. (out.before ≡ []) × (out.tokens ≡ [])) }
+{
+    Ok(Writer::new(Vec::with_capacity(alloc, pairs.saturating_mul(8))?))
 }
 
 // Returns what was written, as a string.

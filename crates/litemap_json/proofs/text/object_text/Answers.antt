@@ -9,9 +9,9 @@ use Rattle.litemap_json.proofs.text.object_text.Goals as goal
 pub loop-place-init : goal.loop-place-init
 loop-place-init g c =
     let start = c.in_ok-begin_object.ensures.ok in (
-      c.begin_object.ensures.room.0 ∙ c.new-out.ensures.before ∙ c.new.ensures.items,
+      c.begin_object.ensures.room.0 ∙ c.in_ok-out.ensures.0,
       subst (λ ts. PairsHeld g.K.JsonKey.text g.K.JsonItem.json g.V.JsonItem.json c.args.map.now.pairs 0 (signed_decimal (pos 0)) ts)
-          (sym (start ∙ ap (λ ts. ts ++ begin_object ∷ []) c.new-out.ensures.tokens))
+          (sym (start ∙ ap (λ ts. ts ++ begin_object ∷ []) c.in_ok-out.ensures.1))
           (pairs_none g.K.JsonKey.text g.K.JsonItem.json g.V.JsonItem.json c.args.map.now.pairs (signed_decimal (pos 0))),
     )
 
