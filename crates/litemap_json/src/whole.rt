@@ -11,7 +11,9 @@ ghost use Rattle.litemap_json.specs.Widths.{IsHeld, signed_is_held, unsigned_is_
 ghost use Rattle.litemap_json.specs.declared.item.ItemFault.TheVariants.{Memory};
 
 use crate::item::{ItemFault, JsonItem, JsonKey};
+use crate::written::write_value;
 use itoa::Buffer;
+use json::Writer;
 use serde_json::{Number, Value};
 use std::alloc::{AllocError, Global};
 
@@ -64,6 +66,14 @@ impl<T: Whole> JsonItem for T {
         ensures no_memory { result ≢ Err Memory }
     {
         T::narrow(whole_number(value)?).ok_or(ItemFault::Range)
+    }
+
+    fn write_to(&self, alloc: Global, out: &mut Writer) -> Result<(), AllocError> {
+        if let Ok(number) = u64::try_from(self.wide()) {
+            return out.u64(number);
+        }
+        let value = self.to_value(alloc)?;
+        write_value(alloc, &value, out)
     }
 
     fn wanted() -> &'static str {
