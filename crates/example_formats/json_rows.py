@@ -312,7 +312,68 @@ def long_texts():
         yield "levels", object_of([("low" + "w" * length, 1)]), key_text(0)
 
 
+def all_numbers():
+    """Each number of four digits at most as a key and as an item, in three orders, and a few neighbours at each power of ten."""
+    numbers = range(-1000, 1001)
+    for types, numbers in (("i16", numbers), ("i64", numbers), ("u16", numbers[1000:])):
+        answer = object_of(sorted((str(number), number) for number in numbers))
+        mixed = [numbers[(place * 379) % len(numbers)] for place in range(len(numbers))]
+        for order in (numbers, numbers[::-1], mixed):
+            yield types, array(f"[{number},{number}]" for number in order), answer
+            yield types, object_of((str(number), number) for number in order), answer
+    for types, (least, most) in WHOLE.items():
+        ends = [0, *(sign * 10**power for power in range(20) for sign in (1, -1)), least, most]
+        for end in sorted(end for end in set(ends) if least <= end <= most):
+            near = [number for number in (end - 1, end, end + 1, 10 * end - 1, 10 * end, 10 * end + 1) if least <= number <= most]
+            yield types, array(f"[{number},0]" for number in near), object_of(sorted((str(number), 0) for number in set(near)))
+        every = sorted({end for end in ends if least <= end <= most})
+        yield types, array(f"[{number},0]" for number in every), object_of(sorted((str(number), 0) for number in every))
+
+
+def ascii_texts():
+    """Strings that begin and end in each ASCII character, alone and all together."""
+    short = {8: r"\b", 9: r"\t", 10: r"\n", 12: r"\f", 13: r"\r", 34: r"\"", 92: r"\\"}
+    letters = [short.get(code, f"\\u{code:04x}" if code < 32 else chr(code)) for code in range(128)]
+    for letter in letters:
+        yield "text", object_of([(letter, f'"{letter}"'), (f"{letter}a{letter}", f'"{letter}"')]), None
+    names = [f"{letter}x{letter}" for letter in letters]
+    yield "text", object_of((name, f'"{name}"') for name in reversed(names)), object_of((name, f'"{name}"') for name in names)
+
+
+def early_faults():
+    """An error at each index to 12, of keys that ascend, that descend and that are equal, and at the next index too."""
+    bad = [("[0]", not_a_pair)] + [(f"[{text},0]", lambda place, fault=fault: key(place, fault)) for text, fault in (
+        ("null", SHAPE), ('"0"', SHAPE), ("256", RANGE), ("-1", RANGE), ("1.0", FLOAT))]
+    bad += [(f"[0,{text}]", lambda place, fault=fault: item(place, fault)) for text, fault in (
+        ("{}", SHAPE), ("256", RANGE), ("-1", RANGE), ("1.0", FLOAT))]
+    for place in range(13):
+        for keys in (range(15), range(15, 0, -1), [7] * 15):
+            good = [f"[{number},0]" for number in keys]
+            for text, fault in bad:
+                yield "u8", array([*good[:place], text, good[place], text]), fault(place)
+        names = sorted(map(str, range(100, 115)))
+        for order in (names, names[::-1]):
+            yield "u8", object_of((name, -1 if name >= names[place] else 0) for name in order), item(place, RANGE)
+            yield "u8", object_of((name if name < names[place] else name + "x", 0) for name in order), key_text(place)
+        odd = [*range(0, 2 * place, 2), 2 * place + 1, *range(2 * place + 2, 30, 2)]
+        answer = no_text(place) if place else array(f'[{number},"a"]' for number in odd)
+        for order in (odd, odd[::-1], odd * 2):
+            yield "evens", array(f'[{number},"a"]' for number in order), answer
+
+
+def values():
+    """JSON values of each kind that `write_value` writes, of which maps have only some."""
+    parts = ["null", "true", "false", "0", "-1", "1.5", "-0.5", "18446744073709551615", "-9223372036854775808", '""', '"a"', "[]", "{}"]
+    parts += [array(parts), array([array(parts), array([array([])])]), object_of((f"k{place:02}", part) for place, part in enumerate(parts))]
+    for part in parts:
+        yield "value", part, None
+        yield "value", array([part, part]), None
+        yield "value", object_of([("a", part), ("b", object_of([("", part)]))]), None
+    yield "value", "[", "no JSON"
+
+
 def rows():
     """The lines, each with its output."""
     rows = [*ROWS, *bad_elements(), *whole_numbers(), *long_maps(), *late_faults(), *long_texts(), *told_faults()]
+    rows += [*all_numbers(), *ascii_texts(), *early_faults(), *values()]
     return [(f"{types} {text}", text if answer is None else answer) for types, text, answer in rows]

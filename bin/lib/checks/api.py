@@ -51,7 +51,7 @@ NOT_CALLED = {
     **dict.fromkeys(["SwapStore::lm_pair", "SwapStore::lm_swap", "SwapStore::lm_truncate"], "what `lm_retain` asks"),
     "serialize": "what `with` of a field in example_formats asks",
     "deserialize_owned": "what `with` of a field in example_formats asks",
-    "JsonItem::write_to": "what `write_json` asks",
+    **dict.fromkeys(["JsonItem::write_to", "JsonKey::key_number"], "what `write_json` asks"),
     "array_of_two": "what `to_json` hands on",
     "NameIndex::prefix_places_counted": "what `prefix_places` hands on",
 }

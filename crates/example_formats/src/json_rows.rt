@@ -47,6 +47,7 @@ pub fn answer(alloc: Global, line: &str) -> Result<String, AllocError> {
         "overlay" => overlaid(alloc, text),
         "told" => told::answer(alloc, text),
         "rewrite" => rewritten(alloc, text),
+        "value" => written_value(alloc, text),
         "nested" => written::<
             ((u8, bool), String),
             (u32, (bool, i8)),
@@ -132,6 +133,19 @@ fn rewritten(alloc: Global, text: &str) -> Result<String, AllocError> {
     match unless_memory!(rewrite_flags(alloc, text.as_bytes()), FlagsFault::Memory) {
         Ok(flags) => Ok(flags),
         Err(fault) => format!(in alloc; "{fault}"),
+    }
+}
+
+// A value, as it is written.
+fn written_value(alloc: Global, text: &str) -> Result<String, AllocError> {
+    let Ok(value) = unless_memory!(Value::from_str(alloc, text)) else {
+        return String::from_str(alloc, "no JSON");
+    };
+    let mut out = Writer::new(Vec::new(alloc));
+    write_value(alloc, &value, &mut out)?;
+    match String::from_utf8(out.into_inner()) {
+        Ok(text) => Ok(text),
+        Err(_) => String::from_str(alloc, "not UTF-8"),
     }
 }
 

@@ -1,5 +1,5 @@
 -- A list that is read index by index.
-use Rattle.std.proofs.Common.{◌≡◌, ℕ, suc, ◌+◌, ◌<◌, List, [], ◌∷◌, ◌++◌, length, get_or, Global, String, string_bytes, drop, slice_get, refl, Option, Some, None, option_map, Ok, Err, Result, sym, ◌∙◌, ap, add-one, drop-cons, append_assoc}
+use Rattle.std.proofs.Common.{◌≡◌, ℕ, suc, ◌+◌, ◌<◌, List, [], ◌∷◌, ◌++◌, length, get_or, drop, slice_get, refl, Option, Some, None, option_map, Ok, Err, Result, sym, ◌∙◌, ap, add-one, drop-cons, append_assoc}
 use Rattle.std.proofs.lemmas.List.{map-append}
 use Rattle.std.proofs.lemmas.Option.{get_or_from_slice_get, slice_get_within}
 use Rattle.serde_json.specs.Data.{Data, Members, put}
@@ -20,11 +20,11 @@ module _ {K V : Type 0} (text : K → Option (List ℕ)) (key_json : K → Data)
       → object_with text key_json json i ms (drop i L) ≡ r → object_with text key_json json (i + 1) (put s (json x.1) ms) (drop (i + 1) L) ≡ r
   made_step L i x s ms r h e named made = (rw (next L i x h e, named) at made)
 
-  pub made_stop : (L : List (K × V)) (i : ℕ) (x : K × V) (name : Option (String Global)) (ms : Members) (r : Result Data WriteFault) → Some x ≡ slice_get L i → option_map string_bytes name ≡ text x.0 → name ≡ None
+  pub made_stop : {N : Type 0} (bytes : N → List ℕ) (L : List (K × V)) (i : ℕ) (x : K × V) (name : Option N) (ms : Members) (r : Result Data WriteFault) → Some x ≡ slice_get L i → option_map bytes name ≡ text x.0 → name ≡ None
       → object_with text key_json json i ms (drop i L) ≡ r → r ≡ Err (KeyWithoutText i)
-  made_stop L i x name ms r here made none so_far =
+  made_stop bytes L i x name ms r here made none so_far =
       let found = at_place L i x here in
-      let unnamed : text x.0 ≡ None = sym made ∙ ap (option_map string_bytes) none in
+      let unnamed : text x.0 ≡ None = sym made ∙ ap (option_map bytes) none in
       sym (rw (next L i x found.0 found.1, unnamed) at so_far)
 
 after_more : (ps : List (Data × Data)) (p : Data × Data) (r : Result (List (Data × Data)) JsonFault) → after ps (before (Ok p) r) ≡ after (ps ++ p ∷ []) r

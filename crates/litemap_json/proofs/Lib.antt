@@ -3,6 +3,7 @@ pub mod Again
 pub mod ArraysOfTwo
 pub mod ByPlace
 pub mod ByText
+pub mod Digits
 pub mod Floats
 pub mod Held
 pub mod OneMap

@@ -1,5 +1,5 @@
 -- The tokens of a map, pair by pair, and their text.
-use Rattle.std.proofs.Common.{◌≡◌, ℕ, ◌+◌, ◌<◌, ◌≤◌, List, [], ◌∷◌, ◌++◌, length, get_or, drop, Option, Some, Ok, String, string_bytes, Global, Less, Greater, nat_cmp, refl, sym, ap, ap₂, subst, ◌∙◌, arith, append_assoc}
+use Rattle.std.proofs.Common.{◌≡◌, ℕ, ◌+◌, ◌<◌, ◌≤◌, List, [], ◌∷◌, ◌++◌, length, get_or, drop, Option, Some, Ok, Less, Greater, nat_cmp, refl, sym, ap, ap₂, subst, ◌∙◌, arith, append_assoc}
 use Rattle.std.proofs.lemmas.List.{drop_all}
 use Rattle.std.specs.Cmp.Lexicographic.{slice_cmp, nat_list_cmp_total}
 use Rattle.json.specs.Json as json
@@ -11,7 +11,8 @@ use Rattle.serde_json.specs.Data.{Data, array, object, Items, Members, no_member
 use Rattle.serde_json.specs.Written.{blank_items, blank_members, IsInOrder, items_outline, members_outline}
 use Rattle.serde_json.proofs.Texts.{print-outline, tokens_from_order}
 use Rattle.litemap_json.specs.Json.{object_with, row, rows}
-use Rattle.litemap_json.specs.Written.{IsTextOf, named, WritesTree}
+use Rattle.litemap_json.specs.Written.{IsTextOf, name_bytes, named, WritesTree}
+use Rattle.litemap_json.specs.declared.name.Name.{Name}
 use Rattle.litemap_json.proofs.ByPlace.{made_step, next}
 use Rattle.litemap_json.proofs.Joined.{IsAbove, above, above-joined, below, joined, joined-none, joined-one, put-above}
 
@@ -42,15 +43,15 @@ member_before s d ms mid new end w more = (
 
 module _ {V : Type 0} (json_of : V → Data) where
   -- the members of the named items before an index are written
-  abbrev pub NamedHeld : List (String Global × V) → ℕ → List Token → Type 0
+  abbrev pub NamedHeld : List (Name × V) → ℕ → List Token → Type 0
   NamedHeld M i mid = (end : List Token) → WritesMembers (named json_of (drop i M)) mid end → WritesMembers (named json_of M) (begin_object ∷ []) end
 
-  pub named_more : (M : List (String Global × V)) (i : ℕ) (x : String Global × V) (mid new : List Token) → i < length M → x ≡ get_or M i x
-      → WritesTree (json_of x.1) (mid ++ key (string_bytes x.0) ∷ []) new → NamedHeld M i mid → NamedHeld M (i + 1) new
+  pub named_more : (M : List (Name × V)) (i : ℕ) (x : Name × V) (mid new : List Token) → i < length M → x ≡ get_or M i x
+      → WritesTree (json_of x.1) (mid ++ key (name_bytes x.0) ∷ []) new → NamedHeld M i mid → NamedHeld M (i + 1) new
   named_more M i x mid new h e w held = λ end rest. held end (subst (λ N. WritesMembers (named json_of N) mid end) (sym (next M i x h e))
-      (member_before (string_bytes x.0) (json_of x.1) (named json_of (drop (i + 1) M)) mid new end w rest))
+      (member_before (name_bytes x.0) (json_of x.1) (named json_of (drop (i + 1) M)) mid new end w rest))
 
-  pub named_end : (M : List (String Global × V)) (i : ℕ) (mid new : List Token) → length M ≤ i → new ≡ mid ++ end_object ∷ [] → NamedHeld M i mid → WritesTree (object (named json_of M)) [] new
+  pub named_end : (M : List (Name × V)) (i : ℕ) (mid new : List Token) → length M ≤ i → new ≡ mid ++ end_object ∷ [] → NamedHeld M i mid → WritesTree (object (named json_of M)) [] new
   named_end M i mid new h e held =
       let all = held new (subst (λ N. WritesMembers (named json_of N) mid new) (sym (drop_all i M h)) (json.no_members, e, refl)) in
       (json.object all.0, all.1, ap json.object all.2)

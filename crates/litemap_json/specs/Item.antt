@@ -1,4 +1,4 @@
--- Which value of a type a JSON tree spells, or why it spells none, and which key a text spells. A value is seen as its tree.
+-- Which value of a type a JSON tree spells, or why it spells none, and which key a string spells. A value is seen as its tree.
 use Rattle.std.specs.Prelude.{◌≡◌, ◌≢◌, ℕ, ◌^◌, nat_lt, ℤ, pos, negsuc, List, Bool, true, false, if◌then◌else◌}
 use Rattle.std.specs.Prelude.{Option, Some, None, Result, Ok, Err, ok_or, option_map}
 use Rattle.std.specs.Fmt.{signed_decimal}
@@ -7,12 +7,12 @@ use Rattle.std.specs.Str.Parse.{true_text, false_text, signed_digits_value}
 use Rattle.serde_json.specs.Data.{Num, Data, boolean, number, string, array, Items, no_items, item}
 use Rattle.serde_json.specs.Find.{as_number, as_integer, as_bool, as_str, of_integer}
 use Rattle.litemap_json.specs.declared.item.ItemFault.{ItemFault}
-use Rattle.litemap_json.specs.declared.item.ItemFault.TheVariants.{Memory, Shape, Range, Float}
+use Rattle.litemap_json.specs.declared.item.ItemFault.TheVariants.{Shape, Range, Float}
 
--- r is the value whose tree a is, or the error that a is; or memory ran out
-abbrev pub Answers : {T : Type 0} → (T → Data) → Result Data ItemFault → Result T ItemFault → Type 0
-Answers json a (Ok x) = a ≡ Ok (json x)
-Answers json a (Err e) = e ≢ Memory → a ≡ Err e
+-- r, as `see` sees it, is the value or the error that a is; or memory ran out
+abbrev pub Reads : {T S E : Type 0} → E → (T → S) → Result S E → Result T E → Type 0
+Reads memory see a (Ok x) = a ≡ Ok (see x)
+Reads memory see a (Err e) = e ≢ memory → a ≡ Err e
 
 -- ---- whole numbers
 
@@ -46,7 +46,7 @@ in_range fits (Ok z) = if fits z then Ok (whole_json z) else Err Range
 abbrev pub whole_item : (ℤ → Bool) → Data → Result Data ItemFault
 whole_item fits d = in_range fits (whole_of d)
 
--- the whole number whose decimal text is s: no plus sign, no leading zeros, `-` only before a negative number
+-- the whole number whose decimal digits are s: no plus sign, no leading zeros, `-` only before a negative number
 abbrev pub whole_of_text : List ℕ → Option ℤ
 whole_of_text s = let z = signed_digits_value 10 s in if bytes_eq (signed_decimal z) s then Some z else None
 
@@ -55,7 +55,7 @@ abbrev pub kept : (ℤ → Bool) → Option ℤ → Option ℤ
 kept fits None = None
 kept fits (Some z) = if fits z then Some z else None
 
--- a whole number that fits, by its decimal text
+-- a whole number that fits, by its decimal digits
 abbrev pub whole_key : (ℤ → Bool) → List ℕ → Option Data
 whole_key fits s = option_map whole_json (kept fits (whole_of_text s))
 
@@ -64,7 +64,7 @@ whole_key fits s = option_map whole_json (kept fits (whole_of_text s))
 abbrev pub bool_item : Data → Result Data ItemFault
 bool_item d = ok_or (option_map boolean (as_bool d)) Shape
 
--- a boolean's text
+-- a boolean's string
 abbrev pub bool_text : Bool → List ℕ
 bool_text true = true_text
 bool_text false = false_text

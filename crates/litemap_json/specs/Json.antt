@@ -1,5 +1,5 @@
 -- A map as JSON: the tree of a list of pairs, and the pairs that a tree spells. Keys and items are seen as their trees, and
--- keys as their texts too.
+-- keys as the bytes of their strings too.
 use Rattle.std.specs.Prelude.{ℕ, ◌+◌, List, [], ◌∷◌, map, if◌then◌else◌, is_some, Option, Some, None, Result, Ok, Err}
 use Rattle.serde_json.specs.Data.{Data, array, object}
 use Rattle.serde_json.specs.Data.{Items, no_items, item, Members, no_members, member, put}
@@ -13,7 +13,7 @@ use Rattle.litemap_json.specs.declared.fault.JsonFault.TheVariants.{NotAMap, Not
 
 -- ---- writing
 
--- `next` of the key's text, or the error that the key at this index has none
+-- `next` of the key's string, or the error that the key at this index has none
 abbrev pub named : ℕ → Option (List ℕ) → (List ℕ → Result Data WriteFault) → Result Data WriteFault
 named place None next = Err (KeyWithoutText place)
 named place (Some s) next = next s
@@ -32,7 +32,8 @@ module _ {K V : Type 0} (text : K → Option (List ℕ)) (key_json : K → Data)
   object_with place ms [] = Ok (object ms)
   object_with place ms (p ∷ L) = named place (text p.0) (λ s. object_with (place + 1) (put s (json p.1) ms) L)
 
-  -- the tree of a list of pairs, of which the first key decides: an object if it has a text, else an array; the empty array if there is none
+  -- the tree of a list of pairs, of which the first key decides: an object if it has a string, else an array; the empty array
+  -- if there is no key
   abbrev pub tree : List (K × V) → Result Data WriteFault
   tree [] = Ok (array no_items)
   tree (p ∷ L) = if is_some (text p.0) then object_with 0 no_members (p ∷ L) else Ok (array (rows (p ∷ L)))
@@ -62,7 +63,7 @@ module _ (key : List ℕ → Option Data) (key_item json_item : Data → Result 
   row_pairs place no_items = Ok []
   row_pairs place (item d ds) = before (row_at place (two_of d)) (row_pairs (place + 1) ds)
 
-  -- the pair of an object's member, whose name has to be a key's text
+  -- the pair of an object's member, whose name has to be a key's string
   abbrev pub member_at : ℕ → Option Data → Data → Result (Data × Data) JsonFault
   member_at place None d = Err (KeyText place)
   member_at place (Some k) d = pair_at place (Ok k) (json_item d)

@@ -3,6 +3,7 @@ pub mod Item
 pub mod Json
 pub mod Reading
 pub mod Laws
+pub mod Digits
 pub mod Kinds
 pub mod OneTree
 pub mod Widths

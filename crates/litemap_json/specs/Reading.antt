@@ -1,5 +1,5 @@
 -- Which map a tree is read as.
-use Rattle.std.specs.Prelude.{◌≡◌, ◌≢◌, ℕ, List, map, ◌++◌, Option, Result, Ok, Err}
+use Rattle.std.specs.Prelude.{◌≡◌, ℕ, List, map, ◌++◌, Option, Result, Ok, Err}
 use Rattle.std.specs.declared.cmp.Ordering.{Ordering}
 use Rattle.std.specs.List.{AllByRecursion}
 use Rattle.serde_json.specs.Data.{Data}
@@ -7,7 +7,6 @@ use Rattle.litemap_store.specs.Last.{Last}
 use Rattle.litemap_json.specs.declared.item.ItemFault.{ItemFault}
 use Rattle.litemap_json.specs.Json.{pairs}
 use Rattle.litemap_json.specs.declared.fault.JsonFault.{JsonFault}
-use Rattle.litemap_json.specs.declared.fault.JsonFault.TheVariants.{Memory}
 
 -- a pair, as its trees
 abbrev pub pair_seen : {K V : Type 0} → (K → Data) → (V → Data) → K × V → Data × Data
@@ -24,11 +23,6 @@ module _ {K V : Type 0} (cmp : K → K → Ordering) (key : List ℕ → Option 
     pub spelled : List (K × V)
     pub spells : pairs key key_item json_item d ≡ Ok (seen key_json json spelled)
     pub last : Last cmp spelled L
-
--- r, as `see` sees it, is the value or the error that a is; or memory ran out
-abbrev pub Reads : {T S : Type 0} → (T → S) → Result S JsonFault → Result T JsonFault → Type 0
-Reads see a (Ok x) = a ≡ Ok (see x)
-Reads see a (Err e) = e ≢ Memory → a ≡ Err e
 
 -- what is read from the trees of a pair is that pair
 abbrev pub ReadsBack : {K V : Type 0} → (Data → Result Data ItemFault) → (Data → Result Data ItemFault)

@@ -1,13 +1,14 @@
 -- What is written of a tree: token by token, and as a text.
-use Rattle.std.specs.Prelude.{◌≡◌, ◌++◌, ℕ, false, List, map, Option, Some, slice_get, String}
-use Rattle.std.specs.declared.alloc.Global.{Global}
+use Rattle.std.specs.Prelude.{◌≡◌, ◌++◌, ℕ, false, List, [], ◌∷◌, Option, Some, slice_get, decimal, string_bytes}
+use Rattle.std.specs.Fmt.{signed_decimal}
 use Rattle.json.specs.Json.{Json}
 use Rattle.json.specs.Lex.{tokens}
 use Rattle.json.specs.Print.{print}
 use Rattle.json.specs.Token.{Token}
 use Rattle.json.specs.Tree.{json_tokens}
-use Rattle.serde_json.specs.Data.{Data, Members}
-use Rattle.serde_json.specs.View.{members_of}
+use Rattle.serde_json.specs.Data.{Data, Members, no_members, member}
+use Rattle.litemap_json.specs.declared.name.Name.{Name}
+use Rattle.litemap_json.specs.declared.name.Name.TheVariants.{Unsigned, Signed, Text}
 use Rattle.serde_json.specs.Written.{blank, compact_text, has_float, IsInOrder, outline}
 
 -- The new tokens are those of the tree, in its order: its items and members, each once, and its whole numbers in decimal. Of
@@ -28,6 +29,13 @@ abbrev pub IsFirst : {K V : Type 0} → (K → Option (List ℕ)) → (List ℕ 
 IsFirst {K} text key key_json L name item =
     (k : K) × (Some (k, item) ≡ slice_get L 0) × (text k ≡ Some name) × (key name ≡ Some (key_json k))
 
+-- for private clauses: the bytes of a name
+abbrev pub name_bytes : Name → List ℕ
+name_bytes (Unsigned n) = decimal n
+name_bytes (Signed z) = signed_decimal z
+name_bytes (Text s) = string_bytes s
+
 -- for private clauses: the members of items that have names
-abbrev pub named : {V : Type 0} → (V → Data) → List (String Global × V) → Members
-named json L = members_of (map (λ p. (p.0, json p.1)) L)
+abbrev pub named : {V : Type 0} → (V → Data) → List (Name × V) → Members
+named json [] = no_members
+named json (p ∷ L) = member (name_bytes p.0) (json p.1) (named json L)

@@ -14,7 +14,7 @@ pub enum WriteFault {
     /// Memory ran out.
     #[error("there is not enough memory")]
     Memory,
-    /// The first key has a text, and this one, the first such, has none.
+    /// The first key has a string, and this one, the first such, has none.
     #[error("the key at place {place} (from 0) has no text, and the first key has one: give all keys a text, or none")]
     KeyWithoutText {
         /// The key's index in the map.
@@ -48,7 +48,7 @@ pub enum JsonFault {
         /// The element's index.
         place: usize,
     },
-    /// A member's name is no key's text.
+    /// A member's name is no key's string.
     #[error("the name of the member at place {place} (from 0, by the byte order of the names) is not a key's text")]
     KeyText {
         /// The member's index.

@@ -1,11 +1,13 @@
 //! What a type needs to be an item or a key of a map that is written as JSON.
 ghost use Rattle.std.specs.Prelude.{◌≡◌, ℕ, List, Option, Some, Result, Ok, IfOk, IfSome, OnOk, option_map, string_bytes};
 ghost use Rattle.std.specs.declared.cmp.Ordering.TheVariants.{Equal};
+ghost use Rattle.std.specs.Fmt.{signed_decimal};
 ghost use Rattle.serde_json.specs.Data.{Data};
 ghost use Rattle.serde_json.specs.View.{view};
-ghost use Rattle.litemap_json.specs.Item.{Answers};
+ghost use Rattle.litemap_json.specs.Item.{Reads};
 ghost use Rattle.litemap_json.specs.Written.{WritesTree};
 ghost use Rattle.litemap_json.specs.declared.item.ItemFault.{ItemFault};
+ghost use Rattle.litemap_json.specs.declared.item.ItemFault.TheVariants.{Memory};
 
 use crate::written::write_value;
 use json::Writer;
@@ -47,7 +49,7 @@ pub trait JsonItem {
 
     /// Returns the value that a JSON value spells. `Memory` may come in place of any result.
     fn from_value(alloc: Global, value: &Value) -> Result<Self, ItemFault>
-        ensures { Answers json (item (view value.now)) result };
+        ensures { Reads Memory json (item (view value.now)) result };
 
     /// Appends the value to what a writer has, as the text of what `to_value` makes. A type may have a body of its own that
     /// does without that. Else it is made, written and dropped.
@@ -68,25 +70,25 @@ pub trait JsonItem {
     }
 }
 
-/// A type whose values are written as the keys of a map: as the names of an object's members if they have texts, else as JSON
+/// A type whose values are written as the keys of a map: as the names of an object's members if they have strings, else as JSON
 /// values.
 ///
-/// A contract sees a key as its text, `text k`, and the key that a text spells as that key's tree, `key s`.
+/// A contract sees a key as the bytes of its string, `text k`, and the key that a string spells as that key's tree, `key s`.
 pub trait JsonKey: JsonItem + Ord {
-    /// The text that stands for a key as a member's name, if it has one.
+    /// The string that stands for a key as a member's name, if it has one.
     ghost text: { Self → Option (List ℕ) };
 
-    /// The tree of the key that has this text, if there is one.
+    /// The tree of the key that has this string, if there is one.
     ghost key: { List ℕ → Option Data };
 
-    /// Returns the key's text, which reads as the same key, or `None` if it has none. It fails if memory runs out.
+    /// Returns the key's string, which reads as the same key, or `None` if it has none. It fails if memory runs out.
     fn key_text(&self, alloc: Global) -> Result<Option<String>, AllocError>
         ensures text { IfOk result (λ name. option_map string_bytes name ≡ text self.now) }
         ensures reads_back { OnOk result (IfSome (text self.now)
             (λ name. key name ≡ Some (Self.json self.now))) };
 
-    /// Returns the key that has this text, or `None` if no key has it. A key has one text, so another spelling is no key's. It
-    /// fails if memory runs out.
+    /// Returns the key that has this string, or `None` if no key has it. A key has one string, so another spelling is no key's.
+    /// It fails if memory runs out.
     ///
     /// ```rust
     /// let seven = u32::from_key_text(alloc, "7")?;
@@ -96,6 +98,14 @@ pub trait JsonKey: JsonItem + Ord {
     fn from_key_text(alloc: Global, name: &str) -> Result<Option<Self>, AllocError>
         ensures key { IfOk result (λ found. option_map Self.json found ≡ key name.now) }
         ensures one_spelling { IfOk result (λ found. IfSome found (λ k. text k ≡ Some name.now)) };
+
+    /// Returns the integer whose decimal digits are the key's string, if the type knows of one. `write_json` compares and writes
+    /// the names of such keys without strings. A type that says nothing of it has `None` here.
+    fn key_number(&self) -> Option<i128>
+        ensures { IfSome result (λ number. text self.now ≡ Some (signed_decimal number)) }
+    {
+        None
+    }
 
     /// Keys with one tree are equal.
     ghost one_tree: { (x y : Self) → Self.json x ≡ Self.json y → Self.cmp x y ≡ Equal };

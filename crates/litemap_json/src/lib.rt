@@ -2,9 +2,11 @@
 //! is own: the Rust crate's maps go through serde.
 #![tactic(auto)]
 
+mod decimal;
 mod fault;
 mod item;
 pub mod laws;
+mod name;
 mod named;
 mod pairs;
 mod read;

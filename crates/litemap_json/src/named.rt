@@ -7,6 +7,7 @@ ghost use Rattle.litemap_json.specs.declared.fault.WriteFault.TheVariants.{Memor
 
 use crate::fault::WriteFault;
 use crate::item::{JsonItem, JsonKey};
+use crate::name::Name;
 use crate::pairs::{pair_at, push_pair};
 use litemap::store::Store;
 use litemap::{LiteMap, VecMap};
@@ -16,7 +17,7 @@ use std::alloc::Global;
 pub(crate) fn by_name<'m, K: JsonKey, V: JsonItem, S: Store<K, V>>(
     alloc: Global,
     map: &'m LiteMap<K, V, S>,
-) -> Result<VecMap<String, &'m V>, WriteFault>
+) -> Result<VecMap<Name, &'m V>, WriteFault>
     ensures named { IfOk result (λ items. object_with K.text K.json V.json 0 no_members map.now.pairs
         ≡ Ok (object (named (λ item. V.json item.now) items.pairs))) }
     ensures refused { IfErr result
@@ -25,7 +26,7 @@ pub(crate) fn by_name<'m, K: JsonKey, V: JsonItem, S: Store<K, V>>(
     let mut items = Vec::with_capacity(alloc, map.len())?;
     for place in 0..map.len() {
         let (key, item) = pair_at(map, place);
-        let Some(name) = key.key_text(alloc)? else {
+        let Some(name) = Name::of(alloc, key)? else {
             return Err(WriteFault::KeyWithoutText { place });
         };
         push_pair(&mut items, (name, item))?;

@@ -1,9 +1,9 @@
 //! A JSON value as a map.
 ghost use Rattle.std.specs.Prelude.{◌≡◌, ◌≢◌, Err, IfErr, IfOk, string_bytes};
 ghost use Rattle.serde_json.specs.View.{items_view, members_view, view};
-ghost use Rattle.litemap_json.specs.Item.{two_of};
+ghost use Rattle.litemap_json.specs.Item.{Reads, two_of};
 ghost use Rattle.litemap_json.specs.Json.{member_at, member_pairs, pairs, row_at, row_pairs};
-ghost use Rattle.litemap_json.specs.Reading.{Reads, ReadsAs, pair_seen, seen};
+ghost use Rattle.litemap_json.specs.Reading.{ReadsAs, pair_seen, seen};
 ghost use Rattle.litemap_json.specs.declared.fault.JsonFault.TheVariants as reading;
 ghost use Rattle.litemap_json.specs.declared.item.ItemFault.TheVariants as of_item;
 
@@ -15,17 +15,17 @@ use litemap::store::StoreBulkMut;
 use serde_json::{Map, Value};
 use std::alloc::Global;
 
-/// Reads the map that a JSON value spells, and returns it. The value is an object, whose names have to be texts of keys, or an
-/// array, whose elements have to be arrays of exactly a key and an item. Of equal keys the pair that comes last in the value stays,
-/// with its own key, and the others are dropped. The Rust crate has serde's `Deserialize` here.
+/// Reads the map that a JSON value spells, and returns it. The value is an object, whose names have to be strings of keys, or an
+/// array, whose elements have to be arrays of exactly a key and an item. Of equal keys the pair that comes last in the value
+/// stays, with its own key, and the others are dropped. The Rust crate has serde's `Deserialize` here.
 ///
 /// All pairs are gathered before a map is made, and moved into it by `from_vec`: if the keys ascend, that is one
 /// comparison for each, else a sort.
 ///
 /// # Errors
 ///
-/// A value that is no object and no array is `NotAMap`. Else the error is that of the first index that spells no pair. If memory runs out, it is `Memory`, which may come in place of an
-/// error at the same or a later index.
+/// A value that is no object and no array is `NotAMap`. Else the error is that of the first index that spells no pair. If memory
+/// runs out, it is `Memory`, which may come in place of an error at the same or a later index.
 ///
 /// ```rust
 /// let value = Value::from_str(alloc, r#"{"10":9,"3":8}"#)?;
@@ -53,7 +53,7 @@ fn pairs_of<K: JsonKey + Drop, V: JsonItem + Drop>(
     alloc: Global,
     value: &Value,
 ) -> Result<Vec<(K, V)>, JsonFault>
-    ensures { Reads (λ found. seen K.json V.json found.items)
+    ensures { Reads reading.Memory (λ found. seen K.json V.json found.items)
         (pairs K.key K.item V.item (view value.now)) result }
 {
     if let Some(list) = value.as_array() {
@@ -69,7 +69,7 @@ fn read_rows<K: JsonKey + Drop, V: JsonItem + Drop>(
     alloc: Global,
     list: &Vec<Value>,
 ) -> Result<Vec<(K, V)>, JsonFault>
-    ensures { Reads (λ found. seen K.json V.json found.items)
+    ensures { Reads reading.Memory (λ found. seen K.json V.json found.items)
         (row_pairs K.key K.item V.item 0 (items_view list.now.items)) result }
 {
     let mut found = Vec::new(alloc);
@@ -85,7 +85,7 @@ fn read_row<K: JsonKey + Drop, V: JsonItem + Drop>(
     place: usize,
     row: &Value,
 ) -> Result<(K, V), JsonFault>
-    ensures { Reads (pair_seen K.json V.json)
+    ensures { Reads reading.Memory (pair_seen K.json V.json)
         (row_at K.key K.item V.item place (two_of (view row.now))) result }
 {
     let Some((first, second)) = two_items(row) else {
@@ -123,7 +123,7 @@ fn read_members<K: JsonKey + Drop, V: JsonItem + Drop>(
     alloc: Global,
     members: &Map<String, Value>,
 ) -> Result<Vec<(K, V)>, JsonFault>
-    ensures { Reads (λ found. seen K.json V.json found.items)
+    ensures { Reads reading.Memory (λ found. seen K.json V.json found.items)
         (member_pairs K.key K.item V.item 0 (members_view members.now.entries)) result }
 {
     let mut found = Vec::new(alloc);
@@ -144,7 +144,7 @@ fn read_member<K: JsonKey + Drop, V: JsonItem + Drop>(
     name: &String,
     member: &Value,
 ) -> Result<(K, V), JsonFault>
-    ensures { Reads (pair_seen K.json V.json)
+    ensures { Reads reading.Memory (pair_seen K.json V.json)
         (member_at K.key K.item V.item place (K.key (string_bytes name.now)) (view member.now)) result }
 {
     let Some(key) = K::from_key_text(alloc, name.as_str())? else {

@@ -2,7 +2,7 @@
 ghost use Rattle.std.specs.Prelude.{◌≡◌, ◌≢◌, Some, Ok, Err, IfOk, IfSome, IsOk, OnOk, option_map, string_bytes};
 ghost use Rattle.serde_json.specs.Data.{boolean, string};
 ghost use Rattle.serde_json.specs.View.{view};
-ghost use Rattle.litemap_json.specs.Item.{Answers, bool_item, bool_key, bool_text, text_item};
+ghost use Rattle.litemap_json.specs.Item.{Reads, bool_item, bool_key, bool_text, text_item};
 ghost use Rattle.litemap_json.specs.OneTree.{bool_one_tree, text_one_tree};
 ghost use Rattle.litemap_json.specs.declared.item.ItemFault.TheVariants.{Memory};
 
@@ -26,7 +26,7 @@ impl JsonItem for bool {
     }
 
     fn from_value(_alloc: Global, value: &Value) -> Result<bool, ItemFault>
-        ensures answers { Answers boolean (bool_item (view value.now)) result }
+        ensures answers { Reads Memory boolean (bool_item (view value.now)) result }
         ensures no_memory { result ≢ Err Memory }
     {
         value.as_bool().ok_or(ItemFault::Shape)

@@ -8,13 +8,15 @@ ghost use Rattle.json.specs.Print.{print};
 ghost use Rattle.json.specs.Token.{key as key_token};
 ghost use Rattle.serde_json.specs.Data.{Data, array, no_members, object};
 ghost use Rattle.litemap_json.specs.Json.{object_with, row, rows, tree};
-ghost use Rattle.litemap_json.specs.Written.{IsTextOf, WritesTree, named};
+ghost use Rattle.litemap_json.specs.Written.{IsTextOf, WritesTree, name_bytes, named};
 ghost use Rattle.litemap_json.specs.declared.fault.WriteFault.TheVariants.{Memory};
 
 use crate::fault::WriteFault;
 use crate::item::{JsonItem, JsonKey};
+use crate::name::Name;
 use crate::named::by_name;
 use crate::pairs::pair_at;
+use itoa::Buffer;
 use json::Writer;
 use litemap::store::Store;
 use litemap::{LiteMap, VecMap};
@@ -24,10 +26,11 @@ use std::alloc::{AllocError, Global};
 /// errors, but that value isn't made. The Rust crate has serde's `Serialize` here, whose members stand in the order of the
 /// keys.
 ///
-/// It is written pair by pair while the keys' texts ascend in their byte order, as strings do, and unsigned numbers with
-/// equally many digits. If one doesn't ascend, as `"10"` after `"2"`, the members' order is not that of the keys. What was
-/// written is dropped then, and the texts of all keys are made and sorted. No keys are compared, but each pair's name with the
-/// one before; sorting the names takes O(n log n) comparisons. `Memory` may come in place of any result.
+/// It is written pair by pair while the keys' strings ascend in their byte order, as keys of type `String` do, and unsigned
+/// integers with equally many digits. If one doesn't ascend, as `"10"` after `"2"`, the members' order is not that of the keys.
+/// What was written is dropped then, and the names of all keys are gathered and sorted. No keys are compared, but each pair's
+/// name with the one before; sorting the names takes O(n log n) comparisons. The name of a key with a `key_number` is compared
+/// and written with no string. `Memory` may come in place of any result.
 ///
 /// ```rust
 /// // hours: 1 8, 3 10
@@ -44,13 +47,15 @@ pub fn write_json<K: JsonKey, V: JsonItem, S: Store<K, V>>(
     let Some((first, _)) = map.first() else {
         return Ok(array_text(alloc, map)?);
     };
-    if first.key_text(alloc)?.is_none() {
+    if Name::of(alloc, first)?.is_none() {
         return Ok(array_text(alloc, map)?);
     }
-    match object_text(alloc, map)? {
-        Some(text) => Ok(text),
-        None => Ok(named_text(alloc, &by_name(alloc, map)?)?),
+    if first.key_number().is_none() {
+        if let Some(text) = object_text(alloc, map)? {
+            return Ok(text);
+        }
     }
+    Ok(named_text(alloc, &by_name(alloc, map)?)?)
 }
 
 fn array_text<K: JsonKey, V: JsonItem, S: Store<K, V>>(
@@ -59,7 +64,7 @@ fn array_text<K: JsonKey, V: JsonItem, S: Store<K, V>>(
 ) -> Result<String, AllocError>
     ensures { IfOk result (λ text. IsTextOf (array (rows K.text K.json V.json map.now.pairs)) (string_bytes text)) }
 {
-    let mut out = Writer::new(Vec::new(alloc));
+    let mut out = writer(alloc, map.len())?;
     out.begin_array()?;
     for place in 0..map.len() {
         let (key, item) = pair_at(map, place);
@@ -84,7 +89,7 @@ fn write_row<K: JsonKey, V: JsonItem>(
     out.end_array()
 }
 
-// The text of the object of the pairs, or none if a key's text does not ascend.
+// Returns the text of the object of the pairs, or none if a key's name does not ascend.
 fn object_text<K: JsonKey, V: JsonItem, S: Store<K, V>>(
     alloc: Global,
     map: &LiteMap<K, V, S>,
@@ -95,12 +100,12 @@ fn object_text<K: JsonKey, V: JsonItem, S: Store<K, V>>(
     ensures refused { IfErr result
         (λ fault. fault ≢ Memory → object_with K.text K.json V.json 0 no_members map.now.pairs ≡ Err fault) }
 {
-    let mut out = Writer::new(Vec::new(alloc));
+    let mut out = writer(alloc, map.len())?;
     out.begin_object()?;
-    let mut last = String::new(alloc);
+    let mut last = Name::Signed(0);
     for place in 0..map.len() {
         let (key, item) = pair_at(map, place);
-        let Some(name) = key.key_text(alloc)? else {
+        let Some(name) = Name::of(alloc, key)? else {
             return Err(WriteFault::KeyWithoutText { place });
         };
         if !rises(place, &last, &name) {
@@ -114,11 +119,11 @@ fn object_text<K: JsonKey, V: JsonItem, S: Store<K, V>>(
 }
 
 // Returns the text of the object of items by their keys' names.
-fn named_text<V: JsonItem>(alloc: Global, items: &VecMap<String, &V>) -> Result<String, AllocError>
+fn named_text<V: JsonItem>(alloc: Global, items: &VecMap<Name, &V>) -> Result<String, AllocError>
     ensures { IfOk result
         (λ text. IsTextOf (object (named (λ item. V.json item.now) items.now.pairs)) (string_bytes text)) }
 {
-    let mut out = Writer::new(Vec::new(alloc));
+    let mut out = writer(alloc, items.len())?;
     out.begin_object()?;
     for place in 0..items.len() {
         let (name, item) = pair_at(items, place);
@@ -130,23 +135,30 @@ fn named_text<V: JsonItem>(alloc: Global, items: &VecMap<String, &V>) -> Result<
 
 fn write_member<V: JsonItem>(
     alloc: Global,
-    name: &String,
+    name: &Name,
     item: &V,
     out: &mut Writer,
 ) -> Result<(), AllocError>
     ensures tree { OnOk result (WritesTree (V.json item.now)
-        (out.old.tokens ++ key_token (string_bytes name.now) ∷ []) out.new.tokens) }
+        (out.old.tokens ++ key_token (name_bytes name.now) ∷ []) out.new.tokens) }
     ensures before { out.new.before ≡ out.old.before }
 {
-    out.key(name.as_str())?;
+    out.key(name.as_str(&mut Buffer::new()))?;
     item.write_to(alloc, out)
 }
 
 // Whether the name at an index is above the one before; the first has none before it.
-fn rises(place: usize, last: &String, name: &String) -> bool
-    ensures { result ≡ true → 0 < place → slice_cmp nat_cmp (string_bytes last.now) (string_bytes name.now) ≡ Less }
+fn rises(place: usize, last: &Name, name: &Name) -> bool
+    ensures { result ≡ true → 0 < place → slice_cmp nat_cmp (name_bytes last.now) (name_bytes name.now) ≡ Less }
 {
     place == 0 || last < name
+}
+
+// Returns a writer with the memory that so many short pairs take.
+fn writer(alloc: Global, pairs: usize) -> Result<Writer, AllocError>
+    ensures { IfOk result (λ out. (out.before ≡ []) × (out.tokens ≡ [])) }
+{
+    Ok(Writer::new(Vec::with_capacity(alloc, pairs.saturating_mul(8))?))
 }
 
 // Returns what was written, as a string.

@@ -30,8 +30,8 @@ impl JsonFault {
     /// ```rust
     /// let value = Value::from_str(alloc, r#"{"1":8,"3":"noon"}"#)?;
     /// let read: Result<Hours, JsonFault> = from_json(alloc, &value);
-    /// let Err(fault) = read else { return Ok(false) };
-    /// let told = format!(in alloc; "{}", fault.told_in::<u32, u8>(&value))?;
+    /// let Err(error) = read else { return Ok(false) };
+    /// let told = format!(in alloc; "{}", error.told_in::<u32, u8>(&value))?;
     /// Ok(told.as_str() == r#""3": a whole number of 8 bits is wanted, and a text stands there"#)
     /// ```
     pub fn told_in<'a, K: JsonItem, V: JsonItem>(&'a self, value: &'a Value) -> Told<'a> {

@@ -4,14 +4,16 @@ ghost use Rattle.std.specs.Prelude.{refl, string_bytes};
 ghost use Rattle.std.specs.Fmt.{signed_decimal};
 ghost use Rattle.std.specs.declared.cmp.Ordering.TheVariants.{Equal};
 ghost use Rattle.serde_json.specs.View.{view};
-ghost use Rattle.litemap_json.specs.Item.{Answers, kept, signed_fits, unsigned_fits, whole_item, whole_json, whole_key};
+ghost use Rattle.litemap_json.specs.Item.{Reads, kept, signed_fits, unsigned_fits, whole_item, whole_json, whole_key};
 ghost use Rattle.litemap_json.specs.Item.{whole_of, whole_of_text};
 ghost use Rattle.litemap_json.specs.OneTree.{signed_one_tree, unsigned_one_tree};
 ghost use Rattle.litemap_json.specs.Widths.{IsHeld, signed_is_held, unsigned_is_held};
 ghost use Rattle.litemap_json.specs.declared.item.ItemFault.TheVariants.{Memory};
 
 use crate::item::{ItemFault, JsonItem, JsonKey};
+use crate::written::write_value;
 use itoa::Buffer;
+use json::Writer;
 use serde_json::{Number, Value};
 use std::alloc::{AllocError, Global};
 
@@ -60,10 +62,18 @@ impl<T: Whole> JsonItem for T {
     }
 
     fn from_value(_alloc: Global, value: &Value) -> Result<T, ItemFault>
-        ensures answers { Answers (λ x. whole_json (T.number x)) (whole_item T.fits (view value.now)) result }
+        ensures answers { Reads Memory (λ x. whole_json (T.number x)) (whole_item T.fits (view value.now)) result }
         ensures no_memory { result ≢ Err Memory }
     {
         T::narrow(whole_number(value)?).ok_or(ItemFault::Range)
+    }
+
+    fn write_to(&self, alloc: Global, out: &mut Writer) -> Result<(), AllocError> {
+        if let Ok(number) = u64::try_from(self.wide()) {
+            return out.u64(number);
+        }
+        let value = self.to_value(alloc)?;
+        write_value(alloc, &value, out)
     }
 
     fn wanted() -> &'static str {
@@ -91,6 +101,10 @@ impl<T: Whole> JsonKey for T {
             return Ok(None);
         };
         Ok(T::narrow(number))
+    }
+
+    fn key_number(&self) -> Option<i128> {
+        Some(self.wide())
     }
 
     ghost one_tree = { T.one_number };
@@ -265,7 +279,7 @@ fn whole_number(value: &Value) -> Result<i128, ItemFault>
     number.as_i128().ok_or(ItemFault::Float)
 }
 
-// The decimal text of a whole number. One of 64 bits is printed as such, which takes less time.
+// Returns the decimal digits of an integer. One of 64 bits is printed as such, which takes less time.
 fn decimal_text(alloc: Global, number: i128) -> Result<String, AllocError>
     ensures { IfOk result (λ text. string_bytes text ≡ signed_decimal number) }
 {
@@ -275,7 +289,7 @@ fn decimal_text(alloc: Global, number: i128) -> Result<String, AllocError>
     }
 }
 
-// The whole number that is printed as this text: no plus sign, no leading zeros, `-` only before a negative number.
+// Returns the integer that prints as this string: no plus sign, no leading zeros, `-` only before a negative one.
 fn printed(text: &str) -> Option<i128>
     ensures { result ≡ kept (signed_fits 127) (whole_of_text text.now) }
 {

@@ -17,7 +17,7 @@ use litemap::store::Store;
 use serde_json::{Map, Value};
 use std::alloc::{AllocError, Global};
 
-/// Makes a JSON value of a map, and returns it. The first key decides: if it has a text, it is an object from the keys' texts
+/// Makes a JSON value of a map, and returns it. The first key decides: if it has a string, it is an object from the keys' strings
 /// to the items; if it has none, an array of `[key, item]` arrays in the order of the keys. The empty map is the empty array.
 /// The Rust crate has serde's `Serialize` here.
 ///
@@ -26,7 +26,7 @@ use std::alloc::{AllocError, Global};
 ///
 /// # Errors
 ///
-/// In an object a later key without a text is an error, `KeyWithoutText`, with its index. `Memory` may come in place of any
+/// In an object a later key with no string is an error, `KeyWithoutText`, with its index. `Memory` may come in place of any
 /// result.
 pub fn to_json<K: JsonKey, V: JsonItem, S: Store<K, V>>(
     alloc: Global,

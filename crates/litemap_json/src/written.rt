@@ -36,7 +36,7 @@ pub fn write_value(alloc: Global, value: &Value, out: &mut Writer) -> Result<(),
     write_tokens(alloc, text.as_str(), out)
 }
 
-// Writes a number below zero; its text is no float's.
+// Writes an integer below zero, which prints as no float.
 fn write_signed(number: i64, out: &mut Writer) -> Result<(), AllocError>
     ensures token { OnOk result (out.new.tokens ≡ out.old.tokens ++ number_token (signed_decimal number) ∷ []) }
     ensures kept { unless_float (signed_decimal number) ≡ signed_decimal number }

@@ -1,4 +1,5 @@
-use Rattle.std.proofs.Common.{◌≡◌, arith, ◌∙◌, option_map, Some, string_bytes, sym, ap, refl}
+use Rattle.std.proofs.Common.{◌≡◌, arith, ◌∙◌, option_map, Some, sym, ap, refl}
+use Rattle.litemap_json.specs.Written.{name_bytes}
 use Rattle.litemap_json.proofs.ByPlace.{at_place, made_stop}
 use Rattle.litemap_json.proofs.NamedItems.{name_end, name_more, name_none}
 use Rattle.litemap_json.proofs.named.by_name.Goals as goal
@@ -9,14 +10,14 @@ loop-place-init g c =
 
 pub returns-in_default-clause-refused : goal.returns-in_default-clause-refused
 returns-in_default-clause-refused g c =
-    λ _. made_stop g.K.JsonKey.text g.K.JsonItem.json g.V.JsonItem.json c.args.map.now.pairs c.loop-place.place _ _ _ _ c.pair_at.ensures c.in_ok-name.ensures.text c.in_default.is c.loop-place.invariant.2
+    λ _. made_stop g.K.JsonKey.text g.K.JsonItem.json g.V.JsonItem.json name_bytes c.args.map.now.pairs c.loop-place.place _ _ _ _ c.pair_at.ensures c.in_ok-name.ensures c.in_default.is c.loop-place.invariant.2
 
 pub loop-place-preserved : goal.loop-place-preserved
 loop-place-preserved g c =
     let L = c.args.map.now.pairs in
     let x : g.row.K.Denot × g.row.V.Denot = (c.pair_at.result.0.now, c.pair_at.result.1.now) in
     let found = at_place L c.loop-place.place x c.pair_at.ensures in
-    let named : g.K.JsonKey.text x.0 ≡ Some (string_bytes c.in-Some.name) = sym c.in_ok-name.ensures.text ∙ ap (option_map string_bytes) c.in-Some.is in
+    let named : g.K.JsonKey.text x.0 ≡ Some (name_bytes c.in-Some.name) = sym c.in_ok-name.ensures ∙ ap (option_map name_bytes) c.in-Some.is in
     rw c.in_ok-push_pair.ensures
     (name_more (λ r. g.V.JsonItem.json r.now) g.K.JsonKey.text g.K.JsonItem.json g.V.JsonItem.json L c.loop-place.place x (c.in-Some.name, c.pair_at.result.1) c.loop-place.items.items
     found.0 found.1 named refl c.loop-place.invariant)

@@ -7,7 +7,7 @@ use Rattle.litemap_json.proofs.write.object_of.Goals as goal
 
 pub returns-in_default-clause-refused : goal.returns-in_default-clause-refused
 returns-in_default-clause-refused g c =
-    λ _. made_stop g.K.JsonKey.text g.K.JsonItem.json g.V.JsonItem.json c.args.map.now.pairs c.loop-place.place _ _ _ _ c.pair_at.ensures c.in_ok-name.ensures.text c.in_default.is c.loop-place.invariant.made
+    λ _. made_stop g.K.JsonKey.text g.K.JsonItem.json g.V.JsonItem.json string_bytes c.args.map.now.pairs c.loop-place.place _ _ _ _ c.pair_at.ensures c.in_ok-name.ensures.text c.in_default.is c.loop-place.invariant.made
 
 pub loop-place-preserved : goal.loop-place-preserved
 loop-place-preserved g c =
