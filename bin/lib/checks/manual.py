@@ -106,8 +106,6 @@ HEAD = """A word that isn't explained below a contract is explained at the end, 
 groups](../API.md#words-of-many-groups) or the [words of others](../API.md#words-of-others).
 
 """
-
-
 def source_link(text, place, page):
     """A link to the line where a word or a call is."""
     return f"[{text}]({'../' * page.count('/')}crates/{place.path}#L{place.line})"
@@ -166,9 +164,9 @@ def listed(title, words, page):
 
 
 def impls_text(group):
-    """The heads of the impls of others' traits in the sources of a group, each below its comment."""
-    for head, _, said in (it for source in sources_of(group) for it in IMPLS.get(source, ())):
-        yield from (*textwrap.wrap(said, 120, initial_indent="/// ", subsequent_indent="/// "), head)
+    """The heads of the impls of others' traits in the sources of a group, each below its comment, and what iterators give."""
+    for head, _, said, gives in (it for source in sources_of(group) for it in IMPLS.get(source, ())):
+        yield from (*textwrap.wrap(said, 120, initial_indent="/// ", subsequent_indent="/// "), head, *(f"    {it}" for it in gives))
 
 
 def page_text(group):
@@ -192,7 +190,7 @@ def index_text():
         text += f"\n### [{group}]({target})\n\n"
         rows = [(f"[{it.title}]({target}#{slug(it.title)})", it.sentence().replace("|", "\\|")) for it in entries]
         text += "| Call | What it does |\n|---|---|\n" * bool(rows) + "".join(f"| {call} | {said} |\n" for call, said in rows)
-        traits = dict.fromkeys(f"`{trait}`" for source in sources_of(group) for _, trait, _ in IMPLS.get(source, ()))
+        traits = dict.fromkeys(f"`{trait}`" for source in sources_of(group) for _, trait, *_ in IMPLS.get(source, ()))
         text += f"\nTraits of others: {', '.join(traits)}.\n" if traits else ""
     text = re.sub(r"\n{3,}", "\n\n", text)
     return f"{text}\n## Words of many groups\n\n" + "".join(told(it, INDEX) for it in OF_MANY) + END

@@ -93,12 +93,14 @@ def library_calls(library):
 
 
 def impls_of(text):
-    """The heads of the impls of others' traits in a source, each with the name of the trait and its comment."""
+    """The heads of the impls of others' traits in a source, each with the name of the trait, its comment, and what it says that
+    the calls of an iterator return."""
     for found in re.finditer(r"^(impl\b[^{]*?)\s*\{(\}|\n.*?^\})", text, re.MULTILINE | re.DOTALL):
         head = squeezed(found[1])
         trait = re.match(r"impl(?:<.*?>)? (?:\w+::)?(\w+)(?:<.*>)? for ", re.sub(r"^impl<(?:[^<>]|<[^<>]*>)*>", "impl", head))
         if trait and trait[1] not in OWN_TRAITS:
-            yield head, trait[1], without_examples(comment_above(text, found.start()))
+            gives = re.findall(r"ghost next\w*_gives = .*;", found[2])
+            yield head, trait[1], without_examples(comment_above(text, found.start())), gives
 
 
 RUST, SPECS, PROOFS = texts("*/src/**/*.rt"), texts("*/specs/**/*.antt"), texts("*/proofs/**/*.antt")
