@@ -1,5 +1,5 @@
 //! Maps looked up by what can stand for a key: strings and bytes that are borrowed, and keys.
-ghost use Rattle.std.specs.Prelude.{◌≡◌, ◌≢◌, ◌==◌, IsTrue, None, Some};
+ghost use Rattle.std.specs.Prelude.{◌≡◌, ◌≢◌, ◌==◌, IsTrue, None, OnOk, Some};
 ghost use Rattle.std.specs.Prelude.{false, if◌then◌else◌, is_some, string_bytes};
 ghost use Rattle.std.specs.Bool.{IsFalse};
 ghost use Rattle.std.specs.List.{before_first};
@@ -11,8 +11,10 @@ ghost use Rattle.litemap_store.specs.Pairs.{at, cut, value_at, write};
 ghost use Rattle.litemap_store.specs.Queries.{by_slice, by_text};
 ghost use Rattle.litemap.specs.ByBytes.{by_bytes};
 
+use crate::scores;
 use litemap::store::Store;
 use litemap::{LiteMap, Query};
+use std::alloc::{AllocError, Global};
 
 /// Numbers at strings that the map owns.
 pub type Numbers = LiteMap<String, u32, Vec<(String, u32)>>;
@@ -48,6 +50,19 @@ pub fn take_key(map: &mut Numbers, key: &String) -> Option<u32>
         → value_at string_cmp map.new.pairs other ≡ value_at string_cmp map.old.pairs other }
 {
     map.remove(key)
+}
+
+/// Sets the number at a key, by a copy of it. `set` speaks of strings, and this of keys.
+#[tactic(auto, using(litemap::proofs::Texts::key_is_text))]
+pub fn set_at_key(
+    map: &mut Numbers,
+    alloc: Global,
+    key: &String,
+    number: u32,
+) -> Result<(), AllocError>
+    ensures { OnOk result (value_at string_cmp map.new.pairs key.now ≡ Some number) }
+{
+    scores::set(map, String::from_str(alloc, key.as_str())?, number)
 }
 
 /// Moves the number at a name to another name, and returns whether there was one. No memory is needed.
@@ -150,13 +165,6 @@ pub fn number_of_borrowed<'k>(
     ensures { result ≡ value_at by_bytes map.now.pairs text.entry }
 {
     map.get(text).copied()
-}
-
-/// The value at a key, over every map.
-pub fn copied_at<K: Ord, V: Copy, S: Store<K, V>>(map: &LiteMap<K, V, S>, key: &K) -> Option<V>
-    ensures { result ≡ value_at K.cmp map.now.pairs key.now }
-{
-    map.get(key).copied()
 }
 
 /// Whether a query finds a pair, over every map and by any query.

@@ -1,5 +1,5 @@
 //! Lookups in maps of borrowed strings and in tables, and by what stands for a key.
-use crate::names::find_in_table;
+use crate::names::{find_in_table, route};
 use crate::people::{Person, kept_for};
 use crate::texts;
 use litemap::LiteMap;
@@ -14,6 +14,7 @@ pub(crate) fn show(rt: &impl Print, alloc: Global) -> anyhow::Result<()> {
     for name in ["February", "Febru", "January", "March"] {
         println!(rt; "{name}: {:?}", find_in_table(DAYS, name))?;
     }
+    println!(rt; "routes {:?} {:?}", route("/about"), route("/a"))?;
     let people = two_people(alloc)?;
     for number in 0..4 {
         println!(rt; "kept for {number}: {:?}", kept_for(&people, number))?;

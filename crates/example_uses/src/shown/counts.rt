@@ -1,16 +1,17 @@
 //! Words and names that are counted, and scores.
-use crate::counting::{Names, count_name, count_words, keep_single};
-use crate::reserved::insert_both;
+use crate::counting::{Names, count_name, count_words};
+use crate::reserved::{insert_both, insert_first};
 use crate::scores::{self, Scores};
-use litemap::LiteMap;
+use litemap::{LiteMap, VecMap};
 use std::alloc::{AllocError, Global};
 use std::io;
 
 pub(crate) fn show(rt: &impl Print, alloc: Global) -> anyhow::Result<()> {
     let words = ["the", "map", "of", "the", "list", "of", "the", ""];
     println!(rt; "words {:?}", count_words(alloc, words.as_slice())?)?;
-    show_names(rt, &mut names(alloc)?)?;
+    show_names(rt, &names(alloc)?)?;
     show_scores(rt, &four_scores(alloc)?)?;
+    println!(rt; "in front {:?}", in_front(alloc)?)?;
     Ok(())
 }
 
@@ -24,10 +25,8 @@ fn names(alloc: Global) -> Result<Names, AllocError> {
     Ok(names)
 }
 
-fn show_names(rt: &impl Print, names: &mut Names) -> io::Result<()> {
-    println!(rt; "names {names:?}")?;
-    keep_single(names);
-    println!(rt; "single {names:?}")
+fn show_names(rt: &impl Print, names: &Names) -> io::Result<()> {
+    println!(rt; "names {names:?}")
 }
 
 // A name with its score.
@@ -51,9 +50,22 @@ fn set_many(scores: &mut Scores, alloc: Global) -> Result<(), AllocError> {
     scores::set_all(scores, alloc, more)
 }
 
+// Two scores that are put in together, of which one goes into another map.
 fn insert_two(scores: &mut Scores, alloc: Global) -> Result<(), AllocError> {
+    let mut others = LiteMap::new(alloc);
     let first = scored(alloc, "cy", 7)?;
-    insert_both(scores, first, scored(alloc, "bob", 8)?)
+    insert_both(scores, &mut others, first, scored(alloc, "bob", 8)?)?;
+    for (name, score) in others {
+        scores.insert(name, score)?;
+    }
+    Ok(())
+}
+
+// A score that comes in front of all others, of which there are none.
+fn in_front(alloc: Global) -> Result<VecMap<u32, u32>, AllocError> {
+    let mut map = LiteMap::new(alloc);
+    insert_first(&mut map, 2, 20)?;
+    Ok(map)
 }
 
 fn show_scores(rt: &impl Print, scores: &Scores) -> io::Result<()> {

@@ -31,11 +31,9 @@ fn show_name(rt: &impl Print, alloc: Global, name: &str) -> anyhow::Result<()> {
     let key = name.to_string(alloc)?;
     let is_there = [texts::has_name(&map, name), texts::has(&map, name)];
     let is_set = texts::set_number(&mut map, name, 7);
-    let found = texts::copied_at(&map, &key);
     let taken = texts::take_key(&mut map, &key);
-    println!(rt;
-        "{name:?}: there {is_there:?}, set {is_set}, {found:?}, taken {taken:?}, left {map:?}"
-    )?;
+    texts::set_at_key(&mut map, alloc, &key, 8)?;
+    println!(rt; "{name:?}: there {is_there:?}, set {is_set}, taken {taken:?}, left {map:?}")?;
     Ok(())
 }
 

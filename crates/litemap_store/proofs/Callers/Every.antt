@@ -2,7 +2,7 @@
 -- proofs of callers, who name `every_pair` in an attribute.
 --     get_or-put, get_or-cut, get_or-write, get_or-filter      a pair after a put, a cut, a write, and of a part, as of a range
 --     at_stands      the pair that a lookup finds;  All-merged      what holds of all values of two maps, of their merge
---     put-below_all, put-past      a put in front of all keys, and past the first
+--     put_ends      a put in front of all keys (`put-below_all`), and past the first (`put-past`), for an attribute
 use Rattle.std.proofs.Common.{◌≡◌, ◌≢◌, ◌⊎◌, All, ◌<◌, ℕ, zero, suc, Bool, List, [], ◌∷◌, ◌++◌, get_or, length, Some, Option, None, option_map, filter, refl, sym, ap, ◌∙◌, subst, inl, inr, arith}
 use Rattle.std.proofs.lemmas.List.Elements.{All-from_recursion, recursion_from_All}
 use Rattle.std.specs.Cmp.{IsTotalOrder}
@@ -91,3 +91,5 @@ pub put-past : {K V : Type 0} (cmp : K → K → Ordering) (p : K × V) (L : Lis
 put-past cmp p L k v less = rw less refl
 
 pub ruleset every_pair = (get_or-put, get_or-cut, get_or-write, get_or-filter, at_stands)
+
+pub ruleset put_ends = (put-below_all, put-past)
