@@ -106,6 +106,8 @@ HEAD = """A word that isn't explained below a contract is explained at the end, 
 groups](../API.md#words-of-many-groups) or the [words of others](../API.md#words-of-others).
 
 """
+
+
 def source_link(text, place, page):
     """A link to the line where a word or a call is."""
     return f"[{text}]({'../' * page.count('/')}crates/{place.path}#L{place.line})"

@@ -13,11 +13,12 @@ pub type Date = (u16, u8, u8);
 /// What is on at dates.
 pub type Calendar = VecMap<Date, String>;
 
-/// A part of them.
-pub type Part<'m> = LiteMap<Date, String, SliceStore<'m, Date, String>>;
-
 /// The days of a month.
-pub fn month(calendar: &Calendar, year: u16, month: u8) -> Part<'_>
+pub fn month(
+    calendar: &Calendar,
+    year: u16,
+    month: u8,
+) -> LiteMap<Date, String, SliceStore<'_, Date, String>>
     requires { month < u8.MAX }
     ensures { result.pairs ≡ filter (λ p. (p.0.0 == year) && (p.0.1 == month)) calendar.entry.now.pairs }
 {

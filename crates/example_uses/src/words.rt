@@ -1,5 +1,5 @@
 //! Words that are borrowed: how often each comes, and which come most often.
-ghost use Rattle.std.specs.Prelude.{◌≡◌, ◌+◌, ◌<◌, IfOk, filter, find, map, nat_lt, option_map, take, OnErr, OnOk, Some, if◌then◌else◌, unwrap_or};
+ghost use Rattle.std.specs.Prelude.{◌≡◌, ◌+◌, ◌<◌, All, IfOk, filter, find, map, nat_lt, option_map, take, OnErr, OnOk, Some, if◌then◌else◌, unwrap_or};
 ghost use Rattle.std.specs.List.Sorted.{IsPermutation, IsSorted};
 ghost use Rattle.std.specs.Ordering.{is_eq};
 ghost use Rattle.litemap_store.specs.Pairs.{value_at};
@@ -23,6 +23,20 @@ pub fn count_word<'k>(counts: &mut Counts<'k>, word: &'k str) -> Result<(), Allo
     ensures refused { OnErr result (counts.new.pairs ≡ counts.old.pairs) }
 {
     put_count(counts, word)
+}
+
+/// Puts other counts over these. If no count is 0, none is then.
+pub fn overlay<'k>(
+    counts: &mut Counts<'k>,
+    alloc: Global,
+    other: Counts<'k>,
+) -> Result<(), AllocError>
+    requires counts { All (λ p. 0 < p.1) counts.old.pairs }
+    requires other { All (λ p. 0 < p.1) other.pairs }
+    ensures { OnOk result (All (λ p. 0 < p.1) counts.new.pairs) }
+{
+    counts.extend_from_litemap(alloc, other)?;
+    Ok(())
 }
 
 /// The words that came more often than this, with their counts.
@@ -56,22 +70,14 @@ pub fn first_over<'k>(counts: &Counts<'k>, bound: usize) -> Option<&'k str>
 
 /// A word with its count: the one that came more often is less, and of equal counts the lesser word.
 #[derive(Clone, Copy, PartialEq, Eq, PartialOrd, Ord)]
-pub struct Ranked<'k> {
-    /// How often it came.
-    pub count: Reverse<usize>,
-    /// The word.
-    pub word: &'k str,
-}
+pub struct Ranked<'k>(pub Reverse<usize>, pub &'k str);
 
 fn all_ranked<'k>(alloc: Global, counts: &Counts<'k>) -> Result<Vec<Ranked<'k>>, AllocError>
-    ensures { IfOk result (λ all. map (λ r. (r.word, r.count.0)) all.items ≡ counts.now.pairs) }
+    ensures { IfOk result (λ all. map (λ r. (r.1, r.0.0)) all.items ≡ counts.now.pairs) }
 {
     let mut all = Vec::new(alloc);
     for (word, count) in counts {
-        all.push(Ranked {
-            count: Reverse(*count),
-            word: *word,
-        })?;
+        all.push(Ranked(Reverse(*count), *word))?;
     }
     Ok(all)
 }
@@ -82,7 +88,7 @@ pub fn top<'k>(
     counts: &Counts<'k>,
     most: usize,
 ) -> Result<Vec<Ranked<'k>>, AllocError>
-    ensures { IfOk result (λ top. (all : _) × (ranked : _) × (map (λ r. (r.word, r.count.0)) all ≡ counts.now.pairs)
+    ensures { IfOk result (λ top. (all : _) × (ranked : _) × (map (λ r. (r.1, r.0.0)) all ≡ counts.now.pairs)
         × IsPermutation all ranked × IsSorted ⟦<Ranked<'k> as Ord>⟧.cmp ranked × (top.items ≡ take most ranked)) }
 {
     let mut all = all_ranked(alloc, counts)?;

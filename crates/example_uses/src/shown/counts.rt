@@ -2,7 +2,7 @@
 use crate::counting::{Names, count_name, count_words};
 use crate::reserved::{insert_both, insert_first};
 use crate::scores::{self, Scores};
-use litemap::{LiteMap, VecMap};
+use litemap::LiteMap;
 use std::alloc::{AllocError, Global};
 use std::io;
 
@@ -11,7 +11,6 @@ pub(crate) fn show(rt: &impl Print, alloc: Global) -> anyhow::Result<()> {
     println!(rt; "words {:?}", count_words(alloc, words.as_slice())?)?;
     show_names(rt, &names(alloc)?)?;
     show_scores(rt, &four_scores(alloc)?)?;
-    println!(rt; "in front {:?}", in_front(alloc)?)?;
     Ok(())
 }
 
@@ -50,22 +49,16 @@ fn set_many(scores: &mut Scores, alloc: Global) -> Result<(), AllocError> {
     scores::set_all(scores, alloc, more)
 }
 
-// Two scores that are put in together, of which one goes into another map.
+// Two scores that are put in together, of which one goes into another map; there one is in front already.
 fn insert_two(scores: &mut Scores, alloc: Global) -> Result<(), AllocError> {
     let mut others = LiteMap::new(alloc);
+    insert_first(&mut others, String::from_str(alloc, "bo")?, 6)?;
     let first = scored(alloc, "cy", 7)?;
     insert_both(scores, &mut others, first, scored(alloc, "bob", 8)?)?;
     for (name, score) in others {
         scores.insert(name, score)?;
     }
     Ok(())
-}
-
-// A score that comes in front of all others, of which there are none.
-fn in_front(alloc: Global) -> Result<VecMap<u32, u32>, AllocError> {
-    let mut map = LiteMap::new(alloc);
-    insert_first(&mut map, 2, 20)?;
-    Ok(map)
 }
 
 fn show_scores(rt: &impl Print, scores: &Scores) -> io::Result<()> {

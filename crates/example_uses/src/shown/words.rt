@@ -17,18 +17,19 @@ fn show_words(rt: &impl Print, alloc: Global) -> anyhow::Result<()> {
             words::count_word(&mut counts, word)?;
         }
     }
+    let mut none = Counts::new_vec(alloc);
+    words::overlay(&mut none, alloc, Counts::new_vec(alloc))?;
     let first = words::first_over(&counts, 1);
     println!(rt;
-        "over 1 {:?}, first {first:?}",
+        "{none:?}, over 1 {:?}, first {first:?}",
         words::words_over(alloc, &counts, 1)?
     )?;
     for ranked in words::top(alloc, &counts, 3)? {
-        println!(rt; "top {} {}", ranked.word, ranked.count.0)?;
+        println!(rt; "top {} {}", ranked.1, ranked.0.0)?;
     }
     Ok(())
 }
 
-// A multiset to which elements are added, from which they are removed, and of which the rare ones are dropped.
 fn show_bag(rt: &impl Print, alloc: Global) -> anyhow::Result<()> {
     let mut bag: Bag<u8, Vec<(u8, usize)>> = Bag::new(alloc);
     let mut all_added = true;

@@ -1,8 +1,8 @@
 -- Where each pair of a list comes from after a change of it: so what holds of all pairs (`All P L`) holds of all again. For the
--- proofs of callers, who name `every_pair` in an attribute.
---     get_or-put, get_or-cut, get_or-write, get_or-filter      a pair after a put, a cut, a write, and of a part, as of a range
---     at_stands      the pair that a lookup finds;  All-merged      what holds of all values of two maps, of their merge
---     put_ends      a put in front of all keys (`put-below_all`), and past the first (`put-past`), for an attribute
+-- proofs of callers, who name one of these in an attribute.
+--     every_pair      after a put, a cut and a write, and of a part, as of a range; and of the pair that a lookup finds
+--     All-merged      of the values after a merge: cited by name, since the lists that are merged stand in no goal
+--     put_ends      a put in front of all keys, and past the first
 use Rattle.std.proofs.Common.{◌≡◌, ◌≢◌, ◌⊎◌, All, ◌<◌, ℕ, zero, suc, Bool, List, [], ◌∷◌, ◌++◌, get_or, length, Some, Option, None, option_map, filter, refl, sym, ap, ◌∙◌, subst, inl, inr, arith}
 use Rattle.std.proofs.lemmas.List.Elements.{All-from_recursion, recursion_from_All}
 use Rattle.std.specs.Cmp.{IsTotalOrder}
@@ -66,7 +66,6 @@ module _ {K Q V : Type 0} (order : K → Q → Ordering) (L : List (K × V)) (q 
       by (Some p) e n = elim (in_between L _ _ _ _ n) [ inl f ↦ inl (p, e, sym f) | inr h ↦ inr (stands L d _ h) ]
 
 module _ {K V : Type 0} {cmp : K → K → Ordering} where
-  -- (the lists of a merge stand in no goal: this one is cited by name)
   pub All-merged : (P : V → Type 0) (A B M : List (K × V)) → Merge cmp A B M → All (λ p. P p.1) A → All (λ p. P p.1) B → All (λ p. P p.1) M
   All-merged P A B M merge a b = All-from_recursion (λ (p : K × V). P p.1) M (from_each (λ (p : K × V). P p.1) M (λ p i. elim ((merge.exactly p).0 i) [
     | inl h ↦ of A a p h.0
