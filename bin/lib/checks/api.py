@@ -119,6 +119,8 @@ def see_words(report):
         for scope, name, key in names_of(entry):
             report.see(not key or key in WORDS, f"{key}, a word of {entry.title}, is in no specs")
             used |= {it: entry.title for it in [key or other_word(scope, name)] if it and not key}
+    gives = " ".join(it for impls in IMPLS.values() for *_, said in impls for it in said)
+    used |= {it: "an iterator" for it in re.findall(r"\bnext\w*_gives\b|\b[A-Z][a-z]\w+", gives)}
     for name in sorted({*used} | told):
         report.see(name in told, f"{INDEX} says nothing of {name}, a word of {used.get(name)}")
         report.see(name in used, f"{INDEX} tells the word {name}, which no contract uses")

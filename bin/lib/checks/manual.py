@@ -166,9 +166,9 @@ def listed(title, words, page):
 
 
 def impls_text(group):
-    """The heads of the impls of others' traits in the sources of a group, each after its comment."""
-    for head, _, said in (it for source in sources_of(group) for it in IMPLS.get(source, ())):
-        yield from (*textwrap.wrap(said, 120, initial_indent="/// ", subsequent_indent="/// "), head)
+    """The heads of the impls of others' traits in the sources of a group, each after its comment, with what iterators return."""
+    for head, _, said, gives in (it for source in sources_of(group) for it in IMPLS.get(source, ())):
+        yield from (*textwrap.wrap(said, 120, initial_indent="/// ", subsequent_indent="/// "), head, *(f"    {it}" for it in gives))
 
 
 def page_text(group):
@@ -192,7 +192,7 @@ def index_text():
         text += f"\n### [{group}]({target})\n\n"
         rows = [(f"[{it.title}]({target}#{slug(it.title)})", it.sentence().replace("|", "\\|")) for it in entries]
         text += "| Call | What it does |\n|---|---|\n" * bool(rows) + "".join(f"| {call} | {said} |\n" for call, said in rows)
-        traits = dict.fromkeys(f"`{trait}`" for source in sources_of(group) for _, trait, _ in IMPLS.get(source, ()))
+        traits = dict.fromkeys(f"`{trait}`" for source in sources_of(group) for _, trait, *_ in IMPLS.get(source, ()))
         text += f"\nTraits of others: {', '.join(traits)}.\n" if traits else ""
     text = re.sub(r"\n{3,}", "\n\n", text)
     return f"{text}\n## Words of many groups\n\n" + "".join(told(it, INDEX) for it in OF_MANY) + END

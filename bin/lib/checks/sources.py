@@ -93,14 +93,16 @@ def library_calls(library):
 
 
 def impls_of(text):
-    """The heads of the impls of others' traits in a source for types that are public, each with the trait's name and its comment."""
+    """The heads of the impls of others' traits in a source for types that are public, each with the trait's name, its comment, and
+    what it says that the calls of an iterator return."""
     for found in re.finditer(r"^(impl\b[^{]*?)\s*\{(\}|\n.*?^\})", text, re.MULTILINE | re.DOTALL):
         head = squeezed(found[1])
         trait = re.match(r"impl(?:<.*?>)? (?:\w+::)?(\w+)(?:<.*>)? for ", re.sub(r"^impl<(?:[^<>]|<[^<>]*>)*>", "impl", head))
         subject = re.search(r" for (\w+)", head)
         hidden = subject and re.search(rf"^pub\(crate\) (?:enum|struct) {subject[1]}\b", text, re.MULTILINE)
         if trait and trait[1] not in OWN_TRAITS and not hidden:
-            yield head, trait[1], without_examples(comment_above(text, found.start()))
+            gives = re.findall(r"ghost next\w*_gives = .*;", found[2])
+            yield head, trait[1], without_examples(comment_above(text, found.start())), gives
 
 
 RUST, SPECS, PROOFS = texts("*/src/**/*.rt"), texts("*/specs/**/*.antt"), texts("*/proofs/**/*.antt")

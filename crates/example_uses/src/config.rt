@@ -71,16 +71,3 @@ pub fn overlay(
 {
     settings.extend_from_litemap(alloc, user)
 }
-
-/// Puts a user's settings over those that are there. A user's setting wins, and no other is lost.
-pub fn prefer(settings: &mut Settings, alloc: Global, user: Settings) -> Result<(), AllocError>
-    ensures user { OnOk result ((name value : _)
-        → value_at by_text user.pairs name ≡ Some value
-        → value_at by_text settings.new.pairs name ≡ Some value) }
-    ensures others { OnOk result ((name : _)
-        → value_at by_text user.pairs name ≡ None
-        → value_at by_text settings.new.pairs name ≡ value_at by_text settings.old.pairs name) }
-{
-    overlay(settings, alloc, user)?;
-    Ok(())
-}

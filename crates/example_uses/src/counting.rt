@@ -1,5 +1,5 @@
 //! How often each word occurs in a list.
-ghost use Rattle.std.specs.Prelude.{◌≡◌, ◌≢◌, ◌==◌, ◌+◌, ◌<◌, IfOk, OnOk, OnErr, Some, filter, if◌then◌else◌, string_bytes, unwrap_or};
+ghost use Rattle.std.specs.Prelude.{◌≡◌, ◌≢◌, ◌+◌, ◌<◌, IfOk, OnOk, OnErr, Some, if◌then◌else◌, string_bytes, unwrap_or};
 ghost use Rattle.std.specs.List.{count_by};
 ghost use Rattle.std.specs.Ordering.{is_eq};
 ghost use Rattle.litemap_store.specs.Pairs.{put, value_at};
@@ -25,7 +25,7 @@ pub fn count_word<K: Ord + Drop, S: StoreMut<K, usize>>(
 }
 
 // Counts a word once more. A word that is not there yet counts one.
-fn put_count<K: Ord + Drop, S: StoreMut<K, usize>>(
+pub(crate) fn put_count<K: Ord + Drop, S: StoreMut<K, usize>>(
     counts: &mut LiteMap<K, usize, S>,
     word: K,
 ) -> Result<(), AllocError>
@@ -69,11 +69,4 @@ pub fn count_name(names: &mut Names, name: String) -> Result<(), AllocError>
 {
     names.entry(name).and_modify(|n| *n += 1).or_insert(1)?;
     Ok(())
-}
-
-/// Keeps the names that came once.
-pub fn keep_single(names: &mut Names)
-    ensures { names.new.pairs ≡ filter (λ p. p.1 == 1) names.old.pairs }
-{
-    names.retain(|_, n| *n == 1);
 }

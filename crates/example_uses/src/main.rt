@@ -2,11 +2,12 @@
 //! `sums::add` on a few pairs (`shown`), and writes what it returns.
 #![tactic(auto)]
 
+pub mod bag;
 pub mod borrowed;
+pub mod calendar;
 pub mod config;
 pub mod counting;
 pub mod headers;
-pub mod log;
 pub mod made;
 pub mod message;
 pub mod moved;
@@ -21,6 +22,7 @@ mod shown;
 pub mod sums;
 pub mod texts;
 pub mod totals;
+pub mod words;
 
 fn main(rt: HostRuntime) -> anyhow::Result<()> {
     let alloc = rt.alloc();
@@ -30,5 +32,6 @@ fn main(rt: HostRuntime) -> anyhow::Result<()> {
     shown::headers::show(&rt, alloc)?;
     shown::settings::show(&rt, alloc)?;
     shown::counts::show(&rt, alloc)?;
-    shown::pairs::show(&rt, alloc)
+    shown::pairs::show(&rt, alloc)?;
+    shown::words::show(&rt, alloc)
 }

@@ -1,18 +1,22 @@
 //! Numbers as keys, and keys of a caller's own. What lookups find after a change follows from the lemmas that the attributes
 //! name, or from the laws that a function calls.
-ghost use Rattle.std.specs.Prelude.{◌≡◌, ◌≢◌, ◌+◌, ◌<◌, ◌≤◌, None, Ok, Some, IfErr, IfSome, IsTrue, OnErr, OnOk};
-ghost use Rattle.std.specs.Prelude.{is_some, length, slice_get};
+ghost use Rattle.std.specs.Prelude.{◌≡◌, ◌≢◌, ◌+◌, ◌-◌, ◌<◌, ◌≤◌, None, Ok, Some, IfErr, IfSome, IsTrue, OnErr, OnOk};
+ghost use Rattle.std.specs.Prelude.{is_some, length, option_map, slice_get};
 ghost use Rattle.std.specs.IoError.{error_kind};
+ghost use Rattle.std.specs.Map.Iter.{deref_pair};
 ghost use Rattle.std.specs.Ordering.{int_cmp, nat_cmp};
 ghost use Rattle.std.specs.declared.cmp.Ordering.TheVariants.{Equal};
 ghost use Rattle.std.specs.declared.io.ErrorKind.TheVariants.{OutOfMemory};
+ghost use Rattle.std.specs.declared.ops.Bound.TheVariants.{Included, Unbounded};
 ghost use Rattle.litemap_store.specs.Pairs.{at, index_of, place, put, value_at, value_in};
+ghost use Rattle.litemap.specs.Within.{within};
 
 use litemap::LiteMap;
 use litemap::store::StoreMut;
 use litemap_store::laws::{after_cut, after_put, after_write};
 use std::alloc::AllocError;
 use std::io;
+use std::ops::Bound;
 
 /// Ages by numbers of people.
 pub type Ages = LiteMap<u32, u8, Vec<(u32, u8)>>;
@@ -92,6 +96,23 @@ pub fn drop_below(ages: &mut Ages, id: u32) -> usize
     let before = ages.len();
     ages.retain(|number, _| *number >= id);
     before - ages.len()
+}
+
+/// The pair at a number, or at the next one below it.
+pub fn floor(ages: &Ages, id: u32) -> Option<(&u32, &u8)>
+    ensures { option_map deref_pair result ≡ slice_get (within nat_cmp ages.entry.now.pairs Unbounded (Included id))
+        (length (within nat_cmp ages.entry.now.pairs Unbounded (Included id)) - 1) }
+{
+    ages.iter_range(Bound::Unbounded, Bound::Included(&id))
+        .next_back()
+}
+
+/// The pair at a number, or at the next one above it.
+pub fn ceiling(ages: &Ages, id: u32) -> Option<(&u32, &u8)>
+    ensures { option_map deref_pair result ≡ slice_get (within nat_cmp ages.entry.now.pairs (Included id) Unbounded) 0 }
+{
+    ages.iter_range(Bound::Included(&id), Bound::Unbounded)
+        .next()
 }
 
 /// Sets a reading, which is then found. All others stay.

@@ -1,24 +1,40 @@
-//! Two pairs that are inserted together or not at all. All capacity is reserved before the first change: what follows can't
+//! Pairs of two maps that are inserted together or not at all. All capacity is reserved before the first change: what follows can't
 //! fail, and the proof says so.
-ghost use Rattle.std.specs.Prelude.{◌≡◌, OnErr, OnOk};
-ghost use Rattle.litemap_store.specs.Pairs.{put};
+ghost use Rattle.std.specs.Prelude.{◌≡◌, ◌∷◌, OnErr, OnOk};
+ghost use Rattle.litemap_store.specs.Pairs.{BelowAll, put};
 
 use litemap::LiteMap;
 use litemap::store::StoreMut;
 use std::alloc::AllocError;
 
-/// Puts two pairs in, or leaves the map as it was.
+/// Puts a pair into each of two maps, or leaves both as they were.
 pub fn insert_both<K: Ord + Drop, V: Drop, S: StoreMut<K, V>>(
-    map: &mut LiteMap<K, V, S>,
+    one: &mut LiteMap<K, V, S>,
+    other: &mut LiteMap<K, V, S>,
     first: (K, V),
     second: (K, V),
 ) -> Result<(), AllocError>
-    ensures both { OnOk result (map.new.pairs
-        ≡ put K.cmp (put K.cmp map.old.pairs first.0 first.1) second.0 second.1) }
-    ensures refused { OnErr result (map.new.pairs ≡ map.old.pairs) }
+    ensures one { OnOk result (one.new.pairs ≡ put K.cmp one.old.pairs first.0 first.1) }
+    ensures other { OnOk result (other.new.pairs ≡ put K.cmp other.old.pairs second.0 second.1) }
+    ensures refused { OnErr result ((one.new.pairs ≡ one.old.pairs) × (other.new.pairs ≡ other.old.pairs)) }
 {
-    map.reserve(2)?;
-    map.insert(first.0, first.1).unwrap();
-    map.insert(second.0, second.1).unwrap();
+    one.reserve(1)?;
+    other.reserve(1)?;
+    one.insert(first.0, first.1).unwrap();
+    other.insert(second.0, second.1).unwrap();
+    Ok(())
+}
+
+/// Puts a pair in front of all others.
+#[tactic(auto, using(litemap_store::proofs::Callers::Every::put_ends))]
+pub fn insert_first<K: Ord + Drop, V: Drop, S: StoreMut<K, V>>(
+    map: &mut LiteMap<K, V, S>,
+    key: K,
+    value: V,
+) -> Result<(), AllocError>
+    requires { BelowAll K.cmp key map.old.pairs }
+    ensures { OnOk result (map.new.pairs ≡ (key, value) ∷ map.old.pairs) }
+{
+    map.insert(key, value)?;
     Ok(())
 }

@@ -7,6 +7,7 @@ pub(crate) mod numbers;
 pub(crate) mod pairs;
 pub(crate) mod settings;
 pub(crate) mod texts;
+pub(crate) mod words;
 
 use std::alloc::{AllocError, Global};
 

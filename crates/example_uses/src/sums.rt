@@ -1,7 +1,7 @@
-//! Sparse vectors: numbers at indices, 0 where there is none.
+//! Sparse vectors: numbers at indices, 0 where there is none. And numbers at names.
 ghost use Rattle.std.specs.Prelude.{◌≡◌, ◌+◌, ◌≤◌, OnOk, OnErr, min};
-ghost use Rattle.std.specs.Ordering.{nat_cmp};
 ghost use Rattle.litemap_store.specs.Pairs.{at, value_at};
+ghost use Rattle.litemap_store.specs.Queries.{by_text};
 ghost use Rattle.litemap.specs.Combined.{found_with};
 ghost use Rattle.example_uses.specs.Vectors.{number_at};
 
@@ -32,14 +32,17 @@ pub fn add(sum: &mut Vector, alloc: Global, other: Vector) -> Result<(), NoRoom<
     Ok(())
 }
 
-/// Adds another vector. A sum that is too great becomes the greatest number.
-pub fn add_capped(sum: &mut Vector, alloc: Global, other: Vector) -> Result<(), AllocError>
-    ensures added { OnOk result ((i : _) → value_at nat_cmp sum.new.pairs i
+/// Numbers by names.
+pub type Named = VecMap<String, u64>;
+
+/// Adds the numbers of other names. A sum that is too great becomes the greatest number.
+pub fn add_capped(named: &mut Named, alloc: Global, other: Named) -> Result<(), AllocError>
+    ensures added { OnOk result ((name : _) → value_at by_text named.new.pairs name
         ≡ found_with (λ _ here new. min (here + new) 18446744073709551615)
-        (value_at nat_cmp sum.old.pairs i) (at nat_cmp other.pairs i)) }
-    ensures refused { OnErr result (sum.new.pairs ≡ sum.old.pairs) }
+        (value_at by_text named.old.pairs name) (at by_text other.pairs name)) }
+    ensures refused { OnErr result (named.new.pairs ≡ named.old.pairs) }
 {
-    sum.extend_with(
+    named.extend_with(
         alloc,
         other,
         |_, here, new| *new = here.saturating_add(*new),

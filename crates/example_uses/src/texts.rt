@@ -1,6 +1,6 @@
 //! Maps looked up by what can stand for a key: strings and bytes that are borrowed, and keys.
-ghost use Rattle.std.specs.Prelude.{◌≡◌, ◌≢◌, ◌==◌, IsTrue, None, Some};
-ghost use Rattle.std.specs.Prelude.{false, if◌then◌else◌, is_some, string_bytes};
+ghost use Rattle.std.specs.Prelude.{◌≡◌, ◌≢◌, ◌==◌, IsTrue, None, OnOk, Some};
+ghost use Rattle.std.specs.Prelude.{is_some, string_bytes};
 ghost use Rattle.std.specs.Bool.{IsFalse};
 ghost use Rattle.std.specs.List.{before_first};
 ghost use Rattle.std.specs.Option.{option_or};
@@ -9,23 +9,17 @@ ghost use Rattle.std.specs.String.{string_cmp};
 ghost use Rattle.std.specs.declared.cmp.Ordering.TheVariants.{Equal};
 ghost use Rattle.litemap_store.specs.Pairs.{at, cut, value_at, write};
 ghost use Rattle.litemap_store.specs.Queries.{by_slice, by_text};
-ghost use Rattle.litemap.specs.ByBytes.{by_bytes};
 
+use crate::scores;
 use litemap::store::Store;
 use litemap::{LiteMap, Query};
+use std::alloc::{AllocError, Global};
 
 /// Numbers at strings that the map owns.
 pub type Numbers = LiteMap<String, u32, Vec<(String, u32)>>;
 
 /// Numbers at bytes that the map owns.
 pub type ByteNumbers = LiteMap<Vec<u8>, u32, Vec<(Vec<u8>, u32)>>;
-
-/// Whether a name is there.
-pub fn has_name(map: &Numbers, name: &str) -> bool
-    ensures { result ≡ is_some (at by_text map.now.pairs name.now) }
-{
-    map.contains_key(name)
-}
 
 /// The number at a tag such as `de-CH`, else that at its language, which stands before the first `-`.
 #[tactic(auto, using(std::proofs::lemmas::Str::Pattern::split_once_first))]
@@ -50,6 +44,19 @@ pub fn take_key(map: &mut Numbers, key: &String) -> Option<u32>
     map.remove(key)
 }
 
+/// Sets the number at a key, by a copy of it. `set` speaks of strings, and this of keys.
+#[tactic(auto, using(litemap::proofs::Texts::key_is_text))]
+pub fn set_at_key(
+    map: &mut Numbers,
+    alloc: Global,
+    key: &String,
+    number: u32,
+) -> Result<(), AllocError>
+    ensures { OnOk result (value_at string_cmp map.new.pairs key.now ≡ Some number) }
+{
+    scores::set(map, String::from_str(alloc, key.as_str())?, number)
+}
+
 /// Moves the number at a name to another name, and returns whether there was one. No memory is needed.
 #[tactic(auto, using(litemap::proofs::Texts::text_keys))]
 pub fn rename(map: &mut Numbers, old: &str, new: String) -> bool
@@ -62,23 +69,6 @@ pub fn rename(map: &mut Numbers, old: &str, new: String) -> bool
     ensures unchanged { IsFalse result → map.new.pairs ≡ map.old.pairs }
 {
     map.rename(old, new)
-}
-
-/// Moves the number at a name to a name that is free, and returns whether it did.
-pub fn rename_to_free(map: &mut Numbers, old: &str, new: String) -> bool
-    ensures free { result ≡ if is_some (at by_text map.old.pairs (string_bytes new)) then false
-        else is_some (at by_text map.old.pairs old.now) }
-    ensures moved { IsTrue result
-        → value_at by_text map.new.pairs (string_bytes new) ≡ value_at by_text map.old.pairs old.now }
-    ensures gone { IsTrue result → value_at by_text map.new.pairs old.now ≡ None }
-    ensures others { (other : _) → other ≢ old.now → other ≢ string_bytes new
-        → value_at by_text map.new.pairs other ≡ value_at by_text map.old.pairs other }
-    ensures unchanged { IsFalse result → map.new.pairs ≡ map.old.pairs }
-{
-    if map.contains_key(new.as_str()) {
-        return false;
-    }
-    rename(map, old, new)
 }
 
 /// Writes the number at a name, if the name is there. All others stay.
@@ -140,23 +130,6 @@ pub fn set_bytes(map: &mut ByteNumbers, bytes: &[u8], number: u32) -> bool
         }
         None => false,
     }
-}
-
-/// The number at a borrowed string, looked up by a string that may live shorter.
-pub fn number_of_borrowed<'k>(
-    map: &LiteMap<&'k str, u32, Vec<(&'k str, u32)>>,
-    text: &str,
-) -> Option<u32>
-    ensures { result ≡ value_at by_bytes map.now.pairs text.entry }
-{
-    map.get(text).copied()
-}
-
-/// The value at a key, over every map.
-pub fn copied_at<K: Ord, V: Copy, S: Store<K, V>>(map: &LiteMap<K, V, S>, key: &K) -> Option<V>
-    ensures { result ≡ value_at K.cmp map.now.pairs key.now }
-{
-    map.get(key).copied()
 }
 
 /// Whether a query finds a pair, over every map and by any query.

@@ -1,17 +1,17 @@
 -- A merge in which a closure writes values of the other map.
 --     Combined-more      one more pair;  keys-combined, length-combined      the keys stay;  combined-from      if the closure computes a function, the list is mapped by it
 --     callable_each      if it may be called on each key that a lookup finds, it may be called on each pair
---     found-combined      what a key finds in the merge
-use Rattle.std.proofs.Common.{◌≡◌, List, [], ◌∷◌, Option, Some, None, option_map, length, arith, refl, sym, ap, ◌∙◌, Ordering, is_eq, true, false}
+--     value_at-combined      what a query finds in the merge
+use Rattle.std.proofs.Common.{◌≡◌, List, [], ◌∷◌, Equal, Option, Some, None, option_map, length, arith, refl, ap, ◌∙◌, Ordering, is_eq, true, false}
 use Rattle.std.specs.Cmp.{IsTotalOrder, tied_itself}
 use Rattle.std.specs.Fn.{Shared}
 use Rattle.std.specs.Map.{keys_of}
 use Rattle.std.specs.Option.{option_map_or, option_or}
+use Rattle.litemap_store.specs.Merge.{Merge}
 use Rattle.litemap_store.specs.Pairs.{Rising, at, value_at}
 use Rattle.litemap_store.proofs.Lists.Membership.{from_each}
-use Rattle.litemap_store.proofs.Callers.MergeLookups.{at-rising, key_alike, key_same}
+use Rattle.litemap_store.proofs.Callers.MergeLookups.{at-rising, at-same, key_alike, key_same, value_at-merged}
 use Rattle.litemap_store.proofs.Search.Splitting.{at_in}
-use Rattle.litemap_store.proofs.Callers.Tallies.{value_at_equal}
 use Rattle.litemap.specs.Combined.{CallableOnCommon, CallableOnEachOf, Combined, Combines, Settles, combined, found_with}
 use denote.Ref.{Bor, MutBor}
 
@@ -44,22 +44,27 @@ module _ {F K V : Type 0} (g : Shared F (Bor K × (Bor V × (MutBor V × Unit {0
   pub callable_each : IsTotalOrder cmp → (J : List (K × V)) → Rising cmp J → CallableOnCommon g f cmp L J → CallableOnEachOf g f cmp L J
   callable_each o J r c = from_each _ J (λ p i here is. c p.0 here p.1 is (at-rising cmp o cmp p.0 (key_same o p.0) (key_alike o p.0) J p r i (tied_itself o p.0)))
 
-module _ {K V : Type 0} {cmp : K → K → Ordering} (o : IsTotalOrder cmp) (combine : K → V → V → V) (L : List (K × V)) (k : K) where
-  at-combined : (J : List (K × V)) → at cmp (combined cmp combine L J) k ≡ option_map (combined_pair cmp combine L) (at cmp J k)
+-- for any query, as in `MergeLookups`
+module _ {K Q V : Type 0} (cmp : K → K → Ordering) (o : IsTotalOrder cmp) (order : K → Q → Ordering) (q : Q)
+    (same : (x y : K) → order x q ≡ Equal → order y q ≡ Equal → cmp x y ≡ Equal)
+    (alike : (x y : K) → cmp x y ≡ Equal → order x q ≡ Equal → order y q ≡ Equal)
+    (combine : K → V → V → V) (A B M : List (K × V)) where
+  at-combined : (J : List (K × V)) → at order (combined cmp combine A J) q ≡ option_map (combined_pair cmp combine A) (at order J q)
   at-combined [] = refl
-  at-combined (p ∷ J) = (elim (is_eq (cmp p.0 k)) as (λ t. is_eq (cmp p.0 k) ≡ t → at cmp (combined cmp combine L (p ∷ J)) k ≡ option_map (combined_pair cmp combine L) (at cmp (p ∷ J) k)) [
+  at-combined (p ∷ J) = (elim (is_eq (order p.0 q)) as (λ t. is_eq (order p.0 q) ≡ t → at order (combined cmp combine A (p ∷ J)) q ≡ option_map (combined_pair cmp combine A) (at order (p ∷ J) q)) [
     | true ↦ λ e. rw e refl
     | false ↦ λ e. rw e (at-combined J)
   ]) refl
 
-  found_by : (a : Option V) (b : Option (K × V)) → ((p : K × V) → b ≡ Some p → value_at cmp L p.0 ≡ a)
-      → option_or (option_map (λ (p : K × V). p.1) (option_map (combined_pair cmp combine L) b)) a ≡ found_with combine a b
+  found_by : (a : Option V) (b : Option (K × V)) → ((p : K × V) → b ≡ Some p → value_at cmp A p.0 ≡ a)
+      → option_or (option_map (λ (p : K × V). p.1) (option_map (combined_pair cmp combine A) b)) a ≡ found_with combine a b
   found_by None None h = refl
   found_by (Some v) None h = refl
   found_by None (Some p) h = rw (h p refl) refl
   found_by (Some v) (Some p) h = rw (h p refl) refl
 
-  pub found-combined : (J : List (K × V)) → option_or (value_at cmp (combined cmp combine L J) k) (value_at cmp L k) ≡ found_with combine (value_at cmp L k) (at cmp J k)
-  found-combined J =
-      ap (λ b. option_or (option_map (λ (p : K × V). p.1) b) (value_at cmp L k)) (at-combined J)
-      ∙ found_by (value_at cmp L k) (at cmp J k) (λ p is. sym (value_at_equal o L p.0 k (at_in cmp J k p is).1))
+  pub value_at-combined : Merge cmp A (combined cmp combine A B) M → value_at order M q ≡ found_with combine (value_at order A q) (at order B q)
+  value_at-combined merge =
+      value_at-merged cmp o order q same alike A (combined cmp combine A B) M merge
+      ∙ ap (λ b. option_or (option_map (λ (p : K × V). p.1) b) (value_at order A q)) (at-combined B)
+      ∙ found_by (value_at order A q) (at order B q) (λ p is. ap (option_map (λ (r : K × V). r.1)) (at-same cmp o order q same alike A p.0 (at_in order B q p is).1))

@@ -3,8 +3,10 @@
 --     string_keys      for `String` keys, looked up by keys;  text_keys      the same, looked up by strings
 --     text_entries      those on puts and cuts alone, for a chain of `entry`
 --     byte_keys      for `Vec<u8>` keys, looked up by bytes;  str_keys      for `&str` and `&[u8]` keys
+--     key_is_text      a `String` key finds what its string finds;  by_bytes_total      the law of the order of `&str` and `&[u8]` keys, for counts
+--     text_combined      what `extend_with` leaves, looked up by strings
 --     text_clones      the condition of `try_clone` and of the conversions, for `String` keys
-use Rattle.std.proofs.Common.{◌≡◌, ◌≢◌, ◌∷◌, ◌++◌, List, Some, None, Ok, IsSome, String, Vec, Bor, ℕ, cond, is_some, slice_get, slice_set}
+use Rattle.std.proofs.Common.{◌≡◌, ◌≢◌, ◌∷◌, ◌++◌, List, Some, None, Ok, IsSome, String, Vec, Bor, ℕ, cond, is_some, slice_get, slice_set, refl}
 use Rattle.std.proofs.lemmas.Cmp.{tied_itself}
 use Rattle.std.proofs.lemmas.Map.Lookups.{exact_bytes}
 use Rattle.std.specs.Cmp.{IsTotalOrder}
@@ -23,8 +25,12 @@ use Rattle.litemap_store.proofs.Callers.Lookups.{value_at-written_apart}
 use Rattle.litemap_store.proofs.Callers.MergeLookups.{key_alike, key_same, value_at-left, value_at-merged}
 use Rattle.litemap_store.proofs.Search.Splitting.{key_or_equal}
 use Rattle.litemap.specs.ByBytes.{by_bytes}
+use Rattle.litemap.specs.Combined.{combined, found_with}
+use Rattle.litemap.proofs.Combining.{value_at-combined}
+use Rattle.litemap.proofs.Places.{other_places}
 
-by_bytes_total : IsTotalOrder by_bytes
+-- the law of their order
+pub by_bytes_total : IsTotalOrder by_bytes
 by_bytes_total = on_texts (λ (a : Bor (List ℕ)). a.now)
 
 differs : (t u : List ℕ) → u ≢ t → slice_cmp nat_cmp u t ≢ Equal
@@ -94,6 +100,9 @@ module _ {V Z : Type 0} where
 
   -- ---- the same, looked up by strings
 
+  pub key_is_text : (L : List (String Z × V)) (k : String Z) → value_at string_cmp L k ≡ value_at by_text L (string_bytes k)
+  key_is_text L k = refl
+
   pub text_put_found : (L : List (String Z × V)) (k : String Z) (v : V) → value_at by_text (put string_cmp L k v) (string_bytes k) ≡ Some v
   text_put_found L k v = value_at-put string_cmp_total k L v
 
@@ -119,6 +128,11 @@ module _ {V Z : Type 0} where
 
   pub text_left : (A B : List (String Z × V)) (t : List ℕ) → value_at by_text (left string_cmp A B) t ≡ cond (is_some (at by_text B t)) (value_at by_text A t) None
   text_left A B t = left_over (λ k. string_bytes k) A B t
+
+  pub text_combined : (combine : String Z → V → V → V) (A B M : List (String Z × V)) (t : List ℕ) → Merge string_cmp A (combined string_cmp combine A B) M
+      → value_at by_text M t ≡ found_with combine (value_at by_text A t) (at by_text B t)
+  text_combined combine A B M t merge =
+      value_at-combined string_cmp string_cmp_total by_text t (λ x y. key_same nat_list_cmp_total t (string_bytes x) (string_bytes y)) (λ x y. key_alike nat_list_cmp_total t (string_bytes x) (string_bytes y)) combine A B M merge
 
   pub text_cut_gone : (L : List (String Z × V)) (t : List ℕ) → value_at by_text (cut by_text L t) t ≡ None
   text_cut_gone L t = value_at-cut by_text t L

@@ -5,3 +5,4 @@ pub mod MergeLookups
 pub mod Extended
 pub mod HandedOver
 pub mod Tallies
+pub mod Every

@@ -1,19 +1,14 @@
-//! Lookups in maps of borrowed strings and in tables, and by what stands for a key.
-use crate::names::find_in_table;
+//! Lookups in tables, and by what stands for a key.
+use crate::names::{find_in_table, route};
 use crate::people::{Person, kept_for};
-use crate::texts;
 use litemap::LiteMap;
 use std::alloc::{AllocError, Global};
 
 pub(crate) fn show(rt: &impl Print, alloc: Global) -> anyhow::Result<()> {
-    let mut words = LiteMap::new_vec(alloc);
-    words.insert("en", 1)?;
-    let name = "en".to_string(alloc)?;
-    let borrowed = texts::number_of_borrowed(&words, name.as_str());
-    println!(rt; "by a borrowed text {borrowed:?}")?;
     for name in ["February", "Febru", "January", "March"] {
         println!(rt; "{name}: {:?}", find_in_table(DAYS, name))?;
     }
+    println!(rt; "routes {:?} {:?}", route("/about"), route("/a"))?;
     let people = two_people(alloc)?;
     for number in 0..4 {
         println!(rt; "kept for {number}: {:?}", kept_for(&people, number))?;

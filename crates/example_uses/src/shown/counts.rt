@@ -1,6 +1,6 @@
 //! Words and names that are counted, and scores.
-use crate::counting::{Names, count_name, count_words, keep_single};
-use crate::reserved::insert_both;
+use crate::counting::{Names, count_name, count_words};
+use crate::reserved::{insert_both, insert_first};
 use crate::scores::{self, Scores};
 use litemap::LiteMap;
 use std::alloc::{AllocError, Global};
@@ -9,7 +9,7 @@ use std::io;
 pub(crate) fn show(rt: &impl Print, alloc: Global) -> anyhow::Result<()> {
     let words = ["the", "map", "of", "the", "list", "of", "the", ""];
     println!(rt; "words {:?}", count_words(alloc, words.as_slice())?)?;
-    show_names(rt, &mut names(alloc)?)?;
+    show_names(rt, &names(alloc)?)?;
     show_scores(rt, &four_scores(alloc)?)?;
     Ok(())
 }
@@ -24,10 +24,8 @@ fn names(alloc: Global) -> Result<Names, AllocError> {
     Ok(names)
 }
 
-fn show_names(rt: &impl Print, names: &mut Names) -> io::Result<()> {
-    println!(rt; "names {names:?}")?;
-    keep_single(names);
-    println!(rt; "single {names:?}")
+fn show_names(rt: &impl Print, names: &Names) -> io::Result<()> {
+    println!(rt; "names {names:?}")
 }
 
 // A name with its score.
@@ -51,9 +49,16 @@ fn set_many(scores: &mut Scores, alloc: Global) -> Result<(), AllocError> {
     scores::set_all(scores, alloc, more)
 }
 
+// Two scores that are put in together, of which one goes into another map; there one is in front already.
 fn insert_two(scores: &mut Scores, alloc: Global) -> Result<(), AllocError> {
+    let mut others = LiteMap::new(alloc);
+    insert_first(&mut others, String::from_str(alloc, "bo")?, 6)?;
     let first = scored(alloc, "cy", 7)?;
-    insert_both(scores, first, scored(alloc, "bob", 8)?)
+    insert_both(scores, &mut others, first, scored(alloc, "bob", 8)?)?;
+    for (name, score) in others {
+        scores.insert(name, score)?;
+    }
+    Ok(())
 }
 
 fn show_scores(rt: &impl Print, scores: &Scores) -> io::Result<()> {

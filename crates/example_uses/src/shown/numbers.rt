@@ -24,6 +24,10 @@ fn show_ages(rt: &impl Print, alloc: Global) -> anyhow::Result<()> {
     ];
     numbers::correct_at(&mut ages, 0, 19);
     println!(rt; "ages {ages:?}, corrected {is_there:?}")?;
+    for id in [0, 3, 9] {
+        let (floor, ceiling) = (numbers::floor(&ages, id), numbers::ceiling(&ages, id));
+        println!(rt; "near {id}: {floor:?}, {ceiling:?}")?;
+    }
     let dropped = numbers::drop_below(&mut ages, 2);
     let forgotten = numbers::forget(&mut ages, 5);
     println!(rt; "from 2 on {ages:?}, dropped {dropped}, forgotten {forgotten:?}")?;

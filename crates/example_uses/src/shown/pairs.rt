@@ -1,10 +1,9 @@
-//! Values that are made, a log, prices, sets, and maps that move and are summed.
-use crate::log::{Log, keep_newest};
+//! Values that are made, prices, sets, and maps that move and are summed.
 use crate::made::value_or_made;
 use crate::moved::moved;
 use crate::prices::{self, Prices};
 use crate::sets::{self, Set};
-use crate::sums::{self, Vector};
+use crate::sums::{self, Named};
 use crate::totals::total;
 use litemap::{LiteMap, TryFault, VecMap};
 use litemap_columns::ColumnMap;
@@ -13,7 +12,6 @@ use std::io;
 
 pub(crate) fn show(rt: &impl Print, alloc: Global) -> anyhow::Result<()> {
     show_made(rt, alloc)?;
-    show_log(rt, &mut three_entries(alloc)?)?;
     show_prices(rt, &mut four_prices(alloc)?)?;
     show_sets(rt, alloc)?;
     show_sums(rt, alloc)?;
@@ -31,22 +29,6 @@ fn show_made(rt: &impl Print, alloc: Global) -> anyhow::Result<()> {
     Ok(())
 }
 
-fn three_entries(alloc: Global) -> Result<Log, AllocError> {
-    let mut log = Log::new_vec(alloc);
-    for time in [3, 1, 2] {
-        log.insert(time, "entry".to_string(alloc)?)?;
-    }
-    Ok(log)
-}
-
-fn show_log(rt: &impl Print, log: &mut Log) -> io::Result<()> {
-    for most in [3, 1, 0] {
-        keep_newest(log, most);
-        println!(rt; "newest {most}: {log:?}")?;
-    }
-    Ok(())
-}
-
 fn four_prices(alloc: Global) -> Result<Prices, AllocError> {
     let mut prices = Prices::new_vec(alloc);
     for (name, price) in [("abc", 1), ("ab", 2), ("ac", 3), ("aa", u32::MAX)] {
@@ -57,18 +39,7 @@ fn four_prices(alloc: Global) -> Result<Prices, AllocError> {
 
 fn show_prices(rt: &impl Print, prices: &mut Prices) -> io::Result<()> {
     prices::raise(prices, 5);
-    println!(rt; "raised {prices:?}")?;
-    for text in ["ab", "abc", "", "a", "b", "aab"] {
-        println!(rt;
-            "beginning with {text:?}: {:?}",
-            prices::beginning_with(prices, text)
-        )?;
-    }
-    println!(rt;
-        "between ab and ac {:?}",
-        prices::between(prices, "ab", "ac")
-    )?;
-    println!(rt; "between b and a {:?}", prices::between(prices, "b", "a"))
+    println!(rt; "raised {prices:?}")
 }
 
 fn show_sets(rt: &impl Print, alloc: Global) -> anyhow::Result<()> {
@@ -83,16 +54,24 @@ fn show_sets(rt: &impl Print, alloc: Global) -> anyhow::Result<()> {
     Ok(())
 }
 
-// A sparse vector to which others are added: beside it, at common indices, past the greatest number, and one without numbers.
+// Numbers at names to which others are added: beside them, at common names, past the greatest number, and none.
 fn show_sums(rt: &impl Print, alloc: Global) -> anyhow::Result<()> {
-    let mut sum = Vector::from_iter(alloc, [(1, 10), (3, 30)])?;
-    for numbers in [[(2, 5), (3, 7)], [(1, u64::MAX), (4, 0)]] {
-        sums::add_capped(&mut sum, alloc, Vector::from_iter(alloc, numbers)?)?;
+    let mut sum = named(alloc, [("a", 10), ("c", 30)])?;
+    for numbers in [[("b", 5), ("c", 7)], [("a", u64::MAX), ("d", 0)]] {
+        sums::add_capped(&mut sum, alloc, named(alloc, numbers)?)?;
         println!(rt; "sum {sum:?}")?;
     }
-    sums::add_capped(&mut sum, alloc, Vector::new(alloc))?;
+    sums::add_capped(&mut sum, alloc, Named::new(alloc))?;
     println!(rt; "sum {sum:?}")?;
     Ok(())
+}
+
+fn named(alloc: Global, numbers: [(&str, u64); 2]) -> Result<Named, AllocError> {
+    let mut named = Named::new(alloc);
+    for (name, number) in numbers {
+        named.insert(name.to_string(alloc)?, number)?;
+    }
+    Ok(named)
 }
 
 // The totals of a map of two pairs, over a vector, a slice of it, and two columns that it moves to.

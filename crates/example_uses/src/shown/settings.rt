@@ -1,5 +1,5 @@
 //! A configuration.
-use crate::config::{Settings, configured, overlay, override_with, prefer};
+use crate::config::{Settings, configured, overlay, override_with};
 use crate::shown::owned_pair;
 use std::alloc::{AllocError, Global};
 
@@ -14,8 +14,6 @@ pub(crate) fn show(rt: &impl Print, alloc: Global) -> anyhow::Result<()> {
     println!(rt; "configured {settings:?}")?;
     let driven_out = overlay(&mut settings, alloc, of_texts(alloc, LATER, &[])?)?;
     println!(rt; "overlaid {settings:?}, driven out {driven_out:?}")?;
-    prefer(&mut settings, alloc, of_texts(alloc, &[("a", "c")], &[])?)?;
-    println!(rt; "preferred {settings:?}")?;
     override_with(&mut settings, alloc, texts(alloc, DEFAULTS)?)?;
     println!(rt; "overridden {settings:?}")?;
     Ok(())

@@ -25,17 +25,15 @@ fn two_names(alloc: Global) -> Result<Numbers, AllocError> {
     Ok(map)
 }
 
-// Whether a name is there, by two callers; what is found once 7 is written there, and removed.
+// Whether a name is there; what is found once 7 is written there, and removed.
 fn show_name(rt: &impl Print, alloc: Global, name: &str) -> anyhow::Result<()> {
     let mut map = two_names(alloc)?;
     let key = name.to_string(alloc)?;
-    let is_there = [texts::has_name(&map, name), texts::has(&map, name)];
+    let is_there = texts::has(&map, name);
     let is_set = texts::set_number(&mut map, name, 7);
-    let found = texts::copied_at(&map, &key);
     let taken = texts::take_key(&mut map, &key);
-    println!(rt;
-        "{name:?}: there {is_there:?}, set {is_set}, {found:?}, taken {taken:?}, left {map:?}"
-    )?;
+    texts::set_at_key(&mut map, alloc, &key, 8)?;
+    println!(rt; "{name:?}: there {is_there:?}, set {is_set}, taken {taken:?}, left {map:?}")?;
     Ok(())
 }
 
@@ -58,9 +56,8 @@ fn show_renamed(rt: &impl Print, alloc: Global) -> anyhow::Result<()> {
         ("ace", "ace"),
         ("two", "one"),
     ] {
-        let free = texts::rename_to_free(&mut two_names(alloc)?, old, new.to_string(alloc)?);
         let there = texts::rename(&mut map, old, new.to_string(alloc)?);
-        println!(rt; "{old} is {new}: {there}, {map:?}, free {free}")?;
+        println!(rt; "{old} is {new}: {there}, {map:?}")?;
     }
     Ok(())
 }

@@ -3,7 +3,7 @@
 -- every equal one.
 --     value_at-merged      the value of B if B has the key, else that of A
 --     value_at-left      the value of A if B has the key, else none
---     key_same, key_alike      both, if the query is a key
+--     at-same      what a key that the query finds finds;  key_same, key_alike      both, if the query is a key
 use Rattle.std.proofs.Common.{◌≡◌, ◌≢◌, Bool, true, false, cond, List, [], ◌∷◌, Option, Some, None, is_some, option_map, refl, sym, ap, ◌∙◌, subst, inl, inr, Ordering, Less, Equal, is_eq}
 use Rattle.std.specs.List.{AllByRecursion, cons_option}
 use Rattle.std.specs.Option.{option_or}
@@ -66,7 +66,8 @@ module _ {K Q : Type 0} (cmp : K → K → Ordering) (o : IsTotalOrder cmp) (ord
       pub value_at-merged : value_at order M q ≡ option_or (value_at order B q) (value_at order A q)
       value_at-merged = by_both (at order A q) (at order B q) refl refl
 
-    at-same : (L : List (K × V)) (b : K) → order b q ≡ Equal → at cmp L b ≡ at order L q
+    -- a key that the query finds finds the same
+    pub at-same : (L : List (K × V)) (b : K) → order b q ≡ Equal → at cmp L b ≡ at order L q
     at-same [] b e = refl
     at-same (x ∷ L) b e = rw (same_test x.0 b e) (ap (λ r. cond (is_eq (order x.0 q)) (Some x) r) (at-same L b e))
 

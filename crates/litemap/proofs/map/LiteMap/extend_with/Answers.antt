@@ -1,10 +1,9 @@
-use Rattle.std.proofs.Common.{◌∙◌, subst}
+use Rattle.std.proofs.Common.{subst}
 use Rattle.std.proofs.lemmas.Result.{on_ok_weaker}
-use Rattle.litemap_store.proofs.Callers.MergeLookups.{key_alike, key_same, value_at-merged}
+use Rattle.litemap_store.proofs.Callers.MergeLookups.{key_alike, key_same}
 use Rattle.litemap.specs.Changes.{IsMergedInto}
-use Rattle.litemap.specs.Combined.{combined}
 use Rattle.litemap_store.specs.Contents.{with_pairs}
-use Rattle.litemap.proofs.Combining.{combined-from, found-combined}
+use Rattle.litemap.proofs.Combining.{combined-from, value_at-combined}
 use Rattle.litemap.proofs.map.LiteMap.extend_with.Goals as goal
 
 pub returns-clause-combined : goal.returns-clause-combined
@@ -20,5 +19,5 @@ returns-clause-found g c = λ combine by.
     let o = g.met.K.Ord.total in
     let old = c.args.self.now.pairs in
     on_ok_weaker c.extend_with_counted.result
-    (λ merged key. value_at-merged cmp o cmp key (key_same o key) (key_alike o key) old (combined cmp combine old c.args.other.pairs) _ merged ∙ found-combined o combine old key c.args.other.pairs)
+    (λ merged key. value_at-combined cmp o cmp key (key_same o key) (key_alike o key) combine old c.args.other.pairs _ merged)
     (returns-clause-combined g c combine by).merges.merged
