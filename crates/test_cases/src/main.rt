@@ -1,9 +1,9 @@
 //! Cases: what neither a contract nor a line of `test_replay` says. The program writes how each came out.
 //!
-//! They are of maps: closures that call several keys equal, queries of each kind, constant tables, iterators that lie, the greatest
-//! capacities, stores with a limit, what is printed, reading, and small maps; and of the program `names`, over readers and
-//! writers in memory, with its names kept in one vector and in two columns: lines with their output, how much it reads, and an
-//! error at each read and each write.
+//! They are of maps: closures that call several keys equal, queries of each kind, constant tables, iterators that lie, the
+//! greatest capacities, stores with a limit, what is printed, reading, and small maps; and of the program `names`, over readers
+//! and writers in memory, with its names kept in one vector and in two columns: lines with their output, how much it reads, and
+//! an error at each read and each write.
 //!
 //! If there is standard input, it is lines of `names` instead, whose names are kept in two columns (`bin/requests`).
 #![tactic(auto)]
