@@ -64,19 +64,10 @@ def answer(text):
     return f"{len(keywords)} " + "-".join(f"{key}-{value}" if value else key for key, value in keywords.items())
 
 
-def walked(text):
-    """The output of `walk`: the values of a text, from the last key to the first, and its keywords as `{:?}` prints them."""
-    keywords = read(text)
-    if isinstance(keywords, str):
-        return keywords
-    pairs = ", ".join(f'{[*key.encode()]}: "{value}"' for key, value in keywords.items())
-    return "".join(f"{value} " for value in reversed(keywords.values())) + f"Keywords {{ pairs: {{{pairs}}} }}"
-
-
 def falling(count):
-    """So many keywords with descending keys: all pairs of letters, again and again, from the second time on with a value."""
+    """So many keywords, whose keys of two letters descend."""
     letters = "zyxwvutsrqponmlkjihgfedcba"
-    return "-".join(letters[number // 26 % 26] + letters[number % 26] + ("-abc" if number >= 676 else "") for number in range(count))
+    return "-".join(letters[number // 26] + letters[number % 26] for number in range(count))
 
 
 def put_count(text):
@@ -95,10 +86,11 @@ def searched():
     count = 0
     for line in files()["stdin"].splitlines():
         word, rest = line.split(" ", 1)
-        key, text = rest.split(" ", 1) if word == "find" else ("", rest) if word == "walk" else ("", falling(int(rest)) if word == "falling" else rest.replace("\\0", "\0"))
+        first, _, text = rest.partition(" ")
+        text = text if word == "find" else text * int(first) + "zz-abc" if word == "repeat" else rest.replace("\\0", "\0")
         keywords = read(text)
-        # What `read` has read is written, and read again.
-        count += put_count(text) + (0 if isinstance(keywords, str) or word == "walk" else 1 if key else len(keywords))
+        # What is written is read again.
+        count += put_count(text) + (0 if isinstance(keywords, str) else 1 if word == "find" else len(keywords))
     return "", count
 
 
@@ -107,7 +99,6 @@ def files():
     rows = [("read " + text.replace("\0", "\\0"), answer(text)) for text in TEXTS]
     found = read(FOUND)
     rows += [(f"find {key} {FOUND}", f"value {found[key]}" if key in found else "none") for key in "ca kn nu NU kk".split()]
-    rows += [(f"walk {text}", walked(text)) for text in (FOUND, "ca", "ca-abc-c1")]
     for count in (15, 16, 30, 300):
         value = "kn-" + "-".join(["ab1"] * count)
         rows += [(f"read {text}", answer(text)) for text in (value, f"{value}-x", f"{value}-c1-nu", f"{value}-KN-thai--")]
@@ -116,5 +107,7 @@ def files():
     long = falling(24) + "-kn" + "-abcdefgh" * 8
     rows += [(f"read {long[:size]}", answer(long[:size])) for size in range(1, len(long))]
     rows += [(f"find zz {text}", "value ") for text in map(falling, (12, 24, 33, 65, 129))]
-    rows += [(f"falling {count}", answer(falling(count))) for count in (700, 2000, 22000)]
+    # All keys, in texts of up to 70,000 bytes, where they have values.
+    all_keys = falling(676).replace("-", "-abc-") + "-"
+    rows += [(f"repeat {count} {all_keys}", answer(all_keys * count + "zz-abc")) for count in (1, 3, 15)]
     return {name: "".join(line + "\n" for line in lines) for name, lines in zip(["stdin", "stdout"], zip(*rows))}

@@ -5,7 +5,7 @@ import sys
 from lib.checks.manual import END, ENTRIES, GROUPS, INDEX, START, index_text, pages, sources_of
 from lib.checks.pages import BLOCKS, CODE, TEXTS, read
 from lib.checks.scopes import NAME, SCOPES, names_in
-from lib.checks.sources import CALLS, IMPLS, LIBRARIES, SOURCES
+from lib.checks.sources import CALLS, IMPLS, LIBRARIES, RUST, SOURCES, examples_of
 from lib.checks.words import WORDS
 from lib.shared import TOP
 
@@ -33,7 +33,7 @@ FREE = {
 FREE = [f"{owner}::{name}" for owner, names in FREE.items() for name in names.split()]
 # Words that mean the same in Rust, and those that the page explains with the signs.
 OF_RUST = "Some None Ok Err Option Result Bool true false String List ℕ ⊤ Data Type".split()
-# The crates of tests, and the examples that are programs of rows too.
+# The crates of tests, and the examples that are programs of rows too. So are the examples in comments.
 TESTS = "crates/test_*/src crates/example_formats/src crates/example_uses/src".split()
 # The calls that no test names, and those that no wrong body names, and why. Laws are left out, since their bodies do nothing.
 NOT_CALLED = {
@@ -138,7 +138,8 @@ def check(report, write):
             told = f"the comment of {call.label} says nothing of comparisons and moves, and FREE does not name it"
             report.see(call.label in FREE or COST.search(call.said), told)
     labels = {it.label for source in grouped for it in CALLS.get(source, ()) if not source.endswith("/laws")}
-    tests = words_of(*(f"{folder}/**/*.rt" for folder in TESTS))
+    examples = (block for text in RUST.values() for _, block, _ in examples_of(text))
+    tests = " ".join([words_of(*(f"{folder}/**/*.rt" for folder in TESTS)), *examples])
     edits = words_of("wrong/*", "crates/*/must-fail/*.edit")
     for text, reasons, told in [(tests, NOT_CALLED, "test"), (edits, NOT_TURNED, "wrong body")]:
         for label in sorted(labels):

@@ -3,15 +3,15 @@ import re
 
 from lib.checks.pages import BLOCKS
 from lib.checks.sources import RUST, examples_of
-from lib.shared import CRATES
+from lib.shared import CRATES, TOP
 
 # The lines that a block leaves out.
 LEFT_OUT = re.compile(r"^ *// \.\.\.\n", re.MULTILINE)
-# The crates whose items stand in comments, and those whose functions a program or a test has to call, by whatever way.
-SHOWN = ("example_uses", "example_formats", "example_store", "test_cases")
+# The crates whose items stand in comments, as do those of bin/lib/examples.rt, and those whose functions a program or a test has to call, by whatever way.
+SHOWN = ("example_uses", "example_formats", "example_store")
 CALLERS = ("example_uses", "example_formats", "example_store")
 # What is called by no name of its own: a program, and calls of traits.
-UNNAMED = {"main", "compare_key", "eq", "lm_iter", "lm_into_iter", "to_value", "from_value", "key_text"}
+UNNAMED = {"main", "compare_key", "eq", "lm_iter", "lm_into_iter", "to_value", "from_value", "key_text", "from_key_text"}
 # A function, by the space before it, its name and its body.
 FUNCTION = re.compile(r"^( *)(?:pub(?:\(crate\))? )?fn (\w+)(.*?)^\1\}$", re.MULTILINE | re.DOTALL)
 
@@ -51,6 +51,7 @@ def check(report, _):
     for block in (it for it in by_hand if it.language == "rust"):
         report.see(stands_in(block.inside, RUST.values()), f"{block.where}: the block stands in no crate")
     shown = [trimmed(text) for path, text in RUST.items() if re.fullmatch(rf"({'|'.join(SHOWN)})/src/\w+\.rt", path)]
+    shown.append(trimmed((TOP / "bin" / "lib" / "examples.rt").read_text(encoding="utf-8")))
     for path, text in RUST.items():
         for comment, block, is_item in examples_of(text):
             if is_item:

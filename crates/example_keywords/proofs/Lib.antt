@@ -1,7 +1,1 @@
-pub mod Again
-pub mod Cases
-pub mod Placing
-pub mod Printing
-pub mod Readings
-pub mod Splitting
-pub mod Values
+pub mod Reading

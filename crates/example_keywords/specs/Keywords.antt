@@ -1,13 +1,14 @@
 -- A text that spells keywords: parts with a `-` between each two, where a keyword is a key and the parts of its value.
-use Rattle.std.specs.Prelude.{◌≡◌, ◌≢◌, ◌⊎◌, ◌==◌, ◌&&◌, ◌+◌, ℕ, Bool, false, IsTrue, if◌then◌else◌, nat_le}
-use Rattle.std.specs.Prelude.{List, [], ◌∷◌, ◌++◌, Option, length, map}
+use Rattle.std.specs.Prelude.{◌≡◌, ◌==◌, ◌&&◌, ℕ, Bool, false, IsTrue, if◌then◌else◌, nat_le}
+use Rattle.std.specs.Prelude.{List, [], ◌∷◌, ◌++◌, Option, None, Some, String, length, map, string_bytes}
 use Rattle.std.specs.Char.{is_ascii_alphabetic, is_ascii_alphanumeric, to_ascii_lowercase}
 use Rattle.std.specs.Cmp.Lexicographic.{slice_cmp}
 use Rattle.std.specs.List.{AllByRecursion, join_with_byte, list_all, slice_split}
+use Rattle.std.specs.Option.{option_map, option_or}
 use Rattle.std.specs.Ordering.{nat_cmp}
 use Rattle.std.specs.Str.{bytes_eq}
 use Rattle.std.specs.Str.Parse.{true_text}
-use Rattle.litemap_store.specs.Pairs.{Rising, value_at}
+use Rattle.litemap_store.specs.Pairs.{value_at}
 
 -- the parts of a text: what stands before, between and after its `-`
 abbrev pub parts_of : List ℕ → List (List ℕ)
@@ -40,13 +41,6 @@ abbrev pub keyword_parts : List Keyword → List (List ℕ)
 keyword_parts [] = []
 keyword_parts (k ∷ keywords) = k.key ∷ (k.value ++ keyword_parts keywords)
 
--- the text spells the keywords. No bytes spell none
-pub record Spells (text : List ℕ) (keywords : List Keyword) : Type 0 where
-  pub each : AllByRecursion IsKeyword keywords
-  pub spelled : text ≡ joined (keyword_parts keywords)
-
--- ---- what a map of keywords has
-
 -- lower case, and nothing for `true`
 abbrev pub canonical : List ℕ → List ℕ
 canonical text = if bytes_eq (map to_ascii_lowercase text) true_text then [] else map to_ascii_lowercase text
@@ -55,41 +49,58 @@ canonical text = if bytes_eq (map to_ascii_lowercase text) true_text then [] els
 abbrev pub pair_of : Keyword → List ℕ × List ℕ
 pair_of k = (map to_ascii_lowercase k.key, canonical (joined k.value))
 
--- keys in the order of their bytes
-abbrev pub Rise : List (List ℕ × List ℕ) → Type 0
-Rise pairs = Rising (slice_cmp nat_cmp) pairs
-
--- what a lookup of the key finds: the value of the first pair with it
+-- the value of the first pair with a key
 abbrev pub value_of : List (List ℕ × List ℕ) → List ℕ → Option (List ℕ)
 value_of pairs key = value_at (slice_cmp nat_cmp) pairs key
 
--- each pair is that of some keyword
-abbrev pub AreCanonical : List (List ℕ × List ℕ) → Type 0
-AreCanonical pairs = AllByRecursion (λ p. (k : Keyword) × IsKeyword k × (pair_of k ≡ p)) pairs
+-- the value of a key in a map, by its bytes
+abbrev pub value_in : {Z : Type 0} → List (List ℕ × String Z) → List ℕ → Option (List ℕ)
+value_in pairs key = option_map (λ v. string_bytes v) (value_at (slice_cmp nat_cmp) pairs key)
 
--- the text spells keywords, and the pairs have each of their keys once, in order, with the value of the first keyword with it
-pub record IsRead (text : List ℕ) (pairs : List (List ℕ × List ℕ)) : Type 0 where
+-- the text spells keywords, and the pairs of a map have, for each key, the value of the first keyword with it
+pub record IsRead {Z : Type 0} (text : List ℕ) (pairs : List (List ℕ × String Z)) : Type 0 where
   pub keywords : List Keyword
-  pub spells : Spells text keywords
-  pub rise : Rise pairs
-  pub first : (key : List ℕ) → value_of pairs key ≡ value_of (map pair_of keywords) key
+  pub each : AllByRecursion IsKeyword keywords
+  pub spelled : text ≡ joined (keyword_parts keywords)
+  pub first : (key : List ℕ) → value_in pairs key ≡ value_of (map pair_of keywords) key
 
--- ---- if a text spells none
+-- ---- what the steps of reading find: only private contracts cite these
 
--- how many bytes the parts take, each with a `-` after it
-abbrev pub size_of : List (List ℕ) → ℕ
-size_of [] = 0
-size_of (part ∷ parts) = length part + 1 + size_of parts
+-- the parts of what is left of a text, if something is
+abbrev pub parts_in : Option (List ℕ) → List (List ℕ)
+parts_in None = []
+parts_in (Some rest) = parts_of rest
 
--- the text is not empty, and after keywords, at the byte `at`, stands a part that is no key, and no part of the value of a key
--- before it
-pub record IsFault (text : List ℕ) (at : ℕ) : Type 0 where
-  pub before : List Keyword
-  pub part : List ℕ
-  pub behind : List (List ℕ)
-  pub some : text ≢ []
-  pub each : AllByRecursion IsKeyword before
-  pub parts : parts_of text ≡ keyword_parts before ++ part ∷ behind
-  pub no_key : is_key part ≡ false
-  pub no_value : (before ≡ []) ⊎ (is_value_part part ≡ false)
-  pub place : at ≡ size_of (keyword_parts before)
+-- parts of a value are read, and their text is this
+pub record AreJoined (due : Option (List ℕ)) (text : List ℕ) (more : Option (List ℕ)) : Type 0 where
+  pub value : List (List ℕ)
+  pub each : AllByRecursion (λ part. IsTrue (is_value_part part)) value
+  pub parts : parts_in due ≡ value ++ parts_in more
+  pub text_is : text ≡ joined value
+
+-- the text, with a `-` after it if it is not empty
+abbrev pub dashed : List ℕ → List ℕ
+dashed [] = []
+dashed (b ∷ text) = (b ∷ text) ++ 45 ∷ []
+
+-- the text with one more part
+abbrev pub with_part : List ℕ → List ℕ → List ℕ
+with_part text part = dashed text ++ part
+
+-- a pair is inserted if its key was absent
+abbrev pub IsPutFirst : {Z : Type 0} → List (List ℕ × String Z) → List ℕ × List ℕ → List (List ℕ × String Z) → Type 0
+IsPutFirst old pair new = (key : List ℕ) → value_in new key ≡ option_or (value_in old key) (value_of (pair ∷ []) key)
+
+-- a keyword is read
+pub record IsKeywordRead {Z : Type 0} (rest : List ℕ) (more : Option (List ℕ)) (old new : List (List ℕ × String Z)) : Type 0 where
+  pub keyword : Keyword
+  pub valid : IsKeyword keyword
+  pub parts : parts_of rest ≡ keyword.key ∷ (keyword.value ++ parts_in more)
+  pub put : IsPutFirst old (pair_of keyword) new
+
+-- keywords are read, and the pairs are theirs
+pub record AreRead {Z : Type 0} (text : List ℕ) (due : Option (List ℕ)) (pairs : List (List ℕ × String Z)) : Type 0 where
+  pub keywords : List Keyword
+  pub each : AllByRecursion IsKeyword keywords
+  pub parts : parts_of text ≡ keyword_parts keywords ++ parts_in due
+  pub first : (key : List ℕ) → value_in pairs key ≡ value_of (map pair_of keywords) key

@@ -1,5 +1,2 @@
--- The definitions that the contracts cite. `Keywords` is the page to read first.
+-- The definitions that the contracts cite.
 pub mod Keywords
-pub mod Reading
-pub mod Written
-pub mod Laws

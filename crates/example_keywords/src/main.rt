@@ -3,29 +3,73 @@
 //!
 //! - `read TEXT`: the number of keywords that a text spells and their text in canonical form, or why it spells none. `\0` stands
 //!   for a byte 0.
+//! - `repeat NUMBER TEXT`: the same of a text so many times, and `zz-abc` after it.
 //! - `find KEY TEXT`: the value of a key, which is given in lower case, and `none` if it is not there.
-//! - `walk TEXT`: the values from the last keyword to the first, and what `{:?}` prints of all.
-//! - `falling NUMBER`: what `read` writes for so many keywords, whose keys descend and begin anew after the last one.
 //!
 //! `model.py` makes the input and tells the output.
 #![tactic(auto)]
 
-mod fault;
-mod laws;
-mod lines;
-mod map;
 mod parts;
 mod read;
-mod value;
-mod write;
 
-use std::io;
+use parts::put_part;
+use read::{KeywordFault, Keywords, read};
+use std::alloc::{AllocError, Global};
+use std::{io, str};
 
 fn main(rt: HostRuntime) -> io::Result<()> {
     let input = io::read_to_string(rt.alloc(), rt.stdin())?;
-    let mut output = String::new(rt.alloc());
     for line in input.as_str().lines() {
-        lines::answer_line(rt.alloc(), line, &mut output)?;
+        let (word, rest) = line.split_once(' ').unwrap_or((line, ""));
+        match answer(rt.alloc(), word, rest) {
+            Ok(text) => println!(rt; "{text}")?,
+            Err(fault) => println!(rt; "{fault}")?,
+        }
     }
-    rt.print(output.as_str())
+    Ok(())
+}
+
+fn answer(alloc: Global, word: &str, rest: &str) -> Result<String, KeywordFault> {
+    let (first, text) = rest.split_once(' ').unwrap_or((rest, ""));
+    match word {
+        "read" => written(alloc, rest.replace(alloc, "\\0", "\0")?.as_str()),
+        "repeat" => {
+            let mut text = text.repeat(alloc, first.parse::<usize>().unwrap_or(0))?;
+            text.push_str("zz-abc")?;
+            written(alloc, text.as_str())
+        }
+        _ => find(alloc, first, text),
+    }
+}
+
+// The text of keywords in its canonical form: keys ascend, all is in lower case, and `true` is left out.
+fn text_of(alloc: Global, keywords: &Keywords) -> Result<String, AllocError> {
+    let mut text = String::new(alloc);
+    for (key, value) in keywords {
+        put_part(&mut text, str::from_utf8(key.as_slice()).unwrap_or(""))?;
+        if !value.is_empty() {
+            put_part(&mut text, value.as_str())?;
+        }
+    }
+    Ok(text)
+}
+
+// The number of keywords and their text, which is read as the same keywords.
+fn written(alloc: Global, text: &str) -> Result<String, KeywordFault> {
+    let keywords = read(alloc, text)?;
+    let text = text_of(alloc, &keywords)?;
+    let again = read(alloc, text.as_str())?;
+    let note = (again != keywords).then_some(", which is read otherwise");
+    Ok(format!(in alloc; "{} {text}{}", keywords.len(), note.unwrap_or(""))?)
+}
+
+fn find(alloc: Global, key: &str, text: &str) -> Result<String, KeywordFault> {
+    let keywords = read(alloc, text)?;
+    match key.as_bytes() {
+        &[first, second] => match keywords.get(&[first, second]) {
+            Some(value) => Ok(format!(in alloc; "value {value}")?),
+            None => Ok(String::from_str(alloc, "none")?),
+        },
+        _ => Ok(String::from_str(alloc, "no key")?),
+    }
 }

@@ -1,23 +1,37 @@
-//! Keywords read from a text, one by one.
-ghost use Rattle.std.specs.Prelude.{◌≡◌, ◌≢◌, [], IfErr, IfOk, IsOk, None, OnOk, length, map, string_bytes, ◌≤◌};
+//! Keywords read from a text, one by one, into a map.
+ghost use Rattle.std.specs.Prelude.{◌≡◌, [], IfOk, IsOk, OnOk, string_bytes};
 ghost use Rattle.std.specs.Option.{option_copied};
-ghost use Rattle.example_keywords.specs.Keywords.{AreCanonical, IsFault, IsRead};
-ghost use Rattle.example_keywords.specs.Reading.{AreRead, IfPart, IsKeywordRead, IsNoKey, IsPutFirst, shown};
+ghost use Rattle.example_keywords.specs.Keywords.{IsKeywordRead, IsPutFirst, IsRead};
 
-use crate::fault::KeywordFault;
-use crate::parts::{Key, first_part, key_of};
-use crate::value::{canonical, joined_value};
+use crate::parts::{Key, canonical, first_part, joined_value, key_of};
 use litemap::LiteMap;
 use litemap_short::ShortStore;
 use std::alloc::{AllocError, Global};
+use thiserror::Error;
 
-/// Values by their keys. No pair and one take no memory beside the value's own.
-pub(crate) type Pairs = LiteMap<Key, String, ShortStore<Key, String>>;
+/// The keywords of a locale's extension: values by their keys, both in lower case. No keyword and one take no memory beside the
+/// value's own.
+///
+/// A value is the text of its parts, with a `-` between each two; it is empty if there is none, and for `true`.
+pub type Keywords = LiteMap<Key, String, ShortStore<Key, String>>;
+
+/// Why a text can't be read as keywords.
+#[derive(Debug, PartialEq, Drop, Error)]
+pub enum KeywordFault {
+    /// A part is no key, and no part of the value of a key before it.
+    #[error("the part at byte {at} is neither a key nor part of a value")]
+    Part {
+        /// Where the first such part begins.
+        at: usize,
+    },
+    /// Memory ran out.
+    #[error("out of memory")]
+    NoRoom(#[from] AllocError),
+}
 
 // Inserts a pair if its key is absent.
-fn put_first(pairs: &mut Pairs, key: Key, value: String) -> Result<(), AllocError>
-    ensures { OnOk result
-        (IsPutFirst (map shown pairs.old.pairs) (key, string_bytes value) (map shown pairs.new.pairs)) }
+fn put_first(pairs: &mut Keywords, key: Key, value: String) -> Result<(), AllocError>
+    ensures { OnOk result (IsPutFirst pairs.old.pairs (key, string_bytes value) pairs.new.pairs) }
 {
     pairs.try_insert(key, value)?;
     Ok(())
@@ -28,50 +42,39 @@ fn read_keyword<'a>(
     alloc: Global,
     text: &str,
     rest: &'a str,
-    pairs: &mut Pairs,
+    pairs: &mut Keywords,
 ) -> Result<Option<&'a str>, KeywordFault>
-    requires { length rest.now ≤ length text.now }
-    ensures read { IfOk result (λ more. IsKeywordRead rest.now (option_copied more)
-        (map shown pairs.old.pairs) (map shown pairs.new.pairs)) }
-    ensures fault { IfErr result (λ fault. IfPart fault (IsNoKey text.now rest.now)) }
+    ensures { IfOk result (λ more. IsKeywordRead rest.now (option_copied more) pairs.old.pairs pairs.new.pairs) }
 {
-    let (part, behind) = first_part(rest);
+    let (part, after) = first_part(rest);
     let Some(key) = key_of(part) else {
         return Err(KeywordFault::Part {
-            at: text.len() - rest.len(),
+            at: text.len().saturating_sub(rest.len()),
         });
     };
-    let (value, more) = joined_value(alloc, behind)?;
+    let (value, more) = joined_value(alloc, after)?;
     put_first(pairs, key, canonical(value))?;
     Ok(more)
 }
 
-// Reads all keywords of a text that is not empty.
-fn read_keywords(alloc: Global, text: &str, pairs: &mut Pairs) -> Result<(), KeywordFault>
-    requires some { text.now ≢ [] }
-    requires empty { pairs.old.pairs ≡ [] }
-    ensures read { OnOk result (AreRead text.now None (map shown pairs.new.pairs)) }
-    ensures fault { IfErr result (λ fault. IfPart fault (IsFault text.now)) }
-{
-    let mut due = Some(text);
-    while let Some(rest) = due {
-        due = read_keyword(alloc, text, rest, pairs)?;
-    }
-    Ok(())
-}
-
-/// The pairs of the keywords that a text spells.
-pub(crate) fn read_pairs(alloc: Global, text: &str) -> Result<Pairs, KeywordFault>
-    ensures read { IfOk result (λ pairs. IsRead text.now (map shown pairs.pairs)) }
-    ensures known { IfOk result (λ pairs. AreCanonical (map shown pairs.pairs)) }
-    ensures fault { IfErr result (λ fault. IfPart fault (IsFault text.now)) }
+/// Reads the keywords that a text spells, in either case. Of two equal keys the first counts. Each keyword takes one search among
+/// the keys that were read.
+///
+/// # Errors
+///
+/// If a part is no key, and no part of the value of a key before it, the error has its offset. If memory runs out, it is
+/// `NoRoom`: for values, and from the second key on for the map. It doesn't come for an empty text.
+pub fn read(alloc: Global, text: &str) -> Result<Keywords, KeywordFault>
+    ensures read { IfOk result (λ keywords. IsRead text.now keywords.pairs) }
     ensures succeeds { text.now ≡ [] → IsOk result }
 {
     let mut pairs = LiteMap::new(alloc);
     if text.is_empty() {
         return Ok(pairs);
     }
-    read_keywords(alloc, text, &mut pairs)?;
-    pairs.keys_rise();
+    let mut due = Some(text);
+    while let Some(rest) = due {
+        due = read_keyword(alloc, text, rest, &mut pairs)?;
+    }
     Ok(pairs)
 }

@@ -1,9 +1,9 @@
 -- The entries between two indices, and parts of a list.
 --     between_are, between_is      at the first index stand so many entries, which are those between
 --     slice_none, slice_clamped      what a range past the end has
-use Rattle.std.proofs.Common.{◌≡◌, ℕ, zero, suc, ◌-◌, ◌<◌, ◌≤◌, List, [], ◌∷◌, length, min, take, drop, get_or, slice_range, Some, refl, sym, ap, ◌∙◌, arith}
+use Rattle.std.proofs.Common.{◌≡◌, ℕ, ◌-◌, ◌<◌, ◌≤◌, List, [], length, min, take, drop, get_or, slice_range, Some, refl, sym, ap, ◌∙◌, arith}
 use Rattle.std.proofs.lemmas.Bool.{le-leb}
-use Rattle.std.proofs.lemmas.List.{length-drop, length-take-le, take-append-drop, take_min}
+use Rattle.std.proofs.lemmas.List.{length-drop, length-take, length-take-le, nil_from_length, take-append-drop, take_min}
 use Rattle.litemap_store.specs.Pairs.{sub}
 use Rattle.litemap_store.proofs.Lists.Parts.{Rising-sub}
 use Rattle.name_table.proofs.PartLemmas.{begins_split}
@@ -41,16 +41,10 @@ module _ (entries offsets : List ℕ) (from to d : ℕ) (placed : ArePlaced entr
       left_one (drop (get_or offsets from d) entries) (to - from) these.pairs between_are.pairs these.left between_are.left
 
 -- ---- parts of a list
-take_none : {X : Type 0} (n : ℕ) → take {A = X} n [] ≡ []
-take_none zero = refl
-take_none (suc n) = refl
-
 pub slice_none : {X : Type 0} (L : List X) (a b : ℕ) → min b (length L) ≤ a → slice_range L a b ≡ []
-slice_none [] zero b h = take_none (b - 0)
-slice_none [] (suc a) b h = take_none (b - suc a)
-slice_none (x ∷ L) zero b h = let e : b - 0 ≡ 0 = omega (arith, h) in ap (λ n. take n (x ∷ L)) e
-slice_none (x ∷ L) (suc a) zero h = let e : 0 - suc a ≡ 0 = omega arith in ap (λ n. take n (drop a L)) e
-slice_none (x ∷ L) (suc a) (suc b) h = let e : suc b - suc a ≡ b - a = omega arith in ap (λ n. take n (drop a L)) e ∙ slice_none L a b (omega (arith, h))
+slice_none L a b h =
+    let e : length (take (b - a) (drop a L)) ≡ 0 = omega (arith, h, length-take (b - a) (drop a L), length-drop a L) in
+    nil_from_length (take (b - a) (drop a L)) e
 
 pub slice_clamped : {X : Type 0} (L : List X) (a b : ℕ) → slice_range L a (min b (length L)) ≡ slice_range L a b
 slice_clamped L a b =

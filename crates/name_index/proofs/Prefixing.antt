@@ -1,7 +1,7 @@
 -- How the first bytes of ascending names compare with a string, and where this splits the names.
 --     head_below, head_begins      what its first bytes say of a name;  side      on which side of the split it lies
 --     edge_place, edges_part      what the two edges say
-use Rattle.std.proofs.Common.{◌≡◌, ◌==◌, ◌&&◌, ◌⊎◌, inl, inr, ℕ, zero, suc, ◌+◌, ◌-◌, ◌≤◌, Bool, true, false, not, cond, List, [], ◌∷◌, length, filter, eqb-true, eq-eqb, true≢false, Some, Err, refl, sym, ap, ◌∙◌, arith}
+use Rattle.std.proofs.Common.{◌≡◌, ◌==◌, ◌&&◌, ◌⊎◌, inl, inr, ℕ, zero, suc, ◌+◌, ◌-◌, ◌≤◌, Bool, true, false, not, cond, List, [], ◌∷◌, length, filter, eqb-true, eq-eqb, true≢false, Some, Err, refl, sym, ap, ◌∙◌, subst, arith}
 use Rattle.std.proofs.lemmas.Cmp.{ranked, tied_itself}
 use Rattle.std.specs.Cmp.{nat_cmp_total}
 use Rattle.std.specs.Ordering.{is_le, is_lt, nat_cmp, ordering_then}
@@ -13,7 +13,7 @@ use Rattle.litemap_store.specs.Pairs.{place, sub}
 use Rattle.litemap_store.specs.Queries.{OneSide}
 use Rattle.litemap_store.specs.Search.{Ascends, Finds}
 use Rattle.litemap_store.proofs.Lists.Parts.{Less-from_is_lt}
-use Rattle.litemap_store.proofs.Search.Splitting.{Ascends-by_query, Splits-from_Finds, each-weaker}
+use Rattle.litemap_store.proofs.Search.Splitting.{Ascends-by_query, Splits-from_Finds}
 use Rattle.name_index.specs.Prefixes.{begins}
 use Rattle.name_index.specs.Steps.{ArePlaced, head_order, leads_to}
 use Rattle.name_index.specs.Tables.{text_order}
@@ -94,9 +94,9 @@ side_is true = refl
 side_is false = refl
 
 same_cut : {X : Type 0} (f g : X → Bool) (L : List X) (n : ℕ) → ((x : X) → f x ≡ g x) → IsCut f L n → IsCut g L n
-same_cut f g [] n e h = h
-same_cut f g (x ∷ L) zero e h = each-weaker (λ y d. sym (e y) ∙ d) (x ∷ L) h
-same_cut f g (x ∷ L) (suc n) e h = (sym (e x) ∙ h.0, same_cut f g L n e h.1)
+same_cut f g L n e h =
+    let same : f ≡ g = λ i x. e x i in
+    subst (λ t. IsCut t L n) same h
 
 module _ {entries offsets : List ℕ} (behind : Bool) (text : List ℕ) (placed : ArePlaced entries offsets) where
   pub known_sides : (length (pairs_at placed) ≡ length offsets) × Ascends (side behind text) (pairs_at placed)
@@ -110,8 +110,7 @@ module _ {entries offsets : List ℕ} (behind : Bool) (text : List ℕ) (placed 
 -- ---- what is filtered
 
 pub same_filter : {X : Type 0} (f g : X → Bool) (L : List X) → ((x : X) → f x ≡ g x) → filter f L ≡ filter g L
-same_filter f g [] e = refl
-same_filter f g (x ∷ L) e = (λ i. cond (e x i) (x ∷ same_filter f g L e i) (same_filter f g L e i))
+same_filter f g L e = λ i. filter (λ x. e x i) L
 
 -- ---- what the two edges say
 

@@ -1,11 +1,10 @@
 -- Which error bytes have that are no name table whose keys ascend: that of the first entry that can't be read, or whose key
 -- doesn't ascend.
-use Rattle.std.specs.Prelude.{◌≡◌, ◌⊎◌, ◌<◌, ℕ, List, [], ◌∷◌, ◌++◌}
+use Rattle.std.specs.Prelude.{◌≡◌, ◌⊎◌, ℕ, List, [], ◌∷◌, ◌++◌, IfErr, IfOk, Result, ⊤}
 use Rattle.litemap_store.specs.Pairs.{Rising}
-use Rattle.name_table.specs.Faults.{AreOfPairs, Fault, PartFault}
-use Rattle.name_table.specs.Parts.{Number}
+use Rattle.name_table.specs.Faults.{NextFault, NumberFault}
 use Rattle.name_table.specs.Remaining.{IsAfter, IsCounted, Remaining}
-use Rattle.name_index.specs.Tables.{IsRisingTable, text_order}
+use Rattle.name_index.specs.Tables.{IsRisingTable, OfTable, text_order}
 use Rattle.name_index.specs.declared.fault.NameTableFault.{NameTableFault}
 use Rattle.name_index.specs.declared.fault.NameTableFault.TheVariants.{Format, NotRising}
 
@@ -15,7 +14,7 @@ AllRise s = (t : Remaining) × (pairs : List (List ℕ × List ℕ)) × IsAfter 
 
 -- the next one of the pairs that are due, after those that were read, can't be read, or its key doesn't ascend
 abbrev pub NextStops : List (List ℕ × List ℕ) → Remaining → NameTableFault → Type 0
-NextStops pairs t (Format fault) = (0 < t.left) × Fault (AreOfPairs 1) t.rest t.place fault
+NextStops pairs t (Format fault) = NextFault t fault
 NextStops pairs t (NotRising at) =
     (u : Remaining) × (next : List ℕ × List ℕ)
     × IsAfter t u (next ∷ []) × (at ≡ t.place) × (Rising text_order (pairs ++ next ∷ []) → ⊥)
@@ -27,12 +26,18 @@ StopsAt s fault = (t : Remaining) × (pairs : List (List ℕ × List ℕ))
 
 -- the number of entries can't be read
 abbrev pub NumberStops : List ℕ → NameTableFault → Type 0
-NumberStops bytes (Format fault) = PartFault (Number 0) bytes 0 fault
+NumberStops bytes (Format fault) = NumberFault bytes 0 fault
 NumberStops bytes (NotRising at) = ⊥
 
 -- the number of entries can't be read, or what is due after it stops
 abbrev pub IsFault : List ℕ → NameTableFault → Type 0
 IsFault bytes fault = NumberStops bytes fault ⊎ ((s : Remaining) × IsCounted bytes s × StopsAt s fault)
+
+-- the bytes are opened: they begin with a table whose keys ascend. Else the error is theirs
+pub record Opens (bytes : List ℕ) (result : Result (List ℕ) NameTableFault) : Type 0 where
+  pub same : IfOk result (λ table. table ≡ bytes)
+  pub table : IfOk result (λ _. OfTable bytes (λ _. ⊤))
+  pub fault : IfErr result (λ fault. IsFault bytes fault)
 
 -- bytes have one error at most
 abbrev pub RisingFaultIsOne : Type 0

@@ -1,8 +1,9 @@
 -- An index of names: the number of its entries, the offset of each, and the entries. A string is the list of its bytes.
-use Rattle.std.specs.Prelude.{◌≡◌, ℕ, ◌+◌, ◌*◌, ◌≤◌, List, length, take, drop, IsUtf8, Some, slice_get}
+use Rattle.std.specs.Prelude.{◌≡◌, ℕ, ◌+◌, ◌*◌, ◌≤◌, List, length, take, drop, IfErr, IfOk, IsUtf8, Result, Some, slice_get, ⊤}
 use Rattle.std.specs.Int.{from_le_bytes, w32}
 use Rattle.litemap_store.specs.Pairs.{Rising}
 use Rattle.name_index.specs.Tables.{text_order}
+use Rattle.name_index.specs.declared.fault.IndexFault.{IndexFault}
 
 -- at an offset stand the four bytes of the number, the lowest first
 pub record IsNumberAt (bytes : List ℕ) (at n : ℕ) : Type 0 where
@@ -46,3 +47,9 @@ IfIndex bytes P = (pairs : List (List ℕ × List ℕ)) → IsIndex bytes pairs 
 -- the bytes are no index
 abbrev pub NoIndex : List ℕ → Type 0
 NoIndex bytes = IfIndex bytes (λ _. ⊥)
+
+-- the bytes are opened: they are an index. Else they are none
+pub record OpensIndex (bytes : List ℕ) (result : Result (List ℕ) IndexFault) : Type 0 where
+  pub same : IfOk result (λ names. names ≡ bytes)
+  pub index : IfOk result (λ _. OfIndex bytes (λ _. ⊤))
+  pub fault : IfErr result (λ _. NoIndex bytes)

@@ -1,5 +1,6 @@
 -- What the steps of opening, of lookups and of writing find and leave. Only private contracts and invariants cite these.
-use Rattle.std.specs.Prelude.{◌≡◌, ℕ, ◌+◌, ◌*◌, ◌<◌, ◌≤◌, Bool, true, false, List, [], ◌∷◌, ◌++◌, length, take, drop, Result, Ok, Err, Some, slice_get}
+use Rattle.std.specs.Prelude.{◌≡◌, ℕ, ◌+◌, ◌*◌, ◌<◌, ◌≤◌, Bool, true, false, List, [], ◌∷◌, ◌++◌}
+use Rattle.std.specs.Prelude.{length, take, drop, Result, Ok, Err, Some, slice_get}
 use Rattle.std.specs.Ordering.{is_le, is_lt}
 use Rattle.std.specs.declared.cmp.Ordering.{Ordering}
 use Rattle.litemap_store.specs.Pairs.{Rising, value_at}
@@ -69,7 +70,7 @@ pub record IsIndexed (bytes entries offsets : List ℕ) : Type 0 where
 abbrev pub head_order : List ℕ → List ℕ → Ordering
 head_order name text = text_order (take (length text) name) text
 
--- the name comes before those that begin with the string; or, if these len too, not after them
+-- the name comes before those that begin with the string, or is one of them if these are wanted too
 abbrev pub leads_to : Bool → List ℕ → List ℕ → Bool
 leads_to false text name = is_lt (head_order name text)
 leads_to true text name = is_le (head_order name text)

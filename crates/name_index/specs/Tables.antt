@@ -1,9 +1,10 @@
 -- Name tables whose keys ascend. A string is the list of its bytes.
-use Rattle.std.specs.Prelude.{◌≡◌, ℕ, List, map}
+use Rattle.std.specs.Prelude.{◌≡◌, ℕ, List, Option, Result, map}
 use Rattle.std.specs.Cmp.Lexicographic.{slice_cmp}
+use Rattle.std.specs.Option.{option_copied}
 use Rattle.std.specs.Ordering.{nat_cmp}
 use Rattle.std.specs.declared.cmp.Ordering.{Ordering}
-use Rattle.litemap_store.specs.Pairs.{Rising}
+use Rattle.litemap_store.specs.Pairs.{Rising, index_of, value_at}
 use Rattle.litemap.specs.ByBytes.{by_bytes}
 use Rattle.name_table.specs.Parts.{Begins, IsTable, table_parts}
 use Rattle.name_table.specs.Remaining.{shown}
@@ -22,6 +23,14 @@ pub record IsRisingTable (bytes : List ℕ) (pairs : List (List ℕ × List ℕ)
 -- the bytes begin with a table whose keys ascend, and P holds of its pairs: by a law of name tables there is no other one
 abbrev pub OfTable : List ℕ → (List (List ℕ × List ℕ) → Type 0) → Type 0
 OfTable bytes P = (pairs : List (List ℕ × List ℕ)) × IsRisingTable bytes pairs × P pairs
+
+-- the value of the key, if it is there
+abbrev pub Gets : List ℕ → Option (Bor (List ℕ)) → List (List ℕ × List ℕ) → Type 0
+Gets key value pairs = option_copied value ≡ value_at text_order pairs key
+
+-- the index of the key, or the index where it would go
+abbrev pub FindsIndex : List ℕ → Result ℕ ℕ → List (List ℕ × List ℕ) → Type 0
+FindsIndex key index pairs = index ≡ index_of text_order pairs key
 
 -- bytes that are a table of a map's pairs, as those that are written for it, begin with a table of these pairs, whose keys
 -- ascend

@@ -17,7 +17,7 @@ pub fn read_valid_text(bytes: &[u8]) -> (&str, &[u8])
     ensures { Begins bytes.now (text_parts result.0.now) result.1.now }
 {
     match Cursor::new(bytes).text() {
-        Ok((text, behind)) => (text, behind.rest()),
+        Ok((text, after)) => (text, after.rest()),
         Err(_) => unreachable!(),
     }
 }
@@ -46,9 +46,9 @@ pub fn scan<'a>(
 {
     let mut rest = entries;
     for index in 0..len {
-        let ((name, value), behind) = read_valid_pair(rest);
+        let ((name, value), after) = read_valid_pair(rest);
         match count.cmp(&name, &key) {
-            Ordering::Less => rest = behind,
+            Ordering::Less => rest = after,
             Ordering::Equal => return Ok((index, value)),
             Ordering::Greater => return Err(index),
         }
@@ -64,8 +64,8 @@ pub fn entry_at<'a>(entries: &'a [u8], len: usize, index: usize) -> (&'a str, &'
 {
     let mut rest = entries;
     for _ in 0..index {
-        let (_, behind) = read_valid_pair(rest);
-        rest = behind;
+        let (_, after) = read_valid_pair(rest);
+        rest = after;
     }
     let (pair, _) = read_valid_pair(rest);
     pair

@@ -1,18 +1,15 @@
 //! A name table with the offset of each entry.
-ghost use Rattle.std.specs.Prelude.{◌≡◌, ◌==◌, ◌*◌, ◌<◌, IfErr, IfOk, OnErr, OnOk, Some, filter, length, map, slice_get};
-ghost use Rattle.std.specs.Prelude.{slice_range};
-ghost use Rattle.std.specs.Option.{option_copied, option_map};
+ghost use Rattle.std.specs.Prelude.{◌≡◌, ◌==◌, ◌*◌, ◌<◌, IfErr, IfOk, OnErr, OnOk, length, map, slice_get, slice_range};
+ghost use Rattle.std.specs.Option.{option_map};
 ghost use Rattle.litemap_store.specs.Counts.{RisesByAtMost, digits};
-ghost use Rattle.litemap_store.specs.Pairs.{index_of, place, sub, value_at};
 ghost use Rattle.name_index.specs.Far.{IfTooFar, IsFar};
-ghost use Rattle.name_index.specs.Prefixes.{begins};
-ghost use Rattle.name_index.specs.Tables.{OfTable, text_order};
+ghost use Rattle.name_index.specs.Prefixes.{IsPrefixRange};
+ghost use Rattle.name_index.specs.Tables.{FindsIndex, Gets, OfTable};
 ghost use Rattle.name_table.specs.Remaining.{shown};
 
 use crate::fault::NameIndexFault;
 use crate::name_entries::{NameEntries, map_of};
-use crate::offsets::{entries_between, offsets_of, pair_of, search};
-use crate::prefixes::partition_point;
+use crate::offsets::{entries_between, offsets_of, pair_of, partition_point, search};
 use crate::table::NameTable;
 use litemap_store::store::Count;
 use name_table::NameMap;
@@ -81,14 +78,14 @@ impl<'a> NameIndex<'a> {
     ///
     /// The value is borrowed from the bytes of the table, and outlives the index.
     pub fn get(&self, key: &str) -> Option<&'a str>
-        ensures { OfTable self.now (λ pairs. option_copied result ≡ value_at text_order pairs key.now) }
+        ensures { OfTable self.now (Gets key.now result) }
     {
         self.get_counted(key, &mut Count::new())
     }
 
     /// `get`, counting its comparisons.
     pub fn get_counted(&self, key: &str, count: &mut Count) -> Option<&'a str>
-        ensures value { OfTable self.now (λ pairs. option_copied result ≡ value_at text_order pairs key.now) }
+        ensures value { OfTable self.now (Gets key.now result) }
         ensures cost { OfTable self.now (λ pairs. RisesByAtMost (digits (length pairs)) count.old count.new) }
     {
         let offsets = self.offsets.as_slice();
@@ -100,14 +97,14 @@ impl<'a> NameIndex<'a> {
 
     /// Returns `Ok` with the index of a key, or `Err` with the index where it would go. It costs what `get` does.
     pub fn find_index(&self, key: &str) -> Result<usize, usize>
-        ensures { OfTable self.now (λ pairs. result ≡ index_of text_order pairs key.now) }
+        ensures { OfTable self.now (FindsIndex key.now result) }
     {
         self.find_index_counted(key, &mut Count::new())
     }
 
     /// `find_index`, counting its comparisons.
     pub fn find_index_counted(&self, key: &str, count: &mut Count) -> Result<usize, usize>
-        ensures place { OfTable self.now (λ pairs. result ≡ index_of text_order pairs key.now) }
+        ensures place { OfTable self.now (FindsIndex key.now result) }
         ensures cost { OfTable self.now (λ pairs. RisesByAtMost (digits (length pairs)) count.old count.new) }
     {
         search(self.entries, self.offsets.as_slice(), key, count)
@@ -128,18 +125,14 @@ impl<'a> NameIndex<'a> {
     ///
     /// It makes O(log n) comparisons, each of the string with as many bytes of a name.
     pub fn prefix_places(&self, prefix: &str) -> Range<usize>
-        ensures start { OfTable self.now (λ pairs. result.start ≡ place text_order pairs prefix.now) }
-        ensures names { OfTable self.now (λ pairs. sub pairs result.start result.end
-            ≡ Some (filter (λ p. begins p.0 prefix.now) pairs)) }
+        ensures range { OfTable self.now (IsPrefixRange prefix.now result.start result.end) }
     {
         self.prefix_places_counted(prefix, &mut Count::new())
     }
 
     /// `prefix_places`, counting its comparisons.
     pub fn prefix_places_counted(&self, prefix: &str, count: &mut Count) -> Range<usize>
-        ensures start { OfTable self.now (λ pairs. result.start ≡ place text_order pairs prefix.now) }
-        ensures names { OfTable self.now (λ pairs. sub pairs result.start result.end
-            ≡ Some (filter (λ p. begins p.0 prefix.now) pairs)) }
+        ensures range { OfTable self.now (IsPrefixRange prefix.now result.start result.end) }
         ensures cost { OfTable self.now (λ pairs. RisesByAtMost (2 * digits (length pairs)) count.old count.new) }
     {
         let offsets = self.offsets.as_slice();

@@ -1,16 +1,14 @@
-//! Names looked up by the offsets that stand before them in the bytes.
-ghost use Rattle.std.specs.Prelude.{◌≡◌, ◌==◌, IfErr, IfOk, length, slice_get};
-ghost use Rattle.std.specs.Option.{option_copied, option_map};
+//! Names looked up by the offsets that stand before them in the bytes, which each call checks or which were read once.
+ghost use Rattle.std.specs.Prelude.{◌≡◌, ◌==◌, ◌-◌, IfErr, IfOk, OnOk, length, slice_get};
+ghost use Rattle.std.specs.Option.{option_map};
 ghost use Rattle.litemap_store.specs.Counts.{RisesByAtMost, digits};
-ghost use Rattle.litemap_store.specs.Pairs.{index_of, value_at};
-ghost use Rattle.name_index.specs.Index.{IfIndex, NoIndex};
+ghost use Rattle.name_index.specs.Index.{IfIndex, NoIndex, OfIndex, OpensIndex};
 ghost use Rattle.name_index.specs.Steps.{HasOffsets};
-ghost use Rattle.name_index.specs.Tables.{text_order};
+ghost use Rattle.name_index.specs.Tables.{FindsIndex, Gets};
 ghost use Rattle.name_table.specs.Remaining.{shown};
 
 use crate::fault::IndexFault;
-use crate::index_bytes::{entry_at, number_at};
-use crate::indexed_search::find;
+use crate::indexed_search::{entry_at, find, follow, number_at};
 use litemap_store::store::Count;
 use std::marker::Model;
 
@@ -75,8 +73,7 @@ impl<'a> IndexedNames<'a> {
 
     /// Returns the value of a key, or `None` if it isn't there. It makes O(log n) comparisons.
     pub fn get(&self, key: &str) -> Result<Option<&'a str>, IndexFault>
-        ensures value { IfOk result (λ found. IfIndex self.now
-            (λ pairs. option_copied found ≡ value_at text_order pairs key.now)) }
+        ensures value { IfOk result (λ found. IfIndex self.now (Gets key.now found)) }
         ensures fault { IfErr result (λ _. NoIndex self.now) }
     {
         self.get_counted(key, &mut Count::new())
@@ -84,8 +81,7 @@ impl<'a> IndexedNames<'a> {
 
     /// `get`, counting its comparisons.
     pub fn get_counted(&self, key: &str, count: &mut Count) -> Result<Option<&'a str>, IndexFault>
-        ensures value { IfOk result (λ found. IfIndex self.now
-            (λ pairs. option_copied found ≡ value_at text_order pairs key.now)) }
+        ensures value { IfOk result (λ found. IfIndex self.now (Gets key.now found)) }
         ensures fault { IfErr result (λ _. NoIndex self.now) }
         ensures cost { IfIndex self.now (λ pairs. RisesByAtMost (digits (length pairs)) count.old count.new) }
     {
@@ -100,7 +96,7 @@ impl<'a> IndexedNames<'a> {
 
     /// Returns `Ok` with the index of a key, or `Err` with the index where it would go. It costs what `get` does.
     pub fn find_index(&self, key: &str) -> Result<Result<usize, usize>, IndexFault>
-        ensures place { IfOk result (λ found. IfIndex self.now (λ pairs. found ≡ index_of text_order pairs key.now)) }
+        ensures place { IfOk result (λ found. IfIndex self.now (FindsIndex key.now found)) }
         ensures fault { IfErr result (λ _. NoIndex self.now) }
     {
         self.find_index_counted(key, &mut Count::new())
@@ -112,7 +108,7 @@ impl<'a> IndexedNames<'a> {
         key: &str,
         count: &mut Count,
     ) -> Result<Result<usize, usize>, IndexFault>
-        ensures place { IfOk result (λ found. IfIndex self.now (λ pairs. found ≡ index_of text_order pairs key.now)) }
+        ensures place { IfOk result (λ found. IfIndex self.now (FindsIndex key.now found)) }
         ensures fault { IfErr result (λ _. NoIndex self.now) }
         ensures cost { IfIndex self.now (λ pairs. RisesByAtMost (digits (length pairs)) count.old count.new) }
     {
@@ -129,5 +125,104 @@ impl<'a> IndexedNames<'a> {
         }
         let pair = entry_at(self.bytes, self.len, index)?;
         Ok(Some(pair))
+    }
+}
+
+/// An index of names that was read once, so that no call returns an error.
+///
+/// A contract sees it as the bytes, and says what a call returns of the list of its pairs (`OfIndex`).
+#[derive(Drop)]
+pub struct CheckedNames<'a> {
+    names: IndexedNames<'a>,
+}
+
+impl<'a> Model for CheckedNames<'a> {
+    ghost use Rattle.std.specs.Prelude.{ℕ, List, ⊤};
+    ghost use Rattle.name_index.specs.Index.{OfIndex};
+
+    ghost Value = { List ℕ };
+
+    ghost view = { λ t. t.names };
+
+    ghost invariant = { λ t. OfIndex t.names (λ _. ⊤) };
+}
+
+impl<'a> IndexedNames<'a> {
+    /// Opens the index that the bytes are, and reads it once, so that no lookup returns an error.
+    ///
+    /// It makes one comparison for each key but the first, and takes no memory. The error is that of the first entry that can't
+    /// be read, or whose key isn't above the one before it.
+    pub fn open_checked(bytes: &'a [u8]) -> Result<CheckedNames<'a>, IndexFault>
+        ensures opens { OpensIndex bytes.now result }
+    {
+        Self::open_checked_counted(bytes, &mut Count::new())
+    }
+
+    /// `open_checked`, counting its comparisons: at most one for each key but the first. If it returns an error, nothing is
+    /// promised of them.
+    pub fn open_checked_counted(
+        bytes: &'a [u8],
+        count: &mut Count,
+    ) -> Result<CheckedNames<'a>, IndexFault>
+        ensures opens { OpensIndex bytes.now result }
+        ensures cost { OnOk result (OfIndex bytes.now (λ pairs. RisesByAtMost (length pairs - 1) count.old count.new)) }
+    {
+        let names = IndexedNames::open(bytes)?;
+        let (bytes, len) = names.parts();
+        follow(bytes, len, count)?;
+        Ok(CheckedNames { names })
+    }
+}
+
+impl<'a> CheckedNames<'a> {
+    /// Returns the number of entries.
+    pub fn len(&self) -> usize
+        ensures { OfIndex self.now (λ pairs. result ≡ length pairs) }
+    {
+        self.names.len()
+    }
+
+    /// Returns whether there is no entry.
+    pub fn is_empty(&self) -> bool
+        ensures { OfIndex self.now (λ pairs. result ≡ (length pairs == 0)) }
+    {
+        self.names.is_empty()
+    }
+
+    /// Returns the value of a key, or `None` if it isn't there. It makes O(log n) comparisons.
+    pub fn get(&self, key: &str) -> Option<&'a str>
+        ensures { OfIndex self.now (Gets key.now result) }
+    {
+        self.get_counted(key, &mut Count::new())
+    }
+
+    /// `get`, counting its comparisons.
+    pub fn get_counted(&self, key: &str, count: &mut Count) -> Option<&'a str>
+        ensures value { OfIndex self.now (Gets key.now result) }
+        ensures cost { OfIndex self.now (λ pairs. RisesByAtMost (digits (length pairs)) count.old count.new) }
+    {
+        self.names.get_counted(key, count).unwrap()
+    }
+
+    /// Returns `Ok` with the index of a key, or `Err` with the index where it would go. It costs what `get` does.
+    pub fn find_index(&self, key: &str) -> Result<usize, usize>
+        ensures { OfIndex self.now (FindsIndex key.now result) }
+    {
+        self.find_index_counted(key, &mut Count::new())
+    }
+
+    /// `find_index`, counting its comparisons.
+    pub fn find_index_counted(&self, key: &str, count: &mut Count) -> Result<usize, usize>
+        ensures place { OfIndex self.now (FindsIndex key.now result) }
+        ensures cost { OfIndex self.now (λ pairs. RisesByAtMost (digits (length pairs)) count.old count.new) }
+    {
+        self.names.find_index_counted(key, count).unwrap()
+    }
+
+    /// Returns the entry at an index, or `None` from the length on. No other entry is read.
+    pub fn get_indexed(&self, index: usize) -> Option<(&'a str, &'a str)>
+        ensures { OfIndex self.now (λ pairs. option_map shown result ≡ slice_get pairs index) }
+    {
+        self.names.get_indexed(index).unwrap()
     }
 }

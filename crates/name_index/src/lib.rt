@@ -3,25 +3,21 @@
 //! them. `docs/NAME_TABLES.md` says when to use which. All of this crate is own: the Rust crate has nothing like it.
 #![tactic(auto)]
 
-mod checked;
 mod entries;
 mod fault;
 mod index;
-mod index_bytes;
 mod index_write;
 mod indexed;
 mod indexed_search;
 pub mod laws;
 mod name_entries;
 mod offsets;
-mod prefixes;
 mod rising;
 mod table;
 
-pub use checked::CheckedNames;
 pub use fault::{IndexFault, NameIndexFault, NameTableFault};
 pub use index::NameIndex;
 pub use index_write::{write_index, write_index_of};
-pub use indexed::IndexedNames;
+pub use indexed::{CheckedNames, IndexedNames};
 pub use name_entries::NameEntries;
 pub use table::NameTable;

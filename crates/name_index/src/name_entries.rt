@@ -57,8 +57,8 @@ impl<'a> Iterator for NameEntries<'a> {
         if self.len == 0 {
             return None;
         }
-        let (pair, behind) = read_valid_pair(self.rest);
-        self.rest = behind;
+        let (pair, after) = read_valid_pair(self.rest);
+        self.rest = after;
         self.len -= 1;
         Some(pair)
     }

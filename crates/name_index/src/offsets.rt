@@ -1,14 +1,15 @@
-//! The offsets of entries, and what is found by them.
-ghost use Rattle.std.specs.Prelude.{◌≡◌, ◌+◌, ◌<◌, ◌≤◌, ◌∷◌, ◌++◌, [], IfErr, IfOk, OnErr, OnOk, Some, length, slice_get};
-ghost use Rattle.std.specs.Prelude.{slice_range};
+//! The offsets of entries, and what is found by them: an entry, a key, and the names that begin with a string.
+ghost use Rattle.std.specs.Prelude.{◌≡◌, ◌+◌, ◌<◌, ◌≤◌, ◌∷◌, ◌++◌, [], IfErr};
+ghost use Rattle.std.specs.Prelude.{IfOk, OnErr, OnOk, Some, length, slice_get, slice_range, take};
 ghost use Rattle.litemap_store.specs.Counts.{RisesByAtMost, digits};
 ghost use Rattle.litemap_store.specs.Splits.{Splits};
 ghost use Rattle.name_index.specs.Far.{AreFar, IfTooFar};
-ghost use Rattle.name_index.specs.Steps.{AreEntries, ArePlaced, AsPlaced, IsKeyAt};
+ghost use Rattle.name_index.specs.Steps.{AreEntries, ArePlaced, AsPlaced, IsKeyAt, leads_to};
 ghost use Rattle.name_index.specs.Tables.{text_order};
 ghost use Rattle.name_index.specs.declared.fault.NameIndexFault.TheVariants.{TooFar};
 ghost use Rattle.name_table.specs.declared.number.TheConstants.{NUMBER_LIMIT};
 ghost use Rattle.name_table.specs.Remaining.{shown};
+ghost use Rattle.litemap.specs.Within.{IsCut};
 
 use crate::entries::{read_valid_pair, read_valid_text};
 use crate::fault::NameIndexFault;
@@ -30,8 +31,8 @@ pub fn offsets_of(alloc: Global, entries: &[u8], len: usize) -> Result<Vec<u32>,
     let mut rest = entries;
     for _ in 0..len {
         push(&mut offsets, offset_of(entries, rest)?)?;
-        let (_, behind) = read_valid_pair(rest);
-        rest = behind;
+        let (_, after) = read_valid_pair(rest);
+        rest = after;
     }
     Ok(offsets)
 }
@@ -108,4 +109,47 @@ pub fn search(entries: &[u8], offsets: &[u32], key: &str, count: &mut Count) -> 
         }
     }
     Err(low)
+}
+
+/// Returns how many names come before those that begin with the string, with these counted too if `past` is true.
+pub fn partition_point(
+    entries: &[u8],
+    offsets: &[u32],
+    text: &str,
+    past: bool,
+    count: &mut Count,
+) -> usize
+    requires { ArePlaced entries.now offsets.now }
+    ensures cut { AsPlaced entries.now offsets.now (λ pairs. IsCut (λ p. leads_to past text.now p.0) pairs result) }
+    ensures cost { RisesByAtMost (digits (length offsets.now)) count.old count.new }
+{
+    let mut low = 0;
+    let mut high = offsets.len();
+    while low < high {
+        let middle = low + (high - low) / 2;
+        if is_led(key_of(entries, offsets, middle), text, past, count) {
+            low = middle + 1;
+        } else {
+            high = middle;
+        }
+    }
+    low
+}
+
+// Whether a name comes before those that begin with the string, or, if `past` is true, not after them.
+fn is_led(name: &str, text: &str, past: bool, count: &mut Count) -> bool
+    ensures led { result ≡ leads_to past text.now name.now }
+    ensures same { count.new.name ≡ count.old.name }
+    ensures counted { count.new.total ≡ count.old.total + 1 }
+{
+    let order = count.cmp(&head(name, text.len()), &text.as_bytes());
+    if past { order.is_le() } else { order.is_lt() }
+}
+
+// The first bytes of a name, so many or all.
+fn head(name: &str, size: usize) -> &[u8]
+    ensures { result.now ≡ take size name.now }
+{
+    let bytes = name.as_bytes();
+    &bytes[..bytes.len().min(size)]
 }

@@ -1,11 +1,11 @@
 //! A name table that is scanned.
-ghost use Rattle.std.specs.Prelude.{◌≡◌, ◌==◌, ◌+◌, ◌-◌, ◌<◌, IfErr, IfOk, OnErr, OnOk, length, map, slice_get, ⊤};
-ghost use Rattle.std.specs.Option.{option_copied, option_map};
+ghost use Rattle.std.specs.Prelude.{◌≡◌, ◌==◌, ◌+◌, ◌-◌, ◌<◌, IfOk, OnErr, OnOk, length, map, slice_get};
+ghost use Rattle.std.specs.Option.{option_map};
 ghost use Rattle.litemap_store.specs.Counts.{RisesByAtMost};
-ghost use Rattle.litemap_store.specs.Pairs.{index_of, place, value_at};
-ghost use Rattle.name_index.specs.Faults.{IsFault};
+ghost use Rattle.litemap_store.specs.Pairs.{place};
+ghost use Rattle.name_index.specs.Faults.{Opens};
 ghost use Rattle.name_index.specs.Steps.{IsOpened};
-ghost use Rattle.name_index.specs.Tables.{OfTable, text_order};
+ghost use Rattle.name_index.specs.Tables.{FindsIndex, Gets, OfTable, text_order};
 ghost use Rattle.name_table.specs.Remaining.{shown};
 
 use crate::entries::{entry_at, scan};
@@ -46,18 +46,14 @@ impl<'a> NameTable<'a> {
     /// The table is read once, with one comparison for each key but the first, and no memory is taken. The error is that of the
     /// first entry that can't be read, as `read_names` returns it, or whose key isn't above the one before it.
     pub fn new(bytes: &'a [u8]) -> Result<Self, NameTableFault>
-        ensures bytes { IfOk result (λ table. table ≡ bytes.now) }
-        ensures table { IfOk result (λ _. OfTable bytes.now (λ _. ⊤)) }
-        ensures fault { IfErr result (λ fault. IsFault bytes.now fault) }
+        ensures opens { Opens bytes.now result }
     {
         Self::new_counted(bytes, &mut Count::new())
     }
 
     /// `new`, counting its comparisons.
     pub fn new_counted(bytes: &'a [u8], count: &mut Count) -> Result<Self, NameTableFault>
-        ensures bytes { IfOk result (λ table. table ≡ bytes.now) }
-        ensures table { IfOk result (λ _. OfTable bytes.now (λ _. ⊤)) }
-        ensures fault { IfErr result (λ fault. IsFault bytes.now fault) }
+        ensures opens { Opens bytes.now result }
         ensures cost { OnOk result (OfTable bytes.now (λ pairs. RisesByAtMost (length pairs - 1) count.old count.new)) }
     {
         let mut names = NameBytes::new(bytes)?;
@@ -97,14 +93,14 @@ impl<'a> NameTable<'a> {
     ///
     /// The entries are read from the first on, with one comparison for each, up to the first key that isn't below this one.
     pub fn get(&self, key: &str) -> Option<&'a str>
-        ensures { OfTable self.now (λ pairs. option_copied result ≡ value_at text_order pairs key.now) }
+        ensures { OfTable self.now (Gets key.now result) }
     {
         self.get_counted(key, &mut Count::new())
     }
 
     /// `get`, counting its comparisons.
     pub fn get_counted(&self, key: &str, count: &mut Count) -> Option<&'a str>
-        ensures value { OfTable self.now (λ pairs. option_copied result ≡ value_at text_order pairs key.now) }
+        ensures value { OfTable self.now (Gets key.now result) }
         ensures cost { OfTable self.now (λ pairs. RisesByAtMost (place text_order pairs key.now + 1) count.old count.new) }
     {
         match scan(self.entries, self.len, key, count) {
@@ -115,14 +111,14 @@ impl<'a> NameTable<'a> {
 
     /// Returns `Ok` with the index of a key, or `Err` with the index where it would go. It costs what `get` does.
     pub fn find_index(&self, key: &str) -> Result<usize, usize>
-        ensures { OfTable self.now (λ pairs. result ≡ index_of text_order pairs key.now) }
+        ensures { OfTable self.now (FindsIndex key.now result) }
     {
         self.find_index_counted(key, &mut Count::new())
     }
 
     /// `find_index`, counting its comparisons.
     pub fn find_index_counted(&self, key: &str, count: &mut Count) -> Result<usize, usize>
-        ensures place { OfTable self.now (λ pairs. result ≡ index_of text_order pairs key.now) }
+        ensures place { OfTable self.now (FindsIndex key.now result) }
         ensures cost { OfTable self.now (λ pairs. RisesByAtMost (place text_order pairs key.now + 1) count.old count.new) }
     {
         match scan(self.entries, self.len, key, count) {

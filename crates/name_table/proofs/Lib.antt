@@ -1,6 +1,5 @@
 pub mod EachRead
 pub mod FaultLemmas
-pub mod Found
 pub mod NumberLemmas
 pub mod OneReading
 pub mod PartLemmas

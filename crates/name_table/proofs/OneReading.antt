@@ -1,8 +1,7 @@
 -- Bytes have one reading at most: one table, or one error.
 use Rattle.std.proofs.Common.{◌≡◌, ℕ, ◌+◌, ◌<◌, List, [], ◌∷◌, ◌++◌, length, refl, sym, ap, ◌∙◌, subst, arith, ⊎_elim, append_assoc, append-nil, length-append}
 use Rattle.name_table.specs.Faults.{Fault, PartFault, TableFault}
-use Rattle.name_table.specs.Numbers.{IsTooLarge}
-use Rattle.name_table.specs.Steps.{GoesOn}
+use Rattle.name_table.specs.Numbers.{GoesOn, IsTooLarge}
 use Rattle.name_table.specs.Parts.{Part, Number, Text, AreParts, Begins, pair_parts, table_parts}
 use Rattle.name_table.specs.declared.fault.NameFault.{NameFault}
 use Rattle.name_table.specs.declared.fault.NameFault.TheVariants.{Truncated, NotUtf8, NumberTooLarge}

@@ -3,8 +3,7 @@ use Rattle.std.proofs.Common.{◌≡◌, ℕ, ◌≤◌, List, [], ◌∷◌, �
 use Rattle.std.proofs.lemmas.List.{append_cancel_left, take_at}
 use Rattle.std.specs.Prelude.{IsUtf8}
 use Rattle.name_table.specs.Faults.{PartFault}
-use Rattle.name_table.specs.Numbers.{value_of, EndsAtLast, IsNumber}
-use Rattle.name_table.specs.Steps.{GoesOn}
+use Rattle.name_table.specs.Numbers.{value_of, EndsAtLast, GoesOn, IsNumber}
 use Rattle.name_table.specs.Parts.{Part, Number, Text, IsPart, AreParts, Begins, text_parts, pair_parts, table_parts}
 use Rattle.name_table.specs.declared.fault.NameFault.{NameFault}
 use Rattle.name_table.specs.declared.fault.NameFault.TheVariants.{Truncated, NotUtf8, NumberTooLarge}

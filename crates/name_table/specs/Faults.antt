@@ -1,9 +1,8 @@
 -- Which error a table has: that of the first part that can't be read, at the offset where it begins.
 use Rattle.std.specs.Prelude.{◌≡◌, ℕ, ◌+◌, ◌<◌, ◌≤◌, List, [], ◌∷◌, ◌++◌, length, take, IsUtf8}
-use Rattle.std.specs.List.{AllByRecursion}
 use Rattle.litemap_read.specs.declared.source.ReadFault.{ReadFault}
 use Rattle.litemap_read.specs.declared.source.ReadFault.TheVariants.{NoRoom, Source}
-use Rattle.name_table.specs.Numbers.{IsTooLarge}
+use Rattle.name_table.specs.Numbers.{GoesOn, IsTooLarge}
 use Rattle.name_table.specs.Parts.{Part, Number, Text, AreParts, Begins, text_parts, pair_parts, table_parts}
 use Rattle.name_table.specs.Remaining.{Remaining}
 use Rattle.name_table.specs.declared.fault.NameFault.{NameFault}
@@ -13,8 +12,7 @@ use Rattle.name_table.specs.declared.number.TheConstants.{MOST_BYTES}
 -- the bytes, which stand at the offset, don't begin with a part of the kind that is due there: a number, or a string of so many
 -- bytes
 abbrev pub PartFault : Part → List ℕ → ℕ → NameFault → Type 0
-PartFault (Number n) bytes place (Truncated at) =
-    (at ≡ place) × AllByRecursion (λ b. 128 ≤ b) bytes × (length bytes < MOST_BYTES)
+PartFault (Number n) bytes place (Truncated at) = (at ≡ place) × GoesOn bytes × (length bytes < MOST_BYTES)
 PartFault (Number n) bytes place (NumberTooLarge at) = (at ≡ place) × IsTooLarge bytes
 PartFault (Text text) bytes place (Truncated at) = (at ≡ place) × (length bytes < length text)
 PartFault (Text text) bytes place (NotUtf8 at) =

@@ -14,6 +14,10 @@ EndsAtLast [] = ⊥
 EndsAtLast (b ∷ []) = b < 128
 EndsAtLast (b ∷ c ∷ bytes) = (128 ≤ b) × EndsAtLast (c ∷ bytes)
 
+-- the high bit is set on all bytes: a number that they begin goes on
+abbrev pub GoesOn : List ℕ → Type 0
+GoesOn bytes = AllByRecursion (λ b. 128 ≤ b) bytes
+
 -- the bytes spell the number. They may be more than it needs
 pub record IsNumber (bytes : List ℕ) (n : ℕ) : Type 0 where
   pub ends : EndsAtLast bytes
@@ -26,5 +30,5 @@ pub record IsTooLarge (bytes : List ℕ) : Type 0 where
   pub front : List ℕ
   pub rest : List ℕ
   pub split : bytes ≡ front ++ rest
-  pub large : (AllByRecursion (λ b. 128 ≤ b) front × (length front ≡ MOST_BYTES))
+  pub large : (GoesOn front × (length front ≡ MOST_BYTES))
       ⊎ (EndsAtLast front × (length front ≤ MOST_BYTES) × (NUMBER_LIMIT ≤ value_of front))

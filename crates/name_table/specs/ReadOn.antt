@@ -1,5 +1,5 @@
 -- What a source of a table's pairs reads between one state and a later one, and its laws.
-use Rattle.std.specs.Prelude.{◌≡◌, ℕ, ◌+◌, List, [], ◌∷◌, ◌++◌}
+use Rattle.std.specs.Prelude.{◌≡◌, ℕ, List, [], ◌∷◌, ◌++◌}
 use Rattle.std.proofs.Common.{refl, sym, ap, ◌∙◌, append_assoc, length-append, add-zero, zero-add, arith}
 use Rattle.name_table.specs.Parts.{Part, AreParts, Begins, text_parts, pair_parts}
 use Rattle.name_table.specs.Remaining.{IsAfter, Remaining}

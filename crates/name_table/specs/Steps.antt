@@ -1,15 +1,10 @@
 -- What the steps of reading and writing do. Only private contracts cite these.
 use Rattle.std.specs.Prelude.{◌≡◌, ℕ, ◌<◌, ◌≤◌, ◌^◌, List, ◌++◌, length}
-use Rattle.std.specs.List.{AllByRecursion}
-use Rattle.name_table.specs.Numbers.{EndsAtLast, value_of}
+use Rattle.name_table.specs.Numbers.{EndsAtLast, GoesOn, value_of}
 use Rattle.name_table.specs.Parts.{AreParts, Part, table_parts}
 use Rattle.name_table.specs.Writes.{IsShortest}
 use Rattle.name_table.specs.declared.number.Unread.{Unread}
 use Rattle.name_table.specs.declared.number.Unread.TheVariants.{Ends, TooLong}
-
--- the high bit is set on all bytes: a number that they begin goes on
-abbrev pub GoesOn : List ℕ → Type 0
-GoesOn bytes = AllByRecursion (λ b. 128 ≤ b) bytes
 
 -- the bytes begin with those of the number, however large, and the rest comes after them
 pub record BeginsNumber (bytes : List ℕ) (room n : ℕ) (rest : List ℕ) : Type 0 where

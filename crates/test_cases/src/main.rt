@@ -1,11 +1,9 @@
-//! Cases: the examples in the `///` of the libraries' calls, and what neither a contract nor a line of `test_replay` says. The
-//! program writes how each came out.
+//! Cases: what neither a contract nor a line of `test_replay` says. The program writes how each came out.
 //!
-//! `bin/data` writes the modules of examples (`make`, `look`, `entries`, `change`, `stores`, `formats`). The other cases are of
-//! maps: closures that call several keys equal, queries of each kind, constant tables, iterators that lie, the greatest
-//! capacities, stores with a limit, what is printed, reading, and small maps; and of the program `names`, over readers and
-//! writers in memory, with its names kept in one vector and in two columns: lines with their output, how much it reads, and an
-//! error at each read and each write.
+//! They are of maps: closures that call several keys equal, queries of each kind, constant tables, iterators that lie, the
+//! greatest capacities, stores with a limit, what is printed, reading, and small maps; and of the program `names`, over readers
+//! and writers in memory, with its names kept in one vector and in two columns: lines with their output, how much it reads, and
+//! an error at each read and each write.
 //!
 //! If there is standard input, it is lines of `names` instead, whose names are kept in two columns (`bin/requests`).
 #![tactic(auto)]
@@ -17,52 +15,30 @@ macro_rules! outcomes {
     };
 }
 
-mod change;
 mod closures;
 mod constants;
-mod days;
 mod endless;
 mod ends;
-mod entries;
 mod faults;
 mod flags;
-mod formats;
 mod hints;
 mod limits;
 mod lines;
-mod look;
-mod make;
 mod printing;
 mod queries;
 mod reading;
 mod runs;
 mod small;
-mod stores;
 mod watch;
 
-use days::{Days, Hours};
 use names::{FailAt, Watch};
 use runs::{FAULTS, Kept, NEVER, run_kept};
 use std::alloc::{AllocError, Global};
-use std::error::Error;
 use std::io;
 use std::process::ExitCode;
 
 // The name of a case, and whether all was as it has to be.
 type Case = (&'static str, Result<bool, AllocError>);
-
-/// An example that met an error.
-#[derive(Clone, Copy)]
-pub(crate) struct Failed;
-
-impl<E: Error> From<E> for Failed {
-    fn from(_: E) -> Self {
-        Failed
-    }
-}
-
-/// The name of a call, and whether its example came out as it shows.
-pub(crate) type Shown = (&'static str, Result<bool, Failed>);
 
 fn main(rt: HostRuntime) -> ExitCode {
     let mut source = FailAt::new(rt.stdin(), NEVER, FAULTS[0]);
@@ -79,21 +55,8 @@ fn main(rt: HostRuntime) -> ExitCode {
 }
 
 fn cases(rt: &HostRuntime) -> io::Result<()> {
-    let alloc = rt.alloc();
-    let (days, hours) = (days::three_days(alloc)?, days::opening_hours(alloc)?);
-    of_calls(rt, &days, &hours)?;
-    report(rt, &of_maps(alloc))?;
-    report(rt, &of_the_program(alloc))
-}
-
-fn of_calls(rt: &HostRuntime, days: &Days, hours: &Hours) -> io::Result<()> {
-    let alloc = rt.alloc();
-    report(rt, &make::examples(alloc, hours))?;
-    report(rt, &look::examples(alloc, days))?;
-    report(rt, &entries::examples(alloc))?;
-    report(rt, &change::examples(alloc))?;
-    report(rt, &stores::examples(alloc, days))?;
-    report(rt, &formats::examples(alloc))
+    report(rt, &of_maps(rt.alloc()))?;
+    report(rt, &of_the_program(rt.alloc()))
 }
 
 fn of_maps(alloc: Global) -> [Case; 23] {
@@ -142,7 +105,7 @@ fn of_the_program(alloc: Global) -> [Case; 12] {
 }
 
 // Writes a line for each case.
-fn report<E>(rt: &impl Print, cases: &[(&'static str, Result<bool, E>)]) -> io::Result<()> {
+fn report(rt: &impl Print, cases: &[Case]) -> io::Result<()> {
     for (name, outcome) in cases {
         match outcome {
             Ok(true) => println!(rt; "{name}: right")?,

@@ -1,6 +1,6 @@
-use Rattle.std.proofs.Common.{ℕ, List, String, Global, ap}
+use Rattle.std.proofs.Common.{List, String, Global, ap, ℕ}
 use Rattle.litemap_store.specs.Contents.{Contents}
-use Rattle.example_keywords.proofs.Placing.{put_first}
+use Rattle.example_keywords.proofs.Reading.{put_first}
 use Rattle.example_keywords.proofs.read.put_first.Goals as goal
 
 pub returns : goal.returns

@@ -3,15 +3,15 @@ use Rattle.name_index.proofs.Placing.{of_indexed}
 use Rattle.name_index.proofs.Prefixing.{edge_place, edges_part}
 use Rattle.name_index.proofs.index.NameIndex.prefix_places_counted.Goals as goal
 
-pub returns-clause-start : goal.returns-clause-start
-returns-clause-start c =
+pub returns-clause-range : goal.returns-clause-range
+returns-clause-range c =
+    let from = c.partition_point-start in
+    let to = c.partition_point-end in
     rw (← c.self.view_is)
-    (of_indexed _ _ _ _ c.self.invariant c.as_slice-offsets.ensures.value (λ p. edge_place c.args.prefix.now p.these.pairs c.partition_point-start.result c.partition_point-end.result (c.partition_point-start.ensures.cut p) (c.partition_point-end.ensures.cut p)))
-
-pub returns-clause-names : goal.returns-clause-names
-returns-clause-names c =
-    rw (← c.self.view_is)
-    (of_indexed _ _ _ _ c.self.invariant c.as_slice-offsets.ensures.value (λ p. edges_part c.args.prefix.now p.these.pairs c.partition_point-start.result c.partition_point-end.result (c.partition_point-start.ensures.cut p) (c.partition_point-end.ensures.cut p)))
+    (of_indexed _ _ _ _ c.self.invariant c.as_slice-offsets.ensures.value (λ p. record {
+      start_is = edge_place c.args.prefix.now p.these.pairs from.result to.result (from.ensures.cut p) (to.ensures.cut p);
+      names = edges_part c.args.prefix.now p.these.pairs from.result to.result (from.ensures.cut p) (to.ensures.cut p);
+    }))
 
 pub returns-clause-cost : goal.returns-clause-cost
 returns-clause-cost c =

@@ -3,11 +3,11 @@ use Rattle.litemap_store.proofs.Stores.Counting.{at_most}
 use Rattle.name_index.proofs.Rises.{parts, rising_table}
 use Rattle.name_index.proofs.table.NameTable.new_counted.Goals as goal
 
-pub returns-clause-table : goal.returns-clause-table
-returns-clause-table c =
+pub returns-clause-opens : goal.returns-clause-opens
+returns-clause-opens c =
     let s = c.in_ok-names.names in
     let o = parts c.args.bytes.now s.rest s c.in_ok-names.ensures.ok refl c.in_ok-check.ensures.ok in
-    (o.these.pairs, rising_table _ _ _ o, tt)
+    record { same = refl; table = (o.these.pairs, rising_table _ _ _ o, tt); fault = tt }
 
 pub returns-clause-cost : goal.returns-clause-cost
 returns-clause-cost c =

@@ -1,7 +1,7 @@
 use Rattle.std.proofs.Common.{string_bytes, sym, ◌∙◌}
 use Rattle.std.specs.Option.{option_copied}
-use Rattle.example_keywords.proofs.Values.{joined_more}
-use Rattle.example_keywords.proofs.value.joined_value.Goals as goal
+use Rattle.example_keywords.proofs.Reading.{joined_more}
+use Rattle.example_keywords.proofs.parts.joined_value.Goals as goal
 
 pub loop-more-preserved : goal.loop-more-preserved
 loop-more-preserved c =

@@ -1,7 +1,7 @@
 use Rattle.std.proofs.Common.{length, string_bytes}
 use Rattle.std.specs.Option.{option_copied}
-use Rattle.example_keywords.specs.Reading.{AreJoined, parts_in}
-use Rattle.example_keywords.proofs.value.joined_value.Given as goal
+use Rattle.example_keywords.specs.Keywords.{AreJoined, parts_in}
+use Rattle.example_keywords.proofs.parts.joined_value.Given as goal
 
 -- the parts read so far
 abbrev pub invariant-loop-more : goal.invariant-loop-more
