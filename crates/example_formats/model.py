@@ -9,6 +9,8 @@ import runpy
 
 FOLDER = pathlib.Path(__file__).resolve().parent
 KINDS = ["json", "serde", "table"]
+# A row of many lookups, whose time bin/requests bounds.
+TIMED = "table often 20000 -\n"
 
 
 def files():

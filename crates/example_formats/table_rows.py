@@ -427,6 +427,7 @@ def lines():
     for data in (b"", indexed([]), MANY_DUE):
         yield "look a", data, look("a", data)
     yield "many 100000", b"", "100000 names: 16 there, 16 between"
+    yield "often 20000", b"", "20000 found"
     # each proper prefix of eleven languages ends too early
     yield "prefixes", TABLE, sweep([TABLE[:size] for size in range(len(TABLE))])
     yield "changes", TABLE, sweep(changes(TABLE))

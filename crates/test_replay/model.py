@@ -421,6 +421,12 @@ class Model:
             return self.text([old])
         if name in READS:
             return self.read(name, words)
+        if name == "read_results":
+            return self.read_results(words)
+        if name == "find_by_slice":
+            below = min((int(words[0]) - 1) // 2, int(words[1]))
+            there = int(words[0]) % 2 == 0 and int(words[0]) <= 2 * int(words[1])
+            return f"{'ok' if there else 'err'} {below}", digits(int(words[1]))
         if name == "split_off":
             place, _ = self.place(words[0])
             self.pairs, later = self.pairs[:place], self.pairs[place:]
@@ -432,7 +438,7 @@ class Model:
             keys = sorted(place * step % 10007 for place in range(count))
             return self.text((str(key), 0 if "_set_" in name else key) for key in keys)
         pairs = self.given(words)
-        if name in (*MAKES, "read_results", "lm_sort_from_iter", "lm_sort_from_vec"):
+        if name in (*MAKES, "lm_sort_from_iter", "lm_sort_from_vec"):
             cost = len(pairs) if self.rises(pairs) else sorting(len(pairs))
             self.pairs = self.last(pairs)
             return "ok", cost
@@ -528,6 +534,13 @@ class Model:
         cost = self.cost(pairs) if start else len(pairs) if self.rises(pairs) else sorting(len(pairs))
         self.pairs = self.last(start + pairs)
         return f"ok asked {len(pairs) + 1}", cost
+
+    def read_results(self, words):
+        pairs, error = self.given(words[1:]), None if words[0] == "-" else int(words[0])
+        if error is not None and error < len(pairs):
+            return f"error {error}", max(error - 1, 0)
+        self.pairs = self.last(pairs)
+        return "ok", len(pairs) if self.rises(pairs) else sorting(len(pairs))
 
     def run(self, words):
         """A list of calls of an empty map: what they return, and the map."""
@@ -842,6 +855,12 @@ def refusable():
 RESERVED = ["reserve", "lm_reserve", "with_capacity", "lm_with_capacity"]
 
 
+def sliced():
+    """Slices that are looked up among vectors, of which each comparison is counted: in each gap, or at the ends and in the middle."""
+    for length in LENGTHS:
+        yield from block("vec", 0, 0, [f"find_by_slice {key} {length}" for key in keys(length)])
+
+
 def grown():
     """What places one pair where there is no room, around the powers of two up to 2,048; small pairs, sets, and 5,000 pairs."""
     for power in range(6, 12):
@@ -888,7 +907,8 @@ def listed():
     """Results of iterators that are read, and lists of insertions: rising, falling, and with keys twice, of each length up to 40."""
     for length in [*range(41), 100, 129, 513]:
         given = [f"1,{length},1", f"{2 * length},{length},-2", f"1,{length},3 2,{length},1"]
-        yield from block(GROWING, 3, 0, [f"read_results {pairs}" for pairs in given])
+        errors = ["-", *(range(length) if length in (1, 2, 13) else ())]
+        yield from block(GROWING, 3, 0, [f"read_results {error} {pairs}" for error in errors for pairs in given])
         lists = [[f"insert:{key}:{value}" for key, value in Model(Order("number")).given(pairs.split(" "))] for pairs in given]
         yield from block("vec", 3, 0, [" ".join([name, *calls]) for name in RUNS for calls in lists] if length <= 40 else [])
 
@@ -1092,7 +1112,7 @@ def unmade(made):
 
 FILES = {"looks": looks, "walks": walks, "changes": changes, "bulk": bulk, "stores": stores, "scattered": scattered}
 FILES |= {"refusable": refusable, "merged": merged, "beside": beside, "twenty": twenty, "picked": picked, "rows": rows}
-FILES |= {"renamed": renamed, "combined": combined, "listed": listed, "grown": grown, "roomy": roomy, "long": long}
+FILES |= {"renamed": renamed, "combined": combined, "listed": listed, "grown": grown, "roomy": roomy, "sliced": sliced, "long": long}
 
 
 def calls_of(lines):
@@ -1119,6 +1139,8 @@ def files():
     return written({name: list(lines()) for name, lines in FILES.items()})
 
 
+# The file of long maps, whose time bin/requests bounds.
+TIMED = "long.calls\n"
 # So many lines of a sample at most go on from one another.
 MOST_TOGETHER = 5
 

@@ -13,6 +13,7 @@
 //! - `begin TEXT BYTES`: the indices and the entries of the names that begin with a string, by a `NameIndex`.
 //! - `word WORD BYTES`: the string that a table has for a word, or the word itself, by each of its forms (`words`).
 //! - `many NUMBER -`: what a `NameTable` of so many names and its `NameIndex` return.
+//! - `often NUMBER -`: how many of so many names its indexes find, each looked up by itself.
 //! - `prefixes BYTES`: what is read of each proper prefix, by kinds.
 //! - `changes BYTES`: the same with each byte changed into each other one.
 //! - `strings BYTES`: the same of every string of up to four of these bytes.
@@ -68,7 +69,7 @@ fn write_answer(
         ["index"] => indexes::write_digits(alloc, bytes, output),
         ["opened"] => indexes::write_opened(bytes, output),
         ["look", key] => indexes::write_looked(key, bytes, output),
-        ["many", number] => tables::write_many(alloc, number, output),
+        ["many" | "often", number] => tables::write_many(alloc, words, number, output),
         [name] => sweep(alloc, name, bytes, output),
         _ => output.push_str("bad line"),
     }
