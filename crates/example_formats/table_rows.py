@@ -300,6 +300,10 @@ def strings(alphabet):
     ]
 
 
+# The errors that no other line shows.
+FAULTS = "out of memory; a number of the name table is too large; out of memory; an entry of the name table begins too far behind the first; "
+FAULTS += "there is not enough memory; the bytes are not a JSON text; the JSON value is not a map from flags to numbers: "
+FAULTS += "a map is an object or an array of [key, item] arrays, and this value is neither"
 # A count of 2^32 - 1 before five bytes.
 MANY_DUE = b"\xff\xff\xff\xff" + bytes(5)
 # The indexes of no pair, of one, of eleven and of strings of more bytes than characters; bytes after one; keys that descend, are
@@ -428,6 +432,7 @@ def lines():
         yield "look a", data, look("a", data)
     yield "many 100000", b"", "100000 names: 16 there, 16 between"
     yield "often 20000", b"", "20000 found"
+    yield "faults", b"", FAULTS
     # each proper prefix of eleven languages ends too early
     yield "prefixes", TABLE, sweep([TABLE[:size] for size in range(len(TABLE))])
     yield "changes", TABLE, sweep(changes(TABLE))

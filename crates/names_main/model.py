@@ -151,7 +151,7 @@ def rows():
 def searched():
     """Lines that are done before those of stdin, and how often all of them search the names: each one that is a call does once."""
     some = [b"%s %05d" % (word, key) for word in (b"get", b"find", b"del", b"get") for key in range(0, 400, 3)]
-    lines = [*puts(300), *puts(40, b"w", 100), *some, *long_values(), *long_keys(), b"json", b"all"]
+    lines = [b"get a", b"find a", b"del a", b"all", b"json", b"put a a", b"del a", *puts(300), *puts(40, b"w", 100), *some, *long_values(), *long_keys(), b"json", b"all"]
     given = b"\n".join([*lines, pathlib.Path(__file__).with_name("stdin").read_bytes()]).decode()
     calls = len(re.findall("^(put|get|del|find) ", given, re.MULTILINE))
     return "".join(line.decode() + "\n" for line in lines), calls
