@@ -110,7 +110,7 @@ class Watched:
     The input `timed` is no part of what is given: it is run by itself, where its time is bounded.
     """
 
-    # How many seconds of processor time it may take, which is many times as much as it does: only a wrong body takes more.
+    # How many seconds of processor time it may take, some twenty times as many as it does: only a wrong body takes more.
     MOST_TIME = 40
 
     def __init__(self, room, crate, sign, program=None):

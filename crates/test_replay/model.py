@@ -181,7 +181,7 @@ class Model:
         """Makes a call of each key and each gap: a sum of what it returns and leaves there, and how often one compares at most."""
         pairs, room, most, total = self.pairs, self.room, 0, 0
         for code in map(str, range(1, 2 * len(pairs) + 2)):
-            self.pairs, self.room = list(pairs), room
+            self.pairs, self.room = pairs if name in READ_ONLY else list(pairs), room
             answer, cost = self.make(" ".join([name, code, *words]))
             if not name.startswith("lm_"):
                 place, there = self.place(code)
@@ -618,6 +618,8 @@ class Model:
         return ("equal" if mine == theirs else "less" if mine < theirs else "greater"), most
 
 
+# Calls that leave the list, so that a sweep needs no copy of it.
+READ_ONLY = {"get"}
 LOOK_UPS = {"find_index", "find_index_counted", "find_index_by", "lm_binary_search_by", "contains_key", "get_key_value"}
 LOOK_UPS |= {"get", "get_counted", "get_by", "index", "get_mut", "get_mut_by", "index_mut"}
 PUTS, ENTERING = named("put", "find_or_put"), named("enter")
@@ -903,7 +905,7 @@ def roomy():
 
 def long():
     """Calls at a hundred thousand pairs, whose time bin/requests bounds: lookups, walks, removals and input of as many again."""
-    count, calls = 100000, ["retain 0", "clear", "lm_retain 0", "insert_each 200001,100000,1"]
+    count, calls = 100000, ["retain 0", "clear", "lm_retain 0", "insert_each 200001,100000,1", "sweep get"]
     calls += [f"{name} {steps} {count - steps}" for name in ("iter", "keys", "values") for steps in (0, count)]
     calls += [f"into_iter {count}", "iter_range in 1 in 200001", "for 0 0", "try_clone", "to_keys_by", "cmp", "hash"]
     calls += [f"{name} 1,{count},2" for name in ("extend_from_litemap", "extend", "extend_with", *BESIDE)]

@@ -31,11 +31,11 @@ use crate::languages::language_name;
 use crate::sweeps::{self, Tally};
 use crate::{indexes, tables, texts};
 use hex::FromHexError;
-use litemap_read::ReadFault;
 use litemap_json::JsonFault;
+use litemap_read::ReadFault;
 use name_index::{IndexedNames, NameIndexFault};
-use names::FlagsFault;
 use name_table::{NameWriteFault, read_names, write_names};
+use names::FlagsFault;
 use std::alloc::{AllocError, Global};
 use std::fmt::Write;
 
