@@ -15,12 +15,11 @@ RANGES = [3, 8, 20, 60, 60, 200, 600, 2**27]
 PLACES = [2, 6, 20, 60, 200]
 # Lengths of lists at which a body here takes another way.
 LENGTHS = [7, 8, 9, 15, 16, 17, 18, 20, 21, 30, 31, 32, 33, 41, 63, 64, 65, 100, 255, 256]
-# The rows of calls.txt about the calls of lines, and the stores that these name.
-ROWS = [line.split(" | ") for line in (FOLDER / "calls.txt").read_text(encoding="utf-8").splitlines() if line.count(" | ") == 3]
+# The stores that rows of calls.txt name.
 OVER = {"all": STORES, "slice": SLICED, "vec": ["vec"]}
 # By store, how often one of some calls is picked, the words after it, and the calls.
 CALLS_OVER = {
-    store: [(int(often), words, names) for often, over, words, names in ROWS if store in OVER[over]] for store in STORES
+    store: [(row.often, row.words, row.names) for row in MODEL["GROUPS"].values() if row.often and store in OVER[row.over]] for store in STORES
 }
 
 
@@ -43,8 +42,7 @@ class Run:
         self.calls = []
         groups = CALLS_OVER[self.store]
         weights = [often for often, _, _ in groups]
-        picked = self.random.choices([(words, names.split(" ")) for _, words, names in groups], weights, k=LENGTH)
-        for words, names in picked:
+        for _, words, names in self.random.choices(groups, weights, k=LENGTH):
             self.add(self.random.choice(names), words)
         del self.calls[LENGTH:]
 
@@ -54,12 +52,12 @@ class Run:
 
     def add(self, name, words):
         """Adds a call with words of these kinds."""
-        if words == "ALIKE":
+        if words == ["ALIKE"]:
             pairs = self.pairs()
             self.calls.append(" ".join(["from_vec", *pairs]))
             self.calls.append(" ".join([name, *self.changed(pairs)]))
             return
-        given = [self.given(kind) for kind in words.split(" ")]
+        given = [self.given(kind) for kind in words]
         self.calls.append(" ".join([name, *given]).rstrip())
 
     def given(self, kind):
@@ -76,7 +74,7 @@ class Run:
             case "PAIRS":
                 return " ".join(self.pairs())
             case _:
-                return "0" if kind == "ZERO" else ""
+                return "0"
 
     def pairs(self):
         """Picks a list of pairs: the keys ascend, descend, are equal, lie above the others or between them, or none of these."""

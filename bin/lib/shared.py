@@ -4,6 +4,7 @@ import functools
 import os
 import pathlib
 import re
+import resource
 import runpy
 import shutil
 import subprocess
@@ -106,7 +107,11 @@ class Watched:
 
     What the model makes is written into a folder of the program's own in `room`. A line of output is that of a call if it has
     `sign`.
+    The input `timed` is not part of what is given: it is run by itself, with a limit of time.
     """
+
+    # How many seconds of processor time it may take, some twenty times as many as it does: only a wrong body takes more.
+    MOST_TIME = 40
 
     def __init__(self, room, crate, sign, program=None):
         self.folder, self.sign, self.library = TOP / "crates" / crate, sign, f"{room}/allocator.so"
@@ -114,18 +119,26 @@ class Watched:
         self.model, self.whole, stdin = model(crate), pathlib.Path(room) / "whole" / crate, self.folder / "stdin"
         self.files = self.model["files"]()
         write_files(self.whole, self.files)
-        self.given = self.files.get("stdin") or (stdin.read_text(encoding="utf-8") if stdin.is_file() else "")
+        given = self.files.get("stdin") or (stdin.read_text(encoding="utf-8") if stdin.is_file() else "")
+        self.timed = self.model.get("TIMED", "")
+        self.given = given.replace(self.timed, "")
         options = ["-O1", "-shared", "-fPIC", "-nostdlib", "-fuse-ld=lld", "-fno-builtin"]
         clang = kit() / "toolchain" / "bin" / "clang"
         subprocess.run([clang, *options, "-o", self.library, TOP / "bin" / "lib" / "allocator.c"], check=True)
 
-    def run(self, before="", **more):
-        """Runs the program on this text and then its input: the status, the lines of calls, and the numbers of each call."""
-        env, given = os.environ | {"LD_PRELOAD": self.library} | more, before + self.given
+    def run(self, before="", given=None, most=None, **more):
+        """Runs the program on this text and then its input, or another one: the status, the lines of calls, and the numbers of each
+        call. It ends after so many seconds of processor time at most."""
+        env, given = os.environ | {"LD_PRELOAD": self.library} | more, before + (self.given if given is None else given)
         data = self.whole / "data"
         how = {"cwd": data if data.is_dir() else self.folder, "env": env, "input": given, "capture_output": True, "text": True}
-        run = subprocess.run([self.program], **how)
+        limit = most and (lambda: resource.setrlimit(resource.RLIMIT_CPU, (most, most)))
+        run = subprocess.run([self.program], preexec_fn=limit, **how)
         return run.returncode, [line for line in run.stdout.splitlines() if self.sign in line], run.stderr.splitlines()
+
+    def run_timed(self, **more):
+        """How it ends on the timed input, and its lines."""
+        return self.run(given=self.timed, most=self.MOST_TIME, **more)[:2]
 
 
 class Report:

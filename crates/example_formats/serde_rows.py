@@ -128,6 +128,41 @@ def many():
             yield "many", f"{step} {count}", f"{size} bytes, as of rising pairs"
 
 
+# Longer maps are read in one order, as sequences: `many` has objects.
+MOST_IN_EACH_ORDER = 1000
+
+
+def orders(count):
+    """Keys in each order: ascending, descending, in none; with equal ones in a row, apart, at both ends, and all equal."""
+    rising = [*range(count)]
+    if count < 2:
+        return [rising]
+    orders = [rising, rising[::-1], [place * 7919 % count for place in rising], [place // 2 for place in rising], [place // 3 for place in rising[::-1]]]
+    orders += [[place % (count // 2) for place in rising], [*rising[:-1], 0], [count, *rising[2:], count], [0, *rising[1:-1], count - 2], [7] * count]
+    return orders[5:6] if count > MOST_IN_EACH_ORDER else orders
+
+
+def of_every_length():
+    """Maps of none to many pairs from objects and sequences, lent and owned, and from tables and arrays of TOML and rows of CSV."""
+    for keys in (keys for count in (0, 1, 2, 30, 31, 100, 1000, 10000) for keys in orders(count)):
+        pairs = [(key, place) for place, key in enumerate(keys)]
+        last = dict(sorted(dict(pairs).items()))
+        for what, show in (("i64", int), ("lent", str)):
+            if len(pairs) <= MOST_IN_EACH_ORDER:
+                yield what, "{" + ",".join(f'"{key}":{printed(show(item))}' for key, item in pairs) + "}", None
+            yield what, printed([[show(key), show(item)] for key, item in pairs]), None
+        if len(last) == len(pairs):
+            yield "toml-u32", printed("".join(f"{key} = {item}\n" for key, item in pairs)), printed("".join(f"{it} = {last[it]}\n" for it in last))
+        named = {str(key): item for key, item in pairs}
+        counts = "[a]\n" + "".join(f"{name} = {named[name]}\n" for name in sorted(named))
+        array = ", ".join(f"['{key}', {item}]" for key, item in pairs)
+        yield "toml-counts", printed(f"a = [{array}]\n"), printed(counts)
+        header, fields = (",".join(map(str, column)) for column in (keys, range(len(keys))))
+        yield "csv-rows", printed(f"{header}\n{fields}\n"), printed([{name: str(named[name]) for name in sorted(named)}] if keys else [])
+        rows = "".join(f"{key},{item}\n" for key, item in pairs)
+        yield "codes", printed(f"code,name\n{rows}"), printed({str(key): str(item) for key, item in last.items()})
+
+
 # Configurations in TOML.
 TOML = [
     'title = "t"\n[names]\nb = "2"\na = "1"\n[limits]\nz = 3\ny = 4\n', 'title = ""\nnames = { "b c" = "x", a = "y" }\n', 'title = "t"\n[names]\n',
@@ -217,5 +252,5 @@ def answer_of(what, text, answer):
 
 def rows():
     """The lines, each with its output."""
-    rows = [*MAPS, *whole_numbers(), *wrong_types(), *many(), *toml_rows(), *csv_rows()]
+    rows = [*MAPS, *whole_numbers(), *wrong_types(), *many(), *of_every_length(), *toml_rows(), *csv_rows()]
     return [(f"{what} {text}", answer_of(what, text, answer)) for what, text, answer in rows]

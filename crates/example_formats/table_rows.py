@@ -300,6 +300,10 @@ def strings(alphabet):
     ]
 
 
+# The errors that no other line shows.
+FAULTS = "out of memory; a number of the name table is too large; out of memory; an entry of the name table begins too far behind the first; "
+FAULTS += "there is not enough memory; the bytes are not a JSON text; the JSON value is not a map from flags to numbers: "
+FAULTS += "a map is an object or an array of [key, item] arrays, and this value is neither"
 # A count of 2^32 - 1 before five bytes.
 MANY_DUE = b"\xff\xff\xff\xff" + bytes(5)
 # Indexes of no pair, of one, of eleven, and of strings with more bytes than characters; bytes after an index; keys that descend,
@@ -349,6 +353,33 @@ def sized_lines():
         yield "again", text, again(text)
 
 
+def faulty():
+    """Thirteen keys that ascend, descend or are equal, and of each of their entries what can't be read: its key, its value, or more."""
+    for keys in ([chr(97 + place) for place in range(13)], [chr(122 - place) for place in range(13)], ["k"] * 13):
+        for place in range(13):
+            yield keys, place
+
+
+def faulty_lines():
+    """Tables and indexes with one error each: at each index, in the number of bytes and in the bytes of a key and of a value."""
+    large, own = b"\xff\xff\xff\xff\x1f", lambda text: bytes([len(text)]) + text.encode()
+    for keys, place in faulty():
+        before, after = (b"".join(own(key) + own("v") for key in part) for part in (keys[:place], keys[place + 1 :]))
+        key = own(keys[place])
+        for entry, rest in ((large, after), (key + large, after), (b"\x01\xff\x01v", after), (key + b"\x01\xff", after), (b"", b""), (key[:1], b""), (key, b"")):
+            data = spelled(13) + before + entry + rest
+            for words, answer in (("read", read), ("table", rising_table), ("walk", walk)):
+                yield words, data, answer(data)
+            yield f"find {keys[place]}", data, find(keys[place], data)
+    for keys, place in faulty():
+        data = indexed([(key, "v") for key in keys])
+        offset, start = 4 + 4 * place, 4 + 4 * 13 + 10 * place
+        for at, new in ((offset, b"\xff\xff\xff\x7f"), (start, b"\xff\xff"), (start + 4, b"\xff"), (start + 5, b"\xff\xff"), (start + 9, b"\xff")):
+            changed = data[:at] + new + data[at + len(new) :]
+            yield "opened", changed, opened(changed)
+        yield "opened", data[: start + 7], opened(data[: start + 7])
+
+
 def lines():
     """Each line with its output."""
     for data in READ:
@@ -390,6 +421,7 @@ def lines():
         yield "word a", data, "a" if data == b"\x00" else rising_table(data)
     yield from large_lines()
     yield from sized_lines()
+    yield from faulty_lines()
     for data in (b"\x00", READ[19], READ[20], READ[25], TABLE, NOT_RISING[1], READ[28]):
         yield "index", data, index(data)
     for data in INDEXES:
@@ -399,6 +431,8 @@ def lines():
     for data in (b"", indexed([]), MANY_DUE):
         yield "look a", data, look("a", data)
     yield "many 100000", b"", "100000 names: 16 there, 16 between"
+    yield "often 20000", b"", "20000 found"
+    yield "faults", b"", FAULTS
     # each proper prefix of eleven languages ends too early
     yield "prefixes", TABLE, sweep([TABLE[:size] for size in range(len(TABLE))])
     yield "changes", TABLE, sweep(changes(TABLE))

@@ -108,7 +108,9 @@ BAD = [
 # short runs: a bad line after an empty one, a name that is removed, quotation marks in JSON
 SHORT = [
     b"put a 1,,put a,all", b"put a 1,get a,del a,get a,", b"put b 2,put c 3,put a 1,del b,del b,find c,get c,all", b"all", b",,,all",
-    b"put a 1,find a,find 0,find b", b"put ! ~,put B b,put a A,all", b"put a 1,put a 2,put a 2,all", b'put a ",put b \\,json']
+    b"put a 1,find a,find 0,find b", b"get a", b"del a,del a", b"find a,find ~", b"json,json", b",all", b",json", b"get a,put a 1,get a",
+    b"del a,put a 1,del a,json", b"put a a", b"put a a,get a,find a,put a a,all,json,del a,del a,find a,all", b"json,put json all,get json,json",
+    b"put all json,put put put,get put,all,del all,json", b"put ! ~,put B b,put a A,all", b"put a 1,put a 2,put a 2,all", b'put a ",put b \\,json']
 LONGEST = b"put " + b"k" * (MOST - 6) + b" v"
 LINES = {
     # the stored run: names are put, one of them twice, and listed
@@ -149,7 +151,7 @@ def rows():
 def searched():
     """Lines before those of stdin, and how often all of them search the names: each line that calls the map does so once."""
     some = [b"%s %05d" % (word, key) for word in (b"get", b"find", b"del", b"get") for key in range(0, 400, 3)]
-    lines = [*puts(300), *puts(40, b"w", 100), *some, *long_values(), *long_keys(), b"json", b"all"]
+    lines = [b"get a", b"find a", b"del a", b"all", b"json", b"put a a", b"del a", *puts(300), *puts(40, b"w", 100), *some, *long_values(), *long_keys(), b"json", b"all"]
     given = b"\n".join([*lines, pathlib.Path(__file__).with_name("stdin").read_bytes()]).decode()
     calls = len(re.findall("^(put|get|del|find) ", given, re.MULTILINE))
     return "".join(line.decode() + "\n" for line in lines), calls

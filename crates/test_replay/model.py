@@ -19,6 +19,28 @@ LENGTHS = [0, 1, 2, 3, 4, 5, 7, 8, 9, 12, 16, 17, 20, 21, 24, 30, 33, 65, 100, 1
 GROWING = "vec columns short"
 SLICED = "vec short"
 ALL = GROWING + " fixed"
+# A row of diff/calls.txt: how often one of its calls is picked, over which stores, the words after them, and their names.
+Group = collections.namedtuple("Group", "often over words names")
+
+
+def group(often, over, words, names):
+    return Group(int(often), over, words.replace("-", "").split(), names.split(" "))
+
+
+ROWS = [row.split(" | ") for row in (FOLDER.parent.parent / "diff" / "calls.txt").read_text(encoding="utf-8").splitlines()]
+GROUPS = {name: group(*row) for name, *row in (row for row in ROWS if len(row) == 5)}
+
+
+def named(*groups):
+    """The calls of some groups."""
+    return [*dict.fromkeys(name for it in groups for name in GROUPS[it].names)]
+
+
+def spelled(*groups, **given):
+    """Each call of some groups, with each of the words that are given for the kinds of its words."""
+    for it in groups:
+        for name in dict.fromkeys(GROUPS[it].names):
+            yield from (" ".join([name, *map(str, words)]).rstrip() for words in itertools.product(*(given[kind] for kind in GROUPS[it].words)))
 
 
 def digits(number):
@@ -159,7 +181,7 @@ class Model:
         """Makes a call at each key and each gap: a checksum of what it returns and leaves, and the most comparisons of one."""
         pairs, room, most, total = self.pairs, self.room, 0, 0
         for code in map(str, range(1, 2 * len(pairs) + 2)):
-            self.pairs, self.room = list(pairs), room
+            self.pairs, self.room = pairs if name in READ_ONLY else list(pairs), room
             answer, cost = self.make(" ".join([name, code, *words]))
             if not name.startswith("lm_"):
                 place, there = self.place(code)
@@ -421,6 +443,12 @@ class Model:
             return self.text([old])
         if name in READS:
             return self.read(name, words)
+        if name == "read_results":
+            return self.read_results(words)
+        if name == "find_by_slice":
+            below = min((int(words[0]) - 1) // 2, int(words[1]))
+            there = int(words[0]) % 2 == 0 and int(words[0]) <= 2 * int(words[1])
+            return f"{'ok' if there else 'err'} {below}", digits(int(words[1]))
         if name == "split_off":
             place, _ = self.place(words[0])
             self.pairs, later = self.pairs[:place], self.pairs[place:]
@@ -432,7 +460,7 @@ class Model:
             keys = sorted(place * step % 10007 for place in range(count))
             return self.text((str(key), 0 if "_set_" in name else key) for key in keys)
         pairs = self.given(words)
-        if name in (*MAKES, "read_results", "lm_sort_from_iter", "lm_sort_from_vec"):
+        if name in (*MAKES, "lm_sort_from_iter", "lm_sort_from_vec"):
             cost = len(pairs) if self.rises(pairs) else sorting(len(pairs))
             self.pairs = self.last(pairs)
             return "ok", cost
@@ -529,6 +557,13 @@ class Model:
         self.pairs = self.last(start + pairs)
         return f"ok asked {len(pairs) + 1}", cost
 
+    def read_results(self, words):
+        pairs, error = self.given(words[1:]), None if words[0] == "-" else int(words[0])
+        if error is not None and error < len(pairs):
+            return f"error {error}", max(error - 1, 0)
+        self.pairs = self.last(pairs)
+        return "ok", len(pairs) if self.rises(pairs) else sorting(len(pairs))
+
     def run(self, words):
         """Makes a list of calls of an empty map: what they return, and the map after them."""
         made = Model(self.order)
@@ -583,14 +618,18 @@ class Model:
         return ("equal" if mine == theirs else "less" if mine < theirs else "greater"), most
 
 
+# Calls that leave the list, so that a sweep needs no copy of it.
+READ_ONLY = {"get"}
 LOOK_UPS = {"find_index", "find_index_counted", "find_index_by", "lm_binary_search_by", "contains_key", "get_key_value"}
 LOOK_UPS |= {"get", "get_counted", "get_by", "index", "get_mut", "get_mut_by", "index_mut"}
-PUTS = ["insert", "insert_counted", "try_insert", "try_append", "try_get_or_insert", "try_find_or_insert"]
-PUTS += ["try_get_or_fail", "try_find_or_fail"]
-ENTRIES = ["or_insert", "or_insert_with", "and_modify", "entry_insert", "entry_get_mut", "entry_into_mut"]
-ENTRIES += ["or_default", "entry", "entry_get", "entry_remove", "entry_debug", "entry_debug_lines"]
-TWICE = [f"entry_{first}_then_{last}" for first in ("insert", "get_mut") for last in ("remove", "into_mut")]
-EXTENSIONS = ["extend", "extend_counted", "extend_from_vec", "extend_from_vec_counted", "lm_extend", "lm_extend_from_vec"]
+PUTS, ENTERING = named("put", "find_or_put"), named("enter")
+ENTRIES, TWICE = [*ENTERING, *named("enter_key", "enter_out", "enter_text")], named("enter_twice")
+EXTENSIONS = named("extend", "store_extend")
+MERGES, COMBINES, BESIDE, READS, RUNS, MAKES = map(named, ("merge", "combine", "beside", "read", "run", "make"))
+RENAMES, MADE = named("rename"), named("store_make")
+# The groups of lookups, of calls with a pair, and of those that take a key out.
+LOOKING = ["get", "get_pair", "get_more", "find", "index"]
+PAIRED, TAKING = ["put", "find_or_put", "enter"], ["take", "take_pair"]
 # The number of clones that each conversion makes of a pair.
 CONVERSIONS = {"try_clone": 2, "to_boxed_keys_values": 2, "to_boxed_keys": 2, "to_boxed_values": 2, "to_keys_by": 1}
 CONVERSIONS |= {"to_borrowed_keys_values": 0, "to_borrowed_keys": 1, "to_borrowed_values": 1}
@@ -669,7 +708,7 @@ def looks():
         calls = ["len", "is_empty", "first", "last", "keys_rise"] + (["debug"] if length <= 1000 else [])
         calls += ["debug_lines"] if length <= 129 else []
         calls += [f"get_indexed {index}" for index in ends]
-        calls += [f"{name} {key}" for name in LOOK_KEYS for key in keys(length)]
+        calls += spelled(*LOOKING, KEY=keys(length))
         some = [1, *present(length), 2 * length + 1]
         bounds = [(low, high) for low in ("in", "out", "-") for high in ("in", "out", "-")]
         pairs = [(first, last) for first in some for last in some]
@@ -681,10 +720,6 @@ def looks():
         parts += [f"range {low} {first} {high} {last}" for low, high in bounds for first, last in pairs[::3]]
         yield from block(SLICED, length, 1, ["as_slice", "as_sliced", *parts])
         yield from block("vec", length, 1, ["into_tuple_vec"])
-
-
-LOOK_KEYS = ["get", "get_counted", "get_key_value", "get_by", "contains_key", "find_index", "find_index_counted"]
-LOOK_KEYS += ["find_index_by", "index"]
 
 
 def walks():
@@ -710,21 +745,18 @@ def walks():
 def changes():
     """The calls that insert, write or remove one pair, or visit all pairs."""
     for length in LENGTHS + [3000]:
-        calls = [f"{name} {key} 7" for name in PUTS + ENTRIES[:6] for key in keys(length)]
-        calls += [f"{name} {key}" for name in ENTRIES[6:] for key in keys(length)]
-        writes = [f"{name} {key} 7" for name in ("get_mut", "get_mut_by", "index_mut") for key in keys(length)]
-        writes += [f"get_indexed_mut {index} 7" for index in (*indices(length), length, 2**64 - 1)]
-        writes += [f"{name} {key}" for name in TAKES for key in keys(length)]
+        words = {"KEY": keys(length), "VALUE": [7]}
+        calls = [*spelled(*PAIRED, "enter_key", "enter_out", "enter_text", **words)]
+        writes = [*spelled("write", **words), *spelled("write_at", PLACE=(*indices(length), length, 2**64 - 1), VALUE=[7])]
+        writes += spelled(*TAKING, **words)
         writes += ["pop_first", "pop_last", "clear", "update 5", "reserve 0", "reserve 1"]
         writes += [f"retain {bits}" for bits in RETAINED]
-        twice = [f"{name} {key} 7" for name in TWICE for key in present(length) + absent(length)]
+        twice = [*spelled("enter_twice", KEY=present(length) + absent(length), VALUE=[7])]
         yield from block(ALL, length, 1, calls + writes + twice, is_fixed=False)
         yield from block(GROWING, length, 0, calls + writes + [f"reserve {more}" for more in (2, 8, 100)])
         yield from block("fixed", length, 0, calls + writes[:-8] + ["reserve 0", "reserve 1"], is_fixed=True)
 
 
-TAKES = ["remove", "remove_counted", "remove_by", "remove_entry"]
-RENAMES = ["rename", "rename_counted"]
 # Which pairs are kept, by the bits of a number: none, all, the first, all but the first, in turns, the last of 64, and others.
 RETAINED = [0, 2**64 - 1, 1, 2**64 - 2, 0x5555555555555555, 0xAAAAAAAAAAAAAAAA, 2**63, 0xFFFF0000FFFF0000, 6, 2**64 - 7]
 
@@ -762,18 +794,18 @@ def bulk():
     for length in [0, 1, 2, 3, 5, 12, 16, 17, 24, 30, 33, 65, 100, 129, 1000]:
         given = list(inputs(length)) + ([f"{2 * length + 1},1000,1", "1,1000,2", "4000,1000,-4"] if length in (0, 17, 1000) else [])
         given += astray(length) if length in (0, 1, 12, 33, 129) else []
-        calls = [f"{name} {pairs}".strip() for name in EXTENSIONS[:4] + MERGES for pairs in given]
+        calls = [*spelled("extend", "merge", PAIRS=given)]
         calls += [f"split_off {key}" for key in keys(length)]
-        yield from block(GROWING, length, 0, [*calls, *(f"{name} - - {pairs}".strip() for name in READS for pairs in given)])
+        yield from block(GROWING, length, 0, [*calls, *spelled("read", HINT="-", ERROR="-", PAIRS=given)])
         yield from block(GROWING, length, 3000, [call for call in calls if is_before(call)])
         yield from block(ALL, length, 3000, [call for call in calls if not is_before(call)])
         if length in (0, 5, 30):
-            made = [f"{name} {pairs}".strip() for name in MAKES for pairs in given]
+            made = [*spelled("make", PAIRS=given)]
             yield from block(ALL, length, 0, made + ["new", "with_capacity 0", "with_capacity 1", "with_capacity 16", "with_capacity 100", "with_capacity 100000"])
             hints = [0, 1, 3, 17, 65536, 65537, 2**40, 2**63, 2**64 - 1]
-            errors = [f"{name} {hint} {error} 1,5,2" for name in READS for hint in hints for error in ("-", 0, 1, 4, 5)]
+            errors = spelled("read", HINT=hints, ERROR=("-", 0, 1, 4, 5), PAIRS=["1,5,2"])
             yield from block(GROWING, length, 0, errors)
-    above = [f"{name} 1001,{count},1" for name in EXTENSIONS[:4] for count in (0, 1, 2, 40)]
+    above = [*spelled("extend", PAIRS=[f"1001,{count},1" for count in (0, 1, 2, 40)])]
     for room in (0, 1, 2, 39):
         yield from block("fixed", 20, room, above + ["reserve 3", f"reserve {room}"], is_fixed=True)
 
@@ -784,13 +816,6 @@ def is_before(call):
     codes = [int(key) for key, _ in Model(Order("number")).given(words)] if name in MERGES + COMBINES else []
     return bool(codes) and max(codes) < 2
 
-
-MERGES = ["extend_from_litemap", "extend_from_litemap_counted"]
-COMBINES = ["extend_with", "extend_with_counted"]
-BESIDE = ["is_subset", "is_subset_counted", "keep_keys_of", "remove_keys_of"]
-READS = ["read_pairs", "extend_from_source"]
-RUNS = ["run_calls", "run_calls_in_columns"]
-MAKES = ["from_iter", "from_iter_counted", "from_vec", "from_vec_counted"]
 
 
 def stores():
@@ -812,18 +837,15 @@ def stores():
         if length:
             yield from block("fixed", length, 0, ["lm_extend_end 9999:1", "lm_extend_start 1:1"], is_fixed=True)
         given = list(inputs(length))
-        many = [f"{name} {pairs}".strip() for name in ("lm_extend", "lm_extend_from_vec") for pairs in given]
-        if length <= 33:
-            many += [f"{name} {pairs}".strip() for name in ("lm_extend_end", "lm_extend_start") for pairs in given]
+        many = [*spelled("store_extend", *(["store_join"] if length <= 33 else []), PAIRS=given)]
         yield from block(GROWING, length, 0, many)
         yield from block(ALL, length, 100, [call for call in many if not call.startswith("lm_extend_start")])
     for pairs in ("1:1 1:2", "2:1 1:2", "1:1 3:2 2:3", "1:1 2:2 3:3", "1:1 2:2 2:3"):
         yield from chain(ALL, [f"lm_from_pairs {pairs}", "is_sorted_store"])
-    made = [f"{name} {pairs}".strip() for name in MADE for pairs in inputs(20)]
+    made = [*spelled("store_make", PAIRS=[*inputs(20)])]
     yield from block(ALL, 5, 0, made + ["lm_empty 0", "lm_with_capacity 0", "lm_with_capacity 1", "lm_with_capacity 17"])
 
 
-MADE = ["lm_sort_from_iter", "lm_sort_from_vec", "lm_from_pairs"]
 STORED = [("lm_pair_mut", " 7"), ("lm_replace", " 1 7"), ("lm_remove", "")]
 
 
@@ -832,7 +854,7 @@ def refusable():
     for length in [*range(71), 100, 129, 513]:
         end = 2 * length + 1
         given = [f"{end},1,1", f"1,{length},2", f"{2 * end},{length},-1"]
-        calls = [f"{name} {end} 7" for name in PUTS + ENTRIES[:6]] + [f"or_default {end}", *CONVERSIONS, "lm_try_clone", "lm_push 9999 7"]
+        calls = [*spelled(*PAIRED, KEY=[end], VALUE=[7]), f"or_default {end}", *CONVERSIONS, "lm_try_clone", "lm_push 9999 7"]
         calls += [f"{name} {more}" for name in RESERVED for more in (1, length)] + [f"split_off {key}" for key in (2, length, end - 1)]
         many = [name for name in EXTENSIONS + MERGES + MAKES + MADE if not name.endswith("counted")] + [f"{name} - -" for name in READS]
         calls += ["lm_insert 0 1 7", *(f"{name} {pairs}" for name in many for pairs in given)]
@@ -840,6 +862,12 @@ def refusable():
 
 
 RESERVED = ["reserve", "lm_reserve", "with_capacity", "lm_with_capacity"]
+
+
+def sliced():
+    """Slices that are looked up among vectors, of which each comparison is counted: in each gap, or at the ends and in the middle."""
+    for length in LENGTHS:
+        yield from block("vec", 0, 0, [f"find_by_slice {key} {length}" for key in keys(length)])
 
 
 def grown():
@@ -861,14 +889,14 @@ PLACING = ["insert", "try_insert", "try_append", "try_find_or_insert", "or_inser
 
 def roomy():
     """Maps with room and no pair, and vectors and other maps with room, with no pair or with some."""
-    taking = EXTENSIONS + MERGES + COMBINES + MAKES + MADE + ["lm_extend_end", "lm_extend_start"]
+    taking = EXTENSIONS + MERGES + COMBINES + MAKES + MADE + named("store_join")
     for room in (5, 47):
-        calls = [f"{name} 1 7" for name in PUTS + ENTRIES[:6]] + ["or_default 1", "split_off 1", "lm_push 1 7", "lm_insert 0 1 7"]
+        calls = [*spelled(*PAIRED, KEY=[1], VALUE=[7]), "or_default 1", "split_off 1", "lm_push 1 7", "lm_insert 0 1 7"]
         calls += [*CONVERSIONS, "lm_try_clone", "clone", "clear", "pop_last", "into_iter 1", "iter 1 1", "debug", "hash", "eq", "retain 1"]
         calls += [f"{name} {more}" for name in RESERVED[:2] for more in (room - 1, room, room + 1)]
         calls += [f"{name} {first},{count},1" for name in taking for first in (1, 9) for count in (3, 9, 60)]
         calls += [f"{name} {pairs}".strip() for name in taking for pairs in ("", "room=9", "1,3,1 room=90")]
-        calls += [f"{name} 2,3,1" for name in BESIDE] + [f"{name} - - {pairs}".strip() for name in READS for pairs in ("", "1,9,1")]
+        calls += [*spelled("beside", PAIRS=["2,3,1"]), *spelled("read", HINT="-", ERROR="-", PAIRS=("", "1,9,1"))]
         yield from block(GROWING, 0, room, calls)
     for length in (1, 2, 24):
         given = [f"{pairs} room={room}".strip() for pairs in ("", "1,1,1", "1,9,2", f"{2 * length + 1},9,1") for room in (1, 90)]
@@ -877,7 +905,7 @@ def roomy():
 
 def long():
     """Calls at a hundred thousand pairs, whose time bin/requests limits: lookups, iterators, removals and as many new pairs."""
-    count, calls = 100000, ["retain 0", "clear", "lm_retain 0", "insert_each 200001,100000,1"]
+    count, calls = 100000, ["retain 0", "clear", "lm_retain 0", "insert_each 200001,100000,1", "sweep get"]
     calls += [f"{name} {steps} {count - steps}" for name in ("iter", "keys", "values") for steps in (0, count)]
     calls += [f"into_iter {count}", "iter_range in 1 in 200001", "for 0 0", "try_clone", "to_keys_by", "cmp", "hash"]
     calls += [f"{name} 1,{count},2" for name in ("extend_from_litemap", "extend", "extend_with", *BESIDE)]
@@ -888,7 +916,8 @@ def listed():
     """Iterators of `Result`s, and lists of insertions: ascending, descending, and with keys twice, of up to 40 pairs."""
     for length in [*range(41), 100, 129, 513]:
         given = [f"1,{length},1", f"{2 * length},{length},-2", f"1,{length},3 2,{length},1"]
-        yield from block(GROWING, 3, 0, [f"read_results {pairs}" for pairs in given])
+        errors = ["-", *(range(length) if length in (1, 2, 13) else ())]
+        yield from block(GROWING, 3, 0, spelled("read_results", ERROR=errors, PAIRS=given))
         lists = [[f"insert:{key}:{value}" for key, value in Model(Order("number")).given(pairs.split(" "))] for pairs in given]
         yield from block("vec", 3, 0, [" ".join([name, *calls]) for name in RUNS for calls in lists] if length <= 40 else [])
 
@@ -933,12 +962,12 @@ def beside():
     for length in range(4):
         places = range(1, 2 * length + 2)
         theirs = [" ".join(f"{key}:9" for key in keys) for count in range(len(places) + 1) for keys in itertools.combinations(places, count)]
-        yield from block(ALL, length, 0, [f"{name} {pairs}".strip() for name in BESIDE for pairs in theirs])
+        yield from block(ALL, length, 0, spelled("beside", PAIRS=theirs))
     for length in (5, 12, 20, 24, 33, 65, 100, 129, 513, 1000):
-        yield from block(ALL, length, 0, [f"{name} {pairs}".strip() for name in BESIDE for pairs in inputs(length)])
-    yield from block(ALL, 20, 0, [f"{name} 2,{count},2" for name in BESIDE for count in range(71)])
+        yield from block(ALL, length, 0, spelled("beside", PAIRS=[*inputs(length)]))
+    yield from block(ALL, 20, 0, spelled("beside", PAIRS=[f"2,{count},2" for count in range(71)]))
     for length in (1, 3, 20, 1000):
-        yield from block(ALL, length, 0, [f"{name} {first},1000,{step}" for name in BESIDE for first, step in ((1, 2), (2, 2), (3, 5))])
+        yield from block(ALL, length, 0, spelled("beside", PAIRS=[f"{first},1000,{step}" for first, step in ((1, 2), (2, 2), (3, 5))]))
 
 
 def renamed():
@@ -962,7 +991,7 @@ def combined():
         calls += ["extend_with" + "".join(f" {key.upper()}:{9 - place}" for place, key in enumerate(new))]
         yield from chain(GROWING, calls, "letter", 8)
     for length in (0, 1, 2, 3, 12, 17, 24, 30, 33, 65, 100, 129, 513, 1000):
-        calls = [f"{name} {pairs}".strip() for name in COMBINES for pairs in inputs(length)]
+        calls = [*spelled("combine", PAIRS=[*inputs(length)])]
         yield from block(GROWING, length, 0, calls)
         yield from block(ALL, length, 3000, [call for call in calls if not is_before(call)])
 
@@ -1016,9 +1045,9 @@ def picked_call(generator, order):
     """A call that a generator picks."""
     key, value, kind = generator.pick(WORDS[order]), generator.below(1000), generator.below(50)
     if kind < 24:
-        return f"{generator.pick(PUTS + ENTRIES[:6])} {key} {value}"
+        return f"{generator.pick(PUTS + ENTERING)} {key} {value}"
     if kind < 34:
-        return f"{generator.pick(LOOK_KEYS + TAKES[:1] + ENTRIES[7:])} {key}"
+        return f"{generator.pick([*named(*LOOKING), 'remove', *ENTRIES[len(ENTERING) + 1 :]])} {key}"
     if kind < 40:
         return f"{generator.pick(['get_mut', 'get_mut_by', 'index_mut'])} {key} {value}"
     if kind < 43:
@@ -1092,7 +1121,7 @@ def unmade(made):
 
 FILES = {"looks": looks, "walks": walks, "changes": changes, "bulk": bulk, "stores": stores, "scattered": scattered}
 FILES |= {"refusable": refusable, "merged": merged, "beside": beside, "twenty": twenty, "picked": picked, "rows": rows}
-FILES |= {"renamed": renamed, "combined": combined, "listed": listed, "grown": grown, "roomy": roomy, "long": long}
+FILES |= {"renamed": renamed, "combined": combined, "listed": listed, "grown": grown, "roomy": roomy, "sliced": sliced, "long": long}
 
 
 def calls_of(lines):
@@ -1119,6 +1148,8 @@ def files():
     return written({name: list(lines()) for name, lines in FILES.items()})
 
 
+# The file of long maps, whose time bin/requests limits.
+TIMED = "long.calls\n"
 # The most lines of a sample that continue from one another.
 MOST_TOGETHER = 5
 

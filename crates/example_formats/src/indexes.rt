@@ -91,6 +91,14 @@ impl<'a> BothWays<'a> {
             && self.names.find_index(key) == Ok(place)
     }
 
+    /// Whether it has a key at an index, both ways.
+    pub fn is_found(&self, key: &str, index: usize) -> bool {
+        self.checked.find_index(key) == Ok(index)
+            && self.checked.get(key).is_some()
+            && self.names.find_index(key) == Ok(Ok(index))
+            && self.names.get(key) != Ok(None)
+    }
+
     /// Whether it has the string for a word.
     pub fn is_translated(&self, word: &str, text: &str) -> bool {
         words::by_checked(&self.checked, word) == text && words::by_index(&self.names, word) == text

@@ -13,6 +13,8 @@
 //! - `begin TEXT BYTES`: the indices and the entries of the names that begin with a string, by a `NameIndex`.
 //! - `word WORD BYTES`: the string that a table has for a word, or the word itself, by each of its forms (`words`).
 //! - `many NUMBER -`: what a `NameTable` of so many names and its `NameIndex` return.
+//! - `often NUMBER -`: how many of so many names its indexes find, each looked up by itself.
+//! - `faults -`: the errors that no other line shows.
 //! - `prefixes BYTES`: what is read of each proper prefix, by kinds.
 //! - `changes BYTES`: the same with each byte changed into each other one.
 //! - `strings BYTES`: the same of every string of up to four of these bytes.
@@ -29,10 +31,13 @@ use crate::languages::language_name;
 use crate::sweeps::{self, Tally};
 use crate::{indexes, tables, texts};
 use hex::FromHexError;
+use litemap_json::JsonFault;
 use litemap_read::ReadFault;
-use name_index::IndexedNames;
+use name_index::{IndexedNames, NameIndexFault};
 use name_table::{NameWriteFault, read_names, write_names};
+use names::FlagsFault;
 use std::alloc::{AllocError, Global};
+use std::fmt::Write;
 
 /// Returns the output of a line.
 pub fn answer(alloc: Global, line: &str) -> Result<String, AllocError> {
@@ -68,7 +73,8 @@ fn write_answer(
         ["index"] => indexes::write_digits(alloc, bytes, output),
         ["opened"] => indexes::write_opened(bytes, output),
         ["look", key] => indexes::write_looked(key, bytes, output),
-        ["many", number] => tables::write_many(alloc, number, output),
+        ["many" | "often", number] => tables::write_many(alloc, words, number, output),
+        ["faults"] => write_faults(output),
         [name] => sweep(alloc, name, bytes, output),
         _ => output.push_str("bad line"),
     }
@@ -101,6 +107,17 @@ fn write_name(
         Ok(None) => output.push_str("none"),
         Err(fault) => texts::write_fault(&fault, output),
     }
+}
+
+// Writes each error that needs more memory than there is, or a text of another program.
+fn write_faults(output: &mut String) -> Result<(), AllocError> {
+    let (no_room, too_large) = (NameWriteFault::NoRoom, NameWriteFault::TooLarge);
+    write!(output, "{no_room}; {too_large}; ")?;
+    let (no_room, too_far) = (NameIndexFault::NoRoom, NameIndexFault::TooFar);
+    write!(output, "{no_room}; {too_far}; ")?;
+    let (memory, no_json) = (FlagsFault::Memory, FlagsFault::NotJson);
+    let no_flags = FlagsFault::Json(JsonFault::NotAMap);
+    write!(output, "{memory}; {no_json}; {no_flags}")
 }
 
 // Reads many cases, and writes what came of them. Those of an index are looked up by its keys.

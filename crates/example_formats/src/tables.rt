@@ -26,14 +26,20 @@ pub fn write_answer(
         ["begin", text] => write_beginning(&forms.table, &forms.index, text, output),
         ["word", word] => forms.write_translated(word, output),
         ["many", _] => forms.write_many(alloc, output),
+        ["often", _] => forms.write_often(output),
         _ => forms.write_entries(alloc, output),
     }
 }
 
-/// Writes what is found in a table of so many names.
-pub fn write_many(alloc: Global, number: &str, output: &mut String) -> Result<(), AllocError> {
+/// Writes what is found in a table of so many names, for the words `many` or `often`.
+pub fn write_many(
+    alloc: Global,
+    words: &[&str],
+    number: &str,
+    output: &mut String,
+) -> Result<(), AllocError> {
     let bytes = many(alloc, number.parse::<u32>().unwrap_or(0))?;
-    write_answer(alloc, &["many", number], bytes.as_slice(), output)
+    write_answer(alloc, words, bytes.as_slice(), output)
 }
 
 // A table, and its indexes.
@@ -154,6 +160,17 @@ impl<'a> Forms<'a> {
             between = between.wrapping_add(u32::from(self.is_at(key.as_str(), behind)));
         }
         write!(output, "{number} names: {there} there, {between} between")
+    }
+
+    // Writes how many of all names the indexes find.
+    fn write_often(&self, output: &mut String) -> Result<(), AllocError> {
+        let mut found = 0u32;
+        for place in 0..self.index.len() {
+            let (key, _) = self.index.get_indexed(place).unwrap_or(("", ""));
+            let there = self.index.find_index(key) == Ok(place) && self.index.get(key).is_some();
+            found = found.wrapping_add(u32::from(there && self.both.is_found(key, place)));
+        }
+        write!(output, "{found} found")
     }
 
     // Whether a key has this index, or would have it, and all return the same.

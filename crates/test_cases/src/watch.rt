@@ -65,10 +65,13 @@ impl Write for Noting {
     }
 }
 
-// The calls that one through a `Watch` makes, of 5,000 bytes at most, where a write takes at most `most`, and the call number
+// The most bytes that a call is handed.
+const MOST: usize = 70_000;
+
+// The calls that one through a `Watch` makes, of `MOST` bytes at most, where a write takes at most `most`, and the call number
 // `at` fails.
 fn made_by(call: Call, most: usize, at: u64, fault: Fault) -> Made {
-    let mut bytes = [b'a'; 5_000];
+    let mut bytes = [b'a'; MOST];
     let mut noting = Noting {
         made: [None; 3],
         count: 0,
@@ -78,9 +81,9 @@ fn made_by(call: Call, most: usize, at: u64, fault: Fault) -> Made {
     };
     let mut watch = Watch::new(&mut noting);
     match call {
-        Call::Read(len) => drop(watch.read(&mut bytes[..len.min(5_000)])),
-        Call::Write(len) => drop(watch.write(&bytes[..len.min(5_000)])),
-        Call::WriteAll(len) => drop(watch.write_all(&bytes[..len.min(5_000)])),
+        Call::Read(len) => drop(watch.read(&mut bytes[..len.min(MOST)])),
+        Call::Write(len) => drop(watch.write(&bytes[..len.min(MOST)])),
+        Call::WriteAll(len) => drop(watch.write_all(&bytes[..len.min(MOST)])),
         Call::Flush => drop(watch.flush()),
     }
     noting.made
@@ -90,7 +93,7 @@ pub(crate) fn a_call_is_one_call(_: Global) -> Result<bool, AllocError> {
     let mut is_right = true;
     for fault in FAULTS {
         for at in [0, NEVER] {
-            for len in [0, 1, 64, 65, 5_000] {
+            for len in [0, 1, 64, 65, 5_000, 8_192, 65_536, MOST] {
                 for call in [Call::Read(len), Call::Write(len), Call::Flush] {
                     is_right &= made_by(call, usize::MAX, at, fault) == [Some(call), None, None];
                 }
@@ -113,6 +116,10 @@ pub(crate) fn a_whole_write_ends_at_a_fault(_: Global) -> Result<bool, AllocErro
         (65, 64, 1, [Some(65), Some(1)]),
         (65, 64, NEVER, [Some(65), Some(1)]),
         (5_000, 64, 1, [Some(5_000), Some(4_936)]),
+        (8_192, 5_000, NEVER, [Some(8_192), Some(3_192)]),
+        (65_536, usize::MAX, 0, [Some(65_536), None]),
+        (MOST, usize::MAX, NEVER, [Some(MOST), None]),
+        (MOST, 65_536, 1, [Some(MOST), Some(4_464)]),
     ];
     let mut is_right = true;
     for fault in FAULTS {

@@ -11,7 +11,6 @@ use litemap::LiteMap;
 use litemap::store::{Count, NoRoom, Store};
 use litemap_columns::ColumnStore;
 use litemap_read::{PairSource, ReadFault, extend_from_source, read_pairs, read_results};
-use std::alloc::AllocError;
 use std::cell::Cell;
 use std::vec::IntoIter;
 
@@ -28,8 +27,10 @@ pub fn gather<S: Tested<Key, Value>>(map: &mut Map<S>, call: &Call<'_>, to: &mut
         || combine(map, call, to).is_some()
         || go_beside(map, call, to).is_some()
         || read(map, call, to).is_some()
+        || read_each(map, call, to).is_some()
         || lists::run(call, to).is_some()
         || sizes::grow(call, to).is_some()
+        || sizes::find_by_slice(call, to).is_some()
 }
 
 // A map with no pair replaces the old one, or its clone does.
@@ -50,10 +51,6 @@ fn make<S: Tested<Key, Value>>(map: &mut Map<S>, call: &Call<'_>, to: &mut Answe
     let made = match call.name {
         "from_iter" => LiteMap::from_iter(call.alloc, call.given()?),
         "from_iter_counted" => LiteMap::from_iter_counted(call.alloc, call.given()?, count),
-        "read_results" => {
-            let results = call.given()?.into_iter().map(|pair| Ok::<_, u8>(pair));
-            read_results(call.alloc, results).map_err(|_| AllocError)
-        }
         _ => return None,
     };
     to.made(map, made);
@@ -251,27 +248,57 @@ fn read<S: Tested<Key, Value>>(map: &mut Map<S>, call: &Call<'_>, to: &mut Answe
         asked: 0,
     };
     call.begin();
-    let outcome = match call.name {
-        "read_pairs" => match read_pairs(call.alloc, &mut source) {
-            Ok(read) => {
-                *map = read;
-                Ok(())
-            }
-            Err(fault) => Err(fault),
-        },
-        _ => extend_from_source(call.alloc, map, &mut source),
-    };
-    match outcome {
-        Ok(()) => to.word("ok"),
-        Err(ReadFault::NoRoom) => to.word("refused"),
-        Err(ReadFault::Source(fault)) => {
-            to.word("error");
-            to.show(fault);
-        }
+    match call.name {
+        "read_pairs" => show_read(map, read_pairs(call.alloc, &mut source), to),
+        _ => show_fault(extend_from_source(call.alloc, map, &mut source).err(), to),
     }
     to.word("asked");
     to.show(source.asked);
     Some(())
+}
+
+// What an iterator of results gives replaces the map. The first word is the index of the error, or `-`.
+fn read_each<S: Tested<Key, Value>>(map: &mut Map<S>, call: &Call<'_>, to: &mut Answer) -> Made {
+    if call.name != "read_results" {
+        return None;
+    }
+    let (error, pairs) = (call.size(0), call.pairs(1)?);
+    call.begin();
+    let results = pairs.into_iter().enumerate().map(|(index, pair)| {
+        if error == Some(index) {
+            Err(index)
+        } else {
+            Ok(pair)
+        }
+    });
+    show_read(map, read_results(call.alloc, results), to);
+    Some(())
+}
+
+// Replaces a map by what was read, and writes whether it was.
+fn show_read<S: Tested<Key, Value>>(
+    map: &mut Map<S>,
+    read: Result<Map<S>, ReadFault<usize>>,
+    to: &mut Answer,
+) {
+    match read {
+        Ok(read) => {
+            *map = read;
+            show_fault(None, to);
+        }
+        Err(fault) => show_fault(Some(fault), to),
+    }
+}
+
+fn show_fault(fault: Option<ReadFault<usize>>, to: &mut Answer) {
+    match fault {
+        None => to.word("ok"),
+        Some(ReadFault::NoRoom) => to.word("refused"),
+        Some(ReadFault::Source(fault)) => {
+            to.word("error");
+            to.show(fault);
+        }
+    }
 }
 
 // The pairs of a vector, in their order, with a hint that may be wrong and an error, if they are wanted.

@@ -1,4 +1,4 @@
-//! Maps of small pairs, and sets, that grow beside the map of the line.
+//! Maps beside that of the line: of small pairs, and sets, that grow, and of vectors as keys.
 use crate::answer::{Answer, Pairs};
 use crate::call::{Call, Made};
 use crate::counted::Order;
@@ -18,6 +18,23 @@ pub fn grow(call: &Call<'_>, to: &mut Answer) -> Made {
         "grow_set_short" => grow_over::<(), ShortStore<u32, ()>>(call, to),
         _ => None,
     }
+}
+
+/// Looks a slice of one key up among so many vectors of one key each, of the keys with which a line begins.
+pub fn find_by_slice(call: &Call<'_>, to: &mut Answer) -> Made {
+    if call.name != "find_by_slice" {
+        return None;
+    }
+    let (sought, mut map) = ([call.key(0)?], LiteMap::new_vec(call.alloc));
+    for place in 1..call.number(1)?.saturating_add(1) {
+        let (key, _) = call.pair_at(place).ok()?;
+        let mut keys = Vec::new(call.alloc);
+        keys.push(key).ok()?;
+        map.insert(keys, place).ok()?;
+    }
+    call.begin();
+    to.index(map.find_index(sought.as_slice()));
+    Some(())
 }
 
 // A value of a small pair.
