@@ -67,8 +67,8 @@ pub(crate) fn keep_rising<K: Ord + Drop, V: Drop>(
     Ok(())
 }
 
-/// Sorts by key, equal keys in their order, and brings the last pair of each key to the front. It returns their number.
-pub(crate) fn sort_last<K: Ord, V>(alloc: Global, pairs: &mut [(K, V)]) -> Result<usize, AllocError>
+// Sorts by key, equal keys in their order, and brings the last pair of each key to the front. It returns their number.
+fn sort_last<K: Ord, V>(alloc: Global, pairs: &mut [(K, V)]) -> Result<usize, AllocError>
     ensures last { IfOk result (λ kept. Last K.cmp pairs.old (take kept pairs.new)) }
     ensures within { IfOk result (λ kept. kept ≤ length pairs.old) }
     ensures len { length pairs.new ≡ length pairs.old }

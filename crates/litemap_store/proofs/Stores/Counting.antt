@@ -2,7 +2,7 @@
 use Rattle.std.proofs.Common.{ℕ, ◌+◌, ◌≤◌, Result, Ok, Err, refl, ◌∙◌, arith}
 use Rattle.std.specs.Result.{OnErr}
 use Rattle.litemap_store.specs.declared.count.Count.{Count}
-use Rattle.litemap_store.specs.Counts.{GoesOn, RisesByAtMost}
+use Rattle.litemap_store.specs.Counts.{RisesByAtMost}
 
 -- a count through which nothing was compared
 pub not_asked : (c : Count) → RisesByAtMost 0 c c
@@ -16,9 +16,6 @@ pub in_turn : {c d e : Count} (a b n : ℕ) → a + b ≤ n → RisesByAtMost a 
 in_turn a b n h r s =
     let m = r.most in let k = s.most in let l = r.not_lowered in let u = s.not_lowered in
     record { same = s.same ∙ r.same; not_lowered = omega arith; most = omega arith }
-
-pub then_goes_on : {c d e : Count} (n : ℕ) → GoesOn c d → RisesByAtMost n d e → GoesOn c e
-then_goes_on n g r = let l = g.1 in let u = r.not_lowered in (r.same ∙ g.0, omega arith)
 
 -- what holds in each case holds if a call fails
 pub always_on_err : {T E P : Type 0} (r : Result T E) → P → OnErr r P

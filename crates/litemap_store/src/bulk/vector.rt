@@ -1,22 +1,18 @@
 //! The bodies of a vector's `lm_extend` and `lm_extend_from_vec`. Few new pairs are put in one by one, where they stand after its
 //! own. A merge reverses its side vector, which becomes the store.
-ghost use Rattle.std.specs.Prelude.{◌≡◌, ◌⊎◌, ◌≤◌, ◌+◌, ◌-◌, ◌*◌, ◌++◌, [], Ok, IsOk, IfOk, OnOk, OnErr, IsTrue, IsFalse, false};
-ghost use Rattle.std.specs.Prelude.{drop, length, take, vec_len};
+ghost use Rattle.std.specs.Prelude.{◌≡◌, ◌⊎◌, ◌≤◌, ◌+◌, ◌*◌, ◌++◌, [], IsOk, OnOk, OnErr, drop, length, take, vec_len};
 ghost use Rattle.litemap_store.specs.Bulk.{IsHandedBack};
-ghost use Rattle.litemap_store.specs.Counts.{GoesOn, RisesByAtMost};
+ghost use Rattle.litemap_store.specs.Counts.{RisesByAtMost};
 ghost use Rattle.litemap_store.specs.Last.{Last, Rises};
 ghost use Rattle.litemap_store.specs.Pairs.{Rising};
 ghost use Rattle.litemap_store.specs.VecStore.{vec_room};
 
 use crate::bulk::few::{is_few, settle_few};
 use crate::bulk::merge::take_down;
-use crate::sorted::{is_rising, keep_rising, lies_below, sort_last};
+use crate::sorted::{keep_rising, lies_below};
 use crate::store::{Count, SliceStore};
 use std::alloc::{AllocError, Global};
 use std::mem;
-
-// A sort of at most so many pairs takes no memory, and less time than a merge.
-const SHORT: usize = 20;
 
 /// Puts the pairs from an index on among those before, whose keys ascend: of each key the last stays. On an error they go.
 pub fn settle<K: Ord + Drop, V: Drop>(
@@ -31,22 +27,17 @@ pub fn settle<K: Ord + Drop, V: Drop>(
     ensures refused { OnErr result (store.new.items ≡ take from store.old.items) }
     ensures behind { Rises K.cmp (take from store.old.items) (drop from store.old.items)
         → RisesByAtMost (length (drop from store.old.items)) count.old count.new }
-    ensures cost { Rising K.cmp (drop from store.old.items)
-        → RisesByAtMost (from + 2 * length (drop from store.old.items)) count.old count.new }
-    ensures counted { GoesOn count.old count.new }
+    ensures cost { RisesByAtMost (from + 2 * length (drop from store.old.items)) count.old count.new }
     ensures succeeds { Rises K.cmp (take from store.old.items) (drop from store.old.items) → IsOk result }
 {
     if is_few(from, store.len() - from) {
         settle_few(store, from, count);
         return Ok(());
     }
-    let Ok(all) = sort_short(alloc, store, from, count) else {
+    let Ok(()) = keep_rising(alloc, store, from, count) else {
         store.truncate(from);
         return Err(AllocError);
     };
-    if all {
-        return Ok(());
-    }
     let (old, given) = store.split_at(from);
     if lies_below(&SliceStore::new(old), &SliceStore::new(given), count) {
         return Ok(());
@@ -56,37 +47,6 @@ pub fn settle<K: Ord + Drop, V: Drop>(
         return Err(AllocError);
     };
     merge_in_vec(alloc, store, &mut given, count)
-}
-
-// Sorts all pairs, if they are few and those from an index on don't ascend, and returns whether it did. Else it keeps the last
-// pair of each key of those from the index on, in ascending order.
-fn sort_short<K: Ord + Drop, V: Drop>(
-    alloc: Global,
-    store: &mut Vec<(K, V)>,
-    from: usize,
-    count: &mut Count,
-) -> Result<bool, AllocError>
-    requires { from ≤ vec_len store.old }
-    ensures all { IfOk result (λ all. IsTrue all → Last K.cmp store.old.items store.new.items) }
-    ensures last { IfOk result (λ all. IsFalse all → Last K.cmp (drop from store.old.items) (drop from store.new.items)) }
-    ensures before { IfOk result (λ all. IsFalse all → take from store.new.items ≡ take from store.old.items) }
-    ensures shorter { IfOk result (λ all. IsFalse all → (from ≤ vec_len store.new) × (vec_len store.new ≤ vec_len store.old)) }
-    ensures same { Rising K.cmp (drop from store.old.items) → (result ≡ Ok false) × (store.new.items ≡ store.old.items) }
-    ensures refused { OnErr result (store.new.items ≡ store.old.items) }
-    ensures cost { Rising K.cmp (drop from store.old.items) → RisesByAtMost (vec_len store.old - from - 1) count.old count.new }
-    ensures counted { GoesOn count.old count.new }
-{
-    if store.len() > SHORT {
-        keep_rising(alloc, store, from, count)?;
-        return Ok(false);
-    }
-    let (_, given) = store.split_at(from);
-    if is_rising(given, count) {
-        return Ok(false);
-    }
-    let kept = sort_last(alloc, store)?;
-    store.truncate(kept);
-    Ok(true)
 }
 
 /// Puts the pairs of a vector in, which is left empty: of each key the last pair stays. If they ascend and come after the last

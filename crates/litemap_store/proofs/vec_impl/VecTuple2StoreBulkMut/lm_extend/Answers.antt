@@ -21,7 +21,7 @@ counted : (g : Over) (c : goal.After-settle g) → IsCountedFor g.K.Ord.cmp c.ar
 counted g c =
     let part = parts g c in
     let len : c.len-len.result ≡ length c.args.self.now.items = search rules in
-    record { behind = rw (part.0, part.1) at c.settle.ensures.behind; rising = rw (part.1, len) at c.settle.ensures.cost }
+    record { behind = rw (part.0, part.1) at c.settle.ensures.behind; rising = λ _. rw (part.1, len) at c.settle.ensures.cost }
 
 pub returns-clause-extended : goal.returns-clause-extended
 returns-clause-extended g c =
