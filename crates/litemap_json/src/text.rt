@@ -26,11 +26,10 @@ use std::alloc::{AllocError, Global};
 /// errors, but that value isn't made. The Rust crate has serde's `Serialize` here, whose members stand in the order of the
 /// keys.
 ///
-/// It is written pair by pair while the keys' strings ascend in their byte order, as keys of type `String` do, and unsigned
-/// integers with equally many digits. If one doesn't ascend, as `"10"` after `"2"`, the members' order is not that of the keys.
-/// What was written is dropped then, and the names of all keys are gathered and sorted. No keys are compared, but each pair's
-/// name with the one before; sorting the names takes O(n log n) comparisons. The name of a key with a `key_number` is compared
-/// and written with no string. `Memory` may come in place of any result.
+/// Names that ascend in their byte order, as those of `String` keys do, are written pair by pair, each compared with the one
+/// before. If one doesn't ascend, what was written is dropped, and the names of all keys are gathered and sorted. If the first
+/// key has a `key_number`, as integers have, that is done at once, by the names' digits and with no strings. Sorting takes
+/// O(n log n) comparisons of names. Keys aren't compared. `Memory` may come in place of any result.
 ///
 /// ```rust
 /// // hours: 1 8, 3 10
