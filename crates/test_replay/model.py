@@ -457,7 +457,7 @@ class Model:
             return self.run(words)
         if name.startswith("grow_"):
             count, step = map(int, words)
-            keys = sorted(place * step % 10007 for place in range(count))
+            keys = sorted(place * step % 10007 for place in range(1, count + 1))
             return self.text((str(key), 0 if "_set_" in name else key) for key in keys)
         pairs = self.given(words)
         if name in (*MAKES, "lm_sort_from_iter", "lm_sort_from_vec"):

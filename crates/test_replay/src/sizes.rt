@@ -64,7 +64,7 @@ impl Small for () {
     }
 }
 
-// The keys are what the multiples of the second number leave by a prime.
+// The keys are what the multiples of the second number leave by a prime: with one less than that, each comes in front.
 fn grow_over<V: Small + Drop, S: StoreBulkMut<u32, V>>(call: &Call<'_>, to: &mut Answer) -> Made {
     let (count, step) = (call.number(0)?, call.number(1)?);
     let mut map: LiteMap<u32, V, S> = LiteMap::with_capacity(call.alloc, 0).ok()?;
@@ -96,7 +96,7 @@ fn insert_all<V: Small + Drop, S: StoreBulkMut<u32, V>>(
     step: u64,
 ) -> u64 {
     for place in 0..count {
-        let key = (place.wrapping_mul(step) % 10_007) as u32;
+        let key = (place.wrapping_add(1).wrapping_mul(step) % 10_007) as u32;
         if map.insert(key, V::of(key)).is_err() {
             return place;
         }
