@@ -27,7 +27,6 @@ use Rattle.litemap_store.proofs.Search.Splitting.{key_or_equal}
 use Rattle.litemap.specs.ByBytes.{by_bytes}
 use Rattle.litemap.specs.Combined.{combined, found_with}
 use Rattle.litemap.proofs.Combining.{value_at-combined}
-use Rattle.litemap.proofs.Places.{other_places}
 
 -- the law of their order
 pub by_bytes_total : IsTotalOrder by_bytes
