@@ -110,8 +110,8 @@ class Watched:
     The input `timed` is not part of what is given: it is run by itself, with a limit of time.
     """
 
-    # How many seconds of processor time it may take, some twenty times as many as it does: only a wrong body takes more.
-    MOST_TIME = 40
+    # How many seconds of processor time it may take, some ten times as many as it does: only a wrong body takes more.
+    MOST_TIME = 20
 
     def __init__(self, room, crate, sign, program=None):
         self.folder, self.sign, self.library = TOP / "crates" / crate, sign, f"{room}/allocator.so"
