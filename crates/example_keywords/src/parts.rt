@@ -3,7 +3,8 @@ ghost use Rattle.std.specs.Prelude.{◌≡◌, ◌∷◌, IfNone, IfOk, IfSome, 
 ghost use Rattle.std.specs.Char.{is_ascii_alphanumeric, to_ascii_lowercase};
 ghost use Rattle.std.specs.List.{list_all};
 ghost use Rattle.std.specs.Option.{option_copied};
-ghost use Rattle.example_keywords.specs.Keywords.{AreJoined, canonical, dashed, is_key, is_value_part, parts_in, parts_of, with_part};
+ghost use Rattle.example_keywords.specs.Keywords.{AreJoined, canonical, dashed, is_key, is_value_part, parts_in, parts_of};
+ghost use Rattle.example_keywords.specs.Keywords.{with_part};
 
 use std::alloc::{AllocError, Global};
 

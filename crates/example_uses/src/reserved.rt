@@ -1,5 +1,5 @@
-//! Pairs of two maps that are inserted together or not at all. All capacity is reserved before the first change: what follows can't
-//! fail, and the proof says so.
+//! Pairs of two maps that are inserted together or not at all. All capacity is reserved before the first change: what follows
+//! can't fail, and the proof says so.
 ghost use Rattle.std.specs.Prelude.{◌≡◌, ◌∷◌, OnErr, OnOk};
 ghost use Rattle.litemap_store.specs.Pairs.{BelowAll, put};
 

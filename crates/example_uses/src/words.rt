@@ -1,5 +1,6 @@
 //! Words that are borrowed: how often each comes, and which come most often.
-ghost use Rattle.std.specs.Prelude.{◌≡◌, ◌+◌, ◌<◌, All, IfOk, filter, find, map, nat_lt, option_map, take, OnErr, OnOk, Some, if◌then◌else◌, unwrap_or};
+ghost use Rattle.std.specs.Prelude.{◌≡◌, ◌+◌, ◌<◌, All, IfOk, filter, find, map, nat_lt, option_map};
+ghost use Rattle.std.specs.Prelude.{take, OnErr, OnOk, Some, if◌then◌else◌, unwrap_or};
 ghost use Rattle.std.specs.List.Sorted.{IsPermutation, IsSorted};
 ghost use Rattle.std.specs.Ordering.{is_eq};
 ghost use Rattle.litemap_store.specs.Pairs.{value_at};

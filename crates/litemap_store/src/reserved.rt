@@ -1,6 +1,6 @@
 //! Capacity that is taken first, pairs that go into a store which has it, and pairs that leave a store from its end.
-ghost use Rattle.std.specs.Prelude.{◌≡◌, ◌↔◌, ◌+◌, ◌<◌, ◌≤◌, List, ◌++◌, ◌∷◌, [], drop, insert, length, remove, reverse, slice_index_or};
-ghost use Rattle.std.specs.Prelude.{take, vec_capacity, vec_len, IfOk, IfSome, IsNone};
+ghost use Rattle.std.specs.Prelude.{◌≡◌, ◌↔◌, ◌+◌, ◌<◌, ◌≤◌, List, ◌++◌, ◌∷◌, [], drop, insert, length, remove, reverse};
+ghost use Rattle.std.specs.Prelude.{slice_index_or, take, vec_capacity, vec_len, IfOk, IfSome, IsNone};
 
 use crate::store::{Store, StoreMut};
 use std::alloc::{AllocError, Global};
