@@ -7,7 +7,8 @@ from lib.shared import CRATES, TOP
 
 # The lines that a block leaves out.
 LEFT_OUT = re.compile(r"^ *// \.\.\.\n", re.MULTILINE)
-# The crates whose items stand in comments, as do those of bin/lib/examples.rt, and those whose functions a program or a test has to call, by whatever way.
+# The crates whose items are shown in comments (so are those of bin/lib/examples.rt.in), and those of which a program or a test
+# has to call each function.
 SHOWN = ("example_uses", "example_formats", "example_store")
 CALLERS = ("example_uses", "example_formats", "example_store")
 # What is called by no name of its own: a program, and calls of traits.
@@ -51,7 +52,7 @@ def check(report, _):
     for block in (it for it in by_hand if it.language == "rust"):
         report.see(stands_in(block.inside, RUST.values()), f"{block.where}: the block stands in no crate")
     shown = [trimmed(text) for path, text in RUST.items() if re.fullmatch(rf"({'|'.join(SHOWN)})/src/\w+\.rt", path)]
-    shown.append(trimmed((TOP / "bin" / "lib" / "examples.rt").read_text(encoding="utf-8")))
+    shown.append(trimmed((TOP / "bin" / "lib" / "examples.rt.in").read_text(encoding="utf-8")))
     for path, text in RUST.items():
         for comment, block, is_item in examples_of(text):
             if is_item:
