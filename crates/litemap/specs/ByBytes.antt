@@ -5,6 +5,6 @@ use Rattle.std.specs.Ordering.{nat_cmp}
 use Rattle.std.specs.declared.cmp.Ordering.{Ordering}
 use denote.Ref.{Bor}
 
--- the order by the bytes, where a proper prefix is less
+-- how two strings or byte slices compare: by their bytes, and a proper prefix is less
 abbrev pub by_bytes : Bor (List ℕ) → Bor (List ℕ) → Ordering
 by_bytes a b = slice_cmp nat_cmp a.now b.now

@@ -42,7 +42,8 @@ impl<'a, K: Ord, V> LiteMap<K, V, SliceStore<'a, K, V>> {
         &self.borrowed()[index]
     }
 
-    // Integers and strings can't count how often they are compared. So its callers pass a fresh count.
+    // There are no counted variants: comparisons of integers and strings have no effect that could be counted. So the callers
+    // pass a fresh count.
     fn const_find<Q: Query<K>>(&self, key: Q, count: &mut Count) -> Option<(usize, &'a V)>
         ensures found { GetsWithIndex Q.order self.now.pairs (Q.sought key) result }
         ensures cost { RisesByAtMost (digits (length self.now.pairs)) count.old count.new }

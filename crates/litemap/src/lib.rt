@@ -1,8 +1,8 @@
 //! A key-value map kept as one flat list of pairs with strictly ascending keys, over stores that a user may plug in.
 //!
 //! The Rust crate lacks the calls that are marked (own). In costs, n is the number of pairs. A call fails only if memory runs
-//! out, or a store's limit is reached, and then leaves the list. A store that keeps its memory, as a vector does, has room for
-//! another pair after each removal.
+//! out, or a store's limit is reached, and then leaves the list unchanged. A store that keeps its memory, as a vector does, has
+//! room for another pair after each removal.
 #![tactic(auto)]
 
 mod const_family;

@@ -82,7 +82,7 @@ fn digits(number: u64) -> u32
     number.checked_ilog10().unwrap_or(0)
 }
 
-// Returns the number with as many zeros at its end.
+// Returns the number with zeros at its end.
 fn padded(number: u64, zeros: u32) -> u128
     requires { zeros < 20 }
     ensures { result ≡ number * 10 ^ zeros }

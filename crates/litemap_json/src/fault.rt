@@ -88,7 +88,7 @@ impl From<AllocError> for JsonFault {
     }
 }
 
-/// Lets `?` return it in a function that returns an `io::Result`. The index is dropped. To tell it, print the error before.
+/// Lets `?` return it in a function that returns an `io::Result`. The index is lost: to show it, print the error first.
 impl From<WriteFault> for io::Error {
     ghost use Rattle.std.specs.Prelude.{◌≡◌};
     ghost use Rattle.std.specs.IoError.{error_kind};

@@ -15,17 +15,17 @@ use litemap::store::StoreBulkMut;
 use serde_json::{Map, Value};
 use std::alloc::Global;
 
-/// Reads the map that a JSON value spells, and returns it. The value is an object, whose names have to be strings of keys, or an
-/// array, whose elements have to be arrays of exactly a key and an item. Of equal keys the pair that comes last in the value
+/// Reads the map that a JSON value represents, and returns it. The value is an object, whose names have to be strings of keys, or
+/// an array, whose elements have to be arrays of exactly a key and an item. Of equal keys the pair that comes last in the value
 /// stays, with its own key, and the others are dropped. The Rust crate has serde's `Deserialize` here.
 ///
 /// All pairs are gathered before a map is made, and moved into it by `from_vec`: if the keys ascend, that is one
-/// comparison for each, else a sort.
+/// comparison for each at most, else a sort.
 ///
 /// # Errors
 ///
-/// A value that is no object and no array is `NotAMap`. Else the error is that of the first index that spells no pair. If memory
-/// runs out, it is `Memory`, which may come in place of an error at the same or a later index.
+/// A value that is no object and no array is `NotAMap`. Else the error is that of the first element or member that is no pair. If
+/// memory runs out, it is `Memory`, which may come in place of an error at the same or a later index.
 ///
 /// ```rust
 /// let value = Value::from_str(alloc, r#"{"10":9,"3":8}"#)?;

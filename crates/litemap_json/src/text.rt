@@ -153,7 +153,7 @@ fn rises(place: usize, last: &Name, name: &Name) -> bool
     place == 0 || last < name
 }
 
-// Returns a writer with the memory that so many short pairs take.
+// Returns a writer with the memory that this number of short pairs takes.
 fn writer(alloc: Global, pairs: usize) -> Result<Writer, AllocError>
     ensures { IfOk result (λ out. (out.before ≡ []) × (out.tokens ≡ [])) }
 {

@@ -36,7 +36,7 @@ pub fn write_value(alloc: Global, value: &Value, out: &mut Writer) -> Result<(),
     write_tokens(alloc, text.as_str(), out)
 }
 
-// Writes an integer below zero, which prints as no float.
+// Writes a negative integer, whose digits aren't a float's.
 fn write_signed(number: i64, out: &mut Writer) -> Result<(), AllocError>
     ensures token { OnOk result (out.new.tokens ≡ out.old.tokens ++ number_token (signed_decimal number) ∷ []) }
     ensures kept { unless_float (signed_decimal number) ≡ signed_decimal number }
@@ -45,7 +45,7 @@ fn write_signed(number: i64, out: &mut Writer) -> Result<(), AllocError>
     out.i64(number)
 }
 
-// Writes the tokens of a text, none of which is bad.
+// Appends the tokens of a JSON text. What `to_string` of a value prints has no token that a writer rejects.
 fn write_tokens(alloc: Global, text: &str, out: &mut Writer) -> Result<(), AllocError>
     requires { ArePrintable (tokens text.now) }
     ensures tokens { OnOk result (out.new.tokens ≡ out.old.tokens ++ tokens text.now) }

@@ -23,7 +23,7 @@ pub fn deserialize<
 >(alloc: Global, from: &mut Deserializer<'de, '_, F>) -> Result<LiteMap<K, V, S>, F::Error>
     ensures whole { OnOk result (IsWhole F.gives F.stays from.old from.new) }
 {
-    read::<Lent, K, V, S, F>(alloc, from)
+    read::<Borrowed, K, V, S, F>(alloc, from)
 }
 
 /// Reads a map as `deserialize` does, and borrows nothing from the input.
@@ -38,15 +38,15 @@ pub fn deserialize_owned<
     read::<Owned, K, V, S, F>(alloc, from)
 }
 
-// How a value is read: by one of serde's two traits.
-trait Way<'de, T> {
+// By which of serde's two traits a value is read.
+trait ReadBy<'de, T> {
     fn value<F: Format>(alloc: Global, from: &mut Deserializer<'de, '_, F>) -> Result<T, F::Error>;
 }
 
 // By `Deserialize`.
-struct Lent;
+struct Borrowed;
 
-impl<'de, T: Deserialize<'de>> Way<'de, T> for Lent {
+impl<'de, T: Deserialize<'de>> ReadBy<'de, T> for Borrowed {
     #[inline(always)]
     fn value<F: Format>(alloc: Global, from: &mut Deserializer<'de, '_, F>) -> Result<T, F::Error> {
         T::deserialize(alloc, from)
@@ -56,7 +56,7 @@ impl<'de, T: Deserialize<'de>> Way<'de, T> for Lent {
 // By `DeserializeOwned`.
 struct Owned;
 
-impl<'de, T: DeserializeOwned> Way<'de, T> for Owned {
+impl<'de, T: DeserializeOwned> ReadBy<'de, T> for Owned {
     #[inline(always)]
     fn value<F: Format>(alloc: Global, from: &mut Deserializer<'de, '_, F>) -> Result<T, F::Error> {
         T::deserialize_owned(alloc, from)
@@ -65,7 +65,7 @@ impl<'de, T: DeserializeOwned> Way<'de, T> for Owned {
 
 fn read<
     'de,
-    W: Way<'de, K> + Way<'de, V>,
+    W: ReadBy<'de, K> + ReadBy<'de, V>,
     K: Ord + Drop,
     V: Drop,
     S: StoreBulkMut<K, V>,
@@ -75,6 +75,7 @@ fn read<
 {
     let in_sequence = from.begin_struct()?;
     let mut pairs = Vec::new(alloc);
+    // A loop with a bound is proved to end.
     for _ in 0..u64::MAX {
         let Some(pair) = next_pair::<W, K, V, F>(alloc, from, in_sequence)? else {
             return made(alloc, from, pairs);
@@ -86,9 +87,9 @@ fn read<
     Err(from.no_memory())
 }
 
-// The next pair of a sequence, or of a map, or its end.
+// Returns the next pair of a sequence or of a map, or `None` at its end.
 #[inline(always)]
-fn next_pair<'de, W: Way<'de, K> + Way<'de, V>, K: Drop, V: Drop, F: Format>(
+fn next_pair<'de, W: ReadBy<'de, K> + ReadBy<'de, V>, K: Drop, V: Drop, F: Format>(
     alloc: Global,
     from: &mut Deserializer<'de, '_, F>,
     in_sequence: bool,

@@ -15,7 +15,7 @@ use std::marker::Model;
 use std::mem;
 use std::ops::Range;
 
-/// A store that keeps no pair or one pair in itself, and more in a vector.
+/// A store that keeps at most one pair inline, and more in a vector.
 ///
 /// It is for maps that mostly have no pair or one. Until a second pair comes, `lm_push` and `lm_insert` take no memory; in a
 /// store that `lm_empty` made, the first never fails. Bulk calls (`lm_extend`, `lm_sort_from_iter`, `lm_from_pairs`) gather

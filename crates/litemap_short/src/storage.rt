@@ -40,7 +40,7 @@ impl<T> Storage<T> {
         }
     }
 
-    // Reserves spare capacity for so many further items. If it wasn't there, all items lie in a vector then.
+    // Reserves spare capacity for `additional` items. If it wasn't there, all items are in a vector then.
     pub(crate) fn reserve(&mut self, alloc: Global, additional: usize) -> Result<(), AllocError>
         ensures items { storage_items self.new ≡ storage_items self.old }
         ensures room { OnOk result (additional ≤ storage_room self.new) }
@@ -55,7 +55,7 @@ impl<T> Storage<T> {
         }
     }
 
-    // Moves no item or one to a vector with spare capacity for so many more.
+    // Moves the item, if there is one, to a vector with spare capacity for `additional` more.
     fn move_to_vec(&mut self, alloc: Global, additional: usize) -> Result<(), AllocError>
         requires few { IsFew self.old }
         requires more { storage_room self.old < additional }
@@ -72,7 +72,7 @@ impl<T> Storage<T> {
         Ok(())
     }
 
-    // Puts no item or one into a vector that is empty and has spare capacity.
+    // Puts the item, if there is one, into a vector that is empty and has spare capacity.
     fn keep_in(&mut self, few: Storage<T>)
         requires few { IsFew few }
         requires empty { storage_items self.old ≡ [] }
@@ -168,7 +168,7 @@ impl<T> Storage<T> {
         }
     }
 
-    // A clone of each item, in order. No item and one take no memory of their own.
+    // Clones the items in order. At most one item takes no memory but its clone's.
     pub(crate) fn try_clone(&self, alloc: Global) -> Result<Self, AllocError>
     where
         T: Clone,
@@ -239,7 +239,7 @@ impl<K: Drop, V: Drop> Storage<(K, V)> {
     }
 }
 
-// The pair at an index, `None` from the length on.
+// The pair at an index, or `None` if the index is not below the length.
 pub(crate) fn pair_at<K, V>(pairs: &[(K, V)], index: usize) -> Option<(&K, &V)>
     ensures { option_map deref_pair result ≡ slice_get pairs.now index }
 {

@@ -41,7 +41,8 @@ pub fn gather<T: Drop, I: IntoIterator<Item = T>>(
     Ok(items)
 }
 
-/// Pushes the items of an iterator after those of a vector. No size hint is used. On an error all of them are dropped.
+/// Appends the items of an iterator to a vector, without its size hint. On an error the new items are dropped, and the vector
+/// has its own.
 pub fn gather_behind<T: Drop, I: IntoIterator<Item = T>>(
     items: &mut Vec<T>,
     iter: I,

@@ -18,7 +18,8 @@ pub trait PairIntoIter<K, V>: Iterator<Item = (K, V)> + ExactSizeIterator + Drop
     /// The pairs still to come, in their order.
     ghost owned: { Self → List (K × V) };
 
-    /// Returns the number of pairs that are left, twice (own), as `PairIter::lm_size_hint`.
+    /// Returns the number of pairs still to come, as both bounds of a size hint (own). Its body is `self.size_hint()`, which is
+    /// proved to be exact by that, as for `PairIter`.
     fn lm_size_hint(&self) -> (usize, Option<usize>)
         ensures { HintsExactly (length (owned self.now)) result };
 

@@ -16,7 +16,7 @@ use crate::sorted::lies_below;
 use crate::store::{Count, NoRoom, StoreIntoIterator};
 use std::alloc::Global;
 
-// A merge puts pairs in one by one if there are fewer than so many for each binary digit of both lengths' sum.
+// A merge inserts pairs one by one if there are fewer than this times the binary digits of both lengths' sum.
 const FEW_PER_DIGIT: usize = 3;
 
 /// Merges a store's pairs into another's. A key that is there stays, and takes the new value. Returns the displaced values, each

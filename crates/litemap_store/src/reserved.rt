@@ -6,10 +6,10 @@ use crate::store::{Store, StoreMut};
 use std::alloc::{AllocError, Global};
 use std::mem;
 
-// A part of so many bytes moves at once: std moves a longer one by a loop.
+// The most bytes that move at once: std moves more of them by a loop.
 const PART_BYTES: usize = 2048;
 
-/// A vector and a store, both empty, with room for so many pairs each.
+/// Returns a vector and a store, both empty, each with room for `capacity` pairs.
 pub(crate) fn room_for<K: Drop, V: Drop, S: StoreMut<K, V>>(
     alloc: Global,
     len: usize,

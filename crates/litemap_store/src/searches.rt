@@ -6,7 +6,7 @@ ghost use Rattle.litemap_store.specs.Splits.{Splits};
 
 use crate::store::{Count, Store};
 
-/// The index at which a key splits the pairs.
+/// Searches for a key: `Ok` with the index of the equal key, or `Err` with the index where it would be inserted.
 pub(crate) fn search<K: Ord, V, S: Store<K, V>>(
     store: &S,
     key: &K,
@@ -19,14 +19,14 @@ pub(crate) fn search<K: Ord, V, S: Store<K, V>>(
     store.lm_binary_search_by(|k| k.cmp(key), count)
 }
 
-/// How many binary digits a number has: a search of as many pairs compares so often at most.
+/// The binary digits of a number: the most comparisons of a search among that many pairs.
 pub(crate) fn binary_digits(number: usize) -> usize
     ensures { result ≡ digits number }
 {
     (usize::BITS - number.leading_zeros()) as usize
 }
 
-/// Whether one comparison for each of so many pairs is no more than what the searches compare, each as often as it has steps.
+/// Whether one comparison for each pair is no more than `searches` searches of `steps` comparisons each.
 pub(crate) fn walk_is_cheaper(pairs: usize, searches: usize, steps: usize) -> bool
     ensures { IsTrue result ↔ (pairs ≤ searches * steps) }
 {

@@ -7,7 +7,7 @@ use crate::count::Count;
 use std::cmp::Ordering;
 use std::mem;
 
-/// The keys of pairs, which are read at an index without a bounds check.
+/// The keys of pairs, by their indices. The contract bounds the index, so that no check of it is compiled.
 pub trait Keys<K, V> {
     /// The pairs.
     ghost pairs: { Self → List (K × V) };
@@ -22,7 +22,7 @@ pub trait Keys<K, V> {
         ensures { (value : V) × (slice_get (pairs self.now) index ≡ Some (result.now, value)) };
 }
 
-// A key of at most so many bytes is a number, or as cheap to compare as one.
+// The most bytes of a key that is compared as cheaply as a number.
 const SMALL: usize = 8;
 
 #[inline(always)]

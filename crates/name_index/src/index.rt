@@ -110,7 +110,7 @@ impl<'a> NameIndex<'a> {
         search(self.entries, self.offsets.as_slice(), key, count)
     }
 
-    /// Returns the entry at an index, or `None` from the length on. No other entry is read.
+    /// Returns the entry at an index, or `None` if it is not below the length. No other entry is read.
     pub fn get_indexed(&self, index: usize) -> Option<(&'a str, &'a str)>
         ensures { OfTable self.now (λ pairs. option_map shown result ≡ slice_get pairs index) }
     {

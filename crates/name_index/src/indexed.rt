@@ -115,7 +115,7 @@ impl<'a> IndexedNames<'a> {
         find(self.bytes, self.len, key, count)
     }
 
-    /// Returns the entry at an index, or `None` from the length on. No other entry is read.
+    /// Returns the entry at an index, or `None` if it is not below the length. No other entry is read.
     pub fn get_indexed(&self, index: usize) -> Result<Option<(&'a str, &'a str)>, IndexFault>
         ensures entry { IfOk result (λ found. IfIndex self.now (λ pairs. option_map shown found ≡ slice_get pairs index)) }
         ensures fault { IfErr result (λ _. NoIndex self.now) }
@@ -219,7 +219,7 @@ impl<'a> CheckedNames<'a> {
         self.names.find_index_counted(key, count).unwrap()
     }
 
-    /// Returns the entry at an index, or `None` from the length on. No other entry is read.
+    /// Returns the entry at an index, or `None` if it is not below the length. No other entry is read.
     pub fn get_indexed(&self, index: usize) -> Option<(&'a str, &'a str)>
         ensures { OfIndex self.now (λ pairs. option_map shown result ≡ slice_get pairs index) }
     {

@@ -37,7 +37,7 @@ impl<'a> Model for NameEntries<'a> {
 }
 
 impl<'a> NameEntries<'a> {
-    // The iterator over so many entries, which the bytes begin with.
+    // The iterator over the `len` entries that the bytes begin with.
     pub(crate) fn new(entries: &'a [u8], len: usize) -> Self
         requires { AreEntries entries.now len }
         ensures { OfEntries entries.now len (λ pairs. result ≡ pairs) }

@@ -146,7 +146,7 @@ fn is_led(name: &str, text: &str, past: bool, count: &mut Count) -> bool
     if past { order.is_le() } else { order.is_lt() }
 }
 
-// The first bytes of a name, so many or all.
+// The first `size` bytes of a name, or all if it has fewer.
 fn head(name: &str, size: usize) -> &[u8]
     ensures { result.now ≡ take size name.now }
 {

@@ -127,7 +127,7 @@ impl<'a> NameTable<'a> {
         }
     }
 
-    /// Returns the entry at an index, or `None` from the length on. The entries before it are read.
+    /// Returns the entry at an index, or `None` if it is not below the length. The entries before it are read.
     pub fn get_indexed(&self, index: usize) -> Option<(&'a str, &'a str)>
         ensures { OfTable self.now (λ pairs. option_map shown result ≡ slice_get pairs index) }
     {

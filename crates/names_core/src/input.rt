@@ -18,7 +18,7 @@ const CHUNK: usize = 4096;
 pub enum InputEnd {
     /// The reader has nothing left.
     Whole,
-    /// There is more than a run takes.
+    /// There are more than `MOST_BYTES`.
     TooLong,
     /// There was no memory for the next read.
     NoMemory,
@@ -26,8 +26,8 @@ pub enum InputEnd {
     Fault,
 }
 
-/// Reads to the end of the input, or until there is more than a run takes, and returns how it ended. Capacity is reserved
-/// before each read, so that no byte is lost.
+/// Reads to the end of the input, or until it is longer than `MOST_BYTES`, and returns which of these, or what failed. Capacity
+/// is reserved before each read, so that no byte that was read is lost.
 pub fn read_input<R: Read>(reader: &mut Watch<R>, input: &mut Vec<u8>) -> InputEnd
     requires { input.old.items ≡ [] }
     ensures consumed { Consumes (R.remaining reader.old.inner) (R.remaining reader.new.inner) input.new.items }

@@ -1,4 +1,4 @@
-//! The lines of the input, and the command that one spells.
+//! The lines of the input, and the command that a line is.
 ghost use Rattle.std.specs.Prelude.{◌≡◌, ◌++◌, ◌∷◌, ◌↔◌, ◌==◌, ℕ, List, MatchOption, All, IsTrue, false};
 ghost use Rattle.names_core.specs.Line.{IsWord, Spells, lines_left, lines_of};
 ghost use Rattle.names_core.specs.declared.line.Command.{Command};
@@ -37,47 +37,47 @@ fn cut_at(bytes: &[u8], byte: u8) -> Option<(&[u8], &[u8])>
     Some((&bytes[..at], &bytes[at + 1..]))
 }
 
-/// Returns the command that a line spells, if it spells one.
+/// Returns the command that a line is, or `None` if it is none.
 pub fn parse(line: &[u8]) -> Option<Command<'_>>
     ensures { MatchOption result ((command : Command) → Spells line.now command → ⊥) (Spells line.now) }
 {
-    if let Some((key, value)) = words_behind(line, b"put ") {
+    if let Some((key, value)) = words_after(line, b"put ") {
         return Some(Command::Put(key, value));
     }
-    if let Some(key) = word_behind(line, b"get ") {
+    if let Some(key) = word_after(line, b"get ") {
         return Some(Command::Get(key));
     }
-    if let Some(key) = word_behind(line, b"del ") {
+    if let Some(key) = word_after(line, b"del ") {
         return Some(Command::Del(key));
     }
-    Some(Command::Find(word_behind(line, b"find ")?))
+    Some(Command::Find(word_after(line, b"find ")?))
 }
 
-// What follows the name in the line, if that is a word.
+// Returns the word after a prefix of the line, or `None` if something else follows.
 #[tactic(auto, using(std::proofs::lemmas::List::append_cancel_left))]
-fn word_behind<'a>(line: &'a [u8], name: &[u8]) -> Option<&'a str>
-    ensures { MatchOption result ((key : List ℕ) → line.now ≡ name.now ++ key → IsWord key → ⊥)
-        (λ key. (line.now ≡ name.now ++ key.now) × IsWord key.now) }
+fn word_after<'a>(line: &'a [u8], prefix: &[u8]) -> Option<&'a str>
+    ensures { MatchOption result ((key : List ℕ) → line.now ≡ prefix.now ++ key → IsWord key → ⊥)
+        (λ key. (line.now ≡ prefix.now ++ key.now) × IsWord key.now) }
 {
-    Some(word(behind(line, name)?)?)
+    Some(word(after_prefix(line, prefix)?)?)
 }
 
-// What follows the name in the line, if that is two words separated by one space.
-fn words_behind<'a>(line: &'a [u8], name: &[u8]) -> Option<(&'a str, &'a str)>
+// Returns the two words after a prefix, which one space separates, or `None` if something else follows.
+fn words_after<'a>(line: &'a [u8], prefix: &[u8]) -> Option<(&'a str, &'a str)>
     ensures { MatchOption result
-        ((key value : List ℕ) → line.now ≡ name.now ++ (key ++ (32 ∷ value)) → IsWord key → IsWord value → ⊥)
-        (λ pair. (line.now ≡ name.now ++ (pair.0.now ++ (32 ∷ pair.1.now)))
+        ((key value : List ℕ) → line.now ≡ prefix.now ++ (key ++ (32 ∷ value)) → IsWord key → IsWord value → ⊥)
+        (λ pair. (line.now ≡ prefix.now ++ (pair.0.now ++ (32 ∷ pair.1.now)))
         × IsWord pair.0.now × IsWord pair.1.now) }
 {
-    let (key, value) = cut_at(behind(line, name)?, b' ')?;
+    let (key, value) = cut_at(after_prefix(line, prefix)?, b' ')?;
     Some((word(key)?, word(value)?))
 }
 
-fn behind<'a>(line: &'a [u8], name: &[u8]) -> Option<&'a [u8]>
-    ensures { MatchOption result ((rest : List ℕ) → line.now ≡ name.now ++ rest → ⊥)
-        (λ rest. line.now ≡ name.now ++ rest.now) }
+fn after_prefix<'a>(line: &'a [u8], prefix: &[u8]) -> Option<&'a [u8]>
+    ensures { MatchOption result ((rest : List ℕ) → line.now ≡ prefix.now ++ rest → ⊥)
+        (λ rest. line.now ≡ prefix.now ++ rest.now) }
 {
-    line.strip_prefix(name)
+    line.strip_prefix(prefix)
 }
 
 #[tactic(auto, using(crate::proofs::Cuts::IsUtf8_word))]

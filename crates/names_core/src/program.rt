@@ -48,8 +48,8 @@ where
     }
 }
 
-// Does the lines in order and writes their replies. A bad line, or memory that runs out, is told in one more line. Returns the
-// status.
+// Runs the lines in order and writes their replies. A bad line, or memory that runs out, is reported in one more line. Returns
+// the status.
 fn answer_lines<S, W: Write>(alloc: Global, input: &[u8], writer: &mut Watch<W>) -> u8
 where
     S: StoreConstEmpty<String, String> + StoreMut<String, String> + Drop,

@@ -23,7 +23,7 @@ pub enum Answer {
     Bad(String),
 }
 
-/// Does the line of this number, and returns the reply.
+/// Runs the line of this number, and returns the reply.
 pub fn reply<S: StoreMut<String, String>>(
     alloc: Global,
     names: &mut Names<S>,
@@ -47,7 +47,7 @@ pub fn reply<S: StoreMut<String, String>>(
     }
 }
 
-// Does a command, and returns the text of the reply.
+// Runs a command, and returns the text of the reply.
 #[tactic(auto, using(crate::proofs::Bytes::in_bytes))]
 fn obey<S: StoreMut<String, String>>(
     alloc: Global,
@@ -103,6 +103,7 @@ fn value_text(alloc: Global, value: Option<&String>) -> Result<String, AllocErro
     }
 }
 
+// The reply to `find`: `ok` and the index of the key, or `err` and the index where it would be inserted.
 fn place_text(alloc: Global, place: Result<usize, usize>) -> Result<String, AllocError>
     ensures { IfOk result (λ text. string_bytes text ≡ place_text place) }
 {

@@ -16,7 +16,7 @@ pub struct Watch<T> {
     /// Whether a call failed. It is false at first, and only a call that fails sets it.
     pub failed: bool,
     inner: T,
-    // Whether a call failed. Nothing sets it back.
+    // Whether a call failed. `failed` is public, so a caller may set it back; nothing sets this back.
     has_met_fault: bool,
     // Whether a call was made after one had failed. Nothing sets it back.
     has_late_call: bool,

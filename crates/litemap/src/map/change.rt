@@ -199,10 +199,10 @@ impl<K: Ord + Drop, V, S: StoreMut<K, V>> LiteMap<K, V, S> {
         Some(self.take_out(key, count)?.1)
     }
 
-    /// Moves the value at a key to another key, and returns whether the first key was present (own).
+    /// Moves the value at `key` to `new_key`, and returns whether `key` was present (own).
     ///
-    /// The first key is dropped. If the other key was present, it stays, and its old value is dropped; if both keys are equal,
-    /// the new one takes the place of the old. If the first key was absent, nothing changes.
+    /// If `new_key` was present too, the map's own key stays there, and its value and `new_key` are dropped. If both are equal,
+    /// `new_key` replaces the map's key. If `key` was absent, nothing changes, and `new_key` is dropped.
     ///
     /// It is `remove`, which leaves room for a pair, and then `insert`: so it never fails, and makes the comparisons and moves
     /// of both.
@@ -284,7 +284,7 @@ impl<K: Ord, V, S: StoreMut<K, V>> LiteMap<K, V, S> {
     }
 
     /// Appends a pair if its key is above all others, and returns `None`; else changes nothing, and returns the pair. It makes
-    /// at most one comparison, with the last key, and moves other pairs only if the store takes more memory. If memory runs
+    /// at most one comparison, with the last key, and moves other pairs only if the store reallocates. If memory runs
     /// out, the pair comes back in the error, and the map keeps its pairs.
     ///
     /// ```rust

@@ -1,6 +1,8 @@
 //! Entries: a key of a map, present or absent, that is looked up once for all that is then done with it.
 //!
-//! An entry borrows its map. The call that consumes the entry ends the borrow, or the reference that this call returns does.
+//! An entry borrows its map, as long as the entry lasts, or the reference that the call returns which consumes it. In clauses
+//! `self.entry` is the entry as it was passed; `writes_back` says that the map then has the value last written through a
+//! reference.
 ghost use Rattle.std.specs.Prelude.{◌<◌, length};
 ghost use Rattle.litemap_store.specs.Splits.{IsMissingAt};
 

@@ -36,7 +36,7 @@ impl<K: Ord, V, S: Store<K, V>> LiteMap<K, V, S> {
         self.store.lm_is_empty()
     }
 
-    /// Returns the pair at an index, or `None` from the length on.
+    /// Returns the pair at an index, or `None` if it is not below the length.
     pub fn get_indexed(&self, index: usize) -> Option<(&K, &V)>
         ensures { option_map deref_pair result ≡ slice_get self.now.pairs index }
     {
@@ -176,7 +176,8 @@ impl<K: Ord, V, S: Store<K, V>> LiteMap<K, V, S> {
         self.value_in(index).unwrap()
     }
 
-    // The one search of all calls by key: the index where the query splits the pairs.
+    // The one search of all calls by key: `Ok` with the index of the equal key, or `Err` with the index where it would be
+    // inserted.
     pub(crate) fn search<Q: Query<K>>(&self, key: Q, count: &mut Count) -> Result<usize, usize>
         ensures splits { Splits Q.order self.now.pairs (Q.sought key) result }
         ensures cost { RisesByAtMost (digits (length self.now.pairs)) count.old count.new }

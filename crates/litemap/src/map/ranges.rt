@@ -83,6 +83,7 @@ impl<K: Ord, V, S: Store<K, V>> LiteMap<K, V, S> {
         }
     }
 
+    // How many keys are smaller than a query.
     pub(super) fn place_before<Q: Query<K>>(&self, key: Q, count: &mut Count) -> usize
         ensures cut { IsCut (λ p. is_lt (Q.order p.0 (Q.sought key))) self.now.pairs result }
         ensures cost { RisesByAtMost (digits (length self.now.pairs)) count.old count.new }
@@ -97,7 +98,7 @@ impl<K: Ord, V, S: Store<K, V>> LiteMap<K, V, S> {
         ensures cut { IsCut (λ p. is_le (Q.order p.0 (Q.sought key))) self.now.pairs result }
         ensures cost { RisesByAtMost (digits (length self.now.pairs)) count.old count.new }
     {
-        // The index after a pair is at most the length, which is a `usize`.
+        // For the proof: the index after a pair is at most the length, so it doesn't overflow.
         let _len = self.len();
         match self.search(key, count) {
             Ok(index) => index + 1,

@@ -14,8 +14,8 @@ use litemap_store::store::{Count, StoreMut};
 use std::alloc::{AllocError, Global};
 
 impl<K: Ord, V, S: StoreMut<K, V>> LiteMap<K, V, S> {
-    /// Removes the pair with an equal key, and returns it, or `None` if there is none (own). Its key is the one in the map, if
-    /// equal keys differ. It compares and moves as `remove` does.
+    /// Removes the pair with an equal key, and returns it, or `None` if there is none (own). The key returned is the map's own,
+    /// which may differ from the one that is looked up. It compares and moves as `remove` does.
     pub fn remove_entry<Q: Query<K>>(&mut self, key: Q) -> Option<(K, V)>
         ensures pair { result ≡ at Q.order self.old.pairs (Q.sought key) }
         ensures removed { Removes Q.order (Q.sought key) S.keeps_memory self.old self.new result }

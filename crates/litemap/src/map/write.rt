@@ -69,8 +69,8 @@ impl<K: Ord, V, S: StoreMut<K, V>> LiteMap<K, V, S> {
         }
     }
 
-    /// Returns a mutable reference to the value at an index, or `None` from the length on (own). The Rust crate has `iter_mut`
-    /// instead.
+    /// Returns a mutable reference to the value at an index, or `None` if it is not below the length (own). The Rust crate has
+    /// `iter_mut` instead.
     pub fn get_indexed_mut(&mut self, index: usize) -> Option<&mut V>
         ensures* writes_back { sem 𝓛
             (LendsPlace K.row V.row S.row K.Ord S.pairs S.room self.entry index result) }

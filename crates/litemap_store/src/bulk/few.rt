@@ -11,10 +11,11 @@ use crate::searches::{binary_digits, search, walk_is_cheaper};
 use crate::sorted::{is_rising, lies_below};
 use crate::store::{Count, SliceStore};
 
-// At most so many pairs are few. Each moves later ones at once, so that so many moves take less time than a merge.
+// The most new pairs that are inserted one by one. Each moves the later ones at once, so these moves take less time than a merge.
 const FEW_PAIRS: usize = 16;
 
-/// Whether so many new pairs are few, and searches for them compare no more than there are pairs, old and new.
+/// Whether to insert new pairs one by one: they are at most `FEW_PAIRS`, and searching for them makes no more comparisons than
+/// there are pairs, old and new.
 pub fn is_few(old: usize, given: usize) -> bool
     ensures { IsTrue result → given * digits (old + given) ≤ old + given }
 {

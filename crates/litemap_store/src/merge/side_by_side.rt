@@ -68,7 +68,7 @@ fn put_both<K: Ord + Drop, V: Drop, S: StoreMut<K, V>, I: PairIntoIter<K, V>>(
     }
 }
 
-// How the first old key compares with the first new one. If there is no pair, it counts as above all.
+// How the first old key compares with the first new one. A side that has run out counts as greater; `None` if both have.
 fn lower_first<K: Ord, V, I: PairIntoIter<K, V>>(
     olds: &Peekable<K, V, I>,
     news: &Peekable<K, V, I>,
