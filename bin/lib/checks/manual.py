@@ -64,7 +64,7 @@ class Entry:
         for it in (call, twin) if twin else (call,):
             bounds = bounds_of(f"{it.outer}, {it.contract}") | ({"Self": [it.owner]} if it.outer.startswith("pub trait") else {})
             clauses = CLAUSE.sub("", it.contract[len(it.head) :])
-            names |= dict(scope.used(clauses, bounds)) | {name: name for name in types_in(it.head)}
+            names |= dict(scope.used(clauses, bounds)) | {name: name for name in types_in(it.head + it.bounds)}
         self.names, self.words = names, closure(key for key in names.values() if key)
 
     def sentence(self):

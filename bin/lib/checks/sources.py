@@ -54,9 +54,10 @@ class Function:
         end = 0 if is_bare else re.search(rf"\s*(?:^{found['set_in']}\{{\}}?|;)$", rest, re.MULTILINE).start()
         self.contract = textwrap.dedent(found["set_in"] + found["head"] + rest[:end])
         self.head = re.split(r"\n\s*(?:where|requires|ensures)\b", self.contract)[0]
+        self.bounds = " ".join(re.findall(r"^\s*\w+: .*,$", self.contract.partition("\nwhere\n")[2], re.MULTILINE))
         self.source, self.outer, self.name = source, outer, re.search(r"fn (\w+)", self.head)[1]
         owner = re.match(r"pub trait (\w+)|impl(?:<.*?>)? (\w+)(?:<.*>)?\s*(?:where.*)?$", outer)
-    # The type or trait that it is a call of, "" for a function of a module, None for one of a trait that a type implements.
+        # The type or trait that it is a call of, "" for a function of a module, None for one of a trait that a type implements.
         self.owner = "" if not outer else owner[1] or owner[2] if owner and " for " not in outer else None
         self.label = f"{self.owner}::{self.name}" if self.owner else self.name
         self.is_public = "pub fn" in self.head or outer.startswith("pub trait")

@@ -68,12 +68,12 @@ def arguments(cases, known):
 
 
 def above(lines, at):
-    """The first paragraph of the comment above a line."""
+    """The comment above a line, without its examples."""
     first = at
     while first and re.match(r" *(?:--(?! ----)|///|#\[)", lines[first - 1]) and indent(lines[first - 1]) == indent(lines[at]):
         first -= 1
     said = "\n".join(re.sub(r"^ *(?:--|///) ?", "", it) for it in lines[first:at] if "#[" not in it)
-    return " ".join(said.split("\n\n")[0].split())
+    return " ".join(re.sub(r"```.*?```", "", said, flags=re.DOTALL).split())
 
 
 def end_of(lines, at, name):
