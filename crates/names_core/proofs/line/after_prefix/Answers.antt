@@ -1,6 +1,6 @@
 use Rattle.std.proofs.lemmas.Bool.Decides.{Decides-eqb}
 use Rattle.std.proofs.lemmas.Slice.Eq.{strip_prefix_is}
-use Rattle.names_core.proofs.line.behind.Goals as goal
+use Rattle.names_core.proofs.line.after_prefix.Goals as goal
 
 pub returns : goal.returns
 returns c = strip_prefix_is Decides-eqb _ _ c.strip_prefix.result c.strip_prefix.ensures.cases
