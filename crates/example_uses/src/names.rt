@@ -1,9 +1,9 @@
 //! Names looked up in tables of which a map borrows the pairs: a table that is passed, and a constant one.
-ghost use Rattle.std.specs.Prelude.{◌≡◌, IfSome};
+ghost use Rattle.std.specs.Prelude.{◌≡◌, IfSome, map};
 ghost use Rattle.std.specs.Option.{option_map};
 ghost use Rattle.litemap_store.specs.Pairs.{Rising, place, value_at};
+ghost use Rattle.litemap_store.specs.Queries.{bytes_cmp};
 ghost use Rattle.litemap.specs.ByBytes.{by_bytes};
-ghost use Rattle.litemap.specs.Tables.{table_pairs};
 
 use litemap::LiteMap;
 use litemap::store::SliceStore;
@@ -22,12 +22,39 @@ pub fn find_in_table<'a, 'k, V>(table: &'a [(&'k str, V)], name: &str) -> Option
 }
 
 /// Paths, and the numbers of what serves them.
-pub const ROUTES: &[(&str, u8)] = &[("/", 0), ("/about", 1), ("/users", 2)];
+pub const ROUTES: &[(&str, u8)] = &[
+    ("/", 0),
+    ("/about", 1),
+    ("/contact", 2),
+    ("/help", 3),
+    ("/login", 4),
+    ("/logout", 5),
+    ("/search", 6),
+    ("/settings", 7),
+    ("/users", 8),
+    ("/users/me", 9),
+];
 
 /// The number at a path. The map takes no memory.
 pub fn route(path: &str) -> Option<u8>
-    ensures { result ≡ value_at by_bytes (table_pairs ROUTES.now) path.entry }
+    ensures { result ≡ value_at bytes_cmp (map (λ p. (p.0.now, p.1)) ROUTES.now) path.entry.now }
 {
-    let routes = LiteMap::from_sorted_store_unchecked(SliceStore::new(ROUTES));
+    number_by_bytes(ROUTES, path)
+}
+
+/// The number at a path in a sorted table, which a contract sees as the bytes of its paths, with their numbers.
+#[tactic(auto, using(crate::proofs::Tables::by_keys))]
+pub fn number_by_bytes(table: &[(&str, u8)], path: &str) -> Option<u8>
+    requires { Rising by_bytes table.now }
+    ensures { result ≡ value_at bytes_cmp (map (λ p. (p.0.now, p.1)) table.entry.now) path.entry.now }
+{
+    number_at(table, path)
+}
+
+fn number_at(table: &[(&str, u8)], path: &str) -> Option<u8>
+    requires { Rising by_bytes table.now }
+    ensures { result ≡ value_at by_bytes table.entry.now path.entry }
+{
+    let routes = LiteMap::from_sorted_store_unchecked(SliceStore::new(table));
     routes.get(path).copied()
 }
