@@ -19,67 +19,31 @@ use std::{fs, io};
 // How many bytes the text of what is returned takes at most.
 const LONGEST: usize = 1 << 14;
 
-// A bench for each store.
-#[derive(Drop)]
-struct Benches {
-    vec: Bench<Vec<(Key, Value)>>,
-    columns: Bench<ColumnStore<Key, Value>>,
-    short: Bench<ShortStore<Key, Value>>,
-    fixed: Bench<FixedRoom<Key, Value>>,
-    shrinking: Bench<Shrinking<Key, Value>>,
-}
-
-// What is done over each store, by its name: with the calls of a map over it that not every store has, and, if it has some, those
-// of the store itself.
-macro_rules! over_each {
-    ($($name:ident $word:literal: $($own:ident)* $(; $text:ident)?,)+) => {
-        impl Benches {
-            fn new(alloc: Global) -> Self {
-                Benches { $($name: Bench::new(alloc),)+ }
-            }
-
-            // Makes the call of a line over the store of a name.
-            fn make(
-                &mut self,
-                store: &str,
-                line: &Line<'_>,
-                start: Start,
-                call: &Call<'_>,
-                to: &mut Answer,
-            ) -> Result<Outcome, AllocError> {
-                match store {
-                    $($word => {
-                        let before = self.$name.begin(line, start, call, to)?;
-                        call.begin();
-                        let is_made = self.$name.call(line, call, to)
-                            || lent(&self.$name.map, call, to).is_some()
-                            $(|| $own(&mut self.$name.map, call, to).is_some())*
-                            $(|| $text(&self.$name.store, call, to).is_some())?;
-                        call.end();
-                        if !is_made {
-                            to.word("no call");
-                        }
-                        Ok(self.$name.end(line, before, call, to))
-                    })+
-                    _ => Ok(no_store(to)),
-                }
-            }
+// Makes the call of a line over a store, which may have some calls of its own.
+macro_rules! make_over {
+    ($bench:expr, $line:ident, $start:ident, $call:ident, $to:ident $(, $own:ident)* $(; $text:ident)?) => {{
+        let before = $bench.begin($line, $start, &$call, $to)?;
+        $call.begin();
+        let is_made = $bench.call($line, &$call, $to)
+            || lent(&$bench.map, &$call, $to).is_some()
+            $(|| $own(&mut $bench.map, &$call, $to).is_some())*
+            $(|| $text(&$bench.store, &$call, $to).is_some())?;
+        $call.end();
+        if !is_made {
+            $to.word("no call");
         }
-    };
-}
-
-over_each! {
-    vec "vec": rename view vector; text,
-    columns "columns": rename,
-    short "short": rename view; text,
-    fixed "fixed": rename,
-    shrinking "shrinking": ,
+        Ok($bench.end($line, before, &$call, $to))
+    }};
 }
 
 // The maps, and how the next lines begin.
 #[derive(Drop)]
 struct Replay {
-    benches: Benches,
+    vec: Bench<Vec<(Key, Value)>>,
+    columns: Bench<ColumnStore<Key, Value>>,
+    short: Bench<ShortStore<Key, Value>>,
+    fixed: Bench<FixedRoom<Key, Value>>,
+    shrinking: Bench<Shrinking<Key, Value>>,
     order: Order,
     start: Start,
     seen: Rc<Seen>,
@@ -93,7 +57,11 @@ impl Replay {
         let seen = Rc::new(alloc, Seen::default())?;
         let answer = Answer::with_capacity(alloc, LONGEST)?;
         Ok(Replay {
-            benches: Benches::new(alloc),
+            vec: Bench::new(alloc),
+            columns: Bench::new(alloc),
+            short: Bench::new(alloc),
+            fixed: Bench::new(alloc),
+            shrinking: Bench::new(alloc),
             order: Order::Number,
             start: Start {
                 len: 0,
@@ -146,10 +114,17 @@ impl Replay {
             name: words.first().copied().unwrap_or(""),
             words: words.get(1..).unwrap_or(&[]),
         };
-        self.answer.clear();
+        let (start, to) = (self.start, &mut self.answer);
+        to.clear();
         self.made = self.made.wrapping_add(1);
-        self.benches
-            .make(store, line, self.start, &call, &mut self.answer)
+        match store {
+            "vec" => make_over!(self.vec, line, start, call, to, rename, view, vector; text),
+            "columns" => make_over!(self.columns, line, start, call, to, rename),
+            "short" => make_over!(self.short, line, start, call, to, rename, view; text),
+            "fixed" => make_over!(self.fixed, line, start, call, to, rename),
+            "shrinking" => make_over!(self.shrinking, line, start, call, to),
+            _ => Ok(no_store(to)),
+        }
     }
 }
 
