@@ -1,61 +1,10 @@
 """The tables of bench/run, as text and as Markdown."""
+import pathlib
 import typing
 
-# The calls, by their names in the lines of the programs. A new measure gets a line here.
-TITLES = {
-    "get": "`get`, present",
-    "get_missing": "`get`, absent",
-    "get_indexed": "`get_indexed`, each index",
-    "iterate": "`iter`",
-    "into_iter": "`into_iter` to the end",
-    "equal": "`==`",
-    "insert": "`insert`, no order",
-    "append": "`try_append`",
-    "remove": "`remove`, no order",
-    "rename": "`rename`, no order",
-    "retain": "`retain` of a random half",
-    "retain_all": "`retain` of all",
-    "retain_none": "`retain` of none",
-    "from_iter_rising": "`from_iter`, ascending",
-    "from_iter": "`from_iter`, no order",
-    "extend_rising": "`extend`, ascending, between",
-    "extend_above": "`extend`, ascending, past the end",
-    "extend": "`extend`, no order",
-    "extend_few": "`extend` by 10, no order",
-    "extend_from_vec": "`extend_from_vec` of 10, no order",
-    "merge_apart": "`extend_from_litemap`, keys above",
-    "merge_interleaved": "`extend_from_litemap`, keys between",
-    "merge_equal": "`extend_from_litemap`, equal keys",
-    "extend_with": "`extend_with`, each second key",
-    "keep_keys": "`keep_keys_of`, every second key",
-    "remove_keys": "`remove_keys_of`, every second key",
-    "is_subset": "`is_subset`, all keys",
-    "clone": "`try_clone`",
-    "const_get": "`const_get_with_index`",
-    "to_json": "`to_json` and its text",
-    "write_json": "`write_json`",
-    "serde_write": "`to_string` of a `SerdeMap`",
-    "from_json": "`from_json` of a value",
-    "read_json": "text read, `from_json`",
-    "serde_read": "`from_str`, a `SerdeMap`",
-    "copy": "copy of the bytes",
-    "read_names": "`read_names`",
-    "find_name": "`find_name`",
-    "write_names": "`write_names`",
-    "few_get": "`get`",
-    "few_insert": "`insert`",
-    "few_iterate": "`iter` to the end",
-    "few_clone": "`try_clone`",
-    "made_map": "`read_names`",
-    "made_table": "`NameTable::new`",
-    "made_index": "`NameIndex::new`",
-    "opened": "`IndexedNames::open`, a call",
-    "in_map": "`get`, map of `read_names`",
-    "in_table": "`NameTable::get`",
-    "in_index": "`NameIndex::get`",
-    "in_indexed": "`IndexedNames::get`",
-    "by_find_name": "`find_name`",
-}
+CALLS = pathlib.Path(__file__).resolve().parent.parent / "diff" / "calls.txt"
+# The titles of what is measured, by the names in the lines of the programs. A new measure gets a row in diff/calls.txt.
+TITLES = dict(row.split(" | ") for row in CALLS.read_text(encoding="utf-8").splitlines() if row.count(" | ") == 1 and row[0] != "#")
 KEYS = {
     "number": "`u64` keys",
     "text": "`String` keys",
@@ -67,11 +16,8 @@ HELD = ["from_iter_rising", "from_iter", "extend_rising", "extend", "merge_apart
 HELD_SIZE = 100_000
 # The keys whose rows the plot has, and their names there.
 PLOTTED = {"number": "numbers", "text": "strings"}
-# The store of the pairs, or the format in which they are written.
-STORES = {
-    "vec": "over `Vec`",
-    "column": "over `ColumnStore`",
-    "short": "over `ShortStore`",
+# The format in which pairs are written, or what is asked of them. Other names are those of stores.
+FORMATS = {
     "json": "as JSON",
     "table": "as a name table",
     "made": "opened, an entry",
@@ -122,7 +68,7 @@ def shown(picos):
 
 def found_there(theirs, measure):
     """The outcome of the measure in the Rust crate, which has one store, and JSON if it was built with serde."""
-    return (theirs or {}).get(measure.over("vec"))
+    return (theirs or {}).get(measure.over("Vec"))
 
 
 def ratio(ours, theirs, measure):
@@ -139,6 +85,11 @@ def cell(ours, theirs, measure):
     return here if times is None else f"{here} ({times:{'.2f' if times >= 0.1 else '.2g'}})"
 
 
+def of_store(name):
+    """How the title of a table names a format, or a store."""
+    return FORMATS.get(name, f"over `{name}`")
+
+
 def parts(ours, theirs):
     """A table for each type of keys and each store: its title, its sizes, and its rows."""
     for keys, store in distinct((measure.keys, measure.store) for measure in ours):
@@ -148,7 +99,7 @@ def parts(ours, theirs):
         for call in distinct(measure.call for measure in of_part):
             cells = [cell(ours, theirs, Measure(call, keys, store, size)) for size in sizes]
             rows.append([TITLES.get(call, call), *cells])
-        yield f"{KEYS.get(keys, keys)} {STORES.get(store, store)}", sizes, rows
+        yield f"{KEYS.get(keys, keys)} {of_store(store)}", sizes, rows
 
 
 def held_cell(ours, theirs, measure):
@@ -164,7 +115,7 @@ def held_rows(ours, theirs=None):
     for call in HELD:
         measures = [Measure(call, keys, store, HELD_SIZE) for keys, store in columns]
         rows.append([TITLES[call], *(held_cell(ours, theirs, measure) for measure in measures)])
-    heads = [f"{KEYS[keys]} {STORES[store]}" for keys, store in columns]
+    heads = [f"{KEYS[keys]} {of_store(store)}" for keys, store in columns]
     return heads, rows
 
 

@@ -458,7 +458,7 @@ class Model:
         if name.startswith("grow_"):
             count, step = map(int, words)
             keys = sorted(place * step % 10007 for place in range(1, count + 1))
-            return self.text((str(key), 0 if "_set_" in name else key) for key in keys)
+            return self.text((str(key), 0 if name == "grow_set" else key) for key in keys)
         pairs = self.given(words)
         if name in (*MAKES, "lm_sort_from_iter", "lm_sort_from_vec"):
             cost = len(pairs) if self.rises(pairs) else sorting(len(pairs))
@@ -877,9 +877,9 @@ def grown():
             end = 2 * length + 1
             calls = [f"{name} {key} 7" for name in PLACING for key in (1, end) if key == end or name != "try_append"]
             yield from block(GROWING, length, 0, [*calls, f"lm_push {end} 7", "lm_insert 0 1 7", f"lm_insert {length} {end} 7"])
-    names = [f"grow_{kind}_{store}" for kind in ("small", "set") for store in GROWING.split(" ")]
     counts = [*range(1, 71), 100, 129, 257, 513, 1025]
-    yield from block("vec", 0, 0, [f"{name} {count} {step}" for name in names for count in counts for step in (1, 10006, 7919)])
+    grow = [f"{name} {count} {step}" for name in ("grow_small", "grow_set") for count in counts for step in (1, 10006, 7919)]
+    yield from block(GROWING, 0, 0, grow)
     scattered = " ".join(f"{first},500,10" for first in (3, 9, 1, 7, 0, 5, 2, 8, 4, 6))
     yield from block(GROWING, 0, 0, [f"insert_each {pairs}" for pairs in ("0,5000,1", "5000,5000,-1", scattered)])
 

@@ -21,7 +21,7 @@ pub fn measure_texts(data: &Data) {
 
 fn report<K: Key>(size: usize, found: Round) {
     let each = found.nanos * 1000 / LOOKS as u128;
-    println!("const_get {} vec {size} {each} {}", K::NAME, found.answer);
+    println!("const_get {} Vec {size} {each} {}", K::NAME, found.answer);
 }
 
 fn numbers_round(data: &Data, round: usize) -> Round {

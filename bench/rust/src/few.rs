@@ -36,7 +36,7 @@ fn measure_call(call: &str, size: usize) {
         answer = answer.wrapping_mul(31).wrapping_add(answered);
     }
     println!(
-        "{call} few vec {size} {} {answer}",
+        "{call} few Vec {size} {} {answer}",
         lowest * 1000 / MAPS as u128
     );
 }

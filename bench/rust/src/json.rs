@@ -19,7 +19,7 @@ pub fn measure_json<K: Key + Serialize + DeserializeOwned>(data: &Data) {
         let found = rounds(|round| json_round(data, work, round));
         let pairs = (keys::maps_of(data.size) * data.size) as u128;
         let each = found.nanos * 1000 / pairs;
-        println!("{call} {} vec {} {each} {}", K::NAME, data.size, found.answer);
+        println!("{call} {} Vec {} {each} {}", K::NAME, data.size, found.answer);
     }
 }
 

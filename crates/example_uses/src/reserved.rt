@@ -1,6 +1,7 @@
 //! Pairs of two maps that are inserted together or not at all. All capacity is reserved before the first change: what follows
 //! can't fail, and the proof says so.
-ghost use Rattle.std.specs.Prelude.{◌≡◌, ◌∷◌, OnErr, OnOk};
+ghost use Rattle.std.specs.Prelude.{◌≡◌, ◌∷◌, List, OnErr, OnOk};
+ghost use Rattle.std.specs.declared.cmp.Ordering.TheVariants.{Less};
 ghost use Rattle.litemap_store.specs.Pairs.{BelowAll, put};
 
 use litemap::LiteMap;
@@ -34,6 +35,20 @@ pub fn insert_first<K: Ord + Drop, V: Drop, S: StoreMut<K, V>>(
 ) -> Result<(), AllocError>
     requires { BelowAll K.cmp key map.old.pairs }
     ensures { OnOk result (map.new.pairs ≡ (key, value) ∷ map.old.pairs) }
+{
+    map.insert(key, value)?;
+    Ok(())
+}
+
+/// Puts a pair past the first one, which stays.
+#[tactic(auto, using(litemap_store::proofs::Callers::Every::put_ends))]
+pub fn insert_later<K: Ord + Drop, V: Drop, S: StoreMut<K, V>>(
+    map: &mut LiteMap<K, V, S>,
+    key: K,
+    value: V,
+) -> Result<(), AllocError>
+    ensures { OnOk result ((first : K × V) (rest : List (K × V)) → map.old.pairs ≡ first ∷ rest
+        → K.cmp first.0 key ≡ Less → map.new.pairs ≡ first ∷ put K.cmp rest key value) }
 {
     map.insert(key, value)?;
     Ok(())

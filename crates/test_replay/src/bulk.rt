@@ -29,7 +29,6 @@ pub fn gather<S: Tested<Key, Value>>(map: &mut Map<S>, call: &Call<'_>, to: &mut
         || read(map, call, to).is_some()
         || read_each(map, call, to).is_some()
         || lists::run(call, to).is_some()
-        || sizes::grow(call, to).is_some()
         || sizes::find_by_slice(call, to).is_some()
 }
 

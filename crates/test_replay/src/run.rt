@@ -6,6 +6,7 @@ use crate::changes::rename;
 use crate::counted::{Key, Order, Seen, Value};
 use crate::line::{self, Line};
 use crate::looks::{vector, view};
+use crate::sizes::grow;
 use crate::stores::text;
 use crate::walks::lent;
 use example_store::fixed_room::FixedRoom;
@@ -19,13 +20,16 @@ use std::{fs, io};
 // How many bytes the text of what is returned takes at most.
 const LONGEST: usize = 1 << 14;
 
+type Vector<K, V> = Vec<(K, V)>;
+
 // Makes the call of a line over a store, which may have some calls of its own.
 macro_rules! make_over {
-    ($bench:expr, $line:ident, $start:ident, $call:ident, $to:ident $(, $own:ident)* $(; $text:ident)?) => {{
+    ($bench:expr, $store:ident, $line:ident, $start:ident, $call:ident, $to:ident $(, $own:ident)* $(; $text:ident)?) => {{
         let before = $bench.begin($line, $start, &$call, $to)?;
         $call.begin();
         let is_made = $bench.call($line, &$call, $to)
             || lent(&$bench.map, &$call, $to).is_some()
+            || grow::<$store<u32, u32>, $store<u32, ()>>(&$call, $to).is_some()
             $(|| $own(&mut $bench.map, &$call, $to).is_some())*
             $(|| $text(&$bench.store, &$call, $to).is_some())?;
         $call.end();
@@ -118,11 +122,13 @@ impl Replay {
         to.clear();
         self.made = self.made.wrapping_add(1);
         match store {
-            "vec" => make_over!(self.vec, line, start, call, to, rename, view, vector; text),
-            "columns" => make_over!(self.columns, line, start, call, to, rename),
-            "short" => make_over!(self.short, line, start, call, to, rename, view; text),
-            "fixed" => make_over!(self.fixed, line, start, call, to, rename),
-            "shrinking" => make_over!(self.shrinking, line, start, call, to),
+            "vec" =>
+                make_over!(self.vec, Vector, line, start, call, to, rename, view, vector; text),
+            "columns" => make_over!(self.columns, ColumnStore, line, start, call, to, rename),
+            "short" =>
+                make_over!(self.short, ShortStore, line, start, call, to, rename, view; text),
+            "fixed" => make_over!(self.fixed, FixedRoom, line, start, call, to, rename),
+            "shrinking" => make_over!(self.shrinking, Shrinking, line, start, call, to),
             _ => Ok(no_store(to)),
         }
     }

@@ -4,18 +4,15 @@ use crate::call::{Call, Made};
 use crate::counted::Order;
 use litemap::LiteMap;
 use litemap::store::StoreBulkMut;
-use litemap_columns::ColumnStore;
-use litemap_short::ShortStore;
 
-/// Inserts so many keys into an empty map, if the name is one of these: over a store, with values or as a set.
-pub fn grow(call: &Call<'_>, to: &mut Answer) -> Made {
+/// Inserts so many keys into an empty map, if the name is one of these: over a store of small pairs, and over one of a set.
+pub fn grow<S: StoreBulkMut<u32, u32>, T: StoreBulkMut<u32, ()>>(
+    call: &Call<'_>,
+    to: &mut Answer,
+) -> Made {
     match call.name {
-        "grow_small_vec" => grow_over::<u32, Vec<(u32, u32)>>(call, to),
-        "grow_small_columns" => grow_over::<u32, ColumnStore<u32, u32>>(call, to),
-        "grow_small_short" => grow_over::<u32, ShortStore<u32, u32>>(call, to),
-        "grow_set_vec" => grow_over::<(), Vec<(u32, ())>>(call, to),
-        "grow_set_columns" => grow_over::<(), ColumnStore<u32, ()>>(call, to),
-        "grow_set_short" => grow_over::<(), ShortStore<u32, ()>>(call, to),
+        "grow_small" => grow_over::<u32, S>(call, to),
+        "grow_set" => grow_over::<(), T>(call, to),
         _ => None,
     }
 }

@@ -1,6 +1,6 @@
 //! Words and names that are counted, and scores.
 use crate::counting::{Names, count_name, count_words};
-use crate::reserved::{insert_both, insert_first};
+use crate::reserved::{insert_both, insert_first, insert_later};
 use crate::scores::{self, Scores};
 use litemap::LiteMap;
 use std::alloc::{AllocError, Global};
@@ -49,10 +49,11 @@ fn set_many(scores: &mut Scores, alloc: Global) -> Result<(), AllocError> {
     scores::set_all(scores, alloc, more)
 }
 
-// Two scores that are put in together, of which one goes into another map; there one is in front already.
+// Two scores that are put in together, of which one goes into another map, between two that are there already.
 fn insert_two(scores: &mut Scores, alloc: Global) -> Result<(), AllocError> {
     let mut others = LiteMap::new(alloc);
     insert_first(&mut others, String::from_str(alloc, "bo")?, 6)?;
+    insert_later(&mut others, String::from_str(alloc, "bod")?, 10)?;
     let first = scored(alloc, "cy", 7)?;
     insert_both(scores, &mut others, first, scored(alloc, "bob", 8)?)?;
     for (name, score) in others {

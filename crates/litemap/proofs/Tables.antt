@@ -1,4 +1,4 @@
--- Tables of borrowed strings, by the bytes of these.
+-- Tables whose keys are borrowed strings, looked up by the bytes of these.
 use Rattle.std.proofs.Common.{◌≡◌, ℕ, List, [], ◌∷◌, map, Bor, arith}
 use Rattle.std.proofs.lemmas.Grind.{common_steps}
 use Rattle.litemap_store.specs.Pairs.{value_at}
