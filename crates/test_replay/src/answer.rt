@@ -96,16 +96,12 @@ impl Answer {
 
     /// Writes where a key is, or would go.
     pub fn index(&mut self, index: Result<usize, usize>) {
-        match index {
-            Ok(index) => {
-                self.word("ok");
-                self.show(index);
-            }
-            Err(index) => {
-                self.word("err");
-                self.show(index);
-            }
-        }
+        let (word, index) = match index {
+            Ok(index) => ("ok", index),
+            Err(index) => ("err", index),
+        };
+        self.word(word);
+        self.show(index);
     }
 
     /// Writes whether there was memory.

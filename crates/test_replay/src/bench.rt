@@ -56,7 +56,7 @@ impl<S: StoreConstEmpty<Key, Value>> Bench<S> {
     }
 }
 
-impl<S: Tested<Key, Value>> Bench<S> {
+impl<S: Tested> Bench<S> {
     /// Makes the map, or the store, with which a line begins.
     pub fn begin(
         &mut self,
@@ -71,42 +71,17 @@ impl<S: Tested<Key, Value>> Bench<S> {
             self.map = map_of(call, start.len, start.capacity)?;
         }
         if let Some(calls) = line.set_up {
-            self.set_up(calls, line, call, to)?;
+            for text in calls.split("; ") {
+                let words: Vec<&str> = text.split(' ').collect(call.alloc)?;
+                self.one(line, &call.another(&words), to);
+            }
             to.clear();
         }
         Ok(Before {
             pairs: self.pairs(line),
-            keys: call.seen.keys.get(),
-            values: call.seen.values.get(),
+            keys: call.seen.keys.alive.get(),
+            values: call.seen.values.alive.get(),
         })
-    }
-
-    // Makes the calls before that of a line.
-    fn set_up(
-        &mut self,
-        calls: &str,
-        line: &Line<'_>,
-        call: &Call<'_>,
-        to: &mut Answer,
-    ) -> Result<(), AllocError> {
-        for text in calls.split("; ") {
-            let words: Vec<&str> = text.split(' ').collect(call.alloc)?;
-            self.earlier(words.as_slice(), line, call, to);
-        }
-        Ok(())
-    }
-
-    // Makes one of them, which tells nothing.
-    fn earlier(&mut self, words: &[&str], line: &Line<'_>, call: &Call<'_>, to: &mut Answer) {
-        let earlier = Call {
-            alloc: call.alloc,
-            seen: call.seen,
-            order: call.order,
-            is_marked: false,
-            name: words.first().copied().unwrap_or(""),
-            words: words.get(1..).unwrap_or(&[]),
-        };
-        self.one(line, &earlier, to);
     }
 
     /// Makes the call of a line, if every store has it.
@@ -130,7 +105,7 @@ impl<S: Tested<Key, Value>> Bench<S> {
         to.clear();
         to.word("swept");
         to.show(sum % 1_000_000_000);
-        call.seen.compared.set(most);
+        call.seen.keys.compared.set(most);
         Some(())
     }
 
@@ -143,16 +118,17 @@ impl<S: Tested<Key, Value>> Bench<S> {
         to: &mut Answer,
     ) -> Option<u32> {
         let text = format!(in call.alloc; "{code}").ok()?;
-        let words = [text.as_str(), call.words.get(1).copied().unwrap_or("")];
-        let one = call.another(call.words.first().copied()?, &words);
+        let more = call.words.get(1).copied().unwrap_or("");
+        let words = [call.words.first().copied()?, text.as_str(), more];
+        let one = call.another(&words);
         let key = one.key(0)?;
         let old = self.map.get(&key).map(Value::number);
         to.clear();
-        call.seen.compared.set(0);
+        call.seen.keys.compared.set(0);
         if !self.one(line, &one, to) {
             return None;
         }
-        let compared = call.seen.compared.get();
+        let compared = call.seen.keys.compared.get();
         if !line.is_of_store() {
             self.put_back(key, old, call, to)?;
         }
@@ -171,7 +147,7 @@ impl<S: Tested<Key, Value>> Bench<S> {
         to.show(self.map.len());
         match old {
             Some(number) => {
-                let value = Value::new(number, call.seen).ok()?;
+                let value = Value::of_number(number, call.seen).ok()?;
                 self.map.insert(key, value).ok()?;
             }
             None => {
@@ -197,8 +173,8 @@ impl<S: Tested<Key, Value>> Bench<S> {
         call: &Call<'_>,
         to: &mut Answer,
     ) -> Outcome {
-        let compared = call.seen.compared.get();
-        let most = compared.max(call.seen.values_compared.get());
+        let compared = call.seen.keys.compared.get();
+        let most = compared.max(call.seen.values.compared.get());
         let after = self.pairs(line);
         to.word("|");
         if before.pairs.is_same(&after) {
@@ -207,8 +183,8 @@ impl<S: Tested<Key, Value>> Bench<S> {
             to.show(after);
         }
         let more = after.len().wrapping_sub(before.pairs.len());
-        let keys = (call.seen.keys.get() as u64).wrapping_sub(before.keys as u64);
-        let values = (call.seen.values.get() as u64).wrapping_sub(before.values as u64);
+        let keys = (call.seen.keys.alive.get() as u64).wrapping_sub(before.keys as u64);
+        let values = (call.seen.values.alive.get() as u64).wrapping_sub(before.values as u64);
         // The value that `or_default` makes is not counted.
         let leaks = keys != more || (values != more && call.name != "or_default");
         if call.is_marked {
@@ -243,7 +219,7 @@ fn summed(sum: u64, text: &str) -> u64 {
 }
 
 // Makes a call of a map that every store has, but for walks that lend, if the name is one.
-fn call_of_map<S: Tested<Key, Value>>(map: &mut Map<S>, call: &Call<'_>, to: &mut Answer) -> bool {
+fn call_of_map<S: Tested>(map: &mut Map<S>, call: &Call<'_>, to: &mut Answer) -> bool {
     looks::look(map, call, to)
         || changes::change(map, call, to)
         || entries::enter(map, call, to)

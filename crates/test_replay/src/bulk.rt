@@ -15,14 +15,12 @@ use std::cell::Cell;
 use std::vec::IntoIter;
 
 /// Makes a call of these, if the name is one.
-pub fn gather<S: Tested<Key, Value>>(map: &mut Map<S>, call: &Call<'_>, to: &mut Answer) -> bool {
+pub fn gather<S: Tested>(map: &mut Map<S>, call: &Call<'_>, to: &mut Answer) -> bool {
     renew(map, call, to).is_some()
         || split_off(map, call, to).is_some()
-        || make(map, call, to).is_some()
-        || make_from_vec(map, call, to).is_some()
         || insert_each(map, call, to).is_some()
         || extend(map, call, to).is_some()
-        || extend_from_vec(map, call, to).is_some()
+        || take_vec(map, call, to).is_some()
         || merge(map, call, to).is_some()
         || combine(map, call, to).is_some()
         || go_beside(map, call, to).is_some()
@@ -32,54 +30,46 @@ pub fn gather<S: Tested<Key, Value>>(map: &mut Map<S>, call: &Call<'_>, to: &mut
         || sizes::find_by_slice(call, to).is_some()
 }
 
-// A map with no pair replaces the old one, or its clone does.
-fn renew<S: Tested<Key, Value>>(map: &mut Map<S>, call: &Call<'_>, to: &mut Answer) -> Made {
+// A map with no pair, a clone or a map of these pairs replaces the old one.
+fn renew<S: Tested>(map: &mut Map<S>, call: &Call<'_>, to: &mut Answer) -> Made {
+    let (alloc, count) = (call.alloc, &mut Count::new());
     let made = match call.name {
-        "new" => Ok(LiteMap::new(call.alloc)),
-        "with_capacity" => LiteMap::with_capacity(call.alloc, call.size(0)?),
-        "clone" => map.try_clone(call.alloc),
+        "new" => Ok(LiteMap::new(alloc)),
+        "with_capacity" => LiteMap::with_capacity(alloc, call.size(0)?),
+        "clone" => map.try_clone(alloc),
+        "from_iter" => LiteMap::from_iter(alloc, call.given()?),
+        "from_iter_counted" => LiteMap::from_iter_counted(alloc, call.given()?, count),
         _ => return None,
     };
     to.made(map, made);
     Some(())
 }
 
-// A map of these pairs replaces the old one.
-fn make<S: Tested<Key, Value>>(map: &mut Map<S>, call: &Call<'_>, to: &mut Answer) -> Made {
-    let count = &mut Count::new();
-    let made = match call.name {
-        "from_iter" => LiteMap::from_iter(call.alloc, call.given()?),
-        "from_iter_counted" => LiteMap::from_iter_counted(call.alloc, call.given()?, count),
-        _ => return None,
-    };
-    to.made(map, made);
-    Some(())
+// Replaces a map by what was made, or returns why it wasn't.
+fn replace<S: Tested, E>(map: &mut Map<S>, made: Result<Map<S>, E>) -> Result<(), E> {
+    *map = made?;
+    Ok(())
 }
 
-// The same of a vector, whose pairs come back if memory runs out.
-fn make_from_vec<S: Tested<Key, Value>>(
-    map: &mut Map<S>,
-    call: &Call<'_>,
-    to: &mut Answer,
-) -> Made {
-    let count = &mut Count::new();
-    let made = match call.name {
-        "from_vec" => LiteMap::from_vec(call.alloc, call.given()?),
-        "from_vec_counted" => LiteMap::from_vec_counted(call.alloc, call.given()?, count),
+// A map is made of a vector, or extended by one, whose pairs come back if memory runs out.
+fn take_vec<S: Tested>(map: &mut Map<S>, call: &Call<'_>, to: &mut Answer) -> Made {
+    let (alloc, count) = (call.alloc, &mut Count::new());
+    let taken = match call.name {
+        "from_vec" => replace(map, LiteMap::from_vec(alloc, call.given()?)),
+        "from_vec_counted" => replace(map, LiteMap::from_vec_counted(alloc, call.given()?, count)),
+        "extend_from_vec" => map.extend_from_vec(alloc, call.given()?),
+        "extend_from_vec_counted" => map.extend_from_vec_counted(alloc, call.given()?, count),
         _ => return None,
     };
-    match made {
-        Ok(made) => {
-            *map = made;
-            to.word("ok");
-        }
+    match taken {
+        Ok(()) => to.word("ok"),
         Err(refused) => to.refused(Pairs::of_slice(refused.back.as_slice())),
     }
     Some(())
 }
 
 // `insert` of each of the pairs, until one has no room. It tells how many were new.
-fn insert_each<S: Tested<Key, Value>>(map: &mut Map<S>, call: &Call<'_>, to: &mut Answer) -> Made {
+fn insert_each<S: Tested>(map: &mut Map<S>, call: &Call<'_>, to: &mut Answer) -> Made {
     if call.name != "insert_each" {
         return None;
     }
@@ -98,7 +88,7 @@ fn insert_each<S: Tested<Key, Value>>(map: &mut Map<S>, call: &Call<'_>, to: &mu
     Some(())
 }
 
-fn extend<S: Tested<Key, Value>>(map: &mut Map<S>, call: &Call<'_>, to: &mut Answer) -> Made {
+fn extend<S: Tested>(map: &mut Map<S>, call: &Call<'_>, to: &mut Answer) -> Made {
     let count = &mut Count::new();
     to.room(match call.name {
         "extend" => map.extend(call.alloc, call.given()?),
@@ -108,27 +98,8 @@ fn extend<S: Tested<Key, Value>>(map: &mut Map<S>, call: &Call<'_>, to: &mut Ans
     Some(())
 }
 
-// The same of a vector, whose pairs come back if memory runs out.
-fn extend_from_vec<S: Tested<Key, Value>>(
-    map: &mut Map<S>,
-    call: &Call<'_>,
-    to: &mut Answer,
-) -> Made {
-    let count = &mut Count::new();
-    let extended = match call.name {
-        "extend_from_vec" => map.extend_from_vec(call.alloc, call.given()?),
-        "extend_from_vec_counted" => map.extend_from_vec_counted(call.alloc, call.given()?, count),
-        _ => return None,
-    };
-    match extended {
-        Ok(()) => to.word("ok"),
-        Err(refused) => to.refused(Pairs::of_slice(refused.back.as_slice())),
-    }
-    Some(())
-}
-
 /// A map of the given pairs, with the given room. The call begins after it is made.
-pub fn other<S: Tested<Key, Value>>(call: &Call<'_>) -> Option<Map<S>> {
+pub fn other<S: Tested>(call: &Call<'_>) -> Option<Map<S>> {
     let mut map: Map<S> = LiteMap::from_vec(call.alloc, call.pairs(0)?).ok()?;
     map.reserve(call.room()).ok()?;
     call.begin();
@@ -136,7 +107,7 @@ pub fn other<S: Tested<Key, Value>>(call: &Call<'_>) -> Option<Map<S>> {
 }
 
 // The merges with a map of the pairs, or with a clone of the map.
-fn merge<S: Tested<Key, Value>>(map: &mut Map<S>, call: &Call<'_>, to: &mut Answer) -> Made {
+fn merge<S: Tested>(map: &mut Map<S>, call: &Call<'_>, to: &mut Answer) -> Made {
     let count = &mut Count::new();
     let merged = match call.name {
         "extend_from_clone" => {
@@ -156,10 +127,7 @@ fn merge<S: Tested<Key, Value>>(map: &mut Map<S>, call: &Call<'_>, to: &mut Answ
 }
 
 // What a merge returns.
-fn show_merged<'a, S: Tested<Key, Value>>(
-    merged: Result<Option<Map<S>>, NoRoom<Map<S>>>,
-    to: &mut Answer,
-) {
+fn show_merged<'a, S: Tested>(merged: Result<Option<Map<S>>, NoRoom<Map<S>>>, to: &mut Answer) {
     match merged {
         Ok(None) => to.word("none"),
         Ok(Some(left)) => {
@@ -172,7 +140,7 @@ fn show_merged<'a, S: Tested<Key, Value>>(
 
 // The merges with a closure, which adds to each value that is here already three times the one here, what its key's code leaves
 // by seven, and a thousand for each time that it was called before. The last word tells how often it was called.
-fn combine<S: Tested<Key, Value>>(map: &mut Map<S>, call: &Call<'_>, to: &mut Answer) -> Made {
+fn combine<S: Tested>(map: &mut Map<S>, call: &Call<'_>, to: &mut Answer) -> Made {
     if !call.name.starts_with("extend_with") {
         return None;
     }
@@ -201,7 +169,7 @@ fn combine<S: Tested<Key, Value>>(map: &mut Map<S>, call: &Call<'_>, to: &mut An
 }
 
 // The calls that go through another map, over two columns, beside this one.
-fn go_beside<S: Tested<Key, Value>>(map: &mut Map<S>, call: &Call<'_>, to: &mut Answer) -> Made {
+fn go_beside<S: Tested>(map: &mut Map<S>, call: &Call<'_>, to: &mut Answer) -> Made {
     let count = &mut Count::new();
     match call.name {
         "is_subset" => to.show(map.is_subset(&other::<ColumnStore<_, _>>(call)?)),
@@ -221,7 +189,7 @@ fn go_beside<S: Tested<Key, Value>>(map: &mut Map<S>, call: &Call<'_>, to: &mut 
     Some(())
 }
 
-fn split_off<S: Tested<Key, Value>>(map: &mut Map<S>, call: &Call<'_>, to: &mut Answer) -> Made {
+fn split_off<S: Tested>(map: &mut Map<S>, call: &Call<'_>, to: &mut Answer) -> Made {
     if call.name != "split_off" {
         return None;
     }
@@ -235,7 +203,7 @@ fn split_off<S: Tested<Key, Value>>(map: &mut Map<S>, call: &Call<'_>, to: &mut 
 
 // What a source gives replaces the map, or is put into it. The first word is how many pairs the source promises, or `-`; the
 // second one is after how many pairs it has an error, or `-`.
-fn read<S: Tested<Key, Value>>(map: &mut Map<S>, call: &Call<'_>, to: &mut Answer) -> Made {
+fn read<S: Tested>(map: &mut Map<S>, call: &Call<'_>, to: &mut Answer) -> Made {
     if call.name != "read_pairs" && call.name != "extend_from_source" {
         return None;
     }
@@ -248,7 +216,7 @@ fn read<S: Tested<Key, Value>>(map: &mut Map<S>, call: &Call<'_>, to: &mut Answe
     };
     call.begin();
     match call.name {
-        "read_pairs" => show_read(map, read_pairs(call.alloc, &mut source), to),
+        "read_pairs" => show_fault(replace(map, read_pairs(call.alloc, &mut source)).err(), to),
         _ => show_fault(extend_from_source(call.alloc, map, &mut source).err(), to),
     }
     to.word("asked");
@@ -257,7 +225,7 @@ fn read<S: Tested<Key, Value>>(map: &mut Map<S>, call: &Call<'_>, to: &mut Answe
 }
 
 // What an iterator of results gives replaces the map. The first word is the index of the error, or `-`.
-fn read_each<S: Tested<Key, Value>>(map: &mut Map<S>, call: &Call<'_>, to: &mut Answer) -> Made {
+fn read_each<S: Tested>(map: &mut Map<S>, call: &Call<'_>, to: &mut Answer) -> Made {
     if call.name != "read_results" {
         return None;
     }
@@ -270,23 +238,8 @@ fn read_each<S: Tested<Key, Value>>(map: &mut Map<S>, call: &Call<'_>, to: &mut 
             Ok(pair)
         }
     });
-    show_read(map, read_results(call.alloc, results), to);
+    show_fault(replace(map, read_results(call.alloc, results)).err(), to);
     Some(())
-}
-
-// Replaces a map by what was read, and writes whether it was.
-fn show_read<S: Tested<Key, Value>>(
-    map: &mut Map<S>,
-    read: Result<Map<S>, ReadFault<usize>>,
-    to: &mut Answer,
-) {
-    match read {
-        Ok(read) => {
-            *map = read;
-            show_fault(None, to);
-        }
-        Err(fault) => show_fault(Some(fault), to),
-    }
 }
 
 fn show_fault(fault: Option<ReadFault<usize>>, to: &mut Answer) {

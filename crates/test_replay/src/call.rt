@@ -3,7 +3,6 @@ use crate::counted::{Key, Order, Seen, Value};
 use litemap::LiteMap;
 use std::alloc::{AllocError, Global};
 use std::ops::Bound;
-use std::rc::Rc;
 
 /// A map of counted pairs.
 pub type Map<S> = LiteMap<Key, Value, S>;
@@ -20,7 +19,7 @@ pub struct Call<'w> {
     /// Where memory comes from.
     pub alloc: Global,
     /// What is counted.
-    pub seen: &'w Rc<Seen>,
+    pub seen: &'w Seen,
     /// The order of the keys.
     pub order: Order,
     /// Whether requests of three sizes tell, from outside, when a call begins and ends.
@@ -42,23 +41,22 @@ const IDLE: usize = 1_000_063;
 const ROOM: &str = "room=";
 
 impl<'w> Call<'w> {
-    /// Another call by this name and these words, which tells nothing.
-    pub fn another(&self, name: &'w str, words: &'w [&'w str]) -> Call<'w> {
+    /// Another call of these words, of which the first is its name. It tells nothing.
+    pub fn another(&self, words: &'w [&'w str]) -> Call<'w> {
         Call {
-            alloc: self.alloc,
-            seen: self.seen,
-            order: self.order,
             is_marked: false,
-            name,
-            words,
+            name: words.first().copied().unwrap_or(""),
+            words: words.get(1..).unwrap_or(&[]),
+            ..*self
         }
     }
 
     /// Tells that the call comes next: what was seen before it is forgotten.
     pub fn begin(&self) {
-        self.seen.compared.set(0);
-        self.seen.values_compared.set(0);
-        self.seen.cloned.set(0);
+        for tally in [&self.seen.keys, &self.seen.values] {
+            tally.compared.set(0);
+            tally.cloned.set(0);
+        }
         self.mark(BEGIN);
     }
 
@@ -105,7 +103,7 @@ impl<'w> Call<'w> {
     /// The pair that two words spell.
     pub fn pair(&self, place: usize) -> Option<Pair> {
         let value = self.number(place.checked_add(1)?)?;
-        Some((self.key(place)?, Value::new(value, self.seen).ok()?))
+        Some((self.key(place)?, Value::of_number(value, self.seen).ok()?))
     }
 
     /// The bound that a word spells for a key: with it, without it, or none.
@@ -160,7 +158,7 @@ impl<'w> Call<'w> {
 
     fn add(&self, pairs: &mut Vec<Pair>, code: u64, value: u64) -> Result<(), AllocError> {
         let key = Key::new(self.order, code, self.seen)?;
-        pairs.push((key, Value::new(value, self.seen)?))?;
+        pairs.push((key, Value::of_number(value, self.seen)?))?;
         Ok(())
     }
 
@@ -183,6 +181,6 @@ impl<'w> Call<'w> {
     /// The pair at an index, from 1 on, of those that a line begins with: `2:20`, `4:40` and so on.
     pub fn pair_at(&self, place: u64) -> Result<Pair, AllocError> {
         let key = Key::new(self.order, place.wrapping_mul(2), self.seen)?;
-        Ok((key, Value::new(place.wrapping_mul(20), self.seen)?))
+        Ok((key, Value::of_number(place.wrapping_mul(20), self.seen)?))
     }
 }

@@ -65,53 +65,27 @@ fn make_where_absent<S: StoreMut<Key, Value>>(
         Err(value)
     };
     let mut times = 0u64;
+    let make = |_: &Key| {
+        times = times.wrapping_add(1);
+        made
+    };
     match kind {
-        "get" => try_get(map, key, made, &mut times, to),
-        "find" => try_find(map, key, made, &mut times, to),
+        "get" => match map.try_get_or_insert(key, make) {
+            Ok((index, value)) => {
+                to.show(index);
+                to.show(value);
+            }
+            Err(fault) => show_fault(fault, to),
+        },
+        "find" => match map.try_find_or_insert(key, make) {
+            Ok(index) => to.show(index),
+            Err(fault) => show_fault(fault, to),
+        },
         _ => return None,
     }
     to.word("asked");
     to.show(times);
     Some(())
-}
-
-// `try_get_or_insert`, whose closure returns `made`.
-fn try_get<S: StoreMut<Key, Value>>(
-    map: &mut Map<S>,
-    key: Key,
-    made: Result<Value, Value>,
-    times: &mut u64,
-    to: &mut Answer,
-) {
-    let found = map.try_get_or_insert(key, |_| {
-        *times = times.wrapping_add(1);
-        made
-    });
-    match found {
-        Ok((index, value)) => {
-            to.show(index);
-            to.show(value);
-        }
-        Err(fault) => show_fault(fault, to),
-    }
-}
-
-// `try_find_or_insert`, whose closure returns `made`.
-fn try_find<S: StoreMut<Key, Value>>(
-    map: &mut Map<S>,
-    key: Key,
-    made: Result<Value, Value>,
-    times: &mut u64,
-    to: &mut Answer,
-) {
-    let found = map.try_find_or_insert(key, |_| {
-        *times = times.wrapping_add(1);
-        made
-    });
-    match found {
-        Ok(index) => to.show(index),
-        Err(fault) => show_fault(fault, to),
-    }
 }
 
 fn show_fault<'a>(fault: TryFault<Key, Value, Value>, to: &mut Answer) {

@@ -2,7 +2,7 @@
 use crate::answer::{Answer, Pairs};
 use crate::bulk::other;
 use crate::call::{Call, Made, Map};
-use crate::counted::{Key, Order, Value, with_rank};
+use crate::counted::{Counted, Key, Order, Value, with_rank};
 use crate::tested::Tested;
 use litemap::LiteMap;
 use litemap::store::Store;
@@ -11,7 +11,7 @@ use std::cmp::Ordering;
 use std::hash::{FoldHasher, Hash, Hasher};
 
 /// Makes a call that copies, if the name is one. The last word tells how many keys and values were cloned.
-pub fn copy<S: Tested<Key, Value>>(map: &Map<S>, call: &Call<'_>, to: &mut Answer) -> Made {
+pub fn copy<S: Tested>(map: &Map<S>, call: &Call<'_>, to: &mut Answer) -> Made {
     let alloc = call.alloc;
     let made = match call.name {
         "try_clone" => match map.try_clone(alloc) {
@@ -32,7 +32,7 @@ pub fn copy<S: Tested<Key, Value>>(map: &Map<S>, call: &Call<'_>, to: &mut Answe
         Err(_) => to.word("refused"),
     }
     to.word("cloned");
-    to.show(call.seen.cloned.get());
+    to.show(call.seen.cloned());
     Some(())
 }
 
@@ -41,14 +41,8 @@ trait LeadsTo<T> {
     fn lead(&self) -> &T;
 }
 
-impl LeadsTo<Key> for Key {
-    fn lead(&self) -> &Key {
-        self
-    }
-}
-
-impl LeadsTo<Value> for Value {
-    fn lead(&self) -> &Value {
+impl<T: Copy> LeadsTo<Counted<T>> for Counted<T> {
+    fn lead(&self) -> &Counted<T> {
         self
     }
 }
@@ -82,7 +76,7 @@ fn keyed<S: Store<Key, Value>>(
     call: &Call<'_>,
     to: &mut Answer,
 ) -> Result<Pairs, AllocError> {
-    call.seen.ranks.set(0);
+    call.seen.keys.ranks.set(0);
     let made: LiteMap<u64, Value, Vec<(u64, Value)>> = map.to_keys_by(
         call.alloc,
         |key| key.rank(),
@@ -92,7 +86,7 @@ fn keyed<S: Store<Key, Value>>(
         pairs.add_codes(Order::Number, *key, value.number());
         ranks = with_rank(ranks, *key);
     }
-    to.word(if call.seen.ranks.get() == ranks {
+    to.word(if call.seen.keys.ranks.get() == ranks {
         "in order"
     } else {
         "in another order"
@@ -101,7 +95,7 @@ fn keyed<S: Store<Key, Value>>(
 }
 
 /// Compares a map with one of the given pairs, if the name is such a call. `hash`: whether both are hashed alike.
-pub fn compare<S: Tested<Key, Value>>(map: &Map<S>, call: &Call<'_>, to: &mut Answer) -> Made {
+pub fn compare<S: Tested>(map: &Map<S>, call: &Call<'_>, to: &mut Answer) -> Made {
     match call.name {
         "eq" => to.show(*map == other(call)?),
         "hash" => to.show(hash_of(map) == hash_of(&other::<S>(call)?)),

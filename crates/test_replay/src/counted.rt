@@ -6,29 +6,51 @@ ghost use Rattle.std.specs.Ordering.{nat_cmp, on, as_partial_cmp};
 ghost use Rattle.std.specs.Cmp.Rules.{comparing, hashing};
 ghost use Rattle.std.specs.Cmp.{partial_order_from_own_ties};
 
-use std::alloc::AllocError;
+use std::alloc::{AllocError, Global};
 use std::cell::Cell;
 use std::cmp::Ordering;
 use std::fmt::{self, Debug, Formatter, Write};
 use std::hash::{Hash, Hasher};
 use std::rc::Rc;
-use std::str;
+use std::{mem, str};
 
-/// How often keys were compared and clones made, and how many keys and values are alive.
+/// What is counted of keys, or of values.
 #[derive(Default, Drop)]
-pub struct Seen {
-    /// How often two keys were compared.
+pub struct Tally {
+    /// How often two were compared.
     pub compared: Cell<u32>,
-    /// How many keys and values were cloned.
+    /// How many were cloned.
     pub cloned: Cell<u32>,
+    /// How many are alive. Those that a type makes by itself are not among them.
+    pub alive: Cell<u32>,
     /// A sum of the ranks that keys were called for, by their order.
     pub ranks: Cell<u64>,
-    /// How many keys are alive.
-    pub keys: Cell<u32>,
-    /// How often two values were compared.
-    pub values_compared: Cell<u32>,
-    /// How many values are alive. Those that a type makes by itself are not among them.
-    pub values: Cell<u32>,
+}
+
+/// What is counted.
+#[derive(Drop)]
+pub struct Seen {
+    /// Of the keys.
+    pub keys: Rc<Tally>,
+    /// Of the values.
+    pub values: Rc<Tally>,
+}
+
+impl Seen {
+    /// Nothing yet.
+    pub fn new(alloc: Global) -> Result<Self, AllocError> {
+        let keys = Rc::new(alloc, Tally::default())?;
+        let values = Rc::new(alloc, Tally::default())?;
+        Ok(Seen { keys, values })
+    }
+
+    /// How many keys and values were cloned.
+    pub fn cloned(&self) -> u32 {
+        self.keys
+            .cloned
+            .get()
+            .wrapping_add(self.values.cloned.get())
+    }
 }
 
 /// A sum of ranks by their order, with one more.
@@ -113,90 +135,143 @@ fn length_of_code(code: u64) -> u64 {
     (71 - (code.trailing_zeros().min(64)) as u64) / 8
 }
 
-/// A key, which counts how often it is compared and how many there are.
-pub struct Key {
-    code: u64,
+/// A number that counts how often it is compared and cloned, and how many there are, with what is its own beside it.
+pub struct Counted<T: Copy> {
     rank: u64,
-    order: Order,
-    seen: Rc<Seen>,
+    own: T,
+    // Nothing of one that `default` makes, which is not counted: made with no allocator, a default owns nothing.
+    tally: Option<Rc<Tally>>,
 }
 
-impl Key {
-    /// The key of a code.
-    pub fn new(order: Order, code: u64, seen: &Rc<Seen>) -> Result<Self, AllocError> {
-        raise(&seen.keys);
-        Ok(Key {
-            code,
-            rank: order.rank(code),
-            order,
-            seen: seen.clone()?,
+/// What tells a key from equal ones, and how it is written.
+#[derive(Clone, Copy)]
+pub struct Word {
+    code: u64,
+    order: Order,
+}
+
+/// A key: its rank among all keys, and its word.
+pub type Key = Counted<Word>;
+
+/// A value: a number.
+pub type Value = Counted<()>;
+
+impl<T: Copy> Counted<T> {
+    fn counted(rank: u64, own: T, tally: &Rc<Tally>) -> Result<Self, AllocError> {
+        raise(&tally.alive);
+        Ok(Counted {
+            rank,
+            own,
+            tally: Some(tally.clone()?),
         })
+    }
+
+    fn note_compared(&self) {
+        if let Some(tally) = &self.tally {
+            raise(&tally.compared);
+        }
+    }
+}
+
+impl Counted<Word> {
+    /// The key of a code.
+    pub fn new(order: Order, code: u64, seen: &Seen) -> Result<Self, AllocError> {
+        Counted::counted(order.rank(code), Word { code, order }, &seen.keys)
     }
 
     /// How it is written.
     pub fn order(&self) -> Order {
-        self.order
+        self.own.order
     }
 
     /// Where it stands among all keys, which is noted.
     pub fn rank(&self) -> u64
         ensures { result ≡ self.now.rank }
     {
-        self.seen
-            .ranks
-            .set(with_rank(self.seen.ranks.get(), self.rank));
+        if let Some(tally) = &self.tally {
+            tally.ranks.set(with_rank(tally.ranks.get(), self.rank));
+        }
         self.rank
     }
 
     /// What tells the key from others, equal ones too.
     pub fn code(&self) -> u64 {
-        self.code
+        self.own.code
     }
 }
 
-impl Drop for Key {
+impl Counted<()> {
+    /// The value of a number.
+    pub fn of_number(number: u64, seen: &Seen) -> Result<Self, AllocError> {
+        Counted::counted(number, (), &seen.values)
+    }
+
+    /// The number.
+    pub fn number(&self) -> u64 {
+        self.rank
+    }
+
+    /// Writes another number, and returns the old one.
+    pub fn write(&mut self, number: u64) -> u64 {
+        mem::replace(&mut self.rank, number)
+    }
+}
+
+impl Default for Counted<()> {
+    fn default() -> Self {
+        Counted {
+            rank: 0,
+            own: (),
+            tally: None,
+        }
+    }
+}
+
+impl<T: Copy> Drop for Counted<T> {
     fn drop(self) {
-        let Key {
-            code: _,
+        let Counted {
             rank: _,
-            order: _,
-            seen,
+            own: _,
+            tally,
         } = self;
-        lower(&seen.keys);
+        if let Some(tally) = tally {
+            lower(&tally.alive);
+        }
     }
 }
 
-impl Clone for Key {
+impl<T: Copy> Clone for Counted<T> {
     ghost is_clone = { λ s t. t.rank ≡ s.rank };
 
     fn clone(&self) -> Result<Self, AllocError> {
-        raise(&self.seen.cloned);
-        raise(&self.seen.keys);
-        Ok(Key {
-            code: self.code,
+        if let Some(tally) = &self.tally {
+            raise(&tally.cloned);
+            raise(&tally.alive);
+        }
+        Ok(Counted {
             rank: self.rank,
-            order: self.order,
-            seen: self.seen.clone()?,
+            own: self.own,
+            tally: self.tally.clone()?,
         })
     }
 }
 
-impl PartialEq for Key {
+impl<T: Copy> PartialEq for Counted<T> {
     ghost eq = { λ a b. a.rank == b.rank };
 
     ghost laws = { Prim.search (comparing, rules) };
 
     fn eq(&self, other: &Self) -> bool {
-        raise(&self.seen.compared);
+        self.note_compared();
         self.rank == other.rank
     }
 }
 
-impl Eq for Key {
+impl<T: Copy> Eq for Counted<T> {
     ghost laws = { Prim.search (comparing, rules) };
 }
 
-impl PartialOrd for Key {
+impl<T: Copy> PartialOrd for Counted<T> {
     ghost partial_cmp = { as_partial_cmp (on (λ a. a.rank) nat_cmp) };
 
     ghost laws = { partial_order_from_own_ties (Prim.search (comparing, rules)) (Prim.search (comparing, rules)) };
@@ -206,7 +281,7 @@ impl PartialOrd for Key {
     }
 }
 
-impl Ord for Key {
+impl<T: Copy> Ord for Counted<T> {
     ghost cmp = { on (λ a. a.rank) nat_cmp };
 
     ghost total = { Prim.search (comparing, rules) };
@@ -216,12 +291,12 @@ impl Ord for Key {
     ghost matches_eq = { Prim.search (comparing, rules) };
 
     fn cmp(&self, other: &Self) -> Ordering {
-        raise(&self.seen.compared);
+        self.note_compared();
         self.rank.cmp(&other.rank)
     }
 }
 
-impl Hash for Key {
+impl<T: Copy> Hash for Counted<T> {
     ghost hash_input = { λ a. fed.u64 a.rank };
 
     ghost respects_eq = { Prim.search (hashing, rules) };
@@ -232,9 +307,16 @@ impl Hash for Key {
 }
 
 /// Printed as it is written.
-impl Debug for Key {
+impl Debug for Counted<Word> {
     fn fmt<W: Write>(&self, f: &mut Formatter<W>) -> fmt::Result {
-        write_code(f, self.order, self.code)
+        write_code(f, self.own.order, self.own.code)
+    }
+}
+
+/// Printed as its number.
+impl Debug for Counted<()> {
+    fn fmt<W: Write>(&self, f: &mut Formatter<W>) -> fmt::Result {
+        write!(f, "{}", self.rank)
     }
 }
 
@@ -246,129 +328,5 @@ pub(crate) fn write_code<W: Write>(f: &mut W, order: Order, code: u64) -> fmt::R
     match str::from_utf8(&code.to_be_bytes()) {
         Ok(text) => f.write_str(text.trim_end_matches('\0')),
         Err(_) => f.write_str("?"),
-    }
-}
-
-/// A number, which is counted while it is alive.
-pub struct Value {
-    number: u64,
-    // Nothing of one that `or_default` makes, which is not counted: made with no allocator, a default owns nothing.
-    seen: Option<Rc<Seen>>,
-}
-
-impl Value {
-    /// The value of a number.
-    pub fn new(number: u64, seen: &Rc<Seen>) -> Result<Self, AllocError> {
-        raise(&seen.values);
-        Ok(Value {
-            number,
-            seen: Some(seen.clone()?),
-        })
-    }
-
-    /// The number.
-    pub fn number(&self) -> u64 {
-        self.number
-    }
-
-    fn note_compared(&self) {
-        if let Some(seen) = &self.seen {
-            raise(&seen.values_compared);
-        }
-    }
-
-    /// Writes another number, and returns the old one.
-    pub fn write(&mut self, number: u64) -> u64 {
-        let old = self.number;
-        self.number = number;
-        old
-    }
-}
-
-impl Default for Value {
-    fn default() -> Self {
-        Value {
-            number: 0,
-            seen: None,
-        }
-    }
-}
-
-impl Drop for Value {
-    fn drop(self) {
-        let Value { number: _, seen } = self;
-        if let Some(seen) = seen {
-            lower(&seen.values);
-        }
-    }
-}
-
-impl Clone for Value {
-    fn clone(&self) -> Result<Self, AllocError> {
-        if let Some(seen) = &self.seen {
-            raise(&seen.cloned);
-            raise(&seen.values);
-        }
-        Ok(Value {
-            number: self.number,
-            seen: self.seen.clone()?,
-        })
-    }
-}
-
-impl PartialEq for Value {
-    ghost eq = { λ a b. a.number == b.number };
-
-    ghost laws = { Prim.search (comparing, rules) };
-
-    fn eq(&self, other: &Self) -> bool {
-        self.note_compared();
-        self.number == other.number
-    }
-}
-
-impl Eq for Value {
-    ghost laws = { Prim.search (comparing, rules) };
-}
-
-impl PartialOrd for Value {
-    ghost partial_cmp = { as_partial_cmp (on (λ a. a.number) nat_cmp) };
-
-    ghost laws = { partial_order_from_own_ties (Prim.search (comparing, rules)) (Prim.search (comparing, rules)) };
-
-    fn partial_cmp(&self, other: &Self) -> Option<Ordering> {
-        Some(self.cmp(other))
-    }
-}
-
-impl Ord for Value {
-    ghost cmp = { on (λ a. a.number) nat_cmp };
-
-    ghost total = { Prim.search (comparing, rules) };
-
-    ghost matches_partial_cmp = { Prim.search (comparing, rules) };
-
-    ghost matches_eq = { Prim.search (comparing, rules) };
-
-    fn cmp(&self, other: &Self) -> Ordering {
-        self.note_compared();
-        self.number.cmp(&other.number)
-    }
-}
-
-impl Hash for Value {
-    ghost hash_input = { λ a. fed.u64 a.number };
-
-    ghost respects_eq = { Prim.search (hashing, rules) };
-
-    fn hash<H: Hasher>(&self, state: &mut H) {
-        self.number.hash(state);
-    }
-}
-
-/// Printed as its number.
-impl Debug for Value {
-    fn fmt<W: Write>(&self, f: &mut Formatter<W>) -> fmt::Result {
-        write!(f, "{}", self.number)
     }
 }

@@ -14,7 +14,6 @@ use example_store::shrinking::Shrinking;
 use litemap_columns::ColumnStore;
 use litemap_short::ShortStore;
 use std::alloc::{AllocError, Global};
-use std::rc::Rc;
 use std::{fs, io};
 
 // How many bytes the text of what is returned takes at most.
@@ -50,7 +49,7 @@ struct Replay {
     shrinking: Bench<Shrinking<Key, Value>>,
     order: Order,
     start: Start,
-    seen: Rc<Seen>,
+    seen: Seen,
     answer: Answer,
     made: u64,
     is_marked: bool,
@@ -58,7 +57,7 @@ struct Replay {
 
 impl Replay {
     fn new(alloc: Global, is_marked: bool) -> Result<Self, AllocError> {
-        let seen = Rc::new(alloc, Seen::default())?;
+        let seen = Seen::new(alloc)?;
         let answer = Answer::with_capacity(alloc, LONGEST)?;
         Ok(Replay {
             vec: Bench::new(alloc),

@@ -9,7 +9,7 @@ use litemap::store::{Count, NoRoom, StoreBulkMut, StoreMut};
 use std::fmt::Debug;
 
 /// Makes a call of a store, if the name is one.
-pub fn call<S: Tested<Key, Value>>(store: &mut S, call: &Call<'_>, to: &mut Answer) -> bool {
+pub fn call<S: Tested>(store: &mut S, call: &Call<'_>, to: &mut Answer) -> bool {
     whole(store, call, to).is_some()
         || by_number(store, call, to).is_some()
         || put(store, call, to).is_some()
@@ -121,7 +121,7 @@ fn put_at<S: StoreMut<Key, Value>>(store: &mut S, call: &Call<'_>, to: &mut Answ
 }
 
 // A store with no pair replaces the old one.
-fn renew<S: Tested<Key, Value>>(store: &mut S, call: &Call<'_>, to: &mut Answer) -> Made {
+fn renew<S: Tested>(store: &mut S, call: &Call<'_>, to: &mut Answer) -> Made {
     let capacity = call.size(0).unwrap_or(0);
     let made = match call.name {
         "lm_empty" => Ok(S::lm_empty(call.alloc)),
@@ -133,7 +133,7 @@ fn renew<S: Tested<Key, Value>>(store: &mut S, call: &Call<'_>, to: &mut Answer)
 }
 
 // A store of these pairs replaces the old one.
-fn make<S: Tested<Key, Value>>(store: &mut S, call: &Call<'_>, to: &mut Answer) -> Made {
+fn make<S: Tested>(store: &mut S, call: &Call<'_>, to: &mut Answer) -> Made {
     let count = &mut Count::new();
     let made = match call.name {
         "lm_sort_from_iter" => S::lm_sort_from_iter(call.alloc, call.given()?, count),
@@ -145,7 +145,7 @@ fn make<S: Tested<Key, Value>>(store: &mut S, call: &Call<'_>, to: &mut Answer) 
 }
 
 // A call with many pairs of a store that is sorted.
-fn extend<S: Tested<Key, Value>>(store: &mut S, call: &Call<'_>, to: &mut Answer) -> Made {
+fn extend<S: Tested>(store: &mut S, call: &Call<'_>, to: &mut Answer) -> Made {
     if call.name != "lm_extend" || !LiteMap::is_sorted_store(&*store) {
         return None;
     }
@@ -155,7 +155,7 @@ fn extend<S: Tested<Key, Value>>(store: &mut S, call: &Call<'_>, to: &mut Answer
 }
 
 // A call that takes its pairs out of a vector. What the vector has after it stands behind its answer.
-fn take_vec<S: Tested<Key, Value>>(store: &mut S, call: &Call<'_>, to: &mut Answer) -> Made {
+fn take_vec<S: Tested>(store: &mut S, call: &Call<'_>, to: &mut Answer) -> Made {
     let is_extended = call.name == "lm_extend_from_vec" && LiteMap::is_sorted_store(&*store);
     if call.name != "lm_sort_from_vec" && !is_extended {
         return None;
@@ -174,7 +174,7 @@ fn take_vec<S: Tested<Key, Value>>(store: &mut S, call: &Call<'_>, to: &mut Answ
 }
 
 // A call with another store, of these pairs in their order.
-fn join<S: Tested<Key, Value>>(store: &mut S, call: &Call<'_>, to: &mut Answer) -> Made {
+fn join<S: Tested>(store: &mut S, call: &Call<'_>, to: &mut Answer) -> Made {
     if call.name != "lm_extend_end" && call.name != "lm_extend_start" {
         return None;
     }

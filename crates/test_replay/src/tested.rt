@@ -8,27 +8,23 @@ use litemap::store::{
 use std::alloc::AllocError;
 
 /// A store whose calls, and those of a map over it, are made.
-pub trait Tested<K: Ord + Drop, V: Drop>: StoreConstEmpty<K, V>
-    + StoreBulkMut<K, V>
-    + StoreFromIterable<K, V>
-    + StoreFromIterator<K, V>
-    + StoreIntoIterator<K, V> {}
+pub trait Tested: StoreConstEmpty<Key, Value>
+    + StoreBulkMut<Key, Value>
+    + StoreFromIterable<Key, Value>
+    + StoreFromIterator<Key, Value>
+    + StoreIntoIterator<Key, Value> {}
 
-impl<K: Ord + Drop, V: Drop, S> Tested<K, V> for S
+impl<S> Tested for S
 where
-    S: StoreConstEmpty<K, V>
-        + StoreBulkMut<K, V>
-        + StoreFromIterable<K, V>
-        + StoreFromIterator<K, V>
-        + StoreIntoIterator<K, V>,
+    S: StoreConstEmpty<Key, Value>
+        + StoreBulkMut<Key, Value>
+        + StoreFromIterable<Key, Value>
+        + StoreFromIterator<Key, Value>
+        + StoreIntoIterator<Key, Value>,
 {}
 
 /// A map of so many pairs, `2:20`, `4:40` and so on, made with room for so many.
-pub fn map_of<S: Tested<Key, Value>>(
-    call: &Call<'_>,
-    len: u64,
-    capacity: usize,
-) -> Result<Map<S>, AllocError> {
+pub fn map_of<S: Tested>(call: &Call<'_>, len: u64, capacity: usize) -> Result<Map<S>, AllocError> {
     let mut map = LiteMap::with_capacity(call.alloc, capacity)?;
     for place in 1..len.saturating_add(1) {
         let (key, value) = call.pair_at(place)?;
@@ -38,11 +34,7 @@ pub fn map_of<S: Tested<Key, Value>>(
 }
 
 /// The store of these pairs, made with this room.
-pub fn store_of<S: Tested<Key, Value>>(
-    call: &Call<'_>,
-    len: u64,
-    capacity: usize,
-) -> Result<S, AllocError> {
+pub fn store_of<S: Tested>(call: &Call<'_>, len: u64, capacity: usize) -> Result<S, AllocError> {
     let mut store = S::lm_with_capacity(call.alloc, capacity)?;
     for place in 1..len.saturating_add(1) {
         let (key, value) = call.pair_at(place)?;

@@ -72,32 +72,7 @@ macro_rules! walk {
             $met.$item(item);
             $met.hint(rest.size_hint());
         }
-        Some(())
     }};
-}
-
-fn walk_pairs<'a, S: StoreIterable<'a, Key, Value>>(
-    map: &'a Map<S>,
-    call: &Call<'_>,
-    met: &mut Met,
-) -> Made {
-    walk!(map.iter(), call, met, pair)
-}
-
-fn walk_keys<'a, S: StoreIterable<'a, Key, Value>>(
-    map: &'a Map<S>,
-    call: &Call<'_>,
-    met: &mut Met,
-) -> Made {
-    walk!(map.keys(), call, met, key)
-}
-
-fn walk_values<'a, S: StoreIterable<'a, Key, Value>>(
-    map: &'a Map<S>,
-    call: &Call<'_>,
-    met: &mut Met,
-) -> Made {
-    walk!(map.values(), call, met, value)
 }
 
 // The keys that the words ask for, from either end, or how many are left.
@@ -128,9 +103,9 @@ pub fn lent<'a, S: StoreIterable<'a, Key, Value>>(
     let mut met = Met::new(map.len());
     match call.name {
         "keys_in_turns" => return keys_in_turns(map, call, to),
-        "iter" => walk_pairs(map, call, &mut met)?,
-        "keys" => walk_keys(map, call, &mut met)?,
-        "values" => walk_values(map, call, &mut met)?,
+        "iter" => walk!(map.iter(), call, met, pair),
+        "keys" => walk!(map.keys(), call, met, key),
+        "values" => walk!(map.values(), call, met, value),
         "iter_keys" => met.key(map.iter_keys().next()),
         "iter_values" => met.value(map.iter_values().next()),
         "for" => {
@@ -145,7 +120,7 @@ pub fn lent<'a, S: StoreIterable<'a, Key, Value>>(
 }
 
 /// `into_iter`, so many steps of it; the rest is dropped.
-pub fn taken<S: Tested<Key, Value>>(map: &mut Map<S>, call: &Call<'_>, to: &mut Answer) -> Made {
+pub fn taken<S: Tested>(map: &mut Map<S>, call: &Call<'_>, to: &mut Answer) -> Made {
     if call.name != "into_iter" {
         return None;
     }
