@@ -1,9 +1,12 @@
 //! Stores with a limit: one of a user's own, which grows up to it and no further, and one whose limit is set when it is made,
-//! so that it goes with the store when a fresh one replaces it.
+//! so that it goes with the store when a fresh one replaces it. A list of calls
+//! goes on after those that fail.
+use crate::printing::prints;
 use example_store::Bounded;
 use example_store::fixed_room::FixedRoom;
 use litemap::LiteMap;
 use litemap::store::NoRoom;
+use litemap_read::laws::{Answer, Call, run_calls};
 use std::alloc::{AllocError, Global};
 
 const LIMIT: usize = 20;
@@ -78,4 +81,35 @@ pub(crate) fn a_limit_goes_with_the_store_that_is_replaced(
         is_right &= has_room_after(alloc, merges, keys, room)?;
     }
     Ok(is_right)
+}
+
+// Calls of which some fail, with room for two pairs, and what each returns.
+pub(crate) fn calls_are_answered_one_after_another(alloc: Global) -> Result<bool, AllocError> {
+    let (mut calls, mut wanted) = (Vec::new(alloc), Vec::new(alloc));
+    for (call, answer) in [
+        (Call::Insert(3, 20), Answer::Value(None)),
+        (Call::Insert(1, 10), Answer::Value(None)),
+        (Call::TryAppend(2, 9), Answer::Back(Some((2, 9)))),
+        (Call::TryAppend(4, 9), Answer::NoRoom(Some((4, 9)))),
+        (Call::Find(2), Answer::Place(Err(1))),
+        (Call::ValueAt(0), Answer::Value(Some(10))),
+        (Call::Extend([(4, 22)].to_vec(alloc)?), Answer::NoRoom(None)),
+        (Call::Reserve(1), Answer::NoRoom(None)),
+        (Call::TryInsert(2, 21), Answer::NoRoom(Some((2, 21)))),
+        (Call::Remove(1), Answer::Value(Some(10))),
+        (Call::Contains(1), Answer::Flag(false)),
+        (Call::Get(3), Answer::Value(Some(20))),
+        (Call::Clear, Answer::Done),
+        (
+            Call::Extend([(1, 11), (3, 30), (3, 31)].to_vec(alloc)?),
+            Answer::Done,
+        ),
+        (Call::Len, Answer::Number(2)),
+    ] {
+        calls.push(call)?;
+        wanted.push(answer)?;
+    }
+    let mut map = Fixed::with_capacity(alloc, 2)?;
+    let answers = run_calls(alloc, &mut map, calls)?;
+    Ok(answers == wanted && prints(alloc, &map, "{1: 11, 3: 31}")?)
 }

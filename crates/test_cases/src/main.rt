@@ -1,7 +1,7 @@
 //! Cases: what neither a contract nor a line of `test_replay` says. The program writes how each came out.
 //!
 //! They are of maps: closures that call several keys equal, queries of each kind, constant tables, iterators that lie, the
-//! greatest capacities, stores with a limit, what is printed, reading, and small maps; and of the program `names`, over readers
+//! greatest capacities, stores with a limit, what is printed, and small maps; and of the program `names`, over readers
 //! and writers in memory, with its names kept in one vector and in two columns: lines with their output, how much it reads, and
 //! an error at each read and each write.
 //!
@@ -17,7 +17,6 @@ macro_rules! outcomes {
 
 mod closures;
 mod constants;
-mod endless;
 mod ends;
 mod faults;
 mod flags;
@@ -26,7 +25,6 @@ mod limits;
 mod lines;
 mod printing;
 mod queries;
-mod reading;
 mod runs;
 mod small;
 mod watch;
@@ -48,18 +46,13 @@ fn main(rt: HostRuntime) -> ExitCode {
     if (status, source.calls) != (0, 1) {
         return ExitCode::from(status);
     }
-    match cases(&rt) {
+    match report(&rt, &cases(rt.alloc())) {
         Ok(()) => ExitCode::SUCCESS,
         Err(_) => ExitCode::FAILURE,
     }
 }
 
-fn cases(rt: &HostRuntime) -> io::Result<()> {
-    report(rt, &of_maps(rt.alloc()))?;
-    report(rt, &of_the_program(rt.alloc()))
-}
-
-fn of_maps(alloc: Global) -> [Case; 23] {
+fn cases(alloc: Global) -> [Case; 32] {
     outcomes! { alloc;
         closures::one_of_the_keys_called_equal_is_found,
         closures::a_closure_compares_with_another_type,
@@ -73,23 +66,15 @@ fn of_maps(alloc: Global) -> [Case; 23] {
         hints::the_size_hint_is_no_matter,
         limits::a_bounded_store_grows_to_its_limit,
         limits::a_limit_goes_with_the_store_that_is_replaced,
+        limits::calls_are_answered_one_after_another,
         printing::what_is_printed,
-        printing::what_a_short_store_prints,
         printing::what_long_walks_print,
         printing::an_error_writes_what_it_is,
         queries::keys_are_asked_by_texts,
         queries::keys_are_asked_by_slices,
-        reading::results_are_read_up_to_the_first_fault,
-        reading::calls_are_answered_one_after_another,
         small::languages_are_found_by_their_codes,
         small::a_range_has_ranges,
         small::keys_are_made_by_a_closure,
-    }
-}
-
-fn of_the_program(alloc: Global) -> [Case; 12] {
-    outcomes! { alloc;
-        endless::one_byte_too_many_is_read,
         faults::each_read_fails,
         faults::each_write_fails,
         faults::last_lines_fail,
@@ -97,8 +82,8 @@ fn of_the_program(alloc: Global) -> [Case; 12] {
         flags::flags_are_rewritten_or_refused,
         flags::long_flags,
         lines::lines_are_answered,
-        lines::bad_lines_end_the_run,
         lines::the_longest_input_is_answered,
+        lines::one_byte_too_many_is_read,
         watch::a_call_is_one_call,
         watch::a_whole_write_ends_at_a_fault,
     }

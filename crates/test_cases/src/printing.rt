@@ -1,9 +1,8 @@
-//! What `{:?}` prints of maps, of what goes over them and of entries, and what is written of an error.
-use litemap::store::{NoRoom, StoreConstEmpty, StoreFromIterator};
-use litemap::{LiteMap, TryFault};
-use litemap_columns::ColumnStore;
+//! What `{:?}` prints of maps over slices and of what goes over maps, and what is written of an error.
+use litemap::store::NoRoom;
+use litemap::{LiteMap, TryFault, VecMap};
+use litemap_columns::ColumnMap;
 use litemap_read::ReadFault;
-use litemap_short::ShortStore;
 use std::alloc::{AllocError, Global};
 use std::error::Error;
 use std::fmt::Debug;
@@ -17,39 +16,21 @@ pub(crate) fn prints<T: Debug>(alloc: Global, value: &T, text: &str) -> Result<b
     Ok(found.as_str() == text)
 }
 
+// A map over a slice prints its pairs, and an iterator of values over two columns what is left of them.
 pub(crate) fn what_is_printed(alloc: Global) -> Result<bool, AllocError> {
-    let mut pairs: LiteMap<u32, char, Vec<(u32, char)>> = LiteMap::from_iter(alloc, PAIRS)?;
-    let columns: LiteMap<u32, char, ColumnStore<u32, char>> = LiteMap::from_iter(alloc, PAIRS)?;
-    let keys =
-        "KeysIterWrap { iter: SliceIter { rest: [(1, 'a'), (2, 'b')] }, marker: PhantomData<_> }";
+    let pairs: VecMap<u32, char> = LiteMap::from_iter(alloc, PAIRS)?;
+    let columns: ColumnMap<u32, char> = LiteMap::from_iter(alloc, PAIRS)?;
     let values =
         "ValuesIterWrap { iter: ColumnIter { keys: [1, 2], values: ['a', 'b'] }, marker: PhantomData<_> }";
-    let occupied = "OccupiedEntry { key: 2, value: 'b' }";
     Ok(
-        prints(alloc, &columns, "{1: 'a', 2: 'b'}")?
-            && prints(alloc, &pairs.as_sliced(), "{1: 'a', 2: 'b'}")?
-            && prints(alloc, &pairs.keys(), keys)?
-            && prints(alloc, &columns.values(), values)?
-            && prints(alloc, &pairs.entry(2), occupied)?
-            && prints(alloc, &pairs.entry(3), "VacantEntry { key: 3 }")?,
-    )
-}
-
-// A short store prints as the list of its pairs.
-pub(crate) fn what_a_short_store_prints(alloc: Global) -> Result<bool, AllocError> {
-    let none: ShortStore<u32, char> = ShortStore::lm_empty(alloc);
-    let one: ShortStore<u32, char> = ShortStore::lm_from_pairs(alloc, [(1, 'a')])?;
-    let two: ShortStore<u32, char> = ShortStore::lm_from_pairs(alloc, PAIRS)?;
-    Ok(
-        prints(alloc, &none, "[]")?
-            && prints(alloc, &one, "[(1, 'a')]")?
-            && prints(alloc, &two, "[(1, 'a'), (2, 'b')]")?,
+        prints(alloc, &pairs.as_sliced(), "{1: 'a', 2: 'b'}")?
+            && prints(alloc, &columns.values(), values)?,
     )
 }
 
 // Walks over many pairs print all of them, as std prints a slice.
 pub(crate) fn what_long_walks_print(alloc: Global) -> Result<bool, AllocError> {
-    let mut pairs: LiteMap<u32, char, Vec<(u32, char)>> = LiteMap::new_vec(alloc);
+    let mut pairs: VecMap<u32, char> = LiteMap::new_vec(alloc);
     for key in 0..129u32 {
         pairs.insert(key, 'a')?;
     }

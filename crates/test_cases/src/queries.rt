@@ -92,24 +92,18 @@ where
 }
 
 fn by_texts(alloc: Global) -> Result<bool, AllocError> {
-    Ok(
-        are_asked(alloc, |text| text.to_string(alloc), |text| text)?
-            && are_asked(alloc, |text| Ok(text), |text| text)?,
-    )
+    let owned = are_asked(alloc, |text| text.to_string(alloc), |text| text)?;
+    Ok(owned && are_asked(alloc, |text| Ok(text), |text| text)?)
 }
 
 fn by_texts_elsewhere(alloc: Global) -> Result<bool, AllocError> {
-    Ok(
-        are_asked(alloc, |text| BoxedStr::from_str(alloc, text), |text| text)?
-            && are_asked(alloc, |text| Ok(CowStr::Borrowed(text)), |text| text)?,
-    )
+    let boxed = are_asked(alloc, |text| BoxedStr::from_str(alloc, text), |text| text)?;
+    Ok(boxed && are_asked(alloc, |text| Ok(CowStr::Borrowed(text)), |text| text)?)
 }
 
 fn by_shared_texts(alloc: Global) -> Result<bool, AllocError> {
-    Ok(
-        are_asked(alloc, |text| RcStr::from_str(alloc, text), |text| text)?
-            && are_asked(alloc, |text| ArcStr::from_str(alloc, text), |text| text)?,
-    )
+    let counted = are_asked(alloc, |text| RcStr::from_str(alloc, text), |text| text)?;
+    Ok(counted && are_asked(alloc, |text| ArcStr::from_str(alloc, text), |text| text)?)
 }
 
 pub(crate) fn keys_are_asked_by_texts(alloc: Global) -> Result<bool, AllocError> {
@@ -117,16 +111,12 @@ pub(crate) fn keys_are_asked_by_texts(alloc: Global) -> Result<bool, AllocError>
 }
 
 pub(crate) fn keys_are_asked_by_slices(alloc: Global) -> Result<bool, AllocError> {
-    Ok(
-        are_asked(
-            alloc,
-            |text| text.as_bytes().to_vec(alloc),
-            |text| text.as_bytes(),
-        )? && are_asked(alloc, |text| Ok(text.as_bytes()), |text| text.as_bytes())?
-            && are_asked(
-                alloc,
-                |text| BoxedSlice::from_slice(alloc, text.as_bytes()),
-                |text| text.as_bytes(),
-            )?,
-    )
+    let boxed = |text: &str| BoxedSlice::from_slice(alloc, text.as_bytes());
+    let owned = are_asked(
+        alloc,
+        |text| text.as_bytes().to_vec(alloc),
+        |text| text.as_bytes(),
+    )?;
+    let borrowed = are_asked(alloc, |text| Ok(text.as_bytes()), |text| text.as_bytes())?;
+    Ok(owned && borrowed && are_asked(alloc, boxed, |text| text.as_bytes())?)
 }
