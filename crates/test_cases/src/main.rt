@@ -89,7 +89,6 @@ fn cases(alloc: Global) -> [Case; 32] {
     }
 }
 
-// Writes a line for each case.
 fn report(rt: &impl Print, cases: &[Case]) -> io::Result<()> {
     for (name, outcome) in cases {
         match outcome {

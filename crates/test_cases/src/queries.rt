@@ -7,7 +7,6 @@ use std::boxed::{BoxedSlice, BoxedStr};
 use std::rc::RcStr;
 use std::sync::ArcStr;
 
-// Numbers at keys.
 type Numbers<K> = LiteMap<K, u32, Vec<(K, u32)>>;
 
 // The strings of the keys, and the number at each.

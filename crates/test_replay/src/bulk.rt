@@ -126,7 +126,6 @@ fn merge<S: Tested>(map: &mut Map<S>, call: &Call<'_>, to: &mut Answer) -> Made 
     Some(())
 }
 
-// What a merge returns.
 fn show_merged<'a, S: Tested>(merged: Result<Option<Map<S>>, NoRoom<Map<S>>>, to: &mut Answer) {
     match merged {
         Ok(None) => to.word("none"),

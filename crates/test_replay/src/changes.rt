@@ -31,7 +31,6 @@ fn put<S: StoreMut<Key, Value>>(map: &mut Map<S>, call: &Call<'_>, to: &mut Answ
     Some(())
 }
 
-// What `insert` returns.
 fn show_old<'a>(outcome: Result<Option<Value>, NoRoom<Pair>>, to: &mut Answer) {
     match outcome {
         Ok(old) => to.some(old.as_ref()),
@@ -39,7 +38,6 @@ fn show_old<'a>(outcome: Result<Option<Value>, NoRoom<Pair>>, to: &mut Answer) {
     }
 }
 
-// What `try_insert` and `try_append` return.
 fn show_back<'a>(outcome: Result<Option<Pair>, NoRoom<Pair>>, to: &mut Answer) {
     match outcome {
         Ok(None) => to.word("placed"),

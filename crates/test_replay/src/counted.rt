@@ -58,12 +58,10 @@ pub fn with_rank(sum: u64, rank: u64) -> u64 {
     sum.wrapping_add(rank).wrapping_add(1).wrapping_mul(31)
 }
 
-// Adds one to a number.
 fn raise(number: &Cell<u32>) {
     number.set(number.get().wrapping_add(1));
 }
 
-// Takes one from a number.
 fn lower(number: &Cell<u32>) {
     number.set(number.get().wrapping_sub(1));
 }

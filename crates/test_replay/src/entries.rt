@@ -46,7 +46,6 @@ fn one_key<S: StoreMut<Key, Value>>(map: &mut Map<S>, call: &Call<'_>, to: &mut 
     Some(())
 }
 
-// Which kind of entry it is, and its key.
 fn show_kind<S: StoreMut<Key, Value>>(entry: &Entry<'_, Key, Value, S>, to: &mut Answer) {
     let (kind, key) = match entry {
         Entry::Occupied(entry) => ("occupied", entry.key()),

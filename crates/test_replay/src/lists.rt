@@ -7,7 +7,6 @@ use litemap::store::StoreBulkMut;
 use litemap_columns::ColumnStore;
 use litemap_read::laws::{self, run_calls};
 
-// A call of a list.
 type Listed = laws::Call<Key, u64>;
 
 /// Makes a list of calls of an empty map, if the name is one of these: over a vector, or over two columns.
