@@ -37,6 +37,14 @@ def no_text(place):
     return f"{fault}; a key has no text in JSON, and the first key has one"
 
 
+# What `rewrite_flags` says of bytes that are no JSON, and of JSON that is no map of flags.
+NO_JSON = "the bytes are not a JSON text"
+
+
+def no_flags(fault):
+    return f"the JSON value is not a map from flags to numbers: {fault}"
+
+
 TONGUES = ('[[[1,"en"],"one"],[[1,"zh"],"一"],[[2,"en"],"two"],[[2,"zh"],"二"],[[4,"en"],"four"],[[5,"en"],"five"],'
            '[[5,"zh"],"五"],[[7,"zh"],"七"]]')
 MIXED = ('[[[5,"zh"],"五"],[[1,"zh"],"一"],[[7,"zh"],"七"],[[2,"en"],"two"],[[1,"en"],"one"],[[4,"en"],"four"],'
@@ -127,9 +135,18 @@ ROWS = [
     ("overlay", '{"fr":"French","en":"English"}', '{"de":"","en":"English","fr":"French"}'), ("overlay", "[]", '{"de":"","fr":""}'),
     ("overlay", "[", "no JSON"), ("overlay", '{"de":1}', item(0, SHAPE)), ("overlay", "7", NOT_A_MAP),
     # flags that are brought over
-    ("rewrite", "[[false,2],[true,1]]", '{"false":2,"true":1}'), ("rewrite", '{"true":1}', None), ("rewrite", "[]", None),
-    ("rewrite", "[[true,", "the bytes are not a JSON text"), *[("rewrite", text, f"the JSON value is not a map from flags to numbers: {fault}")
-    for text, fault in (("7", NOT_A_MAP), ("[[0,1]]", key(0, SHAPE)), ('{"false":0,"true":-1}', item(1, RANGE)), ('{"yes":1}', key_text(0)))],
+    # flags in an array and in an object become an object
+    ("rewrite", "[[false,2],[true,1]]", '{"false":2,"true":1}'), ("rewrite", '{"true":1,"false":2}', '{"false":2,"true":1}'),
+    ("rewrite", '{"true":1}', None), ("rewrite", '{"true":4294967295}', None), ("rewrite", r'{"\u0074rue":7}', '{"true":7}'),
+    # no flags become an array
+    ("rewrite", "[]", None), ("rewrite", "{}", "[]"),
+    # of equal flags the last one stays
+    ("rewrite", "[[true,1],[true,5]]", '{"true":5}'), ("rewrite", "[[true,1],[false,2],[true,3]]", '{"false":2,"true":3}'),
+    # a name that is no flag, a key that is none, and what is no JSON
+    *[("rewrite", text, no_flags(fault)) for text, fault in (
+        ("7", NOT_A_MAP), ("[[0,1]]", key(0, SHAPE)), ('[[true,1],["true",1]]', key(1, SHAPE)), ("[[true,1],[true]]", not_a_pair(1)),
+        ("[[true,4294967296]]", item(0, RANGE)), ('{"false":0,"true":-1}', item(1, RANGE)), ('{"yes":1}', key_text(0)), ('{"True":1}', key_text(0)))],
+    *[("rewrite", text, NO_JSON) for text in ("[[true,", "[[true,1]", "", "[[true,1]]x")],
     # pairs of pairs
     ("nested", "[[[[1,true],\"x\"],[7,[false,-8]]]]", None),
     ("nested", '[[[[1,true],"x"],[7,[false,-8]]],[[[1,false],"y"],[0,[true,127]]],[[[0,true],"z"],[1,[true,0]]]]',
@@ -340,6 +357,14 @@ def ascii_texts():
     yield "text", object_of((name, f'"{name}"') for name in reversed(names)), object_of((name, f'"{name}"') for name in names)
 
 
+def long_flags():
+    """Flags that are brought over from long texts: after so many spaces so many pairs, and one element more."""
+    for spaces, pairs in ((246, 0), (0, 9), (0, 10), (0, 101), (5000, 28), (0, 1000)):
+        for last, answer in (("[true,7]", '{"true":7}'), ("[1,1]", no_flags(key(pairs, SHAPE))), ("[true]", no_flags(not_a_pair(pairs))),
+                             ("[true,-1]", no_flags(item(pairs, RANGE))), ("[true,", NO_JSON)):
+            yield "rewrite", " " * spaces + array(["[true,1]"] * pairs + [last]), answer
+
+
 def early_faults():
     """An error at each index to 12, of keys that ascend, that descend and that are equal, and at the next index too."""
     bad = [("[0]", not_a_pair)] + [(f"[{text},0]", lambda place, fault=fault: key(place, fault)) for text, fault in (
@@ -375,5 +400,5 @@ def values():
 def rows():
     """The lines, each with its output."""
     rows = [*ROWS, *bad_elements(), *whole_numbers(), *long_maps(), *late_faults(), *long_texts(), *told_faults()]
-    rows += [*all_numbers(), *ascii_texts(), *early_faults(), *values()]
+    rows += [*all_numbers(), *ascii_texts(), *early_faults(), *values(), *long_flags()]
     return [(f"{types} {text}", text if answer is None else answer) for types, text, answer in rows]

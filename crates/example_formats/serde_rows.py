@@ -83,8 +83,9 @@ MAPS = [
     *[("text", text, "syntax") for text in (
         '{"a":"b",}', '{"a" "b"}', "{a:1}", '{"a":"b"}}', '{"a":"b"} 7', '{"a":"b"]', '[["a","b"],]', '[["a","b"]}', "[[,]]", "}", "]", "?")],
     *[("text", text, "eof") for text in ("", " ", "{", "[", "[[", '[["a"', '{"a', '{"a":', '{"a":"b"', '{"a":"b",', '[["a","b"],', '"a')],
-    ("cuts", COUNTS, f"{len(COUNTS)} end early, 0 otherwise"), ("cuts", '[["a",[["b",12]]]]', "18 end early, 0 otherwise"),
-    ("cuts", "{}", "2 end early, 0 otherwise"), ("cuts", ' {"a":{"b":1}}', "14 end early, 0 otherwise"),
+    # each proper prefix of a map of maps ends too early
+    *[("counts", text[:size], "eof") for text in (COUNTS, '[["a",[["b",12]]]]', "{}", ' {"a":{"b":1}}') for size in range(len(text))],
+    ("counts", COUNTS, '{"a":{},"b":{"x":2,"y":10}}'), ("counts", '[["a",[["b",12]]]]', '{"a":{"b":12}}'),
 ]
 
 
@@ -121,11 +122,12 @@ def wrong_types():
 
 
 def many():
-    """Long maps: what is written is the text of the ascending pairs."""
+    """Long maps from objects, in three orders, in which each key stands twice."""
     for count in (1000, 10000):
-        size = len(printed({str(number): 2 * number for number in range(count)}))
+        answer = printed({str(number): 2 * number for number in range(count)})
         for step in (1, 379, count - 1):
-            yield "many", f"{step} {count}", f"{size} bytes, as of rising pairs"
+            pairs = [(number, 3 * number) for number in range(count)] + [(place * step % count, place * step % count * 2) for place in range(count)]
+            yield "i64", "{" + ",".join(f'"{key}":{item}' for key, item in pairs) + "}", answer
 
 
 # Longer maps are read in one order, as sequences: `many` has objects.

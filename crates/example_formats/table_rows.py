@@ -433,6 +433,9 @@ def lines():
     yield "many 100000", b"", "100000 names: 16 there, 16 between"
     yield "often 20000", b"", "20000 found"
     yield "faults", b"", FAULTS
+    for data in (b'{"\xff":1}', b""):
+        yield "rewrite", data, "the bytes are not a JSON text"
+    yield "rewrite", b" [ [ false , 0 ] ] \n", '{"false":0}'
     # each proper prefix of eleven languages ends too early
     yield "prefixes", TABLE, sweep([TABLE[:size] for size in range(len(TABLE))])
     yield "changes", TABLE, sweep(changes(TABLE))

@@ -46,7 +46,7 @@ pub fn answer(alloc: Global, line: &str) -> Result<String, AllocError> {
         "names" => copied_names(alloc, text),
         "overlay" => overlaid(alloc, text),
         "told" => told::answer(alloc, text),
-        "rewrite" => rewritten(alloc, text),
+        "rewrite" => rewritten(alloc, text.as_bytes()),
         "value" => written_value(alloc, text),
         "nested" => written::<
             ((u8, bool), String),
@@ -62,9 +62,7 @@ fn written<K: JsonKey + Drop, V: JsonItem + Drop, S: StoreBulkMut<K, V>>(
     alloc: Global,
     text: &str,
 ) -> Result<String, AllocError> {
-    let Ok(value) = unless_memory!(Value::from_str(alloc, text)) else {
-        return String::from_str(alloc, "no JSON");
-    };
+    let value = or_word!(alloc, "no JSON", Value::from_str(alloc, text));
     let map: Result<Map<K, V>, JsonFault> = from_json(alloc, &value);
     let columns: Result<Columns<K, V>, JsonFault> = from_json(alloc, &value);
     let short: Result<LiteMap<K, V, S>, JsonFault> = from_json(alloc, &value);
@@ -92,9 +90,7 @@ fn answer_of_all(
 
 // The same over a vector, with the map sent to JSON and back before.
 fn copied_limits(alloc: Global, text: &str) -> Result<String, AllocError> {
-    let Ok(value) = unless_memory!(Value::from_str(alloc, text)) else {
-        return String::from_str(alloc, "no JSON");
-    };
+    let value = or_word!(alloc, "no JSON", Value::from_str(alloc, text));
     let map = match from_json(alloc, &value) {
         Ok(limits) => Ok(limits::copied(alloc, &limits)?),
         Err(fault) => Err(fault),
@@ -104,9 +100,7 @@ fn copied_limits(alloc: Global, text: &str) -> Result<String, AllocError> {
 
 // The same of numbers by their names.
 fn copied_names(alloc: Global, text: &str) -> Result<String, AllocError> {
-    let Ok(value) = unless_memory!(Value::from_str(alloc, text)) else {
-        return String::from_str(alloc, "no JSON");
-    };
+    let value = or_word!(alloc, "no JSON", Value::from_str(alloc, text));
     let map = match from_json(alloc, &value) {
         Ok(map) => Ok(numbers::copied(alloc, &map)?),
         Err(fault) => Err(fault),
@@ -128,19 +122,16 @@ fn overlaid(alloc: Global, text: &str) -> Result<String, AllocError> {
     }
 }
 
-// Flags that are brought over, or why they can't be.
-fn rewritten(alloc: Global, text: &str) -> Result<String, AllocError> {
-    match unless_memory!(rewrite_flags(alloc, text.as_bytes()), FlagsFault::Memory) {
+/// Flags that are brought over, or why they can't be.
+pub fn rewritten(alloc: Global, bytes: &[u8]) -> Result<String, AllocError> {
+    match unless_memory!(rewrite_flags(alloc, bytes), FlagsFault::Memory) {
         Ok(flags) => Ok(flags),
         Err(fault) => format!(in alloc; "{fault}"),
     }
 }
 
-// A value, as it is written.
 fn written_value(alloc: Global, text: &str) -> Result<String, AllocError> {
-    let Ok(value) = unless_memory!(Value::from_str(alloc, text)) else {
-        return String::from_str(alloc, "no JSON");
-    };
+    let value = or_word!(alloc, "no JSON", Value::from_str(alloc, text));
     let mut out = Writer::new(Vec::new(alloc));
     write_value(alloc, &value, &mut out)?;
     match String::from_utf8(out.into_inner()) {

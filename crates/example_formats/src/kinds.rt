@@ -1,9 +1,7 @@
 //! A text that is read and written again.
-use crate::shapes::Counts;
 use litemap::store::StoreBulkMut;
 use litemap_columns::ColumnStore;
 use litemap_serde::SerdeMap;
-use litemap_short::ShortStore;
 use serde::{Deserialize, DeserializeOwned, Serialize};
 use serde_json::error::Category;
 use std::alloc::{AllocError, Global};
@@ -21,10 +19,7 @@ pub fn again<'t, T: Deserialize<'t> + Serialize>(
 
 /// A value as JSON.
 pub fn written<T: Serialize>(alloc: Global, value: &T) -> Result<String, AllocError> {
-    match unless_memory!(serde_json::to_string(alloc, value)) {
-        Ok(text) => Ok(text),
-        Err(_) => String::from_str(alloc, "not written"),
-    }
+    Ok(or_word!(alloc, "not written", serde_json::to_string(alloc, value)))
 }
 
 /// What kind of error it is.
@@ -56,35 +51,12 @@ where
     )
 }
 
-/// How many proper prefixes of an ASCII text end too early for a map of maps, and how many have another result.
-pub fn cuts(alloc: Global, text: &str) -> Result<String, AllocError> {
-    let mut early = 0u32;
-    let mut other = 0u32;
-    for end in 0..text.len() {
-        let Some(prefix) = text.get(..end) else {
-            continue;
-        };
-        if map_again::<String, Counts, ShortStore<String, Counts>>(alloc, prefix)?.as_str()
-            == "eof"
-        {
-            early = early.saturating_add(1);
-        } else {
-            other = other.saturating_add(1);
-        }
-    }
-    format!(in alloc; "{early} end early, {other} otherwise")
-}
-
 /// A map that a TOML text is read as, written again.
 pub fn toml_again<K: DeserializeOwned + Serialize + Ord, V: DeserializeOwned + Serialize>(
     alloc: Global,
     text: &str,
 ) -> Result<String, AllocError> {
-    match unless_memory!(toml::from_str::<SerdeMap<K, V, Vec<(K, V)>>>(alloc, text)) {
-        Ok(map) => match unless_memory!(toml::to_string(alloc, &map)) {
-            Ok(text) => written(alloc, &text),
-            Err(_) => String::from_str(alloc, "not written"),
-        },
-        Err(_) => String::from_str(alloc, "refused"),
-    }
+    let map: SerdeMap<K, V, Vec<(K, V)>> = or_word!(alloc, "refused", toml::from_str(alloc, text));
+    let text = or_word!(alloc, "not written", toml::to_string(alloc, &map));
+    written(alloc, &text)
 }

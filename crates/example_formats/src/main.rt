@@ -39,6 +39,16 @@ macro_rules! unless_memory {
     };
 }
 
+// What was read or written. If it can't be, a word is returned in its place; an allocation error is returned itself.
+macro_rules! or_word {
+    ($alloc:ident, $word:expr, $outcome:expr) => {
+        match unless_memory!($outcome) {
+            Ok(it) => it,
+            Err(_) => return String::from_str($alloc, $word),
+        }
+    };
+}
+
 pub mod codes;
 pub mod config;
 mod evens;
@@ -48,7 +58,6 @@ mod kinds;
 pub mod languages;
 pub mod levels;
 pub mod limits;
-mod long;
 pub mod numbers;
 pub mod overlay;
 pub mod prefixes;
@@ -90,7 +99,6 @@ fn mark(alloc: Global, size: usize) {
     let _ = Vec::<u8>::with_capacity(alloc, size);
 }
 
-// The output of a line.
 fn answer_line(alloc: Global, line: &str) -> Result<String, AllocError> {
     match line.split_once(' ') {
         Some(("table", row)) => table_rows::answer(alloc, row),

@@ -1,9 +1,8 @@
 //! The output of a line.
 use crate::codes::{Row, from_csv, rows_from_csv};
-use crate::config::{self, Config, Limits};
-use crate::kinds::{again, cuts, fault_word, map_again, toml_again, written};
+use crate::config::{self, Config};
+use crate::kinds::{again, fault_word, map_again, toml_again, written};
 use crate::levels::Level;
-use crate::long::many;
 use crate::shapes::{Counts, Either, Flat, Inner, Places, Point};
 use csv::ErrorKind;
 use litemap_serde::SerdeMap;
@@ -48,6 +47,7 @@ fn answer_items(alloc: Global, what: &str, text: &str) -> Result<String, AllocEr
             SerdeMap<u32, Counts, Vec<(u32, Counts)>>,
             ShortStore<String, SerdeMap<u32, Counts, Vec<(u32, Counts)>>>,
         >(alloc, text),
+        "counts" => map_again::<String, Counts, ShortStore<String, Counts>>(alloc, text),
         "vector" => again::<Vec<Counts>>(alloc, text),
         "perhaps" => again::<Option<Counts>>(alloc, text),
         "points" => map_again::<Point, u8, ShortStore<Point, u8>>(alloc, text),
@@ -63,12 +63,14 @@ fn answer_shapes(alloc: Global, what: &str, text: &str) -> Result<String, AllocE
         "either" => again::<Either>(alloc, text),
         "flat" => again::<Flat>(alloc, text),
         "config" => json_again(alloc, text),
-        "cuts" => cuts(alloc, text),
-        "many" => many(alloc, text),
-        _ => match unless_memory!(serde_json::from_str::<String>(alloc, text)) {
-            Ok(text) => answer_text(alloc, what, text.as_str()),
-            Err(_) => String::from_str(alloc, "no text"),
-        },
+        _ => {
+            let text = or_word!(
+                alloc,
+                "no text",
+                serde_json::from_str::<String>(alloc, text)
+            );
+            answer_text(alloc, what, text.as_str())
+        }
     }
 }
 
@@ -103,47 +105,28 @@ fn refused(alloc: Global, fault: &csv::Error) -> Result<String, AllocError> {
 // A configuration from JSON, written as JSON.
 fn json_again(alloc: Global, text: &str) -> Result<String, AllocError> {
     match unless_memory!(config::from_json(alloc, text)) {
-        Ok(config) => match unless_memory!(config::to_json(alloc, &config)) {
-            Ok(text) => Ok(text),
-            Err(_) => String::from_str(alloc, "not written"),
-        },
+        Ok(config) => Ok(or_word!(alloc, "not written", config::to_json(alloc, &config))),
         Err(fault) => String::from_str(alloc, fault_word(&fault)),
     }
 }
 
 // A configuration from TOML, written as TOML.
 fn config_again(alloc: Global, text: &str) -> Result<String, AllocError> {
-    match unless_memory!(config::from_toml(alloc, text)) {
-        Ok(config) => toml_text(alloc, &config),
-        Err(_) => String::from_str(alloc, "refused"),
-    }
+    let config = or_word!(alloc, "refused", config::from_toml(alloc, text));
+    toml_text(alloc, &config)
 }
 
 // The TOML text of a configuration, as a JSON string.
 fn toml_text(alloc: Global, config: &Config) -> Result<String, AllocError> {
-    match unless_memory!(config::to_toml(alloc, config)) {
-        Ok(text) => written(alloc, &text),
-        Err(_) => String::from_str(alloc, "not written"),
-    }
+    let text = or_word!(alloc, "not written", config::to_toml(alloc, config));
+    written(alloc, &text)
 }
 
 // The defaults with a TOML text's limits over theirs, written as TOML.
 fn overlaid(alloc: Global, text: &str) -> Result<String, AllocError> {
-    match unless_memory!(config::from_toml(alloc, text)) {
-        Ok(user) => over_defaults(alloc, user.limits),
-        Err(_) => String::from_str(alloc, "refused"),
-    }
-}
-
-fn over_defaults(alloc: Global, user: Limits) -> Result<String, AllocError> {
-    match unless_memory!(config::from_json(alloc, DEFAULTS)) {
-        Ok(defaults) => with_limits(alloc, defaults, user),
-        Err(_) => String::from_str(alloc, "no defaults"),
-    }
-}
-
-fn with_limits(alloc: Global, mut config: Config, user: Limits) -> Result<String, AllocError> {
-    config::overlay(&mut config.limits, alloc, user)?;
+    let user = or_word!(alloc, "refused", config::from_toml(alloc, text));
+    let mut config = or_word!(alloc, "no defaults", config::from_json(alloc, DEFAULTS));
+    config::overlay(&mut config.limits, alloc, user.limits)?;
     toml_text(alloc, &config)
 }
 

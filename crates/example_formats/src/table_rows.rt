@@ -15,6 +15,7 @@
 //! - `many NUMBER -`: what a `NameTable` of so many names and its `NameIndex` return.
 //! - `often NUMBER -`: how many of so many names its indexes find, each looked up by itself.
 //! - `faults -`: the errors that no other line shows.
+//! - `rewrite BYTES`: what `rewrite_flags` makes of bytes.
 //! - `prefixes BYTES`: what is read of each proper prefix, by kinds.
 //! - `changes BYTES`: the same with each byte changed into each other one.
 //! - `strings BYTES`: the same of every string of up to four of these bytes.
@@ -27,6 +28,7 @@
 //! - `opened BYTES`: each entry of an index that is read once, found again by its key.
 //! - `look KEY BYTES`: what an index that isn't read before returns for a key.
 //! - `cuts BYTES`, `damages BYTES`: what is opened of each proper prefix of an index, and with each byte changed, by kinds.
+use crate::json_rows::rewritten;
 use crate::languages::language_name;
 use crate::sweeps::{self, Tally};
 use crate::{indexes, tables, texts};
@@ -54,7 +56,6 @@ pub fn answer(alloc: Global, line: &str) -> Result<String, AllocError> {
     Ok(output)
 }
 
-// Writes the output of a line.
 fn write_answer(
     alloc: Global,
     words: &[&str],
@@ -75,6 +76,7 @@ fn write_answer(
         ["look", key] => indexes::write_looked(key, bytes, output),
         ["many" | "often", number] => tables::write_many(alloc, words, number, output),
         ["faults"] => write_faults(output),
+        ["rewrite"] => output.push_str(rewritten(alloc, bytes)?.as_str()),
         [name] => sweep(alloc, name, bytes, output),
         _ => output.push_str("bad line"),
     }
@@ -95,7 +97,6 @@ fn write_again(alloc: Global, bytes: &[u8], output: &mut String) -> Result<(), A
 // The program's own names.
 const OWN: &[(&str, &str)] = &[("de", "German"), ("en", "own English"), ("zu", "Zulu")];
 
-// Writes the name of a language.
 fn write_name(
     alloc: Global,
     code: &str,

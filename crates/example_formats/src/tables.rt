@@ -179,7 +179,6 @@ impl<'a> Forms<'a> {
     }
 }
 
-// A table of so many names.
 fn many(alloc: Global, number: u32) -> Result<Vec<u8>, AllocError> {
     let mut bytes = Vec::new(alloc);
     put_number(number, &mut bytes)?;

@@ -33,14 +33,11 @@ pub fn answer(alloc: Global, line: &str) -> Result<String, AllocError> {
     }
 }
 
-// Why a text is no map.
 fn told<K: JsonKey + Drop, V: JsonItem + Drop>(
     alloc: Global,
     text: &str,
 ) -> Result<String, AllocError> {
-    let Ok(value) = unless_memory!(Value::from_str(alloc, text)) else {
-        return String::from_str(alloc, "no JSON");
-    };
+    let value = or_word!(alloc, "no JSON", Value::from_str(alloc, text));
     let map: Result<VecMap<K, V>, JsonFault> = from_json(alloc, &value);
     match unless_memory!(map, JsonFault::Memory) {
         Ok(_) => String::from_str(alloc, "a map"),
@@ -50,10 +47,8 @@ fn told<K: JsonKey + Drop, V: JsonItem + Drop>(
 
 // The same, told of a value that was not read, and has no such index; and what it says as an error of std's.
 fn told_elsewhere(alloc: Global, text: &str) -> Result<String, AllocError> {
-    let value = unless_memory!(Value::from_str(alloc, text));
-    let (Ok(value), Ok(other)) = (value, unless_memory!(Value::from_str(alloc, "null"))) else {
-        return String::from_str(alloc, "no JSON");
-    };
+    let value = or_word!(alloc, "no JSON", Value::from_str(alloc, text));
+    let other = or_word!(alloc, "no JSON", Value::from_str(alloc, "null"));
     let map: Result<VecMap<u32, u32>, JsonFault> = from_json(alloc, &value);
     match unless_memory!(map, JsonFault::Memory) {
         Ok(_) => String::from_str(alloc, "a map"),

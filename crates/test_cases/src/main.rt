@@ -19,7 +19,6 @@ mod closures;
 mod constants;
 mod ends;
 mod faults;
-mod flags;
 mod hints;
 mod limits;
 mod lines;
@@ -52,7 +51,7 @@ fn main(rt: HostRuntime) -> ExitCode {
     }
 }
 
-fn cases(alloc: Global) -> [Case; 32] {
+fn cases(alloc: Global) -> [Case; 30] {
     outcomes! { alloc;
         closures::one_of_the_keys_called_equal_is_found,
         closures::a_closure_compares_with_another_type,
@@ -79,8 +78,6 @@ fn cases(alloc: Global) -> [Case; 32] {
         faults::each_write_fails,
         faults::last_lines_fail,
         faults::a_writer_takes_nothing,
-        flags::flags_are_rewritten_or_refused,
-        flags::long_flags,
         lines::lines_are_answered,
         lines::the_longest_input_is_answered,
         lines::one_byte_too_many_is_read,
