@@ -120,7 +120,7 @@ fn finds_bytes(pairs: &[(&[u8], u8)]) -> bool {
     are_found!(pairs, b"zz")
 }
 
-// Strings, and their bytes, are compared with one another.
+// Each string is compared with each other one, and so are their bytes.
 //
 // Among three keys a search looks at the middle one first, and among two at the second: so each of two is compared with the
 // other, both ways.

@@ -1,6 +1,5 @@
 //! Stores with a limit: one of a user's own, which grows up to it and no further, and one whose limit is set when it is made,
-//! so that it goes with the store when a fresh one replaces it. A list of calls
-//! goes on after those that fail.
+//! so that it goes with the store when a fresh one replaces it. A list of calls goes on after those that fail.
 use crate::printing::prints;
 use example_store::Bounded;
 use example_store::fixed_room::FixedRoom;
