@@ -3,16 +3,7 @@
 --     every_pair      after a put, a cut and a write, and of a part, as of a range; and of the pair that a lookup finds
 --     All-merged      of the values after a merge: cited by name, since the lists that are merged stand in no goal
 --     put_ends      a put in front of all keys, and past the first
-use Rattle.std.proofs.Common.{◌≡◌, ◌≢◌, ◌⊎◌, All, ◌<◌, ℕ, suc, Bool, List, [], ◌∷◌, ◌++◌, get_or, length, Some, Option, None, filter, refl, sym, ap, ◌∙◌, inl, inr, arith}
-use Rattle.std.proofs.lemmas.List.Elements.{All-from_recursion, recursion_from_All}
-use Rattle.std.specs.Cmp.{IsTotalOrder}
-use Rattle.std.specs.Option.{option_map_or}
-use Rattle.std.specs.Ordering.{is_gt, is_lt}
-use Rattle.std.specs.declared.cmp.Ordering.{Ordering}
-use Rattle.std.specs.declared.cmp.Ordering.TheVariants.{Equal, Greater, Less}
-use Rattle.litemap_store.specs.Last.{In}
-use Rattle.litemap_store.specs.Merge.{Merge}
-use Rattle.litemap_store.specs.Pairs.{BelowAll, above, at, below, cut, key_or, put, write}
+use Rattle.litemap_store.proofs.Names.{[], ℕ, ◌++◌, ◌<◌, ◌∙◌, ◌∷◌, ◌≡◌, ◌≢◌, ◌⊎◌, above, All, All-from_recursion, ap, arith, at, below, BelowAll, Bool, cut, Equal, filter, get_or, Greater, In, inl, inr, is_gt, is_lt, IsTotalOrder, key_or, length, Less, List, Merge, None, Option, option_map_or, Ordering, put, recursion_from_All, refl, Some, suc, sym, write}
 use Rattle.litemap_store.proofs.Last.KeepLast.{filter_all, filter_none}
 use Rattle.litemap_store.proofs.Lists.Membership.{In-cases, In-from_filter, In-get_or, each, from_each}
 use Rattle.litemap_store.proofs.Search.Splitting.{at_in, at_none, less_back}

@@ -2,16 +2,11 @@
 --     given_by_vec      what a vector yields;  Last-extended      what is left of it;  value_at-extended, new_wins, old_stays      what is found after `extend`
 --     value_at-collected      what is found after `from_iter`
 -- A proof shows `holds` by `λ v it h. h.0`.
-use Rattle.std.proofs.Common.{◌≡◌, List, [], ◌++◌, Some, None, option_map, reverse, ap, ◌∙◌, subst, Vec}
+use Rattle.litemap_store.proofs.Names.{[], ◌++◌, ◌∙◌, ◌≡◌, ap, Gives, IsExtended, IsTotalOrder, Last, List, None, option_map}
+use Rattle.litemap_store.proofs.Names.{option_or, Ordering, reverse, Rising, Some, subst, value_at, Vec}
 use Rattle.std.proofs.IntoIterSteps.{All-taken}
-use Rattle.std.specs.Cmp.{IsTotalOrder}
-use Rattle.std.specs.Option.{option_or}
 use Rattle.std.specs.Vec.Iter.{into_iter_items, into_iter_steps}
 use Rattle.std.specs.declared.vec.IntoIter.{IntoIter}
-use Rattle.std.specs.declared.cmp.Ordering.{Ordering}
-use Rattle.litemap_store.specs.Bulk.{Gives, IsExtended}
-use Rattle.litemap_store.specs.Last.{Last}
-use Rattle.litemap_store.specs.Pairs.{Rising, value_at}
 use Rattle.litemap_store.proofs.Callers.LastLookups.{at-Last, value_at-Last_of_more}
 
 module _ {X Z : Type 0} (becomes : Vec X Z → IntoIter X Z → Type 0) (holds : (v : Vec X Z) (it : IntoIter X Z) → becomes v it → into_iter_items it ≡ v.items) where

@@ -1,14 +1,9 @@
 -- What is made of pairs that are passed one by one: lemmas for the proofs of callers.
 --     given_by_owned      what an iterator that owns a list yields
 --     rebuilt      no pairs, extended by an ascending list, are that list
-use Rattle.std.proofs.Common.{◌≡◌, List, [], length, Option, Some, None, sym, ap, ◌∙◌, subst, map-id}
+use Rattle.litemap_store.proofs.Names.{[], ◌∙◌, ◌≡◌, ap, Drains, IsExtended, IsTotalOrder, Last, length, List, map-id, None}
+use Rattle.litemap_store.proofs.Names.{Option, Ordering, Rising, Some, subst, sym, YieldsFirst}
 use Rattle.std.proofs.iter.Yields.{gives_Drains, listed}
-use Rattle.std.specs.Cmp.{IsTotalOrder}
-use Rattle.std.specs.Iterator.{Drains, YieldsFirst}
-use Rattle.std.specs.declared.cmp.Ordering.{Ordering}
-use Rattle.litemap_store.specs.Bulk.{IsExtended}
-use Rattle.litemap_store.specs.Last.{Last}
-use Rattle.litemap_store.specs.Pairs.{Rising}
 use Rattle.litemap_store.proofs.Last.Pairs.{Last-rising, Last-unique}
 
 module _ {T X : Type 0} (steps : T → Option X → T → Type 0) (owned : T → List X) (first : (s : T) (r : Option X) (t : T) → steps s r t → YieldsFirst owned s r t) where

@@ -3,17 +3,7 @@
 --     at-Last      what it finds in the list reversed;  value_at-Last_of_more      what it finds after more pairs
 --     value_at-Last_of_rising      the same if both lists ascend
 --     at-last, value_at-last, value_at-last_of_more, value_at-last_of_rising      the same of any query, as in `MergeLookups`
-use Rattle.std.proofs.Common.{◌≡◌, ◌≢◌, ◌⊎◌, List, [], ◌∷◌, ◌++◌, Option, Some, None, option_map, reverse, refl, sym, ap, ◌∙◌, inl, inr}
-use Rattle.std.proofs.lemmas.List.{reverse-append}
-use Rattle.std.proofs.lemmas.List.Folds.{find-append}
-use Rattle.std.specs.Cmp.{IsTotalOrder}
-use Rattle.std.specs.List.{AllByRecursion}
-use Rattle.std.specs.Option.{option_or}
-use Rattle.std.specs.Ordering.{is_eq}
-use Rattle.std.specs.declared.cmp.Ordering.{Ordering}
-use Rattle.std.specs.declared.cmp.Ordering.TheVariants.{Less, Equal, Greater}
-use Rattle.litemap_store.specs.Last.{In, Last, StandsLast}
-use Rattle.litemap_store.specs.Pairs.{Rising, at, value_at}
+use Rattle.litemap_store.proofs.Names.{[], ◌++◌, ◌∙◌, ◌∷◌, ◌≡◌, ◌≢◌, ◌⊎◌, AllByRecursion, ap, at, Equal, find-append, Greater, In, inl, inr, is_eq, IsTotalOrder, Last, Less, List, None, Option, option_map, option_or, Ordering, refl, reverse, reverse-append, Rising, Some, StandsLast, sym, value_at}
 use Rattle.litemap_store.proofs.Last.Pairs.{In-from_last, Last-rising}
 use Rattle.litemap_store.proofs.Lists.Membership.{each, from_each}
 use Rattle.litemap_store.proofs.Callers.MergeLookups.{at-rising, key_alike, key_same, none_like}

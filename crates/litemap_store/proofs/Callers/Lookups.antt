@@ -6,18 +6,7 @@
 --     value_at-write, value_at-write_apart      the same after a write;  value_at-written_apart      if a write finds the key
 --     value_in-set_value_other, value_at-set_value      after a write at an index;  value_in-set, value_at-set      if a pair is there
 --     length-put_present, length-put_absent, length-cut_present, length-cut_absent, Rising-cut      what both leave of an ascending list
-use Rattle.std.proofs.Common.{◌≡◌, ◌≢◌, ℕ, zero, suc, cond, IfSome, slice_get, slice_set, ◌+◌, Bool, true, false, List, [], ◌∷◌, ◌++◌, length, filter, Option, Some, None, IsSome, Ok, option_map, refl, sym, ap, ◌∙◌, arith}
-use Rattle.std.specs.Ordering.{is_lt, is_eq, is_gt}
-use Rattle.std.specs.Option.{option_map_or, option_or}
-use Rattle.std.specs.Cmp.{IsTotalOrder}
-use Rattle.std.specs.List.{cons_option}
-use Rattle.std.proofs.lemmas.List.{append-nil, length-append}
-use Rattle.std.proofs.lemmas.List.Folds.{find-append}
-use Rattle.std.proofs.lemmas.List.Elements.{filter-append}
-use Rattle.std.specs.declared.cmp.Ordering.{Ordering}
-use Rattle.std.specs.declared.cmp.Ordering.TheVariants.{Less, Equal, Greater}
-use Rattle.litemap_store.specs.Pairs.{Rising, above, at, below, cut, index_of, key_or, place, put, set_value, value_at, value_in, write}
-use Rattle.litemap_store.specs.Queries.{key_one_side}
+use Rattle.litemap_store.proofs.Names.{[], ℕ, ◌++◌, ◌+◌, ◌∙◌, ◌∷◌, ◌≡◌, ◌≢◌, above, ap, append-nil, arith, at, below, Bool, cond, cons_option, cut, Equal, false, filter, filter-append, find-append, Greater, IfSome, index_of, is_eq, is_gt, is_lt, IsSome, IsTotalOrder, key_one_side, key_or, length, length-append, Less, List, None, Ok, Option, option_map, option_map_or, option_or, Ordering, place, put, refl, Rising, set_value, slice_get, slice_set, Some, suc, sym, true, value_at, value_in, write, zero}
 use Rattle.litemap_store.proofs.Last.KeepLast.{filter_all, filter_none}
 use Rattle.litemap_store.proofs.Lists.Membership.{In-from_filter}
 use Rattle.litemap_store.proofs.Lists.Seams.{set_value-suc}

@@ -4,15 +4,7 @@
 --     value_at-merged      the value of B if B has the key, else that of A
 --     value_at-left      the value of A if B has the key, else none
 --     at-same      what a key that the query finds finds;  key_same, key_alike      both, if the query is a key
-use Rattle.std.proofs.Common.{◌≡◌, ◌≢◌, Bool, true, false, cond, List, [], ◌∷◌, Option, Some, None, is_some, option_map, refl, sym, ap, ◌∙◌, subst, inl, inr, Ordering, Less, Equal, is_eq}
-use Rattle.std.specs.List.{AllByRecursion, cons_option}
-use Rattle.std.specs.Option.{option_or}
-use Rattle.std.specs.Cmp.{IsTotalOrder}
-use Rattle.std.proofs.lemmas.Bool.{cases_Bool, true≢false}
-use Rattle.std.proofs.lemmas.Cmp.{alike_right, tied_back}
-use Rattle.litemap_store.specs.Last.{In, NoneEqual}
-use Rattle.litemap_store.specs.Merge.{IsMerged, Merge, left}
-use Rattle.litemap_store.specs.Pairs.{Rising, at, value_at}
+use Rattle.litemap_store.proofs.Names.{[], ◌∙◌, ◌∷◌, ◌≡◌, ◌≢◌, alike_right, AllByRecursion, ap, at, Bool, cases_Bool, cond, cons_option, Equal, false, In, inl, inr, is_eq, is_some, IsMerged, IsTotalOrder, left, Less, List, Merge, None, NoneEqual, Option, option_map, option_or, Ordering, refl, Rising, Some, subst, sym, tied_back, true, true≢false, value_at}
 use Rattle.litemap_store.proofs.Lists.Membership.{each, from_each}
 use Rattle.litemap_store.proofs.Search.Splitting.{at_in, at_none, equal_from_is_eq, none_equal, not_is_eq}
 

@@ -1,12 +1,8 @@
 -- Numbers at keys, as in a count of words: each key's number after one is raised. For the proofs of callers.
 --     value_at_equal      equal keys find the same value
 --     number_at_raised      one more at each equal key, else as before
-use Rattle.std.proofs.Common.{◌≡◌, ℕ, ◌+◌, List, [], ◌∷◌, Some, cond, unwrap_or, refl, sym, ap, ◌∙◌}
-use Rattle.std.specs.Cmp.{IsTotalOrder, alike_right, tied_back}
-use Rattle.std.specs.Ordering.{is_eq}
-use Rattle.std.specs.declared.cmp.Ordering.{Ordering}
-use Rattle.std.specs.declared.cmp.Ordering.TheVariants.{Less, Equal, Greater}
-use Rattle.litemap_store.specs.Pairs.{at, put, value_at}
+use Rattle.litemap_store.proofs.Names.{[], ℕ, ◌+◌, ◌∙◌, ◌∷◌, ◌≡◌, alike_right, ap, at, cond, Equal, Greater, is_eq, IsTotalOrder}
+use Rattle.litemap_store.proofs.Names.{Less, List, Ordering, put, refl, Some, sym, tied_back, unwrap_or, value_at}
 use Rattle.litemap_store.proofs.Callers.Lookups.{value_at-put, value_at-put_other}
 
 module _ {K : Type 0} {cmp : K → K → Ordering} where

@@ -1,12 +1,7 @@
 -- Whether an iterator yields a pair.
 --     GivesSome-from_Yields      if any call yielded one, the first did;  GivesSome-from_some      if there is one;  some_refused, GivesSome-from_refused      if appending the pairs fails
-use Rattle.std.proofs.Common.{ℕ, ◌≤◌, List, [], ◌∷◌, length, Option, Some, Result, Ok, Err, sym, subst, arith}
-use Rattle.std.specs.Iterator.{Yields}
-use Rattle.std.specs.Result.{IsOk, OnErr}
-use Rattle.std.specs.declared.cmp.Ordering.{Ordering}
-use Rattle.litemap_store.specs.Bulk.{Gives, GivesSome}
-use Rattle.litemap_store.specs.Last.{Rises}
-use Rattle.litemap_store.specs.Pairs.{BelowAll}
+use Rattle.litemap_store.proofs.Names.{[], ℕ, ◌∷◌, ◌≤◌, arith, BelowAll, Err, Gives, GivesSome, IsOk, length, List, Ok, OnErr}
+use Rattle.litemap_store.proofs.Names.{Option, Ordering, Result, Rises, Some, subst, sym, Yields}
 use Rattle.litemap_store.proofs.Lists.Membership.{from_each}
 
 module _ {U T X : Type 0} (becomes : U → T → Type 0) (steps : T → Option X → T → Type 0) (iter : U) where

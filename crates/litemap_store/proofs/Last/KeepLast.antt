@@ -1,18 +1,8 @@
 -- What a stable sort keeps, and a pass that keeps the last of each run of equal keys.
 --     last_by_stable      the same pairs are last after it;  KeptLast, passed_over, passed_more      what the pass has kept so far, and after one more pair
 --     Last-push      a pair above all goes after the last pairs;  all_below      keys below one above the last;  filter_all, filter_none, last_cases      lists
-use Rattle.std.proofs.Common.{ℕ, zero, suc, ◌<◌, ◌≤◌, ◌+◌, length, get_or, arith, ◌≡◌, ◌⊎◌, ◌≢◌, ◌↔◌, Bool, true, false, cond, List, [], ◌∷◌, ◌++◌, filter, take, drop, set, swap, refl, sym, ap, ◌∙◌, subst, subst₂, inl, inr, append-nil, Ordering, Less, Equal, Greater, is_lt, is_gt, is_eq}
-use Rattle.std.specs.List.Sorted.{IsStableBy, ties, IsSortedByKey}
-use Rattle.std.specs.Cmp.{IsTotalOrder}
-use Rattle.std.proofs.lemmas.Cmp.{tied_itself, tied_back, alike_right}
-use Rattle.std.proofs.lemmas.List.{get_or_default, take_more, take_more_set, take-set-le, set-set, drop-set-lt, drop_more}
-use Rattle.std.proofs.lemmas.List.Edits.{swap_is, length-swap}
-use Rattle.std.proofs.lemmas.List.Elements.{filter-append}
-use Rattle.std.proofs.lemmas.List.Sorted.{sorted_far, ranks_by}
-use Rattle.std.proofs.lemmas.Bool.{cases_lt}
-use mathlib.Core.Bool.{true≢false}
-use Rattle.litemap_store.specs.Last.{In, Last, StandsLast}
-use Rattle.litemap_store.specs.Pairs.{AllBelow, Rising, above, below}
+use Rattle.litemap_store.proofs.Names.{[], ℕ, ◌++◌, ◌+◌, ◌<◌, ◌↔◌, ◌∙◌, ◌∷◌, ◌≡◌, ◌≢◌, ◌≤◌, ◌⊎◌, above, alike_right, AllBelow, ap, append-nil, arith, below, Bool, cases_lt, cond, drop, drop-set-lt, drop_more, Equal, false, filter, filter-append, get_or, get_or_default, Greater, In, inl, inr, is_eq, is_gt, is_lt, IsSortedByKey, IsTotalOrder, Last, length, length-swap, Less, List, Ordering, ranks_by, refl, Rising, set, set-set, sorted_far, StandsLast, subst, subst₂, suc, swap, swap_is, sym, take, take-set-le, take_more, take_more_set, tied_back, tied_itself, true, true≢false, zero}
+use Rattle.std.specs.List.Sorted.{IsStableBy, ties}
 use Rattle.litemap_store.proofs.Lists.Membership.{In-right, In-filter, In-from_filter, each, from_each}
 use Rattle.litemap_store.proofs.Last.Pairs.{In-from_last, Last-put}
 use Rattle.litemap_store.proofs.Search.Splitting.{each-append, equal_from_is_eq, greater_back}

@@ -1,17 +1,9 @@
 -- A pair that is moved to its place among the first of a list, from after them.
 --     put_over, put_between      replacing the pair of an equal key, and between others
 --     kept_put      what is kept so far, with one more pair
-use Rattle.std.proofs.Common.{◌≡◌, ℕ, suc, ◌+◌, ◌-◌, ◌<◌, ◌≤◌, arith, List, [], ◌∷◌, ◌++◌, length, length-drop, get_or, set, swap, take, drop, Some, slice_get, sym, ap, ◌∙◌, subst₂, Ordering}
-use Rattle.std.specs.Cmp.{IsTotalOrder}
-use Rattle.std.proofs.Math.Seq.{drop-append_seam, take-append-add, take-append_seam, take-set-lt}
-use Rattle.std.proofs.lemmas.List.{drop-take, drop_more, get_or-drop, length-take-le, length_push, take-append-le, take-set-le, take-take, take_more}
-use Rattle.std.proofs.lemmas.List.Edits.{swap_is}
-use Rattle.std.proofs.lemmas.Option.{get_or_from_slice_get, slice_get_within}
+use Rattle.litemap_store.proofs.Names.{[], ℕ, ◌++◌, ◌+◌, ◌-◌, ◌<◌, ◌∙◌, ◌∷◌, ◌≡◌, ◌≤◌, ap, arith, drop, drop-append_seam, drop-take, drop_more, get_or, get_or-drop, get_or_from_slice_get, IsFoundAt, IsMissingAt, IsPutIn, IsTotalOrder, Last, length, length-drop, length-take-le, length_push, List, Ordering, set, slice_get, slice_get_within, Some, subst₂, suc, swap, swap_is, sym, take, take-append-add, take-append-le, take-append_seam, take-set-le, take-set-lt, take-take, take_more}
 use Rattle.std.proofs.lemmas.Slice.{drop-put_mid}
 use borrow.Rule.Slice.PartMut.{mid_of, put_mid}
-use Rattle.litemap_store.specs.Last.{Last}
-use Rattle.litemap_store.specs.PutIn.{IsPutIn}
-use Rattle.litemap_store.specs.Splits.{IsFoundAt, IsMissingAt}
 use Rattle.litemap_store.proofs.Last.KeepLast.{KeptLast, drop-swap}
 use Rattle.litemap_store.proofs.Last.Pairs.{Last-put}
 use Rattle.litemap_store.proofs.Lists.Seams.{found_over, found_within, missing_between, missing_within}

@@ -3,11 +3,7 @@
 --     Last-join, Last-join_right      the last pairs of a part in place of the part;  Last-same      the same pairs are last
 --     StandsLast-left, StandsLast-right, StandsLast-cases      which pairs of a joined list are last;  stands_before, stands_behind      and if a part changes
 --     in_put, put_has      what is in a list after a put
-use Rattle.std.proofs.Common.{◌≡◌, ◌⊎◌, ◌≢◌, ◌↔◌, List, [], ◌∷◌, ◌++◌, Option, Some, None, refl, sym, ap, ◌∙◌, subst, inl, inr, append-nil, append_assoc, Ordering, Less, Equal, Greater, is_lt, is_gt}
-use Rattle.std.specs.Cmp.{IsTotalOrder}
-use Rattle.std.proofs.lemmas.Cmp.{tied_back, tied_itself, alike_right}
-use Rattle.litemap_store.specs.Last.{In, Last, NoneEqual, StandsLast}
-use Rattle.litemap_store.specs.Pairs.{Rising, above, at, below}
+use Rattle.litemap_store.proofs.Names.{[], ◌++◌, ◌↔◌, ◌∙◌, ◌∷◌, ◌≡◌, ◌≢◌, ◌⊎◌, above, alike_right, ap, append-nil, append_assoc, at, below, Equal, Greater, In, inl, inr, is_gt, is_lt, IsTotalOrder, Last, Less, List, None, NoneEqual, Option, Ordering, refl, Rising, Some, StandsLast, subst, sym, tied_back, tied_itself}
 use Rattle.litemap_store.proofs.Lists.Membership.{In-left, In-right, In-cases, In-filter, In-from_filter, each, from_each}
 use Rattle.litemap_store.proofs.Search.Splitting.{Rising-between, at_in, each-append, each-weaker, greater_from_is_gt, less_back, less_from_is_lt, none_equal}
 

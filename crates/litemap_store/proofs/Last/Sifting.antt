@@ -1,14 +1,8 @@
 -- A list that is read by appending pairs that ascend and deferring the others.
 --     Last-sifted      its last pairs are those of the appended ones, extended by the deferred ones
-use Rattle.std.proofs.Common.{◌≡◌, ◌≢◌, ◌↔◌, List, [], ◌∷◌, ◌++◌, append-nil, append_assoc, sym, ◌∙◌, subst, inl, inr}
-use Rattle.std.proofs.lemmas.Cmp.{alike_right, tied_back}
-use Rattle.std.specs.Cmp.{IsTotalOrder}
-use Rattle.std.specs.List.{AllByRecursion}
-use Rattle.std.specs.declared.cmp.Ordering.{Ordering}
-use Rattle.std.specs.declared.cmp.Ordering.TheVariants.{Less, Equal}
-use Rattle.litemap_store.specs.Last.{In, Last, NoneEqual, StandsLast}
-use Rattle.litemap_store.specs.Laws.{Sifted}
-use Rattle.litemap_store.specs.Pairs.{AllBelow}
+use Rattle.litemap_store.proofs.Names.{[], ◌++◌, ◌↔◌, ◌∙◌, ◌∷◌, ◌≡◌, ◌≢◌, alike_right, AllBelow, AllByRecursion, append-nil}
+use Rattle.litemap_store.proofs.Names.{append_assoc, Equal, In, inl, inr, IsTotalOrder, Last, Less, List, NoneEqual, Ordering}
+use Rattle.litemap_store.proofs.Names.{Sifted, StandsLast, subst, sym, tied_back}
 use Rattle.litemap_store.proofs.Last.Pairs.{In-from_last, Last-same, StandsLast-cases, StandsLast-left, StandsLast-right, stands_before, stands_behind}
 use Rattle.litemap_store.proofs.Lists.Membership.{In-cases, In-left, In-right, each, from_each}
 use Rattle.litemap_store.proofs.Search.Splitting.{each-append}

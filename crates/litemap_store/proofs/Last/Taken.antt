@@ -2,16 +2,9 @@
 --     end_none, end_new, end_old, end_from_cmp      which list has it;  take_old, take_new, take_both      what is left if its pair is taken
 --     taken_last      a list without its last element
 --     reverse_behind, Last-of_none      the side vector
-use Rattle.std.proofs.Common.{ℕ, zero, suc, ◌-◌, length, arith, ◌≡◌, ◌≢◌, ◌↔◌, List, [], ◌∷◌, ◌++◌, refl, sym, ap, ◌∙◌, subst, subst₂, inl, inr, append-nil, append_assoc, length-append, Ordering, Less, Equal, Greater, slice_get, Some, None, ◌==◌, eqb-true, reverse, true, false}
-use Rattle.std.specs.List.{remove}
-use Rattle.std.specs.Cmp.{IsTotalOrder}
-use Rattle.std.proofs.lemmas.Cmp.{alike_right}
-use Rattle.std.proofs.lemmas.List.{same_from_push, nil_from_length, reverse-append}
-use mathlib.Core.Bool.{true≢false}
+use Rattle.litemap_store.proofs.Names.{[], ℕ, ◌++◌, ◌-◌, ◌↔◌, ◌∙◌, ◌∷◌, ◌≡◌, ◌≢◌, alike_right, AllBelow, ap, append-nil, append_assoc, arith, eqb-true, Equal, false, Greater, In, inl, inr, IsGreaterEnd, IsTaken, IsTotalOrder, Last, length, length-append, Less, List, nil_from_length, None, NoneEqual, Ordering, refl, remove, reverse, reverse-append, Rising, same_from_push, slice_get, Some, StandsLast, subst, subst₂, suc, sym, true, true≢false, zero}
+use Rattle.std.proofs.Common.{◌==◌}
 use Rattle.litemap_store.proofs.Lists.Joined.{empty_from_last, last_split}
-use Rattle.litemap_store.specs.Last.{In, Last, NoneEqual, StandsLast}
-use Rattle.litemap_store.specs.Pairs.{AllBelow, Rising}
-use Rattle.litemap_store.specs.Taken.{IsGreaterEnd, IsTaken}
 use Rattle.litemap_store.proofs.Lists.Membership.{In-left, In-right, In-cases, each, from_each}
 use Rattle.litemap_store.proofs.Last.Pairs.{Last-rising, Last-same, In-from_last, stands_behind}
 use Rattle.litemap_store.proofs.Last.Sifting.{last_behind, passed}

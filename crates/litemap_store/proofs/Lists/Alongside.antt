@@ -1,10 +1,8 @@
 -- Lists whose elements are in a relation, index by index.
 --     alongside-push      one more element at the end of each;  alongside-more      the element at the next index, and one at the end of the other list
 --     alongside-zip      of keys and of values, and so of the pairs
-use Rattle.std.proofs.Common.{◌≡◌, ℕ, ◌+◌, List, [], ◌∷◌, ◌++◌, Some, slice_get, take, sym, ap, subst, ◌∙◌}
-use Rattle.std.specs.List.{AllZip, zip}
-use Rattle.std.proofs.lemmas.List.{take_more}
-use Rattle.std.proofs.lemmas.Option.{slice_get_within, get_or_from_slice_get}
+use Rattle.litemap_store.proofs.Names.{[], ℕ, ◌++◌, ◌+◌, ◌∙◌, ◌∷◌, ◌≡◌, AllZip, ap, get_or_from_slice_get, List, slice_get}
+use Rattle.litemap_store.proofs.Names.{slice_get_within, Some, subst, sym, take, take_more, zip}
 
 module _ {A B : Type 0} (R : A → B → Type 0) where
   pub alongside-push : (xs : List A) (ys : List B) (x : A) (y : B) → AllZip R xs ys → R x y → AllZip R (xs ++ x ∷ []) (ys ++ y ∷ [])

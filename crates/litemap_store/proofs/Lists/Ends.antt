@@ -1,9 +1,6 @@
 -- A key above the last one of an ascending list.
-use Rattle.std.proofs.Common.{◌≡◌, ℕ, suc, ◌-◌, List, [], ◌∷◌, ◌++◌, length, Some, slice_get, subst, arith}
-use Rattle.std.specs.Cmp.{IsTotalOrder}
-use Rattle.std.specs.declared.cmp.Ordering.{Ordering}
-use Rattle.std.specs.declared.cmp.Ordering.TheVariants.{Less}
-use Rattle.litemap_store.specs.Pairs.{AllBelow, Rising}
+use Rattle.litemap_store.proofs.Names.{[], ℕ, ◌++◌, ◌-◌, ◌∷◌, ◌≡◌, AllBelow, arith, IsTotalOrder, length, Less, List, Ordering}
+use Rattle.litemap_store.proofs.Names.{Rising, slice_get, Some, subst, suc}
 use Rattle.litemap_store.proofs.Lists.Joined.{In-slice_get, last_split}
 use Rattle.litemap_store.proofs.Last.KeepLast.{all_below}
 use Rattle.litemap_store.proofs.Lists.Membership.{each}

@@ -3,14 +3,7 @@
 --     Rising-behind      if the last key of one is below the first of the other;  Rising-from_Rises, not_above      if all of one are below the other, or are not
 --     empty_from_last, empty_from_first, last_split, first_split      an empty list, and what one begins and ends with
 --     below_all      a key below all
-use Rattle.std.proofs.Common.{ℕ, suc, ◌+◌, ◌-◌, length, arith, ◌≡◌, ◌↔◌, List, [], ◌∷◌, ◌++◌, refl, sym, ap, ◌∙◌, subst, inl, inr, Bool, false, Ordering, Less, slice_get, Some, None, sub-one, suc-add}
-use Rattle.std.proofs.lemmas.Bool.{cases_lt, true≢false}
-use Rattle.std.proofs.lemmas.Option.{get_or_from_slice_get, slice_get_within}
-use Rattle.std.specs.Bool.{IsTrue}
-use Rattle.std.specs.List.{AllAdjacentBelow, AllByRecursion}
-use Rattle.std.specs.Cmp.{IsTotalOrder}
-use Rattle.litemap_store.specs.Last.{In, Rises}
-use Rattle.litemap_store.specs.Pairs.{BelowAll, Rising}
+use Rattle.litemap_store.proofs.Names.{[], ℕ, ◌++◌, ◌+◌, ◌-◌, ◌↔◌, ◌∙◌, ◌∷◌, ◌≡◌, AllAdjacentBelow, AllByRecursion, ap, arith, BelowAll, Bool, cases_lt, false, get_or_from_slice_get, In, inl, inr, IsTotalOrder, IsTrue, length, Less, List, None, Ordering, refl, Rises, Rising, slice_get, slice_get_within, Some, sub-one, subst, suc, suc-add, sym, true≢false}
 use Rattle.litemap_store.proofs.Last.KeepLast.{all_below, rising_across}
 use Rattle.litemap_store.proofs.Lists.Membership.{In-get_or, each}
 use Rattle.litemap_store.proofs.Lists.Places.{AllPairs-from_Rising, slice_get-None}

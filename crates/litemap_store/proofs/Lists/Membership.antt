@@ -1,9 +1,7 @@
 -- What is in a list, and what holds of each element.
 --     In-left, In-right, In-cases      elements of a joined list;  In-filter, In-from_filter      what a filter keeps
 --     each, from_each      what holds of each element;  In-get_or      what is at an index
-use Rattle.std.proofs.Common.{ℕ, zero, suc, ◌<◌, length, get_or, arith, ◌≡◌, ◌⊎◌, Bool, true, false, cond, List, [], ◌∷◌, ◌++◌, filter, refl, sym, ap, ◌∙◌, subst, inl, inr}
-use Rattle.std.specs.List.{AllByRecursion}
-use Rattle.litemap_store.specs.Last.{In}
+use Rattle.litemap_store.proofs.Names.{[], ℕ, ◌++◌, ◌<◌, ◌∙◌, ◌∷◌, ◌≡◌, ◌⊎◌, AllByRecursion, ap, arith, Bool, cond, false, filter, get_or, In, inl, inr, length, List, refl, subst, suc, sym, true, zero}
 
 -- ---- elements of a joined list
 pub In-left : {X : Type 0} (A B : List X) (x : X) → In x A → In x (A ++ B)

@@ -1,13 +1,7 @@
 -- Parts of a list whose keys ascend.
 --     Rising-sub, Rising-drop      the pairs between two indices ascend, and those from one on
 --     Less-from_Rising      of two neighbours the later one has the greater key
-use Rattle.std.proofs.Common.{◌≡◌, ℕ, ◌+◌, ◌-◌, ◌<◌, ◌≤◌, Bool, true, false, ◌&&◌, cond, nat_le, List, length, length-drop, length-take, min, take, drop, slice_range, Some, None, slice_get, get_or, sym, subst, arith}
-use Rattle.std.proofs.lemmas.List.{get_or-drop, get_or-take}
-use Rattle.std.proofs.lemmas.Option.{get_or_from_slice_get, slice_get_within}
-use Rattle.std.specs.Ordering.{is_lt}
-use Rattle.std.specs.declared.cmp.Ordering.{Ordering}
-use Rattle.std.specs.declared.cmp.Ordering.TheVariants.{Less}
-use Rattle.litemap_store.specs.Pairs.{Rising, sub}
+use Rattle.litemap_store.proofs.Names.{ℕ, ◌&&◌, ◌+◌, ◌-◌, ◌<◌, ◌≡◌, ◌≤◌, arith, Bool, cond, drop, false, get_or, get_or-drop, get_or-take, get_or_from_slice_get, is_lt, length, length-drop, length-take, Less, List, min, nat_le, None, Ordering, Rising, slice_get, slice_get_within, slice_range, Some, sub, subst, sym, take, true}
 use Rattle.litemap_store.proofs.Lists.Places.{AllPairs-from_Rising, Rising-from_AllPairs}
 use Rattle.litemap_store.proofs.Search.Splitting.{less_from_is_lt}
 

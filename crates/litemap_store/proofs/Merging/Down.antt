@@ -3,18 +3,7 @@
 --     taken_found, found_drop, missing_drop      the parts by the index that a search found
 --     Merge-down, left-down      one step: what is merged above the last key of B, and what is displaced there
 --     left-same      what is displaced depends on what the keys of B find;  length-behind, length-option      how long a list is that was read from its end
-use Rattle.std.proofs.Common.{◌≡◌, ℕ, ◌+◌, ◌≤◌, arith, List, [], ◌∷◌, ◌++◌, append_assoc, length, length-append, drop, take, Option, Some, None, option_map, inl, inr, refl, sym, ap, ◌∙◌, subst, reverse, Ordering, Less, Equal, is_lt, is_gt}
-use Rattle.std.specs.Cmp.{IsTotalOrder}
-use Rattle.std.specs.List.{cons_option}
-use Rattle.std.proofs.lemmas.Cmp.{alike_right}
-use Rattle.std.proofs.lemmas.List.{length-reverse, same_from_push}
-use Rattle.std.proofs.Math.Seq.{drop-append-add, drop-append_seam, take-append-add}
-use Rattle.std.proofs.lemmas.List.Elements.{filter_map-append}
-use Rattle.litemap_store.specs.Last.{In}
-use Rattle.litemap_store.specs.Merge.{Merge, left}
-use Rattle.litemap_store.specs.Pairs.{Rising, above, at, below, key_or, put}
-use Rattle.litemap_store.specs.Queries.{key_one_side}
-use Rattle.litemap_store.specs.Splits.{IsFoundAt, IsMissingAt}
+use Rattle.litemap_store.proofs.Names.{[], ℕ, ◌++◌, ◌+◌, ◌∙◌, ◌∷◌, ◌≡◌, ◌≤◌, above, alike_right, ap, append_assoc, arith, at, below, cons_option, drop, drop-append-add, drop-append_seam, Equal, filter_map-append, In, inl, inr, is_gt, is_lt, IsFoundAt, IsMissingAt, IsTotalOrder, key_one_side, key_or, left, length, length-append, length-reverse, Less, List, Merge, None, Option, option_map, Ordering, put, refl, reverse, Rising, same_from_push, Some, subst, sym, take, take-append-add}
 use Rattle.litemap_store.proofs.Last.KeepLast.{rising_across}
 use Rattle.litemap_store.proofs.Callers.Lookups.{at-filter_kept}
 use Rattle.litemap_store.proofs.Lists.Membership.{In-cases, from_each}

@@ -1,11 +1,8 @@
 -- Merges of lists with all keys of one above the other's, and merges that are joined.
 --     Merge-none, Merge-all      one list is empty;  Merge-behind, Merge-before      one is above the other
 --     left-behind, left-before      and nothing is displaced;  Merge-join      merges of which one is above the other are joined
-use Rattle.std.proofs.Common.{◌≡◌, ◌≢◌, ◌⊎◌, List, [], ◌++◌, refl, subst₂, inl, inr, append-nil, Ordering, Less, Equal, Greater}
-use Rattle.std.specs.Cmp.{IsTotalOrder}
-use Rattle.litemap_store.specs.Last.{In, NoneEqual}
-use Rattle.litemap_store.specs.Merge.{Apart, IsMerged, Merge, left}
-use Rattle.litemap_store.specs.Pairs.{Rising}
+use Rattle.litemap_store.proofs.Names.{[], ◌++◌, ◌≡◌, ◌≢◌, ◌⊎◌, Apart, append-nil, Equal, Greater, In, inl, inr, IsMerged}
+use Rattle.litemap_store.proofs.Names.{IsTotalOrder, left, Less, List, Merge, NoneEqual, Ordering, refl, Rising, subst₂}
 use Rattle.litemap_store.proofs.Lists.Joined.{Rising-from_Rises}
 use Rattle.litemap_store.proofs.Last.KeepLast.{rising_across}
 use Rattle.litemap_store.proofs.Lists.Membership.{In-left, In-right, In-cases, each, from_each}

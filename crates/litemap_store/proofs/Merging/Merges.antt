@@ -1,15 +1,7 @@
 -- What a merge has, what it displaces, and how merges are joined.
 --     left_none, none_from_left      nothing is displaced if no key is common;  keys_of_merge, Merge-unique      what a merge has
 --     Merge-put, left-put      one more pair of B;  at-merged      what a lookup finds among the merged pairs
-use Rattle.std.proofs.Common.{◌≡◌, ◌⊎◌, ◌≢◌, ◌↔◌, List, [], ◌∷◌, ◌++◌, Option, Some, None, refl, sym, ap, ◌∙◌, subst, inl, inr, Ordering, Equal, option_map}
-use Rattle.std.specs.List.{AllByRecursion, cons_option}
-use Rattle.std.specs.Cmp.{IsTotalOrder}
-use Rattle.std.proofs.lemmas.Cmp.{tied_back}
-use Rattle.std.proofs.lemmas.List.Elements.{filter_map-append}
-use Rattle.litemap_store.specs.Last.{In, NoneEqual}
-use Rattle.litemap_store.specs.Laws.{HasKey}
-use Rattle.litemap_store.specs.Merge.{IsMerged, Merge, left}
-use Rattle.litemap_store.specs.Pairs.{BelowAll, Rising, above, at, below, key_or, put}
+use Rattle.litemap_store.proofs.Names.{[], ◌++◌, ◌↔◌, ◌∙◌, ◌∷◌, ◌≡◌, ◌≢◌, ◌⊎◌, above, AllByRecursion, ap, at, below, BelowAll, cons_option, Equal, filter_map-append, HasKey, In, inl, inr, IsMerged, IsTotalOrder, key_or, left, List, Merge, None, NoneEqual, Option, option_map, Ordering, put, refl, Rising, Some, subst, sym, tied_back}
 use Rattle.litemap_store.proofs.Callers.LastLookups.{at-Rising}
 use Rattle.litemap_store.proofs.Last.Pairs.{in_put, none_from_at, put_has, some_equal, same_rising}
 use Rattle.litemap_store.proofs.Lists.Membership.{In-left, In-right, In-cases, each, from_each}

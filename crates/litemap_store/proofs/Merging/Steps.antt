@@ -1,14 +1,6 @@
 -- One pair after the other is merged.
 --     MergedUpTo, MergedUpTo-none, MergedUpTo-more, MergedUpTo-all      what is merged of B
-use Rattle.std.proofs.Common.{◌≡◌, suc, ◌+◌, ◌*◌, ◌≤◌, arith, List, [], ◌∷◌, ◌++◌, length, Option, Some, None, option_map, inl, refl, sym, ap, ◌∙◌, subst, append-nil, append_assoc, length-append, Ordering}
-use Rattle.std.proofs.Math.Nat.{suc-mul, zero-mul}
-use Rattle.std.specs.Cmp.{IsTotalOrder}
-use Rattle.std.specs.List.{cons_option}
-use Rattle.litemap_store.specs.Counts.{RisesByAtMost, digits, digits-mono}
-use Rattle.litemap_store.specs.declared.count.Count.{Count}
-use Rattle.litemap_store.specs.Last.{NoneEqual}
-use Rattle.litemap_store.specs.Merge.{Merge, left}
-use Rattle.litemap_store.specs.Pairs.{Rising, at, put}
+use Rattle.litemap_store.proofs.Names.{[], ◌*◌, ◌++◌, ◌+◌, ◌∙◌, ◌∷◌, ◌≡◌, ◌≤◌, ap, append-nil, append_assoc, arith, at, cons_option, Count, digits, digits-mono, inl, IsTotalOrder, left, length, length-append, List, Merge, None, NoneEqual, Option, option_map, Ordering, put, refl, RisesByAtMost, Rising, Some, subst, suc, suc-mul, sym, zero-mul}
 use Rattle.litemap_store.proofs.Stores.Counting.{in_turn, not_asked}
 use Rattle.litemap_store.proofs.Last.KeepLast.{rising_across}
 use Rattle.litemap_store.proofs.Callers.Lookups.{length-put_absent, length-put_present}

@@ -1,13 +1,7 @@
 -- Walking two ascending lists from their first pairs.
 --     lower_none, lower_new, lower_old, lower_from_cmp      which list has the lower first key
 --     walk_old, walk_new, walk_both      what is left to merge if its pair is taken
-use Rattle.std.proofs.Common.{◌≡◌, arith, List, [], ◌∷◌, ◌++◌, append_assoc, length, Some, None, option_map, slice_get, inl, inr, refl, sym, ap, ◌∙◌, subst, Ordering, Less, Equal, Greater}
-use Rattle.std.specs.Cmp.{IsTotalOrder}
-use Rattle.std.specs.List.{cons_option}
-use Rattle.litemap_store.specs.Last.{In}
-use Rattle.litemap_store.specs.Merge.{Merge, left}
-use Rattle.litemap_store.specs.Pairs.{BelowAll, Rising, at}
-use Rattle.litemap_store.specs.Walked.{IsLowerFirst, IsTakenFirst}
+use Rattle.litemap_store.proofs.Names.{[], ◌++◌, ◌∙◌, ◌∷◌, ◌≡◌, ap, append_assoc, arith, at, BelowAll, cons_option, Equal, Greater, In, inl, inr, IsLowerFirst, IsTakenFirst, IsTotalOrder, left, length, Less, List, Merge, None, option_map, Ordering, refl, Rising, slice_get, Some, subst, sym}
 use Rattle.litemap_store.proofs.Lists.Joined.{below_all, empty_from_first, first_split}
 use Rattle.litemap_store.proofs.Lists.Membership.{In-cases, each}
 use Rattle.litemap_store.proofs.Merging.Down.{Merge-one, left-same}

@@ -4,17 +4,7 @@
 --     Seen ord l hit low left, Seen-next, left_next      the same for the search that notes a hit and the number of indices left
 --     takes, takes_next      from `Callable`: the closure may be called on a key of the list; each call uses up one of n
 --     next      the same of `Shape`, and what the closure returns
-use Rattle.std.proofs.Common.{◌≡◌, ◌≢◌, ℕ, zero, suc, ◌+◌, ◌-◌, ◌/◌, ◌<◌, ◌≤◌, Bool, true, false, cond, List, [], ◌∷◌, length, Some, Ok, Err, slice_get, slice_index_or, Bor, refl, sym, ap, ◌∙◌, subst, arith, inl, inr}
-use denote.Param.Members.{Mut}
-use Rattle.std.specs.Fn.{CalledAt, TakesAt}
-use Rattle.std.specs.declared.cmp.Ordering.{Ordering}
-use Rattle.std.specs.declared.cmp.Ordering.TheVariants.{Less, Equal, Greater}
-use Rattle.std.specs.Ordering.{is_eq, is_lt, ordering_index}
-use Rattle.std.specs.List.{AllWithin, Any, filter}
-use Rattle.std.proofs.lemmas.Bool.{cases_lt}
-use Rattle.std.proofs.lemmas.Option.{get_or_from_slice_get, slice_get_within}
-use Rattle.litemap_store.specs.Counts.{digits, digits-halved}
-use Rattle.litemap_store.specs.Search.{Ascends, Callable, Finds, Shape}
+use Rattle.litemap_store.proofs.Names.{[], ℕ, ◌+◌, ◌-◌, ◌/◌, ◌<◌, ◌∙◌, ◌∷◌, ◌≡◌, ◌≢◌, ◌≤◌, AllWithin, Any, ap, arith, Ascends, Bool, Bor, Callable, CalledAt, cases_lt, cond, digits, digits-halved, Equal, Err, false, filter, Finds, get_or_from_slice_get, Greater, inl, inr, is_eq, is_lt, length, Less, List, Mut, Ok, Ordering, ordering_index, refl, Shape, slice_get, slice_get_within, slice_index_or, Some, subst, suc, sym, TakesAt, true, zero}
 
 top : (o : Ordering) → 2 ≤ ordering_index o → o ≡ Greater
 top Less h = absurd (omega arith)

@@ -2,13 +2,8 @@
 -- each lemma gives a `Shape`, for the `at` of `Found`.
 --     shape_counted      by a fact of the closure and of how many calls are left;  shape_kept      however many are left
 --     shape_steady      if a call leaves the closure as it is
-use Rattle.std.proofs.Common.{◌≡◌, ℕ, zero, suc, ◌≤◌, List, [], ◌∷◌, length, refl, sym, subst, arith}
-use Rattle.std.specs.declared.cmp.Ordering.{Ordering}
-use Rattle.std.specs.List.{Any}
-use Rattle.std.specs.Fn.{Called}
-use Rattle.litemap_store.specs.Search.{AnswersEach, Ascends, Shape}
-use denote.Param.Members.{Mut}
-use denote.Ref.{Bor}
+use Rattle.litemap_store.proofs.Names.{[], ℕ, ◌∷◌, ◌≡◌, ◌≤◌, AnswersEach, Any, arith, Ascends, Bor, Called, length, List, Mut}
+use Rattle.litemap_store.proofs.Names.{Ordering, refl, Shape, subst, suc, sym, zero}
 
 module _ {F K V : Type 0} (g : Mut F (Bor K × Unit {0}) Ordering) (l : List (K × V)) (ord : K → Ordering) where
   -- f may be called on the key p, returns what ord says of it, and has the fact `Then` afterwards

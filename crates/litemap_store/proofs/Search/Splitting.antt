@@ -2,19 +2,7 @@
 --     Ascends-by_query      how keys compare with a query ascends over an ascending list
 --     Splits-from_Finds      what such a search finds splits the list
 --     index_of-, there-from_Splits      and is the query's index, at which its pair is;  Rising-put, Rising-remove, ..      what the calls leave ascends
-use Rattle.std.proofs.Common.{◌≡◌, ◌≢◌, inl, inr, ℕ, zero, suc, ◌<◌, ◌≤◌, Bool, true, false, cond, List, [], ◌∷◌, ◌++◌, length, filter, Some, None, Result, Ok, Err, IfOk, slice_get, get_or, refl, sym, ap, ◌∙◌, subst, arith}
-use Rattle.std.proofs.lemmas.Cmp.{alike_right, tied_itself}
-use Rattle.std.proofs.lemmas.List.Elements.{recursion_from_All}
-use Rattle.std.specs.declared.cmp.Ordering.{Ordering}
-use Rattle.std.specs.declared.cmp.Ordering.TheVariants.{Less, Equal, Greater}
-use Rattle.std.specs.Ordering.{is_eq, is_gt, is_lt, ordering_index, ordering_reverse}
-use Rattle.std.specs.Cmp.{IsTotalOrder}
-use Rattle.std.specs.List.{AllByRecursion, cons_option, remove}
-use Rattle.litemap_store.specs.Last.{In}
-use Rattle.litemap_store.specs.Pairs.{BelowAll, Rising, below, above, at, put, key_or, index_of, set_value}
-use Rattle.litemap_store.specs.Queries.{OneSide}
-use Rattle.litemap_store.specs.Search.{Ascends, Finds}
-use Rattle.litemap_store.specs.Splits.{IsFoundAt, Splits}
+use Rattle.litemap_store.proofs.Names.{[], ℕ, ◌++◌, ◌<◌, ◌∙◌, ◌∷◌, ◌≡◌, ◌≢◌, ◌≤◌, above, alike_right, AllByRecursion, ap, arith, Ascends, at, below, BelowAll, Bool, cond, cons_option, Equal, Err, false, filter, Finds, get_or, Greater, IfOk, In, index_of, inl, inr, is_eq, is_gt, is_lt, IsFoundAt, IsTotalOrder, key_or, length, Less, List, None, Ok, OneSide, Ordering, ordering_index, ordering_reverse, put, recursion_from_All, refl, remove, Result, Rising, set_value, slice_get, Some, Splits, subst, suc, sym, tied_itself, true, zero}
 use Rattle.litemap_store.proofs.Lists.Membership.{In-from_filter, each, from_each}
 use Rattle.litemap_store.proofs.Lists.Seams.{each-set_value, found_there, set_value-suc}
 use Rattle.litemap_store.proofs.Lists.Places.{AllPairs-from_Rising}

@@ -1,8 +1,5 @@
 -- By how much several calls raise a count.
-use Rattle.std.proofs.Common.{ℕ, ◌+◌, ◌≤◌, Result, Ok, Err, refl, ◌∙◌, arith}
-use Rattle.std.specs.Result.{OnErr}
-use Rattle.litemap_store.specs.declared.count.Count.{Count}
-use Rattle.litemap_store.specs.Counts.{RisesByAtMost}
+use Rattle.litemap_store.proofs.Names.{ℕ, ◌+◌, ◌∙◌, ◌≤◌, arith, Count, Err, Ok, OnErr, refl, Result, RisesByAtMost}
 
 -- a count through which nothing was compared
 pub not_asked : (c : Count) → RisesByAtMost 0 c c

@@ -1,21 +1,9 @@
 -- What a closure keeps of a list of pairs.
 --     Kept-none, Kept-more      from one pair to the next;  Moved, Moved_if      what a pair that moves to the front leaves
 --     KeptSoFar-takes, -yes, -no, Kept-all      the steps of a loop that brings pairs to the front;  Rising-from_Kept      what is kept of an ascending list ascends
-use Rattle.std.proofs.Common.{◌≡◌, ℕ, suc, ◌+◌, ◌<◌, ◌≤◌, Bool, true, false, cond, List, [], ◌∷◌, ◌++◌, length, take, drop, slice_get, slice_set, swap, get_or, Some, append_assoc, append-nil, inl, inr, refl, sym, ap, ◌∙◌, subst, arith}
-use Rattle.std.proofs.lemmas.List.{drop_all, take-set-le, take_more}
-use Rattle.std.proofs.lemmas.List.Edits.{swap_is}
-use Rattle.std.proofs.lemmas.Bool.{cases_lt}
-use Rattle.std.proofs.lemmas.Option.{get_or_from_slice_get, slice_get_within}
-use mathlib.Core.Bool.{true≢false}
-use denote.Param.Members.{Mut}
-use denote.Ref.{Bor}
-use Rattle.std.specs.declared.cmp.Ordering.{Ordering}
-use Rattle.std.specs.declared.cmp.Ordering.TheVariants.{Less}
-use Rattle.std.specs.List.{AllByRecursion, items_where_true}
-use Rattle.litemap_store.specs.Pairs.{Rising}
+use Rattle.litemap_store.proofs.Names.{[], ℕ, ◌++◌, ◌+◌, ◌<◌, ◌∙◌, ◌∷◌, ◌≡◌, ◌≤◌, AllByRecursion, ap, append-nil, append_assoc, arith, Bool, Bor, CallableOnEach, CalledOnPair, cases_lt, cond, drop, drop_all, false, get_or, get_or_from_slice_get, inl, inr, items_where_true, Kept, KeptSoFar, length, Less, List, Mut, Ordering, refl, Rising, slice_get, slice_get_within, slice_set, Some, subst, suc, swap, swap_is, sym, take, take-set-le, take_more, TakesPair, true, true≢false}
 use Rattle.litemap_store.proofs.Last.KeepLast.{drop-swap, take-swap}
 use Rattle.litemap_store.proofs.Lists.Places.{drop_at}
-use Rattle.litemap_store.specs.Retain.{CallableOnEach, CalledOnPair, Kept, KeptSoFar, TakesPair}
 
 module _ {X : Type 0} where
   -- L' has what is after index i of L and before index k, and x there, if it stays

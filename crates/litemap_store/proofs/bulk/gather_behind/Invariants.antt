@@ -1,4 +1,4 @@
-use Rattle.std.proofs.Common.{◌≡◌, ◌++◌}
+use Rattle.litemap_store.proofs.Names.{◌++◌, ◌≡◌}
 use Rattle.litemap_store.proofs.bulk.gather_behind.Given as goal
 
 abbrev pub invariant-loop-item : goal.invariant-loop-item

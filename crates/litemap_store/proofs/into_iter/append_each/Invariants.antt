@@ -1,4 +1,4 @@
-use Rattle.std.proofs.Common.{◌≡◌, ◌++◌, ◌≤◌, length}
+use Rattle.litemap_store.proofs.Names.{◌++◌, ◌≡◌, ◌≤◌, length}
 use Rattle.litemap_store.proofs.into_iter.append_each.Given as goal
 
 abbrev pub invariant-loop-key : goal.invariant-loop-key

@@ -1,18 +1,7 @@
-use Rattle.std.proofs.Common.{◌≡◌, ◌⊎◌, ◌≢◌, ℕ, ◌<◌, ◌≤◌, Bool, false, List, [], Result, Ok, Err, length, min, sym, ap, ◌∙◌, refl, inl, inr, arith}
-use Rattle.std.proofs.lemmas.Bool.{true≢false}
-use Rattle.std.proofs.lemmas.Result.{IfOk-weaker}
-use Rattle.std.specs.Bool.{IsTrue}
-use Rattle.std.specs.Result.{IsOk, OnErr}
-use Rattle.litemap_store.specs.Counts.{RisesByAtMost}
-use Rattle.litemap_store.specs.declared.count.Count.{Count}
-use Rattle.litemap_store.proofs.Stores.Counting.{at_most, in_turn}
+use Rattle.litemap_store.proofs.Names.{[], ℕ, ◌<◌, ◌∙◌, ◌≡◌, ◌≢◌, ◌≤◌, ◌⊎◌, ap, arith, Bool, Err, false, IfOk-weaker, inl, inr, IsOk, IsTrue, length, List, Ok, OnErr, refl, Result, sym, true≢false}
 use Rattle.litemap_store.proofs.Lists.Joined.{not_above}
 use Rattle.litemap_store.proofs.Merging.Joins.{Merge-before, Merge-behind, left-before, left-behind, not_apart, one_empty}
 use Rattle.litemap_store.proofs.merge.extend_from_store.Goals as goal
-
--- the ends are compared once or twice
-both_ends : {c d e : Count} (a b : ℕ) → RisesByAtMost (min 1 a) c d → RisesByAtMost (min 1 b) d e → RisesByAtMost 2 c e
-both_ends a b r s = in_turn (min 1 a) (min 1 b) 2 (omega arith) r s
 
 -- what a test that failed does not say
 denied : {P : Type 0} (r : Bool) → (P → IsTrue r) → r ≡ false → P → ⊥
@@ -31,66 +20,54 @@ there_is_room : {a b m n : ℕ} → a ≤ m → b ≤ n → (m < a) ⊎ (n < b) 
 there_is_room r s (inl full) = omega arith
 there_is_room r s (inr full) = omega arith
 
-pub returns-then-lies_below : goal.returns-then-lies_below
-returns-then-lies_below g c =
+pub returns-then-lies_below-clause-merged : goal.returns-then-lies_below-clause-merged
+returns-then-lies_below-clause-merged g c =
     let up = c.lies_below.ensures.below.0 c.if-lies_below.true in
     record {
-      merged = record {
-        merges = record {
-          merged = IfOk-weaker c.append_other.result _ _ (λ rest e. rw e.1 (Merge-behind g.K.Ord.cmp g.met.K.Ord.total _ _ c.requires.store c.requires.other up)) c.append_other.ensures.joined;
-          none = IfOk-weaker c.append_other.result _ _ (λ rest e. (λ _. left-behind g.K.Ord.cmp g.met.K.Ord.total _ _ c.requires.store c.requires.other up, λ _. rw e.0 refl)) c.append_other.ensures.joined;
-          left = IfOk-weaker c.append_other.result _ _ (λ rest e. rw e.0 tt) c.append_other.ensures.joined;
-          refused = c.append_other.ensures.refused;
-          back = c.append_other.ensures.back;
-        };
-        succeeds = λ e. not_refused c.append_other.result c.append_other.ensures.full (no_reason e);
-        behind = λ h r. not_refused c.append_other.result c.append_other.ensures.full (λ f. let full = f.1 in omega arith);
-        in_front = λ h r s. not_refused c.append_other.result c.append_other.ensures.full (λ f. let full = f.1 in omega arith);
-        unchanged = c.append_other.ensures.unchanged;
-        taken = c.append_other.ensures.taken;
+      merges = record {
+        merged = IfOk-weaker c.append_other.result _ _ (λ rest e. rw e.1 (Merge-behind g.K.Ord.cmp g.met.K.Ord.total _ _ c.requires.store c.requires.other up)) c.append_other.ensures.joined;
+        none = IfOk-weaker c.append_other.result _ _ (λ rest e. (λ _. left-behind g.K.Ord.cmp g.met.K.Ord.total _ _ c.requires.store c.requires.other up, λ _. rw e.0 refl)) c.append_other.ensures.joined;
+        left = IfOk-weaker c.append_other.result _ _ (λ rest e. rw e.0 tt) c.append_other.ensures.joined;
+        refused = c.append_other.ensures.refused;
+        back = c.append_other.ensures.back;
       };
-      uncounted = c.lies_below.ensures.uncounted;
-      apart = λ apart. at_most (min 1 _) 2 (omega arith) c.lies_below.ensures.cost;
-      cost = at_most (min 1 _) _ (omega arith) c.lies_below.ensures.cost;
+      succeeds = λ e. not_refused c.append_other.result c.append_other.ensures.full (no_reason e);
+      behind = λ h r. not_refused c.append_other.result c.append_other.ensures.full (λ f. let full = f.1 in omega arith);
+      in_front = λ h r s. not_refused c.append_other.result c.append_other.ensures.full (λ f. let full = f.1 in omega arith);
+      unchanged = c.append_other.ensures.unchanged;
+      taken = c.append_other.ensures.taken;
     }
 
-pub returns-then-lies_below-2 : goal.returns-then-lies_below-2
-returns-then-lies_below-2 g c =
+pub returns-then-lies_below-2-clause-merged : goal.returns-then-lies_below-2-clause-merged
+returns-then-lies_below-2-clause-merged g c =
     let up = c.lies_below-2.ensures.below.0 c.if-lies_below-2.true in
     let some = one_empty g.K.Ord.cmp g.met.K.Ord.total _ _ c.requires.store c.requires.other (denied _ c.lies_below.ensures.below.1 c.if-lies_below.false) in
     record {
-      merged = record {
-        merges = record {
-          merged = IfOk-weaker c.prepend_other.result _ _ (λ rest e. rw e.1 (Merge-before g.K.Ord.cmp g.met.K.Ord.total _ _ c.requires.store c.requires.other up)) c.prepend_other.ensures.joined;
-          none = IfOk-weaker c.prepend_other.result _ _ (λ rest e. (λ _. left-before g.K.Ord.cmp g.met.K.Ord.total _ _ c.requires.store c.requires.other up, λ _. rw e.0 refl)) c.prepend_other.ensures.joined;
-          left = IfOk-weaker c.prepend_other.result _ _ (λ rest e. rw e.0 tt) c.prepend_other.ensures.joined;
-          refused = c.prepend_other.ensures.refused;
-          back = c.prepend_other.ensures.back;
-        };
-        succeeds = λ e. absurd (some e);
-        behind = λ h r. absurd (not_above g.K.Ord.cmp _ _ _ c.requires.store c.lies_below.ensures.below.1 c.if-lies_below.false h);
-        in_front = λ h r s. not_refused c.prepend_other.result c.prepend_other.ensures.full (there_is_room r s);
-        unchanged = λ e. absurd (some (inr e));
-        taken = λ e n. absurd (some (inl e));
+      merges = record {
+        merged = IfOk-weaker c.prepend_other.result _ _ (λ rest e. rw e.1 (Merge-before g.K.Ord.cmp g.met.K.Ord.total _ _ c.requires.store c.requires.other up)) c.prepend_other.ensures.joined;
+        none = IfOk-weaker c.prepend_other.result _ _ (λ rest e. (λ _. left-before g.K.Ord.cmp g.met.K.Ord.total _ _ c.requires.store c.requires.other up, λ _. rw e.0 refl)) c.prepend_other.ensures.joined;
+        left = IfOk-weaker c.prepend_other.result _ _ (λ rest e. rw e.0 tt) c.prepend_other.ensures.joined;
+        refused = c.prepend_other.ensures.refused;
+        back = c.prepend_other.ensures.back;
       };
-      uncounted = λ e. absurd (some e);
-      apart = λ apart. both_ends _ _ c.lies_below.ensures.cost c.lies_below-2.ensures.cost;
-      cost = at_most 2 _ (omega arith) (both_ends _ _ c.lies_below.ensures.cost c.lies_below-2.ensures.cost);
+      succeeds = λ e. absurd (some e);
+      behind = λ h r. absurd (not_above g.K.Ord.cmp _ _ _ c.requires.store c.lies_below.ensures.below.1 c.if-lies_below.false h);
+      in_front = λ h r s. not_refused c.prepend_other.result c.prepend_other.ensures.full (there_is_room r s);
+      unchanged = λ e. absurd (some (inr e));
+      taken = λ e n. absurd (some (inl e));
     }
 
-pub returns : goal.returns
-returns g c =
+pub returns-clause-merged : goal.returns-clause-merged
+returns-clause-merged g c =
     let some = one_empty g.K.Ord.cmp g.met.K.Ord.total _ _ c.requires.store c.requires.other (denied _ c.lies_below.ensures.below.1 c.if-lies_below.false) in
     record {
-      merged = record {
-        merges = c.merge_mixed.ensures.merges;
-        succeeds = λ e. absurd (some e);
-        behind = λ h r. absurd (not_above g.K.Ord.cmp _ _ _ c.requires.store c.lies_below.ensures.below.1 c.if-lies_below.false h);
-        in_front = λ h r s. absurd (not_above g.K.Ord.cmp _ _ _ c.requires.other c.lies_below-2.ensures.below.1 c.if-lies_below-2.false h);
-        unchanged = λ e. absurd (some (inr e));
-        taken = λ e n. absurd (some (inl e));
-      };
-      uncounted = λ e. absurd (some e);
-      apart = λ apart. absurd (not_apart g.K.Ord.cmp g.met.K.Ord.total _ _ c.requires.store c.requires.other (denied _ c.lies_below.ensures.below.1 c.if-lies_below.false) (denied _ c.lies_below-2.ensures.below.1 c.if-lies_below-2.false) apart);
-      cost = in_turn 2 _ _ (omega arith) (both_ends _ _ c.lies_below.ensures.cost c.lies_below-2.ensures.cost) c.merge_mixed.ensures.cost;
+      merges = c.merge_mixed.ensures.merges;
+      succeeds = λ e. absurd (some e);
+      behind = λ h r. absurd (not_above g.K.Ord.cmp _ _ _ c.requires.store c.lies_below.ensures.below.1 c.if-lies_below.false h);
+      in_front = λ h r s. absurd (not_above g.K.Ord.cmp _ _ _ c.requires.other c.lies_below-2.ensures.below.1 c.if-lies_below-2.false h);
+      unchanged = λ e. absurd (some (inr e));
+      taken = λ e n. absurd (some (inl e));
     }
+
+pub returns-clause-apart : goal.returns-clause-apart
+returns-clause-apart g c = λ apart. absurd (not_apart g.K.Ord.cmp g.met.K.Ord.total _ _ c.requires.store c.requires.other (denied _ c.lies_below.ensures.below.1 c.if-lies_below.false) (denied _ c.lies_below-2.ensures.below.1 c.if-lies_below-2.false) apart)

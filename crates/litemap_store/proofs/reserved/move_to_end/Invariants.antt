@@ -1,5 +1,4 @@
-use Rattle.std.proofs.Common.{◌≡◌, ◌-◌, ◌<◌, List, length}
-use Rattle.std.specs.List.{insert}
+use Rattle.litemap_store.proofs.Names.{◌-◌, ◌<◌, ◌≡◌, insert, length, List}
 use Rattle.litemap_store.proofs.reserved.move_to_end.Given as goal
 
 abbrev pub invariant-loop-at : goal.invariant-loop-at

@@ -1,7 +1,4 @@
-use Rattle.std.proofs.Common.{◌≡◌, ℕ, suc, ◌+◌, ◌-◌, ◌≤◌, List, ◌++◌, ◌∷◌, [], ap, append_assoc, arith, drop, drop-drop, length, length-append, length-drop, sym, take, take_at, ◌∙◌}
-use Rattle.std.proofs.Math.Seq.{drop-append_seam, take-add}
-use Rattle.std.proofs.lemmas.List.{length-take-le, take-append-drop}
-use Rattle.std.specs.List.{insert}
+use Rattle.litemap_store.proofs.Names.{[], ℕ, ◌++◌, ◌+◌, ◌-◌, ◌∙◌, ◌∷◌, ◌≡◌, ◌≤◌, ap, append_assoc, arith, drop, drop-append_seam, drop-drop, insert, length, length-append, length-drop, length-take-le, List, suc, sym, take, take-add, take-append-drop, take_at}
 use borrow.Rule.Slice.PartMut.{mid_of}
 use Rattle.litemap_store.proofs.reserved.move_up.Goals as goal
 

@@ -1,4 +1,4 @@
-use Rattle.std.proofs.Common.{◌≡◌, ◌++◌, ◌≤◌, length, reverse, vec_len}
+use Rattle.litemap_store.proofs.Names.{◌++◌, ◌≡◌, ◌≤◌, length, reverse, vec_len}
 use Rattle.litemap_store.proofs.reserved.put_up.Given as goal
 
 abbrev pub invariant-loop-key : goal.invariant-loop-key

@@ -1,7 +1,4 @@
-use Rattle.std.proofs.Common.{◌≡◌, ℕ, suc, ◌+◌, ◌<◌, List, ◌++◌, ◌∷◌, [], ap, arith, drop, get_or, length, sym, take, take_all, take_at, ◌∙◌}
-use Rattle.std.proofs.Math.Seq.{drop-append_seam}
-use Rattle.std.proofs.lemmas.List.{drop_all, drop_more, length-take-le, same_from_push, take-append-drop}
-use Rattle.std.specs.List.{insert, remove}
+use Rattle.litemap_store.proofs.Names.{[], ℕ, ◌++◌, ◌+◌, ◌<◌, ◌∙◌, ◌∷◌, ◌≡◌, ap, arith, drop, drop-append_seam, drop_all, drop_more, get_or, insert, length, length-take-le, List, remove, same_from_push, suc, sym, take, take-append-drop, take_all, take_at}
 use Rattle.litemap_store.proofs.reserved.remove_at.Given.{Over}
 use Rattle.litemap_store.proofs.reserved.remove_at.Goals as goal
 use Rattle.litemap_store.proofs.reserved.remove_at.Goals.{After-take_last}

@@ -1,4 +1,4 @@
-use Rattle.std.proofs.Common.{◌≡◌, ◌+◌, ◌≤◌, ◌++◌, drop, length, reverse, take, vec_capacity}
+use Rattle.litemap_store.proofs.Names.{◌++◌, ◌+◌, ◌≡◌, ◌≤◌, drop, length, reverse, take, vec_capacity}
 use Rattle.litemap_store.proofs.reserved.take_from.Given as goal
 
 abbrev pub invariant-loop-side : goal.invariant-loop-side

@@ -1,4 +1,4 @@
-use Rattle.std.proofs.Common.{◌∷◌, ◌++◌, [], arith, sym, ap, ◌∙◌}
+use Rattle.litemap_store.proofs.Names.{[], ◌++◌, ◌∙◌, ◌∷◌, ap, arith, sym}
 use Rattle.litemap_store.proofs.Last.Taken.{taken_last}
 use Rattle.litemap_store.proofs.reserved.take_last.Goals as goal
 

@@ -1,5 +1,4 @@
-use Rattle.std.proofs.Common.{refl, sym, ◌∙◌, false, true, arith}
-use mathlib.Core.Bool.{true≢false}
+use Rattle.litemap_store.proofs.Names.{◌∙◌, arith, false, refl, sym, true, true≢false}
 use Rattle.litemap_store.proofs.Stores.Retaining.{KeptSoFar-no, KeptSoFar-takes, KeptSoFar-yes, Moved_if}
 use Rattle.litemap_store.proofs.retain.keep_in_place.Goals as goal
 use Rattle.litemap_store.proofs.retain.keep_in_place.Goals.{then-is_kept+else-kept-index, else-is_kept}

@@ -1,5 +1,4 @@
-use Rattle.std.proofs.Common.{◌≡◌, length}
-use Rattle.litemap_store.specs.Retain.{KeptSoFar}
+use Rattle.litemap_store.proofs.Names.{◌≡◌, KeptSoFar, length}
 use Rattle.litemap_store.proofs.retain.keep_in_place.Given as goal
 
 abbrev pub invariant-loop-index : goal.invariant-loop-index

@@ -1,5 +1,4 @@
-use Rattle.std.proofs.Common.{ap, length, refl, ◌∙◌, true, arith}
-use Rattle.std.proofs.lemmas.List.Edits.{length-swap}
+use Rattle.litemap_store.proofs.Names.{◌∙◌, ap, arith, length, length-swap, refl, true}
 use Rattle.litemap_store.proofs.Stores.Retaining.{Kept-all, KeptSoFar-no, KeptSoFar-takes, KeptSoFar-yes, Moved_if}
 use Rattle.litemap_store.proofs.retain.retain.Goals as goal
 use Rattle.litemap_store.proofs.retain.retain.Goals.{then-stays, else-stays}

@@ -1,7 +1,5 @@
-use Rattle.std.proofs.Common.{◌≡◌, ℕ, zero, suc, ◌+◌, ◌/◌, ◌<◌, ◌^◌, arith}
-use Rattle.std.proofs.Math.Nat.{pow-suc}
+use Rattle.litemap_store.proofs.Names.{ℕ, ◌+◌, ◌/◌, ◌<◌, ◌^◌, ◌≡◌, arith, digits, digits-step, digits-zero, pow-suc, suc, zero}
 use lib.Count.{count_leading_zeros}
-use Rattle.litemap_store.specs.Counts.{digits, digits-step, digits-zero}
 use Rattle.litemap_store.proofs.searches.binary_digits.Goals as goal
 
 leading_digits : (k n : ℕ) → n < 2 ^ k → count_leading_zeros k n + digits n ≡ k

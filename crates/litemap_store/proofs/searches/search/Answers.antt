@@ -1,5 +1,4 @@
-use Rattle.std.proofs.Common.{rules}
-use Rattle.litemap_store.specs.Queries.{key_one_side}
+use Rattle.litemap_store.proofs.Names.{key_one_side, rules}
 use Rattle.litemap_store.proofs.Search.Shapes.{shape_steady}
 use Rattle.litemap_store.proofs.Search.Splitting.{Ascends-by_query, Splits-from_Finds}
 use Rattle.litemap_store.proofs.searches.search.Goals as goal

@@ -1,23 +1,7 @@
-use Rattle.std.proofs.Common.{◌≡◌, ◌+◌, ◌≤◌, length, ◌-◌, ◌/◌, arith, refl, sym, ◌∙◌, ap, subst, cond, nat_le}
-use Rattle.std.specs.Ordering.{is_eq, is_lt}
-use Rattle.litemap_store.specs.Counts.{digits, digits-halved}
-use Rattle.litemap_store.specs.Search.{Callable, Shape}
-use Rattle.litemap_store.proofs.Search.Halving.{Seen-whole, Seen-next, Finds-nowhere, hit_next, takes, takes_next, next, left_next, left_after}
+use Rattle.litemap_store.proofs.Names.{◌+◌, ◌-◌, ◌/◌, ◌∙◌, ◌≡◌, ◌≤◌, ap, arith, cond, digits, digits-halved, is_eq, is_lt, length}
+use Rattle.litemap_store.proofs.Names.{nat_le, refl}
+use Rattle.litemap_store.proofs.Search.Halving.{Seen-next, Finds-nowhere, hit_next, takes, takes_next, next, left_next, left_after}
 use Rattle.litemap_store.proofs.slice_search.find.Goals as goal
-
-pub loop-left-init : goal.loop-left-init
-loop-left-init g c =
-    let list = g.S.Keys.pairs c.args.keys.now in
-    let all : length list ≡ c.key_count-left.result = sym c.key_count-left.ensures in
-    record {
-      within = omega arith;
-      hit_within = omega arith;
-      callable = subst (λ n. Callable g.F.FnMut list (digits n) c.args.f) all c.requires;
-      seen = λ ord s. (subst (λ n. Shape g.F.FnMut list ord (digits n) c.args.f) all s, Seen-whole ord list _ (omega arith));
-      same = refl;
-      not_lowered = omega arith;
-      cost = rw (← all) (omega arith);
-    }
 
 pub ask-answer-requires : goal.ask-answer-requires
 ask-answer-requires g c =

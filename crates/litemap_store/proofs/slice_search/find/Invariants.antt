@@ -1,7 +1,4 @@
-use Rattle.std.proofs.Common.{◌≡◌, ◌+◌, ◌≤◌, length}
-use Rattle.std.specs.declared.cmp.Ordering.{Ordering}
-use Rattle.litemap_store.specs.Counts.{digits}
-use Rattle.litemap_store.specs.Search.{Callable, Shape}
+use Rattle.litemap_store.proofs.Names.{◌+◌, ◌≡◌, ◌≤◌, Callable, digits, length, Ordering, Shape}
 use Rattle.litemap_store.proofs.Search.Halving.{Seen}
 use Rattle.litemap_store.proofs.slice_search.find.Given as goal
 

@@ -1,5 +1,4 @@
-use Rattle.std.proofs.Common.{◌-◌, arith, rules}
-use Rattle.std.proofs.lemmas.Grind.{common_steps}
+use Rattle.litemap_store.proofs.Names.{◌-◌, arith, common_steps, rules}
 use Rattle.litemap_store.proofs.Lists.Joined.{adjacent_from_Rising, Rising-from_adjacent}
 use Rattle.litemap_store.proofs.sorted.is_rising.Goals as goal
 

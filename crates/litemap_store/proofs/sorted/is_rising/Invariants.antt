@@ -1,6 +1,4 @@
-use Rattle.std.proofs.Common.{◌≡◌, ◌-◌, length, Less}
-use Rattle.std.specs.List.{AllAdjacentBelow}
-use Rattle.litemap_store.specs.Counts.{RisesByAtMost}
+use Rattle.litemap_store.proofs.Names.{◌-◌, ◌≡◌, AllAdjacentBelow, length, Less, RisesByAtMost}
 use Rattle.litemap_store.proofs.sorted.is_rising.Given as goal
 
 abbrev pub invariant-loop-i : goal.invariant-loop-i

@@ -1,4 +1,4 @@
-use Rattle.std.proofs.Common.{arith, ap, ◌∙◌, swap, sym}
+use Rattle.litemap_store.proofs.Names.{◌∙◌, ap, arith, swap, sym}
 use Rattle.litemap_store.proofs.Last.KeepLast.{passed_over, passed_more}
 use Rattle.litemap_store.proofs.sorted.keep_last.Goals as goal
 use Rattle.litemap_store.proofs.sorted.keep_last.Goals.{then-not-is_eq, else-not-is_eq}

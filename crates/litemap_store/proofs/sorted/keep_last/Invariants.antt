@@ -1,4 +1,4 @@
-use Rattle.std.proofs.Common.{◌<◌, ◌+◌, length}
+use Rattle.litemap_store.proofs.Names.{◌+◌, ◌<◌, length}
 use Rattle.litemap_store.proofs.Last.KeepLast.{KeptLast}
 use Rattle.litemap_store.proofs.sorted.keep_last.Given as goal
 

@@ -1,7 +1,5 @@
-use Rattle.std.proofs.Common.{◌≡◌, ◌+◌, ◌-◌, ◌++◌, ap, length, take, drop, arith, length-drop, subst, ◌∙◌}
-use Rattle.std.proofs.Math.Seq.{drop-append_seam, take-append-add}
-use Rattle.std.proofs.lemmas.List.{take_all, take_at}
-use Rattle.std.proofs.lemmas.Grind.{common_steps}
+use Rattle.litemap_store.proofs.Names.{◌++◌, ◌+◌, ◌-◌, ◌∙◌, ◌≡◌, ap, arith, common_steps, drop, drop-append_seam, length}
+use Rattle.litemap_store.proofs.Names.{length-drop, subst, take, take-append-add, take_all, take_at}
 use Rattle.litemap_store.proofs.Last.Pairs.{Last-rising}
 use Rattle.litemap_store.proofs.Lists.Seams.{take-written_tail}
 use Rattle.litemap_store.proofs.sorted.keep_rising.Given.{Over}

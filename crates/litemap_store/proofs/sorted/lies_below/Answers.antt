@@ -1,4 +1,4 @@
-use Rattle.std.proofs.Common.{◌≡◌, append-nil, sym, ap, ◌∙◌, is_lt, refl}
+use Rattle.litemap_store.proofs.Names.{◌∙◌, ◌≡◌, ap, append-nil, is_lt, refl, sym}
 use Rattle.litemap_store.proofs.Lists.Joined.{Rising-behind, empty_from_last, empty_from_first}
 use Rattle.litemap_store.proofs.Search.Splitting.{less_from_is_lt}
 use Rattle.litemap_store.proofs.sorted.lies_below.Goals as goal

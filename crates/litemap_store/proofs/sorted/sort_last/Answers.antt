@@ -1,5 +1,4 @@
-use Rattle.std.proofs.Common.{rules, is_lt}
-use Rattle.std.proofs.lemmas.List.Sorted.{answers_always, ranks_by}
+use Rattle.litemap_store.proofs.Names.{answers_always, is_lt, ranks_by, rules}
 use Rattle.litemap_store.proofs.Last.Pairs.{Last-same}
 use Rattle.litemap_store.proofs.Last.KeepLast.{last_by_stable}
 use Rattle.litemap_store.proofs.sorted.sort_last.Goals as goal

@@ -1,8 +1,5 @@
-use Rattle.std.proofs.Common.{◌≡◌, ◌+◌, ◌-◌, ◌*◌, ◌≤◌, ◌++◌, ◌∙◌, suc, arith, ap, drop, length, refl, take, vec_len}
-use Rattle.std.proofs.Math.Nat.{suc-mul}
-use Rattle.std.proofs.lemmas.List.{take_at}
-use Rattle.litemap_store.specs.Counts.{digits, digits-mono}
-use Rattle.litemap_store.specs.PutIn.{IsPutIn}
+use Rattle.litemap_store.proofs.Names.{◌*◌, ◌++◌, ◌+◌, ◌-◌, ◌∙◌, ◌≡◌, ◌≤◌, ap, arith, digits, digits-mono, drop, IsPutIn, length}
+use Rattle.litemap_store.proofs.Names.{refl, suc, suc-mul, take, take_at, vec_len}
 use Rattle.litemap_store.proofs.Stores.Counting.{at_most, in_turn, not_asked}
 use Rattle.litemap_store.proofs.Last.Pairs.{Last-rising}
 use Rattle.litemap_store.proofs.Last.OneByOne.{kept_put}

@@ -1,5 +1,4 @@
-use Rattle.std.proofs.Common.{◌-◌, ◌*◌, ◌≤◌, vec_len}
-use Rattle.litemap_store.specs.Counts.{RisesByAtMost, digits}
+use Rattle.litemap_store.proofs.Names.{◌*◌, ◌-◌, ◌≤◌, digits, RisesByAtMost, vec_len}
 use Rattle.litemap_store.proofs.Last.KeepLast.{KeptLast}
 use Rattle.litemap_store.proofs.bulk.few.put_each.Given as goal
 

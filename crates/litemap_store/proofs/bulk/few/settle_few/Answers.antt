@@ -1,6 +1,4 @@
-use Rattle.std.proofs.Common.{drop, subst, take}
-use Rattle.std.proofs.lemmas.List.{take-append-drop}
-use Rattle.litemap_store.specs.Pairs.{Rising}
+use Rattle.litemap_store.proofs.Names.{drop, Rising, subst, take, take-append-drop}
 use Rattle.litemap_store.proofs.Lists.Joined.{not_above}
 use Rattle.litemap_store.proofs.Last.Pairs.{Last-rising}
 use Rattle.litemap_store.proofs.bulk.few.settle_few.Goals as goal

@@ -1,4 +1,4 @@
-use Rattle.std.proofs.Common.{sym, ◌∙◌}
+use Rattle.litemap_store.proofs.Names.{◌∙◌, sym}
 use Rattle.litemap_store.proofs.Last.Taken.{end_from_cmp, end_none, end_new, end_old}
 use Rattle.litemap_store.proofs.bulk.merge.greater_end.Goals as goal
 

@@ -1,6 +1,4 @@
-use Rattle.std.proofs.Common.{arith, subst, ap, sym, ◌∙◌, Some, length, [], ◌≡◌, ◌+◌}
-use Rattle.std.proofs.lemmas.List.{length_push}
-use Rattle.litemap_store.specs.Taken.{IsGreaterEnd}
+use Rattle.litemap_store.proofs.Names.{[], ◌+◌, ◌∙◌, ◌≡◌, ap, arith, IsGreaterEnd, length, length_push, Some, subst, sym}
 use Rattle.litemap_store.proofs.Last.Taken.{reverse_behind, Last-of_none}
 use Rattle.litemap_store.proofs.bulk.merge.take_down.Goals as goal
 

@@ -1,6 +1,4 @@
-use Rattle.std.proofs.Common.{◌≡◌, ◌++◌, ◌≤◌, ◌+◌, length, reverse, List, vec_len, vec_capacity}
-use Rattle.litemap_store.specs.Last.{Last}
-use Rattle.litemap_store.specs.Pairs.{Rising}
+use Rattle.litemap_store.proofs.Names.{◌++◌, ◌+◌, ◌≡◌, ◌≤◌, Last, length, List, reverse, Rising, vec_capacity, vec_len}
 use Rattle.litemap_store.proofs.bulk.merge.take_down.Given as goal
 
 abbrev pub invariant-loop-end : goal.invariant-loop-end

@@ -1,5 +1,4 @@
-use Rattle.std.proofs.Common.{subst, Some}
-use Rattle.litemap_store.specs.Taken.{IsGreaterEnd}
+use Rattle.litemap_store.proofs.Names.{IsGreaterEnd, Some, subst}
 use Rattle.litemap_store.proofs.Last.Taken.{take_old, take_new, take_both}
 use Rattle.litemap_store.proofs.bulk.merge.take_greatest.Goals as goal
 

@@ -1,4 +1,4 @@
-use Rattle.std.proofs.lemmas.Result.{on_ok_weaker}
+use Rattle.litemap_store.proofs.Names.{on_ok_weaker}
 use Rattle.litemap_store.proofs.Lists.Joined.{not_above}
 use Rattle.litemap_store.proofs.Last.Pairs.{Last-join_right, Last-rising}
 use Rattle.litemap_store.proofs.bulk.vector.put_in_vec.Goals as goal

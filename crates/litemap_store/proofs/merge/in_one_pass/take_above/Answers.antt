@@ -1,6 +1,5 @@
-use Rattle.std.proofs.Common.{◌+◌, ◌++◌, ◌∷◌, arith, drop, length-drop, option_map, reverse, sym, ap, ◌∙◌}
-use Rattle.std.specs.List.{cons_option}
-use Rattle.litemap_store.specs.Pairs.{above, key_or}
+use Rattle.litemap_store.proofs.Names.{◌++◌, ◌+◌, ◌∙◌, ◌∷◌, above, ap, arith, cons_option, drop, key_or, length-drop, option_map}
+use Rattle.litemap_store.proofs.Names.{reverse, sym}
 use Rattle.litemap_store.proofs.Merging.Down.{found_drop, length-behind, missing_drop, taken_found}
 use Rattle.litemap_store.proofs.Last.Taken.{reverse_push}
 use Rattle.litemap_store.proofs.merge.in_one_pass.take_above.Goals as goal

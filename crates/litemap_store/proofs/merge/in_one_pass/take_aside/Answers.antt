@@ -1,9 +1,4 @@
-use Rattle.std.proofs.Common.{◌≡◌, ◌+◌, ◌*◌, ◌≤◌, ◌++◌, ◌∷◌, [], arith, eqb-true, length, option_map, reverse, suc, sym, ap, ◌∙◌, subst}
-use Rattle.std.proofs.Math.Nat.{suc-mul}
-use Rattle.std.proofs.lemmas.List.{length_push, nil_from_length}
-use Rattle.litemap_store.specs.Counts.{digits, digits-mono}
-use Rattle.litemap_store.specs.Merge.{Merge}
-use Rattle.litemap_store.specs.Pairs.{Rising, above, at, below, key_or}
+use Rattle.litemap_store.proofs.Names.{[], ◌*◌, ◌++◌, ◌+◌, ◌∙◌, ◌∷◌, ◌≡◌, ◌≤◌, above, ap, arith, at, below, digits, digits-mono, eqb-true, key_or, length, length_push, Merge, nil_from_length, option_map, reverse, Rising, subst, suc, suc-mul, sym}
 use Rattle.litemap_store.proofs.Merging.Down.{Merge-down, left-down, length-behind, length-option, length-parts}
 use Rattle.litemap_store.proofs.Merging.Joins.{Merge-none}
 use Rattle.litemap_store.proofs.Search.Splitting.{Rising-filter}

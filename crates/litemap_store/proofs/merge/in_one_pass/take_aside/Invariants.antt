@@ -1,7 +1,4 @@
-use Rattle.std.proofs.Common.{◌≡◌, ◌+◌, ◌*◌, ◌≤◌, ◌++◌, List, length, reverse, vec_capacity}
-use Rattle.litemap_store.specs.Counts.{digits}
-use Rattle.litemap_store.specs.Merge.{Merge, left}
-use Rattle.litemap_store.specs.Pairs.{Rising}
+use Rattle.litemap_store.proofs.Names.{◌*◌, ◌++◌, ◌+◌, ◌≡◌, ◌≤◌, digits, left, length, List, Merge, reverse, Rising, vec_capacity}
 use Rattle.litemap_store.proofs.merge.in_one_pass.take_aside.Given as goal
 
 abbrev pub invariant-loop-other : goal.invariant-loop-other

@@ -1,4 +1,4 @@
-use Rattle.std.proofs.Common.{sym}
+use Rattle.litemap_store.proofs.Names.{sym}
 use Rattle.litemap_store.proofs.Merging.Walking.{lower_from_cmp, lower_new, lower_none, lower_old}
 use Rattle.litemap_store.proofs.merge.side_by_side.lower_first.Goals as goal
 

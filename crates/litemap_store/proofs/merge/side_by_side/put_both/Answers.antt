@@ -1,5 +1,4 @@
-use Rattle.std.proofs.Common.{◌≡◌, ◌∷◌, ◌++◌, [], append_assoc, append-nil, arith, refl, sym, ap, ◌∙◌, subst}
-use Rattle.litemap_store.specs.Merge.{Merge, left}
+use Rattle.litemap_store.proofs.Names.{[], ◌++◌, ◌∙◌, ◌∷◌, append-nil, append_assoc, arith, Merge, subst, sym}
 use Rattle.litemap_store.proofs.Merging.Joins.{Merge-none}
 use Rattle.litemap_store.proofs.merge.side_by_side.put_both.Goals as goal
 
@@ -30,9 +29,3 @@ returns-clause-merged g c =
     let end = c.in_default.ensures.lower in
     let kept : Merge g.K.Ord.cmp c.loop-order.olds c.loop-order.news [] = rw (end.0, end.1) (Merge-none g.K.Ord.cmp [] tt) in
     rw append-nil at (c.loop-order.invariant.merged [] kept)
-
-pub returns-clause-left : goal.returns-clause-left
-returns-clause-left g c =
-    let end = c.in_default.ensures.lower in let rest = g.S.Store.pairs c.loop-order.rest in
-    let none : left g.K.Ord.cmp c.loop-order.olds c.loop-order.news ≡ [] = rw end.1 refl in
-    sym (append-nil rest) ∙ ap (λ W. rest ++ W) (sym none) ∙ c.loop-order.invariant.left_over

@@ -1,6 +1,4 @@
-use Rattle.std.proofs.Common.{◌≡◌, ◌++◌, ◌≤◌, ◌+◌, length, List}
-use Rattle.litemap_store.specs.Merge.{Merge, left}
-use Rattle.litemap_store.specs.Pairs.{Rising}
+use Rattle.litemap_store.proofs.Names.{◌++◌, ◌+◌, ◌≡◌, ◌≤◌, left, length, List, Merge, Rising}
 use Rattle.litemap_store.proofs.merge.side_by_side.put_both.Given as goal
 
 abbrev pub invariant-loop-order : goal.invariant-loop-order

@@ -1,5 +1,4 @@
-use Rattle.std.proofs.Common.{subst, Some}
-use Rattle.litemap_store.specs.Walked.{IsLowerFirst}
+use Rattle.litemap_store.proofs.Names.{IsLowerFirst, Some, subst}
 use Rattle.litemap_store.proofs.Merging.Walking.{walk_both, walk_new, walk_old}
 use Rattle.litemap_store.proofs.merge.side_by_side.take_lower.Goals as goal
 

@@ -1,5 +1,4 @@
-use Rattle.std.proofs.Common.{refl}
-use Rattle.std.proofs.lemmas.Option.{slice_get_read}
+use Rattle.litemap_store.proofs.Names.{refl, slice_get_read}
 use Rattle.litemap_store.proofs.slice_impl.SliceStoreKeys.key_at.Goals as goal
 
 pub returns : goal.returns

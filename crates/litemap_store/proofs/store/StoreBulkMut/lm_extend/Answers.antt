@@ -1,6 +1,4 @@
-use Rattle.std.proofs.Common.{inr}
-use Rattle.std.proofs.lemmas.Result.{on_ok_weaker}
-use Rattle.litemap_store.proofs.Stores.Counting.{always_on_err}
+use Rattle.litemap_store.proofs.Names.{on_ok_weaker}
 use Rattle.litemap_store.proofs.Last.FirstGiven.{GivesSome-from_refused}
 use Rattle.litemap_store.proofs.store.StoreBulkMut.lm_extend.Goals as goal
 
@@ -11,11 +9,6 @@ returns-clause-extended g c =
       extended = record { given = c.in_ok-pairs.pairs.items; gives = c.in_ok-pairs.ensures.gathered; last = last };
       counted = record { behind = put.behind; rising = λ _. put.cost };
     }) put.last
-
-pub returns-clause-refused_cost : goal.returns-clause-refused_cost
-returns-clause-refused_cost g c =
-    let put = c.put_pairs.ensures in
-    always_on_err c.put_pairs.result (inr (c.in_ok-pairs.pairs.items, c.in_ok-pairs.ensures.gathered, record { behind = put.behind; rising = λ _. put.cost }))
 
 pub returns-clause-refused_some : goal.returns-clause-refused_some
 returns-clause-refused_some g c =

@@ -1,4 +1,4 @@
-use Rattle.std.proofs.Common.{sym, arith}
+use Rattle.litemap_store.proofs.Names.{arith, sym}
 use Rattle.litemap_store.proofs.Lists.Alongside.{alongside-more}
 use Rattle.litemap_store.proofs.store.StoreMut.lm_try_clone.Goals as goal
 

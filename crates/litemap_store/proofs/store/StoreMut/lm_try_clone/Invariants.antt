@@ -1,4 +1,4 @@
-use Rattle.std.proofs.Common.{◌+◌, ◌≤◌, length, take}
+use Rattle.litemap_store.proofs.Names.{◌+◌, ◌≤◌, length, take}
 use Rattle.litemap_store.specs.Clones.{PairsBecame}
 use Rattle.litemap_store.proofs.store.StoreMut.lm_try_clone.Given as goal
 

@@ -1,7 +1,5 @@
-use Rattle.std.proofs.Common.{rules, ◌≡◌, ℕ, List, ◌++◌, length, take, drop}
-use Rattle.std.proofs.Math.Seq.{drop-append_seam, take-append_seam}
-use Rattle.std.proofs.lemmas.Result.{on_ok_weaker}
-use Rattle.litemap_store.specs.Bulk.{IsCountedFor}
+use Rattle.litemap_store.proofs.Names.{ℕ, ◌++◌, ◌≡◌, drop, drop-append_seam, IsCountedFor, length, List, on_ok_weaker, rules}
+use Rattle.litemap_store.proofs.Names.{take, take-append_seam}
 use Rattle.litemap_store.proofs.Last.FirstGiven.{GivesSome-from_refused}
 use Rattle.litemap_store.proofs.vec_impl.VecTuple2StoreBulkMut.lm_extend.Given.{Over}
 use Rattle.litemap_store.proofs.vec_impl.VecTuple2StoreBulkMut.lm_extend.Goals as goal

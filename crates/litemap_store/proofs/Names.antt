@@ -1,0 +1,47 @@
+-- The names that the proofs cite most, passed on from one place. Declares nothing.
+pub use Rattle.std.proofs.Common.{[], ℕ, ◌&&◌, ◌*◌, ◌++◌, ◌+◌, ◌-◌, ◌/◌, ◌<◌, ◌^◌, ◌↔◌, ◌∙◌, ◌∷◌, ◌≡◌, ◌≢◌, ◌≤◌, ◌⊎◌, All}
+pub use Rattle.std.proofs.Common.{AllPairs, Any, ap, append-nil, append_assoc, arith, Bool, Bor, cond, drop, drop-drop}
+pub use Rattle.std.proofs.Common.{drop-set-lt, eqb-true, Equal, Err, false, filter, get_or, get_or-drop, get_or-take, Greater}
+pub use Rattle.std.proofs.Common.{IfOk, IfSome, inl, inr, insert, is_eq, is_gt, is_lt, is_some, IsOk, IsSome, IsSortedByKey}
+pub use Rattle.std.proofs.Common.{IsTrue, length, length-append, length-drop, length-set, length-take, length-take-le, Less, List}
+pub use Rattle.std.proofs.Common.{map-id, min, nat_le, None, Ok, OnErr, Option, option_map, Ordering, pow-suc, refl, remove}
+pub use Rattle.std.proofs.Common.{Result, reverse, rules, set, set-set, slice_get, slice_index_or, slice_range, slice_set, Some}
+pub use Rattle.std.proofs.Common.{sub-one, subst, subst₂, suc, suc-add, suc-mul, swap, sym, take, take-add, take-append-drop}
+pub use Rattle.std.proofs.Common.{take-take, take_all, take_at, true, true≢false, unwrap_or, Vec, vec_capacity, vec_len, zero}
+pub use Rattle.std.proofs.Common.{zero-mul, zip}
+pub use Rattle.std.proofs.Math.Seq.{drop-append-add, drop-append_seam, set-append_seam, take-append-add, take-append_seam}
+pub use Rattle.std.proofs.Math.Seq.{take-set-lt}
+pub use Rattle.std.proofs.lemmas.Bool.{cases_Bool, cases_lt}
+pub use Rattle.std.proofs.lemmas.Cmp.{alike_right, tied_back, tied_itself}
+pub use Rattle.std.proofs.lemmas.Grind.{common_steps}
+pub use Rattle.std.proofs.lemmas.List.{drop-take, drop_all, drop_more, get_or_default, length-reverse, length_push}
+pub use Rattle.std.proofs.lemmas.List.{nil_from_length, reverse-append, same_from_push, take-append-le, take-set-le, take_more}
+pub use Rattle.std.proofs.lemmas.List.{take_more_set}
+pub use Rattle.std.proofs.lemmas.List.Edits.{length-swap, swap_is}
+pub use Rattle.std.proofs.lemmas.List.Elements.{All-from_recursion, filter-append, filter_map-append, recursion_from_All}
+pub use Rattle.std.proofs.lemmas.List.Folds.{find-append}
+pub use Rattle.std.proofs.lemmas.List.Sorted.{answers_always, ranks_by, sorted_far}
+pub use Rattle.std.proofs.lemmas.Option.{get_or_from_slice_get, slice_get_read, slice_get_within}
+pub use Rattle.std.proofs.lemmas.Result.{IfOk-weaker, on_ok_weaker}
+pub use Rattle.std.specs.Cmp.{IsTotalOrder}
+pub use Rattle.std.specs.Fn.{Called, CalledAt, TakesAt}
+pub use Rattle.std.specs.Iterator.{Drains, Yields, YieldsFirst}
+pub use Rattle.std.specs.List.{AllAdjacentBelow, AllByRecursion, AllWithin, AllZip, cons_option, items_where_true}
+pub use Rattle.std.specs.Option.{option_map_or, option_or}
+pub use Rattle.std.specs.Ordering.{ordering_index, ordering_reverse}
+pub use denote.Param.Members.{Mut}
+pub use Rattle.litemap_store.specs.Bulk.{Gives, GivesSome, IsCountedFor, IsExtended}
+pub use Rattle.litemap_store.specs.Counts.{digits, digits-halved, digits-mono, digits-step, digits-zero, RisesByAtMost}
+pub use Rattle.litemap_store.specs.Last.{In, Last, NoneEqual, Rises, StandsLast}
+pub use Rattle.litemap_store.specs.Laws.{HasKey, Sifted}
+pub use Rattle.litemap_store.specs.Merge.{Apart, IsMerged, left, Merge}
+pub use Rattle.litemap_store.specs.Pairs.{above, AllBelow, at, below, BelowAll, cut, index_of, key_or, place, put, Rising}
+pub use Rattle.litemap_store.specs.Pairs.{set_value, sub, value_at, value_in, write}
+pub use Rattle.litemap_store.specs.PutIn.{IsPutIn}
+pub use Rattle.litemap_store.specs.Queries.{key_one_side, OneSide}
+pub use Rattle.litemap_store.specs.Retain.{CallableOnEach, CalledOnPair, Kept, KeptSoFar, TakesPair}
+pub use Rattle.litemap_store.specs.Search.{AnswersEach, Ascends, Callable, Finds, Shape}
+pub use Rattle.litemap_store.specs.Splits.{IsFoundAt, IsMissingAt, Splits}
+pub use Rattle.litemap_store.specs.Taken.{IsGreaterEnd, IsTaken}
+pub use Rattle.litemap_store.specs.Walked.{IsLowerFirst, IsTakenFirst}
+pub use Rattle.litemap_store.specs.declared.count.Count.{Count}
