@@ -2,8 +2,7 @@
 //!
 //! A vector pushes the new pairs after its own. Other stores change once the new pairs are gathered in a vector. If they ascend,
 //! nothing is sorted.
-ghost use Rattle.std.specs.Prelude.{◌≡◌, ◌+◌, ◌*◌, ◌≤◌, ◌<◌, ◌++◌, IsOk, IfOk, OnOk, OnErr, length};
-ghost use Rattle.std.specs.Prelude.{[], vec_capacity, vec_len};
+ghost use Rattle.std.specs.Prelude.{◌≡◌, ◌+◌, ◌*◌, ◌≤◌, ◌<◌, ◌++◌, IsOk, IfOk, OnOk, OnErr, length, [], vec_capacity, vec_len};
 ghost use Rattle.std.specs.Iterator.{IsFiniteIterable};
 ghost use Rattle.litemap_store.specs.Bulk.{Gives, GivesSome, IsHandedBack};
 ghost use Rattle.litemap_store.specs.Counts.{RisesByAtMost};

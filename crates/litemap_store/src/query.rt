@@ -1,11 +1,10 @@
 //! What a key can be looked up by.
-ghost use Rattle.std.specs.Prelude.{◌≡◌, ℕ, List};
+ghost use Rattle.std.specs.Prelude.{◌≡◌, ℕ, List, string_bytes};
 ghost use Rattle.std.specs.Arc.{arc_str_bytes};
 ghost use Rattle.std.specs.Box.{boxed_slice_items, boxed_str_bytes};
 ghost use Rattle.std.specs.Cmp.Lexicographic.{slice_cmp, lists_total, nat_list_cmp_total};
 ghost use Rattle.std.specs.Cow.{cow_str_bytes};
 ghost use Rattle.std.specs.Rc.{rc_str_bytes};
-ghost use Rattle.std.specs.String.{string_bytes};
 ghost use Rattle.std.specs.declared.cmp.Ordering.{Ordering};
 ghost use Rattle.litemap_store.specs.Queries.{OneSide, by_slice, by_text, bytes_cmp, key_one_side};
 
@@ -54,18 +53,6 @@ impl<K: Ord> Query<K> for &K {
     }
 }
 
-fn compare_texts<'x>(left: &'x str, right: &'x str) -> Ordering
-    ensures { result ≡ bytes_cmp left.now right.now }
-{
-    left.cmp(right)
-}
-
-fn compare_slices<'x, T: Ord>(left: &'x [T], right: &'x [T]) -> Ordering
-    ensures { result ≡ slice_cmp T.cmp left.now right.now }
-{
-    left.cmp(right)
-}
-
 impl Query<String> for &str {
     ghost Sought = { List ℕ };
 
@@ -76,7 +63,7 @@ impl Query<String> for &str {
     ghost one_side = { λ text x y. key_one_side nat_list_cmp_total text (string_bytes x) (string_bytes y) };
 
     fn compare_key(&self, key: &String) -> Ordering {
-        compare_texts(key.as_str(), *self)
+        key.as_str().cmp(*self)
     }
 }
 
@@ -90,7 +77,7 @@ impl<'k> Query<&'k str> for &str {
     ghost one_side = { λ text x y. key_one_side nat_list_cmp_total text.now x.now y.now };
 
     fn compare_key(&self, key: &&'k str) -> Ordering {
-        compare_texts(*key, *self)
+        (*key).cmp(*self)
     }
 }
 
@@ -104,7 +91,7 @@ impl Query<BoxedStr> for &str {
     ghost one_side = { λ text x y. key_one_side nat_list_cmp_total text (boxed_str_bytes x) (boxed_str_bytes y) };
 
     fn compare_key(&self, key: &BoxedStr) -> Ordering {
-        compare_texts(key.as_str(), *self)
+        key.as_str().cmp(*self)
     }
 }
 
@@ -118,7 +105,7 @@ impl Query<RcStr> for &str {
     ghost one_side = { λ text x y. key_one_side nat_list_cmp_total text (rc_str_bytes x) (rc_str_bytes y) };
 
     fn compare_key(&self, key: &RcStr) -> Ordering {
-        compare_texts(key.as_str(), *self)
+        key.as_str().cmp(*self)
     }
 }
 
@@ -132,7 +119,7 @@ impl Query<ArcStr> for &str {
     ghost one_side = { λ text x y. key_one_side nat_list_cmp_total text (arc_str_bytes x) (arc_str_bytes y) };
 
     fn compare_key(&self, key: &ArcStr) -> Ordering {
-        compare_texts(key.as_str(), *self)
+        key.as_str().cmp(*self)
     }
 }
 
@@ -146,7 +133,7 @@ impl<'k> Query<CowStr<'k>> for &str {
     ghost one_side = { λ text x y. key_one_side nat_list_cmp_total text (cow_str_bytes x) (cow_str_bytes y) };
 
     fn compare_key(&self, key: &CowStr<'k>) -> Ordering {
-        compare_texts(key.as_str(), *self)
+        key.as_str().cmp(*self)
     }
 }
 
@@ -160,7 +147,7 @@ impl<T: Ord> Query<Vec<T>> for &[T] {
     ghost one_side = { λ slice x y. key_one_side (lists_total T.total) slice x.items y.items };
 
     fn compare_key(&self, key: &Vec<T>) -> Ordering {
-        compare_slices(key.as_slice(), *self)
+        key.as_slice().cmp(*self)
     }
 }
 
@@ -174,7 +161,7 @@ impl<'k, T: Ord> Query<&'k [T]> for &[T] {
     ghost one_side = { λ slice x y. key_one_side (lists_total T.total) slice.now x.now y.now };
 
     fn compare_key(&self, key: &&'k [T]) -> Ordering {
-        compare_slices(*key, *self)
+        (*key).cmp(*self)
     }
 }
 
@@ -189,6 +176,6 @@ impl<T: Ord> Query<BoxedSlice<T>> for &[T] {
         (lists_total T.total) slice (boxed_slice_items x) (boxed_slice_items y) };
 
     fn compare_key(&self, key: &BoxedSlice<T>) -> Ordering {
-        compare_slices(key.as_slice(), *self)
+        key.as_slice().cmp(*self)
     }
 }

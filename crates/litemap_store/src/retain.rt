@@ -1,6 +1,5 @@
 //! `lm_retain` of stores whose pairs can be swapped.
-ghost use Rattle.std.specs.Prelude.{◌≡◌, ◌+◌, ◌<◌, ◌≤◌, Some, length, slice_get, take};
-ghost use Rattle.std.specs.List.{swap};
+ghost use Rattle.std.specs.Prelude.{◌≡◌, ◌+◌, ◌<◌, ◌≤◌, Some, length, slice_get, take, swap};
 ghost use Rattle.std.specs.Map.Iter.{deref_pair};
 ghost use Rattle.litemap_store.specs.Retain.{CallableOnEach, CalledOnPair, Kept, KeptSoFar, TakesPair};
 

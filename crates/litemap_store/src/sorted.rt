@@ -1,7 +1,6 @@
 //! Pairs in ascending order: whether they are, and how they come to be. Of each key the last pair is kept.
-ghost use Rattle.std.specs.Prelude.{◌≡◌, ◌⊎◌, ◌-◌, ◌≤◌, ◌++◌, ◌↔◌, IsTrue, IsOk, IfOk, OnOk, OnErr, length};
-ghost use Rattle.std.specs.Prelude.{[], drop, min, take, vec_len};
-ghost use Rattle.std.specs.List.Sorted.{IsSortedByKey};
+ghost use Rattle.std.specs.Prelude.{◌≡◌, ◌⊎◌, ◌-◌, ◌≤◌, ◌++◌, ◌↔◌, IsTrue, IsOk, IfOk, OnOk, OnErr, length, [], drop, min, take};
+ghost use Rattle.std.specs.Prelude.{vec_len, IsSortedByKey};
 ghost use Rattle.litemap_store.specs.Counts.{RisesByAtMost};
 ghost use Rattle.litemap_store.specs.Last.{Last};
 ghost use Rattle.litemap_store.specs.Pairs.{Rising};

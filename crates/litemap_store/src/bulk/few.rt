@@ -1,11 +1,9 @@
 //! Few new pairs, which stand after those of a vector, are put in one by one where they stand.
-ghost use Rattle.std.specs.Prelude.{◌≡◌, ◌↔◌, ◌<◌, ◌≤◌, ◌+◌, ◌-◌, ◌*◌, IfErr, IfOk, IsTrue, Some, drop, length, slice_get, take};
-ghost use Rattle.std.specs.Prelude.{vec_len};
+ghost use Rattle.std.specs.Prelude.{◌≡◌, ◌↔◌, ◌<◌, ◌≤◌, ◌+◌, ◌-◌, ◌*◌, IsTrue, drop, length, take, vec_len};
 ghost use Rattle.litemap_store.specs.Counts.{RisesByAtMost, digits};
 ghost use Rattle.litemap_store.specs.Last.{Last, Rises};
 ghost use Rattle.litemap_store.specs.Pairs.{Rising};
 ghost use Rattle.litemap_store.specs.PutIn.{IsPutIn};
-ghost use Rattle.litemap_store.specs.Splits.{Splits};
 
 use crate::searches::{binary_digits, search, walk_is_cheaper};
 use crate::sorted::{is_rising, lies_below};
@@ -80,7 +78,9 @@ fn put_next<K: Ord, V>(pairs: &mut [(K, V)], kept: usize, at: usize, count: &mut
     ensures within { result ≤ kept + 1 }
     ensures cost { RisesByAtMost (digits kept) count.old count.new }
 {
-    match place_among(pairs, kept, at, count) {
+    let (old, given) = pairs.split_at(kept);
+    let next = &given[at - kept];
+    match search(&SliceStore::new(old), &next.0, count) {
         Ok(index) => {
             pairs.swap(index, at);
             kept
@@ -90,24 +90,4 @@ fn put_next<K: Ord, V>(pairs: &mut [(K, V)], kept: usize, at: usize, count: &mut
             kept + 1
         }
     }
-}
-
-// The index at which the key at another index splits the first `kept` pairs.
-fn place_among<K: Ord, V>(
-    pairs: &[(K, V)],
-    kept: usize,
-    at: usize,
-    count: &mut Count,
-) -> Result<usize, usize>
-    requires kept { kept ≤ at }
-    requires at { at < length pairs.now }
-    requires rising { Rising K.cmp (take kept pairs.now) }
-    ensures splits { (p : K × V) × (slice_get pairs.now at ≡ Some p) × Splits K.cmp (take kept pairs.now) p.0 result }
-    ensures found { IfOk result (λ index. index < kept) }
-    ensures missing { IfErr result (λ index. index ≤ kept) }
-    ensures cost { RisesByAtMost (digits kept) count.old count.new }
-{
-    let (old, given) = pairs.split_at(kept);
-    let next = &given[at - kept];
-    search(&SliceStore::new(old), &next.0, count)
 }

@@ -53,45 +53,34 @@ fn put_each<K: Ord + Drop, V: Drop, S: StoreIntoIterator<K, V>>(
     ensures cost { RisesByAtMost (searches_cost (S.pairs store.old) (S.pairs other)) count.old count.new }
 {
     for (key, value) in other.lm_into_iter() {
-        let driven_out = put_in(store, key, value, count);
-        push_some(rest, driven_out);
+        put_in(store, key, value, rest, count);
     }
 }
 
-// Puts a pair in by one search, and returns its key with the value that it displaces. The store has room for it.
+// Puts a pair in by one search, and appends its key with the value that it displaces to the rest. Both stores have room for it.
 fn put_in<K: Ord + Drop, V: Drop, S: StoreMut<K, V>>(
     store: &mut S,
     key: K,
     value: V,
+    rest: &mut S,
     count: &mut Count,
-) -> Option<(K, V)>
+)
     requires store { Rising K.cmp (S.pairs store.old) }
     requires room { 0 < S.room store.old }
+    requires rest_room { 0 < S.room rest.old }
     ensures put { S.pairs store.new ≡ put K.cmp (S.pairs store.old) key value }
-    ensures old { result ≡ option_map (λ p. (key, p.1)) (at K.cmp (S.pairs store.old) key) }
+    ensures rest { S.pairs rest.new
+        ≡ S.pairs rest.old ++ cons_option (option_map (λ p. (key, p.1)) (at K.cmp (S.pairs store.old) key)) [] }
     ensures room { S.room store.old ≤ S.room store.new + 1 }
+    ensures rest_room { S.room rest.old ≤ S.room rest.new + 1 }
     ensures cost { RisesByAtMost (digits (length (S.pairs store.old))) count.old count.new }
 {
     match search(store, &key, count) {
         Ok(index) => {
             let (_, slot) = store.lm_pair_mut(index);
-            Some((key, mem::replace(slot, value)))
+            let old = mem::replace(slot, value);
+            push_reserved(rest, key, old);
         }
-        Err(index) => {
-            store.lm_insert(index, key, value).unwrap();
-            None
-        }
+        Err(index) => store.lm_insert(index, key, value).unwrap(),
     }
-}
-
-// Appends a pair, if there is one. The store has room for it.
-fn push_some<K: Drop, V: Drop, S: StoreMut<K, V>>(store: &mut S, pair: Option<(K, V)>)
-    requires { 0 < S.room store.old }
-    ensures pairs { S.pairs store.new ≡ S.pairs store.old ++ cons_option pair [] }
-    ensures room { S.room store.old ≤ S.room store.new + 1 }
-{
-    let Some((key, value)) = pair else {
-        return;
-    };
-    push_reserved(store, key, value);
 }

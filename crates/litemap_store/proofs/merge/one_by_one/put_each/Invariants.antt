@@ -1,4 +1,4 @@
-use Rattle.std.proofs.Common.{◌≤◌, length}
+use Rattle.litemap_store.proofs.Names.{◌≤◌, length}
 use Rattle.litemap_store.proofs.Merging.Steps.{MergedUpTo}
 use Rattle.litemap_store.proofs.merge.one_by_one.put_each.Given as goal
 
