@@ -1,10 +1,10 @@
 -- The names that the proofs cite most, passed on from one place. Declares nothing.
-pub use Rattle.std.proofs.Common.{[], ℕ, ◌&&◌, ◌*◌, ◌++◌, ◌+◌, ◌-◌, ◌/◌, ◌<◌, ◌^◌, ◌↔◌, ◌∙◌, ◌∷◌, ◌≡◌, ◌≢◌, ◌≤◌, ◌⊎◌, All}
+pub use Rattle.std.proofs.Common.{[], ℕ, ◌&&◌, ◌*◌, ◌++◌, ◌+◌, ◌-◌, ◌/◌, ◌<◌, ◌==◌, ◌^◌, ◌↔◌, ◌∙◌, ◌∷◌, ◌≡◌, ◌≢◌, ◌≤◌, ◌⊎◌, All}
 pub use Rattle.std.proofs.Common.{AllPairs, Any, ap, append-nil, append_assoc, arith, Bool, Bor, cond, drop, drop-drop}
 pub use Rattle.std.proofs.Common.{drop-set-lt, eqb-true, Equal, Err, false, filter, get_or, get_or-drop, get_or-take, Greater}
 pub use Rattle.std.proofs.Common.{IfOk, IfSome, inl, inr, insert, is_eq, is_gt, is_lt, is_some, IsOk, IsSome, IsSortedByKey}
 pub use Rattle.std.proofs.Common.{IsTrue, length, length-append, length-drop, length-set, length-take, length-take-le, Less, List}
-pub use Rattle.std.proofs.Common.{map-id, min, nat_le, None, Ok, OnErr, Option, option_map, Ordering, pow-suc, refl, remove}
+pub use Rattle.std.proofs.Common.{map-id, min, nat_le, None, not, Ok, OnErr, Option, option_map, Ordering, pow-suc, refl, remove}
 pub use Rattle.std.proofs.Common.{Result, reverse, rules, set, set-set, slice_get, slice_index_or, slice_range, slice_set, Some}
 pub use Rattle.std.proofs.Common.{sub-one, subst, subst₂, suc, suc-add, suc-mul, swap, sym, take, take-add, take-append-drop}
 pub use Rattle.std.proofs.Common.{take-take, take_all, take_at, true, true≢false, unwrap_or, Vec, vec_capacity, vec_len, zero}
@@ -23,6 +23,7 @@ pub use Rattle.std.proofs.lemmas.List.Folds.{find-append}
 pub use Rattle.std.proofs.lemmas.List.Sorted.{answers_always, ranks_by, sorted_far}
 pub use Rattle.std.proofs.lemmas.Option.{get_or_from_slice_get, slice_get_read, slice_get_within}
 pub use Rattle.std.proofs.lemmas.Result.{IfOk-weaker, on_ok_weaker}
+pub use Rattle.std.specs.Bool.{then_some}
 pub use Rattle.std.specs.Cmp.{IsTotalOrder}
 pub use Rattle.std.specs.Fn.{Called, CalledAt, TakesAt}
 pub use Rattle.std.specs.Iterator.{Drains, Yields, YieldsFirst}

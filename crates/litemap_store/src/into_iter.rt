@@ -5,9 +5,8 @@ ghost use Rattle.std.specs.Vec.Iter.{into_iter_items};
 ghost use Rattle.litemap_store.specs.Hints.{HintsExactly};
 ghost use Rattle.litemap_store.specs.IntoIter.{count_is, first_is};
 
-use crate::no_room::NoRoom;
 use crate::reserved::push_reserved;
-use crate::store::{Store, StoreMut};
+use crate::store::{NoRoom, Store, StoreMut};
 use std::mem;
 use std::vec::IntoIter;
 
@@ -89,7 +88,6 @@ pub trait StoreIntoIterator<K: Drop, V: Drop>: StoreMut<K, V> + Sized {
     }
 }
 
-/// Appends the pairs that an iterator yields.
 pub(crate) fn append_each<K: Drop, V: Drop, S: StoreMut<K, V>, I: PairIntoIter<K, V>>(
     store: &mut S,
     pairs: I,

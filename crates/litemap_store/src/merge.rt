@@ -40,7 +40,8 @@ pub fn extend_from_store<K: Ord + Drop, V: Drop, S: StoreIntoIterator<K, V> + Dr
         return append_other(store, other);
     }
     if lies_below(&other, store, count) {
-        return prepend_other(store, other);
+        store.lm_extend_start(other)?;
+        return Ok(None);
     }
     merge_mixed(alloc, store, other, count)
 }
@@ -66,20 +67,6 @@ fn append_other<K: Drop, V: Drop, S: StoreIntoIterator<K, V> + Drop>(
         return Ok(None);
     }
     store.lm_extend_end(other)?;
-    Ok(None)
-}
-
-// Puts the pairs of another store, whose keys are all below, in front. Nothing is displaced.
-fn prepend_other<K: Drop, V: Drop, S: StoreIntoIterator<K, V>>(
-    store: &mut S,
-    other: S,
-) -> Result<Option<S>, NoRoom<S>>
-    ensures joined { IfOk result (λ rest. (rest ≡ None) × (S.pairs store.new ≡ S.pairs other ++ S.pairs store.old)) }
-    ensures refused { OnErr result (S.pairs store.new ≡ S.pairs store.old) }
-    ensures back { IfErr result (λ refused. S.pairs refused.back ≡ S.pairs other) }
-    ensures full { OnErr result ((S.room store.old < length (S.pairs other)) ⊎ (S.room other < length (S.pairs store.old))) }
-{
-    store.lm_extend_start(other)?;
     Ok(None)
 }
 

@@ -120,7 +120,6 @@ pub(crate) fn take_from<K: Drop, V: Drop, S: StoreMut<K, V>>(
     }
 }
 
-/// The store, if it has pairs.
 pub(crate) fn unless_empty<K, V, S: Store<K, V> + Drop>(rest: S) -> Option<S>
     ensures none { IsNone result ↔ (S.pairs rest ≡ []) }
     ensures some { IfSome result (λ s. S.pairs s ≡ S.pairs rest) }

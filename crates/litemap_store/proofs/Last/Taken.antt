@@ -1,9 +1,8 @@
 -- Taking the greatest pair of two ascending lists from their ends.
---     end_none, end_new, end_old, end_from_cmp      which list has it;  take_old, take_new, take_both      what is left if its pair is taken
+--     end_new, end_old, end_from_cmp      which list has it;  take_old, take_new, take_both      what is left if its pair is taken
 --     taken_last      a list without its last element
 --     reverse_behind, Last-of_none      the side vector
-use Rattle.litemap_store.proofs.Names.{[], ℕ, ◌++◌, ◌-◌, ◌↔◌, ◌∙◌, ◌∷◌, ◌≡◌, ◌≢◌, alike_right, AllBelow, ap, append-nil, append_assoc, arith, eqb-true, Equal, false, Greater, In, inl, inr, IsGreaterEnd, IsTaken, IsTotalOrder, Last, length, length-append, Less, List, nil_from_length, None, NoneEqual, Ordering, refl, remove, reverse, reverse-append, Rising, same_from_push, slice_get, Some, StandsLast, subst, subst₂, suc, sym, true, true≢false, zero}
-use Rattle.std.proofs.Common.{◌==◌}
+use Rattle.litemap_store.proofs.Names.{[], ℕ, ◌++◌, ◌-◌, ◌==◌, ◌↔◌, ◌∙◌, ◌∷◌, ◌≡◌, ◌≢◌, alike_right, AllBelow, ap, append-nil, append_assoc, arith, Bool, eqb-true, Equal, false, Greater, In, inl, inr, IsGreaterEnd, IsTaken, IsTotalOrder, Last, length, length-append, Less, List, nil_from_length, None, NoneEqual, not, Ordering, refl, remove, reverse, reverse-append, Rising, same_from_push, slice_get, Some, StandsLast, subst, subst₂, suc, sym, then_some, true, true≢false, zero}
 use Rattle.litemap_store.proofs.Lists.Joined.{empty_from_last, last_split}
 use Rattle.litemap_store.proofs.Lists.Membership.{In-left, In-right, In-cases, each, from_each}
 use Rattle.litemap_store.proofs.Last.Pairs.{Last-rising, Last-same, In-from_last, stands_behind}
@@ -96,12 +95,10 @@ end_from_cmp {K} {V} cmp o A B a b r s t last_a last_b asked = by r asked
     by Greater e = (split_a.0, a, split_a.1, all_below o B split_b.0 b a.0 t split_b.1 (greater_back o a.0 b.0 (sym e)))
 
 -- ---- if a list is empty
-pub end_none : {K V : Type 0} (cmp : K → K → Ordering) (A B : List (K × V)) → slice_get A (length A - 1) ≡ None → (length B == 0) ≡ true → IsGreaterEnd cmp A B None
-end_none cmp A B e f = (empty_from_last A e, nil_from_length B (eqb-true (length B) 0 f))
-
-pub end_new : {K V : Type 0} (cmp : K → K → Ordering) (A B : List (K × V)) → slice_get A (length A - 1) ≡ None → (length B == 0) ≡ false → IsGreaterEnd cmp A B (Some Less)
-end_new cmp A B e f = elim (last_cases B) [
-  | inl none ↦ absurd (true≢false (sym (ap (λ L. length L == 0) none) ∙ f))
+pub end_new : {K V : Type 0} (cmp : K → K → Ordering) (A B : List (K × V)) (none : Bool) → slice_get A (length A - 1) ≡ None → none ≡ (length B == 0) → IsGreaterEnd cmp A B (then_some (not none) Less)
+end_new cmp A B true e f = (empty_from_last A e, nil_from_length B (eqb-true (length B) 0 (sym f)))
+end_new cmp A B false e f = elim (last_cases B) [
+  | inl none ↦ absurd (true≢false (sym (ap (λ L. length L == 0) none) ∙ sym f))
   | inr h ↦ (h.0, h.1, h.2, rw (empty_from_last A e) tt)
 ]
 

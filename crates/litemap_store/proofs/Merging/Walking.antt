@@ -1,7 +1,7 @@
 -- Walking two ascending lists from their first pairs.
---     lower_none, lower_new, lower_old, lower_from_cmp      which list has the lower first key
+--     lower_new, lower_old, lower_from_cmp      which list has the lower first key
 --     walk_old, walk_new, walk_both      what is left to merge if its pair is taken
-use Rattle.litemap_store.proofs.Names.{[], ◌++◌, ◌∙◌, ◌∷◌, ◌≡◌, ap, append_assoc, arith, at, BelowAll, cons_option, Equal, Greater, In, inl, inr, IsLowerFirst, IsTakenFirst, IsTotalOrder, left, length, Less, List, Merge, None, option_map, Ordering, refl, Rising, slice_get, Some, subst, sym}
+use Rattle.litemap_store.proofs.Names.{[], ◌++◌, ◌∙◌, ◌∷◌, ◌≡◌, ap, append_assoc, arith, at, BelowAll, cons_option, Equal, Greater, In, inl, inr, is_some, IsLowerFirst, IsTakenFirst, IsTotalOrder, left, length, Less, List, Merge, None, Option, option_map, Ordering, refl, Rising, slice_get, Some, subst, sym, then_some}
 use Rattle.litemap_store.proofs.Lists.Joined.{below_all, empty_from_first, first_split}
 use Rattle.litemap_store.proofs.Lists.Membership.{In-cases, each}
 use Rattle.litemap_store.proofs.Merging.Down.{Merge-one, left-same}
@@ -17,11 +17,9 @@ module _ {K V : Type 0} (cmp : K → K → Ordering) (o : IsTotalOrder cmp) wher
   below_each k L h x i = each (λ (q : K × V). cmp k q.0 ≡ Less) L h x i
 
   -- ---- which list has the lower first key
-  pub lower_none : (A B : List (K × V)) → slice_get A 0 ≡ None → slice_get B 0 ≡ None → IsLowerFirst cmp A B None
-  lower_none A B e f = (empty_from_first A e, empty_from_first B f)
-
-  pub lower_new : (A B : List (K × V)) (b : K × V) → slice_get A 0 ≡ None → slice_get B 0 ≡ Some b → IsLowerFirst cmp A B (Some Greater)
-  lower_new A B b e f = let h = first_split B b f in (b, h.0, h.1, rw (empty_from_first A e) tt)
+  pub lower_new : (A B : List (K × V)) {R : Type 0} (pair : R → K × V) (first : Option R) → slice_get A 0 ≡ None → option_map pair first ≡ slice_get B 0 → IsLowerFirst cmp A B (then_some (is_some first) Greater)
+  lower_new A B pair None e f = (empty_from_first A e, empty_from_first B (sym f))
+  lower_new A B pair (Some b) e f = let h = first_split B (pair b) (sym f) in (pair b, h.0, h.1, rw (empty_from_first A e) tt)
 
   pub lower_old : (A B : List (K × V)) (a : K × V) → slice_get A 0 ≡ Some a → slice_get B 0 ≡ None → IsLowerFirst cmp A B (Some Less)
   lower_old A B a e f = let h = first_split A a e in (a, h.0, h.1, rw (empty_from_first B f) tt)

@@ -31,9 +31,7 @@ pub fn merge<K: Ord + Drop, V: Drop, S: StoreMut<K, V> + Drop>(
     ensures empty { OnOk result (pairs.new.items ≡ []) }
     ensures back { OnErr result (pairs.new.items ≡ pairs.old.items) }
 {
-    let Some(total) = store.lm_len().checked_add(pairs.len()) else {
-        return Err(AllocError);
-    };
+    let total = store.lm_len().checked_add(pairs.len()).ok_or(AllocError)?;
     let (mut side, mut fresh) = room_for(alloc, total)?;
     let given = mem::replace(pairs, Vec::new(alloc));
     take_down(store, given, &mut side, count);
@@ -55,11 +53,7 @@ fn greater_end<K: Ord, V, S: Store<K, V>>(
     ensures none { length (S.pairs store.now) + length pairs.now ≡ 0 → RisesByAtMost 0 count.old count.new }
 {
     let Some((old, _)) = store.lm_last() else {
-        return if pairs.is_empty() {
-            None
-        } else {
-            Some(Ordering::Less)
-        };
+        return (!pairs.is_empty()).then_some(Ordering::Less);
     };
     let Some((new, _)) = pairs.last() else {
         return Some(Ordering::Greater);

@@ -111,9 +111,7 @@ fn merge_in_vec<K: Ord + Drop, V: Drop>(
     ensures empty { OnOk result (pairs.new.items ≡ []) }
     ensures back { OnErr result (pairs.new.items ≡ pairs.old.items) }
 {
-    let Some(total) = store.len().checked_add(pairs.len()) else {
-        return Err(AllocError);
-    };
+    let total = store.len().checked_add(pairs.len()).ok_or(AllocError)?;
     let mut side = Vec::with_capacity(alloc, total)?;
     let given = mem::replace(pairs, Vec::new(alloc));
     take_down(store, given, &mut side, count);

@@ -80,10 +80,7 @@ fn lower_first<K: Ord, V, I: PairIntoIter<K, V>>(
     ensures none { length olds.now + length news.now ≡ 0 → RisesByAtMost 0 count.old count.new }
 {
     let Some((old, _)) = olds.peek() else {
-        let Some(_) = news.peek() else {
-            return None;
-        };
-        return Some(Ordering::Greater);
+        return news.peek().is_some().then_some(Ordering::Greater);
     };
     let Some((new, _)) = news.peek() else {
         return Some(Ordering::Less);

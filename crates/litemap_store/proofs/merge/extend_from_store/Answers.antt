@@ -1,4 +1,4 @@
-use Rattle.litemap_store.proofs.Names.{[], ℕ, ◌<◌, ◌∙◌, ◌≡◌, ◌≢◌, ◌≤◌, ◌⊎◌, ap, arith, Bool, Err, false, IfOk-weaker, inl, inr, IsOk, IsTrue, length, List, Ok, OnErr, refl, Result, sym, true≢false}
+use Rattle.litemap_store.proofs.Names.{[], ℕ, ◌<◌, ◌∙◌, ◌≡◌, ◌≢◌, ◌≤◌, ◌⊎◌, ap, arith, Bool, Err, false, IfOk-weaker, inl, inr, IsOk, IsTrue, length, List, Ok, OnErr, refl, Result, rules, sym, true≢false}
 use Rattle.litemap_store.proofs.Lists.Joined.{not_above}
 use Rattle.litemap_store.proofs.Merging.Joins.{Merge-before, Merge-behind, left-before, left-behind, not_apart, one_empty}
 use Rattle.litemap_store.proofs.merge.extend_from_store.Goals as goal
@@ -44,15 +44,27 @@ returns-then-lies_below-2-clause-merged g c =
     let some = one_empty g.K.Ord.cmp g.met.K.Ord.total _ _ c.requires.store c.requires.other (denied _ c.lies_below.ensures.below.1 c.if-lies_below.false) in
     record {
       merges = record {
-        merged = IfOk-weaker c.prepend_other.result _ _ (λ rest e. rw e.1 (Merge-before g.K.Ord.cmp g.met.K.Ord.total _ _ c.requires.store c.requires.other up)) c.prepend_other.ensures.joined;
-        none = IfOk-weaker c.prepend_other.result _ _ (λ rest e. (λ _. left-before g.K.Ord.cmp g.met.K.Ord.total _ _ c.requires.store c.requires.other up, λ _. rw e.0 refl)) c.prepend_other.ensures.joined;
-        left = IfOk-weaker c.prepend_other.result _ _ (λ rest e. rw e.0 tt) c.prepend_other.ensures.joined;
-        refused = c.prepend_other.ensures.refused;
-        back = c.prepend_other.ensures.back;
+        merged = rw c.in_ok-lm_extend_start.ensures.ok (Merge-before g.K.Ord.cmp g.met.K.Ord.total _ _ c.requires.store c.requires.other up);
+        none = (λ _. left-before g.K.Ord.cmp g.met.K.Ord.total _ _ c.requires.store c.requires.other up, λ _. refl);
+        left = tt;
+        refused = tt;
+        back = tt;
       };
+      succeeds = λ e. refl;
+      behind = λ h r. refl;
+      in_front = λ h r s. refl;
+      unchanged = λ e. absurd (some (inr e));
+      taken = λ e n. absurd (some (inl e));
+    }
+
+pub returns-in_err-lm_extend_start-clause-merged : goal.returns-in_err-lm_extend_start-clause-merged
+returns-in_err-lm_extend_start-clause-merged g c =
+    let some = one_empty g.K.Ord.cmp g.met.K.Ord.total _ _ c.requires.store c.requires.other (denied _ c.lies_below.ensures.below.1 c.if-lies_below.false) in
+    record {
+      merges = record { merged = search rules; none = search rules; left = search rules; refused = search rules; back = search rules };
       succeeds = λ e. absurd (some e);
       behind = λ h r. absurd (not_above g.K.Ord.cmp _ _ _ c.requires.store c.lies_below.ensures.below.1 c.if-lies_below.false h);
-      in_front = λ h r s. not_refused c.prepend_other.result c.prepend_other.ensures.full (there_is_room r s);
+      in_front = λ h r s. absurd (there_is_room r s c.in_err-lm_extend_start.ensures.full);
       unchanged = λ e. absurd (some (inr e));
       taken = λ e n. absurd (some (inl e));
     }
