@@ -50,13 +50,13 @@ class Body:
     For each text that it replaces `changes` has the file, a text before it ('' if it occurs once), the text, and the new one.
     """
 
-    CHANGE = r"(?:file: (.+)\n)?(?:behind: (.+)\n)?old: (.+)\nnew: ?(.*)\n"
+    CHANGE = r"(?:file: (.+)\n)?(?:after: (.+)\n)?old: (.+)\nnew: ?(.*)\n"
     WHOLE = re.compile(r"(?:# )?(?P<title>[^#\n].*)\n(?P<changes>file: (?:.+\n)+?)(?:caught: (?P<caught>.+)\n)?")
 
     def __init__(self, text):
         found = self.WHOLE.fullmatch(text + "\n")
         if not found or not re.fullmatch(f"(?:{self.CHANGE})+", found["changes"]):
-            raise ValueError(f"the lines below a title aren't 'file:', 'behind:', 'old:', 'new:', 'caught:', in this order: {text}")
+            raise ValueError(f"the lines below a title aren't 'file:', 'after:', 'old:', 'new:', 'caught:', in this order: {text}")
         self.text, self.title, self.caught, self.changes = text, found["title"], found["caught"], []
         for path, *change in re.findall(self.CHANGE, found["changes"]):
             self.changes.append((path or self.changes[-1][0], *change))
@@ -71,15 +71,15 @@ def bodies(file):
 def edited(texts, body):
     """The texts of the files that a wrong body changes, by their paths."""
     changed = {}
-    for path, behind, old, new in body.changes:
+    for path, after, old, new in body.changes:
         if path not in texts:
             raise ValueError(f"src, specs and proofs have no file {path}")
         text = changed.get(path, texts[path])
-        if text.count(behind or old) != 1:
-            raise ValueError(f"the '{'behind' if behind else 'old'}:' text stands {text.count(behind or old)} times, and not once")
-        start = text.find(old, text.find(behind) + len(behind))
+        if text.count(after or old) != 1:
+            raise ValueError(f"the '{'after' if after else 'old'}:' text stands {text.count(after or old)} times, and not once")
+        start = text.find(old, text.find(after) + len(after))
         if start < 0:
-            raise ValueError("the 'old:' text doesn't stand behind the 'behind:' text")
+            raise ValueError("the 'old:' text doesn't stand after the 'after:' text")
         changed[path] = text[:start] + new + text[start + len(old) :]
     return changed
 

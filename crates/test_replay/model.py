@@ -205,7 +205,7 @@ class Model:
             return self.pair_at(-1)
         if name in ("get_indexed", "lm_get"):
             return self.pair_at(int(words[0]))
-        if name in ("keys_rise",):
+        if name in ("keys_ascend",):
             return "ok"
         if name == "debug":
             return "{" + ", ".join(f"{key}: {value}" for key, value in self.pairs) + "}"
@@ -230,7 +230,7 @@ class Model:
         if name == "get_indexed_range":
             start, end = map(int, words)
             return self.text(self.pairs[start:end]) if start <= end <= size else "none"
-        if name in ("places", "places_counted"):
+        if name in ("index_range", "index_range_counted"):
             start, end = self.bounds(words)
             return f"{start} {end}", 2 * search
         if name in ("range", "iter_range"):
@@ -705,15 +705,15 @@ def looks():
     """The calls that change nothing, by keys, indices and bounds."""
     for length in LENGTHS + [3000]:
         ends = [*indices(length), length, length + 1, 2**64 - 1]
-        calls = ["len", "is_empty", "first", "last", "keys_rise"] + (["debug"] if length <= 1000 else [])
+        calls = ["len", "is_empty", "first", "last", "keys_ascend"] + (["debug"] if length <= 1000 else [])
         calls += ["debug_lines"] if length <= 129 else []
         calls += [f"get_indexed {index}" for index in ends]
         calls += spelled(*LOOKING, KEY=keys(length))
         some = [1, *present(length), 2 * length + 1]
         bounds = [(low, high) for low in ("in", "out", "-") for high in ("in", "out", "-")]
         pairs = [(first, last) for first in some for last in some]
-        calls += [f"places {low} {first} {high} {last}" for low, high in bounds for first, last in pairs]
-        calls += [f"places_counted {low} {some[0]} {high} {some[-1]}" for low, high in bounds]
+        calls += [f"index_range {low} {first} {high} {last}" for low, high in bounds for first, last in pairs]
+        calls += [f"index_range_counted {low} {some[0]} {high} {some[-1]}" for low, high in bounds]
         calls += [f"iter_range {low} {first} {high} {last}" for low, high in bounds for first, last in pairs[1::8]]
         yield from block(ALL, length, 1, calls)
         parts = [f"get_indexed_range {start} {end}" for start in ends for end in ends]
@@ -1097,7 +1097,7 @@ ELSEWHERE = {
     "new_vec": "test_cases",
     "from_sorted_store_unchecked": "test_cases",
     "key": "entry",
-    "same_answers": "a law",
+    "same_results": "a law",
     "lm_get_range": "get_indexed_range",
     "lm_iter": "iter",
     "lm_into_iter": "into_iter",

@@ -22,7 +22,7 @@ COSTED = [*GROUPS][: [*GROUPS].index("Read from a source")]
 COST = re.compile(r"\bcompar|\bmoves?\b|\bsearch", re.IGNORECASE)
 COST_OF_ALL = re.compile(r"^//!.*(?:O\(|No keys are compared)", re.MULTILINE)
 FREE = {
-    "LiteMap": "new_vec into_tuple_vec from_sorted_store_unchecked new with_capacity len keys_rise is_empty get_indexed first last"
+    "LiteMap": "new_vec into_tuple_vec from_sorted_store_unchecked new with_capacity len keys_ascend is_empty get_indexed first last"
     " get_indexed_mut clear iter iter_keys iter_values keys values get_indexed_range as_sliced as_slice const_len const_is_empty"
     # This call moves pairs if the store takes other memory.
     " const_get_indexed_or_panic reserve",
@@ -53,7 +53,7 @@ NOT_CALLED = {
     "deserialize_owned": "what `with` of a field in example_formats asks",
     **dict.fromkeys(["JsonItem::write_to", "JsonKey::key_number"], "what `write_json` asks"),
     "array_of_two": "what `to_json` hands on",
-    "NameIndex::prefix_places_counted": "what `prefix_places` hands on",
+    "NameIndex::prefix_range_counted": "what `prefix_range` hands on",
 }
 NOT_TURNED = {
     "extend_from_store": "what `extend_from_litemap` hands on",

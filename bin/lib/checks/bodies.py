@@ -24,8 +24,8 @@ def misfit(texts, body):
 
 def place(texts, body):
     """The position of a wrong body in the sources."""
-    path, behind, old, _ = body.changes[0]
-    return path, texts[path].find(old, texts[path].find(behind))
+    path, after, old, _ = body.changes[0]
+    return path, texts[path].find(old, texts[path].find(after))
 
 
 def see_order(file, found, is_written, report):

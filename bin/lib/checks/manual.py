@@ -25,8 +25,8 @@ GROUPS = {
     "Read from a source": "litemap_read: source vec_source read laws",
     "JSON": "litemap_json: write text read fault told laws item pairs written",
     "Through serde": "litemap_serde: write read pairs holder",
-    "Name tables": "name_table: read write name_bytes cursor fault laws",
-    "Lookups in name tables": "name_index: table index name_entries indexed index_write fault laws",
+    "Name tables": "name_table: read write name_bytes cursor error laws",
+    "Lookups in name tables": "name_index: table index name_entries indexed index_write error laws",
     "What a call can be asked by": "litemap_store: query",
     "Stores": "litemap_store: store into_iter vec_impl slice_impl slice_iter count no_room retain reserved slice_search merge "
     "split_store; litemap_short: short_store short_iter; litemap_columns: lib column_store column_iter",

@@ -2,7 +2,7 @@
 ghost use Rattle.std.specs.Prelude.{◌≡◌, OnErr, OnOk};
 ghost use Rattle.std.specs.Option.{option_or};
 ghost use Rattle.litemap_store.specs.Pairs.{value_at};
-ghost use Rattle.litemap_store.specs.Queries.{by_text};
+ghost use Rattle.litemap_store.specs.Queries.{by_string};
 
 use litemap::{LiteMap, VecMap};
 use serde::{Deserialize, Serialize};
@@ -48,8 +48,8 @@ pub fn to_toml(alloc: Global, config: &Config) -> Result<String, toml::ser::Writ
 #[tactic(auto, using(litemap::proofs::Texts::text_keys))]
 pub fn overlay(limits: &mut Limits, alloc: Global, user: Limits) -> Result<(), AllocError>
     // The user's limit if there is one, else the one that was there.
-    ensures found { OnOk result ((name : _) → value_at by_text limits.new.pairs name
-        ≡ option_or (value_at by_text user.pairs name) (value_at by_text limits.old.pairs name)) }
+    ensures found { OnOk result ((name : _) → value_at by_string limits.new.pairs name
+        ≡ option_or (value_at by_string user.pairs name) (value_at by_string limits.old.pairs name)) }
     ensures refused { OnErr result (limits.new.pairs ≡ limits.old.pairs) }
 {
     limits.extend_from_litemap(alloc, user)?;

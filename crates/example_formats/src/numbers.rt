@@ -1,10 +1,10 @@
 //! A map whose keys are strings goes to JSON and back.
 ghost use Rattle.std.specs.Prelude.{◌≡◌, IfOk};
 ghost use Rattle.litemap_store.specs.Pairs.{value_at};
-ghost use Rattle.litemap_store.specs.Queries.{by_text};
+ghost use Rattle.litemap_store.specs.Queries.{by_string};
 
 use litemap::VecMap;
-use litemap_json::laws::one_reading_by_text;
+use litemap_json::laws::one_reading_by_string;
 use litemap_json::{from_json, to_json};
 use std::alloc::{AllocError, Global};
 
@@ -14,12 +14,12 @@ pub type Numbers = VecMap<String, u32>;
 /// The numbers, written as JSON and read back: each name has the number that it had.
 pub fn copied(alloc: Global, numbers: &Numbers) -> Result<Numbers, AllocError>
     ensures { IfOk result (λ copy. (name : _) →
-        value_at by_text copy.pairs name ≡ value_at by_text numbers.now.pairs name) }
+        value_at by_string copy.pairs name ≡ value_at by_string numbers.now.pairs name) }
 {
     let Ok(value) = to_json(alloc, numbers) else {
         return Err(AllocError);
     };
-    one_reading_by_text::<u32>();
+    one_reading_by_string::<u32>();
     let Ok(copy) = from_json(alloc, &value) else {
         return Err(AllocError);
     };

@@ -6,7 +6,7 @@ ghost use Rattle.serde_json.specs.Read.{read};
 ghost use Rattle.serde_json.specs.View.{view};
 ghost use Rattle.litemap_json.specs.Reading.{ReadsAs};
 ghost use Rattle.litemap_store.specs.Pairs.{value_at};
-ghost use Rattle.litemap_store.specs.Queries.{by_text};
+ghost use Rattle.litemap_store.specs.Queries.{by_string};
 
 use litemap::VecMap;
 use litemap_json::{JsonFault, JsonItem, JsonKey, from_json};
@@ -32,8 +32,8 @@ pub fn overlay(settings: &mut Settings, alloc: Global, text: &str) -> Result<(),
     ensures found { OnOk result ((tree : _) × (read text.now ≡ Some tree) × (user : _)
         × ReadsAs string_cmp ⟦<String as JsonKey>⟧.key ⟦<String as JsonItem>⟧.item ⟦<String as JsonItem>⟧.item
         ⟦<String as JsonItem>⟧.json ⟦<String as JsonItem>⟧.json tree user
-        × ((name : _) → value_at by_text settings.new.pairs name
-        ≡ option_or (value_at by_text user name) (value_at by_text settings.old.pairs name))) }
+        × ((name : _) → value_at by_string settings.new.pairs name
+        ≡ option_or (value_at by_string user name) (value_at by_string settings.old.pairs name))) }
     ensures refused { OnErr result (settings.new.pairs ≡ settings.old.pairs) }
 {
     match Value::from_str(alloc, text) {
@@ -49,8 +49,8 @@ fn overlay_value(settings: &mut Settings, alloc: Global, value: &Value) -> Resul
     ensures found { OnOk result ((user : _)
         × ReadsAs string_cmp ⟦<String as JsonKey>⟧.key ⟦<String as JsonItem>⟧.item ⟦<String as JsonItem>⟧.item
         ⟦<String as JsonItem>⟧.json ⟦<String as JsonItem>⟧.json (view value.now) user
-        × ((name : _) → value_at by_text settings.new.pairs name
-        ≡ option_or (value_at by_text user name) (value_at by_text settings.old.pairs name))) }
+        × ((name : _) → value_at by_string settings.new.pairs name
+        ≡ option_or (value_at by_string user name) (value_at by_string settings.old.pairs name))) }
     ensures refused { OnErr result (settings.new.pairs ≡ settings.old.pairs) }
 {
     let user: Settings = match from_json(alloc, value) {

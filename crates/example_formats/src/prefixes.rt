@@ -12,7 +12,7 @@ use std::fmt::Write;
 pub fn beginning<'a>(index: &NameIndex<'a>, text: &str) -> NameEntries<'a>
     ensures { OfTable index.now (λ pairs. result ≡ filter (λ p. begins p.0 text.now) pairs) }
 {
-    index.entries_in(index.prefix_places(text))
+    index.entries_in(index.prefix_range(text))
 }
 
 /// Writes the indices of the names that begin with a string, each of these entries, and whether a scan finds others.
@@ -22,7 +22,7 @@ pub fn write_beginning(
     text: &str,
     output: &mut String,
 ) -> Result<(), AllocError> {
-    let places = index.prefix_places(text);
+    let places = index.prefix_range(text);
     write!(output, "{} to {}:", places.start, places.end)?;
     for (name, value) in index.entries_in(places) {
         write_entry(name, value, output)?;
@@ -35,7 +35,7 @@ pub fn write_beginning(
 
 /// Whether an index has the names that begin with a string where a scan of its table has them.
 pub fn is_scanned(table: &NameTable<'_>, index: &NameIndex<'_>, text: &str) -> bool {
-    let places = index.prefix_places(text);
+    let places = index.prefix_range(text);
     let mut found = beginning(index, text);
     let mut place = 0usize;
     for (name, value) in table {

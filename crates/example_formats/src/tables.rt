@@ -156,8 +156,8 @@ impl<'a> Forms<'a> {
             write!(key, "{place:08}")?;
             there = there.wrapping_add(u32::from(self.is_at(key.as_str(), Ok(place))));
             key.push('+')?;
-            let behind = Err(place.wrapping_add(1));
-            between = between.wrapping_add(u32::from(self.is_at(key.as_str(), behind)));
+            let after = Err(place.wrapping_add(1));
+            between = between.wrapping_add(u32::from(self.is_at(key.as_str(), after)));
         }
         write!(output, "{number} names: {there} there, {between} between")
     }

@@ -121,8 +121,8 @@ value_of-append J K key =
     ∙ map-option_or (λ (p : List ℕ × List ℕ). p.1) (at (slice_cmp nat_cmp) J key) (at (slice_cmp nat_cmp) K key)
 
 module _ {Z : Type 0} where
-  pub keyword_read : (rest part key value text : List ℕ) (behind more : Option (List ℕ)) (old new : List (List ℕ × String Z)) → parts_of rest ≡ part ∷ parts_in behind → IsTrue (is_key part) → AreJoined behind text more → key ≡ map to_ascii_lowercase part → value ≡ canonical text → IsPutFirst old (key, value) new → IsKeywordRead rest more old new
-  keyword_read rest part key value text behind more old new e k r f g p = record {
+  pub keyword_read : (rest part key value text : List ℕ) (after more : Option (List ℕ)) (old new : List (List ℕ × String Z)) → parts_of rest ≡ part ∷ parts_in after → IsTrue (is_key part) → AreJoined after text more → key ≡ map to_ascii_lowercase part → value ≡ canonical text → IsPutFirst old (key, value) new → IsKeywordRead rest more old new
+  keyword_read rest part key value text after more old new e k r f g p = record {
     keyword = record { key = part; value = r.value };
     valid = (k, r.each);
     parts = e ∙ ap (λ t. part ∷ t) r.parts;

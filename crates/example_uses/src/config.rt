@@ -5,7 +5,7 @@ ghost use Rattle.std.specs.Prelude.{◌≡◌, None, Some, IfErr, IfOk, IfSome, 
 ghost use Rattle.std.specs.Option.{option_or};
 ghost use Rattle.std.specs.String.{string_cmp};
 ghost use Rattle.litemap_store.specs.Pairs.{at, value_at};
-ghost use Rattle.litemap_store.specs.Queries.{by_text};
+ghost use Rattle.litemap_store.specs.Queries.{by_string};
 
 use litemap::LiteMap;
 use litemap::store::NoRoom;
@@ -47,7 +47,7 @@ pub fn override_with(
         ≡ option_or (value_at string_cmp (reverse user.items) name) (value_at string_cmp settings.old.pairs name)) }
     ensures refused { OnErr result (settings.new.pairs ≡ settings.old.pairs) }
 {
-    settings.keys_rise();
+    settings.keys_ascend();
     settings.extend_from_vec(alloc, user)?;
     Ok(())
 }
@@ -61,11 +61,11 @@ pub fn overlay(
     user: Settings,
 ) -> Result<Option<Settings>, NoRoom<Settings>>
     // The user's setting if there is one, else the one that was there.
-    ensures found { OnOk result ((name : _) → value_at by_text settings.new.pairs name
-        ≡ option_or (value_at by_text user.pairs name) (value_at by_text settings.old.pairs name)) }
+    ensures found { OnOk result ((name : _) → value_at by_string settings.new.pairs name
+        ≡ option_or (value_at by_string user.pairs name) (value_at by_string settings.old.pairs name)) }
     // What is displaced: the old setting if the user has one, else nothing.
-    ensures driven_out { IfOk result (λ rest. IfSome rest (λ old. (name : _) → value_at by_text old.pairs name
-        ≡ if is_some (at by_text user.pairs name) then value_at by_text settings.old.pairs name else None)) }
+    ensures displaced { IfOk result (λ rest. IfSome rest (λ old. (name : _) → value_at by_string old.pairs name
+        ≡ if is_some (at by_string user.pairs name) then value_at by_string settings.old.pairs name else None)) }
     ensures refused { OnErr result (settings.new.pairs ≡ settings.old.pairs) }
     ensures back { IfErr result (λ refused. refused.back.pairs ≡ user.pairs) }
 {

@@ -3,7 +3,7 @@ ghost use Rattle.std.specs.Prelude.{◌≡◌, ◌≢◌, ◌+◌, ◌<◌, IfOk
 ghost use Rattle.std.specs.List.{count_by};
 ghost use Rattle.std.specs.Ordering.{is_eq};
 ghost use Rattle.litemap_store.specs.Pairs.{put, value_at};
-ghost use Rattle.litemap_store.specs.Queries.{by_text};
+ghost use Rattle.litemap_store.specs.Queries.{by_string};
 
 use litemap::store::StoreMut;
 use litemap::{LiteMap, VecMap};
@@ -60,11 +60,11 @@ pub type Names = VecMap<String, u32>;
 /// Counts a name once more. All others stay.
 #[tactic(auto, using(litemap::proofs::Texts::text_entries))]
 pub fn count_name(names: &mut Names, name: String) -> Result<(), AllocError>
-    requires { unwrap_or (value_at by_text names.old.pairs (string_bytes name)) 0 < u32.MAX }
-    ensures counted { OnOk result (value_at by_text names.new.pairs (string_bytes name)
-        ≡ Some (unwrap_or (value_at by_text names.old.pairs (string_bytes name)) 0 + 1)) }
+    requires { unwrap_or (value_at by_string names.old.pairs (string_bytes name)) 0 < u32.MAX }
+    ensures counted { OnOk result (value_at by_string names.new.pairs (string_bytes name)
+        ≡ Some (unwrap_or (value_at by_string names.old.pairs (string_bytes name)) 0 + 1)) }
     ensures others { OnOk result ((other : _) → other ≢ string_bytes name
-        → value_at by_text names.new.pairs other ≡ value_at by_text names.old.pairs other) }
+        → value_at by_string names.new.pairs other ≡ value_at by_string names.old.pairs other) }
     ensures refused { OnErr result (names.new.pairs ≡ names.old.pairs) }
 {
     names.entry(name).and_modify(|n| *n += 1).or_insert(1)?;

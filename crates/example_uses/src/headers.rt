@@ -3,7 +3,7 @@
 ghost use Rattle.std.specs.Prelude.{◌≡◌, ◌≢◌, None, Some, IfOk, OnOk, OnErr, string_bytes};
 ghost use Rattle.std.specs.Option.{option_copied};
 ghost use Rattle.litemap_store.specs.Pairs.{value_at};
-ghost use Rattle.litemap_store.specs.Queries.{by_text};
+ghost use Rattle.litemap_store.specs.Queries.{by_string};
 ghost use Rattle.litemap_store.specs.Clones.{PairsBecame};
 
 use litemap::LiteMap;
@@ -15,10 +15,10 @@ pub type Headers = LiteMap<String, String, Vec<(String, String)>>;
 /// Sets a header, and returns the value before. All others stay.
 #[tactic(auto, using(litemap::proofs::Texts::text_keys))]
 pub fn set(headers: &mut Headers, name: String, value: String) -> Result<Option<String>, AllocError>
-    ensures old { IfOk result (λ old. old ≡ value_at by_text headers.old.pairs (string_bytes name)) }
-    ensures set { OnOk result (value_at by_text headers.new.pairs (string_bytes name) ≡ Some value) }
+    ensures old { IfOk result (λ old. old ≡ value_at by_string headers.old.pairs (string_bytes name)) }
+    ensures set { OnOk result (value_at by_string headers.new.pairs (string_bytes name) ≡ Some value) }
     ensures others { OnOk result ((other : _) → other ≢ string_bytes name
-        → value_at by_text headers.new.pairs other ≡ value_at by_text headers.old.pairs other) }
+        → value_at by_string headers.new.pairs other ≡ value_at by_string headers.old.pairs other) }
     ensures refused { OnErr result (headers.new.pairs ≡ headers.old.pairs) }
 {
     Ok(headers.insert(name, value)?)
@@ -26,7 +26,7 @@ pub fn set(headers: &mut Headers, name: String, value: String) -> Result<Option<
 
 /// Looks a header up.
 pub fn get<'a>(headers: &'a Headers, name: &str) -> Option<&'a String>
-    ensures { option_copied result ≡ value_at by_text headers.entry.now.pairs name.now }
+    ensures { option_copied result ≡ value_at by_string headers.entry.now.pairs name.now }
 {
     headers.get(name)
 }
@@ -34,10 +34,10 @@ pub fn get<'a>(headers: &'a Headers, name: &str) -> Option<&'a String>
 /// Removes a header. All others stay.
 #[tactic(auto, using(litemap::proofs::Texts::text_keys))]
 pub fn remove(headers: &mut Headers, name: &str) -> Option<String>
-    ensures value { result ≡ value_at by_text headers.old.pairs name.now }
-    ensures gone { value_at by_text headers.new.pairs name.now ≡ None }
+    ensures value { result ≡ value_at by_string headers.old.pairs name.now }
+    ensures gone { value_at by_string headers.new.pairs name.now ≡ None }
     ensures others { (other : _) → other ≢ name.now
-        → value_at by_text headers.new.pairs other ≡ value_at by_text headers.old.pairs other }
+        → value_at by_string headers.new.pairs other ≡ value_at by_string headers.old.pairs other }
 {
     headers.remove(name)
 }

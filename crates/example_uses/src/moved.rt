@@ -17,6 +17,6 @@ where
     T: StoreFromIterable<K, V>,
     ensures { IfOk result (λ moved. moved.pairs ≡ map.pairs) }
 {
-    map.keys_rise();
+    map.keys_ascend();
     Ok(LiteMap::from_iter(alloc, map)?)
 }

@@ -3,7 +3,7 @@ ghost use Rattle.std.specs.Prelude.{◌≡◌, ◌++◌, Some, OnOk, OnErr, stri
 ghost use Rattle.std.specs.String.{string_cmp};
 ghost use Rattle.litemap_store.specs.Last.{Last};
 ghost use Rattle.litemap_store.specs.Pairs.{index_of, value_at};
-ghost use Rattle.litemap_store.specs.Queries.{by_text};
+ghost use Rattle.litemap_store.specs.Queries.{by_string};
 
 use litemap::VecMap;
 use std::alloc::{AllocError, Global};
@@ -14,7 +14,7 @@ pub type Scores = VecMap<String, u32>;
 /// Sets a score, which a lookup of the name then finds. An error leaves the map.
 #[tactic(auto, using(litemap::proofs::Texts::text_keys))]
 pub fn set(scores: &mut Scores, name: String, score: u32) -> Result<(), AllocError>
-    ensures there { OnOk result (value_at by_text scores.new.pairs (string_bytes name) ≡ Some score) }
+    ensures there { OnOk result (value_at by_string scores.new.pairs (string_bytes name) ≡ Some score) }
     ensures refused { OnErr result (scores.new.pairs ≡ scores.old.pairs) }
 {
     scores.insert(name, score)?;
@@ -23,14 +23,14 @@ pub fn set(scores: &mut Scores, name: String, score: u32) -> Result<(), AllocErr
 
 /// The score at a name.
 pub fn score_of(scores: &Scores, name: &str) -> Option<u32>
-    ensures { result ≡ value_at by_text scores.now.pairs name.now }
+    ensures { result ≡ value_at by_string scores.now.pairs name.now }
 {
     scores.get(name).copied()
 }
 
 /// The index of a name among the sorted names, or in `Err` the index at which it would go.
 pub fn place_of(scores: &Scores, name: &str) -> Result<usize, usize>
-    ensures { result ≡ index_of by_text scores.now.pairs name.now }
+    ensures { result ≡ index_of by_string scores.now.pairs name.now }
 {
     scores.find_index(name)
 }

@@ -1,7 +1,7 @@
 //! Sparse vectors: numbers at indices, 0 where there is none. And numbers at names.
 ghost use Rattle.std.specs.Prelude.{◌≡◌, ◌+◌, ◌≤◌, OnOk, OnErr, min};
 ghost use Rattle.litemap_store.specs.Pairs.{at, value_at};
-ghost use Rattle.litemap_store.specs.Queries.{by_text};
+ghost use Rattle.litemap_store.specs.Queries.{by_string};
 ghost use Rattle.litemap.specs.Combined.{found_with};
 ghost use Rattle.example_uses.specs.Vectors.{number_at};
 
@@ -38,9 +38,9 @@ pub type Named = VecMap<String, u64>;
 /// Adds the numbers of other names. A sum that is too great becomes the greatest number.
 #[tactic(auto, using(litemap::proofs::Texts::text_combined))]
 pub fn add_capped(named: &mut Named, alloc: Global, other: Named) -> Result<(), AllocError>
-    ensures added { OnOk result ((name : _) → value_at by_text named.new.pairs name
+    ensures added { OnOk result ((name : _) → value_at by_string named.new.pairs name
         ≡ found_with (λ _ here new. min (here + new) 18446744073709551615)
-        (value_at by_text named.old.pairs name) (at by_text other.pairs name)) }
+        (value_at by_string named.old.pairs name) (at by_string other.pairs name)) }
     ensures refused { OnErr result (named.new.pairs ≡ named.old.pairs) }
 {
     named.extend_with(

@@ -8,7 +8,7 @@ ghost use Rattle.std.specs.Ordering.{nat_cmp};
 ghost use Rattle.std.specs.String.{string_cmp};
 ghost use Rattle.std.specs.declared.cmp.Ordering.TheVariants.{Equal};
 ghost use Rattle.litemap_store.specs.Pairs.{at, cut, value_at, write};
-ghost use Rattle.litemap_store.specs.Queries.{by_slice, by_text};
+ghost use Rattle.litemap_store.specs.Queries.{by_slice, by_string};
 
 use crate::scores;
 use litemap::store::Store;
@@ -24,8 +24,8 @@ pub type ByteNumbers = LiteMap<Vec<u8>, u32, Vec<(Vec<u8>, u32)>>;
 /// The number at a tag such as `de-CH`, else that at its language, which stands before the first `-`.
 #[tactic(auto, using(std::proofs::lemmas::Str::Pattern::split_once_first))]
 pub fn number_of_locale(map: &Numbers, tag: &str) -> Option<u32>
-    ensures { result ≡ option_or (value_at by_text map.now.pairs tag.now)
-        (value_at by_text map.now.pairs (before_first (λ b. b == 45) tag.now)) }
+    ensures { result ≡ option_or (value_at by_string map.now.pairs tag.now)
+        (value_at by_string map.now.pairs (before_first (λ b. b == 45) tag.now)) }
 {
     let language = match tag.split_once('-') {
         Some((language, _)) => language,
@@ -60,12 +60,12 @@ pub fn set_at_key(
 /// Moves the number at a name to another name, and returns whether there was one. No memory is needed.
 #[tactic(auto, using(litemap::proofs::Texts::text_keys))]
 pub fn rename(map: &mut Numbers, old: &str, new: String) -> bool
-    ensures there { result ≡ is_some (at by_text map.old.pairs old.now) }
+    ensures there { result ≡ is_some (at by_string map.old.pairs old.now) }
     ensures moved { IsTrue result
-        → value_at by_text map.new.pairs (string_bytes new) ≡ value_at by_text map.old.pairs old.now }
-    ensures gone { old.now ≢ string_bytes new → value_at by_text map.new.pairs old.now ≡ None }
+        → value_at by_string map.new.pairs (string_bytes new) ≡ value_at by_string map.old.pairs old.now }
+    ensures gone { old.now ≢ string_bytes new → value_at by_string map.new.pairs old.now ≡ None }
     ensures others { (other : _) → other ≢ old.now → other ≢ string_bytes new
-        → value_at by_text map.new.pairs other ≡ value_at by_text map.old.pairs other }
+        → value_at by_string map.new.pairs other ≡ value_at by_string map.old.pairs other }
     ensures unchanged { IsFalse result → map.new.pairs ≡ map.old.pairs }
 {
     map.rename(old, new)
@@ -74,19 +74,19 @@ pub fn rename(map: &mut Numbers, old: &str, new: String) -> bool
 /// Writes the number at a name, if the name is there. All others stay.
 #[tactic(auto, using(litemap::proofs::Texts::text_keys))]
 pub fn set_number(map: &mut Numbers, name: &str, number: u32) -> bool
-    ensures there { result ≡ is_some (at by_text map.old.pairs name.now) }
-    ensures written { map.new.pairs ≡ write by_text map.old.pairs name.now number }
-    ensures set { IsTrue result → value_at by_text map.new.pairs name.now ≡ Some number }
+    ensures there { result ≡ is_some (at by_string map.old.pairs name.now) }
+    ensures written { map.new.pairs ≡ write by_string map.old.pairs name.now number }
+    ensures set { IsTrue result → value_at by_string map.new.pairs name.now ≡ Some number }
     ensures others { (other : _) → other ≢ name.now
-        → value_at by_text map.new.pairs other ≡ value_at by_text map.old.pairs other }
+        → value_at by_string map.new.pairs other ≡ value_at by_string map.old.pairs other }
 {
     write_number(map, name, number)
 }
 
 // Writes the number at a name, if the name is there.
 fn write_number(map: &mut Numbers, name: &str, number: u32) -> bool
-    ensures there { result ≡ is_some (at by_text map.old.pairs name.now) }
-    ensures written { map.new.pairs ≡ write by_text map.old.pairs name.now number }
+    ensures there { result ≡ is_some (at by_string map.old.pairs name.now) }
+    ensures written { map.new.pairs ≡ write by_string map.old.pairs name.now number }
 {
     match map.get_mut(name) {
         Some(slot) => {

@@ -130,8 +130,8 @@ module _ {K Q V : Type 0} (order : K → Q → Ordering) (q : Q) (L : List (K ×
   pub before_missing : IsMissingAt order L q i → IsCut (λ p. is_lt (order p.0 q)) L i
   before_missing m = cut_missing order is_lt refl refl q L i m
 
-  pub behind_found : IsFoundAt order L q i → IsCut (λ p. is_le (order p.0 q)) L (i + 1)
-  behind_found f = cut_past_found order is_le refl refl q L i f refl
+  pub after_found : IsFoundAt order L q i → IsCut (λ p. is_le (order p.0 q)) L (i + 1)
+  after_found f = cut_past_found order is_le refl refl q L i f refl
 
-  pub behind_missing : IsMissingAt order L q i → IsCut (λ p. is_le (order p.0 q)) L i
-  behind_missing m = cut_missing order is_le refl refl q L i m
+  pub after_missing : IsMissingAt order L q i → IsCut (λ p. is_le (order p.0 q)) L i
+  after_missing m = cut_missing order is_le refl refl q L i m

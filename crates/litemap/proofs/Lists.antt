@@ -15,7 +15,7 @@ use Rattle.std.specs.declared.cmp.Ordering.{Ordering}
 use Rattle.std.specs.declared.cmp.Ordering.TheVariants.{Equal}
 use Rattle.litemap_store.specs.Last.{Last}
 use Rattle.litemap_store.specs.Pairs.{Rising, value_at}
-use Rattle.litemap_store.specs.Queries.{by_text}
+use Rattle.litemap_store.specs.Queries.{by_string}
 use Rattle.litemap_store.proofs.Callers.LastLookups.{value_at-last, value_at-last_of_more, value_at-last_of_rising}
 use Rattle.litemap_store.proofs.Last.Pairs.{Last-rising, Last-unique}
 use Rattle.litemap_store.proofs.Callers.MergeLookups.{key_alike, key_same}
@@ -24,24 +24,24 @@ list_rising : {K V : Type 0} (cmp : K → K → Ordering) → IsTotalOrder cmp �
 list_rising cmp o J M last r = Last-unique cmp o J M J last (Last-rising cmp J r)
 
 module _ {Z : Type 0} where
-  same_bytes : (t : List ℕ) (x y : String Z) → by_text x t ≡ Equal → by_text y t ≡ Equal → string_cmp x y ≡ Equal
+  same_bytes : (t : List ℕ) (x y : String Z) → by_string x t ≡ Equal → by_string y t ≡ Equal → string_cmp x y ≡ Equal
   same_bytes t x y = key_same nat_list_cmp_total t (string_bytes x) (string_bytes y)
 
-  alike_bytes : (t : List ℕ) (x y : String Z) → string_cmp x y ≡ Equal → by_text x t ≡ Equal → by_text y t ≡ Equal
+  alike_bytes : (t : List ℕ) (x y : String Z) → string_cmp x y ≡ Equal → by_string x t ≡ Equal → by_string y t ≡ Equal
   alike_bytes t x y = key_alike nat_list_cmp_total t (string_bytes x) (string_bytes y)
 
 module _ {V Z : Type 0} where
-  pub text_list_last : (J M : List (String Z × V)) (t : List ℕ) → Last string_cmp J M → value_at by_text M t ≡ value_at by_text (reverse J) t
-  text_list_last J M t last = value_at-last string_cmp string_cmp_total by_text t (same_bytes t) (alike_bytes t) J M last
+  pub text_list_last : (J M : List (String Z × V)) (t : List ℕ) → Last string_cmp J M → value_at by_string M t ≡ value_at by_string (reverse J) t
+  text_list_last J M t last = value_at-last string_cmp string_cmp_total by_string t (same_bytes t) (alike_bytes t) J M last
 
   pub text_list_rising : (J M : List (String Z × V)) → Last string_cmp J M → Rising string_cmp J → M ≡ J
   text_list_rising J M last r = list_rising string_cmp string_cmp_total J M last r
 
-  pub text_more_last : (L J M : List (String Z × V)) (t : List ℕ) → Last string_cmp (L ++ J) M → Rising string_cmp L → value_at by_text M t ≡ option_or (value_at by_text (reverse J) t) (value_at by_text L t)
-  text_more_last L J M t last r = value_at-last_of_more string_cmp string_cmp_total by_text t (same_bytes t) (alike_bytes t) L J M last r
+  pub text_more_last : (L J M : List (String Z × V)) (t : List ℕ) → Last string_cmp (L ++ J) M → Rising string_cmp L → value_at by_string M t ≡ option_or (value_at by_string (reverse J) t) (value_at by_string L t)
+  text_more_last L J M t last r = value_at-last_of_more string_cmp string_cmp_total by_string t (same_bytes t) (alike_bytes t) L J M last r
 
-  pub text_more_rising : (L J M : List (String Z × V)) (t : List ℕ) → Last string_cmp (L ++ J) M → Rising string_cmp L → Rising string_cmp J → value_at by_text M t ≡ option_or (value_at by_text J t) (value_at by_text L t)
-  text_more_rising L J M t last r s = value_at-last_of_rising string_cmp string_cmp_total by_text t (same_bytes t) (alike_bytes t) L J M last r s
+  pub text_more_rising : (L J M : List (String Z × V)) (t : List ℕ) → Last string_cmp (L ++ J) M → Rising string_cmp L → Rising string_cmp J → value_at by_string M t ≡ option_or (value_at by_string J t) (value_at by_string L t)
+  text_more_rising L J M t last r s = value_at-last_of_rising string_cmp string_cmp_total by_string t (same_bytes t) (alike_bytes t) L J M last r s
 
   pub string_list_last : (J M : List (String Z × V)) (k : String Z) → Last string_cmp J M → value_at string_cmp M k ≡ value_at string_cmp (reverse J) k
   string_list_last J M k last = text_list_last J M (string_bytes k) last

@@ -8,7 +8,7 @@ use Rattle.litemap_store.specs.Pairs.{at, place, put, value_at, value_in}
 use Rattle.litemap_store.proofs.Lists.Seams.{put_value}
 use Rattle.litemap.specs.declared.try_fault.TryFault.{TryFault}
 use Rattle.litemap.specs.declared.try_fault.TryFault.TheVariants.{Closure, NoRoom}
-use Rattle.litemap.specs.TryFault.{FailsAs, IfClosure, IsPlaced, Shown}
+use Rattle.litemap.specs.TryFault.{FailsAs, IfClosure, IsInsertedAt, Shown}
 
 same_value : {V : Type 0} (v w : V) → Some v ≡ Some w → v ≡ w
 same_value {V} v w e = ap (λ (o : Option V). unwrap_or o v) e
@@ -22,7 +22,7 @@ module _ {F K V E : Type 0} (g : Once F (Bor K × Unit {0}) (Result V E)) (f : F
     pub present : IsSome (at cmp old.pairs key) → IsOk r × (n ≡ old)
     pub put : IsNone (at cmp old.pairs key) → OnOk r ((v : V) × FnOnceReturnsAt g f key (Ok v) × (n.pairs ≡ put cmp old.pairs key v))
     pub room : old.room ≤ n.room + 1
-    pub faults : FailsAs g f key old.room r
+    pub errors : FailsAs g f key old.room r
     pub refused : OnErr r (n.pairs ≡ old.pairs)
     pub unmoved : IfClosure r (λ _. n ≡ old)
 
@@ -36,13 +36,13 @@ module _ {F K V E : Type 0} (g : Once F (Bor K × Unit {0}) (Result V E)) (f : F
 
   -- all that `try_get_or_insert` ensures
   pub record Told (t : Result (ℕ × Bor V) (TryFault K V E)) : Type 0 where
-    pub leaves : IsPlaced g f cmp key old t n
+    pub leaves : IsInsertedAt g f cmp key old t n
     pub place : IfOk t (λ there. there.0 ≡ place cmp old.pairs key)
     pub present : IsSome (at cmp old.pairs key) → IsOk t
     pub within : IsSome (at cmp old.pairs key) → IfOk t (λ there. there.0 < length old.pairs)
     pub value : IsSome (at cmp old.pairs key) → IfOk t (λ there. Some there.1.now ≡ value_at cmp old.pairs key)
     pub answered : IsNone (at cmp old.pairs key) → IfOk t (λ there. FnOnceReturnsAt g f key (Ok there.1.now))
-    pub faults : FailsAs g f key old.room t
+    pub errors : FailsAs g f key old.room t
 
   pub told : (r : Result ℕ (TryFault K V E)) → Found r → (t : Result (ℕ × Bor V) (TryFault K V E)) → Shown n.pairs r t → Told t
   told r found (Ok there) shown =
@@ -65,7 +65,7 @@ module _ {F K V E : Type 0} (g : Once F (Bor K × Unit {0}) (Result V E)) (f : F
         within = λ some. subst (λ m. there.0 < length m.pairs) (found.present some).1 (subst (λ s. IfOk s (λ i. i < length n.pairs)) is found.within);
         value = λ some. sym shown.1 ∙ ap (option_map (λ p. p.1)) (subst (λ s. IfOk s (λ i. slice_get n.pairs i ≡ at cmp n.pairs key)) is found.there) ∙ ap (λ m. value_at cmp m.pairs key) (found.present some).1;
         answered = λ none. subst (λ v. FnOnceReturnsAt g f key (Ok v)) (same none) (made none).1;
-        faults = record { closure = tt; full = tt; back = tt };
+        errors = record { closure = tt; full = tt; back = tt };
       }
   told r found (Err e) shown =
       record {
@@ -81,5 +81,5 @@ module _ {F K V E : Type 0} (g : Once F (Bor K × Unit {0}) (Result V E)) (f : F
         within = λ some. tt;
         value = λ some. tt;
         answered = λ none. tt;
-        faults = fails_alike e (subst (FailsAs g f key old.room) shown found.faults);
+        errors = fails_alike e (subst (FailsAs g f key old.room) shown found.errors);
       }

@@ -10,7 +10,7 @@ use Rattle.std.specs.declared.cmp.Ordering.TheVariants.{Equal, Greater}
 use Rattle.litemap_store.specs.Pairs.{BelowAll, Rising, at, value_at}
 use Rattle.litemap_store.specs.Retain.{CalledOnPair, Kept}
 use Rattle.litemap_store.proofs.Search.Splitting.{equal_from_is_eq, less_back}
-use Rattle.litemap.specs.Retained.{AnswersAt}
+use Rattle.litemap.specs.Retained.{ReturnsAt}
 use denote.Param.Members.{Mut}
 use denote.Ref.{Bor}
 
@@ -49,11 +49,11 @@ module _ {K V : Type 0} (cmp : K → K → Ordering) (k : K) where
 
   module _ {F : Type 0} (g : Mut F (Bor K × (Bor V × Unit {0})) Bool) where
     later : (f f' : F) (p : K × V) (L : List (K × V)) (b : Bool) → f' ≡ f → is_eq (cmp p.0 k) ≡ false
-        → AnswersAt g f cmp (p ∷ L) k b → AnswersAt g f' cmp L k b
-    later f f' p L b same n a = subst (λ h. AnswersAt g h cmp L k b) (sym same) (λ q c h called. ((a q c h called).0, λ equal is. (a q c h called).1 equal (rw n is)))
+        → ReturnsAt g f cmp (p ∷ L) k b → ReturnsAt g f' cmp L k b
+    later f f' p L b same n a = subst (λ h. ReturnsAt g h cmp L k b) (sym same) (λ q c h called. ((a q c h called).0, λ equal is. (a q c h called).1 equal (rw n is)))
 
     kept_yes : (bs : List Bool) (L : List (K × V)) (f f' : F) → length bs ≡ length L → ReturnsInTurn (CalledOnPair g) f bs L f'
-        → AnswersAt g f cmp L k true → at cmp (items_where_true bs L) k ≡ at cmp L k
+        → ReturnsAt g f cmp L k true → at cmp (items_where_true bs L) k ≡ at cmp L k
     kept_yes [] [] f f' n turn a = refl
     kept_yes [] (p ∷ L) f f' n turn a = absurd (omega arith)
     kept_yes (b ∷ bs) [] f f' n turn a = absurd turn
@@ -65,7 +65,7 @@ module _ {K V : Type 0} (cmp : K → K → Ordering) (k : K) where
         ]) refl
 
     kept_no : (o : IsTotalOrder cmp) (bs : List Bool) (L : List (K × V)) (f f' : F) → length bs ≡ length L → Rising cmp L
-        → ReturnsInTurn (CalledOnPair g) f bs L f' → AnswersAt g f cmp L k false → at cmp (items_where_true bs L) k ≡ None
+        → ReturnsInTurn (CalledOnPair g) f bs L f' → ReturnsAt g f cmp L k false → at cmp (items_where_true bs L) k ≡ None
     kept_no o [] L f f' n h turn a = refl
     kept_no o (b ∷ bs) [] f f' n h turn a = refl
     kept_no o (b ∷ bs) (p ∷ L) f f' n h turn a =
@@ -76,10 +76,10 @@ module _ {K V : Type 0} (cmp : K → K → Ordering) (k : K) where
         ]) refl
 
     module _ (f : F) (L L' M : List (K × V)) (kept : Kept g f L M) (is : L ≡ L') where
-      pub value_at-kept_yes : AnswersAt g f cmp L' k true → value_at cmp M k ≡ value_at cmp L' k
-      value_at-kept_yes a = ap (option_map (λ q. q.1)) (ap (λ N. at cmp N k) (kept.4) ∙ kept_yes kept.0 L f kept.1 kept.2 kept.3 (subst (λ N. AnswersAt g f cmp N k true) (sym is) a) ∙ ap (λ N. at cmp N k) is)
+      pub value_at-kept_yes : ReturnsAt g f cmp L' k true → value_at cmp M k ≡ value_at cmp L' k
+      value_at-kept_yes a = ap (option_map (λ q. q.1)) (ap (λ N. at cmp N k) (kept.4) ∙ kept_yes kept.0 L f kept.1 kept.2 kept.3 (subst (λ N. ReturnsAt g f cmp N k true) (sym is) a) ∙ ap (λ N. at cmp N k) is)
 
-      pub value_at-kept_no : IsTotalOrder cmp → Rising cmp L → AnswersAt g f cmp L' k false → value_at cmp M k ≡ None
+      pub value_at-kept_no : IsTotalOrder cmp → Rising cmp L → ReturnsAt g f cmp L' k false → value_at cmp M k ≡ None
       value_at-kept_no o h a =
-          let none = kept_no o kept.0 L f kept.1 kept.2 h kept.3 (subst (λ N. AnswersAt g f cmp N k false) (sym is) a) in
+          let none = kept_no o kept.0 L f kept.1 kept.2 h kept.3 (subst (λ N. ReturnsAt g f cmp N k false) (sym is) a) in
           ap (option_map (λ q. q.1)) (ap (λ N. at cmp N k) (kept.4) ∙ none)

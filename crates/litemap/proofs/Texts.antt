@@ -18,7 +18,7 @@ use Rattle.std.specs.declared.cmp.Ordering.{Ordering}
 use Rattle.std.specs.declared.cmp.Ordering.TheVariants.{Equal}
 use Rattle.litemap_store.specs.Merge.{Merge, left}
 use Rattle.litemap_store.specs.Pairs.{above, at, below, cut, index_of, key_or, place, put, value_at, write}
-use Rattle.litemap_store.specs.Queries.{by_slice, by_text}
+use Rattle.litemap_store.specs.Queries.{by_slice, by_string}
 use Rattle.litemap_store.proofs.Callers.Lookups.{value_at-cut, value_at-cut_other, value_at-put, value_at-put_other, value_at-write, value_at-write_apart, value_in-set}
 use Rattle.litemap_store.proofs.Callers.Lookups.{index_of-put, value_at-between_apart, value_at-cut_apart, value_at-set}
 use Rattle.litemap_store.proofs.Callers.Lookups.{value_at-written_apart}
@@ -99,44 +99,44 @@ module _ {V Z : Type 0} where
 
   -- ---- the same, looked up by strings
 
-  pub key_is_text : (L : List (String Z × V)) (k : String Z) → value_at string_cmp L k ≡ value_at by_text L (string_bytes k)
+  pub key_is_text : (L : List (String Z × V)) (k : String Z) → value_at string_cmp L k ≡ value_at by_string L (string_bytes k)
   key_is_text L k = refl
 
-  pub text_put_found : (L : List (String Z × V)) (k : String Z) (v : V) → value_at by_text (put string_cmp L k v) (string_bytes k) ≡ Some v
+  pub text_put_found : (L : List (String Z × V)) (k : String Z) (v : V) → value_at by_string (put string_cmp L k v) (string_bytes k) ≡ Some v
   text_put_found L k v = value_at-put string_cmp_total k L v
 
-  pub text_put_others : (L : List (String Z × V)) (k : String Z) (u : List ℕ) (v : V) → u ≢ string_bytes k → value_at by_text (put string_cmp L k v) u ≡ value_at by_text L u
+  pub text_put_others : (L : List (String Z × V)) (k : String Z) (u : List ℕ) (v : V) → u ≢ string_bytes k → value_at by_string (put string_cmp L k v) u ≡ value_at by_string L u
   text_put_others L k u v n = put_others (λ k. string_bytes k) L k u v n
 
-  pub text_write_found : (L : List (String Z × V)) (t : List ℕ) (v : V) → IsSome (at by_text L t) → value_at by_text (write by_text L t v) t ≡ Some v
-  text_write_found L t v there = value_at-write by_text t L v there
+  pub text_write_found : (L : List (String Z × V)) (t : List ℕ) (v : V) → IsSome (at by_string L t) → value_at by_string (write by_string L t v) t ≡ Some v
+  text_write_found L t v there = value_at-write by_string t L v there
 
-  pub text_write_others : (L : List (String Z × V)) (t u : List ℕ) (v : V) → u ≢ t → value_at by_text (write by_text L t v) u ≡ value_at by_text L u
+  pub text_write_others : (L : List (String Z × V)) (t u : List ℕ) (v : V) → u ≢ t → value_at by_string (write by_string L t v) u ≡ value_at by_string L u
   text_write_others L t u v n = write_others (λ k. string_bytes k) L t u v n
 
   -- what a write at an index leaves if a pair is there
   pub text_set_others : (L : List (String Z × V)) (i : ℕ) (u : List ℕ) (p : String Z × V) (v : V) → slice_get L i ≡ Some p → string_bytes p.0 ≢ u
-      → value_at by_text (slice_set L i (p.0, v)) u ≡ value_at by_text L u
+      → value_at by_string (slice_set L i (p.0, v)) u ≡ value_at by_string L u
   text_set_others L i u p v is n = set_others (λ k. string_bytes k) L i u p v is n
 
-  pub text_put_place : (L : List (String Z × V)) (k : String Z) (v : V) → index_of by_text (put string_cmp L k v) (string_bytes k) ≡ Ok (place by_text L (string_bytes k))
+  pub text_put_place : (L : List (String Z × V)) (k : String Z) (v : V) → index_of by_string (put string_cmp L k v) (string_bytes k) ≡ Ok (place by_string L (string_bytes k))
   text_put_place L k v = index_of-put string_cmp_total k L v
 
-  pub text_merged : (A B M : List (String Z × V)) (t : List ℕ) → Merge string_cmp A B M → value_at by_text M t ≡ option_or (value_at by_text B t) (value_at by_text A t)
+  pub text_merged : (A B M : List (String Z × V)) (t : List ℕ) → Merge string_cmp A B M → value_at by_string M t ≡ option_or (value_at by_string B t) (value_at by_string A t)
   text_merged A B M t merge = merged (λ k. string_bytes k) A B M t merge
 
-  pub text_left : (A B : List (String Z × V)) (t : List ℕ) → value_at by_text (left string_cmp A B) t ≡ cond (is_some (at by_text B t)) (value_at by_text A t) None
+  pub text_left : (A B : List (String Z × V)) (t : List ℕ) → value_at by_string (left string_cmp A B) t ≡ cond (is_some (at by_string B t)) (value_at by_string A t) None
   text_left A B t = left_over (λ k. string_bytes k) A B t
 
   pub text_combined : (combine : String Z → V → V → V) (A B M : List (String Z × V)) (t : List ℕ) → Merge string_cmp A (combined string_cmp combine A B) M
-      → value_at by_text M t ≡ found_with combine (value_at by_text A t) (at by_text B t)
+      → value_at by_string M t ≡ found_with combine (value_at by_string A t) (at by_string B t)
   text_combined combine A B M t merge =
-      value_at-combined string_cmp string_cmp_total by_text t (λ x y. key_same nat_list_cmp_total t (string_bytes x) (string_bytes y)) (λ x y. key_alike nat_list_cmp_total t (string_bytes x) (string_bytes y)) combine A B M merge
+      value_at-combined string_cmp string_cmp_total by_string t (λ x y. key_same nat_list_cmp_total t (string_bytes x) (string_bytes y)) (λ x y. key_alike nat_list_cmp_total t (string_bytes x) (string_bytes y)) combine A B M merge
 
-  pub text_cut_gone : (L : List (String Z × V)) (t : List ℕ) → value_at by_text (cut by_text L t) t ≡ None
-  text_cut_gone L t = value_at-cut by_text t L
+  pub text_cut_gone : (L : List (String Z × V)) (t : List ℕ) → value_at by_string (cut by_string L t) t ≡ None
+  text_cut_gone L t = value_at-cut by_string t L
 
-  pub text_cut_others : (L : List (String Z × V)) (t u : List ℕ) → u ≢ t → value_at by_text (cut by_text L t) u ≡ value_at by_text L u
+  pub text_cut_others : (L : List (String Z × V)) (t u : List ℕ) → u ≢ t → value_at by_string (cut by_string L t) u ≡ value_at by_string L u
   text_cut_others L t u n = cut_others (λ k. string_bytes k) L t u n
 
   -- ---- `Vec<u8>`, looked up by bytes

@@ -24,8 +24,8 @@ module _ (K V S : RattleType) (key : OrdMembers K.Denot) (pairs : S.Denot → Li
     LendsValue order q r = LendsIf map_row V m r (λ v. with_pairs m.now (write order m.now.pairs q v)) m.now
 
     -- once the reference in r ends, the map has the last value written through it at index i; if there is none, the map stays
-    abbrev pub LendsPlace : ℕ → Option (MutBor V.Denot) → Fml
-    LendsPlace i r = LendsIf map_row V m r (λ v. with_pairs m.now (set_value m.now.pairs i v)) m.now
+    abbrev pub LendsIndex : ℕ → Option (MutBor V.Denot) → Fml
+    LendsIndex i r = LendsIf map_row V m r (λ v. with_pairs m.now (set_value m.now.pairs i v)) m.now
 
     -- once the reference in r ends, the map has the last value written through it at an index that may be found
     abbrev pub LendsFound : (ℕ → Type 0) → Option (MutBor V.Denot) → Fml

@@ -8,7 +8,7 @@ use denote.Param.Members.{Mut}
 use denote.Ref.{Bor}
 
 -- f keeps no state, and returns b for the pair with a key equal to k, if there is one
-abbrev pub AnswersAt : {F K V : Type 0} → Mut F (Bor K × (Bor V × Unit {0})) Bool → F → (K → K → Ordering) → List (K × V)
+abbrev pub ReturnsAt : {F K V : Type 0} → Mut F (Bor K × (Bor V × Unit {0})) Bool → F → (K → K → Ordering) → List (K × V)
     → K → Bool → Type 0
-AnswersAt {F} {K} {V} g f cmp L k b = (p : K × V) (c : Bool) (f' : F) → CalledOnPair g f p c f'
+ReturnsAt {F} {K} {V} g f cmp L k b = (p : K × V) (c : Bool) (f' : F) → CalledOnPair g f p c f'
     → (f' ≡ f) × (cmp p.0 k ≡ Equal → at cmp L k ≡ Some p → c ≡ b)

@@ -24,19 +24,19 @@ module _ {A K V E : Type 0} where
 module _ {F K V E : Type 0} (g : Once F (Bor K × Unit {0}) (Result V E)) (f : F) (key : K) (room : ℕ) where
   -- a call that fails has the closure's error; or the room is 0, and the key and what the closure returned come back
   pub record FailsAs {A : Type 0} (result : Result A (TryFault K V E)) : Type 0 where
-    pub closure : IfClosure result (λ fault. FnOnceReturnsAt g f key (Err fault))
+    pub closure : IfClosure result (λ error. FnOnceReturnsAt g f key (Err error))
     pub full : IfNoRoom result (λ _ _. room ≡ 0)
     pub back : IfNoRoom result (λ k v. (k ≡ key) × FnOnceReturnsAt g f key (Ok v))
 
 -- the second result is the first, with the value at the index
 abbrev pub Shown : {K V E : Type 0} → List (K × V) → Result ℕ E → Result (ℕ × Bor V) E → Type 0
 Shown L found shown =
-    MatchResult shown (λ there. (found ≡ Ok there.0) × (value_in L there.0 ≡ Some there.1.now)) (λ fault. found ≡ Err fault)
+    MatchResult shown (λ there. (found ≡ Ok there.0) × (value_in L there.0 ≡ Some there.1.now)) (λ error. found ≡ Err error)
 
 module _ {F K V E : Type 0} (g : Once F (Bor K × Unit {0}) (Result V E)) (f : F) (cmp : K → K → Ordering) (key : K)
     (old : Contents K V) (result : Result (ℕ × Bor V) (TryFault K V E)) where
   -- what the map `old` is after the call: the same if the key is present, else with the value that is returned
-  pub record IsPlaced (n : Contents K V) : Type 0 where
+  pub record IsInsertedAt (n : Contents K V) : Type 0 where
     pub present : IsSome (at cmp old.pairs key) → n ≡ old
     pub put : IsNone (at cmp old.pairs key) → IfOk result (λ there. n.pairs ≡ put cmp old.pairs key there.1.now)
     pub room : old.room ≤ n.room + 1

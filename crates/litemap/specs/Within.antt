@@ -32,11 +32,11 @@ module _ {K Q V : Type 0} (order : K → Q → Ordering) where
   within L from to = filter (λ p. not (is_before order from p.0) && is_up_to order to p.0) L
 
   -- the pairs within both bounds are at the indices from `start` to before `end`, after all that are before the lower one
-  pub record ArePlaces (L : List (K × V)) (from to : Bound Q) (places : Range ℕ) : Type 0 where
-    pub pairs : sub L places.start places.end ≡ Some (within L from to)
-    pub start : places.start ≡ length (before L from)
-    pub len : places.end ≡ places.start + length (within L from to)
-    pub inside : places.end ≤ length L
+  pub record IsIndexRange (L : List (K × V)) (from to : Bound Q) (range : Range ℕ) : Type 0 where
+    pub pairs : sub L range.start range.end ≡ Some (within L from to)
+    pub start : range.start ≡ length (before L from)
+    pub len : range.end ≡ range.start + length (within L from to)
+    pub inside : range.end ≤ length L
 
 -- the test is true of the first n elements, and of no other
 abbrev pub IsCut : {X : Type 0} → (X → Bool) → List X → ℕ → Type 0

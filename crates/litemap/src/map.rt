@@ -105,9 +105,9 @@ impl<K: Ord, V, S: Store<K, V>> LiteMap<K, V, S> {
     pub fn is_sorted_store(store: &S) -> bool
         ensures { IsTrue result ↔ Rising K.cmp (S.pairs store.now) }
     {
-        for place in 1..store.lm_len() {
-            let (before, _) = store.lm_get(place - 1).unwrap();
-            let (key, _) = store.lm_get(place).unwrap();
+        for index in 1..store.lm_len() {
+            let (before, _) = store.lm_get(index - 1).unwrap();
+            let (key, _) = store.lm_get(index).unwrap();
             if !before.cmp(key).is_lt() {
                 return false;
             }

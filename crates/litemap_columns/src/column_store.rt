@@ -101,6 +101,7 @@ impl<K, V> Store<K, V> for ColumnStore<K, V> {
         f: F,
         count: &mut Count,
     ) -> Result<usize, usize> {
+        // The iterator over all pairs is their keys by index, too (`Keys`).
         slice_search::find(&self.lm_iter(), f, count)
     }
 }

@@ -4,7 +4,7 @@ use Rattle.std.proofs.Common.{◌≡◌, ℕ, Bool, true, false, cond, List, [],
 use Rattle.std.specs.Ordering.{is_eq}
 use Rattle.serde_json.specs.Data.{Data, string}
 use Rattle.litemap_store.specs.Pairs.{at, value_at}
-use Rattle.litemap_store.specs.Queries.{by_text}
+use Rattle.litemap_store.specs.Queries.{by_string}
 use Rattle.litemap_json.specs.Reading.{pair_seen, seen}
 
 -- what the first pair gives, if its key is equal, else the others
@@ -15,10 +15,10 @@ abbrev tree_of : {Z : Type 0} → String Z → Data
 tree_of s = string (string_bytes s)
 
 module _ {Z V : Type 0} (json : V → Data) (text : List ℕ) where
-  first_seen : (p : String Z × V) (L : List (String Z × V)) → option_map json (value_at by_text (p ∷ L) text) ≡ from_first (is_eq (by_text p.0 text)) (json p.1) (option_map json (value_at by_text L text))
-  first_seen p L = elim (is_eq (by_text p.0 text)) as (λ b. option_map json (option_map (λ q. q.1) (cond b (Some p) (at by_text L text))) ≡ from_first b (json p.1) (option_map json (value_at by_text L text))) [ true ↦ refl | false ↦ refl ]
+  first_seen : (p : String Z × V) (L : List (String Z × V)) → option_map json (value_at by_string (p ∷ L) text) ≡ from_first (is_eq (by_string p.0 text)) (json p.1) (option_map json (value_at by_string L text))
+  first_seen p L = elim (is_eq (by_string p.0 text)) as (λ b. option_map json (option_map (λ q. q.1) (cond b (Some p) (at by_string L text))) ≡ from_first b (json p.1) (option_map json (value_at by_string L text))) [ true ↦ refl | false ↦ refl ]
 
-  pub values_seen : (L M : List (String Z × V)) → seen tree_of json L ≡ seen tree_of json M → option_map json (value_at by_text L text) ≡ option_map json (value_at by_text M text)
+  pub values_seen : (L M : List (String Z × V)) → seen tree_of json L ≡ seen tree_of json M → option_map json (value_at by_string L text) ≡ option_map json (value_at by_string M text)
   values_seen [] [] e = refl
   values_seen (p ∷ L) (q ∷ M) e =
       let here : pair_seen tree_of json p ≡ pair_seen tree_of json q = cc in

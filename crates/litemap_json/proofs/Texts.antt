@@ -90,10 +90,10 @@ module _ {K V : Type 0} (text : K → Option (List ℕ)) (key_json : K → Data)
   pairs_more L i x last s mid new h e is rises w held =
       let d = json_of x.1 in
       let ms = held.0 in
-      let behind = put-above s d ms (held.1 s (λ later. above last s (rises later))) in (
+      let after = put-above s d ms (held.1 s (λ later. above last s (rises later))) in (
         joined ms (member s d no_members),
         λ r up. above-joined r s d ms (held.1 r (λ later. above last r (nat_list_cmp_total.trans last s r (rises later) (below r s (up (omega arith)))))) (up (omega arith)),
-        subst (λ m. object_with text key_json json_of (i + 1) m (drop (i + 1) L) ≡ object_with text key_json json_of 0 no_members L) behind
+        subst (λ m. object_with text key_json json_of (i + 1) m (drop (i + 1) L) ≡ object_with text key_json json_of 0 no_members L) after
             (made_step text key_json json_of L i x s ms (object_with text key_json json_of 0 no_members L) h e is held.2),
         λ rest end more. subst (λ m. WritesMembers m (begin_object ∷ []) end) (sym (joined-one ms rest s d)) (held.3 (member s d rest) end (member_before s d rest mid new end w more)),
       )

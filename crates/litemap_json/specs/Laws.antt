@@ -3,7 +3,7 @@ use Rattle.std.specs.Prelude.{◌≡◌, ℕ, List, Option, Result, String, opti
 use Rattle.std.specs.declared.cmp.Ordering.{Ordering}
 use Rattle.serde_json.specs.Data.{Data}
 use Rattle.litemap_store.specs.Pairs.{value_at}
-use Rattle.litemap_store.specs.Queries.{by_text}
+use Rattle.litemap_store.specs.Queries.{by_string}
 use Rattle.litemap_json.specs.declared.item.ItemFault.{ItemFault}
 use Rattle.litemap_json.specs.Reading.{ReadsAs, seen}
 
@@ -20,4 +20,4 @@ module _ {Z V : Type 0} (cmp : String Z → String Z → Ordering) (key : List �
   abbrev pub OneReadingByText : Type 0
   OneReadingByText = (d : Data) (L M : List (String Z × V)) → ReadsAs cmp key key_item json_item key_json json d L
       → ReadsAs cmp key key_item json_item key_json json d M
-      → (text : List ℕ) → option_map json (value_at by_text L text) ≡ option_map json (value_at by_text M text)
+      → (text : List ℕ) → option_map json (value_at by_string L text) ≡ option_map json (value_at by_string M text)

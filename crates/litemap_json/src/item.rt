@@ -63,7 +63,7 @@ pub trait JsonItem {
         write_value(alloc, &value, out)
     }
 
-    /// Returns what a JSON value has to be to spell a value of the type, in words that `is wanted` can follow, for an error
+    /// Returns what a JSON value has to be to represent a value of the type, in words that `is wanted` can follow, for an error
     /// that is shown to people. A type that says nothing of it has the words here.
     fn wanted() -> &'static str {
         "a value of the type"
@@ -87,8 +87,8 @@ pub trait JsonKey: JsonItem + Ord {
         ensures reads_back { OnOk result (IfSome (text self.now)
             (λ name. key name ≡ Some (Self.json self.now))) };
 
-    /// Returns the key that has this string, or `None` if no key has it. A key has one string, so another spelling is no key's.
-    /// It fails if memory runs out.
+    /// Returns the key that has this string, or `None` if no key has it. Each key has exactly one string: any other way to write
+    /// it, as `07` for 7, gives `None`. It fails if memory runs out.
     ///
     /// ```rust
     /// let seven = u32::from_key_text(alloc, "7")?;

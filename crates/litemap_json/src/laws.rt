@@ -11,7 +11,7 @@ pub fn one_reading<K: JsonKey, V: JsonItem>()
 
 /// The maps with string keys that a JSON value is read as can't be told apart by lookups. Looked up in both, a string has items
 /// with the same tree, or none in either. The strings themselves are new values each time they are read, with the same bytes.
-pub fn one_reading_by_text<V: JsonItem>()
+pub fn one_reading_by_string<V: JsonItem>()
     ensures { OneReadingByText ⟦<String as Ord>⟧.cmp ⟦<String as JsonKey>⟧.key ⟦<String as JsonItem>⟧.item V.item
         ⟦<String as JsonItem>⟧.json V.json }
 {}

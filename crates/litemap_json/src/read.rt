@@ -15,9 +15,9 @@ use litemap::store::StoreBulkMut;
 use serde_json::{Map, Value};
 use std::alloc::Global;
 
-/// Reads the map that a JSON value represents, and returns it. The value is an object, whose names have to be strings of keys, or
-/// an array, whose elements have to be arrays of exactly a key and an item. Of equal keys the pair that comes last in the value
-/// stays, with its own key, and the others are dropped. The Rust crate has serde's `Deserialize` here.
+/// Reads the map that a JSON value represents, and returns it. The value is an object, whose names have to be strings of keys
+/// (`from_key_text`), or an array, whose elements have to be arrays of exactly a key and an item. Of equal keys the pair that
+/// comes last in the value stays, with its own key, and the others are dropped. The Rust crate has serde's `Deserialize` here.
 ///
 /// All pairs are gathered before a map is made, and moved into it by `from_vec`: if the keys ascend, that is one
 /// comparison for each at most, else a sort.

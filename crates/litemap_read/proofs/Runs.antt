@@ -7,7 +7,7 @@ use Rattle.litemap_store.specs.Last.{Last}
 use Rattle.litemap_store.specs.Pairs.{AllBelow, at, cut, index_of, put, value_at, value_in}
 use Rattle.litemap_store.proofs.Last.Pairs.{Last-unique}
 use Rattle.litemap_store.specs.Contents.{Contents}
-use Rattle.litemap_read.specs.Laws.{SameAnswers}
+use Rattle.litemap_read.specs.Laws.{SameResults}
 use Rattle.litemap_read.specs.Steps.{IsDone, IsRefused, Run, Step}
 use Rattle.litemap_read.specs.declared.calls.Answer.{Answer}
 use Rattle.litemap_read.specs.declared.calls.Answer.TheVariants.{Back, Flag, NoRoom, Number, Place, Value}
@@ -74,7 +74,7 @@ module _ {K V : Type 0} (cmp : K → K → Ordering) (o : IsTotalOrder cmp) wher
   done_agree m₁ m₂ n₁ n₂ (call.Reserve n) a₁ a₂ e h₁ h₂ = (h₁.0 ∙ sym h₂.0, h₁.1 ∙ e ∙ sym h₂.1)
   done_agree m₁ m₂ n₁ n₂ call.Clear a₁ a₂ e h₁ h₂ = (h₁.0 ∙ sym h₂.0, h₁.1 ∙ sym h₂.1)
 
-  pub runs_agree : SameAnswers cmp V
+  pub runs_agree : SameResults cmp V
   runs_agree s₁ s₂ e₁ e₂ [] [] [] e r₁ r₂ n₁ n₂ = (refl, ap (λ (m : Contents K V). m.pairs) r₁ ∙ e ∙ sym (ap (λ (m : Contents K V). m.pairs) r₂))
   runs_agree s₁ s₂ e₁ e₂ [] (a₁ ∷ as₁) as₂ e r₁ r₂ n₁ n₂ = absurd r₁
   runs_agree s₁ s₂ e₁ e₂ (c ∷ cs) [] as₂ e r₁ r₂ n₁ n₂ = absurd r₁

@@ -14,7 +14,7 @@ module _ {K : Type 0} (cmp : K → K → Ordering) (V : Type 0) where
   NoneRefused answers = AllByRecursion (λ answer. (back : Option (K × V)) → answer ≢ NoRoom back) answers
 
   -- two maps with the same list, whatever their stores, return the same from the same calls, and end with the same list
-  abbrev pub SameAnswers : Type 0
-  SameAnswers = (start₁ start₂ end₁ end₂ : Contents K V) (calls : List (Call K V)) (answers₁ answers₂ : List (Answer K V))
+  abbrev pub SameResults : Type 0
+  SameResults = (start₁ start₂ end₁ end₂ : Contents K V) (calls : List (Call K V)) (answers₁ answers₂ : List (Answer K V))
       → start₁.pairs ≡ start₂.pairs → Run cmp start₁ calls answers₁ end₁ → Run cmp start₂ calls answers₂ end₂
       → NoneRefused answers₁ → NoneRefused answers₂ → (answers₁ ≡ answers₂) × (end₁.pairs ≡ end₂.pairs)

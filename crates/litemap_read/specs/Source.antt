@@ -10,8 +10,8 @@ use Rattle.litemap_read.specs.declared.source.ReadFault.TheVariants.{NoRoom}
 
 module _ {S P : Type 0} (gives : S → List P → Type 0) where
   -- what t can give, s can give after some pairs
-  abbrev pub IsBehind : S → S → Type 0
-  IsBehind s t = (front : List P) × ((rest : List P) → gives t rest → gives s (front ++ rest))
+  abbrev pub IsLater : S → S → Type 0
+  IsLater s t = (front : List P) × ((rest : List P) → gives t rest → gives s (front ++ rest))
 
 -- a list is given, and M is the last pairs of the old ones followed by it
 pub record IsGathered {K V : Type 0} (cmp : K → K → Ordering) (Gives : List (K × V) → Type 0)
@@ -38,7 +38,7 @@ pub record IsAsked {S P E A : Type 0} (gives : S → List P → Type 0) (left : 
     (may_end : S → Type 0) (leads_to : S → S → Type 0) (s t : S) (result : Result A (ReadFault E)) : Type 0 where
   pub ends : OnOk result (may_end s)
   pub empty : OnOk result (gives t [])
-  pub fault : IfErr result (λ fault. IfSource fault (allows s))
-  pub rest : OnErr result (IsBehind gives s t)
+  pub error : IfErr result (λ error. IfSource error (allows s))
+  pub rest : OnErr result (IsLater gives s t)
   pub leads : leads_to s t
-  pub refused_some : IfErr result (λ fault. fault ≡ NoRoom → 1 ≤ left s)
+  pub refused_some : IfErr result (λ error. error ≡ NoRoom → 1 ≤ left s)

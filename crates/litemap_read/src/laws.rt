@@ -1,6 +1,6 @@
 //! Lists of calls of a map, and what holds of each run of them.
 ghost use Rattle.std.specs.Prelude.{◌≡◌, IfOk, IfErr, OnErr};
-ghost use Rattle.litemap_read.specs.Laws.{SameAnswers};
+ghost use Rattle.litemap_read.specs.Laws.{SameResults};
 ghost use Rattle.litemap_read.specs.Steps.{Run, Step};
 ghost use Rattle.litemap_read.specs.declared.calls.Call.TheVariants.{Extend};
 
@@ -33,8 +33,8 @@ pub fn run_calls<K: Ord + Drop, V: Copy, S: StoreBulkMut<K, V>>(
 
 /// Maps with the same list return the same from the same calls and end with the same list, whatever their stores, if no call
 /// fails.
-pub fn same_answers<K: Ord, V>()
-    ensures { SameAnswers K.cmp V }
+pub fn same_results<K: Ord, V>()
+    ensures { SameResults K.cmp V }
 {}
 
 fn answer<K: Ord + Drop, V: Copy, S: StoreBulkMut<K, V>>(

@@ -6,7 +6,7 @@ ghost use Rattle.litemap_store.specs.Laws.{Sifted};
 ghost use Rattle.litemap_read.specs.ReadFault.{IfSource};
 ghost use Rattle.litemap_read.specs.Results.{GivesFault, GivesPairs};
 ghost use Rattle.litemap_read.specs.declared.source.ReadFault.TheVariants.{NoRoom};
-ghost use Rattle.litemap_read.specs.Source.{IsAsked, IsBehind, IsGathered};
+ghost use Rattle.litemap_read.specs.Source.{IsAsked, IsLater, IsGathered};
 
 use crate::{PairSource, ReadFault};
 use litemap::LiteMap;
@@ -48,7 +48,7 @@ pub fn read_pairs<K: Ord + Drop, V: Drop, S: StoreBulkMut<K, V>, P: PairSource<K
         match source.next_pair() {
             Ok(Some((key, value))) => append_or_defer(&mut map, &mut aside, key, value)?,
             Ok(None) => break,
-            Err(fault) => return Err(ReadFault::Source(fault)),
+            Err(error) => return Err(ReadFault::Source(error)),
         }
     }
     map.extend_from_vec(alloc, aside)?;
@@ -94,15 +94,15 @@ pub fn read_results<
 >(alloc: Global, iter: I) -> Result<LiteMap<K, V, S>, ReadFault<E>>
     requires { IsFiniteIterable I.into_iter_gives I.IntoIter.can_next I.IntoIter.remaining iter }
     ensures read { IfOk result (λ map. IsGathered K.cmp (GivesPairs I.into_iter_gives I.IntoIter.next_gives iter) [] map.pairs) }
-    ensures fault { IfErr result (λ fault. IfSource fault (GivesFault I.into_iter_gives I.IntoIter.next_gives iter)) }
-    ensures refused_some { IfErr result (λ fault. fault ≡ NoRoom → GivesSome I.into_iter_gives I.IntoIter.next_gives iter) }
+    ensures error { IfErr result (λ error. IfSource error (GivesFault I.into_iter_gives I.IntoIter.next_gives iter)) }
+    ensures refused_some { IfErr result (λ error. error ≡ NoRoom → GivesSome I.into_iter_gives I.IntoIter.next_gives iter) }
 {
     let mut map = with_hint(alloc, None);
     let mut aside = Vec::new(alloc);
     for item in iter {
         match item {
             Ok((key, value)) => append_or_defer(&mut map, &mut aside, key, value)?,
-            Err(fault) => return Err(ReadFault::Source(fault)),
+            Err(error) => return Err(ReadFault::Source(error)),
         }
     }
     map.extend_from_vec(alloc, aside)?;
@@ -115,7 +115,7 @@ fn drain<K: Drop, V: Drop, P: PairSource<K, V>>(
     source: &mut P,
 ) -> Result<Vec<(K, V)>, ReadFault<P::Fault>>
     ensures given { IfOk result (λ pairs. P.gives source.old pairs.items) }
-    ensures rest { IsBehind P.gives source.old source.new }
+    ensures rest { IsLater P.gives source.old source.new }
     ensures fewer { IfOk result (λ pairs. vec_len pairs ≤ P.left source.old) }
     ensures asked { IsAsked P.gives P.left P.allows P.ends P.leads source.old source.new result }
 {
@@ -124,7 +124,7 @@ fn drain<K: Drop, V: Drop, P: PairSource<K, V>>(
         match source.next_pair() {
             Ok(Some(pair)) => push(&mut pairs, pair)?,
             Ok(None) => return Ok(pairs),
-            Err(fault) => return Err(ReadFault::Source(fault)),
+            Err(error) => return Err(ReadFault::Source(error)),
         }
     }
 }

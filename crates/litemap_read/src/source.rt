@@ -33,7 +33,7 @@ pub trait PairSource<K, V> {
     /// Whether it may end: return `None` if it has no pairs left.
     ghost ends: { Self → Type 0 };
 
-    /// What holds between a state of the source and each later one.
+    /// What holds between a state of the source and each later one, beyond the list that gets shorter: `⊤` if that is all.
     ghost leads: { Self → Self → Type 0 };
 
     /// Returns how many pairs are still to come, if the source has an idea. It may be wrong.
@@ -62,7 +62,7 @@ pub enum ReadFault<E> {
 
 /// Lets `?` turn an `AllocError` into `NoRoom`.
 impl<E> From<AllocError> for ReadFault<E> {
-    ghost from_gives = { λ _ fault. fault ≡ NoRoom };
+    ghost from_gives = { λ _ error. error ≡ NoRoom };
 
     fn from(_: AllocError) -> Self {
         ReadFault::NoRoom
@@ -71,7 +71,7 @@ impl<E> From<AllocError> for ReadFault<E> {
 
 /// Lets `?` do so with the error of a map's call, too. What was passed in is dropped.
 impl<E, T: Drop> From<store::NoRoom<T>> for ReadFault<E> {
-    ghost from_gives = { λ _ fault. fault ≡ NoRoom };
+    ghost from_gives = { λ _ error. error ≡ NoRoom };
 
     fn from(_: store::NoRoom<T>) -> Self {
         ReadFault::NoRoom
@@ -85,14 +85,14 @@ impl<E: Drop> From<ReadFault<E>> for io::Error {
     ghost use Rattle.std.specs.IoError.{error_kind};
     ghost use Rattle.litemap_read.specs.ReadFault.{fault_kind};
 
-    ghost from_gives = { λ fault e. error_kind e ≡ fault_kind fault };
+    ghost from_gives = { λ error e. error_kind e ≡ fault_kind error };
 
-    fn from(fault: ReadFault<E>) -> io::Error {
-        match fault {
+    fn from(error: ReadFault<E>) -> io::Error {
+        match error {
             ReadFault::NoRoom => io::Error::from(AllocError),
             ReadFault::Source(_) => io::Error::new(
                 io::ErrorKind::InvalidData,
-                "the source of pairs has a fault",
+                "the source of pairs has a error",
             ),
         }
     }
@@ -102,7 +102,7 @@ impl<E: Display> Display for ReadFault<E> {
     fn fmt<W: Write>(&self, f: &mut Formatter<W>) -> fmt::Result {
         match self {
             ReadFault::NoRoom => f.write_str("there is not enough memory"),
-            ReadFault::Source(fault) => write!(f, "{fault}"),
+            ReadFault::Source(error) => write!(f, "{error}"),
         }
     }
 }

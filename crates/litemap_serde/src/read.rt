@@ -38,7 +38,7 @@ pub fn deserialize_owned<
     read::<Owned, K, V, S, F>(alloc, from)
 }
 
-// By which of serde's two traits a value is read.
+// Reads a value by one of serde's two traits.
 trait ReadBy<'de, T> {
     fn value<F: Format>(alloc: Global, from: &mut Deserializer<'de, '_, F>) -> Result<T, F::Error>;
 }

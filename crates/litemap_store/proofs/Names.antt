@@ -41,8 +41,8 @@ pub use Rattle.litemap_store.specs.Pairs.{set_value, sub, value_at, value_in, wr
 pub use Rattle.litemap_store.specs.PutIn.{IsPutIn}
 pub use Rattle.litemap_store.specs.Queries.{key_one_side, OneSide}
 pub use Rattle.litemap_store.specs.Retain.{CallableOnEach, CalledOnPair, Kept, KeptSoFar, TakesPair}
-pub use Rattle.litemap_store.specs.Search.{AnswersEach, Ascends, Callable, Finds, Shape}
+pub use Rattle.litemap_store.specs.Search.{ReturnsEach, Ascends, Callable, Finds, Shape}
 pub use Rattle.litemap_store.specs.Splits.{IsFoundAt, IsMissingAt, Splits}
 pub use Rattle.litemap_store.specs.Taken.{IsGreaterEnd, IsTaken}
-pub use Rattle.litemap_store.specs.Walked.{IsLowerFirst, IsTakenFirst}
+pub use Rattle.litemap_store.specs.Walked.{ComparesFirsts, IsTakenFirst}
 pub use Rattle.litemap_store.specs.declared.count.Count.{Count}

@@ -22,7 +22,7 @@ IsHandedBack cmp given back = (back ≡ given) ⊎ Last cmp given back
 -- how many comparisons are counted at most if the pairs `given` are added to the old ones
 pub record IsCountedFor {K V : Type 0} (cmp : K → K → Ordering) (old given : List (K × V)) (before after : Count) : Type 0 where
   -- if they ascend above the last old key: one for each new pair
-  pub behind : Rises cmp old given → RisesByAtMost (length given) before after
+  pub all_above : Rises cmp old given → RisesByAtMost (length given) before after
   -- if they ascend: one for each old and two for each new pair
   pub rising : Rising cmp given → RisesByAtMost (length old + 2 * length given) before after
 

@@ -52,8 +52,8 @@ pub record MergesInto {K V S : Type 0} (cmp : K → K → Ordering) (pairs : S �
   pub merges : Merges cmp pairs other before after result
   -- it never fails if one is empty, nor if the other's keys are all above or all below, within the room
   pub succeeds : (pairs before ≡ []) ⊎ (pairs other ≡ []) → IsOk result
-  pub behind : Rises cmp (pairs before) (pairs other) → length (pairs other) ≤ room before → IsOk result
-  pub in_front : Rises cmp (pairs other) (pairs before) → length (pairs other) ≤ room before
+  pub all_above : Rises cmp (pairs before) (pairs other) → length (pairs other) ≤ room before → IsOk result
+  pub all_below : Rises cmp (pairs other) (pairs before) → length (pairs other) ≤ room before
       → length (pairs before) ≤ room other → IsOk result
   pub unchanged : pairs other ≡ [] → after ≡ before
   pub taken : pairs before ≡ [] → pairs other ≢ [] → after ≡ other

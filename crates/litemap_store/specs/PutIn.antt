@@ -9,4 +9,4 @@ pub record IsPutIn {K V : Type 0} (cmp : K → K → Ordering) (L M : List (K ×
   pub pair : K × V
   pub is : slice_get L i ≡ Some pair
   pub put : take n M ≡ below cmp (take k L) pair.0 ++ pair ∷ above cmp (take k L) pair.0
-  pub behind : drop (i + 1) M ≡ drop (i + 1) L
+  pub after : drop (i + 1) M ≡ drop (i + 1) L

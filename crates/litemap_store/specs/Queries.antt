@@ -29,8 +29,8 @@ abbrev pub bytes_cmp : List ℕ → List ℕ → Ordering
 bytes_cmp = slice_cmp nat_cmp
 
 -- how a string compares with a query, by the bytes of both
-abbrev pub by_text : {Z : Type 0} → String Z → List ℕ → Ordering
-by_text key text = bytes_cmp (string_bytes key) text
+abbrev pub by_string : {Z : Type 0} → String Z → List ℕ → Ordering
+by_string key text = bytes_cmp (string_bytes key) text
 
 -- how a vector compares with a slice, item by item: a proper prefix is less
 abbrev pub by_slice : {T Z : Type 0} → (T → T → Ordering) → Vec T Z → List T → Ordering

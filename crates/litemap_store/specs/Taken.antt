@@ -18,5 +18,5 @@ module _ {K V : Type 0} (cmp : K → K → Ordering) where
   pub record IsTaken (A B A' B' : List (K × V)) (p : K × V) : Type 0 where
     pub old_rises : Rising cmp A'
     pub new_rise : Rising cmp B'
-    pub goes_behind : (M : List (K × V)) → Last cmp (A' ++ B') M → Last cmp (A ++ B) (M ++ p ∷ [])
+    pub goes_after : (M : List (K × V)) → Last cmp (A' ++ B') M → Last cmp (A ++ B) (M ++ p ∷ [])
     pub fewer : length A' + length B' < length A + length B

@@ -6,12 +6,12 @@ use Rattle.litemap_store.specs.Merge.{Merge, left}
 use Rattle.litemap_store.specs.Pairs.{BelowAll, Rising}
 
 module _ {K V : Type 0} (cmp : K → K → Ordering) where
-  -- none if both lists are empty, else how the first key of A compares with that of B; an empty list's is above all
-  abbrev pub IsLowerFirst : List (K × V) → List (K × V) → Option Ordering → Type 0
-  IsLowerFirst A B None = (A ≡ []) × (B ≡ [])
-  IsLowerFirst A B (Some Less) = (a : K × V) × (A' : List (K × V)) × (A ≡ a ∷ A') × BelowAll cmp a.0 B
-  IsLowerFirst A B (Some Greater) = (b : K × V) × (B' : List (K × V)) × (B ≡ b ∷ B') × BelowAll cmp b.0 A
-  IsLowerFirst A B (Some Equal) = (a : K × V) × (A' : List (K × V)) × (b : K × V) × (B' : List (K × V))
+  -- none if both lists are empty, else how the first key of A compares with that of B; an empty list counts as greater
+  abbrev pub ComparesFirsts : List (K × V) → List (K × V) → Option Ordering → Type 0
+  ComparesFirsts A B None = (A ≡ []) × (B ≡ [])
+  ComparesFirsts A B (Some Less) = (a : K × V) × (A' : List (K × V)) × (A ≡ a ∷ A') × BelowAll cmp a.0 B
+  ComparesFirsts A B (Some Greater) = (b : K × V) × (B' : List (K × V)) × (B ≡ b ∷ B') × BelowAll cmp b.0 A
+  ComparesFirsts A B (Some Equal) = (a : K × V) × (A' : List (K × V)) × (b : K × V) × (B' : List (K × V))
       × (A ≡ a ∷ A') × (B ≡ b ∷ B') × (cmp a.0 b.0 ≡ Equal)
 
   -- p was made of the first pairs of A and B, which are then A' and B': it goes before the merge of these. R, what was

@@ -36,13 +36,13 @@ pub fn gather<T: Drop, I: IntoIterator<Item = T>>(
     ensures refused_some { OnErr result (GivesSome I.into_iter_gives I.IntoIter.next_gives iter) }
 {
     let mut items = Vec::new(alloc);
-    gather_behind(&mut items, iter)?;
+    append_items(&mut items, iter)?;
     Ok(items)
 }
 
 /// Appends the items of an iterator to a vector, without its size hint. On an error the new items are dropped, and the vector
 /// has its own.
-pub fn gather_behind<T: Drop, I: IntoIterator<Item = T>>(
+pub fn append_items<T: Drop, I: IntoIterator<Item = T>>(
     items: &mut Vec<T>,
     iter: I,
 ) -> Result<(), AllocError>
@@ -86,7 +86,7 @@ pub fn put_pairs<K: Ord + Drop, V: Drop, S: StoreMut<K, V> + Drop>(
     requires { Rising K.cmp (S.pairs store.old) }
     ensures last { OnOk result (Last K.cmp (S.pairs store.old ++ pairs.old.items) (S.pairs store.new)) }
     ensures refused { OnErr result (S.pairs store.new ≡ S.pairs store.old) }
-    ensures behind { Rises K.cmp (S.pairs store.old) pairs.old.items
+    ensures all_above { Rises K.cmp (S.pairs store.old) pairs.old.items
         → RisesByAtMost (length pairs.old.items) count.old count.new }
     ensures cost { RisesByAtMost (length (S.pairs store.old) + 2 * length pairs.old.items) count.old count.new }
     ensures succeeds { Rises K.cmp (S.pairs store.old) pairs.old.items

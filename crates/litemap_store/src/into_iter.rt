@@ -17,8 +17,8 @@ pub trait PairIntoIter<K, V>: Iterator<Item = (K, V)> + ExactSizeIterator + Drop
     /// The pairs still to come, in their order.
     ghost owned: { Self → List (K × V) };
 
-    /// Returns the number of pairs still to come, as both bounds of a size hint (own). Its body is `self.size_hint()`, which is
-    /// proved to be exact by that, as for `PairIter`.
+    /// Returns the number of pairs still to come, as both bounds of a size hint (own). Write `self.size_hint()` as its
+    /// body, as for `PairIter`.
     fn lm_size_hint(&self) -> (usize, Option<usize>)
         ensures { HintsExactly (length (owned self.now)) result };
 
@@ -109,7 +109,7 @@ impl<K: Drop, V: Drop> PairIntoIter<K, V> for IntoIter<(K, V)> {
 
     ghost count = { count_is };
 
-    // (std's own hint has no clause that says so)
+    // The `size_hint` of std's iterator has no clause that says that it is exact, but `len` has.
     fn lm_size_hint(&self) -> (usize, Option<usize>) {
         let len = self.len();
         (len, Some(len))

@@ -9,7 +9,7 @@ mod one_by_one;
 mod side_by_side;
 
 use crate::merge::in_one_pass::merge_in_one_pass;
-use crate::merge::one_by_one::merge_each;
+use crate::merge::one_by_one::merge_one_by_one;
 use crate::merge::side_by_side::merge_side_by_side;
 use crate::searches::{binary_digits, walk_is_cheaper};
 use crate::sorted::lies_below;
@@ -92,7 +92,7 @@ fn merge_mixed<K: Ord + Drop, V: Drop, S: StoreIntoIterator<K, V> + Drop>(
         return merge_side_by_side(alloc, store, other, total, count);
     }
     if len / FEW_PER_DIGIT < steps {
-        return merge_each(alloc, store, other, count);
+        return merge_one_by_one(alloc, store, other, count);
     }
     merge_in_one_pass(alloc, store, other, total, count)
 }

@@ -6,7 +6,7 @@ ghost use Rattle.std.specs.Cmp.Lexicographic.{slice_cmp, lists_total, nat_list_c
 ghost use Rattle.std.specs.Cow.{cow_str_bytes};
 ghost use Rattle.std.specs.Rc.{rc_str_bytes};
 ghost use Rattle.std.specs.declared.cmp.Ordering.{Ordering};
-ghost use Rattle.litemap_store.specs.Queries.{OneSide, by_slice, by_text, bytes_cmp, key_one_side};
+ghost use Rattle.litemap_store.specs.Queries.{OneSide, by_slice, by_string, bytes_cmp, key_one_side};
 
 use std::borrow::CowStr;
 use std::boxed::{BoxedSlice, BoxedStr};
@@ -58,7 +58,7 @@ impl Query<String> for &str {
 
     ghost sought = { λ q. q.now };
 
-    ghost order = { by_text };
+    ghost order = { by_string };
 
     ghost one_side = { λ text x y. key_one_side nat_list_cmp_total text (string_bytes x) (string_bytes y) };
 

@@ -9,7 +9,7 @@ use std::mem;
 // The most bytes that move at once: std moves more of them by a loop.
 const PART_BYTES: usize = 2048;
 
-/// Returns a vector and a store, both empty, each with room for `capacity` pairs.
+/// Returns a vector and a store, both empty, each with room for `len` pairs.
 pub(crate) fn room_for<K: Drop, V: Drop, S: StoreMut<K, V>>(
     alloc: Global,
     len: usize,

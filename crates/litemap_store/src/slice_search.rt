@@ -59,9 +59,9 @@ pub fn find<K, V, S: Keys<K, V>, F: FnMut(&K) -> Ordering>(
         let is_small = mem::size_of_val(key) <= SMALL;
         let before = choose(is_small, half, left - half - 1);
         let rest = choose(is_small, half, 0);
-        let answer = count.ask(&mut f, key);
-        let is_less = answer.is_lt();
-        let is_equal = answer.is_eq();
+        let order = count.ask(&mut f, key);
+        let is_less = order.is_lt();
+        let is_equal = order.is_eq();
         low = choose(is_less, next, low);
         hit = choose(is_equal, next, hit);
         left = choose(is_less, half, choose(is_equal, rest, before));

@@ -4,7 +4,7 @@ ghost use Rattle.litemap_store.specs.Retain.{CallableOnEach, Kept};
 ghost use Rattle.litemap_store.specs.VecStore.{vec_room, vec_with_value, vec_writes, vec_keeps_room};
 
 use crate::bulk::vector::{put_in_vec, settle};
-use crate::bulk::{gather, gather_behind};
+use crate::bulk::{append_items, gather};
 use crate::reserved::remove_at;
 use crate::retain::{SwapStore, retain};
 use crate::slice_search;
@@ -140,6 +140,7 @@ impl<K: Drop, V: Drop> SwapStore<K, V> for Vec<(K, V)> {
 }
 
 impl<K: Ord + Drop, V: Drop> StoreBulkMut<K, V> for Vec<(K, V)> {
+    // Its contract takes the place of the trait's: it says length and capacity, from which the room follows.
     fn lm_retain<F: FnMut(&K, &V) -> bool>(&mut self, mut f: F)
         requires { CallableOnEach F.FnMut f self.old.items }
         ensures kept { Kept F.FnMut f self.old.items self.new.items }
@@ -156,7 +157,7 @@ impl<K: Ord + Drop, V: Drop> StoreBulkMut<K, V> for Vec<(K, V)> {
         count: &mut Count,
     ) -> Result<(), AllocError> {
         let len = self.len();
-        gather_behind(self, iter)?;
+        append_items(self, iter)?;
         settle(alloc, self, len, count)
     }
 

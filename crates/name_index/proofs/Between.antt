@@ -27,11 +27,11 @@ module _ (entries offsets : List ℕ) (from to d : ℕ) (placed : ArePlaced entr
       let first : from < length offsets = omega (arith, l, h) in
       let long : to ≤ length L = omega (arith, h, placed.these.left.len_is) in
       let s =
-      begins_split bytes placed.these.left.behind (pair_parts (take n K)) (pair_parts (drop n K))
+      begins_split bytes placed.these.left.after (pair_parts (take n K)) (pair_parts (drop n K))
       (rw (← (ap pair_parts (sym (take-append-drop n K)) ∙ pair_parts-append (take n K) (drop n K))) (walked_at entries offsets from d placed first).here) in
       record {
         pairs = slice_range L from to;
-        left = record { behind = s.0; spelled = s.1; len_is = length-take-le n K (omega (arith, long, length-drop from L)) };
+        left = record { after = s.0; spelled = s.1; len_is = length-take-le n K (omega (arith, long, length-drop from L)) };
         rises = Rising-sub text_order L from to (slice_range L from to) placed.these.rises (sub_is L from to (omega (arith, l)) long);
       }
 

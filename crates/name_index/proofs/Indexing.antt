@@ -14,7 +14,7 @@ use Rattle.name_index.specs.Index.{BeginsAt, IsEntry, IsIndex, IsNumberAt, IsPai
 use Rattle.name_index.specs.Steps.{HasKey, HasOffsets, IsKeyAt, NoEntry}
 use Rattle.name_index.specs.Tables.{text_order}
 use Rattle.name_index.proofs.Placing.{each_push}
-use Rattle.name_index.proofs.Rises.{IsAbove, LastKey, asked_next, last_at, rises_on}
+use Rattle.name_index.proofs.Rises.{IsAbove, LastKey, asked_next, last_at, is_rising_from}
 use Rattle.name_index.proofs.Scanning.{ascends, to_key}
 
 -- ---- one number, one string, one entry
@@ -120,7 +120,7 @@ followed_next bytes count index last key value old middle new f r a z o =
       pairs = f.pairs ++ p ∷ [];
       number = omega (arith, f.number, length-append f.pairs (p ∷ []));
       entries = each_push (λ i q. IsEntry bytes count i q) f.pairs p f.entries (rw f.number r);
-      rises = rises_on last f.pairs p f.last_is f.rises a;
+      rises = is_rising_from last f.pairs p f.last_is f.rises a;
       last_is = (f.pairs, value.now, refl);
       asked = asked_next last f.pairs p f.last_is f.asked z o;
     }

@@ -2,7 +2,7 @@
 use Rattle.std.proofs.Common.{◌≡◌, ℕ, List, [], ◌∷◌, ◌++◌, refl}
 use Rattle.name_table.specs.Faults.{AreOfText, Fault}
 use Rattle.name_table.specs.Parts.{Part, Begins, Number, text_parts, pair_parts}
-use Rattle.name_table.specs.declared.fault.NameFault.{NameFault}
+use Rattle.name_table.specs.declared.error.NameFault.{NameFault}
 use Rattle.name_table.proofs.OneReading.{parts_no_fault}
 use Rattle.name_table.proofs.PartLemmas.{begins_split}
 use Rattle.name_table.proofs.Unique.{Agree, agree_pairs, agree_texts, begins_unique, pair_parts-inj}
@@ -22,9 +22,9 @@ one_number {n} {m} bytes p q =
     (u.0, f, u.2)
 
 -- a string that is there has no error
-pub text_no_fault : (bytes rest text : List ℕ) (place : ℕ) (fault : NameFault) → Begins bytes (text_parts text) rest → Fault AreOfText bytes place fault → ⊥
-text_no_fault bytes rest text place fault b w =
-    parts_no_fault bytes rest (text_parts text) place fault (λ ys a. rw a.1 (agree_text text a.0)) b w
+pub text_no_fault : (bytes rest text : List ℕ) (place : ℕ) (error : NameFault) → Begins bytes (text_parts text) rest → Fault AreOfText bytes place error → ⊥
+text_no_fault bytes rest text place error b w =
+    parts_no_fault bytes rest (text_parts text) place error (λ ys a. rw a.1 (agree_text text a.0)) b w
 
 -- the string that is read is the one that is there, and what follows it comes after
 pub text_next : (bytes rest middle s t : List ℕ) (xs : List Part) → Begins bytes (text_parts t ++ xs) rest → Begins bytes (text_parts s) middle → (s ≡ t) × Begins middle xs rest
@@ -36,14 +36,14 @@ text_next bytes rest middle s t xs p q =
     (g, rw u.2 d.2)
 
 -- the same of a pair
-pub pair_next : (bytes rest behind : List ℕ) (p q : List ℕ × List ℕ) (J : List (List ℕ × List ℕ)) → Begins bytes (pair_parts (p ∷ J)) behind → Begins bytes (pair_parts (q ∷ [])) rest → (q ≡ p) × Begins rest (pair_parts J) behind
-pair_next bytes rest behind p q J b c =
-    let d = begins_split bytes behind (pair_parts (p ∷ [])) (pair_parts J) b in
+pub pair_next : (bytes rest after : List ℕ) (p q : List ℕ × List ℕ) (J : List (List ℕ × List ℕ)) → Begins bytes (pair_parts (p ∷ J)) after → Begins bytes (pair_parts (q ∷ [])) rest → (q ≡ p) × Begins rest (pair_parts J) after
+pair_next bytes rest after p q J b c =
+    let d = begins_split bytes after (pair_parts (p ∷ [])) (pair_parts J) b in
     let u = begins_unique bytes (agree_pairs (q ∷ []) (p ∷ []) refl) c d.1 in
     let f : q ∷ [] ≡ p ∷ [] = pair_parts-inj (q ∷ []) (p ∷ []) u.1 in
     let g : q ≡ p = cc in
     (g, rw u.2 d.2)
 
 -- the first of some pairs is there
-pub pair_first : (bytes behind : List ℕ) (p : List ℕ × List ℕ) (J : List (List ℕ × List ℕ)) → Begins bytes (pair_parts (p ∷ J)) behind → (middle : List ℕ) × Begins bytes (pair_parts (p ∷ [])) middle × Begins middle (pair_parts J) behind
-pair_first bytes behind p J b = begins_split bytes behind (pair_parts (p ∷ [])) (pair_parts J) b
+pub pair_first : (bytes after : List ℕ) (p : List ℕ × List ℕ) (J : List (List ℕ × List ℕ)) → Begins bytes (pair_parts (p ∷ J)) after → (middle : List ℕ) × Begins bytes (pair_parts (p ∷ [])) middle × Begins middle (pair_parts J) after
+pair_first bytes after p J b = begins_split bytes after (pair_parts (p ∷ [])) (pair_parts J) b

@@ -17,15 +17,15 @@ left_holds bytes len s J a = rw (left_is bytes len s J a) a
 -- an entry stands there while some are left
 pub left_begins : (bytes : List ℕ) (len : ℕ) (J : List (List ℕ × List ℕ)) → AreLeft bytes len J → 0 < len → BeginsPair bytes
 left_begins bytes len [] a l = absurd (omega (arith, a.len_is, l))
-left_begins bytes len (p ∷ J) a l = let f = pair_first bytes a.behind p J a.spelled in (p, f.0, f.1)
+left_begins bytes len (p ∷ J) a l = let f = pair_first bytes a.after p J a.spelled in (p, f.0, f.1)
 
 -- it is the first of them, and the others are left after it
 pub left_next : (bytes : List ℕ) (len : ℕ) (J : List (List ℕ × List ℕ)) (pair : List ℕ × List ℕ) (rest : List ℕ) → AreLeft bytes len J → 0 < len
     → Begins bytes (pair_parts (pair ∷ [])) rest → (later : List (List ℕ × List ℕ)) × (J ≡ pair ∷ later) × AreLeft rest (len - 1) later
 left_next bytes len [] pair rest a l b = absurd (omega (arith, a.len_is, l))
 left_next bytes len (p ∷ J) pair rest a l b =
-    let n = pair_next bytes rest a.behind p pair J a.spelled b in
-    (J, ap (λ q. q ∷ J) (sym n.0), record { behind = a.behind; spelled = n.1; len_is = omega (arith, a.len_is) })
+    let n = pair_next bytes rest a.after p pair J a.spelled b in
+    (J, ap (λ q. q ∷ J) (sym n.0), record { after = a.after; spelled = n.1; len_is = omega (arith, a.len_is) })
 
 -- there is one less
 pub left_goes : {A X : Type 0} (x : A) (y : X) (L M : List X) → L ≡ y ∷ M → MakesProgress (λ _. Unit {0}) (λ l. at_most (length l)) L (Some x) M

@@ -6,7 +6,7 @@ use Rattle.litemap_store.specs.Pairs.{Rising}
 use Rattle.name_table.specs.Faults.{AreOfPairs, NextFault}
 use Rattle.name_table.specs.Parts.{Part, Begins, Number, pair_parts}
 use Rattle.name_table.specs.Remaining.{IsCounted, Remaining}
-use Rattle.name_table.specs.declared.fault.NameFault.{NameFault}
+use Rattle.name_table.specs.declared.error.NameFault.{NameFault}
 use Rattle.name_table.proofs.FaultLemmas.{fault_first}
 use Rattle.name_table.proofs.OneReading.{fault_unique, parts_no_fault, table_fault_unique}
 use Rattle.name_table.proofs.PartLemmas.{begins_split}
@@ -14,8 +14,8 @@ use Rattle.name_table.proofs.Unique.{Agree, agree_pairs, begins_unique, pair_par
 use Rattle.name_table.proofs.WholeTables.{count_fault}
 use Rattle.name_index.specs.Faults.{IsFault, NextStops, NumberStops, StopsAt}
 use Rattle.name_index.specs.Tables.{IsRisingTable, text_order}
-use Rattle.name_index.specs.declared.fault.NameTableFault.{NameTableFault}
-use Rattle.name_index.specs.declared.fault.NameTableFault.TheVariants.{Format, NotRising}
+use Rattle.name_index.specs.declared.error.NameTableFault.{NameTableFault}
+use Rattle.name_index.specs.declared.error.NameTableFault.TheVariants.{Format, NotAscending}
 use Rattle.name_index.proofs.KnownParts.{agree_numbers, one_number, pair_first, pair_next}
 
 -- ---- the number of entries
@@ -23,12 +23,12 @@ use Rattle.name_index.proofs.KnownParts.{agree_numbers, one_number, pair_first, 
 number_stops_not : (bytes rest : List ℕ) (n : ℕ) (f : NameTableFault) → Begins bytes (Number n ∷ []) rest → NumberStops bytes f → ⊥
 number_stops_not bytes rest n (Format f) b w =
     parts_no_fault bytes rest (Number n ∷ []) 0 f (λ ys (e : Number n ∷ [] ≡ ys). rw (← e) (agree_numbers n n)) b (fault_first bytes 0 f (Number n) [] refl w)
-number_stops_not bytes rest n (NotRising at) b w = w
+number_stops_not bytes rest n (NotAscending at) b w = w
 
 number_stops_one : (bytes : List ℕ) (f g : NameTableFault) → NumberStops bytes f → NumberStops bytes g → f ≡ g
 number_stops_one bytes (Format f) (Format g) p q = ap (λ e. Format e) (table_fault_unique bytes f g (count_fault bytes f p) (count_fault bytes g q))
-number_stops_one bytes (Format f) (NotRising b) p q = absurd q
-number_stops_one bytes (NotRising a) g p q = absurd p
+number_stops_one bytes (Format f) (NotAscending b) p q = absurd q
+number_stops_one bytes (NotAscending a) g p q = absurd p
 
 counted_one : (bytes : List ℕ) (s t : Remaining) → IsCounted bytes s → IsCounted bytes t → s ≡ t
 counted_one bytes s t c d =
@@ -39,14 +39,14 @@ counted_one bytes s t c d =
 -- ---- the entries after it
 
 -- of pairs that bytes begin with and more of them, these are the first ones
-first_pairs : (J K : List (List ℕ × List ℕ)) (bytes middle behind : List ℕ) → Begins bytes (pair_parts J) middle → Begins bytes (pair_parts K) behind → length J < length K → (q : List ℕ × List ℕ) × (more : List (List ℕ × List ℕ)) × (K ≡ J ++ q ∷ more) × Begins middle (pair_parts (q ∷ more)) behind
-first_pairs J [] bytes middle behind b k l = absurd (omega (arith, l))
-first_pairs [] (p ∷ K) bytes middle behind b k l =
+first_pairs : (J K : List (List ℕ × List ℕ)) (bytes middle after : List ℕ) → Begins bytes (pair_parts J) middle → Begins bytes (pair_parts K) after → length J < length K → (q : List ℕ × List ℕ) × (more : List (List ℕ × List ℕ)) × (K ≡ J ++ q ∷ more) × Begins middle (pair_parts (q ∷ more)) after
+first_pairs J [] bytes middle after b k l = absurd (omega (arith, l))
+first_pairs [] (p ∷ K) bytes middle after b k l =
     (p, K, refl, rw (← (b.split ∙ ap (λ c. c ++ middle) b.spelled)) k)
-first_pairs (q ∷ J) (p ∷ K) bytes middle behind b k l =
+first_pairs (q ∷ J) (p ∷ K) bytes middle after b k l =
     let d = begins_split bytes middle (pair_parts (q ∷ [])) (pair_parts J) b in
-    let n = pair_next bytes d.0 behind p q K k d.1 in
-    let r = first_pairs J K d.0 middle behind d.2 n.1 (omega (arith, l)) in
+    let n = pair_next bytes d.0 after p q K k d.1 in
+    let r = first_pairs J K d.0 middle after d.2 n.1 (omega (arith, l)) in
     (r.0, r.1, (λ i. sym n.0 i ∷ r.2 i), r.3)
 
 agree_next : (xs ys : List Part) → AreOfPairs 1 xs → AreOfPairs 1 ys → Agree xs ys
@@ -58,24 +58,24 @@ next_no_fault : (t : Remaining) (f : NameFault) (q : List ℕ × List ℕ) (rest
 next_no_fault t f q rest b w = parts_no_fault t.rest rest (pair_parts (q ∷ [])) t.place f (λ ys a. agree_next (pair_parts (q ∷ [])) ys (q ∷ [], refl, refl) a) b w.1
 
 -- nothing stops if a pair is the next one of some whose keys ascend
-next_stops_not : (t : Remaining) (J more : List (List ℕ × List ℕ)) (q : List ℕ × List ℕ) (behind : List ℕ) (f : NameTableFault) → Rising text_order (J ++ q ∷ more) → Begins t.rest (pair_parts (q ∷ more)) behind → NextStops J t f → ⊥
-next_stops_not t J more q behind (Format f) r b w = let p = pair_first t.rest behind q more b in next_no_fault t f q p.0 p.1 w
-next_stops_not t J more q behind (NotRising at) r b w =
-    let n = pair_next t.rest w.0.rest behind q w.1 more b w.2.spelled in
+next_stops_not : (t : Remaining) (J more : List (List ℕ × List ℕ)) (q : List ℕ × List ℕ) (after : List ℕ) (f : NameTableFault) → Rising text_order (J ++ q ∷ more) → Begins t.rest (pair_parts (q ∷ more)) after → NextStops J t f → ⊥
+next_stops_not t J more q after (Format f) r b w = let p = pair_first t.rest after q more b in next_no_fault t f q p.0 p.1 w
+next_stops_not t J more q after (NotAscending at) r b w =
+    let n = pair_next t.rest w.0.rest after q w.1 more b w.2.spelled in
     let e : J ++ q ∷ more ≡ (J ++ w.1 ∷ []) ++ more = sym (append_assoc J (q ∷ []) more) ∙ ap (λ p. (J ++ p ∷ []) ++ more) (sym n.0) in
     w.4 (Rising-left text_order (J ++ w.1 ∷ []) more (rw (← e) r))
 
 next_stops_one : (t : Remaining) (J : List (List ℕ × List ℕ)) (f g : NameTableFault) → NextStops J t f → NextStops J t g → f ≡ g
 next_stops_one t J (Format f) (Format g) p q = ap (λ e. Format e) (fault_unique t.rest t.place f g agree_next p.1 q.1)
-next_stops_one t J (Format f) (NotRising b) p q = absurd (next_no_fault t f q.1 q.0.rest q.2.spelled p)
-next_stops_one t J (NotRising a) (Format g) p q = absurd (next_no_fault t g p.1 p.0.rest p.2.spelled q)
-next_stops_one t J (NotRising a) (NotRising b) p q = ap (λ i. NotRising i) (p.3 ∙ sym q.3)
+next_stops_one t J (Format f) (NotAscending b) p q = absurd (next_no_fault t f q.1 q.0.rest q.2.spelled p)
+next_stops_one t J (NotAscending a) (Format g) p q = absurd (next_no_fault t g p.1 p.0.rest p.2.spelled q)
+next_stops_one t J (NotAscending a) (NotAscending b) p q = ap (λ i. NotAscending i) (p.3 ∙ sym q.3)
 
 -- nor before the last of them
-stops_not : (s : Remaining) (K : List (List ℕ × List ℕ)) (behind : List ℕ) (f : NameTableFault) → Begins s.rest (pair_parts K) behind → Rising text_order K → (w : StopsAt s f) → length w.1 < length K → ⊥
-stops_not s K behind f k r w l =
-    let n = first_pairs w.1 K s.rest w.0.rest behind w.2.spelled k l in
-    next_stops_not w.0 w.1 n.1 n.0 behind f (rw (← n.2) r) n.3 w.4
+stops_not : (s : Remaining) (K : List (List ℕ × List ℕ)) (after : List ℕ) (f : NameTableFault) → Begins s.rest (pair_parts K) after → Rising text_order K → (w : StopsAt s f) → length w.1 < length K → ⊥
+stops_not s K after f k r w l =
+    let n = first_pairs w.1 K s.rest w.0.rest after w.2.spelled k l in
+    next_stops_not w.0 w.1 n.1 n.0 after f (rw (← n.2) r) n.3 w.4
 
 stops_one : (s : Remaining) (f g : NameTableFault) → StopsAt s f → StopsAt s g → f ≡ g
 stops_one s f g p q =
@@ -95,15 +95,15 @@ stops_one s f g p q =
 
 is_due : (t : Remaining) (J : List (List ℕ × List ℕ)) (f : NameTableFault) → NextStops J t f → 0 < t.left
 is_due t J (Format f) w = w.0
-is_due t J (NotRising at) w = omega (arith, w.2.count)
+is_due t J (NotAscending at) w = omega (arith, w.2.count)
 
-pub rising_no_fault : (bytes : List ℕ) (pairs : List (List ℕ × List ℕ)) (fault : NameTableFault) → IsRisingTable bytes pairs → IsFault bytes fault → ⊥
-rising_no_fault bytes pairs fault t =
+pub rising_no_fault : (bytes : List ℕ) (pairs : List (List ℕ × List ℕ)) (error : NameTableFault) → IsRisingTable bytes pairs → IsFault bytes error → ⊥
+rising_no_fault bytes pairs error t =
     let d = begins_split bytes t.rest (Number (length pairs) ∷ []) (pair_parts pairs) t.table in
-    ⊎_elim (λ w. number_stops_not bytes d.0 (length pairs) fault d.1 w)
+    ⊎_elim (λ w. number_stops_not bytes d.0 (length pairs) error d.1 w)
     (λ w.
     let u = one_number bytes d.1 w.1.spelled in
-    stops_not w.0 pairs t.rest fault (rw (← u.2) d.2) t.rises w.2 (omega (arith, u.1, w.2.2.count, is_due w.2.0 w.2.1 fault w.2.4)))
+    stops_not w.0 pairs t.rest error (rw (← u.2) d.2) t.rises w.2 (omega (arith, u.1, w.2.2.count, is_due w.2.0 w.2.1 error w.2.4)))
 
 pub rising_fault_unique : (bytes : List ℕ) (f g : NameTableFault) → IsFault bytes f → IsFault bytes g → f ≡ g
 rising_fault_unique bytes f g p q =

@@ -17,8 +17,8 @@ use Rattle.name_table.specs.Parts.{Begins, Number, pair_parts, text_parts}
 use Rattle.name_index.specs.Far.{AreFar, IfTooFar, IsFar}
 use Rattle.name_index.specs.Steps.{AreEntries, ArePlaced, AsPlaced, BeginsPair, BeginsText, IsIndexed, IsKeyAt}
 use Rattle.name_index.specs.Tables.{OfTable, text_order}
-use Rattle.name_index.specs.declared.fault.NameIndexFault.{NameIndexFault}
-use Rattle.name_index.specs.declared.fault.NameIndexFault.TheVariants.{NoRoom, TooFar}
+use Rattle.name_index.specs.declared.error.NameIndexFault.{NameIndexFault}
+use Rattle.name_index.specs.declared.error.NameIndexFault.TheVariants.{NoRoom, TooFar}
 use Rattle.name_index.proofs.KnownParts.{one_number, text_next}
 use Rattle.name_index.proofs.Rises.{rising_table}
 use Rattle.name_index.proofs.Scanning.{Walked, ascends, one_side, to_key, walked_begins, walked_next, walked_pair}
@@ -39,7 +39,7 @@ pub record Noted (entries : List ℕ) (count : ℕ) (offsets rest : List ℕ) (i
   pub so_many : length before ≡ index
   pub near : (f : AreFar entries index) → ⊥
   pub within : (i place : ℕ) → slice_get offsets i ≡ Some place → place ≤ length entries
-  pub there : (i place : ℕ) → slice_get offsets i ≡ Some place → Begins (drop place entries) (pair_parts (drop i walked.these.pairs)) walked.these.left.behind
+  pub there : (i place : ℕ) → slice_get offsets i ≡ Some place → Begins (drop place entries) (pair_parts (drop i walked.these.pairs)) walked.these.left.after
 
 pub noted_start : (entries : List ℕ) (count : ℕ) → AreEntries entries count → Noted entries count [] entries 0
 noted_start entries count these = record {
@@ -70,15 +70,15 @@ far_here entries count offsets rest index n l h = record {
   far = omega (arith, h, ap length n.read.split, length-append n.read.front rest);
 }
 
-pub noted_next : (entries : List ℕ) (count : ℕ) (offsets rest : List ℕ) (index place : ℕ) (pair : List ℕ × List ℕ) (behind : List ℕ) → (n : Noted entries count offsets rest index) → index < count → place + length rest ≡ length entries → place < NUMBER_LIMIT → Begins rest (pair_parts (pair ∷ [])) behind → Noted entries count (offsets ++ place ∷ []) behind (index + 1)
-noted_next entries count offsets rest index place pair behind n within e small b =
+pub noted_next : (entries : List ℕ) (count : ℕ) (offsets rest : List ℕ) (index place : ℕ) (pair : List ℕ × List ℕ) (after : List ℕ) → (n : Noted entries count offsets rest index) → index < count → place + length rest ≡ length entries → place < NUMBER_LIMIT → Begins rest (pair_parts (pair ∷ [])) after → Noted entries count (offsets ++ place ∷ []) after (index + 1)
+noted_next entries count offsets rest index place pair after n within e small b =
     let f = place_is_front entries count offsets rest index place n e in
     let d : drop place entries ≡ rest = ap (λ c. drop place c) n.read.split ∙ drop_at n.read.front rest place f in
     record {
-      walked = walked_next n.walked within pair behind b;
+      walked = walked_next n.walked within pair after b;
       number = omega (arith, n.number, length-append offsets (place ∷ []));
       before = n.before ++ pair ∷ [];
-      read = begins_pairs entries rest behind n.before (pair ∷ []) n.read b;
+      read = begins_pairs entries rest after n.before (pair ∷ []) n.read b;
       so_many = omega (arith, n.so_many, length-append n.before (pair ∷ []));
       near = λ g. ⊎_elim
           (λ h. n.near (record { before = g.before; rest = g.rest; spelled = g.spelled; due = h; far = g.far }))
@@ -86,7 +86,7 @@ noted_next entries count offsets rest index place pair behind n within e small b
           (cases_lt (length g.before) index);
       within = each_push (λ i p. p ≤ length entries) offsets place n.within (omega (arith, e));
       there =
-          each_push (λ i p. Begins (drop p entries) (pair_parts (drop i n.walked.these.pairs)) n.walked.these.left.behind) offsets place n.there
+          each_push (λ i p. Begins (drop p entries) (pair_parts (drop i n.walked.these.pairs)) n.walked.these.left.after) offsets place n.there
           (rw n.number (rw d n.walked.here));
     }
 
@@ -96,7 +96,7 @@ near_table bytes entries count b near f =
     let u = one_number bytes f.2 b in
     near (rw (← u.1) (rw (← u.2) f.3))
 
-pub too_far_weaker : {P Q : Type 0} (fault : NameIndexFault) → (P → Q) → IfTooFar fault P → IfTooFar fault Q
+pub too_far_weaker : {P Q : Type 0} (error : NameIndexFault) → (P → Q) → IfTooFar error P → IfTooFar error Q
 too_far_weaker NoRoom h p = tt
 too_far_weaker TooFar h p = h p
 
@@ -105,7 +105,7 @@ placed_end entries count offsets rest index n e =
     record {
       these = record {
         pairs = n.walked.these.pairs;
-        left = record { behind = n.walked.these.left.behind; spelled = n.walked.these.left.spelled; len_is = omega (arith, n.walked.these.left.len_is, n.number, e) };
+        left = record { after = n.walked.these.left.after; spelled = n.walked.these.left.spelled; len_is = omega (arith, n.walked.these.left.len_is, n.number, e) };
         rises = n.walked.these.rises;
       };
       within = n.within;
@@ -128,8 +128,8 @@ module _ (entries offsets : List ℕ) (index : ℕ) (d : ℕ) (placed : ArePlace
   pub pair_begins : BeginsPair (drop (get_or offsets index d) entries)
   pair_begins = walked_begins walked_at l
 
-  pub pair_there : (pair : List ℕ × List ℕ) (behind : List ℕ) → Begins (drop (get_or offsets index d) entries) (pair_parts (pair ∷ [])) behind → slice_get placed.these.pairs index ≡ Some pair
-  pair_there pair behind b = walked_pair walked_at l pair behind b
+  pub pair_there : (pair : List ℕ × List ℕ) (after : List ℕ) → Begins (drop (get_or offsets index d) entries) (pair_parts (pair ∷ [])) after → slice_get placed.these.pairs index ≡ Some pair
+  pair_there pair after b = walked_pair walked_at l pair after b
 
   -- the key alone
   pub text_begins : BeginsText (drop (get_or offsets index d) entries)
@@ -138,10 +138,10 @@ module _ (entries offsets : List ℕ) (index : ℕ) (d : ℕ) (placed : ArePlace
       let c = begins_split (drop (get_or offsets index d) entries) f.1 (text_parts f.0.0) (text_parts f.0.1) f.2 in
       (f.0.0, c.0, c.1)
 
-  pub key_there : (key behind : List ℕ) → Begins (drop (get_or offsets index d) entries) (text_parts key) behind → IsKeyAt placed.these.pairs index key
-  key_there key behind b =
+  pub key_there : (key after : List ℕ) → Begins (drop (get_or offsets index d) entries) (text_parts key) after → IsKeyAt placed.these.pairs index key
+  key_there key after b =
       let f = pair_begins in
-      let n = text_next (drop (get_or offsets index d) entries) f.1 behind key f.0.0 (text_parts f.0.1) f.2 b in
+      let n = text_next (drop (get_or offsets index d) entries) f.1 after key f.0.0 (text_parts f.0.1) f.2 b in
       let e = pair_there f.0 f.1 f.2 in
       (f.0.1, e ∙ ap (λ k. Some (k, f.0.1)) (sym n.0))
 

@@ -71,7 +71,7 @@ head_begins (t ∷ text) (x ∷ name) = by (head_begins text name) (nat_cmp x t)
 head_begins _ _ = refl
 
 -- ---- names that ascend
-led_before : (behind : Bool) (text a b : List ℕ) → text_order a b ≡ Less → leads_to behind text b ≡ true → leads_to behind text a ≡ true
+led_before : (after : Bool) (text a b : List ℕ) → text_order a b ≡ Less → leads_to after text b ≡ true → leads_to after text a ≡ true
 led_before false text a b e h =
     let l : text_order b text ≡ Less = Less-from_is_lt (text_order b text) (sym h ∙ head_below text b) in
     head_below text a ∙ ap is_lt (text_order_total.trans a b text e l)
@@ -79,14 +79,14 @@ led_before true text a b e h = head_le text a b e h
 
 -- on which side a name lies: before, or after
 abbrev pub side : Bool → List ℕ → List ℕ → Ordering
-side behind text name = cond (leads_to behind text name) Less Greater
+side after text name = cond (leads_to after text name) Less Greater
 
 -- of two ascending names the lower one lies before, or the higher one after
-side_one : (behind : Bool) → OneSide text_order (λ name text. side behind text name)
-side_one behind text a b l = by (leads_to behind text b) refl
+side_one : (after : Bool) → OneSide text_order (λ name text. side after text name)
+side_one after text a b l = by (leads_to after text b) refl
   where
-    by : (c : Bool) → leads_to behind text b ≡ c → (side behind text a ≡ Less) ⊎ (side behind text b ≡ Greater)
-    by true e = inl (ap (λ d. cond d Less Greater) (led_before behind text a b l e))
+    by : (c : Bool) → leads_to after text b ≡ c → (side after text a ≡ Less) ⊎ (side after text b ≡ Greater)
+    by true e = inl (ap (λ d. cond d Less Greater) (led_before after text a b l e))
     by false e = inr (ap (λ d. cond d Less Greater) e)
 
 side_is : (b : Bool) → is_lt (cond b Less Greater) ≡ b
@@ -98,14 +98,14 @@ same_cut f g L n e h =
     let same : f ≡ g = λ i x. e x i in
     subst (λ t. IsCut t L n) same h
 
-module _ {entries offsets : List ℕ} (behind : Bool) (text : List ℕ) (placed : ArePlaced entries offsets) where
-  pub known_sides : (length (pairs_at placed) ≡ length offsets) × Ascends (side behind text) (pairs_at placed)
-  known_sides = (placed.these.left.len_is, Ascends-by_query (side_one behind) placed.these.pairs text placed.these.rises)
+module _ {entries offsets : List ℕ} (after : Bool) (text : List ℕ) (placed : ArePlaced entries offsets) where
+  pub known_sides : (length (pairs_at placed) ≡ length offsets) × Ascends (side after text) (pairs_at placed)
+  known_sides = (placed.these.left.len_is, Ascends-by_query (side_one after) placed.these.pairs text placed.these.rises)
 
-  pub cut_sides : (n : ℕ) → Finds (side behind text) (pairs_at placed) (Err n) → IsCut (λ p. leads_to behind text p.0) placed.these.pairs n
+  pub cut_sides : (n : ℕ) → Finds (side after text) (pairs_at placed) (Err n) → IsCut (λ p. leads_to after text p.0) placed.these.pairs n
   cut_sides n f =
-      same_cut (λ p. is_lt (side behind text p.0)) (λ p. leads_to behind text p.0) placed.these.pairs n (λ p. side_is (leads_to behind text p.0))
-      (before_missing (λ name text. side behind text name) text placed.these.pairs n (Splits-from_Finds (side_one behind) placed.these.pairs text placed.these.rises (Err n) f))
+      same_cut (λ p. is_lt (side after text p.0)) (λ p. leads_to after text p.0) placed.these.pairs n (λ p. side_is (leads_to after text p.0))
+      (before_missing (λ name text. side after text name) text placed.these.pairs n (Splits-from_Finds (side_one after) placed.these.pairs text placed.these.rises (Err n) f))
 
 -- ---- what is filtered
 

@@ -54,9 +54,9 @@ pub last_at : (front : List (List ℕ × List ℕ)) (p : List ℕ × List ℕ) �
 last_at [] p = refl
 last_at (q ∷ front) p = last_at front p
 
-pub rises_on : (last : Option (Bor (List ℕ))) (L : List (List ℕ × List ℕ)) (p : List ℕ × List ℕ) → LastKey last L → Rising text_order L → IsAbove last p.0 → Rising text_order (L ++ p ∷ [])
-rises_on None L p e r a = let P : List (List ℕ × List ℕ) → Type 0 = λ M. Rising text_order (M ++ p ∷ []) in subst P (sym e) (tt, tt)
-rises_on (Some last) L p e r a =
+pub is_rising_from : (last : Option (Bor (List ℕ))) (L : List (List ℕ × List ℕ)) (p : List ℕ × List ℕ) → LastKey last L → Rising text_order L → IsAbove last p.0 → Rising text_order (L ++ p ∷ [])
+is_rising_from None L p e r a = let P : List (List ℕ × List ℕ) → Type 0 = λ M. Rising text_order (M ++ p ∷ []) in subst P (sym e) (tt, tt)
+is_rising_from (Some last) L p e r a =
     let M = e.0 ++ (last.now, e.1) ∷ [] in
     let s : Rising text_order M = rw (← e.2) r in
     let b : AllBelow text_order M p.0 = AllBelow-from_last text_order_total M p.0 (length e.0) (last.now, e.1) s (omega (arith, length-append e.0 ((last.now, e.1) ∷ []))) (last_at e.0 (last.now, e.1)) a in
@@ -86,7 +86,7 @@ checked_next s t u last key value old middle new c n a z o =
     record {
       pairs = c.pairs ++ p ∷ [];
       read = after_further s t u c.pairs (p ∷ []) c.read n;
-      rises = rises_on last c.pairs p c.last_is c.rises a;
+      rises = is_rising_from last c.pairs p c.last_is c.rises a;
       last_is = (c.pairs, value.now, refl);
       asked = asked_next last c.pairs p c.last_is c.asked z o;
     }
@@ -98,7 +98,7 @@ parts bytes entries s c e a =
       counted = c.spelled;
       these = record {
         pairs = a.1;
-        left = record { behind = a.0.rest; spelled = a.2.spelled; len_is = omega (arith, a.2.count, a.4) };
+        left = record { after = a.0.rest; spelled = a.2.spelled; len_is = omega (arith, a.2.count, a.4) };
         rises = a.3;
       };
     })
@@ -106,8 +106,8 @@ parts bytes entries s c e a =
 -- a table that was opened is one whose keys ascend
 pub rising_table : (bytes entries : List ℕ) (count : ℕ) → (o : IsOpened bytes entries count) → IsRisingTable bytes o.these.pairs
 rising_table bytes entries count o = record {
-  rest = o.these.left.behind;
-  table = begins_then bytes entries o.these.left.behind (Number (length o.these.pairs) ∷ []) (pair_parts o.these.pairs) (rw o.these.left.len_is o.counted) o.these.left.spelled;
+  rest = o.these.left.after;
+  table = begins_then bytes entries o.these.left.after (Number (length o.these.pairs) ∷ []) (pair_parts o.these.pairs) (rw o.these.left.len_is o.counted) o.these.left.spelled;
   rises = o.these.rises;
 }
 

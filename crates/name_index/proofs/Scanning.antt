@@ -33,21 +33,21 @@ to_key key k = text_order k key
 -- the pairs from the index on stand at the rest
 pub record Walked (entries : List ℕ) (count : ℕ) (rest : List ℕ) (index : ℕ) : Type 0 where
   pub these : AreEntries entries count
-  pub here : Begins rest (pair_parts (drop index these.pairs)) these.left.behind
+  pub here : Begins rest (pair_parts (drop index these.pairs)) these.left.after
 
 module _ {entries : List ℕ} {count : ℕ} {rest : List ℕ} {index : ℕ} (w : Walked entries count rest index) (l : index < count) where
   within : index < length w.these.pairs
   within = omega (arith, l, w.these.left.len_is)
 
-  cut_here : Begins rest (pair_parts (get_or w.these.pairs index ([], []) ∷ drop (index + 1) w.these.pairs)) w.these.left.behind
-  cut_here = subst (λ L. Begins rest (pair_parts L) w.these.left.behind) (drop_more w.these.pairs index ([], []) within) w.here
+  cut_here : Begins rest (pair_parts (get_or w.these.pairs index ([], []) ∷ drop (index + 1) w.these.pairs)) w.these.left.after
+  cut_here = subst (λ L. Begins rest (pair_parts L) w.these.left.after) (drop_more w.these.pairs index ([], []) within) w.here
 
   pub walked_begins : BeginsPair rest
-  walked_begins = let f = pair_first rest w.these.left.behind (get_or w.these.pairs index ([], [])) (drop (index + 1) w.these.pairs) cut_here in (get_or w.these.pairs index ([], []), f.0, f.1)
+  walked_begins = let f = pair_first rest w.these.left.after (get_or w.these.pairs index ([], [])) (drop (index + 1) w.these.pairs) cut_here in (get_or w.these.pairs index ([], []), f.0, f.1)
 
   module _ (pair : List ℕ × List ℕ) (later : List ℕ) (read : Begins rest (pair_parts (pair ∷ [])) later) where
-    pub next_here : (pair ≡ get_or w.these.pairs index ([], [])) × Begins later (pair_parts (drop (index + 1) w.these.pairs)) w.these.left.behind
-    next_here = pair_next rest later w.these.left.behind (get_or w.these.pairs index ([], [])) pair (drop (index + 1) w.these.pairs) cut_here read
+    pub next_here : (pair ≡ get_or w.these.pairs index ([], [])) × Begins later (pair_parts (drop (index + 1) w.these.pairs)) w.these.left.after
+    next_here = pair_next rest later w.these.left.after (get_or w.these.pairs index ([], [])) pair (drop (index + 1) w.these.pairs) cut_here read
 
     -- the pair that is read stands there, and after it the next ones
     pub walked_pair : slice_get w.these.pairs index ≡ Some pair

@@ -2,8 +2,8 @@
 use Rattle.std.specs.Prelude.{ℕ, ◌<◌, ◌≤◌, List, [], ◌∷◌, length, ⊤}
 use Rattle.name_table.specs.Parts.{Begins, Number, pair_parts}
 use Rattle.name_table.specs.declared.number.TheConstants.{NUMBER_LIMIT}
-use Rattle.name_index.specs.declared.fault.NameIndexFault.{NameIndexFault}
-use Rattle.name_index.specs.declared.fault.NameIndexFault.TheVariants.{NoRoom, TooFar}
+use Rattle.name_index.specs.declared.error.NameIndexFault.{NameIndexFault}
+use Rattle.name_index.specs.declared.error.NameIndexFault.TheVariants.{NoRoom, TooFar}
 
 -- of so many entries one begins 2^32 bytes or more after the first
 pub record AreFar (entries : List ℕ) (len : ℕ) : Type 0 where

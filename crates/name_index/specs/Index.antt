@@ -3,7 +3,7 @@ use Rattle.std.specs.Prelude.{◌≡◌, ℕ, ◌+◌, ◌*◌, ◌≤◌, List,
 use Rattle.std.specs.Int.{from_le_bytes, w32}
 use Rattle.litemap_store.specs.Pairs.{Rising}
 use Rattle.name_index.specs.Tables.{text_order}
-use Rattle.name_index.specs.declared.fault.IndexFault.{IndexFault}
+use Rattle.name_index.specs.declared.error.IndexFault.{IndexFault}
 
 -- at an offset stand the four bytes of the number, the lowest first
 pub record IsNumberAt (bytes : List ℕ) (at n : ℕ) : Type 0 where
@@ -52,4 +52,4 @@ NoIndex bytes = IfIndex bytes (λ _. ⊥)
 pub record OpensIndex (bytes : List ℕ) (result : Result (List ℕ) IndexFault) : Type 0 where
   pub same : IfOk result (λ names. names ≡ bytes)
   pub index : IfOk result (λ _. OfIndex bytes (λ _. ⊤))
-  pub fault : IfErr result (λ _. NoIndex bytes)
+  pub error : IfErr result (λ _. NoIndex bytes)

@@ -9,8 +9,8 @@ use Rattle.name_table.proofs.Unique.{agree_pairs, begins_unique, pair_parts-inj}
 
 -- the bytes begin with the pairs, which are so many
 pub record AreLeft (bytes : List ℕ) (len : ℕ) (pairs : List (List ℕ × List ℕ)) : Type 0 where
-  pub behind : List ℕ
-  pub spelled : Begins bytes (pair_parts pairs) behind
+  pub after : List ℕ
+  pub spelled : Begins bytes (pair_parts pairs) after
   pub len_is : length pairs ≡ len
 
 -- the pairs, so many, that the bytes begin with

@@ -49,7 +49,7 @@ pub record ArePlaced (entries offsets : List ℕ) : Type 0 where
   pub these : AreEntries entries (length offsets)
   pub within : (i place : ℕ) → slice_get offsets i ≡ Some place → place ≤ length entries
   pub there : (i place : ℕ) → slice_get offsets i ≡ Some place
-      → Begins (drop place entries) (pair_parts (drop i these.pairs)) these.left.behind
+      → Begins (drop place entries) (pair_parts (drop i these.pairs)) these.left.after
 
 -- if they are, P holds of the pairs
 abbrev pub AsPlaced : List ℕ → List ℕ → (List (List ℕ × List ℕ) → Type 0) → Type 0

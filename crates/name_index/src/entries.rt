@@ -12,7 +12,7 @@ use name_table::parts::Cursor;
 use std::cmp::Ordering;
 
 /// Reads the string that the bytes begin with, after its length, and returns it with the bytes after it.
-pub fn read_valid_text(bytes: &[u8]) -> (&str, &[u8])
+pub fn read_valid_string(bytes: &[u8]) -> (&str, &[u8])
     requires { BeginsText bytes.now }
     ensures { Begins bytes.now (text_parts result.0.now) result.1.now }
 {
@@ -27,8 +27,8 @@ pub fn read_valid_pair(bytes: &[u8]) -> ((&str, &str), &[u8])
     requires { BeginsPair bytes.now }
     ensures { Begins bytes.now (pair_parts (shown result.0 ∷ [])) result.1.now }
 {
-    let (key, middle) = read_valid_text(bytes);
-    let (value, rest) = read_valid_text(middle);
+    let (key, middle) = read_valid_string(bytes);
+    let (value, rest) = read_valid_string(middle);
     ((key, value), rest)
 }
 

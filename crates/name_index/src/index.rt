@@ -7,7 +7,7 @@ ghost use Rattle.name_index.specs.Prefixes.{IsPrefixRange};
 ghost use Rattle.name_index.specs.Tables.{FindsIndex, Gets, OfTable};
 ghost use Rattle.name_table.specs.Remaining.{shown};
 
-use crate::fault::NameIndexFault;
+use crate::error::NameIndexFault;
 use crate::name_entries::{NameEntries, map_of};
 use crate::offsets::{entries_between, offsets_of, pair_of, partition_point, search};
 use crate::table::NameTable;
@@ -48,7 +48,7 @@ impl<'a> NameIndex<'a> {
     pub fn new(alloc: Global, table: &NameTable<'a>) -> Result<Self, NameIndexFault>
         ensures bytes { IfOk result (λ index. index ≡ table.now) }
         ensures refused { OnErr result (OfTable table.now (λ pairs. 0 < length pairs)) }
-        ensures too_far { IfErr result (λ fault. IfTooFar fault (IsFar table.now)) }
+        ensures too_far { IfErr result (λ error. IfTooFar error (IsFar table.now)) }
         ensures near { OnOk result (IsFar table.now → ⊥) }
     {
         let (bytes, entries, len) = table.parts();
@@ -76,7 +76,7 @@ impl<'a> NameIndex<'a> {
 
     /// Returns the value of a key, or `None` if it isn't there. It makes O(log n) comparisons for n entries.
     ///
-    /// The value is borrowed from the bytes of the table, and outlives the index.
+    /// The value is borrowed from the bytes of the table, and outlives the index. No memory is taken.
     pub fn get(&self, key: &str) -> Option<&'a str>
         ensures { OfTable self.now (Gets key.now result) }
     {
@@ -124,18 +124,19 @@ impl<'a> NameIndex<'a> {
     /// string, and if no name begins with it, it is empty there. An empty string begins each name.
     ///
     /// It makes O(log n) comparisons, each of the string with as many bytes of a name.
-    pub fn prefix_places(&self, prefix: &str) -> Range<usize>
+    pub fn prefix_range(&self, prefix: &str) -> Range<usize>
         ensures range { OfTable self.now (IsPrefixRange prefix.now result.start result.end) }
     {
-        self.prefix_places_counted(prefix, &mut Count::new())
+        self.prefix_range_counted(prefix, &mut Count::new())
     }
 
-    /// `prefix_places`, counting its comparisons.
-    pub fn prefix_places_counted(&self, prefix: &str, count: &mut Count) -> Range<usize>
+    /// `prefix_range`, counting its comparisons.
+    pub fn prefix_range_counted(&self, prefix: &str, count: &mut Count) -> Range<usize>
         ensures range { OfTable self.now (IsPrefixRange prefix.now result.start result.end) }
         ensures cost { OfTable self.now (λ pairs. RisesByAtMost (2 * digits (length pairs)) count.old count.new) }
     {
         let offsets = self.offsets.as_slice();
+        // The number of the names before those that begin with the prefix, and of both.
         let start = partition_point(self.entries, offsets, prefix, false, count);
         let end = partition_point(self.entries, offsets, prefix, true, count);
         start..end

@@ -7,7 +7,7 @@ ghost use Rattle.name_index.specs.Steps.{Adds, AddsPairs, AreOffsets};
 ghost use Rattle.name_index.specs.Writes.{entries_size, index_size, pair_size};
 ghost use Rattle.name_table.specs.Remaining.{shown};
 ghost use Rattle.name_table.specs.Writes.{IfTooLarge};
-ghost use Rattle.name_table.specs.declared.fault.NameWriteFault.TheVariants.{TooLarge};
+ghost use Rattle.name_table.specs.declared.error.NameWriteFault.TheVariants.{TooLarge};
 
 use name_table::parts::NUMBER_LIMIT;
 use name_table::{NameMap, NameWriteFault};
@@ -24,7 +24,7 @@ const ENTRY_NUMBERS: usize = 8;
 pub fn write_index(alloc: Global, names: &NameMap<'_>) -> Result<Vec<u8>, NameWriteFault>
     ensures index { IfOk result (λ bytes. IsIndex bytes.items (map shown names.now.pairs)) }
     ensures size { IfOk result (λ bytes. length bytes.items ≡ index_size (map shown names.now.pairs)) }
-    ensures too_large { IfErr result (λ fault. IfTooLarge fault (NUMBER_LIMIT ≤ entries_size (map shown names.now.pairs))) }
+    ensures too_large { IfErr result (λ error. IfTooLarge error (NUMBER_LIMIT ≤ entries_size (map shown names.now.pairs))) }
     ensures small { OnOk result (entries_size (map shown names.now.pairs) < NUMBER_LIMIT) }
 {
     write_index_of(alloc, names.as_slice())
@@ -36,7 +36,7 @@ pub fn write_index_of(alloc: Global, names: &[(&str, &str)]) -> Result<Vec<u8>, 
     requires { Rising by_bytes names.now }
     ensures index { IfOk result (λ bytes. IsIndex bytes.items (map shown names.now)) }
     ensures size { IfOk result (λ bytes. length bytes.items ≡ index_size (map shown names.now)) }
-    ensures too_large { IfErr result (λ fault. IfTooLarge fault (NUMBER_LIMIT ≤ entries_size (map shown names.now))) }
+    ensures too_large { IfErr result (λ error. IfTooLarge error (NUMBER_LIMIT ≤ entries_size (map shown names.now))) }
     ensures small { OnOk result (entries_size (map shown names.now) < NUMBER_LIMIT) }
 {
     let mut bytes = put_offsets(alloc, names)?;
@@ -47,7 +47,7 @@ pub fn write_index_of(alloc: Global, names: &[(&str, &str)]) -> Result<Vec<u8>, 
 // Writes the number of pairs, and the offset of each.
 fn put_offsets(alloc: Global, pairs: &[(&str, &str)]) -> Result<Vec<u8>, NameWriteFault>
     ensures offsets { IfOk result (λ bytes. AreOffsets bytes.items (map shown pairs.now) (length pairs.now)) }
-    ensures too_large { IfErr result (λ fault. IfTooLarge fault (NUMBER_LIMIT ≤ entries_size (map shown pairs.now))) }
+    ensures too_large { IfErr result (λ error. IfTooLarge error (NUMBER_LIMIT ≤ entries_size (map shown pairs.now))) }
     ensures small { OnOk result (entries_size (map shown pairs.now) < NUMBER_LIMIT) }
 {
     let mut bytes = Vec::new(alloc);
@@ -62,7 +62,7 @@ fn put_offsets(alloc: Global, pairs: &[(&str, &str)]) -> Result<Vec<u8>, NameWri
 
 fn put_entries(bytes: &mut Vec<u8>, pairs: &[(&str, &str)]) -> Result<(), NameWriteFault>
     ensures pairs { OnOk result (AddsPairs bytes.old.items bytes.new.items (map shown pairs.now) (length pairs.now)) }
-    ensures too_large { IfErr result (λ fault. IfTooLarge fault (NUMBER_LIMIT ≤ entries_size (map shown pairs.now))) }
+    ensures too_large { IfErr result (λ error. IfTooLarge error (NUMBER_LIMIT ≤ entries_size (map shown pairs.now))) }
 {
     for pair in pairs {
         put_pair(bytes, pair.0, pair.1)?;
@@ -75,7 +75,7 @@ fn offset_after(offset: usize, key: &str, value: &str) -> Result<usize, NameWrit
     requires { offset < NUMBER_LIMIT }
     ensures next { IfOk result (λ next. next ≡ offset + pair_size (key.now, value.now)) }
     ensures small { IfOk result (λ next. next < NUMBER_LIMIT) }
-    ensures too_large { IfErr result (λ fault. (fault ≡ TooLarge) × (NUMBER_LIMIT ≤ offset + pair_size (key.now, value.now))) }
+    ensures too_large { IfErr result (λ error. (error ≡ TooLarge) × (NUMBER_LIMIT ≤ offset + pair_size (key.now, value.now))) }
 {
     if key.len() >= NUMBER_LIMIT || value.len() >= NUMBER_LIMIT {
         return Err(NameWriteFault::TooLarge);
@@ -91,17 +91,17 @@ fn offset_after(offset: usize, key: &str, value: &str) -> Result<usize, NameWrit
 fn put_pair(bytes: &mut Vec<u8>, key: &str, value: &str) -> Result<(), NameWriteFault>
     ensures adds { OnOk result (Adds bytes.old.items bytes.new.items (pair_size (key.now, value.now))) }
     ensures pair { OnOk result (IsPairAt bytes.new.items (length bytes.old.items) (key.now, value.now)) }
-    ensures too_large { IfErr result (λ fault. IfTooLarge fault (NUMBER_LIMIT ≤ pair_size (key.now, value.now))) }
+    ensures too_large { IfErr result (λ error. IfTooLarge error (NUMBER_LIMIT ≤ pair_size (key.now, value.now))) }
 {
-    put_text(bytes, key)?;
-    put_text(bytes, value)?;
+    put_string(bytes, key)?;
+    put_string(bytes, value)?;
     Ok(())
 }
 
-fn put_text(bytes: &mut Vec<u8>, text: &str) -> Result<(), NameWriteFault>
+fn put_string(bytes: &mut Vec<u8>, text: &str) -> Result<(), NameWriteFault>
     ensures adds { OnOk result (Adds bytes.old.items bytes.new.items (4 + length text.now)) }
     ensures text { OnOk result (IsTextAt bytes.new.items (length bytes.old.items) text.now) }
-    ensures too_large { IfErr result (λ fault. IfTooLarge fault (NUMBER_LIMIT ≤ length text.now)) }
+    ensures too_large { IfErr result (λ error. IfTooLarge error (NUMBER_LIMIT ≤ length text.now)) }
 {
     put_number(bytes, text.len())?;
     bytes.extend_from_slice(text.as_bytes())?;
@@ -112,7 +112,7 @@ fn put_number(bytes: &mut Vec<u8>, number: usize) -> Result<(), NameWriteFault>
     ensures adds { OnOk result (Adds bytes.old.items bytes.new.items 4) }
     ensures number { OnOk result (IsNumberAt bytes.new.items (length bytes.old.items) number) }
     ensures small { OnOk result (number < NUMBER_LIMIT) }
-    ensures too_large { IfErr result (λ fault. IfTooLarge fault (NUMBER_LIMIT ≤ number)) }
+    ensures too_large { IfErr result (λ error. IfTooLarge error (NUMBER_LIMIT ≤ number)) }
     ensures refused { NUMBER_LIMIT ≤ number → result ≡ Err TooLarge }
 {
     if number >= NUMBER_LIMIT {

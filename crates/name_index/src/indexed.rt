@@ -7,7 +7,7 @@ ghost use Rattle.name_index.specs.Steps.{HasOffsets};
 ghost use Rattle.name_index.specs.Tables.{FindsIndex, Gets};
 ghost use Rattle.name_table.specs.Remaining.{shown};
 
-use crate::fault::IndexFault;
+use crate::error::IndexFault;
 use crate::indexed_search::{entry_at, find, follow, number_at};
 use litemap_store::store::Count;
 use std::marker::Model;
@@ -40,7 +40,7 @@ impl<'a> IndexedNames<'a> {
     /// offsets.
     pub fn open(bytes: &'a [u8]) -> Result<Self, IndexFault>
         ensures bytes { IfOk result (λ names. names ≡ bytes.now) }
-        ensures fault { IfErr result (λ _. NoIndex bytes.now) }
+        ensures error { IfErr result (λ _. NoIndex bytes.now) }
     {
         let len = number_at(bytes, 0)?;
         if bytes.len() < 4 + 4 * len {
@@ -74,7 +74,7 @@ impl<'a> IndexedNames<'a> {
     /// Returns the value of a key, or `None` if it isn't there. It makes O(log n) comparisons.
     pub fn get(&self, key: &str) -> Result<Option<&'a str>, IndexFault>
         ensures value { IfOk result (λ found. IfIndex self.now (Gets key.now found)) }
-        ensures fault { IfErr result (λ _. NoIndex self.now) }
+        ensures error { IfErr result (λ _. NoIndex self.now) }
     {
         self.get_counted(key, &mut Count::new())
     }
@@ -82,7 +82,7 @@ impl<'a> IndexedNames<'a> {
     /// `get`, counting its comparisons.
     pub fn get_counted(&self, key: &str, count: &mut Count) -> Result<Option<&'a str>, IndexFault>
         ensures value { IfOk result (λ found. IfIndex self.now (Gets key.now found)) }
-        ensures fault { IfErr result (λ _. NoIndex self.now) }
+        ensures error { IfErr result (λ _. NoIndex self.now) }
         ensures cost { IfIndex self.now (λ pairs. RisesByAtMost (digits (length pairs)) count.old count.new) }
     {
         match find(self.bytes, self.len, key, count)? {
@@ -97,7 +97,7 @@ impl<'a> IndexedNames<'a> {
     /// Returns `Ok` with the index of a key, or `Err` with the index where it would go. It costs what `get` does.
     pub fn find_index(&self, key: &str) -> Result<Result<usize, usize>, IndexFault>
         ensures place { IfOk result (λ found. IfIndex self.now (FindsIndex key.now found)) }
-        ensures fault { IfErr result (λ _. NoIndex self.now) }
+        ensures error { IfErr result (λ _. NoIndex self.now) }
     {
         self.find_index_counted(key, &mut Count::new())
     }
@@ -109,7 +109,7 @@ impl<'a> IndexedNames<'a> {
         count: &mut Count,
     ) -> Result<Result<usize, usize>, IndexFault>
         ensures place { IfOk result (λ found. IfIndex self.now (FindsIndex key.now found)) }
-        ensures fault { IfErr result (λ _. NoIndex self.now) }
+        ensures error { IfErr result (λ _. NoIndex self.now) }
         ensures cost { IfIndex self.now (λ pairs. RisesByAtMost (digits (length pairs)) count.old count.new) }
     {
         find(self.bytes, self.len, key, count)
@@ -118,7 +118,7 @@ impl<'a> IndexedNames<'a> {
     /// Returns the entry at an index, or `None` if it is not below the length. No other entry is read.
     pub fn get_indexed(&self, index: usize) -> Result<Option<(&'a str, &'a str)>, IndexFault>
         ensures entry { IfOk result (λ found. IfIndex self.now (λ pairs. option_map shown found ≡ slice_get pairs index)) }
-        ensures fault { IfErr result (λ _. NoIndex self.now) }
+        ensures error { IfErr result (λ _. NoIndex self.now) }
     {
         if index >= self.len {
             return Ok(None);

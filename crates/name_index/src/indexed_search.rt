@@ -7,7 +7,7 @@ ghost use Rattle.litemap_store.specs.Counts.{RisesByAtMost, digits};
 ghost use Rattle.litemap_store.specs.Splits.{Splits};
 ghost use Rattle.name_index.specs.Tables.{text_order};
 
-use crate::fault::IndexFault;
+use crate::error::IndexFault;
 use crate::rising::is_above;
 use litemap_store::store::Count;
 use std::cmp::Ordering;
@@ -17,7 +17,7 @@ use std::str;
 pub fn number_at(bytes: &[u8], at: usize) -> Result<usize, IndexFault>
     ensures number { IfOk result (λ number. IsNumberAt bytes.now at number) }
     ensures small { IfOk result (λ number. number < 2 ^ 32) }
-    ensures fault { IfErr result (λ _. length bytes.now < at + 4) }
+    ensures error { IfErr result (λ _. length bytes.now < at + 4) }
 {
     if at > bytes.len() {
         return Err(IndexFault::Truncated { at });
@@ -30,9 +30,9 @@ pub fn number_at(bytes: &[u8], at: usize) -> Result<usize, IndexFault>
 }
 
 // Returns the string whose length stands at an offset, in front of it, or an error if there is none.
-fn text_at(bytes: &[u8], at: usize) -> Result<&str, IndexFault>
+fn string_at(bytes: &[u8], at: usize) -> Result<&str, IndexFault>
     ensures text { IfOk result (λ text. IsTextAt bytes.now at text.now) }
-    ensures fault { IfErr result (λ _. (text : _) → IsTextAt bytes.now at text → ⊥) }
+    ensures error { IfErr result (λ _. (text : _) → IsTextAt bytes.now at text → ⊥) }
 {
     let size = number_at(bytes, at)?;
     let (_, tail) = bytes.split_at(at + 4);
@@ -48,10 +48,10 @@ fn text_at(bytes: &[u8], at: usize) -> Result<&str, IndexFault>
 
 fn pair_at(bytes: &[u8], at: usize) -> Result<(&str, &str), IndexFault>
     ensures pair { IfOk result (λ pair. IsPairAt bytes.now at (shown pair)) }
-    ensures fault { IfErr result (λ _. (pair : _) → IsPairAt bytes.now at pair → ⊥) }
+    ensures error { IfErr result (λ _. (pair : _) → IsPairAt bytes.now at pair → ⊥) }
 {
-    let key = text_at(bytes, at)?;
-    let value = text_at(bytes, at + 4 + key.len())?;
+    let key = string_at(bytes, at)?;
+    let value = string_at(bytes, at + 4 + key.len())?;
     Ok((key, value))
 }
 
@@ -59,7 +59,7 @@ fn offset_of(bytes: &[u8], len: usize, index: usize) -> Result<usize, IndexFault
     requires offsets { HasOffsets bytes.now len }
     requires within { index < len }
     ensures place { IfOk result (λ at. BeginsAt bytes.now len index at) }
-    ensures fault { IfErr result (λ _. NoEntry bytes.now len index) }
+    ensures error { IfErr result (λ _. NoEntry bytes.now len index) }
 {
     let far = number_at(bytes, 4 + 4 * index)?;
     Ok(4 + 4 * len + far)
@@ -70,7 +70,7 @@ pub fn entry_at(bytes: &[u8], len: usize, index: usize) -> Result<(&str, &str), 
     requires offsets { HasOffsets bytes.now len }
     requires within { index < len }
     ensures entry { IfOk result (λ pair. IsEntry bytes.now len index (shown pair)) }
-    ensures fault { IfErr result (λ _. NoEntry bytes.now len index) }
+    ensures error { IfErr result (λ _. NoEntry bytes.now len index) }
 {
     let at = offset_of(bytes, len, index)?;
     let pair = pair_at(bytes, at)?;
@@ -82,10 +82,10 @@ pub fn key_at(bytes: &[u8], len: usize, index: usize) -> Result<&str, IndexFault
     requires offsets { HasOffsets bytes.now len }
     requires within { index < len }
     ensures key { IfOk result (λ key. HasKey bytes.now len index key.now) }
-    ensures fault { IfErr result (λ _. NoEntry bytes.now len index) }
+    ensures error { IfErr result (λ _. NoEntry bytes.now len index) }
 {
     let at = offset_of(bytes, len, index)?;
-    let key = text_at(bytes, at)?;
+    let key = string_at(bytes, at)?;
     Ok(key)
 }
 
@@ -99,7 +99,7 @@ pub fn find(
     requires { HasOffsets bytes.now len }
     ensures splits { IfOk result (λ found. IfIndex bytes.now (λ pairs. Splits text_order pairs key.now found)) }
     ensures within { IfOk result (λ found. IfOk found (λ index. index < len)) }
-    ensures fault { IfErr result (λ _. NoIndex bytes.now) }
+    ensures error { IfErr result (λ _. NoIndex bytes.now) }
     ensures cost { RisesByAtMost (digits len) count.old count.new }
 {
     let mut low = 0;
@@ -120,14 +120,14 @@ pub fn find(
 pub fn follow(bytes: &[u8], len: usize, count: &mut Count) -> Result<(), IndexFault>
     requires { HasOffsets bytes.now len }
     ensures ok { OnOk result (OfIndex bytes.now (λ _. ⊤)) }
-    ensures fault { IfErr result (λ _. NoIndex bytes.now) }
+    ensures error { IfErr result (λ _. NoIndex bytes.now) }
     ensures cost { RisesByAtMost (len - 1) count.old count.new }
 {
     let mut last: Option<&str> = None;
     for index in 0..len {
         let (key, _) = entry_at(bytes, len, index)?;
         if !is_above(last, key, count) {
-            return Err(IndexFault::NotRising { index });
+            return Err(IndexFault::NotAscending { index });
         }
         last = Some(key);
     }

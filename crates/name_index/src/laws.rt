@@ -1,5 +1,5 @@
 //! Laws over the definitions of `specs/`. Each function does nothing: its contract is the law.
-ghost use Rattle.name_index.specs.Faults.{RisingFaultIsOne, RisingHasNoFault};
+ghost use Rattle.name_index.specs.Faults.{AscendingErrorIsOne, AscendingHasNoError};
 ghost use Rattle.name_index.specs.Tables.{WrittenIsOpened};
 ghost use Rattle.name_index.specs.Writes.{IndexIsOne};
 
@@ -16,12 +16,12 @@ pub fn written_is_opened()
 
 /// Bytes that begin with a table whose keys ascend have no error. `NameTable::new` returns `Ok` of them, and so it does of what
 /// `write_names` writes (`written_is_opened`).
-pub fn rising_has_no_fault()
-    ensures { RisingHasNoFault }
+pub fn ascending_has_no_error()
+    ensures { AscendingHasNoError }
 {}
 
 /// Bytes have one error at most. `NameTable::new` returns that of the first entry that can't be read or doesn't ascend, and no
 /// later one.
-pub fn rising_fault_is_one()
-    ensures { RisingFaultIsOne }
+pub fn ascending_error_is_one()
+    ensures { AscendingErrorIsOne }
 {}

@@ -4,7 +4,7 @@
 #![tactic(auto)]
 
 mod entries;
-mod fault;
+mod error;
 mod index;
 mod index_write;
 mod indexed;
@@ -15,7 +15,7 @@ mod offsets;
 mod rising;
 mod table;
 
-pub use fault::{IndexFault, NameIndexFault, NameTableFault};
+pub use error::{IndexFault, NameIndexFault, NameTableFault};
 pub use index::NameIndex;
 pub use index_write::{write_index, write_index_of};
 pub use indexed::{CheckedNames, IndexedNames};

@@ -6,13 +6,13 @@ ghost use Rattle.litemap_store.specs.Splits.{Splits};
 ghost use Rattle.name_index.specs.Far.{AreFar, IfTooFar};
 ghost use Rattle.name_index.specs.Steps.{AreEntries, ArePlaced, AsPlaced, IsKeyAt, leads_to};
 ghost use Rattle.name_index.specs.Tables.{text_order};
-ghost use Rattle.name_index.specs.declared.fault.NameIndexFault.TheVariants.{TooFar};
+ghost use Rattle.name_index.specs.declared.error.NameIndexFault.TheVariants.{TooFar};
 ghost use Rattle.name_table.specs.declared.number.TheConstants.{NUMBER_LIMIT};
 ghost use Rattle.name_table.specs.Remaining.{shown};
 ghost use Rattle.litemap.specs.Within.{IsCut};
 
-use crate::entries::{read_valid_pair, read_valid_text};
-use crate::fault::NameIndexFault;
+use crate::entries::{read_valid_pair, read_valid_string};
+use crate::error::NameIndexFault;
 use crate::name_entries::NameEntries;
 use litemap_store::store::Count;
 use std::alloc::{AllocError, Global};
@@ -24,7 +24,7 @@ pub fn offsets_of(alloc: Global, entries: &[u8], len: usize) -> Result<Vec<u32>,
     ensures number { IfOk result (λ offsets. length offsets.items ≡ len) }
     ensures placed { IfOk result (λ offsets. ArePlaced entries.now offsets.items) }
     ensures refused { OnErr result (0 < len) }
-    ensures too_far { IfErr result (λ fault. IfTooFar fault (AreFar entries.now len)) }
+    ensures too_far { IfErr result (λ error. IfTooFar error (AreFar entries.now len)) }
     ensures near { OnOk result (AreFar entries.now len → ⊥) }
 {
     let mut offsets = Vec::with_capacity(alloc, len)?;
@@ -48,7 +48,7 @@ fn push(offsets: &mut Vec<u32>, offset: u32) -> Result<(), AllocError>
 fn offset_of(entries: &[u8], rest: &[u8]) -> Result<u32, NameIndexFault>
     requires { length rest.now ≤ length entries.now }
     ensures offset { IfOk result (λ offset. offset + length rest.now ≡ length entries.now) }
-    ensures far { IfErr result (λ fault. (fault ≡ TooFar) × (NUMBER_LIMIT + length rest.now ≤ length entries.now)) }
+    ensures far { IfErr result (λ error. (error ≡ TooFar) × (NUMBER_LIMIT + length rest.now ≤ length entries.now)) }
 {
     match u32::try_from(entries.len() - rest.len()) {
         Ok(offset) => Ok(offset),
@@ -87,7 +87,7 @@ pub fn key_of<'a>(entries: &'a [u8], offsets: &[u32], index: usize) -> &'a str
     requires within { index < length offsets.now }
     ensures { AsPlaced entries.now offsets.now (λ pairs. IsKeyAt pairs index result.now) }
 {
-    let (key, _) = read_valid_text(&entries[offsets[index] as usize..]);
+    let (key, _) = read_valid_string(&entries[offsets[index] as usize..]);
     key
 }
 

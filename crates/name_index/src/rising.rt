@@ -5,15 +5,16 @@ ghost use Rattle.litemap_store.specs.Counts.{RisesByAtMost};
 ghost use Rattle.name_index.specs.Faults.{AllRise, StopsAt};
 ghost use Rattle.name_index.specs.Tables.{text_order};
 
-use crate::fault::NameTableFault;
+use crate::error::NameTableFault;
 use litemap_read::PairSource;
 use litemap_store::store::Count;
 use name_table::NameBytes;
 
-/// Reads what is left of a table. The error is that of the first entry that can't be read or whose key doesn't ascend.
+/// Reads what is left of a table. The error is that of the first entry that can't be read, or whose key isn't above the one
+/// before it.
 pub fn check(names: &mut NameBytes<'_>, count: &mut Count) -> Result<(), NameTableFault>
     ensures ok { OnOk result (AllRise names.old) }
-    ensures fault { IfErr result (λ fault. StopsAt names.old fault) }
+    ensures error { IfErr result (λ error. StopsAt names.old error) }
     ensures cost { RisesByAtMost (names.old.left - 1) count.old count.new }
 {
     let mut last: Option<&str> = None;
@@ -23,7 +24,7 @@ pub fn check(names: &mut NameBytes<'_>, count: &mut Count) -> Result<(), NameTab
             return Ok(());
         };
         if !is_above(last, key, count) {
-            return Err(NameTableFault::NotRising { at });
+            return Err(NameTableFault::NotAscending { at });
         }
         last = Some(key);
     }

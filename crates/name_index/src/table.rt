@@ -9,7 +9,7 @@ ghost use Rattle.name_index.specs.Tables.{FindsIndex, Gets, OfTable, text_order}
 ghost use Rattle.name_table.specs.Remaining.{shown};
 
 use crate::entries::{entry_at, scan};
-use crate::fault::NameTableFault;
+use crate::error::NameTableFault;
 use crate::name_entries::{NameEntries, map_of};
 use crate::rising::check;
 use litemap_read::PairSource;

@@ -9,8 +9,8 @@ use Rattle.name_table.specs.Parts.{Begins, Number, pair_parts, table_parts, text
 use Rattle.name_table.specs.Position.{Position}
 use Rattle.name_table.specs.Remaining.{IsAfter, IsCounted, Remaining}
 use Rattle.name_table.specs.Steps.{BeginsNumber, WhyUnread}
-use Rattle.name_table.specs.declared.fault.NameFault.{NameFault}
-use Rattle.name_table.specs.declared.fault.NameFault.TheVariants.{Truncated, NotUtf8, NumberTooLarge}
+use Rattle.name_table.specs.declared.error.NameFault.{NameFault}
+use Rattle.name_table.specs.declared.error.NameFault.TheVariants.{Truncated, NotUtf8, NumberTooLarge}
 use Rattle.name_table.specs.declared.number.TheConstants.{MOST_BYTES, NUMBER_LIMIT}
 use Rattle.name_table.specs.declared.number.Unread.{Unread}
 use Rattle.name_table.specs.declared.number.Unread.TheVariants.{Ends, TooLong}
@@ -99,9 +99,9 @@ pairs_read (suc n) s e =
     ⊎_elim
     (λ k. let middle : Position = record { rest = k.1; place = s.place + length k.2.front } in
     ⊎_elim
-    (λ v. let behind : Position = record { rest = v.1; place = middle.place + length v.2.front } in
-    let t : Remaining = record { rest = behind.rest; place = behind.place; left = s.left - 1 } in
-    let next : IsAfter s t ((k.0, v.0) ∷ []) = is_next s k.0 v.0 middle behind (record { spelled = k.2; place = refl }) (record { spelled = v.2; place = refl }) h in
+    (λ v. let after : Position = record { rest = v.1; place = middle.place + length v.2.front } in
+    let t : Remaining = record { rest = after.rest; place = after.place; left = s.left - 1 } in
+    let next : IsAfter s t ((k.0, v.0) ∷ []) = is_next s k.0 v.0 middle after (record { spelled = k.2; place = refl }) (record { spelled = v.2; place = refl }) h in
     one_more s t (k.0, v.0) next (pairs_read n t (omega (arith, e))))
     (λ f. inr (f.0, pairs_from_next s f.0 (value_fault s k.1 k.0 middle.place f.0 h k.2 refl f.1)))
     (text_read k.1 middle.place))
@@ -110,7 +110,7 @@ pairs_read (suc n) s e =
 
 -- ---- a table
 
-pub table_read : (bytes : List ℕ) → ((pairs : List (List ℕ × List ℕ)) × (rest : List ℕ) × Begins bytes (table_parts pairs) rest) ⊎ ((fault : NameFault) × TableFault bytes fault)
+pub table_read : (bytes : List ℕ) → ((pairs : List (List ℕ × List ℕ)) × (rest : List ℕ) × Begins bytes (table_parts pairs) rest) ⊎ ((error : NameFault) × TableFault bytes error)
 table_read bytes =
     ⊎_elim
     (λ r.

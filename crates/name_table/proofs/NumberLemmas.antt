@@ -5,7 +5,7 @@ use Rattle.name_table.specs.Faults.{NumberFault}
 use Rattle.name_table.specs.Numbers.{value_of, EndsAtLast}
 use Rattle.name_table.specs.Parts.{Begins, Number}
 use Rattle.name_table.specs.Steps.{BeginsNumber, WhyUnread}
-use Rattle.name_table.specs.declared.fault.NameFault.TheVariants.{Truncated, NumberTooLarge}
+use Rattle.name_table.specs.declared.error.NameFault.TheVariants.{Truncated, NumberTooLarge}
 use Rattle.name_table.specs.declared.number.TheConstants.{MOST_BYTES, NUMBER_LIMIT}
 use Rattle.name_table.specs.declared.number.Unread.{Unread}
 use Rattle.name_table.specs.declared.number.Unread.TheVariants.{Ends, TooLong}

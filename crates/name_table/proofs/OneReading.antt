@@ -3,8 +3,8 @@ use Rattle.std.proofs.Common.{◌≡◌, ℕ, ◌+◌, ◌<◌, List, [], ◌∷
 use Rattle.name_table.specs.Faults.{Fault, PartFault, TableFault}
 use Rattle.name_table.specs.Numbers.{GoesOn, IsTooLarge}
 use Rattle.name_table.specs.Parts.{Part, Number, Text, AreParts, Begins, pair_parts, table_parts}
-use Rattle.name_table.specs.declared.fault.NameFault.{NameFault}
-use Rattle.name_table.specs.declared.fault.NameFault.TheVariants.{Truncated, NotUtf8, NumberTooLarge}
+use Rattle.name_table.specs.declared.error.NameFault.{NameFault}
+use Rattle.name_table.specs.declared.error.NameFault.TheVariants.{Truncated, NotUtf8, NumberTooLarge}
 use Rattle.name_table.specs.declared.number.TheConstants.{MOST_BYTES}
 use Rattle.name_table.proofs.Unique.{Agree, IsLike, agree_tables, Behind, begins_unique, ends_goes_on, fault_past, pair_parts-inj, part_clash, regroup}
 
@@ -24,10 +24,10 @@ agree_longer [] ys y g = g
 agree_longer (x ∷ xs) ys y g = agree_longer xs ys y (g.1 refl)
 
 -- if bytes begin with parts that agree with all that are allowed, none of these has an error
-pub parts_no_fault : {Allowed : List Part → Type 0} (bytes rest : List ℕ) (xs : List Part) (place : ℕ) (fault : NameFault) → ((ys : List Part) → Allowed ys → Agree xs ys) → Begins bytes xs rest → Fault Allowed bytes place fault → ⊥
-parts_no_fault bytes rest xs place fault agrees p w =
+pub parts_no_fault : {Allowed : List Part → Type 0} (bytes rest : List ℕ) (xs : List Part) (place : ℕ) (error : NameFault) → ((ys : List Part) → Allowed ys → Agree xs ys) → Begins bytes xs rest → Fault Allowed bytes place error → ⊥
+parts_no_fault bytes rest xs place error agrees p w =
     let g : Agree xs (w.done ++ w.due ∷ w.more) = agrees (w.done ++ w.due ∷ w.more) w.allowed in
-    let i = fault_past xs [] w.done w.due w.more p.front rest w.front w.rest (place + length w.front) fault (rw (append-nil xs) g) p.spelled w.spelled (sym p.split ∙ w.split) w.why in
+    let i = fault_past xs [] w.done w.due w.more p.front rest w.front w.rest (place + length w.front) error (rw (append-nil xs) g) p.spelled w.spelled (sym p.split ∙ w.split) w.why in
     let h : w.done ++ w.due ∷ w.more ≡ xs ++ (i.parts ++ w.due ∷ w.more) = ap (λ ys. ys ++ w.due ∷ w.more) i.is_done ∙ append_assoc xs i.parts (w.due ∷ w.more) in
     longer xs i.parts w.more w.due (rw (← h) g)
   where
@@ -35,9 +35,9 @@ parts_no_fault bytes rest xs place fault agrees p w =
     longer xs [] more due g = agree_longer xs more due g
     longer xs (y ∷ parts) more due g = agree_longer xs (parts ++ due ∷ more) y g
 
-pub table_no_fault : (bytes : List ℕ) (J : List (List ℕ × List ℕ)) (rest : List ℕ) (fault : NameFault) → Begins bytes (table_parts J) rest → TableFault bytes fault → ⊥
-table_no_fault bytes J rest fault p w =
-    parts_no_fault bytes rest (table_parts J) 0 fault (λ ys a. rw a.1 (agree_tables J a.0)) p w
+pub table_no_fault : (bytes : List ℕ) (J : List (List ℕ × List ℕ)) (rest : List ℕ) (error : NameFault) → Begins bytes (table_parts J) rest → TableFault bytes error → ⊥
+table_no_fault bytes J rest error p w =
+    parts_no_fault bytes rest (table_parts J) 0 error (λ ys a. rw a.1 (agree_tables J a.0)) p w
 
 -- ---- one error
 

@@ -7,18 +7,18 @@ use Rattle.name_table.specs.Parts.{Part, Begins, text_parts, pair_parts}
 use Rattle.name_table.specs.Position.{IsPast, Position}
 use Rattle.name_table.specs.ReadOn.{begins_none, begins_pairs, begins_then, pair_parts-append}
 use Rattle.name_table.specs.Remaining.{Remaining, shown, CanBeRead, AllCanBeRead, IsAfter}
-use Rattle.name_table.specs.declared.fault.NameFault.{NameFault}
-use Rattle.name_table.proofs.FaultLemmas.{fault_behind, fault_where, fault_wider}
+use Rattle.name_table.specs.declared.error.NameFault.{NameFault}
+use Rattle.name_table.proofs.FaultLemmas.{fault_after, fault_where, fault_wider}
 use Rattle.name_table.proofs.PartLemmas.{begins_split}
 use Rattle.name_table.proofs.Unique.{Agree, agree_pairs, begins_unique, fault_past}
 
 -- ---- none is due
 
 pub none_can_be_read : (s : Remaining) → s.left ≡ 0 → CanBeRead s []
-none_can_be_read s e = record { behind = s.rest; spelled = begins_none s.rest; due = 0; count = omega (arith, e); stops = inl refl }
+none_can_be_read s e = record { after = s.rest; spelled = begins_none s.rest; due = 0; count = omega (arith, e); stops = inl refl }
 
 pub all_none_can_be_read : (s : Remaining) → s.left ≡ 0 → AllCanBeRead s
-all_none_can_be_read s e = record { pairs = []; behind = s.rest; spelled = begins_none s.rest; count = sym e }
+all_none_can_be_read s e = record { pairs = []; after = s.rest; spelled = begins_none s.rest; count = sym e }
 
 -- ---- the next one can't be read
 
@@ -30,7 +30,7 @@ pub value_fault : (s : Remaining) (middle key : List ℕ) (place : ℕ) (f : Nam
 value_fault s middle key place f h b e w =
     let none : List Part = [] in (
       omega (arith, h),
-      fault_behind s.rest s.place f (text_parts key) middle b place e
+      fault_after s.rest s.place f (text_parts key) middle b place e
           (fault_wider middle place f (λ xs a. (none, ((key, a.0) ∷ [], refl, ap (λ ys. text_parts key ++ (ys ++ none)) a.1))) w),
     )
 
@@ -48,22 +48,22 @@ abbrev pub position : Remaining → Position
 position s = record { rest = s.rest; place = s.place }
 
 -- from the strings of its key and its value
-pub is_next : (s : Remaining) (key value : List ℕ) (middle behind : Position) → IsPast (position s) middle (text_parts key) → IsPast middle behind (text_parts value) → s.left ≢ 0 → IsAfter s (record { rest = behind.rest; place = behind.place; left = s.left - 1 }) ((key, value) ∷ [])
-is_next s key value middle behind k v h =
-    let b = begins_then s.rest middle.rest behind.rest (text_parts key) (text_parts value) k.spelled v.spelled in
+pub is_next : (s : Remaining) (key value : List ℕ) (middle after : Position) → IsPast (position s) middle (text_parts key) → IsPast middle after (text_parts value) → s.left ≢ 0 → IsAfter s (record { rest = after.rest; place = after.place; left = s.left - 1 }) ((key, value) ∷ [])
+is_next s key value middle after k v h =
+    let b = begins_then s.rest middle.rest after.rest (text_parts key) (text_parts value) k.spelled v.spelled in
     record {
       spelled = b;
-      place = omega (arith, k.place, v.place, ap length b.split, length-append b.front behind.rest, ap length k.spelled.split, length-append k.spelled.front middle.rest, ap length v.spelled.split, length-append v.spelled.front behind.rest);
+      place = omega (arith, k.place, v.place, ap length b.split, length-append b.front after.rest, ap length k.spelled.split, length-append k.spelled.front middle.rest, ap length v.spelled.split, length-append v.spelled.front after.rest);
       count = omega (arith, h);
     }
 
 module _ (s t : Remaining) (p : List ℕ × List ℕ) (n : IsAfter s t (p ∷ [])) where
   pub gives_one_more : (q : Bor (List ℕ) × Bor (List ℕ)) (L : List (Bor (List ℕ) × Bor (List ℕ))) → shown q ≡ p → CanBeRead t L → CanBeRead s (q ∷ L)
   gives_one_more q L e r =
-      let P : List ℕ × List ℕ → Type 0 = λ u. Begins s.rest (pair_parts (u ∷ map shown L)) r.behind in
+      let P : List ℕ × List ℕ → Type 0 = λ u. Begins s.rest (pair_parts (u ∷ map shown L)) r.after in
       record {
-        behind = r.behind;
-        spelled = subst P (sym e) (begins_pairs s.rest t.rest r.behind (p ∷ []) (map shown L) n.spelled r.spelled);
+        after = r.after;
+        spelled = subst P (sym e) (begins_pairs s.rest t.rest r.after (p ∷ []) (map shown L) n.spelled r.spelled);
         due = r.due;
         count = omega (arith, n.count, r.count);
         stops = r.stops;
@@ -71,7 +71,7 @@ module _ (s t : Remaining) (p : List ℕ × List ℕ) (n : IsAfter s t (p ∷ []
 
   pub fault_later : (f : NameFault) → Fault (AreOfPairs t.left) t.rest t.place f → Fault (AreOfPairs s.left) s.rest s.place f
   fault_later f w =
-      fault_behind s.rest s.place f (pair_parts (p ∷ [])) t.rest n.spelled t.place n.place
+      fault_after s.rest s.place f (pair_parts (p ∷ [])) t.rest n.spelled t.place n.place
       (fault_where t.rest t.place f
       (λ xs a. (p ∷ a.0, omega (arith, a.1, n.count), ap (λ ys. pair_parts (p ∷ []) ++ ys) a.2)) w)
 
@@ -101,17 +101,17 @@ module _ (s t : Remaining) (p : List ℕ × List ℕ) (n : IsAfter s t (p ∷ []
   pub all_later : AllCanBeRead t → AllCanBeRead s
   all_later r = record {
     pairs = p ∷ r.pairs;
-    behind = r.behind;
-    spelled = begins_pairs s.rest t.rest r.behind (p ∷ []) r.pairs n.spelled r.spelled;
+    after = r.after;
+    spelled = begins_pairs s.rest t.rest r.after (p ∷ []) r.pairs n.spelled r.spelled;
     count = omega (arith, r.count, n.count);
   }
 
-  rest_of : (pairs : List (List ℕ × List ℕ)) (behind : List ℕ) → Begins s.rest (pair_parts pairs) behind → length pairs ≡ s.left → AllCanBeRead t
-  rest_of [] behind c l = absurd (omega (arith, n.count, l))
-  rest_of (q ∷ J) behind c l =
-      let d = begins_split s.rest behind (pair_parts (q ∷ [])) (pair_parts J) c in
+  rest_of : (pairs : List (List ℕ × List ℕ)) (after : List ℕ) → Begins s.rest (pair_parts pairs) after → length pairs ≡ s.left → AllCanBeRead t
+  rest_of [] after c l = absurd (omega (arith, n.count, l))
+  rest_of (q ∷ J) after c l =
+      let d = begins_split s.rest after (pair_parts (q ∷ [])) (pair_parts J) c in
       let u = begins_unique s.rest (agree_pairs (p ∷ []) (q ∷ []) refl) n.spelled d.1 in
-      record { pairs = J; behind = behind; spelled = rw u.2 d.2; count = omega (arith, l, n.count) }
+      record { pairs = J; after = after; spelled = rw u.2 d.2; count = omega (arith, l, n.count) }
 
   pub all_earlier : AllCanBeRead s → AllCanBeRead t
-  all_earlier r = rest_of r.pairs r.behind r.spelled r.count
+  all_earlier r = rest_of r.pairs r.after r.spelled r.count

@@ -5,8 +5,8 @@ use Rattle.std.specs.Prelude.{IsUtf8}
 use Rattle.name_table.specs.Faults.{PartFault}
 use Rattle.name_table.specs.Numbers.{value_of, EndsAtLast, GoesOn, IsNumber}
 use Rattle.name_table.specs.Parts.{Part, Number, Text, IsPart, AreParts, Begins, text_parts, pair_parts, table_parts}
-use Rattle.name_table.specs.declared.fault.NameFault.{NameFault}
-use Rattle.name_table.specs.declared.fault.NameFault.TheVariants.{Truncated, NotUtf8, NumberTooLarge}
+use Rattle.name_table.specs.declared.error.NameFault.{NameFault}
+use Rattle.name_table.specs.declared.error.NameFault.TheVariants.{Truncated, NotUtf8, NumberTooLarge}
 
 -- ---- numbers and strings
 

@@ -8,22 +8,22 @@ use Rattle.name_table.specs.Faults.{NumberFault, Fault, AreOfPairs, IsUnread, Pa
 use Rattle.name_table.specs.Parts.{Number, Begins, pair_parts, table_parts}
 use Rattle.name_table.specs.ReadOn.{begins_then}
 use Rattle.name_table.specs.Remaining.{Remaining, shown, NoPair, CanBeRead, AllCanBeRead, IsAfter, IsCounted}
-use Rattle.name_table.specs.declared.fault.NameFault.{NameFault}
-use Rattle.name_table.proofs.FaultLemmas.{fault_behind, fault_first, fault_where}
+use Rattle.name_table.specs.declared.error.NameFault.{NameFault}
+use Rattle.name_table.proofs.FaultLemmas.{fault_after, fault_first, fault_where}
 use Rattle.name_table.proofs.PartLemmas.{begins_split}
 use Rattle.name_table.proofs.Unique.{agree_pairs, begins_unique}
 
 -- ---- errors
 
-pub count_fault : (bytes : List ℕ) (fault : NameFault) → NumberFault bytes 0 fault → TableFault bytes fault
-count_fault bytes fault w = fault_first bytes 0 fault (Number 0) [] ([], refl) w
+pub count_fault : (bytes : List ℕ) (error : NameFault) → NumberFault bytes 0 error → TableFault bytes error
+count_fault bytes error w = fault_first bytes 0 error (Number 0) [] ([], refl) w
 
-pub pairs_fault : (bytes : List ℕ) (s : Remaining) (fault : NameFault) → IsCounted bytes s → Fault (AreOfPairs s.left) s.rest s.place fault → TableFault bytes fault
-pairs_fault bytes s fault c w =
-    fault_behind bytes 0 fault (Number s.left ∷ []) s.rest c.spelled s.place (omega (arith, c.place))
-    (fault_where s.rest s.place fault (λ xs a. (a.0, λ i. Number (sym a.1 i) ∷ a.2 i)) w)
+pub pairs_fault : (bytes : List ℕ) (s : Remaining) (error : NameFault) → IsCounted bytes s → Fault (AreOfPairs s.left) s.rest s.place error → TableFault bytes error
+pairs_fault bytes s error c w =
+    fault_after bytes 0 error (Number s.left ∷ []) s.rest c.spelled s.place (omega (arith, c.place))
+    (fault_where s.rest s.place error (λ xs a. (a.0, λ i. Number (sym a.1 i) ∷ a.2 i)) w)
 
-pub unread : (bytes : List ℕ) (s : Remaining) (fault : ReadFault NameFault) → IsCounted bytes s → IfSource fault (PairsFault s) → (fault ≡ NoRoom → 1 ≤ s.left) → IsUnread bytes fault
+pub unread : (bytes : List ℕ) (s : Remaining) (error : ReadFault NameFault) → IsCounted bytes s → IfSource error (PairsFault s) → (error ≡ NoRoom → 1 ≤ s.left) → IsUnread bytes error
 unread bytes s NoRoom c w some = (s.left, s.rest, c.spelled, some refl)
 unread bytes s (Source e) c w some = pairs_fault bytes s e c w
 
@@ -55,12 +55,12 @@ module _ (bytes : List ℕ) (s t : Remaining) (given : List (Bor (List ℕ) × B
   given_all : length given ≡ s.left
   given_all =
       let l : length (map shown given) ≡ length given = length-map given shown in
-      omega (arith, none_due (map shown given) all.pairs s.rest gives.behind all.behind gives.due gives.spelled all.spelled (omega (arith, gives.count, all.count, l)) gives.stops, gives.count)
+      omega (arith, none_due (map shown given) all.pairs s.rest gives.after all.after gives.due gives.spelled all.spelled (omega (arith, gives.count, all.count, l)) gives.stops, gives.count)
 
   on_all : length read ≡ s.left
   on_all =
-      let stops : (empty.due ≡ 0) ⊎ NoPair t.rest = rw (begins_nothing t.rest empty.behind empty.spelled) empty.stops in
-      let e : empty.due ≡ 0 = none_due read all.pairs s.rest t.rest all.behind empty.due on.spelled all.spelled (omega (arith, on.count, all.count, empty.count)) stops in
+      let stops : (empty.due ≡ 0) ⊎ NoPair t.rest = rw (begins_nothing t.rest empty.after empty.spelled) empty.stops in
+      let e : empty.due ≡ 0 = none_due read all.pairs s.rest t.rest all.after empty.due on.spelled all.spelled (omega (arith, on.count, all.count, empty.count)) stops in
       omega (arith, e, on.count, empty.count)
 
   same_bytes : gives.spelled.front ≡ on.spelled.front
@@ -72,7 +72,7 @@ module _ (bytes : List ℕ) (s t : Remaining) (given : List (Bor (List ℕ) × B
   whole_table =
       let l : s.left ≡ length (map shown given) = sym given_all ∙ sym (length-map given shown) in
       record {
-        rest = gives.behind;
-        table = begins_then bytes s.rest gives.behind (Number (length (map shown given)) ∷ []) (pair_parts (map shown given)) (record { front = counted.spelled.front; split = counted.spelled.split; spelled = rw (← l) counted.spelled.spelled }) gives.spelled;
+        rest = gives.after;
+        table = begins_then bytes s.rest gives.after (Number (length (map shown given)) ∷ []) (pair_parts (map shown given)) (record { front = counted.spelled.front; split = counted.spelled.split; spelled = rw (← l) counted.spelled.spelled }) gives.spelled;
         size_is = omega (arith, on.place, counted.place, ap length same_bytes, length-append counted.spelled.front gives.spelled.front);
       }

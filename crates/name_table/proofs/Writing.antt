@@ -8,8 +8,8 @@ use Rattle.name_table.specs.Parts.{Part, Number, Text, text_parts, pair_parts}
 use Rattle.name_table.specs.ReadOn.{AreParts-append, pair_parts-append}
 use Rattle.name_table.specs.Steps.{Appends, AppendsNumber, NoTable}
 use Rattle.name_table.specs.Writes.{IfTooLarge, IsShortest}
-use Rattle.name_table.specs.declared.fault.NameWriteFault.{NameWriteFault}
-use Rattle.name_table.specs.declared.fault.NameWriteFault.TheVariants.{NoRoom, TooLarge}
+use Rattle.name_table.specs.declared.error.NameWriteFault.{NameWriteFault}
+use Rattle.name_table.specs.declared.error.NameWriteFault.TheVariants.{NoRoom, TooLarge}
 use Rattle.name_table.specs.declared.number.TheConstants.{NUMBER_LIMIT}
 use Rattle.name_table.proofs.NumberLemmas.{EndsAtLast-more}
 use Rattle.name_table.proofs.PartLemmas.{AreParts-one, AreParts-split}
@@ -107,6 +107,6 @@ module _ {X : Type 0} (view : X → List ℕ × List ℕ) (pairs : List X) (i : 
       let one : IsNumber (1 ∷ []) 1 = record { ends = omega arith; value = omega arith; short = omega arith; small = omega arith } in
       none ((1 ∷ []) ++ t.first) (AreParts-append (1 ∷ []) t.first (Number 1 ∷ []) (pair_parts (view next ∷ [])) (AreParts-one (1 ∷ []) (Number 1) one) t.of_first)
 
-pub if_too_large_weaker : {P Q : Type 0} (fault : NameWriteFault) → (P → Q) → IfTooLarge fault P → IfTooLarge fault Q
+pub if_too_large_weaker : {P Q : Type 0} (error : NameWriteFault) → (P → Q) → IfTooLarge error P → IfTooLarge error Q
 if_too_large_weaker NoRoom h p = tt
 if_too_large_weaker TooLarge h p = h p

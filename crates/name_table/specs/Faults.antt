@@ -5,8 +5,8 @@ use Rattle.litemap_read.specs.declared.source.ReadFault.TheVariants.{NoRoom, Sou
 use Rattle.name_table.specs.Numbers.{GoesOn, IsTooLarge}
 use Rattle.name_table.specs.Parts.{Part, Number, Text, AreParts, Begins, text_parts, pair_parts, table_parts}
 use Rattle.name_table.specs.Remaining.{Remaining}
-use Rattle.name_table.specs.declared.fault.NameFault.{NameFault}
-use Rattle.name_table.specs.declared.fault.NameFault.TheVariants.{Truncated, NotUtf8, NumberTooLarge}
+use Rattle.name_table.specs.declared.error.NameFault.{NameFault}
+use Rattle.name_table.specs.declared.error.NameFault.TheVariants.{Truncated, NotUtf8, NumberTooLarge}
 use Rattle.name_table.specs.declared.number.TheConstants.{MOST_BYTES}
 
 -- the bytes, which stand at the offset, don't begin with a part of the kind that is due there: a number, or a string of so many
@@ -17,14 +17,14 @@ PartFault (Number n) bytes place (NumberTooLarge at) = (at ≡ place) × IsTooLa
 PartFault (Text text) bytes place (Truncated at) = (at ≡ place) × (length bytes < length text)
 PartFault (Text text) bytes place (NotUtf8 at) =
     (at ≡ place) × (length text ≤ length bytes) × (IsUtf8 (take (length text) bytes) → ⊥)
-PartFault part bytes place fault = ⊥
+PartFault part bytes place error = ⊥
 
 -- they don't begin with a number
 abbrev pub NumberFault : List ℕ → ℕ → NameFault → Type 0
-NumberFault bytes place fault = PartFault (Number 0) bytes place fault
+NumberFault bytes place error = PartFault (Number 0) bytes place error
 
 -- the bytes begin with some of the first parts of an allowed list of parts, and the part that is due after these can't be read
-pub record Fault (Allowed : List Part → Type 0) (bytes : List ℕ) (place : ℕ) (fault : NameFault) : Type 0 where
+pub record Fault (Allowed : List Part → Type 0) (bytes : List ℕ) (place : ℕ) (error : NameFault) : Type 0 where
   pub done : List Part
   pub due : Part
   pub more : List Part
@@ -33,7 +33,7 @@ pub record Fault (Allowed : List Part → Type 0) (bytes : List ℕ) (place : �
   pub rest : List ℕ
   pub split : bytes ≡ front ++ rest
   pub spelled : AreParts front done
-  pub why : PartFault due rest (place + length front) fault
+  pub why : PartFault due rest (place + length front) error
 
 -- the parts are those of a string
 abbrev pub AreOfText : List Part → Type 0
@@ -45,17 +45,17 @@ AreOfPairs n parts = (pairs : List (List ℕ × List ℕ)) × (length pairs ≡ 
 
 -- a pair that is due can't be read: this is why
 abbrev pub PairsFault : Remaining → NameFault → Type 0
-PairsFault s fault = Fault (AreOfPairs s.left) s.rest s.place fault
+PairsFault s error = Fault (AreOfPairs s.left) s.rest s.place error
 
 -- the next one of the pairs that are due can't be read: this is why
 abbrev pub NextFault : Remaining → NameFault → Type 0
-NextFault s fault = (0 < s.left) × Fault (AreOfPairs 1) s.rest s.place fault
+NextFault s error = (0 < s.left) × Fault (AreOfPairs 1) s.rest s.place error
 
 -- no table begins the bytes: this is why
 abbrev pub TableFault : List ℕ → NameFault → Type 0
-TableFault bytes fault = Fault (λ parts. (pairs : List (List ℕ × List ℕ)) × (parts ≡ table_parts pairs)) bytes 0 fault
+TableFault bytes error = Fault (λ parts. (pairs : List (List ℕ × List ℕ)) × (parts ≡ table_parts pairs)) bytes 0 error
 
 -- why no map is read: memory runs out, and the bytes begin with a number of pairs above 0; or no table begins them
 abbrev pub IsUnread : List ℕ → ReadFault NameFault → Type 0
 IsUnread bytes NoRoom = (n : ℕ) × (rest : List ℕ) × Begins bytes (Number n ∷ []) rest × (0 < n)
-IsUnread bytes (Source fault) = TableFault bytes fault
+IsUnread bytes (Source error) = TableFault bytes error

@@ -2,7 +2,7 @@
 use Rattle.std.specs.Prelude.{◌≡◌, ◌⊎◌, ℕ, List}
 use Rattle.name_table.specs.Faults.{TableFault}
 use Rattle.name_table.specs.Parts.{Begins, table_parts}
-use Rattle.name_table.specs.declared.fault.NameFault.{NameFault}
+use Rattle.name_table.specs.declared.error.NameFault.{NameFault}
 
 -- bytes begin with one table at most, which ends at one offset
 abbrev pub TableIsOne : Type 0
@@ -11,8 +11,8 @@ TableIsOne = (bytes : List ℕ) (J K : List (List ℕ × List ℕ)) (rest rest' 
 
 -- bytes that begin with a table have no error
 abbrev pub TableHasNoFault : Type 0
-TableHasNoFault = (bytes : List ℕ) (J : List (List ℕ × List ℕ)) (rest : List ℕ) (fault : NameFault)
-    → Begins bytes (table_parts J) rest → TableFault bytes fault → ⊥
+TableHasNoFault = (bytes : List ℕ) (J : List (List ℕ × List ℕ)) (rest : List ℕ) (error : NameFault)
+    → Begins bytes (table_parts J) rest → TableFault bytes error → ⊥
 
 -- bytes have one error at most
 abbrev pub FaultIsOne : Type 0
@@ -22,4 +22,4 @@ FaultIsOne = (bytes : List ℕ) (f g : NameFault) → TableFault bytes f → Tab
 abbrev pub EachIsRead : Type 0
 EachIsRead = (bytes : List ℕ)
     → ((J : List (List ℕ × List ℕ)) × (rest : List ℕ) × Begins bytes (table_parts J) rest)
-    ⊎ ((fault : NameFault) × TableFault bytes fault)
+    ⊎ ((error : NameFault) × TableFault bytes error)

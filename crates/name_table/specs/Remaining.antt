@@ -19,17 +19,17 @@ NoPair bytes = (pair : List ℕ × List ℕ) (rest : List ℕ) → Begins bytes 
 
 -- the pairs are those that can still be read: all that are due, or as many as come before one that can't be read
 pub record CanBeRead (s : Remaining) (pairs : List (Bor (List ℕ) × Bor (List ℕ))) : Type 0 where
-  pub behind : List ℕ
-  pub spelled : Begins s.rest (pair_parts (map shown pairs)) behind
+  pub after : List ℕ
+  pub spelled : Begins s.rest (pair_parts (map shown pairs)) after
   pub due : ℕ
   pub count : s.left ≡ length pairs + due
-  pub stops : (due ≡ 0) ⊎ NoPair behind
+  pub stops : (due ≡ 0) ⊎ NoPair after
 
 -- all pairs that are due can be read
 pub record AllCanBeRead (s : Remaining) : Type 0 where
   pub pairs : List (List ℕ × List ℕ)
-  pub behind : List ℕ
-  pub spelled : Begins s.rest (pair_parts pairs) behind
+  pub after : List ℕ
+  pub spelled : Begins s.rest (pair_parts pairs) after
   pub count : length pairs ≡ s.left
 
 -- the bytes begin with the number of pairs, which are all due

@@ -4,7 +4,7 @@ ghost use Rattle.name_table.specs.Faults.{AreOfText, Fault, NumberFault};
 ghost use Rattle.name_table.specs.Parts.{Number, text_parts};
 ghost use Rattle.name_table.specs.Position.{IsPast};
 
-use crate::fault::NameFault;
+use crate::error::NameFault;
 use crate::number::{MOST_BYTES, NUMBER_LIMIT, Unread, number_within};
 use std::marker::Model;
 use std::str;
@@ -58,7 +58,7 @@ impl<'a> Cursor<'a> {
     /// Returns the number that the bytes begin with, and the cursor after it. An error has the offset of the number.
     pub fn number(&self) -> Result<(usize, Self), NameFault>
         ensures ok { IfOk result (λ read. IsPast self.now read.1 (Number read.0 ∷ [])) }
-        ensures err { IfErr result (λ fault. NumberFault self.now.rest self.now.place fault) }
+        ensures err { IfErr result (λ error. NumberFault self.now.rest self.now.place error) }
     {
         let at = self.place;
         match number_within(self.rest, MOST_BYTES) {
@@ -79,7 +79,7 @@ impl<'a> Cursor<'a> {
     /// length or of the string.
     pub fn text(&self) -> Result<(&'a str, Self), NameFault>
         ensures ok { IfOk result (λ read. IsPast self.now read.1 (text_parts read.0.now)) }
-        ensures err { IfErr result (λ fault. Fault AreOfText self.now.rest self.now.place fault) }
+        ensures err { IfErr result (λ error. Fault AreOfText self.now.rest self.now.place error) }
     {
         let (size, tail) = self.number()?;
         let from = tail.place;

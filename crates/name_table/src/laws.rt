@@ -5,7 +5,7 @@ ghost use Rattle.name_table.specs.Laws.{EachIsRead, FaultIsOne, TableHasNoFault,
 pub fn reading_is_one()
     ensures table { TableIsOne }
     ensures no_fault { TableHasNoFault }
-    ensures fault { FaultIsOne }
+    ensures error { FaultIsOne }
 {}
 
 /// All bytes are a table or have an error.

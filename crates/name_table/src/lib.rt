@@ -3,7 +3,7 @@
 #![tactic(auto)]
 
 mod cursor;
-mod fault;
+mod error;
 pub mod laws;
 mod name_bytes;
 mod number;
@@ -11,7 +11,7 @@ pub mod parts;
 mod read;
 mod write;
 
-pub use fault::{NameFault, NameWriteFault};
+pub use error::{NameFault, NameWriteFault};
 pub use name_bytes::NameBytes;
 pub use read::{NameMap, find_name, read_names};
 pub use write::write_names;

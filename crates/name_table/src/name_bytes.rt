@@ -6,7 +6,7 @@ ghost use Rattle.name_table.specs.Remaining.{AllCanBeRead, CanBeRead, IsAfter, I
 ghost use Rattle.name_table.specs.ReadOn.{IsReadOn, read_on_itself, read_on_further};
 
 use crate::cursor::Cursor;
-use crate::fault::NameFault;
+use crate::error::NameFault;
 use litemap_read::PairSource;
 use std::marker::Model;
 
@@ -42,7 +42,7 @@ impl<'a> NameBytes<'a> {
     /// Makes the source of a table's entries. It reads their number, and an error is that number's.
     pub fn new(bytes: &'a [u8]) -> Result<Self, NameFault>
         ensures ok { IfOk result (λ names. IsCounted bytes.now names) }
-        ensures err { IfErr result (λ fault. NumberFault bytes.now 0 fault) }
+        ensures err { IfErr result (λ error. NumberFault bytes.now 0 error) }
     {
         let (left, cursor) = Cursor::new(bytes).number()?;
         Ok(NameBytes { cursor, left })
@@ -80,18 +80,18 @@ impl<'a> PairSource<&'a str, &'a str> for NameBytes<'a> {
     #[tactic(auto, using(crate::specs::ReadOn::read_on_itself))]
     fn next_pair(&mut self) -> Result<Option<(&'a str, &'a str)>, NameFault>
         ensures next { GivesNext CanBeRead (λ s. s.left) PairsFault AllCanBeRead self.old result self.new }
-        ensures keeps_faults { (fault : _) → PairsFault self.new fault ↔ PairsFault self.old fault }
+        ensures keeps_faults { (error : _) → PairsFault self.new error ↔ PairsFault self.old error }
         ensures keeps_end { AllCanBeRead self.new ↔ AllCanBeRead self.old }
         ensures leads { IsReadOn self.old self.new }
-        ensures fault { IfErr result (λ fault. NextFault self.old fault) }
+        ensures error { IfErr result (λ error. NextFault self.old error) }
         ensures read { IfOk result (λ read. IfSome read (λ pair. IsAfter self.old self.new (shown pair ∷ []))) }
     {
         if self.left == 0 {
             return Ok(None);
         }
         let (key, middle) = self.cursor.text()?;
-        let (value, behind) = middle.text()?;
-        self.cursor = behind;
+        let (value, after) = middle.text()?;
+        self.cursor = after;
         self.left -= 1;
         Ok(Some((key, value)))
     }

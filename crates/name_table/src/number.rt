@@ -8,7 +8,7 @@ pub const NUMBER_LIMIT: usize = 4_294_967_296;
 /// The most bytes of a number.
 pub const MOST_BYTES: u8 = 5;
 
-/// Each byte of a number has a digit below this, and is that much greater if another digit comes after it.
+/// Each byte of a number has a digit below this, and its high bit, which has this value, set if another byte follows.
 pub const BASE: usize = 128;
 
 /// What keeps bytes from being a number.

@@ -3,7 +3,7 @@ ghost use Rattle.std.specs.Prelude.{IfErr, IfOk};
 ghost use Rattle.name_table.specs.Faults.{IsUnread};
 ghost use Rattle.name_table.specs.Reads.{IsFound, IsRead};
 
-use crate::fault::NameFault;
+use crate::error::NameFault;
 use crate::name_bytes::NameBytes;
 use litemap::LiteMap;
 use litemap_read::{ReadFault, read_pairs};
@@ -27,11 +27,11 @@ pub fn read_names<'a>(
     bytes: &'a [u8],
 ) -> Result<(NameMap<'a>, usize), ReadFault<NameFault>>
     ensures read { IfOk result (λ read. IsRead bytes.now read.0.pairs read.1) }
-    ensures fault { IfErr result (IsUnread bytes.now) }
+    ensures error { IfErr result (IsUnread bytes.now) }
 {
     let mut names = match NameBytes::new(bytes) {
         Ok(names) => names,
-        Err(fault) => return Err(ReadFault::Source(fault)),
+        Err(error) => return Err(ReadFault::Source(error)),
     };
     let map = read_pairs(alloc, &mut names)?;
     Ok((map, names.place()))
@@ -56,7 +56,7 @@ pub fn find_name<'a>(
     key: &str,
 ) -> Result<Option<(usize, &'a str)>, ReadFault<NameFault>>
     ensures found { IfOk result (λ found. IsFound bytes.now key.entry found) }
-    ensures fault { IfErr result (IsUnread bytes.now) }
+    ensures error { IfErr result (IsUnread bytes.now) }
 {
     let (map, _) = read_names(alloc, bytes)?;
     match map.as_sliced().const_get_with_index(key) {

@@ -2,11 +2,11 @@
 ghost use Rattle.std.specs.Prelude.{◌≡◌, ℕ, Err, IfErr, IfOk, List, OnOk, ◌∷◌, [], ◌≤◌, length, map};
 ghost use Rattle.name_table.specs.Parts.{AreParts, Number, pair_parts, table_parts, text_parts};
 ghost use Rattle.name_table.specs.Remaining.{shown};
-ghost use Rattle.name_table.specs.declared.fault.NameWriteFault.TheVariants.{TooLarge};
+ghost use Rattle.name_table.specs.declared.error.NameWriteFault.TheVariants.{TooLarge};
 ghost use Rattle.name_table.specs.Steps.{Appends, AppendsNumber, NoTable};
 ghost use Rattle.name_table.specs.Writes.{IfTooLarge, IsReadAgain, IsShortest};
 
-use crate::fault::NameWriteFault;
+use crate::error::NameWriteFault;
 use crate::number::{BASE, NUMBER_LIMIT};
 use crate::read::NameMap;
 use std::alloc::{AllocError, Global};
@@ -23,7 +23,7 @@ use std::alloc::{AllocError, Global};
 pub fn write_names(alloc: Global, names: &NameMap<'_>) -> Result<Vec<u8>, NameWriteFault>
     ensures table { IfOk result (λ bytes. IsShortest bytes.items (table_parts (map shown names.now.pairs))) }
     ensures read_again { IfOk result (λ bytes. IsReadAgain bytes.items names.now.pairs) }
-    ensures too_large { IfErr result (λ fault. IfTooLarge fault
+    ensures too_large { IfErr result (λ error. IfTooLarge error
         ((bytes : List ℕ) → AreParts bytes (table_parts (map shown names.now.pairs)) → ⊥)) }
 {
     let bytes = write_pairs(alloc, names.as_slice())?;
@@ -32,7 +32,7 @@ pub fn write_names(alloc: Global, names: &NameMap<'_>) -> Result<Vec<u8>, NameWr
 
 fn write_pairs(alloc: Global, pairs: &[(&str, &str)]) -> Result<Vec<u8>, NameWriteFault>
     ensures table { IfOk result (λ bytes. IsShortest bytes.items (table_parts (map shown pairs.now))) }
-    ensures too_large { IfErr result (λ fault. IfTooLarge fault (NoTable (map shown pairs.now))) }
+    ensures too_large { IfErr result (λ error. IfTooLarge error (NoTable (map shown pairs.now))) }
 {
     let mut bytes = Vec::new(alloc);
     put_length(&mut bytes, pairs.len())?;
@@ -45,16 +45,16 @@ fn write_pairs(alloc: Global, pairs: &[(&str, &str)]) -> Result<Vec<u8>, NameWri
 // Appends a key and its value, each after its length. `TooLarge` comes only of a string that is too long.
 fn put_pair(bytes: &mut Vec<u8>, pair: &(&str, &str)) -> Result<(), NameWriteFault>
     ensures ok { OnOk result (Appends bytes.old.items bytes.new.items (pair_parts (shown pair.now ∷ []))) }
-    ensures too_large { IfErr result (λ fault. IfTooLarge fault (NoTable (shown pair.now ∷ []))) }
+    ensures too_large { IfErr result (λ error. IfTooLarge error (NoTable (shown pair.now ∷ []))) }
 {
-    put_text(bytes, pair.0)?;
-    put_text(bytes, pair.1)?;
+    put_string(bytes, pair.0)?;
+    put_string(bytes, pair.1)?;
     Ok(())
 }
 
-fn put_text(bytes: &mut Vec<u8>, text: &str) -> Result<(), NameWriteFault>
+fn put_string(bytes: &mut Vec<u8>, text: &str) -> Result<(), NameWriteFault>
     ensures ok { OnOk result (Appends bytes.old.items bytes.new.items (text_parts text.now)) }
-    ensures too_large { IfErr result (λ fault. IfTooLarge fault (NUMBER_LIMIT ≤ length text.now)) }
+    ensures too_large { IfErr result (λ error. IfTooLarge error (NUMBER_LIMIT ≤ length text.now)) }
 {
     put_length(bytes, text.len())?;
     bytes.extend_from_slice(text.as_bytes())?;
@@ -63,7 +63,7 @@ fn put_text(bytes: &mut Vec<u8>, text: &str) -> Result<(), NameWriteFault>
 
 fn put_length(bytes: &mut Vec<u8>, size: usize) -> Result<(), NameWriteFault>
     ensures ok { OnOk result (Appends bytes.old.items bytes.new.items (Number size ∷ [])) }
-    ensures too_large { IfErr result (λ fault. IfTooLarge fault (NUMBER_LIMIT ≤ size)) }
+    ensures too_large { IfErr result (λ error. IfTooLarge error (NUMBER_LIMIT ≤ size)) }
     ensures refused { NUMBER_LIMIT ≤ size → result ≡ Err TooLarge }
 {
     if size >= NUMBER_LIMIT {
@@ -73,7 +73,7 @@ fn put_length(bytes: &mut Vec<u8>, size: usize) -> Result<(), NameWriteFault>
     Ok(())
 }
 
-// Writes a number, seven bits in each byte, the lowest first.
+// Appends a number as unsigned LEB128: seven bits in each byte, the lowest first, and the high bit set in all but the last.
 fn put_number(bytes: &mut Vec<u8>, number: usize) -> Result<(), AllocError>
     ensures { OnOk result (AppendsNumber bytes.old.items bytes.new.items number) }
 {

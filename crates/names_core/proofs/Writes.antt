@@ -6,9 +6,9 @@ use Rattle.std.proofs.lemmas.List.{take-append-le}
 use Rattle.names_core.specs.Writes.{Ends, Takes, Writes}
 use Rattle.names_core.specs.declared.watch.Watch.{Watch}
 
-Takes-behind : (a b c : Option (List ℕ)) (s t : List ℕ) (fault : Bool) → Appends a b s → Takes b c t fault → Takes a c (s ++ t) fault
-Takes-behind a b c s t false first then = Appends-trans a b c s t first then
-Takes-behind a b c s t true first (n, low, then) =
+Takes-after : (a b c : Option (List ℕ)) (s t : List ℕ) (fault : Bool) → Appends a b s → Takes b c t fault → Takes a c (s ++ t) fault
+Takes-after a b c s t false first then = Appends-trans a b c s t first then
+Takes-after a b c s t true first (n, low, then) =
     (length s + n, omega (arith, length-append s t), rw (take-add, take_at s t (length s) refl, drop_at s t (length s) refl) (Appends-trans a b c s (take n t) first then))
 
 module _ {W : Type 0} (contents : W → Option (List ℕ)) where
@@ -16,17 +16,17 @@ module _ {W : Type 0} (contents : W → Option (List ℕ)) where
   Writes-nil w = record { takes = Appends-nil _; failed = refl; met = refl; nothing_after = λ unmet. refl }
 
   -- one text after another
-  pub Writes-behind : (old mid new : Watch W) (s t : List ℕ) (fault : Bool) → Writes contents old mid s false → Writes contents mid new t fault → Writes contents old new (s ++ t) fault
-  Writes-behind old mid new s t fault first then = record {
-    takes = Takes-behind _ _ _ s t fault first.takes then.takes;
+  pub Writes-after : (old mid new : Watch W) (s t : List ℕ) (fault : Bool) → Writes contents old mid s false → Writes contents mid new t fault → Writes contents old new (s ++ t) fault
+  Writes-after old mid new s t fault first then = record {
+    takes = Takes-after _ _ _ s t fault first.takes then.takes;
     failed = then.failed ∙ ap (λ b. fault || b) first.failed;
     met = then.met ∙ ap (λ b. fault || b) first.met;
     nothing_after = λ unmet. then.nothing_after (first.met ∙ unmet) ∙ first.nothing_after unmet;
   }
 
-  pub Ends-behind : (old mid new : Watch W) (s t : List ℕ) (status result : ℕ) → Writes contents old mid s false → Ends contents mid new t status result → Ends contents old new (s ++ t) status result
-  Ends-behind old mid new s t status result first (inl (is, then)) = inl (is, Writes-behind old mid new s t false first then)
-  Ends-behind old mid new s t status result first (inr (is, then)) = inr (is, Writes-behind old mid new s t true first then)
+  pub Ends-after : (old mid new : Watch W) (s t : List ℕ) (status result : ℕ) → Writes contents old mid s false → Ends contents mid new t status result → Ends contents old new (s ++ t) status result
+  Ends-after old mid new s t status result first (inl (is, then)) = inl (is, Writes-after old mid new s t false first then)
+  Ends-after old mid new s t status result first (inr (is, then)) = inr (is, Writes-after old mid new s t true first then)
 
   -- a text that was cut short is the front of a longer one
   pub Writes-longer : (old new : Watch W) (s t : List ℕ) → Writes contents old new s true → Writes contents old new (s ++ t) true

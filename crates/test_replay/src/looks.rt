@@ -21,8 +21,8 @@ fn with_no_key<S: Store<Key, Value>>(map: &Map<S>, call: &Call<'_>, to: &mut Ans
         "first" => to.pair_or_none(map.first()),
         "last" => to.pair_or_none(map.last()),
         "get_indexed" => to.pair_or_none(map.get_indexed(call.size(0)?)),
-        "keys_rise" => {
-            map.keys_rise();
+        "keys_ascend" => {
+            map.keys_ascend();
             to.word("ok");
         }
         "debug" => to.show(map),
@@ -72,7 +72,7 @@ fn index<S: Store<Key, Value>>(map: &Map<S>, call: &Call<'_>, to: &mut Answer) -
     Some(())
 }
 
-const BETWEEN: [&str; 3] = ["iter_range", "places", "places_counted"];
+const BETWEEN: [&str; 3] = ["iter_range", "index_range", "index_range_counted"];
 
 // Calls whose words are a bound of either end and their keys. `iter_range` gives its last pair, and then the others.
 fn bounds<S: Store<Key, Value>>(map: &Map<S>, call: &Call<'_>, to: &mut Answer) -> Made {
@@ -90,10 +90,10 @@ fn bounds<S: Store<Key, Value>>(map: &Map<S>, call: &Call<'_>, to: &mut Answer) 
         to.show(pairs);
         return Some(());
     }
-    let places = if call.name == "places" {
-        map.places(from, till)
+    let places = if call.name == "index_range" {
+        map.index_range(from, till)
     } else {
-        map.places_counted(from, till, &mut Count::new())
+        map.index_range_counted(from, till, &mut Count::new())
     };
     to.show(places.start);
     to.show(places.end);

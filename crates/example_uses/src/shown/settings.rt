@@ -12,8 +12,8 @@ const LATER: &[(&str, &str)] = &[("log", "on"), ("a", "b")];
 pub(crate) fn show(rt: &impl Print, alloc: Global) -> anyhow::Result<()> {
     let mut settings = of_texts(alloc, DEFAULTS, USER)?;
     println!(rt; "configured {settings:?}")?;
-    let driven_out = overlay(&mut settings, alloc, of_texts(alloc, LATER, &[])?)?;
-    println!(rt; "overlaid {settings:?}, driven out {driven_out:?}")?;
+    let displaced = overlay(&mut settings, alloc, of_texts(alloc, LATER, &[])?)?;
+    println!(rt; "overlaid {settings:?}, driven out {displaced:?}")?;
     override_with(&mut settings, alloc, texts(alloc, DEFAULTS)?)?;
     println!(rt; "overridden {settings:?}")?;
     Ok(())

@@ -9,10 +9,10 @@ ghost use Rattle.litemap_store.specs.Search.{CallableOnKeys};
 ghost use Rattle.litemap_store.specs.Splits.{IsMissingAt};
 ghost use Rattle.litemap.specs.Changes.{AddsIf, Inserts, RefusedFull, Removes, Renames};
 ghost use Rattle.litemap.specs.FoundBy.{RemovesFound};
-ghost use Rattle.litemap.specs.Retained.{AnswersAt};
+ghost use Rattle.litemap.specs.Retained.{ReturnsAt};
 ghost use Rattle.std.specs.Borrow.{sem};
 ghost use Rattle.litemap.specs.Lends.{RestsAs};
-ghost use Rattle.litemap.specs.TryFault.{FailsAs, IfClosure, IsPlaced, Shown};
+ghost use Rattle.litemap.specs.TryFault.{FailsAs, IfClosure, IsInsertedAt, Shown};
 
 use crate::{LiteMap, TryFault};
 use litemap_store::Query;
@@ -79,7 +79,7 @@ impl<K: Ord + Drop, V, S: StoreMut<K, V>> LiteMap<K, V, S> {
         requires { IsNone (at K.cmp self.old.pairs key) → FnOnceTakesAt F.FnOnce f key }
         // The map once the borrow of the value has ended.
         ensures* leaves { sem 𝓛 (RestsAs K.row V.row S.row K.Ord S.pairs S.room self.entry
-            (IsPlaced F.FnOnce f K.cmp key self.old result)) }
+            (IsInsertedAt F.FnOnce f K.cmp key self.old result)) }
 
         // The index and the value: what was found, or what the closure returned.
         ensures place { IfOk result (λ there. there.0 ≡ place K.cmp self.old.pairs key) }
@@ -91,7 +91,7 @@ impl<K: Ord + Drop, V, S: StoreMut<K, V>> LiteMap<K, V, S> {
         ensures answered { IsNone (at K.cmp self.old.pairs key)
             → IfOk result (λ there. FnOnceReturnsAt F.FnOnce f key (Ok there.1.now)) }
 
-        ensures faults { FailsAs F.FnOnce f key self.old.room result }
+        ensures errors { FailsAs F.FnOnce f key self.old.room result }
     {
         let found = self.try_find_or_insert(key, f);
         let map = self.shared();
@@ -116,7 +116,7 @@ impl<K: Ord + Drop, V, S: StoreMut<K, V>> LiteMap<K, V, S> {
     {
         match found {
             Ok(index) => Ok((index, self.value_there(index))),
-            Err(fault) => Err(fault),
+            Err(error) => Err(error),
         }
     }
 
@@ -155,7 +155,7 @@ impl<K: Ord + Drop, V, S: StoreMut<K, V>> LiteMap<K, V, S> {
         ensures room { self.old.room ≤ self.new.room + 1 }
 
         // If nothing is inserted the list stays; if the closure returns an error, so does the room.
-        ensures faults { FailsAs F.FnOnce f key self.old.room result }
+        ensures errors { FailsAs F.FnOnce f key self.old.room result }
         ensures refused { OnErr result (self.new.pairs ≡ self.old.pairs) }
         ensures unmoved { IfClosure result (λ _. self.new ≡ self.old) }
     {
@@ -165,7 +165,7 @@ impl<K: Ord + Drop, V, S: StoreMut<K, V>> LiteMap<K, V, S> {
         };
         let value = match f(&key) {
             Ok(value) => value,
-            Err(fault) => return Err(TryFault::Closure(fault)),
+            Err(error) => return Err(TryFault::Closure(error)),
         };
         match self.insert_at(index, key, value) {
             Ok(()) => Ok(index),
@@ -201,8 +201,9 @@ impl<K: Ord + Drop, V, S: StoreMut<K, V>> LiteMap<K, V, S> {
 
     /// Moves the value at `key` to `new_key`, and returns whether `key` was present (own).
     ///
-    /// If `new_key` was present too, the map's own key stays there, and its value and `new_key` are dropped. If both are equal,
-    /// `new_key` replaces the map's key. If `key` was absent, nothing changes, and `new_key` is dropped.
+    /// The map's own key at `key` is dropped. If `new_key` was present too, the map's own key stays there; its old value is
+    /// dropped, and so is `new_key`. If `key` and `new_key` are equal, `new_key` replaces the map's key. If `key` was absent,
+    /// nothing changes, and `new_key` is dropped.
     ///
     /// It is `remove`, which leaves room for a pair, and then `insert`: so it never fails, and makes the comparisons and moves
     /// of both.
@@ -369,9 +370,9 @@ impl<K: Ord + Drop, V: Drop, S: StoreBulkMut<K, V>> LiteMap<K, V, S> {
         ensures filtered { (test : K × V → Bool)
             → Tests F.FnMut f test → self.new.pairs ≡ filter test self.old.pairs }
         // What a lookup finds: if `f` returns true for the pair, what it found before; if false, nothing.
-        ensures stays { (key : K) → AnswersAt F.FnMut f K.cmp self.old.pairs key true
+        ensures stays { (key : K) → ReturnsAt F.FnMut f K.cmp self.old.pairs key true
             → value_at K.cmp self.new.pairs key ≡ value_at K.cmp self.old.pairs key }
-        ensures gone { (key : K) → AnswersAt F.FnMut f K.cmp self.old.pairs key false
+        ensures gone { (key : K) → ReturnsAt F.FnMut f K.cmp self.old.pairs key false
             → value_at K.cmp self.new.pairs key ≡ None }
         ensures fewer { length self.new.pairs ≤ length self.old.pairs }
         ensures room { S.keeps_memory → self.old.room + length self.old.pairs ≤ self.new.room + length self.new.pairs }

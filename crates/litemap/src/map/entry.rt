@@ -82,7 +82,7 @@ impl<'a, K: Ord, V, S: StoreMut<K, V>> Entry<'a, K, V, S> {
     /// Returns a mutable reference to the value; if the key is absent, inserts it first with `default`.
     ///
     /// If the key is present, `default` is dropped. An insertion moves the pairs with greater keys up by one. If memory runs
-    /// out, the key and the value come back in the error, and the map keeps its pairs.
+    /// out, the key passed to `entry` and `default` come back in the error, and the map keeps its pairs.
     pub fn or_insert(self, default: V) -> Result<&'a mut V, NoRoom<(K, V)>>
     where
         V: Drop,
@@ -97,7 +97,7 @@ impl<'a, K: Ord, V, S: StoreMut<K, V>> Entry<'a, K, V, S> {
     }
 
     /// Returns a mutable reference to the value; if the key is absent, inserts it first with `V::default()`, which is made in
-    /// either case. It moves and fails as `or_insert` does.
+    /// either case, and dropped if the key is present. It moves pairs and fails as `or_insert` does.
     pub fn or_default(self) -> Result<&'a mut V, NoRoom<(K, V)>>
     where
         V: Default + Drop,

@@ -23,7 +23,7 @@ impl<K: Ord, V, S: Store<K, V>> LiteMap<K, V, S> {
     }
 
     /// Does nothing, but promises to a caller's proof that the keys are strictly ascending, as those of every map are (own).
-    pub fn keys_rise(&self)
+    pub fn keys_ascend(&self)
         ensures { Rising K.cmp self.now.pairs }
     {
         let _opened = &self.store;

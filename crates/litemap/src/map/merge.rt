@@ -83,8 +83,9 @@ impl<K: Ord + Drop, V: Drop, S: StoreIntoIterator<K, V> + Drop> LiteMap<K, V, S>
     /// `f` is called on the other map's key, this map's value and the new value. For a common key the other map's key comes back
     /// with this map's old value.
     ///
-    /// It makes one search for each pair of the other map, and then merges. If memory runs out, the map keeps its pairs, and
-    /// the error returns the other map with what `f` wrote: to merge that by `extend_from_litemap` completes the call.
+    /// It makes one search for each pair of the other map, and then merges: all calls of `f` come first, in the order of the
+    /// keys. If memory runs out, as it can't in the cases that `extend_from_litemap` names, the map keeps its pairs, and the
+    /// error returns the other map with what `f` wrote: to merge that by `extend_from_litemap` completes the call.
     ///
     /// ```rust
     /// let mut counts: VecMap<u32, u32> = LiteMap::from_iter(alloc, [(1, 10), (2, 20)])?;

@@ -3,7 +3,7 @@ ghost use Rattle.std.specs.Prelude.{◌≡◌, ◌+◌, ◌*◌, Some, length};
 ghost use Rattle.std.specs.Ordering.{is_le, is_lt};
 ghost use Rattle.std.specs.Range.Bound.{bound_map};
 ghost use Rattle.litemap_store.specs.Counts.{RisesByAtMost, digits};
-ghost use Rattle.litemap.specs.Within.{ArePlaces, IsCut, before, is_before, is_up_to, within};
+ghost use Rattle.litemap.specs.Within.{IsIndexRange, IsCut, before, is_before, is_up_to, within};
 
 use super::iter::RangeIter;
 use crate::LiteMap;
@@ -19,24 +19,24 @@ impl<K: Ord, V, S: Store<K, V>> LiteMap<K, V, S> {
     ///
     /// ```rust
     /// // days: 1 Monday, 3 Wednesday, 5 Friday
-    /// let later = days.places(Bound::Excluded(&1), Bound::Unbounded);
-    /// let crossing = days.places(Bound::Included(&5), Bound::Excluded(&2));
+    /// let later = days.index_range(Bound::Excluded(&1), Bound::Unbounded);
+    /// let crossing = days.index_range(Bound::Included(&5), Bound::Excluded(&2));
     /// later == (1..3) && crossing == (2..2)
     /// ```
-    pub fn places<Q: Query<K>>(&self, from: Bound<Q>, to: Bound<Q>) -> Range<usize>
-        ensures places { ArePlaces Q.order self.now.pairs (bound_map Q.sought from) (bound_map Q.sought to) result }
+    pub fn index_range<Q: Query<K>>(&self, from: Bound<Q>, to: Bound<Q>) -> Range<usize>
+        ensures indices { IsIndexRange Q.order self.now.pairs (bound_map Q.sought from) (bound_map Q.sought to) result }
     {
-        self.places_counted(from, to, &mut Count::new())
+        self.index_range_counted(from, to, &mut Count::new())
     }
 
-    /// `places`, counting its comparisons (own).
-    pub fn places_counted<Q: Query<K>>(
+    /// `index_range`, counting its comparisons (own).
+    pub fn index_range_counted<Q: Query<K>>(
         &self,
         from: Bound<Q>,
         to: Bound<Q>,
         count: &mut Count,
     ) -> Range<usize>
-        ensures places { ArePlaces Q.order self.now.pairs (bound_map Q.sought from) (bound_map Q.sought to) result }
+        ensures indices { IsIndexRange Q.order self.now.pairs (bound_map Q.sought from) (bound_map Q.sought to) result }
         ensures cost { RisesByAtMost (2 * digits (length self.now.pairs)) count.old count.new }
     {
         let start = self.start_of(from, count);
@@ -47,7 +47,7 @@ impl<K: Ord, V, S: Store<K, V>> LiteMap<K, V, S> {
 
     /// Returns a double-ended iterator over the pairs whose keys are within two bounds, in order (own).
     ///
-    /// The bounds are those of `places`: if they cross, there are none.
+    /// The bounds are those of `index_range`: if they cross, there are none.
     ///
     /// ```rust
     /// // days: 1 Monday, 3 Wednesday, 5 Friday
@@ -58,7 +58,7 @@ impl<K: Ord, V, S: Store<K, V>> LiteMap<K, V, S> {
         ensures { result ≡ within Q.order self.now.pairs
             (bound_map Q.sought from) (bound_map Q.sought to) }
     {
-        RangeIter::between(&self.store, self.places(from, to))
+        RangeIter::between(&self.store, self.index_range(from, to))
     }
 
     fn start_of<Q: Query<K>>(&self, from: Bound<Q>, count: &mut Count) -> usize
@@ -66,8 +66,8 @@ impl<K: Ord, V, S: Store<K, V>> LiteMap<K, V, S> {
         ensures cost { RisesByAtMost (digits (length self.now.pairs)) count.old count.new }
     {
         match from {
-            Bound::Included(key) => self.place_before(key, count),
-            Bound::Excluded(key) => self.place_behind(key, count),
+            Bound::Included(key) => self.lower_bound(key, count),
+            Bound::Excluded(key) => self.upper_bound(key, count),
             Bound::Unbounded => 0,
         }
     }
@@ -77,14 +77,14 @@ impl<K: Ord, V, S: Store<K, V>> LiteMap<K, V, S> {
         ensures cost { RisesByAtMost (digits (length self.now.pairs)) count.old count.new }
     {
         match to {
-            Bound::Included(key) => self.place_behind(key, count),
-            Bound::Excluded(key) => self.place_before(key, count),
+            Bound::Included(key) => self.upper_bound(key, count),
+            Bound::Excluded(key) => self.lower_bound(key, count),
             Bound::Unbounded => self.len(),
         }
     }
 
-    // How many keys are smaller than a query.
-    pub(super) fn place_before<Q: Query<K>>(&self, key: Q, count: &mut Count) -> usize
+    // Returns how many keys are smaller than a query.
+    pub(super) fn lower_bound<Q: Query<K>>(&self, key: Q, count: &mut Count) -> usize
         ensures cut { IsCut (λ p. is_lt (Q.order p.0 (Q.sought key))) self.now.pairs result }
         ensures cost { RisesByAtMost (digits (length self.now.pairs)) count.old count.new }
     {
@@ -93,8 +93,8 @@ impl<K: Ord, V, S: Store<K, V>> LiteMap<K, V, S> {
         }
     }
 
-    // How many keys are smaller than a query, or equal to it.
-    fn place_behind<Q: Query<K>>(&self, key: Q, count: &mut Count) -> usize
+    // Returns how many keys are smaller than a query, or equal to it.
+    fn upper_bound<Q: Query<K>>(&self, key: Q, count: &mut Count) -> usize
         ensures cut { IsCut (λ p. is_le (Q.order p.0 (Q.sought key))) self.now.pairs result }
         ensures cost { RisesByAtMost (digits (length self.now.pairs)) count.old count.new }
     {
@@ -110,7 +110,7 @@ impl<K: Ord, V, S: Store<K, V>> LiteMap<K, V, S> {
 impl<K: Ord, V, S: StoreSlice<K, V>> LiteMap<K, V, S> {
     /// Returns the pairs whose keys are within two bounds, as a map that borrows them (own).
     ///
-    /// The bounds are those of `places`: if they cross, it is empty.
+    /// The bounds are those of `index_range`: if they cross, it is empty.
     pub fn range<Q: Query<K>>(
         &self,
         from: Bound<Q>,
@@ -119,6 +119,6 @@ impl<K: Ord, V, S: StoreSlice<K, V>> LiteMap<K, V, S> {
         ensures { result.pairs ≡ within Q.order self.now.pairs
             (bound_map Q.sought from) (bound_map Q.sought to) }
     {
-        self.get_indexed_range(self.places(from, to)).unwrap()
+        self.get_indexed_range(self.index_range(from, to)).unwrap()
     }
 }

@@ -64,7 +64,7 @@ impl<K: Ord + Drop, V: Drop, S: StoreBulkMut<K, V>> LiteMap<K, V, S> {
             move |key, _|
                 ensures { Rising K.cmp rest.entry → (rest.exit ≡ above K.cmp rest.entry key.now)
                     × (result ≡ is_some (at K.cmp rest.entry key.now)) }
-            { passes(&mut rest, key, &mut Count::new()) },
+            { skip_to(&mut rest, key, &mut Count::new()) },
         );
     }
 
@@ -82,7 +82,7 @@ impl<K: Ord + Drop, V: Drop, S: StoreBulkMut<K, V>> LiteMap<K, V, S> {
             move |key, _|
                 ensures { Rising K.cmp rest.entry → (rest.exit ≡ above K.cmp rest.entry key.now)
                     × (result ≡ not (is_some (at K.cmp rest.entry key.now))) }
-            { !passes(&mut rest, key, &mut Count::new()) },
+            { !skip_to(&mut rest, key, &mut Count::new()) },
         );
     }
 }
@@ -99,7 +99,7 @@ fn has_each<'a, 'b, K: Ord + 'a + 'b, V: 'b, W: 'a, S: Store<K, V>, T: Store<K, 
     ensures cost { RisesByAtMost (length keys.entry + length rest.entry) count.old count.new }
 {
     while let Some((key, _)) = keys.next() {
-        if !passes(&mut rest, key, count) {
+        if !skip_to(&mut rest, key, count) {
             return false;
         }
     }
@@ -107,7 +107,7 @@ fn has_each<'a, 'b, K: Ord + 'a + 'b, V: 'b, W: 'a, S: Store<K, V>, T: Store<K, 
 }
 
 // Skips the pairs whose keys are at most `key`, and returns whether one of them is equal.
-fn passes<'a, K: Ord + 'a, W: 'a, T: Store<K, W>>(
+fn skip_to<'a, K: Ord + 'a, W: 'a, T: Store<K, W>>(
     rest: &mut RangeIter<'a, K, W, T>,
     key: &K,
     count: &mut Count,

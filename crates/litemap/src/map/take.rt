@@ -100,8 +100,8 @@ impl<K: Ord + Drop, V: Drop, S: StoreMut<K, V> + Drop> LiteMap<K, V, S> {
         ensures succeeds { (below Q.order self.old.pairs (Q.sought key) ≡ [])
             ⊎ (within Q.order self.old.pairs (Included (Q.sought key)) Unbounded ≡ []) → IsOk result }
     {
-        let place = self.place_before(key, &mut Count::new());
-        let later = split_store(alloc, &mut self.store, place)?;
+        let index = self.lower_bound(key, &mut Count::new());
+        let later = split_store(alloc, &mut self.store, index)?;
         Ok(LiteMap::from_sorted_store_unchecked(later))
     }
 }

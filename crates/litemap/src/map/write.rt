@@ -9,7 +9,7 @@ ghost use Rattle.std.specs.Map.{keys_of};
 ghost use Rattle.std.specs.Option.{option_copied_mut};
 ghost use Rattle.litemap_store.specs.Pairs.{at, value_at, value_in};
 ghost use Rattle.litemap_store.specs.Search.{CallableOnKeys, Found};
-ghost use Rattle.litemap.specs.Lends.{LendsThere, LendsFound, LendsKey, LendsPlace, LendsValue};
+ghost use Rattle.litemap.specs.Lends.{LendsThere, LendsFound, LendsKey, LendsIndex, LendsValue};
 ghost use Rattle.litemap.specs.Written.{CallableOnValues, TakesValue, Writes, WritesPair, Written};
 
 use crate::LiteMap;
@@ -50,7 +50,7 @@ impl<K: Ord, V, S: StoreMut<K, V>> LiteMap<K, V, S> {
         ensures none { IfNone result ((i : ℕ) × Found F.FnMut self.old.pairs f (Err i)) }
     {
         match self.find_index_by(f) {
-            Ok(place) => Some(self.value_in_mut(place)),
+            Ok(index) => Some(self.value_in_mut(index)),
             Err(_) => None,
         }
     }
@@ -73,7 +73,7 @@ impl<K: Ord, V, S: StoreMut<K, V>> LiteMap<K, V, S> {
     /// `iter_mut` instead.
     pub fn get_indexed_mut(&mut self, index: usize) -> Option<&mut V>
         ensures* writes_back { sem 𝓛
-            (LendsPlace K.row V.row S.row K.Ord S.pairs S.room self.entry index result) }
+            (LendsIndex K.row V.row S.row K.Ord S.pairs S.room self.entry index result) }
         ensures value { option_copied_mut result ≡ value_in self.old.pairs index }
     {
         if index < self.len() {

@@ -17,8 +17,8 @@ module _ {K Q V : Type 0} (cmp : K → K → Ordering) (o : IsTotalOrder cmp) (o
     (same : (x y : K) → order x q ≡ Equal → order y q ≡ Equal → cmp x y ≡ Equal)
     (alike : (x y : K) → cmp x y ≡ Equal → order x q ≡ Equal → order y q ≡ Equal) where
   -- the list reversed
-  behind : (x : K × V) (J : List (K × V)) → at order (reverse (x ∷ J)) q ≡ option_or (at order (reverse J) q) (at order (x ∷ []) q)
-  behind x J = ap (λ L. at order L q) (reverse-append (x ∷ []) J) ∙ find-append (λ p. is_eq (order p.0 q)) (reverse J) (x ∷ [])
+  after : (x : K × V) (J : List (K × V)) → at order (reverse (x ∷ J)) q ≡ option_or (at order (reverse J) q) (at order (x ∷ []) q)
+  after x J = ap (λ L. at order L q) (reverse-append (x ∷ []) J) ∙ find-append (λ p. is_eq (order p.0 q)) (reverse J) (x ∷ [])
 
   -- the last pair that is found, if there is one
   abbrev Backwards : List (K × V) → Type 0
@@ -28,8 +28,8 @@ module _ {K Q V : Type 0} (cmp : K → K → Ordering) (o : IsTotalOrder cmp) (o
   last_backwards : (J : List (K × V)) → Backwards J
   last_backwards [] = inr (tt, refl)
   last_backwards (x ∷ J) = elim (last_backwards J) [
-    | inl h ↦ inl (h.0, inr h.1, h.2, behind x J ∙ ap (λ r. option_or r (at order (x ∷ []) q)) h.3)
-    | inr h ↦ by (order x.0 q) refl h.0 (behind x J ∙ ap (λ r. option_or r (at order (x ∷ []) q)) h.1)
+    | inl h ↦ inl (h.0, inr h.1, h.2, after x J ∙ ap (λ r. option_or r (at order (x ∷ []) q)) h.3)
+    | inr h ↦ by (order x.0 q) refl h.0 (after x J ∙ ap (λ r. option_or r (at order (x ∷ []) q)) h.1)
   ]
     where
       by : (r : Ordering) → order x.0 q ≡ r → AllByRecursion (λ p. order p.0 q ≢ Equal) J → at order (reverse (x ∷ J)) q ≡ at order (x ∷ []) q → Backwards (x ∷ J)

@@ -29,7 +29,7 @@ module _ {K V : Type 0} (cmp : K → K → Ordering) (xs : List (K × V)) (k at 
         is = is;
         put = ap (take k) (sym (swap_is xs i at p (omega arith) within)) ∙ take-set-le k _ at _ before ∙ take-set-lt k xs i (get_or xs at p) lower
             ∙ ap (set (take k xs) i) (get_or_from_slice_get xs at p p is) ∙ found_over cmp (take k xs) p.0 i f p;
-        behind = drop-swap xs i at p (omega arith) within;
+        after = drop-swap xs i at p (omega arith) within;
       }
 
   -- those from i on, of which p is the last
@@ -67,7 +67,7 @@ module _ {K V : Type 0} (cmp : K → K → Ordering) (xs : List (K × V)) (k at 
         pair = p;
         is = is;
         put = lifted i ys _ low (turned _ _ ys p (part i (omega arith)) e) ∙ missing_between cmp (take k xs) p.0 i m p;
-        behind = drop-put_mid i (at + 1 - i) xs ys (at + 1) (omega arith) (omega arith) (same ∙ room);
+        after = drop-put_mid i (at + 1 - i) xs ys (at + 1) (omega arith) (omega arith) (same ∙ room);
       }
 
 pub kept_put : {K V : Type 0} (cmp : K → K → Ordering) → IsTotalOrder cmp → (S xs ys : List (K × V)) (k n i : ℕ) → KeptLast cmp S xs k i → length ys ≡ length xs → IsPutIn cmp xs ys k n i → KeptLast cmp S ys n (i + 1)
@@ -84,5 +84,5 @@ kept_put cmp o S xs ys k n i kept same put =
     record {
       long = same ∙ long;
       last = subst₂ (Last cmp) (sym all) (sym put.put) (Last-put cmp o (take i S) (take k xs) kept.last p);
-      rest = put.behind ∙ both.1;
+      rest = put.after ∙ both.1;
     }

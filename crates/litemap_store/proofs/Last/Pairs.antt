@@ -26,9 +26,9 @@ StandsLast-cases cmp p (a ∷ A) B (inr h) = elim (StandsLast-cases cmp p A B h)
 pub stands_before : {K V : Type 0} (cmp : K → K → Ordering) (p : K × V) (P Q B : List (K × V)) → (StandsLast cmp p P → StandsLast cmp p Q) → StandsLast cmp p (P ++ B) → StandsLast cmp p (Q ++ B)
 stands_before cmp p P Q B f h = elim (StandsLast-cases cmp p P B h) [ inl j ↦ StandsLast-left cmp p Q B (f j.0) j.1 | inr j ↦ StandsLast-right cmp p Q B j ]
 
-pub stands_behind : {K V : Type 0} (cmp : K → K → Ordering) (p : K × V) (A P Q : List (K × V)) → (NoneEqual cmp p.0 P → NoneEqual cmp p.0 Q) → (StandsLast cmp p P → StandsLast cmp p Q)
+pub stands_after : {K V : Type 0} (cmp : K → K → Ordering) (p : K × V) (A P Q : List (K × V)) → (NoneEqual cmp p.0 P → NoneEqual cmp p.0 Q) → (StandsLast cmp p P → StandsLast cmp p Q)
     → StandsLast cmp p (A ++ P) → StandsLast cmp p (A ++ Q)
-stands_behind cmp p A P Q n f h = elim (StandsLast-cases cmp p A P h) [ inl j ↦ StandsLast-left cmp p A Q j.0 (n j.1) | inr j ↦ StandsLast-right cmp p A Q (f j) ]
+stands_after cmp p A P Q n f h = elim (StandsLast-cases cmp p A P h) [ inl j ↦ StandsLast-left cmp p A Q j.0 (n j.1) | inr j ↦ StandsLast-right cmp p A Q (f j) ]
 
 -- a pair that is last in a list is in it
 pub In-from_last : {K V : Type 0} (cmp : K → K → Ordering) (p : K × V) (J : List (K × V)) → StandsLast cmp p J → In p J
@@ -156,8 +156,8 @@ module _ {K : Type 0} (cmp : K → K → Ordering) (o : IsTotalOrder cmp) where
   -- the same with the last of what is added
   pub Last-join_right : {V : Type 0} (J₁ J₂ D M : List (K × V)) → Last cmp J₂ D → Last cmp (J₁ ++ D) M → Last cmp (J₁ ++ J₂) M
   Last-join_right {V} J₁ J₂ D M a b = Last-same (J₁ ++ D) (J₁ ++ J₂) M (λ p. (
-    stands_behind cmp p J₁ D J₂ (none p.0) (λ h. (a.exactly p).0 (In-from_last cmp p D h)),
-    stands_behind cmp p J₁ J₂ D (none_back p.0) (λ h. last_in_rising cmp p D a.rising ((a.exactly p).1 h)),
+    stands_after cmp p J₁ D J₂ (none p.0) (λ h. (a.exactly p).0 (In-from_last cmp p D h)),
+    stands_after cmp p J₁ J₂ D (none_back p.0) (λ h. last_in_rising cmp p D a.rising ((a.exactly p).1 h)),
   )) b
     where
       none : (k : K) → NoneEqual cmp k D → NoneEqual cmp k J₂

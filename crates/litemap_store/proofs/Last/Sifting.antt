@@ -3,7 +3,7 @@
 use Rattle.litemap_store.proofs.Names.{[], ◌++◌, ◌↔◌, ◌∙◌, ◌∷◌, ◌≡◌, ◌≢◌, alike_right, AllBelow, AllByRecursion, append-nil}
 use Rattle.litemap_store.proofs.Names.{append_assoc, Equal, In, inl, inr, IsTotalOrder, Last, Less, List, NoneEqual, Ordering}
 use Rattle.litemap_store.proofs.Names.{Sifted, StandsLast, subst, sym, tied_back}
-use Rattle.litemap_store.proofs.Last.Pairs.{In-from_last, Last-same, StandsLast-cases, StandsLast-left, StandsLast-right, stands_before, stands_behind}
+use Rattle.litemap_store.proofs.Last.Pairs.{In-from_last, Last-same, StandsLast-cases, StandsLast-left, StandsLast-right, stands_before, stands_after}
 use Rattle.litemap_store.proofs.Lists.Membership.{In-cases, In-left, In-right, each, from_each}
 use Rattle.litemap_store.proofs.Search.Splitting.{each-append}
 
@@ -17,10 +17,10 @@ module _ {K V : Type 0} {cmp : K → K → Ordering} (o : IsTotalOrder cmp) wher
   none_in k P Q f n = from_each (λ (q : K × V). cmp k q.0 ≢ Equal) Q (λ x i. each (λ (q : K × V). cmp k q.0 ≢ Equal) P n x (f x i))
 
   -- so they do after any list
-  pub last_behind : (A P Q : List (K × V)) → Alike P Q → (x : K × V) → StandsLast cmp x (A ++ P) ↔ StandsLast cmp x (A ++ Q)
-  last_behind A P Q s x = (
-    stands_behind cmp x A P Q (none_in x.0 P Q (λ y. (s.elements y).1)) (s.last x).0,
-    stands_behind cmp x A Q P (none_in x.0 Q P (λ y. (s.elements y).0)) (s.last x).1,
+  pub last_after : (A P Q : List (K × V)) → Alike P Q → (x : K × V) → StandsLast cmp x (A ++ P) ↔ StandsLast cmp x (A ++ Q)
+  last_after A P Q s x = (
+    stands_after cmp x A P Q (none_in x.0 P Q (λ y. (s.elements y).1)) (s.last x).0,
+    stands_after cmp x A Q P (none_in x.0 Q P (λ y. (s.elements y).0)) (s.last x).1,
   )
 
   -- a pair may pass pairs of other keys
@@ -67,7 +67,7 @@ module _ {K V : Type 0} {cmp : K → K → Ordering} (o : IsTotalOrder cmp) wher
       let none : NoneEqual cmp p.0 B = from_each (λ (q : K × V). cmp p.0 q.0 ≢ Equal) B (λ b i e. each (λ (q : K × V). ¬ (AllBelow cmp A q.0)) B aside b i (below_like A p.0 b.0 e s.0)) in
       let kept : Aside (A ++ p ∷ []) B = from_each (λ (b : K × V). ¬ (AllBelow cmp (A ++ p ∷ []) b.0)) B (λ b i all. each (λ (q : K × V). ¬ (AllBelow cmp A q.0)) B aside b i (front A p b.0 all)) in
       let rest = sifted_same J (A ++ p ∷ []) B A' B' s.1 kept x in
-      let over = last_behind A (p ∷ (B ++ J)) (B ++ p ∷ J) (passed p B J none) x in (
+      let over = last_after A (p ∷ (B ++ J)) (B ++ p ∷ J) (passed p B J none) x in (
         λ h. over.0 (rw append_assoc at (rest.0 h)),
         λ h. rest.1 (rw append_assoc (over.1 h)),
       )

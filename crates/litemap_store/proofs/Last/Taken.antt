@@ -5,8 +5,8 @@
 use Rattle.litemap_store.proofs.Names.{[], ℕ, ◌++◌, ◌-◌, ◌==◌, ◌↔◌, ◌∙◌, ◌∷◌, ◌≡◌, ◌≢◌, alike_right, AllBelow, ap, append-nil, append_assoc, arith, Bool, eqb-true, Equal, false, Greater, In, inl, inr, IsGreaterEnd, IsTaken, IsTotalOrder, Last, length, length-append, Less, List, nil_from_length, None, NoneEqual, not, Ordering, refl, remove, reverse, reverse-append, Rising, same_from_push, slice_get, Some, StandsLast, subst, subst₂, suc, sym, then_some, true, true≢false, zero}
 use Rattle.litemap_store.proofs.Lists.Joined.{empty_from_last, last_split}
 use Rattle.litemap_store.proofs.Lists.Membership.{In-left, In-right, In-cases, each, from_each}
-use Rattle.litemap_store.proofs.Last.Pairs.{Last-rising, Last-same, In-from_last, stands_behind}
-use Rattle.litemap_store.proofs.Last.Sifting.{last_behind, passed}
+use Rattle.litemap_store.proofs.Last.Pairs.{Last-rising, Last-same, In-from_last, stands_after}
+use Rattle.litemap_store.proofs.Last.Sifting.{last_after, passed}
 use Rattle.litemap_store.proofs.Search.Splitting.{each-weaker, greater_back, less_back}
 use Rattle.litemap_store.proofs.Last.KeepLast.{Last-push, all_below, last_cases, rising_across}
 
@@ -24,7 +24,7 @@ module _ {K V : Type 0} (cmp : K → K → Ordering) (o : IsTotalOrder cmp) wher
     old_same : (p : K × V) → StandsLast cmp p ((A₀ ++ B) ++ a ∷ []) ↔ StandsLast cmp p ((A₀ ++ a ∷ []) ++ B)
     old_same p =
         let none : NoneEqual cmp a.0 B = each-weaker {P = λ (x : K × V). cmp x.0 a.0 ≡ Less} {Q = λ (x : K × V). cmp a.0 x.0 ≢ Equal} (λ x l e. let g : cmp a.0 x.0 ≡ Greater = less_back o x.0 a.0 l in cc) B top in
-        let moved : StandsLast cmp p (A₀ ++ a ∷ B) ↔ StandsLast cmp p (A₀ ++ (B ++ a ∷ [])) = rw append-nil at (last_behind o A₀ (a ∷ (B ++ [])) (B ++ a ∷ []) (passed o a B [] none) p) in
+        let moved : StandsLast cmp p (A₀ ++ a ∷ B) ↔ StandsLast cmp p (A₀ ++ (B ++ a ∷ [])) = rw append-nil at (last_after o A₀ (a ∷ (B ++ [])) (B ++ a ∷ []) (passed o a B [] none) p) in
         rw (append_assoc A₀ B (a ∷ []), append_assoc A₀ (a ∷ []) B) (moved.1, moved.0)
 
     old_below : (M : List (K × V)) → Last cmp (A₀ ++ B) M → (x : K × V) → In x M → cmp x.0 a.0 ≡ Less
@@ -37,7 +37,7 @@ module _ {K V : Type 0} (cmp : K → K → Ordering) (o : IsTotalOrder cmp) wher
     taken_old s = record {
       old_rises = Rising-left cmp A₀ (a ∷ []) r;
       new_rise = s;
-      goes_behind = λ M h. Last-same cmp o ((A₀ ++ B) ++ a ∷ []) ((A₀ ++ a ∷ []) ++ B) (M ++ a ∷ []) old_same (Last-push cmp o (A₀ ++ B) M h a (old_below M h));
+      goes_after = λ M h. Last-same cmp o ((A₀ ++ B) ++ a ∷ []) ((A₀ ++ a ∷ []) ++ B) (M ++ a ∷ []) old_same (Last-push cmp o (A₀ ++ B) M h a (old_below M h));
       fewer = omega (arith, length-append A₀ (a ∷ []));
     }
 
@@ -46,7 +46,7 @@ module _ {K V : Type 0} (cmp : K → K → Ordering) (o : IsTotalOrder cmp) wher
   taken_new A B₀ b r s top = record {
     old_rises = r;
     new_rise = Rising-left cmp B₀ (b ∷ []) s;
-    goes_behind = λ M h. rw append_assoc at (Last-push cmp o (A ++ B₀) M h b (λ x i. elim (In-cases A B₀ x (In-from_last cmp x (A ++ B₀) ((h.exactly x).0 i))) [
+    goes_after = λ M h. rw append_assoc at (Last-push cmp o (A ++ B₀) M h b (λ x i. elim (In-cases A B₀ x (In-from_last cmp x (A ++ B₀) ((h.exactly x).0 i))) [
       | inl j ↦ each (λ (q : K × V). cmp q.0 b.0 ≡ Less) A top x j
       | inr j ↦ below_end B₀ b s x j
     ]));
@@ -61,8 +61,8 @@ module _ {K V : Type 0} (cmp : K → K → Ordering) (o : IsTotalOrder cmp) wher
         let C : List (K × V) = B₀ ++ b ∷ [] in
         let there : In b C = In-right B₀ (b ∷ []) b (inl refl) in
         rw (append_assoc A₀ (a ∷ []) (B₀ ++ b ∷ [])) (
-          stands_behind cmp p A₀ C (a ∷ C) (λ n. ((λ e. each (λ (q : K × V). cmp p.0 q.0 ≢ Equal) C n b there (sym (alike_right o a.0 b.0 p.0 same) ∙ e)), n)) (λ h. inr h),
-          stands_behind cmp p A₀ (a ∷ C) C (λ n. n.1) (λ h. elim h [
+          stands_after cmp p A₀ C (a ∷ C) (λ n. ((λ e. each (λ (q : K × V). cmp p.0 q.0 ≢ Equal) C n b there (sym (alike_right o a.0 b.0 p.0 same) ∙ e)), n)) (λ h. inr h),
+          stands_after cmp p A₀ (a ∷ C) C (λ n. n.1) (λ h. elim h [
             | inl k ↦ absurd (each (λ (q : K × V). cmp p.0 q.0 ≢ Equal) C k.1 b there (subst (λ (q : K × V). cmp q.0 b.0 ≡ Equal) k.0 same))
             | inr k ↦ k
           ]),
@@ -72,7 +72,7 @@ module _ {K V : Type 0} (cmp : K → K → Ordering) (o : IsTotalOrder cmp) wher
     taken_both = record {
       old_rises = Rising-left cmp A₀ (a ∷ []) r;
       new_rise = Rising-left cmp B₀ (b ∷ []) s;
-      goes_behind = λ M h. Last-same cmp o (A₀ ++ (B₀ ++ b ∷ [])) ((A₀ ++ a ∷ []) ++ (B₀ ++ b ∷ [])) (M ++ b ∷ []) covered (rw append_assoc at (Last-push cmp o (A₀ ++ B₀) M h b (λ x i. elim (In-cases A₀ B₀ x (In-from_last cmp x (A₀ ++ B₀) ((h.exactly x).0 i))) [
+      goes_after = λ M h. Last-same cmp o (A₀ ++ (B₀ ++ b ∷ [])) ((A₀ ++ a ∷ []) ++ (B₀ ++ b ∷ [])) (M ++ b ∷ []) covered (rw append_assoc at (Last-push cmp o (A₀ ++ B₀) M h b (λ x i. elim (In-cases A₀ B₀ x (In-from_last cmp x (A₀ ++ B₀) ((h.exactly x).0 i))) [
         | inl j ↦ sym (alike_right o a.0 b.0 x.0 same) ∙ below_end A₀ a r x j
         | inr j ↦ below_end B₀ b s x j
       ])));
@@ -129,8 +129,8 @@ taken_last (y ∷ []) zero x h e = let s : y ≡ x = cc in ap (λ z. z ∷ []) s
 taken_last (y ∷ (z ∷ L)) zero x h e = absurd (omega arith)
 taken_last (y ∷ L) (suc i) x h e = ap (λ M. y ∷ M) (taken_last L i x (omega arith) e)
 
-pub reverse_behind : {X : Type 0} (M L : List X) (x : X) → (M ++ x ∷ []) ++ reverse L ≡ M ++ reverse (L ++ x ∷ [])
-reverse_behind M L x = rw (append_assoc, reverse-append) refl
+pub reverse_after : {X : Type 0} (M L : List X) (x : X) → (M ++ x ∷ []) ++ reverse L ≡ M ++ reverse (L ++ x ∷ [])
+reverse_after M L x = rw (append_assoc, reverse-append) refl
 
 pub reverse_push : {X : Type 0} (L N : List X) (x : X) → N ≡ L ++ x ∷ [] → reverse N ≡ x ∷ reverse L
 reverse_push L N x e = ap reverse e ∙ reverse-append L (x ∷ [])

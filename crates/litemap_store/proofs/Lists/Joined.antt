@@ -62,9 +62,9 @@ first_split [] x e = absurd (cc)
 first_split (y ∷ L) x e = let s : y ≡ x = cc in (L, ap (λ z. z ∷ L) s)
 
 -- the last key of A is below the first of B
-pub Rising-behind : {K V : Type 0} (cmp : K → K → Ordering) → IsTotalOrder cmp → (A B : List (K × V)) (a b : K × V) → slice_get A (length A - 1) ≡ Some a → slice_get B 0 ≡ Some b
+pub Rising-after : {K V : Type 0} (cmp : K → K → Ordering) → IsTotalOrder cmp → (A B : List (K × V)) (a b : K × V) → slice_get A (length A - 1) ≡ Some a → slice_get B 0 ≡ Some b
     → Rising cmp A → Rising cmp B → (cmp a.0 b.0 ≡ Less) ↔ Rising cmp (A ++ B)
-Rising-behind {K} {V} cmp o A B a b is_last is_first r s =
+Rising-after {K} {V} cmp o A B a b is_last is_first r s =
     let end = last_split A a is_last in
     let start = first_split B b is_first in
     let up : Rising cmp (b ∷ start.0) = subst (Rising cmp) start.1 s in (

@@ -143,8 +143,8 @@ module _ {K V : Type 0} (cmp : K → K → Ordering) (o : IsTotalOrder cmp) wher
         ∙ ap (λ (X : List (K × V)). left cmp S B₀ ++ X) (sym e)
 
 -- ---- lists that are read from their ends
-pub length-behind : {X : Type 0} (L D M : List X) → reverse L ≡ D ++ reverse M → length L ≡ length D + length M
-length-behind L D M e = omega (arith, length-reverse L, length-reverse M, ap length e, length-append D (reverse M))
+pub length-after : {X : Type 0} (L D M : List X) → reverse L ≡ D ++ reverse M → length L ≡ length D + length M
+length-after L D M e = omega (arith, length-reverse L, length-reverse M, ap length e, length-append D (reverse M))
 
 pub length-option : {X : Type 0} (L : List X) (t : Option X) (M : List X) → reverse L ≡ cons_option t (reverse M) → length L ≤ length M + 1
 length-option L None M e = omega (arith, length-reverse L, length-reverse M, ap length e)

@@ -103,8 +103,8 @@ module _ {K V : Type 0} (cmp : K → K → Ordering) (o : IsTotalOrder cmp) wher
     in_left : (X : List (K × V)) (x : K × V) → In x (X ++ []) → In x X
     in_left X x i = elim (In-cases X [] x i) [ inl j ↦ j | inr j ↦ absurd j ]
 
-    pub Merge-behind : Rising cmp (A ++ B) → Merge cmp A B (A ++ B)
-    Merge-behind t =
+    pub Merge-after : Rising cmp (A ++ B) → Merge cmp A B (A ++ B)
+    Merge-after t =
         let h : Merge cmp (A ++ []) B (A ++ B) = Merge-join A [] [] B A B (Merge-none cmp A r) (Merge-all cmp B s) (λ x y i j. rising_across cmp A B t x y (in_left A x i) j) in
         rw append-nil at h
 
@@ -113,8 +113,8 @@ module _ {K V : Type 0} (cmp : K → K → Ordering) (o : IsTotalOrder cmp) wher
         let h : Merge cmp A (B ++ []) (B ++ A) = Merge-join [] A B [] B A (Merge-all cmp B s) (Merge-none cmp A r) (λ x y i j. rising_across cmp B A t x y i (in_left A y j)) in
         rw append-nil at h
 
-    pub left-behind : Rising cmp (A ++ B) → left cmp A B ≡ []
-    left-behind t = left_none cmp o A B (from_each (λ (b : K × V). NoneEqual cmp b.0 A) B (λ y j. none_below y.0 A (λ x i. rising_across cmp A B t x y i j)))
+    pub left-after : Rising cmp (A ++ B) → left cmp A B ≡ []
+    left-after t = left_none cmp o A B (from_each (λ (b : K × V). NoneEqual cmp b.0 A) B (λ y j. none_below y.0 A (λ x i. rising_across cmp A B t x y i j)))
 
     pub left-before : Rising cmp (B ++ A) → left cmp A B ≡ []
     left-before t = left_none cmp o A B (from_each (λ (b : K × V). NoneEqual cmp b.0 A) B (λ y j. none_above y.0 A (λ x i. rising_across cmp B A t y x j i)))

@@ -8,7 +8,7 @@ use Rattle.litemap_store.proofs.Lists.Places.{drop_at}
 module _ {X : Type 0} where
   -- L' has what is after index i of L and before index k, and x there, if it stays
   pub record Moved (L L' : List X) (k i : ℕ) (x : X) (stays : Bool) : Type 0 where
-    pub behind : drop (i + 1) L' ≡ drop (i + 1) L
+    pub after : drop (i + 1) L' ≡ drop (i + 1) L
     pub before : take k L' ≡ take k L
     pub front : stays ≡ true → take (k + 1) L' ≡ take k L ++ x ∷ []
 
@@ -16,12 +16,12 @@ module _ {X : Type 0} where
   pub Moved_if : (L L' : List X) (k i : ℕ) (x : X) (stays moves : Bool) → k ≤ i → slice_get L i ≡ Some x
       → (stays ≡ true → k < i → moves ≡ true) → L' ≡ cond moves (swap L k i) L → Moved L L' k i x stays
   Moved_if L L' k i x stays true u at goes is = let h = slice_get_within L i x at in record {
-    behind = ap (drop (i + 1)) is ∙ drop-swap L k i x u h;
+    after = ap (drop (i + 1)) is ∙ drop-swap L k i x u h;
     before = ap (take k) (is ∙ sym (swap_is L k i x (omega arith) h)) ∙ take-set-le k (slice_set L k (get_or L i x)) i (get_or L k x) u ∙ take-set-le k L k (get_or L i x) (omega arith);
     front = λ _. ap (take (k + 1)) is ∙ take-swap L k i x u h ∙ ap (λ y. take k L ++ y ∷ []) (get_or_from_slice_get L i x x at);
   }
   Moved_if L L' k i x stays false u at goes is = let h = slice_get_within L i x at in record {
-    behind = ap (drop (i + 1)) is;
+    after = ap (drop (i + 1)) is;
     before = ap (take k) is;
     front = λ stay.
         let e : k ≡ i = elim (cases_lt k i) [ inl lt ↦ absurd (true≢false (sym (goes stay lt))) | inr not ↦ (omega arith) ] in
@@ -56,10 +56,10 @@ module _ {F K V : Type 0} (g : Mut F (Bor K × (Bor V × Unit {0})) Bool) where
       -- p is moved to index k, if it stays
       module _ (b : Bool) (f' : F) (called : CalledOnPair g f p b f') (L' : List (K × V)) (moved : Moved L L' k i p b) where
         callable' : CallableOnEach g f' (drop (i + 1) L')
-        callable' = subst (CallableOnEach g f') (sym moved.behind) (CallableOnEach-rest f p b f' (drop (i + 1) L) called (subst (CallableOnEach g f) here now.callable))
+        callable' = subst (CallableOnEach g f') (sym moved.after) (CallableOnEach-rest f p b f' (drop (i + 1) L) called (subst (CallableOnEach g f) here now.callable))
 
         so_far' : (M : List (K × V)) → Kept g f' (drop (i + 1) L') M → Kept g f₀ L₀ (take k L ++ cond b (p ∷ M) M)
-        so_far' M kept = now.so_far (cond b (p ∷ M) M) (subst (λ N. Kept g f N (cond b (p ∷ M) M)) (sym here) (Kept-more f p b f' (drop (i + 1) L) M called (subst (λ N. Kept g f' N M) moved.behind kept)))
+        so_far' M kept = now.so_far (cond b (p ∷ M) M) (subst (λ N. Kept g f N (cond b (p ∷ M) M)) (sym here) (Kept-more f p b f' (drop (i + 1) L) M called (subst (λ N. Kept g f' N M) moved.after kept)))
 
         pub KeptSoFar-yes : b ≡ true → KeptSoFar g f₀ L₀ f' L' (k + 1) (i + 1)
         KeptSoFar-yes kept_it = record {

@@ -30,18 +30,18 @@ pub fn settle_few<K: Ord + Drop, V: Drop>(store: &mut Vec<(K, V)>, from: usize, 
     requires rising { Rising K.cmp (take from store.old.items) }
     requires few { (vec_len store.old - from) * digits (vec_len store.old) ≤ vec_len store.old }
     ensures last { Last K.cmp store.old.items store.new.items }
-    ensures behind { Rises K.cmp (take from store.old.items) (drop from store.old.items)
+    ensures all_above { Rises K.cmp (take from store.old.items) (drop from store.old.items)
         → RisesByAtMost (length (drop from store.old.items)) count.old count.new }
     ensures cost { RisesByAtMost (from + 2 * length (drop from store.old.items)) count.old count.new }
 {
-    if rises_on(store, from, count) {
+    if is_rising_from(store, from, count) {
         return;
     }
     put_each(store, from, count);
 }
 
 // Whether all keys ascend, if those before an index do.
-fn rises_on<K: Ord, V>(pairs: &[(K, V)], from: usize, count: &mut Count) -> bool
+fn is_rising_from<K: Ord, V>(pairs: &[(K, V)], from: usize, count: &mut Count) -> bool
     requires from { from ≤ length pairs.now }
     requires rising { Rising K.cmp (take from pairs.now) }
     ensures rising { IsTrue result ↔ Rising K.cmp pairs.now }

@@ -30,12 +30,12 @@ pub fn merge_in_one_pass<K: Ord + Drop, V: Drop, S: StoreMut<K, V> + Drop>(
     let Ok((mut side, mut fresh)) = room_for(alloc, total) else {
         return Err(NoRoom { back: other });
     };
-    let Ok((mut driven_out, mut rest)) = room_for(alloc, other.lm_len()) else {
+    let Ok((mut displaced, mut rest)) = room_for(alloc, other.lm_len()) else {
         return Err(NoRoom { back: other });
     };
-    take_aside(store, other, &mut side, &mut driven_out, count);
+    take_aside(store, other, &mut side, &mut displaced, count);
     put_up(&mut fresh, side);
-    put_up(&mut rest, driven_out);
+    put_up(&mut rest, displaced);
     *store = fresh;
     Ok(unless_empty(rest))
 }
@@ -45,24 +45,24 @@ fn take_aside<K: Ord + Drop, V: Drop, S: StoreMut<K, V> + Drop>(
     store: &mut S,
     mut other: S,
     side: &mut Vec<(K, V)>,
-    driven_out: &mut Vec<(K, V)>,
+    displaced: &mut Vec<(K, V)>,
     count: &mut Count,
 )
     requires store { Rising K.cmp (S.pairs store.old) }
     requires other { Rising K.cmp (S.pairs other) }
     requires side { side.old.items ≡ [] }
     requires side_room { length (S.pairs store.old) + length (S.pairs other) ≤ vec_capacity side.old }
-    requires driven_out { driven_out.old.items ≡ [] }
-    requires driven_out_room { length (S.pairs other) ≤ vec_capacity driven_out.old }
+    requires displaced { displaced.old.items ≡ [] }
+    requires driven_out_room { length (S.pairs other) ≤ vec_capacity displaced.old }
     ensures merged { Merge K.cmp (S.pairs store.old) (S.pairs other) (reverse side.new.items) }
-    ensures left { reverse driven_out.new.items ≡ left K.cmp (S.pairs store.old) (S.pairs other) }
+    ensures left { reverse displaced.new.items ≡ left K.cmp (S.pairs store.old) (S.pairs other) }
     ensures side_len { length side.new.items ≤ length (S.pairs store.old) + length (S.pairs other) }
-    ensures driven_out_len { length driven_out.new.items ≤ length (S.pairs other) }
+    ensures driven_out_len { length displaced.new.items ≤ length (S.pairs other) }
     ensures cost { RisesByAtMost (searches_cost (S.pairs store.old) (S.pairs other)) count.old count.new }
 {
     while !other.lm_is_empty() {
         let (key, value) = take_last(&mut other);
-        take_above(store, key, value, side, driven_out, count);
+        take_above(store, key, value, side, displaced, count);
     }
     take_from(store, 0, side);
 }
@@ -74,21 +74,21 @@ fn take_above<K: Ord + Drop, V: Drop, S: StoreMut<K, V>>(
     key: K,
     value: V,
     side: &mut Vec<(K, V)>,
-    driven_out: &mut Vec<(K, V)>,
+    displaced: &mut Vec<(K, V)>,
     count: &mut Count,
 )
     requires store { Rising K.cmp (S.pairs store.old) }
     requires side_room { length side.old.items + length (S.pairs store.old) < vec_capacity side.old }
-    requires driven_out_room { length driven_out.old.items < vec_capacity driven_out.old }
+    requires driven_out_room { length displaced.old.items < vec_capacity displaced.old }
     ensures store { S.pairs store.new ≡ below K.cmp (S.pairs store.old) key }
     ensures side { reverse side.new.items
         ≡ (key_or (at K.cmp (S.pairs store.old) key) key, value) ∷ (above K.cmp (S.pairs store.old) key
         ++ reverse side.old.items) }
-    ensures driven_out { reverse driven_out.new.items
+    ensures displaced { reverse displaced.new.items
         ≡ cons_option (option_map (λ p. (key, p.1)) (at K.cmp (S.pairs store.old) key))
-        (reverse driven_out.old.items) }
+        (reverse displaced.old.items) }
     ensures side_room { vec_capacity side.old ≤ vec_capacity side.new }
-    ensures driven_out_room { vec_capacity driven_out.old ≤ vec_capacity driven_out.new }
+    ensures driven_out_room { vec_capacity displaced.old ≤ vec_capacity displaced.new }
     ensures cost { RisesByAtMost (digits (length (S.pairs store.old))) count.old count.new }
 {
     match search(store, &key, count) {
@@ -96,7 +96,7 @@ fn take_above<K: Ord + Drop, V: Drop, S: StoreMut<K, V>>(
             take_from(store, index + 1, side);
             let (stored, old) = take_last(store);
             side.push_reserved((stored, value));
-            driven_out.push_reserved((key, old));
+            displaced.push_reserved((key, old));
         }
         Err(index) => {
             take_from(store, index, side);

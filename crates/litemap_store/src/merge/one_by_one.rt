@@ -14,7 +14,7 @@ use std::mem;
 /// Merges a store's pairs into another's, each by one search, and returns what is displaced. All capacity is taken first.
 ///
 /// A pair that falls between others moves those after it, so the moves are up to the product of the two lengths.
-pub fn merge_each<K: Ord + Drop, V: Drop, S: StoreIntoIterator<K, V> + Drop>(
+pub fn merge_one_by_one<K: Ord + Drop, V: Drop, S: StoreIntoIterator<K, V> + Drop>(
     alloc: Global,
     store: &mut S,
     other: S,

@@ -4,7 +4,7 @@ ghost use Rattle.std.specs.Map.Iter.{deref_pair};
 ghost use Rattle.litemap_store.specs.Counts.{RisesByAtMost};
 ghost use Rattle.litemap_store.specs.Merge.{Merge, Merges, left};
 ghost use Rattle.litemap_store.specs.Pairs.{Rising};
-ghost use Rattle.litemap_store.specs.Walked.{IsLowerFirst, IsTakenFirst};
+ghost use Rattle.litemap_store.specs.Walked.{ComparesFirsts, IsTakenFirst};
 
 use crate::into_iter::PairIntoIter;
 use crate::reserved::{push_reserved, unless_empty};
@@ -61,21 +61,21 @@ fn put_both<K: Ord + Drop, V: Drop, S: StoreMut<K, V>, I: PairIntoIter<K, V>>(
     ensures left { S.pairs rest.new ≡ left K.cmp olds news }
     ensures cost { RisesByAtMost (length olds + length news) count.old count.new }
 {
-    while let Some(order) = lower_first(&olds, &news, count) {
+    while let Some(order) = compare_firsts(&olds, &news, count) {
         let (key, value) = take_lower(&mut olds, &mut news, rest, order);
         push_reserved(store, key, value);
     }
 }
 
 // How the first old key compares with the first new one. A side that has run out counts as greater; `None` if both have.
-fn lower_first<K: Ord, V, I: PairIntoIter<K, V>>(
+fn compare_firsts<K: Ord, V, I: PairIntoIter<K, V>>(
     olds: &Peekable<K, V, I>,
     news: &Peekable<K, V, I>,
     count: &mut Count,
 ) -> Option<Ordering>
     requires olds { Rising K.cmp olds.now }
     requires news { Rising K.cmp news.now }
-    ensures lower { IsLowerFirst K.cmp olds.now news.now result }
+    ensures lower { ComparesFirsts K.cmp olds.now news.now result }
     ensures cost { RisesByAtMost 1 count.old count.new }
     ensures none { length olds.now + length news.now ≡ 0 → RisesByAtMost 0 count.old count.new }
 {
@@ -98,7 +98,7 @@ fn take_lower<K: Ord + Drop, V: Drop, S: StoreMut<K, V>, I: PairIntoIter<K, V>>(
 ) -> (K, V)
     requires olds { Rising K.cmp olds.old }
     requires news { Rising K.cmp news.old }
-    requires order { IsLowerFirst K.cmp olds.old news.old (Some order) }
+    requires order { ComparesFirsts K.cmp olds.old news.old (Some order) }
     requires room { length news.old ≤ S.room rest.old }
     ensures taken { IsTakenFirst K.cmp olds.old news.old olds.new news.new result (S.pairs rest.old) (S.pairs rest.new) }
     ensures room { length news.new ≤ S.room rest.new }

@@ -8,4 +8,4 @@ one_number m n e = cc
 
 pub returns : goal.returns
 returns c = λ name.
-    same_values (λ n. number (unsigned n)) one_number _ _ (c.one_reading_by_text.ensures _ _ _ c.in-Ok-from_json.ensures.read c.in-Ok.ensures.reads_back name)
+    same_values (λ n. number (unsigned n)) one_number _ _ (c.one_reading_by_string.ensures _ _ _ c.in-Ok-from_json.ensures.read c.in-Ok.ensures.reads_back name)

@@ -38,15 +38,15 @@ impl<'a, K, V, S: Store<K, V>> RangeIter<'a, K, V, S> {
         RangeIter::between(store, 0..store.lm_len())
     }
 
-    pub(in crate::map) fn between(store: &'a S, places: Range<usize>) -> Self
-        requires ascend { places.start ≤ places.end }
-        requires inside { places.end ≤ length (S.pairs store.now) }
-        ensures { sub (S.pairs store.now) places.start places.end ≡ Some result }
+    pub(in crate::map) fn between(store: &'a S, indices: Range<usize>) -> Self
+        requires ascend { indices.start ≤ indices.end }
+        requires inside { indices.end ≤ length (S.pairs store.now) }
+        ensures { sub (S.pairs store.now) indices.start indices.end ≡ Some result }
     {
         RangeIter {
             store,
-            start: places.start,
-            end: places.end,
+            start: indices.start,
+            end: indices.end,
             marker: PhantomData,
         }
     }

@@ -14,7 +14,7 @@ pub returns-in_err-push-in-Ok-Some-clause-asked : goal.returns-in_err-push-in-Ok
 returns-in_err-push-in-Ok-Some-clause-asked g c = record {
   ends = search rules;
   empty = search rules;
-  fault = search rules;
+  error = search rules;
   rest = always_on_err c.from_residual.result (returns-in_err-push-in-Ok-Some-clause-rest g c);
   leads = g.met.P.PairSource.leads_on _ _ _ c.loop-pair.invariant.led c.next_pair.ensures.leads;
   refused_some = always_if_err _ c.from_residual.result (omega (arith, c.loop-pair.invariant.left, (rw c.in-Ok-Some.field-0-is at c.in-Ok-Some.ensures.next).1));

@@ -12,7 +12,7 @@ returns-in_err-extend_from_vec-clause-asked g c =
     record {
       ends = search rules;
       empty = search rules;
-      fault = search rules;
+      error = search rules;
       rest = always_on_err c.from_residual-in_err-extend_from_vec.result c.drain.ensures.rest;
       leads = search rules;
       refused_some = always_if_err _ c.from_residual-in_err-extend_from_vec.result (omega (arith, pairs.ok.0, c.in_ok-pairs.ensures.fewer, some));

@@ -19,7 +19,7 @@ loop-key-preserved g c =
         Sifted-joins g.K.Ord.cmp seen (pair ∷ []) [] [] c.loop-key.map.pairs c.loop-key.aside.items c.append_or_defer.new.map.pairs c.append_or_defer.new.aside.items before.seen.2 c.in_ok-append_or_defer-in-Ok-Some.ensures,
         omega (arith, before.seen.3, next.1, length-append seen (pair ∷ [])),
       );
-      faults = λ e. ((λ h. (before.faults e).0 ((step.keeps_faults e).0 h)), (λ h. (step.keeps_faults e).1 ((before.faults e).1 h)));
+      errors = λ e. ((λ h. (before.errors e).0 ((step.keeps_faults e).0 h)), (λ h. (step.keeps_faults e).1 ((before.errors e).1 h)));
       end = ((λ h. before.end.0 (step.keeps_end.0 h)), (λ h. step.keeps_end.1 (before.end.1 h)));
       led = g.met.P.PairSource.leads_on _ _ _ before.led step.leads;
     }
@@ -33,7 +33,7 @@ returns-in_err-append_or_defer-in-Ok-Some-clause-asked g c =
     record {
       ends = search rules;
       empty = search rules;
-      fault = search rules;
+      error = search rules;
       rest = always_on_err c.from_residual.result
           (before.seen.0 ++ pair ∷ [], λ rest h. rw append_assoc (before.seen.1 (pair ∷ rest) (next.0 rest h)));
       leads = search rules;
@@ -45,7 +45,7 @@ returns-in-Err-clause-asked g c =
     let before = c.loop-key.invariant in record {
       ends = search rules;
       empty = search rules;
-      fault = search rules;
+      error = search rules;
       rest = (before.seen.0, λ rest h. before.seen.1 rest ((c.in-Err.ensures.next.1.0 rest).0 h));
       leads = search rules;
       refused_some = search rules;
@@ -61,7 +61,7 @@ returns-in_err-extend_from_vec-clause-asked g c =
     record {
       ends = search rules;
       empty = search rules;
-      fault = search rules;
+      error = search rules;
       rest = always_on_err c.from_residual-in_err-extend_from_vec.result (before.seen.0, λ rest h. before.seen.1 rest ((next.1.0 rest).0 h));
       leads = search rules;
       refused_some = always_if_err _ c.from_residual-in_err-extend_from_vec.result (omega (arith, before.seen.3, some_sifted g.K.Ord.cmp before.seen.0 c.loop-key.map.pairs aside before.seen.2 put_aside));

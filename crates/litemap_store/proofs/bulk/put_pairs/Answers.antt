@@ -11,8 +11,8 @@ returns-then-lies_below-clause-last g c =
 pub returns-clause-last : goal.returns-clause-last
 returns-clause-last g c = on_ok_weaker c.merge.result (λ d. Last-join_right g.K.Ord.cmp g.met.K.Ord.total _ _ _ _ c.in_ok-keep_rising.ensures.last d) c.merge.ensures.last
 
-pub returns-clause-behind : goal.returns-clause-behind
-returns-clause-behind g c = λ h. absurd (not_above g.K.Ord.cmp _ _ _ c.requires (rw (c.keep_rising.ensures.same h.rising).1 at c.lies_below.ensures.below.1) c.if-lies_below.false h)
+pub returns-clause-all_above : goal.returns-clause-all_above
+returns-clause-all_above g c = λ h. absurd (not_above g.K.Ord.cmp _ _ _ c.requires (rw (c.keep_rising.ensures.same h.rising).1 at c.lies_below.ensures.below.1) c.if-lies_below.false h)
 
 pub returns-clause-succeeds : goal.returns-clause-succeeds
 returns-clause-succeeds g c = λ h r. absurd (not_above g.K.Ord.cmp _ _ _ c.requires (rw (c.keep_rising.ensures.same h.rising).1 at c.lies_below.ensures.below.1) c.if-lies_below.false h)

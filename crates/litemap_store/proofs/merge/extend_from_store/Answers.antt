@@ -1,6 +1,6 @@
 use Rattle.litemap_store.proofs.Names.{[], ℕ, ◌<◌, ◌∙◌, ◌≡◌, ◌≢◌, ◌≤◌, ◌⊎◌, ap, arith, Bool, Err, false, IfOk-weaker, inl, inr, IsOk, IsTrue, length, List, Ok, OnErr, refl, Result, rules, sym, true≢false}
 use Rattle.litemap_store.proofs.Lists.Joined.{not_above}
-use Rattle.litemap_store.proofs.Merging.Joins.{Merge-before, Merge-behind, left-before, left-behind, not_apart, one_empty}
+use Rattle.litemap_store.proofs.Merging.Joins.{Merge-before, Merge-after, left-before, left-after, not_apart, one_empty}
 use Rattle.litemap_store.proofs.merge.extend_from_store.Goals as goal
 
 -- what a test that failed does not say
@@ -25,15 +25,15 @@ returns-then-lies_below-clause-merged g c =
     let up = c.lies_below.ensures.below.0 c.if-lies_below.true in
     record {
       merges = record {
-        merged = IfOk-weaker c.append_other.result _ _ (λ rest e. rw e.1 (Merge-behind g.K.Ord.cmp g.met.K.Ord.total _ _ c.requires.store c.requires.other up)) c.append_other.ensures.joined;
-        none = IfOk-weaker c.append_other.result _ _ (λ rest e. (λ _. left-behind g.K.Ord.cmp g.met.K.Ord.total _ _ c.requires.store c.requires.other up, λ _. rw e.0 refl)) c.append_other.ensures.joined;
+        merged = IfOk-weaker c.append_other.result _ _ (λ rest e. rw e.1 (Merge-after g.K.Ord.cmp g.met.K.Ord.total _ _ c.requires.store c.requires.other up)) c.append_other.ensures.joined;
+        none = IfOk-weaker c.append_other.result _ _ (λ rest e. (λ _. left-after g.K.Ord.cmp g.met.K.Ord.total _ _ c.requires.store c.requires.other up, λ _. rw e.0 refl)) c.append_other.ensures.joined;
         left = IfOk-weaker c.append_other.result _ _ (λ rest e. rw e.0 tt) c.append_other.ensures.joined;
         refused = c.append_other.ensures.refused;
         back = c.append_other.ensures.back;
       };
       succeeds = λ e. not_refused c.append_other.result c.append_other.ensures.full (no_reason e);
-      behind = λ h r. not_refused c.append_other.result c.append_other.ensures.full (λ f. let full = f.1 in omega arith);
-      in_front = λ h r s. not_refused c.append_other.result c.append_other.ensures.full (λ f. let full = f.1 in omega arith);
+      all_above = λ h r. not_refused c.append_other.result c.append_other.ensures.full (λ f. let full = f.1 in omega arith);
+      all_below = λ h r s. not_refused c.append_other.result c.append_other.ensures.full (λ f. let full = f.1 in omega arith);
       unchanged = c.append_other.ensures.unchanged;
       taken = c.append_other.ensures.taken;
     }
@@ -51,8 +51,8 @@ returns-then-lies_below-2-clause-merged g c =
         back = tt;
       };
       succeeds = λ e. refl;
-      behind = λ h r. refl;
-      in_front = λ h r s. refl;
+      all_above = λ h r. refl;
+      all_below = λ h r s. refl;
       unchanged = λ e. absurd (some (inr e));
       taken = λ e n. absurd (some (inl e));
     }
@@ -63,8 +63,8 @@ returns-in_err-lm_extend_start-clause-merged g c =
     record {
       merges = record { merged = search rules; none = search rules; left = search rules; refused = search rules; back = search rules };
       succeeds = λ e. absurd (some e);
-      behind = λ h r. absurd (not_above g.K.Ord.cmp _ _ _ c.requires.store c.lies_below.ensures.below.1 c.if-lies_below.false h);
-      in_front = λ h r s. absurd (there_is_room r s c.in_err-lm_extend_start.ensures.full);
+      all_above = λ h r. absurd (not_above g.K.Ord.cmp _ _ _ c.requires.store c.lies_below.ensures.below.1 c.if-lies_below.false h);
+      all_below = λ h r s. absurd (there_is_room r s c.in_err-lm_extend_start.ensures.full);
       unchanged = λ e. absurd (some (inr e));
       taken = λ e n. absurd (some (inl e));
     }
@@ -75,8 +75,8 @@ returns-clause-merged g c =
     record {
       merges = c.merge_mixed.ensures.merges;
       succeeds = λ e. absurd (some e);
-      behind = λ h r. absurd (not_above g.K.Ord.cmp _ _ _ c.requires.store c.lies_below.ensures.below.1 c.if-lies_below.false h);
-      in_front = λ h r s. absurd (not_above g.K.Ord.cmp _ _ _ c.requires.other c.lies_below-2.ensures.below.1 c.if-lies_below-2.false h);
+      all_above = λ h r. absurd (not_above g.K.Ord.cmp _ _ _ c.requires.store c.lies_below.ensures.below.1 c.if-lies_below.false h);
+      all_below = λ h r s. absurd (not_above g.K.Ord.cmp _ _ _ c.requires.other c.lies_below-2.ensures.below.1 c.if-lies_below-2.false h);
       unchanged = λ e. absurd (some (inr e));
       taken = λ e n. absurd (some (inl e));
     }

@@ -9,10 +9,10 @@ use Rattle.name_index.proofs.indexed_search.find.Goals as goal
 pub loop-low-init : goal.loop-low-init
 loop-low-init c = halved_start _ _ _ _ (λ x. known_of c.requires x c.args.key.now)
 
-pub returns-in_err-name-clause-fault : goal.returns-in_err-name-clause-fault
-returns-in_err-name-clause-fault c =
+pub returns-in_err-name-clause-error : goal.returns-in_err-name-clause-error
+returns-in_err-name-clause-error c =
     let middle = c.loop-low.low + (c.loop-low.high - c.loop-low.low) / 2 in
-    always_on_err c.from_residual.result (no_index _ _ middle c.requires (omega arith) c.in_err-name.ensures.fault)
+    always_on_err c.from_residual.result (no_index _ _ middle c.requires (omega arith) c.in_err-name.ensures.error)
 
 pub loop-low-preserved-in-Less : goal.loop-low-preserved-in-Less
 loop-low-preserved-in-Less c =

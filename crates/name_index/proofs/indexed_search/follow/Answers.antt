@@ -4,11 +4,11 @@ use Rattle.name_index.proofs.Indexing.{falls, followed_end, followed_next, no_in
 use Rattle.name_index.proofs.Rises.{above_true}
 use Rattle.name_index.proofs.indexed_search.follow.Goals as goal
 
-pub returns-in_err-key-clause-fault : goal.returns-in_err-key-clause-fault
-returns-in_err-key-clause-fault c = always_on_err c.from_residual.result (no_index _ _ c.loop-index.index c.requires (omega arith) c.in_err-key.ensures.fault)
+pub returns-in_err-key-clause-error : goal.returns-in_err-key-clause-error
+returns-in_err-key-clause-error c = always_on_err c.from_residual.result (no_index _ _ c.loop-index.index c.requires (omega arith) c.in_err-key.ensures.error)
 
-pub returns-then-not-is_above-clause-fault : goal.returns-then-not-is_above-clause-fault
-returns-then-not-is_above-clause-fault c =
+pub returns-then-not-is_above-clause-error : goal.returns-then-not-is_above-clause-error
+returns-then-not-is_above-clause-error c =
     falls _ _ c.loop-index.index c.loop-index.last c.in_ok-key.key.now c.in_ok-key.field-0-1.now c.is_above.result _ _ c.requires (omega arith) c.loop-index.invariant c.in_ok-key.ensures.entry c.is_above.ensures.first c.is_above.ensures.later c.if-not-is_above.true
 
 pub loop-index-preserved : goal.loop-index-preserved

@@ -4,8 +4,8 @@ use Rattle.name_index.proofs.rising.check.Goals as goal
 pub loop-key-init : goal.loop-key-init
 loop-key-init c = checked_start _ _
 
-pub returns-then-not-is_above-clause-fault : goal.returns-then-not-is_above-clause-fault
-returns-then-not-is_above-clause-fault c =
+pub returns-then-not-is_above-clause-error : goal.returns-then-not-is_above-clause-error
+returns-then-not-is_above-clause-error c =
     let inv = c.loop-key.invariant in
     let n = rw c.in-Some.is at c.in_ok-key.ensures.read in (
       c.loop-key.names,

@@ -7,5 +7,5 @@ returns-clause-table c = table_unique
 pub returns-clause-no_fault : goal.returns-clause-no_fault
 returns-clause-no_fault c = table_no_fault
 
-pub returns-clause-fault : goal.returns-clause-fault
-returns-clause-fault c = table_fault_unique
+pub returns-clause-error : goal.returns-clause-error
+returns-clause-error c = table_fault_unique

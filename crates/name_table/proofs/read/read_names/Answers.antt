@@ -2,14 +2,14 @@ use Rattle.std.proofs.lemmas.Result.{err_from_is_err_and}
 use Rattle.name_table.proofs.WholeTables.{count_fault, unread, whole_table}
 use Rattle.name_table.proofs.read.read_names.Goals as goal
 
-pub returns-in-Err-clause-fault : goal.returns-in-Err-clause-fault
-returns-in-Err-clause-fault c = count_fault c.args.bytes.now c.in-Err.fault c.in-Err.ensures.err
+pub returns-in-Err-clause-error : goal.returns-in-Err-clause-error
+returns-in-Err-clause-error c = count_fault c.args.bytes.now c.in-Err.error c.in-Err.ensures.err
 
-pub returns-in_err-map-clause-fault : goal.returns-in_err-map-clause-fault
-returns-in_err-map-clause-fault c =
+pub returns-in_err-map-clause-error : goal.returns-in_err-map-clause-error
+returns-in_err-map-clause-error c =
     let p = err_from_is_err_and c.from_residual.result c.from_residual.ensures.1 in
     rw (p.1, p.2)
-    (unread c.args.bytes.now c.in-Ok.names c.in_err-map.field-0.0 c.in-Ok.ensures.ok c.in_err-map.ensures.asked.fault c.in_err-map.ensures.asked.refused_some)
+    (unread c.args.bytes.now c.in-Ok.names c.in_err-map.field-0.0 c.in-Ok.ensures.ok c.in_err-map.ensures.asked.error c.in_err-map.ensures.asked.refused_some)
 
 pub returns-clause-read : goal.returns-clause-read
 returns-clause-read c =

@@ -4,7 +4,7 @@ use Rattle.std.proofs.lemmas.List.Sums.{count_by-le-length}
 use Rattle.names_core.specs.Reply.{names_of}
 use Rattle.names_core.specs.Told.{Leaves, AllDone, BadLine, NoMemory, no_memory}
 use Rattle.names_core.proofs.Tolds.{DoesEach-more}
-use Rattle.names_core.proofs.Writes.{Ends-behind, Writes-behind, Writes-longer, Writes-nil}
+use Rattle.names_core.proofs.Writes.{Ends-after, Writes-after, Writes-longer, Writes-nil}
 use Rattle.names_core.proofs.program.answer_lines.Goals as goal
 
 pub loop-rest-init : goal.loop-rest-init
@@ -30,7 +30,7 @@ loop-rest-preserved g c =
       lines = lines ∙ sym (append_assoc was.before (said ∷ []) _);
       counted = omega (arith, was.counted, length-append was.before (said ∷ []));
       leaves = (was.leaves.0, was.leaves.1, DoesEach-more _ _ _ was.before said was.text _ was.leaves.2 does);
-      writes = Writes-behind _ _ _ _ was.text _ false was.writes c.in-Ok.ensures.writes;
+      writes = Writes-after _ _ _ _ was.text _ false was.writes c.in-Ok.ensures.writes;
       bounded = omega (arith, was.bounded, simp length-append at (ap length lines), simp length-append at (ap length was.lines));
     }
 
@@ -50,7 +50,7 @@ returns-in_default-write_all-clause-told g c =
       3,
       NoMemory (was.before ++ (said ∷ [])) _ (was.text ++ c.as_bytes.result.now) _ c.requires (lines ∙ sym (append_assoc was.before (said ∷ []) _))
           (was.leaves.0, was.leaves.1, DoesEach-more _ _ _ was.before said was.text _ was.leaves.2 does) (sym (append_assoc was.text c.as_bytes.result.now no_memory)) refl,
-      inr (refl, Writes-behind _ _ _ _ was.text _ true was.writes wrote),
+      inr (refl, Writes-after _ _ _ _ was.text _ true was.writes wrote),
     )
 
 pub returns-in-Ok-Bad-clause-told : goal.returns-in-Ok-Bad-clause-told
@@ -58,9 +58,9 @@ returns-in-Ok-Bad-clause-told g c =
     let was = c.loop-rest.invariant in
     let lines = rw (c.in-Some.is, c.first_line.ensures) at was.lines in
     let bad = rw c.in-Ok-Bad.field-0-is at c.in-Ok-Bad.ensures in
-    (_, 2, BadLine was.before _ _ was.text _ c.requires lines was.leaves bad.0 (rw (c.as_bytes-in-Ok-Bad.ensures.value, bad.1, was.counted)) refl, Ends-behind _ _ _ _ was.text _ 2 _ was.writes c.finish.ensures)
+    (_, 2, BadLine was.before _ _ was.text _ c.requires lines was.leaves bad.0 (rw (c.as_bytes-in-Ok-Bad.ensures.value, bad.1, was.counted)) refl, Ends-after _ _ _ _ was.text _ 2 _ was.writes c.finish.ensures)
 
 pub returns-in-Err-clause-told : goal.returns-in-Err-clause-told
 returns-in-Err-clause-told g c =
     let was = c.loop-rest.invariant in
-    (_, 3, NoMemory was.before _ was.text _ c.requires was.lines was.leaves refl refl, Ends-behind _ _ _ _ was.text _ 3 _ was.writes c.finish-in-Err.ensures)
+    (_, 3, NoMemory was.before _ was.text _ c.requires was.lines was.leaves refl refl, Ends-after _ _ _ _ was.text _ 3 _ was.writes c.finish-in-Err.ensures)

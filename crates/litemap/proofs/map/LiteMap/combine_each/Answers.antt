@@ -29,7 +29,7 @@ loop-index-preserved g c =
     let w = c.combine.new.value in
     let rest = drop (i + 1) pairs in
     let here : drop i pairs ≡ p ∷ rest = drop_at pairs i p c.lm_pair_mut-value.ensures.pair in
-    let behind = drop-written pairs i w in
+    let after = drop-written pairs i w in
     let front = take-written pairs i p w c.lm_pair_mut-value.ensures.pair in
     let inv = c.loop-index.invariant in
     let d = digits (length there) in
@@ -37,11 +37,11 @@ loop-index-preserved g c =
     rw (g.met.S.StoreMut.writes store i w) (record {
       same_length = length-set_value pairs i w ∙ inv.same_length;
       room = g.met.S.StoreMut.keeps_room store i w ∙ inv.room;
-      callable = subst (CallableOnEachOf g.F.Fn f cmp there) (sym behind) (subst (CallableOnEachOf g.F.Fn f cmp there) here inv.callable).1;
+      callable = subst (CallableOnEachOf g.F.Fn f cmp there) (sym after) (subst (CallableOnEachOf g.F.Fn f cmp there) here inv.callable).1;
       so_far = λ M combined. subst (Combined g.F.Fn f cmp there (g.S.Store.pairs c.args.store.now))
           (sym (append_assoc (take i pairs) ((p.0, w) ∷ []) M) ∙ ap (λ L. L ++ M) (sym front))
           (inv.so_far ((p.0, w) ∷ M) (subst (λ L. Combined g.F.Fn f cmp there L ((p.0, w) ∷ M)) (sym here)
-          (Combined-more g.F.Fn f cmp there p w rest M c.combine.ensures.settled (subst (λ L. Combined g.F.Fn f cmp there L M) behind combined))));
+          (Combined-more g.F.Fn f cmp there p w rest M c.combine.ensures.settled (subst (λ L. Combined g.F.Fn f cmp there L M) after combined))));
       cost = in_turn (i * d) d ((i + 1) * d) more inv.cost c.combine.ensures.cost;
     })
 

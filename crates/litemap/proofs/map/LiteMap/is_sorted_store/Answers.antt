@@ -12,20 +12,20 @@ returns-then-not-is_lt g c = (
   λ (t : false ≡ true). cc,
   λ (r : Rising g.K.Ord.cmp (g.S.Store.pairs c.args.store.now)).
       let before = sym c.lm_get.ensures ∙ ap (option_map deref_pair) c.unwrap.ensures in
-      let here = sym c.lm_get-in-loop-place.ensures ∙ ap (option_map deref_pair) c.unwrap-in-loop-place.ensures in
-      let less : c.cmp.result ≡ Less = c.cmp.ensures ∙ Less-from_Rising g.K.Ord.cmp _ _ _ _ c.loop-place.invariant.positive r before here in
+      let here = sym c.lm_get-in-loop-index.ensures ∙ ap (option_map deref_pair) c.unwrap-in-loop-index.ensures in
+      let less : c.cmp.result ≡ Less = c.cmp.ensures ∙ Less-from_Rising g.K.Ord.cmp _ _ _ _ c.loop-index.invariant.positive r before here in
       c.if-not-is_lt.ensures ∙ ap is_lt less,
 )
 
-pub loop-place-preserved : goal.loop-place-preserved
-loop-place-preserved g c =
+pub loop-index-preserved : goal.loop-index-preserved
+loop-index-preserved g c =
     let less = sym c.cmp.ensures ∙ Less-from_is_lt c.cmp.result c.if-not-is_lt.ensures in
     let before = sym c.lm_get.ensures ∙ ap (option_map deref_pair) c.unwrap.ensures in
-    let here = sym c.lm_get-in-loop-place.ensures ∙ ap (option_map deref_pair) c.unwrap-in-loop-place.ensures in
+    let here = sym c.lm_get-in-loop-index.ensures ∙ ap (option_map deref_pair) c.unwrap-in-loop-index.ensures in
     record {
       positive = omega arith;
-      so_far = adjacent_more g.K.Ord.cmp _ _ _ _ c.loop-place.invariant.so_far before here less;
+      so_far = adjacent_more g.K.Ord.cmp _ _ _ _ c.loop-index.invariant.so_far before here less;
     }
 
 pub returns : goal.returns
-returns g c = (λ t. Rising-from_adjacent g.K.Ord.cmp g.met.K.Ord.total _ (λ k d h. c.loop-place.invariant.so_far k d (omega arith)), λ r. search rules)
+returns g c = (λ t. Rising-from_adjacent g.K.Ord.cmp g.met.K.Ord.total _ (λ k d h. c.loop-index.invariant.so_far k d (omega arith)), λ r. search rules)

@@ -13,8 +13,8 @@ returns-in-Ok-insert_at-clause-there g c =
     subst (λ M. slice_get M c.in-Err.index ≡ at g.K.Ord.cmp M key) (sym c.in-Ok-insert_at.ensures.put)
     (ap (slice_get (put g.K.Ord.cmp old key value)) c.in-Err.ensures.splits.place ∙ put_get g.K.Ord.cmp old key value ∙ sym (at-put g.met.K.Ord.total key old value))
 
-pub returns-in-Err-insert_at-clause-faults : goal.returns-in-Err-insert_at-clause-faults
-returns-in-Err-insert_at-clause-faults g c = record {
+pub returns-in-Err-insert_at-clause-errors : goal.returns-in-Err-insert_at-clause-errors
+returns-in-Err-insert_at-clause-errors g c = record {
   closure = tt;
   full = c.in-Err-insert_at.ensures.refused.full;
   back = rw c.in-Err-insert_at.ensures.refused.back (refl, (_, c.in-Ok-f.ensures, refl));

@@ -40,11 +40,11 @@ use denote.Triple.Table.{framed}
 use denote.Triple.Walked.{Stays, stay_dropped, walk_of, Goes-dropped, Goes-spent_ref}
 use Rattle.litemap_store.specs.Pairs.{at, place, put, value_at}
 use Rattle.litemap.specs.Lends as lends
-use Rattle.litemap.specs.TryFault.{FailsAs, IfClosure, IsPlaced, Shown as IsShown}
+use Rattle.litemap.specs.TryFault.{FailsAs, IfClosure, IsInsertedAt, Shown as IsShown}
 use Rattle.litemap.proofs.Placing.{Found, Told, told}
 use Rattle.litemap.proofs.Walks.{Ends, alone, begins, weaker_rest}
 use Rattle.litemap.proofs.try_fault.TryFault.TheLaws.{the_row_laws as fault_laws}
-use Rattle.litemap.specs.contracts.try_fault.TryFault as fault
+use Rattle.litemap.specs.contracts.try_fault.TryFault as error
 use Rattle.litemap.specs.contracts.map.LiteMap as map
 use Rattle.litemap.specs.contracts.map.LiteMap.try_find_or_insert as finds
 use Rattle.litemap.specs.contracts.map.LiteMap.shared as shares
@@ -102,21 +102,21 @@ try_get_or_insert_spec 𝓤 𝓛 𝓜 𝓡 wired K V S E F LK LV LS LE LF o od e
     (and_then ! (get ! refl) (and_then ! (get ! refl) (and_then ! (get ! refl) (no_more !)))) (λ v.
     let PR : RattleType = type_at {n = 6} (finds.signature K V S E F o od eq eqd pe ped po pod sm smd st std kd g gd fd).result (κ₁, κs.1) in
     let X-laws = fault_laws KR VR ER (param_laws 0 K LK) (param_laws 1 V LV) (param_laws 3 E LE) in let u-laws = of_field u64-field u64-laws refl (copy_shared u64-field u64-copy) in
-    let P-laws = result_laws u64-field.row (fault.the_row KR VR ER) u-laws X-laws in
+    let P-laws = result_laws u64-field.row (error.the_row KR VR ER) u-laws X-laws in
     let P-place : PR.Denot → R.Denot → Type 0 = λ r n. IfOk r (λ i. i ≡ place o.cmp old.pairs key) in
     let P-within : PR.Denot → R.Denot → Type 0 = λ r n. IfOk r (λ i. i < length n.pairs) in
     let P-there : PR.Denot → R.Denot → Type 0 = λ r n. IfOk r (λ i. slice_get n.pairs i ≡ at o.cmp n.pairs key) in
     let P-present : PR.Denot → R.Denot → Type 0 = λ r n. IsSome (at o.cmp old.pairs key) → IsOk r × (n ≡ old) in
     let P-put : PR.Denot → R.Denot → Type 0 = λ r n. IsNone (at o.cmp old.pairs key) → OnOk r ((v' : V.Denot) × FnOnceReturnsAt g call key (Ok v') × (n.pairs ≡ put o.cmp old.pairs key v')) in
     let P-room : PR.Denot → R.Denot → Type 0 = λ r n. old.room ≤ n.room + 1 in
-    let P-faults : PR.Denot → R.Denot → Type 0 = λ r n. FailsAs g call key old.room r in
+    let P-errors : PR.Denot → R.Denot → Type 0 = λ r n. FailsAs g call key old.room r in
     let P-refused : PR.Denot → R.Denot → Type 0 = λ r n. OnErr r (n.pairs ≡ old.pairs) in
     let P-unmoved : PR.Denot → R.Denot → Type 0 = λ r n. IfClosure r (λ _. n ≡ old) in
     use1 𝓛 (later (some (λ (r : PR.Denot). ((‵ (flft κ₁ p.1) ⊛ toks) ⊛ ‵ (PR.own_val r (v ∷ []))) ⊛ some (λ (ws : R.Denot × (Unit {0} × (Unit {0} × Unit {0}))).
-    ‵ (fsep (fsep (fres δ (R.coded.code ws.0)) (fbor κ₁ (Borrowed (mem R) b o' δ))) (fsep ftrue (fsep ftrue ftrue))) ⊛ raw (fact 𝓤 (P-place r ws.0)) ⊛ raw (fact 𝓤 (P-within r ws.0)) ⊛ raw (fact 𝓤 (P-there r ws.0)) ⊛ raw (fact 𝓤 (P-present r ws.0)) ⊛ raw (fact 𝓤 (P-put r ws.0)) ⊛ raw (fact 𝓤 (P-room r ws.0)) ⊛ raw (fact 𝓤 (P-faults r ws.0)) ⊛ raw (fact 𝓤 (P-refused r ws.0)) ⊛ raw (fact 𝓤 (P-unmoved r ws.0)))))) (id⊢ 𝓤 _) $
+    ‵ (fsep (fsep (fres δ (R.coded.code ws.0)) (fbor κ₁ (Borrowed (mem R) b o' δ))) (fsep ftrue (fsep ftrue ftrue))) ⊛ raw (fact 𝓤 (P-place r ws.0)) ⊛ raw (fact 𝓤 (P-within r ws.0)) ⊛ raw (fact 𝓤 (P-there r ws.0)) ⊛ raw (fact 𝓤 (P-present r ws.0)) ⊛ raw (fact 𝓤 (P-put r ws.0)) ⊛ raw (fact 𝓤 (P-room r ws.0)) ⊛ raw (fact 𝓤 (P-errors r ws.0)) ⊛ raw (fact 𝓤 (P-refused r ws.0)) ⊛ raw (fact 𝓤 (P-unmoved r ws.0)))))) (id⊢ 𝓤 _) $
     await ! tt $ pick ! (λ r. split ! $ move ! (1 ∷ []) $ pick ! (λ ws. let n : R.Denot = ws.0 in split ! $ move ! (1 ∷ []) $
-    split ! $ heard ! (P-place r n) (λ h-place. split ! $ heard ! (P-within r n) (λ h-within. split ! $ heard ! (P-there r n) (λ h-there. split ! $ heard ! (P-present r n) (λ h-present. split ! $ heard ! (P-put r n) (λ h-put. split ! $ heard ! (P-room r n) (λ h-room. split ! $ heard ! (P-faults r n) (λ h-faults. split ! $ heard ! (P-refused r n) (λ h-refused. heard ! (P-unmoved r n) (λ h-unmoved.
-    let found : Found g call o.cmp key old n r = record { place = h-place; within = h-within; there = h-there; present = h-present; put = h-put; room = h-room; faults = h-faults; refused = h-refused; unmoved = h-unmoved } in
+    split ! $ heard ! (P-place r n) (λ h-place. split ! $ heard ! (P-within r n) (λ h-within. split ! $ heard ! (P-there r n) (λ h-there. split ! $ heard ! (P-present r n) (λ h-present. split ! $ heard ! (P-put r n) (λ h-put. split ! $ heard ! (P-room r n) (λ h-room. split ! $ heard ! (P-errors r n) (λ h-errors. split ! $ heard ! (P-refused r n) (λ h-refused. heard ! (P-unmoved r n) (λ h-unmoved.
+    let found : Found g call o.cmp key old n r = record { place = h-place; within = h-within; there = h-there; present = h-present; put = h-put; room = h-room; errors = h-errors; refused = h-refused; unmoved = h-unmoved } in
     fsplit ! $ fsplit ! $ move ! (1 ∷ []) $ drop ! $ move ! (1 ∷ []) $ drop ! $ move ! (1 ∷ []) $ split ! $ split ! $
     -- [the new token; the others; the result; the last value; what is kept; the way to end it]
     move ! (0 ∷ 5 ∷ []) $ use2 𝓛 (later (‵ (fdead κ₁) ⊛ ‵ (flft κ (Share.right q)))) (apply∗ 𝓤 (𝓛.A.lft κ₁ p.1) _) $ await ! tt $ split ! $
@@ -155,7 +155,7 @@ try_get_or_insert_spec 𝓤 𝓛 𝓜 𝓡 wired K V S E F LK LV LS LE LF o od e
     let r-laws : Laws (ShrRef (named 0) κ VR) = of_field (shr_ref_field (record { mir = named 0; lft = κ }) VR tt) (shr_ref_laws (record { mir = named 0; lft = κ }) VR tt) refl
     (copy_shared (shr_ref_field (record { mir = named 0; lft = κ }) VR tt) (shr_ref_copy (record { mir = named 0; lft = κ }) VR tt (param_laws 1 V LV).shr_laws)) in
     let pair : List RattleType = u64-field.row ∷ ShrRef (named 0) κ VR ∷ [] in
-    let F-laws = result_laws (tuple.TupleAt (tuple.tuple_name 2) pair) (fault.the_row KR VR ER) (tuple.laws_at (tuple.tuple_name 2) pair (u-laws, (r-laws, tt))) X-laws in
+    let F-laws = result_laws (tuple.TupleAt (tuple.tuple_name 2) pair) (error.the_row KR VR ER) (tuple.laws_at (tuple.tuple_name 2) pair (u-laws, (r-laws, tt))) X-laws in
     use1 𝓛 (later (some (λ (t : FR.Denot). ((‵ (flft κ q) ⊛ ‵ tK ⊛ ‵ tV ⊛ ‵ tS ⊛ ‵ tE ⊛ ‵ ftrue) ⊛ ‵ (FR.own_val t (v₃ ∷ []))) ⊛ some (λ (ws₃ : Lasts (shown.ended K V S E o od eq eqd pe ped po pod sm smd st std kd) κs₃ z₃.0.3).
     ‵ (lasts (shown.ended K V S E o od eq eqd pe ped po pod sm smd st std kd) κs₃ z₃.0.3 ws₃) ⊛ raw (fact 𝓤 (IsShown m.now.pairs r t)))))) (id⊢ 𝓤 _) $
     await ! tt $ pick ! (λ t. split ! $ move ! (1 ∷ []) $ pick ! (λ ws₃. split ! $ drop ! $ heard ! (IsShown m.now.pairs r t) (λ is_shown. split ! $ move ! (1 ∷ []) $
@@ -165,14 +165,14 @@ try_get_or_insert_spec 𝓤 𝓛 𝓜 𝓡 wired K V S E F LK LV LS LE LF o od e
     move ! (1 ∷ []) $ split ! $ move ! (1 ∷ []) $ split3 ! $ move ! (2 ∷ []) $ split3 ! $
     move ! (8 ∷ 9 ∷ []) $ join ! $ move ! (2 ∷ 0 ∷ []) $ join ! $ move ! (1 ∷ 0 ∷ []) $ join ! $ move ! (3 ∷ 0 ∷ []) $ join ! $ move ! (2 ∷ 0 ∷ []) $ join ! $ move ! (2 ∷ 0 ∷ []) $ join ! $
     -- [the tokens; nothing; the result; what it rests as]
-    let Placed : R.Denot → Type 0 = IsPlaced g call o.cmp key old t in
+    let Placed : R.Denot → Type 0 = IsInsertedAt g call o.cmp key old t in
     move ! (3 ∷ []) $ use1 𝓛 (‵ (Rests a.0 Placed)) (weaker_rest 𝓛 (lends.map_row KR VR (param 2 S) whole st.pairs st.room) γ (λ w. w ≡ n) Placed (λ w e. subst Placed (sym e) all.leaves)) $
     let T-place : Type 0 = IfOk t (λ x. x.0 ≡ place o.cmp old.pairs key) in
     let T-present : Type 0 = IsSome (at o.cmp old.pairs key) → IsOk t in
     let T-within : Type 0 = IsSome (at o.cmp old.pairs key) → IfOk t (λ x. x.0 < length old.pairs) in
     let T-value : Type 0 = IsSome (at o.cmp old.pairs key) → IfOk t (λ x. Some x.1.now ≡ value_at o.cmp old.pairs key) in
     let T-answered : Type 0 = IsNone (at o.cmp old.pairs key) → IfOk t (λ x. FnOnceReturnsAt g call key (Ok x.1.now)) in
-    let T-faults : Type 0 = FailsAs g call key old.room t in
-    use0 𝓛 (raw (fact 𝓤 T-faults)) (fact_i 𝓤 T-faults (emp 𝓤) all.faults) $ use0 𝓛 (raw (fact 𝓤 T-answered)) (fact_i 𝓤 T-answered (emp 𝓤) all.answered) $ join ! $ use0 𝓛 (raw (fact 𝓤 T-value)) (fact_i 𝓤 T-value (emp 𝓤) all.value) $ join ! $ use0 𝓛 (raw (fact 𝓤 T-within)) (fact_i 𝓤 T-within (emp 𝓤) all.within) $ join ! $ use0 𝓛 (raw (fact 𝓤 T-present)) (fact_i 𝓤 T-present (emp 𝓤) all.present) $ join ! $ use0 𝓛 (raw (fact 𝓤 T-place)) (fact_i 𝓤 T-place (emp 𝓤) all.place) $ join ! $ move ! (1 ∷ 0 ∷ []) $ join ! $
+    let T-errors : Type 0 = FailsAs g call key old.room t in
+    use0 𝓛 (raw (fact 𝓤 T-errors)) (fact_i 𝓤 T-errors (emp 𝓤) all.errors) $ use0 𝓛 (raw (fact 𝓤 T-answered)) (fact_i 𝓤 T-answered (emp 𝓤) all.answered) $ join ! $ use0 𝓛 (raw (fact 𝓤 T-value)) (fact_i 𝓤 T-value (emp 𝓤) all.value) $ join ! $ use0 𝓛 (raw (fact 𝓤 T-within)) (fact_i 𝓤 T-within (emp 𝓤) all.within) $ join ! $ use0 𝓛 (raw (fact 𝓤 T-present)) (fact_i 𝓤 T-present (emp 𝓤) all.present) $ join ! $ use0 𝓛 (raw (fact 𝓤 T-place)) (fact_i 𝓤 T-place (emp 𝓤) all.place) $ join ! $ move ! (1 ∷ 0 ∷ []) $ join ! $
     nothing ! $ nothing ! $ fjoin ! $ nothing ! $ fjoin ! $ nothing ! $ fjoin ! $ keep ! (2 ∷ 0 ∷ 4 ∷ 1 ∷ []) $ by ! (leaves 𝓛 En hs c y v₃ t (tt, (tt, (tt, tt))) (tt, (tt, (tt, tt))))
     ))))))))))))))))))))))))))))))))))

@@ -25,17 +25,17 @@ loop-index-preserved g c =
     let w = c.write.new.value in
     let rest = drop (i + 1) pairs in
     let here : drop i pairs ≡ p ∷ rest = drop_at pairs i p c.lm_pair_mut-value.ensures.pair in
-    let behind = drop-written pairs i w in
+    let after = drop-written pairs i w in
     let front = take-written pairs i p w c.lm_pair_mut-value.ensures.pair in
     let inv = c.loop-index.invariant in
     rw (g.met.S.StoreMut.writes store i w) (record {
       same_length = length-set_value pairs i w ∙ inv.same_length;
       room = g.met.S.StoreMut.keeps_room store i w ∙ inv.room;
-      callable = subst (CallableOnValues g.F.FnMut f') (sym behind) (CallableOnValues-rest g.F.FnMut f p (p.0, w) f' rest c.write.ensures (subst (CallableOnValues g.F.FnMut f) here inv.callable));
+      callable = subst (CallableOnValues g.F.FnMut f') (sym after) (CallableOnValues-rest g.F.FnMut f p (p.0, w) f' rest c.write.ensures (subst (CallableOnValues g.F.FnMut f) here inv.callable));
       so_far = λ M written. subst (Written g.F.FnMut c.args.f (g.S.Store.pairs c.args.store.now))
           (sym (append_assoc (take i pairs) ((p.0, w) ∷ []) M) ∙ ap (λ L. L ++ M) (sym front))
           (inv.so_far ((p.0, w) ∷ M) (subst (λ L. Written g.F.FnMut f L ((p.0, w) ∷ M)) (sym here)
-          (Written-more g.F.FnMut f p (p.0, w) f' rest M c.write.ensures (subst (λ L. Written g.F.FnMut f' L M) behind written))));
+          (Written-more g.F.FnMut f p (p.0, w) f' rest M c.write.ensures (subst (λ L. Written g.F.FnMut f' L M) after written))));
     })
 
 pub returns-clause-written : goal.returns-clause-written

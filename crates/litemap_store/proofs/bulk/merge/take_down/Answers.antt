@@ -1,5 +1,5 @@
 use Rattle.litemap_store.proofs.Names.{[], ◌+◌, ◌∙◌, ◌≡◌, ap, arith, IsGreaterEnd, length, length_push, Some, subst, sym}
-use Rattle.litemap_store.proofs.Last.Taken.{reverse_behind, Last-of_none}
+use Rattle.litemap_store.proofs.Last.Taken.{reverse_after, Last-of_none}
 use Rattle.litemap_store.proofs.bulk.merge.take_down.Goals as goal
 
 pub take_greatest-requires-clause-end : goal.take_greatest-requires-clause-end
@@ -14,7 +14,7 @@ loop-end-preserved g c =
     record {
       old_rises = taken.old_rises;
       new_rise = taken.new_rise;
-      goes_on = λ M h. rw (c.push_reserved.ensures.items, ← reverse_behind) (old.goes_on _ (taken.goes_behind M h));
+      goes_on = λ M h. rw (c.push_reserved.ensures.items, ← reverse_after) (old.goes_on _ (taken.goes_after M h));
       room = let k = old.room in omega arith;
       fits = let k = old.fits in let a = c.push_reserved.ensures.len in let b = c.push_reserved.ensures.capacity in omega arith;
       same = c.in-Some.ensures.cost.same ∙ old.same;

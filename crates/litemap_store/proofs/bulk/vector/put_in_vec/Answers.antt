@@ -6,8 +6,8 @@ use Rattle.litemap_store.proofs.bulk.vector.put_in_vec.Goals as goal
 pub returns-clause-last : goal.returns-clause-last
 returns-clause-last g c = on_ok_weaker c.merge_in_vec.result (λ d. Last-join_right g.K.Ord.cmp g.met.K.Ord.total _ _ _ _ c.in_ok-keep_rising.ensures.last d) c.merge_in_vec.ensures.last
 
-pub returns-clause-behind : goal.returns-clause-behind
-returns-clause-behind g c = λ h. absurd (not_above g.K.Ord.cmp _ _ _ c.requires (rw (c.keep_rising.ensures.same h.rising).1 at c.lies_below.ensures.below.1) c.if-lies_below.false h)
+pub returns-clause-all_above : goal.returns-clause-all_above
+returns-clause-all_above g c = λ h. absurd (not_above g.K.Ord.cmp _ _ _ c.requires (rw (c.keep_rising.ensures.same h.rising).1 at c.lies_below.ensures.below.1) c.if-lies_below.false h)
 
 pub returns-clause-succeeds : goal.returns-clause-succeeds
 returns-clause-succeeds g c = λ h r. absurd (not_above g.K.Ord.cmp _ _ _ c.requires (rw (c.keep_rising.ensures.same h.rising).1 at c.lies_below.ensures.below.1) c.if-lies_below.false h)
@@ -16,4 +16,4 @@ pub returns-then-lies_below-clause-last : goal.returns-then-lies_below-clause-la
 returns-then-lies_below-clause-last g c =
     let up = Last-rising g.K.Ord.cmp _ (c.lies_below.ensures.below.0 c.if-lies_below.true) in
     let all = Last-join_right g.K.Ord.cmp g.met.K.Ord.total _ _ _ _ c.in_ok-keep_rising.ensures.last up in
-    on_ok_weaker c.append_in_vec-then-lies_below.result (λ d. rw d all) c.append_in_vec-then-lies_below.ensures.behind
+    on_ok_weaker c.append_in_vec-then-lies_below.result (λ d. rw d all) c.append_in_vec-then-lies_below.ensures.appended

@@ -1,5 +1,5 @@
 use Rattle.litemap_store.proofs.Names.{[], ◌*◌, ◌++◌, ◌+◌, ◌∙◌, ◌∷◌, ◌≡◌, ◌≤◌, above, ap, arith, at, below, digits, digits-mono, eqb-true, key_or, length, length_push, Merge, nil_from_length, option_map, reverse, Rising, subst, suc, suc-mul, sym}
-use Rattle.litemap_store.proofs.Merging.Down.{Merge-down, left-down, length-behind, length-option, length-parts}
+use Rattle.litemap_store.proofs.Merging.Down.{Merge-down, left-down, length-after, length-option, length-parts}
 use Rattle.litemap_store.proofs.Merging.Joins.{Merge-none}
 use Rattle.litemap_store.proofs.Search.Splitting.{Rising-filter}
 use Rattle.litemap_store.proofs.Last.Taken.{Rising-left}
@@ -19,8 +19,8 @@ loop-other-preserved g c =
     let second = g.S.Store.pairs c.args.other in
     let all = g.S.Store.pairs c.loop-other.other in
     let split : all ≡ new ++ pair ∷ [] = c.take_last-key.ensures.pairs in
-    let side : length c.take_above.new.side.items ≡ suc (length (above cmp old pair.0)) + length c.loop-other.side.items = length-behind c.take_above.new.side.items ((key_or (at cmp old pair.0) pair.0, pair.1) ∷ above cmp old pair.0) c.loop-other.side.items step.side in
-    let driven_out : length c.take_above.new.driven_out.items ≤ length c.loop-other.driven_out.items + 1 = length-option c.take_above.new.driven_out.items (option_map (λ p. (pair.0, p.1)) (at cmp old pair.0)) c.loop-other.driven_out.items step.driven_out in
+    let side : length c.take_above.new.side.items ≡ suc (length (above cmp old pair.0)) + length c.loop-other.side.items = length-after c.take_above.new.side.items ((key_or (at cmp old pair.0) pair.0, pair.1) ∷ above cmp old pair.0) c.loop-other.side.items step.side in
+    let displaced : length c.take_above.new.displaced.items ≤ length c.loop-other.displaced.items + 1 = length-option c.take_above.new.displaced.items (option_map (λ p. (pair.0, p.1)) (at cmp old pair.0)) c.loop-other.displaced.items step.displaced in
     let parts : length (below cmp old pair.0) + length (above cmp old pair.0) ≤ length old = length-parts cmp o old pair.0 was.store_rises in
     let kept : length left_store ≡ length (below cmp old pair.0) = ap length step.store in
     let others : length all ≡ length new + 1 = ap length split ∙ length_push new pair in
@@ -32,7 +32,7 @@ loop-other-preserved g c =
       store_rises = rw step.store (Rising-filter cmp _ old was.store_rises);
       other_rises = Rising-left cmp new (pair ∷ []) (subst (Rising cmp) split was.other_rises);
       merged = Merge-down cmp o first second old all left_store new pair split was.other_rises step.store (reverse c.loop-other.side.items) (reverse c.take_above.new.side.items) was.store_rises step.side was.merged;
-      left_over = left-down cmp o first second old all left_store new pair split was.other_rises step.store (reverse c.loop-other.driven_out.items) (reverse c.take_above.new.driven_out.items) step.driven_out was.left_over;
+      left_over = left-down cmp o first second old all left_store new pair split was.other_rises step.store (reverse c.loop-other.displaced.items) (reverse c.take_above.new.displaced.items) step.displaced was.left_over;
       side_fits = let k = was.side_fits in let r = step.side_room in omega arith;
       side_len = let k = was.side_len in omega arith;
       driven_out_fits = let k = was.driven_out_fits in let r = step.driven_out_room in omega arith;

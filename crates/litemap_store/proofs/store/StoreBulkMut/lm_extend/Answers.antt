@@ -7,7 +7,7 @@ returns-clause-extended g c =
     let put = c.put_pairs.ensures in
     on_ok_weaker c.put_pairs.result (λ last. record {
       extended = record { given = c.in_ok-pairs.pairs.items; gives = c.in_ok-pairs.ensures.gathered; last = last };
-      counted = record { behind = put.behind; rising = λ _. put.cost };
+      counted = record { all_above = put.all_above; rising = λ _. put.cost };
     }) put.last
 
 pub returns-clause-refused_some : goal.returns-clause-refused_some

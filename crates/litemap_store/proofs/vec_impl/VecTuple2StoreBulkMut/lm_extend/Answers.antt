@@ -8,25 +8,25 @@ front : {X : Type 0} (old given : List X) (n : ℕ) {all : List X} → all ≡ o
 front old given n all len = rw (all, len) (take-append_seam old given)
 
 -- the old pairs, and after them those that were pushed
-parts : (g : Over) (c : goal.After-settle g) → let given = c.in_ok-gather_behind.ensures.gathered.0 in (take c.len-len.result c.gather_behind.new.items.items ≡ c.args.self.now.items) × (drop c.len-len.result c.gather_behind.new.items.items ≡ given)
+parts : (g : Over) (c : goal.After-settle g) → let given = c.in_ok-append_items.ensures.gathered.0 in (take c.len-len.result c.append_items.new.items.items ≡ c.args.self.now.items) × (drop c.len-len.result c.append_items.new.items.items ≡ given)
 parts g c =
     let old = c.args.self.now.items in
-    let given = c.in_ok-gather_behind.ensures.gathered.0 in
-    let all : c.gather_behind.new.items.items ≡ old ++ given = c.in_ok-gather_behind.ensures.gathered.1 in let len : c.len-len.result ≡ length old = search rules in
+    let given = c.in_ok-append_items.ensures.gathered.0 in
+    let all : c.append_items.new.items.items ≡ old ++ given = c.in_ok-append_items.ensures.gathered.1 in let len : c.len-len.result ≡ length old = search rules in
     (front old given c.len-len.result all len, rw (all, len) (drop-append_seam old given))
 
-counted : (g : Over) (c : goal.After-settle g) → IsCountedFor g.K.Ord.cmp c.args.self.now.items c.in_ok-gather_behind.ensures.gathered.0 c.args.count.now c.settle.new.count
+counted : (g : Over) (c : goal.After-settle g) → IsCountedFor g.K.Ord.cmp c.args.self.now.items c.in_ok-append_items.ensures.gathered.0 c.args.count.now c.settle.new.count
 counted g c =
     let part = parts g c in
     let len : c.len-len.result ≡ length c.args.self.now.items = search rules in
-    record { behind = rw (part.0, part.1) at c.settle.ensures.behind; rising = λ _. rw (part.1, len) at c.settle.ensures.cost }
+    record { all_above = rw (part.0, part.1) at c.settle.ensures.all_above; rising = λ _. rw (part.1, len) at c.settle.ensures.cost }
 
 pub returns-clause-extended : goal.returns-clause-extended
 returns-clause-extended g c =
-    let gathered = c.in_ok-gather_behind.ensures.gathered in
+    let gathered = c.in_ok-append_items.ensures.gathered in
     on_ok_weaker c.settle.result (λ last. record { extended = record { given = gathered.0; gives = gathered.2; last = rw gathered.1 at last }; counted = counted g c }) c.settle.ensures.last
 
 pub returns-clause-refused_some : goal.returns-clause-refused_some
 returns-clause-refused_some g c =
     let part = parts g c in
-    GivesSome-from_refused g.K.Ord.cmp g.I.IntoIterator.into_iter_gives g.I.IntoIter.Iterator.next_gives c.args.iter c.settle.result c.args.self.now.items _ 0 c.in_ok-gather_behind.ensures.gathered.2 (λ h _. (rw (part.0, part.1) at c.settle.ensures.succeeds) h)
+    GivesSome-from_refused g.K.Ord.cmp g.I.IntoIterator.into_iter_gives g.I.IntoIter.Iterator.next_gives c.args.iter c.settle.result c.args.self.now.items _ 0 c.in_ok-append_items.ensures.gathered.2 (λ h _. (rw (part.0, part.1) at c.settle.ensures.succeeds) h)

@@ -6,7 +6,7 @@ use Rattle.name_index.proofs.Placing.{of_indexed}
 use Rattle.name_index.proofs.index.NameIndex.entries_in.Goals as goal
 
 pub new-requires : goal.new-requires
-new-requires c = record { pairs = []; left = record { behind = c.self.inside.entries.now; spelled = begins_none c.self.inside.entries.now; len_is = refl }; rises = tt }
+new-requires c = record { pairs = []; left = record { after = c.self.inside.entries.now; spelled = begins_none c.self.inside.entries.now; len_is = refl }; rises = tt }
 
 pub returns-then-range-end : goal.returns-then-range-end
 returns-then-range-end c =

@@ -5,10 +5,10 @@ use Rattle.name_index.proofs.Indexing.{entry_is, no_index}
 use Rattle.name_index.proofs.Scanning.{value_at_split}
 use Rattle.name_index.proofs.indexed.IndexedNames.get_counted.Goals as goal
 
-pub returns-in_err-value-in-Ok-clause-fault : goal.returns-in_err-value-in-Ok-clause-fault
-returns-in_err-value-in-Ok-clause-fault c =
+pub returns-in_err-value-in-Ok-clause-error : goal.returns-in_err-value-in-Ok-clause-error
+returns-in_err-value-in-Ok-clause-error c =
     let l : c.in-Ok.index < c.self.inside.len = IfOk-at_ok (λ i. i < c.self.inside.len) c.in-Ok.is c.in_ok-index.ensures.within in
-    always_on_err c.from_residual-in_err-value-in-Ok.result (rw (← c.self.view_is) (no_index _ _ c.in-Ok.index c.self.invariant l c.in_err-value-in-Ok.ensures.fault))
+    always_on_err c.from_residual-in_err-value-in-Ok.result (rw (← c.self.view_is) (no_index _ _ c.in-Ok.index c.self.invariant l c.in_err-value-in-Ok.ensures.error))
 
 pub returns-in_ok-value-in-Ok-clause-value : goal.returns-in_ok-value-in-Ok-clause-value
 returns-in_ok-value-in-Ok-clause-value c =

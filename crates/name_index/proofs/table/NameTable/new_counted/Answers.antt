@@ -7,7 +7,7 @@ pub returns-clause-opens : goal.returns-clause-opens
 returns-clause-opens c =
     let s = c.in_ok-names.names in
     let o = parts c.args.bytes.now s.rest s c.in_ok-names.ensures.ok refl c.in_ok-check.ensures.ok in
-    record { same = refl; table = (o.these.pairs, rising_table _ _ _ o, tt); fault = tt }
+    record { same = refl; table = (o.these.pairs, rising_table _ _ _ o, tt); error = tt }
 
 pub returns-clause-cost : goal.returns-clause-cost
 returns-clause-cost c =

@@ -14,8 +14,8 @@ returns-in_err-key-clause-next c =
     let p = err_from_is_err_and c.from_residual.result c.from_residual.ensures.1 in
     rw (p.1, p.2, ← c.self.view_is) (pairs_from_next _ _ (key_fault _ _ c.if-self-eq0.false c.in_err-key.ensures.err), ((λ L. ((λ h. h), (λ h. h))), refl))
 
-pub returns-in_err-key-clause-fault : goal.returns-in_err-key-clause-fault
-returns-in_err-key-clause-fault c =
+pub returns-in_err-key-clause-error : goal.returns-in_err-key-clause-error
+returns-in_err-key-clause-error c =
     let p = err_from_is_err_and c.from_residual.result c.from_residual.ensures.1 in
     rw (p.1, p.2, ← c.self.view_is) (key_fault _ _ c.if-self-eq0.false c.in_err-key.ensures.err)
 
@@ -26,8 +26,8 @@ returns-in_err-value-clause-next c =
     rw (p.1, p.2, ← c.self.view_is)
     (pairs_from_next _ _ (value_fault _ _ c.in_ok-key.key.now _ _ c.if-self-eq0.false k.spelled k.place c.in_err-value.ensures.err), ((λ L. ((λ h. h), (λ h. h))), refl))
 
-pub returns-in_err-value-clause-fault : goal.returns-in_err-value-clause-fault
-returns-in_err-value-clause-fault c =
+pub returns-in_err-value-clause-error : goal.returns-in_err-value-clause-error
+returns-in_err-value-clause-error c =
     let p = err_from_is_err_and c.from_residual-in_err-value.result c.from_residual-in_err-value.ensures.1 in
     let k = c.in_ok-key.ensures.ok in
     rw (p.1, p.2, ← c.self.view_is) (value_fault _ _ c.in_ok-key.key.now _ _ c.if-self-eq0.false k.spelled k.place c.in_err-value.ensures.err)
@@ -35,12 +35,12 @@ returns-in_err-value-clause-fault c =
 pub returns : goal.returns
 returns c =
     let s : Remaining = record { rest = c.self.inside.cursor.rest; place = c.self.inside.cursor.place; left = c.self.inside.left } in
-    let n = is_next s c.in_ok-key.key.now c.in_ok-value.value.now c.in_ok-key.middle c.in_ok-value.behind c.in_ok-key.ensures.ok c.in_ok-value.ensures.ok c.if-self-eq0.false in
+    let n = is_next s c.in_ok-key.key.now c.in_ok-value.value.now c.in_ok-key.middle c.in_ok-value.after c.in_ok-key.ensures.ok c.in_ok-value.ensures.ok c.if-self-eq0.false in
     rw (← c.self.view_is) (record {
       next = ((λ L r. gives_one_more s _ _ n (c.in_ok-key.key, c.in_ok-value.value) L refl r), omega (arith, n.count));
       keeps_faults = λ f. (fault_later s _ _ n f, fault_earlier s _ _ n f);
       keeps_end = (all_later s _ _ n, all_earlier s _ _ n);
       leads = (_, n);
-      fault = tt;
+      error = tt;
       read = n;
     })

@@ -2,7 +2,7 @@ use Rattle.std.proofs.Common.{false, drop, take, take-add}
 use Rattle.std.proofs.lemmas.Bool.{ne_eqb}
 use Rattle.std.proofs.lemmas.List.{take_rest}
 use Rattle.names_core.specs.Writes.{Writes}
-use Rattle.names_core.proofs.Writes.{Writes-behind}
+use Rattle.names_core.proofs.Writes.{Writes-after}
 use Rattle.names_core.proofs.watch.WatchWrite.write_all.Goals as goal
 
 pub loop-done-preserved : goal.loop-done-preserved
@@ -15,4 +15,4 @@ loop-done-preserved g c =
       met = rw calm at c.in_ok-n.ensures.noted.0;
       nothing_after = λ unmet. rw unmet at c.in_ok-n.ensures.noted.1;
     } in
-    rw take-add (Writes-behind _ _ _ _ _ _ false c.loop-done.invariant wrote)
+    rw take-add (Writes-after _ _ _ _ _ _ false c.loop-done.invariant wrote)

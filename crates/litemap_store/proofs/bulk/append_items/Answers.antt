@@ -1,0 +1,7 @@
+use Rattle.litemap_store.proofs.Last.FirstGiven.{GivesSome-from_Yields}
+use Rattle.litemap_store.proofs.bulk.append_items.Goals as goal
+
+pub returns-then-is_err-clause-refused_some : goal.returns-then-is_err-clause-refused_some
+returns-then-is_err-clause-refused_some g c =
+    GivesSome-from_Yields g.I.IntoIterator.into_iter_gives g.I.IntoIter.Iterator.next_gives c.args.iter c.into_iter-item-iterator.result c.loop-item.item-iterator c.next.new.self
+    c.loop-item.yielded c.in-Some.item c.into_iter-item-iterator.ensures.into_iter_gives c.loop-item.yielded_by c.in-Some.ensures.steps
