@@ -1,28 +1,19 @@
 -- A merge in which a closure writes values of the other map.
---     Combined-more      one more pair;  keys-combined, length-combined      the keys stay;  combined-from      if the closure computes a function, the list is mapped by it
+--     keys-combined, length-combined      the keys stay;  combined-from      if the closure computes a function, the list is mapped by it
 --     callable_each      if it may be called on each key that a lookup finds, it may be called on each pair
 --     value_at-combined      what a query finds in the merge
-use Rattle.std.proofs.Common.{◌≡◌, List, [], ◌∷◌, Equal, Option, Some, None, option_map, length, arith, refl, ap, ◌∙◌, Ordering, is_eq, true, false}
-use Rattle.std.specs.Cmp.{IsTotalOrder, tied_itself}
-use Rattle.std.specs.Fn.{Shared}
-use Rattle.std.specs.Map.{keys_of}
-use Rattle.std.specs.Option.{option_map_or, option_or}
-use Rattle.litemap_store.specs.Merge.{Merge}
-use Rattle.litemap_store.specs.Pairs.{Rising, at, value_at}
+use Rattle.litemap.proofs.Common.{◌≡◌, List, [], ◌∷◌, Equal, Option, Some, None, option_map, length, arith, refl, ap, ◌∙◌}
+use Rattle.litemap.proofs.Common.{Ordering, is_eq, true, false, Bor, MutBor, IsTotalOrder, tied_itself, Shared, keys_of}
+use Rattle.litemap.proofs.Common.{option_map_or, option_or, Merge, Rising, at, value_at, at-rising, at-same, key_alike, key_same}
+use Rattle.litemap.proofs.Common.{value_at-merged, at_in}
 use Rattle.litemap_store.proofs.Lists.Membership.{from_each}
-use Rattle.litemap_store.proofs.Callers.MergeLookups.{at-rising, at-same, key_alike, key_same, value_at-merged}
-use Rattle.litemap_store.proofs.Search.Splitting.{at_in}
 use Rattle.litemap.specs.Combined.{CallableOnCommon, CallableOnEachOf, Combined, Combines, Settles, combined, found_with}
-use denote.Ref.{Bor, MutBor}
 
 -- one pair of them
 abbrev combined_pair : {K V : Type 0} → (K → K → Ordering) → (K → V → V → V) → List (K × V) → K × V → K × V
 combined_pair cmp combine L p = (p.0, option_map_or (λ here. combine p.0 here p.1) (value_at cmp L p.0) p.1)
 
 module _ {F K V : Type 0} (g : Shared F (Bor K × (Bor V × (MutBor V × Unit {0}))) (Unit {0} × (MutBor V × Unit {0}))) (f : F) (cmp : K → K → Ordering) (L : List (K × V)) where
-  pub Combined-more : (p : K × V) (w : V) (J M : List (K × V)) → Settles g f p.0 (value_at cmp L p.0) p.1 w → Combined g f cmp L J M → Combined g f cmp L (p ∷ J) ((p.0, w) ∷ M)
-  Combined-more p w J M s h = (w, M, s, h, refl)
-
   pub keys-combined : (J M : List (K × V)) → Combined g f cmp L J M → keys_of M ≡ keys_of J
   keys-combined [] M h = ap keys_of h
   keys-combined (p ∷ J) M (w, N, s, h, is) = ap keys_of is ∙ ap (λ ks. p.0 ∷ ks) (keys-combined J N h)

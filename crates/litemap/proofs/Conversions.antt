@@ -1,12 +1,8 @@
 -- If keys keep their order, what they become ascends.
-use Rattle.std.proofs.Common.{◌≡◌, List, [], ◌∷◌, sym, ◌∙◌, refl, subst, inl, inr}
-use Rattle.std.specs.Cmp.{IsTotalOrder}
-use Rattle.std.proofs.lemmas.Cmp.{alike_right}
-use Rattle.std.specs.declared.cmp.Ordering.{Ordering}
-use Rattle.std.specs.declared.cmp.Ordering.TheVariants.{Less}
+use Rattle.litemap.proofs.Common.{◌≡◌, List, [], ◌∷◌, sym, ◌∙◌, refl, subst, inl, inr, Ordering, Less, IsTotalOrder, alike_right}
+use Rattle.litemap.proofs.Common.{BelowAll, Rising}
 use Rattle.litemap_store.specs.Clones.{ClonesCompareEqual, PairsBecame}
 use Rattle.litemap_store.specs.Last.{In}
-use Rattle.litemap_store.specs.Pairs.{BelowAll, Rising}
 use Rattle.litemap.specs.Conversions.{KeysKeepOrder}
 
 module _ {K L V W : Type 0} (cmp : K → K → Ordering) (new_cmp : L → L → Ordering) (C : K → L → Type 0) (D : V → W → Type 0) where

@@ -1,17 +1,14 @@
 -- Lists that a test cuts in two.
 --     cut_before, cut_behind      the cut before a query and the one after it, from what a search found
 --     length-before, take-cut, drop-cut, first_cut, last_cut, between, sub_between, length-between      what is before a cut, after it, and between two
-use Rattle.std.proofs.Common.{◌≡◌, ℕ, zero, suc, ◌+◌, ◌-◌, ◌≤◌, Bool, true, false, not, ◌&&◌, cond, List, [], ◌∷◌, ◌++◌, length, filter, take, drop, slice_range, nat_le, Some, None, length-drop, length-take, refl, sym, ap, ◌∙◌, subst, arith}
-use Rattle.std.proofs.lemmas.Bool.{and_right, le-leb}
-use Rattle.std.specs.List.{AllByRecursion}
-use Rattle.std.specs.Ordering.{is_gt, is_le, is_lt}
-use Rattle.std.specs.declared.cmp.Ordering.{Ordering}
-use Rattle.std.specs.declared.cmp.Ordering.TheVariants.{Less, Equal, Greater}
-use Rattle.litemap_store.specs.Pairs.{above, below}
+use Rattle.litemap.proofs.Common.{◌≡◌, ℕ, zero, suc, ◌+◌, ◌-◌, ◌≤◌, Bool, true, false, not, ◌&&◌, cond, List, [], ◌∷◌, ◌++◌}
+use Rattle.litemap.proofs.Common.{length, filter, take, drop, slice_range, nat_le, Some, None, length-drop, length-take, refl}
+use Rattle.litemap.proofs.Common.{sym, ap, ◌∙◌, subst, arith, is_gt, is_le, is_lt, Ordering, Less, Equal, Greater, le-leb}
+use Rattle.litemap.proofs.Common.{AllByRecursion, above, below, greater_from_is_gt, less_from_is_lt}
+use Rattle.std.proofs.lemmas.Bool.{and_right}
 use Rattle.litemap_store.specs.Splits.{IsFoundAt, IsMissingAt}
 use Rattle.litemap_store.proofs.Last.KeepLast.{filter_none}
 use Rattle.litemap_store.proofs.Lists.Membership.{In-from_filter, each, from_each}
-use Rattle.litemap_store.proofs.Search.Splitting.{greater_from_is_gt, less_from_is_lt}
 use Rattle.litemap.specs.Within.{IsCut}
 
 -- ---- where a list is cut

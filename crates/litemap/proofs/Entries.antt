@@ -1,17 +1,13 @@
 -- From what is at the index of an entry to what its calls promise.
-use Rattle.std.proofs.Common.{◌≡◌, ℕ, zero, suc, ◌<◌, List, [], ◌∷◌, length, Some, slice_get, slice_set, true, false, refl, sym, ap, ◌∙◌, arith}
+use Rattle.litemap.proofs.Common.{◌≡◌, ℕ, zero, suc, ◌<◌, List, [], ◌∷◌, length, Some, slice_get, slice_set, refl, sym, ap, ◌∙◌}
+use Rattle.litemap.proofs.Common.{arith, remove, Ordering, slice_get_within, option_map, option_map_or, above, at, below, key_or}
+use Rattle.litemap.proofs.Common.{place, put, set_value, value_in, put_get, set_value-suc}
 use Rattle.std.proofs.Math.Seq.{set-append_seam}
-use Rattle.std.proofs.lemmas.Option.{slice_get_within}
 use Rattle.std.specs.Coded.{le_prop}
-use Rattle.std.specs.List.{remove}
-use Rattle.std.specs.Option.{option_map, option_map_or}
 use Rattle.std.specs.declared.cmp.Ord as ord
 use Rattle.std.specs.declared.cmp.PartialEq as eq
 use Rattle.std.specs.declared.cmp.PartialOrd as partial
-use Rattle.std.specs.declared.cmp.Ordering.{Ordering}
 use Rattle.litemap_store.specs.declared.store.Store as store
-use Rattle.litemap_store.specs.Pairs.{above, at, below, key_or, place, put, set_value, value_in}
-use Rattle.litemap_store.proofs.Lists.Seams.{put_get, set_value-suc}
 use Rattle.litemap.specs.declared.map.entry.OccupiedEntry.{OccupiedEntry}
 use Rattle.litemap.specs.Entries.{IsWritten, Occupied, map_with_value, still_within, with_entry_value}
 
@@ -51,10 +47,6 @@ pub value_in-set_value : {K V : Type 0} (L : List (K × V)) (i : ℕ) (v : V) �
 value_in-set_value [] i v h = absurd (omega arith)
 value_in-set_value (p ∷ L) zero v h = refl
 value_in-set_value (p ∷ L) (suc i) v h = ap (λ M. value_in M (suc i)) (set_value-suc p L i v) ∙ value_in-set_value L i v (omega arith)
-
--- if a test that fails is said to succeed, anything holds
-pub from_false : {P : Type 0} → false ≡ true → P
-from_false h = absurd (cc)
 
 module _ {K V S : Type 0} {g : ord.Ghosts K} {g' : eq.Ghosts K} {g'' : partial.Ghosts K} {s : store.Ghosts S K V} where
   -- two entries that differ only in a proof are one

@@ -1,5 +1,6 @@
 -- Lemmas of the proofs.
 pub mod Combining
+pub mod Common
 pub mod Conversions
 pub mod Entries
 pub mod Lists

@@ -4,31 +4,18 @@
 --     number_lists, signed_lists      for numbers as keys
 -- Each has: what is found in a map of a list, and that an ascending list is the map's; what is found after more pairs, and after
 -- more pairs that ascend.
-use Rattle.std.proofs.Common.{◌≡◌, ◌++◌, ℕ, ℤ, List, String, reverse}
-use Rattle.std.proofs.lemmas.Cmp.{int_cmp_total, nat_cmp_total}
-use Rattle.std.specs.Cmp.{IsTotalOrder}
-use Rattle.std.specs.Cmp.Lexicographic.{nat_list_cmp_total}
-use Rattle.std.specs.Option.{option_or}
-use Rattle.std.specs.Ordering.{int_cmp, nat_cmp}
-use Rattle.std.specs.String.{string_bytes, string_cmp, string_cmp_total}
-use Rattle.std.specs.declared.cmp.Ordering.{Ordering}
-use Rattle.std.specs.declared.cmp.Ordering.TheVariants.{Equal}
+use Rattle.litemap.proofs.Common.{◌≡◌, ◌++◌, ℕ, ℤ, List, String, reverse, int_cmp, nat_cmp, Ordering, int_cmp_total}
+use Rattle.litemap.proofs.Common.{nat_cmp_total, IsTotalOrder, option_or, string_bytes, string_cmp, Rising, value_at, key_alike}
+use Rattle.litemap.proofs.Common.{key_same}
+use Rattle.std.specs.String.{string_cmp_total}
 use Rattle.litemap_store.specs.Last.{Last}
-use Rattle.litemap_store.specs.Pairs.{Rising, value_at}
 use Rattle.litemap_store.specs.Queries.{by_string}
 use Rattle.litemap_store.proofs.Callers.LastLookups.{value_at-last, value_at-last_of_more, value_at-last_of_rising}
 use Rattle.litemap_store.proofs.Last.Pairs.{Last-rising, Last-unique}
-use Rattle.litemap_store.proofs.Callers.MergeLookups.{key_alike, key_same}
+use Rattle.litemap.proofs.Texts.{alike_bytes, same_bytes}
 
 list_rising : {K V : Type 0} (cmp : K → K → Ordering) → IsTotalOrder cmp → (J M : List (K × V)) → Last cmp J M → Rising cmp J → M ≡ J
 list_rising cmp o J M last r = Last-unique cmp o J M J last (Last-rising cmp J r)
-
-module _ {Z : Type 0} where
-  same_bytes : (t : List ℕ) (x y : String Z) → by_string x t ≡ Equal → by_string y t ≡ Equal → string_cmp x y ≡ Equal
-  same_bytes t x y = key_same nat_list_cmp_total t (string_bytes x) (string_bytes y)
-
-  alike_bytes : (t : List ℕ) (x y : String Z) → string_cmp x y ≡ Equal → by_string x t ≡ Equal → by_string y t ≡ Equal
-  alike_bytes t x y = key_alike nat_list_cmp_total t (string_bytes x) (string_bytes y)
 
 module _ {V Z : Type 0} where
   pub text_list_last : (J M : List (String Z × V)) (t : List ℕ) → Last string_cmp J M → value_at by_string M t ≡ value_at by_string (reverse J) t

@@ -1,9 +1,7 @@
 -- From what a call promises for each outcome.
-use Rattle.std.proofs.Common.{◌≡◌, ◌+◌, ◌≤◌, ℕ, true, false, List, [], ◌∷◌, arith, cond, is_some, length, length-append, Result, Ok, Err, OnOk, OnErr, IsSome, sym, subst}
-use Rattle.std.specs.Ordering.{is_gt, is_lt}
-use Rattle.std.specs.declared.cmp.Ordering.{Ordering}
-use Rattle.std.specs.declared.cmp.Ordering.TheVariants.{Less, Equal, Greater}
-use Rattle.litemap_store.specs.Pairs.{above, at, below, cut}
+use Rattle.litemap.proofs.Common.{◌≡◌, ◌+◌, ◌≤◌, ℕ, true, false, List, [], ◌∷◌, arith, cond, is_some, length, length-append}
+use Rattle.litemap.proofs.Common.{Result, Ok, Err, OnOk, OnErr, IsSome, sym, subst, is_gt, is_lt, Ordering, Less, Equal, Greater}
+use Rattle.litemap.proofs.Common.{above, at, below, cut}
 use Rattle.litemap_store.specs.Splits.{IsMissingAt}
 
 -- what holds after either outcome holds after the call

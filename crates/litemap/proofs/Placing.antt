@@ -1,11 +1,7 @@
 -- What `try_find_or_insert` leaves, together with the value that is then returned.
-use Rattle.std.proofs.Common.{◌≡◌, ℕ, ◌+◌, ◌<◌, ◌≤◌, Result, Ok, Err, Option, Some, IsNone, IsSome, IsOk, IfOk, OnOk, OnErr, length, slice_get, unwrap_or, option_map, refl, sym, ap, ◌∙◌, subst}
-use Rattle.std.specs.Fn.{FnOnceReturnsAt, Once}
-use Rattle.std.specs.declared.cmp.Ordering.{Ordering}
-use denote.Ref.{Bor}
-use Rattle.litemap_store.specs.Contents.{Contents}
-use Rattle.litemap_store.specs.Pairs.{at, place, put, value_at, value_in}
-use Rattle.litemap_store.proofs.Lists.Seams.{put_value}
+use Rattle.litemap.proofs.Common.{◌≡◌, ℕ, ◌+◌, ◌<◌, ◌≤◌, Result, Ok, Err, Option, Some, IsNone, IsSome, IsOk, IfOk, OnOk, OnErr}
+use Rattle.litemap.proofs.Common.{length, slice_get, unwrap_or, option_map, refl, sym, ap, ◌∙◌, subst, Ordering, Bor}
+use Rattle.litemap.proofs.Common.{FnOnceReturnsAt, Once, Contents, at, place, put, value_at, value_in, put_value}
 use Rattle.litemap.specs.declared.try_fault.TryFault.{TryFault}
 use Rattle.litemap.specs.declared.try_fault.TryFault.TheVariants.{Closure, NoRoom}
 use Rattle.litemap.specs.TryFault.{FailsAs, IfClosure, IsInsertedAt, Shown}

@@ -1,18 +1,11 @@
 -- What lookups find in the pairs that a closure keeps.
 --     length-kept      no more pairs than before;  value_at-kept_yes, value_at-kept_no      if the closure returns true, or false, for the pair with the key
-use Rattle.std.proofs.Common.{◌≡◌, ◌≤◌, ◌∙◌, Bool, true, false, List, [], ◌∷◌, Option, None, Some, length, option_map, refl, sym, ap, subst, arith}
-use Rattle.std.specs.Cmp.{IsTotalOrder}
-use Rattle.std.specs.List.{items_where_true}
+use Rattle.litemap.proofs.Common.{◌≡◌, ◌≤◌, ◌∙◌, Bool, true, false, List, [], ◌∷◌, Option, None, Some, length, option_map, refl}
+use Rattle.litemap.proofs.Common.{sym, ap, subst, arith, is_eq, Ordering, Equal, Greater, Bor, IsTotalOrder, items_where_true}
+use Rattle.litemap.proofs.Common.{BelowAll, Rising, at, value_at, equal_from_is_eq, less_back, Mut}
 use Rattle.std.specs.List.Retain.{ReturnsInTurn}
-use Rattle.std.specs.Ordering.{is_eq}
-use Rattle.std.specs.declared.cmp.Ordering.{Ordering}
-use Rattle.std.specs.declared.cmp.Ordering.TheVariants.{Equal, Greater}
-use Rattle.litemap_store.specs.Pairs.{BelowAll, Rising, at, value_at}
 use Rattle.litemap_store.specs.Retain.{CalledOnPair, Kept}
-use Rattle.litemap_store.proofs.Search.Splitting.{equal_from_is_eq, less_back}
 use Rattle.litemap.specs.Retained.{ReturnsAt}
-use denote.Param.Members.{Mut}
-use denote.Ref.{Bor}
 
 length-picked : {X : Type 0} (bs : List Bool) (L : List X) → length (items_where_true bs L) ≤ length L
 length-picked [] L = omega arith

@@ -2,22 +2,15 @@
 --     list_all-past      whether each is found, after the first one
 --     at_end, at_equal, at_greater      what a key finds, and the pairs past it, by the first pair;  Kept-beside      what a closure keeps that walks the other list
 --     value_at-kept      what a lookup finds in it;  found_in_each      what it finds if each key is in the other list
-use Rattle.std.proofs.Common.{◌≡◌, IsSome, Bool, true, false, cond, List, [], ◌∷◌, length, filter, is_some, slice_get, Option, None, Some, option_map, refl, sym, ap, ◌∙◌, subst, arith}
+use Rattle.litemap.proofs.Common.{◌≡◌, IsSome, Bool, true, false, cond, List, [], ◌∷◌, length, filter, is_some, slice_get, Option}
+use Rattle.litemap.proofs.Common.{None, Some, option_map, refl, sym, ap, ◌∙◌, subst, arith, is_eq, is_gt, Ordering, Less, Equal}
+use Rattle.litemap.proofs.Common.{Greater, Bor, IsTotalOrder, AllByRecursion, items_where_true, list_all, TakesFirst, deref_pair}
+use Rattle.litemap.proofs.Common.{BelowAll, Rising, above, at, value_at, at-filter_gone, at-filter_kept, Rising-filter, above_all}
+use Rattle.litemap.proofs.Common.{at_past, each-weaker, equal_from_is_eq, greater_back, less_back, Called, Mut}
 use Rattle.std.proofs.lemmas.Bool.{and_parts}
-use Rattle.std.specs.Cmp.{IsTotalOrder}
-use Rattle.std.specs.List.{AllByRecursion, items_where_true, list_all}
 use Rattle.std.specs.List.Retain.{ReturnsInTurn}
-use Rattle.std.specs.Map.Iter.{TakesFirst, deref_pair}
-use Rattle.std.specs.Ordering.{is_eq, is_gt}
-use Rattle.std.specs.declared.cmp.Ordering.{Ordering}
-use Rattle.std.specs.declared.cmp.Ordering.TheVariants.{Less, Equal, Greater}
-use Rattle.litemap_store.specs.Pairs.{BelowAll, Rising, above, at, value_at}
 use Rattle.litemap_store.specs.Retain.{CalledOnPair, Kept}
-use Rattle.litemap_store.proofs.Callers.Lookups.{at-filter_gone, at-filter_kept}
-use Rattle.litemap_store.proofs.Search.Splitting.{Rising-filter, above_all, at_past, each-weaker, equal_from_is_eq, greater_back, less_back}
 use Rattle.litemap_store.proofs.Callers.Tallies.{value_at_equal}
-use denote.Param.Members.{Called, Mut}
-use denote.Ref.{Bor}
 
 module _ {K : Type 0} {cmp : K → K → Ordering} (o : IsTotalOrder cmp) {W : Type 0} where
   -- past a key, a greater one finds what it found before

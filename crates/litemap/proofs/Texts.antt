@@ -6,24 +6,17 @@
 --     key_is_text      a `String` key finds what its string finds;  by_bytes_total      the law of the order of `&str` and `&[u8]` keys, for counts
 --     text_combined      what `extend_with` leaves, looked up by strings
 --     text_clones      the condition of `try_clone` and of the conversions, for `String` keys
-use Rattle.std.proofs.Common.{◌≡◌, ◌≢◌, ◌∷◌, ◌++◌, List, Some, None, Ok, IsSome, String, Vec, Bor, ℕ, cond, is_some, slice_get, slice_set, refl}
+use Rattle.litemap.proofs.Common.{◌≡◌, ◌≢◌, ◌∷◌, ◌++◌, List, Some, None, Ok, IsSome, String, Vec, Bor, ℕ, cond, is_some}
+use Rattle.litemap.proofs.Common.{slice_get, slice_set, refl, nat_cmp, Ordering, Equal, IsTotalOrder, slice_cmp}
+use Rattle.litemap.proofs.Common.{nat_list_cmp_total, on_texts, option_or, string_bytes, string_cmp, Merge, left, above, at}
+use Rattle.litemap.proofs.Common.{below, cut, index_of, key_or, place, put, value_at, write, value_at-cut, value_at-cut_other}
+use Rattle.litemap.proofs.Common.{value_at-put, value_at-put_other, value_at-write, value_at-write_apart, value_in-set}
+use Rattle.litemap.proofs.Common.{index_of-put, value_at-between_apart, value_at-cut_apart, value_at-set, value_at-written_apart}
+use Rattle.litemap.proofs.Common.{key_alike, key_same, value_at-left, value_at-merged, key_or_equal}
 use Rattle.std.proofs.lemmas.Cmp.{tied_itself}
 use Rattle.std.proofs.lemmas.Map.Lookups.{exact_bytes}
-use Rattle.std.specs.Cmp.{IsTotalOrder}
-use Rattle.std.specs.Cmp.Lexicographic.{slice_cmp, nat_list_cmp_total, on_texts}
-use Rattle.std.specs.Option.{option_or}
-use Rattle.std.specs.Ordering.{nat_cmp}
-use Rattle.std.specs.String.{string_bytes, string_cmp, string_cmp_total}
-use Rattle.std.specs.declared.cmp.Ordering.{Ordering}
-use Rattle.std.specs.declared.cmp.Ordering.TheVariants.{Equal}
-use Rattle.litemap_store.specs.Merge.{Merge, left}
-use Rattle.litemap_store.specs.Pairs.{above, at, below, cut, index_of, key_or, place, put, value_at, write}
+use Rattle.std.specs.String.{string_cmp_total}
 use Rattle.litemap_store.specs.Queries.{by_slice, by_string}
-use Rattle.litemap_store.proofs.Callers.Lookups.{value_at-cut, value_at-cut_other, value_at-put, value_at-put_other, value_at-write, value_at-write_apart, value_in-set}
-use Rattle.litemap_store.proofs.Callers.Lookups.{index_of-put, value_at-between_apart, value_at-cut_apart, value_at-set}
-use Rattle.litemap_store.proofs.Callers.Lookups.{value_at-written_apart}
-use Rattle.litemap_store.proofs.Callers.MergeLookups.{key_alike, key_same, value_at-left, value_at-merged}
-use Rattle.litemap_store.proofs.Search.Splitting.{key_or_equal}
 use Rattle.litemap.specs.ByBytes.{by_bytes}
 use Rattle.litemap.specs.Combined.{combined, found_with}
 use Rattle.litemap.proofs.Combining.{value_at-combined}
@@ -37,36 +30,25 @@ differs t u n e = n (exact_bytes u t e)
 
 -- ---- keys that are seen as bytes, looked up by bytes
 module _ {K : Type 0} (bytes : K → List ℕ) where
-  abbrev cmp : K → K → Ordering
-  cmp a b = slice_cmp nat_cmp (bytes a) (bytes b)
-
   abbrev by : K → List ℕ → Ordering
   by key text = slice_cmp nat_cmp (bytes key) text
 
   turned : (t u : List ℕ) (x : K) → by x u ≡ Equal → by x t ≡ slice_cmp nat_cmp u t
   turned t u x e = nat_list_cmp_total.congr (bytes x) u t e
 
-  put_others : {V : Type 0} (L : List (K × V)) (k : K) (u : List ℕ) (v : V) → u ≢ bytes k → value_at by (put cmp L k v) u ≡ value_at by L u
-  put_others L k u v n =
-      value_at-between_apart cmp k by u (slice_cmp nat_cmp u (bytes k)) (differs (bytes k) u n) (turned (bytes k) u) L (key_or (at cmp L k) k, v)
-      (key_or_equal (on_texts bytes) k L)
-
   write_others : {V : Type 0} (L : List (K × V)) (t u : List ℕ) (v : V) → u ≢ t → value_at by (write by L t v) u ≡ value_at by L u
   write_others L t u v n = value_at-write_apart by t by u (slice_cmp nat_cmp u t) (differs t u n) (turned t u) L v
 
-  set_others : {V : Type 0} (L : List (K × V)) (i : ℕ) (u : List ℕ) (p : K × V) (v : V) → slice_get L i ≡ Some p → bytes p.0 ≢ u → value_at by (slice_set L i (p.0, v)) u ≡ value_at by L u
-  set_others L i u p v is n = value_at-set by u L i p v is (λ e. n (exact_bytes (bytes p.0) u e))
-
-  merged : {V : Type 0} (A B M : List (K × V)) (t : List ℕ) → Merge cmp A B M → value_at by M t ≡ option_or (value_at by B t) (value_at by A t)
-  merged A B M t merge =
-      value_at-merged cmp (on_texts bytes) by t (λ x y. key_same nat_list_cmp_total t (bytes x) (bytes y)) (λ x y. key_alike nat_list_cmp_total t (bytes x) (bytes y)) A B M merge
-
-  left_over : {V : Type 0} (A B : List (K × V)) (t : List ℕ) → value_at by (left cmp A B) t ≡ cond (is_some (at by B t)) (value_at by A t) None
-  left_over A B t =
-      value_at-left cmp (on_texts bytes) by t (λ x y. key_same nat_list_cmp_total t (bytes x) (bytes y)) (λ x y. key_alike nat_list_cmp_total t (bytes x) (bytes y)) A B
-
   cut_others : {V : Type 0} (L : List (K × V)) (t u : List ℕ) → u ≢ t → value_at by (cut by L t) u ≡ value_at by L u
   cut_others L t u n = value_at-cut_apart by t by u (slice_cmp nat_cmp u t) (differs t u n) (turned t u) L
+
+-- ---- strings that a string finds
+module _ {Z : Type 0} (t : List ℕ) (x y : String Z) where
+  pub same_bytes : by_string x t ≡ Equal → by_string y t ≡ Equal → string_cmp x y ≡ Equal
+  same_bytes = key_same nat_list_cmp_total t (string_bytes x) (string_bytes y)
+
+  pub alike_bytes : string_cmp x y ≡ Equal → by_string x t ≡ Equal → by_string y t ≡ Equal
+  alike_bytes = key_alike nat_list_cmp_total t (string_bytes x) (string_bytes y)
 
 module _ {V Z : Type 0} where
   -- ---- `String`, looked up by keys
@@ -106,7 +88,9 @@ module _ {V Z : Type 0} where
   text_put_found L k v = value_at-put string_cmp_total k L v
 
   pub text_put_others : (L : List (String Z × V)) (k : String Z) (u : List ℕ) (v : V) → u ≢ string_bytes k → value_at by_string (put string_cmp L k v) u ≡ value_at by_string L u
-  text_put_others L k u v n = put_others (λ k. string_bytes k) L k u v n
+  text_put_others L k u v n =
+      value_at-between_apart string_cmp k by_string u (slice_cmp nat_cmp u (string_bytes k)) (differs (string_bytes k) u n) (turned (λ x. string_bytes x) (string_bytes k) u) L
+      (key_or (at string_cmp L k) k, v) (key_or_equal string_cmp_total k L)
 
   pub text_write_found : (L : List (String Z × V)) (t : List ℕ) (v : V) → IsSome (at by_string L t) → value_at by_string (write by_string L t v) t ≡ Some v
   text_write_found L t v there = value_at-write by_string t L v there
@@ -117,21 +101,20 @@ module _ {V Z : Type 0} where
   -- what a write at an index leaves if a pair is there
   pub text_set_others : (L : List (String Z × V)) (i : ℕ) (u : List ℕ) (p : String Z × V) (v : V) → slice_get L i ≡ Some p → string_bytes p.0 ≢ u
       → value_at by_string (slice_set L i (p.0, v)) u ≡ value_at by_string L u
-  text_set_others L i u p v is n = set_others (λ k. string_bytes k) L i u p v is n
+  text_set_others L i u p v is n = value_at-set by_string u L i p v is (λ e. n (exact_bytes (string_bytes p.0) u e))
 
   pub text_put_place : (L : List (String Z × V)) (k : String Z) (v : V) → index_of by_string (put string_cmp L k v) (string_bytes k) ≡ Ok (place by_string L (string_bytes k))
   text_put_place L k v = index_of-put string_cmp_total k L v
 
   pub text_merged : (A B M : List (String Z × V)) (t : List ℕ) → Merge string_cmp A B M → value_at by_string M t ≡ option_or (value_at by_string B t) (value_at by_string A t)
-  text_merged A B M t merge = merged (λ k. string_bytes k) A B M t merge
+  text_merged A B M t merge = value_at-merged string_cmp string_cmp_total by_string t (same_bytes t) (alike_bytes t) A B M merge
 
   pub text_left : (A B : List (String Z × V)) (t : List ℕ) → value_at by_string (left string_cmp A B) t ≡ cond (is_some (at by_string B t)) (value_at by_string A t) None
-  text_left A B t = left_over (λ k. string_bytes k) A B t
+  text_left A B t = value_at-left string_cmp string_cmp_total by_string t (same_bytes t) (alike_bytes t) A B
 
   pub text_combined : (combine : String Z → V → V → V) (A B M : List (String Z × V)) (t : List ℕ) → Merge string_cmp A (combined string_cmp combine A B) M
       → value_at by_string M t ≡ found_with combine (value_at by_string A t) (at by_string B t)
-  text_combined combine A B M t merge =
-      value_at-combined string_cmp string_cmp_total by_string t (λ x y. key_same nat_list_cmp_total t (string_bytes x) (string_bytes y)) (λ x y. key_alike nat_list_cmp_total t (string_bytes x) (string_bytes y)) combine A B M merge
+  text_combined combine A B M t merge = value_at-combined string_cmp string_cmp_total by_string t (same_bytes t) (alike_bytes t) combine A B M merge
 
   pub text_cut_gone : (L : List (String Z × V)) (t : List ℕ) → value_at by_string (cut by_string L t) t ≡ None
   text_cut_gone L t = value_at-cut by_string t L

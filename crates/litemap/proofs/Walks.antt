@@ -1,5 +1,5 @@
 -- What the proof by hand of `try_get_or_insert` needs of values, lifetimes and borrows.
-use Rattle.std.proofs.Common.{◌≡◌, ℕ, List, [], ◌∷◌, refl, T}
+use Rattle.litemap.proofs.Common.{◌≡◌, ℕ, List, [], ◌∷◌, refl, T}
 use Rattle.std.specs.Prelude.{⊤}
 use mathlib.Core.Option.{none}
 use mir.Syntax.{Ty}

@@ -1,17 +1,11 @@
 -- What a closure writes into a list of pairs.
---     Written-none, Written-more      from one pair to the next;  CallableOnValues-first, -rest      what may be called on
+--     written_on, written_all      from one pair to the next, and after the last;  CallableOnValues-rest      what may be called on after one
 --     keys-written, Rising-written, map-written      what is left has the same keys, ascends, and is mapped
-use Rattle.std.proofs.Common.{◌≡◌, ℕ, ◌+◌, List, [], ◌∷◌, ◌++◌, map, take, drop, drop-set-lt, slice_get, slice_set, Some, None, refl, ap, ◌∙◌, subst, arith}
-use Rattle.std.proofs.lemmas.List.{take_more_set}
-use Rattle.std.proofs.lemmas.Option.{slice_get_within}
-use Rattle.std.specs.Map.{keys_of}
-use Rattle.std.specs.Option.{option_map_or}
-use Rattle.std.specs.declared.cmp.Ordering.{Ordering}
-use Rattle.std.specs.declared.cmp.Ordering.TheVariants.{Less}
-use Rattle.litemap_store.specs.Pairs.{BelowAll, Rising, set_value}
-use Rattle.litemap.specs.Written.{CallableOnValues, TakesValue, Writes, WritesPair, Written}
-use denote.Param.Members.{Mut}
-use denote.Ref.{Bor, MutBor}
+use Rattle.litemap.proofs.Common.{◌≡◌, ℕ, ◌+◌, List, [], ◌∷◌, ◌++◌, map, take, drop, drop-set-lt, slice_get, slice_set, Some}
+use Rattle.litemap.proofs.Common.{None, refl, ap, ◌∙◌, subst, arith, Ordering, Less, Bor, MutBor, ◌≤◌, length, sym, append_assoc}
+use Rattle.litemap.proofs.Common.{append-nil, drop_all, take_all, take_more_set, slice_get_within, keys_of, option_map_or}
+use Rattle.litemap.proofs.Common.{BelowAll, Rising, set_value, drop_at, Mut}
+use Rattle.litemap.specs.Written.{CallableOnValues, Writes, WritesPair, Written}
 
 module _ {K V : Type 0} where
   -- with another value at index i: the pairs after it, and those up to it
@@ -21,14 +15,22 @@ module _ {K V : Type 0} where
   pub take-written : (L : List (K × V)) (i : ℕ) (p : K × V) (v : V) → slice_get L i ≡ Some p → take (i + 1) (set_value L i v) ≡ take i L ++ (p.0, v) ∷ []
   take-written L i p v e = rw e (take_more_set L i (p.0, v) (slice_get_within L i p e))
 
+  -- what is written so far of a list, with one more pair, and with all of them
+  module _ (Done : List (K × V) → Type 0) (L : List (K × V)) (i : ℕ) where
+    pub written_on : (Rest Later : List (K × V) → List (K × V) → Type 0) (p : K × V) (w : V) → slice_get L i ≡ Some p
+        → ((M : List (K × V)) → Later (drop (i + 1) L) M → Rest (p ∷ drop (i + 1) L) ((p.0, w) ∷ M))
+        → ((M : List (K × V)) → Rest (drop i L) M → Done (take i L ++ M))
+        → (M : List (K × V)) → Later (drop (i + 1) (set_value L i w)) M → Done (take (i + 1) (set_value L i w) ++ M)
+    written_on Rest Later p w there more so_far M later =
+        subst Done (sym (append_assoc (take i L) ((p.0, w) ∷ []) M) ∙ ap (λ N. N ++ M) (sym (take-written L i p w there)))
+        (so_far ((p.0, w) ∷ M) (subst (λ N. Rest N ((p.0, w) ∷ M)) (sym (drop_at L i p there)) (more M (subst (λ N. Later N M) (drop-written L i w) later))))
+
+    pub written_all : (Rest : List (K × V) → List (K × V) → Type 0) → length L ≤ i → Rest [] []
+        → ((M : List (K × V)) → Rest (drop i L) M → Done (take i L ++ M)) → Done L
+    written_all Rest h none so_far = subst Done (append-nil (take i L) ∙ take_all i L h) (so_far [] (subst (λ N. Rest N []) (sym (drop_all i L h)) none))
+
 module _ {F K V : Type 0} (g : Mut F (Bor K × (MutBor V × Unit {0})) (Unit {0} × (MutBor V × Unit {0}))) where
-  pub Written-more : (f : F) (p q : K × V) (f' : F) (L M : List (K × V)) → WritesPair g f p q f' → Written g f' L M → Written g f (p ∷ L) (q ∷ M)
-  Written-more f p q f' L M w h = (q, f', M, w, h, refl)
-
-  -- f may be called on the first pair, and then on the others
-  pub CallableOnValues-first : (f : F) (p : K × V) (L : List (K × V)) → CallableOnValues g f (p ∷ L) → TakesValue g f p
-  CallableOnValues-first f p L c = c.at [] L f p refl refl
-
+  -- f may be called on the pairs after the first one
   pub CallableOnValues-rest : (f : F) (p q : K × V) (f' : F) (L : List (K × V)) → WritesPair g f p q f' → CallableOnValues g f (p ∷ L) → CallableOnValues g f' L
   CallableOnValues-rest f p q f' L w c = record { at = λ before after s r is folds. c.at (p ∷ before) after s r (ap (λ N. p ∷ N) is) (f', (q, w), folds) }
 

@@ -85,13 +85,10 @@ impl<K: Ord + Hash, V: Hash, S: Store<K, V>> Hash for LiteMap<K, V, S> {
     }
 }
 
-fn is_equal_pair<K: PartialEq, V: PartialEq>(a: &K, x: &V, b: &K, y: &V) -> bool
-    ensures { result ≡ (K.eq a.now b.now && V.eq x.now y.now) }
-{
-    a.eq(b) && x.eq(y)
-}
-
-fn are_equal<K: PartialEq, V: PartialEq, S: Store<K, V>>(left: &S, right: &S) -> bool
+fn are_equal<'a, K: PartialEq + 'a, V: PartialEq + 'a, S: Store<K, V>>(
+    left: &'a S,
+    right: &'a S,
+) -> bool
     ensures { result ≡ equal_pairs K.eq V.eq (S.pairs left.now) (S.pairs right.now) }
 {
     let len = left.lm_len();
@@ -99,9 +96,9 @@ fn are_equal<K: PartialEq, V: PartialEq, S: Store<K, V>>(left: &S, right: &S) ->
         return false;
     }
     for index in 0..len {
-        let (a, x) = left.lm_get(index).unwrap();
-        let (b, y) = right.lm_get(index).unwrap();
-        if !is_equal_pair(a, x, b, y) {
+        let pair = left.lm_get(index).unwrap();
+        let other = right.lm_get(index).unwrap();
+        if pair != other {
             return false;
         }
     }

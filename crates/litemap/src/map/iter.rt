@@ -9,6 +9,7 @@ use crate::LiteMap;
 pub use keys_values::{KeysIterWrap, ValuesIterWrap};
 use litemap_store::store::{StoreIntoIterator, StoreIterable};
 pub use range::RangeIter;
+use std::marker::PhantomData;
 
 impl<'a, K: Ord + 'a, V: 'a, S: StoreIterable<'a, K, V>> LiteMap<K, V, S> {
     /// Returns an iterator over all pairs, in the order of their keys.
@@ -38,14 +39,20 @@ impl<'a, K: Ord + 'a, V: 'a, S: StoreIterable<'a, K, V>> LiteMap<K, V, S> {
     pub fn keys(&'a self) -> KeysIterWrap<'a, K, V, S::KeyValueIter>
         ensures { S.KeyValueIter.rest result ≡ self.now.pairs }
     {
-        KeysIterWrap::over(self.iter())
+        KeysIterWrap {
+            iter: self.iter(),
+            marker: PhantomData,
+        }
     }
 
     /// Returns an iterator over all values, in the order of their keys.
     pub fn values(&'a self) -> ValuesIterWrap<'a, K, V, S::KeyValueIter>
         ensures { S.KeyValueIter.rest result ≡ self.now.pairs }
     {
-        ValuesIterWrap::over(self.iter())
+        ValuesIterWrap {
+            iter: self.iter(),
+            marker: PhantomData,
+        }
     }
 }
 

@@ -12,25 +12,14 @@ use std::marker::{Model, PhantomData};
 /// An iterator over keys. A contract sees the iterator over their pairs.
 #[derive(Debug, Drop)]
 pub struct KeysIterWrap<'a, K, V, I> {
-    iter: I,
-    marker: PhantomData<(&'a K, &'a V)>,
+    pub(super) iter: I,
+    pub(super) marker: PhantomData<(&'a K, &'a V)>,
 }
 
 impl<'a, K, V, I> Model for KeysIterWrap<'a, K, V, I> {
     ghost Value = { I };
 
     ghost view = { λ w. w.iter };
-}
-
-impl<'a, K, V, I> KeysIterWrap<'a, K, V, I> {
-    pub(super) fn over(iter: I) -> Self
-        ensures { result ≡ iter }
-    {
-        KeysIterWrap {
-            iter,
-            marker: PhantomData,
-        }
-    }
 }
 
 impl<'a, K: 'a, V: 'a, I: PairIter<'a, K, V>> Iterator for KeysIterWrap<'a, K, V, I> {
@@ -72,25 +61,14 @@ impl<'a, K: 'a, V: 'a, I: PairIter<'a, K, V>> FusedIterator for KeysIterWrap<'a,
 /// An iterator over values. A contract sees the iterator over their pairs.
 #[derive(Debug, Drop)]
 pub struct ValuesIterWrap<'a, K, V, I> {
-    iter: I,
-    marker: PhantomData<(&'a K, &'a V)>,
+    pub(super) iter: I,
+    pub(super) marker: PhantomData<(&'a K, &'a V)>,
 }
 
 impl<'a, K, V, I> Model for ValuesIterWrap<'a, K, V, I> {
     ghost Value = { I };
 
     ghost view = { λ w. w.iter };
-}
-
-impl<'a, K, V, I> ValuesIterWrap<'a, K, V, I> {
-    pub(super) fn over(iter: I) -> Self
-        ensures { result ≡ iter }
-    {
-        ValuesIterWrap {
-            iter,
-            marker: PhantomData,
-        }
-    }
 }
 
 impl<'a, K: 'a, V: 'a, I: PairIter<'a, K, V>> Iterator for ValuesIterWrap<'a, K, V, I> {

@@ -1,6 +1,4 @@
-use Rattle.std.proofs.Common.{sym, ap, ◌∙◌}
-use Rattle.std.specs.Option.{option_map}
-use Rattle.litemap_store.proofs.Lists.Seams.{found_value, found_within}
+use Rattle.litemap.proofs.Common.{sym, ap, ◌∙◌, option_map, found_value, found_within}
 use Rattle.litemap.proofs.const_family.LiteMap+K+V+SliceStore+K+V.const_find.Goals as goal
 
 pub returns-in-Err-clause-found : goal.returns-in-Err-clause-found

@@ -1,5 +1,4 @@
-use Rattle.std.proofs.Common.{length, refl}
-use Rattle.std.proofs.lemmas.Option.{slice_get_read}
+use Rattle.litemap.proofs.Common.{length, refl, slice_get_read}
 use Rattle.litemap.proofs.const_family.LiteMap+K+V+SliceStore+K+V.const_get_indexed_or_panic.Goals as goal
 
 pub returns : goal.returns

@@ -1,4 +1,4 @@
-use Rattle.litemap_store.specs.Pairs.{Rising}
+use Rattle.litemap.proofs.Common.{Rising}
 use Rattle.litemap_store.proofs.Lists.Ends.{Rising-push}
 use Rattle.litemap.proofs.Outcomes.{either_way}
 use Rattle.litemap.proofs.map.LiteMap.append.Goals as goal

@@ -1,4 +1,4 @@
-use Rattle.std.proofs.Common.{refl, subst}
+use Rattle.litemap.proofs.Common.{refl, subst}
 use Rattle.litemap.specs.Combined.{LeavesOfBoth, Settles}
 use Rattle.litemap.proofs.map.LiteMap.combine.Goals as goal
 

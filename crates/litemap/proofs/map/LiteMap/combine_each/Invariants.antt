@@ -1,5 +1,4 @@
-use Rattle.std.proofs.Common.{◌≡◌, ◌*◌, List, ◌++◌, length, take, drop}
-use Rattle.litemap_store.specs.Counts.{RisesByAtMost, digits}
+use Rattle.litemap.proofs.Common.{◌≡◌, ◌*◌, List, ◌++◌, length, take, drop, RisesByAtMost, digits}
 use Rattle.litemap.specs.Combined.{CallableOnEachOf, Combined}
 use Rattle.litemap.proofs.map.LiteMap.combine_each.Given as goal
 

@@ -1,7 +1,4 @@
-use Rattle.std.proofs.Common.{Some, ap, sym, ◌∙◌}
-use Rattle.std.specs.Option.{option_map}
-use Rattle.litemap_store.specs.Pairs.{key_or}
-use Rattle.litemap_store.proofs.Lists.Seams.{found_get, found_remove, found_set_value}
+use Rattle.litemap.proofs.Common.{Some, ap, sym, ◌∙◌, option_map, key_or, found_get, found_remove, found_set_value}
 use Rattle.litemap.proofs.map.LiteMap.entry.Goals as goal
 
 pub returns-in-Ok-clause-writes : goal.returns-in-Ok-clause-writes

@@ -1,5 +1,4 @@
-use Rattle.std.proofs.lemmas.Result.{on_ok_weaker}
-use Rattle.litemap_store.proofs.Callers.MergeLookups.{key_alike, key_same, value_at-merged}
+use Rattle.litemap.proofs.Common.{on_ok_weaker, key_alike, key_same, value_at-merged}
 use Rattle.litemap.proofs.map.LiteMap.extend_from_litemap.Goals as goal
 
 pub returns-clause-found : goal.returns-clause-found

@@ -1,5 +1,4 @@
-use Rattle.std.proofs.Common.{◌≡◌}
-use Rattle.litemap_store.specs.Merge.{left}
+use Rattle.litemap.proofs.Common.{◌≡◌, left}
 use Rattle.litemap_store.proofs.Merging.Merges.{Rising-left}
 use Rattle.litemap.proofs.map.LiteMap.extend_from_litemap_counted.Goals as goal
 

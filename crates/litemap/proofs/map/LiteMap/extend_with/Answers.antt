@@ -1,8 +1,5 @@
-use Rattle.std.proofs.Common.{subst}
-use Rattle.std.proofs.lemmas.Result.{on_ok_weaker}
-use Rattle.litemap_store.proofs.Callers.MergeLookups.{key_alike, key_same}
+use Rattle.litemap.proofs.Common.{subst, on_ok_weaker, key_alike, key_same, with_pairs}
 use Rattle.litemap.specs.Changes.{IsMergedInto}
-use Rattle.litemap_store.specs.Contents.{with_pairs}
 use Rattle.litemap.proofs.Combining.{combined-from, value_at-combined}
 use Rattle.litemap.proofs.map.LiteMap.extend_with.Goals as goal
 

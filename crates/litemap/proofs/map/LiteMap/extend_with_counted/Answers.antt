@@ -1,6 +1,4 @@
-use Rattle.std.proofs.Common.{◌+◌, ◌*◌, ◌∙◌, ap, length, subst, arith}
-use Rattle.litemap_store.specs.Counts.{RisesByAtMost, digits}
-use Rattle.litemap_store.proofs.Stores.Counting.{in_turn}
+use Rattle.litemap.proofs.Common.{◌+◌, ◌*◌, ◌∙◌, ap, length, subst, arith, RisesByAtMost, digits, in_turn}
 use Rattle.litemap.proofs.Combining.{callable_each, keys-combined, length-combined}
 use Rattle.litemap.proofs.Writing.{Rising-keys}
 use Rattle.litemap.proofs.map.LiteMap.extend_with_counted.Goals as goal

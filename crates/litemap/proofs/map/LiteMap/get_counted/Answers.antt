@@ -1,5 +1,4 @@
-use Rattle.std.proofs.Common.{◌∙◌}
-use Rattle.litemap_store.proofs.Lists.Seams.{found_value}
+use Rattle.litemap.proofs.Common.{◌∙◌, found_value}
 use Rattle.litemap.proofs.map.LiteMap.get_counted.Goals as goal
 
 pub returns-in-Ok-clause-value : goal.returns-in-Ok-clause-value

@@ -1,6 +1,4 @@
-use Rattle.std.proofs.Common.{◌≡◌, rules, Some}
-use Rattle.litemap_store.specs.Pairs.{sub}
-use Rattle.litemap_store.proofs.Lists.Parts.{Rising-sub}
+use Rattle.litemap.proofs.Common.{◌≡◌, rules, Some, sub, Rising-sub}
 use Rattle.litemap.proofs.map.LiteMap.get_indexed_range.Goals as goal
 
 pub from_sorted_store_unchecked-requires : goal.from_sorted_store_unchecked-requires

@@ -1,5 +1,4 @@
-use Rattle.std.proofs.Common.{◌∙◌}
-use Rattle.litemap_store.proofs.Lists.Seams.{found_there}
+use Rattle.litemap.proofs.Common.{◌∙◌, found_there}
 use Rattle.litemap.proofs.map.LiteMap.get_key_value.Goals as goal
 
 pub returns-in-Ok : goal.returns-in-Ok

@@ -1,6 +1,4 @@
-use Rattle.std.proofs.Common.{◌∙◌, inl, sym}
-use Rattle.litemap_store.specs.Contents.{with_pairs}
-use Rattle.litemap_store.proofs.Lists.Seams.{found_value, found_write}
+use Rattle.litemap.proofs.Common.{◌∙◌, inl, sym, with_pairs, found_value, found_write}
 use Rattle.litemap.proofs.map.LiteMap.get_mut.Goals as goal
 
 pub returns-in-Ok : goal.returns-in-Ok

@@ -1,4 +1,4 @@
-use Rattle.std.proofs.Common.{refl}
+use Rattle.litemap.proofs.Common.{refl}
 use Rattle.litemap.proofs.map.LiteMap.get_mut_by.Goals as goal
 
 pub returns-in-Ok : goal.returns-in-Ok

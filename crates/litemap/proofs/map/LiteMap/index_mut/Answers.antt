@@ -1,6 +1,4 @@
-use Rattle.std.proofs.Common.{◌∙◌, ap, refl, sym}
-use Rattle.litemap_store.specs.Contents.{with_pairs}
-use Rattle.litemap_store.proofs.Lists.Seams.{found_value, found_write}
+use Rattle.litemap.proofs.Common.{◌∙◌, ap, refl, sym, with_pairs, found_value, found_write}
 use Rattle.litemap.proofs.map.LiteMap.index_mut.Goals as goal
 
 pub returns : goal.returns

@@ -1,4 +1,4 @@
-use Rattle.std.proofs.Common.{sym, arith}
+use Rattle.litemap.proofs.Common.{sym, arith}
 use Rattle.litemap.proofs.Cuts.{length-before, length-between, sub_between, within-cut}
 use Rattle.litemap.proofs.map.LiteMap.index_range_counted.Goals as goal
 

@@ -1,8 +1,4 @@
-use Rattle.std.proofs.Common.{◌∙◌}
-use Rattle.std.proofs.lemmas.Result.{on_ok_weaker}
-use Rattle.litemap_store.specs.Pairs.{Rising}
-use Rattle.litemap_store.proofs.Lists.Seams.{missing_insert}
-use Rattle.litemap_store.proofs.Search.Splitting.{Rising-put}
+use Rattle.litemap.proofs.Common.{◌∙◌, on_ok_weaker, Rising, missing_insert, Rising-put}
 use Rattle.litemap.proofs.Outcomes.{either_way}
 use Rattle.litemap.proofs.map.LiteMap.insert_at.Goals as goal
 

@@ -1,5 +1,4 @@
-use Rattle.std.proofs.Common.{ap, arith, ◌∙◌, option_map, sym}
-use Rattle.litemap_store.proofs.Lists.Seams.{found_set_value, found_value}
+use Rattle.litemap.proofs.Common.{ap, arith, ◌∙◌, option_map, sym, found_set_value, found_value}
 use Rattle.litemap.proofs.Outcomes.{not_missing}
 use Rattle.litemap.proofs.map.LiteMap.insert_counted.Goals as goal
 

@@ -1,8 +1,6 @@
-use Rattle.std.proofs.Common.{◌≡◌, Some, length, slice_get, ◌-◌, ◌<◌, sym, ap, ◌∙◌, arith}
-use Rattle.std.specs.Ordering.{is_lt}
-use Rattle.std.proofs.lemmas.Option.{slice_get_within}
+use Rattle.litemap.proofs.Common.{◌≡◌, Some, length, slice_get, ◌-◌, ◌<◌, sym, ap, ◌∙◌, arith, is_lt, slice_get_within}
+use Rattle.litemap.proofs.Common.{Less-from_is_lt}
 use Rattle.litemap_store.proofs.Lists.Ends.{AllBelow-at, AllBelow-from_last}
-use Rattle.litemap_store.proofs.Lists.Parts.{Less-from_is_lt}
 use Rattle.litemap.proofs.map.LiteMap.is_above_all.Goals as goal
 
 pub returns-in-Some : goal.returns-in-Some

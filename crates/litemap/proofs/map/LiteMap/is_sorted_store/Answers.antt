@@ -1,10 +1,6 @@
-use Rattle.std.proofs.Common.{rules, ◌≡◌, true, false, sym, ap, ◌∙◌, arith, option_map}
-use Rattle.std.specs.Map.Iter.{deref_pair}
-use Rattle.std.specs.Ordering.{is_lt}
-use Rattle.std.specs.declared.cmp.Ordering.TheVariants.{Less}
-use Rattle.litemap_store.specs.Pairs.{Rising}
+use Rattle.litemap.proofs.Common.{rules, ◌≡◌, true, false, sym, ap, ◌∙◌, arith, option_map, is_lt, Less, deref_pair, Rising}
+use Rattle.litemap.proofs.Common.{Less-from_Rising, Less-from_is_lt}
 use Rattle.litemap_store.proofs.Lists.Joined.{Rising-from_adjacent, adjacent_more}
-use Rattle.litemap_store.proofs.Lists.Parts.{Less-from_Rising, Less-from_is_lt}
 use Rattle.litemap.proofs.map.LiteMap.is_sorted_store.Goals as goal
 
 pub returns-then-not-is_lt : goal.returns-then-not-is_lt

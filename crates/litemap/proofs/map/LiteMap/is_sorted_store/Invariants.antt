@@ -1,5 +1,4 @@
-use Rattle.std.proofs.Common.{◌≡◌, ◌≤◌, Less}
-use Rattle.std.specs.List.{AllAdjacentBelow}
+use Rattle.litemap.proofs.Common.{◌≡◌, ◌≤◌, Less, AllAdjacentBelow}
 use Rattle.litemap.proofs.map.LiteMap.is_sorted_store.Given as goal
 
 abbrev pub invariant-loop-index : goal.invariant-loop-index

@@ -1,4 +1,4 @@
-use Rattle.std.proofs.Common.{◌∙◌, sym}
+use Rattle.litemap.proofs.Common.{◌∙◌, sym}
 use Rattle.litemap.proofs.Sets.{found_in_each}
 use Rattle.litemap.proofs.map.LiteMap.is_subset.Goals as goal
 

@@ -1,5 +1,4 @@
-use Rattle.std.proofs.Common.{ap}
-use Rattle.litemap_store.proofs.Stores.Retaining.{Rising-from_Kept}
+use Rattle.litemap.proofs.Common.{ap, Rising-from_Kept}
 use Rattle.litemap.proofs.Sets.{Kept-beside, value_at-kept}
 use Rattle.litemap.proofs.map.LiteMap.keep_keys_of.Goals as goal
 

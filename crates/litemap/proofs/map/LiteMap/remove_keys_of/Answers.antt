@@ -1,6 +1,4 @@
-use Rattle.std.proofs.Common.{◌≡◌, ◌∙◌, Bool, true, false, not, cond, Option, None, is_some, ap, refl}
-use Rattle.litemap_store.specs.Pairs.{at}
-use Rattle.litemap_store.proofs.Stores.Retaining.{Rising-from_Kept}
+use Rattle.litemap.proofs.Common.{◌≡◌, ◌∙◌, Bool, true, false, not, cond, Option, None, is_some, ap, refl, at, Rising-from_Kept}
 use Rattle.litemap.proofs.Sets.{Kept-beside, value_at-kept}
 use Rattle.litemap.proofs.map.LiteMap.remove_keys_of.Goals as goal
 

@@ -1,6 +1,4 @@
-use Rattle.std.proofs.Common.{◌≤◌, arith, length}
-use Rattle.litemap_store.specs.Counts.{digits, digits-mono}
-use Rattle.litemap_store.proofs.Stores.Counting.{in_turn}
+use Rattle.litemap.proofs.Common.{◌≤◌, arith, length, digits, digits-mono, in_turn}
 use Rattle.litemap.proofs.Outcomes.{length-cut}
 use Rattle.litemap.proofs.map.LiteMap.rename_counted.Goals as goal
 

@@ -1,6 +1,5 @@
-use Rattle.std.proofs.Common.{◌∙◌, ap, filter}
+use Rattle.litemap.proofs.Common.{◌∙◌, ap, filter, Rising-from_Kept}
 use Rattle.std.proofs.lemmas.Fn.{filter_same}
-use Rattle.litemap_store.proofs.Stores.Retaining.{Rising-from_Kept}
 use Rattle.litemap.proofs.Retained.{length-kept, value_at-kept_no, value_at-kept_yes}
 use Rattle.litemap.proofs.map.LiteMap.retain.Goals as goal
 

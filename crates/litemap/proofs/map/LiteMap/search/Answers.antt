@@ -1,6 +1,5 @@
-use Rattle.std.proofs.Common.{rules}
+use Rattle.litemap.proofs.Common.{rules, Ascends-by_query, Splits-from_Finds}
 use Rattle.litemap_store.proofs.Search.Shapes.{shape_steady}
-use Rattle.litemap_store.proofs.Search.Splitting.{Ascends-by_query, Splits-from_Finds}
 use Rattle.litemap.proofs.map.LiteMap.search.Goals as goal
 
 pub returns-clause-splits : goal.returns-clause-splits

@@ -1,6 +1,5 @@
-use Rattle.std.proofs.Common.{arith, ◌≡◌, ◌≤◌, false, true, drop, take, inl, inr, length, sym, ap, subst, ◌∙◌, ⊎_elim}
-use Rattle.litemap_store.specs.Pairs.{Rising}
-use Rattle.litemap_store.proofs.Search.Splitting.{Rising-filter}
+use Rattle.litemap.proofs.Common.{arith, ◌≡◌, ◌≤◌, false, true, drop, take, inl, inr, length, sym, ap, subst, ◌∙◌, ⊎_elim, Rising}
+use Rattle.litemap.proofs.Common.{Rising-filter}
 use Rattle.litemap.proofs.Cuts.{drop-cut, first_cut, last_cut, take-cut, within-cut}
 use Rattle.litemap.proofs.map.LiteMap.split_off.Goals as goal
 

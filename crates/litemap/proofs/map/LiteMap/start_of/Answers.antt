@@ -1,4 +1,4 @@
-use Rattle.std.proofs.Common.{refl}
+use Rattle.litemap.proofs.Common.{refl}
 use Rattle.litemap.proofs.Cuts.{IsCut-none}
 use Rattle.litemap.proofs.map.LiteMap.start_of.Goals as goal
 

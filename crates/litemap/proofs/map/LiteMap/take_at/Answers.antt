@@ -1,4 +1,4 @@
-use Rattle.litemap_store.proofs.Search.Splitting.{Rising-remove}
+use Rattle.litemap.proofs.Common.{Rising-remove}
 use Rattle.litemap.proofs.map.LiteMap.take_at.Goals as goal
 
 pub invariant_of-self : goal.invariant_of-self

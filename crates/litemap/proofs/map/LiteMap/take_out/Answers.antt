@@ -1,6 +1,4 @@
-use Rattle.std.proofs.Common.{◌∙◌, sym}
-use Rattle.std.proofs.lemmas.Bool.{true≢false}
-use Rattle.litemap_store.proofs.Lists.Seams.{found_remove, found_there}
+use Rattle.litemap.proofs.Common.{◌∙◌, sym, true≢false, found_remove, found_there}
 use Rattle.litemap.proofs.map.LiteMap.take_out.Goals as goal
 
 pub returns-in-Ok-clause-pair : goal.returns-in-Ok-clause-pair

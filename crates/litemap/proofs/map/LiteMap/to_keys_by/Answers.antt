@@ -1,5 +1,4 @@
-use Rattle.std.proofs.Common.{ap, subst, sym}
-use Rattle.std.specs.Fn.{FnReturnsAt}
+use Rattle.litemap.proofs.Common.{ap, subst, sym, FnReturnsAt}
 use Rattle.litemap.specs.Conversions.{KeysKeepOrder, TakesKeys}
 use Rattle.litemap.proofs.map.LiteMap.to_keys_by.Goals as goal
 

@@ -1,4 +1,4 @@
-use Rattle.std.proofs.Common.{ap, ◌∙◌}
+use Rattle.litemap.proofs.Common.{ap, ◌∙◌}
 use Rattle.std.proofs.lemmas.List.Elements.{same_from_all_zip}
 use Rattle.litemap.proofs.Conversions.{Rising-clones}
 use Rattle.litemap.proofs.map.LiteMap.try_clone.Goals as goal

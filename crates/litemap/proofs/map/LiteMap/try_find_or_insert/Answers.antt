@@ -1,7 +1,4 @@
-use Rattle.std.proofs.Common.{◌≡◌, refl, slice_get, subst, sym, ap, ◌∙◌}
-use Rattle.litemap_store.specs.Pairs.{at, put}
-use Rattle.litemap_store.proofs.Callers.Lookups.{at-put}
-use Rattle.litemap_store.proofs.Lists.Seams.{put_get}
+use Rattle.litemap.proofs.Common.{◌≡◌, refl, slice_get, subst, sym, ap, ◌∙◌, at, put, at-put, put_get}
 use Rattle.litemap.proofs.Entries.{within-put}
 use Rattle.litemap.proofs.map.LiteMap.try_find_or_insert.Goals as goal
 

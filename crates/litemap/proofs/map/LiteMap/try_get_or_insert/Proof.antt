@@ -1,7 +1,8 @@
 -- `try_get_or_insert` by hand: it lends the map to `try_find_or_insert`, shares it for good by `shared`, and says what it was then.
-use Rattle.std.proofs.Common.{◌≡◌, ℕ, ◌+◌, ◌<◌, ◌≤◌, List, [], ◌∷◌, IsNone, IsSome, IsOk, IfOk, OnOk, OnErr, Ok, Some, sym, refl, ap, subst, length, slice_get}
+use Rattle.litemap.proofs.Common.{◌≡◌, ℕ, ◌+◌, ◌<◌, ◌≤◌, List, [], ◌∷◌, IsNone, IsSome, IsOk, IfOk, OnOk, OnErr, Ok, Some, sym}
+use Rattle.litemap.proofs.Common.{refl, ap, subst, length, slice_get, FnOnceReturnsAt, FnOnceTakesAt, Bor, MutBor, at, place, put}
+use Rattle.litemap.proofs.Common.{value_at}
 use Rattle.std.specs.BTreeMap.Lent.{OrdMembers}
-use Rattle.std.specs.Fn.{FnOnceReturnsAt, FnOnceTakesAt}
 use Rattle.std.proofs.raw_atomic.Walks.{proved_at, leaves}
 use Rattle.std.proofs.result.Result.TheLaws.{the_row_laws as result_laws}
 use mir.Syntax.{Args, a_type, named, dcons, dnil}
@@ -22,7 +23,7 @@ use contract.BorrowLft.{◌⊑◌, ⊑_trans, meet_⊑_right}
 use denote.Exit.{no}
 use denote.RattleType.{RattleType, owns}
 use denote.Memory.{mem}
-use denote.Ref.{Bor, MutBor, MutRef, ShrRef}
+use denote.Ref.{MutRef, ShrRef}
 use denote.Lend.{LentAgain, lends_again, comes_back}
 use denote.Laws.{Is, shows}
 use denote.Param.{param, layout, bounded}
@@ -38,7 +39,6 @@ use denote.Triple.Clauses.{Lasts, lasts}
 use denote.Triple.Spec.{triple_of}
 use denote.Triple.Table.{framed}
 use denote.Triple.Walked.{Stays, stay_dropped, walk_of, Goes-dropped, Goes-spent_ref}
-use Rattle.litemap_store.specs.Pairs.{at, place, put, value_at}
 use Rattle.litemap.specs.Lends as lends
 use Rattle.litemap.specs.TryFault.{FailsAs, IfClosure, IsInsertedAt, Shown as IsShown}
 use Rattle.litemap.proofs.Placing.{Found, Told, told}

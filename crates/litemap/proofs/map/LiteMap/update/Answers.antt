@@ -1,5 +1,4 @@
-use Rattle.std.proofs.Common.{◌∙◌, ap, map}
-use Rattle.std.specs.Map.{keys_of}
+use Rattle.litemap.proofs.Common.{◌∙◌, ap, map, keys_of}
 use Rattle.litemap.proofs.Writing.{Rising-keys, keys-written, map-written}
 use Rattle.litemap.proofs.map.LiteMap.update.Goals as goal
 

@@ -1,4 +1,4 @@
-use Rattle.litemap_store.proofs.Search.Splitting.{Rising-set_value}
+use Rattle.litemap.proofs.Common.{Rising-set_value}
 use Rattle.litemap.proofs.map.LiteMap.value_in_mut.Goals as goal
 
 pub invariant_of-self-lent : goal.invariant_of-self-lent

@@ -1,20 +1,19 @@
-use Rattle.std.proofs.Common.{◌&&◌, ap, arith, option_map, sym, ◌∙◌}
-use Rattle.std.proofs.lemmas.List.{drop_all}
-use Rattle.std.specs.Map.Iter.{deref_pair}
+use Rattle.litemap.proofs.Common.{◌&&◌, ap, arith, option_map, sym, ◌∙◌, drop_all, deref_pair}
+use Rattle.std.proofs.lemmas.Bool.{not-false, not-true}
 use Rattle.litemap.proofs.Places.{pointwise_ends, pointwise_on}
 use Rattle.litemap.proofs.map.comparisons.are_equal.Goals as goal
 
-pub returns-then-not-is_equal_pair : goal.returns-then-not-is_equal_pair
-returns-then-not-is_equal_pair g c =
-    let left = sym c.lm_get.ensures ∙ ap (option_map deref_pair) c.unwrap.ensures in
-    let right = sym c.lm_get-in-loop-index.ensures ∙ ap (option_map deref_pair) c.unwrap-in-loop-index.ensures in
-    sym (sym c.loop-index.invariant ∙ pointwise_ends (λ p q. g.K.PartialEq.eq p.0 q.0 && g.V.PartialEq.eq p.1 q.1) _ _ c.loop-index.index _ _ left right (sym c.is_equal_pair.ensures ∙ c.if-not-is_equal_pair.true))
+pub returns-then-ne : goal.returns-then-ne
+returns-then-ne g c =
+    let left = sym c.lm_get.ensures ∙ ap (option_map deref_pair) c.unwrap-pair.ensures in
+    let right = sym c.lm_get-in-loop-index.ensures ∙ ap (option_map deref_pair) c.unwrap-other.ensures in
+    sym (sym c.loop-index.invariant ∙ pointwise_ends (λ p q. g.K.PartialEq.eq p.0 q.0 && g.V.PartialEq.eq p.1 q.1) _ _ c.loop-index.index _ _ left right (not-true _ (sym c.ne.ensures ∙ c.if-ne.true)))
 
 pub loop-index-preserved : goal.loop-index-preserved
 loop-index-preserved g c =
-    let left = sym c.lm_get.ensures ∙ ap (option_map deref_pair) c.unwrap.ensures in
-    let right = sym c.lm_get-in-loop-index.ensures ∙ ap (option_map deref_pair) c.unwrap-in-loop-index.ensures in
-    sym (pointwise_on (λ p q. g.K.PartialEq.eq p.0 q.0 && g.V.PartialEq.eq p.1 q.1) _ _ c.loop-index.index _ _ left right (sym c.is_equal_pair.ensures ∙ c.if-not-is_equal_pair.false)) ∙ c.loop-index.invariant
+    let left = sym c.lm_get.ensures ∙ ap (option_map deref_pair) c.unwrap-pair.ensures in
+    let right = sym c.lm_get-in-loop-index.ensures ∙ ap (option_map deref_pair) c.unwrap-other.ensures in
+    sym (pointwise_on (λ p q. g.K.PartialEq.eq p.0 q.0 && g.V.PartialEq.eq p.1 q.1) _ _ c.loop-index.index _ _ left right (not-false _ (sym c.ne.ensures ∙ c.if-ne.false))) ∙ c.loop-index.invariant
 
 pub returns : goal.returns
 returns g c =

@@ -1,5 +1,4 @@
-use Rattle.std.proofs.Common.{◌≡◌, ◌&&◌, drop}
-use Rattle.std.specs.Cmp.Lexicographic.{pointwise}
+use Rattle.litemap.proofs.Common.{◌≡◌, ◌&&◌, drop, pointwise}
 use Rattle.litemap.proofs.map.comparisons.are_equal.Given as goal
 
 abbrev pub invariant-loop-index : goal.invariant-loop-index

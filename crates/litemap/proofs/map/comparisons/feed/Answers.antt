@@ -1,4 +1,4 @@
-use Rattle.std.proofs.Common.{sym, ap, ◌∙◌, ◌++◌, flat_map, fold}
+use Rattle.litemap.proofs.Common.{sym, ap, ◌∙◌, ◌++◌, flat_map, fold}
 use Rattle.std.specs.Hash.{HashWrites, fed_then}
 use Rattle.std.proofs.lemmas.Grind.{fold-append}
 use Rattle.litemap.proofs.map.comparisons.feed.Goals as goal

@@ -1,4 +1,4 @@
-use Rattle.std.proofs.Common.{◌≡◌, ◌++◌, length, flat_map, fold}
+use Rattle.litemap.proofs.Common.{◌≡◌, ◌++◌, length, flat_map, fold}
 use Rattle.litemap.proofs.map.comparisons.feed.Given as goal
 
 abbrev pub invariant-loop-key : goal.invariant-loop-key

@@ -1,5 +1,4 @@
-use Rattle.std.proofs.Common.{◌≡◌, length}
-use Rattle.std.specs.Cmp.Lexicographic.{slice_partial_cmp}
+use Rattle.litemap.proofs.Common.{◌≡◌, length, slice_partial_cmp}
 use Rattle.std.specs.Ordering.{partial_ordering_then}
 use Rattle.litemap.proofs.map.comparisons.partial_order.Given as goal
 

@@ -1,7 +1,6 @@
-use Rattle.std.proofs.Common.{ap, arith, option_map, refl, sym, ◌∙◌}
+use Rattle.litemap.proofs.Common.{ap, arith, option_map, refl, sym, ◌∙◌, deref_pair}
 use Rattle.litemap_store.proofs.Lists.Alongside.{alongside-more}
 use Rattle.litemap_store.proofs.Lists.Joined.{In-slice_get}
-use Rattle.std.specs.Map.Iter.{deref_pair}
 use Rattle.litemap.proofs.map.conversions.push_all.Goals as goal
 
 pub push_converted-requires : goal.push_converted-requires

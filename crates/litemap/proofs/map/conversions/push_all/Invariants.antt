@@ -1,4 +1,4 @@
-use Rattle.std.proofs.Common.{◌+◌, ◌≤◌, length, take}
+use Rattle.litemap.proofs.Common.{◌+◌, ◌≤◌, length, take}
 use Rattle.litemap_store.specs.Clones.{PairsBecame}
 use Rattle.litemap.proofs.map.conversions.push_all.Given as goal
 

@@ -1,6 +1,4 @@
-use Rattle.std.proofs.Common.{◌∙◌, length, sym, ap, subst, arith}
-use Rattle.litemap_store.specs.Pairs.{Rising}
-use Rattle.litemap_store.proofs.Search.Splitting.{Rising-filter}
+use Rattle.litemap.proofs.Common.{◌∙◌, length, sym, ap, subst, arith, Rising, Rising-filter}
 use Rattle.litemap.proofs.Sets.{list_all-past}
 use Rattle.litemap.proofs.map.sets.has_each.Goals as goal
 

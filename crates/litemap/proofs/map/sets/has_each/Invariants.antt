@@ -1,7 +1,4 @@
-use Rattle.std.proofs.Common.{◌≡◌, ◌+◌, ◌≤◌, is_some, length}
-use Rattle.std.specs.List.{list_all}
-use Rattle.litemap_store.specs.Counts.{GoesOn}
-use Rattle.litemap_store.specs.Pairs.{Rising, at}
+use Rattle.litemap.proofs.Common.{◌≡◌, ◌+◌, ◌≤◌, is_some, length, list_all, GoesOn, Rising, at}
 use Rattle.litemap.proofs.map.sets.has_each.Given as goal
 
 abbrev pub invariant-loop-key : goal.invariant-loop-key

@@ -1,4 +1,4 @@
-use Rattle.std.proofs.Common.{◌∙◌}
+use Rattle.litemap.proofs.Common.{◌∙◌}
 use Rattle.litemap.proofs.Sets.{at_end, at_equal, at_greater}
 use Rattle.litemap.proofs.map.sets.skip_to.Goals as goal
 

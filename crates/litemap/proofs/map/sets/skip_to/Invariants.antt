@@ -1,6 +1,4 @@
-use Rattle.std.proofs.Common.{◌≡◌, ◌+◌, ◌≤◌, is_some, length}
-use Rattle.litemap_store.specs.Counts.{GoesOn}
-use Rattle.litemap_store.specs.Pairs.{Rising, above, at}
+use Rattle.litemap.proofs.Common.{◌≡◌, ◌+◌, ◌≤◌, is_some, length, GoesOn, Rising, above, at}
 use Rattle.litemap.proofs.map.sets.skip_to.Given as goal
 
 abbrev pub invariant-loop-there : goal.invariant-loop-there

@@ -1,4 +1,4 @@
-use Rattle.std.proofs.Common.{◌≡◌, List, ◌++◌, length, take, drop}
+use Rattle.litemap.proofs.Common.{◌≡◌, List, ◌++◌, length, take, drop}
 use Rattle.litemap.specs.Written.{CallableOnValues, Written}
 use Rattle.litemap.proofs.map.write.write_each.Given as goal
 

@@ -1,23 +1,14 @@
-use Rattle.std.proofs.Common.{◌≡◌, Some}
-use Rattle.std.specs.Cmp.{then_agrees}
-use Rattle.std.specs.Cmp.Lexicographic.{lists_agrees}
+use Rattle.litemap.proofs.Common.{◌≡◌, List, Option, Some, Ordering, then_agrees, lists_agrees}
 use Rattle.litemap.specs.Comparisons.{pairs_cmp, pairs_partial_cmp}
 use Rattle.litemap.proofs.map.comparisons.LiteMapOrd.cmp.Goals as goal
 
+decided : {K V : Type 0} (k : K → K → Option Ordering) (v : V → V → Option Ordering) (l : K → K → Ordering) (w : V → V → Ordering) (L M : List (K × V))
+    → ((x y : K) → k x y ≡ Some (l x y)) → ((x y : V) → v x y ≡ Some (w x y)) → pairs_partial_cmp k v L M ≡ Some (pairs_cmp l w L M)
+decided k v l w L M of_keys of_values = lists_agrees (then_agrees (λ p q. of_keys p.0 q.0) (λ p q. of_values p.1 q.1)) L M
+
 pub unwrap-requires : goal.unwrap-requires
-unwrap-requires g c =
-    let left = c.args.self.now.pairs in
-    let right = c.args.other.now.pairs in
-    let decided : pairs_partial_cmp g.K.PartialOrd.partial_cmp g.V.PartialOrd.partial_cmp left right ≡ Some (pairs_cmp g.K.Ord.cmp g.V.Ord.cmp left right) =
-    lists_agrees (then_agrees (λ p q. g.met.K.Ord.matches_partial_cmp p.0 q.0) (λ p q. g.met.V.Ord.matches_partial_cmp p.1 q.1)) left right in
-    rw (c.partial_cmp.ensures, decided)
+unwrap-requires g c = rw (c.partial_cmp.ensures, decided g.K.PartialOrd.partial_cmp g.V.PartialOrd.partial_cmp g.K.Ord.cmp g.V.Ord.cmp c.args.self.now.pairs c.args.other.now.pairs g.met.K.Ord.matches_partial_cmp g.met.V.Ord.matches_partial_cmp)
 
 pub returns : goal.returns
 returns g c =
-    let left = c.args.self.now.pairs in
-    let right = c.args.other.now.pairs in
-    let decided : pairs_partial_cmp g.K.PartialOrd.partial_cmp g.V.PartialOrd.partial_cmp left right ≡ Some (pairs_cmp g.K.Ord.cmp g.V.Ord.cmp left right) =
-    lists_agrees (then_agrees (λ p q. g.met.K.Ord.matches_partial_cmp p.0 q.0) (λ p q. g.met.V.Ord.matches_partial_cmp p.1 q.1)) left right in
-    let asked = c.partial_cmp.ensures in
-    let unwrapped = c.unwrap.ensures in
-    cc
+    cc (decided g.K.PartialOrd.partial_cmp g.V.PartialOrd.partial_cmp g.K.Ord.cmp g.V.Ord.cmp c.args.self.now.pairs c.args.other.now.pairs g.met.K.Ord.matches_partial_cmp g.met.V.Ord.matches_partial_cmp, c.partial_cmp.ensures, c.unwrap.ensures)

@@ -1,4 +1,4 @@
-use Rattle.std.proofs.Common.{refl}
+use Rattle.litemap.proofs.Common.{refl}
 use Rattle.litemap.proofs.map.entry.Entry.and_modify.Goals as goal
 
 pub returns-in-Occupied-clause-update : goal.returns-in-Occupied-clause-update

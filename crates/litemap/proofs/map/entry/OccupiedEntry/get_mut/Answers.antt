@@ -1,4 +1,4 @@
-use Rattle.std.proofs.Common.{refl}
+use Rattle.litemap.proofs.Common.{refl}
 use Rattle.litemap.proofs.Entries.{same_entry, written}
 use Rattle.litemap.proofs.map.entry.OccupiedEntry.get_mut.Goals as goal
 

@@ -1,8 +1,5 @@
-use Rattle.std.proofs.Common.{◌≡◌, Some, refl, sym, ap, ◌∙◌}
-use Rattle.std.specs.Option.{unwrap_or}
-use Rattle.litemap_store.specs.Pairs.{set_value, value_in}
-use Rattle.litemap_store.proofs.Lists.Seams.{put_value}
-use Rattle.litemap.proofs.Entries.{from_false, set_value-put}
+use Rattle.litemap.proofs.Common.{◌≡◌, Some, refl, sym, ap, ◌∙◌, unwrap_or, true≢false, set_value, value_in, put_value}
+use Rattle.litemap.proofs.Entries.{set_value-put}
 use Rattle.litemap.proofs.map.entry.VacantEntry.insert.Goals as goal
 
 pub returns : goal.returns
@@ -18,7 +15,7 @@ returns g c =
         λ w ok. record {
           pairs = ap (λ M. set_value M e.index w) put ∙ set_value-put cmp L e.key c.args.value w e.index e.missing.place;
           room = c.in_ok-insert_at.ensures.refused.room;
-          room_kept = from_false;
+          room_kept = λ absent. absurd (true≢false (sym absent));
         },
         tt,
       ),

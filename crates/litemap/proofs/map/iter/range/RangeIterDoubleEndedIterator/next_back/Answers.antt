@@ -1,5 +1,4 @@
-use Rattle.std.proofs.Common.{sym, ap, ◌∙◌, option_map, arith}
-use Rattle.std.specs.Map.Iter.{deref_pair}
+use Rattle.litemap.proofs.Common.{sym, ap, ◌∙◌, option_map, arith, deref_pair}
 use Rattle.litemap.proofs.Places.{last_of}
 use Rattle.litemap.proofs.map.iter.range.RangeIterDoubleEndedIterator.next_back.Goals as goal
 
