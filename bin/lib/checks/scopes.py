@@ -26,6 +26,8 @@ def own_key(module, name):
         return None
     if module.endswith(".TheConstants"):
         return name
+    if module.endswith(".specs"):
+        return next((key for key in WORDS if key.startswith(f"{module}.") and key.endswith(f".{name}")), name)
     declared = re.search(r"\.declared\..*?\b([A-Z]\w*)(?:\.TheVariants)?$", module)
     return declared[1] if declared else f"{module}.{name}"
 

@@ -1,7 +1,6 @@
 //! The names of a table that begin with a string.
 ghost use Rattle.std.specs.Prelude.{◌≡◌, filter};
-ghost use Rattle.name_index.specs.Prefixes.{begins};
-ghost use Rattle.name_index.specs.Tables.{OfTable};
+ghost use Rattle.name_index.specs.Tables.{OfTable, begins};
 
 use crate::texts::write_entry;
 use name_index::{NameEntries, NameIndex, NameTable};

@@ -1,14 +1,12 @@
 -- A search that halves the indices of pairs: what it knows of them, whichever they are, and how often it compared.
 --     halved_start      at first;  halved_less, halved_greater, halved_equal, halved_asked      after a comparison with the middle one
 --     halved_end      if no index is left
-use Rattle.std.proofs.Common.{◌≡◌, ℕ, ◌+◌, ◌-◌, ◌/◌, ◌<◌, ◌≤◌, List, length, Ok, Err, refl, ◌∙◌, arith}
-use Rattle.std.specs.declared.cmp.Ordering.{Ordering}
-use Rattle.std.specs.declared.cmp.Ordering.TheVariants.{Less, Equal, Greater}
+use Rattle.std.proofs.Common.{◌≡◌, ℕ, ◌+◌, ◌-◌, ◌/◌, ◌<◌, ◌≤◌, List, length, Ok, Err, refl, ◌∙◌, arith, Ordering, Less, Equal, Greater}
 use Rattle.litemap_store.specs.Counts.{RisesByAtMost, digits, digits-halved}
 use Rattle.litemap_store.specs.Search.{Ascends, Finds}
 use Rattle.litemap_store.specs.declared.count.Count.{Count}
 use Rattle.litemap_store.proofs.Search.Halving.{Narrowed, Narrowed-whole, Narrowed-less, Narrowed-greater, Finds-here, Finds-nowhere}
-use Rattle.name_index.specs.Steps.{IsKeyAt}
+use Rattle.name_index.specs.{IsKeyAt}
 
 module _ {X : Type 0} (pairs : X → List (List ℕ × List ℕ)) (order : List ℕ → Ordering) where
   -- the order ascends over the pairs, those before the indices that are left are less, and those after them greater
@@ -34,33 +32,26 @@ module _ {X : Type 0} (pairs : X → List (List ℕ × List ℕ)) (order : List 
 
   module _ {size low high : ℕ} {old now new : Count} (name : List ℕ) (h : Halved size low high old now) (l : low < high)
       (there : (x : X) → IsKeyAt (pairs x) (low + (high - low) / 2) name) (same : new.name ≡ now.name) (asked : new.total ≡ now.total + 1) where
+    to : (from until : ℕ) → from ≤ until → until ≤ size → digits (until - from) + 1 ≤ digits (high - low) → ((x : X) → Narrowed order (pairs x) from until) → Halved size from until old new
+    to from until o w m n = record {
+      known = h.known;
+      ordered = o;
+      within = w;
+      narrowed = n;
+      same = same ∙ h.same;
+      not_lowered = omega arith;
+      cost = omega arith;
+    }
+
     pub halved_less : order name ≡ Less → Halved size (low + (high - low) / 2 + 1) high old new
     halved_less is =
-        let middle = low + (high - low) / 2 in
-        let m : digits (high - (middle + 1)) + 1 ≤ digits (high - low) = digits-halved _ _ (omega arith) (omega arith) in
-        record {
-          known = h.known;
-          ordered = omega arith;
-          within = h.within;
-          narrowed = λ x. let at = there x in Narrowed-less order (pairs x) (h.known x).1 low high middle name at.0 at.1 (h.narrowed x) is;
-          same = same ∙ h.same;
-          not_lowered = omega arith;
-          cost = omega arith;
-        }
+        to (low + (high - low) / 2 + 1) high (omega arith) h.within (digits-halved _ _ (omega arith) (omega arith))
+        (λ x. let at = there x in Narrowed-less order (pairs x) (h.known x).1 low high (low + (high - low) / 2) name at.0 at.1 (h.narrowed x) is)
 
     pub halved_greater : order name ≡ Greater → Halved size low (low + (high - low) / 2) old new
     halved_greater is =
-        let middle = low + (high - low) / 2 in
-        let m : digits (middle - low) + 1 ≤ digits (high - low) = digits-halved _ _ (omega arith) (omega arith) in
-        record {
-          known = h.known;
-          ordered = omega arith;
-          within = omega arith;
-          narrowed = λ x. let at = there x in Narrowed-greater order (pairs x) (h.known x).1 low high middle name at.0 at.1 (h.narrowed x) is;
-          same = same ∙ h.same;
-          not_lowered = omega arith;
-          cost = omega arith;
-        }
+        to low (low + (high - low) / 2) (omega arith) (omega arith) (digits-halved _ _ (omega arith) (omega arith))
+        (λ x. let at = there x in Narrowed-greater order (pairs x) (h.known x).1 low high (low + (high - low) / 2) name at.0 at.1 (h.narrowed x) is)
 
     pub halved_equal : order name ≡ Equal → (x : X) → Finds order (pairs x) (Ok (low + (high - low) / 2))
     halved_equal is x = let at = there x in Finds-here order (pairs x) (low + (high - low) / 2) name at.0 at.1 is

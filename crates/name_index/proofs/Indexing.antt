@@ -1,21 +1,14 @@
 -- What the bytes of an index have at an offset, they have once; and what a search and a check know.
-use Rattle.std.proofs.Common.{◌≡◌, Bool, true, false, ℕ, zero, suc, ◌+◌, ◌-◌, ◌*◌, ◌<◌, ◌≤◌, List, [], ◌∷◌, ◌++◌, length, take, drop, get_or, slice_get, Some, None, Option, Bor, refl, sym, ap, ◌∙◌, subst, arith, length-append}
-use Rattle.std.specs.Prelude.{IfNone, IfSome, IsTrue}
-use Rattle.std.specs.Ordering.{is_lt}
+use Rattle.std.proofs.Common.{◌≡◌, Bool, true, false, ℕ, zero, suc, ◌+◌, ◌-◌, ◌*◌, ◌<◌, ◌≤◌, List, [], ◌∷◌, ◌++◌, length, take, drop, get_or, slice_get, Some, None, Option, Bor, refl, sym, ap, ◌∙◌, subst, arith, length-append, IfNone, IfSome, IsTrue, is_lt, Less}
 use Rattle.std.proofs.lemmas.List.{same_lists}
 use Rattle.std.proofs.lemmas.Option.{slice_get-get_or}
-use Rattle.std.specs.declared.cmp.Ordering.TheVariants.{Less}
 use Rattle.litemap_store.specs.Counts.{RisesByAtMost}
 use Rattle.litemap_store.specs.Pairs.{Rising}
 use Rattle.litemap_store.specs.declared.count.Count.{Count}
 use Rattle.litemap_store.proofs.Lists.Parts.{Less-from_Rising}
-use Rattle.litemap_store.specs.Search.{Ascends}
-use Rattle.name_index.specs.Index.{BeginsAt, IsEntry, IsIndex, IsNumberAt, IsPairAt, IsTextAt, NoIndex}
-use Rattle.name_index.specs.Steps.{HasKey, HasOffsets, IsKeyAt, NoEntry}
-use Rattle.name_index.specs.Tables.{text_order}
+use Rattle.name_index.specs.{BeginsAt, IsEntry, IsIndex, IsNumberAt, IsPairAt, IsTextAt, NoIndex, HasKey, HasOffsets, NoEntry, text_order}
 use Rattle.name_index.proofs.Placing.{each_push}
 use Rattle.name_index.proofs.Rises.{IsAbove, LastKey, asked_next, last_at, is_rising_from}
-use Rattle.name_index.proofs.Scanning.{ascends, to_key}
 
 -- ---- one number, one string, one entry
 
@@ -89,18 +82,9 @@ no_room bytes count number l pairs x =
         let t = x.entries n (get_or pairs n ([], [])) s in
         omega (arith, t.1.noted.within, l, e)
 
--- ---- what a search knows
-
 -- the pairs of an index
 abbrev pub pairs_of : {bytes : List ℕ} → (pairs : List (List ℕ × List ℕ)) × IsIndex bytes pairs → List (List ℕ × List ℕ)
 pairs_of x = x.0
-
-module _ {bytes : List ℕ} {count : ℕ} (offsets : HasOffsets bytes count) (x : (pairs : List (List ℕ × List ℕ)) × IsIndex bytes pairs) where
-  pub known_of : (key : List ℕ) → (length (pairs_of x) ≡ count) × Ascends (to_key key) (pairs_of x)
-  known_of key = (count_is bytes count offsets x.0 x.1, ascends x.0 key x.1.rises)
-
-  pub key_of : (index : ℕ) (key : List ℕ) → index < count → HasKey bytes count index key → IsKeyAt (pairs_of x) index key
-  key_of index key l k = key_is bytes count offsets x.0 x.1 index key l k
 
 -- ---- a check's state
 

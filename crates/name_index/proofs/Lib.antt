@@ -1,11 +1,8 @@
 pub mod KnownParts
 pub mod Placing
 pub mod Prefixing
-pub mod Between
 pub mod Halving
 pub mod Indexing
 pub mod Writing
 pub mod Scanning
 pub mod Rises
-pub mod LeftLemmas
-pub mod NoFault

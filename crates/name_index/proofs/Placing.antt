@@ -1,27 +1,27 @@
--- Offsets of entries: one more of them, and what is read at one.
-use Rattle.std.proofs.Common.{◌≡◌, ⊎_elim, ℕ, zero, suc, ◌+◌, ◌-◌, ◌<◌, ◌≤◌, List, [], ◌∷◌, ◌++◌, length, take, drop, get_or, slice_get, Some, Result, refl, sym, ap, ◌∙◌, subst, arith, length-append}
+-- Offsets of entries: one more of them, what is read at one, and the entries between two.
+use Rattle.std.proofs.Common.{◌≡◌, ⊎_elim, ℕ, zero, suc, ◌+◌, ◌-◌, ◌<◌, ◌≤◌, List, [], ◌∷◌, ◌++◌, length, min, take, drop, get_or, slice_get, slice_range, Some, Result, refl, sym, ap, ◌∙◌, subst, arith, length-append}
 use Rattle.std.proofs.Math.Seq.{take-length}
-use Rattle.std.proofs.lemmas.Bool.{cases_lt}
-use Rattle.std.proofs.lemmas.List.{drop_at, length-drop}
+use Rattle.std.proofs.lemmas.Bool.{cases_lt, le-leb}
+use Rattle.std.proofs.lemmas.List.{drop_at, length-drop, length-take, length-take-le, nil_from_length, take-append-drop, take_min}
 use Rattle.std.proofs.lemmas.Option.{slice_get-get_or}
 use Rattle.litemap_store.specs.Counts.{RisesByAtMost, digits}
+use Rattle.litemap_store.specs.Pairs.{sub}
 use Rattle.litemap_store.specs.Splits.{Splits}
 use Rattle.litemap_store.specs.declared.count.Count.{Count}
-use Rattle.litemap_store.specs.Search.{Ascends, Finds}
+use Rattle.litemap_store.specs.Search.{Finds}
+use Rattle.litemap_store.proofs.Lists.Parts.{Rising-sub}
 use Rattle.litemap_store.proofs.Search.Splitting.{Splits-from_Finds}
+use Rattle.name_table.specs.Parts.{Begins, Number, pair_parts, text_parts}
+use Rattle.name_table.specs.ReadOn.{begins_none, begins_pairs, pair_parts-append}
 use Rattle.name_table.specs.declared.number.TheConstants.{NUMBER_LIMIT}
 use Rattle.name_table.proofs.PartLemmas.{begins_split}
-use Rattle.name_table.specs.ReadOn.{begins_none, begins_pairs}
-use Rattle.name_table.proofs.Unique.{agree_pairs, begins_unique}
-use Rattle.name_table.specs.Parts.{Begins, Number, pair_parts, text_parts}
-use Rattle.name_index.specs.Far.{AreFar, IfTooFar, IsFar}
-use Rattle.name_index.specs.Steps.{AreEntries, ArePlaced, AsPlaced, BeginsPair, BeginsText, IsIndexed, IsKeyAt}
-use Rattle.name_index.specs.Tables.{OfTable, text_order}
+use Rattle.name_table.proofs.OneReading.{agree_pairs, begins_unique}
+use Rattle.name_index.specs.{AreFar, IfTooFar, IsFar, AreEntries, ArePlaced, AsPlaced, BeginsPair, BeginsText, IsIndexed, IsKeyAt, OfTable, left_one, text_order}
 use Rattle.name_index.specs.declared.error.NameIndexFault.{NameIndexFault}
 use Rattle.name_index.specs.declared.error.NameIndexFault.TheVariants.{NoRoom, TooFar}
 use Rattle.name_index.proofs.KnownParts.{one_number, text_next}
 use Rattle.name_index.proofs.Rises.{rising_table}
-use Rattle.name_index.proofs.Scanning.{Walked, ascends, one_side, to_key, walked_begins, walked_next, walked_pair}
+use Rattle.name_index.proofs.Scanning.{Walked, one_side, to_key, walked_begins, walked_next, walked_pair}
 
 -- what holds of each element by its index, and of one more
 pub each_push : {X : Type 0} (P : ℕ → X → Type 0) (L : List X) (x : X) → ((i : ℕ) (y : X) → slice_get L i ≡ Some y → P i y) → P (length L) x → (i : ℕ) (y : X) → slice_get (L ++ x ∷ []) i ≡ Some y → P i y
@@ -151,9 +151,6 @@ module _ (entries offsets : List ℕ) (index : ℕ) (d : ℕ) (placed : ArePlace
 abbrev pub pairs_at : {entries offsets : List ℕ} → ArePlaced entries offsets → List (List ℕ × List ℕ)
 pairs_at placed = placed.these.pairs
 
-pub known_at : {entries offsets : List ℕ} (key : List ℕ) (placed : ArePlaced entries offsets) → (length (pairs_at placed) ≡ length offsets) × Ascends (to_key key) (pairs_at placed)
-known_at key placed = (placed.these.left.len_is, ascends placed.these.pairs key placed.these.rises)
-
 pub splits_at : {entries offsets : List ℕ} (key : List ℕ) (r : Result ℕ ℕ) (placed : ArePlaced entries offsets) → Finds (to_key key) (pairs_at placed) r → Splits text_order (pairs_at placed) key r
 splits_at key r placed f = Splits-from_Finds one_side placed.these.pairs key placed.these.rises r f
 
@@ -168,3 +165,42 @@ of_indexed bytes entries items offsets x e h =
 -- a bound by the number of pairs, which is that of the offsets
 pub cost_by_pairs : (entries offsets : List ℕ) (placed : ArePlaced entries offsets) (old new : Count) → RisesByAtMost (digits (length offsets)) old new → RisesByAtMost (digits (length placed.these.pairs)) old new
 cost_by_pairs entries offsets placed old new r = rw placed.these.left.len_is r
+
+-- ---- between two indices: at the first one stand so many entries, which are those between
+
+sub_is : (L : List (List ℕ × List ℕ)) (a b : ℕ) → a ≤ b → b ≤ length L → Some (slice_range L a b) ≡ sub L a b
+sub_is L a b h k = rw (le-leb a b h) (rw (le-leb b (length L) k) refl)
+
+module _ (entries offsets : List ℕ) (from to d : ℕ) (placed : ArePlaced entries offsets) (l : from < to) (h : to ≤ length offsets) where
+  pub between_are : AreEntries (drop (get_or offsets from d) entries) (to - from)
+  between_are =
+      let L = placed.these.pairs in
+      let bytes = drop (get_or offsets from d) entries in
+      let K = drop from L in
+      let n = to - from in
+      let first : from < length offsets = omega (arith, l, h) in
+      let long : to ≤ length L = omega (arith, h, placed.these.left.len_is) in
+      let s =
+      begins_split bytes placed.these.left.after (pair_parts (take n K)) (pair_parts (drop n K))
+      (rw (← (ap pair_parts (sym (take-append-drop n K)) ∙ pair_parts-append (take n K) (drop n K))) (walked_at entries offsets from d placed first).here) in
+      record {
+        pairs = slice_range L from to;
+        left = record { after = s.0; spelled = s.1; len_is = length-take-le n K (omega (arith, long, length-drop from L)) };
+        rises = Rising-sub text_order L from to (slice_range L from to) placed.these.rises (sub_is L from to (omega (arith, l)) long);
+      }
+
+  pub between_is : (these : AreEntries (drop (get_or offsets from d) entries) (to - from)) → these.pairs ≡ slice_range placed.these.pairs from to
+  unfolding between_are
+  between_is these =
+      left_one (drop (get_or offsets from d) entries) (to - from) these.pairs between_are.pairs these.left between_are.left
+
+-- ---- parts of a list
+pub slice_none : {X : Type 0} (L : List X) (a b : ℕ) → min b (length L) ≤ a → slice_range L a b ≡ []
+slice_none L a b h =
+    let e : length (take (b - a) (drop a L)) ≡ 0 = omega (arith, h, length-take (b - a) (drop a L), length-drop a L) in
+    nil_from_length (take (b - a) (drop a L)) e
+
+pub slice_clamped : {X : Type 0} (L : List X) (a b : ℕ) → slice_range L a (min b (length L)) ≡ slice_range L a b
+slice_clamped L a b =
+    let e : min b (length L) - a ≡ min (b - a) (length (drop a L)) = omega (arith, length-drop a L) in
+    ap (λ k. take k (drop a L)) e ∙ take_min (b - a) (drop a L)

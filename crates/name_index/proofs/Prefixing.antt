@@ -1,12 +1,10 @@
 -- How the first bytes of ascending names compare with a string, and where this splits the names.
 --     head_below, head_begins      what its first bytes say of a name;  side      on which side of the split it lies
 --     edge_place, edges_part      what the two edges say
-use Rattle.std.proofs.Common.{◌≡◌, ◌==◌, ◌&&◌, ◌⊎◌, inl, inr, ℕ, zero, suc, ◌+◌, ◌-◌, ◌≤◌, Bool, true, false, not, cond, List, [], ◌∷◌, length, filter, eqb-true, eq-eqb, true≢false, Some, Err, refl, sym, ap, ◌∙◌, subst, arith}
+use Rattle.std.proofs.Common.{◌≡◌, ◌==◌, ◌&&◌, ◌⊎◌, inl, inr, ℕ, zero, suc, ◌+◌, ◌-◌, ◌≤◌, Bool, true, false, not, cond, List, [], ◌∷◌, length, filter, eqb-true, eq-eqb, true≢false, Some, Err, refl, sym, ap, ◌∙◌, subst, arith, Ordering, Less, Equal, Greater}
 use Rattle.std.proofs.lemmas.Cmp.{ranked, tied_itself}
 use Rattle.std.specs.Cmp.{nat_cmp_total}
 use Rattle.std.specs.Ordering.{is_le, is_lt, nat_cmp, ordering_then}
-use Rattle.std.specs.declared.cmp.Ordering.{Ordering}
-use Rattle.std.specs.declared.cmp.Ordering.TheVariants.{Less, Equal, Greater}
 use Rattle.litemap.specs.Within.{IsCut}
 use Rattle.litemap.proofs.Cuts.{before_missing, length-before, sub_between}
 use Rattle.litemap_store.specs.Pairs.{place, sub}
@@ -14,9 +12,7 @@ use Rattle.litemap_store.specs.Queries.{OneSide}
 use Rattle.litemap_store.specs.Search.{Ascends, Finds}
 use Rattle.litemap_store.proofs.Lists.Parts.{Less-from_is_lt}
 use Rattle.litemap_store.proofs.Search.Splitting.{Ascends-by_query, Splits-from_Finds}
-use Rattle.name_index.specs.Prefixes.{begins}
-use Rattle.name_index.specs.Steps.{ArePlaced, head_order, leads_to}
-use Rattle.name_index.specs.Tables.{text_order}
+use Rattle.name_index.specs.{begins, ArePlaced, head_order, leads_to, text_order}
 use Rattle.name_index.proofs.Placing.{pairs_at}
 use Rattle.name_index.proofs.Scanning.{text_order_total}
 
@@ -93,24 +89,14 @@ side_is : (b : Bool) → is_lt (cond b Less Greater) ≡ b
 side_is true = refl
 side_is false = refl
 
-same_cut : {X : Type 0} (f g : X → Bool) (L : List X) (n : ℕ) → ((x : X) → f x ≡ g x) → IsCut f L n → IsCut g L n
-same_cut f g L n e h =
-    let same : f ≡ g = λ i x. e x i in
-    subst (λ t. IsCut t L n) same h
-
 module _ {entries offsets : List ℕ} (after : Bool) (text : List ℕ) (placed : ArePlaced entries offsets) where
   pub known_sides : (length (pairs_at placed) ≡ length offsets) × Ascends (side after text) (pairs_at placed)
   known_sides = (placed.these.left.len_is, Ascends-by_query (side_one after) placed.these.pairs text placed.these.rises)
 
   pub cut_sides : (n : ℕ) → Finds (side after text) (pairs_at placed) (Err n) → IsCut (λ p. leads_to after text p.0) placed.these.pairs n
   cut_sides n f =
-      same_cut (λ p. is_lt (side after text p.0)) (λ p. leads_to after text p.0) placed.these.pairs n (λ p. side_is (leads_to after text p.0))
-      (before_missing (λ name text. side after text name) text placed.these.pairs n (Splits-from_Finds (side_one after) placed.these.pairs text placed.these.rises (Err n) f))
-
--- ---- what is filtered
-
-pub same_filter : {X : Type 0} (f g : X → Bool) (L : List X) → ((x : X) → f x ≡ g x) → filter f L ≡ filter g L
-same_filter f g L e = λ i. filter (λ x. e x i) L
+      let same : (λ (p : List ℕ × List ℕ). is_lt (side after text p.0)) ≡ (λ p. leads_to after text p.0) = λ i p. side_is (leads_to after text p.0) i in
+      subst (λ t. IsCut t placed.these.pairs n) same (before_missing (λ name text. side after text name) text placed.these.pairs n (Splits-from_Finds (side_one after) placed.these.pairs text placed.these.rises (Err n) f))
 
 -- ---- what the two edges say
 
@@ -129,12 +115,11 @@ edges_ordered text (q ∷ L) (suc a) (suc b) p r = let k = edges_ordered text L 
 module _ (text : List ℕ) (L : List (List ℕ × List ℕ)) (a b : ℕ) (first : IsCut (λ p. leads_to false text p.0) L a) (last : IsCut (λ p. leads_to true text p.0) L b) where
   pub edge_place : a ≡ place text_order L text
   edge_place =
-      sym (length-before (λ p. leads_to false text p.0) L a first)
-      ∙ ap length (same_filter (λ (p : List ℕ × List ℕ). leads_to false text p.0) (λ p. is_lt (text_order p.0 text)) L (λ p. head_below text p.0))
+      sym (length-before (λ p. leads_to false text p.0) L a first) ∙ (λ i. length (filter (λ p. head_below text p.0 i) L))
 
   pub edges_part : sub L a b ≡ Some (filter (λ p. begins p.0 text) L)
   edges_part =
       let o = edges_ordered text L a b first last in
       let m : b ≡ a + (b - a) = omega (arith, o) in
       sub_between (λ p. leads_to false text p.0) (λ p. leads_to true text p.0) L a b (b - a) b refl m first last
-      ∙ ap Some (same_filter (λ (p : List ℕ × List ℕ). not (leads_to false text p.0) && leads_to true text p.0) (λ p. begins p.0 text) L (λ p. head_begins text p.0))
+      ∙ (λ i. Some (filter (λ p. head_begins text p.0 i) L))

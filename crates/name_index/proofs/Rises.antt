@@ -1,20 +1,24 @@
 -- Reading on while the keys ascend, and where they don't.
-use Rattle.std.proofs.Common.{◌≡◌, true, false, ℕ, ◌-◌, List, [], ◌∷◌, ◌++◌, length, Option, Some, None, slice_get, refl, sym, ap, ◌∙◌, subst, arith, length-append, Bor}
-use Rattle.std.specs.Ordering.{is_lt}
-use Rattle.std.specs.Prelude.{Bool, IfNone, IfSome, IsTrue}
-use Rattle.std.specs.declared.cmp.Ordering.TheVariants.{Less}
+use Rattle.std.proofs.Common.{◌≡◌, true, false, ℕ, ◌+◌, ◌-◌, ◌<◌, List, [], ◌∷◌, ◌++◌, length, Option, Some, None, slice_get, refl, sym, ap, ◌∙◌, subst, arith, inl, inr, ⊎_elim, append_assoc, length-append, Bor, is_lt, Bool, IfNone, IfSome, IsTrue, Less}
+use Rattle.std.proofs.lemmas.Bool.{cases_lt}
 use Rattle.litemap_store.specs.Counts.{RisesByAtMost}
 use Rattle.litemap_store.specs.Pairs.{AllBelow, Rising}
 use Rattle.litemap_store.specs.declared.count.Count.{Count}
+use Rattle.litemap_store.proofs.Last.Taken.{Rising-left}
 use Rattle.litemap_store.proofs.Stores.Counting.{in_turn, not_asked}
 use Rattle.litemap_store.proofs.Lists.Parts.{Less-from_is_lt}
 use Rattle.litemap_store.proofs.Lists.Ends.{AllBelow-from_last, Rising-push}
+use Rattle.name_table.specs.Faults.{NextFault, PartFault}
 use Rattle.name_table.specs.Parts.{Begins, Number, pair_parts}
+use Rattle.name_table.specs.Positions.{IsAfter, IsCounted, Remaining}
 use Rattle.name_table.specs.ReadOn.{after_further, begins_none, begins_then}
-use Rattle.name_table.specs.Remaining.{IsAfter, IsCounted, Remaining}
-use Rattle.name_index.specs.Faults.{AllRise}
-use Rattle.name_index.specs.Steps.{IsOpened, OfEntries}
-use Rattle.name_index.specs.Tables.{IsRisingTable, OfTable, text_order}
+use Rattle.name_table.specs.declared.error.NameFault.{NameFault}
+use Rattle.name_table.proofs.OneReading.{agree_pairs, begins_unique, fault_unique, pair_parts-inj, parts_no_fault}
+use Rattle.name_table.proofs.PartLemmas.{begins_split}
+use Rattle.name_index.specs.{AllRise, IsFault, IsOpened, NextStops, OfEntries, IsRisingTable, OfTable, StopsAt, text_order}
+use Rattle.name_index.specs.declared.error.NameTableFault.{NameTableFault}
+use Rattle.name_index.specs.declared.error.NameTableFault.TheVariants.{Format, NotAscending}
+use Rattle.name_index.proofs.KnownParts.{agree_numbers, one_number, pair_next}
 use Rattle.name_index.proofs.Scanning.{text_order_total}
 
 -- the key of the last pair, if there is one
@@ -114,3 +118,81 @@ rising_table bytes entries count o = record {
 -- what holds of its entries holds of the table
 pub of_entries : {P : List (List ℕ × List ℕ) → Type 0} (bytes entries : List ℕ) (count : ℕ) → Begins bytes (Number count ∷ []) entries → OfEntries entries count P → OfTable bytes P
 of_entries bytes entries count b e = (e.0.pairs, rising_table bytes entries count (record { counted = b; these = e.0 }), e.1)
+
+-- ---- a table whose keys ascend has no error, and other bytes have one at most
+
+number_no_fault : (bytes rest : List ℕ) (n : ℕ) (f : NameFault) → Begins bytes (Number n ∷ []) rest → PartFault (Number 0) bytes 0 f → ⊥
+number_no_fault bytes rest n f b w = parts_no_fault (Number n ∷ []) (Number 0 ∷ []) bytes rest 0 f (agree_numbers n 0) b (inl w)
+
+counted_one : (bytes : List ℕ) (s t : Remaining) → IsCounted bytes s → IsCounted bytes t → s ≡ t
+counted_one bytes s t c d =
+    let u = one_number bytes c.spelled d.spelled in
+    let p : s.place ≡ t.place = c.place ∙ ap length u.0 ∙ sym d.place in
+    λ i. record { rest = u.2 i; place = p i; left = u.1 i }
+
+-- of pairs that bytes begin with and more of them, these are the first ones
+first_pairs : (J K : List (List ℕ × List ℕ)) (bytes middle after : List ℕ) → Begins bytes (pair_parts J) middle → Begins bytes (pair_parts K) after → length J < length K → (q : List ℕ × List ℕ) × (more : List (List ℕ × List ℕ)) × (K ≡ J ++ q ∷ more) × Begins middle (pair_parts (q ∷ more)) after
+first_pairs J [] bytes middle after b k l = absurd (omega (arith, l))
+first_pairs [] (p ∷ K) bytes middle after b k l =
+    (p, K, refl, rw (← (b.split ∙ ap (λ c. c ++ middle) b.spelled)) k)
+first_pairs (q ∷ J) (p ∷ K) bytes middle after b k l =
+    let d = begins_split bytes middle (pair_parts (q ∷ [])) (pair_parts J) b in
+    let n = pair_next bytes d.0 after p q K k d.1 in
+    let r = first_pairs J K d.0 middle after d.2 n.1 (omega (arith, l)) in
+    (r.0, r.1, (λ i. sym n.0 i ∷ r.2 i), r.3)
+
+-- a pair that is there can be read
+next_no_fault : (t : Remaining) (f : NameFault) (q : List ℕ × List ℕ) (rest : List ℕ) → Begins t.rest (pair_parts (q ∷ [])) rest → NextFault t f → ⊥
+next_no_fault t f q rest b w = parts_no_fault (pair_parts (q ∷ [])) (pair_parts (w.0 ∷ [])) t.rest rest t.place f (agree_pairs (q ∷ []) (w.0 ∷ []) refl) b w.2
+
+-- nothing stops if a pair is the next one of some whose keys ascend
+next_stops_not : (t : Remaining) (J more : List (List ℕ × List ℕ)) (q : List ℕ × List ℕ) (after : List ℕ) (f : NameTableFault) → Rising text_order (J ++ q ∷ more) → Begins t.rest (pair_parts (q ∷ more)) after → NextStops J t f → ⊥
+next_stops_not t J more q after (Format f) r b w = let p = begins_split t.rest after (pair_parts (q ∷ [])) (pair_parts more) b in next_no_fault t f q p.0 p.1 w
+next_stops_not t J more q after (NotAscending at) r b w =
+    let n = pair_next t.rest w.0.rest after q w.1 more b w.2.spelled in
+    let e : J ++ q ∷ more ≡ (J ++ w.1 ∷ []) ++ more = sym (append_assoc J (q ∷ []) more) ∙ ap (λ p. (J ++ p ∷ []) ++ more) (sym n.0) in
+    w.4 (Rising-left text_order (J ++ w.1 ∷ []) more (rw (← e) r))
+
+next_stops_one : (t : Remaining) (J : List (List ℕ × List ℕ)) (f g : NameTableFault) → NextStops J t f → NextStops J t g → f ≡ g
+next_stops_one t J (Format f) (Format g) p q = ap (λ e. Format e) (fault_unique (pair_parts (p.0 ∷ [])) (pair_parts (q.0 ∷ [])) t.rest t.place f g (agree_pairs (p.0 ∷ []) (q.0 ∷ []) refl) p.2 q.2)
+next_stops_one t J (Format f) (NotAscending b) p q = absurd (next_no_fault t f q.1 q.0.rest q.2.spelled p)
+next_stops_one t J (NotAscending a) (Format g) p q = absurd (next_no_fault t g p.1 p.0.rest p.2.spelled q)
+next_stops_one t J (NotAscending a) (NotAscending b) p q = ap (λ i. NotAscending i) (p.3 ∙ sym q.3)
+
+-- nor before the last of them
+stops_not : (s : Remaining) (K : List (List ℕ × List ℕ)) (after : List ℕ) (f : NameTableFault) → Begins s.rest (pair_parts K) after → Rising text_order K → (w : StopsAt s f) → length w.1 < length K → ⊥
+stops_not s K after f k r w l =
+    let n = first_pairs w.1 K s.rest w.0.rest after w.2.spelled k l in
+    next_stops_not w.0 w.1 n.1 n.0 after f (rw (← n.2) r) n.3 w.4
+
+stops_one : (s : Remaining) (f g : NameTableFault) → StopsAt s f → StopsAt s g → f ≡ g
+stops_one s f g p q =
+    ⊎_elim (λ h. absurd (stops_not s q.1 q.0.rest f q.2.spelled q.3 p h))
+    (λ h. ⊎_elim (λ k. absurd (stops_not s p.1 p.0.rest g p.2.spelled p.3 q k)) (λ k. same (omega (arith, h, k))) (cases_lt (length q.1) (length p.1)))
+    (cases_lt (length p.1) (length q.1))
+  where
+    same : length p.1 ≡ length q.1 → f ≡ g
+    same l =
+        let u = begins_unique s.rest (agree_pairs p.1 q.1 l) p.2.spelled q.2.spelled in
+        let place : p.0.place ≡ q.0.place = p.2.place ∙ ap (λ c. s.place + length c) u.0 ∙ sym q.2.place in
+        let left : p.0.left ≡ q.0.left = omega (arith, l, p.2.count, q.2.count) in
+        let t : p.0 ≡ q.0 = λ i. record { rest = u.2 i; place = place i; left = left i } in
+        next_stops_one q.0 q.1 f g (rw (← (pair_parts-inj p.1 q.1 u.1)) (rw (← t) p.4)) q.4
+
+is_due : (t : Remaining) (J : List (List ℕ × List ℕ)) (f : NameTableFault) → NextStops J t f → 0 < t.left
+is_due t J (Format f) w = w.1
+is_due t J (NotAscending at) w = omega (arith, w.2.count)
+
+pub rising_no_fault : (bytes : List ℕ) (pairs : List (List ℕ × List ℕ)) (error : NameTableFault) → IsRisingTable bytes pairs → IsFault bytes error → ⊥
+rising_no_fault bytes pairs error t =
+    let d = begins_split bytes t.rest (Number (length pairs) ∷ []) (pair_parts pairs) t.table in
+    ⊎_elim (λ w. number_no_fault bytes d.0 (length pairs) w.0 d.1 w.2)
+    (λ w.
+    let u = one_number bytes d.1 w.1.spelled in
+    stops_not w.0 pairs t.rest error (rw (← u.2) d.2) t.rises w.2 (omega (arith, u.1, w.2.2.count, is_due w.2.0 w.2.1 error w.2.4)))
+
+pub rising_fault_unique : (bytes : List ℕ) (f g : NameTableFault) → IsFault bytes f → IsFault bytes g → f ≡ g
+rising_fault_unique bytes f g (inl p) (inl q) = p.1 ∙ ap (λ e. Format e) (fault_unique (Number 0 ∷ []) (Number 0 ∷ []) bytes 0 p.0 q.0 (agree_numbers 0 0) (inl p.2) (inl q.2)) ∙ sym q.1
+rising_fault_unique bytes f g (inl p) (inr q) = absurd (number_no_fault bytes q.0.rest q.0.left p.0 q.1.spelled p.2)
+rising_fault_unique bytes f g (inr p) (inl q) = absurd (number_no_fault bytes p.0.rest p.0.left q.0 p.1.spelled q.2)
+rising_fault_unique bytes f g (inr p) (inr q) = stops_one q.0 f g (subst (λ s. StopsAt s f) (counted_one bytes p.0 q.0 p.1 q.1) p.2) q.2

@@ -1,11 +1,9 @@
 -- What a walk over entries knows: the pairs from an index on are still to be read, and those before it are below the key.
-use Rattle.std.proofs.Common.{◌≡◌, ℕ, ◌+◌, ◌<◌, ◌≤◌, List, [], ◌∷◌, length, drop, get_or, slice_get, Some, None, Ok, Err, refl, sym, ap, ◌∙◌, subst, arith, Bor}
+use Rattle.std.proofs.Common.{◌≡◌, ℕ, ◌+◌, ◌<◌, ◌≤◌, List, [], ◌∷◌, length, drop, get_or, slice_get, Some, None, Ok, Err, refl, sym, ap, ◌∙◌, subst, arith, Bor, Ordering, Equal}
 use Rattle.std.proofs.lemmas.List.{drop_more}
 use Rattle.std.proofs.lemmas.Option.{slice_get-get_or}
 use Rattle.std.specs.Cmp.{IsTotalOrder}
 use Rattle.std.specs.Cmp.Lexicographic.{on_texts}
-use Rattle.std.specs.declared.cmp.Ordering.{Ordering}
-use Rattle.std.specs.declared.cmp.Ordering.TheVariants.{Equal}
 use Rattle.litemap_store.specs.Counts.{RisesByAtMost}
 use Rattle.litemap_store.specs.Pairs.{Rising, at, value_at}
 use Rattle.litemap_store.specs.Queries.{OneSide, key_one_side}
@@ -16,9 +14,9 @@ use Rattle.litemap_store.proofs.Stores.Counting.{not_asked}
 use Rattle.litemap_store.proofs.Search.Halving.{Narrowed, Narrowed-whole, Finds-here, Finds-nowhere}
 use Rattle.litemap_store.proofs.Search.Splitting.{Ascends-by_query, Splits-from_Finds, there-from_Splits}
 use Rattle.name_table.specs.Parts.{Begins, pair_parts}
-use Rattle.name_index.specs.Steps.{AreEntries, BeginsPair, IsScanned}
-use Rattle.name_index.specs.Tables.{text_order}
-use Rattle.name_index.proofs.KnownParts.{pair_first, pair_next}
+use Rattle.name_table.proofs.PartLemmas.{begins_split}
+use Rattle.name_index.specs.{AreEntries, BeginsPair, IsScanned, text_order}
+use Rattle.name_index.proofs.KnownParts.{pair_next}
 
 pub text_order_total : IsTotalOrder text_order
 text_order_total = on_texts (λ (a : List ℕ). a)
@@ -43,7 +41,7 @@ module _ {entries : List ℕ} {count : ℕ} {rest : List ℕ} {index : ℕ} (w :
   cut_here = subst (λ L. Begins rest (pair_parts L) w.these.left.after) (drop_more w.these.pairs index ([], []) within) w.here
 
   pub walked_begins : BeginsPair rest
-  walked_begins = let f = pair_first rest w.these.left.after (get_or w.these.pairs index ([], [])) (drop (index + 1) w.these.pairs) cut_here in (get_or w.these.pairs index ([], []), f.0, f.1)
+  walked_begins = let f = begins_split rest w.these.left.after (pair_parts (get_or w.these.pairs index ([], []) ∷ [])) (pair_parts (drop (index + 1) w.these.pairs)) cut_here in (get_or w.these.pairs index ([], []), f.0, f.1)
 
   module _ (pair : List ℕ × List ℕ) (later : List ℕ) (read : Begins rest (pair_parts (pair ∷ [])) later) where
     pub next_here : (pair ≡ get_or w.these.pairs index ([], [])) × Begins later (pair_parts (drop (index + 1) w.these.pairs)) w.these.left.after

@@ -1,20 +1,14 @@
 -- What is written of an index stays as it is when further bytes come after it.
-use Rattle.std.proofs.Common.{◌≡◌, ℕ, ◌+◌, ◌*◌, ◌<◌, ◌≤◌, List, [], ◌∷◌, ◌++◌, length, take, drop, map, get_or, slice_get, Some, refl, sym, ap, ◌∙◌, arith, append_assoc, length-append, inl, inr}
+use Rattle.std.proofs.Common.{◌≡◌, ℕ, ◌+◌, ◌*◌, ◌<◌, ◌≤◌, List, [], ◌∷◌, ◌++◌, length, take, drop, map, get_or, slice_get, Some, refl, sym, ap, ◌∙◌, arith, append_assoc, length-append, inl, inr, eq-or-lt_of_le, option_map, Bor}
 use Rattle.std.specs.Int.{from_le_bytes, w32}
-use Rattle.std.proofs.Math.Nat.{eq-or-lt_of_le}
 use Rattle.std.proofs.lemmas.List.{drop-append-le, length-drop, length-take, take-append-le, length-map}
 use Rattle.std.proofs.lemmas.List.Sums.{sum_by-cons, sum_by-take-le, sum_by_more}
-use Rattle.std.specs.Option.{option_map}
 use Rattle.std.proofs.lemmas.Option.{get_or_from_slice_get, slice_get-get_or, slice_get-map, slice_get_within}
 use Rattle.litemap.specs.ByBytes.{by_bytes}
 use Rattle.litemap_store.specs.Pairs.{Rising}
+use Rattle.name_table.specs.Positions.{shown}
 use Rattle.name_table.specs.declared.number.TheConstants.{NUMBER_LIMIT}
-use Rattle.name_index.specs.Index.{BeginsAt, IsIndex, IsNumberAt, IsPairAt, IsTextAt}
-use Rattle.name_index.specs.Steps.{Adds, AddsPairs, AreOffsets}
-use Rattle.name_index.specs.Tables.{text_order}
-use Rattle.name_index.specs.Writes.{entries_size, pair_size}
-use denote.Ref.{Bor}
-use Rattle.name_table.specs.Remaining.{shown}
+use Rattle.name_index.specs.{BeginsAt, IsIndex, IsNumberAt, IsPairAt, IsTextAt, Adds, AddsPairs, AreOffsets, text_order, entries_size, pair_size}
 use Rattle.name_table.proofs.ReadAgain.{shown_rise}
 
 -- ---- bytes after bytes
@@ -143,4 +137,4 @@ place_next pairs index d place next l e n =
 pub shown_written : (old new : List ℕ) (pairs : List (Bor (List ℕ) × Bor (List ℕ))) → AreOffsets old (map shown pairs) (length pairs) → AddsPairs old new (map shown pairs) (length pairs) → Rising by_bytes pairs → IsIndex new (map shown pairs)
 shown_written old new pairs p a rises =
     let e : length pairs ≡ length (map shown pairs) = sym (length-map pairs shown) in
-    index_written old new (map shown pairs) (rw (← e) p) (rw (← e) a) (shown_rise pairs rises)
+    index_written old new (map shown pairs) (rw (← e) p) (rw (← e) a) ((shown_rise pairs).0 rises)

@@ -1,6 +1,7 @@
 -- An index of names: the number of its entries, the offset of each, and the entries. A string is the list of its bytes.
 use Rattle.std.specs.Prelude.{◌≡◌, ℕ, ◌+◌, ◌*◌, ◌≤◌, List, length, take, drop, IfErr, IfOk, IsUtf8, Result, Some, slice_get, ⊤}
 use Rattle.std.specs.Int.{from_le_bytes, w32}
+use Rattle.std.specs.List.{sum_by}
 use Rattle.litemap_store.specs.Pairs.{Rising}
 use Rattle.name_index.specs.Tables.{text_order}
 use Rattle.name_index.specs.declared.error.IndexFault.{IndexFault}
@@ -53,3 +54,21 @@ pub record OpensIndex (bytes : List ℕ) (result : Result (List ℕ) IndexFault)
   pub same : IfOk result (λ names. names ≡ bytes)
   pub index : IfOk result (λ _. OfIndex bytes (λ _. ⊤))
   pub error : IfErr result (λ _. NoIndex bytes)
+
+-- ---- what is written for an index
+
+-- how many bytes a key and its value take, with their numbers
+abbrev pub pair_size : List ℕ × List ℕ → ℕ
+pair_size pair = 8 + length pair.0 + length pair.1
+
+-- how many bytes pairs take
+abbrev pub entries_size : List (List ℕ × List ℕ) → ℕ
+entries_size pairs = sum_by pair_size pairs
+
+-- how many bytes an index of them takes
+abbrev pub index_size : List (List ℕ × List ℕ) → ℕ
+index_size pairs = 4 + 4 * length pairs + entries_size pairs
+
+-- bytes have one index at most
+abbrev pub IndexIsOne : Type 0
+IndexIsOne = (bytes : List ℕ) (J K : List (List ℕ × List ℕ)) → IsIndex bytes J → IsIndex bytes K → J ≡ K

@@ -1,13 +1,14 @@
 -- Name tables whose keys ascend. A string is the list of its bytes.
-use Rattle.std.specs.Prelude.{◌≡◌, ℕ, List, Option, Result, map}
+use Rattle.std.specs.Prelude.{◌≡◌, ◌==◌, ℕ, Bool, List, Option, Result, Some, filter, map}
 use Rattle.std.specs.Cmp.Lexicographic.{slice_cmp}
+use Rattle.std.specs.List.{starts_with}
 use Rattle.std.specs.Option.{option_copied}
 use Rattle.std.specs.Ordering.{nat_cmp}
 use Rattle.std.specs.declared.cmp.Ordering.{Ordering}
-use Rattle.litemap_store.specs.Pairs.{Rising, index_of, value_at}
+use Rattle.litemap_store.specs.Pairs.{Rising, index_of, place, sub, value_at}
 use Rattle.litemap.specs.ByBytes.{by_bytes}
 use Rattle.name_table.specs.Parts.{Begins, IsTable, table_parts}
-use Rattle.name_table.specs.Remaining.{shown}
+use Rattle.name_table.specs.Positions.{shown}
 use denote.Ref.{Bor}
 
 -- the order of strings: by their bytes, where a proper prefix is less
@@ -31,6 +32,15 @@ Gets key value pairs = option_copied value ≡ value_at text_order pairs key
 -- the index of the key, or the index where it would go
 abbrev pub FindsIndex : List ℕ → Result ℕ ℕ → List (List ℕ × List ℕ) → Type 0
 FindsIndex key index pairs = index ≡ index_of text_order pairs key
+
+-- the name begins with the string
+abbrev pub begins : List ℕ → List ℕ → Bool
+begins name text = starts_with (λ a b. a == b) name text
+
+-- the range of the names that begin with the string, after all names that are below it
+pub record IsPrefixRange (text : List ℕ) (start end : ℕ) (pairs : List (List ℕ × List ℕ)) : Type 0 where
+  pub start_is : start ≡ place text_order pairs text
+  pub names : sub pairs start end ≡ Some (filter (λ p. begins p.0 text) pairs)
 
 -- bytes that are a table of a map's pairs, as those that are written for it, begin with a table of these pairs, whose keys
 -- ascend

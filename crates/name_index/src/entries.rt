@@ -2,10 +2,9 @@
 ghost use Rattle.std.specs.Prelude.{◌≡◌, ◌+◌, ◌<◌, ◌∷◌, [], Some, slice_get};
 ghost use Rattle.litemap_store.specs.Counts.{RisesByAtMost};
 ghost use Rattle.litemap_store.specs.Pairs.{place};
-ghost use Rattle.name_index.specs.Steps.{AreEntries, BeginsPair, BeginsText, IsScanned, OfEntries};
-ghost use Rattle.name_index.specs.Tables.{text_order};
+ghost use Rattle.name_index.specs.{AreEntries, BeginsPair, BeginsText, IsScanned, OfEntries, text_order};
 ghost use Rattle.name_table.specs.Parts.{Begins, pair_parts, text_parts};
-ghost use Rattle.name_table.specs.Remaining.{shown};
+ghost use Rattle.name_table.specs.Positions.{shown};
 
 use litemap_store::store::Count;
 use name_table::parts::Cursor;

@@ -1,11 +1,9 @@
 //! A name table with the offset of each entry.
-ghost use Rattle.std.specs.Prelude.{◌≡◌, ◌==◌, ◌*◌, ◌<◌, IfErr, IfOk, OnErr, OnOk, length, map, slice_get, slice_range};
-ghost use Rattle.std.specs.Option.{option_map};
+ghost use Rattle.std.specs.Prelude.{◌≡◌, ◌==◌, ◌*◌, ◌<◌, IfErr, IfOk, OnErr, OnOk, length, map, option_map, slice_get};
+ghost use Rattle.std.specs.Prelude.{slice_range};
 ghost use Rattle.litemap_store.specs.Counts.{RisesByAtMost, digits};
-ghost use Rattle.name_index.specs.Far.{IfTooFar, IsFar};
-ghost use Rattle.name_index.specs.Prefixes.{IsPrefixRange};
-ghost use Rattle.name_index.specs.Tables.{FindsIndex, Gets, OfTable};
-ghost use Rattle.name_table.specs.Remaining.{shown};
+ghost use Rattle.name_index.specs.{FindsIndex, Gets, IfTooFar, IsFar, IsPrefixRange, OfTable};
+ghost use Rattle.name_table.specs.Positions.{shown};
 
 use crate::error::NameIndexFault;
 use crate::name_entries::{NameEntries, map_of};
@@ -29,7 +27,7 @@ pub struct NameIndex<'a> {
 
 impl<'a> Model for NameIndex<'a> {
     ghost use Rattle.std.specs.Prelude.{ℕ, List};
-    ghost use Rattle.name_index.specs.Steps.{IsIndexed};
+    ghost use Rattle.name_index.specs.{IsIndexed};
 
     ghost Value = { List ℕ };
 

@@ -2,11 +2,10 @@
 ghost use Rattle.std.specs.Prelude.{◌≡◌, ◌+◌, ◌≤◌, ◌<◌, Err, IfErr, IfOk, OnOk, length, map};
 ghost use Rattle.litemap.specs.ByBytes.{by_bytes};
 ghost use Rattle.litemap_store.specs.Pairs.{Rising};
-ghost use Rattle.name_index.specs.Index.{IsIndex, IsNumberAt, IsPairAt, IsTextAt};
-ghost use Rattle.name_index.specs.Steps.{Adds, AddsPairs, AreOffsets};
-ghost use Rattle.name_index.specs.Writes.{entries_size, index_size, pair_size};
-ghost use Rattle.name_table.specs.Remaining.{shown};
-ghost use Rattle.name_table.specs.Writes.{IfTooLarge};
+ghost use Rattle.name_index.specs.{Adds, AddsPairs, AreOffsets, IsIndex, IsNumberAt, IsPairAt, IsTextAt, entries_size};
+ghost use Rattle.name_index.specs.{index_size, pair_size};
+ghost use Rattle.name_table.specs.Positions.{shown};
+ghost use Rattle.name_table.specs.Reads.{IfTooLarge};
 ghost use Rattle.name_table.specs.declared.error.NameWriteFault.TheVariants.{TooLarge};
 
 use name_table::parts::NUMBER_LIMIT;

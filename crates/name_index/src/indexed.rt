@@ -1,11 +1,8 @@
 //! Names looked up by the offsets that stand before them in the bytes, which each call checks or which were read once.
-ghost use Rattle.std.specs.Prelude.{◌≡◌, ◌==◌, ◌-◌, IfErr, IfOk, OnOk, length, slice_get};
-ghost use Rattle.std.specs.Option.{option_map};
+ghost use Rattle.std.specs.Prelude.{◌≡◌, ◌==◌, ◌-◌, IfErr, IfOk, OnOk, length, option_map, slice_get};
 ghost use Rattle.litemap_store.specs.Counts.{RisesByAtMost, digits};
-ghost use Rattle.name_index.specs.Index.{IfIndex, NoIndex, OfIndex, OpensIndex};
-ghost use Rattle.name_index.specs.Steps.{HasOffsets};
-ghost use Rattle.name_index.specs.Tables.{FindsIndex, Gets};
-ghost use Rattle.name_table.specs.Remaining.{shown};
+ghost use Rattle.name_index.specs.{FindsIndex, Gets, IfIndex, NoIndex, OfIndex, OpensIndex};
+ghost use Rattle.name_table.specs.Positions.{shown};
 
 use crate::error::IndexFault;
 use crate::indexed_search::{entry_at, find, follow, number_at};
@@ -26,7 +23,7 @@ pub struct IndexedNames<'a> {
 
 impl<'a> Model for IndexedNames<'a> {
     ghost use Rattle.std.specs.Prelude.{ℕ, List};
-    ghost use Rattle.name_index.specs.Steps.{HasOffsets};
+    ghost use Rattle.name_index.specs.{HasOffsets};
 
     ghost Value = { List ℕ };
 
@@ -50,11 +47,28 @@ impl<'a> IndexedNames<'a> {
         Ok(IndexedNames { bytes, len })
     }
 
-    pub(crate) fn parts(&self) -> (&'a [u8], usize)
-        ensures offsets { HasOffsets result.0.now result.1 }
-        ensures bytes { result.0.now ≡ self.now }
+    /// Opens the index that the bytes are, and reads it once, so that no lookup returns an error.
+    ///
+    /// It makes one comparison for each key but the first, and takes no memory. The error is that of the first entry that can't
+    /// be read, or whose key isn't above the one before it.
+    pub fn open_checked(bytes: &'a [u8]) -> Result<CheckedNames<'a>, IndexFault>
+        ensures opens { OpensIndex bytes.now result }
     {
-        (self.bytes, self.len)
+        Self::open_checked_counted(bytes, &mut Count::new())
+    }
+
+    /// `open_checked`, counting its comparisons: at most one for each key but the first. If it returns an error, nothing is
+    /// promised of them.
+    pub fn open_checked_counted(
+        bytes: &'a [u8],
+        count: &mut Count,
+    ) -> Result<CheckedNames<'a>, IndexFault>
+        ensures opens { OpensIndex bytes.now result }
+        ensures cost { OnOk result (OfIndex bytes.now (λ pairs. RisesByAtMost (length pairs - 1) count.old count.new)) }
+    {
+        let names = IndexedNames::open(bytes)?;
+        follow(names.bytes, names.len, count)?;
+        Ok(CheckedNames { names })
     }
 
     /// Returns the number of entries.
@@ -138,40 +152,13 @@ pub struct CheckedNames<'a> {
 
 impl<'a> Model for CheckedNames<'a> {
     ghost use Rattle.std.specs.Prelude.{ℕ, List, ⊤};
-    ghost use Rattle.name_index.specs.Index.{OfIndex};
+    ghost use Rattle.name_index.specs.{OfIndex};
 
     ghost Value = { List ℕ };
 
     ghost view = { λ t. t.names };
 
     ghost invariant = { λ t. OfIndex t.names (λ _. ⊤) };
-}
-
-impl<'a> IndexedNames<'a> {
-    /// Opens the index that the bytes are, and reads it once, so that no lookup returns an error.
-    ///
-    /// It makes one comparison for each key but the first, and takes no memory. The error is that of the first entry that can't
-    /// be read, or whose key isn't above the one before it.
-    pub fn open_checked(bytes: &'a [u8]) -> Result<CheckedNames<'a>, IndexFault>
-        ensures opens { OpensIndex bytes.now result }
-    {
-        Self::open_checked_counted(bytes, &mut Count::new())
-    }
-
-    /// `open_checked`, counting its comparisons: at most one for each key but the first. If it returns an error, nothing is
-    /// promised of them.
-    pub fn open_checked_counted(
-        bytes: &'a [u8],
-        count: &mut Count,
-    ) -> Result<CheckedNames<'a>, IndexFault>
-        ensures opens { OpensIndex bytes.now result }
-        ensures cost { OnOk result (OfIndex bytes.now (λ pairs. RisesByAtMost (length pairs - 1) count.old count.new)) }
-    {
-        let names = IndexedNames::open(bytes)?;
-        let (bytes, len) = names.parts();
-        follow(bytes, len, count)?;
-        Ok(CheckedNames { names })
-    }
 }
 
 impl<'a> CheckedNames<'a> {

@@ -1,11 +1,10 @@
 //! What stands at offsets of an index, what is found among its entries, and whether they are all there.
 ghost use Rattle.std.specs.Prelude.{◌+◌, ◌<◌, ◌^◌, ◌-◌, IfErr, IfOk, OnOk, length, ⊤};
-ghost use Rattle.name_index.specs.Index.{BeginsAt, IfIndex, IsEntry, IsNumberAt, IsPairAt, IsTextAt, NoIndex, OfIndex};
-ghost use Rattle.name_index.specs.Steps.{HasKey, HasOffsets, NoEntry};
-ghost use Rattle.name_table.specs.Remaining.{shown};
+ghost use Rattle.name_index.specs.{BeginsAt, HasKey, HasOffsets, IfIndex, IsEntry, IsNumberAt, IsPairAt, IsTextAt, NoEntry};
+ghost use Rattle.name_index.specs.{NoIndex, OfIndex, text_order};
+ghost use Rattle.name_table.specs.Positions.{shown};
 ghost use Rattle.litemap_store.specs.Counts.{RisesByAtMost, digits};
 ghost use Rattle.litemap_store.specs.Splits.{Splits};
-ghost use Rattle.name_index.specs.Tables.{text_order};
 
 use crate::error::IndexFault;
 use crate::rising::is_above;

@@ -1,7 +1,5 @@
 //! Laws over the definitions of `specs/`. Each function does nothing: its contract is the law.
-ghost use Rattle.name_index.specs.Faults.{AscendingErrorIsOne, AscendingHasNoError};
-ghost use Rattle.name_index.specs.Tables.{WrittenIsOpened};
-ghost use Rattle.name_index.specs.Writes.{IndexIsOne};
+ghost use Rattle.name_index.specs.{IndexIsOne, AscendingErrorIsOne, AscendingHasNoError, WrittenIsOpened};
 
 /// Bytes are an index of one list of pairs at most. What is written for a map is opened as the map's pairs, and no others.
 pub fn index_is_one()

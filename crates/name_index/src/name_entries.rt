@@ -4,10 +4,8 @@ ghost use Rattle.std.specs.Iterator.{at_most};
 ghost use Rattle.std.specs.Map.Iter.{TakesFirst};
 ghost use Rattle.litemap_store.specs.Hints.{HintsExactly};
 ghost use Rattle.litemap_store.specs.Pairs.{Rising};
-ghost use Rattle.name_index.specs.Left.{Left, Left-prop};
-ghost use Rattle.name_index.specs.Steps.{AreEntries, OfEntries};
-ghost use Rattle.name_index.specs.Tables.{text_order};
-ghost use Rattle.name_table.specs.Remaining.{shown};
+ghost use Rattle.name_index.specs.{AreEntries, Left, Left-prop, OfEntries, text_order};
+ghost use Rattle.name_table.specs.Positions.{shown};
 
 use crate::entries::read_valid_pair;
 use litemap::LiteMap;
@@ -27,7 +25,7 @@ pub struct NameEntries<'a> {
 
 impl<'a> Model for NameEntries<'a> {
     ghost use Rattle.std.specs.Prelude.{ℕ, List};
-    ghost use Rattle.name_index.specs.Left.{AreLeft};
+    ghost use Rattle.name_index.specs.{AreLeft};
 
     ghost Value = { List (List ℕ × List ℕ) };
 

@@ -1,14 +1,12 @@
 //! The offsets of entries, and what is found by them: an entry, a key, and the names that begin with a string.
-ghost use Rattle.std.specs.Prelude.{◌≡◌, ◌+◌, ◌<◌, ◌≤◌, ◌∷◌, ◌++◌, [], IfErr};
-ghost use Rattle.std.specs.Prelude.{IfOk, OnErr, OnOk, Some, length, slice_get, slice_range, take};
+ghost use Rattle.std.specs.Prelude.{◌≡◌, ◌+◌, ◌<◌, ◌≤◌, ◌∷◌, ◌++◌, [], IfErr, IfOk, OnErr, OnOk, Some, length, slice_get};
+ghost use Rattle.std.specs.Prelude.{slice_range, take};
 ghost use Rattle.litemap_store.specs.Counts.{RisesByAtMost, digits};
 ghost use Rattle.litemap_store.specs.Splits.{Splits};
-ghost use Rattle.name_index.specs.Far.{AreFar, IfTooFar};
-ghost use Rattle.name_index.specs.Steps.{AreEntries, ArePlaced, AsPlaced, IsKeyAt, leads_to};
-ghost use Rattle.name_index.specs.Tables.{text_order};
+ghost use Rattle.name_index.specs.{AreEntries, AreFar, ArePlaced, AsPlaced, IfTooFar, IsKeyAt, leads_to, text_order};
 ghost use Rattle.name_index.specs.declared.error.NameIndexFault.TheVariants.{TooFar};
 ghost use Rattle.name_table.specs.declared.number.TheConstants.{NUMBER_LIMIT};
-ghost use Rattle.name_table.specs.Remaining.{shown};
+ghost use Rattle.name_table.specs.Positions.{shown};
 ghost use Rattle.litemap.specs.Within.{IsCut};
 
 use crate::entries::{read_valid_pair, read_valid_string};

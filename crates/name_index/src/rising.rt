@@ -2,8 +2,7 @@
 ghost use Rattle.std.specs.Prelude.{◌≡◌, ◌-◌, IfErr, IfNone, IfSome, IsTrue, OnOk};
 ghost use Rattle.std.specs.Ordering.{is_lt};
 ghost use Rattle.litemap_store.specs.Counts.{RisesByAtMost};
-ghost use Rattle.name_index.specs.Faults.{AllRise, StopsAt};
-ghost use Rattle.name_index.specs.Tables.{text_order};
+ghost use Rattle.name_index.specs.{AllRise, StopsAt, text_order};
 
 use crate::error::NameTableFault;
 use litemap_read::PairSource;

@@ -1,12 +1,9 @@
 //! A name table that is scanned.
-ghost use Rattle.std.specs.Prelude.{◌≡◌, ◌==◌, ◌+◌, ◌-◌, ◌<◌, IfOk, OnErr, OnOk, length, map, slice_get};
-ghost use Rattle.std.specs.Option.{option_map};
+ghost use Rattle.std.specs.Prelude.{◌≡◌, ◌==◌, ◌+◌, ◌-◌, ◌<◌, IfOk, OnErr, OnOk, length, map, option_map, slice_get};
 ghost use Rattle.litemap_store.specs.Counts.{RisesByAtMost};
 ghost use Rattle.litemap_store.specs.Pairs.{place};
-ghost use Rattle.name_index.specs.Faults.{Opens};
-ghost use Rattle.name_index.specs.Steps.{IsOpened};
-ghost use Rattle.name_index.specs.Tables.{FindsIndex, Gets, OfTable, text_order};
-ghost use Rattle.name_table.specs.Remaining.{shown};
+ghost use Rattle.name_index.specs.{FindsIndex, Gets, IsOpened, OfTable, Opens, text_order};
+ghost use Rattle.name_table.specs.Positions.{shown};
 
 use crate::entries::{entry_at, scan};
 use crate::error::NameTableFault;
@@ -31,7 +28,7 @@ pub struct NameTable<'a> {
 
 impl<'a> Model for NameTable<'a> {
     ghost use Rattle.std.specs.Prelude.{ℕ, List};
-    ghost use Rattle.name_index.specs.Steps.{IsOpened};
+    ghost use Rattle.name_index.specs.{IsOpened};
 
     ghost Value = { List ℕ };
 
@@ -86,7 +83,7 @@ impl<'a> NameTable<'a> {
     pub fn is_empty(&self) -> bool
         ensures { OfTable self.now (λ pairs. result ≡ (length pairs == 0)) }
     {
-        self.len == 0
+        self.len() == 0
     }
 
     /// Returns the value of a key, or `None` if it isn't there.

@@ -1,50 +1,32 @@
 -- Each list of bytes begins with a table, or has an error.
-use Rattle.std.proofs.Common.{◌≡◌, ◌≢◌, ◌⊎◌, inl, inr, ℕ, zero, suc, ◌+◌, ◌-◌, ◌*◌, ◌%◌, ◌≤◌, Bool, true, false, List, [], ◌∷◌, length, take, drop, refl, sym, arith, ⊎_elim}
+use Rattle.std.proofs.Common.{◌≡◌, ◌≢◌, ◌⊎◌, inl, inr, ℕ, zero, suc, ◌+◌, ◌-◌, ◌*◌, ◌%◌, ◌≤◌, Bool, true, false, List, [], ◌∷◌, length, take, drop, refl, sym, arith, ⊎_elim, length-take-le, take-append-drop}
 use Rattle.std.proofs.lemmas.Bool.{cases_lt}
-use Rattle.std.proofs.lemmas.List.{length-take-le, take-append-drop}
 use Rattle.std.proofs.lemmas.Str.{IsUtf8-from_is_utf8, is_utf8-from_IsUtf8}
 use Rattle.std.specs.Str.{is_utf8}
-use Rattle.name_table.specs.Faults.{AreOfPairs, AreOfText, Fault, NumberFault, TableFault}
-use Rattle.name_table.specs.Parts.{Begins, Number, pair_parts, table_parts, text_parts}
-use Rattle.name_table.specs.Position.{Position}
-use Rattle.name_table.specs.Remaining.{IsAfter, IsCounted, Remaining}
-use Rattle.name_table.specs.Steps.{BeginsNumber, WhyUnread}
-use Rattle.name_table.specs.declared.error.NameFault.{NameFault}
-use Rattle.name_table.specs.declared.error.NameFault.TheVariants.{Truncated, NotUtf8, NumberTooLarge}
-use Rattle.name_table.specs.declared.number.TheConstants.{MOST_BYTES, NUMBER_LIMIT}
-use Rattle.name_table.specs.declared.number.Unread.{Unread}
-use Rattle.name_table.specs.declared.number.Unread.TheVariants.{Ends, TooLong}
-use Rattle.name_table.proofs.FaultLemmas.{length_fault, text_fault}
-use Rattle.name_table.proofs.NumberLemmas.{begins_last, begins_more, begins_number, cut_fault, large_fault, long_fault, unread_more}
-use Rattle.name_table.proofs.PartLemmas.{begins_text}
-use Rattle.name_table.specs.ReadOn.{begins_none, begins_pairs, begins_then}
-use Rattle.name_table.proofs.Remains.{fault_later, is_next, key_fault, pairs_from_next, value_fault}
-use Rattle.name_table.proofs.WholeTables.{count_fault, pairs_fault}
+use Rattle.name_table.specs.{Begins, Number, pair_parts, table_parts, text_parts, Position, IsAfter, IsCounted, Remaining, Fault, PartFault, TextFault, PairsFault, BeginsNumber, WhyUnread, begins_none, begins_pairs, begins_then, NameFault, Truncated, NotUtf8, NumberTooLarge, MOST_BYTES, NUMBER_LIMIT}
+use Rattle.name_table.proofs.PartLemmas.{begins_last, begins_more, begins_number, begins_text, large_fault, text_fault, unread_fault, unread_more}
+use Rattle.name_table.proofs.Remains.{fault_later, is_next, key_fault, pairs_fault, pairs_from_next, value_fault}
 
 -- ---- a number
 
-abbrev NumberRead : ℕ → List ℕ → Type 0
-NumberRead room bytes = ((n : ℕ) × (rest : List ℕ) × BeginsNumber bytes room n rest) ⊎ ((why : Unread) × WhyUnread why room bytes)
+abbrev NumberRead : ℕ → List ℕ → ℕ → Type 0
+NumberRead room bytes place = ((n : ℕ) × (rest : List ℕ) × BeginsNumber bytes room n rest) ⊎ ((f : NameFault) × WhyUnread f place room bytes)
 
-number_read : (room : ℕ) (bytes : List ℕ) → NumberRead room bytes
-number_read zero bytes = inr (TooLong, ([], bytes, refl, tt, refl))
-number_read (suc room) [] = inr (Ends, (tt, omega arith))
-number_read (suc room) (b ∷ bytes) =
+number_read : (room : ℕ) (bytes : List ℕ) (place : ℕ) → NumberRead room bytes place
+number_read zero bytes place = inr (NumberTooLarge place, ([], bytes, refl, refl, tt, refl))
+number_read (suc room) [] place = inr (Truncated place, (refl, tt, omega arith))
+number_read (suc room) (b ∷ bytes) place =
     let k : suc room ≢ 0 = λ e. omega (arith, e) in
     let less : suc room - 1 ≡ room = omega arith in
-    let more : 128 ≤ b → NumberRead room bytes → NumberRead (suc room) (b ∷ bytes) = λ h.
+    let more : 128 ≤ b → NumberRead room bytes place → NumberRead (suc room) (b ∷ bytes) place = λ h.
     ⊎_elim
     (λ r. inl (b % 128 + 128 * r.0, r.1, begins_more (b ∷ bytes) bytes b b (suc room) refl refl k r.0 r.1 h (rw less r.2)))
-    (λ w. inr (w.0, unread_more (b ∷ bytes) bytes b b (suc room) refl refl k w.0 h (rw less w.1))) in
-    ⊎_elim (λ h. inl (b, bytes, begins_last (b ∷ bytes) bytes b b (suc room) refl refl k h)) (λ h. more h (number_read room bytes)) (cases_lt b 128)
+    (λ w. inr (w.0, unread_more (b ∷ bytes) bytes b b (suc room) refl refl k w.0 place h (rw less w.1))) in
+    ⊎_elim (λ h. inl (b, bytes, begins_last (b ∷ bytes) bytes b b (suc room) refl refl k h)) (λ h. more h (number_read room bytes place)) (cases_lt b 128)
 
 -- a number below 2^32
 abbrev LengthRead : List ℕ → ℕ → Type 0
-LengthRead bytes place = ((n : ℕ) × (rest : List ℕ) × Begins bytes (Number n ∷ []) rest) ⊎ ((f : NameFault) × NumberFault bytes place f)
-
-unread_fault : (why : Unread) (bytes : List ℕ) (place : ℕ) → WhyUnread why MOST_BYTES bytes → (f : NameFault) × NumberFault bytes place f
-unread_fault Ends bytes place w = (Truncated place, cut_fault bytes place w)
-unread_fault TooLong bytes place w = (NumberTooLarge place, long_fault bytes place w)
+LengthRead bytes place = ((n : ℕ) × (rest : List ℕ) × Begins bytes (Number n ∷ []) rest) ⊎ ((f : NameFault) × PartFault (Number 0) bytes place f)
 
 length_read : (bytes : List ℕ) (place : ℕ) → LengthRead bytes place
 length_read bytes place =
@@ -53,13 +35,13 @@ length_read bytes place =
     (λ h. inl (r.0, r.1, begins_number bytes r.1 r.0 r.2 h))
     (λ h. inr (NumberTooLarge place, large_fault bytes r.1 r.0 place r.2 h))
     (cases_lt r.0 NUMBER_LIMIT))
-    (λ w. inr (unread_fault w.0 bytes place w.1))
-    (number_read MOST_BYTES bytes)
+    (λ w. inr (w.0, unread_fault w.0 bytes place w.1))
+    (number_read MOST_BYTES bytes place)
 
 -- ---- a string
 
 abbrev TextRead : List ℕ → ℕ → Type 0
-TextRead bytes place = ((text : List ℕ) × (rest : List ℕ) × Begins bytes (text_parts text) rest) ⊎ ((f : NameFault) × Fault AreOfText bytes place f)
+TextRead bytes place = ((text : List ℕ) × (rest : List ℕ) × Begins bytes (text_parts text) rest) ⊎ ((f : NameFault) × TextFault bytes place f)
 
 sized_read : (bytes tail : List ℕ) (place size : ℕ) → Begins bytes (Number size ∷ []) tail → size ≤ length tail → (b : Bool) → is_utf8 (take size tail) ≡ b → TextRead bytes place
 sized_read bytes tail place size n h true u =
@@ -76,7 +58,7 @@ text_read bytes place =
     (λ h. inr (Truncated next, text_fault bytes r.1 place next r.0 (Truncated next) r.2 refl (λ text l. (refl, omega (arith, l, h)))))
     (λ h. sized_read bytes r.1 place r.0 r.2 h (is_utf8 (take r.0 r.1)) refl)
     (cases_lt (length r.1) r.0))
-    (λ w. inr (w.0, length_fault bytes place w.0 w.1))
+    (λ w. inr (w.0, ([], inl w.1)))
     (length_read bytes place)
 
 -- ---- pairs
@@ -84,13 +66,7 @@ text_read bytes place =
 abbrev PairsRead : Remaining → Type 0
 PairsRead s =
     ((pairs : List (List ℕ × List ℕ)) × (rest : List ℕ) × Begins s.rest (pair_parts pairs) rest × (length pairs ≡ s.left))
-    ⊎ ((f : NameFault) × Fault (AreOfPairs s.left) s.rest s.place f)
-
-one_more : (s t : Remaining) (p : List ℕ × List ℕ) → IsAfter s t (p ∷ []) → PairsRead t → PairsRead s
-one_more s t p next =
-    ⊎_elim
-    (λ r. inl (p ∷ r.0, r.1, begins_pairs s.rest t.rest r.1 (p ∷ []) r.0 next.spelled r.2, omega (arith, r.3, next.count)))
-    (λ f. inr (f.0, fault_later s t p next f.0 f.1))
+    ⊎ ((f : NameFault) × PairsFault s f)
 
 pairs_read : (n : ℕ) (s : Remaining) → s.left ≡ n → PairsRead s
 pairs_read zero s e = inl ([], s.rest, begins_none s.rest, sym e)
@@ -102,7 +78,10 @@ pairs_read (suc n) s e =
     (λ v. let after : Position = record { rest = v.1; place = middle.place + length v.2.front } in
     let t : Remaining = record { rest = after.rest; place = after.place; left = s.left - 1 } in
     let next : IsAfter s t ((k.0, v.0) ∷ []) = is_next s k.0 v.0 middle after (record { spelled = k.2; place = refl }) (record { spelled = v.2; place = refl }) h in
-    one_more s t (k.0, v.0) next (pairs_read n t (omega (arith, e))))
+    ⊎_elim
+    (λ r. inl ((k.0, v.0) ∷ r.0, r.1, begins_pairs s.rest t.rest r.1 ((k.0, v.0) ∷ []) r.0 next.spelled r.2, omega (arith, r.3, next.count)))
+    (λ f. inr (f.0, fault_later s t (k.0, v.0) next f.0 f.1))
+    (pairs_read n t (omega (arith, e))))
     (λ f. inr (f.0, pairs_from_next s f.0 (value_fault s k.1 k.0 middle.place f.0 h k.2 refl f.1)))
     (text_read k.1 middle.place))
     (λ f. inr (f.0, pairs_from_next s f.0 (key_fault s f.0 h f.1)))
@@ -110,7 +89,7 @@ pairs_read (suc n) s e =
 
 -- ---- a table
 
-pub table_read : (bytes : List ℕ) → ((pairs : List (List ℕ × List ℕ)) × (rest : List ℕ) × Begins bytes (table_parts pairs) rest) ⊎ ((error : NameFault) × TableFault bytes error)
+pub table_read : (bytes : List ℕ) → ((pairs : List (List ℕ × List ℕ)) × (rest : List ℕ) × Begins bytes (table_parts pairs) rest) ⊎ ((error : NameFault) × ((pairs : List (List ℕ × List ℕ)) × Fault (table_parts pairs) bytes 0 error))
 table_read bytes =
     ⊎_elim
     (λ r.
@@ -120,5 +99,5 @@ table_read bytes =
     (λ p. inl (p.0, p.1, begins_then bytes r.1 p.1 (Number (length p.0) ∷ []) (pair_parts p.0) (rw p.3 r.2) p.2))
     (λ f. inr (f.0, pairs_fault bytes s f.0 c f.1))
     (pairs_read r.0 s refl))
-    (λ w. inr (w.0, count_fault bytes w.0 w.1))
+    (λ w. inr (w.0, ([], inl w.1)))
     (length_read bytes 0)

@@ -1,10 +1,6 @@
 pub mod EachRead
-pub mod FaultLemmas
-pub mod NumberLemmas
 pub mod OneReading
 pub mod PartLemmas
 pub mod ReadAgain
 pub mod Remains
-pub mod Unique
-pub mod WholeTables
 pub mod Writing

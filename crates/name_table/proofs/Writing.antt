@@ -1,18 +1,10 @@
 -- Shortest spellings, one after another, and what no bytes spell.
-use Rattle.std.proofs.Common.{◌≡◌, ℕ, zero, suc, ◌+◌, ◌/◌, ◌%◌, ◌^◌, ◌<◌, ◌≤◌, List, [], ◌∷◌, ◌++◌, length, map, take, drop, get_or, refl, sym, ap, ◌∙◌, arith, append_assoc, length-append}
+use Rattle.std.proofs.Common.{◌≡◌, ℕ, zero, suc, ◌+◌, ◌/◌, ◌%◌, ◌^◌, ◌<◌, ◌≤◌, List, [], ◌∷◌, ◌++◌, length, map, take, drop, get_or, refl, sym, ap, ◌∙◌, arith, append_assoc, length-append, IsUtf8}
 use Rattle.std.proofs.Math.Nat.{pow-succ'}
 use Rattle.std.proofs.lemmas.List.{drop_more, map-append, take_more, take-append-drop}
-use Rattle.std.specs.Prelude.{IsUtf8}
-use Rattle.name_table.specs.Numbers.{value_of, EndsAtLast, IsNumber}
-use Rattle.name_table.specs.Parts.{Part, Number, Text, text_parts, pair_parts}
-use Rattle.name_table.specs.ReadOn.{AreParts-append, pair_parts-append}
-use Rattle.name_table.specs.Steps.{Appends, AppendsNumber, NoTable}
-use Rattle.name_table.specs.Writes.{IfTooLarge, IsShortest}
-use Rattle.name_table.specs.declared.error.NameWriteFault.{NameWriteFault}
+use Rattle.name_table.specs.{value_of, EndsAtLast, IsNumber, Part, Number, Text, text_parts, pair_parts, AreParts-append, pair_parts-append, Appends, AppendsNumber, NoTable, IfTooLarge, IsShortest, NameWriteFault, NUMBER_LIMIT}
 use Rattle.name_table.specs.declared.error.NameWriteFault.TheVariants.{NoRoom, TooLarge}
-use Rattle.name_table.specs.declared.number.TheConstants.{NUMBER_LIMIT}
-use Rattle.name_table.proofs.NumberLemmas.{EndsAtLast-more}
-use Rattle.name_table.proofs.PartLemmas.{AreParts-one, AreParts-split}
+use Rattle.name_table.proofs.PartLemmas.{AreParts-one, AreParts-split, EndsAtLast-more}
 
 -- ---- a number, one byte more
 

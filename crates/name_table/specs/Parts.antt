@@ -1,6 +1,28 @@
 -- A name table is a list of parts, numbers and strings, spelled one after another. A string is the list of its bytes.
-use Rattle.std.specs.Prelude.{◌≡◌, ℕ, List, [], ◌∷◌, ◌++◌, length, IsUtf8}
-use Rattle.name_table.specs.Numbers.{IsNumber}
+use Rattle.std.specs.Prelude.{◌≡◌, ℕ, ◌+◌, ◌*◌, ◌%◌, ◌<◌, ◌≤◌, List, [], ◌∷◌, ◌++◌, length, IsUtf8}
+use Rattle.name_table.specs.declared.number.TheConstants.{MOST_BYTES, NUMBER_LIMIT}
+
+-- ---- numbers: seven bits in each byte, the lowest first, and the high bit set on all bytes but the last
+
+-- the number in the low seven bits of each byte
+abbrev pub value_of : List ℕ → ℕ
+value_of [] = 0
+value_of (b ∷ bytes) = b % 128 + 128 * value_of bytes
+
+-- the high bit is set on all bytes but the last
+abbrev pub EndsAtLast : List ℕ → Type 0
+EndsAtLast [] = ⊥
+EndsAtLast (b ∷ []) = b < 128
+EndsAtLast (b ∷ c ∷ bytes) = (128 ≤ b) × EndsAtLast (c ∷ bytes)
+
+-- the bytes spell the number. They may be more than it needs
+pub record IsNumber (bytes : List ℕ) (n : ℕ) : Type 0 where
+  pub ends : EndsAtLast bytes
+  pub value : value_of bytes ≡ n
+  pub short : length bytes ≤ MOST_BYTES
+  pub small : n < NUMBER_LIMIT
+
+-- ---- parts
 
 -- a part of a table
 pub data Part : Type 0 where

@@ -2,7 +2,7 @@
 use Rattle.std.specs.Prelude.{◌≡◌, ℕ, List, [], ◌∷◌, ◌++◌}
 use Rattle.std.proofs.Common.{refl, sym, ap, ◌∙◌, append_assoc, length-append, add-zero, zero-add, arith}
 use Rattle.name_table.specs.Parts.{Part, AreParts, Begins, text_parts, pair_parts}
-use Rattle.name_table.specs.Remaining.{IsAfter, Remaining}
+use Rattle.name_table.specs.Positions.{IsAfter, Remaining}
 
 -- t is s after some pairs were read
 abbrev pub IsReadOn : Remaining → Remaining → Type 0

@@ -1,10 +1,10 @@
 -- What the steps of reading and writing do. Only private contracts cite these.
 use Rattle.std.specs.Prelude.{◌≡◌, ℕ, ◌<◌, ◌≤◌, ◌^◌, List, ◌++◌, length}
-use Rattle.name_table.specs.Numbers.{EndsAtLast, GoesOn, value_of}
-use Rattle.name_table.specs.Parts.{AreParts, Part, table_parts}
-use Rattle.name_table.specs.Writes.{IsShortest}
-use Rattle.name_table.specs.declared.number.Unread.{Unread}
-use Rattle.name_table.specs.declared.number.Unread.TheVariants.{Ends, TooLong}
+use Rattle.std.specs.List.{AllByRecursion}
+use Rattle.name_table.specs.Parts.{AreParts, EndsAtLast, Part, table_parts, value_of}
+use Rattle.name_table.specs.Reads.{IsShortest}
+use Rattle.name_table.specs.declared.error.NameFault.{NameFault}
+use Rattle.name_table.specs.declared.error.NameFault.TheVariants.{Truncated, NotUtf8, NumberTooLarge}
 
 -- the bytes begin with those of the number, however large, and the rest comes after them
 pub record BeginsNumber (bytes : List ℕ) (room n : ℕ) (rest : List ℕ) : Type 0 where
@@ -14,10 +14,12 @@ pub record BeginsNumber (bytes : List ℕ) (room n : ℕ) (rest : List ℕ) : Ty
   pub value : value_of front ≡ n
   pub short : length front ≤ room
 
--- the bytes end within a number of at most so many bytes, or it would go on past these
-abbrev pub WhyUnread : Unread → ℕ → List ℕ → Type 0
-WhyUnread Ends room bytes = GoesOn bytes × (length bytes < room)
-WhyUnread TooLong room bytes = (front : List ℕ) × (rest : List ℕ) × (bytes ≡ front ++ rest) × GoesOn front × (length front ≡ room)
+-- the bytes, which stand at the offset, end within a number of at most so many bytes, or it would go on past these
+abbrev pub WhyUnread : NameFault → ℕ → ℕ → List ℕ → Type 0
+WhyUnread (Truncated at) place room bytes = (at ≡ place) × AllByRecursion (λ b. 128 ≤ b) bytes × (length bytes < room)
+WhyUnread (NumberTooLarge at) place room bytes = (front : List ℕ) × (rest : List ℕ)
+    × (at ≡ place) × (bytes ≡ front ++ rest) × AllByRecursion (λ b. 128 ≤ b) front × (length front ≡ room)
+WhyUnread (NotUtf8 at) place room bytes = ⊥
 
 -- no bytes are a table of the pairs
 abbrev pub NoTable : List (List ℕ × List ℕ) → Type 0

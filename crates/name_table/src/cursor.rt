@@ -1,11 +1,9 @@
 //! A cursor over bytes.
 ghost use Rattle.std.specs.Prelude.{◌≡◌, ◌∷◌, [], IfErr, IfOk};
-ghost use Rattle.name_table.specs.Faults.{AreOfText, Fault, NumberFault};
-ghost use Rattle.name_table.specs.Parts.{Number, text_parts};
-ghost use Rattle.name_table.specs.Position.{IsPast};
+ghost use Rattle.name_table.specs.{IsPast, Number, PartFault, TextFault, text_parts};
 
 use crate::error::NameFault;
-use crate::number::{MOST_BYTES, NUMBER_LIMIT, Unread, number_within};
+use crate::number::{MOST_BYTES, NUMBER_LIMIT, number_within};
 use std::marker::Model;
 use std::str;
 
@@ -20,7 +18,7 @@ pub struct Cursor<'a> {
 
 impl<'a> Model for Cursor<'a> {
     ghost use Rattle.std.specs.Prelude.{◌+◌, ◌^◌, ◌<◌, length};
-    ghost use Rattle.name_table.specs.Position.{Position};
+    ghost use Rattle.name_table.specs.{Position};
 
     ghost Value = { Position };
 
@@ -58,20 +56,15 @@ impl<'a> Cursor<'a> {
     /// Returns the number that the bytes begin with, and the cursor after it. An error has the offset of the number.
     pub fn number(&self) -> Result<(usize, Self), NameFault>
         ensures ok { IfOk result (λ read. IsPast self.now read.1 (Number read.0 ∷ [])) }
-        ensures err { IfErr result (λ error. NumberFault self.now.rest self.now.place error) }
+        ensures err { IfErr result (λ error. PartFault (Number 0) self.now.rest self.now.place error) }
     {
         let at = self.place;
-        match number_within(self.rest, MOST_BYTES) {
-            Ok((number, rest)) => {
-                if number < NUMBER_LIMIT {
-                    let place = at + (self.rest.len() - rest.len());
-                    Ok((number, Cursor { rest, place }))
-                } else {
-                    Err(NameFault::NumberTooLarge { at })
-                }
-            }
-            Err(Unread::Ends) => Err(NameFault::Truncated { at }),
-            Err(Unread::TooLong) => Err(NameFault::NumberTooLarge { at }),
+        let (number, rest) = number_within(self.rest, MOST_BYTES, at)?;
+        if number < NUMBER_LIMIT {
+            let place = at + (self.rest.len() - rest.len());
+            Ok((number, Cursor { rest, place }))
+        } else {
+            Err(NameFault::NumberTooLarge { at })
         }
     }
 
@@ -79,7 +72,7 @@ impl<'a> Cursor<'a> {
     /// length or of the string.
     pub fn text(&self) -> Result<(&'a str, Self), NameFault>
         ensures ok { IfOk result (λ read. IsPast self.now read.1 (text_parts read.0.now)) }
-        ensures err { IfErr result (λ error. Fault AreOfText self.now.rest self.now.place error) }
+        ensures err { IfErr result (λ error. TextFault self.now.rest self.now.place error) }
     {
         let (size, tail) = self.number()?;
         let from = tail.place;

@@ -1,9 +1,8 @@
 //! The entries of a name table as a source of pairs.
 ghost use Rattle.std.specs.Prelude.{◌≡◌, ◌↔◌, ◌∷◌, [], IfErr, IfOk, IfSome, Some};
 ghost use Rattle.litemap_read.specs.Source.{GivesNext};
-ghost use Rattle.name_table.specs.Faults.{NextFault, NumberFault, PairsFault};
-ghost use Rattle.name_table.specs.Remaining.{AllCanBeRead, CanBeRead, IsAfter, IsCounted, shown};
-ghost use Rattle.name_table.specs.ReadOn.{IsReadOn, read_on_itself, read_on_further};
+ghost use Rattle.name_table.specs.{AllCanBeRead, CanBeRead, IsAfter, IsCounted, IsReadOn, NextFault, Number, PairsFault};
+ghost use Rattle.name_table.specs.{PartFault, read_on_further, read_on_itself, shown};
 
 use crate::cursor::Cursor;
 use crate::error::NameFault;
@@ -31,7 +30,7 @@ pub struct NameBytes<'a> {
 }
 
 impl<'a> Model for NameBytes<'a> {
-    ghost use Rattle.name_table.specs.Remaining.{Remaining};
+    ghost use Rattle.name_table.specs.{Remaining};
 
     ghost Value = { Remaining };
 
@@ -42,7 +41,7 @@ impl<'a> NameBytes<'a> {
     /// Makes the source of a table's entries. It reads their number, and an error is that number's.
     pub fn new(bytes: &'a [u8]) -> Result<Self, NameFault>
         ensures ok { IfOk result (λ names. IsCounted bytes.now names) }
-        ensures err { IfErr result (λ error. NumberFault bytes.now 0 error) }
+        ensures err { IfErr result (λ error. PartFault (Number 0) bytes.now 0 error) }
     {
         let (left, cursor) = Cursor::new(bytes).number()?;
         Ok(NameBytes { cursor, left })

@@ -1,7 +1,6 @@
 //! Maps read from name tables, and names looked up in them.
 ghost use Rattle.std.specs.Prelude.{IfErr, IfOk};
-ghost use Rattle.name_table.specs.Faults.{IsUnread};
-ghost use Rattle.name_table.specs.Reads.{IsFound, IsRead};
+ghost use Rattle.name_table.specs.{IsFound, IsRead, IsUnread};
 
 use crate::error::NameFault;
 use crate::name_bytes::NameBytes;

@@ -1,10 +1,8 @@
 //! Name tables written from maps.
 ghost use Rattle.std.specs.Prelude.{◌≡◌, ℕ, Err, IfErr, IfOk, List, OnOk, ◌∷◌, [], ◌≤◌, length, map};
-ghost use Rattle.name_table.specs.Parts.{AreParts, Number, pair_parts, table_parts, text_parts};
-ghost use Rattle.name_table.specs.Remaining.{shown};
 ghost use Rattle.name_table.specs.declared.error.NameWriteFault.TheVariants.{TooLarge};
-ghost use Rattle.name_table.specs.Steps.{Appends, AppendsNumber, NoTable};
-ghost use Rattle.name_table.specs.Writes.{IfTooLarge, IsReadAgain, IsShortest};
+ghost use Rattle.name_table.specs.{Appends, AppendsNumber, AreParts, IfTooLarge, IsReadAgain, IsShortest, NoTable, Number};
+ghost use Rattle.name_table.specs.{pair_parts, shown, table_parts, text_parts};
 
 use crate::error::NameWriteFault;
 use crate::number::{BASE, NUMBER_LIMIT};

@@ -1,6 +1,6 @@
 use Rattle.std.proofs.Common.{◌∙◌, ap, filter, slice_range}
 use Rattle.name_table.proofs.OneReading.{table_unique}
-use Rattle.name_index.specs.Prefixes.{begins}
+use Rattle.name_index.specs.Tables.{begins}
 use Rattle.example_formats.proofs.Parts.{part_is}
 use Rattle.example_formats.proofs.prefixes.beginning.Goals as goal
 

@@ -1,6 +1,6 @@
 use Rattle.name_table.specs.Parts.{text_parts}
-use Rattle.name_table.proofs.PartLemmas.{begins_split}
 use Rattle.name_table.specs.ReadOn.{begins_then}
+use Rattle.name_table.proofs.PartLemmas.{begins_split}
 use Rattle.name_index.proofs.KnownParts.{text_next}
 use Rattle.name_index.proofs.entries.read_valid_pair.Goals as goal
 

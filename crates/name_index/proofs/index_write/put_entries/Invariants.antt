@@ -1,6 +1,6 @@
 use Rattle.std.proofs.Common.{map}
-use Rattle.name_table.specs.Remaining.{shown}
-use Rattle.name_index.specs.Steps.{AddsPairs}
+use Rattle.name_table.specs.Positions.{shown}
+use Rattle.name_index.specs.{AddsPairs}
 use Rattle.name_index.proofs.index_write.put_entries.Given as goal
 
 -- the first pairs are written

@@ -1,8 +1,7 @@
 use Rattle.std.proofs.Common.{◌≡◌, ◌<◌, map, take}
+use Rattle.name_table.specs.Positions.{shown}
 use Rattle.name_table.specs.declared.number.TheConstants.{NUMBER_LIMIT}
-use Rattle.name_table.specs.Remaining.{shown}
-use Rattle.name_index.specs.Steps.{AreOffsets}
-use Rattle.name_index.specs.Writes.{entries_size}
+use Rattle.name_index.specs.{AreOffsets, entries_size}
 use Rattle.name_index.proofs.index_write.put_offsets.Given as goal
 
 -- the offsets of the first pairs are written, and the next one is known

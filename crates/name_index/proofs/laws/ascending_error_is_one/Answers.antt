@@ -1,4 +1,4 @@
-use Rattle.name_index.proofs.NoFault.{rising_fault_unique}
+use Rattle.name_index.proofs.Rises.{rising_fault_unique}
 use Rattle.name_index.proofs.laws.ascending_error_is_one.Goals as goal
 
 pub returns : goal.returns

@@ -1,5 +1,5 @@
 use Rattle.std.proofs.Common.{◌≡◌, ◌++◌, map}
-use Rattle.name_table.specs.Remaining.{shown}
+use Rattle.name_table.specs.Positions.{shown}
 use Rattle.name_index.proofs.name_entries.map_of.Given as goal
 
 -- what was read, and after it what is still to come

@@ -1,6 +1,5 @@
 use Rattle.std.proofs.Common.{◌∙◌, get_or}
-use Rattle.name_index.proofs.Between.{between_are, between_is}
-use Rattle.name_index.proofs.Placing.{tail_is}
+use Rattle.name_index.proofs.Placing.{between_are, between_is, tail_is}
 use Rattle.name_index.proofs.offsets.entries_between.Goals as goal
 
 pub new-requires : goal.new-requires

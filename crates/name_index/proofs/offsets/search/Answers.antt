@@ -1,10 +1,12 @@
 use Rattle.std.proofs.Common.{◌+◌, ◌-◌, ◌/◌, ◌∙◌, Ok, Err, arith, sym}
 use Rattle.name_index.proofs.Halving.{halved_asked, halved_end, halved_equal, halved_greater, halved_less, halved_start}
-use Rattle.name_index.proofs.Placing.{known_at, splits_at}
+use Rattle.name_index.proofs.Placing.{pairs_at, splits_at}
+use Rattle.name_index.proofs.Scanning.{ascends, to_key}
 use Rattle.name_index.proofs.offsets.search.Goals as goal
 
 pub loop-low-init : goal.loop-low-init
-loop-low-init c = halved_start _ _ _ _ (known_at c.args.key.now)
+loop-low-init c =
+    halved_start (pairs_at {entries = c.args.entries.now} {offsets = c.args.offsets.now}) (to_key c.args.key.now) _ _ (λ placed. (placed.these.left.len_is, ascends placed.these.pairs c.args.key.now placed.these.rises))
 
 pub loop-low-preserved-in-Less : goal.loop-low-preserved-in-Less
 loop-low-preserved-in-Less c = halved_less _ _ _ c.loop-low.invariant (omega arith) c.key_of.ensures c.cmp.ensures.same c.cmp.ensures.counted (sym c.cmp.ensures.answer ∙ c.in-Less.is)

@@ -1,7 +1,7 @@
 use Rattle.std.proofs.Common.{arith}
 use Rattle.std.proofs.Math.Facts.{Fits-of_lt}
 use Rattle.std.proofs.lemmas.Result.{err_from_is_err_and}
-use Rattle.name_table.proofs.NumberLemmas.{value_of-four, begins_last, begins_more, unread_more}
+use Rattle.name_table.proofs.PartLemmas.{value_of-four, begins_last, begins_more, unread_more}
 use Rattle.name_table.proofs.number.+number_within.Goals as goal
 
 pub returns-then-low-lt-BASE-clause-ok : goal.returns-then-low-lt-BASE-clause-ok
@@ -24,4 +24,4 @@ pub returns-in_err-high-clause-err : goal.returns-in_err-high-clause-err
 returns-in_err-high-clause-err t c =
     let p = err_from_is_err_and c.from_residual.result c.from_residual.ensures.1 in
     rw (p.1, p.2)
-    (unread_more c.args.bytes.now c.in-Some.rest.now c.in-Some.first.now c.from-low.result c.args.room c.in-Some.ensures.cases.0 c.from-low.ensures c.if-room-eq0.false c.in_err-high.field-0.0 c.if-low-lt-BASE.false c.in_err-high.ensures.err)
+    (unread_more c.args.bytes.now c.in-Some.rest.now c.in-Some.first.now c.from-low.result c.args.room c.in-Some.ensures.cases.0 c.from-low.ensures c.if-room-eq0.false c.in_err-high.field-0.0 c.args.at c.if-low-lt-BASE.false c.in_err-high.ensures.err)

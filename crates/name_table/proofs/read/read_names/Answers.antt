@@ -1,9 +1,10 @@
 use Rattle.std.proofs.lemmas.Result.{err_from_is_err_and}
-use Rattle.name_table.proofs.WholeTables.{count_fault, unread, whole_table}
+use Rattle.std.proofs.Common.{[], inl}
+use Rattle.name_table.proofs.Remains.{is_read, unread}
 use Rattle.name_table.proofs.read.read_names.Goals as goal
 
 pub returns-in-Err-clause-error : goal.returns-in-Err-clause-error
-returns-in-Err-clause-error c = count_fault c.args.bytes.now c.in-Err.error c.in-Err.ensures.err
+returns-in-Err-clause-error c = ([], inl c.in-Err.ensures.err)
 
 pub returns-in_err-map-clause-error : goal.returns-in_err-map-clause-error
 returns-in_err-map-clause-error c =
@@ -14,5 +15,4 @@ returns-in_err-map-clause-error c =
 pub returns-clause-read : goal.returns-clause-read
 returns-clause-read c =
     let r = c.in_ok-map.ensures in
-    let w = whole_table c.args.bytes.now c.in-Ok.names c.read_pairs.new.source r.read.given c.in-Ok.ensures.ok r.read.gives r.asked.ends r.asked.empty r.asked.leads.0 r.asked.leads.1 in
-    rw c.place.ensures (record { pairs = r.read.given; rest = w.rest; table = w.table; size_is = w.size_is; last = r.read.last })
+    rw c.place.ensures (is_read c.args.bytes.now c.in-Ok.names c.read_pairs.new.source r.read.given c.in-Ok.ensures.ok r.read.gives r.asked.ends r.asked.empty r.asked.leads.0 r.asked.leads.1 _ r.read.last)

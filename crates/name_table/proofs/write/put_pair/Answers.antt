@@ -1,5 +1,5 @@
 use Rattle.name_table.proofs.Writing.{appends_then}
-use Rattle.name_table.specs.Parts.{text_parts}
+use Rattle.name_table.specs.{text_parts}
 use Rattle.name_table.proofs.write.put_pair.Goals as goal
 
 pub returns-clause-ok : goal.returns-clause-ok

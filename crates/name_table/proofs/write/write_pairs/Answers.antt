@@ -1,6 +1,6 @@
 use Rattle.std.proofs.Common.{length}
 use Rattle.std.proofs.lemmas.Result.{err_from_is_err_and}
-use Rattle.name_table.specs.Remaining.{shown}
+use Rattle.name_table.specs.{shown}
 use Rattle.name_table.proofs.Writing.{if_too_large_weaker, no_table_at, shortest_pair}
 use Rattle.name_table.proofs.write.write_pairs.Goals as goal
 

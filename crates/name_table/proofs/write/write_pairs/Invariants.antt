@@ -1,7 +1,5 @@
 use Rattle.std.proofs.Common.{◌∷◌, length, map, take}
-use Rattle.name_table.specs.Parts.{Number, pair_parts}
-use Rattle.name_table.specs.Remaining.{shown}
-use Rattle.name_table.specs.Writes.{IsShortest}
+use Rattle.name_table.specs.{Number, pair_parts, shown, IsShortest}
 use Rattle.name_table.proofs.write.write_pairs.Given as goal
 
 -- the number of pairs and the first pairs are written

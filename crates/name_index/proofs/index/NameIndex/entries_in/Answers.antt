@@ -1,8 +1,7 @@
 use Rattle.std.proofs.Common.{◌≡◌, ◌≤◌, ◌∙◌, [], arith, length, min, refl, sym}
 use Rattle.name_table.specs.ReadOn.{begins_none}
-use Rattle.name_index.proofs.Between.{slice_clamped, slice_none}
 use Rattle.std.proofs.lemmas.List.{nil_from_length}
-use Rattle.name_index.proofs.Placing.{of_indexed}
+use Rattle.name_index.proofs.Placing.{of_indexed, slice_clamped, slice_none}
 use Rattle.name_index.proofs.index.NameIndex.entries_in.Goals as goal
 
 pub new-requires : goal.new-requires

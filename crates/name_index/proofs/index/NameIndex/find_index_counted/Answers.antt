@@ -1,5 +1,5 @@
 use Rattle.litemap_store.proofs.Search.Splitting.{index_of-from_Splits}
-use Rattle.name_index.specs.Tables.{text_order}
+use Rattle.name_index.specs.{text_order}
 use Rattle.name_index.proofs.Placing.{cost_by_pairs, of_indexed}
 use Rattle.name_index.proofs.index.NameIndex.find_index_counted.Goals as goal
 

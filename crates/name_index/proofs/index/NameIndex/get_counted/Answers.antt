@@ -1,5 +1,5 @@
 use Rattle.std.proofs.Common.{sym}
-use Rattle.name_table.specs.Remaining.{shown}
+use Rattle.name_table.specs.Positions.{shown}
 use Rattle.name_index.proofs.Placing.{cost_by_pairs, of_indexed}
 use Rattle.name_index.proofs.Scanning.{value_at_none, value_at_split}
 use Rattle.name_index.proofs.index.NameIndex.get_counted.Goals as goal

@@ -1,4 +1,4 @@
-use Rattle.name_index.proofs.LeftLemmas.{left_holds, left_is}
+use Rattle.name_index.proofs.KnownParts.{left_holds, left_is}
 use Rattle.name_index.proofs.name_entries.NameEntries.new.Goals as goal
 
 pub invariant_of-result-2 : goal.invariant_of-result-2

@@ -1,6 +1,6 @@
 use Rattle.std.proofs.Common.{◌∷◌, ◌∙◌, ◌-◌, ap, sym, pos_of_ne-zero}
-use Rattle.name_table.specs.Remaining.{shown}
-use Rattle.name_index.proofs.LeftLemmas.{left_begins, left_goes, left_holds, left_is, left_next}
+use Rattle.name_table.specs.Positions.{shown}
+use Rattle.name_index.proofs.KnownParts.{left_begins, left_goes, left_holds, left_is, left_next}
 use Rattle.name_index.proofs.name_entries.NameEntriesIterator.next.Goals as goal
 
 pub read_valid_pair-requires : goal.read_valid_pair-requires

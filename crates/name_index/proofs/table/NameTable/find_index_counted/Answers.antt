@@ -1,6 +1,6 @@
 use Rattle.std.proofs.Common.{Ok, Err}
 use Rattle.litemap_store.proofs.Search.Splitting.{index_of-from_Splits}
-use Rattle.name_index.specs.Tables.{text_order}
+use Rattle.name_index.specs.{text_order}
 use Rattle.name_index.proofs.Rises.{of_entries}
 use Rattle.name_index.proofs.table.NameTable.find_index_counted.Goals as goal
 

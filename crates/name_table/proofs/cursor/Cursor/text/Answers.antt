@@ -1,19 +1,18 @@
-use Rattle.std.proofs.Common.{◌≡◌, ◌++◌, length, sym, ap, ◌∙◌, arith, refl}
-use Rattle.std.proofs.lemmas.List.{take-append-drop}
+use Rattle.std.proofs.Common.{◌≡◌, [], ◌++◌, length, sym, ap, ◌∙◌, arith, inl, refl, take-append-drop}
 use Rattle.std.proofs.lemmas.Result.{err_from_is_err_and}
-use Rattle.name_table.proofs.PartLemmas.{past_text}
-use Rattle.name_table.proofs.FaultLemmas.{length_fault, text_fault}
+use Rattle.name_table.specs.{NotUtf8, Truncated}
+use Rattle.name_table.proofs.PartLemmas.{past_text, text_fault}
 use Rattle.name_table.proofs.cursor.Cursor.text.Goals as goal
 
 pub returns-in_err-size-clause-err : goal.returns-in_err-size-clause-err
 returns-in_err-size-clause-err c =
     let p = err_from_is_err_and c.from_residual.result c.from_residual.ensures.1 in
-    rw (p.1, p.2) (length_fault c.args.self.now.rest c.args.self.now.place c.in_err-size.field-0.0 c.in_err-size.ensures.err)
+    rw (p.1, p.2) ([], inl c.in_err-size.ensures.err)
 
 pub returns-then-size-tail-clause-err : goal.returns-then-size-tail-clause-err
 returns-then-size-tail-clause-err c =
     let b = rw (sym c.tail.view_is) at c.in_ok-size.ensures.ok in
-    text_fault c.args.self.now.rest c.tail.inside.rest.now c.args.self.now.place c.tail.inside.place c.in_ok-size.size _ b.spelled b.place (λ text l. (refl, omega (arith, l, c.if-size-tail.true)))
+    text_fault c.args.self.now.rest c.tail.inside.rest.now c.args.self.now.place c.tail.inside.place c.in_ok-size.size (Truncated c.tail.inside.place) b.spelled b.place (λ text l. (refl, omega (arith, l, c.if-size-tail.true)))
 
 pub returns-in-Ok-clause-ok : goal.returns-in-Ok-clause-ok
 returns-in-Ok-clause-ok c =
@@ -26,5 +25,5 @@ returns-in-Ok-clause-ok c =
 pub returns-in-Err-clause-err : goal.returns-in-Err-clause-err
 returns-in-Err-clause-err c =
     let b = rw (sym c.tail.view_is) at c.in_ok-size.ensures.ok in
-    text_fault c.args.self.now.rest c.tail.inside.rest.now c.args.self.now.place c.tail.inside.place c.in_ok-size.size _ b.spelled b.place
+    text_fault c.args.self.now.rest c.tail.inside.rest.now c.args.self.now.place c.tail.inside.place c.in_ok-size.size (NotUtf8 c.tail.inside.place) b.spelled b.place
     (λ text l. (refl, omega (arith, l, c.if-size-tail.false), λ u. c.in-Err.ensures.cases.0 (rw c.split_at.ensures.front (rw l at u))))

@@ -1,6 +1,6 @@
 use Rattle.std.proofs.Common.{arith, refl}
 use Rattle.std.proofs.lemmas.Result.{err_from_is_err_and}
-use Rattle.name_table.specs.Remaining.{Remaining}
+use Rattle.name_table.specs.{Remaining}
 use Rattle.name_table.proofs.Remains.{none_can_be_read, all_none_can_be_read, key_fault, pairs_from_next, value_fault, is_next, gives_one_more, fault_later, fault_earlier, all_later, all_earlier}
 use Rattle.name_table.proofs.name_bytes.NameBytesPairSourceRefStrRefStr.next_pair.Goals as goal
 
@@ -37,7 +37,7 @@ returns c =
     let s : Remaining = record { rest = c.self.inside.cursor.rest; place = c.self.inside.cursor.place; left = c.self.inside.left } in
     let n = is_next s c.in_ok-key.key.now c.in_ok-value.value.now c.in_ok-key.middle c.in_ok-value.after c.in_ok-key.ensures.ok c.in_ok-value.ensures.ok c.if-self-eq0.false in
     rw (← c.self.view_is) (record {
-      next = ((λ L r. gives_one_more s _ _ n (c.in_ok-key.key, c.in_ok-value.value) L refl r), omega (arith, n.count));
+      next = ((λ L r. gives_one_more s _ (c.in_ok-key.key, c.in_ok-value.value) L n r), omega (arith, n.count));
       keeps_faults = λ f. (fault_later s _ _ n f, fault_earlier s _ _ n f);
       keeps_end = (all_later s _ _ n, all_earlier s _ _ n);
       leads = (_, n);

@@ -1,7 +1,17 @@
--- What is left of a table while its pairs are read.
+-- A position in bytes, and what is left of a table while its pairs are read.
 use Rattle.std.specs.Prelude.{◌≡◌, ℕ, ◌+◌, ◌⊎◌, List, [], ◌∷◌, length, map}
-use Rattle.name_table.specs.Parts.{Begins, Number, pair_parts}
+use Rattle.name_table.specs.Parts.{Begins, Number, Part, pair_parts}
 use denote.Ref.{Bor}
+
+-- the bytes that lie ahead, and how many lie before
+pub record Position : Type 0 where
+  pub rest : List ℕ
+  pub place : ℕ
+
+-- t is s after the parts were read
+pub record IsPast (s t : Position) (parts : List Part) : Type 0 where
+  pub spelled : Begins s.rest parts t.rest
+  pub place : t.place ≡ s.place + length spelled.front
 
 -- the bytes after the parts that were read, how many bytes these were, and how many pairs are due
 pub record Remaining : Type 0 where
