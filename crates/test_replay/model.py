@@ -13,6 +13,10 @@ import re
 
 FOLDER = pathlib.Path(__file__).resolve().parent
 STEP = 1099511628211
+# Past this length each search may make as many comparisons as the one that makes the most.
+LONG = 20000
+# The most pairs that std sorts by inserting each.
+INSERTED = 20
 # Lengths around those at which the libraries take another way: none, one, a sort without memory, a vector's first room, and more.
 LENGTHS = [0, 1, 2, 3, 4, 5, 7, 8, 9, 12, 16, 17, 20, 21, 24, 30, 33, 65, 100, 129, 513, 1000]
 # The stores, by their names in src/run.rt: those that grow, those of them that lend a slice, and all that have lines.
@@ -48,9 +52,44 @@ def digits(number):
     return number.bit_length()
 
 
-def sorting(number):
-    """The most comparisons that are allowed for a sort. No contract bounds them."""
-    return number + 3 * number * digits(number)
+@functools.cache
+def searched(size, place, is_there):
+    """The most comparisons of a search that ends at a place. Stores round the half of what is left up or down."""
+    if size > LONG:
+        return digits(size)
+    most = 0
+    for rest in (0, 1):
+        low, left, cost = 0, size, 0
+        while left:
+            middle, cost = low + (left - rest) // 2, cost + 1
+            if is_there and middle == place:
+                break
+            low, left = (middle + 1, low + left - middle - 1) if middle < place else (low, middle - low)
+        most = max(most, cost)
+    return most
+
+
+def sorting(keys):
+    """The most comparisons of a sort of keys that don't ascend, and of a test which of them are equal. No contract bounds them."""
+    number = len(keys)
+    if number <= INSERTED:
+        # each is inserted among those before
+        sort = sum(min(1 + sum(key > keys[place] for key in keys[:place]), place) for place in range(number))
+    elif all(high > low for high, low in zip(keys, keys[1:])):
+        sort = number - 1
+    else:
+        sort = number + number * digits(number)
+    return sort + number - 1
+
+
+def walked(mine, theirs):
+    """The comparisons of a walk over two lists side by side, until one of them ends."""
+    return len({key for key in mine + theirs if key <= min(mine[-1], theirs[-1])})
+
+
+def walked_back(mine, theirs):
+    """The same from their ends."""
+    return len({key for key in mine + theirs if key >= max(mine[0], theirs[0])})
 
 
 def summed(total, text):
@@ -107,6 +146,22 @@ class Model:
         rank = self.order.rank
         below = bisect.bisect_left(self.pairs, rank(key), key=lambda pair: rank(pair[0]))
         return below, below < len(self.pairs) and rank(self.pairs[below][0]) == rank(key)
+
+    def search(self, key):
+        """The most comparisons of a search for a key."""
+        return searched(len(self.pairs), *self.place(key))
+
+    def searches(self, pairs):
+        """The most comparisons of insertions, each by a search, and whether each key was absent."""
+        there, rank = [self.order.rank(key) for key, _ in self.pairs], self.order.rank
+        cost, absent = 0, []
+        for key, _ in pairs:
+            place = bisect.bisect_left(there, rank(key))
+            absent.append(place == len(there) or there[place] != rank(key))
+            cost += searched(len(there), place, not absent[-1])
+            if absent[-1]:
+                there.insert(place, rank(key))
+        return cost, absent
 
     def last(self, pairs):
         """The last pair of each key, in ascending order."""
@@ -170,7 +225,7 @@ class Model:
         name, *words = call.split(" ")
         if name == "sweep":
             return self.sweep(*words)
-        search = digits(len(self.pairs))
+        search = self.search(words[0]) if name in KEYED else digits(len(self.pairs))
         for group in [self.look, self.by_key, self.put_in, self.enter, self.take, self.walk, self.many]:
             answer = group(name, words, search)
             if answer is not None:
@@ -232,13 +287,17 @@ class Model:
             return self.text(self.pairs[start:end]) if start <= end <= size else "none"
         if name in ("index_range", "index_range_counted"):
             start, end = self.bounds(words)
-            return f"{start} {end}", 2 * search
+            return f"{start} {end}", self.two_searches(words)
         if name in ("range", "iter_range"):
             start, end = self.bounds(words)
             part = self.pairs[start:end]
             last = [self.text(part[-1:]) if part else "none", self.text(part[:-1])]
-            return self.text(part) if name == "range" else " ".join(last), 2 * search
+            return self.text(part) if name == "range" else " ".join(last), self.two_searches(words)
         return None
+
+    def two_searches(self, words):
+        """The most comparisons of a search for each bound that there is."""
+        return sum(self.search(key) for bound, key in zip(words[::2], words[1::2]) if bound != "-")
 
     def by_key(self, name, words, search):
         if len(words) != 1 and name not in ("get_mut", "get_mut_by", "index_mut", "get_indexed_mut", "lm_get_mut", "lm_pair_mut"):
@@ -377,7 +436,7 @@ class Model:
             return "false", search
         _, value = self.pairs.pop(place)
         self.freed()
-        cost = search + digits(len(self.pairs))
+        cost = search + self.search(new_key)
         place, there = self.place(new_key)
         if there:
             self.pairs[place] = (self.pairs[place][0], value)
@@ -414,11 +473,18 @@ class Model:
         return " ".join(answers)
 
     def cost(self, pairs):
-        """The most comparisons of bulk input."""
-        if not self.rises(pairs):
-            return len(self.pairs) + sorting(len(pairs))
-        above = not self.pairs or not pairs or self.order.rank(self.pairs[-1][0]) < self.order.rank(pairs[0][0])
-        return len(pairs) if above else len(self.pairs) + 2 * len(pairs)
+        """The most comparisons of bulk input: by a merge, or in a vector by a search for each of few pairs."""
+        if not pairs:
+            return 0
+        mine, theirs = ([self.order.rank(key) for key, _ in some] for some in (self.pairs, pairs))
+        total, rises = len(mine) + len(theirs), self.rises(pairs)
+        # it is tested up to the first pair that doesn't ascend
+        tested = next((place for place in range(1, len(theirs)) if theirs[place - 1] >= theirs[place]), len(theirs) - 1)
+        below = not mine or mine[-1] < min(theirs)
+        walk = 0 if below else walked_back(mine, sorted(theirs))
+        merge = tested + (0 if rises else sorting(theirs)) + bool(mine) + walk
+        is_few = len(pairs) <= FEW and len(pairs) * digits(total) < total and not (rises and below)
+        return max(merge, tested + rises + self.searches(pairs)[0] if is_few else 0)
 
     def many(self, name, words, search):
         if name == "clone":
@@ -448,7 +514,7 @@ class Model:
         if name == "find_by_slice":
             below = min((int(words[0]) - 1) // 2, int(words[1]))
             there = int(words[0]) % 2 == 0 and int(words[0]) <= 2 * int(words[1])
-            return f"{'ok' if there else 'err'} {below}", digits(int(words[1]))
+            return f"{'ok' if there else 'err'} {below}", searched(int(words[1]), below, there)
         if name == "split_off":
             place, _ = self.place(words[0])
             self.pairs, later = self.pairs[:place], self.pairs[place:]
@@ -461,7 +527,7 @@ class Model:
             return self.text((str(key), 0 if name == "grow_set" else key) for key in keys)
         pairs = self.given(words)
         if name in (*MAKES, "lm_sort_from_iter", "lm_sort_from_vec"):
-            cost = len(pairs) if self.rises(pairs) else sorting(len(pairs))
+            cost = Model(self.order).cost(pairs)
             self.pairs = self.last(pairs)
             return "ok", cost
         if name == "lm_from_pairs":
@@ -495,9 +561,9 @@ class Model:
         return "ok"
 
     def insert_each(self, pairs):
-        size, fresh = len(self.pairs), len({self.order.rank(key) for key, _ in self.pairs + pairs}) - len(self.pairs)
+        cost, absent = self.searches(pairs)
         self.pairs = self.last(self.pairs + pairs)
-        return str(fresh), sum(digits(size + place) for place in range(len(pairs)))
+        return str(sum(absent)), cost
 
     def extend(self, name, pairs):
         cost = self.cost(pairs)
@@ -511,14 +577,30 @@ class Model:
     def merge(self, pairs):
         old, rank = self.pairs, self.order.rank
         there, came = {rank(key) for key, _ in old}, {rank(key): value for key, value in pairs}
-        cost = 2 + len(pairs) * digits(len(old) + len(pairs))
-        apart = bool(old and pairs) and (rank(old[-1][0]) < rank(pairs[0][0]) or rank(pairs[-1][0]) < rank(old[0][0]))
+        cost = self.merging(pairs)
         values = {rank(key): value for key, value in old}
         left = [(key, values[rank(key)]) for key, _ in pairs if rank(key) in there]
         kept = [(key, came.get(rank(key), value)) for key, value in old]
         self.pairs = sorted(kept + [pair for pair in pairs if rank(pair[0]) not in there], key=lambda pair: rank(pair[0]))
-        cost = 0 if not old or not pairs else 2 if apart else cost
         return (f"left {self.text(left)}" if left else "none"), cost
+
+    def merging(self, pairs):
+        """The most comparisons of a merge: of two ends, and then of a walk over both, or of a search for each new pair."""
+        mine, theirs = ([self.order.rank(key) for key, _ in some] for some in (self.pairs, pairs))
+        if not mine or not theirs or mine[-1] < theirs[0]:
+            return 1 if mine and theirs else 0
+        if theirs[-1] < mine[0]:
+            return 2
+        total = len(mine) + len(theirs)
+        if total <= len(theirs) * digits(total):
+            return 2 + walked(mine, theirs)
+        one_by_one, left = self.searches(pairs)[0], len(mine)
+        from_the_end = 0
+        for key in reversed(theirs):
+            place = bisect.bisect_left(mine, key, 0, left)
+            from_the_end += searched(left, place, place < left and mine[place] == key)
+            left = place
+        return 2 + max(one_by_one, from_the_end)
 
     def combined(self, pairs):
         """These pairs, with the values of common keys combined."""
@@ -531,19 +613,23 @@ class Model:
         return new
 
     def combine(self, pairs):
-        search, there = digits(len(self.pairs)), {self.order.rank(key) for key, _ in self.pairs}
-        asked = sum(self.order.rank(key) in there for key, _ in pairs)
+        there = {self.order.rank(key) for key, _ in self.pairs}
+        asked, searches = sum(self.order.rank(key) in there for key, _ in pairs), sum(self.search(key) for key, _ in pairs)
         answer, cost = self.merge(self.combined(pairs))
-        return f"{answer} asked {asked}", cost + len(pairs) * search
+        return f"{answer} asked {asked}", cost + searches
 
     def beside(self, name, pairs):
-        theirs = {self.order.rank(key) for key, _ in pairs}
-        found, old = [self.order.rank(key) in theirs for key, _ in self.pairs], len(self.pairs)
-        cost = old + len(pairs) - sum(found)
+        theirs, left, cost, found, old = [self.order.rank(key) for key, _ in pairs], 0, 0, [], len(self.pairs)
+        for key in [self.order.rank(key) for key, _ in self.pairs]:
+            place = bisect.bisect_left(theirs, key)
+            found.append(place < len(theirs) and theirs[place] == key)
+            # it is compared with each key up to the first that isn't smaller, from the last one that wasn't passed
+            cost += min(place + 1, len(theirs)) - left
+            left = place + found[-1]
+            if name.startswith("is_subset") and not found[-1]:
+                break
         if name.startswith("is_subset"):
-            # it ends at the first key that the other one lacks
-            own = self.order.rank(self.pairs[found.index(False) if not all(found) else -1][0]) if old else None
-            return ("true" if all(found) else "false"), 1 + sum(rank < own for rank in theirs) if old else 0
+            return ("true" if all(found) else "false"), cost
         self.pairs = [pair for pair, there in zip(self.pairs, found) if there == (name == "keep_keys_of")]
         self.freed(old - len(self.pairs))
         return "ok", cost
@@ -551,18 +637,24 @@ class Model:
     def read(self, name, words):
         pairs, error = self.given(words[2:]), None if words[1] == "-" else int(words[1])
         if error is not None and error <= len(pairs):
-            return f"error {error + 1} asked {error + 1}", max(error - 1, 0)
-        start = self.pairs if name == "extend_from_source" else []
-        cost = self.cost(pairs) if start else len(pairs) if self.rises(pairs) else sorting(len(pairs))
+            return f"error {error + 1} asked {error + 1}", max(error - 1, 0) if name == "read_pairs" else 0
+        start, cost = ([], self.sifting(pairs)) if name == "read_pairs" else (self.pairs, self.cost(pairs))
         self.pairs = self.last(start + pairs)
         return f"ok asked {len(pairs) + 1}", cost
+
+    def sifting(self, pairs):
+        """The most comparisons if each pair is compared with the last one, and those that aren't above are put aside."""
+        kept, aside = Model(self.order), []
+        for pair in pairs:
+            (kept.pairs if kept.rises([*kept.pairs[-1:], pair]) else aside).append(pair)
+        return max(len(pairs) - 1, 0) + kept.cost(aside)
 
     def read_results(self, words):
         pairs, error = self.given(words[1:]), None if words[0] == "-" else int(words[0])
         if error is not None and error < len(pairs):
             return f"error {error}", max(error - 1, 0)
         self.pairs = self.last(pairs)
-        return "ok", len(pairs) if self.rises(pairs) else sorting(len(pairs))
+        return "ok", self.sifting(pairs)
 
     def run(self, words):
         """Makes a list of calls of an empty map: what they return, and the map after them."""
@@ -620,6 +712,8 @@ class Model:
 
 # Calls that leave the list, so that a sweep needs no copy of it.
 READ_ONLY = {"get"}
+# The most pairs that a vector puts in one by one.
+FEW = 16
 LOOK_UPS = {"find_index", "find_index_counted", "find_index_by", "lm_binary_search_by", "contains_key", "get_key_value"}
 LOOK_UPS |= {"get", "get_counted", "get_by", "index", "get_mut", "get_mut_by", "index_mut"}
 PUTS, ENTERING = named("put", "find_or_put"), named("enter")
@@ -627,6 +721,8 @@ ENTRIES, TWICE = [*ENTERING, *named("enter_key", "enter_out", "enter_text")], na
 EXTENSIONS = named("extend", "store_extend")
 MERGES, COMBINES, BESIDE, READS, RUNS, MAKES = map(named, ("merge", "combine", "beside", "read", "run", "make"))
 RENAMES, MADE = named("rename"), named("store_make")
+# The calls whose first word is a key that is searched for.
+KEYED = {*LOOK_UPS, *PUTS, *ENTRIES, *TWICE, *RENAMES, *named("take", "take_pair"), "split_off"}
 # The groups of lookups, of calls with a pair, and of those that take a key out.
 LOOKING = ["get", "get_pair", "get_more", "find", "index"]
 PAIRED, TAKING = ["put", "find_or_put", "enter"], ["take", "take_pair"]
@@ -675,7 +771,7 @@ def chain(stores, calls, order="number", room=None, is_fixed=False):
 
 
 # The lengths past nine at which the second key and the last but one are taken too, with the gaps beside them.
-WITH_SECOND = (12, 33)
+WITH_SECOND = (12, 33, 65)
 
 
 def present(length):
@@ -780,13 +876,15 @@ def inputs(length):
 
 
 def astray(length):
-    """Many pairs above all others, which ascend except for the last one, the first or the second."""
+    """Many pairs above all others, which ascend except for the last one, the first or the second, or two of which have one key."""
     low = 2 * length + 1
     for count in (10, 40):
         high = low + 2 * count
         yield f"{low},{count - 1},2 {low + 1},1,1"
         yield f"{high},1,1 {low},{count - 1},2"
         yield f"{low},1,1 {high},1,1 {low + 2},{count - 2},2"
+        yield f"{low},1,1 {low},{count},2"
+        yield f"{low},{count},2 {high - 2},1,1"
 
 
 def bulk():
@@ -840,8 +938,10 @@ def stores():
         many = [*spelled("store_extend", *(["store_join"] if length <= 33 else []), PAIRS=given)]
         yield from block(GROWING, length, 0, many)
         yield from block(ALL, length, 100, [call for call in many if not call.startswith("lm_extend_start")])
-    for pairs in ("1:1 1:2", "2:1 1:2", "1:1 3:2 2:3", "1:1 2:2 3:3", "1:1 2:2 2:3"):
-        yield from chain(ALL, [f"lm_from_pairs {pairs}", "is_sorted_store"])
+    for length in range(5):
+        for given in itertools.product("123", repeat=length):
+            pairs = "".join(f" {key}:{place}" for place, key in enumerate(given, 1))
+            yield from chain(ALL, [f"lm_from_pairs{pairs}", "is_sorted_store"])
     made = [*spelled("store_make", PAIRS=[*inputs(20)])]
     yield from block(ALL, 5, 0, made + ["lm_empty 0", "lm_with_capacity 0", "lm_with_capacity 1", "lm_with_capacity 17"])
 
@@ -888,7 +988,7 @@ PLACING = ["insert", "try_insert", "try_append", "try_find_or_insert", "or_inser
 
 
 def roomy():
-    """Maps with room and no pair, and vectors and other maps with room, with no pair or with some."""
+    """Maps with room and no pair, vectors and other maps with room, with no pair or with some, and room for just the new pairs."""
     taking = EXTENSIONS + MERGES + COMBINES + MAKES + MADE + named("store_join")
     for room in (5, 47):
         calls = [*spelled(*PAIRED, KEY=[1], VALUE=[7]), "or_default 1", "split_off 1", "lm_push 1 7", "lm_insert 0 1 7"]
@@ -901,6 +1001,8 @@ def roomy():
     for length in (1, 2, 24):
         given = [f"{pairs} room={room}".strip() for pairs in ("", "1,1,1", "1,9,2", f"{2 * length + 1},9,1") for room in (1, 90)]
         yield from block(GROWING, length, 0, [f"{name} {pairs}" for name in taking for pairs in given])
+    for length, count in itertools.product((12, 100, 1000), (1, 9, 12)):
+        yield from block(GROWING, length, count, [f"{name} 3,{count},2" for name in MERGES + EXTENSIONS])
 
 
 def long():
@@ -909,6 +1011,8 @@ def long():
     calls += [f"{name} {steps} {count - steps}" for name in ("iter", "keys", "values") for steps in (0, count)]
     calls += [f"into_iter {count}", "iter_range in 1 in 200001", "for 0 0", "try_clone", "to_keys_by", "cmp", "hash"]
     calls += [f"{name} 1,{count},2" for name in ("extend_from_litemap", "extend", "extend_with", *BESIDE)]
+    calls += [f"read_pairs - - 1,{count},1", "update 5", f"retain {RETAINED[4]}", f"split_off {count}"]
+    calls += [f"from_vec 2,{count},2; eq 2,{count},2", f"from_vec 2,{count},2; cmp 2,{count},2", f"extend_from_litemap 1,1000,200"]
     yield from block(GROWING, count, 0, calls)
 
 
