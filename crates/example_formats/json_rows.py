@@ -216,7 +216,8 @@ def told_at(part, place):
 
 
 # A value of each kind, and its name in errors.
-KINDS = [("null", "null"), ("true", "a truth value"), ("1.5", "1.5"), ("[0]", "an array"), ("{}", "an object"), ('"x"', "a text")]
+KINDS = [("null", "null"), ("true", "a truth value"), ("false", "a truth value"), ("1.5", "1.5"), ("-0.5", "-0.5"), ("1e300", "1e+300"),
+         ("[0]", "an array"), ("[]", "an array"), ("{}", "an object"), ('{"a":0}', "an object"), ('"x"', "a text"), ('""', "a text")]
 # A key that can be written, and what errors say that keys and items should be.
 WANTED = {
     **{types: ("0", *(f"a whole number of {types[1:]} bits{' with a sign' if types[0] == 'i' else ''}",) * 2) for types in WHOLE},
@@ -225,6 +226,8 @@ WANTED = {
     "levels": ("low", "low, middle or high", "low, middle or high"),
     "evens": ("2", "a value of the type", "a value of the type"),
 }
+# Names that are no key's text, short and long.
+TOLD_NAMES = ["x y", "x", "", "é", *(letter * length for letter in "xé" for length in (20, 21, 33, 65, 129))]
 ROW = "an array of exactly a key and an item"
 MAP = "an object or an array of [key, item] arrays"
 
@@ -241,7 +244,8 @@ def told_faults():
                 yield f"told {types}", f"[[{text},0]]", told(first, found, told_at("key", 0))
             if text != "[0]":
                 yield f"told {types}", f"[{text}]", told(ROW, found, told_at("element", 0))
-        yield f"told {types}", '{"x y":0}', told_name(first, '"x y"')
+        for name in TOLD_NAMES:
+            yield f"told {types}", '{"%s":0}' % name, told_name(first, f'"{name}"')
         yield f"told {types}", "7", told(MAP, "7")
         yield f"told {types}", "[]", "a map"
         yield f"told {types}", "[", "no JSON"
@@ -255,7 +259,8 @@ def told_faults():
     yield "told ports", ports % 65536, told(wanted, 65536, '"port": ')
     yield "told ports", ports % -1, told(wanted, -1, '"port": ')
     yield "told ports", ports % 65535, "a map"
-    yield "told ports", r'{"a\"b":null}', told(wanted, "null", r'"a\"b": ')
+    for name in (*TOLD_NAMES, r'a\"b'):
+        yield "told ports", '{"%s":null}' % name, told(wanted, "null", f'"{name}": ')
     two = "an array of exactly two, each of its type,"
     yield "told tongues", '[[7,"one"]]', told(two, "7", told_at("key", 0))
     yield "told tongues", '[[[1,"en"],"one"],[[1,7],"one"]]', told(two, "an array", told_at("key", 1))
@@ -366,29 +371,49 @@ def long_flags():
 
 
 def early_faults():
-    """An error at each index to 12, of keys that ascend, that descend and that are equal, and at the next index too."""
-    bad = [("[0]", not_a_pair)] + [(f"[{text},0]", lambda place, fault=fault: key(place, fault)) for text, fault in (
-        ("null", SHAPE), ('"0"', SHAPE), ("256", RANGE), ("-1", RANGE), ("1.0", FLOAT))]
+    """An error at each index to 12 and at a later one, of keys that ascend, that descend and that are equal, and at the next index too."""
+    bad = [("[0]", not_a_pair), ("null", not_a_pair)] + [(f"[{text},0]", lambda place, fault=fault: key(place, fault)) for text, fault in (
+        ("null", SHAPE), ('"0"', SHAPE), ("65536", RANGE), ("-1", RANGE), ("1.0", FLOAT))]
     bad += [(f"[0,{text}]", lambda place, fault=fault: item(place, fault)) for text, fault in (
-        ("{}", SHAPE), ("256", RANGE), ("-1", RANGE), ("1.0", FLOAT))]
-    for place in range(13):
-        for keys in (range(15), range(15, 0, -1), [7] * 15):
+        ("{}", SHAPE), ("null", SHAPE), ("65536", RANGE), ("-1", RANGE), ("1.0", FLOAT))]
+    for place in (*range(13), 33):
+        count = place + 3
+        for keys in (range(count), range(count, 0, -1), [7] * count):
             good = [f"[{number},0]" for number in keys]
             for text, fault in bad:
-                yield "u8", array([*good[:place], text, good[place], text]), fault(place)
-        names = sorted(map(str, range(100, 115)))
+                yield "u16", array([*good[:place], text, good[place], text]), fault(place)
+        names = [str(10000 + number) for number in range(count)]
         for order in (names, names[::-1]):
-            yield "u8", object_of((name, -1 if name >= names[place] else 0) for name in order), item(place, RANGE)
-            yield "u8", object_of((name if name < names[place] else name + "x", 0) for name in order), key_text(place)
-        odd = [*range(0, 2 * place, 2), 2 * place + 1, *range(2 * place + 2, 30, 2)]
+            for text, fault in (("{}", SHAPE), ("null", SHAPE), ("65536", RANGE), ("-1", RANGE), ("1.0", FLOAT)):
+                yield "u16", object_of((name, text if name >= names[place] else 0) for name in order), item(place, fault)
+            yield "u16", object_of((name if name < names[place] else name + "x", 0) for name in order), key_text(place)
+        odd = [*range(0, 2 * place, 2), 2 * place + 1, *range(2 * place + 2, 2 * count, 2)]
         answer = no_text(place) if place else array(f'[{number},"a"]' for number in odd)
         for order in (odd, odd[::-1], odd * 2):
             yield "evens", array(f'[{number},"a"]' for number in order), answer
 
 
+def parts():
+    """A pair of pairs in which one part is of another kind, at two indices."""
+    whole = {"null": SHAPE, "true": SHAPE, '"1"': SHAPE, "[1]": SHAPE, "{}": SHAPE, "1.5": FLOAT, "9999999999": RANGE, "-9999999999": RANGE}
+    other = dict.fromkeys(["null", "7", "1.5", "[]", "{}"], SHAPE)
+    for place in (0, 3):
+        # The text around a part, what the part may not be, and whose error that is.
+        for before, after, bad, fault in (
+            ("[[[", ',true],"x"],[7,[false,-8]]]', whole, key), ("[[[1,", '],"x"],[7,[false,-8]]]', other, key),
+            ("[[[1,true],", "],[7,[false,-8]]]", other, key), ("[[", ',"x"],[7,[false,-8]]]', other, key),
+            ('[[[1,true],"x"],[', ",[false,-8]]]", whole, item), ('[[[1,true],"x"],[7,[', ",-8]]]", other, item),
+            ('[[[1,true],"x"],[7,[false,', "]]]", whole, item), ('[[[1,true],"x"],[7,', "]]", other, item),
+        ):
+            good = [f'[[[{number},true],"x"],[7,[false,-8]]]' for number in range(place)]
+            for text, why in bad.items():
+                yield "nested", array([*good, f"{before}{text}{after}"]), fault(place, why)
+
+
 def values():
     """JSON values of each kind that `write_value` writes, of which maps have only some."""
     parts = ["null", "true", "false", "0", "-1", "1.5", "-0.5", "18446744073709551615", "-9223372036854775808", '""', '"a"', "[]", "{}"]
+    parts += ["1e+300", "-1e-7", "5e-324", "0.1", r'"\"\\/\u0000\n\u001f"', '"é😀 "', array(["0"] * 1000), f'"{"a" * 1000}"']
     parts += [array(parts), array([array(parts), array([array([])])]), object_of((f"k{place:02}", part) for place, part in enumerate(parts))]
     for part in parts:
         yield "value", part, None
@@ -400,5 +425,7 @@ def values():
 def rows():
     """The lines, each with its output."""
     rows = [*ROWS, *bad_elements(), *whole_numbers(), *long_maps(), *late_faults(), *long_texts(), *told_faults()]
-    rows += [*all_numbers(), *ascii_texts(), *early_faults(), *values(), *long_flags()]
+    rows += [*all_numbers(), *ascii_texts(), *early_faults(), *parts(), *values(), *long_flags()]
+    # Keys that descend where their names ascend are written as strings are.
+    rows += [("falling", text, answer) for types, text, answer in rows if types == "text"]
     return [(f"{types} {text}", text if answer is None else answer) for types, text, answer in rows]

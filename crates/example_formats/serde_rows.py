@@ -165,6 +165,27 @@ def of_every_length():
         yield "codes", printed(f"code,name\n{rows}"), printed({str(key): str(item) for key, item in last.items()})
 
 
+def faults():
+    """An error at each index to 12 and at later ones, after keys that ascend, that descend and that are equal, with right pairs after it."""
+    bad_pairs = ('[1,"x"]', "[1,null]", '["x",1]', "[null,1]", "[1.5,1]", "[1]", "[1,1,1]", "[]", "7", "null")
+    bad_members = (('"1":"x"', "data"), ('"1":1.5', "data"), ('"1.5":1', "data"), ('"x":1', "syntax"))
+    for place in (*range(13), 33, 999):
+        for keys in ([*range(place + 3)], [*range(place + 3, 0, -1)], [7] * (place + 3)):
+            among = lambda good, bad: [*map(good, keys[:place]), bad, *map(good, keys[place + 1 :])]
+            for bad in bad_pairs:
+                yield "i64", "[" + ",".join(among("[{0},{0}]".format, bad)) + "]", "data"
+            for bad, fault in bad_members:
+                yield "i64", "{" + ",".join(among('"{0}":{0}'.format, bad)) + "}", fault
+            for good, bad in (("[{0},{0}],", "[[1,"), ('"{0}":{0},', '{"1":')):
+                yield "i64", bad[:1] + "".join(map(good.format, keys[:place])) + bad[1:], "eof"
+            for bad in ("[1, 1]", "['k', -1]", "['k']", "7"):
+                yield "toml-counts", printed("a = [" + ", ".join(among("['{0}', {0}]".format, bad)) + "]\n"), "refused"
+            yield "codes", printed("code,name\n" + "".join(among("{0},{0}\n".format, "x,1\n"))), "refused"
+            if len({*keys}) == len(keys):
+                for bad in ("x = 1\n", f"{place + 9} = -1\n", f"{place + 9} = 'x'\n"):
+                    yield "toml-u32", printed("".join(among("{0} = {0}\n".format, bad))), "refused"
+
+
 # Configurations in TOML.
 TOML = [
     'title = "t"\n[names]\nb = "2"\na = "1"\n[limits]\nz = 3\ny = 4\n', 'title = ""\nnames = { "b c" = "x", a = "y" }\n', 'title = "t"\n[names]\n',
@@ -254,5 +275,5 @@ def answer_of(what, text, answer):
 
 def rows():
     """The lines, each with its output."""
-    rows = [*MAPS, *whole_numbers(), *wrong_types(), *many(), *of_every_length(), *toml_rows(), *csv_rows()]
+    rows = [*MAPS, *whole_numbers(), *wrong_types(), *many(), *of_every_length(), *faults(), *toml_rows(), *csv_rows()]
     return [(f"{what} {text}", answer_of(what, text, answer)) for what, text, answer in rows]

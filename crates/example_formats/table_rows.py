@@ -378,6 +378,20 @@ def faulty_lines():
             changed = data[:at] + new + data[at + len(new) :]
             yield "opened", changed, opened(changed)
         yield "opened", data[: start + 7], opened(data[: start + 7])
+    # A key that is equal to the one before, or below it.
+    for place in range(1, 13):
+        for key in (chr(96 + place), "A"):
+            pairs = [(chr(97 + number) if number != place else key, "v") for number in range(13)]
+            yield "opened", indexed(pairs), opened(indexed(pairs))
+            yield "table", written(pairs), rising_table(written(pairs))
+
+
+def ascii_lines():
+    """Names and values that begin and end in each ASCII character, alone and all together, in tables and in indexes."""
+    names = [[(letter, letter), (f"{letter}x{letter}", f"{letter}y{letter}")] for letter in map(chr, range(128))]
+    for pairs in (*names, [pair for both in names for pair in both]):
+        yield "again", written(pairs), again(written(pairs))
+        yield "index", written(pairs), index(written(pairs))
 
 
 def lines():
@@ -422,6 +436,7 @@ def lines():
     yield from large_lines()
     yield from sized_lines()
     yield from faulty_lines()
+    yield from ascii_lines()
     for data in (b"\x00", READ[19], READ[20], READ[25], TABLE, NOT_RISING[1], READ[28]):
         yield "index", data, index(data)
     for data in INDEXES:

@@ -6,6 +6,10 @@ import pathlib
 import re
 
 MOST = 1048576
+# Runs of which each request for memory is refused.
+SESSIONS = [
+    "put b 2\nput a 1\nput b 3\nfind c\nall\n", "del a\njson\nput b 2\nput a 1\njson\ndel b\nget b\n",
+    "".join(f"put {key} {key}\n" for key in "caebdfg") + "put a z\nall\ndel d\nget a\njson\n"]
 WORD = rb"[!-~]+"
 SHAPES = {name: re.compile(shape) for name, shape in [
     ("put", rb"put (%s) (%s)" % (WORD, WORD)), ("get", rb"get (%s)" % WORD), ("del", rb"del (%s)" % WORD),
@@ -100,6 +104,17 @@ def removals():
     yield from [b"all", b"find 01000", b"json"]
 
 
+def small():
+    """Each command over no name and over a few, by each name and by others."""
+    for names in [b"", b"m", b"am", b"amz"]:
+        keys = [b"%c" % it for it in names]
+        yield from [b"put " + key + b" " + key for key in keys]
+        for key in [*keys, b"!", b"n", b"~"]:
+            yield from [b"all", b"json", b"get " + key, b"find " + key, b"del " + key, b"del " + key]
+        yield from [b"put " + key + b" v" for key in [b"all", b"json", b"put", b"get", b"del", b"find"]]
+        yield from [b"del " + key for key in [b"all", b"json", b"put", b"get", b"del", b"find"]]
+
+
 # bad lines before others
 BAD = [
     b" ", b"put", b"put ", b"put a", b"put a ", b"put  a 1", b"put a  1", b"put a 1 ", b"put a 1 2", b" put a 1", b"put a\t1",
@@ -149,12 +164,16 @@ def rows():
 
 
 def searched():
-    """Lines before those of stdin, and how often all of them search the names: each line that calls the map does so once."""
+    """Lines before those of stdin, how often all of them search the names, and how many comparisons of names that takes at most: each
+    line that calls the map searches once."""
     some = [b"%s %05d" % (word, key) for word in (b"get", b"find", b"del", b"get") for key in range(0, 400, 3)]
-    lines = [b"get a", b"find a", b"del a", b"all", b"json", b"put a a", b"del a", *puts(300), *puts(40, b"w", 100), *some, *long_values(), *long_keys(), b"json", b"all"]
+    lines = [*small(), b"put a a", b"del a", *puts(300), *puts(40, b"w", 100), *some, *long_values(), *long_keys(), b"json", b"all"]
     given = b"\n".join([*lines, pathlib.Path(__file__).with_name("stdin").read_bytes()]).decode()
-    calls = len(re.findall("^(put|get|del|find) ", given, re.MULTILINE))
-    return "".join(line.decode() + "\n" for line in lines), calls
+    calls, names, most = re.findall(r"^(put|get|del|find) (\S+)", given, re.MULTILINE), set(), 0
+    for word, key in calls:
+        most += len(names).bit_length()
+        names = names | {key} if word == "put" else names - {key} if word == "del" else names
+    return "".join(line.decode() + "\n" for line in lines), len(calls), most
 
 
 def files():

@@ -1,5 +1,6 @@
 //! The output of a line.
 use crate::evens::Even;
+use crate::falling::Falling;
 use crate::levels::Level;
 use crate::overlay::{OverlayFault, Settings, overlay};
 use crate::{limits, numbers, told};
@@ -35,6 +36,7 @@ pub fn answer(alloc: Global, line: &str) -> Result<String, AllocError> {
         "i64" => written::<i64, i64, ShortStore<i64, i64>>(alloc, text),
         "bool" => written::<bool, bool, ShortStore<bool, bool>>(alloc, text),
         "text" => written::<String, String, ShortStore<String, String>>(alloc, text),
+        "falling" => written::<Falling, String, ShortStore<Falling, String>>(alloc, text),
         "flags" => written::<bool, u32, ShortStore<bool, u32>>(alloc, text),
         "words" => written::<u32, String, ShortStore<u32, String>>(alloc, text),
         "evens" => written::<Even, String, ShortStore<Even, String>>(alloc, text),

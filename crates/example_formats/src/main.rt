@@ -52,6 +52,7 @@ macro_rules! or_word {
 pub mod codes;
 pub mod config;
 mod evens;
+mod falling;
 mod indexes;
 mod json_rows;
 mod kinds;

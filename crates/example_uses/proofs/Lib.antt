@@ -1,3 +1,2 @@
 -- Lemmas of the proofs.
-pub mod Tables
 pub mod Vectors

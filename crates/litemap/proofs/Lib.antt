@@ -11,6 +11,7 @@ pub mod Placing
 pub mod Walks
 pub mod Retained
 pub mod Sets
+pub mod Tables
 pub mod Texts
 pub mod Cuts
 pub mod Writing

@@ -8,7 +8,6 @@ pub mod Entries
 pub mod FoundBy
 pub mod Lends
 pub mod Retained
-pub mod Tables
 pub mod TryFault
 pub mod Within
 pub mod Written
