@@ -51,7 +51,7 @@ READ = [
     bytes.fromhex("01 81 80 80 80 10 61 01 62".replace(" ", "")), bytes.fromhex("0102c3a902c3b6"),
     bytes.fromhex("0101c302c3b6"), bytes.fromhex("01016101c3"), bytes.fromhex("0103eda080"), bytes.fromhex("0104f4908080"),
     bytes.fromhex("01ff7f61"), bytes.fromhex("0102ff"), bytes.fromhex("010561626364"), bytes.fromhex("01ffffffff0f"),
-    # eleven languages are read, and of 116 bytes, 1, 4 and 10 where they end
+    # eleven languages are read; of their first 116 bytes, 1, 4 and 10 the error says where they end
     TABLE, TABLE[:116], TABLE[:1], TABLE[:4], TABLE[:10],
     # bytes after the last entry are not read
     TABLE + b"\x00\x00",
