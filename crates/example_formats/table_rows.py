@@ -68,7 +68,7 @@ def number(data, at):
     part = data[at : at + 5]
     ends = [place for place, byte in enumerate(part) if byte < 128]
     if not ends and len(part) < 5:
-        raise Fault(f"the bytes end within the number or text at byte {at}")
+        raise Fault(f"the bytes end within the number or string at byte {at}")
     value = sum((byte & 127) << 7 * place for place, byte in enumerate(part[: ends[0] + 1] if ends else []))
     if not ends or value >= 1 << 32:
         raise Fault(f"the number at byte {at} is too large")
@@ -78,11 +78,11 @@ def number(data, at):
 def text(data, at):
     size, start = number(data, at)
     if start + size > len(data):
-        raise Fault(f"the bytes end within the number or text at byte {start}")
+        raise Fault(f"the bytes end within the number or string at byte {start}")
     try:
         return data[start : start + size].decode("utf-8"), start + size
     except UnicodeDecodeError:
-        raise Fault(f"the text at byte {start} is not UTF-8") from None
+        raise Fault(f"the string at byte {start} is not UTF-8") from None
 
 
 def entries(data):
@@ -129,7 +129,7 @@ def rising(data):
     found, _, _, fault = entries(data)
     for index, (at, _, key, _) in enumerate(found):
         if index and key.encode() <= found[index - 1][2].encode():
-            raise Fault(f"the key of the entry at byte {at} does not rise")
+            raise Fault(f"the key of the entry at byte {at} is not above the one before it")
     if fault:
         raise fault
     return [(key, value) for _, _, key, value in found]
@@ -201,25 +201,25 @@ def again(data):
 
 def index_number(data, at):
     if at + 4 > len(data):
-        raise Fault(f"the bytes end within the number or text at byte {at}")
+        raise Fault(f"the bytes end within the number or string at byte {at}")
     return int.from_bytes(data[at : at + 4], "little")
 
 
 def index_text(data, at):
     size = index_number(data, at)
     if at + 4 + size > len(data):
-        raise Fault(f"the bytes end within the number or text at byte {at + 4}")
+        raise Fault(f"the bytes end within the number or string at byte {at + 4}")
     try:
         return data[at + 4 : at + 4 + size].decode("utf-8"), at + 4 + size
     except UnicodeDecodeError:
-        raise Fault(f"the text at byte {at + 4} is not UTF-8") from None
+        raise Fault(f"the string at byte {at + 4} is not UTF-8") from None
 
 
 def index_entries(data):
     """How many entries an index has, and each of them by its index."""
     number = index_number(data, 0)
     if 4 + 4 * number > len(data):
-        raise Fault(f"the bytes end within the number or text at byte {len(data) // 4 * 4}")
+        raise Fault(f"the bytes end within the number or string at byte {len(data) // 4 * 4}")
 
     def entry(index):
         key, middle = index_text(data, 4 + 4 * number + index_number(data, 4 + 4 * index))
@@ -234,7 +234,7 @@ def index_pairs(data):
     for index in range(number):
         pairs.append(entry(index))
         if index and pairs[-1][0].encode() <= pairs[-2][0].encode():
-            raise Fault(f"the key of the entry {index} does not rise")
+            raise Fault(f"the key of the entry {index} is not above the one before it")
     return pairs
 
 
@@ -301,7 +301,7 @@ def strings(alphabet):
 
 
 # The errors that no other line shows.
-FAULTS = "out of memory; a number of the name table is too large; out of memory; an entry of the name table begins too far behind the first; "
+FAULTS = "out of memory; a number of the name table is too large; out of memory; an entry of the name table begins too far after the first; "
 FAULTS += "there is not enough memory; the bytes are not a JSON text; the JSON value is not a map from flags to numbers: "
 FAULTS += "a map is an object or an array of [key, item] arrays, and this value is neither"
 # A count of 2^32 - 1 before five bytes.

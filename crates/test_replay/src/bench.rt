@@ -73,7 +73,7 @@ impl<S: Tested> Bench<S> {
         if let Some(calls) = line.set_up {
             for text in calls.split("; ") {
                 let words: Vec<&str> = text.split(' ').collect(call.alloc)?;
-                self.one(line, &call.another(&words), to);
+                self.earlier(words.as_slice(), line, call, to);
             }
             to.clear();
         }
@@ -82,6 +82,19 @@ impl<S: Tested> Bench<S> {
             keys: call.seen.keys.alive.get(),
             values: call.seen.values.alive.get(),
         })
+    }
+
+    // Makes a call before that of a line, which tells nothing.
+    fn earlier(&mut self, words: &[&str], line: &Line<'_>, call: &Call<'_>, to: &mut Answer) {
+        let earlier = Call {
+            alloc: call.alloc,
+            seen: call.seen,
+            order: call.order,
+            is_marked: false,
+            name: words.first().copied().unwrap_or(""),
+            words: words.get(1..).unwrap_or(&[]),
+        };
+        self.one(line, &earlier, to);
     }
 
     /// Makes the call of a line, if every store has it.
