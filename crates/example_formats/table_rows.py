@@ -301,7 +301,7 @@ def strings(alphabet):
 
 
 # The errors that no other line shows.
-FAULTS = "out of memory; a number of the name table is too large; out of memory; an entry of the name table begins too far after the first; "
+FAULTS = "there is not enough memory; a number of the name table is too large; there is not enough memory; an entry of the name table begins too far after the first; "
 FAULTS += "there is not enough memory; the bytes are not a JSON text; the JSON value is not a map from flags to numbers: "
 FAULTS += "a map is an object or an array of [key, item] arrays, and this value is neither"
 # A count of 2^32 - 1 before five bytes.

@@ -27,7 +27,8 @@ module _ (K V S : RattleType) (key : OrdMembers K.Denot) (pairs : S.Denot → Li
     abbrev pub LendsIndex : ℕ → Option (MutBor V.Denot) → Fml
     LendsIndex i r = LendsIf map_row V m r (λ v. with_pairs m.now (set_value m.now.pairs i v)) m.now
 
-    -- once the reference in r ends, the map has the last value written through it at an index that may be found
+    -- once the reference in r ends, the map has the last value written through it at an index that may be found, where the value
+    -- that r refers to stood; if there is none, the map stays
     abbrev pub LendsFound : (ℕ → Type 0) → Option (MutBor V.Denot) → Fml
     LendsFound IsFound r =
         LendsSo map_row V m r

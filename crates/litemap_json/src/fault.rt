@@ -25,8 +25,8 @@ pub enum WriteFault {
 /// Why a JSON value was not read as a map.
 ///
 /// A `place` is the index of an array's element, or that of an object's member, whose members stand in the byte order of their
-/// names. It is the first one that spells no pair. Of an element or member the pair's shape comes first, then the key, then the
-/// item.
+/// names. It is the first one that represents no pair. Of an element or member the pair's shape comes first, then the key, then
+/// the item.
 ///
 /// ```rust
 /// let value = Value::from_str(alloc, r#"{"1":8,"3":300}"#)?;

@@ -34,12 +34,12 @@ pub enum ItemFault {
 
 /// A type whose values are written as JSON, and read back.
 ///
-/// A contract sees a value as its tree, `json x`, and what a tree spells as the tree of that value, `item d`.
+/// A contract sees a value as its tree, `json x`, and what a tree represents as the tree of that value, `item d`.
 pub trait JsonItem {
     /// The tree of a value. Values with one tree are the same to a reader.
     ghost json: { Self → Data };
 
-    /// The tree of the value that a tree spells, or why it spells none.
+    /// The tree of the value that a tree represents, or why it represents none.
     ghost item: { Data → Result Data ItemFault };
 
     /// Returns the value as JSON, which reads as the same value. It fails if memory runs out.
@@ -47,7 +47,7 @@ pub trait JsonItem {
         ensures tree { IfOk result (λ value. view value ≡ json self.now) }
         ensures reads_back { OnOk result (item (json self.now) ≡ Ok (json self.now)) };
 
-    /// Returns the value that a JSON value spells. `Memory` may come in place of any result.
+    /// Returns the value that a JSON value represents. `Memory` may come in place of any result.
     fn from_value(alloc: Global, value: &Value) -> Result<Self, ItemFault>
         ensures { Reads Memory json (item (view value.now)) result };
 
@@ -73,7 +73,7 @@ pub trait JsonItem {
 /// A type whose values are written as the keys of a map: as the names of an object's members if they have strings, else as JSON
 /// values.
 ///
-/// A contract sees a key as the bytes of its string, `text k`, and the key that a string spells as that key's tree, `key s`.
+/// A contract sees a key as the bytes of its string, `text k`, and the key that a string represents as that key's tree, `key s`.
 pub trait JsonKey: JsonItem + Ord {
     /// The string that stands for a key as a member's name, if it has one.
     ghost text: { Self → Option (List ℕ) };
@@ -87,8 +87,8 @@ pub trait JsonKey: JsonItem + Ord {
         ensures reads_back { OnOk result (IfSome (text self.now)
             (λ name. key name ≡ Some (Self.json self.now))) };
 
-    /// Returns the key that has this string, or `None` if no key has it. Each key has exactly one string: any other way to write
-    /// it, as `07` for 7, gives `None`. It fails if memory runs out.
+    /// Returns the key that has this string, or `None` if no key has it. A key has one string at most: any other way to write it,
+    /// as `07` for 7, gives `None`. It fails if memory runs out.
     ///
     /// ```rust
     /// let seven = u32::from_key_text(alloc, "7")?;

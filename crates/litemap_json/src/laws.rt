@@ -3,8 +3,8 @@ ghost use Rattle.litemap_json.specs.Laws.{OneReading, OneReadingByText};
 
 use crate::item::{JsonItem, JsonKey};
 
-/// The maps that a JSON value is read as have the same keys and items, pair by pair, since each has one tree. So what `from_json`
-/// reads from what `to_json` made is the map that was written.
+/// Two maps that one JSON value is read as have the same trees of keys and items, pair by pair, since keys with one tree are
+/// equal. So what `from_json` reads from what `to_json` made has the trees of the map that was written.
 pub fn one_reading<K: JsonKey, V: JsonItem>()
     ensures { OneReading K.cmp K.key K.item V.item K.json V.json }
 {}

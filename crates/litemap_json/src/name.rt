@@ -16,7 +16,7 @@ use std::cmp::Ordering;
 pub(crate) enum Name {
     /// The decimal digits of an integer.
     Unsigned(Decimal),
-    /// The same of one with a sign.
+    /// The decimal digits of an integer, after `-` if it is negative. `of` makes it of negative ones alone.
     Signed(i64),
     /// A string.
     Text(String),
@@ -94,11 +94,13 @@ impl Ord for Name {
         }
         if let Name::Signed(a) = self {
             if let Name::Signed(b) = other {
+                // Both begin with `-`, so the digits after it decide.
                 if *a < 0 && *b < 0 {
                     return cmp_digits(a.unsigned_abs(), b.unsigned_abs());
                 }
             }
         }
+        // Any others are compared as strings.
         self.as_str(&mut Buffer::new())
             .cmp(other.as_str(&mut Buffer::new()))
     }

@@ -48,7 +48,7 @@ pub fn from_json<K: JsonKey + Drop, V: JsonItem + Drop, S: StoreBulkMut<K, V>>(
     }
 }
 
-// The pairs that a value spells, in the order that it holds.
+// The pairs that a value represents, in the order that it holds.
 fn pairs_of<K: JsonKey + Drop, V: JsonItem + Drop>(
     alloc: Global,
     value: &Value,

@@ -146,7 +146,7 @@ fn write_member<V: JsonItem>(
     item.write_to(alloc, out)
 }
 
-// Whether the name at an index is above the one before; the first has none before it.
+// Returns whether a name is above `last`, the one before it. At index 0 there is none before it, and `last` is ignored.
 fn rises(place: usize, last: &Name, name: &Name) -> bool
     ensures { result ≡ true → 0 < place → slice_cmp nat_cmp (name_bytes last.now) (name_bytes name.now) ≡ Less }
 {

@@ -92,7 +92,7 @@ impl<E: Drop> From<ReadFault<E>> for io::Error {
             ReadFault::NoRoom => io::Error::from(AllocError),
             ReadFault::Source(_) => io::Error::new(
                 io::ErrorKind::InvalidData,
-                "the source of pairs has a error",
+                "the source of pairs returned an error",
             ),
         }
     }

@@ -32,11 +32,13 @@ fn choose(is_first: bool, first: usize, second: usize) -> usize
     if is_first { first } else { second }
 }
 
-/// Returns the index of a key for which `f` returns `Equal`, or else the number of keys for which it returns `Less`.
+/// Returns `Ok` with the index of a key for which `f` returns `Equal`, or else `Err` with the number of keys for which it returns
+/// `Less`.
 ///
 /// Each step calls `f` on the middle key, and leaves at most half of the keys. Comparing small keys costs less than a branch that
-/// is predicted wrongly: so among those each step leaves half, and the number of steps depends on the length alone. Among larger
-/// ones no key is compared twice, and `Equal` ends the search. No choice is a branch in the source: each is made by `choose`.
+/// is predicted wrongly: so among those each step leaves half, perhaps with the key just compared, and goes on after `Equal`, and
+/// the number of steps depends on the length alone. Among larger ones no key is compared twice, and `Equal` ends the search.
+/// `choose` takes both values of each choice, so that the compiler can select one without a branch.
 pub fn find<K, V, S: Keys<K, V>, F: FnMut(&K) -> Ordering>(
     keys: &S,
     f: F,
@@ -57,6 +59,7 @@ pub fn find<K, V, S: Keys<K, V>, F: FnMut(&K) -> Ordering>(
         let next = low + (left - half);
         let key = keys.key_at(next - 1);
         let is_small = mem::size_of_val(key) <= SMALL;
+        // How many keys are left: `half` after `Less`, `before` after `Greater`, `rest` after `Equal`.
         let before = choose(is_small, half, left - half - 1);
         let rest = choose(is_small, half, 0);
         let order = count.ask(&mut f, key);

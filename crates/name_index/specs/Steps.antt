@@ -126,13 +126,13 @@ pub record Adds (old new : List ℕ) (size : ℕ) : Type 0 where
   pub added : new ≡ old ++ more
   pub size_is : length more ≡ size
 
--- the number of the pairs is written, and the offsets of the first ones
+-- the number of the pairs is written, and the offsets of the first `index`
 pub record AreOffsets (bytes : List ℕ) (pairs : List (List ℕ × List ℕ)) (index : ℕ) : Type 0 where
   pub number : IsNumberAt bytes 0 (length pairs)
   pub size : length bytes ≡ 4 + 4 * index
   pub noted : (i : ℕ) → i < index → IsNumberAt bytes (4 + 4 * i) (entries_size (take i pairs))
 
--- new is old with the first pairs after it
+-- new is old with the first `index` pairs after it
 pub record AddsPairs (old new : List ℕ) (pairs : List (List ℕ × List ℕ)) (index : ℕ) : Type 0 where
   pub adds : Adds old new (entries_size (take index pairs))
   pub there : (i : ℕ) (pair : List ℕ × List ℕ) → i < index → slice_get pairs i ≡ Some pair

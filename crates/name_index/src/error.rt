@@ -34,7 +34,7 @@ impl From<NameFault> for NameTableFault {
 #[derive(Debug, PartialEq, Drop, Error)]
 pub enum NameIndexFault {
     /// Memory ran out.
-    #[error("out of memory")]
+    #[error("there is not enough memory")]
     NoRoom,
     /// An entry begins 4,294,967,296 bytes or more after the first.
     #[error("an entry of the name table begins too far after the first")]

@@ -72,7 +72,7 @@ impl<'a> NameIndex<'a> {
         self.len() == 0
     }
 
-    /// Returns the value of a key, or `None` if it isn't there. It makes O(log n) comparisons for n entries.
+    /// Returns the value of the key with the same bytes, or `None` if there is none. It makes O(log n) comparisons for n entries.
     ///
     /// The value is borrowed from the bytes of the table, and outlives the index. No memory is taken.
     pub fn get(&self, key: &str) -> Option<&'a str>
@@ -102,7 +102,7 @@ impl<'a> NameIndex<'a> {
 
     /// `find_index`, counting its comparisons.
     pub fn find_index_counted(&self, key: &str, count: &mut Count) -> Result<usize, usize>
-        ensures place { OfTable self.now (FindsIndex key.now result) }
+        ensures index { OfTable self.now (FindsIndex key.now result) }
         ensures cost { OfTable self.now (λ pairs. RisesByAtMost (digits (length pairs)) count.old count.new) }
     {
         search(self.entries, self.offsets.as_slice(), key, count)

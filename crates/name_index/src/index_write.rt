@@ -12,7 +12,7 @@ use name_table::parts::NUMBER_LIMIT;
 use name_table::{NameMap, NameWriteFault};
 use std::alloc::Global;
 
-/// The bytes of the two numbers of an entry, which stand before its key and its value.
+/// The bytes of the two numbers of an entry: one stands before its key, one before its value.
 const ENTRY_NUMBERS: usize = 8;
 
 /// Writes the index of a map, and returns its bytes.
@@ -59,6 +59,7 @@ fn put_offsets(alloc: Global, pairs: &[(&str, &str)]) -> Result<Vec<u8>, NameWri
     Ok(bytes)
 }
 
+// Appends each pair: its key and its value, each after its length.
 fn put_entries(bytes: &mut Vec<u8>, pairs: &[(&str, &str)]) -> Result<(), NameWriteFault>
     ensures pairs { OnOk result (AddsPairs bytes.old.items bytes.new.items (map shown pairs.now) (length pairs.now)) }
     ensures too_large { IfErr result (λ error. IfTooLarge error (NUMBER_LIMIT ≤ entries_size (map shown pairs.now))) }

@@ -110,7 +110,7 @@ impl<'a> IndexedNames<'a> {
 
     /// Returns `Ok` with the index of a key, or `Err` with the index where it would go. It costs what `get` does.
     pub fn find_index(&self, key: &str) -> Result<Result<usize, usize>, IndexFault>
-        ensures place { IfOk result (λ found. IfIndex self.now (FindsIndex key.now found)) }
+        ensures index { IfOk result (λ found. IfIndex self.now (FindsIndex key.now found)) }
         ensures error { IfErr result (λ _. NoIndex self.now) }
     {
         self.find_index_counted(key, &mut Count::new())
@@ -122,7 +122,7 @@ impl<'a> IndexedNames<'a> {
         key: &str,
         count: &mut Count,
     ) -> Result<Result<usize, usize>, IndexFault>
-        ensures place { IfOk result (λ found. IfIndex self.now (FindsIndex key.now found)) }
+        ensures index { IfOk result (λ found. IfIndex self.now (FindsIndex key.now found)) }
         ensures error { IfErr result (λ _. NoIndex self.now) }
         ensures cost { IfIndex self.now (λ pairs. RisesByAtMost (digits (length pairs)) count.old count.new) }
     {
@@ -200,7 +200,7 @@ impl<'a> CheckedNames<'a> {
 
     /// `find_index`, counting its comparisons.
     pub fn find_index_counted(&self, key: &str, count: &mut Count) -> Result<usize, usize>
-        ensures place { OfIndex self.now (FindsIndex key.now result) }
+        ensures index { OfIndex self.now (FindsIndex key.now result) }
         ensures cost { OfIndex self.now (λ pairs. RisesByAtMost (digits (length pairs)) count.old count.new) }
     {
         self.names.find_index_counted(key, count).unwrap()

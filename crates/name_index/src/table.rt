@@ -115,7 +115,7 @@ impl<'a> NameTable<'a> {
 
     /// `find_index`, counting its comparisons.
     pub fn find_index_counted(&self, key: &str, count: &mut Count) -> Result<usize, usize>
-        ensures place { OfTable self.now (FindsIndex key.now result) }
+        ensures index { OfTable self.now (FindsIndex key.now result) }
         ensures cost { OfTable self.now (λ pairs. RisesByAtMost (place text_order pairs key.now + 1) count.old count.new) }
     {
         match scan(self.entries, self.len, key, count) {

@@ -25,7 +25,8 @@ PartFault part bytes place error = ⊥
 abbrev pub Fault : List Part → List ℕ → ℕ → NameFault → Type 0
 Fault [] bytes place error = ⊥
 Fault (due ∷ more) bytes place error = PartFault due bytes place error
-    ⊎ ((first : List ℕ) × (rest : List ℕ) × (bytes ≡ first ++ rest) × IsPart first due × Fault more rest (place + length first) error)
+    ⊎ ((first : List ℕ) × (rest : List ℕ) × (bytes ≡ first ++ rest) × IsPart first due
+    × Fault more rest (place + length first) error)
 
 -- they don't begin with a string after its length: this is why
 abbrev pub TextFault : List ℕ → ℕ → NameFault → Type 0

@@ -39,7 +39,7 @@ pub enum NameFault {
 #[derive(Debug, PartialEq, Drop, Error)]
 pub enum NameWriteFault {
     /// Memory ran out.
-    #[error("out of memory")]
+    #[error("there is not enough memory")]
     NoRoom,
     /// No table has such pairs: their number, or the length of a string in bytes, isn't below 4,294,967,296.
     #[error("a number of the name table is too large")]

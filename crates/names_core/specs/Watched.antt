@@ -8,16 +8,16 @@ watched watch = watch.inner
 
 -- whether a call through it failed
 abbrev pub met_fault : {T : Type 0} → Watch T → Bool
-met_fault watch = watch.has_met_fault
+met_fault watch = watch.met_fault
 
 -- whether a call was made through it after one had failed
 abbrev pub called_after_fault : {T : Type 0} → Watch T → Bool
-called_after_fault watch = watch.has_late_call
+called_after_fault watch = watch.called_after_fault
 
 -- whether a call was made through it that may have followed a failed one of the watch beside it: the calls so far are settled
 -- if that watch is seen to have none until then
 abbrev pub is_unsettled : {T : Type 0} → Watch T → Bool
-is_unsettled watch = watch.has_open_call
+is_unsettled watch = watch.is_unsettled
 
 -- one call was made through it, and failed or not
 abbrev pub NotesCall : {T : Type 0} → Watch T → Watch T → Bool → Type 0

@@ -9,6 +9,9 @@ use std::io::{ErrorKind, Read, Write};
 
 /// A reader or a writer, with a note of whether a call through it failed.
 ///
+/// A run has two watches, one of its reader and one of its writer. Each also notes whether a call through it may have followed a
+/// failed one of the other: `settle_before` says that the calls so far did not.
+///
 /// A read or a write fails if it returns an error, and a write also if it takes nothing of a text that isn't empty. An
 /// interrupted call fails like any other, and isn't tried again.
 #[derive(Drop)]
@@ -17,11 +20,11 @@ pub struct Watch<T> {
     pub failed: bool,
     inner: T,
     // Whether a call failed. `failed` is public, so a caller may set it back; nothing sets this back.
-    has_met_fault: bool,
+    met_fault: bool,
     // Whether a call was made after one had failed. Nothing sets it back.
-    has_late_call: bool,
+    called_after_fault: bool,
     // Whether a call was made that may have followed a failed one of the watch beside this one.
-    has_open_call: bool,
+    is_unsettled: bool,
 }
 
 impl<T> Watch<T> {
@@ -38,38 +41,38 @@ impl<T> Watch<T> {
         Watch {
             failed: false,
             inner,
-            has_met_fault: false,
-            has_late_call: false,
-            has_open_call: false,
+            met_fault: false,
+            called_after_fault: false,
+            is_unsettled: false,
         }
     }
 
     // Settles the calls so far: they came before any failed call of `other`, if that has none until now.
     pub(crate) fn settle_before<U>(&mut self, other: &Watch<U>)
-        ensures { self.new ≡ record self.old { has_open_call = self.old.has_open_call && other.now.has_met_fault } }
+        ensures { self.new ≡ record self.old { is_unsettled = self.old.is_unsettled && other.now.met_fault } }
     {
-        if !other.has_met_fault {
-            self.has_open_call = false;
+        if !other.met_fault {
+            self.is_unsettled = false;
         }
     }
 
     fn note_call(&mut self)
         ensures { self.new ≡ record self.old {
-          has_late_call = self.old.has_met_fault || self.old.has_late_call;
-          has_open_call = true;
+          called_after_fault = self.old.met_fault || self.old.called_after_fault;
+          is_unsettled = true;
         } }
     {
-        if self.has_met_fault {
-            self.has_late_call = true;
+        if self.met_fault {
+            self.called_after_fault = true;
         }
-        self.has_open_call = true;
+        self.is_unsettled = true;
     }
 
     fn note_fault(&mut self)
-        ensures { self.new ≡ record self.old { failed = true; has_met_fault = true } }
+        ensures { self.new ≡ record self.old { failed = true; met_fault = true } }
     {
         self.failed = true;
-        self.has_met_fault = true;
+        self.met_fault = true;
     }
 }
 
@@ -116,7 +119,8 @@ impl<W: Write> Write for Watch<W> {
         result
     }
 
-    /// Passes the flush on. It counts as a call that doesn't fail, and never sets `failed`.
+    /// Passes the flush on. It counts as a call that doesn't fail, and never sets `failed`, even if it returns an error: a flush
+    /// takes no bytes, and no run makes one.
     fn flush(&mut self) -> io::Result<()>
         ensures bytes { Keeps (W.contents self.old.inner) (W.contents self.new.inner) }
         ensures failed { self.new.failed ≡ self.old.failed }

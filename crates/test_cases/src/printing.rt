@@ -80,7 +80,7 @@ pub(crate) fn an_error_writes_what_it_is(alloc: Global) -> Result<bool, AllocErr
     let of_source = io::Error::from(ReadFault::Source(fmt::Error));
     Ok(
         is_written_of_memory(alloc)?
-            && writes(alloc, of_source, "the source of pairs has a error")?
+            && writes(alloc, of_source, "the source of pairs returned an error")?
             && writes(alloc, ReadFault::Source(fmt::Error), own)?
             && writes(alloc, TryFault::<u8, u8, _>::Closure(fmt::Error), own)?,
     )

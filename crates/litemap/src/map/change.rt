@@ -24,8 +24,8 @@ use std::mem;
 impl<K: Ord + Drop, V, S: StoreMut<K, V>> LiteMap<K, V, S> {
     /// Inserts a key-value pair, and returns the old value if the key was present.
     ///
-    /// A present key stays, the new one is dropped, and no memory is taken. If memory runs out for a new key, the pair comes
-    /// back in the error, and the map keeps its pairs.
+    /// A present key stays, the new one is dropped, and no memory is taken. It fails only for a new key, at room 0, if memory
+    /// runs out or the store is full: then the pair comes back in the error, and the map keeps its pairs.
     ///
     /// It makes O(log n) comparisons. For a new key it moves the pairs with greater keys up by one.
     ///
@@ -205,8 +205,8 @@ impl<K: Ord + Drop, V, S: StoreMut<K, V>> LiteMap<K, V, S> {
     /// dropped, and so is `new_key`. If `key` and `new_key` are equal, `new_key` replaces the map's key. If `key` was absent,
     /// nothing changes, and `new_key` is dropped.
     ///
-    /// It is `remove`, which leaves room for a pair, and then `insert`: so it never fails, and makes the comparisons and moves
-    /// of both.
+    /// It is `remove`, which leaves room for a pair, and then `insert`: so it never fails, and doesn't lower the room. It makes
+    /// O(log n) comparisons, and the moves of both.
     ///
     /// ```rust
     /// let mut days = three_days(alloc)?;

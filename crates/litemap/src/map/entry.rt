@@ -42,9 +42,16 @@ impl<K: Ord + Drop, V, S: StoreMut<K, V>> LiteMap<K, V, S> {
     ghost use Rattle.litemap_store.specs.Pairs.{at, cut, key_or, put, value_at};
     ghost use Rattle.litemap.specs.Entries.{MatchEntry, entry_key, entry_map, entry_value, pairs_with, pairs_without};
 
-    /// Returns the entry of a key. If an equal key is present, that key stays, and the one passed in is dropped.
+    /// Looks a key up, and returns its entry: through that its value is read, written, inserted or removed without a second
+    /// search. If an equal key is present, that key stays, and the one passed in is dropped.
     ///
     /// It takes no memory, and changes nothing. It makes O(log n) comparisons; calls on the entry make none.
+    ///
+    /// ```rust
+    /// // days: 1 Monday, 3 Wednesday, 5 Friday
+    /// *days.entry(1).or_insert("no day")? = "Mon";
+    /// Ok(*days.entry(2).or_insert("Tuesday")? == "Tuesday" && days.get(&1) == Some(&"Mon") && days.len() == 4)
+    /// ```
     pub fn entry(&mut self, key: K) -> Entry<'_, K, V, S>
         // The map that it borrows, unchanged.
         ensures same_map { (entry_map result).ghost_name ≡ self.entry.ghost_name }

@@ -80,12 +80,12 @@ impl<K: Ord + Drop, V: Drop, S: StoreIntoIterator<K, V> + Drop> LiteMap<K, V, S>
     /// Merges another map into this one, and returns what it displaced, as `extend_from_litemap` does; for a common key, `f`
     /// may change the new value first (own).
     ///
-    /// `f` is called on the other map's key, this map's value and the new value. For a common key the other map's key comes back
-    /// with this map's old value.
+    /// `f` is called on the other map's key, this map's value and the new value. For a common key this map's key stays, with the
+    /// new value; the other map's key comes back with this map's old value.
     ///
     /// It makes one search for each pair of the other map, and then merges: all calls of `f` come first, in the order of the
-    /// keys. If memory runs out, as it can't in the cases that `extend_from_litemap` names, the map keeps its pairs, and the
-    /// error returns the other map with what `f` wrote: to merge that by `extend_from_litemap` completes the call.
+    /// keys. It fails only if memory runs out, and never in the cases that `extend_from_litemap` names. Then the map keeps its
+    /// pairs, and the error returns the other map with what `f` wrote: to merge that by `extend_from_litemap` completes the call.
     ///
     /// ```rust
     /// let mut counts: VecMap<u32, u32> = LiteMap::from_iter(alloc, [(1, 10), (2, 20)])?;

@@ -39,7 +39,9 @@ impl<K: Ord, V, S: StoreMut<K, V>> LiteMap<K, V, S> {
     }
 
     /// Returns a mutable reference to the value of a pair for whose key `f` returns `Equal`, or `None` if there is none (own).
-    /// It calls `f` as `get_by` does.
+    ///
+    /// It calls `f` as `get_by` does. If `f` returns `Equal` for several keys, any of them may be found, and the contract names
+    /// no index.
     pub fn get_mut_by<F: FnMut(&K) -> Ordering>(&mut self, f: F) -> Option<&mut V>
         requires { CallableOnKeys F.FnMut self.old.pairs f }
         ensures* writes_back { sem 𝓛
@@ -121,11 +123,12 @@ fn write_each<K, V, S: StoreMut<K, V>, F: FnMut(&K, &mut V)>(store: &mut S, mut 
 {
     for index in 0..store.lm_len() {
         let (key, value) = store.lm_pair_mut(index);
-        write(&mut f, key, value);
+        call_on_pair(&mut f, key, value);
     }
 }
 
-fn write<K, V, F: FnMut(&K, &mut V)>(f: &mut F, key: &K, value: &mut V)
+// Calls `f` on one pair: a function of its own, whose contract is the step of `Written` that the proof of the loop cites.
+fn call_on_pair<K, V, F: FnMut(&K, &mut V)>(f: &mut F, key: &K, value: &mut V)
     requires { TakesValue F.FnMut f.old (key.now, value.old) }
     ensures { WritesPair F.FnMut f.old (key.now, value.old) (key.now, value.new) f.new }
 {
