@@ -101,7 +101,7 @@ impl<K, V> Store<K, V> for ColumnStore<K, V> {
         f: F,
         count: &mut Count,
     ) -> Result<usize, usize> {
-        // The iterator over all pairs is their keys by index, too (`Keys`).
+        // The search needs only keys by index (`Keys`), which `ColumnIter` has too.
         slice_search::find(&self.lm_iter(), f, count)
     }
 }
@@ -123,6 +123,7 @@ impl<K, V> StoreMut<K, V> for ColumnStore<K, V> {
         match Vec::with_capacity(alloc, capacity) {
             Ok(values) => Ok(ColumnStore { keys, values }),
             Err(refused) => {
+                // `K` need not be `Drop`, so the vector can't just go out of scope: this call frees an empty one.
                 keys.destroy_empty();
                 Err(refused)
             }

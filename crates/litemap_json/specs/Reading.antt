@@ -18,7 +18,7 @@ seen key_json json L = map (pair_seen key_json json) L
 
 module _ {K V : Type 0} (cmp : K → K → Ordering) (key : List ℕ → Option Data) (key_item json_item : Data → Result Data ItemFault)
     (key_json : K → Data) (json : V → Data) where
-  -- the tree d spells pairs, and L has the last ones of these
+  -- the tree d represents pairs, and L has the last one of each key
   pub record ReadsAs (d : Data) (L : List (K × V)) : Type 0 where
     pub spelled : List (K × V)
     pub spells : pairs key key_item json_item d ≡ Ok (seen key_json json spelled)

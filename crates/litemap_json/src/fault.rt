@@ -14,7 +14,7 @@ pub enum WriteFault {
     /// Memory ran out.
     #[error("there is not enough memory")]
     Memory,
-    /// The first key has a string, and this one, the first such, has none.
+    /// The first key has a string, but this key has none. It is the first key without one.
     #[error("the key at place {place} (from 0) has no text, and the first key has one: give all keys a text, or none")]
     KeyWithoutText {
         /// The key's index in the map.
@@ -109,7 +109,8 @@ impl From<WriteFault> for io::Error {
     }
 }
 
-/// Lets `?` return it in a function that returns an `io::Result`. The index is dropped.
+/// Lets `?` return it in a function that returns an `io::Result`. The index and the `ItemFault` are dropped: to show them, print
+/// the error first.
 impl From<JsonFault> for io::Error {
     ghost use Rattle.std.specs.Prelude.{◌≡◌};
     ghost use Rattle.std.specs.IoError.{error_kind};

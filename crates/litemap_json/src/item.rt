@@ -39,7 +39,7 @@ pub trait JsonItem {
     /// The tree of a value. Values with one tree are the same to a reader.
     ghost json: { Self → Data };
 
-    /// The tree of the value that a tree represents, or why it represents none.
+    /// How a tree `d` reads: the tree `json x` of the value `x` that it represents, or why it represents none.
     ghost item: { Data → Result Data ItemFault };
 
     /// Returns the value as JSON, which reads as the same value. It fails if memory runs out.
@@ -51,8 +51,8 @@ pub trait JsonItem {
     fn from_value(alloc: Global, value: &Value) -> Result<Self, ItemFault>
         ensures { Reads Memory json (item (view value.now)) result };
 
-    /// Appends the value to what a writer has, as the text of what `to_value` makes. A type may have a body of its own that
-    /// does without that. Else it is made, written and dropped.
+    /// Appends the value to what a writer has, as the text of what `to_value` makes. By default that value is made, written and
+    /// dropped; a type may override this.
     ///
     /// If memory runs out, some of the value may be written.
     fn write_to(&self, alloc: Global, out: &mut Writer) -> Result<(), AllocError>
@@ -64,7 +64,7 @@ pub trait JsonItem {
     }
 
     /// Returns what a JSON value has to be to represent a value of the type, in words that `is wanted` can follow, for an error
-    /// that is shown to people. A type that says nothing of it has the words here.
+    /// that is shown to people. By default it is `a value of the type`.
     fn wanted() -> &'static str {
         "a value of the type"
     }
@@ -100,7 +100,7 @@ pub trait JsonKey: JsonItem + Ord {
         ensures one_spelling { IfOk result (λ found. IfSome found (λ k. text k ≡ Some name.now)) };
 
     /// Returns the integer whose decimal digits are the key's string, if the type knows of one. `write_json` compares and writes
-    /// the names of such keys without strings. A type that says nothing of it has `None` here.
+    /// the names of such keys without strings. By default it is `None`.
     fn key_number(&self) -> Option<i128>
         ensures { IfSome result (λ number. text self.now ≡ Some (signed_decimal number)) }
     {

@@ -16,8 +16,9 @@ use serde_json::{Map, Value};
 use std::alloc::Global;
 
 /// Reads the map that a JSON value represents, and returns it. The value is an object, whose names have to be strings of keys
-/// (`from_key_text`), or an array, whose elements have to be arrays of exactly a key and an item. Of equal keys the pair that
-/// comes last in the value stays, with its own key, and the others are dropped. The Rust crate has serde's `Deserialize` here.
+/// (`from_key_text`), or an array, whose elements have to be arrays of exactly a key and an item. An object's members are read
+/// in the byte order of their names, an array's elements as they stand. Of equal keys the pair that is read last stays, with
+/// its own key, and the others are dropped. The Rust crate has serde's `Deserialize` here.
 ///
 /// All pairs are gathered before a map is made, and moved into it by `from_vec`: if the keys ascend, that is one
 /// comparison for each at most, else a sort.
@@ -100,7 +101,7 @@ fn read_row<K: JsonKey + Drop, V: JsonItem + Drop>(
     }
 }
 
-// Returns the error of the map for that of its key at an index. If it isn't `Memory`, it is `Key` of that error.
+// Returns the map's error for an error of the key at an index: `Memory` stays `Memory`, any other becomes `Key`.
 fn key_fault(place: usize, fault: ItemFault) -> JsonFault
     ensures { result ≢ reading.Memory → (fault ≢ of_item.Memory) × (result ≡ reading.Key place fault) }
 {
@@ -128,7 +129,7 @@ fn read_members<K: JsonKey + Drop, V: JsonItem + Drop>(
 {
     let mut found = Vec::new(alloc);
     let mut place = 0usize;
-    // The indices stay below the number of members: its bound is known from here on.
+    // For the proof: `place` stays below this number, so it doesn't overflow.
     let _count = members.len();
     for (name, member) in members.iter() {
         let pair = read_member(alloc, place, name, member)?;

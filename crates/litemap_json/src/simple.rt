@@ -11,7 +11,7 @@ use json::Writer;
 use serde_json::Value;
 use std::alloc::{AllocError, Global};
 
-/// Only `write_to` may fail: no other call takes memory.
+/// Only `write_to` may run out of memory: no other call takes any.
 impl JsonItem for bool {
     ghost json = { boolean };
 
@@ -41,7 +41,7 @@ impl JsonItem for bool {
     }
 }
 
-/// Only `key_text` may fail: `from_key_text` takes no memory.
+/// Only `key_text` may run out of memory: `from_key_text` takes none.
 impl JsonKey for bool {
     ghost text = { λ b. Some (bool_text b) };
 

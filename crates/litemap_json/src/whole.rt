@@ -44,7 +44,7 @@ pub trait Whole: Copy + Ord {
     ghost one_number: { (x y : Self) → whole_json (number x) ≡ whole_json (number y) → Self.cmp x y ≡ Equal };
 }
 
-/// Only `write_to` may fail: no other call takes memory.
+/// Only `write_to` may run out of memory: no other call takes any.
 impl<T: Whole> JsonItem for T {
     ghost json = { λ x. whole_json (T.number x) };
 
@@ -81,7 +81,7 @@ impl<T: Whole> JsonItem for T {
     }
 }
 
-/// Only `key_text` may fail: `from_key_text` takes no memory.
+/// Only `key_text` may run out of memory: `from_key_text` takes none.
 impl<T: Whole> JsonKey for T {
     ghost text = { λ x. Some (signed_decimal (T.number x)) };
 

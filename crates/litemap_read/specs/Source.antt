@@ -9,7 +9,7 @@ use Rattle.litemap_read.specs.declared.source.ReadFault.{ReadFault}
 use Rattle.litemap_read.specs.declared.source.ReadFault.TheVariants.{NoRoom}
 
 module _ {S P : Type 0} (gives : S → List P → Type 0) where
-  -- what t can give, s can give after some pairs
+  -- there are pairs such that each list that t can give, s can give after them
   abbrev pub IsLater : S → S → Type 0
   IsLater s t = (front : List P) × ((rest : List P) → gives t rest → gives s (front ++ rest))
 

@@ -109,7 +109,7 @@ pub fn read_results<
     Ok(map)
 }
 
-// Returns the pairs that a source gives until its end, or its error.
+// Reads the source to its end, and returns its pairs. On the source's error, or if memory runs out, the pairs read are dropped.
 fn drain<K: Drop, V: Drop, P: PairSource<K, V>>(
     alloc: Global,
     source: &mut P,
@@ -145,7 +145,7 @@ fn push<T: Drop>(items: &mut Vec<T>, item: T) -> Result<(), AllocError>
     Ok(())
 }
 
-// The same for a map.
+// An empty map with capacity for what a hint promises, up to a limit, or with none if memory runs out.
 fn with_hint<K: Ord, V, S: StoreMut<K, V>>(alloc: Global, hint: Option<usize>) -> LiteMap<K, V, S>
     ensures { result.pairs ≡ [] }
 {

@@ -78,8 +78,8 @@ impl<E, T: Drop> From<store::NoRoom<T>> for ReadFault<E> {
     }
 }
 
-/// The same for `?` in a function that returns an `io::Result`. An error of the source becomes invalid data, and which one it
-/// was is dropped. To tell it, print the error before.
+/// Lets `?` return it in a function that returns an `io::Result`. `NoRoom` becomes out of memory, an error of the source invalid
+/// data. The source's own error is dropped: to show it, print it first.
 impl<E: Drop> From<ReadFault<E>> for io::Error {
     ghost use Rattle.std.specs.Prelude.{◌≡◌};
     ghost use Rattle.std.specs.IoError.{error_kind};

@@ -138,7 +138,8 @@ impl<T> Storage<T> {
         }
     }
 
-    // The items of a vector, which stays if it has two or more, and else is dropped.
+    // The items of a vector, which stays if it has two or more, and else is freed: an item need not be `Drop`, so an empty vector
+    // can't just go out of scope.
     pub(crate) fn from_vec(mut items: Vec<T>) -> Self
         ensures { storage_items result ≡ items.items }
     {

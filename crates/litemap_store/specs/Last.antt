@@ -21,7 +21,7 @@ module _ {K V : Type 0} (cmp : K → K → Ordering) where
   StandsLast p [] = ⊥
   StandsLast p (q ∷ L) = ((q ≡ p) × NoneEqual p.0 L) ⊎ StandsLast p L
 
-  -- M has, in ascending order, exactly the pairs that are last in J
+  -- M has, in ascending order, the last pair of each key in J: exactly those with no later pair of an equal key
   pub record Last (J M : List (K × V)) : Type 0 where
     pub rising : Rising cmp M
     pub exactly : (p : K × V) → In p M ↔ StandsLast p J

@@ -22,7 +22,8 @@ const FEW_PER_DIGIT: usize = 3;
 /// Merges a store's pairs into another's. A key that is there stays, and takes the new value. Returns the displaced values, each
 /// with its new key, in order, or `None` if there are none.
 ///
-/// It is the body of a map's `extend_from_litemap`, which says what it compares, what it moves and when it fails.
+/// It is the body of a map's `extend_from_litemap`, which says what it compares and moves, and when it never fails. On an error
+/// the store keeps its pairs, and the error returns the other store whole.
 pub fn extend_from_store<K: Ord + Drop, V: Drop, S: StoreIntoIterator<K, V> + Drop>(
     alloc: Global,
     store: &mut S,

@@ -35,10 +35,10 @@ fn choose(is_first: bool, first: usize, second: usize) -> usize
 /// Returns `Ok` with the index of a key for which `f` returns `Equal`, or else `Err` with the number of keys for which it returns
 /// `Less`.
 ///
-/// Each step calls `f` on the middle key, and leaves at most half of the keys. Comparing small keys costs less than a branch that
-/// is predicted wrongly: so among those each step leaves half, perhaps with the key just compared, and goes on after `Equal`, and
-/// the number of steps depends on the length alone. Among larger ones no key is compared twice, and `Equal` ends the search.
-/// `choose` takes both values of each choice, so that the compiler can select one without a branch.
+/// Each step calls `f` on the middle key, and leaves at most half of the keys. Comparing a small key costs less than a
+/// mispredicted branch. So for small keys the number of steps depends on the length alone: each step leaves half, which may
+/// include the key just compared, and the search goes on after `Equal`. A larger key is compared at most once, and `Equal` ends
+/// the search. `choose` takes both values of each choice, so that the compiler can select one without a branch.
 pub fn find<K, V, S: Keys<K, V>, F: FnMut(&K) -> Ordering>(
     keys: &S,
     f: F,

@@ -74,7 +74,7 @@ impl<'a> NameIndex<'a> {
 
     /// Returns the value of the key with the same bytes, or `None` if there is none. It makes O(log n) comparisons for n entries.
     ///
-    /// The value is borrowed from the bytes of the table, and outlives the index. No memory is taken.
+    /// The value is a slice of the table's bytes, so it may outlive the index. No memory is taken.
     pub fn get(&self, key: &str) -> Option<&'a str>
         ensures { OfTable self.now (Gets key.now result) }
     {

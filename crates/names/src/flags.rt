@@ -28,9 +28,9 @@ pub enum FlagsFault {
 
 type FlagMap = LiteMap<bool, u32, Vec<(bool, u32)>>;
 
-/// Brings old data over (own). It reads a JSON text of a map whose keys are `true` and `false` and whose items are numbers of
-/// 32 bits, and returns the compact text of the map as it is written now, as an object. Older maps were written as arrays,
-/// since flags had no texts: these are read too, and so is an object.
+/// Rewrites data of an older form (own). It reads a JSON text of a map whose keys are `true` and `false` and whose items are
+/// numbers of 32 bits, and returns the compact text of the map as it is written now, as an object. Older maps were written as
+/// arrays, since flags had no texts: these are read too, and so is an object.
 ///
 /// # Errors
 ///

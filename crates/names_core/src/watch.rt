@@ -9,8 +9,8 @@ use std::io::{ErrorKind, Read, Write};
 
 /// A reader or a writer, with a note of whether a call through it failed.
 ///
-/// A run has two watches, one of its reader and one of its writer. Each also notes whether a call through it may have followed a
-/// failed one of the other: `settle_before` says that the calls so far did not.
+/// A run has two watches, one of its reader and one of its writer. Each also notes whether a call through it may have come after
+/// a failed call of the other: `settle_before` notes that no call so far did.
 ///
 /// A read or a write fails if it returns an error, and a write also if it takes nothing of a text that isn't empty. An
 /// interrupted call fails like any other, and isn't tried again.
@@ -47,7 +47,7 @@ impl<T> Watch<T> {
         }
     }
 
-    // Settles the calls so far: they came before any failed call of `other`, if that has none until now.
+    // Notes that no call so far came after a failed one of `other`, if `other` has had none yet.
     pub(crate) fn settle_before<U>(&mut self, other: &Watch<U>)
         ensures { self.new ≡ record self.old { is_unsettled = self.old.is_unsettled && other.now.met_fault } }
     {

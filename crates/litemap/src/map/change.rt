@@ -24,8 +24,9 @@ use std::mem;
 impl<K: Ord + Drop, V, S: StoreMut<K, V>> LiteMap<K, V, S> {
     /// Inserts a key-value pair, and returns the old value if the key was present.
     ///
-    /// A present key stays, the new one is dropped, and no memory is taken. It fails only for a new key, at room 0, if memory
-    /// runs out or the store is full: then the pair comes back in the error, and the map keeps its pairs.
+    /// A present key stays, the new one is dropped, and no memory is taken. For a new key it may fail if the room is 0 (there is
+    /// no spare capacity): because memory runs out, or because the store is full. Then the error returns the pair, and the map
+    /// keeps its pairs.
     ///
     /// It makes O(log n) comparisons. For a new key it moves the pairs with greater keys up by one.
     ///

@@ -1,8 +1,8 @@
 //! Entries: a key of a map, present or absent, that is looked up once for all that is then done with it.
 //!
-//! An entry borrows its map, as long as the entry lasts, or the reference that the call returns which consumes it. In clauses
-//! `self.entry` is the entry as it was passed; `writes_back` says that the map then has the value last written through a
-//! reference.
+//! An entry borrows its map for as long as it lives. A call that consumes the entry and returns a reference passes the borrow on
+//! to that reference. In clauses `self.entry` is the entry as it was passed; `writes_back` says that the map then has the value
+//! last written through a reference.
 ghost use Rattle.std.specs.Prelude.{◌<◌, length};
 ghost use Rattle.litemap_store.specs.Splits.{IsMissingAt};
 
@@ -42,8 +42,8 @@ impl<K: Ord + Drop, V, S: StoreMut<K, V>> LiteMap<K, V, S> {
     ghost use Rattle.litemap_store.specs.Pairs.{at, cut, key_or, put, value_at};
     ghost use Rattle.litemap.specs.Entries.{MatchEntry, entry_key, entry_map, entry_value, pairs_with, pairs_without};
 
-    /// Looks a key up, and returns its entry: through that its value is read, written, inserted or removed without a second
-    /// search. If an equal key is present, that key stays, and the one passed in is dropped.
+    /// Looks a key up, and returns its entry, through which its value is read, written, inserted or removed without a second
+    /// search. If an equal key is present, it stays in the map, and the one passed in is dropped.
     ///
     /// It takes no memory, and changes nothing. It makes O(log n) comparisons; calls on the entry make none.
     ///
@@ -258,7 +258,7 @@ impl<'a, K: Ord, V, S: StoreMut<K, V>> VacantEntry<'a, K, V, S> {
     }
 }
 
-/// Formats its key and its value. What is printed is not promised.
+/// Formats the key and the value of an occupied entry, and the key of a vacant one. What is printed is not promised.
 impl<K: Ord + Debug, V: Debug, S: StoreMut<K, V>> Debug for Entry<'_, K, V, S> {
     fn fmt<W: Write>(&self, f: &mut Formatter<W>) -> fmt::Result {
         match self {

@@ -96,9 +96,9 @@ impl<K: Ord, V, S: Store<K, V>> LiteMap<K, V, S> {
 
     /// Returns the value of a pair for whose key `f` returns `Equal`, or `None` if there is none. It calls `f` O(log n) times.
     ///
-    /// It is for what no `Query` says: a closure that matches several keys, or that keeps state. The result of `f` should
-    /// depend on the key alone, and over the keys be `Less`, then `Equal`, then `Greater`; else nothing is promised of what is
-    /// found. If `f` returns `Equal` for several keys, any of them may be found.
+    /// Use it for a search that no `Query` expresses: by a closure that matches several keys, or that keeps state. The result of
+    /// `f` should depend on the key alone, and over the keys be `Less`, then `Equal`, then `Greater`; else nothing is promised of
+    /// what is found. If `f` returns `Equal` for several keys, any of them may be found.
     ///
     /// ```rust
     /// // days: 1 Monday, 3 Wednesday, 5 Friday

@@ -84,8 +84,8 @@ impl<K: Ord + Drop, V: Drop, S: StoreIntoIterator<K, V> + Drop> LiteMap<K, V, S>
     /// new value; the other map's key comes back with this map's old value.
     ///
     /// It makes one search for each pair of the other map, and then merges: all calls of `f` come first, in the order of the
-    /// keys. It fails only if memory runs out, and never in the cases that `extend_from_litemap` names. Then the map keeps its
-    /// pairs, and the error returns the other map with what `f` wrote: to merge that by `extend_from_litemap` completes the call.
+    /// keys. It never fails in the cases in which `extend_from_litemap` never fails. If it fails, the map keeps its pairs, and
+    /// the error returns the other map with the values that `f` wrote: merge that by `extend_from_litemap`, without `f`.
     ///
     /// ```rust
     /// let mut counts: VecMap<u32, u32> = LiteMap::from_iter(alloc, [(1, 10), (2, 20)])?;

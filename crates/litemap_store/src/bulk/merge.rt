@@ -15,8 +15,9 @@ use std::mem;
 /// keeps them.
 ///
 /// All capacity is taken first: a side vector and a fresh store, each for all pairs. Each pair then moves into the side vector,
-/// and from there into the fresh store, which becomes the store. So at its peak it holds each pair once, with capacity for three
-/// pairs for each of the store, and up to four for each new one (six for up to 512), with the vector in which they were gathered.
+/// and from there into the fresh store, which becomes the store. So at the peak there is capacity for each old pair three times
+/// (store, side vector, fresh store), and for each new one up to four times (side vector, fresh store, and the vector in which
+/// they were gathered, with up to twice their number), or up to six times if there are at most 512 new pairs.
 pub fn merge<K: Ord + Drop, V: Drop, S: StoreMut<K, V> + Drop>(
     alloc: Global,
     store: &mut S,
@@ -40,7 +41,7 @@ pub fn merge<K: Ord + Drop, V: Drop, S: StoreMut<K, V> + Drop>(
     Ok(())
 }
 
-// How the greatest key of the store compares with that of the pairs.
+// Compares the greatest key of the store with that of the pairs. An empty side counts as less; `None` if both are empty.
 fn greater_end<K: Ord, V, S: Store<K, V>>(
     store: &S,
     pairs: &[(K, V)],

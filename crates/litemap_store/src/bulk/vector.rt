@@ -14,7 +14,8 @@ use crate::store::{Count, SliceStore};
 use std::alloc::{AllocError, Global};
 use std::mem;
 
-/// Puts the pairs from an index on among those before, whose keys ascend: of each key the last stays. On an error they go.
+/// Puts the pairs from an index on among those before, whose keys ascend: of each key the last stays. On an error these pairs are
+/// dropped.
 pub fn settle<K: Ord + Drop, V: Drop>(
     alloc: Global,
     store: &mut Vec<(K, V)>,
