@@ -31,18 +31,13 @@ pub use Rattle.std.specs.List.{AllAdjacentBelow, AllByRecursion, AllWithin, AllZ
 pub use Rattle.std.specs.Option.{option_map_or, option_or}
 pub use Rattle.std.specs.Ordering.{ordering_index, ordering_reverse}
 pub use denote.Param.Members.{Mut}
-pub use Rattle.litemap_store.specs.Bulk.{Gives, GivesSome, IsCountedFor, IsExtended}
-pub use Rattle.litemap_store.specs.Counts.{digits, digits-halved, digits-mono, digits-step, digits-zero, RisesByAtMost}
+pub use Rattle.litemap_store.specs.{above, AllBelow, Ascends, at, below, BelowAll, Callable, CallableOnEach, CalledOnPair}
+pub use Rattle.litemap_store.specs.{ComparesFirsts, cut, digits, digits-halved, digits-mono, digits-step, digits-zero, Finds}
+pub use Rattle.litemap_store.specs.{Gives, GivesSome, index_of, IsCountedFor, IsExtended, IsGreaterEnd, IsPutIn, IsTaken}
+pub use Rattle.litemap_store.specs.{IsTakenFirst, Kept, KeptSoFar, key_one_side, key_or, OneSide, place, put, ReturnsEach}
+pub use Rattle.litemap_store.specs.{RisesByAtMost, Rising, set_value, Shape, sub, TakesPair, value_at, value_in, write}
 pub use Rattle.litemap_store.specs.Last.{In, Last, NoneEqual, Rises, StandsLast}
 pub use Rattle.litemap_store.specs.Laws.{HasKey, Sifted}
 pub use Rattle.litemap_store.specs.Merge.{Apart, IsMerged, left, Merge}
-pub use Rattle.litemap_store.specs.Pairs.{above, AllBelow, at, below, BelowAll, cut, index_of, key_or, place, put, Rising}
-pub use Rattle.litemap_store.specs.Pairs.{set_value, sub, value_at, value_in, write}
-pub use Rattle.litemap_store.specs.PutIn.{IsPutIn}
-pub use Rattle.litemap_store.specs.Queries.{key_one_side, OneSide}
-pub use Rattle.litemap_store.specs.Retain.{CallableOnEach, CalledOnPair, Kept, KeptSoFar, TakesPair}
-pub use Rattle.litemap_store.specs.Search.{ReturnsEach, Ascends, Callable, Finds, Shape}
 pub use Rattle.litemap_store.specs.Splits.{IsFoundAt, IsMissingAt, Splits}
-pub use Rattle.litemap_store.specs.Taken.{IsGreaterEnd, IsTaken}
-pub use Rattle.litemap_store.specs.Walked.{ComparesFirsts, IsTakenFirst}
 pub use Rattle.litemap_store.specs.declared.count.Count.{Count}

@@ -2,12 +2,10 @@
 //!
 //! A vector pushes the new pairs after its own. Other stores change once the new pairs are gathered in a vector. If they ascend,
 //! nothing is sorted.
-ghost use Rattle.std.specs.Prelude.{◌≡◌, ◌+◌, ◌*◌, ◌≤◌, ◌<◌, ◌++◌, IsOk, IfOk, OnOk, OnErr, length, [], vec_capacity, vec_len};
+ghost use Rattle.std.specs.Prelude.{◌≡◌, ◌+◌, ◌*◌, ◌≤◌, ◌<◌, ◌++◌, IsOk, OnOk, OnErr, length, [], vec_capacity, vec_len};
 ghost use Rattle.std.specs.Iterator.{IsFiniteIterable};
-ghost use Rattle.litemap_store.specs.Bulk.{Gives, GivesSome, IsHandedBack};
-ghost use Rattle.litemap_store.specs.Counts.{RisesByAtMost};
+ghost use Rattle.litemap_store.specs.{Gives, GivesSome, IsHandedBack, RisesByAtMost, Rising};
 ghost use Rattle.litemap_store.specs.Last.{Last, Rises};
-ghost use Rattle.litemap_store.specs.Pairs.{Rising};
 
 mod few;
 pub mod merge;
@@ -25,20 +23,6 @@ const FIRST_CAPACITY: usize = 8;
 
 // Below this length the capacity grows to four times as much, and then to twice as much.
 const QUADRUPLED_BELOW: usize = 512;
-
-/// The items of an iterator, in order. No size hint is used.
-pub fn gather<T: Drop, I: IntoIterator<Item = T>>(
-    alloc: Global,
-    iter: I,
-) -> Result<Vec<T>, AllocError>
-    requires { IsFiniteIterable I.into_iter_gives I.IntoIter.can_next I.IntoIter.remaining iter }
-    ensures gathered { IfOk result (λ v. Gives I.into_iter_gives I.IntoIter.next_gives iter v.items) }
-    ensures refused_some { OnErr result (GivesSome I.into_iter_gives I.IntoIter.next_gives iter) }
-{
-    let mut items = Vec::new(alloc);
-    append_items(&mut items, iter)?;
-    Ok(items)
-}
 
 /// Appends the items of an iterator to a vector, without its size hint. On an error the new items are dropped, and the vector
 /// has its own.

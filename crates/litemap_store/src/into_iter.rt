@@ -2,8 +2,7 @@
 ghost use Rattle.std.specs.Prelude.{◌≡◌, ◌⊎◌, ◌<◌, ◌≤◌, ◌++◌, List, length, IfErr, OnErr, OnOk};
 ghost use Rattle.std.specs.Iterator.{YieldsFirst, at_most};
 ghost use Rattle.std.specs.Vec.Iter.{into_iter_items};
-ghost use Rattle.litemap_store.specs.Hints.{HintsExactly};
-ghost use Rattle.litemap_store.specs.IntoIter.{count_is, first_is};
+ghost use Rattle.litemap_store.specs.{HintsExactly, count_is, first_is};
 
 use crate::reserved::push_reserved;
 use crate::store::{NoRoom, Store, StoreMut};
@@ -55,13 +54,11 @@ pub trait StoreIntoIterator<K: Drop, V: Drop>: StoreMut<K, V> + Sized {
         ensures back { IfErr result (λ refused. Self.pairs refused.back ≡ Self.pairs other) }
         ensures full { OnErr result (Self.room self.old < length (Self.pairs other)) }
     {
-        match self.lm_reserve(other.lm_len()) {
-            Ok(()) => {
-                append_each(self, other.lm_into_iter());
-                Ok(())
-            }
-            Err(_) => Err(NoRoom { back: other }),
-        }
+        let Ok(()) = self.lm_reserve(other.lm_len()) else {
+            return Err(NoRoom { back: other });
+        };
+        append_each(self, other.lm_into_iter());
+        Ok(())
     }
 
     /// Puts the pairs of another store before the own ones, by appending the own ones to that store. So each own pair moves once,
@@ -77,14 +74,12 @@ pub trait StoreIntoIterator<K: Drop, V: Drop>: StoreMut<K, V> + Sized {
         ensures full { OnErr result ((Self.room self.old < length (Self.pairs other))
             ⊎ (Self.room other < length (Self.pairs self.old))) }
     {
-        match other.lm_reserve(self.lm_len()) {
-            Ok(()) => {
-                mem::swap(self, &mut other);
-                append_each(self, other.lm_into_iter());
-                Ok(())
-            }
-            Err(_) => Err(NoRoom { back: other }),
-        }
+        let Ok(()) = other.lm_reserve(self.lm_len()) else {
+            return Err(NoRoom { back: other });
+        };
+        mem::swap(self, &mut other);
+        append_each(self, other.lm_into_iter());
+        Ok(())
     }
 }
 
@@ -124,19 +119,14 @@ impl<K: Drop, V: Drop> StoreIntoIterator<K, V> for Vec<(K, V)> {
     }
 
     fn lm_extend_end(&mut self, mut other: Self) -> Result<(), NoRoom<Self>> {
-        match self.append(&mut other) {
-            Ok(()) => Ok(()),
-            Err(_) => Err(NoRoom { back: other }),
-        }
+        self.append(&mut other).map_err(|_| NoRoom { back: other })
     }
 
     fn lm_extend_start(&mut self, mut other: Self) -> Result<(), NoRoom<Self>> {
-        match other.append(self) {
-            Ok(()) => {
-                *self = other;
-                Ok(())
-            }
-            Err(_) => Err(NoRoom { back: other }),
-        }
+        let Ok(()) = other.append(self) else {
+            return Err(NoRoom { back: other });
+        };
+        *self = other;
+        Ok(())
     }
 }

@@ -1,8 +1,6 @@
 //! The body of `extend_from_litemap`: one store's pairs are merged into another's.
-ghost use Rattle.std.specs.Prelude.{◌≡◌, ◌≢◌, ◌⊎◌, ◌+◌, ◌<◌, ◌++◌, [], length, None, IfOk, IfErr, OnErr};
-ghost use Rattle.litemap_store.specs.Counts.{RisesByAtMost};
-ghost use Rattle.litemap_store.specs.Merge.{Apart, Merges, MergesInto, searches_cost};
-ghost use Rattle.litemap_store.specs.Pairs.{Rising};
+ghost use Rattle.std.specs.Prelude.{◌≡◌, ◌⊎◌, ◌+◌, []};
+ghost use Rattle.litemap_store.specs.{Apart, Merges, MergesInto, RisesByAtMost, Rising, searches_cost};
 
 mod in_one_pass;
 mod one_by_one;
@@ -37,29 +35,6 @@ pub fn extend_from_store<K: Ord + Drop, V: Drop, S: StoreIntoIterator<K, V> + Dr
     ensures apart { Apart K.cmp (S.pairs store.old) (S.pairs other) → RisesByAtMost 2 count.old count.new }
     ensures cost { RisesByAtMost (2 + searches_cost (S.pairs store.old) (S.pairs other)) count.old count.new }
 {
-    if lies_below(store, &other, count) {
-        return append_other(store, other);
-    }
-    if lies_below(&other, store, count) {
-        store.lm_extend_start(other)?;
-        return Ok(None);
-    }
-    merge_mixed(alloc, store, other, count)
-}
-
-// Appends the pairs of another store, whose keys are all above. No key is common, so nothing is displaced. If a store is empty,
-// no memory is taken.
-fn append_other<K: Drop, V: Drop, S: StoreIntoIterator<K, V> + Drop>(
-    store: &mut S,
-    other: S,
-) -> Result<Option<S>, NoRoom<S>>
-    ensures joined { IfOk result (λ rest. (rest ≡ None) × (S.pairs store.new ≡ S.pairs store.old ++ S.pairs other)) }
-    ensures refused { OnErr result (S.pairs store.new ≡ S.pairs store.old) }
-    ensures back { IfErr result (λ refused. S.pairs refused.back ≡ S.pairs other) }
-    ensures full { OnErr result ((S.pairs store.old ≢ []) × (S.room store.old < length (S.pairs other))) }
-    ensures unchanged { S.pairs other ≡ [] → store.new ≡ store.old }
-    ensures taken { S.pairs store.old ≡ [] → S.pairs other ≢ [] → store.new ≡ other }
-{
     if other.lm_is_empty() {
         return Ok(None);
     }
@@ -67,8 +42,16 @@ fn append_other<K: Drop, V: Drop, S: StoreIntoIterator<K, V> + Drop>(
         *store = other;
         return Ok(None);
     }
-    store.lm_extend_end(other)?;
-    Ok(None)
+    // If all keys of one are above the other's, none is common, and nothing is displaced.
+    if lies_below(store, &other, count) {
+        store.lm_extend_end(other)?;
+        return Ok(None);
+    }
+    if lies_below(&other, store, count) {
+        store.lm_extend_start(other)?;
+        return Ok(None);
+    }
+    merge_mixed(alloc, store, other, count)
 }
 
 // Merges stores whose pairs are mixed, and returns what is displaced: side by side if the other one has many pairs, pair by pair

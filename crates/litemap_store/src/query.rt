@@ -6,7 +6,7 @@ ghost use Rattle.std.specs.Cmp.Lexicographic.{slice_cmp, lists_total, nat_list_c
 ghost use Rattle.std.specs.Cow.{cow_str_bytes};
 ghost use Rattle.std.specs.Rc.{rc_str_bytes};
 ghost use Rattle.std.specs.declared.cmp.Ordering.{Ordering};
-ghost use Rattle.litemap_store.specs.Queries.{OneSide, by_slice, by_string, bytes_cmp, key_one_side};
+ghost use Rattle.litemap_store.specs.{OneSide, by_slice, by_string, bytes_cmp, key_one_side};
 
 use std::borrow::CowStr;
 use std::boxed::{BoxedSlice, BoxedStr};

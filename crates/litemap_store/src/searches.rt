@@ -1,7 +1,6 @@
 //! A search of a store by a key, and what searches compare.
 ghost use Rattle.std.specs.Prelude.{◌≡◌, ◌↔◌, ◌*◌, ◌≤◌, IsTrue, length};
-ghost use Rattle.litemap_store.specs.Counts.{RisesByAtMost, digits};
-ghost use Rattle.litemap_store.specs.Pairs.{Rising};
+ghost use Rattle.litemap_store.specs.{RisesByAtMost, Rising, digits};
 ghost use Rattle.litemap_store.specs.Splits.{Splits};
 
 use crate::store::{Count, Store};

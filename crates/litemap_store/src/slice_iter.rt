@@ -2,7 +2,7 @@
 ghost use Rattle.std.specs.Prelude.{◌≡◌, length, refl};
 ghost use Rattle.std.specs.Iterator.{at_most};
 ghost use Rattle.std.specs.Map.Iter.{TakesFirst, TakesLast, deref_pair};
-ghost use Rattle.litemap_store.specs.Hints.{HintsExactly};
+ghost use Rattle.litemap_store.specs.{HintsExactly};
 
 use crate::store::PairIter;
 use std::iter::FusedIterator;

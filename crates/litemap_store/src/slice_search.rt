@@ -1,7 +1,6 @@
 //! The search of the stores whose keys lie in slices, with no branch on a comparison.
 ghost use Rattle.std.specs.Prelude.{◌≡◌, ◌<◌, IfOk, List, Some, length, slice_get, if◌then◌else◌};
-ghost use Rattle.litemap_store.specs.Counts.{RisesByAtMost, digits};
-ghost use Rattle.litemap_store.specs.Search.{CallableOnKeys, Found};
+ghost use Rattle.litemap_store.specs.{CallableOnKeys, Found, RisesByAtMost, digits};
 
 use crate::count::Count;
 use std::cmp::Ordering;

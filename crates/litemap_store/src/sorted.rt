@@ -1,9 +1,8 @@
 //! Pairs in ascending order: whether they are, and how they come to be. Of each key the last pair is kept.
-ghost use Rattle.std.specs.Prelude.{◌≡◌, ◌⊎◌, ◌-◌, ◌≤◌, ◌++◌, ◌↔◌, IsTrue, IsOk, IfOk, OnOk, OnErr, length, [], drop, min, take};
+ghost use Rattle.std.specs.Prelude.{◌≡◌, ◌⊎◌, ◌-◌, ◌≤◌, ◌++◌, ◌↔◌, IsTrue, IsOk, OnOk, OnErr, length, [], drop, min, take};
 ghost use Rattle.std.specs.Prelude.{vec_len, IsSortedByKey};
-ghost use Rattle.litemap_store.specs.Counts.{RisesByAtMost};
+ghost use Rattle.litemap_store.specs.{RisesByAtMost, Rising};
 ghost use Rattle.litemap_store.specs.Last.{Last};
-ghost use Rattle.litemap_store.specs.Pairs.{Rising};
 
 use crate::store::{Count, Store};
 use std::alloc::{AllocError, Global};
@@ -61,20 +60,11 @@ pub(crate) fn keep_rising<K: Ord + Drop, V: Drop>(
     if is_rising(given, count) {
         return Ok(());
     }
-    let kept = sort_last(alloc, &mut pairs[from..])?;
+    let given = &mut pairs[from..];
+    given.sort_by(alloc, |a, b| a.0.cmp(&b.0))?;
+    let kept = keep_last(given);
     pairs.truncate(from + kept);
     Ok(())
-}
-
-// Sorts by key, equal keys in their order, and brings the last pair of each key to the front. It returns their number.
-fn sort_last<K: Ord, V>(alloc: Global, pairs: &mut [(K, V)]) -> Result<usize, AllocError>
-    ensures last { IfOk result (λ kept. Last K.cmp pairs.old (take kept pairs.new)) }
-    ensures within { IfOk result (λ kept. kept ≤ length pairs.old) }
-    ensures len { length pairs.new ≡ length pairs.old }
-    ensures refused { OnErr result (pairs.new ≡ pairs.old) }
-{
-    pairs.sort_by(alloc, |a, b| a.0.cmp(&b.0))?;
-    Ok(keep_last(pairs))
 }
 
 // Brings the last of each run of equal keys to the front, and returns their number. It compares each key but the first once, and

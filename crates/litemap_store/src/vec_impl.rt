@@ -1,10 +1,9 @@
 //! A vector of pairs as a store. Its room is its capacity less its length.
 ghost use Rattle.std.specs.Prelude.{◌≡◌, ◌≤◌, vec_capacity, vec_len};
-ghost use Rattle.litemap_store.specs.Retain.{CallableOnEach, Kept};
-ghost use Rattle.litemap_store.specs.VecStore.{vec_room, vec_with_value, vec_writes, vec_keeps_room};
+ghost use Rattle.litemap_store.specs.{CallableOnEach, Kept, vec_keeps_room, vec_room, vec_with_value, vec_writes};
 
+use crate::bulk::append_items;
 use crate::bulk::vector::{put_in_vec, settle};
-use crate::bulk::{append_items, gather};
 use crate::reserved::remove_at;
 use crate::retain::{SwapStore, retain};
 use crate::slice_search;
@@ -206,6 +205,8 @@ impl<K: Drop, V: Drop> StoreFromIterator<K, V> for Vec<(K, V)> {
         alloc: Global,
         iter: I,
     ) -> Result<Self, AllocError> {
-        gather(alloc, iter)
+        let mut pairs = Self::new(alloc);
+        append_items(&mut pairs, iter)?;
+        Ok(pairs)
     }
 }

@@ -1,7 +1,7 @@
 -- Merges of lists with all keys of one above the other's, and merges that are joined.
 --     Merge-none, Merge-all      one list is empty;  Merge-behind, Merge-before      one is above the other
 --     left-behind, left-before      and nothing is displaced;  Merge-join      merges of which one is above the other are joined
-use Rattle.litemap_store.proofs.Names.{[], ◌++◌, ◌≡◌, ◌≢◌, ◌⊎◌, Apart, append-nil, Equal, Greater, In, inl, inr, IsMerged}
+use Rattle.litemap_store.proofs.Names.{[], ◌++◌, ◌≡◌, ◌≢◌, Apart, append-nil, Equal, Greater, In, inl, inr, IsMerged}
 use Rattle.litemap_store.proofs.Names.{IsTotalOrder, left, Less, List, Merge, NoneEqual, Ordering, refl, Rising, subst₂}
 use Rattle.litemap_store.proofs.Lists.Joined.{Rising-from_Rises}
 use Rattle.litemap_store.proofs.Last.KeepLast.{rising_across}
@@ -119,14 +119,9 @@ module _ {K V : Type 0} (cmp : K → K → Ordering) (o : IsTotalOrder cmp) wher
     pub left-before : Rising cmp (B ++ A) → left cmp A B ≡ []
     left-before t = left_none cmp o A B (from_each (λ (b : K × V). NoneEqual cmp b.0 A) B (λ y j. none_above y.0 A (λ x i. rising_across cmp B A t y x j i)))
 
-    -- if B's keys are not all above those of A, both have pairs
-    pub one_empty : (Rising cmp (A ++ B) → ⊥) → (A ≡ []) ⊎ (B ≡ []) → ⊥
-    one_empty n (inl e) = n (rw e s)
-    one_empty n (inr e) = n (rw (e, append-nil) r)
-
     -- they are apart only if one can be joined to the other
     pub not_apart : (Rising cmp (A ++ B) → ⊥) → (Rising cmp (B ++ A) → ⊥) → Apart cmp A B → ⊥
-    not_apart n m (inl e) = one_empty n (inl e)
-    not_apart n m (inr (inl e)) = one_empty n (inr e)
+    not_apart n m (inl e) = n (rw e s)
+    not_apart n m (inr (inl e)) = n (rw (e, append-nil) r)
     not_apart n m (inr (inr (inl h))) = n (Rising-from_Rises cmp A B r h)
     not_apart n m (inr (inr (inr h))) = m (Rising-from_Rises cmp B A s h)

@@ -1,9 +1,7 @@
 //! Few new pairs, which stand after those of a vector, are put in one by one where they stand.
 ghost use Rattle.std.specs.Prelude.{◌≡◌, ◌↔◌, ◌<◌, ◌≤◌, ◌+◌, ◌-◌, ◌*◌, IsTrue, drop, length, take, vec_len};
-ghost use Rattle.litemap_store.specs.Counts.{RisesByAtMost, digits};
+ghost use Rattle.litemap_store.specs.{IsPutIn, RisesByAtMost, Rising, digits};
 ghost use Rattle.litemap_store.specs.Last.{Last, Rises};
-ghost use Rattle.litemap_store.specs.Pairs.{Rising};
-ghost use Rattle.litemap_store.specs.PutIn.{IsPutIn};
 
 use crate::searches::{binary_digits, search, walk_is_cheaper};
 use crate::sorted::{is_rising, lies_below};
@@ -23,7 +21,8 @@ pub fn is_few(old: usize, given: usize) -> bool
     given <= FEW_PAIRS && !walk_is_cheaper(total, given, binary_digits(total))
 }
 
-/// Puts the pairs from an index on, which are few, among those before, whose keys ascend: of each key the last stays. It takes no
+/// Puts the pairs from an index on, which are few, among those before, whose keys ascend: of each key the last stays. Unless all
+/// ascend, each goes in by one search, in their order, and displaced pairs gather at the end and are dropped last. It takes no
 /// memory.
 pub fn settle_few<K: Ord + Drop, V: Drop>(store: &mut Vec<(K, V)>, from: usize, count: &mut Count)
     requires from { from ≤ vec_len store.old }
@@ -37,7 +36,11 @@ pub fn settle_few<K: Ord + Drop, V: Drop>(store: &mut Vec<(K, V)>, from: usize, 
     if is_rising_from(store, from, count) {
         return;
     }
-    put_each(store, from, count);
+    let mut kept = from;
+    for at in from..store.len() {
+        kept = put_next(store, kept, at, count);
+    }
+    store.truncate(kept);
 }
 
 // Whether all keys ascend, if those before an index do.
@@ -52,20 +55,6 @@ fn is_rising_from<K: Ord, V>(pairs: &[(K, V)], from: usize, count: &mut Count) -
         return false;
     }
     lies_below(&SliceStore::new(old), &SliceStore::new(given), count)
-}
-
-// Puts each pair from an index on in, in their order, by one search. Displaced pairs gather at the end, and are dropped last.
-fn put_each<K: Ord + Drop, V: Drop>(store: &mut Vec<(K, V)>, from: usize, count: &mut Count)
-    requires from { from ≤ vec_len store.old }
-    requires rising { Rising K.cmp (take from store.old.items) }
-    ensures last { Last K.cmp store.old.items store.new.items }
-    ensures cost { RisesByAtMost ((vec_len store.old - from) * digits (vec_len store.old)) count.old count.new }
-{
-    let mut kept = from;
-    for at in from..store.len() {
-        kept = put_next(store, kept, at, count);
-    }
-    store.truncate(kept);
 }
 
 // Puts the pair at an index in among the first `kept`, and returns how many these are then. It replaces the pair of an equal key.

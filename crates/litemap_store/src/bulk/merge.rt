@@ -1,9 +1,7 @@
 //! One linear merge of ascending pairs into a store.
 ghost use Rattle.std.specs.Prelude.{◌≡◌, ◌+◌, ◌≤◌, ◌++◌, [], reverse, OnOk, OnErr, length, Some, vec_capacity};
-ghost use Rattle.litemap_store.specs.Counts.{RisesByAtMost};
+ghost use Rattle.litemap_store.specs.{IsGreaterEnd, IsTaken, RisesByAtMost, Rising};
 ghost use Rattle.litemap_store.specs.Last.{Last};
-ghost use Rattle.litemap_store.specs.Pairs.{Rising};
-ghost use Rattle.litemap_store.specs.Taken.{IsGreaterEnd, IsTaken};
 
 use crate::reserved::{put_up, room_for, take_last};
 use crate::store::{Count, Store, StoreMut};

@@ -1,11 +1,8 @@
 //! The bodies of a vector's `lm_extend` and `lm_extend_from_vec`. Few new pairs are put in one by one, where they stand after its
 //! own. A merge reverses its side vector, which becomes the store.
 ghost use Rattle.std.specs.Prelude.{◌≡◌, ◌⊎◌, ◌≤◌, ◌+◌, ◌*◌, ◌++◌, [], IsOk, OnOk, OnErr, drop, length, take, vec_len};
-ghost use Rattle.litemap_store.specs.Bulk.{IsHandedBack};
-ghost use Rattle.litemap_store.specs.Counts.{RisesByAtMost};
+ghost use Rattle.litemap_store.specs.{IsHandedBack, RisesByAtMost, Rising, vec_room};
 ghost use Rattle.litemap_store.specs.Last.{Last, Rises};
-ghost use Rattle.litemap_store.specs.Pairs.{Rising};
-ghost use Rattle.litemap_store.specs.VecStore.{vec_room};
 
 use crate::bulk::few::{is_few, settle_few};
 use crate::bulk::merge::take_down;

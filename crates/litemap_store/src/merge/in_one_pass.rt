@@ -1,9 +1,7 @@
 //! A merge in one pass, from the last pair of the other store down to the first.
-ghost use Rattle.std.specs.Prelude.{◌≡◌, ◌+◌, ◌<◌, ◌≤◌, ◌++◌, ◌∷◌, [], length, reverse, option_map, vec_capacity};
+ghost use Rattle.std.specs.Prelude.{◌≡◌, ◌+◌, ◌<◌, ◌≤◌, ◌++◌, ◌∷◌, length, reverse, option_map, vec_capacity};
 ghost use Rattle.std.specs.List.{cons_option};
-ghost use Rattle.litemap_store.specs.Counts.{RisesByAtMost, digits};
-ghost use Rattle.litemap_store.specs.Merge.{Merge, Merges, left, searches_cost};
-ghost use Rattle.litemap_store.specs.Pairs.{Rising, above, at, below, key_or};
+ghost use Rattle.litemap_store.specs.{Merges, RisesByAtMost, Rising, above, at, below, digits, key_or, searches_cost};
 
 use crate::reserved::{put_up, room_for, take_from, take_last, unless_empty};
 use crate::searches::search;
@@ -17,7 +15,7 @@ use std::alloc::Global;
 pub fn merge_in_one_pass<K: Ord + Drop, V: Drop, S: StoreMut<K, V> + Drop>(
     alloc: Global,
     store: &mut S,
-    other: S,
+    mut other: S,
     total: usize,
     count: &mut Count,
 ) -> Result<Option<S>, NoRoom<S>>
@@ -33,38 +31,15 @@ pub fn merge_in_one_pass<K: Ord + Drop, V: Drop, S: StoreMut<K, V> + Drop>(
     let Ok((mut displaced, mut rest)) = room_for(alloc, other.lm_len()) else {
         return Err(NoRoom { back: other });
     };
-    take_aside(store, other, &mut side, &mut displaced, count);
+    while !other.lm_is_empty() {
+        let (key, value) = take_last(&mut other);
+        take_above(store, key, value, &mut side, &mut displaced, count);
+    }
+    take_from(store, 0, &mut side);
     put_up(&mut fresh, side);
     put_up(&mut rest, displaced);
     *store = fresh;
     Ok(unless_empty(rest))
-}
-
-// Takes all pairs of both stores aside, the greatest key first, and the values that new ones displace.
-fn take_aside<K: Ord + Drop, V: Drop, S: StoreMut<K, V> + Drop>(
-    store: &mut S,
-    mut other: S,
-    side: &mut Vec<(K, V)>,
-    displaced: &mut Vec<(K, V)>,
-    count: &mut Count,
-)
-    requires store { Rising K.cmp (S.pairs store.old) }
-    requires other { Rising K.cmp (S.pairs other) }
-    requires side { side.old.items ≡ [] }
-    requires side_room { length (S.pairs store.old) + length (S.pairs other) ≤ vec_capacity side.old }
-    requires displaced { displaced.old.items ≡ [] }
-    requires driven_out_room { length (S.pairs other) ≤ vec_capacity displaced.old }
-    ensures merged { Merge K.cmp (S.pairs store.old) (S.pairs other) (reverse side.new.items) }
-    ensures left { reverse displaced.new.items ≡ left K.cmp (S.pairs store.old) (S.pairs other) }
-    ensures side_len { length side.new.items ≤ length (S.pairs store.old) + length (S.pairs other) }
-    ensures driven_out_len { length displaced.new.items ≤ length (S.pairs other) }
-    ensures cost { RisesByAtMost (searches_cost (S.pairs store.old) (S.pairs other)) count.old count.new }
-{
-    while !other.lm_is_empty() {
-        let (key, value) = take_last(&mut other);
-        take_above(store, key, value, side, displaced, count);
-    }
-    take_from(store, 0, side);
 }
 
 // Takes the pairs above a key aside, and then the new pair: if an equal key is there, that key with the new value, which

@@ -1,9 +1,7 @@
 //! A merge that puts the pairs in one by one, each by one search.
 ghost use Rattle.std.specs.Prelude.{◌≡◌, ◌+◌, ◌<◌, ◌≤◌, ◌++◌, [], length, option_map};
 ghost use Rattle.std.specs.List.{cons_option};
-ghost use Rattle.litemap_store.specs.Counts.{RisesByAtMost, digits};
-ghost use Rattle.litemap_store.specs.Merge.{Merge, Merges, left, searches_cost};
-ghost use Rattle.litemap_store.specs.Pairs.{Rising, at, put};
+ghost use Rattle.litemap_store.specs.{Merges, RisesByAtMost, Rising, at, digits, put, searches_cost};
 
 use crate::reserved::{push_reserved, unless_empty};
 use crate::searches::search;
@@ -32,29 +30,10 @@ pub fn merge_one_by_one<K: Ord + Drop, V: Drop, S: StoreIntoIterator<K, V> + Dro
     let Ok(mut rest) = S::lm_with_capacity(alloc, len) else {
         return Err(NoRoom { back: other });
     };
-    put_each(store, other, &mut rest, count);
-    Ok(unless_empty(rest))
-}
-
-// Puts each pair in, and appends what it displaces to the rest. Both stores have room for all.
-fn put_each<K: Ord + Drop, V: Drop, S: StoreIntoIterator<K, V>>(
-    store: &mut S,
-    other: S,
-    rest: &mut S,
-    count: &mut Count,
-)
-    requires store { Rising K.cmp (S.pairs store.old) }
-    requires other { Rising K.cmp (S.pairs other) }
-    requires empty { S.pairs rest.old ≡ [] }
-    requires room { length (S.pairs other) ≤ S.room store.old }
-    requires rest_room { length (S.pairs other) ≤ S.room rest.old }
-    ensures merged { Merge K.cmp (S.pairs store.old) (S.pairs other) (S.pairs store.new) }
-    ensures left { S.pairs rest.new ≡ left K.cmp (S.pairs store.old) (S.pairs other) }
-    ensures cost { RisesByAtMost (searches_cost (S.pairs store.old) (S.pairs other)) count.old count.new }
-{
     for (key, value) in other.lm_into_iter() {
-        put_in(store, key, value, rest, count);
+        put_in(store, key, value, &mut rest, count);
     }
+    Ok(unless_empty(rest))
 }
 
 // Puts a pair in by one search, and appends its key with the value that it displaces to the rest. Both stores have room for it.

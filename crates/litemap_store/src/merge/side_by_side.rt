@@ -1,10 +1,7 @@
 //! A merge that walks both stores once, side by side.
 ghost use Rattle.std.specs.Prelude.{◌≡◌, ◌+◌, ◌<◌, ◌≤◌, [], ◌∷◌, length, slice_get, Some, option_map};
 ghost use Rattle.std.specs.Map.Iter.{deref_pair};
-ghost use Rattle.litemap_store.specs.Counts.{RisesByAtMost};
-ghost use Rattle.litemap_store.specs.Merge.{Merge, Merges, left};
-ghost use Rattle.litemap_store.specs.Pairs.{Rising};
-ghost use Rattle.litemap_store.specs.Walked.{ComparesFirsts, IsTakenFirst};
+ghost use Rattle.litemap_store.specs.{ComparesFirsts, IsTakenFirst, Merges, RisesByAtMost, Rising};
 
 use crate::into_iter::PairIntoIter;
 use crate::reserved::{push_reserved, unless_empty};
@@ -37,34 +34,13 @@ pub fn merge_side_by_side<K: Ord + Drop, V: Drop, S: StoreIntoIterator<K, V> + D
     let Ok(mut rest) = S::lm_with_capacity(alloc, other.lm_len()) else {
         return Err(NoRoom { back: other });
     };
-    let olds = Peekable::new(mem::replace(store, fresh).lm_into_iter());
-    let news = Peekable::new(other.lm_into_iter());
-    put_both(store, &mut rest, olds, news, count);
-    Ok(unless_empty(rest))
-}
-
-// Puts the pairs of both into the store, the lower key first, and what is displaced into the rest. They have room for all.
-fn put_both<K: Ord + Drop, V: Drop, S: StoreMut<K, V>, I: PairIntoIter<K, V>>(
-    store: &mut S,
-    rest: &mut S,
-    mut olds: Peekable<K, V, I>,
-    mut news: Peekable<K, V, I>,
-    count: &mut Count,
-)
-    requires olds { Rising K.cmp olds }
-    requires news { Rising K.cmp news }
-    requires empty { S.pairs store.old ≡ [] }
-    requires rest_empty { S.pairs rest.old ≡ [] }
-    requires room { length olds + length news ≤ S.room store.old }
-    requires rest_room { length news ≤ S.room rest.old }
-    ensures merged { Merge K.cmp olds news (S.pairs store.new) }
-    ensures left { S.pairs rest.new ≡ left K.cmp olds news }
-    ensures cost { RisesByAtMost (length olds + length news) count.old count.new }
-{
+    let mut olds = Peekable::new(mem::replace(store, fresh).lm_into_iter());
+    let mut news = Peekable::new(other.lm_into_iter());
     while let Some(order) = compare_firsts(&olds, &news, count) {
-        let (key, value) = take_lower(&mut olds, &mut news, rest, order);
+        let (key, value) = take_lower(&mut olds, &mut news, &mut rest, order);
         push_reserved(store, key, value);
     }
+    Ok(unless_empty(rest))
 }
 
 // How the first old key compares with the first new one. A side that has run out counts as greater; `None` if both have.
@@ -134,14 +110,11 @@ impl<K, V, I: PairIntoIter<K, V>> Model for Peekable<K, V, I> {
 }
 
 impl<K, V, I: PairIntoIter<K, V>> Peekable<K, V, I> {
-    fn new(mut pairs: I) -> Self
-        ensures { result ≡ I.owned pairs }
+    fn new(mut others: I) -> Self
+        ensures { result ≡ I.owned others }
     {
-        let first = pairs.next();
-        Peekable {
-            first,
-            others: pairs,
-        }
+        let first = others.next();
+        Peekable { first, others }
     }
 
     fn peek(&self) -> Option<(&K, &V)>

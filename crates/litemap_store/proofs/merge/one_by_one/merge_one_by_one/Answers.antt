@@ -1,6 +1,6 @@
 use Rattle.litemap_store.proofs.Names.{◌∷◌, ◌≡◌, ap, arith, length, rules, suc}
 use Rattle.litemap_store.proofs.Merging.Steps.{MergedUpTo-more}
-use Rattle.litemap_store.proofs.merge.one_by_one.put_each.Goals as goal
+use Rattle.litemap_store.proofs.merge.one_by_one.merge_one_by_one.Goals as goal
 
 pub loop-key-preserved : goal.loop-key-preserved
 loop-key-preserved g c =

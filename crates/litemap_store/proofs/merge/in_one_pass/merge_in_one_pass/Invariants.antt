@@ -1,5 +1,5 @@
 use Rattle.litemap_store.proofs.Names.{◌*◌, ◌++◌, ◌+◌, ◌≡◌, ◌≤◌, digits, left, length, List, Merge, reverse, Rising, vec_capacity}
-use Rattle.litemap_store.proofs.merge.in_one_pass.take_aside.Given as goal
+use Rattle.litemap_store.proofs.merge.in_one_pass.merge_in_one_pass.Given as goal
 
 abbrev pub invariant-loop-other : goal.invariant-loop-other
 invariant-loop-other g l = record {

@@ -1,6 +1,6 @@
 use Rattle.litemap_store.proofs.Names.{◌≤◌, length}
 use Rattle.litemap_store.proofs.Merging.Steps.{MergedUpTo}
-use Rattle.litemap_store.proofs.merge.one_by_one.put_each.Given as goal
+use Rattle.litemap_store.proofs.merge.one_by_one.merge_one_by_one.Given as goal
 
 abbrev pub invariant-loop-key : goal.invariant-loop-key
 invariant-loop-key g l = record {

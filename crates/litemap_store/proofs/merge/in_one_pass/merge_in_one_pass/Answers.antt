@@ -1,9 +1,9 @@
-use Rattle.litemap_store.proofs.Names.{[], ◌*◌, ◌++◌, ◌+◌, ◌∙◌, ◌∷◌, ◌≡◌, ◌≤◌, above, ap, arith, at, below, digits, digits-mono, eqb-true, key_or, length, length_push, Merge, nil_from_length, option_map, reverse, Rising, subst, suc, suc-mul, sym}
+use Rattle.litemap_store.proofs.Names.{[], ◌*◌, ◌++◌, ◌+◌, ◌∙◌, ◌∷◌, ◌≡◌, ◌≤◌, above, ap, arith, at, below, digits, digits-mono, eqb-true, key_or, left, length, length_push, Merge, nil_from_length, option_map, reverse, rules, Rising, subst, suc, suc-mul, sym}
 use Rattle.litemap_store.proofs.Merging.Down.{Merge-down, left-down, length-after, length-option, length-parts}
 use Rattle.litemap_store.proofs.Merging.Joins.{Merge-none}
 use Rattle.litemap_store.proofs.Search.Splitting.{Rising-filter}
 use Rattle.litemap_store.proofs.Last.Taken.{Rising-left}
-use Rattle.litemap_store.proofs.merge.in_one_pass.take_aside.Goals as goal
+use Rattle.litemap_store.proofs.merge.in_one_pass.merge_in_one_pass.Goals as goal
 
 pub loop-other-preserved : goal.loop-other-preserved
 loop-other-preserved g c =
@@ -43,11 +43,16 @@ loop-other-preserved g c =
       most = let k = was.most in let n = step.cost.most in omega arith;
     }
 
-pub returns-clause-merged : goal.returns-clause-merged
-returns-clause-merged g c =
+pub returns-clause-merges : goal.returns-clause-merges
+returns-clause-merges g c =
+    let cmp = g.K.Ord.cmp in
     let was = c.loop-other.invariant in
+    let first = g.S.Store.pairs c.args.store.now in
+    let second = g.S.Store.pairs c.args.other in
     let old = g.S.Store.pairs c.loop-other.store in
     let all = g.S.Store.pairs c.loop-other.other in
     let none : all ≡ [] = nil_from_length _ (eqb-true _ 0 (sym c.lm_is_empty.ensures ∙ c.loop-other-test.false)) in
-    let kept : Merge g.K.Ord.cmp old all old = rw none (Merge-none g.K.Ord.cmp old was.store_rises) in
-    rw c.take_from.ensures.side (was.merged _ kept)
+    let kept : Merge cmp old all old = rw none (Merge-none cmp old was.store_rises) in
+    let merged : Merge cmp first second (reverse c.take_from.new.side.items) = rw c.take_from.ensures.side (was.merged _ kept) in
+    let left_over : reverse c.loop-other.displaced.items ≡ left cmp first second = sym (rw none at was.left_over) in
+    search rules
