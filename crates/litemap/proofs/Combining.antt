@@ -3,11 +3,12 @@
 --     callable_each      if it may be called on each key that a lookup finds, it may be called on each pair
 --     value_at-combined      what a query finds in the merge
 use Rattle.litemap.proofs.Common.{◌≡◌, List, [], ◌∷◌, Equal, Option, Some, None, option_map, length, arith, refl, ap, ◌∙◌}
+use Rattle.std.specs.Prelude.{MatchOption}
 use Rattle.litemap.proofs.Common.{Ordering, is_eq, true, false, Bor, MutBor, IsTotalOrder, tied_itself, Shared, keys_of}
 use Rattle.litemap.proofs.Common.{option_map_or, option_or, Merge, Rising, at, value_at, at-rising, at-same, key_alike, key_same}
 use Rattle.litemap.proofs.Common.{value_at-merged, at_in}
 use Rattle.litemap_store.proofs.Lists.Membership.{from_each}
-use Rattle.litemap.specs.Combined.{CallableOnCommon, CallableOnEachOf, Combined, Combines, Settles, combined, found_with}
+use Rattle.litemap.specs.Combined.{CallableOnCommon, CallableOnEachOf, Combined, Combines, LeavesOfBoth, combined, found_with}
 
 -- one pair of them
 abbrev combined_pair : {K V : Type 0} → (K → K → Ordering) → (K → V → V → V) → List (K × V) → K × V → K × V
@@ -23,7 +24,7 @@ module _ {F K V : Type 0} (g : Shared F (Bor K × (Bor V × (MutBor V × Unit {0
   length-combined (p ∷ J) M (w, N, s, h, is) = omega (arith, ap length is, length-combined J N h)
 
   module _ (combine : K → V → V → V) (by : Combines g f combine) where
-    settled : (k : K) (o : Option V) (w w' : V) → Settles g f k o w w' → w' ≡ option_map_or (λ here. combine k here w) o w
+    settled : (k : K) (o : Option V) (w w' : V) → MatchOption o (w' ≡ w) (λ here. LeavesOfBoth g f k here w w') → w' ≡ option_map_or (λ here. combine k here w) o w
     settled k None w w' s = s
     settled k (Some here) w w' s = by k here w w' s
 

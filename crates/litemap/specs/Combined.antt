@@ -1,13 +1,10 @@
 -- A merge in which a closure may write the other map's value of each common key.
-use Rattle.std.specs.Prelude.{◌≡◌, List, [], ◌∷◌, map, Option, Some, None, Result}
+use Rattle.std.specs.Prelude.{◌≡◌, List, [], ◌∷◌, map, MatchOption, Option, Some, None}
 use Rattle.std.specs.Fn.{FnReturns, Shared}
 use Rattle.std.specs.List.{AllByRecursion}
 use Rattle.std.specs.Option.{option_map_or}
 use Rattle.std.specs.declared.cmp.Ordering.{Ordering}
 use Rattle.litemap_store.specs.Pairs.{at, value_at}
-use Rattle.litemap_store.specs.declared.no_room.NoRoom.{NoRoom}
-use Rattle.litemap.specs.Changes.{IsMergedInto}
-use Rattle.litemap_store.specs.Contents.{Contents, with_pairs}
 use denote.Ref.{Bor, MutBor}
 
 module _ {K V : Type 0} where
@@ -46,22 +43,11 @@ module _ {F K V : Type 0} (g : Shared F (Bor K × (Bor V × (MutBor V × Unit {0
   abbrev pub CallableOnEachOf : (K → K → Ordering) → List (K × V) → List (K × V) → Type 0
   CallableOnEachOf cmp L J = AllByRecursion (λ p. (here : V) → value_at cmp L p.0 ≡ Some here → TakesBoth p.0 here p.1) J
 
-  -- w' is what f may leave of w at the key k, if k has a value here; else it is w
-  abbrev pub Settles : K → Option V → V → V → Type 0
-  Settles k None w w' = w' ≡ w
-  Settles k (Some here) w w' = LeavesOfBoth k here w w'
-
-  -- M has the pairs of J, with each value settled by the value of its key in L
+  -- M has the pairs of J, each with what f may leave of its value if its key has a value in L, else with the value itself
   abbrev pub Combined : (K → K → Ordering) → List (K × V) → List (K × V) → List (K × V) → Type 0
   Combined cmp L [] M = M ≡ []
-  Combined cmp L (p ∷ J) M = (w : V) × (N : List (K × V)) × Settles p.0 (value_at cmp L p.0) p.1 w × Combined cmp L J N
-      × (M ≡ (p.0, w) ∷ N)
-
-  -- the map `other`, with values that f may leave, is merged into the map `before`, which is then `after`
-  abbrev pub IsCombinedInto : (K → K → Ordering) → (other before after : Contents K V)
-      → Result (Option (Contents K V)) (NoRoom (Contents K V)) → Type 0
-  IsCombinedInto cmp other before after result = (M : List (K × V)) × Combined cmp before.pairs other.pairs M
-      × IsMergedInto cmp (with_pairs other M) before after result
+  Combined cmp L (p ∷ J) M = (w : V) × (N : List (K × V))
+      × MatchOption (value_at cmp L p.0) (w ≡ p.1) (λ here. LeavesOfBoth p.0 here p.1 w) × Combined cmp L J N × (M ≡ (p.0, w) ∷ N)
 
   -- f leaves the value that `combine` computes of the key and both values
   abbrev pub Combines : (K → V → V → V) → Type 0

@@ -24,14 +24,14 @@ impl<'a, K: Ord, V> LiteMap<K, V, SliceStore<'a, K, V>> {
     pub fn const_len(&self) -> usize
         ensures { result ≡ length self.now.pairs }
     {
-        self.borrowed().len()
+        self.len()
     }
 
     /// Returns whether the map is empty.
     pub fn const_is_empty(&self) -> bool
         ensures { result ≡ (length self.now.pairs == 0) }
     {
-        self.borrowed().is_empty()
+        self.is_empty()
     }
 
     /// Returns the pair at an index, which has to be below the length. The Rust crate panics if it isn't, as the name says.
@@ -39,7 +39,8 @@ impl<'a, K: Ord, V> LiteMap<K, V, SliceStore<'a, K, V>> {
         requires { index < length self.now.pairs }
         ensures { slice_get self.now.pairs index ≡ Some result.now }
     {
-        &self.borrowed()[index]
+        let pairs = self.store.pairs;
+        &pairs[index]
     }
 
     // Returns the index and the value of the equal key, or `None` if there is none. Unlike `get`, the public lookups below have

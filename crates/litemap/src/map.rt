@@ -43,7 +43,7 @@ use std::marker::{Model, PhantomData};
 /// ```
 #[derive(Drop)]
 pub struct LiteMap<K: Ord, V, S: Store<K, V>> {
-    store: S,
+    pub(crate) store: S,
     marker: PhantomData<(K, V)>,
 }
 
@@ -72,8 +72,7 @@ impl<K: Ord, V> LiteMap<K, V, Vec<(K, V)>> {
         ensures pairs { result.items ≡ self.pairs }
         ensures rising { Rising K.cmp result.items }
     {
-        let LiteMap { store, marker: _ } = self;
-        store
+        self.store
     }
 }
 

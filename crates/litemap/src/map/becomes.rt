@@ -7,7 +7,7 @@ use std::alloc::{AllocError, Global};
 /// A conversion of a value.
 pub(super) trait Becomes<'a, X, Y> {
     /// Whether it accepts a value.
-    ghost takes: { Self → X → Type 0 };
+    ghost takes: { Self → X → Type 0 } = { λ _ _. ⊤ };
 
     /// What it may make of a value.
     ghost became: { Self → X → Y → Type 0 };
@@ -33,8 +33,6 @@ pub(super) struct Answered<F> {
 }
 
 impl<'a, X: Clone> Becomes<'a, X, X> for Cloned {
-    ghost takes = { λ _ _. ⊤ };
-
     ghost became = { λ _. X.is_clone };
 
     fn made_of(&self, alloc: Global, value: &'a X) -> Result<X, AllocError> {
@@ -43,8 +41,6 @@ impl<'a, X: Clone> Becomes<'a, X, X> for Cloned {
 }
 
 impl<'a, X: Clone> Becomes<'a, X, Box<X>> for Boxed {
-    ghost takes = { λ _ _. ⊤ };
-
     ghost became = { λ _ x b. X.is_clone x b.value };
 
     fn made_of(&self, alloc: Global, value: &'a X) -> Result<Box<X>, AllocError> {
@@ -53,8 +49,6 @@ impl<'a, X: Clone> Becomes<'a, X, Box<X>> for Boxed {
 }
 
 impl<'a, X: 'a> Becomes<'a, X, &'a X> for Lent {
-    ghost takes = { λ _ _. ⊤ };
-
     ghost became = { λ _ x r. r.now ≡ x };
 
     fn made_of(&self, alloc: Global, value: &'a X) -> Result<&'a X, AllocError> {

@@ -3,7 +3,7 @@ ghost use Rattle.std.specs.Prelude.{◌≡◌, ◌↔◌, ◌+◌, ◌*◌, ◌�
 ghost use Rattle.std.specs.Prelude.{IsNone, IsSome, IsTrue, IsOk, None, Ok, IfOk, OnOk, OnErr, true, false};
 ghost use Rattle.std.specs.Fn.{FnOnceReturnsAt, FnOnceTakesAt};
 ghost use Rattle.litemap_store.specs.Counts.{RisesByAtMost, digits};
-ghost use Rattle.litemap_store.specs.Pairs.{AllBelow, at, place, put, set_value, value_at, value_in};
+ghost use Rattle.litemap_store.specs.Pairs.{AllBelow, at, place, put, value_at, value_in};
 ghost use Rattle.litemap_store.specs.Retain.{CallableOnEach, Kept, Tests};
 ghost use Rattle.litemap_store.specs.Search.{CallableOnKeys};
 ghost use Rattle.litemap_store.specs.Splits.{IsMissingAt};
@@ -51,7 +51,7 @@ impl<K: Ord + Drop, V, S: StoreMut<K, V>> LiteMap<K, V, S> {
         ensures cost { RisesByAtMost (digits (length self.old.pairs)) count.old count.new }
     {
         match self.search(&key, count) {
-            Ok(index) => Ok(Some(self.replace_value(index, value))),
+            Ok(index) => Ok(Some(mem::replace(self.value_in_mut(index), value))),
             Err(index) => {
                 self.insert_at(index, key, value)?;
                 Ok(None)
@@ -116,7 +116,7 @@ impl<K: Ord + Drop, V, S: StoreMut<K, V>> LiteMap<K, V, S> {
         ensures { Shown self.now.pairs found result }
     {
         match found {
-            Ok(index) => Ok((index, self.value_there(index))),
+            Ok(index) => Ok((index, self.value_in(index).unwrap())),
             Err(error) => Err(error),
         }
     }
@@ -302,7 +302,7 @@ impl<K: Ord, V, S: StoreMut<K, V>> LiteMap<K, V, S> {
         if !self.is_above_all(&key) {
             return Ok(Some((key, value)));
         }
-        self.append(key, value)?;
+        self.store.lm_push(key, value)?;
         Ok(None)
     }
 
@@ -325,23 +325,6 @@ impl<K: Ord, V, S: StoreMut<K, V>> LiteMap<K, V, S> {
             None => true,
             Some((last, _)) => last.cmp(key).is_lt(),
         }
-    }
-
-    fn append(&mut self, key: K, value: V) -> Result<(), NoRoom<(K, V)>>
-        requires { AllBelow K.cmp self.old.pairs key }
-        ensures appended { OnOk result (self.new.pairs ≡ self.old.pairs ++ (key, value) ∷ []) }
-        ensures refused { RefusedFull (key, value) self.old self.new result }
-    {
-        self.store.lm_push(key, value)
-    }
-
-    fn replace_value(&mut self, index: usize, value: V) -> V
-        requires { index < length self.old.pairs }
-        ensures old { value_in self.old.pairs index ≡ Some result }
-        ensures pairs { self.new.pairs ≡ set_value self.old.pairs index value }
-        ensures room { self.new.room ≡ self.old.room }
-    {
-        mem::replace(self.value_in_mut(index), value)
     }
 
     pub(super) fn insert_at(&mut self, index: usize, key: K, value: V) -> Result<(), NoRoom<(K, V)>>

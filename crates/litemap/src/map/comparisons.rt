@@ -1,5 +1,4 @@
 //! Compares and hashes maps pair by pair, over every store.
-ghost use Rattle.std.specs.Prelude.{◌≡◌, ◌&&◌, fold};
 ghost use Rattle.std.specs.Cmp.Lexicographic.{lists_equiv, lists_agrees, lists_total, lists_ties, lists_per, lists_po};
 ghost use Rattle.std.specs.Ordering.{ordering_then};
 ghost use Rattle.std.specs.Cmp.{on_equiv, and_equiv, then_agrees, on_total, then_total, both_tied};
@@ -21,7 +20,18 @@ impl<K: Ord, V: PartialEq, S: Store<K, V>> PartialEq for LiteMap<K, V, S> {
         (on_per (λ p. p.1) V.laws))) };
 
     fn eq(&self, other: &Self) -> bool {
-        are_equal(&self.store, &other.store)
+        let len = self.len();
+        if other.len() != len {
+            return false;
+        }
+        for index in 0..len {
+            let here = self.get_indexed(index).unwrap();
+            let there = other.get_indexed(index).unwrap();
+            if here != there {
+                return false;
+            }
+        }
+        true
     }
 }
 
@@ -46,7 +56,21 @@ impl<K: Ord, V: PartialOrd, S: Store<K, V>> PartialOrd for LiteMap<K, V, S> {
         (on_po (λ p. p.1) V.PartialOrd.laws))) };
 
     fn partial_cmp(&self, other: &Self) -> Option<Ordering> {
-        partial_order(RangeIter::all(&self.store), RangeIter::all(&other.store))
+        let mut left = RangeIter::all(&self.store);
+        let mut right = RangeIter::all(&other.store);
+        while let Some(pair) = left.next() {
+            let Some(other) = right.next() else {
+                return Some(Ordering::Greater);
+            };
+            match pair.partial_cmp(&other) {
+                Some(Ordering::Equal) => {}
+                decided => return decided,
+            }
+        }
+        match right.next() {
+            Some(_) => Some(Ordering::Less),
+            None => Some(Ordering::Equal),
+        }
     }
 }
 
@@ -81,60 +105,11 @@ impl<K: Ord + Hash, V: Hash, S: Store<K, V>> Hash for LiteMap<K, V, S> {
         (on_Alike (λ p. p.1) (record { fed = V.respects_eq }))))).fed };
 
     fn hash<H: Hasher>(&self, state: &mut H) {
-        feed(RangeIter::all(&self.store), state);
-    }
-}
-
-fn are_equal<'a, K: PartialEq + 'a, V: PartialEq + 'a, S: Store<K, V>>(
-    left: &'a S,
-    right: &'a S,
-) -> bool
-    ensures { result ≡ equal_pairs K.eq V.eq (S.pairs left.now) (S.pairs right.now) }
-{
-    let len = left.lm_len();
-    if right.lm_len() != len {
-        return false;
-    }
-    for index in 0..len {
-        let pair = left.lm_get(index).unwrap();
-        let other = right.lm_get(index).unwrap();
-        if pair != other {
-            return false;
+        let mut rest = RangeIter::all(&self.store);
+        rest.len().hash(state);
+        while let Some((key, value)) = rest.next() {
+            key.hash(state);
+            value.hash(state);
         }
-    }
-    true
-}
-
-fn partial_order<'a, 'b, K: PartialOrd + 'a + 'b, V: PartialOrd + 'a + 'b, S: Store<K, V>>(
-    mut left: RangeIter<'a, K, V, S>,
-    mut right: RangeIter<'b, K, V, S>,
-) -> Option<Ordering>
-    ensures { result ≡ pairs_partial_cmp K.partial_cmp V.partial_cmp left.entry right.entry }
-{
-    while let Some(pair) = left.next() {
-        let Some(other) = right.next() else {
-            return Some(Ordering::Greater);
-        };
-        match pair.partial_cmp(&other) {
-            Some(Ordering::Equal) => {}
-            decided => return decided,
-        }
-    }
-    match right.next() {
-        Some(_) => Some(Ordering::Less),
-        None => Some(Ordering::Equal),
-    }
-}
-
-fn feed<'a, K: Hash + 'a, V: Hash + 'a, S: Store<K, V>, H: Hasher>(
-    mut rest: RangeIter<'a, K, V, S>,
-    state: &mut H,
-)
-    ensures { state.new ≡ fold H.write state.old (pairs_hashed K.hash_input V.hash_input rest.entry) }
-{
-    rest.len().hash(state);
-    while let Some((key, value)) = rest.next() {
-        key.hash(state);
-        value.hash(state);
     }
 }

@@ -2,11 +2,11 @@
 //!
 //! Room for all pairs is taken first. An empty map takes none, and its conversion never fails. A clone of a key has to compare
 //! `Equal` to it. The Rust crate boxes and borrows keys and values as any type that they borrow as, and has no `to_keys_by`.
-ghost use Rattle.std.specs.Prelude.{◌≡◌, ◌<◌, ◌≤◌, ◌+◌, ◌++◌, ◌∷◌, [], length, IsOk, OnOk};
+ghost use Rattle.std.specs.Prelude.{◌≡◌};
 ghost use Rattle.std.specs.Fn.{FnReturnsAt};
 ghost use Rattle.litemap_store.specs.Last.{In};
 ghost use Rattle.litemap_store.specs.Pairs.{Rising};
-ghost use Rattle.litemap_store.specs.Clones.{ClonesCompareEqual, PairsBecame};
+ghost use Rattle.litemap_store.specs.Clones.{ClonesCompareEqual};
 ghost use Rattle.litemap.specs.Conversions.{Converts, KeysKeepOrder, TakesKeys};
 
 use super::becomes::{Answered, Becomes, Boxed, Cloned, Lent};
@@ -67,7 +67,7 @@ impl<K: Ord, V: Clone, S: Store<K, V>> LiteMap<K, V, S> {
         requires rising { KeysKeepOrder K.cmp L.cmp (FnReturnsAt F.Fn f) self.now.pairs }
         ensures { Converts (FnReturnsAt F.Fn f) V.is_clone self.now.pairs result }
     {
-        keyed_by(&self.store, alloc, f)
+        converted(&self.store, alloc, &Answered { f }, &Cloned)
     }
 }
 
@@ -114,26 +114,6 @@ impl<'a, K: Ord + 'a, V: 'a, S: Store<K, V>> LiteMap<K, V, S> {
     }
 }
 
-fn keyed_by<'a, K, V, S, L, B, F>(
-    store: &'a S,
-    alloc: Global,
-    f: F,
-) -> Result<LiteMap<L, V, B>, AllocError>
-where
-    K: Ord + 'a,
-    V: Clone + 'a,
-    S: Store<K, V>,
-    L: Ord + Drop,
-    B: StoreMut<L, V> + Drop,
-    F: Fn(&K) -> L + Drop,
-    requires rises { Rising K.cmp (S.pairs store.now) }
-    requires callable { TakesKeys F.Fn f (S.pairs store.now) }
-    requires rising { KeysKeepOrder K.cmp L.cmp (FnReturnsAt F.Fn f) (S.pairs store.now) }
-    ensures { Converts (FnReturnsAt F.Fn f) V.is_clone (S.pairs store.now) result }
-{
-    converted(store, alloc, &Answered { f }, &Cloned)
-}
-
 // The one body of all conversions.
 fn converted<'a, K, V, S, L, W, B, X, Y>(
     store: &'a S,
@@ -156,60 +136,14 @@ where
     ensures { Converts (X.became keys.now) (Y.became values.now) (S.pairs store.now) result }
 {
     let mut made = B::lm_with_capacity(alloc, store.lm_len())?;
-    push_all(store, alloc, &mut made, keys, values)?;
-    Ok(LiteMap::from_sorted_store_unchecked(made))
-}
-
-fn push_all<'a, K: 'a, V: 'a, S, L: Drop, W, B, X, Y>(
-    store: &'a S,
-    alloc: Global,
-    made: &mut B,
-    keys: &X,
-    values: &Y,
-) -> Result<(), AllocError>
-where
-    S: Store<K, V>,
-    B: StoreMut<L, W>,
-    X: Becomes<'a, K, L>,
-    Y: Becomes<'a, V, W>,
-    requires keys { (p : _) → In p (S.pairs store.now) → X.takes keys.now p.0 }
-    requires values { (p : _) → In p (S.pairs store.now) → Y.takes values.now p.1 }
-    requires empty { B.pairs made.old ≡ [] }
-    requires room { length (S.pairs store.now) ≤ B.room made.old }
-    ensures became { OnOk result
-        (PairsBecame (X.became keys.now) (Y.became values.now) (S.pairs store.now) (B.pairs made.new)) }
-    ensures succeeds { S.pairs store.now ≡ [] → IsOk result }
-{
     for index in 0..store.lm_len() {
         let (key, value) = store.lm_get(index).unwrap();
-        push_converted(alloc, made, key, value, keys, values)?;
+        let key = keys.made_of(alloc, key)?;
+        let value = values.made_of(alloc, value)?;
+        match made.lm_push(key, value) {
+            Ok(()) => {}
+            Err(_) => unreachable!(),
+        }
     }
-    Ok(())
-}
-
-fn push_converted<'a, K: 'a, V: 'a, L: Drop, W, B, X, Y>(
-    alloc: Global,
-    made: &mut B,
-    key: &'a K,
-    value: &'a V,
-    keys: &X,
-    values: &Y,
-) -> Result<(), AllocError>
-where
-    B: StoreMut<L, W>,
-    X: Becomes<'a, K, L>,
-    Y: Becomes<'a, V, W>,
-    requires room { 0 < B.room made.old }
-    requires key { X.takes keys.now key.now }
-    requires value { Y.takes values.now value.now }
-    ensures pushed { OnOk result ((pair : L × W) × (B.pairs made.new ≡ B.pairs made.old ++ pair ∷ [])
-        × X.became keys.now key.now pair.0 × Y.became values.now value.now pair.1) }
-    ensures room { OnOk result (B.room made.old ≤ B.room made.new + 1) }
-{
-    let key = keys.made_of(alloc, key)?;
-    let value = values.made_of(alloc, value)?;
-    match made.lm_push(key, value) {
-        Ok(()) => Ok(()),
-        Err(_) => unreachable!(),
-    }
+    Ok(LiteMap::from_sorted_store_unchecked(made))
 }

@@ -3,7 +3,8 @@
 //! An entry borrows its map for as long as it lives. A call that consumes the entry and returns a reference passes the borrow on
 //! to that reference. In clauses `self.entry` is the entry as it was passed; `writes_back` says that the map then has the value
 //! last written through a reference.
-ghost use Rattle.std.specs.Prelude.{◌<◌, length};
+ghost use Rattle.std.specs.Prelude.{◌≡◌, ◌<◌, IfOk, IsNone, IsSome, None, Some, length, unwrap_or};
+ghost use Rattle.std.specs.Borrow.{sem, MutBor};
 ghost use Rattle.litemap_store.specs.Splits.{IsMissingAt};
 
 use crate::LiteMap;
@@ -38,7 +39,6 @@ pub struct VacantEntry<'a, K: Ord, V, S: Store<K, V>> {
 }
 
 impl<K: Ord + Drop, V, S: StoreMut<K, V>> LiteMap<K, V, S> {
-    ghost use Rattle.std.specs.Prelude.{◌≡◌, IsNone, IsSome, Some};
     ghost use Rattle.litemap_store.specs.Pairs.{at, cut, key_or, put, value_at};
     ghost use Rattle.litemap.specs.Entries.{MatchEntry, entry_key, entry_map, entry_value, pairs_with, pairs_without};
 
@@ -79,8 +79,6 @@ impl<K: Ord + Drop, V, S: StoreMut<K, V>> LiteMap<K, V, S> {
 }
 
 impl<'a, K: Ord, V, S: StoreMut<K, V>> Entry<'a, K, V, S> {
-    ghost use Rattle.std.specs.Prelude.{◌≡◌, IfOk, None, Some, unwrap_or};
-    ghost use Rattle.std.specs.Borrow.{sem, MutBor};
     ghost use Rattle.std.specs.Map.Calls.{ModifiesValue};
     ghost use Rattle.std.specs.Option.{UnwrapsOrElse};
     ghost use Rattle.litemap.specs.Entries.{EntryLends, EntryRefused, entry_key, entry_map, entry_value};
@@ -157,8 +155,6 @@ impl<'a, K: Ord, V, S: StoreMut<K, V>> Entry<'a, K, V, S> {
 }
 
 impl<'a, K: Ord, V, S: StoreMut<K, V>> OccupiedEntry<'a, K, V, S> {
-    ghost use Rattle.std.specs.Prelude.{◌≡◌, Some};
-    ghost use Rattle.std.specs.Borrow.{sem};
     ghost use Rattle.litemap.specs.Entries.{IntoLends, IsWritten, Occupied, OccupiedLends, entry_key, entry_map};
     ghost use Rattle.litemap.specs.Entries.{entry_value, pairs_without, with_entry_value};
 
@@ -173,7 +169,7 @@ impl<'a, K: Ord, V, S: StoreMut<K, V>> OccupiedEntry<'a, K, V, S> {
     pub fn get(&self) -> &V
         ensures { entry_value (Occupied self.now) ≡ Some result.now }
     {
-        self.map.value_there(self.index)
+        self.map.value_in(self.index).unwrap()
     }
 
     /// Returns a mutable reference to the value.
@@ -226,8 +222,6 @@ impl<'a, K: Ord, V, S: StoreMut<K, V>> OccupiedEntry<'a, K, V, S> {
 }
 
 impl<'a, K: Ord, V, S: StoreMut<K, V>> VacantEntry<'a, K, V, S> {
-    ghost use Rattle.std.specs.Prelude.{◌≡◌, IfOk, Some};
-    ghost use Rattle.std.specs.Borrow.{sem};
     ghost use Rattle.litemap.specs.Entries.{EntryLends, EntryRefused, Vacant, entry_key};
 
     /// Returns the key that was looked up.

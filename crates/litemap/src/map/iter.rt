@@ -87,7 +87,6 @@ impl<K: Ord + Drop, V: Drop, S: StoreIntoIterator<K, V>> IntoIterator for LiteMa
     ghost into_iter_gives = { λ m r. S.KeyValueIntoIter.owned r ≡ m.pairs };
 
     fn into_iter(self) -> S::KeyValueIntoIter {
-        let LiteMap { store, marker: _ } = self;
-        store.lm_into_iter()
+        self.store.lm_into_iter()
     }
 }

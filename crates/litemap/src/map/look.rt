@@ -162,18 +162,10 @@ impl<K: Ord, V, S: Store<K, V>> LiteMap<K, V, S> {
         self.store.lm_binary_search_by(f, &mut Count::new())
     }
 
-    fn value_in(&self, index: usize) -> Option<&V>
+    pub(super) fn value_in(&self, index: usize) -> Option<&V>
         ensures { option_copied result ≡ value_in self.now.pairs index }
     {
-        let (_, value) = self.store.lm_get(index)?;
-        Some(value)
-    }
-
-    pub(super) fn value_there(&self, index: usize) -> &V
-        requires { index < length self.now.pairs }
-        ensures { value_in self.now.pairs index ≡ Some result.now }
-    {
-        self.value_in(index).unwrap()
+        Some(self.store.lm_get(index)?.1)
     }
 
     // The one search of all calls by key: `Ok` with the index of the equal key, or `Err` with the index where it would be

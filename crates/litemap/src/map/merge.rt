@@ -1,11 +1,11 @@
 //! Merging maps.
-ghost use Rattle.std.specs.Prelude.{◌≡◌, ◌⊎◌, ◌+◌, ◌*◌, Some, [], length, OnOk};
+ghost use Rattle.std.specs.Prelude.{◌≡◌, ◌⊎◌, ◌+◌, ◌*◌, List, MatchOption, OnOk, Some, [], length};
 ghost use Rattle.std.specs.Option.{option_or};
 ghost use Rattle.litemap_store.specs.Counts.{RisesByAtMost, digits};
 ghost use Rattle.litemap_store.specs.Merge.{Apart};
 ghost use Rattle.litemap_store.specs.Pairs.{at, value_at};
 ghost use Rattle.litemap.specs.Changes.{IsMergedInto};
-ghost use Rattle.litemap.specs.Combined.{CallableOnCommon, CallableOnEachOf, Combined, Combines, IsCombinedInto, Settles};
+ghost use Rattle.litemap.specs.Combined.{CallableOnCommon, CallableOnEachOf, Combined, Combines, LeavesOfBoth};
 ghost use Rattle.litemap.specs.Combined.{TakesBoth, combined, found_with};
 ghost use Rattle.litemap_store.specs.Contents.{with_pairs};
 
@@ -67,8 +67,7 @@ impl<K: Ord + Drop, V: Drop, S: StoreIntoIterator<K, V> + Drop> LiteMap<K, V, S>
         ensures cost { RisesByAtMost
             (2 + length other.pairs * digits (length self.old.pairs + length other.pairs)) count.old count.new }
     {
-        let LiteMap { store, marker: _ } = other;
-        match extend_from_store(alloc, &mut self.store, store, count) {
+        match extend_from_store(alloc, &mut self.store, other.store, count) {
             Ok(None) => Ok(None),
             Ok(Some(rest)) => Ok(Some(LiteMap::from_sorted_store_unchecked(rest))),
             Err(error) => Err(NoRoom {
@@ -100,7 +99,8 @@ impl<K: Ord + Drop, V: Drop, S: StoreIntoIterator<K, V> + Drop> LiteMap<K, V, S>
         f: F,
     ) -> Result<Option<Self>, NoRoom<Self>>
         requires { CallableOnCommon F.Fn f K.cmp self.old.pairs other.pairs }
-        ensures merged { IsCombinedInto F.Fn f K.cmp other self.old self.new result }
+        ensures merged { (M : List (K × V)) × Combined F.Fn f K.cmp self.old.pairs other.pairs M
+            × IsMergedInto K.cmp (with_pairs other M) self.old self.new result }
         ensures combined { (combine : K → V → V → V) → Combines F.Fn f combine → IsMergedInto K.cmp
             (with_pairs other (combined K.cmp combine self.old.pairs other.pairs)) self.old self.new result }
 
@@ -121,14 +121,12 @@ impl<K: Ord + Drop, V: Drop, S: StoreIntoIterator<K, V> + Drop> LiteMap<K, V, S>
         count: &mut Count,
     ) -> Result<Option<Self>, NoRoom<Self>>
         requires { CallableOnCommon F.Fn f K.cmp self.old.pairs other.pairs }
-        ensures merged { IsCombinedInto F.Fn f K.cmp other self.old self.new result }
+        ensures merged { (M : List (K × V)) × Combined F.Fn f K.cmp self.old.pairs other.pairs M
+            × IsMergedInto K.cmp (with_pairs other M) self.old self.new result }
         ensures cost { RisesByAtMost (2 + length other.pairs * digits (length self.old.pairs)
             + length other.pairs * digits (length self.old.pairs + length other.pairs)) count.old count.new }
     {
-        let LiteMap {
-            mut store,
-            marker: _,
-        } = other;
+        let mut store = other.store;
         self.combine_each(&mut store, &f, count);
         let combined = LiteMap::from_sorted_store_unchecked(store);
         self.extend_from_litemap_counted(alloc, combined, count)
@@ -150,7 +148,8 @@ impl<K: Ord + Drop, V: Drop, S: StoreIntoIterator<K, V> + Drop> LiteMap<K, V, S>
     fn combine<F: Fn(&K, &V, &mut V)>(&self, key: &K, value: &mut V, f: &F, count: &mut Count)
         requires { (here : V) → value_at K.cmp self.now.pairs key.now ≡ Some here
             → TakesBoth F.Fn f.now key.now here value.old }
-        ensures settled { Settles F.Fn f.now key.now (value_at K.cmp self.now.pairs key.now) value.old value.new }
+        ensures settled { MatchOption (value_at K.cmp self.now.pairs key.now) (value.new ≡ value.old)
+            (λ here. LeavesOfBoth F.Fn f.now key.now here value.old value.new) }
         ensures cost { RisesByAtMost (digits (length self.now.pairs)) count.old count.new }
     {
         if let Some(here) = self.get_counted(key, count) {

@@ -1,6 +1,5 @@
 //! Calls for the keys within two bounds. None takes memory, and each makes O(log n) comparisons for each bound.
 ghost use Rattle.std.specs.Prelude.{◌≡◌, ◌+◌, ◌*◌, Some, length};
-ghost use Rattle.std.specs.Ordering.{is_le, is_lt};
 ghost use Rattle.std.specs.Range.Bound.{bound_map};
 ghost use Rattle.litemap_store.specs.Counts.{RisesByAtMost, digits};
 ghost use Rattle.litemap.specs.Within.{IsIndexRange, IsCut, before, is_before, is_up_to, within};
@@ -61,48 +60,34 @@ impl<K: Ord, V, S: Store<K, V>> LiteMap<K, V, S> {
         RangeIter::between(&self.store, self.index_range(from, to))
     }
 
-    fn start_of<Q: Query<K>>(&self, from: Bound<Q>, count: &mut Count) -> usize
+    // Returns how many pairs are before a lower bound.
+    pub(super) fn start_of<Q: Query<K>>(&self, from: Bound<Q>, count: &mut Count) -> usize
         ensures cut { IsCut (λ p. is_before Q.order (bound_map Q.sought from) p.0) self.now.pairs result }
         ensures cost { RisesByAtMost (digits (length self.now.pairs)) count.old count.new }
     {
+        // For the proof: the index after a pair is at most the length, so it doesn't overflow.
+        let _len = self.len();
         match from {
-            Bound::Included(key) => self.lower_bound(key, count),
-            Bound::Excluded(key) => self.upper_bound(key, count),
+            Bound::Included(key) => match self.search(key, count) {
+                Ok(index) | Err(index) => index,
+            },
+            Bound::Excluded(key) => match self.search(key, count) {
+                Ok(index) => index + 1,
+                Err(index) => index,
+            },
             Bound::Unbounded => 0,
         }
     }
 
+    // Returns how many pairs are not past an upper bound.
     fn end_of<Q: Query<K>>(&self, to: Bound<Q>, count: &mut Count) -> usize
         ensures cut { IsCut (λ p. is_up_to Q.order (bound_map Q.sought to) p.0) self.now.pairs result }
         ensures cost { RisesByAtMost (digits (length self.now.pairs)) count.old count.new }
     {
         match to {
-            Bound::Included(key) => self.upper_bound(key, count),
-            Bound::Excluded(key) => self.lower_bound(key, count),
+            Bound::Included(key) => self.start_of(Bound::Excluded(key), count),
+            Bound::Excluded(key) => self.start_of(Bound::Included(key), count),
             Bound::Unbounded => self.len(),
-        }
-    }
-
-    // Returns how many keys are smaller than a query.
-    pub(super) fn lower_bound<Q: Query<K>>(&self, key: Q, count: &mut Count) -> usize
-        ensures cut { IsCut (λ p. is_lt (Q.order p.0 (Q.sought key))) self.now.pairs result }
-        ensures cost { RisesByAtMost (digits (length self.now.pairs)) count.old count.new }
-    {
-        match self.search(key, count) {
-            Ok(index) | Err(index) => index,
-        }
-    }
-
-    // Returns how many keys are smaller than a query, or equal to it.
-    fn upper_bound<Q: Query<K>>(&self, key: Q, count: &mut Count) -> usize
-        ensures cut { IsCut (λ p. is_le (Q.order p.0 (Q.sought key))) self.now.pairs result }
-        ensures cost { RisesByAtMost (digits (length self.now.pairs)) count.old count.new }
-    {
-        // For the proof: the index after a pair is at most the length, so it doesn't overflow.
-        let _len = self.len();
-        match self.search(key, count) {
-            Ok(index) => index + 1,
-            Err(index) => index,
         }
     }
 }

@@ -31,11 +31,14 @@ impl<K: Ord, V, S: Store<K, V>> LiteMap<K, V, S> {
         ensures all { result ≡ list_all (λ p. is_some (at K.cmp other.now.pairs p.0)) self.now.pairs }
         ensures cost { RisesByAtMost (length self.now.pairs + length other.now.pairs) count.old count.new }
     {
-        has_each(
-            RangeIter::all(&other.store),
-            RangeIter::all(&self.store),
-            count,
-        )
+        let mut rest = RangeIter::all(&other.store);
+        let mut keys = RangeIter::all(&self.store);
+        while let Some((key, _)) = keys.next() {
+            if !skip_to(&mut rest, key, count) {
+                return false;
+            }
+        }
+        true
     }
 }
 
@@ -85,25 +88,6 @@ impl<K: Ord + Drop, V: Drop, S: StoreBulkMut<K, V>> LiteMap<K, V, S> {
             { !skip_to(&mut rest, key, &mut Count::new()) },
         );
     }
-}
-
-// Whether the first list has each key of the second.
-fn has_each<'a, 'b, K: Ord + 'a + 'b, V: 'b, W: 'a, S: Store<K, V>, T: Store<K, W>>(
-    mut rest: RangeIter<'a, K, W, T>,
-    mut keys: RangeIter<'b, K, V, S>,
-    count: &mut Count,
-) -> bool
-    requires rest { Rising K.cmp rest }
-    requires keys { Rising K.cmp keys }
-    ensures all { result ≡ list_all (λ p. is_some (at K.cmp rest.entry p.0)) keys.entry }
-    ensures cost { RisesByAtMost (length keys.entry + length rest.entry) count.old count.new }
-{
-    while let Some((key, _)) = keys.next() {
-        if !skip_to(&mut rest, key, count) {
-            return false;
-        }
-    }
-    true
 }
 
 // Skips the pairs whose keys are at most `key`, and returns whether one of them is equal.

@@ -43,13 +43,3 @@ impl<K: Ord, V, S: StoreSlice<K, V>> LiteMap<K, V, S> {
         self.store.lm_get_range(0..self.store.lm_len()).unwrap()
     }
 }
-
-impl<'a, K: Ord, V> LiteMap<K, V, SliceStore<'a, K, V>> {
-    // The slice that the map borrows, for as long as the slice lives.
-    pub(crate) fn borrowed(&self) -> &'a [(K, V)]
-        ensures pairs { result.now ≡ self.now.pairs }
-        ensures rising { Rising K.cmp result.now }
-    {
-        self.store.pairs
-    }
-}

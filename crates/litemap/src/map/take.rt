@@ -12,6 +12,7 @@ use litemap_store::Query;
 use litemap_store::split_store::split_store;
 use litemap_store::store::{Count, StoreMut};
 use std::alloc::{AllocError, Global};
+use std::ops::Bound;
 
 impl<K: Ord, V, S: StoreMut<K, V>> LiteMap<K, V, S> {
     /// Removes the pair with an equal key, and returns it, or `None` if there is none (own). The key returned is the map's own,
@@ -45,11 +46,8 @@ impl<K: Ord, V, S: StoreMut<K, V>> LiteMap<K, V, S> {
         ensures unchanged { IsNone result → self.new ≡ self.old }
         ensures room { S.keeps_memory → IsSome result → self.old.room < self.new.room }
     {
-        let len = self.len();
-        if len == 0 {
-            return None;
-        }
-        Some(self.take_at(len - 1))
+        let index = self.len().checked_sub(1)?;
+        Some(self.take_at(index))
     }
 
     pub(super) fn take_out<Q: Query<K>>(&mut self, key: Q, count: &mut Count) -> Option<(K, V)>
@@ -100,7 +98,7 @@ impl<K: Ord + Drop, V: Drop, S: StoreMut<K, V> + Drop> LiteMap<K, V, S> {
         ensures succeeds { (below Q.order self.old.pairs (Q.sought key) ≡ [])
             ⊎ (within Q.order self.old.pairs (Included (Q.sought key)) Unbounded ≡ []) → IsOk result }
     {
-        let index = self.lower_bound(key, &mut Count::new());
+        let index = self.start_of(Bound::Included(key), &mut Count::new());
         let later = split_store(alloc, &mut self.store, index)?;
         Ok(LiteMap::from_sorted_store_unchecked(later))
     }

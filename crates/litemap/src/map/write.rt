@@ -10,7 +10,7 @@ ghost use Rattle.std.specs.Option.{option_copied_mut};
 ghost use Rattle.litemap_store.specs.Pairs.{at, value_at, value_in};
 ghost use Rattle.litemap_store.specs.Search.{CallableOnKeys, Found};
 ghost use Rattle.litemap.specs.Lends.{LendsThere, LendsFound, LendsKey, LendsIndex, LendsValue};
-ghost use Rattle.litemap.specs.Written.{CallableOnValues, TakesValue, Writes, WritesPair, Written};
+ghost use Rattle.litemap.specs.Written.{CallableOnValues, Writes, Written};
 
 use crate::LiteMap;
 use litemap_store::Query;
@@ -65,10 +65,8 @@ impl<K: Ord, V, S: StoreMut<K, V>> LiteMap<K, V, S> {
             (LendsKey K.row V.row S.row K.Ord S.pairs S.room self.entry Q.order (Q.sought key) result) }
         ensures value { Some result.now ≡ value_at Q.order self.old.pairs (Q.sought key) }
     {
-        match self.search(key, &mut Count::new()) {
-            Ok(index) => self.value_in_mut(index),
-            Err(_) => unreachable!(),
-        }
+        let index = self.search(key, &mut Count::new()).unwrap();
+        self.value_in_mut(index)
     }
 
     /// Returns a mutable reference to the value at an index, or `None` if it is not below the length (own). The Rust crate has
@@ -123,14 +121,6 @@ fn write_each<K, V, S: StoreMut<K, V>, F: FnMut(&K, &mut V)>(store: &mut S, mut 
 {
     for index in 0..store.lm_len() {
         let (key, value) = store.lm_pair_mut(index);
-        call_on_pair(&mut f, key, value);
+        f(key, value);
     }
-}
-
-// Calls `f` on one pair: a function of its own, whose contract is the step of `Written` that the proof of the loop cites.
-fn call_on_pair<K, V, F: FnMut(&K, &mut V)>(f: &mut F, key: &K, value: &mut V)
-    requires { TakesValue F.FnMut f.old (key.now, value.old) }
-    ensures { WritesPair F.FnMut f.old (key.now, value.old) (key.now, value.new) f.new }
-{
-    f(key, value);
 }

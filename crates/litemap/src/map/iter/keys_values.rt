@@ -30,8 +30,7 @@ impl<'a, K: 'a, V: 'a, I: PairIter<'a, K, V>> Iterator for KeysIterWrap<'a, K, V
     ghost remaining = { λ s. at_most (length (I.rest s)) };
 
     fn next(&mut self) -> Option<&'a K> {
-        let (key, _) = self.iter.next()?;
-        Some(key)
+        Some(self.iter.next()?.0)
     }
 
     fn size_hint(&self) -> (usize, Option<usize>)
@@ -45,8 +44,7 @@ impl<'a, K: 'a, V: 'a, I: PairIter<'a, K, V>> DoubleEndedIterator for KeysIterWr
     ghost next_back_gives = { λ s r t. TakesLast deref (keys_of (I.rest s)) r (keys_of (I.rest t)) };
 
     fn next_back(&mut self) -> Option<&'a K> {
-        let (key, _) = self.iter.next_back()?;
-        Some(key)
+        Some(self.iter.next_back()?.0)
     }
 }
 
@@ -79,8 +77,7 @@ impl<'a, K: 'a, V: 'a, I: PairIter<'a, K, V>> Iterator for ValuesIterWrap<'a, K,
     ghost remaining = { λ s. at_most (length (I.rest s)) };
 
     fn next(&mut self) -> Option<&'a V> {
-        let (_, value) = self.iter.next()?;
-        Some(value)
+        Some(self.iter.next()?.1)
     }
 
     fn size_hint(&self) -> (usize, Option<usize>)
@@ -94,8 +91,7 @@ impl<'a, K: 'a, V: 'a, I: PairIter<'a, K, V>> DoubleEndedIterator for ValuesIter
     ghost next_back_gives = { λ s r t. TakesLast deref (values_of (I.rest s)) r (values_of (I.rest t)) };
 
     fn next_back(&mut self) -> Option<&'a V> {
-        let (_, value) = self.iter.next_back()?;
-        Some(value)
+        Some(self.iter.next_back()?.1)
     }
 }
 

@@ -71,11 +71,7 @@ impl<'a, K: 'a, V: 'a, S: Store<K, V>> Iterator for RangeIter<'a, K, V, S> {
     ghost remaining = { λ s. at_most (length s) };
 
     fn next(&mut self) -> Option<(&'a K, &'a V)> {
-        if self.start == self.end {
-            return None;
-        }
-        let store = self.store;
-        let pair = store.lm_get(self.start).unwrap();
+        let pair = self.first()?;
         self.start += 1;
         Some(pair)
     }

@@ -1,7 +1,7 @@
 use Rattle.litemap.proofs.Common.{sym, ap, ◌∙◌, ◌++◌, flat_map, fold}
 use Rattle.std.specs.Hash.{HashWrites, fed_then}
 use Rattle.std.proofs.lemmas.Grind.{fold-append}
-use Rattle.litemap.proofs.map.comparisons.feed.Goals as goal
+use Rattle.litemap.proofs.map.comparisons.LiteMapHash.hash.Goals as goal
 
 pub loop-key-preserved : goal.loop-key-preserved
 loop-key-preserved g c =

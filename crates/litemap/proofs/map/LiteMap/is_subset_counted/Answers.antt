@@ -1,6 +1,6 @@
 use Rattle.litemap.proofs.Common.{◌∙◌, length, sym, ap, subst, arith, Rising, Rising-filter}
 use Rattle.litemap.proofs.Sets.{list_all-past}
-use Rattle.litemap.proofs.map.sets.has_each.Goals as goal
+use Rattle.litemap.proofs.map.LiteMap.is_subset_counted.Goals as goal
 
 pub loop-key-preserved : goal.loop-key-preserved
 loop-key-preserved g c =

@@ -1,5 +1,5 @@
 use Rattle.litemap.proofs.Common.{◌≡◌, ◌+◌, ◌≤◌, is_some, length, list_all, GoesOn, Rising, at}
-use Rattle.litemap.proofs.map.sets.has_each.Given as goal
+use Rattle.litemap.proofs.map.LiteMap.is_subset_counted.Given as goal
 
 abbrev pub invariant-loop-key : goal.invariant-loop-key
 invariant-loop-key g l =

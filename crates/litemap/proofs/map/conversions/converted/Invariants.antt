@@ -1,6 +1,6 @@
 use Rattle.litemap.proofs.Common.{◌+◌, ◌≤◌, length, take}
 use Rattle.litemap_store.specs.Clones.{PairsBecame}
-use Rattle.litemap.proofs.map.conversions.push_all.Given as goal
+use Rattle.litemap.proofs.map.conversions.converted.Given as goal
 
 abbrev pub invariant-loop-index : goal.invariant-loop-index
 invariant-loop-index g l = let pairs = g.S.Store.pairs l.fn.store in record {

@@ -1,5 +1,5 @@
 use Rattle.litemap.proofs.Common.{◌≡◌, ◌++◌, length, flat_map, fold}
-use Rattle.litemap.proofs.map.comparisons.feed.Given as goal
+use Rattle.litemap.proofs.map.comparisons.LiteMapHash.hash.Given as goal
 
 abbrev pub invariant-loop-key : goal.invariant-loop-key
 invariant-loop-key g l =

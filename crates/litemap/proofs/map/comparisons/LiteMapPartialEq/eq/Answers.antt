@@ -1,22 +1,22 @@
 use Rattle.litemap.proofs.Common.{◌&&◌, ap, arith, option_map, sym, ◌∙◌, drop_all, deref_pair}
 use Rattle.std.proofs.lemmas.Bool.{not-false, not-true}
 use Rattle.litemap.proofs.Places.{pointwise_ends, pointwise_on}
-use Rattle.litemap.proofs.map.comparisons.are_equal.Goals as goal
+use Rattle.litemap.proofs.map.comparisons.LiteMapPartialEq.eq.Goals as goal
 
 pub returns-then-ne : goal.returns-then-ne
 returns-then-ne g c =
-    let left = sym c.lm_get.ensures ∙ ap (option_map deref_pair) c.unwrap-pair.ensures in
-    let right = sym c.lm_get-in-loop-index.ensures ∙ ap (option_map deref_pair) c.unwrap-other.ensures in
+    let left = sym c.get_indexed.ensures ∙ ap (option_map deref_pair) c.unwrap-here.ensures in
+    let right = sym c.get_indexed-in-loop-index.ensures ∙ ap (option_map deref_pair) c.unwrap-there.ensures in
     sym (sym c.loop-index.invariant ∙ pointwise_ends (λ p q. g.K.PartialEq.eq p.0 q.0 && g.V.PartialEq.eq p.1 q.1) _ _ c.loop-index.index _ _ left right (not-true _ (sym c.ne.ensures ∙ c.if-ne.true)))
 
 pub loop-index-preserved : goal.loop-index-preserved
 loop-index-preserved g c =
-    let left = sym c.lm_get.ensures ∙ ap (option_map deref_pair) c.unwrap-pair.ensures in
-    let right = sym c.lm_get-in-loop-index.ensures ∙ ap (option_map deref_pair) c.unwrap-other.ensures in
+    let left = sym c.get_indexed.ensures ∙ ap (option_map deref_pair) c.unwrap-here.ensures in
+    let right = sym c.get_indexed-in-loop-index.ensures ∙ ap (option_map deref_pair) c.unwrap-there.ensures in
     sym (pointwise_on (λ p q. g.K.PartialEq.eq p.0 q.0 && g.V.PartialEq.eq p.1 q.1) _ _ c.loop-index.index _ _ left right (not-false _ (sym c.ne.ensures ∙ c.if-ne.false))) ∙ c.loop-index.invariant
 
 pub returns : goal.returns
 returns g c =
-    let L = g.S.Store.pairs c.args.left.now in
-    let R = g.S.Store.pairs c.args.right.now in
-    rw (drop_all c.loop-index.index L (omega (arith, c.loop-index-test.false, c.lm_len-len.ensures)), drop_all c.loop-index.index R (omega (arith, c.loop-index-test.false, c.if-lm_len-len.false, c.lm_len.ensures))) at c.loop-index.invariant
+    let L = c.args.self.now.pairs in
+    let R = c.args.other.now.pairs in
+    rw (drop_all c.loop-index.index L (omega (arith, c.loop-index-test.false, c.len-len.ensures.len)), drop_all c.loop-index.index R (omega (arith, c.loop-index-test.false, c.if-len.false, c.len.ensures.len))) at c.loop-index.invariant
