@@ -1,19 +1,22 @@
 -- What was written reads as the same list.
-use Rattle.std.proofs.Common.{◌≡◌, ◌≢◌, ℕ, ◌+◌, List, [], ◌∷◌, ◌++◌, ◌⊎◌, inl, inr, ◌↔◌, Option, Some, Result, Ok, Ordering, Less, Equal, Greater, refl, sym, ap, subst, ◌∙◌, nat_cmp, length, get_or, take, zero, suc, ◌<◌, ◌≤◌, arith}
+use Rattle.std.proofs.Common.{◌≡◌, ◌≢◌, ℕ, ◌+◌, List, [], ◌∷◌, ◌++◌, ◌⊎◌, inl, inr, ◌↔◌, Option, Some, Result, Ok, Ordering, Less, Equal, Greater, refl, sym, ap, subst, ◌∙◌, nat_cmp, length, get_or, drop, take, slice_get, suc, ◌<◌, ◌≤◌}
 use Rattle.std.proofs.lemmas.List.{take_more, take_all}
 use Rattle.std.proofs.lemmas.Map.Lookups.{exact_bytes}
 use Rattle.std.specs.Cmp.{IsTotalOrder}
 use Rattle.std.specs.Cmp.Lexicographic.{slice_cmp}
 use Rattle.std.specs.Ordering.{match_ordering, ordering_reverse}
+use lib.Seq.{split_at}
 use Rattle.serde_json.specs.Data.{Data, array, object, Members, no_members, member, put}
-use Rattle.litemap_store.specs.Last.{In, StandsLast, Last}
+use Rattle.litemap_store.specs.Last.{In, StandsLast}
 use Rattle.litemap_store.specs.Pairs.{Rising}
+use Rattle.litemap_store.proofs.Last.KeepLast.{rising_across}
 use Rattle.litemap_store.proofs.Last.Pairs.{In-from_last, Last-rising}
-use Rattle.litemap_store.proofs.Lists.Membership.{In-cases, In-get_or, In-left, In-right, each, from_each}
+use Rattle.litemap_store.proofs.Lists.Membership.{In-cases, In-left, In-right, from_each}
 use Rattle.litemap_store.proofs.Search.Splitting.{each-append}
 use Rattle.litemap_json.specs.declared.item.ItemFault.{ItemFault}
-use Rattle.litemap_json.specs.Json.{rows, row_pairs, member_pairs}
+use Rattle.litemap_json.specs.Json.{rows, row_pairs, member_pairs, object_with}
 use Rattle.litemap_json.specs.Reading.{AllReadBack, ReadsAs, ReadsBack, seen}
+use Rattle.litemap_json.proofs.ByPlace.{at_place, made_step}
 
 module _ {K V : Type 0} (cmp : K → K → Ordering) (total : IsTotalOrder cmp) (text : K → Option (List ℕ)) (key : List ℕ → Option Data)
     (key_item json_item : Data → Result Data ItemFault) (key_json : K → Data) (json : V → Data) where
@@ -26,10 +29,6 @@ module _ {K V : Type 0} (cmp : K → K → Ordering) (total : IsTotalOrder cmp) 
   last_from p [] d i = absurd i
   last_from p (q ∷ qs) d (inl e) = inl (e, from_each (λ (r : K × V). cmp p.0 r.0 ≢ Equal) qs (λ r i. rw (sym e) (d.0 r i)))
   last_from p (q ∷ qs) d (inr i) = inr (last_from p qs d.1 i)
-
-  -- a list with the same pairs and no two equal keys leaves L
-  pub leaves : (J L : List (K × V)) → Rising cmp L → Distinct J → ((p : K × V) → In p J ↔ In p L) → Last cmp J L
-  leaves J L r d same = record { rising = r; exactly = λ p. (λ i. last_from p J d ((same p).1 i), λ h. (same p).0 (In-from_last cmp p J h)) }
 
   rows_read : (place : ℕ) (L : List (K × V)) → AllReadBack key_item json_item key_json json L → row_pairs key key_item json_item place (rows text key_json json L) ≡ Ok (seen key_json json L)
   rows_read place [] h = refl
@@ -107,33 +106,37 @@ module _ {K V : Type 0} (cmp : K → K → Ordering) (total : IsTotalOrder cmp) 
         more.3,
       )
 
-  pub object_again : (ms : Members) (L : List (K × V)) → Rising cmp L → Gathered ms L → ReadsAs cmp key key_item json_item key_json json (object ms) L
-  object_again ms L r g = record { spelled = g.0; spells = members_read 0 g.0 ms g.1; last = leaves g.0 L r g.3 g.2 }
-
   -- no pair before x has an equal key
   pub apart_before : (L : List (K × V)) (i : ℕ) (x : K × V) → i < length L → x ≡ get_or L i x → Rising cmp L → (q : K × V) → In q (take i L) → cmp x.0 q.0 ≢ Equal
-  apart_before [] i x h e r q j = absurd (omega arith)
-  apart_before (p ∷ ps) zero x h e r q j = absurd j
-  apart_before (p ∷ ps) (suc i) x h e r q (inl same) =
-      let less : cmp p.0 x.0 ≡ Less = each (λ (y : K × V). cmp p.0 y.0 ≡ Less) ps r.0 x (subst (λ y. In y ps) (sym e) (In-get_or ps i x (omega arith))) in
-      λ equal. (
-      let there : cmp x.0 p.0 ≡ Equal = rw same equal in
-      let back : cmp p.0 x.0 ≡ Equal = total.antisymm p.0 x.0 ∙ ap ordering_reverse there in
-      cc
-      )
-  apart_before (p ∷ ps) (suc i) x h e r q (inr j) = apart_before ps i x (omega arith) e r.1 q j
+  apart_before L i x h e r q j =
+      let parts = split_at L i x h in
+      let less : cmp q.0 x.0 ≡ Less = rising_across cmp (take i L) (get_or L i x ∷ drop (suc i) L) (subst (Rising cmp) parts r) q x j (inl (sym e)) in
+      λ equal. (let back : cmp q.0 x.0 ≡ Equal = total.antisymm q.0 x.0 ∙ ap ordering_reverse equal in cc)
 
   take_next : (L : List (K × V)) (i : ℕ) (x : K × V) → i < length L → x ≡ get_or L i x → take (i + 1) L ≡ take i L ++ x ∷ []
   take_next L i x h e = take_more L i x h ∙ ap (λ y. take i L ++ y ∷ []) (sym e)
 
-  -- the steps and the ends of the two loops
-  pub object_step : (told : (x y : K) → key_json x ≡ key_json y → cmp x y ≡ Equal) (L : List (K × V)) (i : ℕ) (x : K × V) (s : List ℕ) (ms : Members) → i < length L → x ≡ get_or L i x → Rising cmp L
-      → text x.0 ≡ Some s → key s ≡ Some (key_json x.0) → json_item (json x.1) ≡ Ok (json x.1) → Gathered ms (take i L) → Gathered (put s (json x.1) ms) (take (i + 1) L)
-  object_step told L i x s ms h e r named known read g =
-      subst (λ done. Gathered (put s (json x.1) ms) done) (sym (take_next L i x h e)) (gathered_more told x s named known read ms (take i L) g (apart_before L i x h e r))
+  -- the members are those of the pairs before an index, each once, and go on to the object of all
+  abbrev pub Gathers : List (K × V) → ℕ → Members → Type 0
+  Gathers L i ms = (object_with text key_json json i ms (drop i L) ≡ object_with text key_json json 0 no_members L) × Gathered ms (take i L)
 
-  pub object_end : (L : List (K × V)) (i : ℕ) (ms : Members) (d : Data) → length L ≤ i → Rising cmp L → d ≡ object ms → Gathered ms (take i L) → ReadsAs cmp key key_item json_item key_json json d L
-  object_end L i ms d h r e g = rw e (object_again ms L r (subst (λ done. Gathered ms done) (take_all i L h) g))
+  pub object_step : (told : (x y : K) → key_json x ≡ key_json y → cmp x y ≡ Equal) (L : List (K × V)) (i : ℕ) (x : K × V) (s : List ℕ) (ms : Members) → Some x ≡ slice_get L i → Rising cmp L
+      → text x.0 ≡ Some s → key s ≡ Some (key_json x.0) → json_item (json x.1) ≡ Ok (json x.1) → Gathers L i ms → Gathers L (i + 1) (put s (json x.1) ms)
+  object_step told L i x s ms here r named known read g =
+      let found = at_place L i x here in (
+        made_step text key_json json L i x s ms _ found.0 found.1 named g.0,
+        subst (λ done. Gathered (put s (json x.1) ms) done) (sym (take_next L i x found.0 found.1))
+            (gathered_more told x s named known read ms (take i L) g.1 (apart_before L i x found.0 found.1 r)),
+      )
+
+  pub object_end : (L : List (K × V)) (i : ℕ) (ms : Members) (d : Data) → length L ≤ i → Rising cmp L → d ≡ object ms → Gathers L i ms → ReadsAs cmp key key_item json_item key_json json d L
+  object_end L i ms d h r e g =
+      let all : Gathered ms L = subst (λ done. Gathered ms done) (take_all i L h) g.1 in
+      rw e (record {
+        spelled = all.0;
+        spells = members_read 0 all.0 ms all.1;
+        last = record { rising = r; exactly = λ p. (λ i. last_from p all.0 all.3 ((all.2 p).1 i), λ h. (all.2 p).0 (In-from_last cmp p all.0 h)) };
+      })
 
   pub array_step : (L : List (K × V)) (i : ℕ) (x : K × V) → i < length L → x ≡ get_or L i x → AllReadBack key_item json_item key_json json (take i L) → ReadsBack key_item json_item key_json json x
       → AllReadBack key_item json_item key_json json (take (i + 1) L)

@@ -127,31 +127,33 @@ pub length-decimal : (n : ℕ) (d : Option ℕ) → n < 2 ^ 64 → IfNone d (n �
 length-decimal n None small z l u = rw (z, decimal_digit 0 (omega arith)) refl
 length-decimal n (Some k) small z l u = (digits_of n small).long k l u
 
+-- zeros after the digits of n, to m digits
+abbrev filled_to : ℕ → ℕ → ℕ
+filled_to m n = n * 10 ^ (m - length (decimal n))
+
+abbrev whole : ℕ → ℕ
+whole n = filled_to 20 n
+
+to_length : (m a b : ℕ) → a < 2 ^ 64 → b < 2 ^ 64 → length (decimal a) ≤ m → length (decimal b) ≤ m
+    → slice_cmp nat_cmp (decimal a) (decimal b) ≡ ordering_then (nat_cmp (filled_to m a) (filled_to m b)) (nat_cmp (length (decimal a)) (length (decimal b)))
+to_length m a b small_a small_b short_a short_b =
+    let of_a = digits_of a small_a in
+    let of_b = digits_of b small_b in
+    order (decimal a) (decimal b) m of_a.digits of_b.digits short_a short_b ∙ rw (of_a.value m short_a, of_b.value m short_b) refl
+
+to_20 : (a b : ℕ) → a < 2 ^ 64 → b < 2 ^ 64 → slice_cmp nat_cmp (decimal a) (decimal b) ≡ ordering_then (nat_cmp (whole a) (whole b)) (nat_cmp (length (decimal a)) (length (decimal b)))
+to_20 a b small_a small_b =
+    to_length 20 a b small_a small_b (length-decimal-le 20 a (omega arith) (omega (arith, small_a)) small_a) (length-decimal-le 20 b (omega arith) (omega (arith, small_b)) small_b)
+
 -- numbers with i and j digits after the first
 pub slice_cmp-decimal : (a b i j : ℕ) → a < 2 ^ 64 → b < 2 ^ 64 → length (decimal a) ≡ i + 1 → length (decimal b) ≡ j + 1
     → slice_cmp nat_cmp (decimal a) (decimal b) ≡ ordering_then (nat_cmp (a * 10 ^ (j - i)) (b * 10 ^ (i - j))) (nat_cmp i j)
 slice_cmp-decimal a b i j small_a small_b long_a long_b =
-    let of_a = digits_of a small_a in
-    let of_b = digits_of b small_b in
     let m = i + 1 + (j - i) in
     let x : m - length (decimal a) ≡ j - i = omega (arith, long_a) in
     let y : m - length (decimal b) ≡ i - j = omega (arith, long_b) in
-    let left = of_a.value m (omega (arith, long_a)) ∙ ap (λ k. a * 10 ^ k) x in
-    let right = of_b.value m (omega (arith, long_b)) ∙ ap (λ k. b * 10 ^ k) y in
     let lengths = shifted 1 i j (length (decimal a)) (length (decimal b)) (omega (arith, long_a)) (omega (arith, long_b)) in
-    order (decimal a) (decimal b) m of_a.digits of_b.digits (omega (arith, long_a)) (omega (arith, long_b)) ∙ rw (left, right, lengths) refl
-
--- zeros after the digits of n, to 20 digits
-abbrev whole : ℕ → ℕ
-whole n = n * 10 ^ (20 - length (decimal n))
-
-to_20 : (a b : ℕ) → a < 2 ^ 64 → b < 2 ^ 64 → slice_cmp nat_cmp (decimal a) (decimal b) ≡ ordering_then (nat_cmp (whole a) (whole b)) (nat_cmp (length (decimal a)) (length (decimal b)))
-to_20 a b small_a small_b =
-    let of_a = digits_of a small_a in
-    let of_b = digits_of b small_b in
-    let short_a = length-decimal-le 20 a (omega arith) (omega (arith, small_a)) small_a in
-    let short_b = length-decimal-le 20 b (omega arith) (omega (arith, small_b)) small_b in
-    order (decimal a) (decimal b) 20 of_a.digits of_b.digits short_a short_b ∙ rw (of_a.value 20 short_a, of_b.value 20 short_b) refl
+    to_length m a b small_a small_b (omega (arith, long_a)) (omega (arith, long_b)) ∙ rw (x, y, lengths) refl
 
 -- the first digits decide if they differ
 pub slice_cmp-first : (a b : ℕ) (o : Ordering) → a < 2 ^ 64 → b < 2 ^ 64 → o ≡ nat_cmp (first_digits a) (first_digits b) → is_ne o ≡ true → o ≡ slice_cmp nat_cmp (decimal a) (decimal b)

@@ -5,7 +5,6 @@ pub mod ByPlace
 pub mod ByText
 pub mod Digits
 pub mod Floats
-pub mod Held
 pub mod OneMap
 pub mod Joined
 pub mod NamedItems

@@ -97,15 +97,12 @@ impl From<WriteFault> for io::Error {
     ghost from_gives = { λ fault e. error_kind e ≡ write_kind fault };
 
     fn from(fault: WriteFault) -> io::Error {
-        match fault {
-            WriteFault::Memory => io::Error::from(AllocError),
-            WriteFault::KeyWithoutText { place: _ } => {
-                io::Error::new(
-                    io::ErrorKind::InvalidData,
-                    "a key has no text in JSON, and the first key has one",
-                )
-            }
-        }
+        let words = match fault {
+            WriteFault::Memory => return io::Error::from(AllocError),
+            WriteFault::KeyWithoutText { place: _ } =>
+                "a key has no text in JSON, and the first key has one",
+        };
+        io::Error::new(io::ErrorKind::InvalidData, words)
     }
 }
 

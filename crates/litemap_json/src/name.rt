@@ -35,10 +35,7 @@ impl Name {
                 return Ok(Some(Name::Signed(number)));
             }
         }
-        match key.key_text(alloc)? {
-            Some(text) => Ok(Some(Name::Text(text))),
-            None => Ok(None),
-        }
+        Ok(key.key_text(alloc)?.map(|text| Name::Text(text)))
     }
 
     /// Returns the name as a string, which may stand in the buffer.

@@ -3,6 +3,8 @@ ghost use Rattle.std.specs.Prelude.{◌≡◌, ◌++◌, ◌∷◌, ◌<◌, [],
 ghost use Rattle.serde_json.specs.View.{view};
 ghost use Rattle.litemap_json.specs.Item.{pair_item, pair_json, two_of};
 ghost use Rattle.litemap_json.specs.OneTree.{pair_one_tree};
+ghost use Rattle.litemap_json.specs.Reading.{ReadsBack};
+ghost use Rattle.litemap_json.specs.Written.{WritesTree};
 
 use crate::item::{ItemFault, JsonItem, JsonKey};
 use json::Writer;
@@ -39,6 +41,37 @@ pub fn array_of_two(alloc: Global, first: Value, second: Value) -> Result<Value,
     Ok(Value::from(parts))
 }
 
+/// Makes the array of two items' values.
+pub(crate) fn value_of_two<A: JsonItem, B: JsonItem>(
+    alloc: Global,
+    first: &A,
+    second: &B,
+) -> Result<Value, AllocError>
+    ensures tree { IfOk result (λ pair. view pair ≡ pair_json (A.json first.now) (B.json second.now)) }
+    ensures reads_back { OnOk result (ReadsBack A.item B.item A.json B.json (first.now, second.now)) }
+{
+    let first = first.to_value(alloc)?;
+    let second = second.to_value(alloc)?;
+    array_of_two(alloc, first, second)
+}
+
+/// Appends the array of two items to what a writer has.
+pub(crate) fn write_two<A: JsonItem, B: JsonItem>(
+    alloc: Global,
+    first: &A,
+    second: &B,
+    out: &mut Writer,
+) -> Result<(), AllocError>
+    ensures tree { OnOk result
+        (WritesTree (pair_json (A.json first.now) (B.json second.now)) out.old.tokens out.new.tokens) }
+    ensures before { out.new.before ≡ out.old.before }
+{
+    out.begin_array()?;
+    first.write_to(alloc, out)?;
+    second.write_to(alloc, out)?;
+    out.end_array()
+}
+
 /// Returns the pair at an index within a map.
 pub(crate) fn pair_at<K: Ord, V, S: Store<K, V>>(map: &LiteMap<K, V, S>, place: usize) -> (&K, &V)
     requires { place < length map.now.pairs }
@@ -63,9 +96,7 @@ impl<A: JsonItem + Drop, B: JsonItem + Drop> JsonItem for (A, B) {
     ghost item = { pair_item A.item B.item };
 
     fn to_value(&self, alloc: Global) -> Result<Value, AllocError> {
-        let first = self.0.to_value(alloc)?;
-        let second = self.1.to_value(alloc)?;
-        array_of_two(alloc, first, second)
+        value_of_two(alloc, &self.0, &self.1)
     }
 
     fn from_value(alloc: Global, value: &Value) -> Result<(A, B), ItemFault> {
@@ -78,10 +109,7 @@ impl<A: JsonItem + Drop, B: JsonItem + Drop> JsonItem for (A, B) {
     }
 
     fn write_to(&self, alloc: Global, out: &mut Writer) -> Result<(), AllocError> {
-        out.begin_array()?;
-        self.0.write_to(alloc, out)?;
-        self.1.write_to(alloc, out)?;
-        out.end_array()
+        write_two(alloc, &self.0, &self.1, out)
     }
 
     fn wanted() -> &'static str {

@@ -1,11 +1,10 @@
 //! A JSON value as a map.
-ghost use Rattle.std.specs.Prelude.{◌≡◌, ◌≢◌, Err, IfErr, IfOk, string_bytes};
+ghost use Rattle.std.specs.Prelude.{◌≡◌, ◌≢◌, Err, IfErr, IfOk, Ok, string_bytes};
 ghost use Rattle.serde_json.specs.View.{items_view, members_view, view};
 ghost use Rattle.litemap_json.specs.Item.{Reads, two_of};
-ghost use Rattle.litemap_json.specs.Json.{member_at, member_pairs, pairs, row_at, row_pairs};
+ghost use Rattle.litemap_json.specs.Json.{member_at, member_pairs, pair_at, pairs, row_at, row_pairs};
 ghost use Rattle.litemap_json.specs.Reading.{ReadsAs, pair_seen, seen};
 ghost use Rattle.litemap_json.specs.declared.fault.JsonFault.TheVariants as reading;
-ghost use Rattle.litemap_json.specs.declared.item.ItemFault.TheVariants as of_item;
 
 use crate::fault::JsonFault;
 use crate::item::{ItemFault, JsonItem, JsonKey};
@@ -93,30 +92,26 @@ fn read_row<K: JsonKey + Drop, V: JsonItem + Drop>(
         return Err(JsonFault::NotAPair { place });
     };
     match K::from_value(alloc, first) {
-        Err(fault) => Err(key_fault(place, fault)),
-        Ok(key) => match V::from_value(alloc, second) {
-            Err(fault) => Err(item_fault(place, fault)),
-            Ok(item) => Ok((key, item)),
-        },
+        Err(ItemFault::Memory) => Err(JsonFault::Memory),
+        Err(fault) => Err(JsonFault::Key { place, fault }),
+        Ok(key) => with_item(alloc, place, key, second),
     }
 }
 
-// Returns the map's error for an error of the key at an index: `Memory` stays `Memory`, any other becomes `Key`.
-fn key_fault(place: usize, fault: ItemFault) -> JsonFault
-    ensures { result ≢ reading.Memory → (fault ≢ of_item.Memory) × (result ≡ reading.Key place fault) }
+// Returns the pair of a key and the item that a value represents, or the error of the item at an index.
+fn with_item<K: JsonKey + Drop, V: JsonItem + Drop>(
+    alloc: Global,
+    place: usize,
+    key: K,
+    value: &Value,
+) -> Result<(K, V), JsonFault>
+    ensures { Reads reading.Memory (pair_seen K.json V.json)
+        (pair_at place (Ok (K.json key)) (V.item (view value.now))) result }
 {
-    match fault {
-        ItemFault::Memory => JsonFault::Memory,
-        fault => JsonFault::Key { place, fault },
-    }
-}
-
-fn item_fault(place: usize, fault: ItemFault) -> JsonFault
-    ensures { result ≢ reading.Memory → (fault ≢ of_item.Memory) × (result ≡ reading.Item place fault) }
-{
-    match fault {
-        ItemFault::Memory => JsonFault::Memory,
-        fault => JsonFault::Item { place, fault },
+    match V::from_value(alloc, value) {
+        Err(ItemFault::Memory) => Err(JsonFault::Memory),
+        Err(fault) => Err(JsonFault::Item { place, fault }),
+        Ok(item) => Ok((key, item)),
     }
 }
 
@@ -151,8 +146,5 @@ fn read_member<K: JsonKey + Drop, V: JsonItem + Drop>(
     let Some(key) = K::from_key_text(alloc, name.as_str())? else {
         return Err(JsonFault::KeyText { place });
     };
-    match V::from_value(alloc, member) {
-        Err(fault) => Err(item_fault(place, fault)),
-        Ok(item) => Ok((key, item)),
-    }
+    with_item(alloc, place, key, member)
 }

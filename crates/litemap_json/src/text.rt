@@ -7,7 +7,7 @@ ghost use Rattle.json.specs.Lex.{tokens};
 ghost use Rattle.json.specs.Print.{print};
 ghost use Rattle.json.specs.Token.{key as key_token};
 ghost use Rattle.serde_json.specs.Data.{Data, array, no_members, object};
-ghost use Rattle.litemap_json.specs.Json.{object_with, row, rows, tree};
+ghost use Rattle.litemap_json.specs.Json.{object_with, rows, tree};
 ghost use Rattle.litemap_json.specs.Written.{IsTextOf, WritesTree, name_bytes, named};
 ghost use Rattle.litemap_json.specs.declared.fault.WriteFault.TheVariants.{Memory};
 
@@ -15,7 +15,7 @@ use crate::fault::WriteFault;
 use crate::item::{JsonItem, JsonKey};
 use crate::name::Name;
 use crate::named::by_name;
-use crate::pairs::pair_at;
+use crate::pairs::{pair_at, write_two};
 use itoa::Buffer;
 use json::Writer;
 use litemap::store::Store;
@@ -67,25 +67,10 @@ fn array_text<K: JsonKey, V: JsonItem, S: Store<K, V>>(
     out.begin_array()?;
     for place in 0..map.len() {
         let (key, item) = pair_at(map, place);
-        write_row(alloc, key, item, &mut out)?;
+        write_two(alloc, key, item, &mut out)?;
     }
     out.end_array()?;
     Ok(text_of(out))
-}
-
-fn write_row<K: JsonKey, V: JsonItem>(
-    alloc: Global,
-    key: &K,
-    item: &V,
-    out: &mut Writer,
-) -> Result<(), AllocError>
-    ensures tree { OnOk result (WritesTree (row K.text K.json V.json (key.now, item.now)) out.old.tokens out.new.tokens) }
-    ensures before { out.new.before ≡ out.old.before }
-{
-    out.begin_array()?;
-    key.write_to(alloc, out)?;
-    item.write_to(alloc, out)?;
-    out.end_array()
 }
 
 // Returns the text of the object of the pairs, or none if a key's name does not ascend.

@@ -9,15 +9,10 @@ use std::fmt::{self, Display, Formatter, Write};
 #[derive(Drop)]
 pub struct Told<'a> {
     fault: &'a JsonFault,
-    stands: Option<Stands<'a>>,
-}
-
-// What stands at an error's index, with the name if it is an object's member.
-#[derive(Drop)]
-struct Stands<'a> {
+    // The name, if it is an object's member.
     name: Option<&'a str>,
     wanted: &'static str,
-    value: &'a Value,
+    value: Option<&'a Value>,
 }
 
 impl JsonFault {
@@ -35,47 +30,34 @@ impl JsonFault {
     /// Ok(told.as_str() == r#""3": a whole number of 8 bits is wanted, and a text stands there"#)
     /// ```
     pub fn told_in<'a, K: JsonItem, V: JsonItem>(&'a self, value: &'a Value) -> Told<'a> {
-        let stands = match self {
-            JsonFault::Memory => None,
-            JsonFault::NotAMap => named(
+        let (name, wanted, value) = match self {
+            JsonFault::Memory => (None, "", None),
+            JsonFault::NotAMap => (
                 None,
                 "an object or an array of [key, item] arrays",
                 Some(value),
             ),
-            JsonFault::NotAPair { place } => {
-                named(
-                    None,
-                    "an array of exactly a key and an item",
-                    element(value, *place),
-                )
-            }
+            JsonFault::NotAPair { place } => (
+                None,
+                "an array of exactly a key and an item",
+                element(value, *place),
+            ),
             JsonFault::KeyText { place } => member(value, *place, K::wanted()),
             JsonFault::Key { place, fault: _ } => {
-                named(None, K::wanted(), pair(value, *place).map(|parts| parts.0))
+                (None, K::wanted(), pair(value, *place).map(|parts| parts.0))
             }
             JsonFault::Item { place, fault: _ } => match pair(value, *place) {
-                Some(parts) => named(None, V::wanted(), Some(parts.1)),
+                Some(parts) => (None, V::wanted(), Some(parts.1)),
                 None => member(value, *place, V::wanted()),
             },
         };
         Told {
             fault: self,
-            stands,
+            name,
+            wanted,
+            value,
         }
     }
-}
-
-fn named<'a>(
-    name: Option<&'a str>,
-    wanted: &'static str,
-    value: Option<&'a Value>,
-) -> Option<Stands<'a>> {
-    let value = value?;
-    Some(Stands {
-        name,
-        wanted,
-        value,
-    })
 }
 
 fn element(value: &Value, index: usize) -> Option<&Value> {
@@ -87,41 +69,45 @@ fn pair(value: &Value, index: usize) -> Option<(&Value, &Value)> {
     two_items(element(value, index)?)
 }
 
-// An object's member at an index, in the byte order of the names.
-fn member<'a>(value: &'a Value, index: usize, wanted: &'static str) -> Option<Stands<'a>> {
-    let (name, value) = value.as_object()?.iter().nth(index)?;
-    named(Some(name.as_str()), wanted, Some(value))
+// An object's member at an index, in the byte order of the names: its name, what is wanted there, and its value.
+fn member<'a>(
+    value: &'a Value,
+    index: usize,
+    wanted: &'static str,
+) -> (Option<&'a str>, &'static str, Option<&'a Value>) {
+    match value
+        .as_object()
+        .and_then(|members| members.iter().nth(index))
+    {
+        Some((name, value)) => (Some(name.as_str()), wanted, Some(value)),
+        None => (None, wanted, None),
+    }
 }
 
 impl Display for Told<'_> {
     fn fmt<W: Write>(&self, f: &mut Formatter<W>) -> fmt::Result {
-        let Some(stands) = &self.stands else {
+        let Some(value) = self.value else {
             return write!(f, "{}", self.fault);
         };
-        let wanted = stands.wanted;
-        match (self.fault, stands.name) {
+        let wanted = self.wanted;
+        match (self.fault, self.name) {
             (JsonFault::KeyText { place: _ }, Some(name)) => {
                 return write!(f, "the name {name:?} is no key's text: {wanted} is wanted");
             }
             (_, Some(name)) => write!(f, "{name:?}: ")?,
-            (JsonFault::NotAPair { place }, None) => write!(
-                f,
-                "the element at place {place} (from 0): "
-            )?,
-            (JsonFault::Key { place, fault: _ }, None) => write!(
-                f,
-                "the key at place {place} (from 0): "
-            )?,
-            (JsonFault::Item { place, fault: _ }, None) => write!(
-                f,
-                "the item at place {place} (from 0): "
-            )?,
+            (JsonFault::NotAPair { place }, None) => write_place(f, "element", *place)?,
+            (JsonFault::Key { place, fault: _ }, None) => write_place(f, "key", *place)?,
+            (JsonFault::Item { place, fault: _ }, None) => write_place(f, "item", *place)?,
             _ => {}
         }
         write!(f, "{wanted} is wanted, and ")?;
-        write_kind(f, stands.value)?;
+        write_kind(f, value)?;
         f.write_str(" stands there")
     }
+}
+
+fn write_place<W: Write>(f: &mut Formatter<W>, part: &str, place: usize) -> fmt::Result {
+    write!(f, "the {part} at place {place} (from 0): ")
 }
 
 // Which kind of value it is; a number is written whole.

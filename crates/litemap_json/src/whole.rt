@@ -1,13 +1,10 @@
 //! Whole numbers of eight types, as items and as keys.
-ghost use Rattle.std.specs.Prelude.{◌≡◌, ◌≢◌, ℤ, pos, Bool, true, Option, Some, Err, IfOk, IfSome, IsOk, OnOk, Ok, option_map};
-ghost use Rattle.std.specs.Prelude.{refl, string_bytes};
+ghost use Rattle.std.specs.Prelude.{◌≡◌, ◌≢◌, true, Some, Err, IfOk, IfSome, IsOk, OnOk, Ok, option_map, refl, string_bytes};
 ghost use Rattle.std.specs.Fmt.{signed_decimal};
-ghost use Rattle.std.specs.declared.cmp.Ordering.TheVariants.{Equal};
+ghost use Rattle.std.specs.Int.{w8, w16, w32, w64};
 ghost use Rattle.serde_json.specs.View.{view};
-ghost use Rattle.litemap_json.specs.Item.{Reads, kept, signed_fits, unsigned_fits, whole_item, whole_json, whole_key};
-ghost use Rattle.litemap_json.specs.Item.{whole_of, whole_of_text};
-ghost use Rattle.litemap_json.specs.OneTree.{signed_one_tree, unsigned_one_tree};
-ghost use Rattle.litemap_json.specs.Widths.{IsHeld, signed_is_held, unsigned_is_held};
+ghost use Rattle.litemap_json.specs.Item.{Reads, kept, signed_fits, whole_item, whole_json, whole_key, whole_of, whole_of_text};
+ghost use Rattle.litemap_json.specs.Widths.{IsWhole, WholeType, signed, signed_is_whole, unsigned, unsigned_is_whole};
 ghost use Rattle.litemap_json.specs.declared.item.ItemFault.TheVariants.{Memory};
 
 use crate::item::{ItemFault, JsonItem, JsonKey};
@@ -16,45 +13,43 @@ use itoa::Buffer;
 use json::Writer;
 use serde_json::{Number, Value};
 use std::alloc::{AllocError, Global};
+use std::num::TryFromIntError;
 
 /// A type of whole numbers, each of which 64 bits hold.
-pub trait Whole: Copy + Ord {
-    /// The number.
-    ghost number: { Self → ℤ };
-
-    /// Which numbers the type has.
-    ghost fits: { ℤ → Bool };
-
-    /// The number in 128 bits.
-    fn wide(self) -> i128
-        ensures is { result ≡ number self }
-        ensures fits { fits (number self) ≡ true };
-
-    /// The type's value for a number, if it has one.
-    fn narrow(wide: i128) -> Option<Self>
-        ensures { option_map number result ≡ kept fits (Some wide) };
+pub trait Whole: Copy + Ord + TryFrom<i128, Error = TryFromIntError> {
+    /// The number of a value, and which numbers the type has.
+    ghost kind: { WholeType Self };
 
     /// Which numbers the type has, in words.
     const NAMED: &'static str;
 
-    /// Each is held by 64 bits.
-    ghost held: { (z : ℤ) → fits z ≡ true → IsHeld z };
+    /// The number in 128 bits.
+    fn wide(self) -> i128
+        ensures is { result ≡ kind.number self }
+        ensures fits { kind.fits (kind.number self) ≡ true };
 
-    /// One number is one key.
-    ghost one_number: { (x y : Self) → whole_json (number x) ≡ whole_json (number y) → Self.cmp x y ≡ Equal };
+    /// The type's value for a number, if it has one.
+    final fn narrow(wide: i128) -> Option<Self>
+        ensures { option_map kind.number result ≡ kept kind.fits (Some wide) }
+    {
+        Self::try_from(wide).ok()
+    }
+
+    /// 64 bits hold each, one number is one key, and a conversion gives the type's value for a number.
+    ghost whole: { IsWhole kind Self.cmp Self.try_from_gives };
 }
 
 /// Only `write_to` may run out of memory: no other call takes any.
 impl<T: Whole> JsonItem for T {
-    ghost json = { λ x. whole_json (T.number x) };
+    ghost json = { λ x. whole_json (T.kind.number x) };
 
-    ghost item = { whole_item T.fits };
+    ghost item = { whole_item T.kind.fits };
 
-    #[tactic(auto, using(crate::proofs::Held::some_held))]
+    #[tactic(auto, using(crate::proofs::Printed::some_held))]
     fn to_value(&self, _alloc: Global) -> Result<Value, AllocError>
-        ensures tree { IfOk result (λ value. view value ≡ whole_json (T.number self.now)) }
+        ensures tree { IfOk result (λ value. view value ≡ whole_json (T.kind.number self.now)) }
         ensures reads_back { OnOk result
-            (whole_item T.fits (whole_json (T.number self.now)) ≡ Ok (whole_json (T.number self.now))) }
+            (whole_item T.kind.fits (whole_json (T.kind.number self.now)) ≡ Ok (whole_json (T.kind.number self.now))) }
         ensures succeeds { IsOk result }
     {
         let number = Number::from_i128(self.wide()).unwrap();
@@ -62,7 +57,7 @@ impl<T: Whole> JsonItem for T {
     }
 
     fn from_value(_alloc: Global, value: &Value) -> Result<T, ItemFault>
-        ensures answers { Reads Memory (λ x. whole_json (T.number x)) (whole_item T.fits (view value.now)) result }
+        ensures answers { Reads Memory (λ x. whole_json (T.kind.number x)) (whole_item T.kind.fits (view value.now)) result }
         ensures no_memory { result ≢ Err Memory }
     {
         T::narrow(whole_number(value)?).ok_or(ItemFault::Range)
@@ -83,18 +78,18 @@ impl<T: Whole> JsonItem for T {
 
 /// Only `key_text` may run out of memory: `from_key_text` takes none.
 impl<T: Whole> JsonKey for T {
-    ghost text = { λ x. Some (signed_decimal (T.number x)) };
+    ghost text = { λ x. Some (signed_decimal (T.kind.number x)) };
 
-    ghost key = { whole_key T.fits };
+    ghost key = { whole_key T.kind.fits };
 
     fn key_text(&self, alloc: Global) -> Result<Option<String>, AllocError> {
         Ok(Some(decimal_text(alloc, self.wide())?))
     }
 
-    #[tactic(auto, using(crate::proofs::Held::held_by_128))]
+    #[tactic(auto, using(crate::proofs::Printed::held_by_128))]
     fn from_key_text(_alloc: Global, name: &str) -> Result<Option<T>, AllocError>
-        ensures key { IfOk result (λ found. option_map (λ x. whole_json (T.number x)) found ≡ whole_key T.fits name.now) }
-        ensures one_spelling { IfOk result (λ found. IfSome found (λ k. Some (signed_decimal (T.number k)) ≡ Some name.now)) }
+        ensures key { IfOk result (λ found. option_map (λ x. whole_json (T.kind.number x)) found ≡ whole_key T.kind.fits name.now) }
+        ensures one_spelling { IfOk result (λ found. IfSome found (λ k. Some (signed_decimal (T.kind.number k)) ≡ Some name.now)) }
         ensures succeeds { IsOk result }
     {
         let Some(number) = printed(name) else {
@@ -107,167 +102,103 @@ impl<T: Whole> JsonKey for T {
         Some(self.wide())
     }
 
-    ghost one_tree = { T.one_number };
+    ghost one_tree = { T.whole.one_number };
 }
 
 impl Whole for u8 {
-    ghost number = { pos };
-
-    ghost fits = { unsigned_fits 8 };
-
-    fn wide(self) -> i128 {
-        i128::from(self)
-    }
-
-    fn narrow(wide: i128) -> Option<u8> {
-        u8::try_from(wide).ok()
-    }
+    ghost kind = { unsigned w8 };
 
     const NAMED: &'static str = "a whole number of 8 bits";
 
-    ghost held = { unsigned_is_held 8 56 refl };
+    fn wide(self) -> i128 {
+        i128::from(self)
+    }
 
-    ghost one_number = { unsigned_one_tree };
+    ghost whole = { unsigned_is_whole w8 refl };
 }
 
 impl Whole for u16 {
-    ghost number = { pos };
-
-    ghost fits = { unsigned_fits 16 };
-
-    fn wide(self) -> i128 {
-        i128::from(self)
-    }
-
-    fn narrow(wide: i128) -> Option<u16> {
-        u16::try_from(wide).ok()
-    }
+    ghost kind = { unsigned w16 };
 
     const NAMED: &'static str = "a whole number of 16 bits";
 
-    ghost held = { unsigned_is_held 16 48 refl };
+    fn wide(self) -> i128 {
+        i128::from(self)
+    }
 
-    ghost one_number = { unsigned_one_tree };
+    ghost whole = { unsigned_is_whole w16 refl };
 }
 
 impl Whole for u32 {
-    ghost number = { pos };
-
-    ghost fits = { unsigned_fits 32 };
-
-    fn wide(self) -> i128 {
-        i128::from(self)
-    }
-
-    fn narrow(wide: i128) -> Option<u32> {
-        u32::try_from(wide).ok()
-    }
+    ghost kind = { unsigned w32 };
 
     const NAMED: &'static str = "a whole number of 32 bits";
 
-    ghost held = { unsigned_is_held 32 32 refl };
+    fn wide(self) -> i128 {
+        i128::from(self)
+    }
 
-    ghost one_number = { unsigned_one_tree };
+    ghost whole = { unsigned_is_whole w32 refl };
 }
 
 impl Whole for u64 {
-    ghost number = { pos };
-
-    ghost fits = { unsigned_fits 64 };
-
-    fn wide(self) -> i128 {
-        i128::from(self)
-    }
-
-    fn narrow(wide: i128) -> Option<u64> {
-        u64::try_from(wide).ok()
-    }
+    ghost kind = { unsigned w64 };
 
     const NAMED: &'static str = "a whole number of 64 bits";
 
-    ghost held = { unsigned_is_held 64 0 refl };
+    fn wide(self) -> i128 {
+        i128::from(self)
+    }
 
-    ghost one_number = { unsigned_one_tree };
+    ghost whole = { unsigned_is_whole w64 refl };
 }
 
 impl Whole for i8 {
-    ghost number = { λ x. x };
-
-    ghost fits = { signed_fits 7 };
-
-    fn wide(self) -> i128 {
-        i128::from(self)
-    }
-
-    fn narrow(wide: i128) -> Option<i8> {
-        i8::try_from(wide).ok()
-    }
+    ghost kind = { signed w8 };
 
     const NAMED: &'static str = "a whole number of 8 bits with a sign";
 
-    ghost held = { signed_is_held 7 56 refl };
+    fn wide(self) -> i128 {
+        i128::from(self)
+    }
 
-    ghost one_number = { signed_one_tree };
+    ghost whole = { signed_is_whole w8 refl };
 }
 
 impl Whole for i16 {
-    ghost number = { λ x. x };
-
-    ghost fits = { signed_fits 15 };
-
-    fn wide(self) -> i128 {
-        i128::from(self)
-    }
-
-    fn narrow(wide: i128) -> Option<i16> {
-        i16::try_from(wide).ok()
-    }
+    ghost kind = { signed w16 };
 
     const NAMED: &'static str = "a whole number of 16 bits with a sign";
 
-    ghost held = { signed_is_held 15 48 refl };
+    fn wide(self) -> i128 {
+        i128::from(self)
+    }
 
-    ghost one_number = { signed_one_tree };
+    ghost whole = { signed_is_whole w16 refl };
 }
 
 impl Whole for i32 {
-    ghost number = { λ x. x };
-
-    ghost fits = { signed_fits 31 };
-
-    fn wide(self) -> i128 {
-        i128::from(self)
-    }
-
-    fn narrow(wide: i128) -> Option<i32> {
-        i32::try_from(wide).ok()
-    }
+    ghost kind = { signed w32 };
 
     const NAMED: &'static str = "a whole number of 32 bits with a sign";
 
-    ghost held = { signed_is_held 31 32 refl };
+    fn wide(self) -> i128 {
+        i128::from(self)
+    }
 
-    ghost one_number = { signed_one_tree };
+    ghost whole = { signed_is_whole w32 refl };
 }
 
 impl Whole for i64 {
-    ghost number = { λ x. x };
+    ghost kind = { signed w64 };
 
-    ghost fits = { signed_fits 63 };
+    const NAMED: &'static str = "a whole number of 64 bits with a sign";
 
     fn wide(self) -> i128 {
         i128::from(self)
     }
 
-    fn narrow(wide: i128) -> Option<i64> {
-        i64::try_from(wide).ok()
-    }
-
-    const NAMED: &'static str = "a whole number of 64 bits with a sign";
-
-    ghost held = { signed_is_held 63 0 refl };
-
-    ghost one_number = { signed_one_tree };
+    ghost whole = { signed_is_whole w64 refl };
 }
 
 fn whole_number(value: &Value) -> Result<i128, ItemFault>

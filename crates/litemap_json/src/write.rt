@@ -3,15 +3,14 @@ ghost use Rattle.std.specs.Prelude.{◌≡◌, ◌≢◌, Ok, Err, IfOk, IfErr, 
 ghost use Rattle.serde_json.specs.Data.{array, no_members, put};
 ghost use Rattle.serde_json.specs.View.{members_view, view};
 ghost use Rattle.litemap_store.specs.Pairs.{Rising};
-ghost use Rattle.litemap_json.specs.Item.{pair_json};
 ghost use Rattle.litemap_json.specs.Json.{object_with, rows, tree};
-ghost use Rattle.litemap_json.specs.Reading.{AllReadBack, ReadsAs, ReadsBack};
+ghost use Rattle.litemap_json.specs.Reading.{AllReadBack, ReadsAs};
 ghost use Rattle.litemap_json.specs.Written.{IsFirst};
 ghost use Rattle.litemap_json.specs.declared.fault.WriteFault.TheVariants.{Memory};
 
 use crate::fault::WriteFault;
 use crate::item::{JsonItem, JsonKey};
-use crate::pairs::{array_of_two, pair_at};
+use crate::pairs::{pair_at, value_of_two};
 use litemap::LiteMap;
 use litemap::store::Store;
 use serde_json::{Map, Value};
@@ -57,18 +56,9 @@ fn array_of<K: JsonKey, V: JsonItem, S: Store<K, V>>(
     let mut list = Vec::with_capacity(alloc, len)?;
     for place in 0..len {
         let (key, item) = pair_at(map, place);
-        list.push(row_of(alloc, key, item)?)?;
+        list.push(value_of_two(alloc, key, item)?)?;
     }
     Ok(Value::from(list))
-}
-
-fn row_of<K: JsonKey, V: JsonItem>(alloc: Global, key: &K, item: &V) -> Result<Value, AllocError>
-    ensures tree { IfOk result (λ value. view value ≡ pair_json (K.json key.now) (V.json item.now)) }
-    ensures reads_back { OnOk result (ReadsBack K.item V.item K.json V.json (key.now, item.now)) }
-{
-    let first = key.to_value(alloc)?;
-    let second = item.to_value(alloc)?;
-    array_of_two(alloc, first, second)
 }
 
 // The object of the pairs, the first of which has this name and this item.

@@ -75,11 +75,11 @@ module _ {K V : Type 0} (cmp : K → K → Ordering) (o : IsTotalOrder cmp) wher
   done_agree m₁ m₂ n₁ n₂ call.Clear a₁ a₂ e h₁ h₂ = (h₁.0 ∙ sym h₂.0, h₁.1 ∙ sym h₂.1)
 
   pub runs_agree : SameResults cmp V
-  runs_agree s₁ s₂ e₁ e₂ [] [] [] e r₁ r₂ n₁ n₂ = (refl, ap (λ (m : Contents K V). m.pairs) r₁ ∙ e ∙ sym (ap (λ (m : Contents K V). m.pairs) r₂))
-  runs_agree s₁ s₂ e₁ e₂ [] (a₁ ∷ as₁) as₂ e r₁ r₂ n₁ n₂ = absurd r₁
-  runs_agree s₁ s₂ e₁ e₂ (c ∷ cs) [] as₂ e r₁ r₂ n₁ n₂ = absurd r₁
-  runs_agree s₁ s₂ e₁ e₂ (c ∷ cs) (a₁ ∷ as₁) (a₂ ∷ as₂) e r₁ r₂ n₁ n₂ =
-      let one = done_agree s₁ s₂ r₁.0 r₂.0 c a₁ a₂ e (done s₁ c a₁ r₁.0 r₁.1 n₁.0) (done s₂ c a₂ r₂.0 r₂.1 n₂.0) in
-      let rest = runs_agree r₁.0 r₂.0 e₁ e₂ cs as₁ as₂ one.1 r₁.2 r₂.2 n₁.1 n₂.1 in
+  runs_agree s₁ s₂ e₁ e₂ [] [] [] e r₁ r₂ n = (refl, ap (λ (m : Contents K V). m.pairs) r₁ ∙ e ∙ sym (ap (λ (m : Contents K V). m.pairs) r₂))
+  runs_agree s₁ s₂ e₁ e₂ [] (a₁ ∷ as₁) as₂ e r₁ r₂ n = absurd r₁
+  runs_agree s₁ s₂ e₁ e₂ (c ∷ cs) [] as₂ e r₁ r₂ n = absurd r₁
+  runs_agree s₁ s₂ e₁ e₂ (c ∷ cs) (a₁ ∷ as₁) (a₂ ∷ as₂) e r₁ r₂ n =
+      let one = done_agree s₁ s₂ r₁.0 r₂.0 c a₁ a₂ e (done s₁ c a₁ r₁.0 r₁.1 (λ back is. (n back).0 (inl is))) (done s₂ c a₂ r₂.0 r₂.1 (λ back is. (n back).1 (inl is))) in
+      let rest = runs_agree r₁.0 r₂.0 e₁ e₂ cs as₁ as₂ one.1 r₁.2 r₂.2 (λ back. (λ i. (n back).0 (inr i), λ i. (n back).1 (inr i))) in
       (ap (λ a. a ∷ as₁) one.0 ∙ ap (λ more. a₂ ∷ more) rest.0, rest.1)
-  runs_agree s₁ s₂ e₁ e₂ _ _ _ e r₁ r₂ n₁ n₂ = absurd r₂
+  runs_agree s₁ s₂ e₁ e₂ _ _ _ e r₁ r₂ n = absurd r₂

@@ -123,8 +123,5 @@ fn made<K: Ord + Drop, V: Drop, S: StoreBulkMut<K, V>, F: Format>(
 ) -> Result<LiteMap<K, V, S>, F::Error>
     ensures last { IfOk result (λ map. Last K.cmp pairs.items map.pairs) }
 {
-    match LiteMap::from_vec(alloc, pairs) {
-        Ok(map) => Ok(map),
-        Err(_) => Err(from.no_memory()),
-    }
+    LiteMap::from_vec(alloc, pairs).map_err(|_| from.no_memory())
 }

@@ -10,8 +10,8 @@ loop-place-preserved g c =
     let L = c.args.map.now.pairs in
     let x : g.row.K.Denot × g.row.V.Denot = (c.pair_at.result.0.now, c.pair_at.result.1.now) in
     let found = at_place L c.loop-place.place x c.pair_at.ensures in (
-      c.write_row.ensures.before ∙ c.loop-place.invariant.0,
-      rows_more g.K.JsonKey.text g.K.JsonItem.json g.V.JsonItem.json L c.loop-place.place x c.loop-place.out.tokens c.write_row.new.out.tokens found.0 found.1 c.in_ok-write_row.ensures.tree c.loop-place.invariant.1,
+      c.write_two.ensures.before ∙ c.loop-place.invariant.0,
+      rows_more g.K.JsonKey.text g.K.JsonItem.json g.V.JsonItem.json L c.loop-place.place x c.loop-place.out.tokens c.write_two.new.out.tokens found.0 found.1 c.in_ok-write_two.ensures.tree c.loop-place.invariant.1,
     )
 
 pub returns : goal.returns

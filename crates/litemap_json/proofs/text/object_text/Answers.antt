@@ -1,19 +1,15 @@
-use Rattle.std.proofs.Common.{◌≡◌, ◌++◌, ◌∷◌, [], arith, ◌∙◌, option_map, Some, pos, string_bytes, subst, sym, ap}
+use Rattle.std.proofs.Common.{◌≡◌, arith, ◌∙◌, option_map, Some, pos, string_bytes, sym, ap}
 use Rattle.std.specs.Fmt.{signed_decimal}
-use Rattle.json.specs.Token.{begin_object}
 use Rattle.litemap_json.specs.Written.{name_bytes}
 use Rattle.litemap_json.proofs.ByPlace.{at_place, made_stop}
-use Rattle.litemap_json.proofs.Texts.{PairsHeld, pairs_end, pairs_more, pairs_none, text_of_tree}
+use Rattle.litemap_json.proofs.Texts.{pairs_end, pairs_more, pairs_none, text_of_tree}
 use Rattle.litemap_json.proofs.text.object_text.Goals as goal
 
 pub loop-place-init : goal.loop-place-init
-loop-place-init g c =
-    let start = c.in_ok-begin_object.ensures.ok in (
-      c.begin_object.ensures.room.0 ∙ c.in_ok-out.ensures.0,
-      subst (λ ts. PairsHeld g.K.JsonKey.text g.K.JsonItem.json g.V.JsonItem.json c.args.map.now.pairs 0 (signed_decimal (pos 0)) ts)
-          (sym (start ∙ ap (λ ts. ts ++ begin_object ∷ []) c.in_ok-out.ensures.1))
-          (pairs_none g.K.JsonKey.text g.K.JsonItem.json g.V.JsonItem.json c.args.map.now.pairs (signed_decimal (pos 0))),
-    )
+loop-place-init g c = (
+  c.begin_object.ensures.room.0 ∙ c.in_ok-out.ensures.0,
+  rw (c.in_ok-begin_object.ensures.ok, c.in_ok-out.ensures.1) (pairs_none g.K.JsonKey.text g.K.JsonItem.json g.V.JsonItem.json c.args.map.now.pairs (signed_decimal (pos 0))),
+)
 
 pub returns-in_default-clause-refused : goal.returns-in_default-clause-refused
 returns-in_default-clause-refused g c =
