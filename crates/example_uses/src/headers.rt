@@ -1,10 +1,10 @@
-//! A header list: values by their names, in the order of the names' bytes.
-//! What lookups find after a change follows from the lemmas that the attributes name.
+//! A header list: values by their names, in the order of the names' bytes. Its strings are its own, or are borrowed from a message
+//! or from the program. What lookups find after a change follows from the lemmas that the attributes name.
 ghost use Rattle.std.specs.Prelude.{◌≡◌, ◌≢◌, None, Some, IfOk, OnOk, OnErr, string_bytes};
-ghost use Rattle.std.specs.Option.{option_copied};
 ghost use Rattle.litemap_store.specs.Pairs.{value_at};
 ghost use Rattle.litemap_store.specs.Queries.{by_string};
 ghost use Rattle.litemap_store.specs.Clones.{PairsBecame};
+ghost use Rattle.litemap.specs.ByBytes.{by_bytes};
 
 use litemap::LiteMap;
 use std::alloc::{AllocError, Global};
@@ -22,13 +22,6 @@ pub fn set(headers: &mut Headers, name: String, value: String) -> Result<Option<
     ensures refused { OnErr result (headers.new.pairs ≡ headers.old.pairs) }
 {
     Ok(headers.insert(name, value)?)
-}
-
-/// Looks a header up.
-pub fn get<'a>(headers: &'a Headers, name: &str) -> Option<&'a String>
-    ensures { option_copied result ≡ value_at by_string headers.entry.now.pairs name.now }
-{
-    headers.get(name)
 }
 
 /// Removes a header. All others stay.
@@ -50,4 +43,29 @@ pub fn copy_of(alloc: Global, headers: &Headers) -> Result<Headers, AllocError>
         headers.now.pairs copy.pairs) }
 {
     headers.try_clone(alloc)
+}
+
+/// Headers whose strings are borrowed.
+pub type Borrowed<'k> = LiteMap<&'k str, &'k str, Vec<(&'k str, &'k str)>>;
+
+/// Sets a header whose strings are borrowed.
+#[tactic(auto, using(litemap::proofs::Texts::str_keys))]
+pub fn set_borrowed<'k>(
+    headers: &mut Borrowed<'k>,
+    name: &'k str,
+    value: &'k str,
+) -> Result<(), AllocError>
+    ensures set { OnOk result (value_at by_bytes headers.new.pairs name.entry ≡ Some value.entry) }
+    ensures refused { OnErr result (headers.new.pairs ≡ headers.old.pairs) }
+{
+    headers.insert(name, value)?;
+    Ok(())
+}
+
+/// Removes a header whose string is borrowed.
+#[tactic(auto, using(litemap::proofs::Texts::str_keys))]
+pub fn remove_borrowed<'k>(headers: &mut Borrowed<'k>, name: &'k str) -> Option<&'k str>
+    ensures gone { value_at by_bytes headers.new.pairs name.entry ≡ None }
+{
+    headers.remove(&name)
 }

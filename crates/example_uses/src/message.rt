@@ -7,7 +7,7 @@ ghost use Rattle.litemap_read.specs.ReadFault.{IfSource};
 ghost use Rattle.litemap_store.specs.Pairs.{value_at};
 ghost use Rattle.litemap.specs.ByBytes.{by_bytes};
 
-use crate::borrowed::Borrowed;
+use crate::headers::Borrowed;
 use litemap_read::{PairSource, ReadFault, read_pairs};
 use std::alloc::Global;
 

@@ -8,7 +8,7 @@ ghost use Rattle.std.specs.Ordering.{int_cmp, nat_cmp};
 ghost use Rattle.std.specs.declared.cmp.Ordering.TheVariants.{Equal};
 ghost use Rattle.std.specs.declared.io.ErrorKind.TheVariants.{OutOfMemory};
 ghost use Rattle.std.specs.declared.ops.Bound.TheVariants.{Included, Unbounded};
-ghost use Rattle.litemap_store.specs.Pairs.{at, index_of, place, put, value_at, value_in};
+ghost use Rattle.litemap_store.specs.Pairs.{at, index_of, place, value_at, value_in};
 ghost use Rattle.litemap.specs.Within.{within};
 
 use litemap::LiteMap;
@@ -24,23 +24,16 @@ pub type Ages = LiteMap<u32, u8, Vec<(u32, u8)>>;
 /// Readings by signed times.
 pub type Readings = LiteMap<i64, u8, Vec<(i64, u8)>>;
 
-/// Sets an age, which is then found, at the index where it belongs. All others stay.
+/// Sets an age, which is then found, at the index where it belongs. All others stay. Its error is an `io::Error`, as
+/// that of a function which reads input, too.
 #[tactic(auto, using(litemap::proofs::Numbers::number_keys))]
-pub fn set_age(ages: &mut Ages, id: u32, age: u8) -> Result<(), AllocError>
+pub fn set_age(ages: &mut Ages, id: u32, age: u8) -> io::Result<()>
     ensures there { OnOk result (value_at nat_cmp ages.new.pairs id ≡ Some age) }
     ensures place { OnOk result (index_of nat_cmp ages.new.pairs id ≡ Ok (place nat_cmp ages.old.pairs id)) }
     ensures others { OnOk result ((other : _) → other ≢ id
         → value_at nat_cmp ages.new.pairs other ≡ value_at nat_cmp ages.old.pairs other) }
     ensures refused { OnErr result (ages.new.pairs ≡ ages.old.pairs) }
-{
-    ages.insert(id, age)?;
-    Ok(())
-}
-
-/// Sets an age in a function that may return errors of input, too: an allocation error becomes one of them.
-pub fn note_age(ages: &mut Ages, id: u32, age: u8) -> io::Result<()>
-    ensures set { OnOk result (ages.new.pairs ≡ put nat_cmp ages.old.pairs id age) }
-    ensures refused { IfErr result (λ fault. error_kind fault ≡ OutOfMemory) }
+    ensures memory { IfErr result (λ fault. error_kind fault ≡ OutOfMemory) }
 {
     ages.insert(id, age)?;
     Ok(())

@@ -1,5 +1,5 @@
 //! Scores by name: the first calls that a user makes.
-ghost use Rattle.std.specs.Prelude.{◌≡◌, ◌++◌, Some, OnOk, OnErr, string_bytes};
+ghost use Rattle.std.specs.Prelude.{◌≡◌, ◌+◌, ◌++◌, Some, OnOk, OnErr, map, min, string_bytes};
 ghost use Rattle.std.specs.String.{string_cmp};
 ghost use Rattle.litemap_store.specs.Last.{Last};
 ghost use Rattle.litemap_store.specs.Pairs.{index_of, value_at};
@@ -46,4 +46,11 @@ pub fn set_all(
 {
     scores.extend_from_vec(alloc, more)?;
     Ok(())
+}
+
+/// Raises all scores by this much, or to the greatest number.
+pub fn raise(scores: &mut Scores, by: u32)
+    ensures { scores.new.pairs ≡ map (λ p. (p.0, min (p.1 + by) 4294967295)) scores.old.pairs }
+{
+    scores.update(|_, score| *score = score.saturating_add(by));
 }

@@ -1,18 +1,324 @@
 //! What the callers return, a line or a few for each.
-
-pub(crate) mod asked;
-pub(crate) mod counts;
-pub(crate) mod headers;
-pub(crate) mod numbers;
-pub(crate) mod pairs;
-pub(crate) mod settings;
-pub(crate) mod texts;
-pub(crate) mod words;
-
+use crate::bag::Bag;
+use crate::calendar::{self, Calendar};
+use crate::counting::{self, Names};
+use crate::headers::{self, Borrowed, Headers};
+use crate::made::value_or_made;
+use crate::message::{Field, read_headers};
+use crate::names::route;
+use crate::numbers::{self, Ages, Readings, Shelf, Stock};
+use crate::people::{Person, kept_for};
+use crate::sets::{self, Set};
+use crate::stores::{moved, total};
+use crate::sums::{self, Named};
+use crate::texts::{self, ByteNumbers, Numbers};
+use crate::words::{self, Counts};
+use crate::{config, reserved, scores};
+use litemap::{LiteMap, TryFault, VecMap};
+use litemap_columns::ColumnMap;
 use std::alloc::{AllocError, Global};
+use std::io;
 
-// A name and a value, as strings of their own.
-fn owned_pair(alloc: Global, name: &str, value: &str) -> Result<(String, String), AllocError> {
-    let name = name.to_string(alloc)?;
-    Ok((name, value.to_string(alloc)?))
+pub(crate) fn show(rt: &impl Print, alloc: Global) -> anyhow::Result<()> {
+    show_ages(rt, alloc)?;
+    show_shelves(rt, alloc)?;
+    for name in ["", "one", "ones", "two"] {
+        show_name(rt, alloc, name)?;
+    }
+    show_found(rt, alloc)?;
+    show_renamed(rt, alloc)?;
+    for bytes in [[1, 2].as_slice(), &[1], &[2]] {
+        show_bytes(rt, alloc, bytes)?;
+    }
+    show_headers(rt, alloc)?;
+    show_fields(rt, alloc, "here")?;
+    show_fields(rt, alloc, "")?;
+    show_settings(rt, alloc)?;
+    show_scores(rt, alloc)?;
+    show_both(rt, alloc)?;
+    show_made(rt, alloc)?;
+    show_sets(rt, alloc)?;
+    show_sums(rt, alloc)?;
+    show_totals(rt, alloc, 98)?;
+    show_totals(rt, alloc, u32::MAX)?;
+    show_counts(rt, alloc)?;
+    show_words(rt, alloc)?;
+    show_bag(rt, alloc)?;
+    show_calendar(rt, alloc)?;
+    Ok(())
+}
+
+// Pairs whose names are copied.
+fn owned<V: Copy>(alloc: Global, pairs: &[(&str, V)]) -> Result<Vec<(String, V)>, AllocError> {
+    let mut owned = Vec::new(alloc);
+    for (name, value) in pairs {
+        owned.push((name.to_string(alloc)?, *value))?;
+    }
+    Ok(owned)
+}
+
+// Pairs whose names and values are copied.
+fn texts(alloc: Global, pairs: &[(&str, &str)]) -> Result<Vec<(String, String)>, AllocError> {
+    let mut texts = Vec::new(alloc);
+    for (name, value) in pairs {
+        let name = name.to_string(alloc)?;
+        texts.push((name, value.to_string(alloc)?))?;
+    }
+    Ok(texts)
+}
+
+// Ages that are set, corrected by number and at an index, dropped below 2, and forgotten.
+fn show_ages(rt: &impl Print, alloc: Global) -> io::Result<()> {
+    let mut ages = Ages::new_vec(alloc);
+    for (id, age) in [(3, 30), (1, 10), (2, 20), (5, 50), (4, 40)] {
+        numbers::set_age(&mut ages, id, age)?;
+    }
+    let is_there = numbers::correct(&mut ages, 2, 21);
+    let is_absent = !numbers::correct(&mut ages, 9, 9);
+    numbers::correct_at(&mut ages, 0, 19);
+    println!(rt; "ages {ages:?}, 2 there {is_there}, 9 absent {is_absent}")?;
+    for id in [0, 3, 9] {
+        let (floor, ceiling) = (numbers::floor(&ages, id), numbers::ceiling(&ages, id));
+        println!(rt; "near {id}: {floor:?}, {ceiling:?}")?;
+    }
+    let dropped = numbers::drop_below(&mut ages, 2);
+    let forgotten = numbers::forget(&mut ages, 5);
+    println!(rt; "from 2 on {ages:?}, dropped {dropped}, forgotten {forgotten:?}")
+}
+
+// Readings, and a stock of which one shelf is overwritten and one is taken.
+fn show_shelves(rt: &impl Print, alloc: Global) -> io::Result<()> {
+    let mut readings = Readings::new_vec(alloc);
+    numbers::set_reading(&mut readings, 5, 1)?;
+    numbers::set_reading(&mut readings, -5, 2)?;
+    let mut stock = Stock::new_vec(alloc);
+    let (low, high) = (shelf(1), shelf(2));
+    numbers::set_stock(&mut stock, high, 2)?;
+    numbers::set_stock(&mut stock, low, 1)?;
+    numbers::overwrite(&mut stock, &high, 20);
+    let taken = numbers::take(&mut stock, &low);
+    let written = stock.get(&high);
+    println!(rt; "readings {readings:?}, taken {taken:?}, written {written:?}")
+}
+
+fn shelf(number: u8) -> Shelf {
+    Shelf { number, board: -1 }
+}
+
+fn two_numbers(alloc: Global) -> Result<Numbers, AllocError> {
+    LiteMap::from_iter(alloc, owned(alloc, &[("one", 11), ("two", 2)])?)
+}
+
+// Whether a name is there; what is found once 7 is written there, and removed.
+fn show_name(rt: &impl Print, alloc: Global, name: &str) -> io::Result<()> {
+    let mut map = two_numbers(alloc)?;
+    let key = name.to_string(alloc)?;
+    let is_there = texts::has(&map, name);
+    let is_set = texts::set_number(&mut map, name, 7);
+    let taken = texts::take_key(&mut map, &key);
+    texts::set_at_key(&mut map, alloc, &key, 8)?;
+    println!(rt; "{name:?}: there {is_there:?}, set {is_set}, taken {taken:?}, left {map:?}")
+}
+
+// The number at a tag, or at what stands before its first `-`; that at a path; and what is kept for a number.
+fn show_found(rt: &impl Print, alloc: Global) -> io::Result<()> {
+    let map = two_numbers(alloc)?;
+    for tag in ["one", "one-two", "two--", "-one", "ones"] {
+        println!(rt; "locale {tag:?}: {:?}", texts::number_of_locale(&map, tag))?;
+    }
+    println!(rt; "routes {:?} {:?}", route("/about"), route("/a"))?;
+    let mut people = LiteMap::new_vec(alloc);
+    for (number, name, kept) in [(3, "c", 'x'), (1, "a", 'y')] {
+        let name = name.to_string(alloc)?;
+        people.insert(Person { number, name }, kept)?;
+    }
+    for number in 0..4 {
+        println!(rt; "kept for {number}: {:?}", kept_for(&people, number))?;
+    }
+    Ok(())
+}
+
+// A number that moves to another name: to a new one, to one that is there, to its own, and one that isn't there.
+fn show_renamed(rt: &impl Print, alloc: Global) -> io::Result<()> {
+    let mut map = two_numbers(alloc)?;
+    for (old, new) in [("one", "a"), ("two", "a"), ("a", "a"), ("two", "one")] {
+        let there = texts::rename(&mut map, old, new.to_string(alloc)?);
+        println!(rt; "{old} is {new}: {there}, {map:?}")?;
+    }
+    Ok(())
+}
+
+// Whether 7 is written at bytes, and the number that is removed.
+fn show_bytes(rt: &impl Print, alloc: Global, bytes: &[u8]) -> io::Result<()> {
+    let mut map = ByteNumbers::new_vec(alloc);
+    map.insert(Vec::from_slice(alloc, &[1_u8, 2])?, 12)?;
+    let is_set = texts::set_bytes(&mut map, bytes, 7);
+    let taken = texts::take_bytes(&mut map, bytes);
+    println!(rt; "{bytes:?}: set {is_set}, taken {taken:?}")
+}
+
+const FIELDS: &[(&str, &str)] = &[("host", "a"), ("accept", "b"), ("host", "c")];
+
+// Header lists that own their strings and that borrow them, a copy, and what is removed.
+fn show_headers(rt: &impl Print, alloc: Global) -> io::Result<()> {
+    let (mut owned, mut borrowed) = (Headers::new_vec(alloc), Borrowed::new_vec(alloc));
+    for (name, value) in texts(alloc, FIELDS)? {
+        headers::set(&mut owned, name, value)?;
+    }
+    for (name, value) in FIELDS {
+        headers::set_borrowed(&mut borrowed, name, value)?;
+    }
+    let copy = headers::copy_of(alloc, &owned)?;
+    println!(rt; "headers {owned:?}, borrowed {borrowed:?}")?;
+    for name in ["accept", "host", "via"] {
+        let removed = headers::remove(&mut owned, name);
+        let other = headers::remove_borrowed(&mut borrowed, name);
+        println!(rt; "{name}: removed {removed:?} and {other:?}")?;
+    }
+    println!(rt; "left {owned:?} and {borrowed:?}, copy {copy:?}")
+}
+
+// The headers of three fields, of which the first has this name.
+fn show_fields(rt: &impl Print, alloc: Global, first: &str) -> io::Result<()> {
+    let (second, third) = (field("accept", "text"), field("here", "y"));
+    match read_headers(alloc, &[field(first, "x"), second, third]) {
+        Ok(headers) => println!(rt; "of fields {headers:?}"),
+        Err(fault) => println!(rt; "of fields {fault:?}"),
+    }
+}
+
+fn field<'a>(name: &'a str, value: &'a str) -> Field<'a> {
+    Field { name, value }
+}
+
+// Settings of a user over the defaults, and more over those.
+fn show_settings(rt: &impl Print, alloc: Global) -> anyhow::Result<()> {
+    let defaults = [("port", "80"), ("host", "here"), ("log", "off")].as_slice();
+    let mut settings = config::configured(alloc, texts(alloc, defaults)?, texts(alloc, FIELDS)?)?;
+    println!(rt; "configured {settings:?}")?;
+    let later = LiteMap::from_iter(alloc, texts(alloc, &[("log", "on"), ("a", "b")])?)?;
+    let displaced = config::overlay(&mut settings, alloc, later)?;
+    println!(rt; "overlaid {settings:?}, displaced {displaced:?}")?;
+    config::override_with(&mut settings, alloc, texts(alloc, defaults)?)?;
+    println!(rt; "overridden {settings:?}")?;
+    Ok(())
+}
+
+// Scores of which one is set, many are set, and all are raised.
+fn show_scores(rt: &impl Print, alloc: Global) -> io::Result<()> {
+    let more = owned(alloc, &[("bob", 5), ("ann", u32::MAX), ("ann", 4)])?;
+    let mut scores = LiteMap::new_vec(alloc);
+    scores::set(&mut scores, "eve".to_string(alloc)?, u32::MAX)?;
+    scores::set_all(&mut scores, alloc, more)?;
+    scores::raise(&mut scores, 5);
+    for name in ["ann", "bob", "cy"] {
+        let place = scores::place_of(&scores, name);
+        println!(rt;
+            "score of {name}: {:?} at {place:?}",
+            scores::score_of(&scores, name)
+        )?;
+    }
+    println!(rt; "scores {scores:?}")
+}
+
+// Two pairs of which one goes into a map, and one into another, between two that are there already.
+fn show_both(rt: &impl Print, alloc: Global) -> io::Result<()> {
+    let mut one: VecMap<u8, u8> = LiteMap::new_vec(alloc);
+    let mut other = LiteMap::new_vec(alloc);
+    reserved::insert_first(&mut other, 2, 6)?;
+    reserved::insert_later(&mut other, 4, 10)?;
+    reserved::insert_both(&mut one, &mut other, (1, 7), (3, 8))?;
+    println!(rt; "both {one:?} {other:?}")
+}
+
+fn show_made(rt: &impl Print, alloc: Global) -> io::Result<()> {
+    let mut map: VecMap<u32, u32> = LiteMap::from_iter(alloc, [(3, 30)])?;
+    for (key, answer) in [(1, Ok(10)), (1, Err(7)), (2, Err(7))] {
+        let made: Result<u32, TryFault<u32, u32, u8>> = value_or_made(&mut map, key, |_| answer);
+        println!(rt; "made for {key}: {made:?}")?;
+    }
+    println!(rt; "made {map:?}")
+}
+
+fn show_sets(rt: &impl Print, alloc: Global) -> io::Result<()> {
+    let mut set: Set = LiteMap::from_iter(alloc, [(1, ()), (3, ()), (5, ())])?;
+    let other: Set = LiteMap::from_iter(alloc, [(3, ()), (5, ()), (7, ())])?;
+    let before = sets::is_subset(&set, &other);
+    sets::intersect(&mut set, &other);
+    let after = sets::is_subset(&set, &other);
+    println!(rt; "common {set:?}, a subset {before} {after}")
+}
+
+// Numbers at names to which others are added: beside them, at common names, and past the greatest number.
+fn show_sums(rt: &impl Print, alloc: Global) -> io::Result<()> {
+    let mut sum: Named = LiteMap::from_iter(alloc, owned(alloc, &[("a", 10), ("c", 30)])?)?;
+    let others = owned(alloc, &[("b", 5), ("c", 7), ("a", u64::MAX)])?;
+    sums::add_capped(&mut sum, alloc, LiteMap::from_iter(alloc, others)?)?;
+    println!(rt; "sum {sum:?}")
+}
+
+// The totals of a map of two pairs, over a vector, a slice of it, and two columns that it moves to.
+fn show_totals(rt: &impl Print, alloc: Global, last: u32) -> io::Result<()> {
+    let map: VecMap<u8, u32> = LiteMap::from_iter(alloc, [(1, 97), (2, last)])?;
+    let totals = [total(&map), total(&map.as_sliced())];
+    let columns: ColumnMap<u8, u32> = moved(alloc, map)?;
+    println!(rt; "totals {totals:?}, {columns:?} has {:?}", total(&columns))
+}
+
+// How often words of a list occur, and names that come one by one.
+fn show_counts(rt: &impl Print, alloc: Global) -> io::Result<()> {
+    let words = ["the", "map", "of", "the", "list", "of", "the", ""];
+    println!(rt;
+        "words {:?}",
+        counting::count_words(alloc, words.as_slice())?
+    )?;
+    let mut names = Names::new_vec(alloc);
+    for name in ["b", "a", "b", "", "c", "b"] {
+        if names.get(name).copied().unwrap_or(0) < u32::MAX {
+            counting::count_name(&mut names, name.to_string(alloc)?)?;
+        }
+    }
+    println!(rt; "names {names:?}")
+}
+
+fn show_words(rt: &impl Print, alloc: Global) -> io::Result<()> {
+    let mut counts = Counts::new_vec(alloc);
+    for word in ["b", "c", "a", "b", "c", "d"] {
+        if counts.get(word).copied().unwrap_or(0) < usize::MAX {
+            words::count_word(&mut counts, word)?;
+        }
+    }
+    let mut none = Counts::new_vec(alloc);
+    words::overlay(&mut none, alloc, Counts::new_vec(alloc))?;
+    let (over, first) = (
+        words::words_over(alloc, &counts, 1)?,
+        words::first_over(&counts, 1),
+    );
+    println!(rt; "{none:?}, over 1 {over:?}, first {first:?}")?;
+    for ranked in words::top(alloc, &counts, 3)? {
+        println!(rt; "top {} {}", ranked.1, ranked.0.0)?;
+    }
+    Ok(())
+}
+
+fn show_bag(rt: &impl Print, alloc: Global) -> io::Result<()> {
+    let mut bag: Bag<u8, Vec<(u8, usize)>> = Bag::new(alloc);
+    let mut all_added = true;
+    for element in [5, 3, 5, 7, 5, 7] {
+        all_added &= bag.add(element).is_ok();
+    }
+    let removed = [bag.remove(&5), bag.remove(&3), bag.remove(&3)];
+    bag.keep(2);
+    let left = (bag.get(&5), bag.get(&7));
+    println!(rt; "bag added {all_added}, removed {removed:?}, left {left:?}")
+}
+
+fn show_calendar(rt: &impl Print, alloc: Global) -> io::Result<()> {
+    let mut calendar = Calendar::new_vec(alloc);
+    for date in [(2025, 2, 28), (2024, 2, 1), (2024, 3, 1), (2024, 2, 29)] {
+        calendar.insert(date, "x".to_string(alloc)?)?;
+    }
+    println!(rt; "month {:?}", calendar::month(&calendar, 2024, 2))?;
+    calendar::drop_before(&mut calendar, &(2024, 2, 29));
+    println!(rt; "from then on {calendar:?}")
 }

@@ -97,13 +97,6 @@ fn write_number(map: &mut Numbers, name: &str, number: u32) -> bool
     }
 }
 
-/// The number at bytes.
-pub fn number_of_bytes(map: &ByteNumbers, bytes: &[u8]) -> Option<u32>
-    ensures { result ≡ value_at (by_slice nat_cmp) map.now.pairs bytes.now }
-{
-    map.get(bytes).copied()
-}
-
 /// Removes bytes. All others stay.
 #[tactic(auto, using(litemap::proofs::Texts::byte_keys))]
 pub fn take_bytes(map: &mut ByteNumbers, bytes: &[u8]) -> Option<u32>

@@ -1,5 +1,5 @@
 use Rattle.litemap_store.proofs.Callers.HandedOver.{rebuilt}
-use Rattle.example_uses.proofs.moved.moved.Goals as goal
+use Rattle.example_uses.proofs.stores.moved.Goals as goal
 
 pub returns : goal.returns
 returns g c =

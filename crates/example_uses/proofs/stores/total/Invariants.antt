@@ -1,6 +1,6 @@
 use Rattle.std.proofs.Common.{◌≡◌, ◌+◌, sum}
 use Rattle.std.specs.Map.{values_of}
-use Rattle.example_uses.proofs.totals.total.Given as goal
+use Rattle.example_uses.proofs.stores.total.Given as goal
 
 abbrev pub invariant-loop-key : goal.invariant-loop-key
 invariant-loop-key g l =

@@ -1,5 +1,5 @@
 use Rattle.std.proofs.Common.{rules}
-use Rattle.example_uses.proofs.prices.raise.Goals as goal
+use Rattle.example_uses.proofs.scores.raise.Goals as goal
 
 -- what the closure leaves of a pair, and that it keeps no state
 pub returns : goal.returns
