@@ -1,5 +1,5 @@
 //! Entries that are known to be there, read one by one.
-ghost use Rattle.std.specs.Prelude.{◌≡◌, ◌+◌, ◌<◌, ◌∷◌, [], Some, slice_get};
+ghost use Rattle.std.specs.Prelude.{◌+◌, ◌∷◌, []};
 ghost use Rattle.litemap_store.specs.Counts.{RisesByAtMost};
 ghost use Rattle.litemap_store.specs.Pairs.{place};
 ghost use Rattle.name_index.specs.{AreEntries, BeginsPair, BeginsText, IsScanned, OfEntries, text_order};
@@ -53,19 +53,4 @@ pub fn scan<'a>(
         }
     }
     Err(len)
-}
-
-/// Returns the entry at an index.
-pub fn entry_at<'a>(entries: &'a [u8], len: usize, index: usize) -> (&'a str, &'a str)
-    requires entries { AreEntries entries.now len }
-    requires within { index < len }
-    ensures { OfEntries entries.now len (λ pairs. slice_get pairs index ≡ Some (shown result)) }
-{
-    let mut rest = entries;
-    for _ in 0..index {
-        let (_, after) = read_valid_pair(rest);
-        rest = after;
-    }
-    let (pair, _) = read_valid_pair(rest);
-    pair
 }

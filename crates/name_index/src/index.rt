@@ -7,7 +7,7 @@ ghost use Rattle.name_table.specs.Positions.{shown};
 
 use crate::error::NameIndexFault;
 use crate::name_entries::{NameEntries, map_of};
-use crate::offsets::{entries_between, offsets_of, pair_of, partition_point, search};
+use crate::offsets::{offsets_of, pair_of, partition_point, search};
 use crate::table::NameTable;
 use litemap_store::store::Count;
 use name_table::NameMap;
@@ -148,7 +148,8 @@ impl<'a> NameIndex<'a> {
         let offsets = self.offsets.as_slice();
         let end = range.end.min(offsets.len());
         if range.start < end {
-            entries_between(self.entries, offsets, range.start, end)
+            let entries = &self.entries[offsets[range.start] as usize..];
+            NameEntries::new(entries, end - range.start)
         } else {
             NameEntries::new(self.entries, 0)
         }

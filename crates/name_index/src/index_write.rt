@@ -2,7 +2,7 @@
 ghost use Rattle.std.specs.Prelude.{◌≡◌, ◌+◌, ◌≤◌, ◌<◌, Err, IfErr, IfOk, OnOk, length, map};
 ghost use Rattle.litemap.specs.ByBytes.{by_bytes};
 ghost use Rattle.litemap_store.specs.Pairs.{Rising};
-ghost use Rattle.name_index.specs.{Adds, AddsPairs, AreOffsets, IsIndex, IsNumberAt, IsPairAt, IsTextAt, entries_size};
+ghost use Rattle.name_index.specs.{Adds, AreOffsets, IsIndex, IsNumberAt, IsPairAt, IsTextAt, entries_size};
 ghost use Rattle.name_index.specs.{index_size, pair_size};
 ghost use Rattle.name_table.specs.Positions.{shown};
 ghost use Rattle.name_table.specs.Reads.{IfTooLarge};
@@ -39,7 +39,9 @@ pub fn write_index_of(alloc: Global, names: &[(&str, &str)]) -> Result<Vec<u8>, 
     ensures small { OnOk result (entries_size (map shown names.now) < NUMBER_LIMIT) }
 {
     let mut bytes = put_offsets(alloc, names)?;
-    put_entries(&mut bytes, names)?;
+    for pair in names {
+        put_pair(&mut bytes, pair.0, pair.1)?;
+    }
     Ok(bytes)
 }
 
@@ -57,17 +59,6 @@ fn put_offsets(alloc: Global, pairs: &[(&str, &str)]) -> Result<Vec<u8>, NameWri
         offset = offset_after(offset, pair.0, pair.1)?;
     }
     Ok(bytes)
-}
-
-// Appends each pair: its key and its value, each after its length.
-fn put_entries(bytes: &mut Vec<u8>, pairs: &[(&str, &str)]) -> Result<(), NameWriteFault>
-    ensures pairs { OnOk result (AddsPairs bytes.old.items bytes.new.items (map shown pairs.now) (length pairs.now)) }
-    ensures too_large { IfErr result (λ error. IfTooLarge error (NUMBER_LIMIT ≤ entries_size (map shown pairs.now))) }
-{
-    for pair in pairs {
-        put_pair(bytes, pair.0, pair.1)?;
-    }
-    Ok(())
 }
 
 // The offset after a pair, if four bytes can hold it.
@@ -88,6 +79,7 @@ fn offset_after(offset: usize, key: &str, value: &str) -> Result<usize, NameWrit
     }
 }
 
+// Appends a key and its value, each after its length.
 fn put_pair(bytes: &mut Vec<u8>, key: &str, value: &str) -> Result<(), NameWriteFault>
     ensures adds { OnOk result (Adds bytes.old.items bytes.new.items (pair_size (key.now, value.now))) }
     ensures pair { OnOk result (IsPairAt bytes.new.items (length bytes.old.items) (key.now, value.now)) }

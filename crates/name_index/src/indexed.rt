@@ -100,10 +100,7 @@ impl<'a> IndexedNames<'a> {
         ensures cost { IfIndex self.now (λ pairs. RisesByAtMost (digits (length pairs)) count.old count.new) }
     {
         match find(self.bytes, self.len, key, count)? {
-            Ok(index) => {
-                let (_, value) = entry_at(self.bytes, self.len, index)?;
-                Ok(Some(value))
-            }
+            Ok(index) => Ok(Some(entry_at(self.bytes, self.len, index)?.1)),
             Err(_) => Ok(None),
         }
     }
@@ -137,8 +134,7 @@ impl<'a> IndexedNames<'a> {
         if index >= self.len {
             return Ok(None);
         }
-        let pair = entry_at(self.bytes, self.len, index)?;
-        Ok(Some(pair))
+        Ok(Some(entry_at(self.bytes, self.len, index)?))
     }
 }
 

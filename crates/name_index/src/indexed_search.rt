@@ -18,12 +18,11 @@ pub fn number_at(bytes: &[u8], at: usize) -> Result<usize, IndexFault>
     ensures small { IfOk result (λ number. number < 2 ^ 32) }
     ensures error { IfErr result (λ _. length bytes.now < at + 4) }
 {
-    if at > bytes.len() {
+    let Some((_, tail)) = bytes.split_at_checked(at) else {
         return Err(IndexFault::Truncated { at });
-    }
-    let (_, tail) = bytes.split_at(at);
-    match tail.split_first_chunk::<4>() {
-        Some((four, _)) => Ok(u32::from_le_bytes(*four) as usize),
+    };
+    match tail.first_chunk::<4>() {
+        Some(four) => Ok(u32::from_le_bytes(*four) as usize),
         None => Err(IndexFault::Truncated { at }),
     }
 }
@@ -34,24 +33,13 @@ fn string_at(bytes: &[u8], at: usize) -> Result<&str, IndexFault>
     ensures error { IfErr result (λ _. (text : _) → IsTextAt bytes.now at text → ⊥) }
 {
     let size = number_at(bytes, at)?;
-    let (_, tail) = bytes.split_at(at + 4);
-    if size > tail.len() {
+    let Some(text) = bytes.get(at + 4..at + 4 + size) else {
         return Err(IndexFault::Truncated { at: at + 4 });
-    }
-    let (text, _) = tail.split_at(size);
+    };
     match str::from_utf8(text) {
         Ok(text) => Ok(text),
         Err(_) => Err(IndexFault::NotUtf8 { at: at + 4 }),
     }
-}
-
-fn pair_at(bytes: &[u8], at: usize) -> Result<(&str, &str), IndexFault>
-    ensures pair { IfOk result (λ pair. IsPairAt bytes.now at (shown pair)) }
-    ensures error { IfErr result (λ _. (pair : _) → IsPairAt bytes.now at pair → ⊥) }
-{
-    let key = string_at(bytes, at)?;
-    let value = string_at(bytes, at + 4 + key.len())?;
-    Ok((key, value))
 }
 
 fn offset_of(bytes: &[u8], len: usize, index: usize) -> Result<usize, IndexFault>
@@ -72,8 +60,9 @@ pub fn entry_at(bytes: &[u8], len: usize, index: usize) -> Result<(&str, &str), 
     ensures error { IfErr result (λ _. NoEntry bytes.now len index) }
 {
     let at = offset_of(bytes, len, index)?;
-    let pair = pair_at(bytes, at)?;
-    Ok(pair)
+    let key = string_at(bytes, at)?;
+    let value = string_at(bytes, at + 4 + key.len())?;
+    Ok((key, value))
 }
 
 /// Reads its key alone.
@@ -84,8 +73,7 @@ pub fn key_at(bytes: &[u8], len: usize, index: usize) -> Result<&str, IndexFault
     ensures error { IfErr result (λ _. NoEntry bytes.now len index) }
 {
     let at = offset_of(bytes, len, index)?;
-    let key = string_at(bytes, at)?;
-    Ok(key)
+    string_at(bytes, at)
 }
 
 /// Returns `Ok` with the index of the key, or `Err` with the index where it would go.

@@ -1,6 +1,5 @@
 //! The offsets of entries, and what is found by them: an entry, a key, and the names that begin with a string.
-ghost use Rattle.std.specs.Prelude.{◌≡◌, ◌+◌, ◌<◌, ◌≤◌, ◌∷◌, ◌++◌, [], IfErr, IfOk, OnErr, OnOk, Some, length, slice_get};
-ghost use Rattle.std.specs.Prelude.{slice_range, take};
+ghost use Rattle.std.specs.Prelude.{◌≡◌, ◌+◌, ◌<◌, ◌≤◌, ◌∷◌, ◌++◌, [], IfErr, IfOk, OnErr, OnOk, Some, length, slice_get, take};
 ghost use Rattle.litemap_store.specs.Counts.{RisesByAtMost, digits};
 ghost use Rattle.litemap_store.specs.Splits.{Splits};
 ghost use Rattle.name_index.specs.{AreEntries, AreFar, ArePlaced, AsPlaced, IfTooFar, IsKeyAt, leads_to, text_order};
@@ -11,7 +10,6 @@ ghost use Rattle.litemap.specs.Within.{IsCut};
 
 use crate::entries::{read_valid_pair, read_valid_string};
 use crate::error::NameIndexFault;
-use crate::name_entries::NameEntries;
 use litemap_store::store::Count;
 use std::alloc::{AllocError, Global};
 use std::cmp::Ordering;
@@ -29,8 +27,7 @@ pub fn offsets_of(alloc: Global, entries: &[u8], len: usize) -> Result<Vec<u32>,
     let mut rest = entries;
     for _ in 0..len {
         push(&mut offsets, offset_of(entries, rest)?)?;
-        let (_, after) = read_valid_pair(rest);
-        rest = after;
+        rest = read_valid_pair(rest).1;
     }
     Ok(offsets)
 }
@@ -60,23 +57,7 @@ pub fn pair_of<'a>(entries: &'a [u8], offsets: &[u32], index: usize) -> (&'a str
     requires within { index < length offsets.now }
     ensures { AsPlaced entries.now offsets.now (λ pairs. slice_get pairs index ≡ Some (shown result)) }
 {
-    let (pair, _) = read_valid_pair(&entries[offsets[index] as usize..]);
-    pair
-}
-
-/// Returns the entries from one index to before another.
-pub fn entries_between<'a>(
-    entries: &'a [u8],
-    offsets: &[u32],
-    start: usize,
-    end: usize,
-) -> NameEntries<'a>
-    requires placed { ArePlaced entries.now offsets.now }
-    requires start { start < end }
-    requires within { end ≤ length offsets.now }
-    ensures { AsPlaced entries.now offsets.now (λ pairs. result ≡ slice_range pairs start end) }
-{
-    NameEntries::new(&entries[offsets[start] as usize..], end - start)
+    read_valid_pair(&entries[offsets[index] as usize..]).0
 }
 
 /// Returns the key of the entry at an index.
@@ -85,8 +66,7 @@ pub fn key_of<'a>(entries: &'a [u8], offsets: &[u32], index: usize) -> &'a str
     requires within { index < length offsets.now }
     ensures { AsPlaced entries.now offsets.now (λ pairs. IsKeyAt pairs index result.now) }
 {
-    let (key, _) = read_valid_string(&entries[offsets[index] as usize..]);
-    key
+    read_valid_string(&entries[offsets[index] as usize..]).0
 }
 
 /// Returns `Ok` with the index of the key, or `Err` with the index where it would go.

@@ -5,7 +5,7 @@ ghost use Rattle.litemap_store.specs.Pairs.{place};
 ghost use Rattle.name_index.specs.{FindsIndex, Gets, IsOpened, OfTable, Opens, text_order};
 ghost use Rattle.name_table.specs.Positions.{shown};
 
-use crate::entries::{entry_at, scan};
+use crate::entries::scan;
 use crate::error::NameTableFault;
 use crate::name_entries::{NameEntries, map_of};
 use crate::rising::check;
@@ -131,7 +131,7 @@ impl<'a> NameTable<'a> {
         if index >= self.len {
             return None;
         }
-        Some(entry_at(self.entries, self.len, index))
+        self.iter().nth(index)
     }
 
     /// Makes the map of all entries, whose keys and values are slices of the bytes. Each is read once, moved once, and not

@@ -28,10 +28,7 @@ pub fn read_names<'a>(
     ensures read { IfOk result (λ read. IsRead bytes.now read.0.pairs read.1) }
     ensures error { IfErr result (IsUnread bytes.now) }
 {
-    let mut names = match NameBytes::new(bytes) {
-        Ok(names) => names,
-        Err(error) => return Err(ReadFault::Source(error)),
-    };
+    let mut names = NameBytes::new(bytes)?;
     let map = read_pairs(alloc, &mut names)?;
     Ok((map, names.place()))
 }

@@ -24,14 +24,7 @@ pub fn write_names(alloc: Global, names: &NameMap<'_>) -> Result<Vec<u8>, NameWr
     ensures too_large { IfErr result (λ error. IfTooLarge error
         ((bytes : List ℕ) → AreParts bytes (table_parts (map shown names.now.pairs)) → ⊥)) }
 {
-    let bytes = write_pairs(alloc, names.as_slice())?;
-    Ok(bytes)
-}
-
-fn write_pairs(alloc: Global, pairs: &[(&str, &str)]) -> Result<Vec<u8>, NameWriteFault>
-    ensures table { IfOk result (λ bytes. IsShortest bytes.items (table_parts (map shown pairs.now))) }
-    ensures too_large { IfErr result (λ error. IfTooLarge error (NoTable (map shown pairs.now))) }
-{
+    let pairs = names.as_slice();
     let mut bytes = Vec::new(alloc);
     put_length(&mut bytes, pairs.len())?;
     for pair in pairs {
@@ -80,6 +73,5 @@ fn put_number(bytes: &mut Vec<u8>, number: usize) -> Result<(), AllocError>
         return Ok(());
     }
     bytes.push((number % BASE + BASE) as u8)?;
-    put_number(bytes, number / BASE)?;
-    Ok(())
+    put_number(bytes, number / BASE)
 }

@@ -1,10 +1,9 @@
 //! The reply to a line, and what the line does to the names.
-ghost use Rattle.std.specs.Prelude.{◌≡◌, ◌++◌, [], IfOk, IfSome, OnOk, flat_map};
-ghost use Rattle.std.specs.Prelude.{option_copied, option_map, slice_get, string_bytes};
+ghost use Rattle.std.specs.Prelude.{◌≡◌, [], IfOk, flat_map, option_copied, option_map, string_bytes};
 ghost use Rattle.json.specs.Print.{print};
 ghost use Rattle.litemap_store.specs.Pairs.{value_at};
-ghost use Rattle.names_core.specs.Reply.{IsAnswer, names_of, pair_bytes, pair_tokens};
-ghost use Rattle.names_core.specs.Told.{Answers, Puts, by_bytes, json_answer, old_text, pair_text, place_text, value_text};
+ghost use Rattle.names_core.specs.Reply.{IsAnswer, names_of};
+ghost use Rattle.names_core.specs.Told.{Answers, Puts, by_bytes, json_answer, old_text, pair_text, value_text};
 
 use crate::line::{Command, parse};
 use json::Writer;
@@ -61,7 +60,10 @@ fn obey<S: StoreMut<String, String>>(
         Command::Put(key, value) => put(alloc, names, key, value),
         Command::Get(key) => value_text(alloc, names.get(key)),
         Command::Del(key) => value_text(alloc, names.remove(key).as_ref()),
-        Command::Find(key) => place_text(alloc, names.find_index(key)),
+        Command::Find(key) => match names.find_index(key) {
+            Ok(index) => format!(in alloc; "ok {index}\n"),
+            Err(index) => format!(in alloc; "err {index}\n"),
+        },
     }
 }
 
@@ -103,38 +105,15 @@ fn value_text(alloc: Global, value: Option<&String>) -> Result<String, AllocErro
     }
 }
 
-// The reply to `find`: `ok` and the index of the key, or `err` and the index where it would be inserted.
-fn place_text(alloc: Global, place: Result<usize, usize>) -> Result<String, AllocError>
-    ensures { IfOk result (λ text. string_bytes text ≡ place_text place) }
-{
-    match place {
-        Ok(index) => format!(in alloc; "ok {index}\n"),
-        Err(index) => format!(in alloc; "err {index}\n"),
-    }
-}
-
 fn all<S: Store<String, String>>(alloc: Global, names: &Names<S>) -> Result<String, AllocError>
     ensures { IfOk result (λ text. string_bytes text ≡ flat_map pair_text (names_of names.now).pairs) }
 {
     let mut text = String::new(alloc);
     for index in 0..names.len() {
-        push_pair(&mut text, names, index)?;
+        let (key, value) = names.get_indexed(index).unwrap();
+        write!(text, "{key} {value}\n")?;
     }
     Ok(text)
-}
-
-fn push_pair<S: Store<String, String>>(
-    text: &mut String,
-    names: &Names<S>,
-    index: usize,
-) -> Result<(), AllocError>
-    ensures { OnOk result (IfSome (slice_get names.now.pairs index)
-        (λ pair. string_bytes text.new ≡ string_bytes text.old ++ pair_text (pair_bytes pair))) }
-{
-    let Some((key, value)) = names.get_indexed(index) else {
-        return Ok(());
-    };
-    write!(text, "{key} {value}\n")
 }
 
 // The map as JSON, on one line, written pair by pair: by the tree that `to_json` makes it would take forty times as long.
@@ -147,29 +126,14 @@ fn json<S: Store<String, String>>(alloc: Global, names: &Names<S>) -> Result<Str
     let mut writer = Writer::new(Vec::new(alloc));
     writer.begin_object()?;
     for index in 0..names.len() {
-        write_pair(&mut writer, names, index)?;
+        let (key, value) = names.get_indexed(index).unwrap();
+        writer.key(key.as_str())?;
+        writer.string(value.as_str())?;
     }
     writer.end_object()?;
     let mut text = written(writer);
     text.push_str("\n")?;
     Ok(text)
-}
-
-// Writes the pair at an index as a member of an object.
-fn write_pair<S: Store<String, String>>(
-    writer: &mut Writer,
-    names: &Names<S>,
-    index: usize,
-) -> Result<(), AllocError>
-    ensures before { writer.new.before ≡ writer.old.before }
-    ensures tokens { OnOk result (IfSome (slice_get names.now.pairs index)
-        (λ pair. writer.new.tokens ≡ writer.old.tokens ++ pair_tokens (pair_bytes pair))) }
-{
-    let Some((key, value)) = names.get_indexed(index) else {
-        return Ok(());
-    };
-    writer.key(key.as_str())?;
-    writer.string(value.as_str())
 }
 
 fn written(writer: Writer) -> String

@@ -51,28 +51,22 @@ impl<T> Watch<T> {
     pub(crate) fn settle_before<U>(&mut self, other: &Watch<U>)
         ensures { self.new ≡ record self.old { is_unsettled = self.old.is_unsettled && other.now.met_fault } }
     {
-        if !other.met_fault {
-            self.is_unsettled = false;
-        }
+        self.is_unsettled &= other.met_fault;
     }
 
-    fn note_call(&mut self)
+    // Notes that a call was made, and whether it failed.
+    fn note_call(&mut self, fault: bool)
         ensures { self.new ≡ record self.old {
+          failed = fault || self.old.failed;
+          met_fault = fault || self.old.met_fault;
           called_after_fault = self.old.met_fault || self.old.called_after_fault;
           is_unsettled = true;
         } }
     {
-        if self.met_fault {
-            self.called_after_fault = true;
-        }
+        self.called_after_fault |= self.met_fault;
         self.is_unsettled = true;
-    }
-
-    fn note_fault(&mut self)
-        ensures { self.new ≡ record self.old { failed = true; met_fault = true } }
-    {
-        self.failed = true;
-        self.met_fault = true;
+        self.failed |= fault;
+        self.met_fault |= fault;
     }
 }
 
@@ -87,11 +81,8 @@ impl<R: Read> Read for Watch<R> {
         ensures failed { self.new.failed ≡ (is_err result || self.old.failed) }
         ensures noted { NotesCall self.old self.new (is_err result) }
     {
-        self.note_call();
         let result = self.inner.read(buf);
-        if result.is_err() {
-            self.note_fault();
-        }
+        self.note_call(result.is_err());
         result
     }
 }
@@ -107,15 +98,12 @@ impl<W: Write> Write for Watch<W> {
         ensures failed { self.new.failed ≡ (is_write_fault result buf.now || self.old.failed) }
         ensures noted { NotesCall self.old self.new (is_write_fault result buf.now) }
     {
-        self.note_call();
         let result = self.inner.write(buf);
         let is_fault = match &result {
             Ok(n) => *n == 0 && !buf.is_empty(),
             Err(_) => true,
         };
-        if is_fault {
-            self.note_fault();
-        }
+        self.note_call(is_fault);
         result
     }
 
@@ -126,7 +114,7 @@ impl<W: Write> Write for Watch<W> {
         ensures failed { self.new.failed ≡ self.old.failed }
         ensures noted { NotesCall self.old self.new false }
     {
-        self.note_call();
+        self.note_call(false);
         self.inner.flush()
     }
 

@@ -1,5 +1,5 @@
-use Rattle.std.proofs.Common.{◌∷◌, ◌∙◌, [], ap, arith, sym, take_all}
-use Rattle.json.specs.Token.{begin_object}
+use Rattle.std.proofs.Common.{◌++◌, ◌∷◌, ◌∙◌, [], ap, append_assoc, arith, rules, sym, take_all}
+use Rattle.json.specs.Token.{begin_object, key, string}
 use Rattle.names_core.specs.Reply.{pair_bytes, pair_tokens}
 use Rattle.names_core.specs.Told.{line}
 use Rattle.names_core.proofs.Pairs.{flat_map_one_more, print-object}
@@ -7,8 +7,10 @@ use Rattle.names_core.proofs.reply.json.Goals as goal
 
 pub loop-index-preserved : goal.loop-index-preserved
 loop-index-preserved g c = (
-  c.write_pair.ensures.before ∙ c.loop-index.invariant.0,
-  flat_map_one_more (begin_object ∷ []) (λ pair. pair_tokens (pair_bytes pair)) c.args.names.now.pairs c.loop-index.index _ _ (omega arith) c.loop-index.invariant.1 c.in_ok-write_pair.ensures.tokens,
+  search rules,
+  flat_map_one_more (begin_object ∷ []) (λ pair. pair_tokens (pair_bytes pair)) c.args.names.now.pairs c.loop-index.index _ _ (omega arith) c.loop-index.invariant.1
+      (rw (← c.get_indexed.ensures, c.unwrap.ensures, ← c.as_str.ensures.value, ← c.as_str-in-loop-index.ensures.value)
+      (c.in_ok-string.ensures.ok ∙ ap (λ t. t ++ string c.as_str-in-loop-index.result.now ∷ []) c.in_ok-key.ensures.ok ∙ append_assoc c.loop-index.writer.tokens (key c.as_str.result.now ∷ []) (string c.as_str-in-loop-index.result.now ∷ []))),
 )
 
 pub returns : goal.returns

@@ -3,8 +3,8 @@ use Rattle.name_index.specs.{text_order}
 use Rattle.name_index.proofs.Placing.{cost_by_pairs, of_indexed}
 use Rattle.name_index.proofs.index.NameIndex.find_index_counted.Goals as goal
 
-pub returns-clause-place : goal.returns-clause-place
-returns-clause-place c =
+pub returns-clause-index : goal.returns-clause-index
+returns-clause-index c =
     rw (← c.self.view_is)
     (of_indexed _ _ _ _ c.self.invariant c.as_slice.ensures.value (λ p. index_of-from_Splits text_order p.these.pairs c.args.key.now c.search.result (c.search.ensures.splits p)))
 
