@@ -105,14 +105,25 @@ def removals():
 
 
 def small():
-    """Each command over no name and over a few, by each name and by others."""
+    """Each command over no name and over a few, by names below, between and above them, and then by each of them."""
     for names in [b"", b"m", b"am", b"amz"]:
         keys = [b"%c" % it for it in names]
         yield from [b"put " + key + b" " + key for key in keys]
-        for key in [*keys, b"!", b"n", b"~"]:
+        for key in [b"!", b"n", b"~", *keys]:
             yield from [b"all", b"json", b"get " + key, b"find " + key, b"del " + key, b"del " + key]
         yield from [b"put " + key + b" v" for key in [b"all", b"json", b"put", b"get", b"del", b"find"]]
         yield from [b"del " + key for key in [b"all", b"json", b"put", b"get", b"del", b"find"]]
+
+
+def characters():
+    """Names and values of each character of words, and some that begin or end in it; they are listed, looked up and deleted."""
+    for code in range(33, 127):
+        yield from [b"put %c %c" % (code, code), b"put %cx %cy" % (code, code), b"put x%c y%c" % (code, code)]
+    yield from [b"all", b"json"]
+    for code in range(33, 127):
+        yield from [b"get x%c" % code, b"find %cx" % code, b"put x%c %cz" % (code, code)]
+    for code in range(33, 127):
+        yield from [b"del %c" % code, b"del %cx" % code, b"del x%c" % code]
 
 
 # bad lines before others
@@ -140,6 +151,7 @@ LINES = {
     "the longest line and a line feed": [LONGEST, b""],
     "long values": long_values(),
     "long keys": long_keys(),
+    "each character": characters(),
     "places": puts(70000) + [b"find %05d" % key for key in [0, 9, 10, 11, 999, 1000, 1001, 65535, 65536, 69999, 70000]],
     "65537 puts": puts(65537) + [b"put 65536 w", b"get 65536", b"find 65537"],
     "removals": removals(),
@@ -167,7 +179,8 @@ def searched():
     """Lines before those of stdin, how often all of them search the names, and how many comparisons of names that takes at most: each
     line that calls the map searches once."""
     some = [b"%s %05d" % (word, key) for word in (b"get", b"find", b"del", b"get") for key in range(0, 400, 3)]
-    lines = [*small(), b"put a a", b"del a", *puts(300), *puts(40, b"w", 100), *some, *long_values(), *long_keys(), b"json", b"all"]
+    lines = [*small(), b"put a a", b"del a", *characters(), *puts(300), *puts(40, b"w", 100), *some]
+    lines += [*long_values(), *long_keys(), b"json", b"all"]
     given = b"\n".join([*lines, pathlib.Path(__file__).with_name("stdin").read_bytes()]).decode()
     calls, names, most = re.findall(r"^(put|get|del|find) (\S+)", given, re.MULTILINE), set(), 0
     for word, key in calls:

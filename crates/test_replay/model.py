@@ -525,6 +525,10 @@ class Model:
             count, step = map(int, words)
             keys = sorted(place * step % 10007 for place in range(1, count + 1))
             return self.text((str(key), 0 if name == "grow_set" else key) for key in keys)
+        if name in ("extend_small", "extend_set"):
+            length, count, step = map(int, words)
+            keys = {2 * place for place in range(1, length + 1)} | {place * step % 10007 for place in range(1, count + 1)}
+            return self.text((str(key), 0 if name == "extend_set" else key) for key in sorted(keys))
         pairs = self.given(words)
         if name in (*MAKES, "lm_sort_from_iter", "lm_sort_from_vec"):
             cost = Model(self.order).cost(pairs)
@@ -876,7 +880,7 @@ def inputs(length):
 
 
 def astray(length):
-    """Many pairs above all others, which ascend except for the last one, the first or the second, or two of which have one key."""
+    """Many pairs above all others, which ascend except for the last one, the first or the second, or two or all have one key."""
     low = 2 * length + 1
     for count in (10, 40):
         high = low + 2 * count
@@ -885,6 +889,7 @@ def astray(length):
         yield f"{low},1,1 {high},1,1 {low + 2},{count - 2},2"
         yield f"{low},1,1 {low},{count},2"
         yield f"{low},{count},2 {high - 2},1,1"
+        yield f"{low},{count},0"
 
 
 def bulk():
@@ -971,7 +976,7 @@ def sliced():
 
 
 def grown():
-    """Insertions of one pair without room, around the powers of two up to 2,048; of small pairs, in sets, and to 5,000 pairs."""
+    """Insertions of one pair without room, around the powers of two up to 2,048; small pairs and sets; and to 5,000 pairs."""
     for power in range(6, 12):
         for length in (2**power - 1, 2**power):
             end = 2 * length + 1
@@ -980,6 +985,10 @@ def grown():
     counts = [*range(1, 71), 100, 129, 257, 513, 1025]
     grow = [f"{name} {count} {step}" for name in ("grow_small", "grow_set") for count in counts for step in (1, 10006, 7919)]
     yield from block(GROWING, 0, 0, grow)
+    # Full maps of small pairs, and full sets, extended by few keys and by many, in each order, from below, between and above.
+    sizes = itertools.product((0, 1, 2, 5, 16, 33, 65, 129, 1000), (1, 2, 16, 17, 65, 513), (1, 2, 500, 10006, 7919))
+    extend = [f"{name} {length} {count} {step}" for length, count, step in sizes for name in ("extend_small", "extend_set")]
+    yield from block(GROWING, 0, 0, extend)
     scattered = " ".join(f"{first},500,10" for first in (3, 9, 1, 7, 0, 5, 2, 8, 4, 6))
     yield from block(GROWING, 0, 0, [f"insert_each {pairs}" for pairs in ("0,5000,1", "5000,5000,-1", scattered)])
 
@@ -988,7 +997,7 @@ PLACING = ["insert", "try_insert", "try_append", "try_find_or_insert", "or_inser
 
 
 def roomy():
-    """Maps with room and no pair, vectors and other maps with room, with no pair or with some, and room for just the new pairs."""
+    """Maps with room and no pair, or more room than pairs; vectors and other maps with room; and room for just the new pairs."""
     taking = EXTENSIONS + MERGES + COMBINES + MAKES + MADE + named("store_join")
     for room in (5, 47):
         calls = [*spelled(*PAIRED, KEY=[1], VALUE=[7]), "or_default 1", "split_off 1", "lm_push 1 7", "lm_insert 0 1 7"]
@@ -1001,6 +1010,8 @@ def roomy():
     for length in (1, 2, 24):
         given = [f"{pairs} room={room}".strip() for pairs in ("", "1,1,1", "1,9,2", f"{2 * length + 1},9,1") for room in (1, 90)]
         yield from block(GROWING, length, 0, [f"{name} {pairs}" for name in taking for pairs in given])
+        copied = [*CONVERSIONS, "lm_try_clone", "clear", "retain 0", "retain 1", "into_iter 1"]
+        yield from block(GROWING, length, 90, copied)
     for length, count in itertools.product((12, 100, 1000), (1, 9, 12)):
         yield from block(GROWING, length, count, [f"{name} 3,{count},2" for name in MERGES + EXTENSIONS])
 

@@ -2,6 +2,7 @@
 use litemap::store::NoRoom;
 use litemap::{LiteMap, TryFault, VecMap};
 use litemap_columns::ColumnMap;
+use litemap_json::{ItemFault, JsonFault, WriteFault};
 use litemap_read::ReadFault;
 use std::alloc::{AllocError, Global};
 use std::error::Error;
@@ -10,21 +11,44 @@ use std::{fmt, io};
 
 const PAIRS: [(u32, char); 2] = [(1, 'a'), (2, 'b')];
 
+// What errors write if memory runs out.
+const NO_MEMORY: &str = "there is not enough memory";
+
+// What `{:#?}` prints of an iterator over a pair.
+const LINES: &str = "SliceIter {
+    rest: [
+        (
+            1,
+            'a',
+        ),
+    ],
+}";
+
 /// Whether `{:?}` prints this text.
 pub(crate) fn prints<T: Debug>(alloc: Global, value: &T, text: &str) -> Result<bool, AllocError> {
     let found = format!(in alloc; "{value:?}")?;
     Ok(found.as_str() == text)
 }
 
-// A map over a slice prints its pairs, and an iterator of values over two columns what is left of them.
+// Whether `{:#?}` prints this text.
+fn prints_lines<T: Debug>(alloc: Global, value: &T, text: &str) -> Result<bool, AllocError> {
+    let found = format!(in alloc; "{value:#?}")?;
+    Ok(found.as_str() == text)
+}
+
+// A map over a slice prints its pairs, an iterator of values over two columns what is left of them, and one over pairs the same
+// in lines.
 pub(crate) fn what_is_printed(alloc: Global) -> Result<bool, AllocError> {
     let pairs: VecMap<u32, char> = LiteMap::from_iter(alloc, PAIRS)?;
+    let mut first = pairs.iter();
+    let _second = first.next_back();
     let columns: ColumnMap<u32, char> = LiteMap::from_iter(alloc, PAIRS)?;
     let values =
         "ValuesIterWrap { iter: ColumnIter { keys: [1, 2], values: ['a', 'b'] }, marker: PhantomData<_> }";
     Ok(
         prints(alloc, &pairs.as_sliced(), "{1: 'a', 2: 'b'}")?
-            && prints(alloc, &columns.values(), values)?,
+            && prints(alloc, &columns.values(), values)?
+            && prints_lines(alloc, &first, LINES)?,
     )
 }
 
@@ -40,8 +64,22 @@ pub(crate) fn what_long_walks_print(alloc: Global) -> Result<bool, AllocError> {
     let values = format!(in alloc; "ValuesIterWrap {{ {walk} }}")?;
     Ok(
         prints(alloc, &pairs.keys(), keys.as_str())?
-            && prints(alloc, &pairs.values(), values.as_str())?,
+            && prints(alloc, &pairs.values(), values.as_str())?
+            && a_long_walk_over_columns_prints(alloc)?,
     )
+}
+
+// So does one over two columns.
+fn a_long_walk_over_columns_prints(alloc: Global) -> Result<bool, AllocError> {
+    let (mut keys, mut values) = (Vec::new(alloc), Vec::new(alloc));
+    let mut columns: ColumnMap<u32, char> = LiteMap::new(alloc);
+    for key in 0..129u32 {
+        keys.push(key)?;
+        values.push('a')?;
+        columns.insert(key, 'a')?;
+    }
+    let walk = format!(in alloc; "ColumnIter {{ keys: {keys:?}, values: {values:?} }}")?;
+    prints(alloc, &columns.iter(), walk.as_str())
 }
 
 // Whether an error writes this text.
@@ -54,15 +92,12 @@ fn full() -> TryFault<u8, u8, AllocError> {
     TryFault::NoRoom { key: 1, value: 2 }
 }
 
-// Whether an allocation error is written alike, by itself and as std's error.
-fn is_written_of_memory(alloc: Global) -> Result<bool, AllocError> {
-    let text = "there is not enough memory";
-    let of_std = format!(in alloc; "{}", io::Error::from(AllocError))?;
-    let of_std = of_std.as_str();
+// Whether the errors of maps write alike that memory ran out, by themselves and as std's error.
+fn is_written_of_memory(alloc: Global, of_std: &str) -> Result<bool, AllocError> {
     Ok(
-        writes(alloc, NoRoom { back: 7 }, text)?
-            && writes(alloc, ReadFault::<fmt::Error>::NoRoom, text)?
-            && writes(alloc, full(), text)?
+        writes(alloc, NoRoom { back: 7 }, NO_MEMORY)?
+            && writes(alloc, ReadFault::<fmt::Error>::NoRoom, NO_MEMORY)?
+            && writes(alloc, full(), NO_MEMORY)?
             && writes(alloc, io::Error::from(NoRoom { back: 7 }), of_std)?
             && writes(
                 alloc,
@@ -73,13 +108,26 @@ fn is_written_of_memory(alloc: Global) -> Result<bool, AllocError> {
     )
 }
 
+// Whether the errors of JSON write it in the same way.
+fn is_written_of_json(alloc: Global, of_std: &str) -> Result<bool, AllocError> {
+    Ok(
+        writes(alloc, WriteFault::Memory, NO_MEMORY)?
+            && writes(alloc, JsonFault::Memory, NO_MEMORY)?
+            && writes(alloc, ItemFault::Memory, NO_MEMORY)?
+            && writes(alloc, io::Error::from(WriteFault::Memory), of_std)?
+            && writes(alloc, io::Error::from(JsonFault::Memory), of_std)?,
+    )
+}
+
 // An error of a source or a closure is written as it is.
 pub(crate) fn an_error_writes_what_it_is(alloc: Global) -> Result<bool, AllocError> {
     let own = format!(in alloc; "{}", fmt::Error)?;
     let own = own.as_str();
     let of_source = io::Error::from(ReadFault::Source(fmt::Error));
+    let of_std = format!(in alloc; "{}", io::Error::from(AllocError))?;
     Ok(
-        is_written_of_memory(alloc)?
+        is_written_of_memory(alloc, of_std.as_str())?
+            && is_written_of_json(alloc, of_std.as_str())?
             && writes(alloc, of_source, "the source of pairs returned an error")?
             && writes(alloc, ReadFault::Source(fmt::Error), own)?
             && writes(alloc, TryFault::<u8, u8, _>::Closure(fmt::Error), own)?,

@@ -1,11 +1,12 @@
-//! Maps beside that of the line: of small pairs, and sets, that grow, and of vectors as keys.
+//! Maps beside that of the line: of small pairs, and sets, that grow or are extended, and of vectors as keys.
 use crate::answer::{Answer, Pairs};
 use crate::call::{Call, Made};
 use crate::counted::Order;
 use litemap::LiteMap;
 use litemap::store::StoreBulkMut;
 
-/// Inserts so many keys into an empty map, if the name is one of these: over a store of small pairs, and over one of a set.
+/// Inserts so many keys into an empty map, or extends a full one by so many, if the name is one of these: over a store of small
+/// pairs, and over one of a set.
 pub fn grow<S: StoreBulkMut<u32, u32>, T: StoreBulkMut<u32, ()>>(
     call: &Call<'_>,
     to: &mut Answer,
@@ -13,6 +14,8 @@ pub fn grow<S: StoreBulkMut<u32, u32>, T: StoreBulkMut<u32, ()>>(
     match call.name {
         "grow_small" => grow_over::<u32, S>(call, to),
         "grow_set" => grow_over::<(), T>(call, to),
+        "extend_small" => extend_over::<u32, S>(call, to),
+        "extend_set" => extend_over::<(), T>(call, to),
         _ => None,
     }
 }
@@ -76,14 +79,63 @@ fn grow_over<V: Small + Drop, S: StoreBulkMut<u32, V>>(call: &Call<'_>, to: &mut
         });
         return Some(());
     }
+    to.show(pairs_of(&map));
+    Some(())
+}
+
+fn pairs_of<V: Small + Drop, S: StoreBulkMut<u32, V>>(map: &LiteMap<u32, V, S>) -> Pairs {
     let mut pairs = Pairs::new();
     for index in 0..map.len() {
         if let Some((key, value)) = map.get_indexed(index) {
             pairs.add_codes(Order::Number, *key as u64, value.number());
         }
     }
-    to.show(pairs);
+    pairs
+}
+
+// Extends a map of so many multiples of two, which has no more room, by the vector of as many other keys as the second number
+// says, which are multiples of the third one as in `grow_over`.
+fn extend_over<V: Small + Drop, S: StoreBulkMut<u32, V>>(call: &Call<'_>, to: &mut Answer) -> Made {
+    call.end();
+    let (len, count, step) = (call.number(0)?, call.number(1)?, call.number(2)?);
+    let old = multiples(call, len, 2)?;
+    let mut map: LiteMap<u32, V, S> = LiteMap::from_vec(call.alloc, old).ok()?;
+    let (before, given) = (pairs_of(&map), multiples(call, count, step)?);
+    let sum = sum_of::<V>(given.as_slice());
+    call.begin();
+    let extended = map.extend_from_vec(call.alloc, given);
+    call.end();
+    let after = pairs_of(&map);
+    match extended {
+        Ok(()) => to.show(after),
+        Err(refused) if after.is_same(&before) && sum_of(refused.back.as_slice()) == sum => {
+            to.word("refused");
+        }
+        Err(_) => to.word("lost"),
+    }
     Some(())
+}
+
+fn multiples<V: Small + Drop>(call: &Call<'_>, count: u64, step: u64) -> Option<Vec<(u32, V)>> {
+    let mut pairs = Vec::with_capacity(call.alloc, count as usize).ok()?;
+    for place in 0..count {
+        let key = multiple(place, step);
+        pairs.push((key, V::of(key))).ok()?;
+    }
+    Some(pairs)
+}
+
+fn multiple(place: u64, step: u64) -> u32 {
+    (place.wrapping_add(1).wrapping_mul(step) % 10_007) as u32
+}
+
+// The sum of keys, which tells whether all came back, in whichever order.
+fn sum_of<V>(pairs: &[(u32, V)]) -> u64 {
+    let mut sum = 0u64;
+    for (key, _) in pairs {
+        sum = sum.wrapping_add(*key as u64).wrapping_add(1 << 32);
+    }
+    sum
 }
 
 // How many keys were inserted.
@@ -93,7 +145,7 @@ fn insert_all<V: Small + Drop, S: StoreBulkMut<u32, V>>(
     step: u64,
 ) -> u64 {
     for place in 0..count {
-        let key = (place.wrapping_add(1).wrapping_mul(step) % 10_007) as u32;
+        let key = multiple(place, step);
         if map.insert(key, V::of(key)).is_err() {
             return place;
         }
