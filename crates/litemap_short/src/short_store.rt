@@ -71,10 +71,8 @@ impl<K, V> StoreConstEmpty<K, V> for ShortStore<K, V> {
     ghost empty_room = { 1 };
 
     fn lm_empty(alloc: Global) -> Self {
-        ShortStore {
-            alloc,
-            storage: Storage::Empty,
-        }
+        let storage = Storage::Empty;
+        ShortStore { alloc, storage }
     }
 }
 
@@ -125,13 +123,11 @@ impl<K, V> StoreMut<K, V> for ShortStore<K, V> {
     }
 
     fn lm_insert(&mut self, index: usize, key: K, value: V) -> Result<(), NoRoom<(K, V)>> {
-        match self.storage.reserve(self.alloc, 1) {
-            Ok(()) => {
-                self.storage.insert_reserved(index, (key, value));
-                Ok(())
-            }
-            Err(_) => Err(NoRoom { back: (key, value) }),
+        if self.storage.reserve(self.alloc, 1).is_err() {
+            return Err(NoRoom { back: (key, value) });
         }
+        self.storage.insert_reserved(index, (key, value));
+        Ok(())
     }
 
     fn lm_remove(&mut self, index: usize) -> (K, V) {
@@ -178,10 +174,8 @@ impl<K: Ord + Drop, V: Drop> StoreFromIterable<K, V> for ShortStore<K, V> {
         count: &mut Count,
     ) -> Result<Self, AllocError> {
         let items = Vec::lm_sort_from_iter(alloc, iter, count)?;
-        Ok(ShortStore {
-            alloc,
-            storage: Storage::from_vec(items),
-        })
+        let storage = Storage::from_vec(items);
+        Ok(ShortStore { alloc, storage })
     }
 }
 
@@ -191,10 +185,8 @@ impl<K: Drop, V: Drop> StoreFromIterator<K, V> for ShortStore<K, V> {
         iter: I,
     ) -> Result<Self, AllocError> {
         let items = Vec::lm_from_pairs(alloc, iter)?;
-        Ok(ShortStore {
-            alloc,
-            storage: Storage::from_vec(items),
-        })
+        let storage = Storage::from_vec(items);
+        Ok(ShortStore { alloc, storage })
     }
 }
 

@@ -67,24 +67,12 @@ impl<T> Storage<T> {
             return Err(AllocError);
         };
         let items = Vec::with_capacity(alloc, capacity)?;
-        let few = mem::replace(self, Storage::Heap(items));
-        self.keep_in(few);
-        Ok(())
-    }
-
-    // Puts the item, if there is one, into a vector that is empty and has spare capacity.
-    fn keep_in(&mut self, few: Storage<T>)
-        requires few { IsFew few }
-        requires empty { storage_items self.old ≡ [] }
-        requires room { length (storage_items few) ≤ storage_room self.old }
-        ensures items { storage_items self.new ≡ storage_items few }
-        ensures room { storage_room self.old ≤ storage_room self.new + length (storage_items few) }
-    {
-        match few {
+        match mem::replace(self, Storage::Heap(items)) {
             Storage::Empty => {}
             Storage::Inline(item, []) => self.insert_reserved(0, item),
             Storage::Heap(_) => unreachable!(),
         }
+        Ok(())
     }
 
     // Inserts an item at an index, and moves later ones up by one.
@@ -143,17 +131,14 @@ impl<T> Storage<T> {
     pub(crate) fn from_vec(mut items: Vec<T>) -> Self
         ensures { storage_items result ≡ items.items }
     {
-        match items.len() {
-            0 => {
-                items.destroy_empty();
-                Storage::Empty
-            }
-            1 => {
-                let item = items.take_last();
-                items.destroy_empty();
-                Storage::Inline(item, [])
-            }
-            _ => Storage::Heap(items),
+        if items.len() > 1 {
+            return Storage::Heap(items);
+        }
+        let one = items.pop();
+        items.destroy_empty();
+        match one {
+            Some(item) => Storage::Inline(item, []),
+            None => Storage::Empty,
         }
     }
 
@@ -210,7 +195,7 @@ impl<K: Drop, V: Drop> Storage<(K, V)> {
     ghost use Rattle.litemap_short.specs.Storage.{storage_items, storage_room, IsOne};
 
     // Keeps the pairs for which `f` returns true. It calls `f` once on each, in order.
-    pub(crate) fn retain<F: FnMut(&K, &V) -> bool>(&mut self, f: F)
+    pub(crate) fn retain<F: FnMut(&K, &V) -> bool>(&mut self, mut f: F)
     where
         K: Ord,
         requires { CallableOnEach F.FnMut f (storage_items self.old) }
@@ -220,22 +205,14 @@ impl<K: Drop, V: Drop> Storage<(K, V)> {
     {
         match self {
             Storage::Empty => {}
-            Storage::Inline(_, _) => self.retain_one(f),
+            Storage::Inline(_, _) => {
+                let (key, value) = self.take_one();
+                let stays = is_kept(&mut f, &key, &value);
+                if stays {
+                    self.put_first((key, value));
+                }
+            }
             Storage::Heap(items) => items.lm_retain(f),
-        }
-    }
-
-    fn retain_one<F: FnMut(&K, &V) -> bool>(&mut self, mut f: F)
-        requires one { IsOne self.old }
-        requires callable { CallableOnEach F.FnMut f (storage_items self.old) }
-        ensures kept { Kept F.FnMut f (storage_items self.old) (storage_items self.new) }
-        ensures room { storage_room self.old + length (storage_items self.old)
-            ≤ storage_room self.new + length (storage_items self.new) }
-    {
-        let (key, value) = self.take_one();
-        let stays = is_kept(&mut f, &key, &value);
-        if stays {
-            self.put_first((key, value));
         }
     }
 }

@@ -28,30 +28,24 @@ fn table<K: Ord, V>(pairs: &[(K, V)]) -> Table<'_, K, V>
     LiteMap::from_sorted_store_unchecked(SliceStore::new(pairs))
 }
 
-// Whether a map with 7 and the greatest number of a type finds that at its index, and not the number after 7.
-macro_rules! finds_end {
-    ($number:ty) => {{
-        let pairs: [($number, u8); 2] = [(7, 1), (<$number>::MAX, 2)];
-        let map = table(&pairs);
-        map.const_get_with_index(<$number>::MAX) == Some((1, &2))
-            && map.const_get_with_index(8).is_none()
-    }};
+// Whether, for each of these types, a map with 7 and the greatest number finds that at its index, and not the number after 7.
+macro_rules! find_ends {
+    ($($number:ty)+) => {
+        [$({
+            let pairs: [($number, u8); 2] = [(7, 1), (<$number>::MAX, 2)];
+            let map = table(&pairs);
+            map.const_get_with_index(<$number>::MAX) == Some((1, &2))
+                && map.const_get_with_index(8).is_none()
+        }),+]
+    };
 }
 
-fn unsigned() -> [bool; 3] {
-    [finds_end!(u8), finds_end!(u16), finds_end!(u32)]
+fn unsigned() -> [bool; 6] {
+    find_ends!(u8 u16 u32 u64 u128 usize)
 }
 
-fn wide_unsigned() -> [bool; 3] {
-    [finds_end!(u64), finds_end!(u128), finds_end!(usize)]
-}
-
-fn signed() -> [bool; 3] {
-    [finds_end!(i8), finds_end!(i16), finds_end!(i32)]
-}
-
-fn wide_signed() -> [bool; 3] {
-    [finds_end!(i64), finds_end!(i128), finds_end!(isize)]
+fn signed() -> [bool; 6] {
+    find_ends!(i8 i16 i32 i64 i128 isize)
 }
 
 pub(crate) fn numbers_of_each_type_are_found(_: Global) -> Result<bool, AllocError> {
@@ -60,8 +54,7 @@ pub(crate) fn numbers_of_each_type_are_found(_: Global) -> Result<bool, AllocErr
     let is_none = none.const_len() == 0
         && none.const_is_empty()
         && none.const_get_with_index(0).is_none();
-    let found = [unsigned(), wide_unsigned(), signed(), wide_signed()];
-    Ok(is_none && found == [[true; 3]; 4])
+    Ok(is_none && [unsigned(), signed()] == [[true; 6]; 2])
 }
 
 // The least and the greatest number of a type are found, and one between them is not.

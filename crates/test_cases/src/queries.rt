@@ -90,23 +90,15 @@ where
     Ok(is_right)
 }
 
-fn by_texts(alloc: Global) -> Result<bool, AllocError> {
-    let owned = are_asked(alloc, |text| text.to_string(alloc), |text| text)?;
-    Ok(owned && are_asked(alloc, |text| Ok(text), |text| text)?)
-}
-
-fn by_texts_elsewhere(alloc: Global) -> Result<bool, AllocError> {
-    let boxed = are_asked(alloc, |text| BoxedStr::from_str(alloc, text), |text| text)?;
-    Ok(boxed && are_asked(alloc, |text| Ok(CowStr::Borrowed(text)), |text| text)?)
-}
-
-fn by_shared_texts(alloc: Global) -> Result<bool, AllocError> {
-    let counted = are_asked(alloc, |text| RcStr::from_str(alloc, text), |text| text)?;
-    Ok(counted && are_asked(alloc, |text| ArcStr::from_str(alloc, text), |text| text)?)
-}
-
 pub(crate) fn keys_are_asked_by_texts(alloc: Global) -> Result<bool, AllocError> {
-    Ok(by_texts(alloc)? && by_texts_elsewhere(alloc)? && by_shared_texts(alloc)?)
+    Ok(
+        are_asked(alloc, |text| text.to_string(alloc), |text| text)?
+            && are_asked(alloc, |text| Ok(text), |text| text)?
+            && are_asked(alloc, |text| BoxedStr::from_str(alloc, text), |text| text)?
+            && are_asked(alloc, |text| Ok(CowStr::Borrowed(text)), |text| text)?
+            && are_asked(alloc, |text| RcStr::from_str(alloc, text), |text| text)?
+            && are_asked(alloc, |text| ArcStr::from_str(alloc, text), |text| text)?,
+    )
 }
 
 pub(crate) fn keys_are_asked_by_slices(alloc: Global) -> Result<bool, AllocError> {

@@ -1,7 +1,8 @@
 //! What a call returned, as it is written.
+use crate::call::Call;
 use crate::counted::{Key, Order, Value, write_code};
 use litemap::LiteMap;
-use litemap::store::{NoRoom, Store};
+use litemap::store::{NoRoom, SliceStore, Store};
 use std::alloc::{AllocError, Global};
 use std::fmt::{self, Debug, Formatter, Write};
 
@@ -51,9 +52,10 @@ impl Answer {
         self.is_lost |= write!(self.text, "{space}{it:?}").is_err();
     }
 
-    /// Writes the lines that `{:#?}` prints, one behind the other.
-    pub fn show_lines<T: Debug + Drop>(&mut self, alloc: Global, it: T) {
-        match format!(in alloc; "{it:#?}") {
+    /// Writes the lines that `{:#?}` prints, one behind the other. The call ends before they are printed.
+    pub fn show_lines<T: Debug + Drop>(&mut self, call: &Call<'_>, it: T) {
+        call.end();
+        match format!(in call.alloc; "{it:#?}") {
             Ok(text) => {
                 for line in text.lines() {
                     self.word(line);
@@ -88,10 +90,7 @@ impl Answer {
 
     /// Writes a pair that was removed, if there was one.
     pub fn taken(&mut self, pair: Option<(Key, Value)>) {
-        match pair {
-            Some((key, value)) => self.pair(&key, &value),
-            None => self.word("none"),
-        }
+        self.pair_or_none(pair.as_ref().map(|(key, value)| (key, value)));
     }
 
     /// Writes where a key is, or would go.
@@ -114,6 +113,14 @@ impl Answer {
         self.word(if made.is_ok() { "ok" } else { "refused" });
         if let Ok(made) = made {
             *place = made;
+        }
+    }
+
+    /// Writes the pairs of what was made, or that it wasn't.
+    pub fn pairs(&mut self, made: Result<Pairs, AllocError>) {
+        match made {
+            Ok(pairs) => self.show(pairs),
+            Err(_) => self.word("refused"),
         }
     }
 
@@ -197,11 +204,7 @@ impl Pairs {
 
     /// Those of a slice.
     pub fn of_slice(slice: &[(Key, Value)]) -> Self {
-        let mut pairs = Pairs::new();
-        for (key, value) in slice {
-            pairs.add(key, value);
-        }
-        pairs
+        Pairs::of_store(&SliceStore::new(slice))
     }
 
     /// Whether these are as many, with the same sum.

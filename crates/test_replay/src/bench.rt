@@ -10,7 +10,7 @@ use litemap::store::{Store, StoreConstEmpty};
 use std::alloc::{AllocError, Global};
 
 /// How many pairs a line begins with, and with how much room in all.
-#[derive(Clone, Copy)]
+#[derive(Clone, Copy, Default)]
 pub struct Start {
     /// How many pairs there are.
     pub len: u64,
@@ -27,7 +27,7 @@ pub struct Before {
 }
 
 /// What came of a line.
-#[derive(Clone, Copy)]
+#[derive(Clone, Copy, Default)]
 pub struct Outcome {
     /// Whether all was as the line says.
     pub is_right: bool,
@@ -65,7 +65,7 @@ impl<S: Tested> Bench<S> {
         call: &Call<'_>,
         to: &mut Answer,
     ) -> Result<Before, AllocError> {
-        if line.goes_on {} else if line.is_of_store() {
+        if line.goes_on {} else if call.is_of_store() {
             self.store = store_of(call, start.len, start.capacity)?;
         } else {
             self.map = map_of(call, start.len, start.capacity)?;
@@ -73,46 +73,38 @@ impl<S: Tested> Bench<S> {
         if let Some(calls) = line.set_up {
             for text in calls.split("; ") {
                 let words: Vec<&str> = text.split(' ').collect(call.alloc)?;
-                self.earlier(words.as_slice(), line, call, to);
+                self.earlier(words.as_slice(), call, to);
             }
             to.clear();
         }
         Ok(Before {
-            pairs: self.pairs(line),
+            pairs: self.pairs(call),
             keys: call.seen.keys.alive.get(),
             values: call.seen.values.alive.get(),
         })
     }
 
     // Makes a call before that of a line, which tells nothing.
-    fn earlier(&mut self, words: &[&str], line: &Line<'_>, call: &Call<'_>, to: &mut Answer) {
-        let earlier = Call {
-            alloc: call.alloc,
-            seen: call.seen,
-            order: call.order,
-            is_marked: false,
-            name: words.first().copied().unwrap_or(""),
-            words: words.get(1..).unwrap_or(&[]),
-        };
-        self.one(line, &earlier, to);
+    fn earlier(&mut self, words: &[&str], call: &Call<'_>, to: &mut Answer) {
+        self.one(&call.another(words), to);
     }
 
-    /// Makes the call of a line, if every store has it.
-    pub fn call(&mut self, line: &Line<'_>, call: &Call<'_>, to: &mut Answer) -> bool {
+    /// Makes a call, if every store has it.
+    pub fn call(&mut self, call: &Call<'_>, to: &mut Answer) -> bool {
         if call.name == "sweep" {
-            self.sweep(line, call, to).is_some()
+            self.sweep(call, to).is_some()
         } else {
-            self.one(line, call, to)
+            self.one(call, to)
         }
     }
 
     // Makes a call of each key that is there and of each in a gap, after which the list is put back. The answer is a sum of all
     // answers; the comparisons are those of the call that made the most.
-    fn sweep(&mut self, line: &Line<'_>, call: &Call<'_>, to: &mut Answer) -> Made {
+    fn sweep(&mut self, call: &Call<'_>, to: &mut Answer) -> Made {
         let (mut most, mut sum) = (0u32, 0u64);
-        let codes = self.pairs(line).len().wrapping_mul(2).wrapping_add(2);
+        let codes = self.pairs(call).len().wrapping_mul(2).wrapping_add(2);
         for code in 1..codes {
-            most = most.max(self.sweep_key(line, call, code, to)?);
+            most = most.max(self.sweep_key(call, code, to)?);
             sum = summed(sum, to.text());
         }
         to.clear();
@@ -123,13 +115,7 @@ impl<S: Tested> Bench<S> {
     }
 
     // Makes a call of a key: how often it compares.
-    fn sweep_key(
-        &mut self,
-        line: &Line<'_>,
-        call: &Call<'_>,
-        code: u64,
-        to: &mut Answer,
-    ) -> Option<u32> {
+    fn sweep_key(&mut self, call: &Call<'_>, code: u64, to: &mut Answer) -> Option<u32> {
         let text = format!(in call.alloc; "{code}").ok()?;
         let more = call.words.get(1).copied().unwrap_or("");
         let words = [call.words.first().copied()?, text.as_str(), more];
@@ -138,24 +124,18 @@ impl<S: Tested> Bench<S> {
         let old = self.map.get(&key).map(Value::number);
         to.clear();
         call.seen.keys.compared.set(0);
-        if !self.one(line, &one, to) {
+        if !self.one(&one, to) {
             return None;
         }
         let compared = call.seen.keys.compared.get();
-        if !line.is_of_store() {
+        if !call.is_of_store() {
             self.put_back(key, old, call, to)?;
         }
         Some(compared)
     }
 
     // Writes what there is of a key after a call, and puts back what there was before.
-    fn put_back(
-        &mut self,
-        key: Key,
-        old: Option<u64>,
-        call: &Call<'_>,
-        to: &mut Answer,
-    ) -> Option<()> {
+    fn put_back(&mut self, key: Key, old: Option<u64>, call: &Call<'_>, to: &mut Answer) -> Made {
         to.some(self.map.get(&key));
         to.show(self.map.len());
         match old {
@@ -170,8 +150,8 @@ impl<S: Tested> Bench<S> {
         Some(())
     }
 
-    fn one(&mut self, line: &Line<'_>, call: &Call<'_>, to: &mut Answer) -> bool {
-        if line.is_of_store() {
+    fn one(&mut self, call: &Call<'_>, to: &mut Answer) -> bool {
+        if call.is_of_store() {
             stores::call(&mut self.store, call, to)
         } else {
             call_of_map(&mut self.map, call, to)
@@ -188,7 +168,7 @@ impl<S: Tested> Bench<S> {
     ) -> Outcome {
         let compared = call.seen.keys.compared.get();
         let most = compared.max(call.seen.values.compared.get());
-        let after = self.pairs(line);
+        let after = self.pairs(call);
         to.word("|");
         if before.pairs.is_same(&after) {
             to.word("same");
@@ -212,8 +192,8 @@ impl<S: Tested> Bench<S> {
         }
     }
 
-    fn pairs(&self, line: &Line<'_>) -> Pairs {
-        if line.is_of_store() {
+    fn pairs(&self, call: &Call<'_>) -> Pairs {
+        if call.is_of_store() {
             Pairs::of_store(&self.store)
         } else {
             Pairs::of_map(&self.map)

@@ -17,7 +17,6 @@ use std::vec::IntoIter;
 /// Makes a call of these, if the name is one.
 pub fn gather<S: Tested>(map: &mut Map<S>, call: &Call<'_>, to: &mut Answer) -> bool {
     renew(map, call, to).is_some()
-        || split_off(map, call, to).is_some()
         || insert_each(map, call, to).is_some()
         || extend(map, call, to).is_some()
         || take_vec(map, call, to).is_some()
@@ -167,10 +166,14 @@ fn combine<S: Tested>(map: &mut Map<S>, call: &Call<'_>, to: &mut Answer) -> Mad
     Some(())
 }
 
-// The calls that go through another map, over two columns, beside this one.
+// `split_off`, and the calls that go through another map, over two columns, beside this one.
 fn go_beside<S: Tested>(map: &mut Map<S>, call: &Call<'_>, to: &mut Answer) -> Made {
     let count = &mut Count::new();
     match call.name {
+        "split_off" => {
+            let later = map.split_off(call.alloc, &call.key(0)?);
+            to.pairs(later.map(|later| Pairs::of_map(&later)));
+        }
         "is_subset" => to.show(map.is_subset(&other::<ColumnStore<_, _>>(call)?)),
         "is_subset_counted" => {
             to.show(map.is_subset_counted(&other::<ColumnStore<_, _>>(call)?, count));
@@ -184,18 +187,6 @@ fn go_beside<S: Tested>(map: &mut Map<S>, call: &Call<'_>, to: &mut Answer) -> M
             to.word("ok");
         }
         _ => return None,
-    }
-    Some(())
-}
-
-fn split_off<S: Tested>(map: &mut Map<S>, call: &Call<'_>, to: &mut Answer) -> Made {
-    if call.name != "split_off" {
-        return None;
-    }
-    let key = call.key(0)?;
-    match map.split_off(call.alloc, &key) {
-        Ok(later) => to.show(Pairs::of_map(&later)),
-        Err(_) => to.word("refused"),
     }
     Some(())
 }

@@ -51,6 +51,17 @@ impl<'w> Call<'w> {
         }
     }
 
+    /// Whether it is a call of a store, or sweeps one, and not of a map.
+    pub fn is_of_store(&self) -> bool {
+        let sweeps = self.name == "sweep";
+        let name = if sweeps {
+            self.word(0).unwrap_or("")
+        } else {
+            self.name
+        };
+        name.starts_with("lm_") || name == "is_sorted_store"
+    }
+
     /// Tells that the call comes next: what was seen before it is forgotten.
     pub fn begin(&self) {
         for tally in [&self.seen.keys, &self.seen.values] {

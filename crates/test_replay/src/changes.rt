@@ -12,11 +12,10 @@ pub fn change<S: StoreBulkMut<Key, Value>>(
     to: &mut Answer,
 ) -> bool {
     put(map, call, to).is_some()
-        || make_where_absent(map, call, to).is_some()
+        || try_or(map, call, to).is_some()
         || write(map, call, to).is_some()
         || take(map, call, to).is_some()
-        || whole(map, call, to).is_some()
-        || by_number(map, call, to).is_some()
+        || each(map, call, to).is_some()
 }
 
 fn put<S: StoreMut<Key, Value>>(map: &mut Map<S>, call: &Call<'_>, to: &mut Answer) -> Made {
@@ -50,11 +49,7 @@ fn show_back<'a>(outcome: Result<Option<Pair>, NoRoom<Pair>>, to: &mut Answer) {
 }
 
 // The calls that call a closure for the value of an absent key. The last word tells how often.
-fn make_where_absent<S: StoreMut<Key, Value>>(
-    map: &mut Map<S>,
-    call: &Call<'_>,
-    to: &mut Answer,
-) -> Made {
+fn try_or<S: StoreMut<Key, Value>>(map: &mut Map<S>, call: &Call<'_>, to: &mut Answer) -> Made {
     let (kind, end) = call.name.strip_prefix("try_")?.split_once("_or_")?;
     let (key, value) = call.pair(0)?;
     let made = if end == "insert" {
@@ -99,10 +94,11 @@ fn show_fault<'a>(fault: TryFault<Key, Value, Value>, to: &mut Answer) {
 // The calls that lend a value, to which a number is written. They tell the old one.
 fn write<S: StoreMut<Key, Value>>(map: &mut Map<S>, call: &Call<'_>, to: &mut Answer) -> Made {
     let (key, number) = (call.key(0)?, call.number(1)?);
+    let write = |slot: &mut Value| slot.write(number);
     match call.name {
-        "get_mut" => write_slot(map.get_mut(&key), number, to),
-        "get_mut_by" => write_slot(map.get_mut_by(|there| there.cmp(&key)), number, to),
-        "get_indexed_mut" => write_slot(map.get_indexed_mut(call.size(0)?), number, to),
+        "get_mut" => to.some(map.get_mut(&key).map(write)),
+        "get_mut_by" => to.some(map.get_mut_by(|there| there.cmp(&key)).map(write)),
+        "get_indexed_mut" => to.some(map.get_indexed_mut(call.size(0)?).map(write)),
         "index_mut" => {
             if !map.contains_key(&key) {
                 to.word("absent");
@@ -116,13 +112,6 @@ fn write<S: StoreMut<Key, Value>>(map: &mut Map<S>, call: &Call<'_>, to: &mut An
     Some(())
 }
 
-fn write_slot(slot: Option<&mut Value>, number: u64, to: &mut Answer) {
-    match slot {
-        Some(slot) => to.show(slot.write(number)),
-        None => to.word("none"),
-    }
-}
-
 fn take<S: StoreMut<Key, Value>>(map: &mut Map<S>, call: &Call<'_>, to: &mut Answer) -> Made {
     match call.name {
         "remove" => to.some(map.remove(&call.key(0)?)),
@@ -132,6 +121,13 @@ fn take<S: StoreMut<Key, Value>>(map: &mut Map<S>, call: &Call<'_>, to: &mut Ans
             to.some(map.remove_by(|there| there.cmp(&key)));
         }
         "remove_entry" => to.taken(map.remove_entry(&call.key(0)?)),
+        "pop_first" => to.taken(map.pop_first()),
+        "pop_last" => to.taken(map.pop_last()),
+        "clear" => {
+            map.clear();
+            to.word("ok");
+        }
+        "reserve" => to.room(map.reserve(call.size(0)?)),
         _ => return None,
     }
     Some(())
@@ -152,28 +148,10 @@ pub fn rename<S: KeepsMemory<Key, Value>>(
     Some(())
 }
 
-fn whole<S: StoreMut<Key, Value>>(map: &mut Map<S>, call: &Call<'_>, to: &mut Answer) -> Made {
-    match call.name {
-        "pop_first" => to.taken(map.pop_first()),
-        "pop_last" => to.taken(map.pop_last()),
-        "reserve" => to.room(map.reserve(call.size(0)?)),
-        "clear" => {
-            map.clear();
-            to.word("ok");
-        }
-        _ => return None,
-    }
-    Some(())
-}
-
 // The calls with a closure that is called on each pair. They tell how often. `update` adds to each value a number and how many
 // came before it. `retain` keeps, of the pairs in their order, those whose bit is set in the number, which is turned by one bit
 // after each.
-fn by_number<S: StoreBulkMut<Key, Value>>(
-    map: &mut Map<S>,
-    call: &Call<'_>,
-    to: &mut Answer,
-) -> Made {
+fn each<S: StoreBulkMut<Key, Value>>(map: &mut Map<S>, call: &Call<'_>, to: &mut Answer) -> Made {
     let number = call.number(0)?;
     let mut times = 0u64;
     match call.name {

@@ -2,7 +2,7 @@
 use crate::answer::{Answer, Pairs};
 use crate::bulk::other;
 use crate::call::{Call, Made, Map};
-use crate::counted::{Counted, Key, Order, Value, with_rank};
+use crate::counted::{Key, Order, Value, with_rank};
 use crate::tested::Tested;
 use litemap::LiteMap;
 use litemap::store::Store;
@@ -14,10 +14,7 @@ use std::hash::{FoldHasher, Hash, Hasher};
 pub fn copy<S: Tested>(map: &Map<S>, call: &Call<'_>, to: &mut Answer) -> Made {
     let alloc = call.alloc;
     let made = match call.name {
-        "try_clone" => match map.try_clone(alloc) {
-            Ok(clone) => Ok(Pairs::of_map(&clone)),
-            Err(_) => Err(AllocError),
-        },
+        "try_clone" => map.try_clone(alloc).map(|clone| Pairs::of_map(&clone)),
         "to_boxed_keys_values" => pairs_of::<Box<Key>, Box<Value>>(map.to_boxed_keys_values(alloc)),
         "to_boxed_keys" => pairs_of::<Box<Key>, Value>(map.to_boxed_keys(alloc)),
         "to_boxed_values" => pairs_of::<Key, Box<Value>>(map.to_boxed_values(alloc)),
@@ -27,45 +24,19 @@ pub fn copy<S: Tested>(map: &Map<S>, call: &Call<'_>, to: &mut Answer) -> Made {
         "to_keys_by" => keyed(map, call, to),
         _ => return None,
     };
-    match made {
-        Ok(pairs) => to.show(pairs),
-        Err(_) => to.word("refused"),
-    }
+    to.pairs(made);
     to.word("cloned");
     to.show(call.seen.cloned());
     Some(())
 }
 
-// What leads to a key or a value: itself, a box or a reference.
-trait LeadsTo<T> {
-    fn lead(&self) -> &T;
-}
-
-impl<T: Copy> LeadsTo<Counted<T>> for Counted<T> {
-    fn lead(&self) -> &Counted<T> {
-        self
-    }
-}
-
-impl<T> LeadsTo<T> for Box<T> {
-    fn lead(&self) -> &T {
-        &**self
-    }
-}
-
-impl<T> LeadsTo<T> for &T {
-    fn lead(&self) -> &T {
-        *self
-    }
-}
-
-fn pairs_of<K: Ord + LeadsTo<Key> + Drop, V: LeadsTo<Value> + Drop>(
+fn pairs_of<K: Ord + AsRef<Key> + Drop, V: AsRef<Value> + Drop>(
     made: Result<LiteMap<K, V, Vec<(K, V)>>, AllocError>,
 ) -> Result<Pairs, AllocError> {
     let made = made?;
     let mut pairs = Pairs::new();
     for (key, value) in &made {
-        pairs.add(key.lead(), value.lead());
+        pairs.add(key.as_ref(), value.as_ref());
     }
     Ok(pairs)
 }

@@ -215,6 +215,12 @@ impl Counted<()> {
     }
 }
 
+impl<T: Copy> AsRef<Counted<T>> for Counted<T> {
+    fn as_ref(&self) -> &Counted<T> {
+        self
+    }
+}
+
 impl Default for Counted<()> {
     fn default() -> Self {
         Counted {

@@ -19,7 +19,7 @@ macro_rules! show_lent {
 pub fn enter<S: StoreMut<Key, Value>>(map: &mut Map<S>, call: &Call<'_>, to: &mut Answer) -> bool {
     one_key(map, call, to).is_some()
         || put(map, call, to).is_some()
-        || of_one_kind(map, call, to).is_some()
+        || of_kind(map, call, to).is_some()
         || twice(map, call, to).is_some()
 }
 
@@ -27,11 +27,7 @@ fn one_key<S: StoreMut<Key, Value>>(map: &mut Map<S>, call: &Call<'_>, to: &mut 
     match call.name {
         "entry" => show_kind(&map.entry(call.key(0)?), to),
         "entry_debug" => to.show(map.entry(call.key(0)?)),
-        "entry_debug_lines" => {
-            let entry = map.entry(call.key(0)?);
-            call.end();
-            to.show_lines(call.alloc, entry);
-        }
+        "entry_debug_lines" => to.show_lines(call, map.entry(call.key(0)?)),
         "or_default" => show_lent!(map.entry(call.key(0)?).or_default(), to),
         "entry_get" => match map.entry(call.key(0)?) {
             Entry::Occupied(entry) => to.show(entry.get()),
@@ -91,11 +87,7 @@ fn put<S: StoreMut<Key, Value>>(map: &mut Map<S>, call: &Call<'_>, to: &mut Answ
 const OF_ONE_KIND: [&str; 3] = ["entry_insert", "entry_get_mut", "entry_into_mut"];
 
 // The calls that one kind of entry has; `insert` of the other one.
-fn of_one_kind<S: StoreMut<Key, Value>>(
-    map: &mut Map<S>,
-    call: &Call<'_>,
-    to: &mut Answer,
-) -> Made {
+fn of_kind<S: StoreMut<Key, Value>>(map: &mut Map<S>, call: &Call<'_>, to: &mut Answer) -> Made {
     if !OF_ONE_KIND.contains(&call.name) {
         return None;
     }

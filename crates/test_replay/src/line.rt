@@ -17,14 +17,6 @@ pub struct Line<'t> {
     pub most: Option<u32>,
 }
 
-impl Line<'_> {
-    /// Whether it is a call of a store, and not of a map.
-    pub fn is_of_store(&self) -> bool {
-        let call = self.call.strip_prefix("sweep ").unwrap_or(self.call);
-        call.starts_with("lm_") || call == "is_sorted_store"
-    }
-}
-
 /// The call that a line makes, if it is one that does.
 pub fn parse(text: &str) -> Option<Line<'_>> {
     let (call, answer) = text.split_once(" = ")?;

@@ -10,7 +10,6 @@ use std::mem;
 pub fn look<S: Store<Key, Value>>(map: &Map<S>, call: &Call<'_>, to: &mut Answer) -> bool {
     with_no_key(map, call, to).is_some()
         || by_key(map, call, to).is_some()
-        || index(map, call, to).is_some()
         || bounds(map, call, to).is_some()
 }
 
@@ -26,10 +25,7 @@ fn with_no_key<S: Store<Key, Value>>(map: &Map<S>, call: &Call<'_>, to: &mut Ans
             to.word("ok");
         }
         "debug" => to.show(map),
-        "debug_lines" => {
-            call.end();
-            to.show_lines(call.alloc, map);
-        }
+        "debug_lines" => to.show_lines(call, map),
         _ => return None,
     }
     Some(())
@@ -52,48 +48,38 @@ fn by_key<S: Store<Key, Value>>(map: &Map<S>, call: &Call<'_>, to: &mut Answer) 
             let key = call.key(0)?;
             to.index(map.find_index_by(|there| there.cmp(&key)));
         }
+        "index" => {
+            // What tells that the key is there is no part of the call.
+            let key = call.key(0)?;
+            if map.contains_key(&key) {
+                call.begin();
+                to.show(map.index(&key));
+            } else {
+                to.word("absent");
+            }
+        }
         _ => return None,
     }
     Some(())
 }
 
-// `index`, if the key is there. What tells that is no part of the call.
-fn index<S: Store<Key, Value>>(map: &Map<S>, call: &Call<'_>, to: &mut Answer) -> Made {
-    if call.name != "index" {
-        return None;
-    }
-    let key = call.key(0)?;
-    if map.contains_key(&key) {
-        call.begin();
-        to.show(map.index(&key));
-    } else {
-        to.word("absent");
-    }
-    Some(())
-}
-
-const BETWEEN: [&str; 3] = ["iter_range", "index_range", "index_range_counted"];
-
 // Calls whose words are a bound of either end and their keys. `iter_range` gives its last pair, and then the others.
 fn bounds<S: Store<Key, Value>>(map: &Map<S>, call: &Call<'_>, to: &mut Answer) -> Made {
-    if !BETWEEN.contains(&call.name) {
-        return None;
-    }
     let (first, last) = (call.key(1), call.key(3));
     let (from, till) = (call.bound(0, &first)?, call.bound(2, &last)?);
-    if call.name == "iter_range" {
-        let (mut rest, mut pairs) = (map.iter_range(from, till), Pairs::new());
-        to.pair_or_none(rest.next_back());
-        for (key, value) in rest {
-            pairs.add(key, value);
+    let places = match call.name {
+        "index_range" => map.index_range(from, till),
+        "index_range_counted" => map.index_range_counted(from, till, &mut Count::new()),
+        "iter_range" => {
+            let (mut rest, mut pairs) = (map.iter_range(from, till), Pairs::new());
+            to.pair_or_none(rest.next_back());
+            for (key, value) in rest {
+                pairs.add(key, value);
+            }
+            to.show(pairs);
+            return Some(());
         }
-        to.show(pairs);
-        return Some(());
-    }
-    let places = if call.name == "index_range" {
-        map.index_range(from, till)
-    } else {
-        map.index_range_counted(from, till, &mut Count::new())
+        _ => return None,
     };
     to.show(places.start);
     to.show(places.end);

@@ -26,7 +26,7 @@ macro_rules! make_over {
     ($bench:expr, $store:ident, $line:ident, $start:ident, $call:ident, $to:ident $(, $own:ident)* $(; $text:ident)?) => {{
         let before = $bench.begin($line, $start, &$call, $to)?;
         $call.begin();
-        let is_made = $bench.call($line, &$call, $to)
+        let is_made = $bench.call(&$call, $to)
             || lent(&$bench.map, &$call, $to).is_some()
             || grow::<$store<u32, u32>, $store<u32, ()>>(&$call, $to).is_some()
             $(|| $own(&mut $bench.map, &$call, $to).is_some())*
@@ -57,21 +57,16 @@ struct Replay {
 
 impl Replay {
     fn new(alloc: Global, is_marked: bool) -> Result<Self, AllocError> {
-        let seen = Seen::new(alloc)?;
-        let answer = Answer::with_capacity(alloc, LONGEST)?;
         Ok(Replay {
+            seen: Seen::new(alloc)?,
+            answer: Answer::with_capacity(alloc, LONGEST)?,
             vec: Bench::new(alloc),
             columns: Bench::new(alloc),
             short: Bench::new(alloc),
             fixed: Bench::new(alloc),
             shrinking: Bench::new(alloc),
             order: Order::Number,
-            start: Start {
-                len: 0,
-                capacity: 0,
-            },
-            seen,
-            answer,
+            start: Start::default(),
             made: 0,
             is_marked,
         })
@@ -79,25 +74,17 @@ impl Replay {
 
     // Does a line that makes no call: whether it is one.
     fn settle(&mut self, text: &str) -> bool {
-        if text.is_empty() || text.starts_with('#') {
-            return true;
-        }
-        match text.strip_prefix("with ") {
-            Some(words) => self.begin_with(words).is_some(),
-            None => false,
-        }
+        text.is_empty() || text.starts_with('#') || self.begin_with(text).is_some()
     }
 
-    // How the next lines begin, by three words.
-    fn begin_with(&mut self, words: &str) -> Option<()> {
-        let (order, rest) = words.split_once(' ')?;
+    // How the next lines begin, if a line says that, by three words.
+    fn begin_with(&mut self, text: &str) -> Option<()> {
+        let (order, rest) = text.strip_prefix("with ")?.split_once(' ')?;
         let (len, room) = rest.split_once(' ')?;
         self.order = Order::of_name(order)?;
         let capacity = len.parse::<usize>().ok()?.checked_add(room.parse().ok()?)?;
-        self.start = Start {
-            len: len.parse().ok()?,
-            capacity,
-        };
+        let len = len.parse().ok()?;
+        self.start = Start { len, capacity };
         Some(())
     }
 
@@ -128,18 +115,11 @@ impl Replay {
                 make_over!(self.short, ShortStore, line, start, call, to, rename, view; text),
             "fixed" => make_over!(self.fixed, FixedRoom, line, start, call, to, rename),
             "shrinking" => make_over!(self.shrinking, Shrinking, line, start, call, to),
-            _ => Ok(no_store(to)),
+            _ => {
+                to.word("no store");
+                Ok(Outcome::default())
+            }
         }
-    }
-}
-
-// What comes of a line over a store that is not there.
-fn no_store(to: &mut Answer) -> Outcome {
-    to.word("no store");
-    Outcome {
-        is_right: false,
-        compared: 0,
-        leaks: false,
     }
 }
 
@@ -187,15 +167,11 @@ fn each_store(
     for store in stores.split(' ') {
         let outcome = replay.make(store, line, &words, rt.alloc())?;
         if replay.is_marked || !outcome.is_right {
-            let (number, made, text) = (
-                place.wrapping_add(1),
-                outcome.compared,
-                replay.answer.text(),
-            );
+            let (number, text) = (place.wrapping_add(1), replay.answer.text());
             let leaks = if outcome.leaks { ", leaks" } else { "" };
             println!(rt;
-                "{file}:{number} {store} {} = {text} | {made}{leaks}",
-                line.text
+                "{file}:{number} {store} {} = {text} | {}{leaks}",
+                line.text, outcome.compared
             )?;
         }
     }

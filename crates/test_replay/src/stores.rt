@@ -15,7 +15,6 @@ pub fn call<S: Tested>(store: &mut S, call: &Call<'_>, to: &mut Answer) -> bool 
         || put(store, call, to).is_some()
         || put_at(store, call, to).is_some()
         || renew(store, call, to).is_some()
-        || make(store, call, to).is_some()
         || take_vec(store, call, to).is_some()
         || extend(store, call, to).is_some()
         || join(store, call, to).is_some()
@@ -31,10 +30,13 @@ fn whole<S: StoreMut<Key, Value> + Drop>(store: &mut S, call: &Call<'_>, to: &mu
             store.lm_clear();
             to.word("ok");
         }
-        "lm_try_clone" => match store.lm_try_clone(call.alloc) {
-            Ok(clone) => to.show(Pairs::of_store(&clone)),
-            Err(_) => to.word("refused"),
-        },
+        "lm_try_clone" => {
+            to.pairs(
+                store
+                    .lm_try_clone(call.alloc)
+                    .map(|clone| Pairs::of_store(&clone)),
+            );
+        }
         _ => return None,
     }
     Some(())
@@ -44,10 +46,7 @@ fn whole<S: StoreMut<Key, Value> + Drop>(store: &mut S, call: &Call<'_>, to: &mu
 pub fn text<S: Debug>(store: &S, call: &Call<'_>, to: &mut Answer) -> Made {
     match call.name {
         "lm_debug" => to.show(store),
-        "lm_debug_lines" => {
-            call.end();
-            to.show_lines(call.alloc, store);
-        }
+        "lm_debug_lines" => to.show_lines(call, store),
         _ => return None,
     }
     Some(())
@@ -120,24 +119,14 @@ fn put_at<S: StoreMut<Key, Value>>(store: &mut S, call: &Call<'_>, to: &mut Answ
     Some(())
 }
 
-// A store with no pair replaces the old one.
+// A store with no pair, or one of these pairs, replaces the old one.
 fn renew<S: Tested>(store: &mut S, call: &Call<'_>, to: &mut Answer) -> Made {
-    let capacity = call.size(0).unwrap_or(0);
+    let (alloc, count) = (call.alloc, &mut Count::new());
     let made = match call.name {
-        "lm_empty" => Ok(S::lm_empty(call.alloc)),
-        "lm_with_capacity" => S::lm_with_capacity(call.alloc, capacity),
-        _ => return None,
-    };
-    to.made(store, made);
-    Some(())
-}
-
-// A store of these pairs replaces the old one.
-fn make<S: Tested>(store: &mut S, call: &Call<'_>, to: &mut Answer) -> Made {
-    let count = &mut Count::new();
-    let made = match call.name {
-        "lm_sort_from_iter" => S::lm_sort_from_iter(call.alloc, call.given()?, count),
-        "lm_from_pairs" => S::lm_from_pairs(call.alloc, call.given()?),
+        "lm_empty" => Ok(S::lm_empty(alloc)),
+        "lm_with_capacity" => S::lm_with_capacity(alloc, call.size(0)?),
+        "lm_sort_from_iter" => S::lm_sort_from_iter(alloc, call.given()?, count),
+        "lm_from_pairs" => S::lm_from_pairs(alloc, call.given()?),
         _ => return None,
     };
     to.made(store, made);

@@ -24,27 +24,15 @@ impl Met {
         }
     }
 
-    fn add(&mut self, order: Order, code: u64, number: u64) {
-        self.pairs.add_codes(order, code, number);
+    // Adds what a step gave: a pair, a key or a value, or nothing.
+    fn add(&mut self, key: Option<&Key>, value: Option<&Value>) {
+        if key.is_none() && value.is_none() {
+            return;
+        }
+        let (order, code) = key.map_or((Order::Number, 0), |key| (key.order(), key.code()));
+        self.pairs
+            .add_codes(order, code, value.map_or(0, |value| value.number()));
         self.left = self.left.wrapping_sub(1);
-    }
-
-    fn pair(&mut self, pair: Option<(&Key, &Value)>) {
-        if let Some((key, value)) = pair {
-            self.add(key.order(), key.code(), value.number());
-        }
-    }
-
-    fn key(&mut self, key: Option<&Key>) {
-        if let Some(key) = key {
-            self.add(key.order(), key.code(), 0);
-        }
-    }
-
-    fn value(&mut self, value: Option<&Value>) {
-        if let Some(value) = value {
-            self.add(Order::Number, 0, value.number());
-        }
     }
 
     // Notes the hint after a step.
@@ -58,18 +46,18 @@ impl Met {
     }
 }
 
-// Takes the steps that a call's words count, from the front and then from the back, and notes what each meets.
+// Takes the steps that a call's words count, from the front and then from the back, and adds the key and the value of each item.
 macro_rules! walk {
-    ($items:expr, $call:ident, $met:ident, $item:ident) => {{
+    ($items:expr, $call:ident, $met:ident, $item:ident => $key:expr, $value:expr) => {{
         let (front, back) = ($call.size(0)?, $call.size(1)?);
         let mut rest = $items;
         for step in 0..front.saturating_add(back) {
-            let item = if step < front {
+            let $item = if step < front {
                 rest.next()
             } else {
                 rest.next_back()
             };
-            $met.$item(item);
+            $met.add($key, $value);
             $met.hint(rest.size_hint());
         }
     }};
@@ -103,14 +91,15 @@ pub fn lent<'a, S: StoreIterable<'a, Key, Value>>(
     let mut met = Met::new(map.len());
     match call.name {
         "keys_in_turns" => return keys_in_turns(map, call, to),
-        "iter" => walk!(map.iter(), call, met, pair),
-        "keys" => walk!(map.keys(), call, met, key),
-        "values" => walk!(map.values(), call, met, value),
-        "iter_keys" => met.key(map.iter_keys().next()),
-        "iter_values" => met.value(map.iter_values().next()),
+        "iter" =>
+            walk!(map.iter(), call, met, pair => pair.map(|(key, _)| key), pair.map(|(_, value)| value)),
+        "keys" => walk!(map.keys(), call, met, key => key, None),
+        "values" => walk!(map.values(), call, met, value => None, value),
+        "iter_keys" => met.add(map.iter_keys().next(), None),
+        "iter_values" => met.add(None, map.iter_values().next()),
         "for" => {
-            for pair in map {
-                met.pair(Some(pair));
+            for (key, value) in map {
+                met.add(Some(key), Some(value));
             }
         }
         _ => return None,
@@ -128,9 +117,8 @@ pub fn taken<S: Tested>(map: &mut Map<S>, call: &Call<'_>, to: &mut Answer) -> M
     let mut met = Met::new(map.len());
     let mut rest = mem::replace(map, LiteMap::new(call.alloc)).into_iter();
     for _ in 0..steps {
-        let pair = rest.next();
-        if let Some((key, value)) = &pair {
-            met.pair(Some((key, value)));
+        if let Some((key, value)) = rest.next() {
+            met.add(Some(&key), Some(&value));
         }
         met.hint(rest.size_hint());
         met.hint(rest.lm_size_hint());
