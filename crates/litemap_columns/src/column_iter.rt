@@ -137,10 +137,8 @@ impl<K, V> ColumnIntoIter<K, V> {
         requires { length keys.items ≡ length values.items }
         ensures { result ≡ zip keys.items values.items }
     {
-        ColumnIntoIter {
-            keys: keys.into_iter(),
-            values: values.into_iter(),
-        }
+        let (keys, values) = (keys.into_iter(), values.into_iter());
+        ColumnIntoIter { keys, values }
     }
 }
 

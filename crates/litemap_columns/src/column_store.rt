@@ -74,8 +74,7 @@ impl<K, V> ColumnStore<K, V> {
         ensures values { result.1.items ≡ values_of self.pairs }
         ensures room { min (vec_room result.0) (vec_room result.1) ≡ self.room }
     {
-        let ColumnStore { keys, values } = self;
-        (keys, values)
+        (self.keys, self.values)
     }
 }
 
@@ -108,10 +107,8 @@ impl<K, V> Store<K, V> for ColumnStore<K, V> {
 
 impl<K, V> StoreConstEmpty<K, V> for ColumnStore<K, V> {
     fn lm_empty(alloc: Global) -> Self {
-        ColumnStore {
-            keys: Vec::new(alloc),
-            values: Vec::new(alloc),
-        }
+        let (keys, values) = (Vec::new(alloc), Vec::new(alloc));
+        ColumnStore { keys, values }
     }
 }
 
@@ -136,9 +133,7 @@ impl<K, V> StoreMut<K, V> for ColumnStore<K, V> {
     }
 
     fn lm_pair_mut(&mut self, index: usize) -> (&K, &mut V) {
-        let key = &self.keys[index];
-        let value = &mut self.values[index];
-        (key, value)
+        (&self.keys[index], &mut self.values[index])
     }
 
     fn lm_replace(&mut self, index: usize, key: K, value: V) -> (K, V) {
@@ -261,8 +256,7 @@ impl<K: Drop, V: Drop> StoreFromIterator<K, V> for ColumnStore<K, V> {
         alloc: Global,
         iter: I,
     ) -> Result<Self, AllocError> {
-        let mut keys = Vec::new(alloc);
-        let mut values = Vec::new(alloc);
+        let (mut keys, mut values) = (Vec::new(alloc), Vec::new(alloc));
         for (key, value) in iter {
             keys.push(key)?;
             values.push(value)?;

@@ -173,8 +173,7 @@ impl<K: Ord + Drop, V: Drop> StoreFromIterable<K, V> for ShortStore<K, V> {
         iter: I,
         count: &mut Count,
     ) -> Result<Self, AllocError> {
-        let items = Vec::lm_sort_from_iter(alloc, iter, count)?;
-        let storage = Storage::from_vec(items);
+        let storage = Storage::from_vec(Vec::lm_sort_from_iter(alloc, iter, count)?);
         Ok(ShortStore { alloc, storage })
     }
 }
@@ -184,8 +183,7 @@ impl<K: Drop, V: Drop> StoreFromIterator<K, V> for ShortStore<K, V> {
         alloc: Global,
         iter: I,
     ) -> Result<Self, AllocError> {
-        let items = Vec::lm_from_pairs(alloc, iter)?;
-        let storage = Storage::from_vec(items);
+        let storage = Storage::from_vec(Vec::lm_from_pairs(alloc, iter)?);
         Ok(ShortStore { alloc, storage })
     }
 }
@@ -194,8 +192,7 @@ impl<K: Drop, V: Drop> StoreIntoIterator<K, V> for ShortStore<K, V> {
     type KeyValueIntoIter = ShortIntoIter<K, V>;
 
     fn lm_into_iter(self) -> ShortIntoIter<K, V> {
-        let ShortStore { alloc, storage } = self;
-        let (first, others) = storage.into_parts(alloc);
+        let (first, others) = self.storage.into_parts(self.alloc);
         ShortIntoIter::new(first, others)
     }
 }

@@ -4,8 +4,7 @@ ghost use Rattle.std.specs.Prelude.{◌≤◌, IfOk};
 use crate::runs::{FAULTS, NEVER};
 use names::{Fault, Watch};
 use std::alloc::{AllocError, Global};
-use std::io;
-use std::io::{Read, Write};
+use std::io::{self, Read, Write};
 
 // A call, with how many bytes it is handed.
 #[derive(Clone, Copy, PartialEq)]
