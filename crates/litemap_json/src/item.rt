@@ -54,7 +54,7 @@ pub trait JsonItem {
     /// Appends the value to what a writer has, as the text of what `to_value` makes. By default that value is made, written and
     /// dropped; a type may override this.
     ///
-    /// If memory runs out, some of the value may be written.
+    /// If memory runs out, some of the value may be written. The bytes that the writer was made with (`before`) stay in any case.
     fn write_to(&self, alloc: Global, out: &mut Writer) -> Result<(), AllocError>
         ensures tree { OnOk result (WritesTree (json self.now) out.old.tokens out.new.tokens) }
         ensures before { out.new.before ≡ out.old.before }

@@ -55,7 +55,7 @@ pub(crate) fn value_of_two<A: JsonItem, B: JsonItem>(
     array_of_two(alloc, first, second)
 }
 
-/// Appends the array of two items to what a writer has.
+/// Appends the array of two items to what a writer has. If memory runs out, some of it may be written.
 pub(crate) fn write_two<A: JsonItem, B: JsonItem>(
     alloc: Global,
     first: &A,
