@@ -64,7 +64,6 @@ impl<T> FailAt<T> {
 }
 
 impl<R: Read> Read for FailAt<R> {
-    /// Reads, or fails.
     fn read(&mut self, buf: &mut [u8]) -> io::Result<usize>
         ensures bound { ReadsAtMost result buf.new }
         ensures bytes { ReadConsumes None None result buf.new }
@@ -79,7 +78,6 @@ impl<R: Read> Read for FailAt<R> {
 }
 
 impl<W: Write> Write for FailAt<W> {
-    /// Writes, or fails.
     fn write(&mut self, buf: &[u8]) -> io::Result<usize>
         ensures bound { WritesAtMost result buf.now }
         ensures bytes { WriteAppends None None result buf.now }

@@ -76,5 +76,8 @@ fn flags_text(alloc: Global, flags: &FlagMap) -> Result<String, FlagsFault>
     let Ok(value) = to_json(alloc, flags) else {
         return Err(FlagsFault::Memory);
     };
-    value.to_string(alloc).map_err(|_| FlagsFault::Memory)
+    match value.to_string(alloc) {
+        Ok(text) => Ok(text),
+        Err(_) => Err(FlagsFault::Memory),
+    }
 }
