@@ -1,5 +1,5 @@
-//! A header list: values by their names, in the order of the names' bytes. Its strings are its own, or are borrowed from a message
-//! or from the program. What lookups find after a change follows from the lemmas that the attributes name.
+//! A header list: values by their names, in the order of the names' bytes. Its strings are its own, or are borrowed from a
+//! message or from the program. What lookups find after a change follows from the lemmas that the attributes name.
 ghost use Rattle.std.specs.Prelude.{◌≡◌, ◌≢◌, None, Some, IfOk, OnOk, OnErr, string_bytes};
 ghost use Rattle.litemap_store.specs.Pairs.{value_at};
 ghost use Rattle.litemap_store.specs.Queries.{by_string};

@@ -1,5 +1,5 @@
 -- Lists that a test cuts in two.
---     cut_before, cut_behind      the cut before a query and the one after it, from what a search found
+--     before_found, before_missing, after_found, after_missing      the cut before a query and the one after it, from what a search found
 --     length-before, take-cut, drop-cut, first_cut, last_cut, between, sub_between, length-between      what is before a cut, after it, and between two
 use Rattle.litemap.proofs.Common.{◌≡◌, ℕ, zero, suc, ◌+◌, ◌-◌, ◌≤◌, Bool, true, false, not, ◌&&◌, cond, List, [], ◌∷◌, ◌++◌}
 use Rattle.litemap.proofs.Common.{length, filter, take, drop, slice_range, nat_le, Some, None, length-drop, length-take, refl}

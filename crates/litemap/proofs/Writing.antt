@@ -1,6 +1,6 @@
 -- What a closure writes into a list of pairs.
 --     written_on, written_all      from one pair to the next, and after the last;  CallableOnValues-rest      what may be called on after one
---     keys-written, Rising-written, map-written      what is left has the same keys, ascends, and is mapped
+--     keys-written, Rising-keys, map-written      what is left has the same keys, ascends, and is mapped
 use Rattle.litemap.proofs.Common.{◌≡◌, ℕ, ◌+◌, List, [], ◌∷◌, ◌++◌, map, take, drop, drop-set-lt, slice_get, slice_set, Some}
 use Rattle.litemap.proofs.Common.{None, refl, ap, ◌∙◌, subst, arith, Ordering, Less, Bor, MutBor, ◌≤◌, length, sym, append_assoc}
 use Rattle.litemap.proofs.Common.{append-nil, drop_all, take_all, take_more_set, slice_get_within, keys_of, option_map_or}

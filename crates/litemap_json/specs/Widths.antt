@@ -1,5 +1,6 @@
 -- Types of whole numbers, each of which 64 bits hold.
-use Rattle.std.proofs.Common.{◌≡◌, ◌⊎◌, inl, inr, ℕ, ◌^◌, nat_le, ℤ, pos, negsuc, Bool, true, false, cond, Some, None, option_map, Result, Ok, Err, Ordering, Equal, nat_cmp, refl, arith}
+use Rattle.std.proofs.Common.{◌≡◌, ◌⊎◌, inl, inr, ℕ, ◌^◌, nat_le, ℤ, pos, negsuc, Bool, true, false, cond, Some, None, option_map}
+use Rattle.std.proofs.Common.{Result, Ok, Err, Ordering, Equal, nat_cmp, refl, arith}
 use Rattle.std.proofs.lemmas.Bool.{lt-ltb, ltb-true, leb-true}
 use Rattle.std.proofs.lemmas.Int.{ints}
 use Rattle.std.proofs.Math.Pow.{pow_mono}
@@ -44,8 +45,9 @@ signed_fits_from : (w : Width) (z : ℤ) → FitsSigned w z → (signed_fits (hb
 signed_fits_from w (pos n) h = (lt-ltb n (2 ^ hbits w) (omega (arith, ints, h.sfits)), refl)
 signed_fits_from w (negsuc n) h = (lt-ltb n (2 ^ hbits w) (omega (arith, ints, h.sfits)), refl)
 
-given : {T E : Type 0} (number : T → ℤ) (fits : Bool) (z : ℤ) (x : T) (P : Type 0) (r : Result T E) → (fits ≡ true → P) → (P → (fits ≡ true) × (number x ≡ z))
-    → OkIff r P x → option_map number (result_ok r) ≡ cond fits (Some z) None
+given : {T E : Type 0} (number : T → ℤ) (fits : Bool) (z : ℤ) (x : T) (P : Type 0) (r : Result T E)
+    → (fits ≡ true → P) → (P → (fits ≡ true) × (number x ≡ z)) → OkIff r P x
+    → option_map number (result_ok r) ≡ cond fits (Some z) None
 given number fits z x P (Ok y) to from h = let is = from h.0 in rw (is.0, h.1, is.1) refl
 given number true z x P (Err e) to from h = absurd (h (to refl))
 given number false z x P (Err e) to from h = refl
@@ -57,16 +59,21 @@ unsigned w = record { number = pos; fits = unsigned_fits (bits w) }
 abbrev pub signed : Width → WholeType ℤ
 signed w = record { number = λ x. x; fits = signed_fits (hbits w) }
 
-pub unsigned_is_whole : {E : Type 0} (w : Width) → nat_le (bits w) 64 ≡ true → IsWhole (unsigned w) nat_cmp (λ z (r : Result ℕ E). OkIff r (FitsUnsigned w z) (unsigned_abs z))
+pub unsigned_is_whole : {E : Type 0} (w : Width) → nat_le (bits w) 64 ≡ true
+    → IsWhole (unsigned w) nat_cmp (λ z (r : Result ℕ E). OkIff r (FitsUnsigned w z) (unsigned_abs z))
 unsigned_is_whole w b = record {
-  held = λ z h. let f = fits_unsigned w z h in let wide = pow_mono {i = bits w} {j = 64} (leb-true (bits w) 64 b) in inl (f.0, omega (arith, ints, f.1, wide));
+  held = λ z h. let f = fits_unsigned w z h in
+    let wide = pow_mono {i = bits w} {j = 64} (leb-true (bits w) 64 b) in inl (f.0, omega (arith, ints, f.1, wide));
   one_number = unsigned_one_tree;
-  given = λ z r. given pos (unsigned_fits (bits w) z) z (unsigned_abs z) (FitsUnsigned w z) r (fits_unsigned w z) (unsigned_fits_from w z);
+  given = λ z r. given pos (unsigned_fits (bits w) z) z (unsigned_abs z) (FitsUnsigned w z) r
+    (fits_unsigned w z) (unsigned_fits_from w z);
 }
 
-pub signed_is_whole : {E : Type 0} (w : Width) → nat_le (hbits w) 63 ≡ true → IsWhole (signed w) int_cmp (λ z (r : Result ℤ E). OkIff r (FitsSigned w z) z)
+pub signed_is_whole : {E : Type 0} (w : Width) → nat_le (hbits w) 63 ≡ true
+    → IsWhole (signed w) int_cmp (λ z (r : Result ℤ E). OkIff r (FitsSigned w z) z)
 signed_is_whole w b = record {
   held = λ z h. inr (sfits_widen (rw b tt) (fits_signed w z h));
   one_number = signed_one_tree;
-  given = λ z r. given (λ x. x) (signed_fits (hbits w) z) z z (FitsSigned w z) r (fits_signed w z) (signed_fits_from w z);
+  given = λ z r. given (λ x. x) (signed_fits (hbits w) z) z z (FitsSigned w z) r
+    (fits_signed w z) (signed_fits_from w z);
 }

@@ -88,8 +88,10 @@ impl<T: Whole> JsonKey for T {
 
     #[tactic(auto, using(crate::proofs::Printed::held_by_128))]
     fn from_key_text(_alloc: Global, name: &str) -> Result<Option<T>, AllocError>
-        ensures key { IfOk result (λ found. option_map (λ x. whole_json (T.kind.number x)) found ≡ whole_key T.kind.fits name.now) }
-        ensures one_spelling { IfOk result (λ found. IfSome found (λ k. Some (signed_decimal (T.kind.number k)) ≡ Some name.now)) }
+        ensures key { IfOk result (λ found.
+            option_map (λ x. whole_json (T.kind.number x)) found ≡ whole_key T.kind.fits name.now) }
+        ensures one_spelling { IfOk result (λ found.
+            IfSome found (λ k. Some (signed_decimal (T.kind.number k)) ≡ Some name.now)) }
         ensures succeeds { IsOk result }
     {
         let Some(number) = printed(name) else {

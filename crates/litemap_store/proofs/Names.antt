@@ -22,7 +22,7 @@ pub use Rattle.std.proofs.lemmas.List.Elements.{All-from_recursion, filter-appen
 pub use Rattle.std.proofs.lemmas.List.Folds.{find-append}
 pub use Rattle.std.proofs.lemmas.List.Sorted.{answers_always, ranks_by, sorted_far}
 pub use Rattle.std.proofs.lemmas.Option.{get_or_from_slice_get, slice_get_read, slice_get_within}
-pub use Rattle.std.proofs.lemmas.Result.{IfOk-weaker, on_ok_weaker}
+pub use Rattle.std.proofs.lemmas.Result.{on_ok_weaker}
 pub use Rattle.std.specs.Bool.{then_some}
 pub use Rattle.std.specs.Cmp.{IsTotalOrder}
 pub use Rattle.std.specs.Fn.{Called, CalledAt, TakesAt}

@@ -42,6 +42,7 @@ fn string_at(bytes: &[u8], at: usize) -> Result<&str, IndexFault>
     }
 }
 
+// Returns the offset at which the entry at an index begins: the bytes note how far that is from the first entry.
 fn offset_of(bytes: &[u8], len: usize, index: usize) -> Result<usize, IndexFault>
     requires offsets { HasOffsets bytes.now len }
     requires within { index < len }
@@ -65,7 +66,7 @@ pub fn entry_at(bytes: &[u8], len: usize, index: usize) -> Result<(&str, &str), 
     Ok((key, value))
 }
 
-/// Reads its key alone.
+/// Reads the key of the entry at an index, and not its value.
 pub fn key_at(bytes: &[u8], len: usize, index: usize) -> Result<&str, IndexFault>
     requires offsets { HasOffsets bytes.now len }
     requires within { index < len }

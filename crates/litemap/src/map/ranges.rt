@@ -65,7 +65,7 @@ impl<K: Ord, V, S: Store<K, V>> LiteMap<K, V, S> {
         ensures cut { IsCut (λ p. is_before Q.order (bound_map Q.sought from) p.0) self.now.pairs result }
         ensures cost { RisesByAtMost (digits (length self.now.pairs)) count.old count.new }
     {
-        // For the proof: the index after a pair is at most the length, so it doesn't overflow.
+        // For the proof: the index after a pair is at most the length, which is a `usize`, so it doesn't overflow.
         let _len = self.len();
         match from {
             Bound::Included(key) => match self.search(key, count) {

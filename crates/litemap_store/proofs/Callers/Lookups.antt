@@ -5,7 +5,7 @@
 --     value_at-cut, value_at-cut_other, value_at-cut_apart      after a cut, by the query, by another key, and by another query
 --     value_at-write, value_at-write_apart      the same after a write;  value_at-written_apart      if a write finds the key
 --     value_in-set_value_other, value_at-set_value      after a write at an index;  value_in-set, value_at-set      if a pair is there
---     length-put_present, length-put_absent, length-cut_present, length-cut_absent, Rising-cut      what both leave of an ascending list
+--     length-put_present, length-put_absent, length-cut_present, cut-absent, Rising-cut      what both leave of an ascending list
 use Rattle.litemap_store.proofs.Names.{[], ℕ, ◌++◌, ◌+◌, ◌∙◌, ◌∷◌, ◌≡◌, ◌≢◌, above, ap, append-nil, arith, at, below, Bool, cond, cons_option, cut, Equal, false, filter, filter-append, find-append, Greater, IfSome, index_of, is_eq, is_gt, is_lt, IsSome, IsTotalOrder, key_one_side, key_or, length, length-append, Less, List, None, Ok, Option, option_map, option_map_or, option_or, Ordering, place, put, refl, Rising, set_value, slice_get, slice_set, Some, suc, sym, true, value_at, value_in, write, zero}
 use Rattle.litemap_store.proofs.Last.KeepLast.{filter_all, filter_none}
 use Rattle.litemap_store.proofs.Lists.Membership.{In-from_filter}

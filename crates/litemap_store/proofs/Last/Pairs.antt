@@ -1,7 +1,7 @@
 -- The last pair of each key: there is one such list and no other, and what adds to it.
 --     last_of, Last-unique      there is one, and only one;  Last-rising      an ascending list is its own;  Last-put      one more pair
 --     Last-join, Last-join_right      the last pairs of a part in place of the part;  Last-same      the same pairs are last
---     StandsLast-left, StandsLast-right, StandsLast-cases      which pairs of a joined list are last;  stands_before, stands_behind      and if a part changes
+--     StandsLast-left, StandsLast-right, StandsLast-cases      which pairs of a joined list are last;  stands_before, stands_after      and if a part changes
 --     in_put, put_has      what is in a list after a put
 use Rattle.litemap_store.proofs.Names.{[], ◌++◌, ◌↔◌, ◌∙◌, ◌∷◌, ◌≡◌, ◌≢◌, ◌⊎◌, above, alike_right, ap, append-nil, append_assoc, at, below, Equal, Greater, In, inl, inr, is_gt, is_lt, IsTotalOrder, Last, Less, List, None, NoneEqual, Option, Ordering, refl, Rising, Some, StandsLast, subst, sym, tied_back, tied_itself}
 use Rattle.litemap_store.proofs.Lists.Membership.{In-left, In-right, In-cases, In-filter, In-from_filter, each, from_each}

@@ -1,7 +1,7 @@
 -- Taking the greatest pair of two ascending lists from their ends.
 --     end_new, end_old, end_from_cmp      which list has it;  take_old, take_new, take_both      what is left if its pair is taken
 --     taken_last      a list without its last element
---     reverse_behind, Last-of_none      the side vector
+--     reverse_after, Last-of_none      the side vector
 use Rattle.litemap_store.proofs.Names.{[], ℕ, ◌++◌, ◌-◌, ◌==◌, ◌↔◌, ◌∙◌, ◌∷◌, ◌≡◌, ◌≢◌, alike_right, AllBelow, ap, append-nil, append_assoc, arith, Bool, eqb-true, Equal, false, Greater, In, inl, inr, IsGreaterEnd, IsTaken, IsTotalOrder, Last, length, length-append, Less, List, nil_from_length, None, NoneEqual, not, Ordering, refl, remove, reverse, reverse-append, Rising, same_from_push, slice_get, Some, StandsLast, subst, subst₂, suc, sym, then_some, true, true≢false, zero}
 use Rattle.litemap_store.proofs.Lists.Joined.{empty_from_last, last_split}
 use Rattle.litemap_store.proofs.Lists.Membership.{In-left, In-right, In-cases, each, from_each}

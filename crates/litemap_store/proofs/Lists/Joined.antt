@@ -1,6 +1,6 @@
 -- Ascending lists, by their neighbours, and joined.
 --     adjacent_from_Rising, Rising-from_adjacent, adjacent_more      of two neighbours the later one has the greater key
---     Rising-behind      if the last key of one is below the first of the other;  Rising-from_Rises, not_above      if all of one are below the other, or are not
+--     Rising-after      if the last key of one is below the first of the other;  Rising-from_Rises, not_above      if all of one are below the other, or are not
 --     empty_from_last, empty_from_first, last_split, first_split      an empty list, and what one begins and ends with
 --     below_all      a key below all
 use Rattle.litemap_store.proofs.Names.{[], ℕ, ◌++◌, ◌+◌, ◌-◌, ◌↔◌, ◌∙◌, ◌∷◌, ◌≡◌, AllAdjacentBelow, AllByRecursion, ap, arith, BelowAll, Bool, cases_lt, false, get_or_from_slice_get, In, inl, inr, IsTotalOrder, IsTrue, length, Less, List, None, Ordering, refl, Rises, Rising, slice_get, slice_get_within, Some, sub-one, subst, suc, suc-add, sym, true≢false}

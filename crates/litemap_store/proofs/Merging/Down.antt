@@ -2,7 +2,7 @@
 --     Merge-one      one pair into another with an equal key;  length-parts      how long the parts below and above a key are
 --     taken_found, found_drop, missing_drop      the parts by the index that a search found
 --     Merge-down, left-down      one step: what is merged above the last key of B, and what is displaced there
---     left-same      what is displaced depends on what the keys of B find;  length-behind, length-option      how long a list is that was read from its end
+--     left-same      what is displaced depends on what the keys of B find;  length-after, length-option      how long a list is that was read from its end
 use Rattle.litemap_store.proofs.Names.{[], ℕ, ◌++◌, ◌+◌, ◌∙◌, ◌∷◌, ◌≡◌, ◌≤◌, above, alike_right, ap, append_assoc, arith, at, below, cons_option, drop, drop-append-add, drop-append_seam, Equal, filter_map-append, In, inl, inr, is_gt, is_lt, IsFoundAt, IsMissingAt, IsTotalOrder, key_one_side, key_or, left, length, length-append, length-reverse, Less, List, Merge, None, Option, option_map, Ordering, put, refl, reverse, Rising, same_from_push, Some, subst, sym, take, take-append-add}
 use Rattle.litemap_store.proofs.Last.KeepLast.{rising_across}
 use Rattle.litemap_store.proofs.Callers.Lookups.{at-filter_kept}

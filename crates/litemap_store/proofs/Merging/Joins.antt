@@ -1,6 +1,6 @@
 -- Merges of lists with all keys of one above the other's, and merges that are joined.
---     Merge-none, Merge-all      one list is empty;  Merge-behind, Merge-before      one is above the other
---     left-behind, left-before      and nothing is displaced;  Merge-join      merges of which one is above the other are joined
+--     Merge-none, Merge-all      one list is empty;  Merge-after, Merge-before      one is above the other
+--     left-after, left-before      and nothing is displaced;  Merge-join      merges of which one is above the other are joined
 use Rattle.litemap_store.proofs.Names.{[], ◌++◌, ◌≡◌, ◌≢◌, Apart, append-nil, Equal, Greater, In, inl, inr, IsMerged}
 use Rattle.litemap_store.proofs.Names.{IsTotalOrder, left, Less, List, Merge, NoneEqual, Ordering, refl, Rising, subst₂}
 use Rattle.litemap_store.proofs.Lists.Joined.{Rising-from_Rises}

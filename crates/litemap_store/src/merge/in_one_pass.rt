@@ -54,7 +54,7 @@ fn take_above<K: Ord + Drop, V: Drop, S: StoreMut<K, V>>(
 )
     requires store { Rising K.cmp (S.pairs store.old) }
     requires side_room { length side.old.items + length (S.pairs store.old) < vec_capacity side.old }
-    requires driven_out_room { length displaced.old.items < vec_capacity displaced.old }
+    requires displaced_room { length displaced.old.items < vec_capacity displaced.old }
     ensures store { S.pairs store.new ≡ below K.cmp (S.pairs store.old) key }
     ensures side { reverse side.new.items
         ≡ (key_or (at K.cmp (S.pairs store.old) key) key, value) ∷ (above K.cmp (S.pairs store.old) key
@@ -63,7 +63,7 @@ fn take_above<K: Ord + Drop, V: Drop, S: StoreMut<K, V>>(
         ≡ cons_option (option_map (λ p. (key, p.1)) (at K.cmp (S.pairs store.old) key))
         (reverse displaced.old.items) }
     ensures side_room { vec_capacity side.old ≤ vec_capacity side.new }
-    ensures driven_out_room { vec_capacity displaced.old ≤ vec_capacity displaced.new }
+    ensures displaced_room { vec_capacity displaced.old ≤ vec_capacity displaced.new }
     ensures cost { RisesByAtMost (digits (length (S.pairs store.old))) count.old count.new }
 {
     match search(store, &key, count) {

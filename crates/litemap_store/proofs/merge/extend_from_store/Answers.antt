@@ -19,8 +19,8 @@ there_is_room r s (inr full) = omega arith
 
 module _ {K V S : Type 0} (cmp : K → K → Ordering) (o : IsTotalOrder cmp) (pairs : S → List (K × V)) (room : S → ℕ) (other before after : S) where
   -- nothing is displaced if all other keys are above
-  behind : Rising cmp (pairs before) → Rising cmp (pairs other) → Rising cmp (pairs before ++ pairs other) → pairs after ≡ pairs before ++ pairs other → Merges cmp pairs other before after (Ok None)
-  behind r s up is = record { merged = rw is (Merge-after cmp o _ _ r s up); none = (λ _. left-after cmp o _ _ r s up, λ _. refl); left = tt; refused = tt; back = tt }
+  joined : Rising cmp (pairs before) → Rising cmp (pairs other) → Rising cmp (pairs before ++ pairs other) → pairs after ≡ pairs before ++ pairs other → Merges cmp pairs other before after (Ok None)
+  joined r s up is = record { merged = rw is (Merge-after cmp o _ _ r s up); none = (λ _. left-after cmp o _ _ r s up, λ _. refl); left = tt; refused = tt; back = tt }
 
   -- neither is empty
   of_both : (pairs other ≡ [] → ⊥) → (pairs before ≡ [] → ⊥) → (r : Result (Option S) (NoRoom S)) → Merges cmp pairs other before after r
@@ -32,19 +32,19 @@ module _ {K V S : Type 0} (cmp : K → K → Ordering) (o : IsTotalOrder cmp) (p
 pub returns-then-lm_is_empty-clause-merged : goal.returns-then-lm_is_empty-clause-merged
 returns-then-lm_is_empty-clause-merged g c =
     let none : g.S.Store.pairs c.args.other ≡ [] = nil_from_length _ (eqb-true _ 0 (sym c.lm_is_empty.ensures ∙ c.if-lm_is_empty.true)) in
-    let merges = behind g.K.Ord.cmp g.met.K.Ord.total g.S.Store.pairs g.S.Store.room c.args.other c.args.store.now _ c.requires.store c.requires.other (rw (none, append-nil) c.requires.store) (rw (none, append-nil) refl) in
+    let merges = joined g.K.Ord.cmp g.met.K.Ord.total g.S.Store.pairs g.S.Store.room c.args.other c.args.store.now _ c.requires.store c.requires.other (rw (none, append-nil) c.requires.store) (rw (none, append-nil) refl) in
     record { merges = merges; succeeds = λ e. refl; all_above = λ h r. refl; all_below = λ h r s. refl; unchanged = λ e. refl; taken = λ e n. absurd (n none) }
 
 pub returns-then-lm_is_empty-2-clause-merged : goal.returns-then-lm_is_empty-2-clause-merged
 returns-then-lm_is_empty-2-clause-merged g c =
     let none : g.S.Store.pairs c.args.store.now ≡ [] = nil_from_length _ (eqb-true _ 0 (sym c.lm_is_empty-2.ensures ∙ c.if-lm_is_empty-2.true)) in
-    let merges = behind g.K.Ord.cmp g.met.K.Ord.total g.S.Store.pairs g.S.Store.room c.args.other c.args.store.now _ c.requires.store c.requires.other (rw none c.requires.other) (rw none refl) in
+    let merges = joined g.K.Ord.cmp g.met.K.Ord.total g.S.Store.pairs g.S.Store.room c.args.other c.args.store.now _ c.requires.store c.requires.other (rw none c.requires.other) (rw none refl) in
     record { merges = merges; succeeds = λ e. refl; all_above = λ h r. refl; all_below = λ h r s. refl; unchanged = λ e. absurd (filled _ _ c.lm_is_empty.ensures c.if-lm_is_empty.false e); taken = λ e n. refl }
 
 pub returns-then-lies_below-clause-merged : goal.returns-then-lies_below-clause-merged
 returns-then-lies_below-clause-merged g c =
     of_both g.K.Ord.cmp g.met.K.Ord.total g.S.Store.pairs g.S.Store.room c.args.other c.args.store.now _ (filled _ _ c.lm_is_empty.ensures c.if-lm_is_empty.false) (filled _ _ c.lm_is_empty-2.ensures c.if-lm_is_empty-2.false) (Ok None)
-    (behind g.K.Ord.cmp g.met.K.Ord.total g.S.Store.pairs g.S.Store.room c.args.other c.args.store.now _ c.requires.store c.requires.other (c.lies_below.ensures.below.0 c.if-lies_below.true) c.in_ok-lm_extend_end.ensures.ok)
+    (joined g.K.Ord.cmp g.met.K.Ord.total g.S.Store.pairs g.S.Store.room c.args.other c.args.store.now _ c.requires.store c.requires.other (c.lies_below.ensures.below.0 c.if-lies_below.true) c.in_ok-lm_extend_end.ensures.ok)
     (λ h r. refl) (λ h r s. refl)
 
 pub returns-in_err-lm_extend_end-clause-merged : goal.returns-in_err-lm_extend_end-clause-merged

@@ -35,8 +35,8 @@ loop-other-preserved g c =
       left_over = left-down cmp o first second old all left_store new pair split was.other_rises step.store (reverse c.loop-other.displaced.items) (reverse c.take_above.new.displaced.items) step.displaced was.left_over;
       side_fits = let k = was.side_fits in let r = step.side_room in omega arith;
       side_len = let k = was.side_len in omega arith;
-      driven_out_fits = let k = was.driven_out_fits in let r = step.driven_out_room in omega arith;
-      driven_out_len = let k = was.driven_out_len in omega arith;
+      displaced_fits = let k = was.displaced_fits in let r = step.displaced_room in omega arith;
+      displaced_len = let k = was.displaced_len in omega arith;
       fewer = let k = was.fewer in omega arith;
       same = step.cost.same ∙ was.same;
       not_lowered = let k = was.not_lowered in let n = step.cost.not_lowered in omega arith;

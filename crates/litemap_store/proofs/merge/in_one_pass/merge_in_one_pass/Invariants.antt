@@ -9,8 +9,8 @@ invariant-loop-other g l = record {
   left_over : left g.K.Ord.cmp (g.S.Store.pairs l.fn.store) (g.S.Store.pairs l.fn.other) ≡ left g.K.Ord.cmp (g.S.Store.pairs l.store) (g.S.Store.pairs l.other) ++ reverse l.displaced.items;
   side_fits : length l.side.items + (length (g.S.Store.pairs l.store) + length (g.S.Store.pairs l.other)) ≤ vec_capacity l.side;
   side_len : length l.side.items + (length (g.S.Store.pairs l.store) + length (g.S.Store.pairs l.other)) ≤ length (g.S.Store.pairs l.fn.store) + length (g.S.Store.pairs l.fn.other);
-  driven_out_fits : length l.displaced.items + length (g.S.Store.pairs l.other) ≤ vec_capacity l.displaced;
-  driven_out_len : length l.displaced.items + length (g.S.Store.pairs l.other) ≤ length (g.S.Store.pairs l.fn.other);
+  displaced_fits : length l.displaced.items + length (g.S.Store.pairs l.other) ≤ vec_capacity l.displaced;
+  displaced_len : length l.displaced.items + length (g.S.Store.pairs l.other) ≤ length (g.S.Store.pairs l.fn.other);
   fewer : length (g.S.Store.pairs l.store) ≤ length (g.S.Store.pairs l.fn.store);
   same : l.count.name ≡ l.fn.count.name;
   not_lowered : l.fn.count.total ≤ l.count.total;
