@@ -1,5 +1,4 @@
-//! Calls on a map over a borrowed slice, whose results live as long as the slice, and its lookups of strings, bytes and
-//! integers.
+//! Calls on a map over a borrowed slice, whose results live as long as the slice, and its lookups of strings, bytes and integers.
 //!
 //! In the Rust crate they are evaluated in constants, hence the `const` in their names. Here they are plain calls. None takes
 //! memory, and a lookup makes O(log n) comparisons.

@@ -63,10 +63,10 @@ pub unsigned_is_whole : {E : Type 0} (w : Width) → nat_le (bits w) 64 ≡ true
     → IsWhole (unsigned w) nat_cmp (λ z (r : Result ℕ E). OkIff r (FitsUnsigned w z) (unsigned_abs z))
 unsigned_is_whole w b = record {
   held = λ z h. let f = fits_unsigned w z h in
-    let wide = pow_mono {i = bits w} {j = 64} (leb-true (bits w) 64 b) in inl (f.0, omega (arith, ints, f.1, wide));
+      let wide = pow_mono {i = bits w} {j = 64} (leb-true (bits w) 64 b) in inl (f.0, omega (arith, ints, f.1, wide));
   one_number = unsigned_one_tree;
   given = λ z r. given pos (unsigned_fits (bits w) z) z (unsigned_abs z) (FitsUnsigned w z) r
-    (fits_unsigned w z) (unsigned_fits_from w z);
+      (fits_unsigned w z) (unsigned_fits_from w z);
 }
 
 pub signed_is_whole : {E : Type 0} (w : Width) → nat_le (hbits w) 63 ≡ true
@@ -75,5 +75,5 @@ signed_is_whole w b = record {
   held = λ z h. inr (sfits_widen (rw b tt) (fits_signed w z h));
   one_number = signed_one_tree;
   given = λ z r. given (λ x. x) (signed_fits (hbits w) z) z z (FitsSigned w z) r
-    (fits_signed w z) (signed_fits_from w z);
+      (fits_signed w z) (signed_fits_from w z);
 }

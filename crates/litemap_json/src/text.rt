@@ -23,8 +23,7 @@ use litemap::{LiteMap, VecMap};
 use std::alloc::{AllocError, Global};
 
 /// Writes a map as a JSON text with no space, and returns the text. It is that of the value that `to_json` makes, with the same
-/// errors, but that value isn't made. The Rust crate has serde's `Serialize` here, whose members stand in the order of the
-/// keys.
+/// errors, but that value isn't made. The Rust crate has serde's `Serialize` here, whose members stand in the order of the keys.
 ///
 /// Names that ascend in their byte order, as those of `String` keys do, are written pair by pair, each compared with the one
 /// before. If one doesn't ascend, what was written is dropped, and the names of all keys are gathered and sorted. If the first

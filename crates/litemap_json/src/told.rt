@@ -95,9 +95,9 @@ impl Display for Told<'_> {
                 return write!(f, "the name {name:?} is no key's text: {wanted} is wanted");
             }
             (_, Some(name)) => write!(f, "{name:?}: ")?,
-            (JsonFault::NotAPair { place }, None) => write_place(f, "element", *place)?,
-            (JsonFault::Key { place, fault: _ }, None) => write_place(f, "key", *place)?,
-            (JsonFault::Item { place, fault: _ }, None) => write_place(f, "item", *place)?,
+            (JsonFault::NotAPair { place }, None) => at(f, "the element at place ", *place)?,
+            (JsonFault::Key { place, fault: _ }, None) => at(f, "the key at place ", *place)?,
+            (JsonFault::Item { place, fault: _ }, None) => at(f, "the item at place ", *place)?,
             _ => {}
         }
         write!(f, "{wanted} is wanted, and ")?;
@@ -106,8 +106,8 @@ impl Display for Told<'_> {
     }
 }
 
-fn write_place<W: Write>(f: &mut Formatter<W>, part: &str, place: usize) -> fmt::Result {
-    write!(f, "the {part} at place {place} (from 0): ")
+fn at<W: Write>(f: &mut Formatter<W>, part: &str, place: usize) -> fmt::Result {
+    write!(f, "{part}{place} (from 0): ")
 }
 
 // Which kind of value it is; a number is written whole.

@@ -26,8 +26,7 @@ const MOST_HINTED: usize = 65_536;
 /// # Errors
 ///
 /// An error of the source is returned as `ReadFault::Source`. If memory runs out, it is `ReadFault::NoRoom`, which doesn't come
-/// if the source has no pair. In both cases the pairs read so far are dropped, and the source stays after the pairs that it
-/// gave.
+/// if the source has no pair. In both cases the pairs read so far are dropped, and the source stays after the pairs that it gave.
 ///
 /// ```rust
 /// const LANGUAGES: &[u8] = b"\x02\x02de\x06German\x02fr\x06French";
@@ -60,9 +59,8 @@ pub fn read_pairs<K: Ord + Drop, V: Drop, S: StoreBulkMut<K, V>, P: PairSource<K
 ///
 /// # Errors
 ///
-/// They are those of `read_pairs`. The pairs are gathered in a vector before the map changes, so an error leaves the map's
-/// list. The pairs read so far are dropped then, and the source stays after them. To keep them, call `next_pair` and insert
-/// each pair.
+/// They are those of `read_pairs`. The pairs are gathered in a vector before the map changes, so an error leaves the map's list.
+/// The pairs read so far are dropped then, and the source stays after them. To keep them, call `next_pair` and insert each pair.
 pub fn extend_from_source<K: Ord + Drop, V: Drop, S: StoreBulkMut<K, V>, P: PairSource<K, V>>(
     alloc: Global,
     map: &mut LiteMap<K, V, S>,

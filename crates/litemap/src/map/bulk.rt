@@ -93,9 +93,8 @@ impl<K: Ord + Drop, V: Drop, S: StoreBulkMut<K, V>> LiteMap<K, V, S> {
     /// others, a fresh store may replace the map's, and a limit set on the old one is lost.
     ///
     /// Ascending pairs above the last key are appended, with at most one comparison for each. Other ascending pairs are merged,
-    /// with at most one comparison for each old and two for each new pair, and each pair moves a constant number of times.
-    /// Pairs that don't ascend are sorted first, by comparisons that aren't counted. In the Rust crate this is the trait
-    /// `Extend`.
+    /// with at most one comparison for each old and two for each new pair, and each pair moves a constant number of times. Pairs
+    /// that don't ascend are sorted first, by comparisons that aren't counted. In the Rust crate this is the trait `Extend`.
     ///
     /// ```rust
     /// let mut days = three_days(alloc)?;

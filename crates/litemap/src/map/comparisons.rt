@@ -40,8 +40,7 @@ impl<K: Ord, V: Eq, S: Store<K, V>> Eq for LiteMap<K, V, S> {
         (on_equiv (λ p. p.1) V.Eq.laws))) };
 }
 
-/// Maps compare by the first index at which they differ, keys before values; a map is less than a longer one that starts with
-/// it.
+/// Maps compare by the first index at which they differ, keys before values; a map is less than a longer one that starts with it.
 ///
 /// ```rust
 /// // days: 1 Monday, 3 Wednesday, 5 Friday

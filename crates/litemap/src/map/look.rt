@@ -83,8 +83,7 @@ impl<K: Ord, V, S: Store<K, V>> LiteMap<K, V, S> {
         }
     }
 
-    /// Returns the pair with an equal key, or `None` if there is none (own). Its key is the one in the map, if equal keys
-    /// differ.
+    /// Returns the pair with an equal key, or `None` if there is none (own). Its key is the one in the map, if equal keys differ.
     pub fn get_key_value<Q: Query<K>>(&self, key: Q) -> Option<(&K, &V)>
         ensures { option_map deref_pair result ≡ at Q.order self.now.pairs (Q.sought key) }
     {

@@ -91,9 +91,6 @@ module _ {K V : Type 0} (ord : K → Ordering) (l : List (K × V)) where
     pub open_ : hit ≡ 0 → Narrowed low (low + left)
     pub closed : 0 < hit → Finds ord l (Ok (hit - 1))
 
-  pub Seen-whole : (n : ℕ) → length l ≤ n → Seen 0 0 n
-  Seen-whole n h = record { open_ = λ u. Narrowed-whole (0 + n) (omega arith); closed = λ u. absurd (omega arith) }
-
   -- after a result at the middle
   pub Seen-next : Ascends ord l → (is_small : Bool) (hit low left : ℕ) (k : K) (v : V) (answer : Ordering) → 0 < left
       → slice_get l (low + (left - left / 2) - 1) ≡ Some (k, v) → Seen hit low left → ord k ≡ answer

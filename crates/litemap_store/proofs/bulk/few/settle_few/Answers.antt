@@ -1,4 +1,4 @@
-use Rattle.litemap_store.proofs.Names.{◌*◌, ◌++◌, ◌+◌, ◌-◌, ◌∙◌, ◌≡◌, ◌≤◌, ap, arith, digits, digits-mono, drop, IsPutIn, length}
+use Rattle.litemap_store.proofs.Names.{◌*◌, ◌++◌, ◌+◌, ◌-◌, ◌∙◌, ◌≡◌, ◌≤◌, ap, arith, digits, digits-mono, drop, IsPutIn, length, length-drop}
 use Rattle.litemap_store.proofs.Names.{refl, Rising, subst, suc, suc-mul, take, take-append-drop, take_at, vec_len}
 use Rattle.litemap_store.proofs.Lists.Joined.{not_above}
 use Rattle.litemap_store.proofs.Stores.Counting.{at_most, in_turn, not_asked}
@@ -14,6 +14,14 @@ returns-clause-all_above g c = λ h.
     let L = c.args.store.now.items in
     absurd (not_above g.K.Ord.cmp (take c.args.from L) (drop c.args.from L) c.is_rising_from.result c.requires.rising
     (λ up. c.is_rising_from.ensures.rising.1 (rw c.deref.ensures.value (subst (Rising g.K.Ord.cmp) (take-append-drop c.args.from L) up))) c.if-is_rising_from.false h)
+
+pub put_next-kept-requires-clause-rising : goal.put_next-kept-requires-clause-rising
+put_next-kept-requires-clause-rising g c = rw c.deref_mut.ensures.value c.loop-at.invariant.kept.last.rising
+
+pub returns-clause-cost : goal.returns-clause-cost
+returns-clause-cost g c =
+    let L = c.args.store.now in let end : c.loop-at.at ≡ vec_len L = omega arith in
+    in_turn (length (drop c.args.from L.items)) ((vec_len L - c.args.from) * digits (vec_len L)) _ (omega (arith, c.requires.few, length-drop c.args.from L.items, L.ok.0)) (rw c.deref.ensures.value at c.is_rising_from.ensures.cost) (rw end at c.loop-at.invariant.cost)
 
 pub loop-at-init : goal.loop-at-init
 loop-at-init g c = record {

@@ -1,7 +1,34 @@
-use Rattle.litemap_store.proofs.Names.{on_ok_weaker}
+use Rattle.litemap_store.proofs.Names.{◌+◌, ◌-◌, ◌≡◌, arith, drop-append_seam, length, min, on_ok_weaker, RisesByAtMost, take-append_seam, vec_len}
+use Rattle.litemap_store.proofs.Stores.Counting.{at_most, in_turn}
 use Rattle.litemap_store.proofs.Lists.Joined.{not_above}
 use Rattle.litemap_store.proofs.Last.Pairs.{Last-join_right, Last-rising}
+use Rattle.litemap_store.proofs.bulk.vector.put_in_vec.Given.{Over}
 use Rattle.litemap_store.proofs.bulk.vector.put_in_vec.Goals as goal
+use Rattle.litemap_store.proofs.bulk.vector.put_in_vec.Goals.{After-lies_below}
+
+-- once the ends are compared
+both_ends : (g : Over) (c : After-lies_below g) → RisesByAtMost (length c.args.pairs.now.items) c.args.count.now c.lies_below.new.count
+both_ends g c =
+    let old = c.args.pairs.now in let now = c.keep_rising.new.pairs in
+    in_turn (vec_len old - 0 - 1) (min 1 (length now.items)) _ (omega (arith, old.ok.0, now.ok.0, c.keep_rising.ensures.shorter.1)) c.keep_rising.ensures.cost c.lies_below.ensures.cost
+
+pub returns-then-is_few-clause-all_above : goal.returns-then-is_few-clause-all_above
+returns-then-is_few-clause-all_above g c =
+    let len : c.len-from.result ≡ length c.args.store.now.items = omega (arith, c.len-from.ensures, c.args.store.now.ok.0) in
+    rw (c.in_ok-append_in_vec.ensures.appended, len, take-append_seam c.args.store.now.items c.args.pairs.now.items, drop-append_seam c.args.store.now.items c.args.pairs.now.items) at c.settle_few.ensures.all_above
+
+pub returns-then-is_few-clause-cost : goal.returns-then-is_few-clause-cost
+returns-then-is_few-clause-cost g c =
+    let len : c.len-from.result ≡ length c.args.store.now.items = omega (arith, c.len-from.ensures, c.args.store.now.ok.0) in
+    rw (c.in_ok-append_in_vec.ensures.appended, len, drop-append_seam c.args.store.now.items c.args.pairs.now.items) at c.settle_few.ensures.cost
+
+pub returns-then-lies_below-clause-cost : goal.returns-then-lies_below-clause-cost
+returns-then-lies_below-clause-cost g c = at_most (length c.args.pairs.now.items) _ (omega arith) (both_ends g (goal.at.returns-then-lies_below-clause-cost g c).After-lies_below)
+
+pub returns-clause-cost : goal.returns-clause-cost
+returns-clause-cost g c =
+    let shorter = c.keep_rising.ensures.shorter.1 in
+    in_turn (length c.args.pairs.now.items) (length c.args.store.now.items + length c.keep_rising.new.pairs.items) _ (omega (arith, c.args.pairs.now.ok.0, c.keep_rising.new.pairs.ok.0)) (both_ends g (goal.at.returns-clause-cost g c).After-lies_below) c.merge_in_vec.ensures.cost
 
 pub returns-clause-last : goal.returns-clause-last
 returns-clause-last g c = on_ok_weaker c.merge_in_vec.result (λ d. Last-join_right g.K.Ord.cmp g.met.K.Ord.total _ _ _ _ c.in_ok-keep_rising.ensures.last d) c.merge_in_vec.ensures.last

@@ -56,3 +56,12 @@ returns-clause-merges g c =
     let merged : Merge cmp first second (reverse c.take_from.new.side.items) = rw c.take_from.ensures.side (was.merged _ kept) in
     let left_over : reverse c.loop-other.displaced.items ≡ left cmp first second = sym (rw none at was.left_over) in
     search rules
+
+pub take_above-requires : goal.take_above-requires
+take_above-requires g c =
+    let was = c.loop-other.invariant in let fits = was.side_fits in let fits_out = was.displaced_fits in
+    let others : length (g.S.Store.pairs c.loop-other.other) ≡ length (g.S.Store.pairs c.take_last-key.new.store) + 1 = ap length c.take_last-key.ensures.pairs ∙ length_push _ _ in
+    record { store = was.store_rises; side_room = omega arith; displaced_room = omega arith }
+
+pub take_from-requires : goal.take_from-requires
+take_from-requires g c = let fits = c.loop-other.invariant.side_fits in record { index = omega arith; side_room = omega arith }

@@ -1,6 +1,22 @@
-use Rattle.litemap_store.proofs.Names.{◌∷◌, ◌≡◌, ap, arith, length, rules, suc}
-use Rattle.litemap_store.proofs.Merging.Steps.{MergedUpTo-more}
+use Rattle.litemap_store.proofs.Names.{◌∷◌, ◌≡◌, ap, arith, common_steps, length, refl, rules, suc}
+use Rattle.litemap_store.proofs.Stores.Counting.{at_most, not_asked}
+use Rattle.litemap_store.proofs.Merging.Steps.{MergedUpTo-all, MergedUpTo-more, MergedUpTo-none}
 use Rattle.litemap_store.proofs.merge.one_by_one.merge_one_by_one.Goals as goal
+
+pub returns-in_default : goal.returns-in_default
+returns-in_default g c = record { merges = record { merged = tt; none = tt; left = tt; refused = c.lm_reserve.ensures.pairs; back = refl }; cost = at_most 0 _ (omega arith) (not_asked _) }
+
+pub returns-in_default-lm_with_capacity : goal.returns-in_default-lm_with_capacity
+returns-in_default-lm_with_capacity g c = record { merges = record { merged = tt; none = tt; left = tt; refused = c.lm_reserve.ensures.pairs; back = refl }; cost = at_most 0 _ (omega arith) (not_asked _) }
+
+pub loop-key-init : goal.loop-key-init
+loop-key-init g c = record {
+  can = g.met.S.KeyValueIntoIter.PairIntoIter.can _;
+  ends = search rules;
+  so_far = rw c.lm_reserve.ensures.pairs (MergedUpTo-none g.K.Ord.cmp g.met.K.Ord.total _ _ _ _ _ c.requires.store (search rules) (search rules));
+  room = first_of (search rules, grind (arith, common_steps));
+  rest_room = first_of (search rules, grind (arith, common_steps));
+}
 
 pub loop-key-preserved : goal.loop-key-preserved
 loop-key-preserved g c =
@@ -15,4 +31,19 @@ loop-key-preserved g c =
       so_far = MergedUpTo-more g.K.Ord.cmp g.met.K.Ord.total _ _ _ _ _ _ _ _ _ (c.in-Some.key, c.in-Some.value) _ _ _ c.requires.other c.loop-key.invariant.so_far first c.put_in.ensures.put c.put_in.ensures.rest c.put_in.ensures.cost;
       room = omega arith;
       rest_room = omega arith;
+    }
+
+pub put_in-requires : goal.put_in-requires
+put_in-requires g c =
+    let shorter = ap length (g.met.S.KeyValueIntoIter.PairIntoIter.first _ _ _ c.in-Some.ensures.steps) in
+    let room = c.loop-key.invariant.room in let rest_room = c.loop-key.invariant.rest_room in
+    record { store = c.loop-key.invariant.so_far.merged.rising; room = omega arith; rest_room = omega arith }
+
+pub returns : goal.returns
+returns g c =
+    let none = g.met.S.KeyValueIntoIter.PairIntoIter.first _ _ _ c.in-None.ensures.steps in
+    let all = MergedUpTo-all g.K.Ord.cmp g.met.K.Ord.total _ _ _ _ _ _ _ _ c.loop-key.invariant.so_far none.0 in
+    record {
+      merges = record { merged = all.0; none = rw all.1.0 at c.unless_empty.ensures.none; left = rw all.1.0 at c.unless_empty.ensures.some; refused = tt; back = tt };
+      cost = all.1.1;
     }
