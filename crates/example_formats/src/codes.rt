@@ -13,10 +13,8 @@ pub type Row = SerdeMap<String, String, Vec<(String, String)>>;
 
 /// The rows under a header of two columns. Of equal codes the last row counts.
 pub fn from_csv(alloc: Global, text: &[u8]) -> Result<Codes, Error> {
-    match Codes::from_vec(alloc, rows_from_csv(alloc, text)?) {
-        Ok(codes) => Ok(codes),
-        Err(_) => Err(Error::out_of_memory()),
-    }
+    let rows = rows_from_csv(alloc, text)?;
+    Codes::from_vec(alloc, rows).map_err(|_| Error::out_of_memory())
 }
 
 /// The rows under a header: pairs of their fields, or each a `Row`.
@@ -24,14 +22,7 @@ pub fn rows_from_csv<T: DeserializeOwned>(alloc: Global, text: &[u8]) -> Result<
     let mut reader = Reader::from_reader(alloc, text);
     let mut rows = Vec::new(alloc);
     for row in reader.deserialize::<T>() {
-        put(&mut rows, row)?;
+        rows.push(row?).map_err(|_| Error::out_of_memory())?;
     }
     Ok(rows)
-}
-
-fn put<T: Drop>(rows: &mut Vec<T>, row: Result<T, Error>) -> Result<(), Error> {
-    match rows.push(row?) {
-        Ok(()) => Ok(()),
-        Err(_) => Err(Error::out_of_memory()),
-    }
 }

@@ -25,10 +25,8 @@ impl JsonItem for Even {
     }
 
     fn from_value(alloc: Global, value: &Value) -> Result<Even, ItemFault> {
-        match u32::from_value(alloc, value) {
-            Ok(number) => Ok(Even { number }),
-            Err(fault) => Err(fault),
-        }
+        let number = u32::from_value(alloc, value)?;
+        Ok(Even { number })
     }
 }
 

@@ -1,11 +1,12 @@
 //! The output of a line.
 use crate::evens::Even;
 use crate::falling::Falling;
+use crate::kinds::one_of;
 use crate::levels::Level;
 use crate::overlay::{OverlayFault, Settings, overlay};
 use crate::{limits, numbers, told};
 use litemap::LiteMap;
-use litemap::store::{Store, StoreBulkMut};
+use litemap::store::Store;
 use litemap_columns::ColumnStore;
 use litemap_json::{
     JsonFault, JsonItem, JsonKey, WriteFault, Writer, from_json, to_json, write_json, write_value,
@@ -16,78 +17,49 @@ use serde_json::Value;
 use std::alloc::{AllocError, Global};
 use std::io;
 
-type Map<K, V> = LiteMap<K, V, Vec<(K, V)>>;
-
-type Columns<K, V> = LiteMap<K, V, ColumnStore<K, V>>;
-
 /// Returns the output of a line, at the types of this name.
 pub fn answer(alloc: Global, line: &str) -> Result<String, AllocError> {
     let Some((types, text)) = line.split_once(' ') else {
         return String::from_str(alloc, "no types");
     };
     match types {
-        "u8" => written::<u8, u8, ShortStore<u8, u8>>(alloc, text),
-        "u16" => written::<u16, u16, ShortStore<u16, u16>>(alloc, text),
-        "u32" => written::<u32, u32, ShortStore<u32, u32>>(alloc, text),
-        "u64" => written::<u64, u64, ShortStore<u64, u64>>(alloc, text),
-        "i8" => written::<i8, i8, ShortStore<i8, i8>>(alloc, text),
-        "i16" => written::<i16, i16, ShortStore<i16, i16>>(alloc, text),
-        "i32" => written::<i32, i32, ShortStore<i32, i32>>(alloc, text),
-        "i64" => written::<i64, i64, ShortStore<i64, i64>>(alloc, text),
-        "bool" => written::<bool, bool, ShortStore<bool, bool>>(alloc, text),
-        "text" => written::<String, String, ShortStore<String, String>>(alloc, text),
-        "falling" => written::<Falling, String, ShortStore<Falling, String>>(alloc, text),
-        "flags" => written::<bool, u32, ShortStore<bool, u32>>(alloc, text),
-        "words" => written::<u32, String, ShortStore<u32, String>>(alloc, text),
-        "evens" => written::<Even, String, ShortStore<Even, String>>(alloc, text),
-        "tongues" => written::<(u32, String), String, ShortStore<(u32, String), String>>(
-            alloc, text,
-        ),
-        "levels" => written::<Level, u32, ShortStore<Level, u32>>(alloc, text),
+        "u8" => written::<u8, u8>(alloc, text),
+        "u16" => written::<u16, u16>(alloc, text),
+        "u32" => written::<u32, u32>(alloc, text),
+        "u64" => written::<u64, u64>(alloc, text),
+        "i8" => written::<i8, i8>(alloc, text),
+        "i16" => written::<i16, i16>(alloc, text),
+        "i32" => written::<i32, i32>(alloc, text),
+        "i64" => written::<i64, i64>(alloc, text),
+        "bool" => written::<bool, bool>(alloc, text),
+        "text" => written::<String, String>(alloc, text),
+        "falling" => written::<Falling, String>(alloc, text),
+        "flags" => written::<bool, u32>(alloc, text),
+        "words" => written::<u32, String>(alloc, text),
+        "evens" => written::<Even, String>(alloc, text),
+        "tongues" => written::<(u32, String), String>(alloc, text),
+        "levels" => written::<Level, u32>(alloc, text),
         "limits" => copied_limits(alloc, text),
         "names" => copied_names(alloc, text),
         "overlay" => overlaid(alloc, text),
         "told" => told::answer(alloc, text),
         "rewrite" => rewritten(alloc, text.as_bytes()),
         "value" => written_value(alloc, text),
-        "nested" => written::<
-            ((u8, bool), String),
-            (u32, (bool, i8)),
-            ShortStore<((u8, bool), String), (u32, (bool, i8))>,
-        >(alloc, text),
+        "nested" => written::<((u8, bool), String), (u32, (bool, i8))>(alloc, text),
         _ => String::from_str(alloc, "no such types"),
     }
 }
 
 // The map that a text is read as, written as JSON: over a vector, over two columns and over a short store.
-fn written<K: JsonKey + Drop, V: JsonItem + Drop, S: StoreBulkMut<K, V>>(
+fn written<K: JsonKey + Drop, V: JsonItem + Drop>(
     alloc: Global,
     text: &str,
 ) -> Result<String, AllocError> {
     let value = or_word!(alloc, "no JSON", Value::from_str(alloc, text));
-    let map: Result<Map<K, V>, JsonFault> = from_json(alloc, &value);
-    let columns: Result<Columns<K, V>, JsonFault> = from_json(alloc, &value);
-    let short: Result<LiteMap<K, V, S>, JsonFault> = from_json(alloc, &value);
-    let over_vector = shown(alloc, map.as_ref())?;
-    let over_columns = shown(alloc, columns.as_ref())?;
-    let over_short = shown(alloc, short.as_ref())?;
-    answer_of_all(alloc, over_vector, over_columns, over_short)
-}
-
-// The output over each store, or that they differ.
-fn answer_of_all(
-    alloc: Global,
-    over_vector: String,
-    over_columns: String,
-    over_short: String,
-) -> Result<String, AllocError> {
-    let answer = over_vector.as_str();
-    if over_columns.as_str() == answer && over_short.as_str() == answer {
-        return Ok(over_vector);
-    }
-    format!(in alloc;
-        "over a vector {over_vector}, over two columns {over_columns}, over a short store {over_short}"
-    )
+    let vector = shown::<K, V, Vec<(K, V)>>(alloc, from_json(alloc, &value))?;
+    let columns = shown::<K, V, ColumnStore<K, V>>(alloc, from_json(alloc, &value))?;
+    let short = shown::<K, V, ShortStore<K, V>>(alloc, from_json(alloc, &value))?;
+    one_of(alloc, vector, columns, short)
 }
 
 // The same over a vector, with the map sent to JSON and back before.
@@ -97,7 +69,7 @@ fn copied_limits(alloc: Global, text: &str) -> Result<String, AllocError> {
         Ok(limits) => Ok(limits::copied(alloc, &limits)?),
         Err(fault) => Err(fault),
     };
-    shown(alloc, map.as_ref())
+    shown(alloc, map)
 }
 
 // The same of numbers by their names.
@@ -107,7 +79,7 @@ fn copied_names(alloc: Global, text: &str) -> Result<String, AllocError> {
         Ok(map) => Ok(numbers::copied(alloc, &map)?),
         Err(fault) => Err(fault),
     };
-    shown(alloc, map.as_ref())
+    shown(alloc, map)
 }
 
 // Two settings with those of a text over them, or why they stay.
@@ -117,7 +89,7 @@ fn overlaid(alloc: Global, text: &str) -> Result<String, AllocError> {
         settings.insert(String::from_str(alloc, name)?, String::from_str(alloc, "")?)?;
     }
     match overlay(&mut settings, alloc, text) {
-        Ok(()) => shown(alloc, Ok(&settings)),
+        Ok(()) => shown(alloc, Ok(settings)),
         Err(OverlayFault::Text) => String::from_str(alloc, "no JSON"),
         Err(OverlayFault::Settings(JsonFault::Memory) | OverlayFault::Memory) => Err(AllocError),
         Err(OverlayFault::Settings(fault)) => format!(in alloc; "{fault}"),
@@ -143,16 +115,16 @@ fn written_value(alloc: Global, text: &str) -> Result<String, AllocError> {
 }
 
 // The map as JSON, by `to_json` and `write_json`, or why it was not read or not written.
-fn shown<K: JsonKey, V: JsonItem, S: Store<K, V>>(
+fn shown<K: JsonKey + Drop, V: JsonItem + Drop, S: Store<K, V> + Drop>(
     alloc: Global,
-    map: Result<&LiteMap<K, V, S>, &JsonFault>,
+    map: Result<LiteMap<K, V, S>, JsonFault>,
 ) -> Result<String, AllocError> {
     let map = match unless_memory!(map, JsonFault::Memory) {
         Ok(map) => map,
         Err(fault) => return format!(in alloc; "{fault}"),
     };
-    let value = unless_memory!(to_json(alloc, map), WriteFault::Memory);
-    let written = unless_memory!(write_json(alloc, map), WriteFault::Memory);
+    let value = unless_memory!(to_json(alloc, &map), WriteFault::Memory);
+    let written = unless_memory!(write_json(alloc, &map), WriteFault::Memory);
     match value {
         Ok(value) => one_text(alloc, &value, written),
         Err(fault) => one_fault(alloc, fault, written),

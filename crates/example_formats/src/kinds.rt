@@ -1,7 +1,7 @@
 //! A text that is read and written again.
-use litemap::store::StoreBulkMut;
 use litemap_columns::ColumnStore;
 use litemap_serde::SerdeMap;
+use litemap_short::ShortStore;
 use serde::{Deserialize, DeserializeOwned, Serialize};
 use serde_json::error::Category;
 use std::alloc::{AllocError, Global};
@@ -33,21 +33,30 @@ pub fn fault_word(fault: &serde_json::Error) -> &'static str {
     }
 }
 
-/// The same of a map: over a vector, over two columns and over another store, or that they differ.
-pub fn map_again<'t, K, V, S>(alloc: Global, text: &'t str) -> Result<String, AllocError>
+/// The same of a map: over a vector, over two columns and over a short store.
+pub fn map_again<'t, K, V>(alloc: Global, text: &'t str) -> Result<String, AllocError>
 where
     K: Deserialize<'t> + Serialize + Ord,
     V: Deserialize<'t> + Serialize,
-    S: StoreBulkMut<K, V>,
 {
     let vector = again::<SerdeMap<K, V, Vec<(K, V)>>>(alloc, text)?;
     let columns = again::<SerdeMap<K, V, ColumnStore<K, V>>>(alloc, text)?;
-    let other = again::<SerdeMap<K, V, S>>(alloc, text)?;
-    if columns.as_str() == vector.as_str() && other.as_str() == vector.as_str() {
+    let short = again::<SerdeMap<K, V, ShortStore<K, V>>>(alloc, text)?;
+    one_of(alloc, vector, columns, short)
+}
+
+/// The output over each of three stores, or that they differ.
+pub fn one_of(
+    alloc: Global,
+    vector: String,
+    columns: String,
+    short: String,
+) -> Result<String, AllocError> {
+    if columns == vector && short == vector {
         return Ok(vector);
     }
     format!(in alloc;
-        "over a vector {vector}, over two columns {columns}, over another store {other}"
+        "over a vector {vector}, over two columns {columns}, over a short store {short}"
     )
 }
 

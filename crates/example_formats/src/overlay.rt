@@ -53,10 +53,7 @@ fn overlay_value(settings: &mut Settings, alloc: Global, value: &Value) -> Resul
         ≡ option_or (value_at by_string user name) (value_at by_string settings.old.pairs name))) }
     ensures refused { OnErr result (settings.new.pairs ≡ settings.old.pairs) }
 {
-    let user: Settings = match from_json(alloc, value) {
-        Ok(user) => user,
-        Err(fault) => return Err(OverlayFault::Settings(fault)),
-    };
+    let user: Settings = from_json(alloc, value).map_err(OverlayFault::Settings)?;
     let Ok(_) = settings.extend_from_litemap(alloc, user) else {
         return Err(OverlayFault::Memory);
     };

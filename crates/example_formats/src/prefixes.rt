@@ -36,8 +36,7 @@ pub fn write_beginning(
 pub fn is_scanned(table: &NameTable<'_>, index: &NameIndex<'_>, text: &str) -> bool {
     let places = index.prefix_range(text);
     let mut found = beginning(index, text);
-    let mut place = 0usize;
-    for (name, value) in table {
+    for (place, (name, value)) in table.iter().enumerate() {
         let begins = name.starts_with(text);
         if begins != (places.start <= place && place < places.end)
             || (name < text) != (place < places.start)
@@ -47,7 +46,6 @@ pub fn is_scanned(table: &NameTable<'_>, index: &NameIndex<'_>, text: &str) -> b
         if begins && found.next() != Some((name, value)) {
             return false;
         }
-        place = place.wrapping_add(1);
     }
-    found.next().is_none() && places.end <= place
+    found.next().is_none() && places.end <= table.len()
 }

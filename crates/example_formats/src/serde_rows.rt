@@ -6,7 +6,6 @@ use crate::levels::Level;
 use crate::shapes::{Counts, Either, Flat, Inner, Places, Point};
 use csv::ErrorKind;
 use litemap_serde::SerdeMap;
-use litemap_short::ShortStore;
 use serde_json::Value;
 use std::alloc::{AllocError, Global};
 use std::collections::BTreeMap;
@@ -17,71 +16,43 @@ pub fn answer(alloc: Global, line: &str) -> Result<String, AllocError> {
         return String::from_str(alloc, "no text");
     };
     match what {
-        "u8" => map_again::<u8, u8, ShortStore<u8, u8>>(alloc, text),
-        "u128" => map_again::<u128, u128, ShortStore<u128, u128>>(alloc, text),
-        "i64" => map_again::<i64, i64, ShortStore<i64, i64>>(alloc, text),
-        "bool" => map_again::<bool, bool, ShortStore<bool, bool>>(alloc, text),
-        "char" => map_again::<char, char, ShortStore<char, char>>(alloc, text),
-        "text" => map_again::<String, String, ShortStore<String, String>>(alloc, text),
-        "lent" => map_again::<&str, &str, ShortStore<&str, &str>>(alloc, text),
-        "words" => map_again::<u32, String, ShortStore<u32, String>>(alloc, text),
-        _ => answer_items(alloc, what, text),
-    }
-}
-
-// The same at other types of items, and at types with maps in them.
-fn answer_items(alloc: Global, what: &str, text: &str) -> Result<String, AllocError> {
-    match what {
-        "levels" => map_again::<Level, u8, ShortStore<Level, u8>>(alloc, text),
-        "f64" => map_again::<String, f64, ShortStore<String, f64>>(alloc, text),
-        "option" => map_again::<String, Option<u32>, ShortStore<String, Option<u32>>>(alloc, text),
-        "list" => map_again::<String, Vec<u32>, ShortStore<String, Vec<u32>>>(alloc, text),
-        "tree" => map_again::<
-            String,
-            BTreeMap<String, u8>,
-            ShortStore<String, BTreeMap<String, u8>>,
-        >(alloc, text),
-        "value" => map_again::<String, Value, ShortStore<String, Value>>(alloc, text),
-        "nested" => map_again::<
-            String,
-            SerdeMap<u32, Counts, Vec<(u32, Counts)>>,
-            ShortStore<String, SerdeMap<u32, Counts, Vec<(u32, Counts)>>>,
-        >(alloc, text),
-        "counts" => map_again::<String, Counts, ShortStore<String, Counts>>(alloc, text),
+        "u8" => map_again::<u8, u8>(alloc, text),
+        "u128" => map_again::<u128, u128>(alloc, text),
+        "i64" => map_again::<i64, i64>(alloc, text),
+        "bool" => map_again::<bool, bool>(alloc, text),
+        "char" => map_again::<char, char>(alloc, text),
+        "text" => map_again::<String, String>(alloc, text),
+        "lent" => map_again::<&str, &str>(alloc, text),
+        "words" => map_again::<u32, String>(alloc, text),
+        "levels" => map_again::<Level, u8>(alloc, text),
+        "f64" => map_again::<String, f64>(alloc, text),
+        "option" => map_again::<String, Option<u32>>(alloc, text),
+        "list" => map_again::<String, Vec<u32>>(alloc, text),
+        "tree" => map_again::<String, BTreeMap<String, u8>>(alloc, text),
+        "value" => map_again::<String, Value>(alloc, text),
+        "nested" => map_again::<String, SerdeMap<u32, Counts, Vec<(u32, Counts)>>>(alloc, text),
+        "counts" => map_again::<String, Counts>(alloc, text),
         "vector" => again::<Vec<Counts>>(alloc, text),
         "perhaps" => again::<Option<Counts>>(alloc, text),
-        "points" => map_again::<Point, u8, ShortStore<Point, u8>>(alloc, text),
+        "points" => map_again::<Point, u8>(alloc, text),
         "places" => again::<Places>(alloc, text),
-        _ => answer_shapes(alloc, what, text),
-    }
-}
-
-// The same at the forms of derived types, and what comes from TOML and CSV.
-fn answer_shapes(alloc: Global, what: &str, text: &str) -> Result<String, AllocError> {
-    match what {
         "inner" => again::<Inner>(alloc, text),
         "either" => again::<Either>(alloc, text),
         "flat" => again::<Flat>(alloc, text),
         "config" => json_again(alloc, text),
-        _ => {
-            let text = or_word!(
-                alloc,
-                "no text",
-                serde_json::from_str::<String>(alloc, text)
-            );
-            answer_text(alloc, what, text.as_str())
-        }
+        _ => answer_text(alloc, what, text),
     }
 }
 
-// What a TOML or CSV text is read as, written again.
-fn answer_text(alloc: Global, what: &str, text: &str) -> Result<String, AllocError> {
+// What a TOML or CSV text, of which this is the JSON string, is read as, written again.
+fn answer_text(alloc: Global, what: &str, json: &str) -> Result<String, AllocError> {
+    let text: String = or_word!(alloc, "no text", serde_json::from_str(alloc, json));
     match what {
-        "toml-text" => toml_again::<String, String>(alloc, text),
-        "toml-u32" => toml_again::<u32, u32>(alloc, text),
-        "toml-counts" => toml_again::<String, Counts>(alloc, text),
-        "toml-config" => config_again(alloc, text),
-        "overlay" => overlaid(alloc, text),
+        "toml-text" => toml_again::<String, String>(alloc, &text),
+        "toml-u32" => toml_again::<u32, u32>(alloc, &text),
+        "toml-counts" => toml_again::<String, Counts>(alloc, &text),
+        "toml-config" => config_again(alloc, &text),
+        "overlay" => overlaid(alloc, &text),
         "codes" => match from_csv(alloc, text.as_bytes()) {
             Ok(codes) => written(alloc, &SerdeMap(codes)),
             Err(fault) => refused(alloc, &fault),

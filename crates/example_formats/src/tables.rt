@@ -114,14 +114,7 @@ impl<'a> Forms<'a> {
     }
 
     fn is_map(&self, map: &NameMap<'_>) -> bool {
-        let mut place = 0usize;
-        for (key, value) in map {
-            if self.table.get_indexed(place) != Some((*key, *value)) {
-                return false;
-            }
-            place = place.wrapping_add(1);
-        }
-        place == self.table.len()
+        self.table.iter().eq(map.as_slice().iter().copied())
     }
 
     // Writes what is there at a key, if all return the same.

@@ -9,30 +9,21 @@ use name_index::{CheckedNames, IndexedNames, NameIndex, NameTable};
 pub fn by_table<'a>(table: &NameTable<'a>, word: &'a str) -> &'a str
     ensures { OfTable table.now (λ pairs. IsTranslated pairs word.now result.now) }
 {
-    match table.get(word) {
-        Some(text) => text,
-        None => word,
-    }
+    table.get(word).unwrap_or(word)
 }
 
 /// The same by the offsets of its entries.
 pub fn by_places<'a>(index: &NameIndex<'a>, word: &'a str) -> &'a str
     ensures { OfTable index.now (λ pairs. IsTranslated pairs word.now result.now) }
 {
-    match index.get(word) {
-        Some(text) => text,
-        None => word,
-    }
+    index.get(word).unwrap_or(word)
 }
 
 /// The same in an index that was read once.
 pub fn by_checked<'a>(names: &CheckedNames<'a>, word: &'a str) -> &'a str
     ensures { OfIndex names.now (λ pairs. IsTranslated pairs word.now result.now) }
 {
-    match names.get(word) {
-        Some(text) => text,
-        None => word,
-    }
+    names.get(word).unwrap_or(word)
 }
 
 /// The same in bytes that were not read before. If they are no index the word itself may be returned too.
@@ -41,7 +32,6 @@ pub fn by_index<'a>(names: &IndexedNames<'a>, word: &'a str) -> &'a str
 {
     match names.get(word) {
         Ok(Some(text)) => text,
-        Ok(None) => word,
-        Err(_) => word,
+        _ => word,
     }
 }
