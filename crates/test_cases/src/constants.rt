@@ -40,21 +40,14 @@ macro_rules! find_ends {
     };
 }
 
-fn unsigned() -> [bool; 6] {
-    find_ends!(u8 u16 u32 u64 u128 usize)
-}
-
-fn signed() -> [bool; 6] {
-    find_ends!(i8 i16 i32 i64 i128 isize)
-}
-
 pub(crate) fn numbers_of_each_type_are_found(_: Global) -> Result<bool, AllocError> {
     let none: Table<u8, u8> = table(&[]);
     // An empty table has no pair.
     let is_none = none.const_len() == 0
         && none.const_is_empty()
         && none.const_get_with_index(0).is_none();
-    Ok(is_none && [unsigned(), signed()] == [[true; 6]; 2])
+    let ends = find_ends!(u8 u16 u32 u64 u128 usize i8 i16 i32 i64 i128 isize);
+    Ok(is_none && ends == [true; 12])
 }
 
 // The least and the greatest number of a type are found, and one between them is not.
@@ -68,23 +61,19 @@ pub(crate) fn both_ends_of_a_type_are_found(_: Global) -> Result<bool, AllocErro
     )
 }
 
-// Of five strings the fourth is found, and one between the fourth and the fifth is not.
-fn finds_one_of_five() -> bool {
-    let map = LiteMap::from_sorted_store_unchecked(SliceStore::new(FIVE));
-    map.const_get_with_index("def") == Some((3, &44)) && map.const_get_with_index("dng").is_none()
-}
-
-// Of two keys of bytes the second, which begins with the first, is found, and a third one is not.
-fn finds_one_of_two() -> bool {
-    let map = LiteMap::from_sorted_store_unchecked(SliceStore::new(BYTES));
-    map.const_get_with_index(b"aa") == Some((1, &2)) && map.const_get_with_index(b"ab").is_none()
-}
-
 pub(crate) fn strings_and_bytes_are_found(_: Global) -> Result<bool, AllocError> {
     // A table of two strings shows its length and its first pair.
     let two = LiteMap::from_sorted_store_unchecked(SliceStore::new(TWO));
     let shows = two.const_len() == 2 && *two.const_get_indexed_or_panic(0) == ("a", 11);
-    Ok(shows && finds_one_of_five() && finds_one_of_two())
+    // Of five strings the fourth is found, and one between the fourth and the fifth is not.
+    let five = LiteMap::from_sorted_store_unchecked(SliceStore::new(FIVE));
+    let finds_fourth = five.const_get_with_index("def") == Some((3, &44))
+        && five.const_get_with_index("dng").is_none();
+    // Of two keys of bytes the second, which begins with the first, is found, and a third one is not.
+    let bytes = LiteMap::from_sorted_store_unchecked(SliceStore::new(BYTES));
+    let finds_second = bytes.const_get_with_index(b"aa") == Some((1, &2))
+        && bytes.const_get_with_index(b"ab").is_none();
+    Ok(shows && finds_fourth && finds_second)
 }
 
 // Whether the keys of a slice ascend, each of them is found at its index, and a greater one is not found: of strings, and of

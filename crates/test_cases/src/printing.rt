@@ -88,46 +88,33 @@ fn writes<E: Error>(alloc: Global, error: E, text: &str) -> Result<bool, AllocEr
     Ok(found.as_str() == text)
 }
 
-fn full() -> TryFault<u8, u8, AllocError> {
-    TryFault::NoRoom { key: 1, value: 2 }
+// Whether each of these errors writes that memory ran out, and then what it writes as std's error.
+macro_rules! write_no_memory {
+    ($alloc:ident, $of_std:ident; $($error:expr),+ $(,)?) => {
+        [$(
+            writes($alloc, $error, NO_MEMORY)?,
+            writes($alloc, io::Error::from($error), $of_std)?,
+        )+]
+    };
 }
 
-// Whether the errors of maps write alike that memory ran out, by themselves and as std's error.
-fn is_written_of_memory(alloc: Global, of_std: &str) -> Result<bool, AllocError> {
-    Ok(
-        writes(alloc, NoRoom { back: 7 }, NO_MEMORY)?
-            && writes(alloc, ReadFault::<fmt::Error>::NoRoom, NO_MEMORY)?
-            && writes(alloc, full(), NO_MEMORY)?
-            && writes(alloc, io::Error::from(NoRoom { back: 7 }), of_std)?
-            && writes(
-                alloc,
-                io::Error::from(ReadFault::<fmt::Error>::NoRoom),
-                of_std,
-            )?
-            && writes(alloc, io::Error::from(full()), of_std)?,
-    )
-}
-
-// Whether the errors of JSON write it in the same way.
-fn is_written_of_json(alloc: Global, of_std: &str) -> Result<bool, AllocError> {
-    Ok(
-        writes(alloc, WriteFault::Memory, NO_MEMORY)?
-            && writes(alloc, JsonFault::Memory, NO_MEMORY)?
-            && writes(alloc, ItemFault::Memory, NO_MEMORY)?
-            && writes(alloc, io::Error::from(WriteFault::Memory), of_std)?
-            && writes(alloc, io::Error::from(JsonFault::Memory), of_std)?,
-    )
-}
-
-// An error of a source or a closure is written as it is.
+// The errors of maps and of JSON write alike that memory ran out. One of a source or a closure is written as it is.
 pub(crate) fn an_error_writes_what_it_is(alloc: Global) -> Result<bool, AllocError> {
     let own = format!(in alloc; "{}", fmt::Error)?;
     let own = own.as_str();
     let of_source = io::Error::from(ReadFault::Source(fmt::Error));
     let of_std = format!(in alloc; "{}", io::Error::from(AllocError))?;
+    let of_std = of_std.as_str();
+    let of_memory = write_no_memory! { alloc, of_std;
+        NoRoom { back: 7 },
+        ReadFault::<fmt::Error>::NoRoom,
+        TryFault::<u8, u8, AllocError>::NoRoom { key: 1, value: 2 },
+        WriteFault::Memory,
+        JsonFault::Memory,
+    };
     Ok(
-        is_written_of_memory(alloc, of_std.as_str())?
-            && is_written_of_json(alloc, of_std.as_str())?
+        of_memory == [true; 10]
+            && writes(alloc, ItemFault::Memory, NO_MEMORY)?
             && writes(alloc, of_source, "the source of pairs returned an error")?
             && writes(alloc, ReadFault::Source(fmt::Error), own)?
             && writes(alloc, TryFault::<u8, u8, _>::Closure(fmt::Error), own)?,

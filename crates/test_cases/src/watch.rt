@@ -48,8 +48,7 @@ impl Noting {
 
 impl Read for Noting {
     fn read(&mut self, buf: &mut [u8]) -> io::Result<usize> {
-        let _none = self.note(Call::Read(buf.len()), 0)?;
-        Ok(0)
+        self.note(Call::Read(buf.len()), 0)
     }
 }
 
@@ -59,8 +58,7 @@ impl Write for Noting {
     }
 
     fn flush(&mut self) -> io::Result<()> {
-        let _none = self.note(Call::Flush, 0)?;
-        Ok(())
+        self.note(Call::Flush, 0).map(|_none| ())
     }
 }
 
