@@ -6,7 +6,7 @@ use crate::levels::Level;
 use crate::overlay::{OverlayFault, Settings, overlay};
 use crate::{limits, numbers, told};
 use litemap::LiteMap;
-use litemap::store::Store;
+use litemap::store::{Store, StoreBulkMut};
 use litemap_columns::ColumnStore;
 use litemap_json::{
     JsonFault, JsonItem, JsonKey, WriteFault, Writer, from_json, to_json, write_json, write_value,
@@ -23,42 +23,42 @@ pub fn answer(alloc: Global, line: &str) -> Result<String, AllocError> {
         return String::from_str(alloc, "no types");
     };
     match types {
-        "u8" => written::<u8, u8>(alloc, text),
-        "u16" => written::<u16, u16>(alloc, text),
-        "u32" => written::<u32, u32>(alloc, text),
-        "u64" => written::<u64, u64>(alloc, text),
-        "i8" => written::<i8, i8>(alloc, text),
-        "i16" => written::<i16, i16>(alloc, text),
-        "i32" => written::<i32, i32>(alloc, text),
-        "i64" => written::<i64, i64>(alloc, text),
-        "bool" => written::<bool, bool>(alloc, text),
-        "text" => written::<String, String>(alloc, text),
-        "falling" => written::<Falling, String>(alloc, text),
-        "flags" => written::<bool, u32>(alloc, text),
-        "words" => written::<u32, String>(alloc, text),
-        "evens" => written::<Even, String>(alloc, text),
-        "tongues" => written::<(u32, String), String>(alloc, text),
-        "levels" => written::<Level, u32>(alloc, text),
+        "u8" => over_short!(written::<u8, u8>(alloc, text)),
+        "u16" => over_short!(written::<u16, u16>(alloc, text)),
+        "u32" => over_short!(written::<u32, u32>(alloc, text)),
+        "u64" => over_short!(written::<u64, u64>(alloc, text)),
+        "i8" => over_short!(written::<i8, i8>(alloc, text)),
+        "i16" => over_short!(written::<i16, i16>(alloc, text)),
+        "i32" => over_short!(written::<i32, i32>(alloc, text)),
+        "i64" => over_short!(written::<i64, i64>(alloc, text)),
+        "bool" => over_short!(written::<bool, bool>(alloc, text)),
+        "text" => over_short!(written::<String, String>(alloc, text)),
+        "falling" => over_short!(written::<Falling, String>(alloc, text)),
+        "flags" => over_short!(written::<bool, u32>(alloc, text)),
+        "words" => over_short!(written::<u32, String>(alloc, text)),
+        "evens" => over_short!(written::<Even, String>(alloc, text)),
+        "tongues" => over_short!(written::<(u32, String), String>(alloc, text)),
+        "levels" => over_short!(written::<Level, u32>(alloc, text)),
         "limits" => copied_limits(alloc, text),
         "names" => copied_names(alloc, text),
         "overlay" => overlaid(alloc, text),
         "told" => told::answer(alloc, text),
         "rewrite" => rewritten(alloc, text.as_bytes()),
         "value" => written_value(alloc, text),
-        "nested" => written::<((u8, bool), String), (u32, (bool, i8))>(alloc, text),
+        "nested" => over_short!(written::<((u8, bool), String), (u32, (bool, i8))>(alloc, text)),
         _ => String::from_str(alloc, "no such types"),
     }
 }
 
 // The map that a text is read as, written as JSON: over a vector, over two columns and over a short store.
-fn written<K: JsonKey + Drop, V: JsonItem + Drop>(
+fn written<K: JsonKey + Drop, V: JsonItem + Drop, S: StoreBulkMut<K, V>>(
     alloc: Global,
     text: &str,
 ) -> Result<String, AllocError> {
     let value = or_word!(alloc, "no JSON", Value::from_str(alloc, text));
     let vector = shown::<K, V, Vec<(K, V)>>(alloc, from_json(alloc, &value))?;
     let columns = shown::<K, V, ColumnStore<K, V>>(alloc, from_json(alloc, &value))?;
-    let short = shown::<K, V, ShortStore<K, V>>(alloc, from_json(alloc, &value))?;
+    let short = shown::<K, V, S>(alloc, from_json(alloc, &value))?;
     one_of(alloc, vector, columns, short)
 }
 

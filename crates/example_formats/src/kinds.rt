@@ -1,7 +1,7 @@
 //! A text that is read and written again.
+use litemap::store::StoreBulkMut;
 use litemap_columns::ColumnStore;
 use litemap_serde::SerdeMap;
-use litemap_short::ShortStore;
 use serde::{Deserialize, DeserializeOwned, Serialize};
 use serde_json::error::Category;
 use std::alloc::{AllocError, Global};
@@ -34,14 +34,15 @@ pub fn fault_word(fault: &serde_json::Error) -> &'static str {
 }
 
 /// The same of a map: over a vector, over two columns and over a short store.
-pub fn map_again<'t, K, V>(alloc: Global, text: &'t str) -> Result<String, AllocError>
+pub fn map_again<'t, K, V, S>(alloc: Global, text: &'t str) -> Result<String, AllocError>
 where
     K: Deserialize<'t> + Serialize + Ord,
     V: Deserialize<'t> + Serialize,
+    S: StoreBulkMut<K, V>,
 {
     let vector = again::<SerdeMap<K, V, Vec<(K, V)>>>(alloc, text)?;
     let columns = again::<SerdeMap<K, V, ColumnStore<K, V>>>(alloc, text)?;
-    let short = again::<SerdeMap<K, V, ShortStore<K, V>>>(alloc, text)?;
+    let short = again::<SerdeMap<K, V, S>>(alloc, text)?;
     one_of(alloc, vector, columns, short)
 }
 

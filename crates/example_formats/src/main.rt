@@ -49,6 +49,13 @@ macro_rules! or_word {
     };
 }
 
+// Calls a function with a short store of the keys and values as its third type parameter.
+macro_rules! over_short {
+    ($function:ident::<$key:ty, $value:ty>($alloc:ident, $text:ident)) => {
+        $function::<$key, $value, ShortStore<$key, $value>>($alloc, $text)
+    };
+}
+
 pub mod codes;
 pub mod config;
 mod evens;

@@ -6,6 +6,7 @@ use crate::levels::Level;
 use crate::shapes::{Counts, Either, Flat, Inner, Places, Point};
 use csv::ErrorKind;
 use litemap_serde::SerdeMap;
+use litemap_short::ShortStore;
 use serde_json::Value;
 use std::alloc::{AllocError, Global};
 use std::collections::BTreeMap;
@@ -16,25 +17,27 @@ pub fn answer(alloc: Global, line: &str) -> Result<String, AllocError> {
         return String::from_str(alloc, "no text");
     };
     match what {
-        "u8" => map_again::<u8, u8>(alloc, text),
-        "u128" => map_again::<u128, u128>(alloc, text),
-        "i64" => map_again::<i64, i64>(alloc, text),
-        "bool" => map_again::<bool, bool>(alloc, text),
-        "char" => map_again::<char, char>(alloc, text),
-        "text" => map_again::<String, String>(alloc, text),
-        "lent" => map_again::<&str, &str>(alloc, text),
-        "words" => map_again::<u32, String>(alloc, text),
-        "levels" => map_again::<Level, u8>(alloc, text),
-        "f64" => map_again::<String, f64>(alloc, text),
-        "option" => map_again::<String, Option<u32>>(alloc, text),
-        "list" => map_again::<String, Vec<u32>>(alloc, text),
-        "tree" => map_again::<String, BTreeMap<String, u8>>(alloc, text),
-        "value" => map_again::<String, Value>(alloc, text),
-        "nested" => map_again::<String, SerdeMap<u32, Counts, Vec<(u32, Counts)>>>(alloc, text),
-        "counts" => map_again::<String, Counts>(alloc, text),
+        "u8" => over_short!(map_again::<u8, u8>(alloc, text)),
+        "u128" => over_short!(map_again::<u128, u128>(alloc, text)),
+        "i64" => over_short!(map_again::<i64, i64>(alloc, text)),
+        "bool" => over_short!(map_again::<bool, bool>(alloc, text)),
+        "char" => over_short!(map_again::<char, char>(alloc, text)),
+        "text" => over_short!(map_again::<String, String>(alloc, text)),
+        "lent" => over_short!(map_again::<&str, &str>(alloc, text)),
+        "words" => over_short!(map_again::<u32, String>(alloc, text)),
+        "levels" => over_short!(map_again::<Level, u8>(alloc, text)),
+        "f64" => over_short!(map_again::<String, f64>(alloc, text)),
+        "option" => over_short!(map_again::<String, Option<u32>>(alloc, text)),
+        "list" => over_short!(map_again::<String, Vec<u32>>(alloc, text)),
+        "tree" => over_short!(map_again::<String, BTreeMap<String, u8>>(alloc, text)),
+        "value" => over_short!(map_again::<String, Value>(alloc, text)),
+        "nested" => over_short!(map_again::<String, SerdeMap<u32, Counts, Vec<(u32, Counts)>>>(
+            alloc, text
+        )),
+        "counts" => over_short!(map_again::<String, Counts>(alloc, text)),
         "vector" => again::<Vec<Counts>>(alloc, text),
         "perhaps" => again::<Option<Counts>>(alloc, text),
-        "points" => map_again::<Point, u8>(alloc, text),
+        "points" => over_short!(map_again::<Point, u8>(alloc, text)),
         "places" => again::<Places>(alloc, text),
         "inner" => again::<Inner>(alloc, text),
         "either" => again::<Either>(alloc, text),
