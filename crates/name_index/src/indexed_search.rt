@@ -1,6 +1,6 @@
 //! What stands at offsets of an index, what is found among its entries, and whether they are all there.
 ghost use Rattle.std.specs.Prelude.{◌+◌, ◌<◌, ◌^◌, ◌-◌, IfErr, IfOk, OnOk, length, ⊤};
-ghost use Rattle.name_index.specs.{BeginsAt, HasKey, HasOffsets, IfIndex, IsEntry, IsNumberAt, IsPairAt, IsTextAt, NoEntry};
+ghost use Rattle.name_index.specs.{BeginsAt, HasKey, HasOffsets, IfIndex, IsEntry, IsNumberAt, IsTextAt, NoEntry};
 ghost use Rattle.name_index.specs.{NoIndex, OfIndex, text_order};
 ghost use Rattle.name_table.specs.Positions.{shown};
 ghost use Rattle.litemap_store.specs.Counts.{RisesByAtMost, digits};

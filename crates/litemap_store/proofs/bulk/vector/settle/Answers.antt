@@ -47,7 +47,7 @@ returns-clause-cost g c =
     let old = c.args.store.now in let now = c.keep_rising.new.pairs in
     let cost = rw (c.in-Ok-split_off.ensures.items, c.in-Ok-split_off.ensures.tail, c.keep_rising.ensures.before) at c.merge_in_vec.ensures.cost in
     in_turn (length (drop c.args.from old.items)) (length (take c.args.from old.items) + length (drop c.args.from now.items)) _
-        (omega (arith, length-take c.args.from old.items, length-drop c.args.from now.items, length-drop c.args.from old.items, old.ok.0, now.ok.0, c.keep_rising.ensures.shorter.1)) (both_ends g (goal.at.returns-clause-cost g c).After-lies_below) cost
+    (omega (arith, length-take c.args.from old.items, length-drop c.args.from now.items, length-drop c.args.from old.items, old.ok.0, now.ok.0, c.keep_rising.ensures.shorter.1)) (both_ends g (goal.at.returns-clause-cost g c).After-lies_below) cost
 
 pub returns-in_default-split_off-clause-succeeds : goal.returns-in_default-split_off-clause-succeeds
 returns-in_default-split_off-clause-succeeds g c = λ h. absurd (mixed g (goal.at.returns-in_default-split_off-clause-succeeds g c).After-split_off h)
