@@ -33,7 +33,7 @@ pub fn fault_word(fault: &serde_json::Error) -> &'static str {
     }
 }
 
-/// The same of a map: over a vector, over two columns and over a short store.
+/// The same of a map: over a vector, over two columns and over a third store.
 pub fn map_again<'t, K, V, S>(alloc: Global, text: &'t str) -> Result<String, AllocError>
 where
     K: Deserialize<'t> + Serialize + Ord,

@@ -54,7 +54,7 @@ impl Answer {
         self.is_lost |= write!(self.text, "{space}{it:?}").is_err();
     }
 
-    /// Writes the lines that `{:#?}` prints, one behind the other. The call ends before they are printed.
+    /// Writes the lines that `{:#?}` prints, one after the other. The call ends before they are printed.
     pub fn show_lines<T: Debug + Drop>(&mut self, call: &Call<'_>, it: T) {
         call.end();
         match format!(in call.alloc; "{it:#?}") {
@@ -67,7 +67,7 @@ impl Answer {
         }
     }
 
-    /// Writes a word, and what `{:?}` prints behind it.
+    /// Writes a word, and what `{:?}` prints after it.
     pub fn word_and<T: Debug + Drop>(&mut self, word: &str, it: T) {
         self.word(word);
         self.show(it);

@@ -29,21 +29,28 @@ fn with_no_key<S: Store<Key, Value>>(map: &Map<S>, call: &Call<'_>, to: &mut Ans
 }
 
 fn by_key<S: Store<Key, Value>>(map: &Map<S>, call: &Call<'_>, to: &mut Answer) -> Made {
-    let (key, count) = (&call.key(0)?, &mut Count::new());
+    let count = &mut Count::new();
     match call.name {
-        "get" => to.some(map.get(key)),
-        "get_counted" => to.some(map.get_counted(key, count)),
-        "get_key_value" => to.pair_or_none(map.get_key_value(key)),
-        "contains_key" => to.show(map.contains_key(key)),
-        "find_index" => to.index(map.find_index(key)),
-        "find_index_counted" => to.index(map.find_index_counted(key, count)),
-        "get_by" => to.some(map.get_by(|there| there.cmp(key))),
-        "find_index_by" => to.index(map.find_index_by(|there| there.cmp(key))),
+        "get" => to.some(map.get(&call.key(0)?)),
+        "get_counted" => to.some(map.get_counted(&call.key(0)?, count)),
+        "get_key_value" => to.pair_or_none(map.get_key_value(&call.key(0)?)),
+        "contains_key" => to.show(map.contains_key(&call.key(0)?)),
+        "find_index" => to.index(map.find_index(&call.key(0)?)),
+        "find_index_counted" => to.index(map.find_index_counted(&call.key(0)?, count)),
+        "get_by" => {
+            let key = call.key(0)?;
+            to.some(map.get_by(|there| there.cmp(&key)));
+        }
+        "find_index_by" => {
+            let key = call.key(0)?;
+            to.index(map.find_index_by(|there| there.cmp(&key)));
+        }
         "index" => {
             // What tells that the key is there is no part of the call.
-            if map.contains_key(key) {
+            let key = call.key(0)?;
+            if map.contains_key(&key) {
                 call.begin();
-                to.show(map.index(key));
+                to.show(map.index(&key));
             } else {
                 to.word("absent");
             }

@@ -131,7 +131,7 @@ fn extend<S: Tested>(store: &mut S, call: &Call<'_>, to: &mut Answer) -> Made {
     Some(())
 }
 
-// A call that takes its pairs out of a vector. What the vector has after it stands behind its answer.
+// A call that takes its pairs out of a vector. What the vector has after it is written after its result.
 fn take_vec<S: Tested>(store: &mut S, call: &Call<'_>, to: &mut Answer) -> Made {
     let is_extended = call.name == "lm_extend_from_vec" && LiteMap::is_sorted_store(&*store);
     if call.name != "lm_sort_from_vec" && !is_extended {
