@@ -40,9 +40,9 @@ fn show_old<'a>(outcome: Result<Option<Value>, NoRoom<Pair>>, to: &mut Answer) {
 fn show_back<'a>(outcome: Result<Option<Pair>, NoRoom<Pair>>, to: &mut Answer) {
     match outcome {
         Ok(None) => to.word("placed"),
-        Ok(back) => {
+        Ok(Some((key, value))) => {
             to.word("back");
-            to.taken(back);
+            to.pair(&key, &value);
         }
         Err(refused) => to.no_room(refused),
     }
@@ -76,13 +76,17 @@ fn try_or<S: StoreMut<Key, Value>>(map: &mut Map<S>, call: &Call<'_>, to: &mut A
         },
         _ => return None,
     }
-    to.word_and("asked", times);
+    to.word("asked");
+    to.show(times);
     Some(())
 }
 
 fn show_fault<'a>(fault: TryFault<Key, Value, Value>, to: &mut Answer) {
     match fault {
-        TryFault::Closure(value) => to.word_and("closure", value),
+        TryFault::Closure(value) => {
+            to.word("closure");
+            to.show(value);
+        }
         TryFault::NoRoom { key, value } => to.no_room(NoRoom { back: (key, value) }),
     }
 }
@@ -119,7 +123,10 @@ fn take<S: StoreMut<Key, Value>>(map: &mut Map<S>, call: &Call<'_>, to: &mut Ans
         "remove_entry" => to.taken(map.remove_entry(&call.key(0)?)),
         "pop_first" => to.taken(map.pop_first()),
         "pop_last" => to.taken(map.pop_last()),
-        "clear" => to.done(map.clear()),
+        "clear" => {
+            map.clear();
+            to.word("ok");
+        }
         "reserve" => to.room(map.reserve(call.size(0)?)),
         _ => return None,
     }

@@ -38,7 +38,7 @@ mod stores;
 mod tested;
 mod walks;
 
-use std::{fs, io};
+use std::io;
 
 fn main(rt: HostRuntime) -> io::Result<()> {
     let input = io::read_to_string(rt.alloc(), rt.stdin())?;
@@ -50,8 +50,7 @@ fn main(rt: HostRuntime) -> io::Result<()> {
         if name == "marked" {
             is_marked = true;
         } else {
-            let text = fs::read_to_string(&rt, name)?;
-            run::lines(&rt, name, text.as_str(), is_marked)?;
+            run::file(&rt, name, is_marked)?;
         }
     }
     Ok(())
