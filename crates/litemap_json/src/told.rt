@@ -106,6 +106,7 @@ impl Display for Told<'_> {
     }
 }
 
+// Writes the words for a part of the value, which end in `at place `, and then its index.
 fn at<W: Write>(f: &mut Formatter<W>, part: &str, place: usize) -> fmt::Result {
     write!(f, "{part}{place} (from 0): ")
 }
