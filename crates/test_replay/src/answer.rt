@@ -1,4 +1,6 @@
 //! What a call returned, as it is written.
+ghost use Rattle.std.specs.Iterator.{IsFiniteIterable};
+
 use crate::call::Call;
 use crate::counted::{Key, Order, Value, write_code};
 use litemap::LiteMap;
@@ -52,7 +54,7 @@ impl Answer {
         self.is_lost |= write!(self.text, "{space}{it:?}").is_err();
     }
 
-    /// Writes the lines that `{:#?}` prints, one behind the other. The call ends before they are printed.
+    /// Writes the lines that `{:#?}` prints, one after the other. The call ends before they are printed.
     pub fn show_lines<T: Debug + Drop>(&mut self, call: &Call<'_>, it: T) {
         call.end();
         match format!(in call.alloc; "{it:#?}") {
@@ -65,6 +67,12 @@ impl Answer {
         }
     }
 
+    /// Writes a word, and what `{:?}` prints after it.
+    pub fn word_and<T: Debug + Drop>(&mut self, word: &str, it: T) {
+        self.word(word);
+        self.show(it);
+    }
+
     /// Writes what may be there.
     pub fn some<T: Debug + Drop>(&mut self, it: Option<T>) {
         match it {
@@ -74,14 +82,12 @@ impl Answer {
     }
 
     /// Writes a pair.
-    pub fn pair(&mut self, key: &Key, value: &Value) {
-        let mut pairs = Pairs::new();
-        pairs.add(key, value);
-        self.show(pairs);
+    pub fn pair<'a>(&mut self, key: &'a Key, value: &'a Value) {
+        self.show(Pairs::of([(key, value)]));
     }
 
     /// Writes a pair that may be there.
-    pub fn pair_or_none(&mut self, pair: Option<(&Key, &Value)>) {
+    pub fn pair_or_none<'a>(&mut self, pair: Option<(&'a Key, &'a Value)>) {
         match pair {
             Some((key, value)) => self.pair(key, value),
             None => self.word("none"),
@@ -99,8 +105,12 @@ impl Answer {
             Ok(index) => ("ok", index),
             Err(index) => ("err", index),
         };
-        self.word(word);
-        self.show(index);
+        self.word_and(word, index);
+    }
+
+    /// Writes that a call is done which returns nothing.
+    pub fn done(&mut self, _nothing: ()) {
+        self.word("ok");
     }
 
     /// Writes whether there was memory.
@@ -110,10 +120,7 @@ impl Answer {
 
     /// Replaces a value by what was made, and writes whether it was.
     pub fn made<T: Drop>(&mut self, place: &mut T, made: Result<T, AllocError>) {
-        self.word(if made.is_ok() { "ok" } else { "refused" });
-        if let Ok(made) = made {
-            *place = made;
-        }
+        self.room(made.map(|made| *place = made));
     }
 
     /// Writes the pairs of what was made, or that it wasn't.
@@ -124,17 +131,10 @@ impl Answer {
         }
     }
 
-    /// Writes the pairs that came back.
-    pub fn refused(&mut self, pairs: Pairs) {
-        self.word("refused");
-        self.show(pairs);
-    }
-
     /// Writes a pair that had no room.
     pub fn no_room(&mut self, refused: NoRoom<(Key, Value)>) {
-        let (key, value) = refused.back;
         self.word("refused");
-        self.pair(&key, &value);
+        self.taken(Some(refused.back));
     }
 }
 
@@ -142,7 +142,7 @@ impl Answer {
 const SHOWN: usize = 6;
 
 /// Pairs as they are written: a few by themselves, and many by their number and a sum.
-#[derive(Clone, Copy)]
+#[derive(Clone, Copy, Default)]
 pub struct Pairs {
     order: Order,
     len: u64,
@@ -151,21 +151,6 @@ pub struct Pairs {
 }
 
 impl Pairs {
-    /// None yet.
-    pub fn new() -> Self {
-        Pairs {
-            order: Order::Number,
-            len: 0,
-            sum: 0,
-            first: [(0, 0); SHOWN],
-        }
-    }
-
-    /// Adds a pair.
-    pub fn add(&mut self, key: &Key, value: &Value) {
-        self.add_codes(key.order(), key.code(), value.number());
-    }
-
     /// Adds a key, or a value, by itself: the other one is 0.
     pub fn add_codes(&mut self, order: Order, code: u64, value: u64) {
         self.order = order;
@@ -180,26 +165,25 @@ impl Pairs {
         self.sum ^= self.sum >> 29;
     }
 
-    /// Those of a map.
-    pub fn of_map<S: Store<Key, Value>>(map: &LiteMap<Key, Value, S>) -> Self {
-        let mut pairs = Pairs::new();
-        for index in 0..map.len() {
-            if let Some((key, value)) = map.get_indexed(index) {
-                pairs.add(key, value);
-            }
+    /// Those that an iterator gives.
+    pub fn of<'a, I: IntoIterator<Item = (&'a Key, &'a Value)>>(iter: I) -> Self
+        requires { IsFiniteIterable I.into_iter_gives I.IntoIter.can_next I.IntoIter.remaining iter }
+    {
+        let mut pairs = Pairs::default();
+        for (key, value) in iter {
+            pairs.add_codes(key.order(), key.code(), value.number());
         }
         pairs
     }
 
+    /// Those of a map.
+    pub fn of_map<S: Store<Key, Value>>(map: &LiteMap<Key, Value, S>) -> Self {
+        Pairs::of((0..map.len()).filter_map(|index| map.get_indexed(index)))
+    }
+
     /// Those of a store.
     pub fn of_store<S: Store<Key, Value>>(store: &S) -> Self {
-        let mut pairs = Pairs::new();
-        for index in 0..store.lm_len() {
-            if let Some((key, value)) = store.lm_get(index) {
-                pairs.add(key, value);
-            }
-        }
-        pairs
+        Pairs::of((0..store.lm_len()).filter_map(|index| store.lm_get(index)))
     }
 
     /// Those of a slice.

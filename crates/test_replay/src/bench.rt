@@ -108,8 +108,7 @@ impl<S: Tested> Bench<S> {
             sum = summed(sum, to.text());
         }
         to.clear();
-        to.word("swept");
-        to.show(sum % 1_000_000_000);
+        to.word_and("swept", sum % 1_000_000_000);
         call.seen.keys.compared.set(most);
         Some(())
     }

@@ -62,7 +62,7 @@ fn take_vec<S: Tested>(map: &mut Map<S>, call: &Call<'_>, to: &mut Answer) -> Ma
     };
     match taken {
         Ok(()) => to.word("ok"),
-        Err(refused) => to.refused(Pairs::of_slice(refused.back.as_slice())),
+        Err(refused) => to.word_and("refused", Pairs::of_slice(refused.back.as_slice())),
     }
     Some(())
 }
@@ -128,11 +128,8 @@ fn merge<S: Tested>(map: &mut Map<S>, call: &Call<'_>, to: &mut Answer) -> Made 
 fn show_merged<'a, S: Tested>(merged: Result<Option<Map<S>>, NoRoom<Map<S>>>, to: &mut Answer) {
     match merged {
         Ok(None) => to.word("none"),
-        Ok(Some(left)) => {
-            to.word("left");
-            to.show(Pairs::of_map(&left));
-        }
-        Err(refused) => to.refused(Pairs::of_map(&refused.back)),
+        Ok(Some(left)) => to.word_and("left", Pairs::of_map(&left)),
+        Err(refused) => to.word_and("refused", Pairs::of_map(&refused.back)),
     }
 }
 
@@ -142,6 +139,7 @@ fn combine<S: Tested>(map: &mut Map<S>, call: &Call<'_>, to: &mut Answer) -> Mad
     if !call.name.starts_with("extend_with") {
         return None;
     }
+    let count = &mut Count::new();
     let other: Map<S> = other(call)?;
     let times = Cell::new(0u64);
     let add = |key: &Key, here: &Value, new: &mut Value| {
@@ -151,18 +149,13 @@ fn combine<S: Tested>(map: &mut Map<S>, call: &Call<'_>, to: &mut Answer) -> Mad
         let more = more.wrapping_add(before.wrapping_mul(1000));
         new.write(new.number().wrapping_add(more));
     };
-    show_merged(
-        match call.name {
-            "extend_with" => map.extend_with(call.alloc, other, add),
-            "extend_with_counted" => {
-                map.extend_with_counted(call.alloc, other, add, &mut Count::new())
-            }
-            _ => return None,
-        },
-        to,
-    );
-    to.word("asked");
-    to.show(times.get());
+    let merged = match call.name {
+        "extend_with" => map.extend_with(call.alloc, other, add),
+        "extend_with_counted" => map.extend_with_counted(call.alloc, other, add, count),
+        _ => return None,
+    };
+    show_merged(merged, to);
+    to.word_and("asked", times.get());
     Some(())
 }
 
@@ -178,14 +171,8 @@ fn go_beside<S: Tested>(map: &mut Map<S>, call: &Call<'_>, to: &mut Answer) -> M
         "is_subset_counted" => {
             to.show(map.is_subset_counted(&other::<ColumnStore<_, _>>(call)?, count));
         }
-        "keep_keys_of" => {
-            map.keep_keys_of(&other::<ColumnStore<_, _>>(call)?);
-            to.word("ok");
-        }
-        "remove_keys_of" => {
-            map.remove_keys_of(&other::<ColumnStore<_, _>>(call)?);
-            to.word("ok");
-        }
+        "keep_keys_of" => to.done(map.keep_keys_of(&other::<ColumnStore<_, _>>(call)?)),
+        "remove_keys_of" => to.done(map.remove_keys_of(&other::<ColumnStore<_, _>>(call)?)),
         _ => return None,
     }
     Some(())
@@ -197,11 +184,10 @@ fn read<S: Tested>(map: &mut Map<S>, call: &Call<'_>, to: &mut Answer) -> Made {
     if call.name != "read_pairs" && call.name != "extend_from_source" {
         return None;
     }
-    let (hint, error) = (call.size(0), call.size(1));
     let mut source = Script {
         rest: call.pairs(2)?.into_iter(),
-        hint,
-        error,
+        hint: call.size(0),
+        error: call.size(1),
         asked: 0,
     };
     call.begin();
@@ -209,8 +195,7 @@ fn read<S: Tested>(map: &mut Map<S>, call: &Call<'_>, to: &mut Answer) -> Made {
         "read_pairs" => show_fault(replace(map, read_pairs(call.alloc, &mut source)).err(), to),
         _ => show_fault(extend_from_source(call.alloc, map, &mut source).err(), to),
     }
-    to.word("asked");
-    to.show(source.asked);
+    to.word_and("asked", source.asked);
     Some(())
 }
 
@@ -236,10 +221,7 @@ fn show_fault(fault: Option<ReadFault<usize>>, to: &mut Answer) {
     match fault {
         None => to.word("ok"),
         Some(ReadFault::NoRoom) => to.word("refused"),
-        Some(ReadFault::Source(fault)) => {
-            to.word("error");
-            to.show(fault);
-        }
+        Some(ReadFault::Source(fault)) => to.word_and("error", fault),
     }
 }
 

@@ -40,9 +40,9 @@ fn show_old<'a>(outcome: Result<Option<Value>, NoRoom<Pair>>, to: &mut Answer) {
 fn show_back<'a>(outcome: Result<Option<Pair>, NoRoom<Pair>>, to: &mut Answer) {
     match outcome {
         Ok(None) => to.word("placed"),
-        Ok(Some((key, value))) => {
+        Ok(back) => {
             to.word("back");
-            to.pair(&key, &value);
+            to.taken(back);
         }
         Err(refused) => to.no_room(refused),
     }
@@ -76,17 +76,13 @@ fn try_or<S: StoreMut<Key, Value>>(map: &mut Map<S>, call: &Call<'_>, to: &mut A
         },
         _ => return None,
     }
-    to.word("asked");
-    to.show(times);
+    to.word_and("asked", times);
     Some(())
 }
 
 fn show_fault<'a>(fault: TryFault<Key, Value, Value>, to: &mut Answer) {
     match fault {
-        TryFault::Closure(value) => {
-            to.word("closure");
-            to.show(value);
-        }
+        TryFault::Closure(value) => to.word_and("closure", value),
         TryFault::NoRoom { key, value } => to.no_room(NoRoom { back: (key, value) }),
     }
 }
@@ -123,10 +119,7 @@ fn take<S: StoreMut<Key, Value>>(map: &mut Map<S>, call: &Call<'_>, to: &mut Ans
         "remove_entry" => to.taken(map.remove_entry(&call.key(0)?)),
         "pop_first" => to.taken(map.pop_first()),
         "pop_last" => to.taken(map.pop_last()),
-        "clear" => {
-            map.clear();
-            to.word("ok");
-        }
+        "clear" => to.done(map.clear()),
         "reserve" => to.room(map.reserve(call.size(0)?)),
         _ => return None,
     }

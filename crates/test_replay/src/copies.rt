@@ -4,7 +4,7 @@ use crate::bulk::other;
 use crate::call::{Call, Made, Map};
 use crate::counted::{Key, Order, Value, with_rank};
 use crate::tested::Tested;
-use litemap::LiteMap;
+use litemap::VecMap;
 use litemap::store::Store;
 use std::alloc::AllocError;
 use std::cmp::Ordering;
@@ -25,20 +25,18 @@ pub fn copy<S: Tested>(map: &Map<S>, call: &Call<'_>, to: &mut Answer) -> Made {
         _ => return None,
     };
     to.pairs(made);
-    to.word("cloned");
-    to.show(call.seen.cloned());
+    to.word_and("cloned", call.seen.cloned());
     Some(())
 }
 
 fn pairs_of<K: Ord + AsRef<Key> + Drop, V: AsRef<Value> + Drop>(
-    made: Result<LiteMap<K, V, Vec<(K, V)>>, AllocError>,
+    made: Result<VecMap<K, V>, AllocError>,
 ) -> Result<Pairs, AllocError> {
     let made = made?;
-    let mut pairs = Pairs::new();
-    for (key, value) in &made {
-        pairs.add(key.as_ref(), value.as_ref());
-    }
-    Ok(pairs)
+    Ok(Pairs::of(
+        made.iter()
+            .map(|(key, value)| (key.as_ref(), value.as_ref())),
+    ))
 }
 
 // The keys become their ranks, which lie in the same order. It writes whether the closure was called once for each, in order.
@@ -48,11 +46,8 @@ fn keyed<S: Store<Key, Value>>(
     to: &mut Answer,
 ) -> Result<Pairs, AllocError> {
     call.seen.keys.ranks.set(0);
-    let made: LiteMap<u64, Value, Vec<(u64, Value)>> = map.to_keys_by(
-        call.alloc,
-        |key| key.rank(),
-    )?;
-    let (mut pairs, mut ranks) = (Pairs::new(), 0u64);
+    let made: VecMap<u64, Value> = map.to_keys_by(call.alloc, |key| key.rank())?;
+    let (mut pairs, mut ranks) = (Pairs::default(), 0u64);
     for (key, value) in &made {
         pairs.add_codes(Order::Number, *key, value.number());
         ranks = with_rank(ranks, *key);

@@ -46,10 +46,8 @@ impl Seen {
 
     /// How many keys and values were cloned.
     pub fn cloned(&self) -> u32 {
-        self.keys
-            .cloned
-            .get()
-            .wrapping_add(self.values.cloned.get())
+        let (keys, values) = (&self.keys.cloned, &self.values.cloned);
+        keys.get().wrapping_add(values.get())
     }
 }
 
@@ -67,9 +65,10 @@ fn lower(number: &Cell<u32>) {
 }
 
 /// How keys are written, and in which order they lie.
-#[derive(Clone, Copy)]
+#[derive(Clone, Copy, Default)]
 pub enum Order {
     /// Numbers.
+    #[default]
     Number,
     /// Numbers, the greatest one first.
     Falling,
@@ -134,6 +133,7 @@ fn length_of_code(code: u64) -> u64 {
 }
 
 /// A number that counts how often it is compared and cloned, and how many there are, with what is its own beside it.
+#[derive(Default)]
 pub struct Counted<T: Copy> {
     rank: u64,
     own: T,
@@ -218,16 +218,6 @@ impl Counted<()> {
 impl<T: Copy> AsRef<Counted<T>> for Counted<T> {
     fn as_ref(&self) -> &Counted<T> {
         self
-    }
-}
-
-impl Default for Counted<()> {
-    fn default() -> Self {
-        Counted {
-            rank: 0,
-            own: (),
-            tally: None,
-        }
     }
 }
 
@@ -329,8 +319,6 @@ pub(crate) fn write_code<W: Write>(f: &mut W, order: Order, code: u64) -> fmt::R
     if matches!(order, Order::Number | Order::Falling) {
         return write!(f, "{code}");
     }
-    match str::from_utf8(&code.to_be_bytes()) {
-        Ok(text) => f.write_str(text.trim_end_matches('\0')),
-        Err(_) => f.write_str("?"),
-    }
+    let bytes = code.to_be_bytes();
+    f.write_str(str::from_utf8(&bytes).unwrap_or("?").trim_end_matches('\0'))
 }

@@ -20,7 +20,6 @@ pub fn enter<S: StoreMut<Key, Value>>(map: &mut Map<S>, call: &Call<'_>, to: &mu
     one_key(map, call, to).is_some()
         || put(map, call, to).is_some()
         || of_kind(map, call, to).is_some()
-        || twice(map, call, to).is_some()
 }
 
 fn one_key<S: StoreMut<Key, Value>>(map: &mut Map<S>, call: &Call<'_>, to: &mut Answer) -> Made {
@@ -47,8 +46,7 @@ fn show_kind<S: StoreMut<Key, Value>>(entry: &Entry<'_, Key, Value, S>, to: &mut
         Entry::Occupied(entry) => ("occupied", entry.key()),
         Entry::Vacant(entry) => ("vacant", entry.key()),
     };
-    to.word(kind);
-    to.show(key);
+    to.word_and(kind, key);
 }
 
 // Adds one to the value that is lent, and returns what it was.
@@ -79,44 +77,38 @@ fn put<S: StoreMut<Key, Value>>(map: &mut Map<S>, call: &Call<'_>, to: &mut Answ
         }
         _ => return None,
     }
-    to.word("asked");
-    to.show(times);
+    to.word_and("asked", times);
     Some(())
 }
 
-const OF_ONE_KIND: [&str; 3] = ["entry_insert", "entry_get_mut", "entry_into_mut"];
-
-// The calls that one kind of entry has; `insert` of the other one.
+// The calls that one kind of entry has; `insert` of the other one. After `_then_` stands a second call of one occupied entry: its
+// value, which the first one wrote, is taken out or written again.
 fn of_kind<S: StoreMut<Key, Value>>(map: &mut Map<S>, call: &Call<'_>, to: &mut Answer) -> Made {
-    if !OF_ONE_KIND.contains(&call.name) {
-        return None;
-    }
+    let calls = call.name.strip_prefix("entry_")?;
+    let (first, then) = calls.split_once("_then_").unwrap_or((calls, ""));
     let (key, value) = call.pair(0)?;
-    match map.entry(key) {
-        Entry::Vacant(entry) => show_lent!(entry.insert(value), to),
-        Entry::Occupied(mut entry) => match call.name {
-            "entry_insert" => to.show(entry.insert(value)),
-            "entry_get_mut" => to.show(entry.get_mut().write(value.number())),
-            _ => to.show(entry.into_mut().write(value.number())),
-        },
-    }
-    Some(())
-}
-
-// Two calls of one occupied entry: its value is written by `insert` or `get_mut`, and then taken out, or written again.
-fn twice<S: StoreMut<Key, Value>>(map: &mut Map<S>, call: &Call<'_>, to: &mut Answer) -> Made {
-    let (first, last) = call.name.strip_prefix("entry_")?.split_once("_then_")?;
-    let (key, value) = call.pair(0)?;
-    let Entry::Occupied(mut entry) = map.entry(key) else {
-        to.word("vacant");
-        return Some(());
+    let mut entry = match map.entry(key) {
+        Entry::Occupied(entry) => entry,
+        Entry::Vacant(entry) if then.is_empty() => {
+            show_lent!(entry.insert(value), to);
+            return Some(());
+        }
+        Entry::Vacant(_entry) => {
+            to.word("vacant");
+            return Some(());
+        }
     };
     match first {
         "insert" => to.show(entry.insert(value)),
         "get_mut" => to.show(entry.get_mut().write(value.number())),
+        "into_mut" => {
+            to.show(entry.into_mut().write(value.number()));
+            return Some(());
+        }
         _ => return None,
     }
-    match last {
+    match then {
+        "" => {}
         "remove" => to.show(entry.remove()),
         "into_mut" => to.show(raised(entry.into_mut())),
         _ => return None,

@@ -34,10 +34,7 @@ fn run_list<S: StoreBulkMut<Key, u64>>(call: &Call<'_>, to: &mut Answer) -> Made
             to.show(answers);
             to.show(map);
         }
-        Err(refused) => {
-            to.word("refused");
-            to.show(refused.back);
-        }
+        Err(refused) => to.word_and("refused", refused.back),
     }
     Some(())
 }

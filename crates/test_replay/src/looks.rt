@@ -20,10 +20,7 @@ fn with_no_key<S: Store<Key, Value>>(map: &Map<S>, call: &Call<'_>, to: &mut Ans
         "first" => to.pair_or_none(map.first()),
         "last" => to.pair_or_none(map.last()),
         "get_indexed" => to.pair_or_none(map.get_indexed(call.size(0)?)),
-        "keys_ascend" => {
-            map.keys_ascend();
-            to.word("ok");
-        }
+        "keys_ascend" => to.done(map.keys_ascend()),
         "debug" => to.show(map),
         "debug_lines" => to.show_lines(call, map),
         _ => return None,
@@ -71,12 +68,9 @@ fn bounds<S: Store<Key, Value>>(map: &Map<S>, call: &Call<'_>, to: &mut Answer) 
         "index_range" => map.index_range(from, till),
         "index_range_counted" => map.index_range_counted(from, till, &mut Count::new()),
         "iter_range" => {
-            let (mut rest, mut pairs) = (map.iter_range(from, till), Pairs::new());
+            let mut rest = map.iter_range(from, till);
             to.pair_or_none(rest.next_back());
-            for (key, value) in rest {
-                pairs.add(key, value);
-            }
-            to.show(pairs);
+            to.show(Pairs::of(rest));
             return Some(());
         }
         _ => return None,

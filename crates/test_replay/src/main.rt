@@ -38,7 +38,7 @@ mod stores;
 mod tested;
 mod walks;
 
-use std::io;
+use std::{fs, io};
 
 fn main(rt: HostRuntime) -> io::Result<()> {
     let input = io::read_to_string(rt.alloc(), rt.stdin())?;
@@ -50,7 +50,8 @@ fn main(rt: HostRuntime) -> io::Result<()> {
         if name == "marked" {
             is_marked = true;
         } else {
-            run::file(&rt, name, is_marked)?;
+            let text = fs::read_to_string(&rt, name)?;
+            run::lines(&rt, name, text.as_str(), is_marked)?;
         }
     }
     Ok(())

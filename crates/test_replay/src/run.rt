@@ -14,7 +14,7 @@ use example_store::shrinking::Shrinking;
 use litemap_columns::ColumnStore;
 use litemap_short::ShortStore;
 use std::alloc::{AllocError, Global};
-use std::{fs, io};
+use std::io;
 
 // How many bytes the text of what is returned takes at most.
 const LONGEST: usize = 1 << 14;
@@ -123,20 +123,9 @@ impl Replay {
     }
 }
 
-/// Makes the calls of a file, and writes the lines that return something else.
-pub fn file(rt: &HostRuntime, name: &str, is_marked: bool) -> io::Result<()> {
-    let text = fs::read_to_string(rt, name)?;
-    lines(rt, name, text.as_str(), is_marked)
-}
-
 /// Makes the calls of the lines of a text, which has a name, and writes those that return something else.
 pub fn lines(rt: &HostRuntime, name: &str, text: &str, is_marked: bool) -> io::Result<()> {
     let mut replay = Replay::new(rt.alloc(), is_marked)?;
-    each_line(rt, &mut replay, name, text)?;
-    println!(rt; "{name}: {} calls", replay.made)
-}
-
-fn each_line(rt: &HostRuntime, replay: &mut Replay, name: &str, text: &str) -> io::Result<()> {
     let mut stores = String::new(rt.alloc());
     for (place, text) in text.lines().enumerate() {
         if let Some(names) = text.strip_prefix("on ") {
@@ -148,11 +137,11 @@ fn each_line(rt: &HostRuntime, replay: &mut Replay, name: &str, text: &str) -> i
         }
         match line::parse(text) {
             Some(line) if line.goes_on && replay.is_marked => {}
-            Some(line) => each_store(rt, replay, stores.as_str(), (name, place), &line)?,
+            Some(line) => each_store(rt, &mut replay, stores.as_str(), (name, place), &line)?,
             None => println!(rt; "{name}:{}: bad line", place.wrapping_add(1))?,
         }
     }
-    Ok(())
+    println!(rt; "{name}: {} calls", replay.made)
 }
 
 // Makes the call of a line over each of these stores.

@@ -69,22 +69,22 @@ fn grow_over<V: Small + Drop, S: StoreBulkMut<u32, V>>(call: &Call<'_>, to: &mut
     let (count, step) = (call.number(0)?, call.number(1)?);
     let mut map: LiteMap<u32, V, S> = LiteMap::with_capacity(call.alloc, 0).ok()?;
     call.begin();
-    let len = insert_all(&mut map, count, step);
+    // How many keys were inserted, if one of them had no room.
+    let inserted = (0..count).find(|place| {
+        let key = multiple(*place, step);
+        map.insert(key, V::of(key)).is_err()
+    });
     call.end();
-    if len < count {
-        to.word(if map.len() as u64 == len {
-            "refused"
-        } else {
-            "lost"
-        });
-        return Some(());
+    match inserted {
+        None => to.show(pairs_of(&map)),
+        Some(len) if map.len() as u64 == len => to.word("refused"),
+        Some(_) => to.word("lost"),
     }
-    to.show(pairs_of(&map));
     Some(())
 }
 
 fn pairs_of<V: Small + Drop, S: StoreBulkMut<u32, V>>(map: &LiteMap<u32, V, S>) -> Pairs {
-    let mut pairs = Pairs::new();
+    let mut pairs = Pairs::default();
     for index in 0..map.len() {
         if let Some((key, value)) = map.get_indexed(index) {
             pairs.add_codes(Order::Number, *key as u64, value.number());
@@ -136,19 +136,4 @@ fn sum_of<V>(pairs: &[(u32, V)]) -> u64 {
         sum = sum.wrapping_add(*key as u64).wrapping_add(1 << 32);
     }
     sum
-}
-
-// How many keys were inserted.
-fn insert_all<V: Small + Drop, S: StoreBulkMut<u32, V>>(
-    map: &mut LiteMap<u32, V, S>,
-    count: u64,
-    step: u64,
-) -> u64 {
-    for place in 0..count {
-        let key = multiple(place, step);
-        if map.insert(key, V::of(key)).is_err() {
-            return place;
-        }
-    }
-    count
 }

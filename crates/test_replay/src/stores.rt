@@ -26,16 +26,10 @@ fn whole<S: StoreMut<Key, Value> + Drop>(store: &mut S, call: &Call<'_>, to: &mu
         "lm_is_empty" => to.show(store.lm_is_empty()),
         "is_sorted_store" => to.show(LiteMap::is_sorted_store(&*store)),
         "lm_last" => to.pair_or_none(store.lm_last()),
-        "lm_clear" => {
-            store.lm_clear();
-            to.word("ok");
-        }
+        "lm_clear" => to.done(store.lm_clear()),
         "lm_try_clone" => {
-            to.pairs(
-                store
-                    .lm_try_clone(call.alloc)
-                    .map(|clone| Pairs::of_store(&clone)),
-            );
+            let clone = store.lm_try_clone(call.alloc);
+            to.pairs(clone.map(|clone| Pairs::of_store(&clone)));
         }
         _ => return None,
     }
@@ -65,10 +59,7 @@ fn by_number<S: StoreBulkMut<Key, Value>>(store: &mut S, call: &Call<'_>, to: &m
             store.lm_retain(|_, _| is_kept(number, &mut times));
             to.show(times);
         }
-        "lm_remove" if index < store.lm_len() => {
-            let (key, value) = store.lm_remove(index);
-            to.pair(&key, &value);
-        }
+        "lm_remove" if index < store.lm_len() => to.taken(Some(store.lm_remove(index))),
         _ => return None,
     }
     Some(())
@@ -110,10 +101,7 @@ fn put_at<S: StoreMut<Key, Value>>(store: &mut S, call: &Call<'_>, to: &mut Answ
     let (key, value) = call.pair(1)?;
     match call.name {
         "lm_insert" if index <= len => show_room(store.lm_insert(index, key, value), to),
-        "lm_replace" if index < len => {
-            let (key, value) = store.lm_replace(index, key, value);
-            to.pair(&key, &value);
-        }
+        "lm_replace" if index < len => to.taken(Some(store.lm_replace(index, key, value))),
         _ => return None,
     }
     Some(())
@@ -143,7 +131,7 @@ fn extend<S: Tested>(store: &mut S, call: &Call<'_>, to: &mut Answer) -> Made {
     Some(())
 }
 
-// A call that takes its pairs out of a vector. What the vector has after it stands behind its answer.
+// A call that takes its pairs out of a vector. What the vector has after it is written after its result.
 fn take_vec<S: Tested>(store: &mut S, call: &Call<'_>, to: &mut Answer) -> Made {
     let is_extended = call.name == "lm_extend_from_vec" && LiteMap::is_sorted_store(&*store);
     if call.name != "lm_sort_from_vec" && !is_extended {
@@ -176,7 +164,7 @@ fn join<S: Tested>(store: &mut S, call: &Call<'_>, to: &mut Answer) -> Made {
     };
     match outcome {
         Ok(()) => to.word("ok"),
-        Err(refused) => to.refused(Pairs::of_store(&refused.back)),
+        Err(refused) => to.word_and("refused", Pairs::of_store(&refused.back)),
     }
     Some(())
 }

@@ -18,7 +18,7 @@ struct Met {
 impl Met {
     fn new(left: usize) -> Self {
         Met {
-            pairs: Pairs::new(),
+            pairs: Pairs::default(),
             left,
             is_exact: true,
         }

@@ -5,7 +5,6 @@
 ghost use Rattle.std.specs.Prelude.{◌≡◌};
 ghost use Rattle.std.specs.Fn.{FnReturnsAt};
 ghost use Rattle.litemap_store.specs.Last.{In};
-ghost use Rattle.litemap_store.specs.Pairs.{Rising};
 ghost use Rattle.litemap_store.specs.Clones.{ClonesCompareEqual};
 ghost use Rattle.litemap.specs.Conversions.{Converts, KeysKeepOrder, TakesKeys};
 
@@ -23,7 +22,7 @@ impl<K: Ord + Clone, V: Clone, S: Store<K, V>> LiteMap<K, V, S> {
         requires { ClonesCompareEqual K.cmp K.is_clone self.now.pairs }
         ensures { Converts (λ k b. K.is_clone k b.value) (λ v b. V.is_clone v b.value) self.now.pairs result }
     {
-        converted(&self.store, alloc, &Boxed, &Boxed)
+        converted(self, alloc, &Boxed, &Boxed)
     }
 
     /// Returns a map with boxes of clones of the keys, and clones of the values, or an error if memory runs out.
@@ -34,7 +33,7 @@ impl<K: Ord + Clone, V: Clone, S: Store<K, V>> LiteMap<K, V, S> {
         requires { ClonesCompareEqual K.cmp K.is_clone self.now.pairs }
         ensures { Converts (λ k b. K.is_clone k b.value) V.is_clone self.now.pairs result }
     {
-        converted(&self.store, alloc, &Boxed, &Cloned)
+        converted(self, alloc, &Boxed, &Cloned)
     }
 
     /// Returns a map with clones of the keys, and boxes of clones of the values, or an error if memory runs out.
@@ -45,7 +44,7 @@ impl<K: Ord + Clone, V: Clone, S: Store<K, V>> LiteMap<K, V, S> {
         requires { ClonesCompareEqual K.cmp K.is_clone self.now.pairs }
         ensures { Converts K.is_clone (λ v b. V.is_clone v b.value) self.now.pairs result }
     {
-        converted(&self.store, alloc, &Cloned, &Boxed)
+        converted(self, alloc, &Cloned, &Boxed)
     }
 }
 
@@ -67,7 +66,7 @@ impl<K: Ord, V: Clone, S: Store<K, V>> LiteMap<K, V, S> {
         requires rising { KeysKeepOrder K.cmp L.cmp (FnReturnsAt F.Fn f) self.now.pairs }
         ensures { Converts (FnReturnsAt F.Fn f) V.is_clone self.now.pairs result }
     {
-        converted(&self.store, alloc, &Answered { f }, &Cloned)
+        converted(self, alloc, &Answered { f }, &Cloned)
     }
 }
 
@@ -85,7 +84,7 @@ impl<'a, K: Ord + 'a, V: 'a, S: Store<K, V>> LiteMap<K, V, S> {
     ) -> Result<LiteMap<&'a K, &'a V, B>, AllocError>
         ensures { Converts (λ k r. r.now ≡ k) (λ v r. r.now ≡ v) self.now.pairs result }
     {
-        converted(&self.store, alloc, &Lent, &Lent)
+        converted(self, alloc, &Lent, &Lent)
     }
 
     /// Returns a map with references to the keys, and clones of the values, or an error if memory runs out.
@@ -97,7 +96,7 @@ impl<'a, K: Ord + 'a, V: 'a, S: Store<K, V>> LiteMap<K, V, S> {
         V: Clone,
         ensures { Converts (λ k r. r.now ≡ k) V.is_clone self.now.pairs result }
     {
-        converted(&self.store, alloc, &Lent, &Cloned)
+        converted(self, alloc, &Lent, &Cloned)
     }
 
     /// Returns a map with clones of the keys, and references to the values, or an error if memory runs out.
@@ -110,13 +109,13 @@ impl<'a, K: Ord + 'a, V: 'a, S: Store<K, V>> LiteMap<K, V, S> {
         requires { ClonesCompareEqual K.cmp K.is_clone self.now.pairs }
         ensures { Converts K.is_clone (λ v r. r.now ≡ v) self.now.pairs result }
     {
-        converted(&self.store, alloc, &Cloned, &Lent)
+        converted(self, alloc, &Cloned, &Lent)
     }
 }
 
 // The one body of all conversions.
 fn converted<'a, K, V, S, L, W, B, X, Y>(
-    store: &'a S,
+    map: &'a LiteMap<K, V, S>,
     alloc: Global,
     keys: &X,
     values: &Y,
@@ -129,15 +128,14 @@ where
     B: StoreMut<L, W> + Drop,
     X: Becomes<'a, K, L>,
     Y: Becomes<'a, V, W>,
-    requires rises { Rising K.cmp (S.pairs store.now) }
-    requires keys { (p : _) → In p (S.pairs store.now) → X.takes keys.now p.0 }
-    requires values { (p : _) → In p (S.pairs store.now) → Y.takes values.now p.1 }
-    requires rising { KeysKeepOrder K.cmp L.cmp (X.became keys.now) (S.pairs store.now) }
-    ensures { Converts (X.became keys.now) (Y.became values.now) (S.pairs store.now) result }
+    requires keys { (p : _) → In p map.now.pairs → X.takes keys.now p.0 }
+    requires values { (p : _) → In p map.now.pairs → Y.takes values.now p.1 }
+    requires rising { KeysKeepOrder K.cmp L.cmp (X.became keys.now) map.now.pairs }
+    ensures { Converts (X.became keys.now) (Y.became values.now) map.now.pairs result }
 {
-    let mut made = B::lm_with_capacity(alloc, store.lm_len())?;
-    for index in 0..store.lm_len() {
-        let (key, value) = store.lm_get(index).unwrap();
+    let mut made = B::lm_with_capacity(alloc, map.len())?;
+    for index in 0..map.len() {
+        let (key, value) = map.get_indexed(index).unwrap();
         let key = keys.made_of(alloc, key)?;
         let value = values.made_of(alloc, value)?;
         match made.lm_push(key, value) {

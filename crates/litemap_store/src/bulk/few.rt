@@ -67,9 +67,8 @@ fn put_next<K: Ord, V>(pairs: &mut [(K, V)], kept: usize, at: usize, count: &mut
     ensures within { result ≤ kept + 1 }
     ensures cost { RisesByAtMost (digits kept) count.old count.new }
 {
-    let (old, given) = pairs.split_at(kept);
-    let next = &given[at - kept];
-    match search(&SliceStore::new(old), &next.0, count) {
+    let all = &pairs[..];
+    match search(&SliceStore::new(&all[..kept]), &all[at].0, count) {
         Ok(index) => {
             pairs.swap(index, at);
             kept

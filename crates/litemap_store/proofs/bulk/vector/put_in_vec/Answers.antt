@@ -1,4 +1,4 @@
-use Rattle.litemap_store.proofs.Names.{◌+◌, ◌-◌, ◌≡◌, arith, drop-append_seam, length, min, on_ok_weaker, RisesByAtMost, take-append_seam, vec_len}
+use Rattle.litemap_store.proofs.Names.{◌+◌, ◌-◌, ◌≡◌, ap, arith, drop-append_seam, length, length-append, min, on_ok_weaker, RisesByAtMost, take-append_seam, vec_len}
 use Rattle.litemap_store.proofs.Stores.Counting.{at_most, in_turn}
 use Rattle.litemap_store.proofs.Lists.Joined.{not_above}
 use Rattle.litemap_store.proofs.Last.Pairs.{Last-join_right, Last-rising}
@@ -44,3 +44,14 @@ returns-then-lies_below-clause-last g c =
     let up = Last-rising g.K.Ord.cmp _ (c.lies_below.ensures.below.0 c.if-lies_below.true) in
     let all = Last-join_right g.K.Ord.cmp g.met.K.Ord.total _ _ _ _ c.in_ok-keep_rising.ensures.last up in
     on_ok_weaker c.append_in_vec-then-lies_below.result (λ d. rw d all) c.append_in_vec-then-lies_below.ensures.appended
+
+pub settle_few-requires : goal.settle_few-requires
+settle_few-requires g c =
+    let old = c.args.store.now in let given = c.args.pairs.now in let all = c.append_in_vec.new.store in
+    let len : c.len-from.result ≡ length old.items = omega (arith, c.len-from.ensures, old.ok.0) in
+    let sum : vec_len all ≡ c.len-from.result + c.len.result = omega (arith, c.len-from.ensures, c.len.ensures, ap length c.in_ok-append_in_vec.ensures.appended, length-append old.items given.items, old.ok.0, given.ok.0, all.ok.0) in
+    let new : vec_len all - c.len-from.result ≡ c.len.result = omega (arith, sum) in record {
+      from = omega (arith, sum);
+      rising = rw (c.in_ok-append_in_vec.ensures.appended, len, take-append_seam old.items given.items) c.requires;
+      few = rw (new, sum) (c.is_few.ensures c.if-is_few.true);
+    }

@@ -1,0 +1,9 @@
+use Rattle.litemap_store.proofs.Names.{ap, arith, drop, length, length-drop}
+use Rattle.litemap_store.proofs.Merging.Down.{length-after}
+use Rattle.litemap_store.proofs.split_store.split_store.Goals as goal
+
+pub put_up-requires : goal.put_up-requires
+put_up-requires g c =
+    let old = g.S.Store.pairs c.args.store.now in
+    let taken = length-after c.take_from.new.side.items (drop c.args.index old) c.in_ok-side.side.items c.take_from.ensures.side in
+    omega (arith, taken, length-drop c.args.index old, ap length c.in_ok-side.ensures.side, c.in_ok-side.ensures.store_room, c.lm_len.ensures)
