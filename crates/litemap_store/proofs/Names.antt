@@ -1,5 +1,5 @@
 -- The names that the proofs cite most, passed on from one place. Declares nothing.
-pub use Rattle.std.proofs.Common.{[], ℕ, ◌&&◌, ◌*◌, ◌++◌, ◌+◌, ◌-◌, ◌/◌, ◌<◌, ◌==◌, ◌^◌, ◌↔◌, ◌∙◌, ◌∷◌, ◌≡◌, ◌≢◌, ◌≤◌, ◌⊎◌, All, AllPairs, Any, ap, append-nil, append_assoc, arith, Bool, Bor, cond, drop, drop-drop, drop-set-lt, eqb-true, Equal, Err, false, filter, get_or, get_or-drop, get_or-take, Greater, IfOk, IfSome, inl, inr, insert, is_eq, is_gt, is_lt, is_some, IsOk, IsSome, IsSortedByKey, IsTrue, length, length-append, length-drop, length-set, length-take, length-take-le, Less, List, map-id, min, nat_le, None, not, Ok, OnErr, Option, option_map, Ordering, pow-suc, refl, remove, Result, reverse, rules, set, set-set, slice_get, slice_index_or, slice_range, slice_set, Some, sub-one, subst, subst₂, suc, suc-add, suc-mul, swap, sym, take, take-add, take-append-drop, take-take, take_all, take_at, true, true≢false, unwrap_or, Vec, vec_capacity, vec_len, zero, zero-mul, zip}
+pub use Rattle.std.proofs.Common.{[], ℕ, ◌&&◌, ◌*◌, ◌++◌, ◌+◌, ◌-◌, ◌/◌, ◌<◌, ◌==◌, ◌^◌, ◌↔◌, ◌∙◌, ◌∷◌, ◌≡◌, ◌≢◌, ◌≤◌, ◌⊎◌, All, AllPairs, Any, ap, append-nil, append_assoc, arith, Bool, Bor, cond, drop, drop-drop, drop-set-lt, eqb-true, Equal, Err, false, filter, get_or, get_or-drop, get_or-take, Greater, IfErr, IfOk, IfSome, inl, inr, insert, is_eq, is_gt, is_lt, is_some, IsOk, IsSome, IsSortedByKey, IsTrue, length, length-append, length-drop, length-set, length-take, length-take-le, Less, List, map-id, min, nat_le, None, not, Ok, OnErr, Option, option_map, Ordering, pow-suc, refl, remove, Result, reverse, rules, set, set-set, slice_get, slice_index_or, slice_range, slice_set, Some, sub-one, subst, subst₂, suc, suc-add, suc-mul, swap, sym, take, take-add, take-append-drop, take-take, take_all, take_at, true, true≢false, unwrap_or, Vec, vec_capacity, vec_len, zero, zero-mul, zip}
 pub use Rattle.std.proofs.Math.Seq.{drop-append-add, drop-append_seam, set-append_seam, take-append-add, take-append_seam, take-set-lt}
 pub use Rattle.std.proofs.lemmas.Bool.{cases_Bool, cases_lt}
 pub use Rattle.std.proofs.lemmas.Cmp.{alike_right, tied_back, tied_itself}

@@ -1,5 +1,5 @@
 //! A search of a store by a key, and what searches compare.
-ghost use Rattle.std.specs.Prelude.{◌≡◌, ◌↔◌, ◌*◌, ◌≤◌, IsTrue, length};
+ghost use Rattle.std.specs.Prelude.{◌≡◌, ◌↔◌, ◌*◌, ◌<◌, ◌≤◌, IfErr, IfOk, IsTrue, length};
 ghost use Rattle.litemap_store.specs.{RisesByAtMost, Rising, digits};
 ghost use Rattle.litemap_store.specs.Splits.{Splits};
 
@@ -13,6 +13,8 @@ pub(crate) fn search<K: Ord, V, S: Store<K, V>>(
 ) -> Result<usize, usize>
     requires { Rising K.cmp (S.pairs store.now) }
     ensures splits { Splits K.cmp (S.pairs store.now) key.now result }
+    ensures found { IfOk result (λ index. index < length (S.pairs store.now)) }
+    ensures missing { IfErr result (λ index. index ≤ length (S.pairs store.now)) }
     ensures cost { RisesByAtMost (digits (length (S.pairs store.now))) count.old count.new }
 {
     store.lm_binary_search_by(|k| k.cmp(key), count)

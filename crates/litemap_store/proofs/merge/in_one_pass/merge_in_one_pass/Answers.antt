@@ -68,5 +68,5 @@ take_from-requires g c = let fits = c.loop-other.invariant.side_fits in record {
 
 pub put_up-requires : goal.put_up-requires
 put_up-requires g c =
-    let len = c.loop-other.invariant.side_len in
-    let all = length-after c.take_from.new.side.items (g.S.Store.pairs c.loop-other.store) c.loop-other.side.items c.take_from.ensures.side in omega (arith, c.in-Ok.ensures.store_room)
+    let len = c.loop-other.invariant.side_len in let all = length-after c.take_from.new.side.items (g.S.Store.pairs c.loop-other.store) c.loop-other.side.items c.take_from.ensures.side in
+    omega (arith, c.in-Ok.ensures.store_room)
