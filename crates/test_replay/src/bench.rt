@@ -57,14 +57,15 @@ impl<S: StoreConstEmpty<Key, Value>> Bench<S> {
 }
 
 impl<S: Tested> Bench<S> {
-    /// Makes the map, or the store, with which a line begins.
+    /// Makes the map, or the store, with which a line begins, and its call, if every store has it. Returns what was there before
+    /// that, and whether it was made.
     pub fn begin(
         &mut self,
         line: &Line<'_>,
         start: Start,
         call: &Call<'_>,
         to: &mut Answer,
-    ) -> Result<Before, AllocError> {
+    ) -> Result<(Before, bool), AllocError> {
         if line.goes_on {} else if call.is_of_store() {
             self.store = store_of(call, start.len, start.capacity)?;
         } else {
@@ -77,11 +78,13 @@ impl<S: Tested> Bench<S> {
             }
             to.clear();
         }
-        Ok(Before {
+        let before = Before {
             pairs: self.pairs(call),
             keys: call.seen.keys.alive.get(),
             values: call.seen.values.alive.get(),
-        })
+        };
+        call.begin();
+        Ok((before, self.call(call, to)))
     }
 
     // Makes a call before that of a line, which tells nothing.
@@ -89,8 +92,8 @@ impl<S: Tested> Bench<S> {
         self.one(&call.another(words), to);
     }
 
-    /// Makes a call, if every store has it.
-    pub fn call(&mut self, call: &Call<'_>, to: &mut Answer) -> bool {
+    // Makes a call, if every store has it.
+    fn call(&mut self, call: &Call<'_>, to: &mut Answer) -> bool {
         if call.name == "sweep" {
             self.sweep(call, to).is_some()
         } else {
@@ -162,9 +165,14 @@ impl<S: Tested> Bench<S> {
         &mut self,
         line: &Line<'_>,
         before: Before,
+        is_made: bool,
         call: &Call<'_>,
         to: &mut Answer,
     ) -> Outcome {
+        call.end();
+        if !is_made {
+            to.word("no call");
+        }
         let compared = call.seen.keys.compared.get();
         let most = compared.max(call.seen.values.compared.get());
         let after = self.pairs(call);

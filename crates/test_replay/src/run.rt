@@ -8,7 +8,6 @@ use crate::line::{self, Line};
 use crate::looks::{vector, view};
 use crate::sizes::grow;
 use crate::stores::text;
-use crate::tested::Tested;
 use crate::walks::lent;
 use example_store::fixed_room::FixedRoom;
 use example_store::shrinking::Shrinking;
@@ -22,51 +21,17 @@ const LONGEST: usize = 1 << 14;
 
 type Vector<K, V> = Vec<(K, V)>;
 
-// A store, with the calls that not every one has, or that lend.
-trait Own: Tested {
-    // Makes such a call: whether it is one.
-    fn own(bench: &mut Bench<Self>, call: &Call<'_>, to: &mut Answer) -> bool;
-}
-
-macro_rules! own {
-    ($store:ident $(, $own:ident)* $(; $text:ident)?) => {
-        impl Own for $store<Key, Value> {
-            fn own(bench: &mut Bench<Self>, call: &Call<'_>, to: &mut Answer) -> bool {
-                lent(&bench.map, call, to).is_some()
-                    || grow::<$store<u32, u32>, $store<u32, ()>>(call, to).is_some()
-                    $(|| $own(&mut bench.map, call, to).is_some())*
-                    $(|| $text(&bench.store, call, to).is_some())?
-            }
-        }
-    };
-}
-
-own!(Vector, rename, view, vector; text);
-
-own!(ColumnStore, rename);
-
-own!(ShortStore, rename, view; text);
-
-own!(FixedRoom, rename);
-
-own!(Shrinking);
-
-// Makes the call of a line over a store.
-fn make_over<S: Own>(
-    bench: &mut Bench<S>,
-    line: &Line<'_>,
-    start: Start,
-    call: &Call<'_>,
-    to: &mut Answer,
-) -> Result<Outcome, AllocError> {
-    let before = bench.begin(line, start, call, to)?;
-    call.begin();
-    let is_made = bench.call(call, to) || S::own(bench, call, to);
-    call.end();
-    if !is_made {
-        to.word("no call");
-    }
-    Ok(bench.end(line, before, call, to))
+// Makes the call of a line over a store, which may have some calls of its own.
+macro_rules! make_over {
+    ($bench:expr, $store:ident, $line:ident, $start:ident, $call:ident, $to:ident $(, $own:ident)* $(; $text:ident)?) => {{
+        let (before, is_made) = $bench.begin($line, $start, &$call, $to)?;
+        let is_made = is_made
+            || lent(&$bench.map, &$call, $to).is_some()
+            || grow::<$store<u32, u32>, $store<u32, ()>>(&$call, $to).is_some()
+            $(|| $own(&mut $bench.map, &$call, $to).is_some())*
+            $(|| $text(&$bench.store, &$call, $to).is_some())?;
+        Ok($bench.end($line, before, is_made, &$call, $to))
+    }};
 }
 
 // The maps, and how the next lines begin.
@@ -133,11 +98,13 @@ impl Replay {
         to.clear();
         self.made = self.made.wrapping_add(1);
         match store {
-            "vec" => make_over(&mut self.vec, line, start, &call, to),
-            "columns" => make_over(&mut self.columns, line, start, &call, to),
-            "short" => make_over(&mut self.short, line, start, &call, to),
-            "fixed" => make_over(&mut self.fixed, line, start, &call, to),
-            "shrinking" => make_over(&mut self.shrinking, line, start, &call, to),
+            "vec" =>
+                make_over!(self.vec, Vector, line, start, call, to, rename, view, vector; text),
+            "columns" => make_over!(self.columns, ColumnStore, line, start, call, to, rename),
+            "short" =>
+                make_over!(self.short, ShortStore, line, start, call, to, rename, view; text),
+            "fixed" => make_over!(self.fixed, FixedRoom, line, start, call, to, rename),
+            "shrinking" => make_over!(self.shrinking, Shrinking, line, start, call, to),
             _ => {
                 to.word("no store");
                 Ok(Outcome::default())
