@@ -102,12 +102,8 @@ module _ {K : Type 0} {cmp : K → K → Ordering} (o : IsTotalOrder cmp) {W : T
       | false ↦ λ e. at-filter_gone cmp k keeps (λ x f. same_key x f ∙ e) L
     ]) refl
 
-    value_at_by : (p : Option (K × V)) (b : Bool) → option_map (λ q. q.1) (cond b p None) ≡ cond b (option_map (λ q. q.1) p) None
-    value_at_by p true = refl
-    value_at_by p false = refl
-
     pub value_at-kept : (L N : List (K × V)) → N ≡ filter (λ q. t (is_some (at cmp M q.0))) L → value_at cmp N k ≡ cond (t (is_some (at cmp M k))) (value_at cmp L k) None
-    value_at-kept L N is = rw is (ap (option_map (λ q. q.1)) (at-kept L) ∙ value_at_by (at cmp L k) (keeps k))
+    value_at-kept L N is = rw is (ap (option_map (λ q. q.1)) (at-kept L) ∙ elim (keeps k) as (λ b. option_map (λ q. q.1) (cond b (at cmp L k) None) ≡ cond b (option_map (λ q. q.1) (at cmp L k)) None) [ true ↦ refl | false ↦ refl ])
 
 -- ---- what a lookup finds if each key is in another list
 module _ {K W : Type 0} {cmp : K → K → Ordering} (o : IsTotalOrder cmp) (M : List (K × W)) (k : K) where

@@ -12,15 +12,6 @@ use Rattle.litemap_store.proofs.Lists.Membership.{In-from_filter}
 use Rattle.litemap_store.proofs.Lists.Seams.{set_value-suc}
 use Rattle.litemap_store.proofs.Search.Splitting.{Rising-append, Rising-filter, at_in, kept_above, kept_below, key_or_equal, not_is_eq, parted}
 
-not_both : (c : Ordering) → is_gt c ≡ true → is_lt c ≡ false
-not_both Less h = absurd (cc)
-not_both Equal h = refl
-not_both Greater h = refl
-
-or_none : {X : Type 0} (o : Option X) → option_or o None ≡ o
-or_none None = refl
-or_none (Some x) = refl
-
 -- ---- a filter of keys, and a lookup after it
 module _ {K Q V : Type 0} (order : K → Q → Ordering) (q : Q) (keep : K → Bool) where
   pub at-filter_kept : ((x : K) → order x q ≡ Equal → keep x ≡ true) → (L : List (K × V)) → at order (filter (λ p. keep p.0) L) q ≡ at order L q
@@ -78,7 +69,7 @@ module _ {K Q Q' V : Type 0} (order : K → Q → Ordering) (q : Q) (order' : K 
     | Less ↦ λ e.
         let gone : at order' (above order L q) q' ≡ None = at-filter_gone order' q' (λ y. is_gt (order y q)) (λ y f. ap is_gt (turned y f ∙ e)) L in
         let kept : at order' (below order L q) q' ≡ at order' L q' = at-filter_kept order' q' (λ y. is_lt (order y q)) (λ y f. ap is_lt (turned y f ∙ e)) L in
-        rw (gone, kept) (or_none (at order' L q'))
+        rw (gone, kept) (elim (at order' L q') as (λ o. option_or o None ≡ o) [ None ↦ refl | Some x ↦ refl ])
     | Equal ↦ λ e. absurd (differs e)
     | Greater ↦ λ e.
         let gone : at order' (below order L q) q' ≡ None = at-filter_gone order' q' (λ y. is_lt (order y q)) (λ y f. ap is_lt (turned y f ∙ e)) L in
@@ -158,7 +149,7 @@ module _ {K V : Type 0} {cmp : K → K → Ordering} (o : IsTotalOrder cmp) wher
     below-below L = filter_all (λ (p : K × V). is_lt (cmp p.0 k)) (below cmp L k) (λ x i. (In-from_filter (λ (p : K × V). is_lt (cmp p.0 k)) L x i).1)
 
     below-above : (L : List (K × V)) → below cmp (above cmp L k) k ≡ []
-    below-above L = filter_none (λ (p : K × V). is_lt (cmp p.0 k)) (above cmp L k) (λ x i. not_both (cmp x.0 k) (In-from_filter (λ (p : K × V). is_gt (cmp p.0 k)) L x i).1)
+    below-above L = filter_none (λ (p : K × V). is_lt (cmp p.0 k)) (above cmp L k) (λ x i. elim (cmp x.0 k) as (λ c. is_gt c ≡ true → is_lt c ≡ false) [ Less ↦ λ h. absurd cc | Equal ↦ λ h. refl | Greater ↦ λ h. refl ] (In-from_filter (λ (p : K × V). is_gt (cmp p.0 k)) L x i).1)
 
     -- as many keys are smaller as before
     pub place-put : (L : List (K × V)) (v : V) → place cmp (put cmp L k v) k ≡ place cmp L k

@@ -8,10 +8,6 @@ use Rattle.litemap_store.proofs.Names.{[], ◌∙◌, ◌∷◌, ◌≡◌, ◌�
 use Rattle.litemap_store.proofs.Lists.Membership.{each, from_each}
 use Rattle.litemap_store.proofs.Search.Splitting.{at_in, at_none, equal_from_is_eq, none_equal, not_is_eq}
 
-nothing : {X : Type 0} (c : Bool) (x : Option X) → x ≡ None → cond c x None ≡ None
-nothing true x e = e
-nothing false x e = refl
-
 module _ {K : Type 0} {cmp : K → K → Ordering} (o : IsTotalOrder cmp) (k : K) where
   pub key_same : (x y : K) → cmp x k ≡ Equal → cmp y k ≡ Equal → cmp x y ≡ Equal
   key_same x y e f = alike_right o y k x f ∙ e
@@ -74,6 +70,6 @@ module _ {K Q : Type 0} (cmp : K → K → Ordering) (o : IsTotalOrder cmp) (ord
             ≡ cond (is_some (at order (b ∷ B) q)) (value_at order A q) None
         by true (Some a) e f rest = let h : at order A q ≡ Some a = sym (at-same A b.0 (equal_from_is_eq _ e)) ∙ f in rw e (rw h refl)
         by true None e f rest = let h : value_at order A q ≡ None = ap (option_map (λ p. p.1)) (sym (at-same A b.0 (equal_from_is_eq _ e)) ∙ f) in
-            rw e (rest ∙ nothing (is_some (at order B q)) (value_at order A q) h ∙ sym h)
+            rw e (rest ∙ elim (is_some (at order B q)) as (λ c. cond c (value_at order A q) None ≡ None) [ true ↦ h | false ↦ refl ] ∙ sym h)
         by false (Some a) e f rest = rw e rest
         by false None e f rest = rw e rest

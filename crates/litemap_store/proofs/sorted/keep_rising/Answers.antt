@@ -5,6 +5,7 @@ use Rattle.litemap_store.proofs.Last.Pairs.{Last-rising, Last-same}
 use Rattle.litemap_store.proofs.Lists.Seams.{take-written_tail}
 use Rattle.litemap_store.proofs.Stores.Counting.{always_on_err}
 use Rattle.litemap_store.proofs.sorted.keep_rising.Given.{Over}
+use borrow.Author.Rules.{of_calls}
 use Rattle.litemap_store.proofs.sorted.keep_rising.Goals as goal
 use Rattle.litemap_store.proofs.sorted.keep_rising.Goals.{After-keep_last-kept, After-truncate}
 
@@ -45,3 +46,11 @@ returns-clause-last g c =
     let A = take c.args.from c.deref_mut.result.now in let len = lengths g (goal.at.returns-clause-last g c).After-keep_last-kept in
     rw (kept g c len, subst (λ n. drop n (A ++ take c.keep_last-kept.result c.keep_last-kept.new.pairs) ≡ take c.keep_last-kept.result c.keep_last-kept.new.pairs) len.0 (drop-append_seam A _))
     (rw (c.deref_mut.ensures.value, take_all (length c.args.pairs.now.items - c.args.from) (drop c.args.from c.args.pairs.now.items) (grind (arith, length-drop))) at sorted)
+
+pub sort_by-requires : goal.sort_by-requires
+sort_by-requires g c = search of_calls parts 8
+
+pub returns-in_err-sort_by-clause-before : goal.returns-in_err-sort_by-clause-before
+returns-in_err-sort_by-clause-before g c =
+    let A = take c.args.from c.deref_mut.result.now in
+    rw (take-written_tail A c.sort_by.new.self _ _ c.args.from c.args.pairs.now.len (grind (arith, common_steps)) (grind (arith, common_steps)), take_at A c.sort_by.new.self c.args.from (grind (arith, common_steps))) (ap (take c.args.from) c.deref_mut.ensures.value)

@@ -1,10 +1,6 @@
-use Rattle.litemap.proofs.Common.{◌≡◌, ◌∙◌, Bool, true, false, not, cond, Option, None, is_some, ap, refl, at, Rising-from_Kept}
+use Rattle.litemap.proofs.Common.{◌≡◌, ◌∙◌, true, false, not, cond, None, is_some, ap, refl, at, value_at, Rising-from_Kept}
 use Rattle.litemap.proofs.Sets.{Kept-beside, value_at-kept}
 use Rattle.litemap.proofs.map.LiteMap.remove_keys_of.Goals as goal
-
-turned : {X : Type 0} (b : Bool) (x : Option X) → cond (not b) x None ≡ cond b None x
-turned true x = refl
-turned false x = refl
 
 pub invariant_of-self : goal.invariant_of-self
 invariant_of-self g c =
@@ -16,4 +12,4 @@ returns-clause-pairs g c =
     c.lm_retain.ensures.kept c.self.invariant (ap (λ m. m.pairs) c.self.view_is) c.all-rest.ensures c.other.invariant (ap (λ m. m.pairs) c.other.view_is)
 
 pub returns-clause-found : goal.returns-clause-found
-returns-clause-found g c = λ key. value_at-kept g.met.K.Ord.total not c.args.other.now.pairs key _ _ (returns-clause-pairs g c) ∙ turned (is_some (at g.K.Ord.cmp c.args.other.now.pairs key)) _
+returns-clause-found g c = λ key. value_at-kept g.met.K.Ord.total not c.args.other.now.pairs key _ _ (returns-clause-pairs g c) ∙ elim (is_some (at g.K.Ord.cmp c.args.other.now.pairs key)) as (λ b. cond (not b) (value_at g.K.Ord.cmp c.args.self.now.pairs key) None ≡ cond b None (value_at g.K.Ord.cmp c.args.self.now.pairs key)) [ true ↦ refl | false ↦ refl ]

@@ -1,4 +1,4 @@
-use Rattle.litemap_store.proofs.Names.{◌∷◌, ◌≡◌, ap, arith, common_steps, length, refl, rules, suc}
+use Rattle.litemap_store.proofs.Names.{◌∙◌, ◌∷◌, ◌≡◌, ap, arith, length, refl, rules, suc}
 use Rattle.litemap_store.proofs.Stores.Counting.{at_most, not_asked}
 use Rattle.litemap_store.proofs.Merging.Steps.{MergedUpTo-all, MergedUpTo-more, MergedUpTo-none}
 use Rattle.litemap_store.proofs.merge.one_by_one.merge_one_by_one.Goals as goal
@@ -10,13 +10,14 @@ pub returns-in_default-lm_with_capacity : goal.returns-in_default-lm_with_capaci
 returns-in_default-lm_with_capacity g c = record { merges = record { merged = tt; none = tt; left = tt; refused = c.lm_reserve.ensures.pairs; back = refl }; cost = at_most 0 _ (omega arith) (not_asked _) }
 
 pub loop-key-init : goal.loop-key-init
-loop-key-init g c = record {
-  can = g.met.S.KeyValueIntoIter.PairIntoIter.can _;
-  ends = search rules;
-  so_far = rw c.lm_reserve.ensures.pairs (MergedUpTo-none g.K.Ord.cmp g.met.K.Ord.total _ _ _ _ _ c.requires.store (search rules) (search rules));
-  room = first_of (search rules, grind (arith, common_steps));
-  rest_room = first_of (search rules, grind (arith, common_steps));
-}
+loop-key-init g c =
+    let all = ap g.S.KeyValueIntoIter.PairIntoIter.owned c.into_iter-key-iterator.ensures.into_iter_gives ∙ c.lm_into_iter-key-items.ensures in record {
+      can = g.met.S.KeyValueIntoIter.PairIntoIter.can _;
+      ends = search rules;
+      so_far = rw c.lm_reserve.ensures.pairs (MergedUpTo-none g.K.Ord.cmp g.met.K.Ord.total _ _ _ _ _ c.requires.store all c.in-Ok-lm_with_capacity.ensures.empty);
+      room = rw all (omega (arith, c.lm_len-len.ensures, c.in-Ok.ensures.room));
+      rest_room = rw all (omega (arith, c.lm_len-len.ensures, c.in-Ok-lm_with_capacity.ensures.room));
+    }
 
 pub loop-key-preserved : goal.loop-key-preserved
 loop-key-preserved g c =

@@ -1,4 +1,4 @@
-use Rattle.litemap_store.proofs.Names.{[], ◌++◌, ◌∙◌, ◌∷◌, ◌≡◌, ap, append-nil, append_assoc, arith, Merge, rules, subst, sym}
+use Rattle.litemap_store.proofs.Names.{[], ◌++◌, ◌∙◌, ◌∷◌, ◌≡◌, ap, append-nil, append_assoc, arith, Merge, subst, sym}
 use Rattle.litemap_store.proofs.Merging.Joins.{Merge-none}
 use Rattle.litemap_store.proofs.merge.side_by_side.merge_side_by_side.Goals as goal
 
@@ -30,4 +30,4 @@ returns-clause-merges g c =
     let kept : Merge g.K.Ord.cmp c.loop-order.olds c.loop-order.news [] = rw (end.0, end.1) (Merge-none g.K.Ord.cmp [] tt) in
     let merged = rw (append-nil, olds, news) at (c.loop-order.invariant.merged [] kept) in
     let left_over = rw (end.0, end.1, append-nil, olds, news) at c.loop-order.invariant.left_over in
-    search rules
+    record { merged = merged; none = rw left_over at c.unless_empty.ensures.none; left = rw left_over at c.unless_empty.ensures.some; refused = tt; back = tt }

@@ -1,5 +1,7 @@
-use Rattle.litemap_store.proofs.Names.{ℕ, ◌++◌, ◌≡◌, drop, drop-append_seam, IsCountedFor, length, List, on_ok_weaker, rules}
+use Rattle.litemap_store.proofs.Names.{ℕ, ◌++◌, ◌∙◌, ◌≡◌, drop, drop-append_seam, inr, IsCountedFor, length, List, on_ok_weaker, rules}
 use Rattle.litemap_store.proofs.Names.{take, take-append_seam}
+use Rattle.std.proofs.lemmas.Result.{on_err_weaker}
+use Rattle.litemap_store.proofs.Stores.Counting.{always_on_err}
 use Rattle.litemap_store.proofs.Last.FirstGiven.{GivesSome-from_refused}
 use Rattle.litemap_store.proofs.vec_impl.VecTuple2StoreBulkMut.lm_extend.Given.{Over}
 use Rattle.litemap_store.proofs.vec_impl.VecTuple2StoreBulkMut.lm_extend.Goals as goal
@@ -20,6 +22,16 @@ counted g c =
     let part = parts g c in
     let len : c.len-len.result ≡ length c.args.self.now.items = search rules in
     record { all_above = rw (part.0, part.1) at c.settle.ensures.all_above; rising = λ _. rw (part.1, len) at c.settle.ensures.cost }
+
+pub settle-requires-clause-rising : goal.settle-requires-clause-rising
+settle-requires-clause-rising g c =
+    let gathered = c.in_ok-append_items.ensures.gathered in rw (front _ gathered.0 c.len-len.result gathered.1 (search rules)) c.requires.rising
+
+pub returns-clause-refused : goal.returns-clause-refused
+returns-clause-refused g c = on_err_weaker c.settle.result (λ e. e ∙ (parts g c).0) c.settle.ensures.refused
+
+pub returns-clause-refused_cost : goal.returns-clause-refused_cost
+returns-clause-refused_cost g c = always_on_err c.settle.result (let gathered = c.in_ok-append_items.ensures.gathered in inr (gathered.0, gathered.2, counted g c))
 
 pub returns-clause-extended : goal.returns-clause-extended
 returns-clause-extended g c =
