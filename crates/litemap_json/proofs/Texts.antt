@@ -11,8 +11,7 @@ use Rattle.serde_json.specs.Data.{Data, array, object, Items, Members, no_member
 use Rattle.serde_json.specs.Written.{blank_items, blank_members, IsInOrder, items_outline, members_outline}
 use Rattle.serde_json.proofs.Texts.{print-outline, tokens_from_order}
 use Rattle.litemap_json.specs.Json.{object_with, row, rows}
-use Rattle.litemap_json.specs.Written.{IsTextOf, name_bytes, named, WritesTree}
-use Rattle.litemap_json.specs.declared.name.Name.{Name}
+use Rattle.litemap_json.specs.Written.{IsTextOf, named, WritesTree}
 use Rattle.litemap_json.proofs.ByPlace.{made_step, next}
 use Rattle.litemap_json.proofs.Joined.{IsAbove, above, above-joined, below, joined, joined-none, joined-one, put-above}
 
@@ -41,19 +40,19 @@ member_before s d ms mid new end w more = (
   ap₂ (json.member s) w.2 more.2,
 )
 
-module _ {V : Type 0} (json_of : V → Data) where
+module _ {N V : Type 0} (bytes : N → List ℕ) (json_of : V → Data) where
   -- the members of the named items before an index are written
-  abbrev pub NamedHeld : List (Name × V) → ℕ → List Token → Type 0
-  NamedHeld M i mid = (end : List Token) → WritesMembers (named json_of (drop i M)) mid end → WritesMembers (named json_of M) (begin_object ∷ []) end
+  abbrev pub NamedHeld : List (N × V) → ℕ → List Token → Type 0
+  NamedHeld M i mid = (end : List Token) → WritesMembers (named bytes json_of (drop i M)) mid end → WritesMembers (named bytes json_of M) (begin_object ∷ []) end
 
-  pub named_more : (M : List (Name × V)) (i : ℕ) (x : Name × V) (mid new : List Token) → i < length M → x ≡ get_or M i x
-      → WritesTree (json_of x.1) (mid ++ key (name_bytes x.0) ∷ []) new → NamedHeld M i mid → NamedHeld M (i + 1) new
-  named_more M i x mid new h e w held = λ end rest. held end (subst (λ N. WritesMembers (named json_of N) mid end) (sym (next M i x h e))
-      (member_before (name_bytes x.0) (json_of x.1) (named json_of (drop (i + 1) M)) mid new end w rest))
+  pub named_more : (M : List (N × V)) (i : ℕ) (x : N × V) (mid new : List Token) → i < length M → x ≡ get_or M i x
+      → WritesTree (json_of x.1) (mid ++ key (bytes x.0) ∷ []) new → NamedHeld M i mid → NamedHeld M (i + 1) new
+  named_more M i x mid new h e w held = λ end rest. held end (subst (λ N. WritesMembers (named bytes json_of N) mid end) (sym (next M i x h e))
+      (member_before (bytes x.0) (json_of x.1) (named bytes json_of (drop (i + 1) M)) mid new end w rest))
 
-  pub named_end : (M : List (Name × V)) (i : ℕ) (mid new : List Token) → length M ≤ i → new ≡ mid ++ end_object ∷ [] → NamedHeld M i mid → WritesTree (object (named json_of M)) [] new
+  pub named_end : (M : List (N × V)) (i : ℕ) (mid new : List Token) → length M ≤ i → new ≡ mid ++ end_object ∷ [] → NamedHeld M i mid → WritesTree (object (named bytes json_of M)) [] new
   named_end M i mid new h e held =
-      let all = held new (subst (λ N. WritesMembers (named json_of N) mid new) (sym (drop_all i M h)) (json.no_members, e, refl)) in
+      let all = held new (subst (λ N. WritesMembers (named bytes json_of N) mid new) (sym (drop_all i M h)) (json.no_members, e, refl)) in
       (json.object all.0, all.1, ap json.object all.2)
 
 module _ {K V : Type 0} (text : K → Option (List ℕ)) (key_json : K → Data) (json_of : V → Data) where

@@ -7,8 +7,8 @@ use Rattle.json.specs.Print.{print}
 use Rattle.json.specs.Token.{Token}
 use Rattle.json.specs.Tree.{json_tokens}
 use Rattle.serde_json.specs.Data.{Data, Members, no_members, member}
-use Rattle.litemap_json.specs.declared.name.Name.{Name}
-use Rattle.litemap_json.specs.declared.name.Name.TheVariants.{Unsigned, Signed, Text}
+use Rattle.litemap_json.specs.declared.name.AnyName.{AnyName}
+use Rattle.litemap_json.specs.declared.name.AnyName.TheVariants.{Unsigned, Signed, Text}
 use Rattle.serde_json.specs.Written.{blank, compact_text, has_float, IsInOrder, outline}
 
 -- The new tokens are those of the tree, in its order: its items and members, each once, and its whole numbers in decimal. Of
@@ -30,12 +30,12 @@ IsFirst {K} text key key_json L name item =
     (k : K) × (Some (k, item) ≡ slice_get L 0) × (text k ≡ Some name) × (key name ≡ Some (key_json k))
 
 -- for private clauses: the bytes of a name
-abbrev pub name_bytes : Name → List ℕ
+abbrev pub name_bytes : AnyName → List ℕ
 name_bytes (Unsigned n) = decimal n
 name_bytes (Signed z) = signed_decimal z
 name_bytes (Text s) = string_bytes s
 
 -- for private clauses: the members of items that have names
-abbrev pub named : {V : Type 0} → (V → Data) → List (Name × V) → Members
-named json [] = no_members
-named json (p ∷ L) = member (name_bytes p.0) (json p.1) (named json L)
+abbrev pub named : {N V : Type 0} → (N → List ℕ) → (V → Data) → List (N × V) → Members
+named bytes json [] = no_members
+named bytes json (p ∷ L) = member (bytes p.0) (json p.1) (named bytes json L)

@@ -99,8 +99,8 @@ pub trait JsonKey: JsonItem + Ord {
         ensures key { IfOk result (λ found. option_map Self.json found ≡ key name.now) }
         ensures one_spelling { IfOk result (λ found. IfSome found (λ k. text k ≡ Some name.now)) };
 
-    /// Returns the integer whose decimal digits are the key's string, if the type knows of one. `write_json` compares and writes
-    /// the names of such keys without strings. By default it is `None`.
+    /// Returns the integer whose decimal digits are the key's string, if the type knows of one. If the first key has one,
+    /// `write_json` compares and writes the names of all such keys without strings. By default it is `None`.
     fn key_number(&self) -> Option<i128>
         ensures { IfSome result (λ number. text self.now ≡ Some (signed_decimal number)) }
     {

@@ -7,7 +7,6 @@ mod fault;
 mod item;
 pub mod laws;
 mod name;
-mod named;
 mod pairs;
 mod read;
 mod simple;

@@ -1,5 +1,5 @@
 //! A key's name while the names of a map are compared and written: an integer, or a string.
-ghost use Rattle.std.specs.Prelude.{◌≡◌, ◌+◌, ◌*◌, ◌^◌, ◌<◌, ◌≤◌, IfOk, Some, decimal, length, nat_eq, option_map, refl};
+ghost use Rattle.std.specs.Prelude.{◌≡◌, ℕ, IfOk, List, Some, nat_eq, option_map, refl, string_bytes};
 ghost use Rattle.std.specs.Cmp.{on_equiv, on_per, on_po, on_total, partial_equiv_from_equiv};
 ghost use Rattle.std.specs.Cmp.Lexicographic.{nat_list_cmp_total, nat_list_eq_equiv, pointwise, slice_cmp, texts_po, texts_ties};
 ghost use Rattle.std.specs.Ordering.{nat_cmp};
@@ -11,9 +11,40 @@ use itoa::Buffer;
 use std::alloc::{AllocError, Global};
 use std::cmp::Ordering;
 
-/// A name, in the order of its bytes. That of an integer takes no memory.
+/// A key's name while the names of a map are compared, by their bytes, and written.
+pub(crate) trait Name: Ord + Drop {
+    /// The bytes of a name.
+    ghost bytes: { Self → List ℕ };
+
+    /// Returns the name of a key, or `None` if it has none. It fails if memory runs out.
+    fn of<K: JsonKey>(alloc: Global, key: &K) -> Result<Option<Self>, AllocError>
+        ensures { IfOk result (λ name. option_map bytes name ≡ K.text key.now) };
+
+    /// Returns the name as a string, which may stand in the buffer.
+    fn as_str<'a>(&'a self, buffer: &'a mut Buffer) -> &'a str
+        ensures { result.now ≡ bytes self.now };
+
+    /// Names lie in the order of their bytes.
+    ghost by_bytes: { Self.cmp ≡ (λ x y. slice_cmp nat_cmp (bytes x) (bytes y)) };
+}
+
+impl Name for String {
+    ghost bytes = { string_bytes };
+
+    fn of<K: JsonKey>(alloc: Global, key: &K) -> Result<Option<String>, AllocError> {
+        key.key_text(alloc)
+    }
+
+    fn as_str<'a>(&'a self, _buffer: &'a mut Buffer) -> &'a str {
+        String::as_str(self)
+    }
+
+    ghost by_bytes = { refl };
+}
+
+/// A name that takes no memory if it is that of an integer.
 #[derive(Drop)]
-pub(crate) enum Name {
+pub(crate) enum AnyName {
     /// The decimal digits of an integer.
     Unsigned(Decimal),
     /// The decimal digits of an integer, after `-` if it is negative. `of` makes it of negative ones alone.
@@ -22,35 +53,33 @@ pub(crate) enum Name {
     Text(String),
 }
 
-impl Name {
-    /// Returns the name of a key, or `None` if it has none. It fails if memory runs out.
-    pub(crate) fn of<K: JsonKey>(alloc: Global, key: &K) -> Result<Option<Name>, AllocError>
-        ensures { IfOk result (λ name. option_map name_bytes name ≡ K.text key.now) }
-    {
+impl Name for AnyName {
+    ghost bytes = { name_bytes };
+
+    fn of<K: JsonKey>(alloc: Global, key: &K) -> Result<Option<AnyName>, AllocError> {
         if let Some(number) = key.key_number() {
             if let Ok(number) = u64::try_from(number) {
-                return Ok(Some(Name::Unsigned(Decimal::new(number))));
+                return Ok(Some(AnyName::Unsigned(Decimal::new(number))));
             }
             if let Ok(number) = i64::try_from(number) {
-                return Ok(Some(Name::Signed(number)));
+                return Ok(Some(AnyName::Signed(number)));
             }
         }
-        Ok(key.key_text(alloc)?.map(|text| Name::Text(text)))
+        Ok(key.key_text(alloc)?.map(|text| AnyName::Text(text)))
     }
 
-    /// Returns the name as a string, which may stand in the buffer.
-    pub(crate) fn as_str<'a>(&'a self, buffer: &'a mut Buffer) -> &'a str
-        ensures { result.now ≡ name_bytes self.now }
-    {
+    fn as_str<'a>(&'a self, buffer: &'a mut Buffer) -> &'a str {
         match self {
-            Name::Unsigned(digits) => buffer.format(digits.number()),
-            Name::Signed(number) => buffer.format(*number),
-            Name::Text(text) => text.as_str(),
+            AnyName::Unsigned(digits) => buffer.format(digits.number()),
+            AnyName::Signed(number) => buffer.format(*number),
+            AnyName::Text(text) => text.as_str(),
         }
     }
+
+    ghost by_bytes = { refl };
 }
 
-impl PartialEq for Name {
+impl PartialEq for AnyName {
     ghost eq = { λ x y. pointwise nat_eq (name_bytes x) (name_bytes y) };
 
     ghost laws = { on_per name_bytes (partial_equiv_from_equiv nat_list_eq_equiv) };
@@ -60,11 +89,11 @@ impl PartialEq for Name {
     }
 }
 
-impl Eq for Name {
+impl Eq for AnyName {
     ghost laws = { on_equiv name_bytes nat_list_eq_equiv };
 }
 
-impl PartialOrd for Name {
+impl PartialOrd for AnyName {
     ghost partial_cmp = { λ x y. Some (slice_cmp nat_cmp (name_bytes x) (name_bytes y)) };
 
     ghost laws = { on_po name_bytes texts_po };
@@ -74,7 +103,7 @@ impl PartialOrd for Name {
     }
 }
 
-impl Ord for Name {
+impl Ord for AnyName {
     ghost cmp = { λ x y. slice_cmp nat_cmp (name_bytes x) (name_bytes y) };
 
     ghost total = { on_total name_bytes nat_list_cmp_total };
@@ -84,13 +113,13 @@ impl Ord for Name {
     ghost matches_eq = { λ x y. texts_ties (name_bytes x) (name_bytes y) };
 
     fn cmp(&self, other: &Self) -> Ordering {
-        if let Name::Unsigned(a) = self {
-            if let Name::Unsigned(b) = other {
+        if let AnyName::Unsigned(a) = self {
+            if let AnyName::Unsigned(b) = other {
                 return a.compare(b);
             }
         }
-        if let Name::Signed(a) = self {
-            if let Name::Signed(b) = other {
+        if let AnyName::Signed(a) = self {
+            if let AnyName::Signed(b) = other {
                 // Both begin with `-`, so the digits after it decide.
                 if *a < 0 && *b < 0 {
                     return cmp_digits(a.unsigned_abs(), b.unsigned_abs());

@@ -103,9 +103,7 @@ impl<A: JsonItem + Drop, B: JsonItem + Drop> JsonItem for (A, B) {
         let Some((first, second)) = two_items(value) else {
             return Err(ItemFault::Shape);
         };
-        let a = A::from_value(alloc, first)?;
-        let b = B::from_value(alloc, second)?;
-        Ok((a, b))
+        Ok((A::from_value(alloc, first)?, B::from_value(alloc, second)?))
     }
 
     fn write_to(&self, alloc: Global, out: &mut Writer) -> Result<(), AllocError> {

@@ -41,11 +41,7 @@ pub fn from_json<K: JsonKey + Drop, V: JsonItem + Drop, S: StoreBulkMut<K, V>>(
     ensures refused { IfErr result
         (λ e. e ≢ reading.Memory → pairs K.key K.item V.item (view value.now) ≡ Err e) }
 {
-    let pairs = pairs_of(alloc, value)?;
-    match LiteMap::from_vec(alloc, pairs) {
-        Ok(map) => Ok(map),
-        Err(_) => Err(JsonFault::Memory),
-    }
+    LiteMap::from_vec(alloc, pairs_of(alloc, value)?).map_err(|_| JsonFault::Memory)
 }
 
 // The pairs that a value represents, in the order that it holds.

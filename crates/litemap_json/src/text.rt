@@ -8,14 +8,13 @@ ghost use Rattle.json.specs.Print.{print};
 ghost use Rattle.json.specs.Token.{key as key_token};
 ghost use Rattle.serde_json.specs.Data.{Data, array, no_members, object};
 ghost use Rattle.litemap_json.specs.Json.{object_with, rows, tree};
-ghost use Rattle.litemap_json.specs.Written.{IsTextOf, WritesTree, name_bytes, named};
+ghost use Rattle.litemap_json.specs.Written.{IsTextOf, WritesTree, named};
 ghost use Rattle.litemap_json.specs.declared.fault.WriteFault.TheVariants.{Memory};
 
 use crate::fault::WriteFault;
 use crate::item::{JsonItem, JsonKey};
-use crate::name::Name;
-use crate::named::by_name;
-use crate::pairs::{pair_at, write_two};
+use crate::name::{AnyName, Name};
+use crate::pairs::{pair_at, push_pair, write_two};
 use itoa::Buffer;
 use json::Writer;
 use litemap::store::Store;
@@ -45,15 +44,16 @@ pub fn write_json<K: JsonKey, V: JsonItem, S: Store<K, V>>(
     let Some((first, _)) = map.first() else {
         return Ok(array_text(alloc, map)?);
     };
-    if Name::of(alloc, first)?.is_none() {
+    if first.key_number().is_some() {
+        return Ok(named_text::<AnyName, V>(alloc, &by_name(alloc, map)?)?);
+    }
+    if first.key_text(alloc)?.is_none() {
         return Ok(array_text(alloc, map)?);
     }
-    if first.key_number().is_none() {
-        if let Some(text) = object_text(alloc, map)? {
-            return Ok(text);
-        }
+    if let Some(text) = object_text(alloc, map)? {
+        return Ok(text);
     }
-    Ok(named_text(alloc, &by_name(alloc, map)?)?)
+    Ok(named_text::<String, V>(alloc, &by_name(alloc, map)?)?)
 }
 
 fn array_text<K: JsonKey, V: JsonItem, S: Store<K, V>>(
@@ -85,10 +85,10 @@ fn object_text<K: JsonKey, V: JsonItem, S: Store<K, V>>(
 {
     let mut out = writer(alloc, map.len())?;
     out.begin_object()?;
-    let mut last = Name::Signed(0);
+    let mut last = String::new(alloc);
     for place in 0..map.len() {
         let (key, item) = pair_at(map, place);
-        let Some(name) = Name::of(alloc, key)? else {
+        let Some(name) = key.key_text(alloc)? else {
             return Err(WriteFault::KeyWithoutText { place });
         };
         if !rises(place, &last, &name) {
@@ -101,10 +101,37 @@ fn object_text<K: JsonKey, V: JsonItem, S: Store<K, V>>(
     Ok(Some(text_of(out)))
 }
 
+// Returns the items by their keys' names, or the error of the first key that has none.
+fn by_name<'m, N: Name, K: JsonKey, V: JsonItem, S: Store<K, V>>(
+    alloc: Global,
+    map: &'m LiteMap<K, V, S>,
+) -> Result<VecMap<N, &'m V>, WriteFault>
+    ensures named { IfOk result (λ items. object_with K.text K.json V.json 0 no_members map.now.pairs
+        ≡ Ok (object (named N.bytes (λ item. V.json item.now) items.pairs))) }
+    ensures refused { IfErr result
+        (λ fault. fault ≢ Memory → object_with K.text K.json V.json 0 no_members map.now.pairs ≡ Err fault) }
+{
+    let mut items = Vec::with_capacity(alloc, map.len())?;
+    for place in 0..map.len() {
+        let (key, item) = pair_at(map, place);
+        let Some(name) = N::of(alloc, key)? else {
+            return Err(WriteFault::KeyWithoutText { place });
+        };
+        push_pair(&mut items, (name, item))?;
+    }
+    match LiteMap::from_vec(alloc, items) {
+        Ok(named) => Ok(named),
+        Err(_) => Err(WriteFault::Memory),
+    }
+}
+
 // Returns the text of the object of items by their keys' names.
-fn named_text<V: JsonItem>(alloc: Global, items: &VecMap<Name, &V>) -> Result<String, AllocError>
+fn named_text<N: Name, V: JsonItem>(
+    alloc: Global,
+    items: &VecMap<N, &V>,
+) -> Result<String, AllocError>
     ensures { IfOk result
-        (λ text. IsTextOf (object (named (λ item. V.json item.now) items.now.pairs)) (string_bytes text)) }
+        (λ text. IsTextOf (object (named N.bytes (λ item. V.json item.now) items.now.pairs)) (string_bytes text)) }
 {
     let mut out = writer(alloc, items.len())?;
     out.begin_object()?;
@@ -116,14 +143,14 @@ fn named_text<V: JsonItem>(alloc: Global, items: &VecMap<Name, &V>) -> Result<St
     Ok(text_of(out))
 }
 
-fn write_member<V: JsonItem>(
+fn write_member<N: Name, V: JsonItem>(
     alloc: Global,
-    name: &Name,
+    name: &N,
     item: &V,
     out: &mut Writer,
 ) -> Result<(), AllocError>
     ensures tree { OnOk result (WritesTree (V.json item.now)
-        (out.old.tokens ++ key_token (name_bytes name.now) ∷ []) out.new.tokens) }
+        (out.old.tokens ++ key_token (N.bytes name.now) ∷ []) out.new.tokens) }
     ensures before { out.new.before ≡ out.old.before }
 {
     out.key(name.as_str(&mut Buffer::new()))?;
@@ -131,8 +158,8 @@ fn write_member<V: JsonItem>(
 }
 
 // Returns whether a name is above `last`, the one before it. At index 0 there is none before it, and `last` is ignored.
-fn rises(place: usize, last: &Name, name: &Name) -> bool
-    ensures { result ≡ true → 0 < place → slice_cmp nat_cmp (name_bytes last.now) (name_bytes name.now) ≡ Less }
+fn rises(place: usize, last: &String, name: &String) -> bool
+    ensures { result ≡ true → 0 < place → slice_cmp nat_cmp (string_bytes last.now) (string_bytes name.now) ≡ Less }
 {
     place == 0 || last < name
 }

@@ -229,9 +229,5 @@ fn printed(text: &str) -> Option<i128>
     let Ok(number) = text.parse::<i128>() else {
         return None;
     };
-    if Buffer::new().format(number) == text {
-        Some(number)
-    } else {
-        None
-    }
+    (Buffer::new().format(number) == text).then_some(number)
 }
