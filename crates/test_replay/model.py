@@ -100,27 +100,27 @@ def summed(total, text):
     return total
 
 
+# What a key is compared by, by the name of its order.
+RANKS = {
+    "number": int,
+    "falling": lambda word: -int(word),
+    "same": lambda _: 0,
+    "letter": lambda word: ord(word.lower()),
+    "text": str.encode,
+    "length": lambda word: len(word.encode()),
+}
+
+
 class Order:
     """An order of keys: how their words are read, and how they compare."""
 
     def __init__(self, name):
-        self.name = name
+        self.name, self.rank = name, RANKS[name]
 
     def code(self, word):
         if self.name in ("number", "falling"):
             return int(word)
         return int.from_bytes(word.encode().ljust(8, b"\0"), "big")
-
-    def rank(self, word):
-        if self.name == "falling":
-            return -int(word)
-        if self.name == "same":
-            return 0
-        if self.name == "letter":
-            return ord(word.lower())
-        if self.name == "length":
-            return len(word.encode())
-        return int(word) if self.name == "number" else word.encode()
 
 
 class Model:

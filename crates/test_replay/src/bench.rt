@@ -18,9 +18,9 @@ pub struct Start {
     pub capacity: usize,
 }
 
-/// What was there before a call.
+// What was there before a call.
 #[derive(Clone, Copy)]
-pub struct Before {
+struct Before {
     pairs: Pairs,
     keys: u32,
     values: u32,
@@ -40,10 +40,8 @@ pub struct Outcome {
 /// The map, and the store, as the last line left them.
 #[derive(Drop)]
 pub struct Bench<S: Store<Key, Value>> {
-    /// The map.
-    pub map: Map<S>,
-    /// The store.
-    pub store: S,
+    map: Map<S>,
+    store: S,
 }
 
 impl<S: StoreConstEmpty<Key, Value>> Bench<S> {
@@ -57,15 +55,36 @@ impl<S: StoreConstEmpty<Key, Value>> Bench<S> {
 }
 
 impl<S: Tested> Bench<S> {
-    /// Makes the map, or the store, with which a line begins, and its call, if every store has it. Returns what was there before
-    /// that, and whether it was made.
-    pub fn begin(
+    /// Makes the map, or the store, with which a line begins, and its call. Writes what this returned and left, and compares all
+    /// with what the line says.
+    pub fn make(
         &mut self,
         line: &Line<'_>,
         start: Start,
         call: &Call<'_>,
         to: &mut Answer,
-    ) -> Result<(Before, bool), AllocError> {
+    ) -> Result<Outcome, AllocError> {
+        let before = self.begin(line, start, call, to)?;
+        let is_made = if call.name == "sweep" {
+            self.sweep(call, to).is_some()
+        } else {
+            self.one(call, to) || S::own(&mut self.map, &self.store, call, to)
+        };
+        call.end();
+        if !is_made {
+            to.word("no call");
+        }
+        Ok(self.end(line, before, call, to))
+    }
+
+    // Makes the map, or the store, with which a line begins, and the calls before its own: what there is then.
+    fn begin(
+        &mut self,
+        line: &Line<'_>,
+        start: Start,
+        call: &Call<'_>,
+        to: &mut Answer,
+    ) -> Result<Before, AllocError> {
         if line.goes_on {} else if call.is_of_store() {
             self.store = store_of(call, start.len, start.capacity)?;
         } else {
@@ -78,27 +97,17 @@ impl<S: Tested> Bench<S> {
             }
             to.clear();
         }
-        let before = Before {
+        call.begin();
+        Ok(Before {
             pairs: self.pairs(call),
             keys: call.seen.keys.alive.get(),
             values: call.seen.values.alive.get(),
-        };
-        call.begin();
-        Ok((before, self.call(call, to)))
+        })
     }
 
     // Makes a call before that of a line, which tells nothing.
     fn earlier(&mut self, words: &[&str], call: &Call<'_>, to: &mut Answer) {
         self.one(&call.another(words), to);
-    }
-
-    // Makes a call, if every store has it.
-    fn call(&mut self, call: &Call<'_>, to: &mut Answer) -> bool {
-        if call.name == "sweep" {
-            self.sweep(call, to).is_some()
-        } else {
-            self.one(call, to)
-        }
     }
 
     // Makes a call of each key that is there and of each in a gap, after which the list is put back. The answer is a sum of all
@@ -126,9 +135,7 @@ impl<S: Tested> Bench<S> {
         let old = self.map.get(&key).map(Value::number);
         to.clear();
         call.seen.keys.compared.set(0);
-        if !self.one(&one, to) {
-            return None;
-        }
+        self.one(&one, to).then_some(())?;
         let compared = call.seen.keys.compared.get();
         if !call.is_of_store() {
             self.put_back(key, old, call, to)?;
@@ -160,19 +167,14 @@ impl<S: Tested> Bench<S> {
         }
     }
 
-    /// Writes what a line leaves after what it returned, and compares all with what it says.
-    pub fn end(
+    // Writes what a line leaves after what it returned, and compares all with what it says.
+    fn end(
         &mut self,
         line: &Line<'_>,
         before: Before,
-        is_made: bool,
         call: &Call<'_>,
         to: &mut Answer,
     ) -> Outcome {
-        call.end();
-        if !is_made {
-            to.word("no call");
-        }
         let compared = call.seen.keys.compared.get();
         let most = compared.max(call.seen.values.compared.get());
         let after = self.pairs(call);
@@ -191,9 +193,8 @@ impl<S: Tested> Bench<S> {
             *self = Bench::new(call.alloc);
             call.idle();
         }
-        let is_bounded = most <= line.most.unwrap_or(u32::MAX);
         Outcome {
-            is_right: to.text() == line.wanted && is_bounded && !leaks,
+            is_right: to.text() == line.wanted && most <= line.most.unwrap_or(u32::MAX) && !leaks,
             compared,
             leaks,
         }

@@ -132,34 +132,38 @@ fn length_of_code(code: u64) -> u64 {
     (71 - (code.trailing_zeros().min(64)) as u64) / 8
 }
 
-/// A number that counts how often it is compared and cloned, and how many there are, with what is its own beside it.
+/// A key: it counts how often it is compared, by its rank among all keys, how often it is cloned, and how many there are.
 #[derive(Default)]
-pub struct Counted<T: Copy> {
+pub struct Key {
     rank: u64,
-    own: T,
+    // What tells a key from equal ones.
+    code: u64,
+    order: Order,
     // Nothing of one that `default` makes, which is not counted: made with no allocator, a default owns nothing.
     tally: Option<Rc<Tally>>,
 }
 
-/// What tells a key from equal ones, and how it is written.
-#[derive(Clone, Copy)]
-pub struct Word {
-    code: u64,
-    order: Order,
+/// What counts as a key does.
+#[derive(Clone, Default, Drop, PartialEq, Eq, PartialOrd, Ord, Hash)]
+pub struct Counted<T> {
+    number: T,
 }
 
-/// A key: its rank among all keys, and its word.
-pub type Key = Counted<Word>;
-
 /// A value: a number.
-pub type Value = Counted<()>;
+pub type Value = Counted<Key>;
 
-impl<T: Copy> Counted<T> {
-    fn counted(rank: u64, own: T, tally: &Rc<Tally>) -> Result<Self, AllocError> {
+impl Key {
+    /// The key of a code.
+    pub fn new(order: Order, code: u64, seen: &Seen) -> Result<Self, AllocError> {
+        Key::counted(order, code, &seen.keys)
+    }
+
+    fn counted(order: Order, code: u64, tally: &Rc<Tally>) -> Result<Self, AllocError> {
         raise(&tally.alive);
-        Ok(Counted {
-            rank,
-            own,
+        Ok(Key {
+            rank: order.rank(code),
+            code,
+            order,
             tally: Some(tally.clone()?),
         })
     }
@@ -169,17 +173,10 @@ impl<T: Copy> Counted<T> {
             raise(&tally.compared);
         }
     }
-}
-
-impl Counted<Word> {
-    /// The key of a code.
-    pub fn new(order: Order, code: u64, seen: &Seen) -> Result<Self, AllocError> {
-        Counted::counted(order.rank(code), Word { code, order }, &seen.keys)
-    }
 
     /// How it is written.
     pub fn order(&self) -> Order {
-        self.own.order
+        self.order
     }
 
     /// Where it stands among all keys, which is noted.
@@ -194,38 +191,46 @@ impl Counted<Word> {
 
     /// What tells the key from others, equal ones too.
     pub fn code(&self) -> u64 {
-        self.own.code
+        self.code
     }
 }
 
-impl Counted<()> {
+impl Counted<Key> {
     /// The value of a number.
     pub fn of_number(number: u64, seen: &Seen) -> Result<Self, AllocError> {
-        Counted::counted(number, (), &seen.values)
+        let number = Key::counted(Order::Number, number, &seen.values)?;
+        Ok(Counted { number })
     }
 
     /// The number.
     pub fn number(&self) -> u64 {
-        self.rank
+        self.number.rank
     }
 
     /// Writes another number, and returns the old one.
     pub fn write(&mut self, number: u64) -> u64 {
-        mem::replace(&mut self.rank, number)
+        mem::replace(&mut self.number.rank, number)
     }
 }
 
-impl<T: Copy> AsRef<Counted<T>> for Counted<T> {
-    fn as_ref(&self) -> &Counted<T> {
+impl AsRef<Counted<Key>> for Counted<Key> {
+    fn as_ref(&self) -> &Counted<Key> {
         self
     }
 }
 
-impl<T: Copy> Drop for Counted<T> {
+impl AsRef<Key> for Key {
+    fn as_ref(&self) -> &Key {
+        self
+    }
+}
+
+impl Drop for Key {
     fn drop(self) {
-        let Counted {
+        let Key {
             rank: _,
-            own: _,
+            code: _,
+            order: _,
             tally,
         } = self;
         if let Some(tally) = tally {
@@ -234,7 +239,7 @@ impl<T: Copy> Drop for Counted<T> {
     }
 }
 
-impl<T: Copy> Clone for Counted<T> {
+impl Clone for Key {
     ghost is_clone = { λ s t. t.rank ≡ s.rank };
 
     fn clone(&self) -> Result<Self, AllocError> {
@@ -242,15 +247,16 @@ impl<T: Copy> Clone for Counted<T> {
             raise(&tally.cloned);
             raise(&tally.alive);
         }
-        Ok(Counted {
+        Ok(Key {
             rank: self.rank,
-            own: self.own,
+            code: self.code,
+            order: self.order,
             tally: self.tally.clone()?,
         })
     }
 }
 
-impl<T: Copy> PartialEq for Counted<T> {
+impl PartialEq for Key {
     ghost eq = { λ a b. a.rank == b.rank };
 
     ghost laws = { Prim.search (comparing, rules) };
@@ -261,11 +267,11 @@ impl<T: Copy> PartialEq for Counted<T> {
     }
 }
 
-impl<T: Copy> Eq for Counted<T> {
+impl Eq for Key {
     ghost laws = { Prim.search (comparing, rules) };
 }
 
-impl<T: Copy> PartialOrd for Counted<T> {
+impl PartialOrd for Key {
     ghost partial_cmp = { as_partial_cmp (on (λ a. a.rank) nat_cmp) };
 
     ghost laws = { partial_order_from_own_ties (Prim.search (comparing, rules)) (Prim.search (comparing, rules)) };
@@ -275,7 +281,7 @@ impl<T: Copy> PartialOrd for Counted<T> {
     }
 }
 
-impl<T: Copy> Ord for Counted<T> {
+impl Ord for Key {
     ghost cmp = { on (λ a. a.rank) nat_cmp };
 
     ghost total = { Prim.search (comparing, rules) };
@@ -290,7 +296,7 @@ impl<T: Copy> Ord for Counted<T> {
     }
 }
 
-impl<T: Copy> Hash for Counted<T> {
+impl Hash for Key {
     ghost hash_input = { λ a. fed.u64 a.rank };
 
     ghost respects_eq = { Prim.search (hashing, rules) };
@@ -301,16 +307,16 @@ impl<T: Copy> Hash for Counted<T> {
 }
 
 /// Printed as it is written.
-impl Debug for Counted<Word> {
+impl Debug for Key {
     fn fmt<W: Write>(&self, f: &mut Formatter<W>) -> fmt::Result {
-        write_code(f, self.own.order, self.own.code)
+        write_code(f, self.order, self.code)
     }
 }
 
 /// Printed as its number.
-impl Debug for Counted<()> {
+impl Debug for Counted<Key> {
     fn fmt<W: Write>(&self, f: &mut Formatter<W>) -> fmt::Result {
-        write!(f, "{}", self.rank)
+        write!(f, "{}", self.number())
     }
 }
 

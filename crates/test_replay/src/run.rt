@@ -1,13 +1,14 @@
 //! The lines of a file, over each store.
 use crate::answer::Answer;
 use crate::bench::{Bench, Outcome, Start};
-use crate::call::Call;
+use crate::call::{Call, Map, Pair};
 use crate::changes::rename;
 use crate::counted::{Key, Order, Seen, Value};
 use crate::line::{self, Line};
 use crate::looks::{vector, view};
 use crate::sizes::grow;
 use crate::stores::text;
+use crate::tested::Tested;
 use crate::walks::lent;
 use example_store::fixed_room::FixedRoom;
 use example_store::shrinking::Shrinking;
@@ -19,25 +20,54 @@ use std::io;
 // How many bytes the text of what is returned takes at most.
 const LONGEST: usize = 1 << 14;
 
-type Vector<K, V> = Vec<(K, V)>;
+impl Tested for Vec<Pair> {
+    fn own(map: &mut Map<Self>, store: &Self, call: &Call<'_>, to: &mut Answer) -> bool {
+        lent(map, call, to).is_some()
+            || grow::<Vec<(u32, u32)>, Vec<(u32, ())>>(call, to).is_some()
+            || rename(map, call, to).is_some()
+            || view(map, call, to).is_some()
+            || vector(map, call, to).is_some()
+            || text(store, call, to).is_some()
+    }
+}
 
-// Makes the call of a line over a store, which may have some calls of its own.
-macro_rules! make_over {
-    ($bench:expr, $store:ident, $line:ident, $start:ident, $call:ident, $to:ident $(, $own:ident)* $(; $text:ident)?) => {{
-        let (before, is_made) = $bench.begin($line, $start, &$call, $to)?;
-        let is_made = is_made
-            || lent(&$bench.map, &$call, $to).is_some()
-            || grow::<$store<u32, u32>, $store<u32, ()>>(&$call, $to).is_some()
-            $(|| $own(&mut $bench.map, &$call, $to).is_some())*
-            $(|| $text(&$bench.store, &$call, $to).is_some())?;
-        Ok($bench.end($line, before, is_made, &$call, $to))
-    }};
+impl Tested for ColumnStore<Key, Value> {
+    fn own(map: &mut Map<Self>, _store: &Self, call: &Call<'_>, to: &mut Answer) -> bool {
+        lent(map, call, to).is_some()
+            || grow::<ColumnStore<u32, u32>, ColumnStore<u32, ()>>(call, to).is_some()
+            || rename(map, call, to).is_some()
+    }
+}
+
+impl Tested for ShortStore<Key, Value> {
+    fn own(map: &mut Map<Self>, store: &Self, call: &Call<'_>, to: &mut Answer) -> bool {
+        lent(map, call, to).is_some()
+            || grow::<ShortStore<u32, u32>, ShortStore<u32, ()>>(call, to).is_some()
+            || rename(map, call, to).is_some()
+            || view(map, call, to).is_some()
+            || text(store, call, to).is_some()
+    }
+}
+
+impl Tested for FixedRoom<Key, Value> {
+    fn own(map: &mut Map<Self>, _store: &Self, call: &Call<'_>, to: &mut Answer) -> bool {
+        lent(map, call, to).is_some()
+            || grow::<FixedRoom<u32, u32>, FixedRoom<u32, ()>>(call, to).is_some()
+            || rename(map, call, to).is_some()
+    }
+}
+
+impl Tested for Shrinking<Key, Value> {
+    fn own(map: &mut Map<Self>, _store: &Self, call: &Call<'_>, to: &mut Answer) -> bool {
+        lent(map, call, to).is_some()
+            || grow::<Shrinking<u32, u32>, Shrinking<u32, ()>>(call, to).is_some()
+    }
 }
 
 // The maps, and how the next lines begin.
 #[derive(Drop)]
 struct Replay {
-    vec: Bench<Vec<(Key, Value)>>,
+    vec: Bench<Vec<Pair>>,
     columns: Bench<ColumnStore<Key, Value>>,
     short: Bench<ShortStore<Key, Value>>,
     fixed: Bench<FixedRoom<Key, Value>>,
@@ -98,17 +128,12 @@ impl Replay {
         to.clear();
         self.made = self.made.wrapping_add(1);
         match store {
-            "vec" =>
-                make_over!(self.vec, Vector, line, start, call, to, rename, view, vector; text),
-            "columns" => make_over!(self.columns, ColumnStore, line, start, call, to, rename),
-            "short" =>
-                make_over!(self.short, ShortStore, line, start, call, to, rename, view; text),
-            "fixed" => make_over!(self.fixed, FixedRoom, line, start, call, to, rename),
-            "shrinking" => make_over!(self.shrinking, Shrinking, line, start, call, to),
-            _ => {
-                to.word("no store");
-                Ok(Outcome::default())
-            }
+            "vec" => self.vec.make(line, start, &call, to),
+            "columns" => self.columns.make(line, start, &call, to),
+            "short" => self.short.make(line, start, &call, to),
+            "fixed" => self.fixed.make(line, start, &call, to),
+            "shrinking" => self.shrinking.make(line, start, &call, to),
+            _ => Ok(Outcome::default()),
         }
     }
 }

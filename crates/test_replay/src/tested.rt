@@ -1,4 +1,5 @@
 //! The stores, and the maps and stores that lines begin with.
+use crate::answer::Answer;
 use crate::call::{Call, Map};
 use crate::counted::{Key, Value};
 use litemap::LiteMap;
@@ -12,16 +13,10 @@ pub trait Tested: StoreConstEmpty<Key, Value>
     + StoreBulkMut<Key, Value>
     + StoreFromIterable<Key, Value>
     + StoreFromIterator<Key, Value>
-    + StoreIntoIterator<Key, Value> {}
-
-impl<S> Tested for S
-where
-    S: StoreConstEmpty<Key, Value>
-        + StoreBulkMut<Key, Value>
-        + StoreFromIterable<Key, Value>
-        + StoreFromIterator<Key, Value>
-        + StoreIntoIterator<Key, Value>,
-{}
+    + StoreIntoIterator<Key, Value> {
+    /// Makes a call that lends pairs, that is of small pairs or that not every store has, if the name is one of these.
+    fn own(map: &mut Map<Self>, store: &Self, call: &Call<'_>, to: &mut Answer) -> bool;
+}
 
 /// A map of so many pairs, `2:20`, `4:40` and so on, made with room for so many.
 pub fn map_of<S: Tested>(call: &Call<'_>, len: u64, capacity: usize) -> Result<Map<S>, AllocError> {
