@@ -143,7 +143,7 @@ pub struct Key {
     tally: Option<Rc<Tally>>,
 }
 
-/// What counts as a key does.
+/// What counts as a key does. With no parameter here, no proof of `Tested` for stores with two parameters is made.
 #[derive(Clone, Default, Drop, PartialEq, Eq, PartialOrd, Ord, Hash)]
 pub struct Counted<T> {
     number: T,
