@@ -97,12 +97,13 @@ impl<S: Tested> Bench<S> {
             }
             to.clear();
         }
-        call.begin();
-        Ok(Before {
+        let before = Before {
             pairs: self.pairs(call),
             keys: call.seen.keys.alive.get(),
             values: call.seen.values.alive.get(),
-        })
+        };
+        call.begin();
+        Ok(before)
     }
 
     // Makes a call before that of a line, which tells nothing.
@@ -114,8 +115,7 @@ impl<S: Tested> Bench<S> {
     // answers; the comparisons are those of the call that made the most.
     fn sweep(&mut self, call: &Call<'_>, to: &mut Answer) -> Made {
         let (mut most, mut sum) = (0u32, 0u64);
-        let codes = self.pairs(call).len().wrapping_mul(2).wrapping_add(2);
-        for code in 1..codes {
+        for code in 1..self.pairs(call).len().wrapping_mul(2).wrapping_add(2) {
             most = most.max(self.sweep_key(call, code, to)?);
             sum = summed(sum, to.text());
         }
