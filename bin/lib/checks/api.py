@@ -33,7 +33,7 @@ FREE = {
 FREE = [f"{owner}::{name}" for owner, names in FREE.items() for name in names.split()]
 # Words that mean the same in Rust, and those that the page explains with the signs.
 OF_RUST = "Some None Ok Err Option Result Bool true false String List ℕ ⊤ Data Type".split()
-# The crates of tests, and the examples that are programs of rows too. So are the examples in comments.
+# The crates of tests, and the examples that are run. So are the examples in comments.
 TESTS = "crates/test_*/src crates/example_formats/src crates/example_uses/src".split()
 # The calls that no test names, and those that no wrong body names, and why. Laws are left out, since their bodies do nothing.
 NOT_CALLED = {
@@ -57,8 +57,8 @@ NOT_CALLED = {
 }
 NOT_TURNED = {
     "extend_from_store": "what `extend_from_litemap` hands on",
-    "JsonFault::told_in": "it promises nothing: its words are compared in example_formats",
-    "JsonItem::wanted": "it promises nothing: its words are compared in example_formats",
+    "JsonFault::told_in": "it promises nothing: its words are compared in test_formats",
+    "JsonItem::wanted": "it promises nothing: its words are compared in test_formats",
 }
 
 

@@ -1,7 +1,7 @@
 """Each call of a library that takes memory has lines of data, of which bin/requests refuses each request.
 
 A call takes memory if an allocator is passed to it, or if it returns an error that may mean that memory ran out. `SHOWN` has the
-first words of the lines of `example_formats` that make a call.
+first words of the lines of `test_formats` that make a call.
 """
 import re
 
@@ -46,7 +46,7 @@ MEMORY = re.compile(r"\balloc: Global\b|->.*\b(?:AllocError|NoRoom|(?!NameFault|
 
 
 def check(report, _):
-    counted, unused = (TOP / "crates" / "example_formats" / "requests").read_text(encoding="utf-8"), {*SHOWN}
+    counted, unused = (TOP / "crates" / "test_formats" / "requests").read_text(encoding="utf-8"), {*SHOWN}
     kinds = {" ".join(line.split(" ")[:2]) for line in counted.splitlines()}
     for source, calls in CALLS.items():
         library = source.split("/")[0]
@@ -54,7 +54,7 @@ def check(report, _):
             if MEMORY.search(call.head):
                 shown = SHOWN.get(call.label)
                 told = f"begins with {shown!r} and makes requests" if shown else "is named in bin/lib/checks/memory.py"
-                report.see(shown in kinds, f"{library}: {call.label} takes memory, and no line of example_formats {told}")
+                report.see(shown in kinds, f"{library}: {call.label} takes memory, and no line of test_formats {told}")
                 unused.discard(call.label)
     for label in sorted(unused | {*WITHOUT} - {*LIBRARIES}):
         report.see(False, f"bin/lib/checks/memory.py names {label}, which is no library, or no call that takes memory")

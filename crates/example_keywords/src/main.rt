@@ -58,18 +58,22 @@ fn text_of(alloc: Global, keywords: &Keywords) -> Result<String, AllocError> {
 fn written(alloc: Global, text: &str) -> Result<String, KeywordFault> {
     let keywords = read(alloc, text)?;
     let text = text_of(alloc, &keywords)?;
-    let again = read(alloc, text.as_str())?;
-    let note = (again != keywords).then_some(", which is read otherwise");
+    let is_same = is_read_as(alloc, text.as_str(), &keywords)?;
+    let note = (!is_same).then_some(", which is read otherwise");
     Ok(format!(in alloc; "{} {text}{}", keywords.len(), note.unwrap_or(""))?)
+}
+
+fn is_read_as(alloc: Global, text: &str, keywords: &Keywords) -> Result<bool, KeywordFault> {
+    Ok(read(alloc, text)? == *keywords)
 }
 
 fn find(alloc: Global, key: &str, text: &str) -> Result<String, KeywordFault> {
     let keywords = read(alloc, text)?;
-    match key.as_bytes() {
-        &[first, second] => match keywords.get(&[first, second]) {
-            Some(value) => Ok(format!(in alloc; "value {value}")?),
-            None => Ok(String::from_str(alloc, "none")?),
+    Ok(match key.as_bytes().split_first_chunk() {
+        Some((key, rest)) if rest.is_empty() => match keywords.get(key) {
+            Some(value) => format!(in alloc; "value {value}")?,
+            None => String::from_str(alloc, "none")?,
         },
-        _ => Ok(String::from_str(alloc, "no key")?),
-    }
+        _ => String::from_str(alloc, "no key")?,
+    })
 }

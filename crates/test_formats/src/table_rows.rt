@@ -29,9 +29,9 @@
 //! - `look KEY BYTES`: what an index that isn't read before returns for a key.
 //! - `cuts BYTES`, `damages BYTES`: what is opened of each proper prefix of an index, and with each byte changed, by kinds.
 use crate::json_rows::rewritten;
-use crate::languages::language_name;
 use crate::sweeps::{self, Tally};
 use crate::{indexes, tables, texts};
+use example_formats::languages::language_name;
 use hex::FromHexError;
 use litemap_json::JsonFault;
 use litemap_read::ReadFault;

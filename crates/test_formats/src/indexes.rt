@@ -1,6 +1,6 @@
 //! What is found in bytes that are an index of names.
 use crate::texts::write_entry;
-use crate::words;
+use example_formats::words;
 use litemap_read::ReadFault;
 use litemap_store::store::Count;
 use name_index::{CheckedNames, IndexFault, IndexedNames, NameTable, write_index, write_index_of};

@@ -14,7 +14,7 @@ TABLE = bytes.fromhex(
     "6e697368 0266720646726 56e6368 026a61084a6170616e657365 0272750752757373 69616e 0273720753657262 69616e"
     " 02746804546861 69 0274720754757 26b697368".replace(" ", "")
 )
-# The program's own names, in crates/example_formats/src/table_rows.rt.
+# The program's own names, in crates/test_formats/src/table_rows.rt.
 OWN = {"de": "German", "en": "own English", "zu": "Zulu"}
 # Keys that descend, that are equal, that are empty, and a prefix after a longer string.
 NOT_RISING = [

@@ -1,10 +1,10 @@
 //! The output of a line.
-use crate::codes::{Row, from_csv, rows_from_csv};
-use crate::config::{self, Config};
 use crate::kinds::{again, fault_word, map_again, toml_again, written};
-use crate::levels::Level;
-use crate::shapes::{Counts, Either, Flat, Inner, Places, Point};
 use csv::ErrorKind;
+use example_formats::codes::{Row, from_csv, rows_from_csv};
+use example_formats::config::{self, Config};
+use example_formats::levels::Level;
+use example_formats::shapes::{Counts, Either, Flat, Inner, Places, Point};
 use litemap_serde::SerdeMap;
 use litemap_short::ShortStore;
 use serde_json::Value;

@@ -1,6 +1,6 @@
 //! The output of a line that wants an error as it is shown to people.
-use crate::evens::Even;
-use crate::levels::Level;
+use example_formats::evens::Even;
+use example_formats::levels::Level;
 use litemap::VecMap;
 use litemap_json::{JsonFault, JsonItem, JsonKey, from_json};
 use serde_json::Value;

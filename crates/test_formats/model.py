@@ -1,4 +1,4 @@
-"""Makes the input of the program `example_formats`, and the output that it must write: its files stdin and stdout.
+"""Makes the input of the program `test_formats`, and the output that it must write: its files stdin and stdout.
 
 Each kind of rows is made, with the output, by a file of its own here; no output comes from the program itself. bin/data stores a
 sample of the rows, and bin/requests runs all of them.

@@ -1,10 +1,11 @@
 //! The output of a line.
-use crate::evens::Even;
 use crate::falling::Falling;
 use crate::kinds::one_of;
-use crate::levels::Level;
-use crate::overlay::{OverlayFault, Settings, overlay};
-use crate::{limits, numbers, told};
+use crate::told;
+use example_formats::evens::Even;
+use example_formats::levels::Level;
+use example_formats::overlay::{OverlayFault, Settings, overlay};
+use example_formats::{limits, numbers};
 use litemap::LiteMap;
 use litemap::store::{Store, StoreBulkMut};
 use litemap_columns::ColumnStore;

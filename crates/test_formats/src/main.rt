@@ -1,5 +1,5 @@
-//! Callers that read and write maps in a user's own types, and a program of rows: each line of standard input is one of three
-//! kinds, by its first word, and has a line of standard output. Models in Python (`model.py`) make the input and tell the output.
+//! Maps that are read and written, as rows: each line of standard input is one of three kinds, by its first word, and has a line
+//! of standard output. Models in Python (`model.py`) make the input and tell the output.
 //!
 //! - `json TYPES TEXT`: what the map that a JSON text is read as is written as, or why it was not read or not written. `TYPES`
 //!   names the types of the keys and of the items (`json_rows`). Each text but those of `limits`, `names`, `overlay`, `told` and
@@ -56,27 +56,16 @@ macro_rules! over_short {
     };
 }
 
-pub mod codes;
-pub mod config;
-mod evens;
 mod falling;
 mod indexes;
 mod json_rows;
 mod kinds;
-pub mod languages;
-pub mod levels;
-pub mod limits;
-pub mod numbers;
-pub mod overlay;
-pub mod prefixes;
 mod serde_rows;
-mod shapes;
 mod sweeps;
 mod table_rows;
 mod tables;
 mod texts;
 mod told;
-pub mod words;
 
 use std::alloc::{AllocError, Global};
 use std::io;

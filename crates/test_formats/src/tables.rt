@@ -1,8 +1,8 @@
 //! What is found in a table that is looked up in its bytes.
 use crate::indexes::{BothWays, index_of};
-use crate::prefixes::{is_scanned, write_beginning};
 use crate::texts::write_entry;
-use crate::words;
+use example_formats::prefixes::beginning;
+use example_formats::words;
 use litemap_store::store::Count;
 use name_index::{NameIndex, NameIndexFault, NameTable};
 use name_table::NameMap;
@@ -23,7 +23,7 @@ pub fn write_answer(
     };
     match words {
         ["ask", key] => forms.write_asked(key, output),
-        ["begin", text] => write_beginning(&forms.table, &forms.index, text, output),
+        ["begin", text] => forms.write_beginning(text, output),
         ["word", word] => forms.write_translated(word, output),
         ["many", _] => forms.write_many(alloc, output),
         ["often", _] => forms.write_often(output),
@@ -83,8 +83,7 @@ impl<'a> Forms<'a> {
             let (key, value) = self.table.get_indexed(place).unwrap_or(("", ""));
             write_entry(key, value, output)?;
             alike &= self.table.find_index(key) == Ok(place) && self.is_indexed(key);
-            alike &= is_scanned(&self.table, &self.index, key);
-            alike &= is_scanned(&self.table, &self.index, value);
+            alike &= self.is_scanned(key) && self.is_scanned(value);
         }
         if !alike || !self.has_maps(alloc)? {
             output.push_str(" otherwise")?;
@@ -127,6 +126,37 @@ impl<'a> Forms<'a> {
             (None, Err(index)) => write!(output, "none, it would be {index}"),
             _ => output.push_str("two answers"),
         }
+    }
+
+    // Writes the indices of the names that begin with a string, each of these entries, and whether a scan finds others.
+    fn write_beginning(&self, text: &str, output: &mut String) -> Result<(), AllocError> {
+        let places = self.index.prefix_range(text);
+        write!(output, "{} to {}:", places.start, places.end)?;
+        for (name, value) in self.index.entries_in(places) {
+            write_entry(name, value, output)?;
+        }
+        if !self.is_scanned(text) {
+            output.push_str(" other names")?;
+        }
+        Ok(())
+    }
+
+    // Whether the index has the names that begin with a string where a scan of the table has them.
+    fn is_scanned(&self, text: &str) -> bool {
+        let places = self.index.prefix_range(text);
+        let mut found = beginning(&self.index, text);
+        for (place, (name, value)) in self.table.iter().enumerate() {
+            let begins = name.starts_with(text);
+            if begins != (places.start <= place && place < places.end)
+                || (name < text) != (place < places.start)
+            {
+                return false;
+            }
+            if begins && found.next() != Some((name, value)) {
+                return false;
+            }
+        }
+        found.next().is_none() && places.end <= self.table.len()
     }
 
     // Writes the string for a word, or the word itself, if all have the same.
