@@ -1,5 +1,4 @@
-//! Pairs of two maps that are inserted together or not at all. All capacity is reserved before the first change: what follows
-//! can't fail, and the proof says so.
+//! Pairs of two maps that are inserted together or not at all: room is reserved first, and what follows is proved not to fail.
 ghost use Rattle.std.specs.Prelude.{◌≡◌, ◌∷◌, List, OnErr, OnOk};
 ghost use Rattle.std.specs.declared.cmp.Ordering.TheVariants.{Less};
 ghost use Rattle.litemap_store.specs.Pairs.{BelowAll, put};

@@ -44,8 +44,7 @@ pub(crate) fn show(rt: &impl Print, alloc: Global) -> anyhow::Result<()> {
     show_counts(rt, alloc)?;
     show_words(rt, alloc)?;
     show_bag(rt, alloc)?;
-    show_calendar(rt, alloc)?;
-    Ok(())
+    Ok(show_calendar(rt, alloc)?)
 }
 
 // Pairs whose names are copied.
@@ -61,8 +60,7 @@ fn owned<V: Copy>(alloc: Global, pairs: &[(&str, V)]) -> Result<Vec<(String, V)>
 fn texts(alloc: Global, pairs: &[(&str, &str)]) -> Result<Vec<(String, String)>, AllocError> {
     let mut texts = Vec::new(alloc);
     for (name, value) in pairs {
-        let name = name.to_string(alloc)?;
-        texts.push((name, value.to_string(alloc)?))?;
+        texts.push((name.to_string(alloc)?, value.to_string(alloc)?))?;
     }
     Ok(texts)
 }
@@ -162,12 +160,7 @@ const FIELDS: &[(&str, &str)] = &[("host", "a"), ("accept", "b"), ("host", "c")]
 // Header lists that own their strings and that borrow them, a copy, and what is removed.
 fn show_headers(rt: &impl Print, alloc: Global) -> io::Result<()> {
     let (mut owned, mut borrowed) = (Headers::new_vec(alloc), Borrowed::new_vec(alloc));
-    for (name, value) in texts(alloc, FIELDS)? {
-        headers::set(&mut owned, name, value)?;
-    }
-    for (name, value) in FIELDS {
-        headers::set_borrowed(&mut borrowed, name, value)?;
-    }
+    set_fields(alloc, FIELDS, &mut owned, &mut borrowed)?;
     let copy = headers::copy_of(alloc, &owned)?;
     println!(rt; "headers {owned:?}, borrowed {borrowed:?}")?;
     for name in ["accept", "host", "via"] {
@@ -176,6 +169,19 @@ fn show_headers(rt: &impl Print, alloc: Global) -> io::Result<()> {
         println!(rt; "{name}: removed {removed:?} and {other:?}")?;
     }
     println!(rt; "left {owned:?} and {borrowed:?}, copy {copy:?}")
+}
+
+fn set_fields<'k>(
+    alloc: Global,
+    fields: &[(&'k str, &'k str)],
+    owned: &mut Headers,
+    borrowed: &mut Borrowed<'k>,
+) -> Result<(), AllocError> {
+    for (name, value) in fields {
+        headers::set(owned, name.to_string(alloc)?, value.to_string(alloc)?)?;
+        headers::set_borrowed(borrowed, name, value)?;
+    }
+    Ok(())
 }
 
 // The headers of three fields, of which the first has this name.
@@ -196,12 +202,12 @@ fn show_settings(rt: &impl Print, alloc: Global) -> anyhow::Result<()> {
     let defaults = [("port", "80"), ("host", "here"), ("log", "off")].as_slice();
     let mut settings = config::configured(alloc, texts(alloc, defaults)?, texts(alloc, FIELDS)?)?;
     println!(rt; "configured {settings:?}")?;
-    let later = LiteMap::from_iter(alloc, texts(alloc, &[("log", "on"), ("a", "b")])?)?;
+    let later = texts(alloc, &[("log", "on"), ("a", "b")])?;
+    let later = config::configured(alloc, later, Vec::new(alloc))?;
     let displaced = config::overlay(&mut settings, alloc, later)?;
     println!(rt; "overlaid {settings:?}, displaced {displaced:?}")?;
     config::override_with(&mut settings, alloc, texts(alloc, defaults)?)?;
-    println!(rt; "overridden {settings:?}")?;
-    Ok(())
+    Ok(println!(rt; "overridden {settings:?}")?)
 }
 
 // Scores of which one is set, many are set, and all are raised.
@@ -213,10 +219,8 @@ fn show_scores(rt: &impl Print, alloc: Global) -> io::Result<()> {
     scores::raise(&mut scores, 5);
     for name in ["ann", "bob", "cy"] {
         let place = scores::place_of(&scores, name);
-        println!(rt;
-            "score of {name}: {:?} at {place:?}",
-            scores::score_of(&scores, name)
-        )?;
+        let score = scores::score_of(&scores, name);
+        println!(rt; "score of {name}: {score:?} at {place:?}")?;
     }
     println!(rt; "scores {scores:?}")
 }
@@ -290,10 +294,8 @@ fn show_words(rt: &impl Print, alloc: Global) -> io::Result<()> {
     }
     let mut none = Counts::new_vec(alloc);
     words::overlay(&mut none, alloc, Counts::new_vec(alloc))?;
-    let (over, first) = (
-        words::words_over(alloc, &counts, 1)?,
-        words::first_over(&counts, 1),
-    );
+    let over = words::words_over(alloc, &counts, 1)?;
+    let first = words::first_over(&counts, 1);
     println!(rt; "{none:?}, over 1 {over:?}, first {first:?}")?;
     for ranked in words::top(alloc, &counts, 3)? {
         println!(rt; "top {} {}", ranked.1, ranked.0.0)?;

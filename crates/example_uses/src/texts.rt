@@ -1,6 +1,5 @@
 //! Maps looked up by what can stand for a key: strings and bytes that are borrowed, and keys.
-ghost use Rattle.std.specs.Prelude.{◌≡◌, ◌≢◌, ◌==◌, IsTrue, None, OnOk, Some};
-ghost use Rattle.std.specs.Prelude.{is_some, string_bytes};
+ghost use Rattle.std.specs.Prelude.{◌≡◌, ◌≢◌, ◌==◌, IsTrue, None, OnOk, Some, is_some, string_bytes};
 ghost use Rattle.std.specs.Bool.{IsFalse};
 ghost use Rattle.std.specs.List.{before_first};
 ghost use Rattle.std.specs.Option.{option_or};

@@ -56,12 +56,12 @@ fn read_some<R: Read>(reader: &mut Watch<R>, input: &mut Vec<u8>) -> Option<Inpu
     ensures unmet { IfNone result (met_fault reader.new ≡ met_fault reader.old) }
     ensures nothing_after { NoCallAfterFault reader.old reader.new }
 {
-    let mut chunk = [0u8; CHUNK];
     let most = CHUNK.min(MOST_BYTES + 1 - input.len());
     if input.reserve(most).is_err() {
         return Some(InputEnd::NoMemory);
     }
-    match reader.read(&mut chunk[..most]) {
+    let chunk = &mut [0u8; CHUNK][..most];
+    match reader.read(chunk) {
         Ok(0) => Some(InputEnd::Whole),
         Ok(n) => {
             input.extend_from_slice(&chunk[..n]).unwrap();

@@ -1,8 +1,9 @@
 //! Calls by a closure that returns `Equal` for more than one key, or that compares with another type than the keys'.
+use crate::Outcome;
 use litemap::store::{StoreFromIterable, StoreMut};
 use litemap::{LiteMap, VecMap};
 use litemap_short::ShortStore;
-use std::alloc::{AllocError, Global};
+use std::alloc::Global;
 
 const PAIRS: [(u32, u8); 5] = [(1, b'a'), (2, b'b'), (3, b'c'), (4, b'd'), (9, b'e')];
 
@@ -22,7 +23,7 @@ fn finds_one<S: StoreMut<u32, u8> + StoreFromIterable<u32, u8> + Drop>(
     half: u32,
     first: usize,
     equal: &[u8],
-) -> Result<bool, AllocError> {
+) -> Outcome {
     let mut map: LiteMap<u32, u8, S> = LiteMap::from_iter(alloc, PAIRS)?;
     let found = map.find_index_by(|key| (*key / 2).cmp(&half));
     let got = map.get_by(|key| (*key / 2).cmp(&half)).copied();
@@ -39,9 +40,9 @@ fn finds_one<S: StoreMut<u32, u8> + StoreFromIterable<u32, u8> + Drop>(
 }
 
 // A closure that returns `Equal` for two keys finds one of them.
-pub(crate) fn one_of_the_keys_called_equal_is_found(alloc: Global) -> Result<bool, AllocError> {
+pub(crate) fn one_of_the_keys_called_equal_is_found(alloc: Global) -> Outcome {
     let mut is_right = true;
-    for (half, first, equal) in HALVES {
+    for &(half, first, equal) in &HALVES {
         is_right &= finds_one::<Vec<(u32, u8)>>(alloc, half, first, equal)?;
         is_right &= finds_one::<ShortStore<u32, u8>>(alloc, half, first, equal)?;
     }
@@ -49,13 +50,11 @@ pub(crate) fn one_of_the_keys_called_equal_is_found(alloc: Global) -> Result<boo
 }
 
 // A closure compares keys with a string.
-pub(crate) fn a_closure_compares_with_another_type(alloc: Global) -> Result<bool, AllocError> {
-    let map: VecMap<String, u8> = LiteMap::from_iter(
-        alloc,
-        [("c".to_string(alloc)?, 3), ("a".to_string(alloc)?, 1)],
-    )?;
+pub(crate) fn a_closure_compares_with_another_type(alloc: Global) -> Outcome {
+    let (first, second) = ("c".to_string(alloc)?, "a".to_string(alloc)?);
+    let map: VecMap<String, u8> = LiteMap::from_iter(alloc, [(first, 3), (second, 1)])?;
     let mut is_right = true;
-    for (text, place) in [
+    for &(text, place) in &[
         ("", Err(0)),
         ("a", Ok(0)),
         ("b", Err(1)),

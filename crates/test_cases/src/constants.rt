@@ -2,9 +2,10 @@
 ghost use Rattle.std.specs.Prelude.{◌≡◌};
 ghost use Rattle.litemap_store.specs.Pairs.{Rising};
 
+use crate::Outcome;
 use litemap::LiteMap;
 use litemap::store::SliceStore;
-use std::alloc::{AllocError, Global};
+use std::alloc::Global;
 
 type Table<'a, K, V> = LiteMap<K, V, SliceStore<'a, K, V>>;
 
@@ -28,19 +29,22 @@ fn table<K: Ord, V>(pairs: &[(K, V)]) -> Table<'_, K, V>
     LiteMap::from_sorted_store_unchecked(SliceStore::new(pairs))
 }
 
+// Whether the first of two look-ups found the second pair, with 2, and the other one none.
+fn finds_second(found: [Option<(usize, &u8)>; 2]) -> bool {
+    found == [Some((1, &2)), None]
+}
+
 // Whether, for each of these types, a map with 7 and the greatest number finds that at its index, and not the number after 7.
 macro_rules! find_ends {
     ($($number:ty)+) => {
         [$({
-            let pairs: [($number, u8); 2] = [(7, 1), (<$number>::MAX, 2)];
-            let map = table(&pairs);
-            map.const_get_with_index(<$number>::MAX) == Some((1, &2))
-                && map.const_get_with_index(8).is_none()
+            let map: Table<$number, u8> = table(&[(7, 1), (<$number>::MAX, 2)]);
+            finds_second([map.const_get_with_index(<$number>::MAX), map.const_get_with_index(8)])
         }),+]
     };
 }
 
-pub(crate) fn numbers_of_each_type_are_found(_: Global) -> Result<bool, AllocError> {
+pub(crate) fn numbers_of_each_type_are_found(_: Global) -> Outcome {
     let none: Table<u8, u8> = table(&[]);
     // An empty table has no pair.
     let is_none = none.const_len() == 0
@@ -51,9 +55,8 @@ pub(crate) fn numbers_of_each_type_are_found(_: Global) -> Result<bool, AllocErr
 }
 
 // The least and the greatest number of a type are found, and one between them is not.
-pub(crate) fn both_ends_of_a_type_are_found(_: Global) -> Result<bool, AllocError> {
-    let pairs: [(i8, u8); 3] = [(-128, 1), (0, 2), (127, 3)];
-    let map = table(&pairs);
+pub(crate) fn both_ends_of_a_type_are_found(_: Global) -> Outcome {
+    let map: Table<i8, u8> = table(&[(-128, 1), (0, 2), (127, 3)]);
     Ok(
         map.const_get_with_index(127) == Some((2, &3))
             && map.const_get_with_index(1).is_none()
@@ -61,7 +64,7 @@ pub(crate) fn both_ends_of_a_type_are_found(_: Global) -> Result<bool, AllocErro
     )
 }
 
-pub(crate) fn strings_and_bytes_are_found(_: Global) -> Result<bool, AllocError> {
+pub(crate) fn strings_and_bytes_are_found(_: Global) -> Outcome {
     // A table of two strings shows its length and its first pair.
     let two = LiteMap::from_sorted_store_unchecked(SliceStore::new(TWO));
     let shows = two.const_len() == 2 && *two.const_get_indexed_or_panic(0) == ("a", 11);
@@ -76,8 +79,7 @@ pub(crate) fn strings_and_bytes_are_found(_: Global) -> Result<bool, AllocError>
     Ok(shows && finds_fourth && finds_second)
 }
 
-// Whether the keys of a slice ascend, each of them is found at its index, and a greater one is not found: of strings, and of
-// their bytes.
+// Whether the keys of a slice ascend, each is found at its index, and a greater one isn't found: of strings, and of their bytes.
 macro_rules! are_found {
     ($pairs:expr, $absent:expr) => {{
         let store = SliceStore::new($pairs);
@@ -85,12 +87,11 @@ macro_rules! are_found {
             return false;
         }
         let map = LiteMap::from_sorted_store_unchecked(store);
+        let mut is_right = map.const_get_with_index($absent).is_none();
         for (place, (key, value)) in $pairs.iter().enumerate() {
-            if map.const_get_with_index(key) != Some((place, value)) {
-                return false;
-            }
+            is_right &= map.const_get_with_index(key) == Some((place, value));
         }
-        map.const_get_with_index($absent).is_none()
+        is_right
     }};
 }
 
@@ -104,10 +105,10 @@ fn finds_bytes(pairs: &[(&[u8], u8)]) -> bool {
 
 // Each string is compared with each other one, and so are their bytes.
 //
-// Among three keys a search looks at the middle one first, and among two at the second: so each of two is compared with the
-// other, both ways.
-pub(crate) fn texts_and_bytes_are_compared_with_one_another(_: Global) -> Result<bool, AllocError> {
+// A search looks at the middle one of three keys first, and at the second of two: so each of two is compared with the other.
+pub(crate) fn texts_and_bytes_are_compared_with_one_another(_: Global) -> Outcome {
     let rising = ["", "a", "aa", "abc", "abde", "bcd", "bcde", "\u{10FFFF}"];
+    let mut is_right = true;
     for (i, a) in rising.iter().enumerate() {
         for (j, b) in rising.iter().enumerate() {
             let (first, second) = (a.as_bytes(), b.as_bytes());
@@ -117,10 +118,8 @@ pub(crate) fn texts_and_bytes_are_compared_with_one_another(_: Global) -> Result
                 finds_bytes(&[(first, 1), (second, 2)]),
                 finds_bytes(&[(first, 1), (second, 2), (b"\xff", 3)]),
             ];
-            if found != [i < j; 4] {
-                return Ok(false);
-            }
+            is_right &= found == [i < j; 4];
         }
     }
-    Ok(true)
+    Ok(is_right)
 }

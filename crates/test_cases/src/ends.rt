@@ -1,8 +1,7 @@
-//! Capacities and lengths near the greatest that there are: growing further fails, and nothing wraps; and what stores and
-//! counts take.
+//! Capacities and lengths near the greatest: growing further fails, and nothing wraps; and what stores and counts take.
 //!
-//! A map of keys that take no memory has one pair at most, since all of them are equal. So the greatest length is tried on a
-//! store.
+//! A map of keys that take no memory has one pair at most, since all are equal. So the greatest length is tried on a store.
+use crate::{Outcome, all_right};
 use example_store::fixed_room::FixedRoom;
 use litemap::LiteMap;
 use litemap::store::{Count, Store, StoreIntoIterator, StoreMut};
@@ -15,7 +14,7 @@ use std::mem;
 const MOST: usize = usize::MAX / 2;
 
 // Whether a map of pairs that take no memory fails to reserve for more pairs than a vector holds, and keeps its pair.
-fn is_refused<S: StoreMut<(), ()> + Drop>(alloc: Global) -> Result<bool, AllocError> {
+fn is_refused<S: StoreMut<(), ()> + Drop>(alloc: Global) -> Outcome {
     let mut is_right = LiteMap::<(), (), S>::with_capacity(alloc, usize::MAX).is_err();
     let mut map: LiteMap<(), (), S> = LiteMap::with_capacity(alloc, 1)?;
     map.insert((), ())?;
@@ -25,15 +24,15 @@ fn is_refused<S: StoreMut<(), ()> + Drop>(alloc: Global) -> Result<bool, AllocEr
     Ok(is_right && map.len() == 1)
 }
 
-pub(crate) fn room_past_the_end_is_refused(alloc: Global) -> Result<bool, AllocError> {
-    let refused = [
-        is_refused::<Vec<((), ())>>(alloc)?,
-        is_refused::<ColumnStore<(), ()>>(alloc)?,
-        is_refused::<FixedRoom<(), ()>>(alloc)?,
-        is_refused::<ShortStore<(), ()>>(alloc)?,
-    ];
+pub(crate) fn room_past_the_end_is_refused(alloc: Global) -> Outcome {
     let most = LiteMap::<(), (), Vec<((), ())>>::with_capacity(alloc, MOST);
-    Ok(refused == [true; 4] && most.is_ok())
+    all_right(&[
+        Ok(most.is_ok()),
+        is_refused::<Vec<((), ())>>(alloc),
+        is_refused::<ColumnStore<(), ()>>(alloc),
+        is_refused::<FixedRoom<(), ()>>(alloc),
+        is_refused::<ShortStore<(), ()>>(alloc),
+    ])
 }
 
 // The longest vector there is, of pairs that take no memory: it is doubled again and again.
@@ -48,7 +47,7 @@ fn longest(alloc: Global) -> Result<Vec<((), ())>, AllocError> {
 }
 
 // The longest store shows its last pair, and each growth fails and leaves its length.
-pub(crate) fn the_longest_store_grows_no_more(alloc: Global) -> Result<bool, AllocError> {
+pub(crate) fn the_longest_store_grows_no_more(alloc: Global) -> Outcome {
     let mut store = longest(alloc)?;
     let shows = store.lm_get(MOST - 1).is_some() && store.lm_get(MOST).is_none();
     let reserves = store.lm_reserve(0).is_ok() && store.lm_reserve(1).is_err();
@@ -62,7 +61,7 @@ pub(crate) fn the_longest_store_grows_no_more(alloc: Global) -> Result<bool, All
 }
 
 // A count takes no memory, and a short store of small pairs a word beside a vector's three.
-pub(crate) fn a_count_takes_no_memory(_: Global) -> Result<bool, AllocError> {
+pub(crate) fn a_count_takes_no_memory(_: Global) -> Outcome {
     let short = size_of::<LiteMap<[u8; 2], [u8; 8], ShortStore<[u8; 2], [u8; 8]>>>();
     Ok(size_of::<Count>() == 0 && short == 4 * size_of::<usize>())
 }

@@ -1,7 +1,8 @@
 //! Runs in which each read and each write fails in turn, by an error of each kind: after it no further call is made.
+use crate::Outcome;
 use crate::runs::{FAULTS, Kept, NEVER, STORES, run_kept, run_with_faults};
 use names::{Fault, Watch};
-use std::alloc::{AllocError, Global};
+use std::alloc::Global;
 
 // Lines, and what becomes of them.
 #[derive(Clone, Copy)]
@@ -43,7 +44,8 @@ const CASES: [Case<'static>; 3] = [
 ];
 
 // Whether each run ends as it has to, if each read fails in turn, and then none.
-fn is_right_at_each_read(alloc: Global, kept: Kept, case: Case<'_>, fault: Fault) -> bool {
+fn reads_are_right(alloc: Global, kept: Kept, case: Case<'_>, fault: Fault) -> bool {
+    let mut is_right = true;
     for at in 0..=case.reads {
         let (read, write) = ((at, case.most), (NEVER, usize::MAX));
         let (ran, out) = run_with_faults(alloc, kept, case.lines, fault, read, write);
@@ -53,25 +55,16 @@ fn is_right_at_each_read(alloc: Global, kept: Kept, case: Case<'_>, fault: Fault
             let calls = [case.reads, case.writes.len() as u64];
             ((0, [false; 2], calls), case.answers)
         };
-        if ran != wanted || out.as_slice() != text {
-            return false;
-        }
+        is_right &= ran == wanted && out.as_slice() == text;
     }
-    true
+    is_right
 }
 
-// The same of each write, which takes `most` bytes at most: a whole reply, or one byte. What is written is all that the writes
-// before took.
-fn is_right_at_each_write(
-    alloc: Global,
-    kept: Kept,
-    case: Case<'_>,
-    fault: Fault,
-    most: usize,
-) -> bool {
+// The same of each write, which takes `most` bytes at most: a whole reply, or one. What is written is all that those before took.
+fn writes_are_right(alloc: Global, kept: Kept, case: Case<'_>, fault: Fault, most: usize) -> bool {
     let whole = case.writes.len();
     let all = if most > 1 { whole } else { case.answers.len() };
-    let mut taken = 0usize;
+    let (mut is_right, mut taken) = (true, 0usize);
     for at in 0..=all {
         let (read, write) = ((NEVER, case.most), (at as u64, most));
         let (ran, out) = run_with_faults(alloc, kept, case.lines, fault, read, write);
@@ -80,17 +73,15 @@ fn is_right_at_each_write(
         } else {
             (0, [false; 2], [case.reads, write.0])
         };
-        if ran != wanted || case.answers.get(..taken) != Some(out.as_slice()) {
-            return false;
-        }
+        is_right &= ran == wanted && case.answers.get(..taken) == Some(out.as_slice());
         let more = case.writes.get(at).copied().unwrap_or(0);
         taken = taken.wrapping_add(more.min(most).max(1));
     }
-    true
+    is_right
 }
 
 // An error at each read of a run, the names kept in one vector and in two columns.
-pub(crate) fn each_read_fails(alloc: Global) -> Result<bool, AllocError> {
+pub(crate) fn each_read_fails(alloc: Global) -> Outcome {
     let input = vec![in alloc; b'\n'; 10_000]?;
     let long = Case {
         lines: &input,
@@ -102,11 +93,11 @@ pub(crate) fn each_read_fails(alloc: Global) -> Result<bool, AllocError> {
     let mut is_right = true;
     for kept in STORES {
         for fault in &FAULTS[..5] {
-            is_right &= is_right_at_each_read(alloc, kept, long, *fault);
+            is_right &= reads_are_right(alloc, kept, long, *fault);
         }
         for fault in &FAULTS[..42] {
-            for case in CASES {
-                is_right &= is_right_at_each_read(alloc, kept, case, *fault);
+            for case in &CASES {
+                is_right &= reads_are_right(alloc, kept, *case, *fault);
             }
         }
     }
@@ -114,20 +105,20 @@ pub(crate) fn each_read_fails(alloc: Global) -> Result<bool, AllocError> {
 }
 
 // An error at each write of a run, the names kept in one vector and in two columns.
-pub(crate) fn each_write_fails(alloc: Global) -> Result<bool, AllocError> {
+pub(crate) fn each_write_fails(alloc: Global) -> Outcome {
     let mut is_right = true;
     for kept in STORES {
-        for fault in FAULTS {
-            for case in CASES {
-                is_right &= is_right_at_each_write(alloc, kept, case, fault, usize::MAX)
-                    && is_right_at_each_write(alloc, kept, case, fault, 1);
+        for fault in &FAULTS {
+            for case in &CASES {
+                is_right &= writes_are_right(alloc, kept, *case, *fault, usize::MAX)
+                    && writes_are_right(alloc, kept, *case, *fault, 1);
             }
         }
     }
     Ok(is_right)
 }
 
-pub(crate) fn last_lines_fail(alloc: Global) -> Result<bool, AllocError> {
+pub(crate) fn last_lines_fail(alloc: Global) -> Outcome {
     let long = vec![in alloc; b'\n'; 1_048_577]?;
     // The input, the read that fails, and the number of reads.
     let rows = [
@@ -138,7 +129,7 @@ pub(crate) fn last_lines_fail(alloc: Global) -> Result<bool, AllocError> {
     let mut is_right = true;
     for kept in STORES {
         for fault in &FAULTS[..5] {
-            for (input, at, reads) in rows {
+            for &(input, at, reads) in &rows {
                 let (read, write) = ((at, usize::MAX), (0, usize::MAX));
                 let (ran, out) = run_with_faults(alloc, kept, input, *fault, read, write);
                 is_right &= ran == (4, [at == 0, true], [reads, 1]) && out.is_empty();
@@ -148,7 +139,7 @@ pub(crate) fn last_lines_fail(alloc: Global) -> Result<bool, AllocError> {
     Ok(is_right)
 }
 
-pub(crate) fn a_writer_takes_nothing(alloc: Global) -> Result<bool, AllocError> {
+pub(crate) fn a_writer_takes_nothing(alloc: Global) -> Outcome {
     let mut is_right = true;
     for kept in STORES {
         let mut full = [0u8; 2];

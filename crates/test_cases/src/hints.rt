@@ -1,11 +1,12 @@
 //! Iterators that say another number of pairs than they give, and that give none, a few or very many.
 ghost use Rattle.std.specs.Iterator.{at_most};
 
+use crate::Outcome;
 use litemap::LiteMap;
 use litemap::store::{Store, StoreBulkMut, StoreFromIterable};
 use litemap_columns::ColumnStore;
 use litemap_short::ShortStore;
-use std::alloc::{AllocError, Global};
+use std::alloc::Global;
 
 // Gives so many pairs: each number below, from the last one on, after its half.
 #[derive(Clone, Copy)]
@@ -37,29 +38,28 @@ impl Iterator for Halves {
 
 // Whether a map has each half of an even number of numbers once, with the lesser number.
 fn has_last<S: Store<u32, u32>>(map: &LiteMap<u32, u32, S>, number: u32) -> bool {
+    let mut is_right = map.len() == number as usize / 2;
     for half in 0..number / 2 {
-        if map.get_indexed(half as usize) != Some((&half, &half.wrapping_mul(2))) {
-            return false;
-        }
+        is_right &= map.get_indexed(half as usize) == Some((&half, &half.wrapping_mul(2)));
     }
-    map.len() == number as usize / 2
+    is_right
 }
 
 // Whether a map that is made of so many pairs has the last ones, and one of a greater key that is extended by them too.
 fn keeps_last<S: StoreBulkMut<u32, u32> + StoreFromIterable<u32, u32>>(
     alloc: Global,
     pairs: Halves,
-) -> Result<bool, AllocError> {
+) -> Outcome {
     let number = pairs.number;
-    let made: LiteMap<u32, u32, S> = LiteMap::from_iter(alloc, pairs)?;
+    let is_made = has_last::<S>(&LiteMap::from_iter(alloc, pairs)?, number);
     let mut extended: LiteMap<u32, u32, S> = LiteMap::with_capacity(alloc, 0)?;
     extended.insert(number, 7)?;
     extended.extend(alloc, pairs)?;
     let last = extended.remove(&number);
-    Ok(has_last(&made, number) && has_last(&extended, number) && last == Some(7))
+    Ok(is_made && has_last(&extended, number) && last == Some(7))
 }
 
-pub(crate) fn the_size_hint_is_no_matter(alloc: Global) -> Result<bool, AllocError> {
+pub(crate) fn the_size_hint_is_no_matter(alloc: Global) -> Outcome {
     let mut is_right = true;
     for (number, promised) in [(0, 1 << 63), (2, 2), (16, 17), (1000, usize::MAX)] {
         for tells in [(false, false), (false, true), (true, false), (true, true)] {

@@ -1,5 +1,6 @@
 //! Stores with a limit: one of a user's own, which grows up to it and no further, and one whose limit is set when it is made,
 //! so that it goes with the store when a fresh one replaces it. A list of calls goes on after those that fail.
+use crate::Outcome;
 use crate::printing::prints;
 use example_store::Bounded;
 use example_store::fixed_room::FixedRoom;
@@ -14,7 +15,7 @@ type Few = LiteMap<u32, u32, Bounded<u32, u32, LIMIT>>;
 
 // Whether a map that begins with this room, which is made or reserved, fails to reserve more than its limit leaves at each
 // length, grows up to it, and returns what comes then.
-fn grows(alloc: Global, made: usize, reserved: usize) -> Result<bool, AllocError> {
+fn grows(alloc: Global, made: usize, reserved: usize) -> Outcome {
     let mut map: Few = LiteMap::with_capacity(alloc, made)?;
     map.reserve(reserved)?;
     let mut is_right = true;
@@ -27,32 +28,22 @@ fn grows(alloc: Global, made: usize, reserved: usize) -> Result<bool, AllocError
     Ok(is_right && map.insert(30, 7) == Err(NoRoom { back: (30, 7) }) && map.len() == LIMIT)
 }
 
-pub(crate) fn a_bounded_store_grows_to_its_limit(alloc: Global) -> Result<bool, AllocError> {
+pub(crate) fn a_bounded_store_grows_to_its_limit(alloc: Global) -> Outcome {
     let mut is_right = true;
     for room in [0, 1, 3, LIMIT] {
         is_right &= grows(alloc, room, 0)? && grows(alloc, 0, room)?;
     }
-    for room in [LIMIT + 1, usize::MAX] {
-        is_right &= Few::with_capacity(alloc, room).is_err();
-    }
+    is_right &= Few::with_capacity(alloc, LIMIT + 1).is_err();
+    is_right &= Few::with_capacity(alloc, usize::MAX).is_err();
     Ok(is_right)
 }
 
 type Fixed = LiteMap<u32, u32, FixedRoom<u32, u32>>;
 
-// Whether a map of two pairs takes so many further pairs and no more, made with room for 1,000, after so many were added from
-// this key on: by a map that was made with as much room, or by themselves.
-fn has_room_after(
-    alloc: Global,
-    merges: bool,
-    (first, count): (u32, u32),
-    room: usize,
-) -> Result<bool, AllocError> {
-    let mut map = Fixed::with_capacity(alloc, 1_000)?;
-    map.insert(0, 0)?;
-    map.insert(9_999, 0)?;
+// Adds pairs of the keys from one up to another: by a map that is made with room for 1,000, or by themselves.
+fn add(alloc: Global, map: &mut Fixed, merges: bool, keys: (u32, u32)) -> Result<(), AllocError> {
     let mut pairs = Vec::new(alloc);
-    for key in first..first.wrapping_add(count) {
+    for key in keys.0..keys.1 {
         pairs.push((key, 0))?;
     }
     if merges {
@@ -62,20 +53,28 @@ fn has_room_after(
     } else {
         map.extend(alloc, pairs)?;
     }
+    Ok(())
+}
+
+// Whether a map of two pairs takes so many further pairs and no more, made with room for 1,000, after those of these keys were
+// added.
+fn has_room_after(alloc: Global, merges: bool, keys: (u32, u32), room: usize) -> Outcome {
+    let mut map = Fixed::with_capacity(alloc, 1_000)?;
+    map.insert(0, 0)?;
+    map.insert(9_999, 0)?;
+    add(alloc, &mut map, merges, keys)?;
     Ok(map.reserve(room).is_ok() && map.reserve(room.saturating_add(1)).is_err())
 }
 
-pub(crate) fn a_limit_goes_with_the_store_that_is_replaced(
-    alloc: Global,
-) -> Result<bool, AllocError> {
+pub(crate) fn a_limit_goes_with_the_store_that_is_replaced(alloc: Global) -> Outcome {
     let mut is_right = true;
-    for (merges, keys, room) in [
-        (true, (1, 1), 997),
-        (true, (1, 500), 0),
-        (false, (1, 1), 0),
-        (false, (1, 500), 0),
-        (false, (10_000, 1), 997),
-        (false, (10_000, 500), 498),
+    for &(merges, keys, room) in &[
+        (true, (1, 2), 997),
+        (true, (1, 501), 0),
+        (false, (1, 2), 0),
+        (false, (1, 501), 0),
+        (false, (10_000, 10_001), 997),
+        (false, (10_000, 10_500), 498),
     ] {
         is_right &= has_room_after(alloc, merges, keys, room)?;
     }
@@ -83,7 +82,9 @@ pub(crate) fn a_limit_goes_with_the_store_that_is_replaced(
 }
 
 // Calls of which some fail, with room for two pairs, and what each returns.
-pub(crate) fn calls_are_answered_one_after_another(alloc: Global) -> Result<bool, AllocError> {
+pub(crate) fn calls_are_answered_one_after_another(alloc: Global) -> Outcome {
+    let fourth = [(4, 22)].to_vec(alloc)?;
+    let others = [(1, 11), (3, 30), (3, 31)].to_vec(alloc)?;
     let (mut calls, mut wanted) = (Vec::new(alloc), Vec::new(alloc));
     for (call, answer) in [
         (Call::Insert(3, 20), Answer::Value(None)),
@@ -92,17 +93,14 @@ pub(crate) fn calls_are_answered_one_after_another(alloc: Global) -> Result<bool
         (Call::TryAppend(4, 9), Answer::NoRoom(Some((4, 9)))),
         (Call::Find(2), Answer::Place(Err(1))),
         (Call::ValueAt(0), Answer::Value(Some(10))),
-        (Call::Extend([(4, 22)].to_vec(alloc)?), Answer::NoRoom(None)),
+        (Call::Extend(fourth), Answer::NoRoom(None)),
         (Call::Reserve(1), Answer::NoRoom(None)),
         (Call::TryInsert(2, 21), Answer::NoRoom(Some((2, 21)))),
         (Call::Remove(1), Answer::Value(Some(10))),
         (Call::Contains(1), Answer::Flag(false)),
         (Call::Get(3), Answer::Value(Some(20))),
         (Call::Clear, Answer::Done),
-        (
-            Call::Extend([(1, 11), (3, 30), (3, 31)].to_vec(alloc)?),
-            Answer::Done,
-        ),
+        (Call::Extend(others), Answer::Done),
         (Call::Len, Answer::Number(2)),
     ] {
         calls.push(call)?;

@@ -1,7 +1,8 @@
 //! Lines of the program, whose names are kept in one vector and in two columns, and how much is read of a longer input.
+use crate::Outcome;
 use crate::runs::{FAULTS, STORES, run_kept};
 use names::{FailAt, Watch};
-use std::alloc::{AllocError, Global};
+use std::alloc::Global;
 
 // Lines, the output, and the status.
 type Row = (&'static [u8], &'static [u8], u8);
@@ -49,15 +50,15 @@ fn are_answered(alloc: Global, (lines, output, wanted): (&[u8], &[u8], u8)) -> b
     is_right
 }
 
-pub(crate) fn lines_are_answered(alloc: Global) -> Result<bool, AllocError> {
+pub(crate) fn lines_are_answered(alloc: Global) -> Outcome {
     let mut is_right = true;
-    for row in ROWS {
-        is_right &= are_answered(alloc, row);
+    for row in &ROWS {
+        is_right &= are_answered(alloc, *row);
     }
     Ok(is_right)
 }
 
-pub(crate) fn the_longest_input_is_answered(alloc: Global) -> Result<bool, AllocError> {
+pub(crate) fn the_longest_input_is_answered(alloc: Global) -> Outcome {
     let mut input = vec![in alloc; b'\n'; 1_048_577]?;
     // One byte more is too long.
     let too_long = are_answered(alloc, (input.as_slice(), b"input too long\n", 2));
@@ -66,7 +67,7 @@ pub(crate) fn the_longest_input_is_answered(alloc: Global) -> Result<bool, Alloc
     Ok(too_long && are_answered(alloc, (input.as_slice(), b"", 0)))
 }
 
-pub(crate) fn one_byte_too_many_is_read(alloc: Global) -> Result<bool, AllocError> {
+pub(crate) fn one_byte_too_many_is_read(alloc: Global) -> Outcome {
     let input = vec![in alloc; b'\n'; 2_000_000]?;
     let mut is_right = true;
     for most in [1, 7, 4096, usize::MAX] {

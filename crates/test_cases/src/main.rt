@@ -34,8 +34,17 @@ use std::alloc::{AllocError, Global};
 use std::io;
 use std::process::ExitCode;
 
-// The name of a case, and whether all was as it has to be.
-type Case = (&'static str, Result<bool, AllocError>);
+// Whether all was as it has to be.
+type Outcome = Result<bool, AllocError>;
+
+// Whether all of these came out right, or the first error.
+fn all_right(outcomes: &[Outcome]) -> Outcome {
+    let mut is_right = true;
+    for outcome in outcomes {
+        is_right &= (*outcome)?;
+    }
+    Ok(is_right)
+}
 
 fn main(rt: HostRuntime) -> ExitCode {
     let mut source = FailAt::new(rt.stdin(), NEVER, FAULTS[0]);
@@ -51,7 +60,7 @@ fn main(rt: HostRuntime) -> ExitCode {
     }
 }
 
-fn cases(alloc: Global) -> [Case; 30] {
+fn cases(alloc: Global) -> [(&'static str, Outcome); 30] {
     outcomes! { alloc;
         closures::one_of_the_keys_called_equal_is_found,
         closures::a_closure_compares_with_another_type,
@@ -86,7 +95,7 @@ fn cases(alloc: Global) -> [Case; 30] {
     }
 }
 
-fn report(rt: &impl Print, cases: &[Case]) -> io::Result<()> {
+fn report(rt: &impl Print, cases: &[(&str, Outcome)]) -> io::Result<()> {
     for (name, outcome) in cases {
         match outcome {
             Ok(true) => println!(rt; "{name}: right")?,

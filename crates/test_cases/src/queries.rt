@@ -1,19 +1,24 @@
 //! Keys of each kind looked up by what can stand for them: by a string, by a slice, and by the key itself.
+use crate::{Outcome, all_right};
 use litemap::store::Count;
 use litemap::{LiteMap, Query};
 use std::alloc::{AllocError, Global};
 use std::borrow::CowStr;
 use std::boxed::{BoxedSlice, BoxedStr};
+use std::convert::identity;
 use std::rc::RcStr;
 use std::sync::ArcStr;
 
-type Numbers<K> = LiteMap<K, u32, Vec<(K, u32)>>;
+type Map<K> = LiteMap<K, u32, Vec<(K, u32)>>;
 
 // The strings of the keys, and the number at each.
-const LIST: [(&str, u32); 5] = [("", 1), ("a", 2), ("aab", 3), ("ab", 4), ("b\u{e9}", 5)];
+const LIST: &[(&str, u32)] = &[("", 1), ("a", 2), ("aab", 3), ("ab", 4), ("b\u{e9}", 5)];
+
+// The number and the index of a key.
+type Wanted = (Option<u32>, Result<usize, usize>);
 
 // Strings that are looked up, with the number and the index of each.
-const ASKED: [(&str, (Option<u32>, Result<usize, usize>)); 8] = [
+const ASKED: &[(&str, Wanted)] = &[
     ("", (Some(1), Ok(0))),
     (" ", (None, Err(1))),
     ("a", (Some(2), Ok(1))),
@@ -25,12 +30,7 @@ const ASKED: [(&str, (Option<u32>, Result<usize, usize>)); 8] = [
 ];
 
 // Whether a key is found by what stands for it: its number and its index.
-fn is_found<K: Ord, Q: Query<K>>(
-    map: &Numbers<K>,
-    query: Q,
-    number: Option<u32>,
-    index: Result<usize, usize>,
-) -> bool {
+fn is_found<K: Ord, Q: Query<K>>(map: &Map<K>, query: Q, (number, index): Wanted) -> bool {
     map.contains_key(query) == number.is_some()
         && map.get(query).copied() == number
         && map.get_counted(query, &mut Count::new()).copied() == number
@@ -39,11 +39,7 @@ fn is_found<K: Ord, Q: Query<K>>(
 }
 
 // Whether the number at a key is written and removed by what stands for it.
-fn is_taken<K: Ord + Drop, Q: Query<K>>(
-    map: &mut Numbers<K>,
-    query: Q,
-    number: Option<u32>,
-) -> bool {
+fn is_taken<K: Ord + Drop, Q: Query<K>>(map: &mut Map<K>, query: Q, number: Option<u32>) -> bool {
     if let Some(slot) = map.get_mut(query) {
         *slot = slot.wrapping_add(100);
     }
@@ -54,60 +50,66 @@ fn is_taken<K: Ord + Drop, Q: Query<K>>(
 }
 
 // Whether a key is found by what stands for it and by itself, and is removed; then it is inserted again.
-fn is_asked<K: Ord + Drop, Q: Query<K>>(
-    map: &mut Numbers<K>,
-    key: K,
-    query: Q,
-    (number, index): (Option<u32>, Result<usize, usize>),
-) -> Result<bool, AllocError> {
-    let is_right = is_found(map, query, number, index)
-        && is_found(map, &key, number, index)
-        && is_taken(map, query, number);
-    if let Some(number) = number {
+fn is_asked<K: Ord + Drop, Q: Query<K>>(map: &mut Map<K>, key: K, by: Q, row: Wanted) -> Outcome {
+    let is_right = is_found(map, by, row) && is_found(map, &key, row) && is_taken(map, by, row.0);
+    if let Some(number) = row.0 {
         map.insert(key, number)?;
     }
     Ok(is_right)
 }
 
+// A map of the list, with the keys that are made of the strings.
+fn map_of_list<'t, K, F>(alloc: Global, key_of: &F) -> Result<Map<K>, AllocError>
+where
+    K: Ord + Drop,
+    F: Fn(&'t str) -> Result<K, AllocError>,
+    requires { (text : _) → F.Fn.pre key_of.now (text, tt) }
+{
+    let mut map = LiteMap::new_vec(alloc);
+    let list: &[(&'t str, u32)] = LIST;
+    for (text, number) in list {
+        let key = key_of(*text)?;
+        map.insert(key, *number)?;
+    }
+    Ok(map)
+}
+
 // Whether each string is looked up right in a map of the list, by what stands for its key and by the key.
-fn are_asked<'t, K, Q, F, G>(alloc: Global, key_of: F, query_of: G) -> Result<bool, AllocError>
+fn are_asked<'t, K, Q, F, G>(alloc: Global, key_of: F, query_of: &G) -> Outcome
 where
     K: Ord + Drop,
     Q: Query<K>,
     F: Fn(&'t str) -> Result<K, AllocError> + Drop,
-    G: Fn(&'t str) -> Q + Drop,
+    G: Fn(&'t str) -> Q,
     requires key { (text : _) → F.Fn.pre key_of (text, tt) }
-    requires query { (text : _) → G.Fn.pre query_of (text, tt) }
+    requires query { (text : _) → G.Fn.pre query_of.now (text, tt) }
 {
-    let mut map = LiteMap::new_vec(alloc);
-    for (text, number) in LIST {
-        map.insert(key_of(text)?, number)?;
-    }
+    let mut map = map_of_list(alloc, &key_of)?;
     let mut is_right = true;
-    for (text, wanted) in ASKED {
-        is_right &= is_asked(&mut map, key_of(text)?, query_of(text), wanted)?;
+    let asked: &[(&'t str, Wanted)] = ASKED;
+    for (text, wanted) in asked {
+        let key = key_of(*text)?;
+        is_right &= is_asked(&mut map, key, query_of(*text), *wanted)?;
     }
     Ok(is_right)
 }
 
-pub(crate) fn keys_are_asked_by_texts(alloc: Global) -> Result<bool, AllocError> {
-    Ok(
-        are_asked(alloc, |text| text.to_string(alloc), |text| text)?
-            && are_asked(alloc, |text| Ok(text), |text| text)?
-            && are_asked(alloc, |text| BoxedStr::from_str(alloc, text), |text| text)?
-            && are_asked(alloc, |text| Ok(CowStr::Borrowed(text)), |text| text)?
-            && are_asked(alloc, |text| RcStr::from_str(alloc, text), |text| text)?
-            && are_asked(alloc, |text| ArcStr::from_str(alloc, text), |text| text)?,
-    )
+pub(crate) fn keys_are_asked_by_texts(alloc: Global) -> Outcome {
+    all_right(&[
+        are_asked(alloc, |text| text.to_string(alloc), &identity),
+        are_asked(alloc, |text| Ok(text), &identity),
+        are_asked(alloc, |text| BoxedStr::from_str(alloc, text), &identity),
+        are_asked(alloc, |text| Ok(CowStr::Borrowed(text)), &identity),
+        are_asked(alloc, |text| RcStr::from_str(alloc, text), &identity),
+        are_asked(alloc, |text| ArcStr::from_str(alloc, text), &identity),
+    ])
 }
 
-pub(crate) fn keys_are_asked_by_slices(alloc: Global) -> Result<bool, AllocError> {
+pub(crate) fn keys_are_asked_by_slices(alloc: Global) -> Outcome {
     let boxed = |text: &str| BoxedSlice::from_slice(alloc, text.as_bytes());
-    let owned = are_asked(
-        alloc,
-        |text| text.as_bytes().to_vec(alloc),
-        |text| text.as_bytes(),
-    )?;
-    let borrowed = are_asked(alloc, |text| Ok(text.as_bytes()), |text| text.as_bytes())?;
-    Ok(owned && borrowed && are_asked(alloc, boxed, |text| text.as_bytes())?)
+    all_right(&[
+        are_asked(alloc, |text| text.as_bytes().to_vec(alloc), &str::as_bytes),
+        are_asked(alloc, |text| Ok(text.as_bytes()), &str::as_bytes),
+        are_asked(alloc, boxed, &str::as_bytes),
+    ])
 }

@@ -67,10 +67,8 @@ pub fn run_with_faults(
     let mut sink = FailAt::new(&mut out, write_at, fault);
     source.most = most_read;
     sink.most = most_written;
-    let mut reader = Watch::new(&mut source);
-    let mut writer = Watch::new(&mut sink);
+    let (mut reader, mut writer) = (Watch::new(&mut source), Watch::new(&mut sink));
     let status = run_kept(alloc, kept, &mut reader, &mut writer);
     let failed = [reader.failed, writer.failed];
-    let calls = [source.calls, sink.calls];
-    ((status, failed, calls), out)
+    ((status, failed, [source.calls, sink.calls]), out)
 }

@@ -1,8 +1,9 @@
 //! Small maps: names of languages, a range of a range, and keys that a closure makes.
+use crate::Outcome;
 use litemap::{LiteMap, VecMap};
-use std::alloc::{AllocError, Global};
+use std::alloc::Global;
 
-const LANGUAGES: [(&str, &str); 11] = [
+const LANGUAGES: &[(&str, &str)] = &[
     ("ar", "Arabic"),
     ("bn", "Bangla"),
     ("ccp", "Chakma"),
@@ -17,14 +18,14 @@ const LANGUAGES: [(&str, &str); 11] = [
 ];
 
 // Names of languages are made of an iterator, and found by their codes.
-pub(crate) fn languages_are_found_by_their_codes(alloc: Global) -> Result<bool, AllocError> {
-    let languages: VecMap<&str, &str> = LiteMap::from_iter(alloc, LANGUAGES)?;
+pub(crate) fn languages_are_found_by_their_codes(alloc: Global) -> Outcome {
+    let languages: VecMap<&str, &str> = LiteMap::from_iter(alloc, LANGUAGES.iter().copied())?;
     let len = languages.len();
     Ok(len == 11 && languages.get("th") == Some(&"Thai") && languages.get("de").is_none())
 }
 
 // A range of a range counts from the first pair of that.
-pub(crate) fn a_range_has_ranges(alloc: Global) -> Result<bool, AllocError> {
+pub(crate) fn a_range_has_ranges(alloc: Global) -> Outcome {
     let map: VecMap<u32, &str> = LiteMap::from_iter(alloc, [(1, "one"), (2, "two"), (3, "three")])?;
     let Some(part) = map.get_indexed_range(1..3) else {
         return Ok(false);
@@ -36,7 +37,7 @@ pub(crate) fn a_range_has_ranges(alloc: Global) -> Result<bool, AllocError> {
 }
 
 // A closure makes keys ten times as great.
-pub(crate) fn keys_are_made_by_a_closure(alloc: Global) -> Result<bool, AllocError> {
+pub(crate) fn keys_are_made_by_a_closure(alloc: Global) -> Outcome {
     let map: VecMap<u32, char> = LiteMap::from_iter(alloc, [(1, 'a'), (2, 'b')])?;
     let made: VecMap<u64, char> = map.to_keys_by(alloc, |key| *key as u64 * 10)?;
     Ok(made.as_slice() == [(10, 'a'), (20, 'b')].as_slice())

@@ -1,9 +1,10 @@
 //! Which calls a `Watch` makes to what it watches: a read, a write or a flush through it is one, whatever comes of it.
 ghost use Rattle.std.specs.Prelude.{◌≤◌, IfOk};
 
+use crate::Outcome;
 use crate::runs::{FAULTS, NEVER};
 use names::{Fault, Watch};
-use std::alloc::{AllocError, Global};
+use std::alloc::Global;
 use std::io::{self, Read, Write};
 
 // A call, with how many bytes it is handed.
@@ -65,8 +66,7 @@ impl Write for Noting {
 // The most bytes that a call is handed.
 const MOST: usize = 70_000;
 
-// The calls that one through a `Watch` makes, of `MOST` bytes at most, where a write takes at most `most`, and the call number
-// `at` fails.
+// The calls that one through a `Watch` makes, of `MOST` bytes at most, if a write takes at most `most`, and call `at` fails.
 fn made_by(call: Call, most: usize, at: u64, fault: Fault) -> Made {
     let mut bytes = [b'a'; MOST];
     let mut noting = Noting {
@@ -86,13 +86,13 @@ fn made_by(call: Call, most: usize, at: u64, fault: Fault) -> Made {
     noting.made
 }
 
-pub(crate) fn a_call_is_one_call(_: Global) -> Result<bool, AllocError> {
+pub(crate) fn a_call_is_one_call(_: Global) -> Outcome {
     let mut is_right = true;
-    for fault in FAULTS {
+    for fault in &FAULTS {
         for at in [0, NEVER] {
-            for len in [0, 1, 64, 65, 5_000, 8_192, 65_536, MOST] {
+            for &len in &[0, 1, 64, 65, 5_000, 8_192, 65_536, MOST] {
                 for call in [Call::Read(len), Call::Write(len), Call::Flush] {
-                    is_right &= made_by(call, usize::MAX, at, fault) == [Some(call), None, None];
+                    is_right &= made_by(call, usize::MAX, at, *fault) == [Some(call), None, None];
                 }
             }
         }
@@ -100,9 +100,9 @@ pub(crate) fn a_call_is_one_call(_: Global) -> Result<bool, AllocError> {
     Ok(is_right)
 }
 
-pub(crate) fn a_whole_write_ends_at_a_fault(_: Global) -> Result<bool, AllocError> {
+pub(crate) fn a_whole_write_ends_at_a_fault(_: Global) -> Outcome {
     // How many bytes, how many of them a write takes at most, which write fails, and the lengths of the writes.
-    let rows = [
+    let rows = &[
         (0, usize::MAX, 0, [None, None]),
         (1, usize::MAX, 0, [Some(1), None]),
         (64, usize::MAX, 0, [Some(64), None]),
@@ -119,10 +119,10 @@ pub(crate) fn a_whole_write_ends_at_a_fault(_: Global) -> Result<bool, AllocErro
         (MOST, 65_536, 1, [Some(MOST), Some(4_464)]),
     ];
     let mut is_right = true;
-    for fault in FAULTS {
-        for (len, most, at, [first, second]) in rows {
+    for fault in &FAULTS {
+        for &(len, most, at, [first, second]) in rows {
             let wanted = [first.map(Call::Write), second.map(Call::Write), None];
-            is_right &= made_by(Call::WriteAll(len), most, at, fault) == wanted;
+            is_right &= made_by(Call::WriteAll(len), most, at, *fault) == wanted;
         }
     }
     Ok(is_right)

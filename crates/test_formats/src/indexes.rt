@@ -1,4 +1,5 @@
 //! What is found in bytes that are an index of names.
+use crate::Written;
 use crate::texts::write_entry;
 use example_formats::words;
 use litemap_read::ReadFault;
@@ -29,7 +30,7 @@ pub fn index_of(alloc: Global, bytes: &[u8]) -> Result<Vec<u8>, AllocError> {
 }
 
 /// Writes it in hexadecimal.
-pub fn write_digits(alloc: Global, bytes: &[u8], output: &mut String) -> Result<(), AllocError> {
+pub fn write_digits(alloc: Global, bytes: &[u8], output: &mut String) -> Written {
     let written = index_of(alloc, bytes)?;
     if written.is_empty() {
         return output.push_str("no index");
@@ -39,7 +40,7 @@ pub fn write_digits(alloc: Global, bytes: &[u8], output: &mut String) -> Result<
 }
 
 /// Writes each entry of an index, with a word more if one isn't found by its key, or the error.
-pub fn write_opened(bytes: &[u8], output: &mut String) -> Result<(), AllocError> {
+pub fn write_opened(bytes: &[u8], output: &mut String) -> Written {
     let names = or_fault!(IndexedNames::open_checked(bytes), output);
     write!(output, "index {}:", names.len())?;
     let end = names.len();
@@ -56,7 +57,7 @@ pub fn write_opened(bytes: &[u8], output: &mut String) -> Result<(), AllocError>
 }
 
 /// Writes what an index that wasn't read before returns for a key, or the error.
-pub fn write_looked(key: &str, bytes: &[u8], output: &mut String) -> Result<(), AllocError> {
+pub fn write_looked(key: &str, bytes: &[u8], output: &mut String) -> Written {
     let names = or_fault!(IndexedNames::open(bytes), output);
     let value = or_fault!(names.get(key), output);
     let place = or_fault!(names.find_index(key), output);

@@ -1,7 +1,10 @@
 //! The output of a line.
+ghost use Rattle.std.specs.Mem.{FitsInMemory};
+ghost use Rattle.litemap_short.specs.contracts.short_store.ShortStore.{the_row};
+
 use crate::falling::Falling;
 use crate::kinds::one_of;
-use crate::told;
+use crate::{Output, told};
 use example_formats::evens::Even;
 use example_formats::levels::Level;
 use example_formats::overlay::{OverlayFault, Settings, overlay};
@@ -19,52 +22,60 @@ use std::alloc::{AllocError, Global};
 use std::io;
 
 /// Returns the output of a line, at the types of this name.
-pub fn answer(alloc: Global, line: &str) -> Result<String, AllocError> {
+pub fn answer(alloc: Global, line: &str) -> Output {
     let Some((types, text)) = line.split_once(' ') else {
         return String::from_str(alloc, "no types");
     };
     match types {
-        "u8" => over_short!(written::<u8, u8>(alloc, text)),
-        "u16" => over_short!(written::<u16, u16>(alloc, text)),
-        "u32" => over_short!(written::<u32, u32>(alloc, text)),
-        "u64" => over_short!(written::<u64, u64>(alloc, text)),
-        "i8" => over_short!(written::<i8, i8>(alloc, text)),
-        "i16" => over_short!(written::<i16, i16>(alloc, text)),
-        "i32" => over_short!(written::<i32, i32>(alloc, text)),
-        "i64" => over_short!(written::<i64, i64>(alloc, text)),
-        "bool" => over_short!(written::<bool, bool>(alloc, text)),
-        "text" => over_short!(written::<String, String>(alloc, text)),
-        "falling" => over_short!(written::<Falling, String>(alloc, text)),
-        "flags" => over_short!(written::<bool, u32>(alloc, text)),
-        "words" => over_short!(written::<u32, String>(alloc, text)),
-        "evens" => over_short!(written::<Even, String>(alloc, text)),
-        "tongues" => over_short!(written::<(u32, String), String>(alloc, text)),
-        "levels" => over_short!(written::<Level, u32>(alloc, text)),
+        "u8" => written::<u8, u8>(alloc, text),
+        "u16" => written::<u16, u16>(alloc, text),
+        "u32" => written::<u32, u32>(alloc, text),
+        "u64" => written::<u64, u64>(alloc, text),
+        "i8" => written::<i8, i8>(alloc, text),
+        "i16" => written::<i16, i16>(alloc, text),
+        "i32" => written::<i32, i32>(alloc, text),
+        "i64" => written::<i64, i64>(alloc, text),
+        "bool" => written::<bool, bool>(alloc, text),
+        "text" => written::<String, String>(alloc, text),
+        "falling" => written::<Falling, String>(alloc, text),
+        "flags" => written::<bool, u32>(alloc, text),
+        "words" => written::<u32, String>(alloc, text),
+        "evens" => written::<Even, String>(alloc, text),
+        "tongues" => written::<(u32, String), String>(alloc, text),
+        "levels" => written::<Level, u32>(alloc, text),
         "limits" => copied_limits(alloc, text),
         "names" => copied_names(alloc, text),
         "overlay" => overlaid(alloc, text),
         "told" => told::answer(alloc, text),
         "rewrite" => rewritten(alloc, text.as_bytes()),
         "value" => written_value(alloc, text),
-        "nested" => over_short!(written::<((u8, bool), String), (u32, (bool, i8))>(alloc, text)),
+        "nested" => written::<((u8, bool), String), (u32, (bool, i8))>(alloc, text),
         _ => String::from_str(alloc, "no such types"),
     }
 }
 
-// The map that a text is read as, written as JSON: over a vector, over two columns and over a short store.
-fn written<K: JsonKey + Drop, V: JsonItem + Drop, S: StoreBulkMut<K, V>>(
-    alloc: Global,
-    text: &str,
-) -> Result<String, AllocError> {
+// The map that a text is read as, written as JSON: over a vector, over two columns and over a short store. That such a store fits
+// in memory is proved where its types are known.
+fn written<K: JsonKey + Drop, V: JsonItem + Drop>(alloc: Global, text: &str) -> Output
+    requires { FitsInMemory (the_row K.row V.row) }
+{
     let value = or_word!(alloc, "no JSON", Value::from_str(alloc, text));
-    let vector = shown::<K, V, Vec<(K, V)>>(alloc, from_json(alloc, &value))?;
-    let columns = shown::<K, V, ColumnStore<K, V>>(alloc, from_json(alloc, &value))?;
-    let short = shown::<K, V, S>(alloc, from_json(alloc, &value))?;
+    let vector = written_over::<K, V, Vec<(K, V)>>(alloc, &value)?;
+    let columns = written_over::<K, V, ColumnStore<K, V>>(alloc, &value)?;
+    let short = written_over::<K, V, ShortStore<K, V>>(alloc, &value)?;
     one_of(alloc, vector, columns, short)
 }
 
+// The same over one store.
+fn written_over<K: JsonKey + Drop, V: JsonItem + Drop, S: StoreBulkMut<K, V>>(
+    alloc: Global,
+    value: &Value,
+) -> Output {
+    shown::<K, V, S>(alloc, from_json(alloc, value))
+}
+
 // The same over a vector, with the map sent to JSON and back before.
-fn copied_limits(alloc: Global, text: &str) -> Result<String, AllocError> {
+fn copied_limits(alloc: Global, text: &str) -> Output {
     let value = or_word!(alloc, "no JSON", Value::from_str(alloc, text));
     let map = match from_json(alloc, &value) {
         Ok(limits) => Ok(limits::copied(alloc, &limits)?),
@@ -74,7 +85,7 @@ fn copied_limits(alloc: Global, text: &str) -> Result<String, AllocError> {
 }
 
 // The same of numbers by their names.
-fn copied_names(alloc: Global, text: &str) -> Result<String, AllocError> {
+fn copied_names(alloc: Global, text: &str) -> Output {
     let value = or_word!(alloc, "no JSON", Value::from_str(alloc, text));
     let map = match from_json(alloc, &value) {
         Ok(map) => Ok(numbers::copied(alloc, &map)?),
@@ -84,7 +95,7 @@ fn copied_names(alloc: Global, text: &str) -> Result<String, AllocError> {
 }
 
 // Two settings with those of a text over them, or why they stay.
-fn overlaid(alloc: Global, text: &str) -> Result<String, AllocError> {
+fn overlaid(alloc: Global, text: &str) -> Output {
     let mut settings = Settings::new_vec(alloc);
     for name in ["de", "fr"] {
         settings.insert(String::from_str(alloc, name)?, String::from_str(alloc, "")?)?;
@@ -98,14 +109,14 @@ fn overlaid(alloc: Global, text: &str) -> Result<String, AllocError> {
 }
 
 /// Flags that are brought over, or why they can't be.
-pub fn rewritten(alloc: Global, bytes: &[u8]) -> Result<String, AllocError> {
+pub fn rewritten(alloc: Global, bytes: &[u8]) -> Output {
     match unless_memory!(rewrite_flags(alloc, bytes), FlagsFault::Memory) {
         Ok(flags) => Ok(flags),
         Err(fault) => format!(in alloc; "{fault}"),
     }
 }
 
-fn written_value(alloc: Global, text: &str) -> Result<String, AllocError> {
+fn written_value(alloc: Global, text: &str) -> Output {
     let value = or_word!(alloc, "no JSON", Value::from_str(alloc, text));
     let mut out = Writer::new(Vec::new(alloc));
     write_value(alloc, &value, &mut out)?;
@@ -119,7 +130,7 @@ fn written_value(alloc: Global, text: &str) -> Result<String, AllocError> {
 fn shown<K: JsonKey + Drop, V: JsonItem + Drop, S: Store<K, V> + Drop>(
     alloc: Global,
     map: Result<LiteMap<K, V, S>, JsonFault>,
-) -> Result<String, AllocError> {
+) -> Output {
     let map = match unless_memory!(map, JsonFault::Memory) {
         Ok(map) => map,
         Err(fault) => return format!(in alloc; "{fault}"),
@@ -133,11 +144,7 @@ fn shown<K: JsonKey + Drop, V: JsonItem + Drop, S: Store<K, V> + Drop>(
 }
 
 // The text of a value, which is also that of its members written by themselves, and which a map was written as.
-fn one_text(
-    alloc: Global,
-    value: &Value,
-    written: Result<String, WriteFault>,
-) -> Result<String, AllocError> {
+fn one_text(alloc: Global, value: &Value, written: Result<String, WriteFault>) -> Output {
     let text = value.to_string(alloc)?;
     let mut out = Writer::new(Vec::new(alloc));
     write_parts(alloc, value, &mut out)?;
@@ -161,11 +168,7 @@ fn write_parts(alloc: Global, value: &Value, out: &mut Writer) -> Result<(), All
 }
 
 // An error, for which a map was not written, and what it says as one of std's.
-fn one_fault(
-    alloc: Global,
-    fault: WriteFault,
-    written: Result<String, WriteFault>,
-) -> Result<String, AllocError> {
+fn one_fault(alloc: Global, fault: WriteFault, written: Result<String, WriteFault>) -> Output {
     match written {
         Err(other) if other == fault => format!(in alloc; "{fault}; {}", io::Error::from(other)),
         _ => format!(in alloc; "{fault}, and it is written"),

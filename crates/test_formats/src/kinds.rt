@@ -1,16 +1,18 @@
 //! A text that is read and written again.
+ghost use Rattle.std.specs.Mem.{FitsInMemory};
+ghost use Rattle.litemap_short.specs.contracts.short_store.ShortStore.{the_row};
+
+use crate::Output;
 use litemap::store::StoreBulkMut;
 use litemap_columns::ColumnStore;
 use litemap_serde::SerdeMap;
+use litemap_short::ShortStore;
 use serde::{Deserialize, DeserializeOwned, Serialize};
 use serde_json::error::Category;
 use std::alloc::{AllocError, Global};
 
 /// A value that a JSON text is read as, written again.
-pub fn again<'t, T: Deserialize<'t> + Serialize>(
-    alloc: Global,
-    text: &'t str,
-) -> Result<String, AllocError> {
+pub fn again<'t, T: Deserialize<'t> + Serialize>(alloc: Global, text: &'t str) -> Output {
     match unless_memory!(serde_json::from_str::<T>(alloc, text)) {
         Ok(value) => written(alloc, &value),
         Err(fault) => String::from_str(alloc, fault_word(&fault)),
@@ -18,7 +20,7 @@ pub fn again<'t, T: Deserialize<'t> + Serialize>(
 }
 
 /// A value as JSON.
-pub fn written<T: Serialize>(alloc: Global, value: &T) -> Result<String, AllocError> {
+pub fn written<T: Serialize>(alloc: Global, value: &T) -> Output {
     Ok(or_word!(alloc, "not written", serde_json::to_string(alloc, value)))
 }
 
@@ -33,26 +35,32 @@ pub fn fault_word(fault: &serde_json::Error) -> &'static str {
     }
 }
 
-/// The same of a map: over a vector, over two columns and over a third store.
-pub fn map_again<'t, K, V, S>(alloc: Global, text: &'t str) -> Result<String, AllocError>
+/// The same of a map: over a vector, over two columns and over a short store. That such a store fits in memory is proved where
+/// its types are known.
+pub fn map_again<'t, K, V>(alloc: Global, text: &'t str) -> Output
+where
+    K: Deserialize<'t> + Serialize + Ord,
+    V: Deserialize<'t> + Serialize,
+    requires { FitsInMemory (the_row K.row V.row) }
+{
+    let vector = again_over::<K, V, Vec<(K, V)>>(alloc, text)?;
+    let columns = again_over::<K, V, ColumnStore<K, V>>(alloc, text)?;
+    let short = again_over::<K, V, ShortStore<K, V>>(alloc, text)?;
+    one_of(alloc, vector, columns, short)
+}
+
+// The same over one store.
+fn again_over<'t, K, V, S>(alloc: Global, text: &'t str) -> Output
 where
     K: Deserialize<'t> + Serialize + Ord,
     V: Deserialize<'t> + Serialize,
     S: StoreBulkMut<K, V>,
 {
-    let vector = again::<SerdeMap<K, V, Vec<(K, V)>>>(alloc, text)?;
-    let columns = again::<SerdeMap<K, V, ColumnStore<K, V>>>(alloc, text)?;
-    let short = again::<SerdeMap<K, V, S>>(alloc, text)?;
-    one_of(alloc, vector, columns, short)
+    again::<SerdeMap<K, V, S>>(alloc, text)
 }
 
 /// The output over each of three stores, or that they differ.
-pub fn one_of(
-    alloc: Global,
-    vector: String,
-    columns: String,
-    short: String,
-) -> Result<String, AllocError> {
+pub fn one_of(alloc: Global, vector: String, columns: String, short: String) -> Output {
     if columns == vector && short == vector {
         return Ok(vector);
     }
@@ -65,7 +73,7 @@ pub fn one_of(
 pub fn toml_again<K: DeserializeOwned + Serialize + Ord, V: DeserializeOwned + Serialize>(
     alloc: Global,
     text: &str,
-) -> Result<String, AllocError> {
+) -> Output {
     let map: SerdeMap<K, V, Vec<(K, V)>> = or_word!(alloc, "refused", toml::from_str(alloc, text));
     let text = or_word!(alloc, "not written", toml::to_string(alloc, &map));
     written(alloc, &text)

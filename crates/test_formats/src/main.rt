@@ -49,13 +49,6 @@ macro_rules! or_word {
     };
 }
 
-// Calls a function with a short store of the keys and values as its third type parameter.
-macro_rules! over_short {
-    ($function:ident::<$key:ty, $value:ty>($alloc:ident, $text:ident)) => {
-        $function::<$key, $value, ShortStore<$key, $value>>($alloc, $text)
-    };
-}
-
 mod falling;
 mod indexes;
 mod json_rows;
@@ -77,6 +70,12 @@ const END: usize = 1_000_033;
 
 const IDLE: usize = 1_000_063;
 
+// The output of a line, or that memory ran out.
+type Output = Result<String, AllocError>;
+
+// What is returned by what writes a part of one.
+type Written = Result<(), AllocError>;
+
 fn main(rt: HostRuntime) -> io::Result<()> {
     let input = io::read_to_string(rt.alloc(), rt.stdin())?;
     for line in input.lines() {
@@ -96,7 +95,7 @@ fn mark(alloc: Global, size: usize) {
     let _ = Vec::<u8>::with_capacity(alloc, size);
 }
 
-fn answer_line(alloc: Global, line: &str) -> Result<String, AllocError> {
+fn answer_line(alloc: Global, line: &str) -> Output {
     match line.split_once(' ') {
         Some(("table", row)) => table_rows::answer(alloc, row),
         Some(("json", row)) => json_rows::answer(alloc, row),

@@ -1,5 +1,5 @@
 //! Many cases at once.
-use crate::{indexes, tables, texts};
+use crate::{Written, indexes, tables, texts};
 use litemap_read::ReadFault;
 use name_index::CheckedNames;
 use name_table::{NameWriteFault, read_names, write_names};
@@ -27,7 +27,7 @@ impl<'a> Tally<'a> {
     }
 
     // Reads one more case, and adds what is read of it.
-    fn add(&mut self, alloc: Global, bytes: &[u8]) -> Result<(), AllocError> {
+    fn add(&mut self, alloc: Global, bytes: &[u8]) -> Written {
         let mut text = String::new(alloc);
         if let Some(keys) = &self.keys {
             indexes::write_opened(bytes, &mut text)?;
@@ -66,7 +66,7 @@ impl<'a> Tally<'a> {
     }
 
     /// Writes the numbers.
-    pub fn write(&self, output: &mut String) -> Result<(), AllocError> {
+    pub fn write(&self, output: &mut String) -> Written {
         let [cases, read, truncated, not_utf8, too_large, different] = self.counts;
         write!(
             output,
@@ -93,7 +93,7 @@ fn is_read_again(alloc: Global, bytes: &[u8]) -> Result<bool, AllocError> {
 }
 
 /// Each proper prefix.
-pub fn prefixes(alloc: Global, bytes: &[u8], tally: &mut Tally<'_>) -> Result<(), AllocError> {
+pub fn prefixes(alloc: Global, bytes: &[u8], tally: &mut Tally<'_>) -> Written {
     for size in 0..bytes.len() {
         tally.add(alloc, &bytes[..size])?;
     }
@@ -101,7 +101,7 @@ pub fn prefixes(alloc: Global, bytes: &[u8], tally: &mut Tally<'_>) -> Result<()
 }
 
 /// Each change of one byte.
-pub fn changes(alloc: Global, bytes: &[u8], tally: &mut Tally<'_>) -> Result<(), AllocError> {
+pub fn changes(alloc: Global, bytes: &[u8], tally: &mut Tally<'_>) -> Written {
     for (place, byte) in bytes.iter().enumerate() {
         for value in 0..=255u8 {
             if value != *byte {
@@ -117,7 +117,7 @@ pub fn changes(alloc: Global, bytes: &[u8], tally: &mut Tally<'_>) -> Result<(),
 }
 
 /// Each string of up to four of these bytes.
-pub fn strings(alloc: Global, bytes: &[u8], tally: &mut Tally<'_>) -> Result<(), AllocError> {
+pub fn strings(alloc: Global, bytes: &[u8], tally: &mut Tally<'_>) -> Written {
     let mut total = 1usize;
     for size in 0..5 {
         for code in 0..total {
@@ -135,7 +135,7 @@ fn add_string(
     size: usize,
     code: usize,
     tally: &mut Tally<'_>,
-) -> Result<(), AllocError> {
+) -> Written {
     let base = bytes.len();
     if base == 0 {
         return Ok(());

@@ -30,7 +30,7 @@
 //! - `cuts BYTES`, `damages BYTES`: what is opened of each proper prefix of an index, and with each byte changed, by kinds.
 use crate::json_rows::rewritten;
 use crate::sweeps::{self, Tally};
-use crate::{indexes, tables, texts};
+use crate::{Output, Written, indexes, tables, texts};
 use example_formats::languages::language_name;
 use hex::FromHexError;
 use litemap_json::JsonFault;
@@ -42,7 +42,7 @@ use std::alloc::{AllocError, Global};
 use std::fmt::Write;
 
 /// Returns the output of a line.
-pub fn answer(alloc: Global, line: &str) -> Result<String, AllocError> {
+pub fn answer(alloc: Global, line: &str) -> Output {
     let words: Vec<&str> = line.split(' ').collect(alloc)?;
     let Some((last, words)) = words.as_slice().split_last() else {
         return String::from_str(alloc, "bad line");
@@ -56,34 +56,36 @@ pub fn answer(alloc: Global, line: &str) -> Result<String, AllocError> {
     Ok(output)
 }
 
-fn write_answer(
-    alloc: Global,
-    words: &[&str],
-    bytes: &[u8],
-    output: &mut String,
-) -> Result<(), AllocError> {
+fn write_answer(alloc: Global, words: &[&str], bytes: &[u8], output: &mut String) -> Written {
     match words {
-        ["read"] => texts::write_read(alloc, bytes, output),
         ["find", key] => texts::write_found(alloc, key, bytes, output),
-        ["walk"] => texts::write_walk(bytes, output),
-        ["again"] => write_again(alloc, bytes, output),
         ["name", code] => write_name(alloc, code, bytes, output),
         ["table"] | ["ask" | "begin" | "word", _] => {
             tables::write_answer(alloc, words, bytes, output)
         }
-        ["index"] => indexes::write_digits(alloc, bytes, output),
-        ["opened"] => indexes::write_opened(bytes, output),
         ["look", key] => indexes::write_looked(key, bytes, output),
         ["many" | "often", number] => tables::write_many(alloc, words, number, output),
-        ["faults"] => write_faults(output),
-        ["rewrite"] => output.push_str(rewritten(alloc, bytes)?.as_str()),
-        [name] => sweep(alloc, name, bytes, output),
+        [name] => write_alone(alloc, name, bytes, output),
         _ => output.push_str("bad line"),
     }
 }
 
+// Writes what a word without another one asks of the bytes.
+fn write_alone(alloc: Global, name: &str, bytes: &[u8], output: &mut String) -> Written {
+    match name {
+        "read" => texts::write_read(alloc, bytes, output),
+        "walk" => texts::write_walk(bytes, output),
+        "again" => write_again(alloc, bytes, output),
+        "index" => indexes::write_digits(alloc, bytes, output),
+        "opened" => indexes::write_opened(bytes, output),
+        "faults" => write_faults(output),
+        "rewrite" => output.push_str(rewritten(alloc, bytes)?.as_str()),
+        _ => sweep(alloc, name, bytes, output),
+    }
+}
+
 // Writes what is written for the map that is read.
-fn write_again(alloc: Global, bytes: &[u8], output: &mut String) -> Result<(), AllocError> {
+fn write_again(alloc: Global, bytes: &[u8], output: &mut String) -> Written {
     let Ok((map, _)) = unless_memory!(read_names(alloc, bytes), ReadFault::NoRoom) else {
         return output.push_str("no map");
     };
@@ -97,12 +99,7 @@ fn write_again(alloc: Global, bytes: &[u8], output: &mut String) -> Result<(), A
 // The program's own names.
 const OWN: &[(&str, &str)] = &[("de", "German"), ("en", "own English"), ("zu", "Zulu")];
 
-fn write_name(
-    alloc: Global,
-    code: &str,
-    bytes: &[u8],
-    output: &mut String,
-) -> Result<(), AllocError> {
+fn write_name(alloc: Global, code: &str, bytes: &[u8], output: &mut String) -> Written {
     match language_name(alloc, bytes, OWN, code) {
         Ok(Some(name)) => output.push_str(name),
         Ok(None) => output.push_str("none"),
@@ -111,7 +108,7 @@ fn write_name(
 }
 
 // Writes each error that needs more memory than there is, or a text of another program.
-fn write_faults(output: &mut String) -> Result<(), AllocError> {
+fn write_faults(output: &mut String) -> Written {
     let (no_room, too_large) = (NameWriteFault::NoRoom, NameWriteFault::TooLarge);
     write!(output, "{no_room}; {too_large}; ")?;
     let (no_room, too_far) = (NameIndexFault::NoRoom, NameIndexFault::TooFar);
@@ -122,7 +119,7 @@ fn write_faults(output: &mut String) -> Result<(), AllocError> {
 }
 
 // Reads many cases, and writes what came of them. Those of an index are looked up by its keys.
-fn sweep(alloc: Global, name: &str, bytes: &[u8], output: &mut String) -> Result<(), AllocError> {
+fn sweep(alloc: Global, name: &str, bytes: &[u8], output: &mut String) -> Written {
     let keys = match name {
         "cuts" | "damages" => IndexedNames::open_checked(bytes).ok(),
         _ => None,

@@ -1,4 +1,5 @@
 //! What is found in a table that is looked up in its bytes.
+use crate::Written;
 use crate::indexes::{BothWays, index_of};
 use crate::texts::write_entry;
 use example_formats::prefixes::beginning;
@@ -10,34 +11,17 @@ use std::alloc::{AllocError, Global};
 use std::fmt::Write;
 
 /// Writes what a table returns for words, as `answer_line` has them, in each of its forms.
-pub fn write_answer(
-    alloc: Global,
-    words: &[&str],
-    bytes: &[u8],
-    output: &mut String,
-) -> Result<(), AllocError> {
+pub fn write_answer(alloc: Global, words: &[&str], bytes: &[u8], output: &mut String) -> Written {
     let table = or_fault!(NameTable::new_counted(bytes, &mut Count::new()), output);
     let written = index_of(alloc, bytes)?;
     let Some(forms) = Forms::of(alloc, table, written.as_slice())? else {
         return output.push_str("no index");
     };
-    match words {
-        ["ask", key] => forms.write_asked(key, output),
-        ["begin", text] => forms.write_beginning(text, output),
-        ["word", word] => forms.write_translated(word, output),
-        ["many", _] => forms.write_many(alloc, output),
-        ["often", _] => forms.write_often(output),
-        _ => forms.write_entries(alloc, output),
-    }
+    forms.write(alloc, words, output)
 }
 
 /// Writes what is found in a table of so many names, for the words `many` or `often`.
-pub fn write_many(
-    alloc: Global,
-    words: &[&str],
-    number: &str,
-    output: &mut String,
-) -> Result<(), AllocError> {
+pub fn write_many(alloc: Global, words: &[&str], number: &str, output: &mut String) -> Written {
     let bytes = many(alloc, number.parse::<u32>().unwrap_or(0))?;
     write_answer(alloc, words, bytes.as_slice(), output)
 }
@@ -64,6 +48,18 @@ impl<'a> Forms<'a> {
         Ok(Some(Forms { table, index, both }))
     }
 
+    // Writes what they return for words.
+    fn write(&self, alloc: Global, words: &[&str], output: &mut String) -> Written {
+        match words {
+            ["ask", key] => self.write_asked(key, output),
+            ["begin", text] => self.write_beginning(text, output),
+            ["word", word] => self.write_translated(word, output),
+            ["many", _] => self.write_many(alloc, output),
+            ["often", _] => self.write_often(output),
+            _ => self.write_entries(alloc, output),
+        }
+    }
+
     // Whether all return the same for a key.
     fn is_one(&self, key: &str) -> bool {
         self.is_indexed(key) && self.both.is_asked_alike(&self.table, key)
@@ -76,7 +72,7 @@ impl<'a> Forms<'a> {
     }
 
     // Writes each entry, with a word more if it isn't found again in each form.
-    fn write_entries(&self, alloc: Global, output: &mut String) -> Result<(), AllocError> {
+    fn write_entries(&self, alloc: Global, output: &mut String) -> Written {
         write!(output, "table {}:", self.index.len())?;
         let mut alike = self.is_walked() && self.both.has_entries_of(&self.table);
         for place in 0..self.table.len() {
@@ -117,7 +113,7 @@ impl<'a> Forms<'a> {
     }
 
     // Writes what is there at a key, if all return the same.
-    fn write_asked(&self, key: &str, output: &mut String) -> Result<(), AllocError> {
+    fn write_asked(&self, key: &str, output: &mut String) -> Written {
         if !self.is_one(key) {
             return output.push_str("another answer");
         }
@@ -129,7 +125,7 @@ impl<'a> Forms<'a> {
     }
 
     // Writes the indices of the names that begin with a string, each of these entries, and whether a scan finds others.
-    fn write_beginning(&self, text: &str, output: &mut String) -> Result<(), AllocError> {
+    fn write_beginning(&self, text: &str, output: &mut String) -> Written {
         let places = self.index.prefix_range(text);
         write!(output, "{} to {}:", places.start, places.end)?;
         for (name, value) in self.index.entries_in(places) {
@@ -160,7 +156,7 @@ impl<'a> Forms<'a> {
     }
 
     // Writes the string for a word, or the word itself, if all have the same.
-    fn write_translated(&self, word: &str, output: &mut String) -> Result<(), AllocError> {
+    fn write_translated(&self, word: &str, output: &mut String) -> Written {
         let text = words::by_table(&self.table, word);
         if words::by_places(&self.index, word) != text || !self.both.is_translated(word, text) {
             return output.push_str("another answer");
@@ -169,7 +165,7 @@ impl<'a> Forms<'a> {
     }
 
     // Writes how many of some keys of a table of `many` names are found: 16 that are there, and one after each of these.
-    fn write_many(&self, alloc: Global, output: &mut String) -> Result<(), AllocError> {
+    fn write_many(&self, alloc: Global, output: &mut String) -> Written {
         let number = self.table.len();
         let mut key = String::new(alloc);
         let (mut there, mut between) = (0u32, 0u32);
@@ -186,7 +182,7 @@ impl<'a> Forms<'a> {
     }
 
     // Writes how many of all names the indexes find.
-    fn write_often(&self, output: &mut String) -> Result<(), AllocError> {
+    fn write_often(&self, output: &mut String) -> Written {
         let mut found = 0u32;
         for place in 0..self.index.len() {
             let (key, _) = self.index.get_indexed(place).unwrap_or(("", ""));
@@ -217,7 +213,7 @@ fn many(alloc: Global, number: u32) -> Result<Vec<u8>, AllocError> {
 }
 
 // Writes a number in groups of seven bits.
-fn put_number(number: u32, bytes: &mut Vec<u8>) -> Result<(), AllocError> {
+fn put_number(number: u32, bytes: &mut Vec<u8>) -> Written {
     let mut rest = number;
     for _ in 0..5 {
         if rest < 128 {

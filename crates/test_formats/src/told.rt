@@ -1,4 +1,5 @@
 //! The output of a line that wants an error as it is shown to people.
+use crate::Output;
 use example_formats::evens::Even;
 use example_formats::levels::Level;
 use litemap::VecMap;
@@ -8,7 +9,7 @@ use std::alloc::{AllocError, Global};
 use std::io;
 
 /// Returns the output of a line `TYPES TEXT`: why the text is no map of these types, or that it is one.
-pub fn answer(alloc: Global, line: &str) -> Result<String, AllocError> {
+pub fn answer(alloc: Global, line: &str) -> Output {
     let Some((types, text)) = line.split_once(' ') else {
         return String::from_str(alloc, "no types");
     };
@@ -33,10 +34,7 @@ pub fn answer(alloc: Global, line: &str) -> Result<String, AllocError> {
     }
 }
 
-fn told<K: JsonKey + Drop, V: JsonItem + Drop>(
-    alloc: Global,
-    text: &str,
-) -> Result<String, AllocError> {
+fn told<K: JsonKey + Drop, V: JsonItem + Drop>(alloc: Global, text: &str) -> Output {
     let value = or_word!(alloc, "no JSON", Value::from_str(alloc, text));
     let map: Result<VecMap<K, V>, JsonFault> = from_json(alloc, &value);
     match unless_memory!(map, JsonFault::Memory) {
@@ -46,7 +44,7 @@ fn told<K: JsonKey + Drop, V: JsonItem + Drop>(
 }
 
 // The same, told of a value that was not read, and has no such index; and what it says as an error of std's.
-fn told_elsewhere(alloc: Global, text: &str) -> Result<String, AllocError> {
+fn told_elsewhere(alloc: Global, text: &str) -> Output {
     let value = or_word!(alloc, "no JSON", Value::from_str(alloc, text));
     let other = or_word!(alloc, "no JSON", Value::from_str(alloc, "null"));
     let map: Result<VecMap<u32, u32>, JsonFault> = from_json(alloc, &value);

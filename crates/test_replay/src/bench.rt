@@ -55,8 +55,7 @@ impl<S: StoreConstEmpty<Key, Value>> Bench<S> {
 }
 
 impl<S: Tested> Bench<S> {
-    /// Makes the map, or the store, with which a line begins, and its call. Writes what this returned and left, and compares all
-    /// with what the line says.
+    /// Makes the map, or the store, with which a line begins, and its call. Writes what this returned and left, and compares it.
     pub fn make(
         &mut self,
         line: &Line<'_>,

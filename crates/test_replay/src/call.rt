@@ -134,9 +134,8 @@ impl<'w> Call<'w> {
         Some(pairs)
     }
 
-    /// The pairs that the words from an index on spell: `KEY:VALUE`, or `FIRST,COUNT,STEP` for as many keys from the first one
-    /// on by steps, each with its index as its value. After `room=N` their vector has room for so many more. They are made before
-    /// the call begins.
+    /// The pairs that the words from an index on spell, made before the call begins: `KEY:VALUE`, or `FIRST,COUNT,STEP` for as
+    /// many keys from the first on by steps, each with its index as its value. After `room=N` their vector has room for N more.
     pub fn pairs(&self, place: usize) -> Option<Vec<Pair>> {
         self.end();
         let mut pairs = Vec::new(self.alloc);

@@ -10,6 +10,7 @@ use std::mem;
 pub fn look<S: Store<Key, Value>>(map: &Map<S>, call: &Call<'_>, to: &mut Answer) -> bool {
     with_no_key(map, call, to).is_some()
         || by_key(map, call, to).is_some()
+        || by_found_key(map, call, to).is_some()
         || bounds(map, call, to).is_some()
 }
 
@@ -37,25 +38,26 @@ fn by_key<S: Store<Key, Value>>(map: &Map<S>, call: &Call<'_>, to: &mut Answer) 
         "contains_key" => to.show(map.contains_key(&call.key(0)?)),
         "find_index" => to.index(map.find_index(&call.key(0)?)),
         "find_index_counted" => to.index(map.find_index_counted(&call.key(0)?, count)),
-        "get_by" => {
-            let key = call.key(0)?;
-            to.some(map.get_by(|there| there.cmp(&key)));
-        }
-        "find_index_by" => {
-            let key = call.key(0)?;
-            to.index(map.find_index_by(|there| there.cmp(&key)));
-        }
-        "index" => {
-            // What tells that the key is there is no part of the call.
-            let key = call.key(0)?;
-            if map.contains_key(&key) {
-                call.begin();
-                to.show(map.index(&key));
-            } else {
-                to.word("absent");
-            }
-        }
         _ => return None,
+    }
+    Some(())
+}
+
+// The calls by a closure, and `index`, which is made if the key is there.
+fn by_found_key<S: Store<Key, Value>>(map: &Map<S>, call: &Call<'_>, to: &mut Answer) -> Made {
+    if !matches!(call.name, "get_by" | "find_index_by" | "index") {
+        return None;
+    }
+    let key = call.key(0)?;
+    match call.name {
+        "get_by" => to.some(map.get_by(|there| there.cmp(&key))),
+        "find_index_by" => to.index(map.find_index_by(|there| there.cmp(&key))),
+        _ if map.contains_key(&key) => {
+            // What tells that the key is there is no part of the call.
+            call.begin();
+            to.show(map.index(&key));
+        }
+        _ => to.word("absent"),
     }
     Some(())
 }
