@@ -55,7 +55,8 @@ impl<S: StoreConstEmpty<Key, Value>> Bench<S> {
 }
 
 impl<S: Tested> Bench<S> {
-    /// Makes the map, or the store, with which a line begins, and its call. Writes what this returned and left, and compares it.
+    /// Makes the map, or the store, with which a line begins, and its call. Writes what this returned and left, and compares all
+    /// with what the line says.
     pub fn make(
         &mut self,
         line: &Line<'_>,

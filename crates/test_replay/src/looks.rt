@@ -10,7 +10,7 @@ use std::mem;
 pub fn look<S: Store<Key, Value>>(map: &Map<S>, call: &Call<'_>, to: &mut Answer) -> bool {
     with_no_key(map, call, to).is_some()
         || by_key(map, call, to).is_some()
-        || by_found_key(map, call, to).is_some()
+        || by_closure(map, call, to).is_some()
         || bounds(map, call, to).is_some()
 }
 
@@ -44,7 +44,7 @@ fn by_key<S: Store<Key, Value>>(map: &Map<S>, call: &Call<'_>, to: &mut Answer) 
 }
 
 // The calls by a closure, and `index`, which is made if the key is there.
-fn by_found_key<S: Store<Key, Value>>(map: &Map<S>, call: &Call<'_>, to: &mut Answer) -> Made {
+fn by_closure<S: Store<Key, Value>>(map: &Map<S>, call: &Call<'_>, to: &mut Answer) -> Made {
     if !matches!(call.name, "get_by" | "find_index_by" | "index") {
         return None;
     }
