@@ -27,6 +27,10 @@ module _ {K V : Type 0} (text : K → Option (List ℕ)) (key_json : K → Data)
       let unnamed : text x.0 ≡ None = sym made ∙ ap (option_map bytes) none in
       sym (rw (next L i x found.0 found.1, unnamed) at so_far)
 
+pub after_none : (r : Result (List (Data × Data)) JsonFault) → r ≡ after [] r
+after_none (Err e) = refl
+after_none (Ok qs) = refl
+
 after_more : (ps : List (Data × Data)) (p : Data × Data) (r : Result (List (Data × Data)) JsonFault) → after ps (before (Ok p) r) ≡ after (ps ++ p ∷ []) r
 after_more ps p (Err e) = refl
 after_more ps p (Ok qs) = ap Ok (sym (append_assoc ps (p ∷ []) qs))

@@ -1,4 +1,5 @@
 -- Lemmas of the proofs.
 pub mod Sifted
+pub mod Asked
 pub mod Runs
 pub mod ReadLookups

@@ -1,5 +1,6 @@
 use Rattle.std.proofs.Common.{Ok, ap, append-nil, arith, ◌∙◌}
 use Rattle.std.proofs.lemmas.List.{drop_all}
+use Rattle.std.proofs.lemmas.Result.{err_from_is_err_and}
 use Rattle.litemap_json.specs.Reading.{seen}
 use Rattle.litemap_json.proofs.ByPlace.{next, seen_more}
 use Rattle.litemap_json.proofs.read.read_rows.Goals as goal
@@ -13,3 +14,9 @@ pub returns : goal.returns
 returns g c =
     let so_far = rw (drop_all c.loop-place.place c.deref-row-items.result.now (omega arith)) at c.loop-place.invariant in
     (rw c.deref-row-items.ensures.value at so_far) ∙ ap Ok (append-nil (seen g.K.JsonItem.json g.V.JsonItem.json c.loop-place.found.items))
+
+pub returns-in_err-pair : goal.returns-in_err-pair
+returns-in_err-pair g c =
+    let stopped = err_from_is_err_and c.from_residual.result c.from_residual.ensures.1 in
+    let so_far = rw (next c.deref-row-items.result.now c.loop-place.place c.row-item.result (omega arith) c.row-item.is) at c.loop-place.invariant in
+    rw (stopped.1, stopped.2) (λ known. rw (c.deref-row-items.ensures.value, c.in_err-pair.ensures known) at so_far)

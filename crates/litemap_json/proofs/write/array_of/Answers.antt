@@ -1,5 +1,6 @@
-use Rattle.std.proofs.Common.{arith}
+use Rattle.std.proofs.Common.{arith, refl}
 use Rattle.std.proofs.lemmas.Grind.{common_steps}
+use Rattle.std.proofs.lemmas.List.{take_all}
 use Rattle.litemap_json.proofs.Again.{array_step}
 use Rattle.litemap_json.proofs.ByPlace.{at_place}
 use Rattle.litemap_json.proofs.write.array_of.Goals as goal
@@ -14,3 +15,7 @@ loop-place-preserved g c =
       readable = array_step g.K.Ord.cmp g.met.K.Ord.total g.K.JsonKey.text g.K.JsonKey.key g.K.JsonItem.item g.V.JsonItem.item g.K.JsonItem.json g.V.JsonItem.json
           L c.loop-place.place x found.0 found.1 c.loop-place.invariant.readable c.in_ok-value_of_two.ensures.reads_back;
     }
+
+pub returns-clause-tree : goal.returns-clause-tree
+returns-clause-tree g c =
+    rw (c.from.ensures, (rw (take_all c.loop-place.place c.args.map.now.pairs (omega arith)) at c.loop-place.invariant.made)) refl

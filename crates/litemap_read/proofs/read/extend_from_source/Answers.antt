@@ -1,7 +1,6 @@
-use Rattle.std.proofs.Common.{rules, arith}
-use Rattle.litemap_store.proofs.Stores.Counting.{always_on_err}
+use Rattle.std.proofs.Common.{arith}
 use Rattle.litemap_store.proofs.Last.FirstGiven.{some_refused}
-use Rattle.litemap_read.proofs.Sifted.{always_if_err}
+use Rattle.litemap_read.proofs.Asked.{asked_refused}
 use Rattle.litemap_read.proofs.read.extend_from_source.Goals as goal
 
 -- the pairs that were read didn't go in, so there are some
@@ -9,11 +8,5 @@ pub returns-in_err-extend_from_vec-clause-asked : goal.returns-in_err-extend_fro
 returns-in_err-extend_from_vec-clause-asked g c =
     let pairs = c.in_ok-pairs.pairs in
     let some = rw c.in_err-extend_from_vec.was at (some_refused g.K.Ord.cmp c.extend_from_vec.result c.args.map.now.pairs pairs.items c.args.map.now.room c.extend_from_vec.ensures.succeeds) in
-    record {
-      ends = search rules;
-      empty = search rules;
-      error = search rules;
-      rest = always_on_err c.from_residual-in_err-extend_from_vec.result c.drain.ensures.rest;
-      leads = search rules;
-      refused_some = always_if_err _ c.from_residual-in_err-extend_from_vec.result (omega (arith, pairs.ok.0, c.in_ok-pairs.ensures.fewer, some));
-    }
+    asked_refused c.from_residual-in_err-extend_from_vec.result c.from_residual-in_err-extend_from_vec.ensures.1
+    c.drain.ensures.rest c.drain.ensures.asked.leads (omega (arith, pairs.ok.0, c.in_ok-pairs.ensures.fewer, some))

@@ -41,3 +41,6 @@ returns-in_err-extend_from_vec-clause-refused_some g c =
     let all : Gives g.I.IntoIterator.into_iter_gives g.I.IntoIter.Iterator.next_gives c.args.iter c.loop-item.yielded = search rules in
     always_if_err _ c.from_residual-in_err-extend_from_vec.result (GivesSome-from_some g.I.IntoIterator.into_iter_gives g.I.IntoIter.Iterator.next_gives c.args.iter
     c.loop-item.yielded all (some_given before.0 c.loop-item.yielded before.1 (some_sifted g.K.Ord.cmp before.0 c.loop-item.map.pairs aside before.2 put_aside)))
+
+pub loop-item-init-derived : goal.loop-item-init-derived
+loop-item-init-derived g c = c.requires _ c.into_iter-item-iterator.ensures.into_iter_gives

@@ -7,3 +7,6 @@ returns-then-is_ge-clause-rising g c = (λ f. cc, λ h. let a = adjacent_from_Ri
 
 pub returns-clause-rising : goal.returns-clause-rising
 returns-clause-rising g c = (λ _. Rising-from_adjacent g.K.Ord.cmp g.met.K.Ord.total c.args.pairs.now (λ k d h. c.loop-i.invariant.near k d (omega arith)), λ h. search rules)
+
+pub loop-i-preserved : goal.loop-i-preserved
+loop-i-preserved g c = grind (arith, common_steps)

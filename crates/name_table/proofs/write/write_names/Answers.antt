@@ -16,8 +16,11 @@ pub loop-pair-preserved : goal.loop-pair-preserved
 loop-pair-preserved c =
     shortest_pair shown c.as_slice-pairs.result.now c.loop-pair.pair-index _ c.loop-pair-test.true c.loop-pair.bytes.items c.put_pair.new.bytes.items (length c.as_slice-pairs.result.now) c.loop-pair.invariant c.in_ok-put_pair.ensures.ok
 
-pub returns-clause-read_again : goal.returns-clause-read_again
-returns-clause-read_again c =
+pub returns : goal.returns
+returns c =
     let all = rw (take_all c.loop-pair.pair-index c.as_slice-pairs.result.now (omega arith)) at c.loop-pair.invariant in
-    rw (← c.as_slice-pairs.ensures.pairs)
-    (read_again c.loop-pair.bytes.items c.as_slice-pairs.result.now (rw (length-map c.as_slice-pairs.result.now shown) all.spelled) c.as_slice-pairs.ensures.rising)
+    rw (← c.as_slice-pairs.ensures.pairs) (record {
+      table = rw length-map all;
+      read_again = read_again c.loop-pair.bytes.items c.as_slice-pairs.result.now (rw (length-map c.as_slice-pairs.result.now shown) all.spelled) c.as_slice-pairs.ensures.rising;
+      too_large = tt;
+    })

@@ -1,5 +1,6 @@
 use Rattle.std.proofs.Common.{◌++◌, ◌∷◌, ◌∙◌, [], ap, append_assoc, arith, rules, sym, take_all}
 use Rattle.json.specs.Token.{begin_object, key, string}
+use Rattle.litemap.proofs.Places.{is_there}
 use Rattle.names_core.specs.Reply.{pair_bytes, pair_tokens}
 use Rattle.names_core.specs.Told.{line}
 use Rattle.names_core.proofs.Pairs.{flat_map_one_more, print-object}
@@ -18,3 +19,6 @@ returns g c =
     let L = c.args.names.now.pairs in
     let tokens = rw (take_all c.loop-index.index L (omega arith)) at c.loop-index.invariant.1 in
     rw (c.in_ok-push_str.ensures.bytes, c.written-text.ensures, c.in_ok-end_object.ensures.ok, tokens) (ap line (print-object L (sym c.is_empty.ensures ∙ c.if-is_empty.false)))
+
+pub unwrap-requires : goal.unwrap-requires
+unwrap-requires g c = is_there _ _ c.args.names.now.pairs c.loop-index.index c.get_indexed.ensures (omega (arith, c.loop-index-test.true, c.len-index-end.ensures.len))

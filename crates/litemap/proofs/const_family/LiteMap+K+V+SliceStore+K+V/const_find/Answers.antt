@@ -21,3 +21,6 @@ returns-in-Ok-clause-found g c =
       within = found_within g.Q.Query.order pairs sought c.in-Ok.index found;
       there = there;
     }
+
+pub const_get_indexed_or_panic-requires : goal.const_get_indexed_or_panic-requires
+const_get_indexed_or_panic-requires g c = found_within g.Q.Query.order c.args.self.now.pairs (g.Q.Query.sought c.args.key) c.in-Ok.index c.in-Ok.ensures.splits

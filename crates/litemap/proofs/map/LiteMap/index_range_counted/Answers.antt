@@ -4,16 +4,12 @@ use Rattle.litemap.proofs.map.LiteMap.index_range_counted.Goals as goal
 
 pub returns-clause-indices : goal.returns-clause-indices
 returns-clause-indices g c =
-    let L = c.args.self.now.pairs in
-    let start = c.start_of-start in
-    let end = c.end_of-end in
-    let far = c.saturating_sub in
-    let len = length-between _ _ L start.result end.result start.ensures.cut end.ensures.cut in
-    let first = within-cut _ L start.result start.ensures.cut in
-    let last = within-cut _ L end.result end.ensures.cut in
+    let start = c.start_of-start.ensures.cut in
+    let end = c.end_of-end.ensures.cut in
+    let far = c.saturating_sub.ensures in
     record {
-      pairs = sub_between _ _ L start.result end.result far.result _ far.ensures (omega arith) start.ensures.cut end.ensures.cut;
-      start = sym (length-before _ L start.result start.ensures.cut);
-      len = omega (arith, len, far.ensures);
-      inside = omega (arith, first, last, far.ensures);
+      pairs = sub_between _ _ _ _ _ _ _ far (omega arith) start end;
+      start = sym (length-before _ _ _ start);
+      len = omega (arith, length-between _ _ _ _ _ start end, far);
+      inside = omega (arith, within-cut _ _ _ start, within-cut _ _ _ end, far);
     }

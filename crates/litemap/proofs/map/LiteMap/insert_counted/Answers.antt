@@ -1,19 +1,15 @@
-use Rattle.litemap.proofs.Common.{ap, arith, ◌∙◌, option_map, refl, set_value, sym, Some, found_set_value, found_value}
+use Rattle.litemap.proofs.Common.{ap, arith, ◌∙◌, option_map, refl, set_value, sym, Some, found_set_value, found_value, found_within}
 use Rattle.litemap.proofs.Outcomes.{not_missing}
 use Rattle.litemap.proofs.map.LiteMap.insert_counted.Goals as goal
 
 pub returns-in-Ok-clause-inserts : goal.returns-in-Ok-clause-inserts
-returns-in-Ok-clause-inserts g c =
-    let pairs = c.args.self.now.pairs in
-    let index = c.in-Ok.index in
-    let found = c.in-Ok.ensures.splits in
-    record {
-      put = ap (set_value pairs index) c.replace.ensures.after ∙ found_set_value g.K.Ord.cmp pairs c.args.key index found c.args.value;
-      old = ap Some c.replace.ensures.value ∙ sym c.value_in_mut.ensures.value ∙ found_value g.K.Ord.cmp pairs c.args.key index found;
-      absent = tt;
-      refused = record { unchanged = tt; full = tt; back = tt; room = omega arith };
-      room_kept = λ there. refl;
-    }
+returns-in-Ok-clause-inserts g c = record {
+  put = ap (set_value c.args.self.now.pairs c.in-Ok.index) c.replace.ensures.after ∙ found_set_value _ _ _ _ c.in-Ok.ensures.splits c.args.value;
+  old = ap Some c.replace.ensures.value ∙ sym c.value_in_mut.ensures.value ∙ found_value _ _ _ _ c.in-Ok.ensures.splits;
+  absent = tt;
+  refused = record { unchanged = tt; full = tt; back = tt; room = omega arith };
+  room_kept = λ there. refl;
+}
 
 pub returns-in_ok-insert_at-in-Err-clause-inserts : goal.returns-in_ok-insert_at-in-Err-clause-inserts
 returns-in_ok-insert_at-in-Err-clause-inserts g c = record {
@@ -23,3 +19,6 @@ returns-in_ok-insert_at-in-Err-clause-inserts g c = record {
   refused = record { unchanged = tt; full = tt; back = tt; room = c.in_ok-insert_at-in-Err.ensures.refused.room };
   room_kept = λ there. absurd (not_missing g.K.Ord.cmp c.args.self.now.pairs c.args.key there c.in-Err.ensures.splits);
 }
+
+pub value_in_mut-requires : goal.value_in_mut-requires
+value_in_mut-requires g c = found_within _ _ _ _ c.in-Ok.ensures.splits

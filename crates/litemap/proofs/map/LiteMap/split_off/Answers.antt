@@ -1,54 +1,52 @@
-use Rattle.litemap.proofs.Common.{arith, ◌≡◌, ◌≤◌, false, true, drop, take, inl, inr, length, sym, ap, subst, ◌∙◌, ⊎_elim, Rising}
-use Rattle.litemap.proofs.Common.{Rising-filter}
+use Rattle.litemap.proofs.Common.{arith, take, inl, inr, length, refl, sym, ap, ◌∙◌, true≢false, ⊎_elim, Rising-filter}
 use Rattle.litemap.proofs.Cuts.{drop-cut, first_cut, last_cut, take-cut, within-cut}
+use Rattle.litemap_store.proofs.Lists.Parts.{Rising-drop}
+use Rattle.std.proofs.lemmas.List.{take-append-drop, nil_from_length}
 use Rattle.litemap.proofs.map.LiteMap.split_off.Goals as goal
 
 pub split_store-requires : goal.split_store-requires
-split_store-requires g c = subst (λ L. c.start_of-index.result ≤ length L) (sym (ap (λ m. m.pairs) c.self.view_is)) (within-cut _ c.args.self.now.pairs c.start_of-index.result c.start_of-index.ensures.cut)
+split_store-requires g c = rw (ap (λ m. m.pairs) c.self.view_is) (within-cut _ _ _ c.start_of-index.ensures.cut)
 
 pub returns-in_err-later-clause-succeeds : goal.returns-in_err-later-clause-succeeds
 returns-in_err-later-clause-succeeds g c = λ either.
-    let now = c.args.self.now.pairs in
-    let index = c.start_of-index.result in
     let cut = c.start_of-index.ensures.cut in
-    let impossible : false ≡ true = c.in_err-later.ensures.succeeds (⊎_elim (λ b. inl (first_cut _ now index cut b)) (λ w. inr (last_cut _ now index cut w ∙ ap length (sym (ap (λ m. m.pairs) c.self.view_is)))) either) in
-    absurd (cc)
+    let long = ap (λ m. length m.pairs) (sym c.self.view_is) in
+    absurd (true≢false (sym (c.in_err-later.ensures.succeeds (⊎_elim (λ b. inl (first_cut _ _ _ cut b)) (λ w. inr (last_cut _ _ _ cut w ∙ long)) either))))
 
 pub from_sorted_store_unchecked-requires : goal.from_sorted_store_unchecked-requires
 from_sorted_store_unchecked-requires g c =
-    let now = c.args.self.now.pairs in
-    let index = c.start_of-index.result in
-    let is = ap (λ m. m.pairs) c.self.view_is in
-    subst (Rising g.K.Ord.cmp) (sym (c.in_ok-later.ensures.later ∙ ap (drop index) is ∙ drop-cut _ now index c.start_of-index.ensures.cut))
-    (Rising-filter g.K.Ord.cmp _ now (subst (Rising g.K.Ord.cmp) is c.self.invariant))
+    rw c.in_ok-later.ensures.later (Rising-drop g.K.Ord.cmp (g.S.Store.pairs c.self.inside.store) c.start_of-index.result c.self.invariant)
 
 pub invariant_of-self-2 : goal.invariant_of-self-2
 invariant_of-self-2 g c =
-    let now = c.args.self.now.pairs in
-    let index = c.start_of-index.result in
-    let is = ap (λ m. m.pairs) c.self.view_is in
-    subst (Rising g.K.Ord.cmp) (sym (c.in_ok-later.ensures.stays ∙ ap (take index) is ∙ take-cut _ now index c.start_of-index.ensures.cut))
-    (Rising-filter g.K.Ord.cmp _ now (subst (Rising g.K.Ord.cmp) is c.self.invariant))
+    rw (c.in_ok-later.ensures.stays, ap (λ m. m.pairs) c.self.view_is, take-cut _ _ _ c.start_of-index.ensures.cut)
+    (Rising-filter g.K.Ord.cmp _ _ (rw (ap (λ m. m.pairs) c.self.view_is) at c.self.invariant))
 
 pub returns-clause-below : goal.returns-clause-below
 returns-clause-below g c =
-    let index = c.start_of-index.result in
-    c.in_ok-later.ensures.stays ∙ ap (take index) (ap (λ m. m.pairs) c.self.view_is) ∙ take-cut _ c.args.self.now.pairs index c.start_of-index.ensures.cut
+    rw (c.in_ok-later.ensures.stays, ap (λ m. m.pairs) c.self.view_is) (take-cut _ _ _ c.start_of-index.ensures.cut)
 
 pub returns-clause-from : goal.returns-clause-from
 returns-clause-from g c =
-    let index = c.start_of-index.result in
-    c.from_sorted_store_unchecked.ensures.pairs ∙ c.in_ok-later.ensures.later ∙ ap (drop index) (ap (λ m. m.pairs) c.self.view_is) ∙ drop-cut _ c.args.self.now.pairs index c.start_of-index.ensures.cut
+    c.from_sorted_store_unchecked.ensures.pairs ∙ rw (c.in_ok-later.ensures.later, ap (λ m. m.pairs) c.self.view_is) (drop-cut _ _ _ c.start_of-index.ensures.cut)
+
+pub returns-clause-all : goal.returns-clause-all
+returns-clause-all g c =
+    rw (c.from_sorted_store_unchecked.ensures.pairs, c.in_ok-later.ensures.stays, c.in_ok-later.ensures.later, ← c.self.view_is) (take-append-drop c.start_of-index.result _)
 
 pub returns-clause-unchanged : goal.returns-clause-unchanged
 returns-clause-unchanged g c = λ none.
-    let last = last_cut _ c.args.self.now.pairs c.start_of-index.result c.start_of-index.ensures.cut none in
-    rw (c.in_ok-later.ensures.unchanged (last ∙ ap length (sym (ap (λ m. m.pairs) c.self.view_is)))) c.self.view_is
+    let last = last_cut _ _ _ c.start_of-index.ensures.cut none in
+    rw (c.in_ok-later.ensures.unchanged (last ∙ ap (λ m. length m.pairs) (sym c.self.view_is))) c.self.view_is
+
+pub returns-clause-whole : goal.returns-clause-whole
+returns-clause-whole g c = λ none some.
+    let zero = first_cut _ _ _ c.start_of-index.ensures.cut none in
+    let later = c.in_ok-later.ensures.whole zero (λ long. some (nil_from_length _ (ap (λ m. length m.pairs) (sym c.self.view_is) ∙ sym long ∙ zero))) in
+    rw (← c.self.view_is, ← later, ← c.from_sorted_store_unchecked.ensures.pairs, ← c.from_sorted_store_unchecked.ensures.room) refl
 
 pub returns-clause-room : goal.returns-clause-room
 returns-clause-room g c = λ keeps some.
-    let now = c.args.self.now.pairs in
-    let index = c.start_of-index.result in
-    let none = sym (take-cut _ now index c.start_of-index.ensures.cut) in
-    let kept = c.in_ok-later.ensures.room keeps (λ zero. some (none ∙ ap (λ n. take n now) zero)) in
+    let none = sym (take-cut _ _ _ c.start_of-index.ensures.cut) in
+    let kept = c.in_ok-later.ensures.room keeps (λ zero. some (none ∙ ap (λ n. take n c.args.self.now.pairs) zero)) in
     omega (arith, kept, ap (λ m. m.room) c.self.view_is, ap length (c.from_sorted_store_unchecked.ensures.pairs ∙ c.in_ok-later.ensures.later))

@@ -1,4 +1,4 @@
-use Rattle.litemap.proofs.Common.{refl}
+use Rattle.litemap.proofs.Common.{refl, arith, found_within}
 use Rattle.litemap.proofs.Cuts.{IsCut-none, after_found, after_missing, before_found, before_missing}
 use Rattle.litemap.proofs.map.LiteMap.start_of.Goals as goal
 
@@ -16,3 +16,6 @@ returns-in-Err-clause-cut g c = rw c.in-Excluded.is (after_missing g.Q.Query.ord
 
 pub returns-in-Unbounded-clause-cut : goal.returns-in-Unbounded-clause-cut
 returns-in-Unbounded-clause-cut g c = rw c.in-Unbounded.is (IsCut-none _ c.args.self.now.pairs (λ p. refl))
+
+pub overflow_add-result : goal.overflow_add-result
+overflow_add-result g c = let within = found_within _ _ _ _ c.in-Ok-search.ensures.splits in omega (arith, within)

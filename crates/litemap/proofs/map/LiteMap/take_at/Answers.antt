@@ -4,3 +4,6 @@ use Rattle.litemap.proofs.map.LiteMap.take_at.Goals as goal
 pub invariant_of-self : goal.invariant_of-self
 invariant_of-self g c =
     rw c.lm_remove.ensures.pairs (Rising-remove g.K.Ord.cmp (g.S.Store.pairs c.self.inside.store) c.args.index c.self.invariant)
+
+pub returns-clause-pairs : goal.returns-clause-pairs
+returns-clause-pairs g c = rw (← c.self.view_is) c.lm_remove.ensures.pairs

@@ -1,14 +1,11 @@
-use Rattle.litemap.proofs.Common.{◌≡◌, refl, slice_get, subst, sym, ap, ◌∙◌, at, put, at-put, put_get}
+use Rattle.litemap.proofs.Common.{refl, sym, ◌∙◌, at-put, put_get, found_there, found_within}
 use Rattle.litemap.proofs.Entries.{within-put}
 use Rattle.litemap.proofs.map.LiteMap.try_find_or_insert.Goals as goal
 
 pub returns-in-Ok-insert_at-clause-there : goal.returns-in-Ok-insert_at-clause-there
 returns-in-Ok-insert_at-clause-there g c =
-    let old = c.args.self.now.pairs in
-    let key = c.args.key in
-    let value = c.in-Ok-f.value in
-    subst (λ M. slice_get M c.in-Err.index ≡ at g.K.Ord.cmp M key) (sym c.in-Ok-insert_at.ensures.put)
-    (ap (slice_get (put g.K.Ord.cmp old key value)) c.in-Err.ensures.splits.place ∙ put_get g.K.Ord.cmp old key value ∙ sym (at-put g.met.K.Ord.total key old value))
+    rw (c.in-Ok-insert_at.ensures.put, c.in-Err.ensures.splits.place)
+    (put_get g.K.Ord.cmp _ _ _ ∙ sym (at-put g.met.K.Ord.total c.args.key c.args.self.now.pairs c.in-Ok-f.value))
 
 pub returns-in-Err-insert_at-clause-errors : goal.returns-in-Err-insert_at-clause-errors
 returns-in-Err-insert_at-clause-errors g c = record {
@@ -20,3 +17,9 @@ returns-in-Err-insert_at-clause-errors g c = record {
 pub returns-in-Ok-insert_at-clause-within : goal.returns-in-Ok-insert_at-clause-within
 returns-in-Ok-insert_at-clause-within g c =
     rw c.in-Ok-insert_at.ensures.put (within-put g.K.Ord.cmp c.args.self.now.pairs c.args.key c.in-Ok-f.value c.in-Err.index c.in-Err.ensures.splits.place)
+
+pub returns-in-Ok-clause-there : goal.returns-in-Ok-clause-there
+returns-in-Ok-clause-there g c = found_there _ _ _ _ c.in-Ok.ensures.splits
+
+pub returns-in-Ok-clause-within : goal.returns-in-Ok-clause-within
+returns-in-Ok-clause-within g c = found_within _ _ _ _ c.in-Ok.ensures.splits

@@ -3,6 +3,7 @@ use Rattle.litemap_store.proofs.Lists.Alongside.{alongside-more}
 use Rattle.litemap_store.proofs.Lists.Joined.{In-slice_get}
 use Rattle.litemap_store.specs.Clones.{PairsBecame}
 use Rattle.litemap.proofs.Conversions.{Rising-became}
+use Rattle.litemap.proofs.Places.{is_there}
 use Rattle.litemap.proofs.map.conversions.converted.Goals as goal
 
 pub made_of-requires : goal.made_of-requires
@@ -29,3 +30,6 @@ from_sorted_store_unchecked-requires g c =
     Rising-became g.K.Ord.cmp g.L.Ord.cmp (g.X.Becomes.became c.args.keys.now) (g.Y.Becomes.became c.args.values.now) pairs _ c.requires.rising
     (subst (λ L. PairsBecame (g.X.Becomes.became c.args.keys.now) (g.Y.Becomes.became c.args.values.now) L (g.B.Store.pairs c.loop-index.made)) all c.loop-index.invariant.became)
     c.len-index-end.ensures.rising
+
+pub unwrap-requires : goal.unwrap-requires
+unwrap-requires g c = is_there _ _ _ c.loop-index.index c.get_indexed.ensures (omega arith)

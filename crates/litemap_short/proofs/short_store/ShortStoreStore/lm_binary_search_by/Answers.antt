@@ -5,3 +5,9 @@ lm_binary_search_by-requires g c = rw (c.new.ensures, c.as_slice.ensures) (rw (�
 
 pub returns-clause-found : goal.returns-clause-found
 returns-clause-found g c = rw (← c.self.view_is) (rw (c.new.ensures, c.as_slice.ensures) at c.lm_binary_search_by.ensures.found)
+
+pub returns-clause-cost : goal.returns-clause-cost
+returns-clause-cost g c = rw (← c.self.view_is) (rw (c.new.ensures, c.as_slice.ensures) at c.lm_binary_search_by.ensures.cost)
+
+pub returns-clause-within : goal.returns-clause-within
+returns-clause-within g c = rw (← c.self.view_is) (rw (c.new.ensures, c.as_slice.ensures) at c.lm_binary_search_by.ensures.within)

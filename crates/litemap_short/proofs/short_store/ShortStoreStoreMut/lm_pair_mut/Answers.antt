@@ -1,8 +1,11 @@
-use Rattle.std.proofs.Common.{◌≡◌, ◌<◌, length, Some, slice_get, refl}
+use Rattle.std.proofs.Common.{◌≡◌, ◌<◌, length, Some, slice_get, refl, rules}
 use Rattle.std.proofs.lemmas.Option.{slice_get_read}
 use Rattle.litemap_short.specs.Storage.{storage_items}
 use Rattle.litemap_short.proofs.Lending.{written}
 use Rattle.litemap_short.proofs.short_store.ShortStoreStoreMut.lm_pair_mut.Goals as goal
+
+pub item_mut-pair-requires : goal.item_mut-pair-requires
+item_mut-pair-requires g c = (search rules, rw (← c.self.view_is) at c.requires)
 
 pub returns : goal.returns
 returns g c =

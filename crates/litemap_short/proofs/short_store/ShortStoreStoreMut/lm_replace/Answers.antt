@@ -1,8 +1,11 @@
-use Rattle.std.proofs.Common.{◌≡◌, ◌<◌, length, Some, slice_get, refl}
+use Rattle.std.proofs.Common.{◌≡◌, ◌<◌, length, Some, slice_get, refl, rules}
 use Rattle.std.proofs.lemmas.Option.{slice_get_read}
 use Rattle.litemap_short.specs.Storage.{storage_items}
 use Rattle.litemap_short.proofs.Lending.{items-with_item, room-with_item}
 use Rattle.litemap_short.proofs.short_store.ShortStoreStoreMut.lm_replace.Goals as goal
+
+pub item_mut-requires : goal.item_mut-requires
+item_mut-requires g c = (search rules, rw (← c.self.view_is) at c.requires)
 
 pub returns-clause-old : goal.returns-clause-old
 returns-clause-old g c =

@@ -1,4 +1,4 @@
-use Rattle.litemap_store.proofs.Names.{[], ◌*◌, ◌++◌, ◌+◌, ◌∙◌, ◌∷◌, ◌≡◌, ◌≤◌, above, ap, arith, at, below, digits, digits-mono, eqb-true, key_or, left, length, length_push, Merge, nil_from_length, option_map, reverse, rules, Rising, subst, suc, suc-mul, sym}
+use Rattle.litemap_store.proofs.Names.{[], ◌*◌, ◌++◌, ◌+◌, ◌∙◌, ◌∷◌, ◌≡◌, ◌≤◌, above, ap, arith, at, below, digits, digits-mono, eqb-true, key_or, left, length, length_push, Merge, nil_from_length, option_map, reverse, rules, Rising, subst, suc, suc-mul, sym, common_steps}
 use Rattle.litemap_store.proofs.Merging.Down.{Merge-down, left-down, length-after, length-option, length-parts}
 use Rattle.litemap_store.proofs.Merging.Joins.{Merge-none}
 use Rattle.litemap_store.proofs.Search.Splitting.{Rising-filter}
@@ -70,3 +70,6 @@ pub put_up-requires : goal.put_up-requires
 put_up-requires g c =
     let len = c.loop-other.invariant.side_len in let all = length-after c.take_from.new.side.items (g.S.Store.pairs c.loop-other.store) c.loop-other.side.items c.take_from.ensures.side in
     omega (arith, c.in-Ok.ensures.store_room)
+
+pub loop-other-smaller : goal.loop-other-smaller
+loop-other-smaller g c = grind (arith, common_steps)

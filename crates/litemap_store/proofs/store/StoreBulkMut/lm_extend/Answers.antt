@@ -1,4 +1,4 @@
-use Rattle.litemap_store.proofs.Names.{Gives, on_ok_weaker}
+use Rattle.litemap_store.proofs.Names.{Gives, on_ok_weaker, arith, common_steps}
 use Rattle.litemap_store.proofs.Last.FirstGiven.{GivesSome-from_refused}
 use Rattle.litemap_store.proofs.store.StoreBulkMut.lm_extend.Given.{Over}
 use Rattle.litemap_store.proofs.store.StoreBulkMut.lm_extend.Goals as goal
@@ -19,3 +19,6 @@ pub returns-clause-refused_some : goal.returns-clause-refused_some
 returns-clause-refused_some g c =
     GivesSome-from_refused g.K.Ord.cmp g.I.IntoIterator.into_iter_gives g.I.IntoIter.Iterator.next_gives c.args.iter c.put_pairs.result
     (g.Self.Store.pairs c.args.self.now) c.append_items.new.items.items (g.Self.Store.room c.args.self.now) (gathered g (goal.at.returns-clause-refused_some g c).After-put_pairs) c.put_pairs.ensures.succeeds
+
+pub returns-clause-refused_cost : goal.returns-clause-refused_cost
+returns-clause-refused_cost g c = grind (arith, common_steps)

@@ -1,6 +1,6 @@
 use Rattle.litemap.proofs.Common.{◌&&◌, ap, arith, option_map, sym, ◌∙◌, drop_all, deref_pair}
 use Rattle.std.proofs.lemmas.Bool.{not-false, not-true}
-use Rattle.litemap.proofs.Places.{pointwise_ends, pointwise_on}
+use Rattle.litemap.proofs.Places.{pointwise_ends, pointwise_on, is_there}
 use Rattle.litemap.proofs.map.comparisons.LiteMapPartialEq.eq.Goals as goal
 
 pub returns-then-ne : goal.returns-then-ne
@@ -17,6 +17,10 @@ loop-index-preserved g c =
 
 pub returns : goal.returns
 returns g c =
-    let L = c.args.self.now.pairs in
-    let R = c.args.other.now.pairs in
-    rw (drop_all c.loop-index.index L (omega (arith, c.loop-index-test.false, c.len-len.ensures.len)), drop_all c.loop-index.index R (omega (arith, c.loop-index-test.false, c.if-len.false, c.len.ensures.len))) at c.loop-index.invariant
+    rw (drop_all c.loop-index.index c.args.self.now.pairs (omega arith), drop_all c.loop-index.index c.args.other.now.pairs (omega arith)) at c.loop-index.invariant
+
+pub unwrap-here-requires : goal.unwrap-here-requires
+unwrap-here-requires g c = is_there _ _ _ c.loop-index.index c.get_indexed.ensures (omega arith)
+
+pub unwrap-there-requires : goal.unwrap-there-requires
+unwrap-there-requires g c = is_there _ _ _ c.loop-index.index c.get_indexed-in-loop-index.ensures (omega arith)

@@ -1,0 +1,5 @@
+use Rattle.std.proofs.Common.{rules}
+use Rattle.litemap_short.proofs.short_store.ShortStoreStoreBulkMut.lm_retain.Goals as goal
+
+pub retain-requires : goal.retain-requires
+retain-requires g c = (search rules, rw (← c.self.view_is) at c.requires)

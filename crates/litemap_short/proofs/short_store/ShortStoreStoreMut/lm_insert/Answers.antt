@@ -1,0 +1,9 @@
+use Rattle.std.proofs.Common.{rules}
+use Rattle.litemap_short.proofs.short_store.ShortStoreStoreMut.lm_insert.Goals as goal
+
+pub insert_reserved-requires : goal.insert_reserved-requires
+insert_reserved-requires g c =
+    (search rules, (rw c.reserve.ensures.items (rw (← c.self.view_is) at c.requires), search rules))
+
+pub returns-clause-ok : goal.returns-clause-ok
+returns-clause-ok g c = rw (← c.self.view_is, ← c.reserve.ensures.items) c.insert_reserved.ensures.items
