@@ -12,7 +12,7 @@ import pathlib
 import re
 
 FOLDER = pathlib.Path(__file__).resolve().parent
-STEP = 1099511628211
+STEP, MASK = 1099511628211, 2**64 - 1
 # Past this length each search may make as many comparisons as the one that makes the most.
 LONG = 20000
 # The most pairs that std sorts by inserting each.
@@ -95,7 +95,7 @@ def walked_back(mine, theirs):
 def summed(total, text):
     """A checksum that continues another one with the bytes of a text."""
     for byte in text.encode():
-        total = (total ^ byte) * STEP % 2**64
+        total = (total ^ byte) * STEP & MASK
         total ^= total >> 29
     return total
 
@@ -116,11 +116,12 @@ class Order:
 
     def __init__(self, name):
         self.name, self.rank = name, RANKS[name]
+        self.code = int if name in ("number", "falling") else code_of_text
 
-    def code(self, word):
-        if self.name in ("number", "falling"):
-            return int(word)
-        return int.from_bytes(word.encode().ljust(8, b"\0"), "big")
+
+def code_of_text(word):
+    """The number whose bytes, from the highest one on, are those of a word."""
+    return int.from_bytes(word.encode().ljust(8, b"\0"), "big")
 
 
 class Model:
@@ -134,10 +135,9 @@ class Model:
         pairs = list(pairs)
         if len(pairs) <= 6:
             return " ".join(f"{key}:{value}" for key, value in pairs) or "-"
-        total = 0
+        total, code = 0, self.order.code
         for key, value in pairs:
-            total = (total ^ self.order.code(key)) * STEP % 2**64
-            total = (total ^ value) * STEP % 2**64
+            total = (((total ^ code(key)) * STEP & MASK) ^ value) * STEP & MASK
             total ^= total >> 29
         return f"#{len(pairs)}:{total % 10**9}"
 

@@ -56,9 +56,12 @@ fn text_of(alloc: Global, keywords: &Keywords) -> Result<String, AllocError> {
 
 // The number of keywords and their text, which is read as the same keywords.
 fn written(alloc: Global, text: &str) -> Result<String, KeywordFault> {
-    let keywords = read(alloc, text)?;
-    let text = text_of(alloc, &keywords)?;
-    let is_same = is_read_as(alloc, text.as_str(), &keywords)?;
+    told(alloc, &read(alloc, text)?)
+}
+
+fn told(alloc: Global, keywords: &Keywords) -> Result<String, KeywordFault> {
+    let text = text_of(alloc, keywords)?;
+    let is_same = is_read_as(alloc, text.as_str(), keywords)?;
     let note = (!is_same).then_some(", which is read otherwise");
     Ok(format!(in alloc; "{} {text}{}", keywords.len(), note.unwrap_or(""))?)
 }
@@ -68,12 +71,15 @@ fn is_read_as(alloc: Global, text: &str, keywords: &Keywords) -> Result<bool, Ke
 }
 
 fn find(alloc: Global, key: &str, text: &str) -> Result<String, KeywordFault> {
-    let keywords = read(alloc, text)?;
-    Ok(match key.as_bytes().split_first_chunk() {
+    Ok(value_at(alloc, key, &read(alloc, text)?)?)
+}
+
+fn value_at(alloc: Global, key: &str, keywords: &Keywords) -> Result<String, AllocError> {
+    match key.as_bytes().split_first_chunk() {
         Some((key, rest)) if rest.is_empty() => match keywords.get(key) {
-            Some(value) => format!(in alloc; "value {value}")?,
-            None => String::from_str(alloc, "none")?,
+            Some(value) => format!(in alloc; "value {value}"),
+            None => String::from_str(alloc, "none"),
         },
-        _ => String::from_str(alloc, "no key")?,
-    })
+        _ => String::from_str(alloc, "no key"),
+    }
 }

@@ -104,7 +104,12 @@ fn shelf(number: u8) -> Shelf {
 }
 
 fn two_numbers(alloc: Global) -> Result<Numbers, AllocError> {
-    LiteMap::from_iter(alloc, owned(alloc, &[("one", 11), ("two", 2)])?)
+    map_of(alloc, &[("one", 11), ("two", 2)])
+}
+
+// A map of pairs whose names are copied.
+fn map_of<V: Copy>(alloc: Global, pairs: &[(&str, V)]) -> Result<VecMap<String, V>, AllocError> {
+    LiteMap::from_iter(alloc, owned(alloc, pairs)?)
 }
 
 // Whether a name is there; what is found once 7 is written there, and removed.
@@ -255,9 +260,9 @@ fn show_sets(rt: &impl Print, alloc: Global) -> io::Result<()> {
 
 // Numbers at names to which others are added: beside them, at common names, and past the greatest number.
 fn show_sums(rt: &impl Print, alloc: Global) -> io::Result<()> {
-    let mut sum: Named = LiteMap::from_iter(alloc, owned(alloc, &[("a", 10), ("c", 30)])?)?;
-    let others = owned(alloc, &[("b", 5), ("c", 7), ("a", u64::MAX)])?;
-    sums::add_capped(&mut sum, alloc, LiteMap::from_iter(alloc, others)?)?;
+    let mut sum: Named = map_of(alloc, &[("a", 10), ("c", 30)])?;
+    let others = map_of(alloc, &[("b", 5), ("c", 7), ("a", u64::MAX)])?;
+    sums::add_capped(&mut sum, alloc, others)?;
     println!(rt; "sum {sum:?}")
 }
 
@@ -272,35 +277,46 @@ fn show_totals(rt: &impl Print, alloc: Global, last: u32) -> io::Result<()> {
 // How often words of a list occur, and names that come one by one.
 fn show_counts(rt: &impl Print, alloc: Global) -> io::Result<()> {
     let words = ["the", "map", "of", "the", "list", "of", "the", ""];
-    println!(rt;
-        "words {:?}",
-        counting::count_words(alloc, words.as_slice())?
-    )?;
+    let counts = counting::count_words(alloc, words.as_slice())?;
+    println!(rt; "words {counts:?}")?;
+    println!(rt; "names {:?}", counted_names(alloc)?)
+}
+
+fn counted_names(alloc: Global) -> Result<Names, AllocError> {
     let mut names = Names::new_vec(alloc);
     for name in ["b", "a", "b", "", "c", "b"] {
         if names.get(name).copied().unwrap_or(0) < u32::MAX {
             counting::count_name(&mut names, name.to_string(alloc)?)?;
         }
     }
-    println!(rt; "names {names:?}")
+    Ok(names)
 }
 
 fn show_words(rt: &impl Print, alloc: Global) -> io::Result<()> {
+    let counts = counted_words(alloc)?;
+    show_over(rt, alloc, &counts)?;
+    for ranked in words::top(alloc, &counts, 3)? {
+        println!(rt; "top {} {}", ranked.1, ranked.0.0)?;
+    }
+    Ok(())
+}
+
+fn counted_words<'k>(alloc: Global) -> Result<Counts<'k>, AllocError> {
     let mut counts = Counts::new_vec(alloc);
     for word in ["b", "c", "a", "b", "c", "d"] {
         if counts.get(word).copied().unwrap_or(0) < usize::MAX {
             words::count_word(&mut counts, word)?;
         }
     }
+    Ok(counts)
+}
+
+fn show_over<'k>(rt: &impl Print, alloc: Global, counts: &Counts<'k>) -> io::Result<()> {
     let mut none = Counts::new_vec(alloc);
     words::overlay(&mut none, alloc, Counts::new_vec(alloc))?;
-    let over = words::words_over(alloc, &counts, 1)?;
-    let first = words::first_over(&counts, 1);
-    println!(rt; "{none:?}, over 1 {over:?}, first {first:?}")?;
-    for ranked in words::top(alloc, &counts, 3)? {
-        println!(rt; "top {} {}", ranked.1, ranked.0.0)?;
-    }
-    Ok(())
+    let over = words::words_over(alloc, counts, 1)?;
+    let first = words::first_over(counts, 1);
+    println!(rt; "{none:?}, over 1 {over:?}, first {first:?}")
 }
 
 fn show_bag(rt: &impl Print, alloc: Global) -> io::Result<()> {

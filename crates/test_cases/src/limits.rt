@@ -82,11 +82,12 @@ pub(crate) fn a_limit_goes_with_the_store_that_is_replaced(alloc: Global) -> Out
 }
 
 // Calls of which some fail, with room for two pairs, and what each returns.
-pub(crate) fn calls_are_answered_one_after_another(alloc: Global) -> Outcome {
+fn calls_and_answers(
+    alloc: Global,
+) -> Result<(Vec<Call<u32, u32>>, Vec<Answer<u32, u32>>), AllocError> {
     let fourth = [(4, 22)].to_vec(alloc)?;
     let others = [(1, 11), (3, 30), (3, 31)].to_vec(alloc)?;
-    let (mut calls, mut wanted) = (Vec::new(alloc), Vec::new(alloc));
-    for (call, answer) in [
+    let rows = [
         (Call::Insert(3, 20), Answer::Value(None)),
         (Call::Insert(1, 10), Answer::Value(None)),
         (Call::TryAppend(2, 9), Answer::Back(Some((2, 9)))),
@@ -102,10 +103,17 @@ pub(crate) fn calls_are_answered_one_after_another(alloc: Global) -> Outcome {
         (Call::Clear, Answer::Done),
         (Call::Extend(others), Answer::Done),
         (Call::Len, Answer::Number(2)),
-    ] {
+    ];
+    let (mut calls, mut wanted) = (Vec::new(alloc), Vec::new(alloc));
+    for (call, answer) in rows {
         calls.push(call)?;
         wanted.push(answer)?;
     }
+    Ok((calls, wanted))
+}
+
+pub(crate) fn calls_are_answered_one_after_another(alloc: Global) -> Outcome {
+    let (calls, wanted) = calls_and_answers(alloc)?;
     let mut map = Fixed::with_capacity(alloc, 2)?;
     let answers = run_calls(alloc, &mut map, calls)?;
     Ok(answers == wanted && prints(alloc, &map, "{1: 11, 3: 31}")?)

@@ -36,7 +36,7 @@ use hex::FromHexError;
 use litemap_json::JsonFault;
 use litemap_read::ReadFault;
 use name_index::{IndexedNames, NameIndexFault};
-use name_table::{NameWriteFault, read_names, write_names};
+use name_table::{NameMap, NameWriteFault, read_names, write_names};
 use names::FlagsFault;
 use std::alloc::{AllocError, Global};
 use std::fmt::Write;
@@ -86,14 +86,17 @@ fn write_alone(alloc: Global, name: &str, bytes: &[u8], output: &mut String) -> 
 
 // Writes what is written for the map that is read.
 fn write_again(alloc: Global, bytes: &[u8], output: &mut String) -> Written {
-    let Ok((map, _)) = unless_memory!(read_names(alloc, bytes), ReadFault::NoRoom) else {
-        return output.push_str("no map");
-    };
-    let Ok(written) = unless_memory!(write_names(alloc, &map), NameWriteFault::NoRoom) else {
-        return output.push_str("no table");
-    };
-    let digits = hex::encode(alloc, written.as_slice())?;
-    output.push_str(digits.as_str())
+    match unless_memory!(read_names(alloc, bytes), ReadFault::NoRoom) {
+        Ok((map, _)) => write_table(alloc, &map, output),
+        Err(_) => output.push_str("no map"),
+    }
+}
+
+fn write_table(alloc: Global, map: &NameMap<'_>, output: &mut String) -> Written {
+    match unless_memory!(write_names(alloc, map), NameWriteFault::NoRoom) {
+        Ok(written) => output.push_str(hex::encode(alloc, written.as_slice())?.as_str()),
+        Err(_) => output.push_str("no table"),
+    }
 }
 
 // The program's own names.

@@ -8,7 +8,7 @@ use crate::counted::{Key, Value};
 use crate::tested::Tested;
 use crate::{lists, sizes};
 use litemap::LiteMap;
-use litemap::store::{Count, NoRoom, Store};
+use litemap::store::{Count, NoRoom, StoreBulkMut, StoreMut};
 use litemap_columns::ColumnStore;
 use litemap_read::{PairSource, ReadFault, extend_from_source, read_pairs, read_results};
 use std::cell::Cell;
@@ -22,6 +22,7 @@ pub fn gather<S: Tested>(map: &mut Map<S>, call: &Call<'_>, to: &mut Answer) -> 
         || take_vec(map, call, to).is_some()
         || merge(map, call, to).is_some()
         || combine(map, call, to).is_some()
+        || split(map, call, to).is_some()
         || go_beside(map, call, to).is_some()
         || read(map, call, to).is_some()
         || read_each(map, call, to).is_some()
@@ -45,13 +46,20 @@ fn renew<S: Tested>(map: &mut Map<S>, call: &Call<'_>, to: &mut Answer) -> Made 
 }
 
 // Replaces a map by what was made, or returns why it wasn't.
-fn replace<S: Tested, E>(map: &mut Map<S>, made: Result<Map<S>, E>) -> Result<(), E> {
+fn replace<S: StoreBulkMut<Key, Value>, E>(
+    map: &mut Map<S>,
+    made: Result<Map<S>, E>,
+) -> Result<(), E> {
     *map = made?;
     Ok(())
 }
 
 // A map is made of a vector, or extended by one, whose pairs come back if memory runs out.
-fn take_vec<S: Tested>(map: &mut Map<S>, call: &Call<'_>, to: &mut Answer) -> Made {
+fn take_vec<S: StoreBulkMut<Key, Value>>(
+    map: &mut Map<S>,
+    call: &Call<'_>,
+    to: &mut Answer,
+) -> Made {
     let (alloc, count) = (call.alloc, &mut Count::new());
     let taken = match call.name {
         "from_vec" => replace(map, LiteMap::from_vec(alloc, call.given()?)),
@@ -68,7 +76,11 @@ fn take_vec<S: Tested>(map: &mut Map<S>, call: &Call<'_>, to: &mut Answer) -> Ma
 }
 
 // `insert` of each of the pairs, until one has no room. It tells how many were new.
-fn insert_each<S: Tested>(map: &mut Map<S>, call: &Call<'_>, to: &mut Answer) -> Made {
+fn insert_each<S: StoreMut<Key, Value>>(
+    map: &mut Map<S>,
+    call: &Call<'_>,
+    to: &mut Answer,
+) -> Made {
     if call.name != "insert_each" {
         return None;
     }
@@ -87,18 +99,23 @@ fn insert_each<S: Tested>(map: &mut Map<S>, call: &Call<'_>, to: &mut Answer) ->
     Some(())
 }
 
-fn extend<S: Tested>(map: &mut Map<S>, call: &Call<'_>, to: &mut Answer) -> Made {
-    let count = &mut Count::new();
-    to.room(match call.name {
-        "extend" => map.extend(call.alloc, call.given()?),
-        "extend_counted" => map.extend_counted(call.alloc, call.given()?, count),
+fn extend<S: StoreBulkMut<Key, Value>>(map: &mut Map<S>, call: &Call<'_>, to: &mut Answer) -> Made {
+    let is_counted = match call.name {
+        "extend" => false,
+        "extend_counted" => true,
         _ => return None,
+    };
+    let pairs = call.given()?;
+    to.room(if is_counted {
+        map.extend_counted(call.alloc, pairs, &mut Count::new())
+    } else {
+        map.extend(call.alloc, pairs)
     });
     Some(())
 }
 
 /// A map of the given pairs, with the given room. The call begins after it is made.
-pub fn other<S: Tested>(call: &Call<'_>) -> Option<Map<S>> {
+pub fn other<S: StoreBulkMut<Key, Value>>(call: &Call<'_>) -> Option<Map<S>> {
     let mut map: Map<S> = LiteMap::from_vec(call.alloc, call.pairs(0)?).ok()?;
     map.reserve(call.room()).ok()?;
     call.begin();
@@ -107,25 +124,37 @@ pub fn other<S: Tested>(call: &Call<'_>) -> Option<Map<S>> {
 
 // The merges with a map of the pairs, or with a clone of the map.
 fn merge<S: Tested>(map: &mut Map<S>, call: &Call<'_>, to: &mut Answer) -> Made {
-    let count = &mut Count::new();
-    let merged = match call.name {
-        "extend_from_clone" => {
-            call.end();
-            let clone = map.try_clone(call.alloc).ok()?;
-            call.begin();
-            map.extend_from_litemap(call.alloc, clone)
-        }
-        "extend_from_litemap" => map.extend_from_litemap(call.alloc, other(call)?),
-        "extend_from_litemap_counted" => {
-            map.extend_from_litemap_counted(call.alloc, other(call)?, count)
-        }
+    let is_counted = match call.name {
+        "extend_from_clone" | "extend_from_litemap" => false,
+        "extend_from_litemap_counted" => true,
         _ => return None,
+    };
+    let other = if call.name == "extend_from_clone" {
+        clone(map, call)
+    } else {
+        other(call)
+    }?;
+    let merged = if is_counted {
+        map.extend_from_litemap_counted(call.alloc, other, &mut Count::new())
+    } else {
+        map.extend_from_litemap(call.alloc, other)
     };
     show_merged(merged, to);
     Some(())
 }
 
-fn show_merged<'a, S: Tested>(merged: Result<Option<Map<S>>, NoRoom<Map<S>>>, to: &mut Answer) {
+// A clone of the map. The call begins after it is made.
+fn clone<S: StoreBulkMut<Key, Value>>(map: &Map<S>, call: &Call<'_>) -> Option<Map<S>> {
+    call.end();
+    let clone = map.try_clone(call.alloc).ok()?;
+    call.begin();
+    Some(clone)
+}
+
+fn show_merged<'a, S: StoreBulkMut<Key, Value>>(
+    merged: Result<Option<Map<S>>, NoRoom<Map<S>>>,
+    to: &mut Answer,
+) {
     match merged {
         Ok(None) => to.word("none"),
         Ok(Some(left)) => to.word_and("left", Pairs::of_map(&left)),
@@ -136,10 +165,11 @@ fn show_merged<'a, S: Tested>(merged: Result<Option<Map<S>>, NoRoom<Map<S>>>, to
 // The merges with a closure, which adds to each value that is here already three times the one here, what its key's code leaves
 // by seven, and a thousand for each time that it was called before. The last word tells how often it was called.
 fn combine<S: Tested>(map: &mut Map<S>, call: &Call<'_>, to: &mut Answer) -> Made {
-    if !call.name.starts_with("extend_with") {
-        return None;
-    }
-    let count = &mut Count::new();
+    let is_counted = match call.name {
+        "extend_with" => false,
+        "extend_with_counted" => true,
+        _ => return None,
+    };
     let other: Map<S> = other(call)?;
     let times = Cell::new(0u64);
     let add = |key: &Key, here: &Value, new: &mut Value| {
@@ -149,30 +179,40 @@ fn combine<S: Tested>(map: &mut Map<S>, call: &Call<'_>, to: &mut Answer) -> Mad
         let more = more.wrapping_add(before.wrapping_mul(1000));
         new.write(new.number().wrapping_add(more));
     };
-    let merged = match call.name {
-        "extend_with" => map.extend_with(call.alloc, other, add),
-        "extend_with_counted" => map.extend_with_counted(call.alloc, other, add, count),
-        _ => return None,
+    let merged = if is_counted {
+        map.extend_with_counted(call.alloc, other, add, &mut Count::new())
+    } else {
+        map.extend_with(call.alloc, other, add)
     };
     show_merged(merged, to);
     to.word_and("asked", times.get());
     Some(())
 }
 
-// `split_off`, and the calls that go through another map, over two columns, beside this one.
-fn go_beside<S: Tested>(map: &mut Map<S>, call: &Call<'_>, to: &mut Answer) -> Made {
-    let count = &mut Count::new();
+fn split<S: StoreBulkMut<Key, Value>>(map: &mut Map<S>, call: &Call<'_>, to: &mut Answer) -> Made {
+    if call.name != "split_off" {
+        return None;
+    }
+    let later = map.split_off(call.alloc, &call.key(0)?);
+    to.pairs(later.map(|later| Pairs::of_map(&later)));
+    Some(())
+}
+
+// The calls that go through another map, over two columns, beside this one.
+fn go_beside<S: StoreBulkMut<Key, Value>>(
+    map: &mut Map<S>,
+    call: &Call<'_>,
+    to: &mut Answer,
+) -> Made {
+    if !call.name.ends_with("_keys_of") && !call.name.starts_with("is_subset") {
+        return None;
+    }
+    let other = other::<ColumnStore<_, _>>(call)?;
     match call.name {
-        "split_off" => {
-            let later = map.split_off(call.alloc, &call.key(0)?);
-            to.pairs(later.map(|later| Pairs::of_map(&later)));
-        }
-        "is_subset" => to.show(map.is_subset(&other::<ColumnStore<_, _>>(call)?)),
-        "is_subset_counted" => {
-            to.show(map.is_subset_counted(&other::<ColumnStore<_, _>>(call)?, count));
-        }
-        "keep_keys_of" => to.done(map.keep_keys_of(&other::<ColumnStore<_, _>>(call)?)),
-        "remove_keys_of" => to.done(map.remove_keys_of(&other::<ColumnStore<_, _>>(call)?)),
+        "is_subset" => to.show(map.is_subset(&other)),
+        "is_subset_counted" => to.show(map.is_subset_counted(&other, &mut Count::new())),
+        "keep_keys_of" => to.done(map.keep_keys_of(&other)),
+        "remove_keys_of" => to.done(map.remove_keys_of(&other)),
         _ => return None,
     }
     Some(())
@@ -180,27 +220,34 @@ fn go_beside<S: Tested>(map: &mut Map<S>, call: &Call<'_>, to: &mut Answer) -> M
 
 // What a source gives replaces the map, or is put into it. The first word is how many pairs the source promises, or `-`; the
 // second one is after how many pairs it has an error, or `-`.
-fn read<S: Tested>(map: &mut Map<S>, call: &Call<'_>, to: &mut Answer) -> Made {
+fn read<S: StoreBulkMut<Key, Value>>(map: &mut Map<S>, call: &Call<'_>, to: &mut Answer) -> Made {
     if call.name != "read_pairs" && call.name != "extend_from_source" {
         return None;
     }
+    let pairs = call.pairs(2)?;
     let mut source = Script {
-        rest: call.pairs(2)?.into_iter(),
+        rest: pairs.into_iter(),
         hint: call.size(0),
         error: call.size(1),
         asked: 0,
     };
     call.begin();
-    match call.name {
-        "read_pairs" => show_fault(replace(map, read_pairs(call.alloc, &mut source)).err(), to),
-        _ => show_fault(extend_from_source(call.alloc, map, &mut source).err(), to),
-    }
+    let read = if call.name == "read_pairs" {
+        replace(map, read_pairs(call.alloc, &mut source))
+    } else {
+        extend_from_source(call.alloc, map, &mut source)
+    };
+    show_fault(read.err(), to);
     to.word_and("asked", source.asked);
     Some(())
 }
 
 // What an iterator of results gives replaces the map. The first word is the index of the error, or `-`.
-fn read_each<S: Tested>(map: &mut Map<S>, call: &Call<'_>, to: &mut Answer) -> Made {
+fn read_each<S: StoreBulkMut<Key, Value>>(
+    map: &mut Map<S>,
+    call: &Call<'_>,
+    to: &mut Answer,
+) -> Made {
     if call.name != "read_results" {
         return None;
     }

@@ -90,22 +90,22 @@ fn show_fault<'a>(fault: TryFault<Key, Value, Value>, to: &mut Answer) {
 // The calls that lend a value, to which a number is written. They tell the old one.
 fn write<S: StoreMut<Key, Value>>(map: &mut Map<S>, call: &Call<'_>, to: &mut Answer) -> Made {
     let (key, number) = (call.key(0)?, call.number(1)?);
-    let write = |slot: &mut Value| slot.write(number);
     match call.name {
-        "get_mut" => to.some(map.get_mut(&key).map(write)),
-        "get_mut_by" => to.some(map.get_mut_by(|there| there.cmp(&key)).map(write)),
-        "get_indexed_mut" => to.some(map.get_indexed_mut(call.size(0)?).map(write)),
-        "index_mut" => {
-            if !map.contains_key(&key) {
-                to.word("absent");
-            } else {
-                call.begin();
-                to.show(map.index_mut(&key).write(number));
-            }
+        "get_mut" => show_written(map.get_mut(&key), number, to),
+        "get_mut_by" => show_written(map.get_mut_by(|there| there.cmp(&key)), number, to),
+        "get_indexed_mut" => show_written(map.get_indexed_mut(call.size(0)?), number, to),
+        "index_mut" if map.contains_key(&key) => {
+            call.begin();
+            show_written(Some(map.index_mut(&key)), number, to);
         }
+        "index_mut" => to.word("absent"),
         _ => return None,
     }
     Some(())
+}
+
+fn show_written<'a>(lent: Option<&'a mut Value>, number: u64, to: &mut Answer) {
+    to.some(lent.map(|slot| slot.write(number)));
 }
 
 fn take<S: StoreMut<Key, Value>>(map: &mut Map<S>, call: &Call<'_>, to: &mut Answer) -> Made {

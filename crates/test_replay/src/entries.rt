@@ -23,22 +23,29 @@ pub fn enter<S: StoreMut<Key, Value>>(map: &mut Map<S>, call: &Call<'_>, to: &mu
 }
 
 fn one_key<S: StoreMut<Key, Value>>(map: &mut Map<S>, call: &Call<'_>, to: &mut Answer) -> Made {
+    if !is_of_one_key(call.name) {
+        return None;
+    }
+    let entry = map.entry(call.key(0)?);
     match call.name {
-        "entry" => show_kind(&map.entry(call.key(0)?), to),
-        "entry_debug" => to.show(map.entry(call.key(0)?)),
-        "entry_debug_lines" => to.show_lines(call, map.entry(call.key(0)?)),
-        "or_default" => show_lent!(map.entry(call.key(0)?).or_default(), to),
-        "entry_get" => match map.entry(call.key(0)?) {
-            Entry::Occupied(entry) => to.show(entry.get()),
-            Entry::Vacant(_entry) => to.word("vacant"),
-        },
-        "entry_remove" => match map.entry(call.key(0)?) {
+        "entry" => show_kind(&entry, to),
+        "entry_debug" => to.show(entry),
+        "entry_debug_lines" => to.show_lines(call, entry),
+        "or_default" => show_lent!(entry.or_default(), to),
+        _ => match entry {
+            Entry::Occupied(entry) if call.name == "entry_get" => to.show(entry.get()),
             Entry::Occupied(entry) => to.show(entry.remove()),
             Entry::Vacant(_entry) => to.word("vacant"),
         },
-        _ => return None,
     }
     Some(())
+}
+
+fn is_of_one_key(name: &str) -> bool {
+    matches!(
+        name,
+        "entry" | "entry_debug" | "entry_debug_lines" | "or_default" | "entry_get" | "entry_remove"
+    )
 }
 
 fn show_kind<S: StoreMut<Key, Value>>(entry: &Entry<'_, Key, Value, S>, to: &mut Answer) {

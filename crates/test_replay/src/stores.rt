@@ -67,16 +67,19 @@ fn by_number<S: StoreBulkMut<Key, Value>>(store: &mut S, call: &Call<'_>, to: &m
 
 // A call with a pair, or with an index and a number.
 fn put<S: StoreMut<Key, Value>>(store: &mut S, call: &Call<'_>, to: &mut Answer) -> Made {
-    let (key, value) = call.pair(0)?;
-    let (index, number) = (call.size(0), value.number());
+    if call.name == "lm_push" {
+        let (key, value) = call.pair(0)?;
+        show_room(store.lm_push(key, value), to);
+        return Some(());
+    }
+    let (index, number) = (call.size(0)?, call.number(1)?);
     match call.name {
-        "lm_push" => show_room(store.lm_push(key, value), to),
-        "lm_pair_mut" if index? < store.lm_len() => {
-            let (key, value) = store.lm_pair_mut(index?);
+        "lm_pair_mut" if index < store.lm_len() => {
+            let (key, value) = store.lm_pair_mut(index);
             to.pair(key, value);
             value.write(number);
         }
-        "lm_get_mut" => match store.lm_get_mut(index?) {
+        "lm_get_mut" => match store.lm_get_mut(index) {
             Some((key, value)) => {
                 to.pair(key, value);
                 value.write(number);
@@ -98,10 +101,15 @@ fn show_room(outcome: Result<(), NoRoom<Pair>>, to: &mut Answer) {
 // A call with an index and a pair.
 fn put_at<S: StoreMut<Key, Value>>(store: &mut S, call: &Call<'_>, to: &mut Answer) -> Made {
     let (index, len) = (call.size(0)?, store.lm_len());
-    let (key, value) = call.pair(1)?;
     match call.name {
-        "lm_insert" if index <= len => show_room(store.lm_insert(index, key, value), to),
-        "lm_replace" if index < len => to.taken(Some(store.lm_replace(index, key, value))),
+        "lm_insert" if index <= len => {
+            let (key, value) = call.pair(1)?;
+            show_room(store.lm_insert(index, key, value), to);
+        }
+        "lm_replace" if index < len => {
+            let (key, value) = call.pair(1)?;
+            to.taken(Some(store.lm_replace(index, key, value)));
+        }
         _ => return None,
     }
     Some(())

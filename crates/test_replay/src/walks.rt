@@ -8,7 +8,7 @@ use litemap::store::{PairIntoIter, StoreIterable};
 use std::mem;
 
 // What a walk met, and whether each of its hints told exactly how many items were left.
-#[derive(Drop)]
+#[derive(Clone, Copy)]
 struct Met {
     pairs: Pairs,
     left: usize,
@@ -49,9 +49,9 @@ impl Met {
 // Takes the steps that a call's words count, from the front and then from the back, and adds the key and the value of each item.
 macro_rules! walk {
     ($items:expr, $call:ident, $met:ident, $item:ident => $key:expr, $value:expr) => {{
-        let (front, back) = ($call.size(0)?, $call.size(1)?);
+        let (front, steps) = steps($call)?;
         let mut rest = $items;
-        for step in 0..front.saturating_add(back) {
+        for step in 0..steps {
             let $item = if step < front {
                 rest.next()
             } else {
@@ -61,6 +61,12 @@ macro_rules! walk {
             $met.hint(rest.size_hint());
         }
     }};
+}
+
+// How many steps there are from the front, and in all.
+fn steps(call: &Call<'_>) -> Option<(usize, usize)> {
+    let (front, back) = (call.size(0)?, call.size(1)?);
+    Some((front, front.saturating_add(back)))
 }
 
 // The keys that the words ask for, from either end, or how many are left.
