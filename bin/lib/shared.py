@@ -12,8 +12,15 @@ import sys
 import threading
 
 TOP = pathlib.Path(__file__).resolve().parents[2]
-# What each crate uses, by the lines of crates.txt, in their order.
-CRATES = {name: uses.split() for name, uses in re.findall(r"^(\w+)[^:\n]*:(.*)", (TOP / "crates.txt").read_text(), re.MULTILINE)}
+
+
+def uses_in(top):
+    """What each crate of a folder uses, by the lines of its crates.txt, in their order."""
+    lines = re.findall(r"^(\w+)[^:\n]*:(.*)", (top / "crates.txt").read_text(), re.MULTILINE)
+    return {name: uses.split() for name, uses in lines}
+
+
+CRATES = uses_in(TOP)
 
 
 def parser(text):
@@ -95,6 +102,11 @@ def model(crate):
     return runpy.run_path(f"{TOP}/crates/{crate}/model.py")
 
 
+def files_in(folder):
+    """The texts of all files in a folder, by their names."""
+    return {it.relative_to(folder).as_posix(): it.read_bytes().decode() for it in folder.rglob("*") if it.is_file()}
+
+
 def write_files(folder, files):
     """Writes texts into a folder, by the names of their files."""
     for name, text in files.items():
@@ -105,19 +117,19 @@ def write_files(folder, files):
 class Watched:
     """A test program that runs on all that its model makes, with bin/lib/allocator.c loaded before the C library.
 
-    What the model makes is written into a folder of the program's own in `room`. A line of output is that of a call if it has
-    `sign`.
-    The input `timed` is not part of what is given: it is run by itself, with a limit of time.
+    What the model makes, which may be passed in as `files`, is written into a folder of the program's own in `room`. A line of
+    output is that of a call if it has `sign`. The input `timed` is not part of what is given: it is run by itself, with a limit of
+    time.
     """
 
     # How many seconds of processor time it may take, some ten times as many as it does: only a wrong body takes more.
     MOST_TIME = 20
 
-    def __init__(self, room, crate, sign, program=None):
+    def __init__(self, room, crate, sign, program=None, files=None):
         self.folder, self.sign, self.library = TOP / "crates" / crate, sign, f"{room}/allocator.so"
         self.program = program or self.folder / "out" / crate
         self.model, self.whole, stdin = model(crate), pathlib.Path(room) / "whole" / crate, self.folder / "stdin"
-        self.files = self.model["files"]()
+        self.files = files or self.model["files"]()
         write_files(self.whole, self.files)
         given = self.files.get("stdin") or (stdin.read_text(encoding="utf-8") if stdin.is_file() else "")
         self.timed = self.model.get("TIMED", "")

@@ -125,10 +125,10 @@ def code_of_text(word):
 
 
 class Model:
-    """A map: its pairs as words, and its room, if that is fixed (None if it grows)."""
+    """A map: its pairs as words, its room, if that is fixed (None if it grows), and the places of keys that are known."""
 
     def __init__(self, order, pairs=(), room=None):
-        self.order, self.pairs, self.room = order, list(pairs), room
+        self.order, self.pairs, self.room, self.places = order, list(pairs), room, {}
 
     def text(self, pairs):
         """The text of pairs in a line."""
@@ -143,6 +143,8 @@ class Model:
 
     def place(self, key):
         """The number of smaller keys, and whether an equal one is present."""
+        if key in self.places:
+            return self.places[key]
         rank = self.order.rank
         below = bisect.bisect_left(self.pairs, rank(key), key=lambda pair: rank(pair[0]))
         return below, below < len(self.pairs) and rank(self.pairs[below][0]) == rank(key)
@@ -237,12 +239,13 @@ class Model:
         pairs, room, most, total = self.pairs, self.room, 0, 0
         for code in map(str, range(1, 2 * len(pairs) + 2)):
             self.pairs, self.room = pairs if name in READ_ONLY else list(pairs), room
+            self.places = {code: self.place(code)} if name in READ_ONLY else {}
             answer, cost = self.make(" ".join([name, code, *words]))
             if not name.startswith("lm_"):
                 place, there = self.place(code)
                 answer += f" {self.pairs[place][1] if there else 'none'} {len(self.pairs)}"
             most, total = max(most, cost), summed(total, answer)
-        self.pairs, self.room = pairs, room
+        self.pairs, self.room, self.places = pairs, room, {}
         return f"swept {total % 10**9}", most
 
     def pair_at(self, index):

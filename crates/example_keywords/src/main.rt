@@ -59,6 +59,7 @@ fn written(alloc: Global, text: &str) -> Result<String, KeywordFault> {
     told(alloc, &read(alloc, text)?)
 }
 
+// How many keywords there are, their text, and a note if that is read as other ones.
 fn told(alloc: Global, keywords: &Keywords) -> Result<String, KeywordFault> {
     let text = text_of(alloc, keywords)?;
     let is_same = is_read_as(alloc, text.as_str(), keywords)?;

@@ -19,7 +19,6 @@ use litemap::store::{
 };
 use std::alloc::{AllocError, Global};
 use std::marker::Model;
-use std::mem;
 use std::vec::IntoIter;
 
 /// A vector of pairs with the capacity that it was made with, which fails to grow past that.
@@ -52,8 +51,7 @@ impl<K, V> Store<K, V> for FixedRoom<K, V> {
     }
 
     fn lm_get(&self, index: usize) -> Option<(&K, &V)> {
-        let (key, value) = self.items.as_slice().get(index)?;
-        Some((key, value))
+        self.items.lm_get(index)
     }
 }
 
@@ -91,7 +89,7 @@ impl<K, V> StoreMut<K, V> for FixedRoom<K, V> {
     }
 
     fn lm_replace(&mut self, index: usize, key: K, value: V) -> (K, V) {
-        mem::replace(&mut self.items[index], (key, value))
+        self.items.lm_replace(index, key, value)
     }
 
     fn lm_push(&mut self, key: K, value: V) -> Result<(), NoRoom<(K, V)>> {

@@ -13,7 +13,6 @@ pub mod shrinking;
 use litemap::store::{KeepsMemory, NoRoom, Store, StoreConstEmpty, StoreMut};
 use std::alloc::{AllocError, Global};
 use std::marker::Model;
-use std::mem;
 
 /// A vector of at most `LIMIT` pairs.
 #[derive(Drop)]
@@ -43,8 +42,7 @@ impl<K, V, const LIMIT: usize> Store<K, V> for Bounded<K, V, LIMIT> {
     }
 
     fn lm_get(&self, index: usize) -> Option<(&K, &V)> {
-        let (key, value) = self.items.as_slice().get(index)?;
-        Some((key, value))
+        self.items.lm_get(index)
     }
 }
 
@@ -81,7 +79,7 @@ impl<K, V, const LIMIT: usize> StoreMut<K, V> for Bounded<K, V, LIMIT> {
     }
 
     fn lm_replace(&mut self, index: usize, key: K, value: V) -> (K, V) {
-        mem::replace(&mut self.items[index], (key, value))
+        self.items.lm_replace(index, key, value)
     }
 
     fn lm_push(&mut self, key: K, value: V) -> Result<(), NoRoom<(K, V)>> {

@@ -11,7 +11,6 @@ use litemap::store::{
 };
 use std::alloc::{AllocError, Global};
 use std::marker::Model;
-use std::mem;
 use std::vec::IntoIter;
 
 /// A vector of pairs that moves to a smaller block of memory if a removal leaves it at most half full.
@@ -50,8 +49,7 @@ impl<K, V> Store<K, V> for Shrinking<K, V> {
     }
 
     fn lm_get(&self, index: usize) -> Option<(&K, &V)> {
-        let (key, value) = self.items.as_slice().get(index)?;
-        Some((key, value))
+        self.items.lm_get(index)
     }
 }
 
@@ -83,7 +81,7 @@ impl<K, V> StoreMut<K, V> for Shrinking<K, V> {
     }
 
     fn lm_replace(&mut self, index: usize, key: K, value: V) -> (K, V) {
-        mem::replace(&mut self.items[index], (key, value))
+        self.items.lm_replace(index, key, value)
     }
 
     fn lm_push(&mut self, key: K, value: V) -> Result<(), NoRoom<(K, V)>> {

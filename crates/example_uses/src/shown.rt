@@ -26,6 +26,7 @@ pub(crate) fn show(rt: &impl Print, alloc: Global) -> anyhow::Result<()> {
         show_name(rt, alloc, name)?;
     }
     show_found(rt, alloc)?;
+    show_kept(rt, alloc)?;
     show_renamed(rt, alloc)?;
     for bytes in [[1, 2].as_slice(), &[1], &[2]] {
         show_bytes(rt, alloc, bytes)?;
@@ -123,13 +124,17 @@ fn show_name(rt: &impl Print, alloc: Global, name: &str) -> io::Result<()> {
     println!(rt; "{name:?}: there {is_there:?}, set {is_set}, taken {taken:?}, left {map:?}")
 }
 
-// The number at a tag, or at what stands before its first `-`; that at a path; and what is kept for a number.
+// The number at a tag, or at what stands before its first `-`; and that at a path.
 fn show_found(rt: &impl Print, alloc: Global) -> io::Result<()> {
     let map = two_numbers(alloc)?;
     for tag in ["one", "one-two", "two--", "-one", "ones"] {
         println!(rt; "locale {tag:?}: {:?}", texts::number_of_locale(&map, tag))?;
     }
-    println!(rt; "routes {:?} {:?}", route("/about"), route("/a"))?;
+    println!(rt; "routes {:?} {:?}", route("/about"), route("/a"))
+}
+
+// What is kept for a number.
+fn show_kept(rt: &impl Print, alloc: Global) -> io::Result<()> {
     let mut people = LiteMap::new_vec(alloc);
     for (number, name, kept) in [(3, "c", 'x'), (1, "a", 'y')] {
         let name = name.to_string(alloc)?;
@@ -217,9 +222,9 @@ fn show_settings(rt: &impl Print, alloc: Global) -> anyhow::Result<()> {
 
 // Scores of which one is set, many are set, and all are raised.
 fn show_scores(rt: &impl Print, alloc: Global) -> io::Result<()> {
-    let more = owned(alloc, &[("bob", 5), ("ann", u32::MAX), ("ann", 4)])?;
     let mut scores = LiteMap::new_vec(alloc);
     scores::set(&mut scores, "eve".to_string(alloc)?, u32::MAX)?;
+    let more = owned(alloc, &[("bob", 5), ("ann", u32::MAX), ("ann", 4)])?;
     scores::set_all(&mut scores, alloc, more)?;
     scores::raise(&mut scores, 5);
     for name in ["ann", "bob", "cy"] {

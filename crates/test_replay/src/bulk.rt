@@ -84,27 +84,37 @@ fn insert_each<S: StoreMut<Key, Value>>(
     if call.name != "insert_each" {
         return None;
     }
-    let (pairs, mut fresh) = (call.given()?, 0u64);
-    for (key, value) in pairs {
-        match map.insert(key, value) {
-            Ok(None) => fresh = fresh.wrapping_add(1),
-            Ok(Some(_old)) => {}
-            Err(refused) => {
-                to.no_room(refused);
-                return Some(());
-            }
-        }
+    match insert_all(map, call.given()?) {
+        Ok(fresh) => to.show(fresh),
+        Err(refused) => to.no_room(refused),
     }
-    to.show(fresh);
     Some(())
 }
 
+fn insert_all<S: StoreMut<Key, Value>>(
+    map: &mut Map<S>,
+    pairs: Vec<Pair>,
+) -> Result<u64, NoRoom<Pair>> {
+    let mut fresh = 0u64;
+    for (key, value) in pairs {
+        if map.insert(key, value)?.is_none() {
+            fresh = fresh.wrapping_add(1);
+        }
+    }
+    Ok(fresh)
+}
+
+// Whether the call is the one that also counts comparisons, if it has this name but for that.
+fn is_counted(call: &Call<'_>, name: &str) -> Option<bool> {
+    match call.name.strip_prefix(name)? {
+        "" => Some(false),
+        "_counted" => Some(true),
+        _ => None,
+    }
+}
+
 fn extend<S: StoreBulkMut<Key, Value>>(map: &mut Map<S>, call: &Call<'_>, to: &mut Answer) -> Made {
-    let is_counted = match call.name {
-        "extend" => false,
-        "extend_counted" => true,
-        _ => return None,
-    };
+    let is_counted = is_counted(call, "extend")?;
     let pairs = call.given()?;
     to.room(if is_counted {
         map.extend_counted(call.alloc, pairs, &mut Count::new())
@@ -125,9 +135,8 @@ pub fn other<S: StoreBulkMut<Key, Value>>(call: &Call<'_>) -> Option<Map<S>> {
 // The merges with a map of the pairs, or with a clone of the map.
 fn merge<S: Tested>(map: &mut Map<S>, call: &Call<'_>, to: &mut Answer) -> Made {
     let is_counted = match call.name {
-        "extend_from_clone" | "extend_from_litemap" => false,
-        "extend_from_litemap_counted" => true,
-        _ => return None,
+        "extend_from_clone" => false,
+        _ => is_counted(call, "extend_from_litemap")?,
     };
     let other = if call.name == "extend_from_clone" {
         clone(map, call)
@@ -165,11 +174,7 @@ fn show_merged<'a, S: StoreBulkMut<Key, Value>>(
 // The merges with a closure, which adds to each value that is here already three times the one here, what its key's code leaves
 // by seven, and a thousand for each time that it was called before. The last word tells how often it was called.
 fn combine<S: Tested>(map: &mut Map<S>, call: &Call<'_>, to: &mut Answer) -> Made {
-    let is_counted = match call.name {
-        "extend_with" => false,
-        "extend_with_counted" => true,
-        _ => return None,
-    };
+    let is_counted = is_counted(call, "extend_with")?;
     let other: Map<S> = other(call)?;
     let times = Cell::new(0u64);
     let add = |key: &Key, here: &Value, new: &mut Value| {

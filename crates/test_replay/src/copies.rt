@@ -3,15 +3,18 @@ use crate::answer::{Answer, Pairs};
 use crate::bulk::other;
 use crate::call::{Call, Made, Map};
 use crate::counted::{Key, Order, Value, with_rank};
-use crate::tested::Tested;
 use litemap::VecMap;
-use litemap::store::Store;
+use litemap::store::{Store, StoreBulkMut, StoreMut};
 use std::alloc::AllocError;
 use std::cmp::Ordering;
 use std::hash::{FoldHasher, Hash, Hasher};
 
 /// Makes a call that copies, if the name is one. The last word tells how many keys and values were cloned.
-pub fn copy<S: Tested>(map: &Map<S>, call: &Call<'_>, to: &mut Answer) -> Made {
+pub fn copy<S: StoreMut<Key, Value> + Drop>(
+    map: &Map<S>,
+    call: &Call<'_>,
+    to: &mut Answer,
+) -> Made {
     let alloc = call.alloc;
     let made = match call.name {
         "try_clone" => map.try_clone(alloc).map(|clone| Pairs::of_map(&clone)),
@@ -61,7 +64,11 @@ fn keyed<S: Store<Key, Value>>(
 }
 
 /// Compares a map with one of the given pairs, if the name is such a call. `hash`: whether both are hashed alike.
-pub fn compare<S: Tested>(map: &Map<S>, call: &Call<'_>, to: &mut Answer) -> Made {
+pub fn compare<S: StoreBulkMut<Key, Value>>(
+    map: &Map<S>,
+    call: &Call<'_>,
+    to: &mut Answer,
+) -> Made {
     match call.name {
         "eq" => to.show(*map == other(call)?),
         "hash" => to.show(hash_of(map) == hash_of(&other::<S>(call)?)),

@@ -41,6 +41,7 @@ fn one_key<S: StoreMut<Key, Value>>(map: &mut Map<S>, call: &Call<'_>, to: &mut 
     Some(())
 }
 
+// Whether the call takes a key alone, and no value.
 fn is_of_one_key(name: &str) -> bool {
     matches!(
         name,

@@ -140,11 +140,10 @@ impl Replay {
 
 /// Makes the calls of the lines of a text, which has a name, and writes those that return something else.
 pub fn lines(rt: &HostRuntime, name: &str, text: &str, is_marked: bool) -> io::Result<()> {
-    let mut replay = Replay::new(rt.alloc(), is_marked)?;
-    each_line(rt, &mut replay, name, text)?;
-    println!(rt; "{name}: {} calls", replay.made)
+    each_line(rt, &mut Replay::new(rt.alloc(), is_marked)?, name, text)
 }
 
+// Makes the calls of each line, and then writes how many were made.
 fn each_line(rt: &HostRuntime, replay: &mut Replay, name: &str, text: &str) -> io::Result<()> {
     let mut stores = String::new(rt.alloc());
     for (place, text) in text.lines().enumerate() {
@@ -161,7 +160,7 @@ fn each_line(rt: &HostRuntime, replay: &mut Replay, name: &str, text: &str) -> i
             None => println!(rt; "{name}:{}: bad line", place.wrapping_add(1))?,
         }
     }
-    Ok(())
+    println!(rt; "{name}: {} calls", replay.made)
 }
 
 // Makes the call of a line over each of these stores.

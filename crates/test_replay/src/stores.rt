@@ -130,7 +130,7 @@ fn renew<S: Tested>(store: &mut S, call: &Call<'_>, to: &mut Answer) -> Made {
 }
 
 // A call with many pairs of a store that is sorted.
-fn extend<S: Tested>(store: &mut S, call: &Call<'_>, to: &mut Answer) -> Made {
+fn extend<S: StoreBulkMut<Key, Value>>(store: &mut S, call: &Call<'_>, to: &mut Answer) -> Made {
     if call.name != "lm_extend" || !LiteMap::is_sorted_store(&*store) {
         return None;
     }
@@ -140,7 +140,7 @@ fn extend<S: Tested>(store: &mut S, call: &Call<'_>, to: &mut Answer) -> Made {
 }
 
 // A call that takes its pairs out of a vector. What the vector has after it is written after its result.
-fn take_vec<S: Tested>(store: &mut S, call: &Call<'_>, to: &mut Answer) -> Made {
+fn take_vec<S: StoreBulkMut<Key, Value>>(store: &mut S, call: &Call<'_>, to: &mut Answer) -> Made {
     let is_extended = call.name == "lm_extend_from_vec" && LiteMap::is_sorted_store(&*store);
     if call.name != "lm_sort_from_vec" && !is_extended {
         return None;
@@ -163,9 +163,7 @@ fn join<S: Tested>(store: &mut S, call: &Call<'_>, to: &mut Answer) -> Made {
     if call.name != "lm_extend_end" && call.name != "lm_extend_start" {
         return None;
     }
-    let mut other = S::lm_from_pairs(call.alloc, call.pairs(0)?).ok()?;
-    other.lm_reserve(call.room()).ok()?;
-    call.begin();
+    let other = other(call)?;
     let outcome = match call.name {
         "lm_extend_end" => store.lm_extend_end(other),
         _ => store.lm_extend_start(other),
@@ -175,4 +173,12 @@ fn join<S: Tested>(store: &mut S, call: &Call<'_>, to: &mut Answer) -> Made {
         Err(refused) => to.word_and("refused", Pairs::of_store(&refused.back)),
     }
     Some(())
+}
+
+// A store of the given pairs, with the given room. The call begins after it is made.
+fn other<S: Tested>(call: &Call<'_>) -> Option<S> {
+    let mut store = S::lm_from_pairs(call.alloc, call.pairs(0)?).ok()?;
+    store.lm_reserve(call.room()).ok()?;
+    call.begin();
+    Some(store)
 }

@@ -2,9 +2,8 @@
 use crate::answer::{Answer, Pairs};
 use crate::call::{Call, Made, Map};
 use crate::counted::{Key, Order, Value};
-use crate::tested::Tested;
 use litemap::LiteMap;
-use litemap::store::{PairIntoIter, StoreIterable};
+use litemap::store::{PairIntoIter, StoreConstEmpty, StoreIntoIterator, StoreIterable};
 use std::mem;
 
 // What a walk met, and whether each of its hints told exactly how many items were left.
@@ -46,27 +45,43 @@ impl Met {
     }
 }
 
-// Takes the steps that a call's words count, from the front and then from the back, and adds the key and the value of each item.
+// Takes steps from the front and then from the back, and adds the key and the value of each item.
 macro_rules! walk {
-    ($items:expr, $call:ident, $met:ident, $item:ident => $key:expr, $value:expr) => {{
-        let (front, steps) = steps($call)?;
+    ($items:expr, $steps:ident, $met:ident, $item:pat => $key:expr, $value:expr) => {{
+        let (front, steps) = $steps;
         let mut rest = $items;
         for step in 0..steps {
-            let $item = if step < front {
+            let item = if step < front {
                 rest.next()
             } else {
                 rest.next_back()
             };
-            $met.add($key, $value);
+            if let Some($item) = item {
+                $met.add($key, $value);
+            }
             $met.hint(rest.size_hint());
         }
     }};
 }
 
 // How many steps there are from the front, and in all.
-fn steps(call: &Call<'_>) -> Option<(usize, usize)> {
+type Steps = (usize, usize);
+
+fn steps(call: &Call<'_>) -> Option<Steps> {
     let (front, back) = (call.size(0)?, call.size(1)?);
     Some((front, front.saturating_add(back)))
+}
+
+fn pairs<'a, S: StoreIterable<'a, Key, Value>>(map: &'a Map<S>, steps: Steps, met: &mut Met) {
+    walk!(map.iter(), steps, met, (key, value) => Some(key), Some(value));
+}
+
+fn keys<'a, S: StoreIterable<'a, Key, Value>>(map: &'a Map<S>, steps: Steps, met: &mut Met) {
+    walk!(map.keys(), steps, met, key => Some(key), None);
+}
+
+fn values<'a, S: StoreIterable<'a, Key, Value>>(map: &'a Map<S>, steps: Steps, met: &mut Met) {
+    walk!(map.values(), steps, met, value => None, Some(value));
 }
 
 // The keys that the words ask for, from either end, or how many are left.
@@ -97,10 +112,9 @@ pub fn lent<'a, S: StoreIterable<'a, Key, Value>>(
     let mut met = Met::new(map.len());
     match call.name {
         "keys_in_turns" => return keys_in_turns(map, call, to),
-        "iter" =>
-            walk!(map.iter(), call, met, pair => pair.map(|(key, _)| key), pair.map(|(_, value)| value)),
-        "keys" => walk!(map.keys(), call, met, key => key, None),
-        "values" => walk!(map.values(), call, met, value => None, value),
+        "iter" => pairs(map, steps(call)?, &mut met),
+        "keys" => keys(map, steps(call)?, &mut met),
+        "values" => values(map, steps(call)?, &mut met),
         "iter_keys" => met.add(map.iter_keys().next(), None),
         "iter_values" => met.add(None, map.iter_values().next()),
         "for" => {
@@ -115,7 +129,11 @@ pub fn lent<'a, S: StoreIterable<'a, Key, Value>>(
 }
 
 /// `into_iter`, so many steps of it; the rest is dropped.
-pub fn taken<S: Tested>(map: &mut Map<S>, call: &Call<'_>, to: &mut Answer) -> Made {
+pub fn taken<S: StoreConstEmpty<Key, Value> + StoreIntoIterator<Key, Value>>(
+    map: &mut Map<S>,
+    call: &Call<'_>,
+    to: &mut Answer,
+) -> Made {
     if call.name != "into_iter" {
         return None;
     }
