@@ -17,7 +17,8 @@ use std::alloc::{AllocError, Global};
 const MOST_HINTED: usize = 65_536;
 
 /// Reads the pairs of a source up to its end, and returns their map. The last pair of each key stays, its key included, and
-/// the others are dropped. The Rust crate reads by serde's `Deserialize` here.
+/// the others are dropped. From a `VecSource` it reads what `from_vec` makes of the vector. The Rust crate reads by serde's
+/// `Deserialize` here.
 ///
 /// A pair whose key is above the last one is appended after one comparison. Others are put aside, and at the end the map is
 /// extended by these. So ascending keys cost at most one comparison for each pair, and no sort. The source's hint reserves

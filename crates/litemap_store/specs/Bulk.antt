@@ -33,10 +33,15 @@ module _ {U T K V : Type 0} (cmp : K → K → Ordering) (becomes : U → T → 
     pub gives : Gives becomes steps iter given
     pub last : Last cmp (old ++ given) new
 
-  -- the same, and for these pairs so many comparisons are counted
+  -- the same, and how many comparisons are counted at most
   pub record IsExtendedCounted (iter : U) (old new : List (K × V)) (before after : Count) : Type 0 where
-    pub extended : IsExtended iter old new
-    pub counted : IsCountedFor cmp old extended.given before after
+    pub given : List (K × V)
+    pub gives : Gives becomes steps iter given
+    pub last : Last cmp (old ++ given) new
+    -- if the given pairs ascend above the last old key: one for each
+    pub all_above : Rises cmp old given → RisesByAtMost (length given) before after
+    -- if they ascend: one for each old and two for each given pair
+    pub rising : Rising cmp given → RisesByAtMost (length old + 2 * length given) before after
 
   -- if the call fails, none was counted, or no more than for the pairs that iter yields before it ends
   abbrev pub IsRefusedCounted : U → List (K × V) → Count → Count → Type 0

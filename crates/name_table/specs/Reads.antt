@@ -20,7 +20,8 @@ pub record IsRead (bytes : List ℕ) (M : List (Bor (List ℕ) × Bor (List ℕ)
   pub size_is : size ≡ length table.front
   pub last : Last by_bytes pairs M
 
--- the value and the index of the key in the map that is read from the bytes, if it is there
+-- the value and the index of the key in the map that is read from the bytes, if it is there. `pairs` is that map, whatever
+-- addresses its strings have: by the law `reading_is_one` the bytes begin with one table only
 pub record IsFound (bytes : List ℕ) (key : Bor (List ℕ)) (found : Option (ℕ × Bor (List ℕ))) : Type 0 where
   pub pairs : List (Bor (List ℕ) × Bor (List ℕ))
   pub size : ℕ

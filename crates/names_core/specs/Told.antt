@@ -81,7 +81,7 @@ Answers old (Del key) text next =
     × (IsNone (at by_bytes old.pairs key.now) → next.room ≡ old.room)
 Answers old (Find key) text next = (text ≡ place_text (index_of by_bytes old.pairs key.now)) × (next ≡ old)
 
--- the line, done on the map `old`, writes the text and leaves the map `next`
+-- the line, done on the map `old`, writes the text and leaves the map `next`: the table of lines in README, as a definition
 pub data Does (old : TextMap) (said text : List ℕ) (next : TextMap) : Type 0 where
   Nothing : said ≡ [] → text ≡ [] → next ≡ old → Does old said text next
   ShowsAll : SpellsAll said → text ≡ flat_map pair_text old.pairs → next ≡ old → Does old said text next
@@ -99,10 +99,11 @@ DoesEach old (said ∷ more) text end =
 abbrev pub Leaves : List (List ℕ) → List ℕ → TextMap → Type 0
 Leaves said text end = (start : TextMap) × (start.pairs ≡ []) × DoesEach start said text end
 
--- the last line if line n is bad, and if memory ran out
+-- the last line if line n is bad
 abbrev pub bad_line : ℕ → List ℕ
 bad_line n = line (codes "bad line " ++ decimal n)
 
+-- the last line if memory ran out
 abbrev pub no_memory : List ℕ
 no_memory = line (codes "no memory")
 

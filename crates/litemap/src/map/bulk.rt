@@ -1,9 +1,8 @@
 //! Calls that take many pairs at once. The last pair of each key stays.
-ghost use Rattle.std.specs.Prelude.{◌≡◌, ◌≤◌, ◌++◌, [], IfErr, IfOk, IsOk, OnOk, OnErr, length};
+ghost use Rattle.std.specs.Prelude.{◌≡◌, ◌≤◌, ◌+◌, ◌*◌, ◌++◌, [], IfErr, IfOk, IsOk, OnOk, OnErr, length};
 ghost use Rattle.std.specs.Iterator.{IsFiniteIterable};
-ghost use Rattle.litemap_store.specs.Bulk.{GivesSome, IsCountedFor, IsExtended, IsExtendedCounted, IsHandedBack};
-ghost use Rattle.litemap_store.specs.Bulk.{IsRefusedCounted};
-ghost use Rattle.litemap_store.specs.Counts.{GoesOn};
+ghost use Rattle.litemap_store.specs.Bulk.{GivesSome, IsExtended, IsExtendedCounted, IsHandedBack, IsRefusedCounted};
+ghost use Rattle.litemap_store.specs.Counts.{GoesOn, RisesByAtMost};
 ghost use Rattle.litemap_store.specs.Last.{Last, Rises};
 ghost use Rattle.litemap_store.specs.Pairs.{Rising};
 
@@ -16,7 +15,8 @@ impl<K: Ord + Drop, V: Drop, S: StoreFromIterable<K, V>> LiteMap<K, V, S> {
     /// key included.
     ///
     /// It compares each key with the one before it, and sorts the pairs only if they don't ascend. It never fails for an
-    /// iterator that yields nothing. In the Rust crate this is the trait `FromIterator`.
+    /// iterator that yields nothing. Of a vector it returns the map that the clause `made` of `from_vec` tells in one line. In
+    /// the Rust crate this is the trait `FromIterator`.
     ///
     /// ```rust
     /// let days: Days = LiteMap::from_iter(alloc, [(2, "Tue"), (1, "Mon"), (2, "Tuesday")])?;
@@ -77,7 +77,7 @@ impl<K: Ord + Drop, V: Drop, S: StoreBulkMut<K, V>> LiteMap<K, V, S> {
         ensures made { IfOk result (λ m. Last K.cmp pairs.items m.pairs) }
         ensures succeeds { Rising K.cmp pairs.items → length pairs.items ≤ S.free_room → IsOk result }
         ensures back { IfErr result (λ e. IsHandedBack K.cmp pairs.items e.back.items) }
-        ensures counted { IsCountedFor K.cmp [] pairs.items count.old count.new }
+        ensures rising { Rising K.cmp pairs.items → RisesByAtMost (length pairs.items) count.old count.new }
     {
         match S::lm_sort_from_vec(alloc, &mut pairs, count) {
             Ok(store) => Ok(LiteMap::from_sorted_store_unchecked(store)),
@@ -86,7 +86,8 @@ impl<K: Ord + Drop, V: Drop, S: StoreBulkMut<K, V>> LiteMap<K, V, S> {
     }
 
     /// Extends the map by the pairs that an iterator yields, or fails if memory runs out. The last pair of each key stays, its
-    /// key included. Old pairs count as earlier than new ones: so a new key replaces an equal old one.
+    /// key included. Old pairs count as earlier than new ones: so a new key replaces an equal old one. Of a vector it leaves what
+    /// the clause `last` of `extend_from_vec` tells in one line.
     ///
     /// If it fails, the map keeps its pairs, and those taken from the iterator are dropped. It never fails for an iterator that
     /// yields nothing. It does not use the iterator's size hint. Nothing is promised of the room: if a new pair goes between
@@ -165,7 +166,9 @@ impl<K: Ord + Drop, V: Drop, S: StoreBulkMut<K, V>> LiteMap<K, V, S> {
         ensures refused { OnErr result (self.new.pairs ≡ self.old.pairs) }
         ensures succeeds { Rises K.cmp self.old.pairs pairs.items → length pairs.items ≤ self.old.room → IsOk result }
         ensures back { IfErr result (λ e. IsHandedBack K.cmp pairs.items e.back.items) }
-        ensures counted { IsCountedFor K.cmp self.old.pairs pairs.items count.old count.new }
+        ensures all_above { Rises K.cmp self.old.pairs pairs.items → RisesByAtMost (length pairs.items) count.old count.new }
+        ensures rising { Rising K.cmp pairs.items
+            → RisesByAtMost (length self.old.pairs + 2 * length pairs.items) count.old count.new }
     {
         match self.store.lm_extend_from_vec(alloc, &mut pairs, count) {
             Ok(()) => Ok(()),

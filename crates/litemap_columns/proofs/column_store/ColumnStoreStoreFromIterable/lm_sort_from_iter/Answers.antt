@@ -16,7 +16,7 @@ some_given cmp (x ∷ given) pairs last some = omega arith
 
 pub returns-in_err-keys-clause-refused_some : goal.returns-in_err-keys-clause-refused_some
 returns-in_err-keys-clause-refused_some g c =
-    let extended = c.in_ok-pairs.ensures.made.extended in
+    let extended = c.in_ok-pairs.ensures.made in
     let refused : length c.in_ok-pairs.pairs.items ≤ 0 → ⊥ = λ none. cc (c.in_err-keys.ensures.succeeds (omega (arith, none, c.len.ensures, c.in_ok-pairs.pairs.ok.0))) in
     always_on_err c.from_residual-in_err-keys.result
     (GivesSome-from_some g.I.IntoIterator.into_iter_gives g.I.IntoIter.Iterator.next_gives c.args.iter extended.given extended.gives (some_given g.K.Ord.cmp extended.given _ extended.last refused))

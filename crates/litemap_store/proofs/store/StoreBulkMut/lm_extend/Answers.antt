@@ -11,8 +11,11 @@ pub returns-clause-extended : goal.returns-clause-extended
 returns-clause-extended g c =
     let put = c.put_pairs.ensures in
     on_ok_weaker c.put_pairs.result (λ last. record {
-      extended = record { given = c.append_items.new.items.items; gives = gathered g (goal.at.returns-clause-extended g c).After-put_pairs; last = last };
-      counted = record { all_above = put.all_above; rising = λ _. put.cost };
+      given = c.append_items.new.items.items;
+      gives = gathered g (goal.at.returns-clause-extended g c).After-put_pairs;
+      last = last;
+      all_above = put.all_above;
+      rising = λ _. put.cost;
     }) put.last
 
 pub returns-clause-refused_some : goal.returns-clause-refused_some

@@ -36,7 +36,8 @@ returns-clause-refused_cost g c = always_on_err c.settle.result (let gathered = 
 pub returns-clause-extended : goal.returns-clause-extended
 returns-clause-extended g c =
     let gathered = c.in_ok-append_items.ensures.gathered in
-    on_ok_weaker c.settle.result (λ last. record { extended = record { given = gathered.0; gives = gathered.2; last = rw gathered.1 at last }; counted = counted g c }) c.settle.ensures.last
+    let cost = counted g c in
+    on_ok_weaker c.settle.result (λ last. record { given = gathered.0; gives = gathered.2; last = rw gathered.1 at last; all_above = cost.all_above; rising = cost.rising }) c.settle.ensures.last
 
 pub returns-clause-refused_some : goal.returns-clause-refused_some
 returns-clause-refused_some g c =
