@@ -5,17 +5,13 @@ import sys
 from lib.checks.manual import END, ENTRIES, GROUPS, INDEX, START, index_text, pages, sources_of
 from lib.checks.pages import BLOCKS, CODE, TEXTS, read
 from lib.checks.scopes import NAME, SCOPES, names_in
-from lib.checks.sources import CALLS, IMPLS, LIBRARIES, RUST, SOURCES, examples_of
+from lib.checks.sources import CALLS, IMPLS, LIBRARIES, NOT_LISTED, RUST, SOURCES, examples_of
 from lib.checks.words import WORDS
 from lib.shared import TOP
 
 sys.path.append(str(TOP / "diff"))
 import table
 
-# The libraries that have no call for the pages, and why.
-NOT_LISTED = {
-    **dict.fromkeys(["names_core", "names_main", "names"], "the program, which README tells"),
-}
 # The groups whose calls say what they cost in comparisons and moves, or whose source says it once for all calls; and the calls of
 # these groups that compare no keys and move no pairs, of which a page may say so once.
 COSTED = [*GROUPS][: [*GROUPS].index("Read from a source")]
@@ -130,7 +126,7 @@ def check(report, write):
     see_pages(report, write)
     see_words(report)
     grouped = {source for group in GROUPS for source in sources_of(group)}
-    for source in sorted(grouped | {it for it in CALLS if it.split("/")[0] not in NOT_LISTED and (CALLS[it] or IMPLS[it])}):
+    for source in sorted(grouped | {it for it in CALLS if not {it, it.split("/")[0]} & {*NOT_LISTED} and (CALLS[it] or IMPLS[it])}):
         report.see(source in CALLS, f"a group of docs/API.md names {source}, and there is no such source")
         report.see(source in grouped, f"{source} has calls or traits of others, and stands in no group of docs/API.md")
     for source in (source for group in COSTED for source in sources_of(group)):
@@ -147,5 +143,5 @@ def check(report, write):
             report.see(label in reasons or named, f"{label} is named by no {told}, and no table in bin/lib/checks/api.py says why")
     for told in table.missing(TOP):
         report.see(False, told)
-    for label in sorted({*FREE, *NOT_CALLED, *NOT_TURNED, *NOT_LISTED} - labels - {*LIBRARIES}):
+    for label in sorted({*FREE, *NOT_CALLED, *NOT_TURNED, *NOT_LISTED} - labels - {*LIBRARIES, *SOURCES}):
         report.see(False, f"bin/lib/checks/api.py has a reason for {label}, which is no call")

@@ -3,9 +3,8 @@ import os
 import re
 import subprocess
 
-from lib.checks.api import NOT_LISTED
 from lib.checks.pages import BLOCKS, CODE, TEXTS
-from lib.checks.sources import LIBRARIES, RUST
+from lib.checks.sources import LIBRARIES, NOT_LISTED, RUST
 from lib.shared import CRATES, TOP
 
 # The libraries that bin/release does not pack, and why.

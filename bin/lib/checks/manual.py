@@ -3,7 +3,7 @@ import re
 import textwrap
 
 from lib.checks.pages import slug
-from lib.checks.scopes import SCOPES, bounds_of, closure, displayed, types_in
+from lib.checks.scopes import SCOPES, bounds_of, closure, displayed, members_of, types_in
 from lib.checks.sources import CALLS, IMPLS, exported
 from lib.checks.words import WORDS
 
@@ -31,10 +31,22 @@ GROUPS = {
     "Stores": "litemap_store: store into_iter vec_impl slice_impl slice_iter count no_room retain reserved slice_search merge "
     "split_store; litemap_short: short_store short_iter; litemap_columns: lib column_store column_iter",
     "Laws, for proofs": "litemap_store: laws",
+    "The program": "names_core: program watch; names: laws",
 }
 # A word that this many groups use is explained once, in docs/API.md. Of the others a call explains those that are so near: 0 are
 # those that its contract names, 1 those of their definitions.
 MANY, NEAR, NEAR_TYPES = 4, 2, 1
+# The groups whose calls explain all words of their definitions, in the order in which these use them.
+WHOLE = ["The program"]
+# The words of many groups that a group explains, too, and those that each of its calls explains.
+LAST = "Last In StandsLast NoneEqual Rising BelowAll"
+PINNED = {
+    "Look up": "RisesByAtMost digits",
+    "Many at once": f"{LAST} RisesByAtMost",
+    "Merge and compare keys": "RisesByAtMost digits",
+    "Read from a source": LAST,
+}
+EACH = ["Last", "IsExtended", "IsExtendedCounted", "IsGathered"]
 TYPES, TWINS = ("struct", "enum", "type", "trait"), "\n\n"
 CLAUSE = re.compile(r"\b(?:requires|ensures\*?)(?: \w+)? (?=\{)")
 
@@ -122,7 +134,10 @@ def said(word, link):
 def told(word, page):
     """What a page says about a word: how it is written, what its comment says, and what it is made of."""
     line = said(word, source_link(f"`{word.head}`", word, page))
-    return line + (f"\n{textwrap.indent(block(displayed(word)), '  ').rstrip()}\n" if word.shown else "")
+    members = [f"{member.split('.')[1]} = {value}" for member, value in members_of(word).items()]
+    members = "\n".join(dict.fromkeys(re.sub(r"^(\w+) = λ ([^.]*)\. ", r"\1 \2 = ", it) for it in members))
+    shown = "\n\n".join(filter(None, [displayed(word), members]))
+    return line + (f"\n{textwrap.indent(block(shown), '  ').rstrip()}\n" if shown else "")
 
 
 def comment(text):
@@ -137,26 +152,35 @@ def comment(text):
     return paragraphs, examples
 
 
-def words_text(it, page, above):
+def is_told(group, word, far, above):
+    """Whether a call of a group explains a word that is so far. `above` has the words that a call above it explains."""
+    pinned = PINNED.get(group, "").split()
+    if word in above:
+        return word.name in EACH and group in PINNED and far <= 1
+    near = group in WHOLE or far <= (NEAR_TYPES if word.kind in TYPES else NEAR)
+    return word.name in pinned or near and word not in OF_MANY
+
+
+def words_text(it, group, above):
     """What a page says about the words of a call. `above` has the titles that already explain a word: these are linked."""
     text, types = "", []
     for word, far in it.words.items():
         link = f"[`{word.name if word.kind in TYPES else word.head}`](#{slug(above.get(word, ''))})"
-        if word in above and far == 0:
+        if is_told(group, word, far, above):
+            text += told(word, page_of(group))
+            above[word] = it.title
+        elif word in above and far == 0:
             types += [link] if word.kind in TYPES else []
             text += "" if word.kind in TYPES else said(word, link)
-        elif word not in above and far <= (NEAR_TYPES if word.kind in TYPES else NEAR) and word not in OF_MANY:
-            text += told(word, page)
-            above[word] = it.title
     text += f"- {', '.join(types)}\n" if types else ""
     return f"Its words:\n\n{text}\n" if text else ""
 
 
-def entry(it, page, above):
-    """The text of a call in a page."""
+def entry(it, group, above):
+    """The text of a call in the page of a group."""
     paragraphs, examples = comment(it.call.comment)
-    link = source_link(f"`{it.call.path.replace('/src/', '/')}`", it.call, page)
-    return f"## {it.title}\n\n{paragraphs}{link}:\n\n{block(TWINS.join(it.contracts))}{examples}{words_text(it, page, above)}"
+    link = source_link(f"`{it.call.path.replace('/src/', '/')}`", it.call, page_of(group))
+    return f"## {it.title}\n\n{paragraphs}{link}:\n\n{block(TWINS.join(it.contracts))}{examples}{words_text(it, group, above)}"
 
 
 def listed(title, words, page):
@@ -175,7 +199,7 @@ def page_text(group):
     """The page of a group."""
     page, above = page_of(group), {}
     text = f"# {group}\n\n{START}\n{HEAD}" if ENTRIES[group] else f"# {group}\n\n{START}\n"
-    text += "".join(entry(it, page, above) for it in ENTRIES[group])
+    text += "".join(entry(it, group, above) for it in ENTRIES[group])
     types = [it for it in types_of(group) if it not in OF_MANY and it not in above]
     text += listed("Other types", types, page)
     impls = "\n".join(impls_text(group))

@@ -84,11 +84,23 @@ def is_hidden(word):
     return not word.kind and any(name in private or INNER.match(scope.modules.get(name, "")) for name in names)
 
 
+def equations(word):
+    """The lemmas that are the equations of a hidden definition, as digits-zero, in the file that has it."""
+    lemma = rf"^ *pub {re.escape(word.name)}-\w+ : (.*\b{re.escape(word.name)} .* ≡ .*)$"
+    return "\n".join(re.findall(lemma, (SPECS | RUST)[word.path], re.MULTILINE))
+
+
+def members_of(word):
+    """The ghost members of our traits that a type has, with their values, except laws, which have no comment."""
+    return {it: value for it, value in word.ghosts.items() if it in WORDS and WORDS[it].said and not it.endswith(f".{value}")}
+
+
 def names_in(word):
     """The names in what a definition shows, with the keys that they mean."""
     if word.path.endswith(".rt"):
         of_types = [(name, name) for name in types_in(word.shown) if name != word.name]
-        return of_types + [*SCOPES[word.path].used(word.seen, {})] if word.kind != "member" else []
+        seen = "\n".join([word.seen, *members_of(word).values()])
+        return of_types + [*SCOPES[word.path].used(seen, {})] if word.kind != "member" else []
     shown = re.sub(r"^\w+ :", "", word.shown, flags=re.MULTILINE) if word.kind else word.shown
     return [(name, key) for name, key in SCOPES[word.path].used(shown, {}) if name not in word.head.split()]
 
@@ -112,4 +124,4 @@ def displayed(word):
 
 
 for it in WORDS.values():
-    it.shown = "" if is_hidden(it) else it.shown
+    it.shown = equations(it) if is_hidden(it) else it.shown

@@ -6,6 +6,12 @@ import textwrap
 from lib.shared import CRATES, TOP
 
 LIBRARIES = [name for name in CRATES if not name.startswith(("test_", "example_"))]
+# The libraries and the sources that have no call for the pages, and why.
+NOT_LISTED = {
+    "names_main": "its `main` hands on `run`",
+    "names/fail_at": "a reader and a writer for tests",
+    "names/flags": "an example of a caller of litemap_json",
+}
 # The head of an item, up to its contract or its body.
 ITEM = re.compile(
     r"^(?P<set_in> *)(?P<head>(?:pub (?:fn|trait|struct|enum)|fn|final fn|impl)\b[^{;]*?)(?=\s*(?:\brequires\b|\bensures\b|\{|;))",

@@ -2,7 +2,7 @@
 import re
 import textwrap
 
-from lib.checks.sources import RUST, SPECS
+from lib.checks.sources import LIBRARIES, NOT_LISTED, RUST, SPECS
 
 # A definition of a specs file, the head of a module with its parameters, and what a file imports.
 ITEM = re.compile(r"( *)(?:abbrev |unfoldable )*pub (record |data )?([^\s:]+)")
@@ -18,17 +18,20 @@ TYPE = re.compile(
 MEMBER = re.compile(
     r"^    (?:type (?P<type>\w+)[^;{]*|ghost (?P<name>\w+): \{ (?P<of>.*?) \}(?: = \{.*?\})?);", re.MULTILINE | re.DOTALL
 )
+# A ghost member in an impl, with its value.
+GHOST = re.compile(r"^    ghost (\w+) = \{ (.*?) \};", re.MULTILINE | re.DOTALL)
 
 
 class Word:
     """A definition: its file and line, its kind and name, how it is written with its arguments, its comment, and its lines.
 
-    If it is a type, `seen` is what a contract sees of it.
+    If it is a type, `seen` is what a contract sees of it, and `ghosts` are the ghost members of its impls, as PairSource.gives.
     """
 
     def __init__(self, path, line, kind, name, head, said, shown, seen=""):
         self.kind, self.seen = kind, seen
         self.path, self.line, self.name, self.head, self.said, self.shown = path, line, name, head, said, shown
+        self.ghosts = {}
 
     def names(self):
         """The name of the word, and those of its cases."""
@@ -127,7 +130,10 @@ def type_word(path, text, found):
     said = above(text.splitlines(), line)
     model = re.search(rf"Model for {found['name']}\b(?:(?!^\}}).)*?ghost Value = \{{ (.*?) \}};", text, re.DOTALL | re.MULTILINE)
     seen = model[1] if model else ""
-    return Word(path, line + 1, found["kind"], found["name"], found["name"], said, shown if is_shown else "", seen)
+    word = Word(path, line + 1, found["kind"], found["name"], found["name"], said, shown if is_shown else "", seen)
+    for impl in re.finditer(rf"^impl\b[^{{]*?\b(\w+)(?:<[^{{]*>)? for {found['name']}\b[^{{]*\{{(\n.*?^\}})", text, re.DOTALL | re.MULTILINE):
+        word.ghosts |= {f"{impl[1]}.{name}": value for name, value in GHOST.findall(impl[2])}
+    return word
 
 
 def rust_words(path, text):
@@ -147,11 +153,12 @@ def all_words():
     words = {}
     for path, text in (SPECS | RUST).items():
         crate, folder, rest = path.split("/", 2)
-        if not crate.startswith(("test_", "example_", "names")) and folder == "specs":
+        if crate in LIBRARIES and folder == "specs":
             module = f"{crate}.specs.{rest.removesuffix('.antt').replace('/', '.')}"
             words |= {f"{module}.{name}": it for it in spec_words(path, text) for name in it.names()}
-        elif not crate.startswith(("test_", "example_", "names")):
-            words |= dict(rust_words(path, text))
+        elif crate in LIBRARIES and f"{crate}/{rest.removesuffix('.rt')}" not in NOT_LISTED:
+            # Of two items of one name it is the one below, in the order of crates.
+            words = dict(rust_words(path, text)) | words
     return words
 
 
