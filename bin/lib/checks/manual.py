@@ -45,6 +45,7 @@ PINNED = {
     "Many at once": f"{LAST} RisesByAtMost",
     "Merge and compare keys": "RisesByAtMost digits",
     "Read from a source": LAST,
+    "Name tables": LAST,
 }
 EACH = ["Last", "IsExtended", "IsExtendedCounted", "IsGathered"]
 TYPES, TWINS = ("struct", "enum", "type", "trait"), "\n\n"
