@@ -10,7 +10,7 @@ NAME = re.compile(r"(?<![\w.'-])(?:⟦<[^⟧]*⟧|[^\W\d][\w'-]*)(?:\.[^\W\d][\w
 BOUND = re.compile(r"λ ([^.]*)\.|\(([\w' ]+) : ")
 # The modules of the logic's own language: a definition that uses them tells a reader of a page nothing.
 INNER = re.compile(
-    r"(?:denote\.Param|mir|mathlib|std\.proofs|std\.specs\.(?:Borrow|BTreeMap)|json\.specs|serde\.specs|\w+\.specs\.contracts)\b"
+    r"(?:denote\.Param|mir|mathlib|std\.proofs|std\.specs\.(?:Borrow|BTreeMap)|json\.specs\.(?!Print)|serde\.specs|\w+\.specs\.contracts)\b"
 )
 TRAITS = {name: text for text in RUST.values() for name, text in re.findall(r"^pub trait (\w+)([^{]*)", text, re.MULTILINE)}
 
