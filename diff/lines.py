@@ -65,7 +65,7 @@ class Run:
         match kind:
             case "KEY":
                 return word(self.order, self.below(self.range))
-            case "VALUE":
+            case "VALUE" | "MORE":
                 return str(self.below(1000))
             case "PLACE":
                 return str(self.below(self.random.choice(PLACES)))

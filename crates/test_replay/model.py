@@ -357,14 +357,15 @@ class Model:
     def enter(self, name, words, search):
         if name not in ENTRIES + TWICE:
             return None
-        key, value = words[0], int(words[1]) if len(words) > 1 else 0
+        # the key, the value if there is one, and what is written into the value that is lent
+        key, value, *more = words[0], *[0] * (name == "or_default" or len(words) == 1), *map(int, words[1:])
         place, there = self.place(key)
         if name in ("entry_debug", "entry_debug_lines"):
             stored, old = self.pairs[place] if there else (key, 0)
             text = f"OccupiedEntry {{ key: {stored}, value: {old} }}" if there else f"VacantEntry {{ key: {key} }}"
             return (re.sub(r"(\w+: \w+),?", r"    \1,", text) if name == "entry_debug_lines" else text), search
         if "_then_" in name:
-            return self.enter_twice(name, place, there, value), search
+            return self.enter_twice(name, place, there, value, more), search
         if name == "entry":
             return (f"occupied {self.pairs[place][0]}" if there else f"vacant {key}"), search
         if name in ("entry_get", "entry_remove") and not there:
@@ -381,17 +382,17 @@ class Model:
             refused = self.put(key, value)
             if refused:
                 return refused + asked, search
-            self.pairs[place] = (key, value + 1)
+            self.pairs[place] = (key, *(more or [value]))
             return f"{value}{asked}", search
         stored, old = self.pairs[place]
         if name in ("entry_insert", "entry_get_mut", "entry_into_mut"):
             self.pairs[place] = (stored, value)
             return str(old), search
-        old = value if name == "and_modify" else old
-        self.pairs[place] = (stored, old + 1)
+        old += value if name == "and_modify" else 0
+        self.pairs[place] = (stored, *(more or [old]))
         return f"{old}{asked}", search
 
-    def enter_twice(self, name, place, there, value):
+    def enter_twice(self, name, place, there, value, more):
         """Makes two calls of one entry."""
         if not there:
             return "vacant"
@@ -399,7 +400,7 @@ class Model:
         if name.endswith("remove"):
             self.freed()
         else:
-            self.pairs.insert(place, (key, value + 1))
+            self.pairs.insert(place, (key, *(more or [value])))
         return f"{old} {value}"
 
     def take(self, name, words, search):
@@ -849,7 +850,7 @@ def changes():
     """The calls that insert, write or remove one pair, or visit all pairs."""
     for length in LENGTHS + [3000]:
         words = {"KEY": keys(length), "VALUE": [7]}
-        calls = [*spelled(*PAIRED, "enter_key", "enter_out", "enter_text", **words)]
+        calls = [*spelled(*PAIRED, "enter_key", "enter_out", "enter_text", "enter_write", MORE=[9], **words)]
         writes = [*spelled("write", **words), *spelled("write_at", PLACE=(*indices(length), length, 2**64 - 1), VALUE=[7])]
         writes += spelled(*TAKING, **words)
         writes += ["pop_first", "pop_last", "clear", "update 5", "reserve 0", "reserve 1"]
@@ -1190,20 +1191,18 @@ def picked():
 
 
 def rows():
-    """The cases that are written by hand, a paragraph each: comments, stores, order and room, and calls, which may begin anew."""
-    for case in (FOLDER / "rows").read_text(encoding="utf-8").strip().split("\n\n"):
-        lines = case.split("\n")
-        yield from (text for text in lines if text.startswith("#"))
-        lines = [text for text in lines if not text.startswith("#")]
-        if not lines:
-            continue
-        names, order, room, *anew = lines[0].split()
-        for name in ALL.split() if names == "all" else names.split(","):
-            is_fixed = name == "fixed"
-            if anew:
-                yield from block(name, 0, int(room), lines[1:], order, is_fixed)
-            else:
-                yield from chain(name, lines[1:], order, int(room), is_fixed)
+    """The cases that are written by hand, as they are stored, with what each call returns and leaves written anew."""
+    for text in (FOLDER / "data" / "rows.calls").read_text(encoding="utf-8").splitlines():
+        word, _, words = text.partition(" ")
+        if word == "on":
+            is_fixed = words == "fixed"
+        elif word == "with":
+            order, length, room = words.split(" ")
+        elif text and word != "#":
+            call, mark = text.partition(" = ")[0].removeprefix("+ "), "+ " * (word == "+")
+            model = model if mark else Model(Order(order), first_pairs(int(length)), int(room) if is_fixed else None)
+            text = line(model, call, mark)
+        yield text
 
 
 # The calls that no line makes, and what runs them.
@@ -1268,6 +1267,8 @@ def files():
 
 # The file of long maps, whose time bin/requests limits.
 TIMED = "long.calls\n"
+# The files of which a sample is stored.
+SAMPLED = [name for name in FILES if name not in ("rows", "long")]
 # The most lines of a sample that continue from one another.
 MOST_TOGETHER = 5
 
@@ -1290,9 +1291,10 @@ def sampled(lines):
 
 
 def sample(files):
-    """The stored lines, in one file, from all files but `long`, each part under its name."""
-    parts = [[f"# {name}", *sampled(files[f"data/{name}.calls"].splitlines())] for name in FILES if name != "long"]
-    return written({"sample": list(itertools.chain.from_iterable(parts))})
+    """The stored lines: those of `rows`, and in one file a sample of the others but `long`, each part under its name."""
+    rows, *others = (files[f"data/{name}.calls"].splitlines() for name in ("rows", *SAMPLED))
+    parts = [[f"# {name}", *sampled(lines)] for name, lines in zip(SAMPLED, others)]
+    return written({"rows": rows, "sample": list(itertools.chain.from_iterable(parts))})
 
 
 def faults(files):

@@ -5,11 +5,11 @@ use crate::counted::{Key, Value};
 use litemap::Entry;
 use litemap::store::StoreMut;
 
-// Writes the value that is lent, to which one is added, or the pair that had no room.
+// Writes the value that is lent, into which a number is written, if there is one, or the pair that had no room.
 macro_rules! show_lent {
-    ($lent:expr, $to:ident) => {
+    ($lent:expr, $number:expr, $to:ident) => {
         match $lent {
-            Ok(slot) => $to.show(raised(slot)),
+            Ok(slot) => $to.show(written(slot, $number)),
             Err(refused) => $to.no_room(refused),
         }
     };
@@ -31,7 +31,7 @@ fn one_key<S: StoreMut<Key, Value>>(map: &mut Map<S>, call: &Call<'_>, to: &mut 
         "entry" => show_kind(&entry, to),
         "entry_debug" => to.show(entry),
         "entry_debug_lines" => to.show_lines(call, entry),
-        "or_default" => show_lent!(entry.or_default(), to),
+        "or_default" => show_lent!(entry.or_default(), call.number(1), to),
         _ => match entry {
             Entry::Occupied(entry) if call.name == "entry_get" => to.show(entry.get()),
             Entry::Occupied(entry) => to.show(entry.remove()),
@@ -57,31 +57,35 @@ fn show_kind<S: StoreMut<Key, Value>>(entry: &Entry<'_, Key, Value, S>, to: &mut
     to.word_and(kind, key);
 }
 
-// Adds one to the value that is lent, and returns what it was.
-fn raised(slot: &mut Value) -> u64 {
-    let number = slot.number();
-    slot.write(number.wrapping_add(1))
+// Writes a number, if there is one, into the value that is lent, and returns what it was.
+fn written(slot: &mut Value, number: Option<u64>) -> u64 {
+    match number {
+        Some(number) => slot.write(number),
+        None => slot.number(),
+    }
 }
 
+// A third word is written into the value that is lent. `and_modify` adds the value to that of a key that is there.
 fn put<S: StoreMut<Key, Value>>(map: &mut Map<S>, call: &Call<'_>, to: &mut Answer) -> Made {
     let (key, value) = call.pair(0)?;
     let mut times = 0u64;
-    let number = value.number();
+    let (number, last) = (value.number(), call.number(2));
     match call.name {
-        "or_insert" => show_lent!(map.entry(key).or_insert(value), to),
+        "or_insert" => show_lent!(map.entry(key).or_insert(value), last, to),
         "or_insert_with" => show_lent!(
             map.entry(key).or_insert_with(|| {
                 times = times.wrapping_add(1);
                 value
             }),
+            last,
             to
         ),
         "and_modify" => {
             let entry = map.entry(key).and_modify(|there| {
                 times = times.wrapping_add(1);
-                there.write(number);
+                there.write(there.number().wrapping_add(number));
             });
-            show_lent!(entry.or_insert(value), to);
+            show_lent!(entry.or_insert(value), last, to);
         }
         _ => return None,
     }
@@ -90,7 +94,7 @@ fn put<S: StoreMut<Key, Value>>(map: &mut Map<S>, call: &Call<'_>, to: &mut Answ
 }
 
 // The calls that one kind of entry has; `insert` of the other one. After `_then_` stands a second call of one occupied entry: its
-// value, which the first one wrote, is taken out or written again.
+// value, which the first one wrote, is taken out or lent.
 fn of_kind<S: StoreMut<Key, Value>>(map: &mut Map<S>, call: &Call<'_>, to: &mut Answer) -> Made {
     let calls = call.name.strip_prefix("entry_")?;
     let (first, then) = calls.split_once("_then_").unwrap_or((calls, ""));
@@ -98,7 +102,7 @@ fn of_kind<S: StoreMut<Key, Value>>(map: &mut Map<S>, call: &Call<'_>, to: &mut 
     let mut entry = match map.entry(key) {
         Entry::Occupied(entry) => entry,
         Entry::Vacant(entry) if then.is_empty() => {
-            show_lent!(entry.insert(value), to);
+            show_lent!(entry.insert(value), call.number(2), to);
             return Some(());
         }
         Entry::Vacant(_entry) => {
@@ -118,7 +122,7 @@ fn of_kind<S: StoreMut<Key, Value>>(map: &mut Map<S>, call: &Call<'_>, to: &mut 
     match then {
         "" => {}
         "remove" => to.show(entry.remove()),
-        "into_mut" => to.show(raised(entry.into_mut())),
+        "into_mut" => to.show(written(entry.into_mut(), call.number(2))),
         _ => return None,
     }
     Some(())

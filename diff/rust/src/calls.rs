@@ -32,6 +32,10 @@ impl<'w> Given<'w> {
         self.words[place].parse().expect("a number")
     }
 
+    fn number_if_any(&self, place: usize) -> Option<u64> {
+        self.words.get(place).map(|_| self.number(place))
+    }
+
     fn index(&self, place: usize) -> usize {
         self.number(place) as usize
     }
@@ -229,10 +233,11 @@ fn try_get(map: &mut Map, given: &Given, made: Result<Value, Value>, with_value:
     format!("{answer} asked {times}")
 }
 
-/// Adds one to the value that is lent: what it was.
-fn raised(slot: &mut Value) -> u64 {
-    slot.0 += 1;
-    slot.0 - 1
+/// Writes a number, if there is one, into the value that is lent: what it was.
+fn written(slot: &mut Value, number: Option<u64>) -> u64 {
+    let old = slot.0;
+    slot.0 = number.unwrap_or(old);
+    old
 }
 
 fn enter(map: &mut Map, name: &str, given: &Given) -> Option<String> {
@@ -243,22 +248,25 @@ fn enter(map: &mut Map, name: &str, given: &Given) -> Option<String> {
     let entry = map.entry(given.key());
     let value = || given.number(1);
     let mut times = 0;
-    let old = match name {
-        "or_default" => return Some(raised(entry.or_default()).to_string()),
-        "or_insert" => raised(entry.or_insert(Value::new(value()))),
-        "or_insert_with" => raised(entry.or_insert_with(|| {
+    let lent = match name {
+        "or_default" => {
+            return Some(written(entry.or_default(), given.number_if_any(1)).to_string())
+        }
+        "or_insert" => entry.or_insert(Value::new(value())),
+        "or_insert_with" => entry.or_insert_with(|| {
             times += 1;
             Value::new(value())
-        })),
+        }),
         "and_modify" => {
             let entry = entry.and_modify(|there| {
                 times += 1;
-                there.0 = value();
+                there.0 += value();
             });
-            raised(entry.or_insert(Value::new(value())))
+            entry.or_insert(Value::new(value()))
         }
-        _ => return Some(of_one_kind(entry, name, value)),
+        _ => return Some(of_one_kind(entry, name, given)),
     };
+    let old = written(lent, given.number_if_any(2));
     Some(format!("{old} asked {times}"))
 }
 
@@ -266,8 +274,9 @@ fn enter(map: &mut Map, name: &str, given: &Given) -> Option<String> {
 fn of_one_kind(
     entry: Entry<'_, Key, Value, Vec<(Key, Value)>>,
     name: &str,
-    value: impl Fn() -> u64,
+    given: &Given,
 ) -> String {
+    let value = || given.number(1);
     match (entry, name) {
         (Entry::Occupied(entry), "entry") => format!("occupied {}", entry.key().code),
         (Entry::Occupied(entry), "entry_get") => entry.get().to_string(),
@@ -281,7 +290,10 @@ fn of_one_kind(
         (Entry::Occupied(entry), _) => mem::replace(&mut entry.into_mut().0, value()).to_string(),
         (Entry::Vacant(entry), "entry") => format!("vacant {}", entry.key().code),
         (Entry::Vacant(_), "entry_get" | "entry_remove") => "vacant".to_string(),
-        (Entry::Vacant(entry), _) => raised(entry.insert(Value::new(value()))).to_string(),
+        (Entry::Vacant(entry), _) => {
+            let lent = entry.insert(Value::new(value()));
+            written(lent, given.number_if_any(2)).to_string()
+        }
     }
 }
 
@@ -367,8 +379,8 @@ fn many(map: &mut Map, name: &str, given: &Given) -> Option<String> {
     Some("ok".to_string())
 }
 
-/// Puts the pairs of another map in one by one: a value that is there already becomes three times that, the new one and what the
-/// new key's code leaves by seven. The answer is as of a merge, and how many were there.
+/// Puts the pairs of another map in one by one: a value that is there already becomes three times that, the new one, what the new
+/// key's code leaves by seven, and a thousand for each that was there before. The answer is as of a merge, and how many were there.
 fn combine(map: &mut Map, other: Map) -> String {
     let mut left = Vec::new();
     for (key, value) in other {
@@ -377,6 +389,7 @@ fn combine(map: &mut Map, other: Map) -> String {
             continue;
         };
         let more = here.wrapping_mul(3).wrapping_add(key.code.number % 7);
+        let more = more.wrapping_add(1000 * left.len() as u64);
         let new = value.0.wrapping_add(more);
         left.push((key.code, here));
         map.insert(key, Value::new(new));
