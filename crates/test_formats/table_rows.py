@@ -4,7 +4,7 @@ The output comes from the reader below, which was written from the grammar of na
 nothing with the crates.
 """
 
-# eleven languages as the bytes of a name table
+# Eleven languages as the bytes of a name table.
 PAIRS = [
     ("ar", "Arabic"), ("bn", "Bangla"), ("ccp", "Chakma"), ("en", "English"), ("es", "Spanish"), ("fr", "French"),
     ("ja", "Japanese"), ("ru", "Russian"), ("sr", "Serbian"), ("th", "Thai"), ("tr", "Turkish"),
@@ -27,37 +27,39 @@ ALIKE = [(key, str(place)) for place, key in enumerate(["", "a", "ab", "abc", "a
 RISING = [bytes.fromhex("0100"), bytes.fromhex("010000"), bytes.fromhex("0200000161 00".replace(" ", "")),
     bytes.fromhex("020161000261 6100".replace(" ", ""))]
 ALPHABET = bytes.fromhex("0001026180ff")
-# A table each: numbers of one to five bytes, longer spellings, numbers that are too large, and strings of each kind.
-READ = [
-    # no bytes are no table, and a zero is the empty one
+# Titles, and the tables below each: numbers of one to five bytes, longer spellings, numbers that are too large, and strings of each
+# kind.
+TITLED = [
+    "no bytes are no table, and a zero is the empty one",
     b"", b"\x00", b"\x00\x00",
-    # bytes that end within an entry
+    "bytes that end within an entry",
     b"\x7f\x01\x61",
-    # a key and a value that are not UTF-8
+    "a key and a value that are not UTF-8",
     b"\x01\x01\xff\x00", b"\x01\x00\x01\xff", b"\x01\x00\x00",
-    # numbers that are too large
+    "numbers that are too large",
     bytes.fromhex("8080808010"), bytes.fromhex("ffffffffff01"),
-    # the greatest number, and one above it
+    "the greatest number, and one above it",
     bytes.fromhex("ffffffff0f"), bytes.fromhex("ffffffff10"),
     bytes.fromhex("8000"), bytes.fromhex("8080808000"), bytes.fromhex("808080808000"), bytes.fromhex("80"),
     bytes.fromhex("80808080"), bytes.fromhex("8080808080"),
-    # 128 and 300 in two bytes
+    "128 and 300 in two bytes",
     bytes.fromhex("8001"), bytes.fromhex("ac02"),
-    # of equal keys the last entry stays
+    "of equal keys the last entry stays",
     bytes.fromhex("020161013101610132"),
-    # entries that descend
+    "entries that descend",
     bytes.fromhex("020162013101610132"), bytes.fromhex("0182006100"),
     bytes.fromhex("018200616200"), bytes.fromhex("01 81 80 80 80 00 61 01 62".replace(" ", "")),
     bytes.fromhex("01 81 80 80 80 10 61 01 62".replace(" ", "")), bytes.fromhex("0102c3a902c3b6"),
     bytes.fromhex("0101c302c3b6"), bytes.fromhex("01016101c3"), bytes.fromhex("0103eda080"), bytes.fromhex("0104f4908080"),
     bytes.fromhex("01ff7f61"), bytes.fromhex("0102ff"), bytes.fromhex("010561626364"), bytes.fromhex("01ffffffff0f"),
-    # eleven languages are read; of their first 116 bytes, 1, 4 and 10 the error says where they end
+    "eleven languages are read; of their first 116 bytes, 1, 4 and 10 the error says where they end",
     TABLE, TABLE[:116], TABLE[:1], TABLE[:4], TABLE[:10],
-    # bytes after the last entry are not read
+    "bytes after the last entry are not read",
     TABLE + b"\x00\x00",
-    # a count may be spelled in more bytes than it needs
+    "a count may be spelled in more bytes than it needs",
     b"\x8b\x00" + TABLE[1:],
 ]
+READ = [it for it in TITLED if isinstance(it, bytes)]
 
 
 class Fault(Exception):
@@ -394,21 +396,29 @@ def ascii_lines():
         yield "index", written(pairs), index(written(pairs))
 
 
-def lines():
-    """Each line with its output."""
-    for data in READ:
-        yield "read", data, read(data)
-    for data in READ:
-        yield "walk", data, walk(data)
-    for data in READ:
-        yield "again", data, again(data)
-    # strings of 127 bytes, 128 and 300
+def titled_lines():
+    """The titles, and the lines below each with their output."""
+    yield from (it if isinstance(it, str) else ("read", it, read(it)) for it in TITLED)
+    yield "eleven languages as the bytes of a name table"
+    yield "again", TABLE, again(TABLE)
+    yield "strings of 127 bytes, 128 and 300"
     for size in (127, 128, 300):
         data = b"\x01\x00" + spelled(size) + b"x" * size
         yield "again", data, again(data)
-    # a language is found by its code in the bytes, and an unknown code is not
+    yield "a language is found by its code in the bytes, and an unknown code is not"
     for key in ("tr", "ar", "zz", "", "t", "trx", "ccp"):
         yield f"find {key}", TABLE, find(key, TABLE)
+    yield "each proper prefix of eleven languages ends too early"
+    yield "prefixes", TABLE, sweep([TABLE[:size] for size in range(len(TABLE))])
+
+
+def lines():
+    """Each other line with its output."""
+    for data in READ:
+        yield "walk", data, walk(data)
+    for data in READ:
+        if data != TABLE:
+            yield "again", data, again(data)
     for data in (b"", b"\x00", TABLE[:116], READ[19], b"\x01\x01\xff\x00"):
         yield "find a", data, find("a", data)
     for code in ("tr", "zu", "en", "xx", ""):
@@ -451,15 +461,23 @@ def lines():
     for data in (b'{"\xff":1}', b""):
         yield "rewrite", data, "the bytes are not a JSON text"
     yield "rewrite", b" [ [ false , 0 ] ] \n", '{"false":0}'
-    # each proper prefix of eleven languages ends too early
-    yield "prefixes", TABLE, sweep([TABLE[:size] for size in range(len(TABLE))])
     yield "changes", TABLE, sweep(changes(TABLE))
     yield "cuts", indexed(PAIRS), sweep_of_indexes([indexed(PAIRS)[:size] for size in range(len(indexed(PAIRS)))])
     yield "damages", indexed(PAIRS), sweep_of_indexes(changes(indexed(PAIRS)))
     yield "strings", ALPHABET, sweep(strings(ALPHABET))
 
 
-def rows():
-    """The lines, each with its output."""
+def lined(rows):
+    """The lines of rows, each with its output; titles stay."""
+    return [row if isinstance(row, str) else (f"{row[0]} {row[1].hex() or '-'}", row[2]) for row in rows]
+
+
+def titled():
+    """The titles, and the lines below each with their output."""
     assert len(TABLE) == 117 and table(TABLE) == (PAIRS, 117)
-    return [(f"{words} {data.hex() or '-'}", answer) for words, data, answer in lines()]
+    return lined(titled_lines())
+
+
+def rows():
+    """The other lines, each with its output."""
+    return lined(lines())

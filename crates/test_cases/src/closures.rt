@@ -5,35 +5,42 @@ use litemap::{LiteMap, VecMap};
 use litemap_short::ShortStore;
 use std::alloc::Global;
 
-const PAIRS: [(u32, u8); 5] = [(1, b'a'), (2, b'b'), (3, b'c'), (4, b'd'), (9, b'e')];
+const FOUR: &[(u32, u8)] = &[(1, b'a'), (2, b'b'), (3, b'c'), (4, b'd')];
 
-// A half, the index of the first key of which it is the half, and the values of those keys.
-const HALVES: [(u32, usize, &[u8]); 6] = [
-    (0, 0, b"a"),
-    (1, 1, b"bc"),
-    (2, 3, b"d"),
-    (3, 4, b""),
-    (4, 4, b"e"),
-    (5, 5, b""),
+const FIVE: &[(u32, u8)] = &[(1, b'a'), (2, b'b'), (3, b'c'), (4, b'd'), (9, b'e')];
+
+// The pairs of a map, a half, the index of the first key of which it is the half, and the values of those keys.
+const HALVES: [(&[(u32, u8)], u32, usize, &[u8]); 10] = [
+    (FOUR, 0, 0, b"a"),
+    (FOUR, 1, 1, b"bc"),
+    (FOUR, 2, 3, b"d"),
+    (FOUR, 3, 4, b""),
+    (FIVE, 0, 0, b"a"),
+    (FIVE, 1, 1, b"bc"),
+    (FIVE, 2, 3, b"d"),
+    (FIVE, 3, 4, b""),
+    (FIVE, 4, 4, b"e"),
+    (FIVE, 5, 5, b""),
 ];
 
 // Whether a closure that compares with half of a key finds one of these keys, or where it would go, and takes one of them out.
 fn finds_one<S: StoreMut<u32, u8> + StoreFromIterable<u32, u8> + Drop>(
     alloc: Global,
+    pairs: &[(u32, u8)],
     half: u32,
     first: usize,
     equal: &[u8],
 ) -> Outcome {
-    let mut map: LiteMap<u32, u8, S> = LiteMap::from_iter(alloc, PAIRS)?;
+    let mut map: LiteMap<u32, u8, S> = LiteMap::from_iter(alloc, pairs.iter().copied())?;
     let found = map.find_index_by(|key| (*key / 2).cmp(&half));
     let got = map.get_by(|key| (*key / 2).cmp(&half)).copied();
     let removed = map.remove_by(|key| (*key / 2).cmp(&half));
     let len = map.len();
     Ok(match (found, got, removed) {
-        (Err(place), None, None) => equal.is_empty() && place == first && len == PAIRS.len(),
+        (Err(place), None, None) => equal.is_empty() && place == first && len == pairs.len(),
         (Ok(place), Some(got), Some(removed)) => {
             let are_equal = equal.contains(&got) && equal.contains(&removed);
-            are_equal && place >= first && place - first < equal.len() && len == PAIRS.len() - 1
+            are_equal && place >= first && place - first < equal.len() && len + 1 == pairs.len()
         }
         _ => false,
     })
@@ -42,9 +49,9 @@ fn finds_one<S: StoreMut<u32, u8> + StoreFromIterable<u32, u8> + Drop>(
 // A closure that returns `Equal` for two keys finds one of them.
 pub(crate) fn one_of_the_keys_called_equal_is_found(alloc: Global) -> Outcome {
     let mut is_right = true;
-    for &(half, first, equal) in &HALVES {
-        is_right &= finds_one::<Vec<(u32, u8)>>(alloc, half, first, equal)?;
-        is_right &= finds_one::<ShortStore<u32, u8>>(alloc, half, first, equal)?;
+    for &(pairs, half, first, equal) in &HALVES {
+        is_right &= finds_one::<Vec<(u32, u8)>>(alloc, pairs, half, first, equal)?;
+        is_right &= finds_one::<ShortStore<u32, u8>>(alloc, pairs, half, first, equal)?;
     }
     Ok(is_right)
 }

@@ -4,12 +4,12 @@ ghost use Rattle.litemap_short.specs.contracts.short_store.ShortStore.{the_row};
 
 use crate::falling::Falling;
 use crate::kinds::one_of;
-use crate::{Output, told};
+use crate::{Output, Written, told};
 use example_formats::evens::Even;
 use example_formats::levels::Level;
 use example_formats::overlay::{OverlayFault, Settings, overlay};
 use example_formats::{limits, numbers};
-use litemap::LiteMap;
+use litemap::{LiteMap, VecMap};
 use litemap::store::{Store, StoreBulkMut};
 use litemap_columns::ColumnStore;
 use litemap_json::{
@@ -43,6 +43,7 @@ pub fn answer(alloc: Global, line: &str) -> Output {
         "evens" => written::<Even, String>(alloc, text),
         "tongues" => written::<(u32, String), String>(alloc, text),
         "levels" => written::<Level, u32>(alloc, text),
+        "inserted" => inserted(alloc, text),
         "limits" => copied_limits(alloc, text),
         "names" => copied_names(alloc, text),
         "overlay" => overlaid(alloc, text),
@@ -74,7 +75,26 @@ fn written_over<K: JsonKey + Drop, V: JsonItem + Drop, S: StoreBulkMut<K, V>>(
     shown::<K, V, S>(alloc, from_json(alloc, value))
 }
 
-// The same over a vector, with the map sent to JSON and back before.
+// A map into which the words of a line are inserted, each behind its number, written as JSON.
+fn inserted(alloc: Global, line: &str) -> Output {
+    let mut words = LiteMap::new_vec(alloc);
+    for pair in line.split(' ') {
+        if let Some((number, word)) = pair.split_once(':') {
+            insert_word(alloc, &mut words, number, word)?;
+        }
+    }
+    shown(alloc, Ok(words))
+}
+
+// Inserts a word by its number, if this is one.
+fn insert_word(alloc: Global, words: &mut VecMap<u32, String>, number: &str, word: &str) -> Written {
+    if let Ok(number) = number.parse() {
+        words.insert(number, String::from_str(alloc, word)?)?;
+    }
+    Ok(())
+}
+
+// What a JSON text is read as over a vector, with the map sent to JSON and back before.
 fn copied_limits(alloc: Global, text: &str) -> Output {
     let value = or_word!(alloc, "no JSON", Value::from_str(alloc, text));
     let map = match from_json(alloc, &value) {

@@ -1,13 +1,15 @@
-//! Maps that are read and written, as rows: each line of standard input is one of three kinds, by its first word, and has a line
+//! Maps that are read and written, as rows: each line of standard input is one of four kinds, by its first word, and has a line
 //! of standard output. Models in Python (`model.py`) make the input and tell the output.
 //!
 //! - `json TYPES TEXT`: what the map that a JSON text is read as is written as, or why it was not read or not written. `TYPES`
 //!   names the types of the keys and of the items (`json_rows`). Each text but those of `limits`, `names`, `overlay`, `told` and
 //!   `rewrite` is read over a vector, over two columns and over a short store, and the line shows if the outputs differ. `json
 //!   told TYPES TEXT`: the error as it is shown to people (`told`). `json rewrite TEXT`: what `rewrite_flags` makes of a text.
+//!   `json inserted NUMBER:WORD ..`: what a map is written as, into which these are inserted.
 //! - `serde WHAT TEXT`: what is written of what a JSON text is read as through serde, or why not (`serde_rows`). For TOML and CSV
 //!   `TEXT` is the JSON string of one.
 //! - `table ..`: what is read, found or written of the bytes of a name table or an index of names (`table_rows`).
+//! - `# ..`: the title of the lines below it, itself.
 //!
 //! If memory runs out, the output of a line is `out of memory`, or as ever if it can do without. Requests of three sizes tell a
 //! watcher of the allocator when a line begins, when its output is made, and when that is dropped (`bin/requests`).
@@ -100,6 +102,7 @@ fn answer_line(alloc: Global, line: &str) -> Output {
         Some(("table", row)) => table_rows::answer(alloc, row),
         Some(("json", row)) => json_rows::answer(alloc, row),
         Some(("serde", row)) => serde_rows::answer(alloc, row),
+        Some(("#", _title)) => String::from_str(alloc, line),
         _ => String::from_str(alloc, "bad line"),
     }
 }
