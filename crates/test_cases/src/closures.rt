@@ -40,7 +40,10 @@ fn finds_one<S: StoreMut<u32, u8> + StoreFromIterable<u32, u8> + Drop>(
         (Err(place), None, None) => equal.is_empty() && place == first && len == pairs.len(),
         (Ok(place), Some(got), Some(removed)) => {
             let are_equal = equal.contains(&got) && equal.contains(&removed);
-            are_equal && place >= first && place - first < equal.len() && len + 1 == pairs.len()
+            are_equal
+                && place >= first
+                && place - first < equal.len()
+                && len.wrapping_add(1) == pairs.len()
         }
         _ => false,
     })

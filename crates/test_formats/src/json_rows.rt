@@ -9,8 +9,8 @@ use example_formats::evens::Even;
 use example_formats::levels::Level;
 use example_formats::overlay::{OverlayFault, Settings, overlay};
 use example_formats::{limits, numbers};
-use litemap::{LiteMap, VecMap};
 use litemap::store::{Store, StoreBulkMut};
+use litemap::{LiteMap, VecMap};
 use litemap_columns::ColumnStore;
 use litemap_json::{
     JsonFault, JsonItem, JsonKey, WriteFault, Writer, from_json, to_json, write_json, write_value,
@@ -87,7 +87,12 @@ fn inserted(alloc: Global, line: &str) -> Output {
 }
 
 // Inserts a word by its number, if this is one.
-fn insert_word(alloc: Global, words: &mut VecMap<u32, String>, number: &str, word: &str) -> Written {
+fn insert_word(
+    alloc: Global,
+    words: &mut VecMap<u32, String>,
+    number: &str,
+    word: &str,
+) -> Written {
     if let Ok(number) = number.parse() {
         words.insert(number, String::from_str(alloc, word)?)?;
     }
