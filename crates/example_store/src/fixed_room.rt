@@ -10,7 +10,7 @@
 //! 3. `with_value`, what it is with another value at an index, and the two laws on it.
 //!
 //! The calls of `LiteMap` are then proved over it, with no proof of theirs to be written.
-ghost use Rattle.std.specs.Prelude.{refl};
+ghost use Rattle.std.specs.Prelude.{⊤, refl};
 ghost use Rattle.litemap_store.specs.Contents.{with_value};
 
 use litemap::store::{
@@ -66,6 +66,8 @@ impl<K, V> StoreConstEmpty<K, V> for FixedRoom<K, V> {
 
 impl<K, V> StoreMut<K, V> for FixedRoom<K, V> {
     ghost with_value = { with_value };
+
+    ghost keeps_memory = { ⊤ };
 
     fn lm_with_capacity(alloc: Global, capacity: usize) -> Result<Self, AllocError> {
         let items = Vec::with_capacity(alloc, capacity)?;

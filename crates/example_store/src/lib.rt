@@ -4,7 +4,7 @@
 //! A struct, what a contract sees of it, and three traits: a store whose maps are made, looked up and changed has no more.
 #![tactic(auto)]
 
-ghost use Rattle.std.specs.Prelude.{refl};
+ghost use Rattle.std.specs.Prelude.{⊤, refl};
 ghost use Rattle.litemap_store.specs.Contents.{with_value};
 
 pub mod fixed_room;
@@ -56,6 +56,8 @@ impl<K, V, const LIMIT: usize> StoreConstEmpty<K, V> for Bounded<K, V, LIMIT> {
 
 impl<K, V, const LIMIT: usize> StoreMut<K, V> for Bounded<K, V, LIMIT> {
     ghost with_value = { with_value };
+
+    ghost keeps_memory = { ⊤ };
 
     fn lm_with_capacity(alloc: Global, capacity: usize) -> Result<Self, AllocError> {
         if capacity > LIMIT {

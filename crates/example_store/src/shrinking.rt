@@ -64,8 +64,6 @@ impl<K, V> StoreConstEmpty<K, V> for Shrinking<K, V> {
 impl<K, V> StoreMut<K, V> for Shrinking<K, V> {
     ghost with_value = { with_value };
 
-    ghost keeps_memory = { ⊥ };
-
     fn lm_with_capacity(alloc: Global, capacity: usize) -> Result<Self, AllocError> {
         let items = Vec::with_capacity(alloc, capacity)?;
         Ok(Shrinking { items })

@@ -1,5 +1,5 @@
 //! A vector of keys and a vector of values as a store.
-ghost use Rattle.std.specs.Prelude.{◌≡◌, ◌+◌, ◌≤◌, ◌<◌, ◌++◌, length, min, refl, vec_capacity, vec_len};
+ghost use Rattle.std.specs.Prelude.{⊤, ◌≡◌, ◌+◌, ◌≤◌, ◌<◌, ◌++◌, length, min, refl, vec_capacity, vec_len};
 ghost use Rattle.std.specs.List.{zip};
 ghost use Rattle.std.specs.Map.{keys_of, values_of};
 ghost use Rattle.litemap_columns.specs.Columns.{columns};
@@ -114,6 +114,8 @@ impl<K, V> StoreConstEmpty<K, V> for ColumnStore<K, V> {
 
 impl<K, V> StoreMut<K, V> for ColumnStore<K, V> {
     ghost with_value = { with_value };
+
+    ghost keeps_memory = { ⊤ };
 
     fn lm_with_capacity(alloc: Global, capacity: usize) -> Result<Self, AllocError> {
         let keys = Vec::with_capacity(alloc, capacity)?;

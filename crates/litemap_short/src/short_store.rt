@@ -1,5 +1,5 @@
 //! A store of no pair, one pair, or a vector of pairs.
-ghost use Rattle.std.specs.Prelude.{refl};
+ghost use Rattle.std.specs.Prelude.{⊤, refl};
 ghost use Rattle.litemap_store.specs.Contents.{with_value};
 
 use crate::short_iter::ShortIntoIter;
@@ -92,6 +92,8 @@ impl<'a, K: 'a, V: 'a> StoreIterable<'a, K, V> for ShortStore<K, V> {
 
 impl<K, V> StoreMut<K, V> for ShortStore<K, V> {
     ghost with_value = { with_value };
+
+    ghost keeps_memory = { ⊤ };
 
     ghost free_room = { 1 };
 

@@ -1,5 +1,5 @@
 //! A vector of pairs as a store. Its room is its capacity less its length.
-ghost use Rattle.std.specs.Prelude.{◌≡◌, ◌≤◌, vec_capacity, vec_len};
+ghost use Rattle.std.specs.Prelude.{⊤, ◌≡◌, ◌≤◌, vec_capacity, vec_len};
 ghost use Rattle.litemap_store.specs.{CallableOnEach, Kept, vec_keeps_room, vec_room, vec_with_value, vec_writes};
 
 use crate::bulk::append_items;
@@ -57,6 +57,8 @@ impl<K, V> KeepsMemory<K, V> for Vec<(K, V)> {
 
 impl<K, V> StoreMut<K, V> for Vec<(K, V)> {
     ghost with_value = { vec_with_value };
+
+    ghost keeps_memory = { ⊤ };
 
     fn lm_with_capacity(alloc: Global, capacity: usize) -> Result<Self, AllocError> {
         Vec::with_capacity(alloc, capacity)
