@@ -116,10 +116,10 @@ impl<K: Ord, V, S: Store<K, V>> LiteMap<K, V, S> {
 }
 
 impl<K: Ord, V, S: StoreConstEmpty<K, V>> LiteMap<K, V, S> {
-    /// Returns an empty map. It takes no memory. Its room is the store's `empty_room`: 0 over a vector, 1 over a short store.
+    /// Returns an empty map. It takes no memory. Its room is 0 over a vector or two columns, 1 over a short store (`empty_room`).
     pub fn new(alloc: Global) -> Self
         ensures pairs { result.pairs ≡ [] }
-        ensures room { result.room ≡ S.empty_room }
+        ensures room { S.empty_room result.room }
     {
         LiteMap::from_sorted_store_unchecked(S::lm_empty(alloc))
     }

@@ -106,6 +106,8 @@ impl<K, V> Store<K, V> for ColumnStore<K, V> {
 }
 
 impl<K, V> StoreConstEmpty<K, V> for ColumnStore<K, V> {
+    ghost empty_room = { λ room. room ≡ 0 };
+
     fn lm_empty(alloc: Global) -> Self {
         let (keys, values) = (Vec::new(alloc), Vec::new(alloc));
         ColumnStore { keys, values }
@@ -217,6 +219,8 @@ impl<K, V> KeepsMemory<K, V> for ColumnStore<K, V> {
 }
 
 impl<K: Ord + Drop, V: Drop> StoreBulkMut<K, V> for ColumnStore<K, V> {
+    ghost fails_for_pairs_only = { ⊤ };
+
     fn lm_retain<F: FnMut(&K, &V) -> bool>(&mut self, mut f: F)
         requires { CallableOnEach F.FnMut f self.old.pairs }
         ensures kept { Kept F.FnMut f self.old.pairs self.new.pairs }
@@ -235,6 +239,8 @@ impl<'a, K: 'a, V: 'a> StoreIterable<'a, K, V> for ColumnStore<K, V> {
 }
 
 impl<K: Ord + Drop, V: Drop> StoreFromIterable<K, V> for ColumnStore<K, V> {
+    ghost fails_for_pairs_only = { ⊤ };
+
     fn lm_sort_from_iter<I: IntoIterator<Item = (K, V)>>(
         alloc: Global,
         iter: I,
@@ -254,6 +260,8 @@ impl<K: Ord + Drop, V: Drop> StoreFromIterable<K, V> for ColumnStore<K, V> {
 }
 
 impl<K: Drop, V: Drop> StoreFromIterator<K, V> for ColumnStore<K, V> {
+    ghost fails_for_pairs_only = { ⊤ };
+
     fn lm_from_pairs<I: IntoIterator<Item = (K, V)>>(
         alloc: Global,
         iter: I,

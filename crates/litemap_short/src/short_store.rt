@@ -1,5 +1,5 @@
 //! A store of no pair, one pair, or a vector of pairs.
-ghost use Rattle.std.specs.Prelude.{⊤, refl};
+ghost use Rattle.std.specs.Prelude.{⊤, ◌≡◌, refl};
 ghost use Rattle.litemap_store.specs.Contents.{with_value};
 
 use crate::short_iter::ShortIntoIter;
@@ -68,7 +68,7 @@ impl<K, V> Store<K, V> for ShortStore<K, V> {
 }
 
 impl<K, V> StoreConstEmpty<K, V> for ShortStore<K, V> {
-    ghost empty_room = { 1 };
+    ghost empty_room = { λ room. room ≡ 1 };
 
     fn lm_empty(alloc: Global) -> Self {
         let storage = Storage::Empty;
@@ -164,12 +164,16 @@ impl<K, V> KeepsMemory<K, V> for ShortStore<K, V> {
 }
 
 impl<K: Ord + Drop, V: Drop> StoreBulkMut<K, V> for ShortStore<K, V> {
+    ghost fails_for_pairs_only = { ⊤ };
+
     fn lm_retain<F: FnMut(&K, &V) -> bool>(&mut self, f: F) {
         self.storage.retain(f);
     }
 }
 
 impl<K: Ord + Drop, V: Drop> StoreFromIterable<K, V> for ShortStore<K, V> {
+    ghost fails_for_pairs_only = { ⊤ };
+
     fn lm_sort_from_iter<I: IntoIterator<Item = (K, V)>>(
         alloc: Global,
         iter: I,
@@ -181,6 +185,8 @@ impl<K: Ord + Drop, V: Drop> StoreFromIterable<K, V> for ShortStore<K, V> {
 }
 
 impl<K: Drop, V: Drop> StoreFromIterator<K, V> for ShortStore<K, V> {
+    ghost fails_for_pairs_only = { ⊤ };
+
     fn lm_from_pairs<I: IntoIterator<Item = (K, V)>>(
         alloc: Global,
         iter: I,

@@ -40,6 +40,8 @@ impl<K, V> Store<K, V> for Vec<(K, V)> {
 }
 
 impl<K, V> StoreConstEmpty<K, V> for Vec<(K, V)> {
+    ghost empty_room = { λ room. room ≡ 0 };
+
     fn lm_empty(alloc: Global) -> Self {
         Vec::new(alloc)
     }
@@ -141,6 +143,8 @@ impl<K: Drop, V: Drop> SwapStore<K, V> for Vec<(K, V)> {
 }
 
 impl<K: Ord + Drop, V: Drop> StoreBulkMut<K, V> for Vec<(K, V)> {
+    ghost fails_for_pairs_only = { ⊤ };
+
     // Its contract takes the place of the trait's: it says length and capacity, from which the room follows.
     fn lm_retain<F: FnMut(&K, &V) -> bool>(&mut self, mut f: F)
         requires { CallableOnEach F.FnMut f self.old.items }
@@ -191,6 +195,8 @@ impl<'a, K: 'a, V: 'a> StoreIterable<'a, K, V> for Vec<(K, V)> {
 }
 
 impl<K: Ord + Drop, V: Drop> StoreFromIterable<K, V> for Vec<(K, V)> {
+    ghost fails_for_pairs_only = { ⊤ };
+
     fn lm_sort_from_iter<I: IntoIterator<Item = (K, V)>>(
         alloc: Global,
         iter: I,
@@ -203,6 +209,8 @@ impl<K: Ord + Drop, V: Drop> StoreFromIterable<K, V> for Vec<(K, V)> {
 }
 
 impl<K: Drop, V: Drop> StoreFromIterator<K, V> for Vec<(K, V)> {
+    ghost fails_for_pairs_only = { ⊤ };
+
     fn lm_from_pairs<I: IntoIterator<Item = (K, V)>>(
         alloc: Global,
         iter: I,

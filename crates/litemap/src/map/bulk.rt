@@ -14,9 +14,9 @@ impl<K: Ord + Drop, V: Drop, S: StoreFromIterable<K, V>> LiteMap<K, V, S> {
     /// Returns a map of the pairs that an iterator yields, or an error if memory runs out. The last pair of each key stays, its
     /// key included.
     ///
-    /// It compares each key with the one before it, and sorts the pairs only if they don't ascend. It never fails for an
-    /// iterator that yields nothing. Of a vector it returns the map that the clause `made` of `from_vec` tells in one line. In
-    /// the Rust crate this is the trait `FromIterator`.
+    /// It compares each key with the one before it, and sorts the pairs only if they don't ascend. Over the stores of this
+    /// library it never fails for an iterator that yields nothing. Of a vector it returns the map that the clause `made` of
+    /// `from_vec` tells in one line. In the Rust crate this is the trait `FromIterator`.
     ///
     /// ```rust
     /// let days: Days = LiteMap::from_iter(alloc, [(2, "Tue"), (1, "Mon"), (2, "Tuesday")])?;
@@ -29,7 +29,8 @@ impl<K: Ord + Drop, V: Drop, S: StoreFromIterable<K, V>> LiteMap<K, V, S> {
         requires { IsFiniteIterable I.into_iter_gives I.IntoIter.can_next I.IntoIter.remaining iter }
         ensures made { IfOk result
             (λ m. IsExtended K.cmp I.into_iter_gives I.IntoIter.next_gives iter [] m.pairs) }
-        ensures refused_some { OnErr result (GivesSome I.into_iter_gives I.IntoIter.next_gives iter) }
+        ensures refused_some { S.fails_for_pairs_only
+            → OnErr result (GivesSome I.into_iter_gives I.IntoIter.next_gives iter) }
     {
         Self::from_iter_counted(alloc, iter, &mut Count::new())
     }
@@ -45,7 +46,8 @@ impl<K: Ord + Drop, V: Drop, S: StoreFromIterable<K, V>> LiteMap<K, V, S> {
             iter [] m.pairs count.old count.new) }
         ensures refused_cost { OnErr result
             (IsRefusedCounted K.cmp I.into_iter_gives I.IntoIter.next_gives iter [] count.old count.new) }
-        ensures refused_some { OnErr result (GivesSome I.into_iter_gives I.IntoIter.next_gives iter) }
+        ensures refused_some { S.fails_for_pairs_only
+            → OnErr result (GivesSome I.into_iter_gives I.IntoIter.next_gives iter) }
         ensures counted { GoesOn count.old count.new }
     {
         let store = S::lm_sort_from_iter(alloc, iter, count)?;
@@ -89,9 +91,9 @@ impl<K: Ord + Drop, V: Drop, S: StoreBulkMut<K, V>> LiteMap<K, V, S> {
     /// key included. Old pairs count as earlier than new ones: so a new key replaces an equal old one. Of a vector it leaves what
     /// the clause `last` of `extend_from_vec` tells in one line.
     ///
-    /// If it fails, the map keeps its pairs, and those taken from the iterator are dropped. It never fails for an iterator that
-    /// yields nothing. It does not use the iterator's size hint. Nothing is promised of the room: if a new pair goes between
-    /// others, a fresh store may replace the map's, and a limit set on the old one is lost.
+    /// If it fails, the map keeps its pairs, and those taken from the iterator are dropped. Over the stores of this library it
+    /// never fails for an iterator that yields nothing. It does not use the iterator's size hint. Nothing is promised of the
+    /// room: if a new pair goes between others, a fresh store may replace the map's, and a limit set on the old one is lost.
     ///
     /// Ascending pairs above the last key are appended, with at most one comparison for each. Other ascending pairs are merged,
     /// with at most one comparison for each old and two for each new pair, and each pair moves a constant number of times. Pairs
@@ -111,7 +113,8 @@ impl<K: Ord + Drop, V: Drop, S: StoreBulkMut<K, V>> LiteMap<K, V, S> {
         ensures extended { OnOk result
             (IsExtended K.cmp I.into_iter_gives I.IntoIter.next_gives iter self.old.pairs self.new.pairs) }
         ensures refused { OnErr result (self.new.pairs ≡ self.old.pairs) }
-        ensures refused_some { OnErr result (GivesSome I.into_iter_gives I.IntoIter.next_gives iter) }
+        ensures refused_some { S.fails_for_pairs_only
+            → OnErr result (GivesSome I.into_iter_gives I.IntoIter.next_gives iter) }
     {
         self.extend_counted(alloc, iter, &mut Count::new())
     }
@@ -129,7 +132,8 @@ impl<K: Ord + Drop, V: Drop, S: StoreBulkMut<K, V>> LiteMap<K, V, S> {
         ensures refused { OnErr result (self.new.pairs ≡ self.old.pairs) }
         ensures refused_cost { OnErr result (IsRefusedCounted K.cmp I.into_iter_gives I.IntoIter.next_gives
             iter self.old.pairs count.old count.new) }
-        ensures refused_some { OnErr result (GivesSome I.into_iter_gives I.IntoIter.next_gives iter) }
+        ensures refused_some { S.fails_for_pairs_only
+            → OnErr result (GivesSome I.into_iter_gives I.IntoIter.next_gives iter) }
         ensures counted { GoesOn count.old count.new }
     {
         self.store.lm_extend(alloc, iter, count)

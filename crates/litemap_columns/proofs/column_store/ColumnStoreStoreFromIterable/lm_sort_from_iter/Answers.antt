@@ -15,7 +15,7 @@ some_given cmp [] (p ∷ pairs) last some = absurd ((last.exactly p).0 (inl refl
 some_given cmp (x ∷ given) pairs last some = omega arith
 
 pub returns-in_err-keys-clause-refused_some : goal.returns-in_err-keys-clause-refused_some
-returns-in_err-keys-clause-refused_some g c =
+returns-in_err-keys-clause-refused_some g c _ =
     let extended = c.in_ok-pairs.ensures.made in
     let refused : length c.in_ok-pairs.pairs.items ≤ 0 → ⊥ = λ none. cc (c.in_err-keys.ensures.succeeds (omega (arith, none, c.len.ensures, c.in_ok-pairs.pairs.ok.0))) in
     always_on_err c.from_residual-in_err-keys.result

@@ -17,13 +17,13 @@ loop-key-preserved g c =
     }
 
 pub returns-in_err-push-clause-refused_some : goal.returns-in_err-push-clause-refused_some
-returns-in_err-push-clause-refused_some g c =
+returns-in_err-push-clause-refused_some g c _ =
     always_on_err c.from_residual.result (GivesSome-from_Yields g.I.IntoIterator.into_iter_gives g.I.IntoIter.Iterator.next_gives c.args.iter
     c.into_iter-key-iterator.result c.loop-key.key-iterator c.next.new.self c.loop-key.yielded (c.in-Some.key, c.in-Some.value)
     c.into_iter-key-iterator.ensures.into_iter_gives c.loop-key.yielded_by c.in-Some.ensures.steps)
 
 pub returns-in_err-push-2-clause-refused_some : goal.returns-in_err-push-2-clause-refused_some
-returns-in_err-push-2-clause-refused_some g c =
+returns-in_err-push-2-clause-refused_some g c _ =
     always_on_err c.from_residual-in_err-push-2.result (GivesSome-from_Yields g.I.IntoIterator.into_iter_gives g.I.IntoIter.Iterator.next_gives c.args.iter
     c.into_iter-key-iterator.result c.loop-key.key-iterator c.next.new.self c.loop-key.yielded (c.in-Some.key, c.in-Some.value)
     c.into_iter-key-iterator.ensures.into_iter_gives c.loop-key.yielded_by c.in-Some.ensures.steps)

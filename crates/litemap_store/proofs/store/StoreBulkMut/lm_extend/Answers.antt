@@ -19,7 +19,7 @@ returns-clause-extended g c =
     }) put.last
 
 pub returns-clause-refused_some : goal.returns-clause-refused_some
-returns-clause-refused_some g c =
+returns-clause-refused_some g c _ =
     GivesSome-from_refused g.K.Ord.cmp g.I.IntoIterator.into_iter_gives g.I.IntoIter.Iterator.next_gives c.args.iter c.put_pairs.result
     (g.Self.Store.pairs c.args.self.now) c.append_items.new.items.items (g.Self.Store.room c.args.self.now) (gathered g (goal.at.returns-clause-refused_some g c).After-put_pairs) c.put_pairs.ensures.succeeds
 

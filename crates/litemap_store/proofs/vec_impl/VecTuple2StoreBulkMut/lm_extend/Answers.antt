@@ -40,6 +40,6 @@ returns-clause-extended g c =
     on_ok_weaker c.settle.result (λ last. record { given = gathered.0; gives = gathered.2; last = rw gathered.1 at last; all_above = cost.all_above; rising = cost.rising }) c.settle.ensures.last
 
 pub returns-clause-refused_some : goal.returns-clause-refused_some
-returns-clause-refused_some g c =
+returns-clause-refused_some g c _ =
     let part = parts g c in
     GivesSome-from_refused g.K.Ord.cmp g.I.IntoIterator.into_iter_gives g.I.IntoIter.Iterator.next_gives c.args.iter c.settle.result c.args.self.now.items _ 0 c.in_ok-append_items.ensures.gathered.2 (λ h _. (rw (part.0, part.1) at c.settle.ensures.succeeds) h)
