@@ -3,10 +3,9 @@
 use Rattle.std.specs.Prelude.{◌≡◌, ◌⊎◌, ℕ, ◌<◌, ◌≤◌, List, [], ◌∷◌, ◌++◌, length, IfErr, IfOk, Result, ⊤}
 use Rattle.litemap_store.specs.Pairs.{Rising}
 use Rattle.name_table.specs.Faults.{NextFault, PartFault}
-use Rattle.name_table.specs.Parts.{Begins, Number, pair_parts}
+use Rattle.name_table.specs.Parts.{Begins, Number, number_limit, pair_parts}
 use Rattle.name_table.specs.Positions.{IsAfter, IsCounted, Remaining}
 use Rattle.name_table.specs.declared.error.NameFault.{NameFault}
-use Rattle.name_table.specs.declared.number.TheConstants.{NUMBER_LIMIT}
 use Rattle.name_index.specs.Tables.{IsRisingTable, OfTable, text_order}
 use Rattle.name_index.specs.declared.error.NameIndexFault.{NameIndexFault}
 use Rattle.name_index.specs.declared.error.NameIndexFault.TheVariants.{NoRoom, TooFar}
@@ -57,7 +56,7 @@ pub record AreFar (entries : List ℕ) (len : ℕ) : Type 0 where
   pub rest : List ℕ
   pub spelled : Begins entries (pair_parts before) rest
   pub due : length before < len
-  pub far : NUMBER_LIMIT ≤ length spelled.front
+  pub far : number_limit ≤ length spelled.front
 
 -- the bytes begin with the number of such entries
 abbrev pub IsFar : List ℕ → Type 0

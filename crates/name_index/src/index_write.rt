@@ -4,6 +4,7 @@ ghost use Rattle.litemap.specs.ByBytes.{by_bytes};
 ghost use Rattle.litemap_store.specs.Pairs.{Rising};
 ghost use Rattle.name_index.specs.{Adds, AreOffsets, IsIndex, IsNumberAt, IsPairAt, IsTextAt, entries_size};
 ghost use Rattle.name_index.specs.{index_size, pair_size};
+ghost use Rattle.name_table.specs.Parts.{number_limit};
 ghost use Rattle.name_table.specs.Positions.{shown};
 ghost use Rattle.name_table.specs.Reads.{IfTooLarge};
 ghost use Rattle.name_table.specs.declared.error.NameWriteFault.TheVariants.{TooLarge};
@@ -23,8 +24,8 @@ const ENTRY_NUMBERS: usize = 8;
 pub fn write_index(alloc: Global, names: &NameMap<'_>) -> Result<Vec<u8>, NameWriteFault>
     ensures index { IfOk result (λ bytes. IsIndex bytes.items (map shown names.now.pairs)) }
     ensures size { IfOk result (λ bytes. length bytes.items ≡ index_size (map shown names.now.pairs)) }
-    ensures too_large { IfErr result (λ error. IfTooLarge error (NUMBER_LIMIT ≤ entries_size (map shown names.now.pairs))) }
-    ensures small { OnOk result (entries_size (map shown names.now.pairs) < NUMBER_LIMIT) }
+    ensures too_large { IfErr result (λ error. IfTooLarge error (number_limit ≤ entries_size (map shown names.now.pairs))) }
+    ensures small { OnOk result (entries_size (map shown names.now.pairs) < number_limit) }
 {
     write_index_of(alloc, names.as_slice())
 }
@@ -35,8 +36,8 @@ pub fn write_index_of(alloc: Global, names: &[(&str, &str)]) -> Result<Vec<u8>, 
     requires { Rising by_bytes names.now }
     ensures index { IfOk result (λ bytes. IsIndex bytes.items (map shown names.now)) }
     ensures size { IfOk result (λ bytes. length bytes.items ≡ index_size (map shown names.now)) }
-    ensures too_large { IfErr result (λ error. IfTooLarge error (NUMBER_LIMIT ≤ entries_size (map shown names.now))) }
-    ensures small { OnOk result (entries_size (map shown names.now) < NUMBER_LIMIT) }
+    ensures too_large { IfErr result (λ error. IfTooLarge error (number_limit ≤ entries_size (map shown names.now))) }
+    ensures small { OnOk result (entries_size (map shown names.now) < number_limit) }
 {
     let mut bytes = put_offsets(alloc, names)?;
     for pair in names {

@@ -3,19 +3,19 @@ use Rattle.std.specs.Prelude.{◌≡◌, ◌⊎◌, ℕ, ◌+◌, ◌<◌, ◌�
 use Rattle.std.specs.List.{AllByRecursion}
 use Rattle.litemap_read.specs.declared.source.ReadFault.{ReadFault}
 use Rattle.litemap_read.specs.declared.source.ReadFault.TheVariants.{NoRoom, Source}
-use Rattle.name_table.specs.Parts.{EndsAtLast, Part, Number, Text, IsPart, Begins, pair_parts, table_parts, text_parts, value_of}
+use Rattle.name_table.specs.Parts.{EndsAtLast, Part, Number, Text, IsPart, Begins, most_bytes, number_limit, pair_parts}
+use Rattle.name_table.specs.Parts.{table_parts, text_parts, value_of}
 use Rattle.name_table.specs.Positions.{Remaining}
 use Rattle.name_table.specs.declared.error.NameFault.{NameFault}
 use Rattle.name_table.specs.declared.error.NameFault.TheVariants.{Truncated, NotUtf8, NumberTooLarge}
-use Rattle.name_table.specs.declared.number.TheConstants.{MOST_BYTES, NUMBER_LIMIT}
 
 -- the bytes, which stand at the offset, don't begin with a part of the kind that is due there: a number, which ends after five
 -- bytes at most and is below 2^32, or a string of so many bytes
 abbrev pub PartFault : Part → List ℕ → ℕ → NameFault → Type 0
-PartFault (Number n) bytes place (Truncated at) = (at ≡ place) × AllByRecursion (λ b. 128 ≤ b) bytes × (length bytes < MOST_BYTES)
+PartFault (Number n) bytes place (Truncated at) = (at ≡ place) × AllByRecursion (λ b. 128 ≤ b) bytes × (length bytes < most_bytes)
 PartFault (Number n) bytes place (NumberTooLarge at) = (front : List ℕ) × (rest : List ℕ) × (at ≡ place) × (bytes ≡ front ++ rest)
-    × ((AllByRecursion (λ b. 128 ≤ b) front × (length front ≡ MOST_BYTES))
-    ⊎ (EndsAtLast front × (length front ≤ MOST_BYTES) × (NUMBER_LIMIT ≤ value_of front)))
+    × ((AllByRecursion (λ b. 128 ≤ b) front × (length front ≡ most_bytes))
+    ⊎ (EndsAtLast front × (length front ≤ most_bytes) × (number_limit ≤ value_of front)))
 PartFault (Text text) bytes place (Truncated at) = (at ≡ place) × (length bytes < length text)
 PartFault (Text text) bytes place (NotUtf8 at) =
     (at ≡ place) × (length text ≤ length bytes) × (IsUtf8 (take (length text) bytes) → ⊥)

@@ -1,8 +1,15 @@
 -- A name table is a list of parts, numbers and strings, spelled one after another. A string is the list of its bytes.
 use Rattle.std.specs.Prelude.{◌≡◌, ℕ, ◌+◌, ◌*◌, ◌%◌, ◌<◌, ◌≤◌, List, [], ◌∷◌, ◌++◌, length, IsUtf8}
-use Rattle.name_table.specs.declared.number.TheConstants.{MOST_BYTES, NUMBER_LIMIT}
 
 -- ---- numbers: seven bits in each byte, the lowest first, and the high bit set on all bytes but the last
+
+-- a number has so many bytes at most
+abbrev pub most_bytes : ℕ
+most_bytes = 5
+
+-- a number is below this, 2^32
+abbrev pub number_limit : ℕ
+number_limit = 4294967296
 
 -- the number in the low seven bits of each byte
 abbrev pub value_of : List ℕ → ℕ
@@ -19,8 +26,8 @@ EndsAtLast (b ∷ c ∷ bytes) = (128 ≤ b) × EndsAtLast (c ∷ bytes)
 pub record IsNumber (bytes : List ℕ) (n : ℕ) : Type 0 where
   pub ends : EndsAtLast bytes
   pub value : value_of bytes ≡ n
-  pub short : length bytes ≤ MOST_BYTES
-  pub small : n < NUMBER_LIMIT
+  pub short : length bytes ≤ most_bytes
+  pub small : n < number_limit
 
 -- ---- parts
 
