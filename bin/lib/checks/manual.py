@@ -28,7 +28,7 @@ GROUPS = {
     "Name tables": "name_table: read write name_bytes cursor error laws",
     "Lookups in name tables": "name_index: table index name_entries indexed index_write error laws",
     "What a call can be asked by": "litemap_store: query",
-    "Stores": "litemap_store: store into_iter vec_impl slice_impl slice_iter count no_room retain reserved slice_search merge "
+    "Stores": "litemap_store: store into_iter vec_impl slice_impl slice_iter count growth no_room retain reserved slice_search merge "
     "split_store; litemap_short: short_store short_iter; litemap_columns: lib column_store column_iter",
     "Laws, for proofs": "litemap_store: laws",
     "The program": "names_core: program watch; names: laws",

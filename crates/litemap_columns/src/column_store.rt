@@ -8,6 +8,7 @@ ghost use Rattle.litemap_store.specs.Retain.{CallableOnEach, Kept};
 ghost use Rattle.litemap_store.specs.VecStore.{vec_room};
 
 use crate::column_iter::{ColumnIntoIter, ColumnIter};
+use litemap_store::growth::with_capacity;
 use litemap_store::reserved::{insert_reserved, remove_at};
 use litemap_store::retain::{SwapStore, retain};
 use litemap_store::slice_search;
@@ -250,7 +251,10 @@ impl<K: Ord + Drop, V: Drop> StoreFromIterable<K, V> for ColumnStore<K, V> {
         let ColumnStore {
             mut keys,
             mut values,
-        } = Self::lm_with_capacity(alloc, pairs.len())?;
+        } = match with_capacity(alloc, pairs.len()) {
+            Ok(store) => store,
+            Err(refused) => return Err(count.refuse(refused, AllocError)),
+        };
         for (key, value) in pairs {
             keys.push_reserved(key);
             values.push_reserved(value);

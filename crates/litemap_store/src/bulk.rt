@@ -12,10 +12,11 @@ pub mod merge;
 pub mod vector;
 
 use crate::bulk::merge::merge;
+use crate::growth::{Refused, reserve};
 use crate::into_iter::append_each;
 use crate::sorted::{keep_rising, lies_below};
 use crate::store::{Count, StoreMut};
-use std::alloc::{AllocError, Global};
+use std::alloc::Global;
 use std::mem;
 
 // The capacity that is taken with the first item.
@@ -26,10 +27,10 @@ const QUADRUPLED_BELOW: usize = 512;
 
 /// Appends the items of an iterator to a vector, without its size hint. On an error the new items are dropped, and the vector
 /// has its own.
-pub fn append_items<T: Drop, I: IntoIterator<Item = T>>(
-    items: &mut Vec<T>,
+pub fn append_items<K: Drop, V: Drop, I: IntoIterator<Item = (K, V)>>(
+    items: &mut Vec<(K, V)>,
     iter: I,
-) -> Result<(), AllocError>
+) -> Result<(), Refused>
     requires { IsFiniteIterable I.into_iter_gives I.IntoIter.can_next I.IntoIter.remaining iter }
     ensures gathered { OnOk result ((given : _) × (items.new.items ≡ items.old.items ++ given)
         × Gives I.into_iter_gives I.IntoIter.next_gives iter given) }
@@ -38,9 +39,11 @@ pub fn append_items<T: Drop, I: IntoIterator<Item = T>>(
 {
     let len = items.len();
     for item in iter {
-        if items.len() == items.capacity() && make_room(items).is_err() {
+        if items.len() == items.capacity()
+            && let Err(refused) = make_room(items)
+        {
             items.truncate(len);
-            return Err(AllocError);
+            return Err(refused);
         }
         items.push_reserved(item);
     }
@@ -51,13 +54,13 @@ pub fn append_items<T: Drop, I: IntoIterator<Item = T>>(
 // the items stays short.
 #[cold]
 #[inline(never)]
-fn make_room<T>(items: &mut Vec<T>) -> Result<(), AllocError>
+fn make_room<K, V>(items: &mut Vec<(K, V)>) -> Result<(), Refused>
     ensures items { items.new.items ≡ items.old.items }
     ensures room { OnOk result (vec_len items.new < vec_capacity items.new) }
 {
     let len = items.len();
     let more = if len < QUADRUPLED_BELOW { 3 * len } else { 1 };
-    items.reserve(more.max(FIRST_CAPACITY))
+    reserve(items, more.max(FIRST_CAPACITY))
 }
 
 /// Puts the pairs of a vector in, which is left empty. Of each key the last pair stays.
@@ -66,7 +69,7 @@ pub fn put_pairs<K: Ord + Drop, V: Drop, S: StoreMut<K, V> + Drop>(
     store: &mut S,
     pairs: &mut Vec<(K, V)>,
     count: &mut Count,
-) -> Result<(), AllocError>
+) -> Result<(), Refused>
     requires { Rising K.cmp (S.pairs store.old) }
     ensures last { OnOk result (Last K.cmp (S.pairs store.old ++ pairs.old.items) (S.pairs store.new)) }
     ensures refused { OnErr result (S.pairs store.new ≡ S.pairs store.old) }
@@ -80,7 +83,7 @@ pub fn put_pairs<K: Ord + Drop, V: Drop, S: StoreMut<K, V> + Drop>(
 {
     keep_rising(alloc, pairs, 0, count)?;
     if lies_below(store, pairs, count) {
-        store.lm_reserve(pairs.len())?;
+        reserve(store, pairs.len())?;
         append_each(store, mem::replace(pairs, Vec::new(alloc)).into_iter());
         return Ok(());
     }

@@ -4,6 +4,7 @@
 
 mod bulk;
 mod count;
+pub mod growth;
 mod into_iter;
 pub mod laws;
 pub mod merge;

@@ -1,11 +1,12 @@
 //! The body of `extend_from_litemap`: one store's pairs are merged into another's.
-ghost use Rattle.std.specs.Prelude.{◌≡◌, ◌⊎◌, ◌+◌, []};
+ghost use Rattle.std.specs.Prelude.{◌≡◌, ◌⊎◌, ◌+◌, ◌<◌, [], OnErr};
 ghost use Rattle.litemap_store.specs.{Apart, Merges, MergesInto, RisesByAtMost, Rising, searches_cost};
 
 mod in_one_pass;
 mod one_by_one;
 mod side_by_side;
 
+use crate::growth::{extend_start, reserve, sum};
 use crate::merge::in_one_pass::merge_in_one_pass;
 use crate::merge::one_by_one::merge_one_by_one;
 use crate::merge::side_by_side::merge_side_by_side;
@@ -34,6 +35,7 @@ pub fn extend_from_store<K: Ord + Drop, V: Drop, S: StoreIntoIterator<K, V> + Dr
     ensures uncounted { (S.pairs store.old ≡ []) ⊎ (S.pairs other ≡ []) → RisesByAtMost 0 count.old count.new }
     ensures apart { Apart K.cmp (S.pairs store.old) (S.pairs other) → RisesByAtMost 2 count.old count.new }
     ensures cost { RisesByAtMost (2 + searches_cost (S.pairs store.old) (S.pairs other)) count.old count.new }
+    ensures refusal { OnErr result (count.old.refusals < count.new.refusals) }
 {
     if other.lm_is_empty() {
         return Ok(None);
@@ -44,12 +46,17 @@ pub fn extend_from_store<K: Ord + Drop, V: Drop, S: StoreIntoIterator<K, V> + Dr
     }
     // If all keys of one are above the other's, none is common, and nothing is displaced.
     if lies_below(store, &other, count) {
-        store.lm_extend_end(other)?;
+        if let Err(refused) = reserve(store, other.lm_len()) {
+            return Err(count.refuse(refused, NoRoom { back: other }));
+        }
+        store.lm_extend_end(other).unwrap();
         return Ok(None);
     }
     if lies_below(&other, store, count) {
-        store.lm_extend_start(other)?;
-        return Ok(None);
+        return match extend_start(store, other) {
+            Ok(()) => Ok(None),
+            Err((refused, other)) => Err(count.refuse(refused, NoRoom { back: other })),
+        };
     }
     merge_mixed(alloc, store, other, count)
 }
@@ -66,10 +73,12 @@ fn merge_mixed<K: Ord + Drop, V: Drop, S: StoreIntoIterator<K, V> + Drop>(
     requires other { Rising K.cmp (S.pairs other) }
     ensures merges { Merges K.cmp S.pairs other store.old store.new result }
     ensures cost { RisesByAtMost (searches_cost (S.pairs store.old) (S.pairs other)) count.old count.new }
+    ensures refusal { OnErr result (count.old.refusals < count.new.refusals) }
 {
     let len = other.lm_len();
-    let Some(total) = store.lm_len().checked_add(len) else {
-        return Err(NoRoom { back: other });
+    let total = match sum(store.lm_len(), len) {
+        Ok(total) => total,
+        Err(refused) => return Err(count.refuse(refused, NoRoom { back: other })),
     };
     let steps = binary_digits(total);
     if walk_is_cheaper(total, len, steps) {

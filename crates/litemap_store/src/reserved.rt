@@ -2,8 +2,9 @@
 ghost use Rattle.std.specs.Prelude.{◌≡◌, ◌↔◌, ◌+◌, ◌<◌, ◌≤◌, List, ◌++◌, ◌∷◌, [], drop, insert, length, remove, reverse};
 ghost use Rattle.std.specs.Prelude.{slice_index_or, take, vec_capacity, vec_len, IfOk, IfSome, IsNone};
 
+use crate::growth::{Refused, with_capacity};
 use crate::store::{Store, StoreMut};
-use std::alloc::{AllocError, Global};
+use std::alloc::Global;
 use std::mem;
 
 // The most bytes that move at once: std moves more of them by a loop.
@@ -13,14 +14,14 @@ const PART_BYTES: usize = 2048;
 pub(crate) fn room_for<K: Drop, V: Drop, S: StoreMut<K, V>>(
     alloc: Global,
     len: usize,
-) -> Result<(Vec<(K, V)>, S), AllocError>
+) -> Result<(Vec<(K, V)>, S), Refused>
     ensures side { IfOk result (λ made. made.0.items ≡ []) }
     ensures side_room { IfOk result (λ made. len ≤ vec_capacity made.0) }
     ensures store { IfOk result (λ made. S.pairs made.1 ≡ []) }
     ensures store_room { IfOk result (λ made. len ≤ S.room made.1) }
 {
-    let side = Vec::with_capacity(alloc, len)?;
-    let store = S::lm_with_capacity(alloc, len)?;
+    let side = with_capacity(alloc, len)?;
+    let store = with_capacity(alloc, len)?;
     Ok((side, store))
 }
 

@@ -4,8 +4,9 @@ ghost use Rattle.std.specs.Prelude.{vec_len, IsSortedByKey};
 ghost use Rattle.litemap_store.specs.{RisesByAtMost, Rising};
 ghost use Rattle.litemap_store.specs.Last.{Last};
 
+use crate::growth::{Refused, sort_by};
 use crate::store::{Count, Store};
-use std::alloc::{AllocError, Global};
+use std::alloc::Global;
 
 /// Whether the keys ascend. It compares each with the one before it, until one doesn't ascend.
 pub(crate) fn is_rising<K: Ord, V>(pairs: &[(K, V)], count: &mut Count) -> bool
@@ -47,7 +48,7 @@ pub(crate) fn keep_rising<K: Ord + Drop, V: Drop>(
     pairs: &mut Vec<(K, V)>,
     from: usize,
     count: &mut Count,
-) -> Result<(), AllocError>
+) -> Result<(), Refused>
     requires { from ≤ vec_len pairs.old }
     ensures before { take from pairs.new.items ≡ take from pairs.old.items }
     ensures last { OnOk result (Last K.cmp (drop from pairs.old.items) (drop from pairs.new.items)) }
@@ -61,7 +62,7 @@ pub(crate) fn keep_rising<K: Ord + Drop, V: Drop>(
         return Ok(());
     }
     let given = &mut pairs[from..];
-    given.sort_by(alloc, |a, b| a.0.cmp(&b.0))?;
+    sort_by(given, alloc, |a, b| a.0.cmp(&b.0))?;
     let kept = keep_last(given);
     pairs.truncate(from + kept);
     Ok(())

@@ -32,7 +32,9 @@ pub fn split_store<K: Drop, V: Drop, S: StoreMut<K, V> + Drop>(
         let empty = S::lm_with_capacity(alloc, 0)?;
         return Ok(mem::replace(store, empty));
     }
-    let (mut side, mut later) = room_for(alloc, number)?;
+    let Ok((mut side, mut later)) = room_for(alloc, number) else {
+        return Err(AllocError);
+    };
     take_from(store, index, &mut side);
     put_up(&mut later, side);
     Ok(later)

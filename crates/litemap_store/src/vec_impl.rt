@@ -162,8 +162,13 @@ impl<K: Ord + Drop, V: Drop> StoreBulkMut<K, V> for Vec<(K, V)> {
         count: &mut Count,
     ) -> Result<(), AllocError> {
         let len = self.len();
-        append_items(self, iter)?;
-        settle(alloc, self, len, count)
+        if let Err(refused) = append_items(self, iter) {
+            return Err(count.refuse(refused, AllocError));
+        }
+        match settle(alloc, self, len, count) {
+            Ok(()) => Ok(()),
+            Err(refused) => Err(count.refuse(refused, AllocError)),
+        }
     }
 
     fn lm_extend_from_vec(
@@ -172,7 +177,10 @@ impl<K: Ord + Drop, V: Drop> StoreBulkMut<K, V> for Vec<(K, V)> {
         given: &mut Vec<(K, V)>,
         count: &mut Count,
     ) -> Result<(), AllocError> {
-        put_in_vec(alloc, self, given, count)
+        match put_in_vec(alloc, self, given, count) {
+            Ok(()) => Ok(()),
+            Err(refused) => Err(count.refuse(refused, AllocError)),
+        }
     }
 
     fn lm_sort_from_vec(
@@ -216,7 +224,9 @@ impl<K: Drop, V: Drop> StoreFromIterator<K, V> for Vec<(K, V)> {
         iter: I,
     ) -> Result<Self, AllocError> {
         let mut pairs = Self::new(alloc);
-        append_items(&mut pairs, iter)?;
+        let Ok(()) = append_items(&mut pairs, iter) else {
+            return Err(AllocError);
+        };
         Ok(pairs)
     }
 }

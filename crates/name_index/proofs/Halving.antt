@@ -16,7 +16,7 @@ module _ {X : Type 0} (pairs : X → List (List ℕ × List ℕ)) (order : List 
     pub within : high ≤ size
     pub narrowed : (x : X) → Narrowed order (pairs x) low high
     pub same : new.name ≡ old.name
-    pub not_lowered : old.total ≤ new.total
+    pub not_lowered : (old.total ≤ new.total) × (old.refusals ≤ new.refusals)
     pub cost : new.total + digits (high - low) ≤ old.total + digits size
 
   pub halved_start : (size : ℕ) (count : Count) → ((x : X) → (length (pairs x) ≡ size) × Ascends order (pairs x)) → Halved size 0 size count count
@@ -26,12 +26,12 @@ module _ {X : Type 0} (pairs : X → List (List ℕ × List ℕ)) (order : List 
     within = omega arith;
     narrowed = λ x. Narrowed-whole order (pairs x) size (omega (arith, (known x).0));
     same = refl;
-    not_lowered = omega arith;
+    not_lowered = (omega arith, omega arith);
     cost = let e : size - 0 ≡ size = omega arith in rw e (omega arith);
   }
 
   module _ {size low high : ℕ} {old now new : Count} (name : List ℕ) (h : Halved size low high old now) (l : low < high)
-      (there : (x : X) → IsKeyAt (pairs x) (low + (high - low) / 2) name) (same : new.name ≡ now.name) (asked : new.total ≡ now.total + 1) where
+      (there : (x : X) → IsKeyAt (pairs x) (low + (high - low) / 2) name) (same : new.name ≡ now.name) (asked : new.total ≡ now.total + 1) (kept : new.refusals ≡ now.refusals) where
     to : (from until : ℕ) → from ≤ until → until ≤ size → digits (until - from) + 1 ≤ digits (high - low) → ((x : X) → Narrowed order (pairs x) from until) → Halved size from until old new
     to from until o w m n = record {
       known = h.known;
@@ -39,7 +39,7 @@ module _ {X : Type 0} (pairs : X → List (List ℕ × List ℕ)) (order : List 
       within = w;
       narrowed = n;
       same = same ∙ h.same;
-      not_lowered = omega arith;
+      not_lowered = (omega arith, omega arith);
       cost = omega arith;
     }
 
@@ -59,7 +59,7 @@ module _ {X : Type 0} (pairs : X → List (List ℕ × List ℕ)) (order : List 
     pub halved_asked : RisesByAtMost (digits size) old new
     halved_asked =
         let m : digits 0 + 1 ≤ digits (high - low) = digits-halved 0 _ (omega arith) (omega arith) in
-        record { same = same ∙ h.same; not_lowered = omega arith; most = omega arith }
+        record { same = same ∙ h.same; not_lowered = (omega arith, omega arith); most = omega arith }
 
   pub halved_end : {size low high : ℕ} {old new : Count} → Halved size low high old new → high ≤ low → (x : X) → Finds order (pairs x) (Err low)
   halved_end {low = low} {high = high} h l x = Finds-nowhere order (pairs x) low high l (omega (arith, h.ordered, h.within, (h.known x).0)) (h.narrowed x)

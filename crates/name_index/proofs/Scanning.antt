@@ -79,8 +79,8 @@ module _ (pairs : List (List ℕ × List ℕ)) (key : List ℕ) (rises : Rising 
 
 -- ---- a scan's state
 
-pub asked_one : {old new : Count} → new.name ≡ old.name → new.total ≡ old.total + 1 → RisesByAtMost 1 old new
-asked_one same one = record { same = same; not_lowered = omega (arith, one); most = omega (arith, one) }
+pub asked_one : {old new : Count} → new.name ≡ old.name → new.total ≡ old.total + 1 → new.refusals ≡ old.refusals → RisesByAtMost 1 old new
+asked_one same one kept = record { same = same; not_lowered = (omega (arith, one), omega (arith, kept)); most = omega (arith, one) }
 
 pub record Scanned (entries : List ℕ) (size : ℕ) (key rest : List ℕ) (index : ℕ) (old new : Count) : Type 0 where
   pub walked : Walked entries size rest index

@@ -119,6 +119,7 @@ fn is_led(name: &str, text: &str, past: bool, count: &mut Count) -> bool
     ensures led { result ≡ leads_to past text.now name.now }
     ensures same { count.new.name ≡ count.old.name }
     ensures counted { count.new.total ≡ count.old.total + 1 }
+    ensures refusals { count.new.refusals ≡ count.old.refusals }
 {
     let order = count.cmp(&head(name, text.len()), &text.as_bytes());
     if past { order.is_le() } else { order.is_lt() }

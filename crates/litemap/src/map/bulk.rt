@@ -1,5 +1,5 @@
 //! Calls that take many pairs at once. The last pair of each key stays.
-ghost use Rattle.std.specs.Prelude.{◌≡◌, ◌≤◌, ◌+◌, ◌*◌, ◌++◌, [], IfErr, IfOk, IsOk, OnOk, OnErr, length};
+ghost use Rattle.std.specs.Prelude.{◌≡◌, ◌<◌, ◌≤◌, ◌+◌, ◌*◌, ◌++◌, [], IfErr, IfOk, IsOk, OnOk, OnErr, length};
 ghost use Rattle.std.specs.Iterator.{IsFiniteIterable};
 ghost use Rattle.litemap_store.specs.Bulk.{GivesSome, IsExtended, IsExtendedCounted, IsHandedBack, IsRefusedCounted};
 ghost use Rattle.litemap_store.specs.Counts.{GoesOn, RisesByAtMost};
@@ -48,6 +48,7 @@ impl<K: Ord + Drop, V: Drop, S: StoreFromIterable<K, V>> LiteMap<K, V, S> {
             (IsRefusedCounted K.cmp I.into_iter_gives I.IntoIter.next_gives iter [] count.old count.new) }
         ensures refused_some { S.fails_for_pairs_only
             → OnErr result (GivesSome I.into_iter_gives I.IntoIter.next_gives iter) }
+        ensures refusal { OnErr result (count.old.refusals < count.new.refusals) }
         ensures counted { GoesOn count.old count.new }
     {
         let store = S::lm_sort_from_iter(alloc, iter, count)?;
@@ -80,6 +81,7 @@ impl<K: Ord + Drop, V: Drop, S: StoreBulkMut<K, V>> LiteMap<K, V, S> {
         ensures succeeds { Rising K.cmp pairs.items → length pairs.items ≤ S.free_room → IsOk result }
         ensures back { IfErr result (λ e. IsHandedBack K.cmp pairs.items e.back.items) }
         ensures rising { Rising K.cmp pairs.items → RisesByAtMost (length pairs.items) count.old count.new }
+        ensures refusal { OnErr result (count.old.refusals < count.new.refusals) }
     {
         match S::lm_sort_from_vec(alloc, &mut pairs, count) {
             Ok(store) => Ok(LiteMap::from_sorted_store_unchecked(store)),
@@ -134,6 +136,7 @@ impl<K: Ord + Drop, V: Drop, S: StoreBulkMut<K, V>> LiteMap<K, V, S> {
             iter self.old.pairs count.old count.new) }
         ensures refused_some { S.fails_for_pairs_only
             → OnErr result (GivesSome I.into_iter_gives I.IntoIter.next_gives iter) }
+        ensures refusal { OnErr result (count.old.refusals < count.new.refusals) }
         ensures counted { GoesOn count.old count.new }
     {
         self.store.lm_extend(alloc, iter, count)
@@ -173,6 +176,7 @@ impl<K: Ord + Drop, V: Drop, S: StoreBulkMut<K, V>> LiteMap<K, V, S> {
         ensures all_above { Rises K.cmp self.old.pairs pairs.items → RisesByAtMost (length pairs.items) count.old count.new }
         ensures rising { Rising K.cmp pairs.items
             → RisesByAtMost (length self.old.pairs + 2 * length pairs.items) count.old count.new }
+        ensures refusal { OnErr result (count.old.refusals < count.new.refusals) }
     {
         match self.store.lm_extend_from_vec(alloc, &mut pairs, count) {
             Ok(()) => Ok(()),

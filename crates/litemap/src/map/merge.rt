@@ -1,5 +1,5 @@
 //! Merging maps.
-ghost use Rattle.std.specs.Prelude.{◌≡◌, ◌⊎◌, ◌+◌, ◌*◌, List, MatchOption, OnOk, Some, [], length};
+ghost use Rattle.std.specs.Prelude.{◌≡◌, ◌⊎◌, ◌+◌, ◌*◌, ◌<◌, List, MatchOption, OnErr, OnOk, Some, [], length};
 ghost use Rattle.std.specs.Option.{option_or};
 ghost use Rattle.litemap_store.specs.Counts.{RisesByAtMost, digits};
 ghost use Rattle.litemap_store.specs.Merge.{Apart};
@@ -66,6 +66,7 @@ impl<K: Ord + Drop, V: Drop, S: StoreIntoIterator<K, V> + Drop> LiteMap<K, V, S>
         ensures apart { Apart K.cmp self.old.pairs other.pairs → RisesByAtMost 2 count.old count.new }
         ensures cost { RisesByAtMost
             (2 + length other.pairs * digits (length self.old.pairs + length other.pairs)) count.old count.new }
+        ensures refusal { OnErr result (count.old.refusals < count.new.refusals) }
     {
         match extend_from_store(alloc, &mut self.store, other.store, count) {
             Ok(None) => Ok(None),
@@ -125,6 +126,7 @@ impl<K: Ord + Drop, V: Drop, S: StoreIntoIterator<K, V> + Drop> LiteMap<K, V, S>
             × IsMergedInto K.cmp (with_pairs other M) self.old self.new result }
         ensures cost { RisesByAtMost (2 + length other.pairs * digits (length self.old.pairs)
             + length other.pairs * digits (length self.old.pairs + length other.pairs)) count.old count.new }
+        ensures refusal { OnErr result (count.old.refusals < count.new.refusals) }
     {
         let mut store = other.store;
         self.combine_each(&mut store, &f, count);

@@ -3,9 +3,10 @@ ghost use Rattle.std.specs.Prelude.{◌≡◌, ◌+◌, ◌≤◌, ◌++◌, [],
 ghost use Rattle.litemap_store.specs.{IsGreaterEnd, IsTaken, RisesByAtMost, Rising};
 ghost use Rattle.litemap_store.specs.Last.{Last};
 
+use crate::growth::{Refused, sum};
 use crate::reserved::{put_up, room_for, take_last};
 use crate::store::{Count, Store, StoreMut};
-use std::alloc::{AllocError, Global};
+use std::alloc::Global;
 use std::cmp::Ordering;
 use std::mem;
 
@@ -21,7 +22,7 @@ pub fn merge<K: Ord + Drop, V: Drop, S: StoreMut<K, V> + Drop>(
     store: &mut S,
     pairs: &mut Vec<(K, V)>,
     count: &mut Count,
-) -> Result<(), AllocError>
+) -> Result<(), Refused>
     requires store { Rising K.cmp (S.pairs store.old) }
     requires pairs { Rising K.cmp pairs.old.items }
     ensures last { OnOk result (Last K.cmp (S.pairs store.old ++ pairs.old.items) (S.pairs store.new)) }
@@ -30,7 +31,7 @@ pub fn merge<K: Ord + Drop, V: Drop, S: StoreMut<K, V> + Drop>(
     ensures empty { OnOk result (pairs.new.items ≡ []) }
     ensures back { OnErr result (pairs.new.items ≡ pairs.old.items) }
 {
-    let total = store.lm_len().checked_add(pairs.len()).ok_or(AllocError)?;
+    let total = sum(store.lm_len(), pairs.len())?;
     let (mut side, mut fresh) = room_for(alloc, total)?;
     let given = mem::replace(pairs, Vec::new(alloc));
     take_down(store, given, &mut side, count);

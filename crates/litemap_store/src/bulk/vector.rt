@@ -6,9 +6,10 @@ ghost use Rattle.litemap_store.specs.Last.{Last, Rises};
 
 use crate::bulk::few::{is_few, settle_few};
 use crate::bulk::merge::take_down;
+use crate::growth::{Refused, reserve, split_off, sum, with_capacity};
 use crate::sorted::{keep_rising, lies_below};
 use crate::store::{Count, SliceStore};
-use std::alloc::{AllocError, Global};
+use std::alloc::Global;
 use std::mem;
 
 /// Puts the pairs from an index on among those before, whose keys ascend: of each key the last stays. On an error these pairs are
@@ -18,7 +19,7 @@ pub fn settle<K: Ord + Drop, V: Drop>(
     store: &mut Vec<(K, V)>,
     from: usize,
     count: &mut Count,
-) -> Result<(), AllocError>
+) -> Result<(), Refused>
     requires from { from ≤ vec_len store.old }
     requires rising { Rising K.cmp (take from store.old.items) }
     ensures last { OnOk result (Last K.cmp store.old.items store.new.items) }
@@ -32,19 +33,21 @@ pub fn settle<K: Ord + Drop, V: Drop>(
         settle_few(store, from, count);
         return Ok(());
     }
-    let Ok(()) = keep_rising(alloc, store, from, count) else {
+    if let Err(refused) = keep_rising(alloc, store, from, count) {
         store.truncate(from);
-        return Err(AllocError);
-    };
+        return Err(refused);
+    }
     let (old, given) = store.split_at(from);
     if lies_below(&SliceStore::new(old), &SliceStore::new(given), count) {
         return Ok(());
     }
-    let Ok(mut given) = store.split_off(from) else {
-        store.truncate(from);
-        return Err(AllocError);
-    };
-    merge_in_vec(alloc, store, &mut given, count)
+    match split_off(store, from) {
+        Ok(mut given) => merge_in_vec(alloc, store, &mut given, count),
+        Err(refused) => {
+            store.truncate(from);
+            Err(refused)
+        }
+    }
 }
 
 /// Puts the pairs of a vector in, which is left empty: of each key the last pair stays. If they ascend and come after the last
@@ -54,7 +57,7 @@ pub fn put_in_vec<K: Ord + Drop, V: Drop>(
     store: &mut Vec<(K, V)>,
     pairs: &mut Vec<(K, V)>,
     count: &mut Count,
-) -> Result<(), AllocError>
+) -> Result<(), Refused>
     requires { Rising K.cmp store.old.items }
     ensures last { OnOk result (Last K.cmp (store.old.items ++ pairs.old.items) store.new.items) }
     ensures refused { OnErr result (store.new.items ≡ store.old.items) }
@@ -80,7 +83,7 @@ pub fn put_in_vec<K: Ord + Drop, V: Drop>(
 }
 
 // Appends items in one move. If there are none, and the capacity is less than the new ones' number, their vector replaces it.
-fn append_in_vec<T>(store: &mut Vec<T>, items: &mut Vec<T>) -> Result<(), AllocError>
+fn append_in_vec<K, V>(store: &mut Vec<(K, V)>, items: &mut Vec<(K, V)>) -> Result<(), Refused>
     ensures appended { OnOk result (store.new.items ≡ store.old.items ++ items.old.items) }
     ensures refused { OnErr result (store.new.items ≡ store.old.items) }
     ensures succeeds { (store.old.items ≡ []) ⊎ (length items.old.items ≤ vec_room store.old) → IsOk result }
@@ -91,7 +94,9 @@ fn append_in_vec<T>(store: &mut Vec<T>, items: &mut Vec<T>) -> Result<(), AllocE
         mem::swap(store, items);
         return Ok(());
     }
-    store.append(items)
+    reserve(store, items.len())?;
+    store.append(items).unwrap();
+    Ok(())
 }
 
 // Puts pairs in, by at most one comparison for each pair of both. Capacity for all pairs is taken first.
@@ -100,7 +105,7 @@ fn merge_in_vec<K: Ord + Drop, V: Drop>(
     store: &mut Vec<(K, V)>,
     pairs: &mut Vec<(K, V)>,
     count: &mut Count,
-) -> Result<(), AllocError>
+) -> Result<(), Refused>
     requires store { Rising K.cmp store.old.items }
     requires pairs { Rising K.cmp pairs.old.items }
     ensures last { OnOk result (Last K.cmp (store.old.items ++ pairs.old.items) store.new.items) }
@@ -109,8 +114,8 @@ fn merge_in_vec<K: Ord + Drop, V: Drop>(
     ensures empty { OnOk result (pairs.new.items ≡ []) }
     ensures back { OnErr result (pairs.new.items ≡ pairs.old.items) }
 {
-    let total = store.len().checked_add(pairs.len()).ok_or(AllocError)?;
-    let mut side = Vec::with_capacity(alloc, total)?;
+    let total = sum(store.len(), pairs.len())?;
+    let mut side: Vec<(K, V)> = with_capacity(alloc, total)?;
     let given = mem::replace(pairs, Vec::new(alloc));
     take_down(store, given, &mut side, count);
     side.reverse();

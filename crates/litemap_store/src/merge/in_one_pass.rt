@@ -1,5 +1,5 @@
 //! A merge in one pass, from the last pair of the other store down to the first.
-ghost use Rattle.std.specs.Prelude.{◌≡◌, ◌+◌, ◌<◌, ◌≤◌, ◌++◌, ◌∷◌, length, reverse, option_map, vec_capacity};
+ghost use Rattle.std.specs.Prelude.{◌≡◌, ◌+◌, ◌<◌, ◌≤◌, ◌++◌, ◌∷◌, length, reverse, OnErr, option_map, vec_capacity};
 ghost use Rattle.std.specs.List.{cons_option};
 ghost use Rattle.litemap_store.specs.{Merges, RisesByAtMost, Rising, above, at, below, digits, key_or, searches_cost};
 
@@ -24,12 +24,15 @@ pub fn merge_in_one_pass<K: Ord + Drop, V: Drop, S: StoreMut<K, V> + Drop>(
     requires total { total ≡ length (S.pairs store.old) + length (S.pairs other) }
     ensures merges { Merges K.cmp S.pairs other store.old store.new result }
     ensures cost { RisesByAtMost (searches_cost (S.pairs store.old) (S.pairs other)) count.old count.new }
+    ensures refusal { OnErr result (count.old.refusals < count.new.refusals) }
 {
-    let Ok((mut side, mut fresh)) = room_for(alloc, total) else {
-        return Err(NoRoom { back: other });
+    let (mut side, mut fresh) = match room_for(alloc, total) {
+        Ok(made) => made,
+        Err(refused) => return Err(count.refuse(refused, NoRoom { back: other })),
     };
-    let Ok((mut displaced, mut rest)) = room_for(alloc, other.lm_len()) else {
-        return Err(NoRoom { back: other });
+    let (mut displaced, mut rest) = match room_for(alloc, other.lm_len()) {
+        Ok(made) => made,
+        Err(refused) => return Err(count.refuse(refused, NoRoom { back: other })),
     };
     while !other.lm_is_empty() {
         let (key, value) = take_last(&mut other);

@@ -1,8 +1,9 @@
 //! A merge that puts the pairs in one by one, each by one search.
-ghost use Rattle.std.specs.Prelude.{◌≡◌, ◌+◌, ◌<◌, ◌≤◌, ◌++◌, [], length, option_map};
+ghost use Rattle.std.specs.Prelude.{◌≡◌, ◌+◌, ◌<◌, ◌≤◌, ◌++◌, [], length, OnErr, option_map};
 ghost use Rattle.std.specs.List.{cons_option};
 ghost use Rattle.litemap_store.specs.{Merges, RisesByAtMost, Rising, at, digits, put, searches_cost};
 
+use crate::growth::{reserve, with_capacity};
 use crate::reserved::{push_reserved, unless_empty};
 use crate::searches::search;
 use crate::store::{Count, NoRoom, Store, StoreIntoIterator, StoreMut};
@@ -22,13 +23,15 @@ pub fn merge_one_by_one<K: Ord + Drop, V: Drop, S: StoreIntoIterator<K, V> + Dro
     requires other { Rising K.cmp (S.pairs other) }
     ensures merges { Merges K.cmp S.pairs other store.old store.new result }
     ensures cost { RisesByAtMost (searches_cost (S.pairs store.old) (S.pairs other)) count.old count.new }
+    ensures refusal { OnErr result (count.old.refusals < count.new.refusals) }
 {
     let len = other.lm_len();
-    let Ok(()) = store.lm_reserve(len) else {
-        return Err(NoRoom { back: other });
-    };
-    let Ok(mut rest) = S::lm_with_capacity(alloc, len) else {
-        return Err(NoRoom { back: other });
+    if let Err(refused) = reserve(store, len) {
+        return Err(count.refuse(refused, NoRoom { back: other }));
+    }
+    let mut rest = match with_capacity(alloc, len) {
+        Ok(rest) => rest,
+        Err(refused) => return Err(count.refuse(refused, NoRoom { back: other })),
     };
     for (key, value) in other.lm_into_iter() {
         put_in(store, key, value, &mut rest, count);

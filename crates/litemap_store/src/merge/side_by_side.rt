@@ -1,8 +1,9 @@
 //! A merge that walks both stores once, side by side.
-ghost use Rattle.std.specs.Prelude.{◌≡◌, ◌+◌, ◌<◌, ◌≤◌, [], ◌∷◌, length, slice_get, Some, option_map};
+ghost use Rattle.std.specs.Prelude.{◌≡◌, ◌+◌, ◌<◌, ◌≤◌, [], ◌∷◌, length, slice_get, OnErr, Some, option_map};
 ghost use Rattle.std.specs.Map.Iter.{deref_pair};
 ghost use Rattle.litemap_store.specs.{ComparesFirsts, IsTakenFirst, Merges, RisesByAtMost, Rising};
 
+use crate::growth::with_capacity;
 use crate::into_iter::PairIntoIter;
 use crate::reserved::{push_reserved, unless_empty};
 use crate::store::{Count, NoRoom, Store, StoreIntoIterator, StoreMut};
@@ -27,12 +28,15 @@ pub fn merge_side_by_side<K: Ord + Drop, V: Drop, S: StoreIntoIterator<K, V> + D
     requires total { total ≡ length (S.pairs store.old) + length (S.pairs other) }
     ensures merges { Merges K.cmp S.pairs other store.old store.new result }
     ensures cost { RisesByAtMost total count.old count.new }
+    ensures refusal { OnErr result (count.old.refusals < count.new.refusals) }
 {
-    let Ok(fresh) = S::lm_with_capacity(alloc, total) else {
-        return Err(NoRoom { back: other });
+    let fresh = match with_capacity(alloc, total) {
+        Ok(fresh) => fresh,
+        Err(refused) => return Err(count.refuse(refused, NoRoom { back: other })),
     };
-    let Ok(mut rest) = S::lm_with_capacity(alloc, other.lm_len()) else {
-        return Err(NoRoom { back: other });
+    let mut rest = match with_capacity(alloc, other.lm_len()) {
+        Ok(rest) => rest,
+        Err(refused) => return Err(count.refuse(refused, NoRoom { back: other })),
     };
     let mut olds = Peekable::new(mem::replace(store, fresh).lm_into_iter());
     let mut news = Peekable::new(other.lm_into_iter());

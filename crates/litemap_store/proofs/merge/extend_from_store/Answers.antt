@@ -1,4 +1,4 @@
-use Rattle.litemap_store.proofs.Names.{[], ℕ, ◌++◌, ◌<◌, ◌==◌, ◌∙◌, ◌≡◌, ◌≤◌, ◌⊎◌, append-nil, arith, Bool, eqb-true, false, inl, inr, IsOk, IsTotalOrder, IsTrue, length, List, nil_from_length, None, Ok, Option, Ordering, refl, Result, Rises, Rising, rules, sym, true≢false}
+use Rattle.litemap_store.proofs.Names.{[], ℕ, ◌++◌, ◌<◌, ◌==◌, ◌∙◌, ◌≡◌, ◌≤◌, ◌⊎◌, ap, append-nil, arith, Bool, eqb-true, false, inl, inr, IsOk, IsTotalOrder, IsTrue, length, List, nil_from_length, None, Ok, Option, Ordering, refl, Result, Rises, Rising, rules, sym, true≢false}
 use Rattle.litemap_store.specs.{Merges, MergesInto}
 use Rattle.litemap_store.specs.declared.no_room.NoRoom.{NoRoom}
 use Rattle.litemap_store.proofs.Lists.Joined.{not_above}
@@ -43,28 +43,23 @@ returns-then-lm_is_empty-2-clause-merged g c =
 
 pub returns-then-lies_below-clause-merged : goal.returns-then-lies_below-clause-merged
 returns-then-lies_below-clause-merged g c =
+    let all : g.S.Store.pairs c.lm_extend_end.new.self ≡ g.S.Store.pairs c.args.store.now ++ g.S.Store.pairs c.args.other = search rules in
     of_both g.K.Ord.cmp g.met.K.Ord.total g.S.Store.pairs g.S.Store.room c.args.other c.args.store.now _ (filled _ _ c.lm_is_empty.ensures c.if-lm_is_empty.false) (filled _ _ c.lm_is_empty-2.ensures c.if-lm_is_empty-2.false) (Ok None)
-    (joined g.K.Ord.cmp g.met.K.Ord.total g.S.Store.pairs g.S.Store.room c.args.other c.args.store.now _ c.requires.store c.requires.other (c.lies_below.ensures.below.0 c.if-lies_below.true) c.in_ok-lm_extend_end.ensures.ok)
+    (joined g.K.Ord.cmp g.met.K.Ord.total g.S.Store.pairs g.S.Store.room c.args.other c.args.store.now _ c.requires.store c.requires.other (c.lies_below.ensures.below.0 c.if-lies_below.true) all)
     (λ h r. refl) (λ h r s. refl)
 
-pub returns-in_err-lm_extend_end-clause-merged : goal.returns-in_err-lm_extend_end-clause-merged
-returns-in_err-lm_extend_end-clause-merged g c =
-    let full = c.in_err-lm_extend_end.ensures.full in
-    of_both g.K.Ord.cmp g.met.K.Ord.total g.S.Store.pairs g.S.Store.room c.args.other c.args.store.now _ (filled _ _ c.lm_is_empty.ensures c.if-lm_is_empty.false) (filled _ _ c.lm_is_empty-2.ensures c.if-lm_is_empty-2.false) _
-    (record { merged = search rules; none = search rules; left = search rules; refused = search rules; back = search rules }) (λ h r. absurd (omega arith)) (λ h r s. absurd (omega arith))
-
-pub returns-then-lies_below-2-clause-merged : goal.returns-then-lies_below-2-clause-merged
-returns-then-lies_below-2-clause-merged g c =
+pub returns-in-Ok-clause-merged : goal.returns-in-Ok-clause-merged
+returns-in-Ok-clause-merged g c =
     let up = c.lies_below-2.ensures.below.0 c.if-lies_below-2.true in
     of_both g.K.Ord.cmp g.met.K.Ord.total g.S.Store.pairs g.S.Store.room c.args.other c.args.store.now _ (filled _ _ c.lm_is_empty.ensures c.if-lm_is_empty.false) (filled _ _ c.lm_is_empty-2.ensures c.if-lm_is_empty-2.false) (Ok None)
-    (record { merged = rw c.in_ok-lm_extend_start.ensures.ok (Merge-before g.K.Ord.cmp g.met.K.Ord.total _ _ c.requires.store c.requires.other up); none = (λ _. left-before g.K.Ord.cmp g.met.K.Ord.total _ _ c.requires.store c.requires.other up, λ _. refl); left = tt; refused = tt; back = tt })
+    (record { merged = rw c.in-Ok.ensures.ok (Merge-before g.K.Ord.cmp g.met.K.Ord.total _ _ c.requires.store c.requires.other up); none = (λ _. left-before g.K.Ord.cmp g.met.K.Ord.total _ _ c.requires.store c.requires.other up, λ _. refl); left = tt; refused = tt; back = tt })
     (λ h r. refl) (λ h r s. refl)
 
-pub returns-in_err-lm_extend_start-clause-merged : goal.returns-in_err-lm_extend_start-clause-merged
-returns-in_err-lm_extend_start-clause-merged g c =
+pub returns-in-Err-extend_start-clause-merged : goal.returns-in-Err-extend_start-clause-merged
+returns-in-Err-extend_start-clause-merged g c =
     of_both g.K.Ord.cmp g.met.K.Ord.total g.S.Store.pairs g.S.Store.room c.args.other c.args.store.now _ (filled _ _ c.lm_is_empty.ensures c.if-lm_is_empty.false) (filled _ _ c.lm_is_empty-2.ensures c.if-lm_is_empty-2.false) _
-    (record { merged = search rules; none = search rules; left = search rules; refused = search rules; back = search rules })
-    (λ h r. absurd (not_above g.K.Ord.cmp _ _ _ c.requires.store c.lies_below.ensures.below.1 c.if-lies_below.false h)) (λ h r s. absurd (there_is_room r s c.in_err-lm_extend_start.ensures.full))
+    (record { merged = search rules; none = search rules; left = search rules; refused = search rules; back = ap (λ e. g.S.Store.pairs e.back) c.refuse-in-Err-extend_start.ensures.error ∙ c.in-Err-extend_start.ensures.back })
+    (λ h r. absurd (not_above g.K.Ord.cmp _ _ _ c.requires.store c.lies_below.ensures.below.1 c.if-lies_below.false h)) (λ h r s. absurd (there_is_room r s c.in-Err-extend_start.ensures.full))
 
 pub returns-clause-merged : goal.returns-clause-merged
 returns-clause-merged g c =

@@ -40,7 +40,7 @@ loop-left-preserved g c =
       seen = λ ord sh. let old = inv.seen ord sh in let n = next g.F.FnMut list ord _ _ m _ key value _ _ d old.0 e called in
           (n.1, rw (is_hit, is_low, is_left) (Seen-next ord list old.0.ascends small c.loop-left.hit low left key value order (omega arith) e old.1 n.0));
       same = c.ask-order.ensures.same ∙ inv.same;
-      not_lowered = omega arith;
+      not_lowered = (omega arith, omega (arith, c.ask-order.ensures.refusals));
       cost = omega arith;
     }
 

@@ -10,7 +10,7 @@ invariant-loop-left g l = let list = g.S.Keys.pairs l.keys in record {
   seen : (ord : g.row.K.Denot → Ordering) → Shape g.F.FnMut list ord (digits (length list)) l.fn.f
       → Shape g.F.FnMut list ord (digits l.left) l.f × Seen ord list l.hit l.low l.left;
   same : l.count.name ≡ l.fn.count.name;
-  not_lowered : l.fn.count.total ≤ l.count.total;
+  not_lowered : (l.fn.count.total ≤ l.count.total) × (l.fn.count.refusals ≤ l.count.refusals);
   cost : l.count.total + digits l.left ≤ l.fn.count.total + digits (length list);
 }
 

@@ -30,9 +30,9 @@ returns-in_err-sort_by-clause-refused g c =
     let D = c.deref_mut.result.now in
     let A = take c.args.from D in
     let front : length A ≡ c.args.from = grind (arith, common_steps) in
-    let whole : c.args.from + length c.sort_by.new.self ≡ c.args.pairs.now.len = grind (arith, common_steps) in
-    let same : c.sort_by.new.self ≡ drop c.args.from D = c.in_err-sort_by.ensures.err ∙ take_all (length D - c.args.from) (drop c.args.from D) (grind (arith, length-drop)) in
-    always_on_err _ (take-written_tail A c.sort_by.new.self _ _ c.args.from c.args.pairs.now.len front whole ∙ ap (λ S. A ++ S) same ∙ take-append-drop c.args.from D ∙ c.deref_mut.ensures.value)
+    let whole : c.args.from + length c.sort_by.new.items ≡ c.args.pairs.now.len = grind (arith, common_steps) in
+    let same : c.sort_by.new.items ≡ drop c.args.from D = c.in_err-sort_by.ensures.err ∙ take_all (length D - c.args.from) (drop c.args.from D) (grind (arith, length-drop)) in
+    always_on_err _ (take-written_tail A c.sort_by.new.items _ _ c.args.from c.args.pairs.now.len front whole ∙ ap (λ S. A ++ S) same ∙ take-append-drop c.args.from D ∙ c.deref_mut.ensures.value)
 
 pub returns-clause-before : goal.returns-clause-before
 returns-clause-before g c =
@@ -53,4 +53,4 @@ sort_by-requires g c = search of_calls parts 8
 pub returns-in_err-sort_by-clause-before : goal.returns-in_err-sort_by-clause-before
 returns-in_err-sort_by-clause-before g c =
     let A = take c.args.from c.deref_mut.result.now in
-    rw (take-written_tail A c.sort_by.new.self _ _ c.args.from c.args.pairs.now.len (grind (arith, common_steps)) (grind (arith, common_steps)), take_at A c.sort_by.new.self c.args.from (grind (arith, common_steps))) (ap (take c.args.from) c.deref_mut.ensures.value)
+    rw (take-written_tail A c.sort_by.new.items _ _ c.args.from c.args.pairs.now.len (grind (arith, common_steps)) (grind (arith, common_steps)), take_at A c.sort_by.new.items c.args.from (grind (arith, common_steps))) (ap (take c.args.from) c.deref_mut.ensures.value)

@@ -17,18 +17,18 @@ returns-in_err-name-clause-error c =
 
 pub loop-low-preserved-in-Less : goal.loop-low-preserved-in-Less
 loop-low-preserved-in-Less c =
-    halved_less _ _ _ c.loop-low.invariant (omega arith) (λ x. key_is _ _ c.requires x.0 x.1 _ _ (omega arith) c.in_ok-name.ensures.key) c.cmp.ensures.same c.cmp.ensures.counted (sym c.cmp.ensures.answer ∙ c.in-Less.is)
+    halved_less _ _ _ c.loop-low.invariant (omega arith) (λ x. key_is _ _ c.requires x.0 x.1 _ _ (omega arith) c.in_ok-name.ensures.key) c.cmp.ensures.same c.cmp.ensures.counted c.cmp.ensures.refusals (sym c.cmp.ensures.answer ∙ c.in-Less.is)
 
 pub returns-in-Equal-clause-splits : goal.returns-in-Equal-clause-splits
 returns-in-Equal-clause-splits c = λ pairs x. Splits-from_Finds one_side pairs c.args.key.now x.rises (Ok (c.loop-low.low + (c.loop-low.high - c.loop-low.low) / 2))
-    (halved_equal _ _ _ c.loop-low.invariant (omega arith) (λ x. key_is _ _ c.requires x.0 x.1 _ _ (omega arith) c.in_ok-name.ensures.key) c.cmp.ensures.same c.cmp.ensures.counted (sym c.cmp.ensures.answer ∙ c.in-Equal.is) (pairs, x))
+    (halved_equal _ _ _ c.loop-low.invariant (omega arith) (λ x. key_is _ _ c.requires x.0 x.1 _ _ (omega arith) c.in_ok-name.ensures.key) c.cmp.ensures.same c.cmp.ensures.counted c.cmp.ensures.refusals (sym c.cmp.ensures.answer ∙ c.in-Equal.is) (pairs, x))
 
 pub returns-in-Equal-clause-cost : goal.returns-in-Equal-clause-cost
-returns-in-Equal-clause-cost c = halved_asked _ _ _ c.loop-low.invariant (omega arith) (λ x. key_is _ _ c.requires x.0 x.1 _ _ (omega arith) c.in_ok-name.ensures.key) c.cmp.ensures.same c.cmp.ensures.counted
+returns-in-Equal-clause-cost c = halved_asked _ _ _ c.loop-low.invariant (omega arith) (λ x. key_is _ _ c.requires x.0 x.1 _ _ (omega arith) c.in_ok-name.ensures.key) c.cmp.ensures.same c.cmp.ensures.counted c.cmp.ensures.refusals
 
 pub loop-low-preserved : goal.loop-low-preserved
 loop-low-preserved c =
-    halved_greater _ _ _ c.loop-low.invariant (omega arith) (λ x. key_is _ _ c.requires x.0 x.1 _ _ (omega arith) c.in_ok-name.ensures.key) c.cmp.ensures.same c.cmp.ensures.counted (sym c.cmp.ensures.answer ∙ c.in-Greater.is)
+    halved_greater _ _ _ c.loop-low.invariant (omega arith) (λ x. key_is _ _ c.requires x.0 x.1 _ _ (omega arith) c.in_ok-name.ensures.key) c.cmp.ensures.same c.cmp.ensures.counted c.cmp.ensures.refusals (sym c.cmp.ensures.answer ∙ c.in-Greater.is)
 
 pub returns-clause-splits : goal.returns-clause-splits
 returns-clause-splits c = λ pairs x. Splits-from_Finds one_side pairs c.args.key.now x.rises (Err c.loop-low.low) (halved_end _ _ c.loop-low.invariant (omega arith) (pairs, x))

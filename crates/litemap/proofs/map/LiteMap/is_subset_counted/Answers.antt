@@ -15,6 +15,6 @@ loop-key-preserved g c =
       rest_rises = subst (Rising cmp) (sym passed.0) (Rising-filter cmp _ c.loop-key.rest inv.rest_rises);
       keys_ascend = rises.1;
       all = list_all-past g.met.K.Ord.total _ _ _ _ _ _ passed.0 (sym passed.1 ∙ c.if-not-skip_to.false) first rises.0 ∙ inv.all;
-      counted = (counted.0 ∙ inv.counted.0, omega arith);
+      counted = (counted.0 ∙ inv.counted.0, omega arith, omega arith);
       cost = omega arith;
     }

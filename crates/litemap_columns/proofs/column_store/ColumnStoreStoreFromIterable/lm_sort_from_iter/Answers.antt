@@ -4,7 +4,6 @@ use Rattle.std.specs.Vec.Iter.{into_iter_items}
 use Rattle.std.specs.declared.cmp.Ordering.{Ordering}
 use Rattle.litemap_store.specs.Last.{Last}
 use Rattle.litemap_store.proofs.Last.FirstGiven.{GivesSome-from_some}
-use Rattle.litemap_store.proofs.Stores.Counting.{always_on_err}
 use Rattle.litemap_columns.proofs.Columns.{same_length, zip-append}
 use Rattle.litemap_columns.proofs.column_store.ColumnStoreStoreFromIterable.lm_sort_from_iter.Goals as goal
 
@@ -14,12 +13,11 @@ some_given cmp [] [] last some = absurd (some (omega arith))
 some_given cmp [] (p ∷ pairs) last some = absurd ((last.exactly p).0 (inl refl))
 some_given cmp (x ∷ given) pairs last some = omega arith
 
-pub returns-in_err-keys-clause-refused_some : goal.returns-in_err-keys-clause-refused_some
-returns-in_err-keys-clause-refused_some g c _ =
+pub returns-in-Err-clause-refused_some : goal.returns-in-Err-clause-refused_some
+returns-in-Err-clause-refused_some g c _ =
     let extended = c.in_ok-pairs.ensures.made in
-    let refused : length c.in_ok-pairs.pairs.items ≤ 0 → ⊥ = λ none. cc (c.in_err-keys.ensures.succeeds (omega (arith, none, c.len.ensures, c.in_ok-pairs.pairs.ok.0))) in
-    always_on_err c.from_residual-in_err-keys.result
-    (GivesSome-from_some g.I.IntoIterator.into_iter_gives g.I.IntoIter.Iterator.next_gives c.args.iter extended.given extended.gives (some_given g.K.Ord.cmp extended.given _ extended.last refused))
+    let refused : length c.in_ok-pairs.pairs.items ≤ 0 → ⊥ = λ none. cc (c.in-Err.ensures.succeeds (omega (arith, none, c.len.ensures, c.in_ok-pairs.pairs.ok.0))) in
+    GivesSome-from_some g.I.IntoIterator.into_iter_gives g.I.IntoIter.Iterator.next_gives c.args.iter extended.given extended.gives (some_given g.K.Ord.cmp extended.given _ extended.last refused)
 
 pub loop-key-preserved : goal.loop-key-preserved
 loop-key-preserved g c =

@@ -18,7 +18,7 @@ loop-end-preserved g c =
       room = let k = old.room in omega arith;
       fits = let k = old.fits in let a = c.push_reserved.ensures.len in let b = c.push_reserved.ensures.capacity in omega arith;
       same = c.in-Some.ensures.cost.same ∙ old.same;
-      not_lowered = let k = old.not_lowered in let a = c.in-Some.ensures.cost.not_lowered in omega arith;
+      not_lowered = let k = old.not_lowered in let a = c.in-Some.ensures.cost.not_lowered in (omega arith, omega arith);
       most = let k = old.most in let a = c.in-Some.ensures.cost.most in omega arith;
     }
 

@@ -9,7 +9,7 @@ invariant-loop-end g l = record {
   room : length l.side.items + (length (g.S.Store.pairs l.store) + length l.pairs.items) ≤ length (g.S.Store.pairs l.fn.store) + length l.fn.pairs.items;
   fits : vec_len l.side + (length (g.S.Store.pairs l.store) + length l.pairs.items) ≤ vec_capacity l.side;
   same : l.count.name ≡ l.fn.count.name;
-  not_lowered : l.fn.count.total ≤ l.count.total;
+  not_lowered : (l.fn.count.total ≤ l.count.total) × (l.fn.count.refusals ≤ l.count.refusals);
   most : l.count.total + (length (g.S.Store.pairs l.store) + length l.pairs.items) ≤ l.fn.count.total + (length (g.S.Store.pairs l.fn.store) + length l.fn.pairs.items);
 }
 

@@ -39,7 +39,7 @@ loop-other-preserved g c =
       displaced_len = let k = was.displaced_len in omega arith;
       fewer = let k = was.fewer in omega arith;
       same = step.cost.same ∙ was.same;
-      not_lowered = let k = was.not_lowered in let n = step.cost.not_lowered in omega arith;
+      not_lowered = let k = was.not_lowered in let n = step.cost.not_lowered in (omega arith, omega arith);
       most = let k = was.most in let n = step.cost.most in omega arith;
     }
 

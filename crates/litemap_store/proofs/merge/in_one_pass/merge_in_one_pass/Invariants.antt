@@ -13,7 +13,7 @@ invariant-loop-other g l = record {
   displaced_len : length l.displaced.items + length (g.S.Store.pairs l.other) ≤ length (g.S.Store.pairs l.fn.other);
   fewer : length (g.S.Store.pairs l.store) ≤ length (g.S.Store.pairs l.fn.store);
   same : l.count.name ≡ l.fn.count.name;
-  not_lowered : l.fn.count.total ≤ l.count.total;
+  not_lowered : (l.fn.count.total ≤ l.count.total) × (l.fn.count.refusals ≤ l.count.refusals);
   most : l.count.total + length (g.S.Store.pairs l.other) * digits (length (g.S.Store.pairs l.fn.store) + length (g.S.Store.pairs l.fn.other)) ≤ l.fn.count.total + length (g.S.Store.pairs l.fn.other) * digits (length (g.S.Store.pairs l.fn.store) + length (g.S.Store.pairs l.fn.other));
 }
 

@@ -1,22 +1,15 @@
-use Rattle.litemap_store.proofs.Names.{◌∙◌, ◌∷◌, ◌≡◌, ap, arith, length, refl, rules, suc}
-use Rattle.litemap_store.proofs.Stores.Counting.{at_most, not_asked}
+use Rattle.litemap_store.proofs.Names.{◌∙◌, ◌∷◌, ◌≡◌, ap, arith, length, rules, suc}
 use Rattle.litemap_store.proofs.Merging.Steps.{MergedUpTo-all, MergedUpTo-more, MergedUpTo-none}
 use Rattle.litemap_store.proofs.merge.one_by_one.merge_one_by_one.Goals as goal
-
-pub returns-in_default : goal.returns-in_default
-returns-in_default g c = record { merges = record { merged = tt; none = tt; left = tt; refused = c.lm_reserve.ensures.pairs; back = refl }; cost = at_most 0 _ (omega arith) (not_asked _) }
-
-pub returns-in_default-lm_with_capacity : goal.returns-in_default-lm_with_capacity
-returns-in_default-lm_with_capacity g c = record { merges = record { merged = tt; none = tt; left = tt; refused = c.lm_reserve.ensures.pairs; back = refl }; cost = at_most 0 _ (omega arith) (not_asked _) }
 
 pub loop-key-init : goal.loop-key-init
 loop-key-init g c =
     let all = ap g.S.KeyValueIntoIter.PairIntoIter.owned c.into_iter-key-iterator.ensures.into_iter_gives ∙ c.lm_into_iter-key-items.ensures in record {
       can = g.met.S.KeyValueIntoIter.PairIntoIter.can _;
       ends = search rules;
-      so_far = rw c.lm_reserve.ensures.pairs (MergedUpTo-none g.K.Ord.cmp g.met.K.Ord.total _ _ _ _ _ c.requires.store all c.in-Ok-lm_with_capacity.ensures.empty);
-      room = rw all (omega (arith, c.lm_len-len.ensures, c.in-Ok.ensures.room));
-      rest_room = rw all (omega (arith, c.lm_len-len.ensures, c.in-Ok-lm_with_capacity.ensures.room));
+      so_far = rw c.reserve.ensures.pairs (MergedUpTo-none g.K.Ord.cmp g.met.K.Ord.total _ _ _ _ _ c.requires.store all c.in-Ok.ensures.empty);
+      room = rw all (omega (arith, c.lm_len-len.ensures, c.in_default.ensures.room));
+      rest_room = rw all (omega (arith, c.lm_len-len.ensures, c.in-Ok.ensures.room));
     }
 
 pub loop-key-preserved : goal.loop-key-preserved
@@ -47,4 +40,5 @@ returns g c =
     record {
       merges = record { merged = all.0; none = rw all.1.0 at c.unless_empty.ensures.none; left = rw all.1.0 at c.unless_empty.ensures.some; refused = tt; back = tt };
       cost = all.1.1;
+      refusal = tt;
     }

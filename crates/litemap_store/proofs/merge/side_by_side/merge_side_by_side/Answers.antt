@@ -18,13 +18,13 @@ loop-order-preserved g c =
       room = let k = was.room in let r = c.push_reserved.ensures.room in omega arith;
       rest_room = c.take_lower-key.ensures.room;
       same = c.in-Some.ensures.cost.same ∙ was.same;
-      not_lowered = let k = was.not_lowered in let a = c.in-Some.ensures.cost.not_lowered in omega arith;
+      not_lowered = let k = was.not_lowered in let a = c.in-Some.ensures.cost.not_lowered in (omega arith, omega arith);
       most = let k = was.most in let a = c.in-Some.ensures.cost.most in omega arith;
     }
 
 pub returns-clause-merges : goal.returns-clause-merges
 returns-clause-merges g c =
-    let end = c.in_default-compare_firsts.ensures.lower in
+    let end = c.in_default.ensures.lower in
     let olds : c.new-olds.result ≡ g.S.Store.pairs c.args.store.now = c.new-olds.ensures ∙ c.lm_into_iter.ensures ∙ ap g.S.Store.pairs c.replace.ensures.value in
     let news : c.new-news.result ≡ g.S.Store.pairs c.args.other = c.new-news.ensures ∙ c.lm_into_iter-2.ensures in
     let kept : Merge g.K.Ord.cmp c.loop-order.olds c.loop-order.news [] = rw (end.0, end.1) (Merge-none g.K.Ord.cmp [] tt) in

@@ -10,7 +10,7 @@ invariant-loop-order g l = record {
   room : length l.olds + length l.news ≤ g.S.Store.room l.store;
   rest_room : length l.news ≤ g.S.Store.room l.rest;
   same : l.count.name ≡ l.fn.count.name;
-  not_lowered : l.fn.count.total ≤ l.count.total;
+  not_lowered : (l.fn.count.total ≤ l.count.total) × (l.fn.count.refusals ≤ l.count.refusals);
   most : l.count.total + (length l.olds + length l.news) ≤ l.fn.count.total + (length l.initial.olds + length l.initial.news);
 }
 
