@@ -45,7 +45,6 @@ impl<K: Ord, S: StoreMut<K, usize> + StoreConstEmpty<K, usize>> Bag<K, S> {
 
 impl<K: Ord + Drop, S: StoreMut<K, usize>> Bag<K, S> {
     /// Returns how often an element is there, if it is there.
-    #[tactic(auto, using(litemap_store::proofs::Callers::Every::every_pair))]
     pub fn get(&self, element: &K) -> Option<usize>
         ensures value { result ≡ value_at K.cmp self.now element.now }
         ensures not_0 { IfSome result (λ n. 0 < n) }
@@ -54,7 +53,6 @@ impl<K: Ord + Drop, S: StoreMut<K, usize>> Bag<K, S> {
     }
 
     /// Adds an element once more.
-    #[tactic(auto, using(litemap_store::proofs::Callers::Every::every_pair))]
     pub fn add(&mut self, element: K) -> Result<(), BagError>
         ensures added { OnOk result (self.new
             ≡ put K.cmp self.old element (unwrap_or (value_at K.cmp self.old element) 0 + 1)) }
@@ -72,7 +70,6 @@ impl<K: Ord + Drop, S: StoreMut<K, usize>> Bag<K, S> {
     }
 
     /// Takes an element out once, and returns whether it was there.
-    #[tactic(auto, using(litemap_store::proofs::Callers::Every::every_pair))]
     pub fn remove(&mut self, element: &K) -> bool
         ensures there { result ≡ is_some (at K.cmp self.old element.now) }
         ensures fewer { (n : _) → value_at K.cmp self.old element.now ≡ Some (n + 2)
@@ -93,7 +90,6 @@ impl<K: Ord + Drop, S: StoreMut<K, usize>> Bag<K, S> {
 
 impl<K: Ord + Drop, S: StoreBulkMut<K, usize>> Bag<K, S> {
     /// Keeps the elements that are there at least so often.
-    #[tactic(auto, using(litemap_store::proofs::Callers::Every::every_pair))]
     pub fn keep(&mut self, least: usize)
         ensures { self.new ≡ filter (λ p. nat_le least p.1) self.old }
     {

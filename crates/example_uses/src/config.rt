@@ -36,7 +36,6 @@ pub fn configured(
 }
 
 /// Puts more settings over those that are there, or leaves all as they are if memory runs out.
-#[tactic(auto, using(litemap::proofs::Lists::string_lists))]
 pub fn override_with(
     settings: &mut Settings,
     alloc: Global,
@@ -54,7 +53,6 @@ pub fn override_with(
 
 /// Puts a user's settings over those that are there, and returns what they displace: of each name that both have, the old
 /// value. If memory runs out, both are as they were, and the user's come back.
-#[tactic(auto, using(litemap::proofs::Texts::text_keys))]
 pub fn overlay(
     settings: &mut Settings,
     alloc: Global,

@@ -10,7 +10,6 @@ use litemap::{LiteMap, VecMap};
 use std::alloc::{AllocError, Global};
 
 /// Counts a word once more. All others stay.
-#[tactic(auto, using(litemap_store::proofs::Callers::Tallies::number_at_raised))]
 pub fn count_word<K: Ord + Drop, S: StoreMut<K, usize>>(
     counts: &mut LiteMap<K, usize, S>,
     word: K,
@@ -57,7 +56,7 @@ pub fn count_words<K: Ord + Copy>(
 /// How often each name came.
 pub type Names = VecMap<String, u32>;
 
-/// Counts a name once more. All others stay.
+/// Counts a name once more. All others stay. With all lemmas of the root's set the search reaches its limit here.
 #[tactic(auto, using(litemap::proofs::Texts::text_entries))]
 pub fn count_name(names: &mut Names, name: String) -> Result<(), AllocError>
     requires { unwrap_or (value_at by_string names.old.pairs (string_bytes name)) 0 < u32.MAX }

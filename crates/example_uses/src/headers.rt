@@ -1,5 +1,5 @@
 //! A header list: values by their names, in the order of the names' bytes. Its strings are its own, or are borrowed from a
-//! message or from the program. What lookups find after a change follows from the lemmas that the attributes name.
+//! message or from the program.
 ghost use Rattle.std.specs.Prelude.{◌≡◌, ◌≢◌, None, Some, IfOk, OnOk, OnErr, string_bytes};
 ghost use Rattle.litemap_store.specs.Pairs.{value_at};
 ghost use Rattle.litemap_store.specs.Queries.{by_string};
@@ -13,7 +13,6 @@ use std::alloc::{AllocError, Global};
 pub type Headers = LiteMap<String, String, Vec<(String, String)>>;
 
 /// Sets a header, and returns the value before. All others stay.
-#[tactic(auto, using(litemap::proofs::Texts::text_keys))]
 pub fn set(headers: &mut Headers, name: String, value: String) -> Result<Option<String>, AllocError>
     ensures old { IfOk result (λ old. old ≡ value_at by_string headers.old.pairs (string_bytes name)) }
     ensures set { OnOk result (value_at by_string headers.new.pairs (string_bytes name) ≡ Some value) }
@@ -25,7 +24,6 @@ pub fn set(headers: &mut Headers, name: String, value: String) -> Result<Option<
 }
 
 /// Removes a header. All others stay.
-#[tactic(auto, using(litemap::proofs::Texts::text_keys))]
 pub fn remove(headers: &mut Headers, name: &str) -> Option<String>
     ensures value { result ≡ value_at by_string headers.old.pairs name.now }
     ensures gone { value_at by_string headers.new.pairs name.now ≡ None }
@@ -36,7 +34,6 @@ pub fn remove(headers: &mut Headers, name: &str) -> Option<String>
 }
 
 /// A copy of the headers, with strings of its own that have the same bytes.
-#[tactic(auto, using(litemap::proofs::Texts::text_clones))]
 pub fn copy_of(alloc: Global, headers: &Headers) -> Result<Headers, AllocError>
     ensures { IfOk result (λ copy. PairsBecame
         (λ text clone. string_bytes clone ≡ string_bytes text) (λ text clone. string_bytes clone ≡ string_bytes text)
@@ -49,7 +46,6 @@ pub fn copy_of(alloc: Global, headers: &Headers) -> Result<Headers, AllocError>
 pub type Borrowed<'k> = LiteMap<&'k str, &'k str, Vec<(&'k str, &'k str)>>;
 
 /// Sets a header whose strings are borrowed.
-#[tactic(auto, using(litemap::proofs::Texts::str_keys))]
 pub fn set_borrowed<'k>(
     headers: &mut Borrowed<'k>,
     name: &'k str,
@@ -63,7 +59,6 @@ pub fn set_borrowed<'k>(
 }
 
 /// Removes a header whose string is borrowed.
-#[tactic(auto, using(litemap::proofs::Texts::str_keys))]
 pub fn remove_borrowed<'k>(headers: &mut Borrowed<'k>, name: &'k str) -> Option<&'k str>
     ensures gone { value_at by_bytes headers.new.pairs name.entry ≡ None }
 {

@@ -1,6 +1,6 @@
 //! Callers of a map, as a user would write them. Each states what it returns by the sorted list. The program calls each but
 //! `sums::add` on a few pairs (`shown`), and writes what it returns.
-#![tactic(auto)]
+#![tactic(auto, using(litemap::proofs::All::lookups))]
 
 pub mod bag;
 pub mod calendar;

@@ -29,7 +29,6 @@ pub fn route(path: &str) -> Option<u8>
 }
 
 /// The number at a path in a sorted table, which a contract sees as the bytes of its paths, with their numbers.
-#[tactic(auto, using(litemap::proofs::Tables::by_keys))]
 pub fn number_by_bytes(table: &[(&str, u8)], path: &str) -> Option<u8>
     requires { Rising by_bytes table.now }
     ensures { result ≡ value_at bytes_cmp (map (λ p. (p.0.now, p.1)) table.entry.now) path.entry.now }

@@ -1,5 +1,4 @@
-//! Numbers as keys, and keys of a caller's own. What lookups find after a change follows from the lemmas that the attributes
-//! name, or from the laws that a function calls.
+//! Numbers as keys, and keys of a caller's own. What lookups find after a change, the calls themselves say.
 ghost use Rattle.std.specs.Prelude.{◌≡◌, ◌≢◌, ◌+◌, ◌-◌, ◌<◌, ◌≤◌, None, Ok, Some, IfErr, IfSome, IsTrue, OnErr, OnOk};
 ghost use Rattle.std.specs.Prelude.{is_some, length, option_map, slice_get};
 ghost use Rattle.std.specs.IoError.{error_kind};
@@ -13,7 +12,6 @@ ghost use Rattle.litemap.specs.Within.{within};
 
 use litemap::LiteMap;
 use litemap::store::StoreMut;
-use litemap_store::laws::{after_cut, after_put, after_write};
 use std::alloc::AllocError;
 use std::io;
 use std::ops::Bound;
@@ -26,7 +24,6 @@ pub type Readings = LiteMap<i64, u8, Vec<(i64, u8)>>;
 
 /// Sets an age, which is then found, at the index where it belongs. All others stay. Its error is an `io::Error`, as
 /// that of a function which reads input, too.
-#[tactic(auto, using(litemap::proofs::Numbers::number_keys))]
 pub fn set_age(ages: &mut Ages, id: u32, age: u8) -> io::Result<()>
     ensures there { OnOk result (value_at nat_cmp ages.new.pairs id ≡ Some age) }
     ensures place { OnOk result (index_of nat_cmp ages.new.pairs id ≡ Ok (place nat_cmp ages.old.pairs id)) }
@@ -40,7 +37,6 @@ pub fn set_age(ages: &mut Ages, id: u32, age: u8) -> io::Result<()>
 }
 
 /// Forgets someone, and returns the age that was there. All others stay.
-#[tactic(auto, using(litemap::proofs::Numbers::number_keys))]
 pub fn forget(ages: &mut Ages, id: u32) -> Option<u8>
     ensures value { result ≡ value_at nat_cmp ages.old.pairs id }
     ensures gone { value_at nat_cmp ages.new.pairs id ≡ None }
@@ -51,7 +47,6 @@ pub fn forget(ages: &mut Ages, id: u32) -> Option<u8>
 }
 
 /// Writes an age if someone has the number. All others stay.
-#[tactic(auto, using(litemap::proofs::Numbers::number_keys))]
 pub fn correct(ages: &mut Ages, id: u32, age: u8) -> bool
     ensures there { result ≡ is_some (at nat_cmp ages.old.pairs id) }
     ensures set { IsTrue result → value_at nat_cmp ages.new.pairs id ≡ Some age }
@@ -68,7 +63,6 @@ pub fn correct(ages: &mut Ages, id: u32, age: u8) -> bool
 }
 
 /// Writes the age at an index. All others stay: those at other indices, and those of other numbers.
-#[tactic(auto, using(litemap::proofs::Numbers::number_keys))]
 pub fn correct_at(ages: &mut Ages, index: usize, age: u8)
     ensures places { (other : _) → other ≢ index → value_in ages.new.pairs other ≡ value_in ages.old.pairs other }
     ensures others { (other : _) → IfSome (slice_get ages.old.pairs index) (λ p. p.0 ≢ other)
@@ -109,7 +103,6 @@ pub fn ceiling(ages: &Ages, id: u32) -> Option<(&u32, &u8)>
 }
 
 /// Sets a reading, which is then found. All others stay.
-#[tactic(auto, using(litemap::proofs::Numbers::signed_keys))]
 pub fn set_reading(readings: &mut Readings, time: i64, level: u8) -> Result<(), AllocError>
     ensures there { OnOk result (value_at int_cmp readings.new.pairs time ≡ Some level) }
     ensures others { OnOk result ((other : _) → other ≢ time
@@ -131,13 +124,12 @@ pub struct Shelf {
 /// How many there are, by shelf.
 pub type Stock = LiteMap<Shelf, u32, Vec<(Shelf, u32)>>;
 
-/// Sets how many are on a shelf. All others stay. The call of the law stands for an attribute, for keys of any type.
+/// Sets how many are on a shelf. All others stay.
 pub fn set_stock(stock: &mut Stock, shelf: Shelf, count: u32) -> Result<(), AllocError>
     ensures there { OnOk result (value_at ⟦<Shelf as Ord>⟧.cmp stock.new.pairs shelf ≡ Some count) }
     ensures others { OnOk result ((other : _) → ⟦<Shelf as Ord>⟧.cmp other shelf ≢ Equal
         → value_at ⟦<Shelf as Ord>⟧.cmp stock.new.pairs other ≡ value_at ⟦<Shelf as Ord>⟧.cmp stock.old.pairs other) }
 {
-    after_put::<Shelf, u32>();
     stock.insert(shelf, count)?;
     Ok(())
 }
@@ -148,7 +140,6 @@ pub fn take<K: Ord + Drop, V, S: StoreMut<K, V>>(map: &mut LiteMap<K, V, S>, key
     ensures others { (other : _) → K.cmp other key.now ≢ Equal
         → value_at K.cmp map.new.pairs other ≡ value_at K.cmp map.old.pairs other }
 {
-    after_cut::<K, V>();
     map.remove(key)
 }
 
@@ -157,7 +148,6 @@ pub fn overwrite<K: Ord, V: Drop, S: StoreMut<K, V>>(map: &mut LiteMap<K, V, S>,
     ensures others { (other : _) → K.cmp other key.now ≢ Equal
         → value_at K.cmp map.new.pairs other ≡ value_at K.cmp map.old.pairs other }
 {
-    after_write::<K, V>();
     if let Some(slot) = map.get_mut(key) {
         *slot = value;
     }

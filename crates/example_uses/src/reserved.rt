@@ -26,7 +26,6 @@ pub fn insert_both<K: Ord + Drop, V: Drop, S: StoreMut<K, V>>(
 }
 
 /// Puts a pair in front of all others.
-#[tactic(auto, using(litemap_store::proofs::Callers::Every::put_ends))]
 pub fn insert_first<K: Ord + Drop, V: Drop, S: StoreMut<K, V>>(
     map: &mut LiteMap<K, V, S>,
     key: K,
@@ -40,7 +39,6 @@ pub fn insert_first<K: Ord + Drop, V: Drop, S: StoreMut<K, V>>(
 }
 
 /// Puts a pair past the first one, which stays.
-#[tactic(auto, using(litemap_store::proofs::Callers::Every::put_ends))]
 pub fn insert_later<K: Ord + Drop, V: Drop, S: StoreMut<K, V>>(
     map: &mut LiteMap<K, V, S>,
     key: K,

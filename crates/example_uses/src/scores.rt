@@ -12,7 +12,6 @@ use std::alloc::{AllocError, Global};
 pub type Scores = VecMap<String, u32>;
 
 /// Sets a score, which a lookup of the name then finds. An error leaves the map.
-#[tactic(auto, using(litemap::proofs::Texts::text_keys))]
 pub fn set(scores: &mut Scores, name: String, score: u32) -> Result<(), AllocError>
     ensures there { OnOk result (value_at by_string scores.new.pairs (string_bytes name) ≡ Some score) }
     ensures refused { OnErr result (scores.new.pairs ≡ scores.old.pairs) }

@@ -14,7 +14,6 @@ pub type Vector = VecMap<u32, u64>;
 
 /// Adds another vector. If memory runs out, the sum is as it was, and the other one comes back, with the sums at the indices that
 /// both have.
-#[tactic(auto, using(litemap::proofs::Numbers::number_keys))]
 pub fn add(sum: &mut Vector, alloc: Global, other: Vector) -> Result<(), NoRoom<Vector>>
     requires { (i : _) → number_at sum.old.pairs i + number_at other.pairs i ≤ u64.MAX }
     ensures added { OnOk result ((i : _) →
@@ -36,7 +35,6 @@ pub fn add(sum: &mut Vector, alloc: Global, other: Vector) -> Result<(), NoRoom<
 pub type Named = VecMap<String, u64>;
 
 /// Adds the numbers of other names. A sum that is too great becomes the greatest number.
-#[tactic(auto, using(litemap::proofs::Texts::text_combined))]
 pub fn add_capped(named: &mut Named, alloc: Global, other: Named) -> Result<(), AllocError>
     ensures added { OnOk result ((name : _) → value_at by_string named.new.pairs name
         ≡ found_with (λ _ here new. min (here + new) 18446744073709551615)

@@ -34,7 +34,6 @@ pub fn number_of_locale(map: &Numbers, tag: &str) -> Option<u32>
 }
 
 /// Removes a key that is a string of its own. All others stay.
-#[tactic(auto, using(litemap::proofs::Texts::string_keys))]
 pub fn take_key(map: &mut Numbers, key: &String) -> Option<u32>
     ensures gone { value_at string_cmp map.new.pairs key.now ≡ None }
     ensures others { (other : _) → string_cmp other key.now ≢ Equal
@@ -44,7 +43,6 @@ pub fn take_key(map: &mut Numbers, key: &String) -> Option<u32>
 }
 
 /// Sets the number at a key, by a copy of it. `set` speaks of strings, and this of keys.
-#[tactic(auto, using(litemap::proofs::Texts::key_is_text))]
 pub fn set_at_key(
     map: &mut Numbers,
     alloc: Global,
@@ -57,7 +55,6 @@ pub fn set_at_key(
 }
 
 /// Moves the number at a name to another name, and returns whether there was one. No memory is needed.
-#[tactic(auto, using(litemap::proofs::Texts::text_keys))]
 pub fn rename(map: &mut Numbers, old: &str, new: String) -> bool
     ensures there { result ≡ is_some (at by_string map.old.pairs old.now) }
     ensures moved { IsTrue result
@@ -71,21 +68,12 @@ pub fn rename(map: &mut Numbers, old: &str, new: String) -> bool
 }
 
 /// Writes the number at a name, if the name is there. All others stay.
-#[tactic(auto, using(litemap::proofs::Texts::text_keys))]
 pub fn set_number(map: &mut Numbers, name: &str, number: u32) -> bool
     ensures there { result ≡ is_some (at by_string map.old.pairs name.now) }
     ensures written { map.new.pairs ≡ write by_string map.old.pairs name.now number }
     ensures set { IsTrue result → value_at by_string map.new.pairs name.now ≡ Some number }
     ensures others { (other : _) → other ≢ name.now
         → value_at by_string map.new.pairs other ≡ value_at by_string map.old.pairs other }
-{
-    write_number(map, name, number)
-}
-
-// Writes the number at a name, if the name is there.
-fn write_number(map: &mut Numbers, name: &str, number: u32) -> bool
-    ensures there { result ≡ is_some (at by_string map.old.pairs name.now) }
-    ensures written { map.new.pairs ≡ write by_string map.old.pairs name.now number }
 {
     match map.get_mut(name) {
         Some(slot) => {
@@ -97,7 +85,6 @@ fn write_number(map: &mut Numbers, name: &str, number: u32) -> bool
 }
 
 /// Removes bytes. All others stay.
-#[tactic(auto, using(litemap::proofs::Texts::byte_keys))]
 pub fn take_bytes(map: &mut ByteNumbers, bytes: &[u8]) -> Option<u32>
     ensures value { result ≡ value_at (by_slice nat_cmp) map.old.pairs bytes.now }
     ensures cut { map.new.pairs ≡ cut (by_slice nat_cmp) map.old.pairs bytes.now }
@@ -109,7 +96,6 @@ pub fn take_bytes(map: &mut ByteNumbers, bytes: &[u8]) -> Option<u32>
 }
 
 /// Writes the number at bytes, if they are there.
-#[tactic(auto, using(litemap::proofs::Texts::byte_keys))]
 pub fn set_bytes(map: &mut ByteNumbers, bytes: &[u8], number: u32) -> bool
     ensures there { result ≡ is_some (at (by_slice nat_cmp) map.old.pairs bytes.now) }
     ensures written { map.new.pairs ≡ write (by_slice nat_cmp) map.old.pairs bytes.now number }

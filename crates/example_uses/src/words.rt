@@ -15,7 +15,6 @@ use std::cmp::Reverse;
 pub type Counts<'k> = VecMap<&'k str, usize>;
 
 /// Counts a word once more. All others stay.
-#[tactic(auto, using(litemap_store::proofs::Callers::Tallies::number_at_raised, litemap::proofs::Texts::by_bytes_total))]
 pub fn count_word<'k>(counts: &mut Counts<'k>, word: &'k str) -> Result<(), AllocError>
     requires { unwrap_or (value_at by_bytes counts.old.pairs word) 0 < usize.MAX }
     ensures counted { OnOk result ((other : _) → unwrap_or (value_at by_bytes counts.new.pairs other) 0

@@ -1,17 +1,24 @@
 -- Lemmas of the proofs.
+pub mod All
 pub mod Combining
 pub mod Common
 pub mod Conversions
 pub mod Entries
 pub mod Lists
+pub mod MergedTests
 pub mod Numbers
 pub mod Outcomes
+pub mod Parts
 pub mod Places
 pub mod Placing
 pub mod Walks
+pub mod Queried
+pub mod Rests
 pub mod Retained
 pub mod Sets
+pub mod Sums
 pub mod Tables
 pub mod Texts
+pub mod Updating
 pub mod Cuts
 pub mod Writing

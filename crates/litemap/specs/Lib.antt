@@ -9,5 +9,6 @@ pub mod FoundBy
 pub mod Lends
 pub mod Retained
 pub mod TryFault
+pub mod Updates
 pub mod Within
 pub mod Written

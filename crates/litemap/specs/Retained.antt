@@ -1,5 +1,7 @@
--- What a closure returns for the pair that a key finds.
-use Rattle.std.specs.Prelude.{◌≡◌, Bool, List, Some}
+-- What a closure returns for the pair that a query finds, and what lookups find in the pairs that it keeps.
+use Rattle.std.specs.Prelude.{◌≡◌, ℕ, Bool, true, false, List, None, Some, find}
+use Rattle.std.specs.Cmp.Lexicographic.{slice_cmp}
+use Rattle.std.specs.Ordering.{nat_cmp}
 use Rattle.std.specs.declared.cmp.Ordering.{Ordering}
 use Rattle.std.specs.declared.cmp.Ordering.TheVariants.{Equal}
 use Rattle.litemap_store.specs.Pairs.{at}
@@ -12,3 +14,14 @@ abbrev pub ReturnsAt : {F K V : Type 0} → Mut F (Bor K × (Bor V × Unit {0}))
     → K → Bool → Type 0
 ReturnsAt {F} {K} {V} g f cmp L k b = (p : K × V) (c : Bool) (f' : F) → CalledOnPair g f p c f'
     → (f' ≡ f) × (cmp p.0 k ≡ Equal → at cmp L k ≡ Some p → c ≡ b)
+
+module _ {F K V : Type 0} (g : Mut F (Bor K × (Bor V × Unit {0})) Bool) (f : F) where
+  -- f keeps no state, and returns b for the pair that the test of a query finds, if there is one
+  abbrev pub ReturnsFor : (K × V → Bool) → List (K × V) → Bool → Type 0
+  ReturnsFor test L b = (p : K × V) (c : Bool) (f' : F) → CalledOnPair g f p c f' → (f' ≡ f) × (test p ≡ true → find test L ≡ Some p → c ≡ b)
+
+  -- a query finds in M what it finds in L if f returns true for that; nothing if f returns false, and the query is of one key
+  pub record Retains (cmp : K → K → Ordering) (L M : List (K × V)) : Type 0 where
+    pub stays : (test : K × V → Bool) → ReturnsFor test L true → find test M ≡ find test L
+    pub gone : (test : K × V → Bool) → ((p q : K × V) → test p ≡ true → test q ≡ true → cmp p.0 q.0 ≡ Equal) → ReturnsFor test L false → find test M ≡ None
+    pub exact : (x y : List ℕ) → slice_cmp nat_cmp x y ≡ Equal → x ≡ y

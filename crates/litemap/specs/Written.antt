@@ -1,5 +1,5 @@
 -- What is left of a list of pairs if a closure, which may write values, is called on each.
-use Rattle.std.specs.Prelude.{◌≡◌, List, [], ◌∷◌, ◌++◌}
+use Rattle.std.specs.Prelude.{◌≡◌, Bool, true, List, [], ◌∷◌, ◌++◌, find, option_map}
 use Rattle.std.specs.Fn.{Called, Takes}
 use Rattle.std.specs.List.{FoldsTo}
 use denote.Param.Members.{Mut}
@@ -36,3 +36,11 @@ module _ {F K V : Type 0} (g : Mut F (Bor K × (MutBor V × Unit {0})) (Unit {0}
   -- f leaves of each pair the value that `write` computes of it, and keeps no state
   abbrev pub Writes : F → (K → V → V) → Type 0
   Writes f write = (p q : K × V) (f' : F) → WritesPair f p q f' → (q ≡ (p.0, write p.0 p.1)) × (f' ≡ f)
+
+  -- what a query finds in M: what h makes of the value that it finds in L, if f leaves that; its test is of the key alone
+  pub record LeavesOf (f : F) (L M : List (K × V)) : Type 0 where
+    pub found : (test : K × V → Bool) (h : V → V) → ((k : K) (v w : V) → test (k, v) ≡ test (k, w))
+        → ((p q : K × V) (f' : F) → WritesPair f p q f' → (f' ≡ f) × (test p ≡ true → q.1 ≡ h p.1))
+        → option_map (λ p. p.1) (find test M) ≡ option_map h (option_map (λ p. p.1) (find test L))
+    pub stays : (test : K × V → Bool) → ((k : K) (v w : V) → test (k, v) ≡ test (k, w))
+        → ((p q : K × V) (f' : F) → WritesPair f p q f' → (f' ≡ f) × (test p ≡ true → q.1 ≡ p.1)) → find test M ≡ find test L

@@ -9,9 +9,10 @@ ghost use Rattle.litemap_store.specs.Search.{CallableOnKeys};
 ghost use Rattle.litemap_store.specs.Splits.{IsMissingAt};
 ghost use Rattle.litemap.specs.Changes.{AddsIf, Inserts, RefusedFull, Removes, Renames};
 ghost use Rattle.litemap.specs.FoundBy.{RemovesFound};
-ghost use Rattle.litemap.specs.Retained.{ReturnsAt};
+ghost use Rattle.litemap.specs.Retained.{Retains, ReturnsAt};
 ghost use Rattle.std.specs.Borrow.{sem};
 ghost use Rattle.litemap.specs.Lends.{RestsAs};
+ghost use Rattle.litemap.specs.Updates.{Finds, Moves, Places, Updates};
 ghost use Rattle.litemap.specs.TryFault.{FailsAs, IfClosure, IsInsertedAt, Shown};
 
 use crate::{LiteMap, TryFault};
@@ -36,6 +37,8 @@ impl<K: Ord + Drop, V, S: StoreMut<K, V>> LiteMap<K, V, S> {
     /// ```
     pub fn insert(&mut self, key: K, value: V) -> Result<Option<V>, NoRoom<(K, V)>>
         ensures inserts { Inserts K.cmp key value self.old self.new result }
+        ensures updates { OnOk result (Updates K.cmp key (Some value) self.old.pairs self.new.pairs) }
+        ensures places { OnOk result (Places K.cmp key (Some value) self.old.pairs self.new.pairs) }
     {
         self.insert_counted(key, value, &mut Count::new())
     }
@@ -48,6 +51,8 @@ impl<K: Ord + Drop, V, S: StoreMut<K, V>> LiteMap<K, V, S> {
         count: &mut Count,
     ) -> Result<Option<V>, NoRoom<(K, V)>>
         ensures inserts { Inserts K.cmp key value self.old self.new result }
+        ensures updates { OnOk result (Updates K.cmp key (Some value) self.old.pairs self.new.pairs) }
+        ensures places { OnOk result (Places K.cmp key (Some value) self.old.pairs self.new.pairs) }
         ensures cost { RisesByAtMost (digits (length self.old.pairs)) count.old count.new }
     {
         match self.search(&key, count) {
@@ -187,6 +192,8 @@ impl<K: Ord + Drop, V, S: StoreMut<K, V>> LiteMap<K, V, S> {
     pub fn remove<Q: Query<K>>(&mut self, key: Q) -> Option<V>
         ensures value { result ≡ value_at Q.order self.old.pairs (Q.sought key) }
         ensures removed { Removes Q.order (Q.sought key) S.keeps_memory self.old self.new result }
+        ensures updates { Finds Q.order (Q.sought key) None self.old.pairs self.new.pairs }
+        ensures places { Places Q.order (Q.sought key) None self.old.pairs self.new.pairs }
     {
         self.remove_counted(key, &mut Count::new())
     }
@@ -195,6 +202,8 @@ impl<K: Ord + Drop, V, S: StoreMut<K, V>> LiteMap<K, V, S> {
     pub fn remove_counted<Q: Query<K>>(&mut self, key: Q, count: &mut Count) -> Option<V>
         ensures value { result ≡ value_at Q.order self.old.pairs (Q.sought key) }
         ensures removed { Removes Q.order (Q.sought key) S.keeps_memory self.old self.new result }
+        ensures updates { Finds Q.order (Q.sought key) None self.old.pairs self.new.pairs }
+        ensures places { Places Q.order (Q.sought key) None self.old.pairs self.new.pairs }
         ensures cost { RisesByAtMost (digits (length self.old.pairs)) count.old count.new }
     {
         Some(self.take_out(key, count)?.1)
@@ -218,6 +227,7 @@ impl<K: Ord + Drop, V, S: StoreMut<K, V>> LiteMap<K, V, S> {
         V: Drop,
         S: KeepsMemory<K, V>,
         ensures renamed { Renames Q.order (Q.sought key) K.cmp new_key self.old self.new result }
+        ensures moves { Moves Q.order (Q.sought key) K.cmp new_key self.old.pairs self.new.pairs }
     {
         self.rename_counted(key, new_key, &mut Count::new())
     }
@@ -228,6 +238,7 @@ impl<K: Ord + Drop, V, S: StoreMut<K, V>> LiteMap<K, V, S> {
         V: Drop,
         S: KeepsMemory<K, V>,
         ensures renamed { Renames Q.order (Q.sought key) K.cmp new_key self.old self.new result }
+        ensures moves { Moves Q.order (Q.sought key) K.cmp new_key self.old.pairs self.new.pairs }
         ensures cost { RisesByAtMost (2 * digits (length self.old.pairs)) count.old count.new }
     {
         let Some(value) = self.remove_counted(key, count) else {
@@ -358,6 +369,8 @@ impl<K: Ord + Drop, V: Drop, S: StoreBulkMut<K, V>> LiteMap<K, V, S> {
             → value_at K.cmp self.new.pairs key ≡ value_at K.cmp self.old.pairs key }
         ensures gone { (key : K) → ReturnsAt F.FnMut f K.cmp self.old.pairs key false
             → value_at K.cmp self.new.pairs key ≡ None }
+        // The same of any query.
+        ensures retains { Retains F.FnMut f K.cmp self.old.pairs self.new.pairs }
         ensures fewer { length self.new.pairs ≤ length self.old.pairs }
         ensures room { S.keeps_memory → self.old.room + length self.old.pairs ≤ self.new.room + length self.new.pairs }
     {

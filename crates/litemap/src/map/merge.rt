@@ -1,9 +1,10 @@
 //! Merging maps.
-ghost use Rattle.std.specs.Prelude.{◌≡◌, ◌⊎◌, ◌+◌, ◌*◌, ◌<◌, List, MatchOption, OnErr, OnOk, Some, [], length};
+ghost use Rattle.std.specs.Prelude.{◌≡◌, ◌⊎◌, ◌+◌, ◌*◌, ◌<◌, List, MatchOption, OnErr, OnOk, Some, [], length, IfOk, IfSome};
 ghost use Rattle.std.specs.Option.{option_or};
 ghost use Rattle.litemap_store.specs.Counts.{RisesByAtMost, digits};
 ghost use Rattle.litemap_store.specs.Merge.{Apart};
 ghost use Rattle.litemap_store.specs.Pairs.{at, value_at};
+ghost use Rattle.litemap.specs.Updates.{Displaces, Overlays};
 ghost use Rattle.litemap.specs.Changes.{IsMergedInto};
 ghost use Rattle.litemap.specs.Combined.{CallableOnCommon, CallableOnEachOf, Combined, Combines, LeavesOfBoth};
 ghost use Rattle.litemap.specs.Combined.{TakesBoth, combined, found_with};
@@ -48,6 +49,10 @@ impl<K: Ord + Drop, V: Drop, S: StoreIntoIterator<K, V> + Drop> LiteMap<K, V, S>
         // What a lookup finds: the other map's value if it has the key, else what it found before.
         ensures found { OnOk result ((key : K) → value_at K.cmp self.new.pairs key
             ≡ option_or (value_at K.cmp other.pairs key) (value_at K.cmp self.old.pairs key)) }
+        // The same of lookups by anything else than a key.
+        ensures overlays { OnOk result (Overlays K.cmp self.old.pairs other.pairs self.new.pairs) }
+        // What it finds in what is displaced: the old value if the other map has the key, else nothing.
+        ensures displaced { IfOk result (λ rest. IfSome rest (λ old. Displaces K.cmp self.old.pairs other.pairs old.pairs)) }
     {
         self.extend_from_litemap_counted(alloc, other, &mut Count::new())
     }

@@ -1,7 +1,8 @@
 //! Calls for the keys within two bounds. None takes memory, and each makes O(log n) comparisons for each bound.
-ghost use Rattle.std.specs.Prelude.{◌≡◌, ◌+◌, ◌*◌, Some, length};
+ghost use Rattle.std.specs.Prelude.{◌≡◌, ◌+◌, ◌*◌, ◌&&◌, Some, length, not};
 ghost use Rattle.std.specs.Range.Bound.{bound_map};
 ghost use Rattle.litemap_store.specs.Counts.{RisesByAtMost, digits};
+ghost use Rattle.litemap.specs.Updates.{KeepsPart};
 ghost use Rattle.litemap.specs.Within.{IsIndexRange, IsCut, before, is_before, is_up_to, within};
 
 use super::iter::RangeIter;
@@ -101,8 +102,11 @@ impl<K: Ord, V, S: StoreSlice<K, V>> LiteMap<K, V, S> {
         from: Bound<Q>,
         to: Bound<Q>,
     ) -> LiteMap<K, V, SliceStore<'_, K, V>>
-        ensures { result.pairs ≡ within Q.order self.now.pairs
+        ensures pairs { result.pairs ≡ within Q.order self.now.pairs
             (bound_map Q.sought from) (bound_map Q.sought to) }
+        // What lookups find in it.
+        ensures stays { KeepsPart (λ p. not (is_before Q.order (bound_map Q.sought from) p.0)
+            && is_up_to Q.order (bound_map Q.sought to) p.0) self.now.pairs result.pairs }
     {
         self.get_indexed_range(self.index_range(from, to)).unwrap()
     }

@@ -3,6 +3,7 @@ ghost use Rattle.std.specs.Prelude.{◌≡◌, ◌+◌, ◌≤◌, IsSome, IsTru
 ghost use Rattle.std.specs.List.{list_all};
 ghost use Rattle.litemap_store.specs.Counts.{GoesOn, RisesByAtMost};
 ghost use Rattle.litemap_store.specs.Pairs.{Rising, above, at, value_at};
+ghost use Rattle.litemap.specs.Updates.{KeepsPart};
 
 use super::iter::RangeIter;
 use crate::LiteMap;
@@ -60,6 +61,7 @@ impl<K: Ord + Drop, V: Drop, S: StoreBulkMut<K, V>> LiteMap<K, V, S> {
         // What a lookup finds: what it found before, if the other map has the key.
         ensures found { (key : K) → value_at K.cmp self.new.pairs key
             ≡ if is_some (at K.cmp other.now.pairs key) then value_at K.cmp self.old.pairs key else None }
+        ensures stays { KeepsPart (λ p. is_some (at K.cmp other.now.pairs p.0)) self.old.pairs self.new.pairs }
         ensures room { S.keeps_memory → self.old.room + length self.old.pairs ≤ self.new.room + length self.new.pairs }
     {
         let mut rest = RangeIter::all(&other.store);
@@ -78,6 +80,7 @@ impl<K: Ord + Drop, V: Drop, S: StoreBulkMut<K, V>> LiteMap<K, V, S> {
         // What a lookup finds: what it found before, if the other map lacks the key.
         ensures found { (key : K) → value_at K.cmp self.new.pairs key
             ≡ if is_some (at K.cmp other.now.pairs key) then None else value_at K.cmp self.old.pairs key }
+        ensures stays { KeepsPart (λ p. not (is_some (at K.cmp other.now.pairs p.0))) self.old.pairs self.new.pairs }
         ensures room { S.keeps_memory → self.old.room + length self.old.pairs ≤ self.new.room + length self.new.pairs }
     {
         let mut rest = RangeIter::all(&other.store);

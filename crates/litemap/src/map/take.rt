@@ -1,10 +1,12 @@
 //! Calls that remove pairs and return them, keys with their values. A call for one pair takes no memory.
-ghost use Rattle.std.specs.Prelude.{◌≡◌, ◌≢◌, ◌⊎◌, ◌+◌, ◌-◌, ◌++◌, ◌<◌, ◌≤◌, [], IsNone, IsSome, Some, IfOk, IsOk, OnErr, OnOk};
-ghost use Rattle.std.specs.Prelude.{drop, length, remove, slice_get, take};
+ghost use Rattle.std.specs.Prelude.{◌≡◌, ◌≢◌, ◌⊎◌, ◌+◌, ◌-◌, ◌++◌, ◌<◌, ◌≤◌, [], IsNone, IsSome, None, Some, IfOk, IsOk, OnErr, OnOk};
+ghost use Rattle.std.specs.Prelude.{drop, IfSome, length, not, remove, slice_get, take};
+ghost use Rattle.std.specs.Ordering.{is_lt};
 ghost use Rattle.std.specs.declared.ops.Bound.TheVariants.{Included, Unbounded};
 ghost use Rattle.litemap_store.specs.Counts.{RisesByAtMost, digits};
-ghost use Rattle.litemap_store.specs.Pairs.{at, below};
+ghost use Rattle.litemap_store.specs.Pairs.{Rising, at, below};
 ghost use Rattle.litemap.specs.Changes.{Removes};
+ghost use Rattle.litemap.specs.Updates.{Finds, IsGreatest, IsLeast, KeepsPart, Places, TakesPair};
 ghost use Rattle.litemap.specs.Within.{within};
 
 use crate::LiteMap;
@@ -20,6 +22,8 @@ impl<K: Ord, V, S: StoreMut<K, V>> LiteMap<K, V, S> {
     pub fn remove_entry<Q: Query<K>>(&mut self, key: Q) -> Option<(K, V)>
         ensures pair { result ≡ at Q.order self.old.pairs (Q.sought key) }
         ensures removed { Removes Q.order (Q.sought key) S.keeps_memory self.old self.new result }
+        ensures updates { Finds Q.order (Q.sought key) None self.old.pairs self.new.pairs }
+        ensures places { Places Q.order (Q.sought key) None self.old.pairs self.new.pairs }
     {
         self.take_out(key, &mut Count::new())
     }
@@ -29,6 +33,8 @@ impl<K: Ord, V, S: StoreMut<K, V>> LiteMap<K, V, S> {
     pub fn pop_first(&mut self) -> Option<(K, V)>
         ensures first { result ≡ slice_get self.old.pairs 0 }
         ensures others { self.new.pairs ≡ drop 1 self.old.pairs }
+        ensures taken { IfSome result (λ p. TakesPair K.cmp p self.old.pairs self.new.pairs) }
+        ensures least { IfSome result (λ p. IsLeast K.cmp p self.old.pairs) }
         ensures unchanged { IsNone result → self.new ≡ self.old }
         ensures room { S.keeps_memory → IsSome result → self.old.room < self.new.room }
     {
@@ -43,6 +49,8 @@ impl<K: Ord, V, S: StoreMut<K, V>> LiteMap<K, V, S> {
     pub fn pop_last(&mut self) -> Option<(K, V)>
         ensures last { result ≡ slice_get self.old.pairs (length self.old.pairs - 1) }
         ensures others { self.new.pairs ≡ take (length self.old.pairs - 1) self.old.pairs }
+        ensures taken { IfSome result (λ p. TakesPair K.cmp p self.old.pairs self.new.pairs) }
+        ensures greatest { IfSome result (λ p. IsGreatest K.cmp p self.old.pairs) }
         ensures unchanged { IsNone result → self.new ≡ self.old }
         ensures room { S.keeps_memory → IsSome result → self.old.room < self.new.room }
     {
@@ -53,6 +61,8 @@ impl<K: Ord, V, S: StoreMut<K, V>> LiteMap<K, V, S> {
     pub(super) fn take_out<Q: Query<K>>(&mut self, key: Q, count: &mut Count) -> Option<(K, V)>
         ensures pair { result ≡ at Q.order self.old.pairs (Q.sought key) }
         ensures removed { Removes Q.order (Q.sought key) S.keeps_memory self.old self.new result }
+        ensures updates { Finds Q.order (Q.sought key) None self.old.pairs self.new.pairs }
+        ensures places { Places Q.order (Q.sought key) None self.old.pairs self.new.pairs }
         ensures cost { RisesByAtMost (digits (length self.old.pairs)) count.old count.new }
     {
         match self.search(key, count) {
@@ -65,6 +75,8 @@ impl<K: Ord, V, S: StoreMut<K, V>> LiteMap<K, V, S> {
         requires { index < length self.old.pairs }
         ensures old { slice_get self.old.pairs index ≡ Some result }
         ensures pairs { self.new.pairs ≡ remove self.old.pairs index }
+        ensures taken { TakesPair K.cmp result self.old.pairs self.new.pairs }
+        ensures rising { Rising K.cmp self.old.pairs }
         ensures room { S.keeps_memory → self.old.room < self.new.room }
     {
         self.store.lm_remove(index)
@@ -88,6 +100,11 @@ impl<K: Ord + Drop, V: Drop, S: StoreMut<K, V> + Drop> LiteMap<K, V, S> {
         ensures below { OnOk result (self.new.pairs ≡ below Q.order self.old.pairs (Q.sought key)) }
         ensures from { IfOk result
             (λ m. m.pairs ≡ within Q.order self.old.pairs (Included (Q.sought key)) Unbounded) }
+        // What lookups find in the two parts.
+        ensures stays { OnOk result
+            (KeepsPart (λ p. is_lt (Q.order p.0 (Q.sought key))) self.old.pairs self.new.pairs) }
+        ensures goes { IfOk result
+            (λ m. KeepsPart (λ p. not (is_lt (Q.order p.0 (Q.sought key)))) self.old.pairs m.pairs) }
         ensures all { IfOk result (λ m. self.new.pairs ++ m.pairs ≡ self.old.pairs) }
         ensures room { S.keeps_memory → IfOk result (λ m. below Q.order self.old.pairs (Q.sought key) ≢ []
             → self.old.room + length m.pairs ≤ self.new.room) }

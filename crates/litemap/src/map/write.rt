@@ -7,10 +7,11 @@ ghost use Rattle.std.specs.Prelude.{◌≡◌, ◌<◌, length, map, ℕ, Ok, Er
 ghost use Rattle.std.specs.Borrow.{sem};
 ghost use Rattle.std.specs.Map.{keys_of};
 ghost use Rattle.std.specs.Option.{option_copied_mut};
-ghost use Rattle.litemap_store.specs.Pairs.{at, value_at, value_in};
+ghost use Rattle.litemap_store.specs.Pairs.{at, value_at, value_in, write};
 ghost use Rattle.litemap_store.specs.Search.{CallableOnKeys, Found};
 ghost use Rattle.litemap.specs.Lends.{LendsThere, LendsFound, LendsKey, LendsIndex, LendsValue};
-ghost use Rattle.litemap.specs.Written.{CallableOnValues, Writes, Written};
+ghost use Rattle.litemap.specs.Updates.{Finds};
+ghost use Rattle.litemap.specs.Written.{CallableOnValues, LeavesOf, Writes, Written};
 
 use crate::LiteMap;
 use litemap_store::Query;
@@ -31,6 +32,9 @@ impl<K: Ord, V, S: StoreMut<K, V>> LiteMap<K, V, S> {
         ensures* writes_back { sem 𝓛
             (LendsValue K.row V.row S.row K.Ord S.pairs S.room self.entry Q.order (Q.sought key) result) }
         ensures value { option_copied_mut result ≡ value_at Q.order self.old.pairs (Q.sought key) }
+        // What lookups find after a write.
+        ensures updates { (v : V) → IsSome (at Q.order self.old.pairs (Q.sought key)) → Finds Q.order (Q.sought key)
+            (Some v) self.old.pairs (write Q.order self.old.pairs (Q.sought key) v) }
     {
         match self.search(key, &mut Count::new()) {
             Ok(index) => Some(self.value_in_mut(index)),
@@ -107,6 +111,8 @@ impl<K: Ord, V, S: StoreMut<K, V>> LiteMap<K, V, S> {
         ensures written { Written F.FnMut f self.old.pairs self.new.pairs }
         ensures mapped { (write : K → V → V) → Writes F.FnMut f write
             → self.new.pairs ≡ map (λ p. (p.0, write p.0 p.1)) self.old.pairs }
+        // What lookups find.
+        ensures leaves { LeavesOf F.FnMut f self.old.pairs self.new.pairs }
         ensures keys { keys_of self.new.pairs ≡ keys_of self.old.pairs }
         ensures room { self.new.room ≡ self.old.room }
     {

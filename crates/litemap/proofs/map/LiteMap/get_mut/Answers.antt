@@ -1,10 +1,15 @@
 use Rattle.litemap.proofs.Common.{◌∙◌, inl, sym, with_pairs, found_value, found_write, found_within}
+use Rattle.litemap.proofs.Updating.{finds_write}
 use Rattle.litemap.proofs.map.LiteMap.get_mut.Goals as goal
 
 pub returns-in-Ok : goal.returns-in-Ok
 returns-in-Ok g c = (
   λ i. inl (c.value_in_mut.result.ghost_name, λ w. with_pairs c.args.self.now (found_write _ _ _ _ c.in-Ok.ensures.splits w i)),
-  record { writes_back = tt; value = sym c.value_in_mut.ensures.value ∙ found_value _ _ _ _ c.in-Ok.ensures.splits },
+  record {
+    writes_back = tt;
+    value = sym c.value_in_mut.ensures.value ∙ found_value _ _ _ _ c.in-Ok.ensures.splits;
+    updates = λ v there. (finds_write g.Q.Query.order (g.Q.Query.sought c.args.key) c.args.self.now.pairs c.in-Ok.index c.in-Ok.ensures.splits v);
+  },
 )
 
 pub value_in_mut-requires : goal.value_in_mut-requires

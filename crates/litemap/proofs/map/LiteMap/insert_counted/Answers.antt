@@ -1,5 +1,6 @@
-use Rattle.litemap.proofs.Common.{ap, arith, ◌∙◌, option_map, refl, set_value, sym, Some, found_set_value, found_value, found_within}
+use Rattle.litemap.proofs.Common.{ap, arith, ◌∙◌, option_map, refl, set_value, sym, Some, Ok, Err, found_set_value, found_value, found_within}
 use Rattle.litemap.proofs.Outcomes.{not_missing}
+use Rattle.litemap.proofs.Updating.{places_put, updates_put}
 use Rattle.litemap.proofs.map.LiteMap.insert_counted.Goals as goal
 
 pub returns-in-Ok-clause-inserts : goal.returns-in-Ok-clause-inserts
@@ -22,3 +23,23 @@ returns-in_ok-insert_at-in-Err-clause-inserts g c = record {
 
 pub value_in_mut-requires : goal.value_in_mut-requires
 value_in_mut-requires g c = found_within _ _ _ _ c.in-Ok.ensures.splits
+
+pub returns-in-Ok-clause-updates : goal.returns-in-Ok-clause-updates
+returns-in-Ok-clause-updates g c =
+    rw (c.replace.ensures.after, found_set_value _ _ _ _ c.in-Ok.ensures.splits c.args.value)
+    (updates_put g.met.K.Ord.total c.args.self.now.pairs c.args.key c.args.value (Ok c.in-Ok.index) c.in-Ok.ensures.splits)
+
+pub returns-in_ok-insert_at-in-Err-clause-updates : goal.returns-in_ok-insert_at-in-Err-clause-updates
+returns-in_ok-insert_at-in-Err-clause-updates g c =
+    rw c.in_ok-insert_at-in-Err.ensures.put
+    (updates_put g.met.K.Ord.total c.args.self.now.pairs c.args.key c.args.value (Err c.in-Err.index) c.in-Err.ensures.splits)
+
+pub returns-in-Ok-clause-places : goal.returns-in-Ok-clause-places
+returns-in-Ok-clause-places g c =
+    rw (c.replace.ensures.after, found_set_value _ _ _ _ c.in-Ok.ensures.splits c.args.value)
+    (places_put g.met.K.Ord.total c.args.self.now.pairs c.args.key c.args.value (Ok c.in-Ok.index) c.in-Ok.ensures.splits)
+
+pub returns-in_ok-insert_at-in-Err-clause-places : goal.returns-in_ok-insert_at-in-Err-clause-places
+returns-in_ok-insert_at-in-Err-clause-places g c =
+    rw c.in_ok-insert_at-in-Err.ensures.put
+    (places_put g.met.K.Ord.total c.args.self.now.pairs c.args.key c.args.value (Err c.in-Err.index) c.in-Err.ensures.splits)

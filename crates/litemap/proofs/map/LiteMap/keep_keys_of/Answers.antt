@@ -1,5 +1,6 @@
 use Rattle.litemap.proofs.Common.{ap, Rising-from_Kept}
 use Rattle.litemap.proofs.Sets.{Kept-beside, value_at-kept}
+use Rattle.litemap.proofs.Queried.{keeps_part}
 use Rattle.litemap.proofs.map.LiteMap.keep_keys_of.Goals as goal
 
 pub invariant_of-self : goal.invariant_of-self
@@ -13,3 +14,6 @@ returns-clause-pairs g c =
 
 pub returns-clause-found : goal.returns-clause-found
 returns-clause-found g c = λ key. value_at-kept g.met.K.Ord.total (λ b. b) c.args.other.now.pairs key _ _ (returns-clause-pairs g c)
+
+pub returns-clause-stays : goal.returns-clause-stays
+returns-clause-stays g c = keeps_part _ c.args.self.now.pairs _ (returns-clause-pairs g c)

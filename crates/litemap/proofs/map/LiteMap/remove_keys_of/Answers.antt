@@ -1,5 +1,6 @@
 use Rattle.litemap.proofs.Common.{◌≡◌, ◌∙◌, true, false, not, cond, None, is_some, ap, refl, at, value_at, Rising-from_Kept}
 use Rattle.litemap.proofs.Sets.{Kept-beside, value_at-kept}
+use Rattle.litemap.proofs.Queried.{keeps_part}
 use Rattle.litemap.proofs.map.LiteMap.remove_keys_of.Goals as goal
 
 pub invariant_of-self : goal.invariant_of-self
@@ -13,3 +14,6 @@ returns-clause-pairs g c =
 
 pub returns-clause-found : goal.returns-clause-found
 returns-clause-found g c = λ key. value_at-kept g.met.K.Ord.total not c.args.other.now.pairs key _ _ (returns-clause-pairs g c) ∙ elim (is_some (at g.K.Ord.cmp c.args.other.now.pairs key)) as (λ b. cond (not b) (value_at g.K.Ord.cmp c.args.self.now.pairs key) None ≡ cond b None (value_at g.K.Ord.cmp c.args.self.now.pairs key)) [ true ↦ refl | false ↦ refl ]
+
+pub returns-clause-stays : goal.returns-clause-stays
+returns-clause-stays g c = keeps_part _ c.args.self.now.pairs _ (returns-clause-pairs g c)

@@ -1,6 +1,7 @@
 use Rattle.litemap.proofs.Common.{◌∙◌, ap, filter, Rising-from_Kept}
 use Rattle.std.proofs.lemmas.Fn.{filter_same}
 use Rattle.litemap.proofs.Retained.{length-kept, value_at-kept_no, value_at-kept_yes}
+use Rattle.litemap.proofs.Queried.{retains}
 use Rattle.litemap.proofs.map.LiteMap.retain.Goals as goal
 
 pub invariant_of-self : goal.invariant_of-self
@@ -22,3 +23,7 @@ returns-clause-gone g c = λ key.
 pub returns-clause-fewer : goal.returns-clause-fewer
 returns-clause-fewer g c =
     length-kept g.F.FnMut c.args.f _ _ _ c.lm_retain.ensures.kept (ap (λ m. m.pairs) c.self.view_is)
+
+pub returns-clause-retains : goal.returns-clause-retains
+returns-clause-retains g c =
+    retains g.F.FnMut g.K.Ord.cmp c.args.f _ _ _ c.lm_retain.ensures.kept (ap (λ m. m.pairs) c.self.view_is) c.self.invariant

@@ -2,6 +2,7 @@ use Rattle.litemap.proofs.Common.{arith, take, inl, inr, length, refl, sym, ap, 
 use Rattle.litemap.proofs.Cuts.{drop-cut, first_cut, last_cut, take-cut, within-cut}
 use Rattle.litemap_store.proofs.Lists.Parts.{Rising-drop}
 use Rattle.std.proofs.lemmas.List.{take-append-drop, nil_from_length}
+use Rattle.litemap.proofs.Queried.{and_true, keeps_alike, keeps_part}
 use Rattle.litemap.proofs.map.LiteMap.split_off.Goals as goal
 
 pub split_store-requires : goal.split_store-requires
@@ -50,3 +51,9 @@ returns-clause-room g c = λ keeps some.
     let none = sym (take-cut _ _ _ c.start_of-index.ensures.cut) in
     let kept = c.in_ok-later.ensures.room keeps (λ zero. some (none ∙ ap (λ n. take n c.args.self.now.pairs) zero)) in
     omega (arith, kept, ap (λ m. m.room) c.self.view_is, ap length (c.from_sorted_store_unchecked.ensures.pairs ∙ c.in_ok-later.ensures.later))
+
+pub returns-clause-stays : goal.returns-clause-stays
+returns-clause-stays g c = keeps_part _ c.args.self.now.pairs _ (returns-clause-below g c)
+
+pub returns-clause-goes : goal.returns-clause-goes
+returns-clause-goes g c = keeps_alike _ _ c.args.self.now.pairs _ (λ p. and_true _) (returns-clause-from g c)

@@ -1,4 +1,6 @@
-use Rattle.litemap.proofs.Common.{◌∙◌, sym, true≢false, found_remove, found_there, found_within}
+use Rattle.litemap.proofs.Common.{◌∙◌, sym, Ok, Err, None, true≢false, subst, found_remove, found_there, found_within}
+use Rattle.litemap.proofs.Updating.{finds_cut, places_cut}
+use Rattle.litemap.specs.Updates.{Finds, Places}
 use Rattle.litemap.proofs.map.LiteMap.take_out.Goals as goal
 
 pub returns-in-Ok-clause-pair : goal.returns-in-Ok-clause-pair
@@ -11,6 +13,26 @@ returns-in-Ok-clause-removed g c = record {
   unchanged = λ none. absurd (true≢false (rw c.in-Ok.ensures.splits.found at none));
   room = λ keeps there. c.take_at.ensures.room keeps;
 }
+
+pub returns-in-Ok-clause-updates : goal.returns-in-Ok-clause-updates
+returns-in-Ok-clause-updates g c =
+    rw (c.take_at.ensures.pairs, found_remove _ _ _ _ c.in-Ok.ensures.splits)
+    (finds_cut g.Q.Query.order (g.Q.Query.sought c.args.key) c.args.self.now.pairs (Ok c.in-Ok.index) c.in-Ok.ensures.splits)
+
+pub returns-in-Err-clause-updates : goal.returns-in-Err-clause-updates
+returns-in-Err-clause-updates g c =
+    subst (λ M. Finds g.Q.Query.order (g.Q.Query.sought c.args.key) None c.args.self.now.pairs M) (sym c.in-Err.ensures.splits.is)
+    (finds_cut g.Q.Query.order (g.Q.Query.sought c.args.key) c.args.self.now.pairs (Err _) c.in-Err.ensures.splits)
+
+pub returns-in-Ok-clause-places : goal.returns-in-Ok-clause-places
+returns-in-Ok-clause-places g c =
+    rw (c.take_at.ensures.pairs, found_remove _ _ _ _ c.in-Ok.ensures.splits)
+    (places_cut g.Q.Query.order (g.Q.Query.sought c.args.key) c.args.self.now.pairs (Ok c.in-Ok.index) c.in-Ok.ensures.splits)
+
+pub returns-in-Err-clause-places : goal.returns-in-Err-clause-places
+returns-in-Err-clause-places g c =
+    subst (λ M. Places g.Q.Query.order (g.Q.Query.sought c.args.key) None c.args.self.now.pairs M) (sym c.in-Err.ensures.splits.is)
+    (places_cut g.Q.Query.order (g.Q.Query.sought c.args.key) c.args.self.now.pairs (Err _) c.in-Err.ensures.splits)
 
 pub take_at-requires : goal.take_at-requires
 take_at-requires g c = found_within _ _ _ _ c.in-Ok.ensures.splits

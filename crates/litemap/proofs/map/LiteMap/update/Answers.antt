@@ -1,5 +1,6 @@
 use Rattle.litemap.proofs.Common.{◌∙◌, ap, map, keys_of}
 use Rattle.litemap.proofs.Writing.{Rising-keys, keys-written, map-written}
+use Rattle.litemap.proofs.Queried.{leaves_of}
 use Rattle.litemap.proofs.map.LiteMap.update.Goals as goal
 
 pub invariant_of-self : goal.invariant_of-self
@@ -15,3 +16,6 @@ returns-clause-mapped g c = λ write writes.
 pub returns-clause-keys : goal.returns-clause-keys
 returns-clause-keys g c =
     keys-written g.F.FnMut c.args.f _ _ c.write_each.ensures.written ∙ ap keys_of (ap (λ m. m.pairs) c.self.view_is)
+
+pub returns-clause-leaves : goal.returns-clause-leaves
+returns-clause-leaves g c = leaves_of g.F.FnMut c.args.f _ _ _ c.write_each.ensures.written (ap (λ m. m.pairs) c.self.view_is)

@@ -1,0 +1,216 @@
+-- What any query finds, by its test of pairs, in what a call leaves that changes more than one key.
+--     keeps_part      in a part;  takes_at      once a pair was taken out;  is_least, is_greatest      at the ends
+--     retains      in what a closure keeps;  leaves_of      in what a closure wrote
+use Rattle.litemap.proofs.Common.{◌≡◌, ◌≢◌, ◌∙◌, ◌∷◌, ◌++◌, ◌-◌, ◌&&◌, [], Bool, true, false, true≢false, List, Option, None, Some, ap, arith, cond, drop, filter, ℕ, ◌+◌, drop_at, remove, suc, inl, inr, length, option_map, refl, slice_get, subst, sym, take, items_where_true, append-nil}
+use Rattle.litemap.proofs.Common.{Bor, MutBor, Mut, Ordering, Less, Equal, Greater, IsTotalOrder, Rising, less_back, tied_itself}
+use Rattle.std.proofs.Common.{find, IfSome}
+use Rattle.std.specs.Option.{option_or}
+use Rattle.std.specs.List.Retain.{ReturnsInTurn}
+use Rattle.std.proofs.lemmas.List.Folds.{find-append}
+use Rattle.std.proofs.lemmas.List.{take-append-drop}
+use Rattle.std.proofs.lemmas.Map.Lookups.{exact_bytes}
+use Rattle.litemap_store.specs.Last.{In}
+use Rattle.litemap_store.specs.Retain.{CalledOnPair, Kept}
+use Rattle.litemap_store.proofs.Last.KeepLast.{rising_across}
+use Rattle.litemap_store.proofs.Lists.Membership.{In-left, In-right, each}
+use Rattle.litemap_store.proofs.Search.Splitting.{not_is_eq}
+use Rattle.litemap.specs.Retained.{Retains, ReturnsFor}
+use Rattle.litemap.specs.Updates.{IsGreatest, IsLeast, KeepsPart, TakesPair}
+use Rattle.litemap.specs.Written.{LeavesOf, WritesPair, Written}
+use Rattle.litemap.proofs.MergedTests.{find_passes, none_found}
+use Rattle.litemap.proofs.Rests.{greatest, least}
+
+module _ {X : Type 0} (test : X → Bool) where
+  find-kept : (keep : X → Bool) → ((x : X) → test x ≡ true → keep x ≡ true) → (L : List X) → find test (filter keep L) ≡ find test L
+  find-kept keep h [] = refl
+  find-kept keep h (x ∷ L) = by (test x) (keep x) refl refl (find-kept keep h L)
+    where
+      by : (s k : Bool) → test x ≡ s → keep x ≡ k → find test (filter keep L) ≡ find test L → find test (cond k (x ∷ filter keep L) (filter keep L)) ≡ cond s (Some x) (find test L)
+      by true true e f rest = rw e refl
+      by true false e f rest = absurd (true≢false (sym (h x e) ∙ f))
+      by false true e f rest = rw e rest
+      by false false e f rest = rest
+
+  find-dropped : (keep : X → Bool) → ((x : X) → test x ≡ true → keep x ≡ false) → (L : List X) → find test (filter keep L) ≡ None
+  find-dropped keep h [] = refl
+  find-dropped keep h (x ∷ L) = by (test x) (keep x) refl refl (find-dropped keep h L)
+    where
+      by : (s k : Bool) → test x ≡ s → keep x ≡ k → find test (filter keep L) ≡ None → find test (cond k (x ∷ filter keep L) (filter keep L)) ≡ None
+      by true true e f rest = absurd (true≢false (sym f ∙ h x e))
+      by true false e f rest = rest
+      by false true e f rest = rw e rest
+      by false false e f rest = rest
+
+  found_by : (c : Bool) (x : X) (L : List X) (y : X) → test x ≡ c → cond c (Some x) (find test L) ≡ Some y → (find test L ≡ Some y → In y L) → In y (x ∷ L)
+  found_by true x L y t e rest = inl (cc)
+  found_by false x L y t e rest = inr (rest e)
+
+  In-found : (L : List X) (y : X) → find test L ≡ Some y → In y L
+  In-found [] y e = absurd (cc)
+  In-found (x ∷ L) y e = found_by (test x) x L y refl e (In-found L y)
+
+  not-passed : (x : X) → (test x ≡ true → ⊥) → test x ≡ false
+  not-passed x n = by (test x) refl
+    where
+      by : (c : Bool) → test x ≡ c → c ≡ false
+      by true e = absurd (n e)
+      by false e = refl
+
+-- the same with a test that is equal for each pair
+pub keeps_alike : {K V : Type 0} (keep keep' : K × V → Bool) (L M : List (K × V)) → ((p : K × V) → keep p ≡ keep' p) → M ≡ filter keep L → KeepsPart keep' L M
+keeps_alike keep keep' L M same e = record {
+  stays = λ test h. ap (find test) e ∙ find-kept test keep (λ x t. same x ∙ h x t) L;
+  gone = λ test h. ap (find test) e ∙ find-dropped test keep (λ x t. same x ∙ h x t) L;
+  exact = exact_bytes;
+}
+
+pub and_true : (b : Bool) → b && true ≡ b
+and_true true = refl
+and_true false = refl
+
+pub keeps_part : {K V : Type 0} (keep : K × V → Bool) (L M : List (K × V)) → M ≡ filter keep L → KeepsPart keep L M
+keeps_part keep L M e = record {
+  stays = λ test h. ap (find test) e ∙ find-kept test keep h L;
+  gone = λ test h. ap (find test) e ∙ find-dropped test keep h L;
+  exact = exact_bytes;
+}
+
+module _ {K V : Type 0} {cmp : K → K → Ordering} (o : IsTotalOrder cmp) (A B : List (K × V)) (p : K × V) (r : Rising cmp (A ++ p ∷ B)) where
+  module _ (test : K × V → Bool) (own : (x : K × V) → test x ≡ true → cmp x.0 p.0 ≡ Equal) where
+    none-before : find test A ≡ None
+    none-before = none_found test A (λ x i. not-passed test x (λ t. let l : cmp x.0 p.0 ≡ Less = rising_across cmp A (p ∷ B) r x p i (inl refl) in let e = own x t in cc))
+
+    none-after : find test B ≡ None
+    none-after = none_found test B (λ x i. not-passed test x (λ t. let l : cmp x.0 p.0 ≡ Greater = less_back o p.0 x.0 (rising_across cmp (A ++ p ∷ []) B (subst (Rising cmp) (seam A) r) p x (In-right A (p ∷ []) p (inl refl)) i) in let e = own x t in cc))
+      where
+        seam : (A : List (K × V)) → A ++ p ∷ B ≡ (A ++ p ∷ []) ++ B
+        seam [] = refl
+        seam (x ∷ A) = ap (λ L. x ∷ L) (seam A)
+
+    found-between : test p ≡ true → find test (A ++ p ∷ B) ≡ Some p
+    found-between t = find-append test A (p ∷ B) ∙ rw none-before (rw t refl)
+
+    gone-between : find test (A ++ B) ≡ None
+    gone-between = find-append test A B ∙ rw (none-before, none-after) refl
+
+  takes_parts : TakesPair cmp p (A ++ p ∷ B) (A ++ B)
+  takes_parts = record {
+    found = λ test t own. found-between test own t;
+    gone = λ test own. gone-between test own;
+    others = λ test apart. find-append test A B ∙ sym (find-append test A (p ∷ B) ∙ rw (apart p (tied_itself o p.0)) refl);
+    exact = exact_bytes;
+  }
+
+module _ {K V : Type 0} {cmp : K → K → Ordering} (o : IsTotalOrder cmp) (L : List (K × V)) (p : K × V) (r : Rising cmp L) where
+  pub takes_at : (i : ℕ) → slice_get L i ≡ Some p → TakesPair cmp p L (remove L i)
+  takes_at i g =
+      let n : i + 1 ≡ suc i = omega arith in
+      let e : L ≡ take i L ++ p ∷ drop (suc i) L = sym (take-append-drop i L) ∙ ap (λ M. take i L ++ M) (drop_at L i p g ∙ ap (λ m. p ∷ drop m L) n) in
+      subst (λ N. TakesPair cmp p N (remove L i)) (sym e) (takes_parts o (take i L) (drop (suc i) L) p (subst (Rising cmp) e r))
+
+  pub is_least : slice_get L 0 ≡ Some p → IsLeast cmp p L
+  is_least g test x f = (
+    find_passes test L x f,
+    elim (least cmp L p x r g (In-found test L x f)) [
+      | inl e ↦ λ h. let s : cmp p.0 x.0 ≡ Equal = rw e (tied_itself o x.0) in cc
+      | inr l ↦ λ h. cc
+    ],
+  )
+
+  pub is_greatest : slice_get L (length L - 1) ≡ Some p → IsGreatest cmp p L
+  is_greatest g test x f = (
+    find_passes test L x f,
+    elim (greatest cmp L p x r g (In-found test L x f)) [
+      | inl e ↦ λ h. let s : cmp x.0 p.0 ≡ Equal = rw e (tied_itself o x.0) in cc
+      | inr l ↦ λ h. cc
+    ],
+  )
+
+-- ---- what a closure keeps
+module _ {F K V : Type 0} (g : Mut F (Bor K × (Bor V × Unit {0})) Bool) (test : K × V → Bool) where
+  later : (f f' : F) (p : K × V) (L : List (K × V)) (b : Bool) → f' ≡ f → test p ≡ false → ReturnsFor g f test (p ∷ L) b → ReturnsFor g f' test L b
+  later f f' p L b same n a = subst (λ h. ReturnsFor g h test L b) (sym same) (λ q c h called. ((a q c h called).0, λ t is. (a q c h called).1 t (rw n is)))
+
+  skipped : (b : Bool) (bs : List Bool) (p : K × V) (L : List (K × V)) (r : Option (K × V)) → test p ≡ false
+      → find test (items_where_true bs L) ≡ r → find test (items_where_true (b ∷ bs) (p ∷ L)) ≡ r
+  skipped true bs p L r n is = rw n is
+  skipped false bs p L r n is = is
+
+  first_stays : (b : Bool) (bs : List Bool) (p : K × V) (L : List (K × V)) → test p ≡ true → b ≡ true → find test (items_where_true (b ∷ bs) (p ∷ L)) ≡ Some p
+  first_stays true bs p L t y = rw t refl
+  first_stays false bs p L t y = absurd (cc)
+
+  first_goes : (b : Bool) (bs : List Bool) (p : K × V) (L : List (K × V)) → b ≡ false → find test (items_where_true bs L) ≡ None → find test (items_where_true (b ∷ bs) (p ∷ L)) ≡ None
+  first_goes true bs p L y is = absurd (cc)
+  first_goes false bs p L y is = is
+
+  In-picked : (bs : List Bool) (L : List (K × V)) (x : K × V) → In x (items_where_true bs L) → In x L
+  In-picked [] L x i = absurd i
+  In-picked (b ∷ bs) [] x i = absurd i
+  In-picked (true ∷ bs) (p ∷ L) x (inl e) = inl e
+  In-picked (true ∷ bs) (p ∷ L) x (inr i) = inr (In-picked bs L x i)
+  In-picked (false ∷ bs) (p ∷ L) x i = inr (In-picked bs L x i)
+
+  kept-stays : (bs : List Bool) (L : List (K × V)) (f f' : F) → length bs ≡ length L → ReturnsInTurn (CalledOnPair g) f bs L f' → ReturnsFor g f test L true
+      → find test (items_where_true bs L) ≡ find test L
+  kept-stays [] [] f f' n turn a = refl
+  kept-stays [] (p ∷ L) f f' n turn a = absurd (omega arith)
+  kept-stays (b ∷ bs) [] f f' n turn a = absurd turn
+  kept-stays (b ∷ bs) (p ∷ L) f f' n turn a =
+      let one = a p b turn.0 turn.1 in
+      (elim (test p) as (λ t. test p ≡ t → find test (items_where_true (b ∷ bs) (p ∷ L)) ≡ find test (p ∷ L)) [
+        | true ↦ λ e. first_stays b bs p L e (one.1 e (rw e refl)) ∙ rw e refl
+        | false ↦ λ e. skipped b bs p L _ e (rw e (kept-stays bs L turn.0 f' (omega arith) turn.2 (later f turn.0 p L true one.0 e a)))
+      ]) refl
+
+  module _ (cmp : K → K → Ordering) (own : (p q : K × V) → test p ≡ true → test q ≡ true → cmp p.0 q.0 ≡ Equal) where
+    kept-gone : (bs : List Bool) (L : List (K × V)) (f f' : F) → length bs ≡ length L → Rising cmp L → ReturnsInTurn (CalledOnPair g) f bs L f' → ReturnsFor g f test L false
+        → find test (items_where_true bs L) ≡ None
+    kept-gone [] L f f' n h turn a = refl
+    kept-gone (b ∷ bs) [] f f' n h turn a = refl
+    kept-gone (b ∷ bs) (p ∷ L) f f' n h turn a =
+        let one = a p b turn.0 turn.1 in
+        (elim (test p) as (λ t. test p ≡ t → find test (items_where_true (b ∷ bs) (p ∷ L)) ≡ None) [
+          | true ↦ λ e. first_goes b bs p L (one.1 e (rw e refl)) (none_found test (items_where_true bs L) (λ x i. not-passed test x (λ t.
+              let l : cmp p.0 x.0 ≡ Less = each (λ (y : K × V). cmp p.0 y.0 ≡ Less) L h.0 x (In-picked bs L x i) in let s = own p x e t in cc)))
+          | false ↦ λ e. skipped b bs p L None e (kept-gone bs L turn.0 f' (omega arith) h.1 turn.2 (later f turn.0 p L false one.0 e a))
+        ]) refl
+
+pub retains : {F K V : Type 0} (g : Mut F (Bor K × (Bor V × Unit {0})) Bool) (cmp : K → K → Ordering) (f : F) (L L' M : List (K × V)) → Kept g f L M → L ≡ L' → Rising cmp L → Retains g f cmp L' M
+retains g cmp f L L' M kept is r = record {
+  stays = λ test a. ap (find test) (kept.4) ∙ kept-stays g test kept.0 L f kept.1 kept.2 kept.3 (subst (λ N. ReturnsFor g f test N true) (sym is) a) ∙ ap (find test) is;
+  gone = λ test own a. ap (find test) (kept.4) ∙ kept-gone g test cmp own kept.0 L f kept.1 kept.2 r kept.3 (subst (λ N. ReturnsFor g f test N false) (sym is) a);
+  exact = exact_bytes;
+}
+
+-- ---- what a closure wrote
+module _ {F K V : Type 0} (g : Mut F (Bor K × (MutBor V × Unit {0})) (Unit {0} × (MutBor V × Unit {0}))) (test : K × V → Bool) (alike : (k : K) (v w : V) → test (k, v) ≡ test (k, w)) where
+  abbrev Leaves : F → (V → V) → Type 0
+  Leaves f h = (p q : K × V) (f' : F) → WritesPair g f p q f' → (f' ≡ f) × (test p ≡ true → q.1 ≡ h p.1)
+
+  written-found : (h : V → V) (L M : List (K × V)) (f : F) → Leaves f h → Written g f L M → option_map (λ p. p.1) (find test M) ≡ option_map h (option_map (λ p. p.1) (find test L))
+  written-found h [] M f a w = rw w refl
+  written-found h (p ∷ L) M f a w =
+      let one = a p w.0 w.1 w.3 in
+      by (test p) refl one.1 (written-found h L w.2 w.1 (subst (λ e. Leaves e h) (sym one.0) a) w.4)
+    where
+      by : (c : Bool) → test p ≡ c → (test p ≡ true → w.0.1 ≡ h p.1) → option_map (λ x. x.1) (find test w.2) ≡ option_map h (option_map (λ x. x.1) (find test L))
+          → option_map (λ x. x.1) (find test M) ≡ option_map h (option_map (λ x. x.1) (find test (p ∷ L)))
+      by true t v rest = rw (w.5, w.3.leaves) (rw (alike p.0 w.3.left.now p.1) (rw t (ap Some (sym (ap (λ q. q.1) w.3.leaves) ∙ v t))))
+      by false t v rest = rw (w.5, w.3.leaves) (rw (alike p.0 w.3.left.now p.1) (rw t rest))
+
+  written-stays : (L M : List (K × V)) (f : F) → Leaves f (λ v. v) → Written g f L M → find test M ≡ find test L
+  written-stays [] M f a w = rw w refl
+  written-stays (p ∷ L) M f a w =
+      let one = a p w.0 w.1 w.3 in
+      by (test p) refl one.1 (written-stays L w.2 w.1 (subst (λ e. Leaves e (λ v. v)) (sym one.0) a) w.4)
+    where
+      by : (c : Bool) → test p ≡ c → (test p ≡ true → w.0.1 ≡ p.1) → find test w.2 ≡ find test L → find test M ≡ find test (p ∷ L)
+      by true t v rest = let s : w.3.left.now ≡ p.1 = sym (ap (λ q. q.1) w.3.leaves) ∙ v t in rw (w.5, w.3.leaves) (rw (s, t) refl)
+      by false t v rest = rw (w.5, w.3.leaves) (rw (alike p.0 w.3.left.now p.1) (rw t rest))
+
+pub leaves_of : {F K V : Type 0} (g : Mut F (Bor K × (MutBor V × Unit {0})) (Unit {0} × (MutBor V × Unit {0}))) (f : F) (L L' M : List (K × V)) → Written g f L M → L ≡ L' → LeavesOf g f L' M
+leaves_of g f L L' M w is = record {
+  found = λ test h alike a. written-found g test alike h L M f a w ∙ ap (λ N. option_map h (option_map (λ p. p.1) (find test N))) is;
+  stays = λ test alike a. written-stays g test alike L M f a w ∙ ap (find test) is;
+}

@@ -1,0 +1,125 @@
+-- What lookups find after one key has changed: for the clauses `updates`.
+--     updates_put, places_put      after a put;  finds_cut, places_cut      after a cut;  finds_write      after a write
+use Rattle.litemap.proofs.Common.{◌≡◌, ◌∙◌, ◌∷◌, ◌++◌, ◌+◌, ℕ, Bool, false, List, Option, None, Some, IsSome, Result, option_map, true, is_gt, is_lt, [], Ok, Err, arith, ap, append-nil, is_eq, is_some, length}
+use Rattle.litemap.proofs.Common.{length-append, option_or, refl, subst, sym, Ordering, Less, Equal, Greater, IsTotalOrder, key_or_equal}
+use Rattle.litemap.proofs.Common.{above, at, below, cut, index_of, key_or, place, put, value_at, write, value_at-cut, value_at-put, value_at-put_other, value_at-write}
+use Rattle.std.proofs.Common.{find}
+use Rattle.std.specs.Option.{option_map_or}
+use Rattle.std.proofs.lemmas.List.Folds.{find-append}
+use Rattle.litemap_store.proofs.Names.{filter-append}
+use Rattle.litemap_store.proofs.Last.KeepLast.{filter_all, filter_none}
+use Rattle.litemap_store.proofs.Lists.Membership.{In-from_filter}
+use Rattle.std.specs.Prelude.{if◌then◌else◌}
+use Rattle.std.proofs.lemmas.Cmp.{tied_back}
+use Rattle.std.proofs.lemmas.Map.Lookups.{exact_bytes}
+use Rattle.litemap_store.specs.Splits.{IsFoundAt, Splits}
+use Rattle.litemap_store.proofs.Callers.Tallies.{value_at_equal}
+use Rattle.litemap.specs.Updates.{Finds, Places, Updates}
+
+length-between : {X : Type 0} (A B : List X) (x : X) → length (A ++ x ∷ B) ≡ length (A ++ B) + 1
+length-between A B x = omega (arith, length-append A B, length-append A (x ∷ B))
+
+-- 1 if there is a pair, else 0
+abbrev number : {X : Type 0} → Option X → ℕ
+number o = if is_some o then 1 else 0
+
+module _ {K Q V : Type 0} (order : K → Q → Ordering) (q : Q) where
+  module _ (test : K × V → Bool) (apart : (p : K × V) → order p.0 q ≡ Equal → test p ≡ false) where
+    skip : (p : K × V) (M : List (K × V)) → order p.0 q ≡ Equal → find test (p ∷ M) ≡ find test M
+    skip p M e = rw (apart p e) refl
+
+    join : (A B M : List (K × V)) → find test B ≡ find test M → find test (A ++ B) ≡ find test (A ++ M)
+    join A B M e = find-append test A B ∙ ap (λ f. option_or (find test A) f) e ∙ sym (find-append test A M)
+
+  -- a pair with an equal key between the parts
+  others-between : (L : List (K × V)) (x : K × V) → order x.0 q ≡ Equal → (r : Result ℕ ℕ) → Splits order L q r
+      → (test : K × V → Bool) → ((p : K × V) → order p.0 q ≡ Equal → test p ≡ false) → find test (below order L q ++ x ∷ above order L q) ≡ find test L
+  others-between L x e (Ok i) s test apart =
+      join test apart (below order L q) (x ∷ above order L q) (s.pair ∷ above order L q) (skip test apart x (above order L q) e ∙ sym (skip test apart s.pair (above order L q) s.equal)) ∙ ap (find test) (sym s.is)
+  others-between L x e (Err i) s test apart =
+      join test apart (below order L q) (x ∷ above order L q) (above order L q) (skip test apart x (above order L q) e) ∙ ap (find test) (sym s.is)
+
+  others-cut : (L : List (K × V)) (r : Result ℕ ℕ) → Splits order L q r
+      → (test : K × V → Bool) → ((p : K × V) → order p.0 q ≡ Equal → test p ≡ false) → find test (cut order L q) ≡ find test L
+  others-cut L (Ok i) s test apart =
+      join test apart (below order L q) (above order L q) (s.pair ∷ above order L q) (sym (skip test apart s.pair (above order L q) s.equal)) ∙ ap (find test) (sym s.is)
+  others-cut L (Err i) s test apart = ap (find test) (sym s.is)
+
+  count-found : (L : List (K × V)) (p : K × V) → at order L q ≡ Some p → number (at order L q) ≡ 1
+  count-found L p e = ap number e
+
+  count-missing : (L : List (K × V)) → at order L q ≡ None → number (at order L q) ≡ 0
+  count-missing L e = ap number e
+
+  len-between : (L : List (K × V)) (x : K × V) (r : Result ℕ ℕ) → Splits order L q r → length (below order L q ++ x ∷ above order L q) + number (at order L q) ≡ length L + 1
+  len-between L x (Ok i) s =
+      let a = length-between (below order L q) (above order L q) x in
+      let b = ap length s.is ∙ length-between (below order L q) (above order L q) s.pair in
+      omega (arith, a, b, count-found L s.pair s.found)
+  len-between L x (Err i) s =
+      let a = length-between (below order L q) (above order L q) x in
+      let b : length L ≡ length (below order L q ++ above order L q) = ap length s.is in
+      omega (arith, a, b, count-missing L s.missing)
+
+  len-cut : (L : List (K × V)) (r : Result ℕ ℕ) → Splits order L q r → length (cut order L q) + number (at order L q) ≡ length L + 0
+  len-cut L (Ok i) s = let b = ap length s.is ∙ length-between (below order L q) (above order L q) s.pair in omega (arith, b, count-found L s.pair s.found)
+  len-cut L (Err i) s = let b : length L ≡ length (below order L q ++ above order L q) = ap length s.is in omega (arith, b, count-missing L s.missing)
+
+  index-by : (M : List (K × V)) (n : ℕ) (w : Option V) → value_at order M q ≡ w → place order M q ≡ n → index_of order M q ≡ (if is_some w then Ok n else Err n)
+  index-by M n w f p = by (at order M q) refl
+    where
+      by : (a : Option (K × V)) → at order M q ≡ a → index_of order M q ≡ (if is_some w then Ok n else Err n)
+      by None e = let g : None ≡ w = sym (ap (option_map (λ x. x.1)) e) ∙ f in rw e (rw (← g) (ap Err p))
+      by (Some x) e = let g : Some x.1 ≡ w = sym (ap (option_map (λ x. x.1)) e) ∙ f in rw e (rw (← g) (ap Ok p))
+
+  below-below : (L : List (K × V)) → below order (below order L q) q ≡ below order L q
+  below-below L = filter_all (λ (p : K × V). is_lt (order p.0 q)) (below order L q) (λ x i. (In-from_filter (λ (p : K × V). is_lt (order p.0 q)) L x i).1)
+
+  below-above : (L : List (K × V)) → below order (above order L q) q ≡ []
+  below-above L = filter_none (λ (p : K × V). is_lt (order p.0 q)) (above order L q) (λ x i. elim (order x.0 q) as (λ c. is_gt c ≡ true → is_lt c ≡ false) [ Less ↦ λ h. absurd cc | Equal ↦ λ h. refl | Greater ↦ λ h. refl ] (In-from_filter (λ (p : K × V). is_gt (order p.0 q)) L x i).1)
+
+  place-cut : (L : List (K × V)) → place order (cut order L q) q ≡ place order L q
+  place-cut L = ap length (filter-append (λ p. is_lt (order p.0 q)) (below order L q) (above order L q) ∙ ap (λ M. M ++ below order (above order L q) q) (below-below L) ∙ ap (λ M. below order L q ++ M) (below-above L) ∙ append-nil (below order L q))
+
+  place-between : (L : List (K × V)) (x : K × V) → order x.0 q ≡ Equal → place order (below order L q ++ x ∷ above order L q) q ≡ place order L q
+  place-between L x e =
+      let none : below order (x ∷ above order L q) q ≡ [] = rw e (below-above L) in
+      ap length (filter-append (λ p. is_lt (order p.0 q)) (below order L q) (x ∷ above order L q) ∙ ap (λ M. M ++ below order (x ∷ above order L q) q) (below-below L) ∙ ap (λ M. below order L q ++ M) none ∙ append-nil (below order L q))
+
+  pub finds_cut : (L : List (K × V)) (r : Result ℕ ℕ) → Splits order L q r → Finds order q None L (cut order L q)
+  finds_cut L r s = record { found = value_at-cut order q L; others = others-cut L r s; exact = exact_bytes }
+
+  pub places_cut : (L : List (K × V)) (r : Result ℕ ℕ) → Splits order L q r → Places order q None L (cut order L q)
+  places_cut L r s = record { index = index-by (cut order L q) (place order L q) None (value_at-cut order q L) (place-cut L); len = len-cut L r s }
+
+  pub finds_write : (L : List (K × V)) (i : ℕ) → IsFoundAt order L q i → (v : V) → Finds order q (Some v) L (write order L q v)
+  finds_write L i s v =
+      let x : K × V = (s.pair.0, v) in
+      let e : write order L q v ≡ below order L q ++ x ∷ above order L q = ap (λ o. option_map_or (λ p. below order L q ++ (p.0, v) ∷ above order L q) o L) s.found in record {
+        found = value_at-write order q L v (subst (λ o. IsSome o) (sym s.found) refl);
+        others = λ test apart. ap (find test) e ∙ others-between L x s.equal (Ok i) s test apart;
+        exact = exact_bytes;
+      }
+
+module _ {K V : Type 0} {cmp : K → K → Ordering} (o : IsTotalOrder cmp) (L : List (K × V)) (k : K) (v : V) where
+  each_by : (q : K) (r : Ordering) → cmp q k ≡ r → value_at cmp (put cmp L k v) q ≡ (if is_eq r then Some v else value_at cmp L q)
+  each_by q Equal e = value_at_equal o (put cmp L k v) k q (tied_back o q k e) ∙ value_at-put o k L v
+  each_by q Less e = value_at-put_other o L k q (λ h. let d : Less ≡ Equal = sym e ∙ h in cc) v
+  each_by q Greater e = value_at-put_other o L k q (λ h. let d : Greater ≡ Equal = sym e ∙ h in cc) v
+
+  finds_put : (r : Result ℕ ℕ) → Splits cmp L k r → Finds cmp k (Some v) L (put cmp L k v)
+  finds_put r s = record {
+    found = value_at-put o k L v;
+    others = others-between cmp k L (key_or (at cmp L k) k, v) (key_or_equal o k L) r s;
+    exact = exact_bytes;
+  }
+
+  pub updates_put : (r : Result ℕ ℕ) → Splits cmp L k r → Updates cmp k (Some v) L (put cmp L k v)
+  updates_put r s = record { finds = finds_put r s; each = λ q. each_by q (cmp q k) refl }
+
+  pub places_put : (r : Result ℕ ℕ) → Splits cmp L k r → Places cmp k (Some v) L (put cmp L k v)
+  places_put r s =
+      let x : K × V = (key_or (at cmp L k) k, v) in record {
+        index = index-by cmp k (put cmp L k v) (place cmp L k) (Some v) (value_at-put o k L v) (place-between cmp k L x (key_or_equal o k L));
+        len = len-between cmp k L x r s;
+      }

@@ -1,0 +1,71 @@
+-- What lookups find after one key has changed.
+use Rattle.std.specs.Prelude.{◌≡◌, ◌≢◌, ◌+◌, ℕ, Bool, true, false, List, Option, None, Ok, Err, IsSome, Some, find, option_map, is_some, length, if◌then◌else◌}
+use Rattle.std.specs.Cmp.Lexicographic.{slice_cmp}
+use Rattle.std.specs.Option.{option_or}
+use Rattle.std.specs.Ordering.{is_eq, nat_cmp}
+use Rattle.std.specs.declared.cmp.Ordering.{Ordering}
+use Rattle.std.specs.declared.cmp.Ordering.TheVariants.{Equal, Greater}
+use Rattle.litemap_store.specs.Pairs.{at, index_of, place, value_at}
+
+-- the query q finds w (`None`: nothing), and each other one what it found before
+pub record Finds {K Q V : Type 0} (order : K → Q → Ordering) (q : Q) (w : Option V) (before after : List (K × V)) : Type 0 where
+  pub found : value_at order after q ≡ w
+  -- `test` is any query, by any order: one that finds no key that q finds
+  pub others : (test : K × V → Bool) → ((p : K × V) → order p.0 q ≡ Equal → test p ≡ false) → find test after ≡ find test before
+  -- a law of strings and bytes, by which a caller's search tells two of them apart: it is not of this map
+  pub exact : (x y : List ℕ) → slice_cmp nat_cmp x y ≡ Equal → x ≡ y
+
+-- the key `key` finds w, and so do those equal to it; each other one finds what it found before
+pub record Updates {K V : Type 0} (cmp : K → K → Ordering) (key : K) (w : Option V) (before after : List (K × V)) : Type 0 where
+  pub finds : Finds cmp key w before after
+  pub each : (k : K) → value_at cmp after k ≡ (if is_eq (cmp k key) then w else value_at cmp before k)
+
+-- the index of q, and the length
+pub record Places {K Q V : Type 0} (order : K → Q → Ordering) (q : Q) (w : Option V) (before after : List (K × V)) : Type 0 where
+  pub index : index_of order after q ≡ (if is_some w then Ok (place order before q) else Err (place order before q))
+  pub len : length after + (if is_some (at order before q) then 1 else 0) ≡ length before + (if is_some w then 1 else 0)
+
+-- a value is moved from the query q to the key `key`
+pub record Moves {K Q V : Type 0} (order : K → Q → Ordering) (q : Q) (cmp : K → K → Ordering) (key : K) (before after : List (K × V)) : Type 0 where
+  pub found : IsSome (at order before q) → value_at cmp after key ≡ value_at order before q
+  pub gone : ((p : K × V) → cmp p.0 key ≡ Equal → is_eq (order p.0 q) ≡ false) → value_at order after q ≡ None
+  pub others : (test : K × V → Bool) → ((p : K × V) → order p.0 q ≡ Equal → test p ≡ false)
+      → ((p : K × V) → cmp p.0 key ≡ Equal → test p ≡ false) → find test after ≡ find test before
+  pub exact : (x y : List ℕ) → slice_cmp nat_cmp x y ≡ Equal → x ≡ y
+
+-- the test of a query that finds a key, and those equal to it and no other
+abbrev pub IsKeyTest : {K V : Type 0} → (K → K → Ordering) → (K × V → Bool) → Type 0
+IsKeyTest {K} {V} cmp test = (x y : K × V) → test x ≡ true → test y ≡ is_eq (cmp y.0 x.0)
+
+-- a query finds in M what it finds in B if it finds something there, else what it finds in A
+pub record Overlays {K V : Type 0} (cmp : K → K → Ordering) (A B M : List (K × V)) : Type 0 where
+  pub all : (test : K × V → Bool) → IsKeyTest cmp test
+      → option_map (λ p. p.1) (find test M) ≡ option_or (option_map (λ p. p.1) (find test B)) (option_map (λ p. p.1) (find test A))
+  pub exact : (x y : List ℕ) → slice_cmp nat_cmp x y ≡ Equal → x ≡ y
+
+-- a query finds in D what it finds in A if it finds something in B, else nothing
+pub record Displaces {K V : Type 0} (cmp : K → K → Ordering) (A B D : List (K × V)) : Type 0 where
+  pub each : (k : K) → value_at cmp D k ≡ (if is_some (at cmp B k) then value_at cmp A k else None)
+  pub all : (test : K × V → Bool) → IsKeyTest cmp test
+      → option_map (λ p. p.1) (find test D) ≡ (if is_some (find test B) then option_map (λ p. p.1) (find test A) else None)
+
+-- M is the part of L that passes `keep`: a query whose pairs all pass finds what it found before, one whose pairs all fail nothing
+pub record KeepsPart {K V : Type 0} (keep : K × V → Bool) (L M : List (K × V)) : Type 0 where
+  pub stays : (test : K × V → Bool) → ((p : K × V) → test p ≡ true → keep p ≡ true) → find test M ≡ find test L
+  pub gone : (test : K × V → Bool) → ((p : K × V) → test p ≡ true → keep p ≡ false) → find test M ≡ None
+  pub exact : (x y : List ℕ) → slice_cmp nat_cmp x y ≡ Equal → x ≡ y
+
+module _ {K V : Type 0} (cmp : K → K → Ordering) (p : K × V) where
+  -- the pair p is taken out: a query of its key found it, and finds nothing now; each other one finds what it found before
+  pub record TakesPair (before after : List (K × V)) : Type 0 where
+    pub found : (test : K × V → Bool) → test p ≡ true → ((x : K × V) → test x ≡ true → cmp x.0 p.0 ≡ Equal) → find test before ≡ Some p
+    pub gone : (test : K × V → Bool) → ((x : K × V) → test x ≡ true → cmp x.0 p.0 ≡ Equal) → find test after ≡ None
+    pub others : (test : K × V → Bool) → ((x : K × V) → cmp x.0 p.0 ≡ Equal → test x ≡ false) → find test after ≡ find test before
+    pub exact : (x y : List ℕ) → slice_cmp nat_cmp x y ≡ Equal → x ≡ y
+
+  -- what any query finds in the list has no lesser key than p, or no greater one
+  abbrev pub IsLeast : List (K × V) → Type 0
+  IsLeast L = (test : K × V → Bool) (x : K × V) → find test L ≡ Some x → (test x ≡ true) × (cmp p.0 x.0 ≢ Greater)
+
+  abbrev pub IsGreatest : List (K × V) → Type 0
+  IsGreatest L = (test : K × V → Bool) (x : K × V) → find test L ≡ Some x → (test x ≡ true) × (cmp x.0 p.0 ≢ Greater)
