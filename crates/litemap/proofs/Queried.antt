@@ -2,7 +2,7 @@
 --     keeps_part      in a part;  takes_at      once a pair was taken out;  is_least, is_greatest      at the ends
 --     retains      in what a closure keeps;  leaves_of      in what a closure wrote
 use Rattle.litemap.proofs.Common.{◌≡◌, ◌≢◌, ◌∙◌, ◌∷◌, ◌++◌, ◌-◌, ◌&&◌, [], Bool, true, false, true≢false, List, Option, None, Some, ap, arith, cond, drop, filter, ℕ, ◌+◌, drop_at, remove, suc, inl, inr, length, option_map, refl, slice_get, subst, sym, take, items_where_true, append-nil}
-use Rattle.litemap.proofs.Common.{Bor, MutBor, Mut, Ordering, Less, Equal, Greater, IsTotalOrder, Rising, less_back, tied_itself}
+use Rattle.litemap.proofs.Common.{Bor, MutBor, Mut, Ordering, at_in, equal_from_is_eq, is_eq, IsSome, at, value_at, Less, Equal, Greater, IsTotalOrder, Rising, greater_back, less_back, tied_itself}
 use Rattle.std.proofs.Common.{find, IfSome}
 use Rattle.std.specs.Option.{option_or}
 use Rattle.std.specs.List.Retain.{ReturnsInTurn}
@@ -95,8 +95,8 @@ module _ {K V : Type 0} {cmp : K → K → Ordering} (o : IsTotalOrder cmp) (A B
 
   takes_parts : TakesPair cmp p (A ++ p ∷ B) (A ++ B)
   takes_parts = record {
-    found = λ test t own. found-between test own t;
-    gone = λ test own. gone-between test own;
+    found = found-between (λ x. is_eq (cmp x.0 p.0)) (λ x t. equal_from_is_eq (cmp x.0 p.0) t) (ap is_eq (tied_itself o p.0));
+    gone = gone-between (λ x. is_eq (cmp x.0 p.0)) (λ x t. equal_from_is_eq (cmp x.0 p.0) t);
     others = λ test apart. find-append test A B ∙ sym (find-append test A (p ∷ B) ∙ rw (apart p (tied_itself o p.0)) refl);
     exact = exact_bytes;
   }
@@ -109,22 +109,28 @@ module _ {K V : Type 0} {cmp : K → K → Ordering} (o : IsTotalOrder cmp) (L :
       subst (λ N. TakesPair cmp p N (remove L i)) (sym e) (takes_parts o (take i L) (drop (suc i) L) p (subst (Rising cmp) e r))
 
   pub is_least : slice_get L 0 ≡ Some p → IsLeast cmp p L
-  is_least g test x f = (
-    find_passes test L x f,
-    elim (least cmp L p x r g (In-found test L x f)) [
-      | inl e ↦ λ h. let s : cmp p.0 x.0 ≡ Equal = rw e (tied_itself o x.0) in cc
-      | inr l ↦ λ h. cc
-    ],
-  )
+  is_least g k there = by (at cmp L k) refl there
+    where
+      by : (a : Option (K × V)) → at cmp L k ≡ a → IsSome (option_map (λ x. x.1) a) → cmp p.0 k ≢ Greater
+      by None e h = absurd (cc)
+      by (Some x) e h =
+          let f = at_in cmp L k x e in
+          elim (least cmp L p x r g f.0) [
+            | inl s ↦ λ t. let u : cmp p.0 k ≡ Equal = rw s f.1 in cc
+            | inr l ↦ λ t. let u : cmp x.0 p.0 ≡ Less = o.congr x.0 k p.0 f.1 ∙ greater_back o p.0 k t in let v : cmp x.0 p.0 ≡ Greater = less_back o p.0 x.0 l in cc
+          ]
 
   pub is_greatest : slice_get L (length L - 1) ≡ Some p → IsGreatest cmp p L
-  is_greatest g test x f = (
-    find_passes test L x f,
-    elim (greatest cmp L p x r g (In-found test L x f)) [
-      | inl e ↦ λ h. let s : cmp x.0 p.0 ≡ Equal = rw e (tied_itself o x.0) in cc
-      | inr l ↦ λ h. cc
-    ],
-  )
+  is_greatest g k there = by (at cmp L k) refl there
+    where
+      by : (a : Option (K × V)) → at cmp L k ≡ a → IsSome (option_map (λ x. x.1) a) → cmp k p.0 ≢ Greater
+      by None e h = absurd (cc)
+      by (Some x) e h =
+          let f = at_in cmp L k x e in
+          elim (greatest cmp L p x r g f.0) [
+            | inl s ↦ λ t. let u : cmp x.0 p.0 ≡ Greater = o.congr x.0 k p.0 f.1 ∙ t in let v : cmp x.0 p.0 ≡ Equal = rw s (tied_itself o x.0) in cc
+            | inr l ↦ λ t. let u : cmp x.0 p.0 ≡ Greater = o.congr x.0 k p.0 f.1 ∙ t in cc
+          ]
 
 -- ---- what a closure keeps
 module _ {F K V : Type 0} (g : Mut F (Bor K × (Bor V × Unit {0})) Bool) (test : K × V → Bool) where

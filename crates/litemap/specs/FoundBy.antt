@@ -1,5 +1,5 @@
 -- What a call returns and leaves, by the index that a search found.
-use Rattle.std.specs.Prelude.{◌≡◌, ◌<◌, ℕ, List, length, slice_get, Option, Some, None, IfSome, Result, Ok, Err, IfOk}
+use Rattle.std.specs.Prelude.{◌≡◌, ◌<◌, ℕ, List, length, slice_get, Option, Some, None, IfSome, Result, Ok, Err, IfOk, IfErr, ◌≤◌}
 use Rattle.std.specs.Option.{option_map}
 use Rattle.std.specs.declared.cmp.Ordering.{Ordering}
 use Rattle.std.specs.List.{remove}
@@ -39,6 +39,7 @@ module _ {K Q V : Type 0} (order : K → Q → Ordering) (L : List (K × V)) (q 
     pub place : found ≡ index_of order L q
     pub within : IfOk found (λ index. index < length L)
     pub there : IfOk found (λ index. slice_get L index ≡ at order L q)
+    pub up_to : IfErr found (λ index. index ≤ length L)
 
   -- the index of the key that is equal to q, and its value, if there is one
   pub record GetsWithIndex (found : Option (ℕ × Bor V)) : Type 0 where

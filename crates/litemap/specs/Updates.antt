@@ -56,16 +56,16 @@ pub record KeepsPart {K V : Type 0} (keep : K × V → Bool) (L M : List (K × V
   pub exact : (x y : List ℕ) → slice_cmp nat_cmp x y ≡ Equal → x ≡ y
 
 module _ {K V : Type 0} (cmp : K → K → Ordering) (p : K × V) where
-  -- the pair p is taken out: a query of its key found it, and finds nothing now; each other one finds what it found before
+  -- the pair p is taken out: its key found it, and finds nothing now; each other query finds what it found before
   pub record TakesPair (before after : List (K × V)) : Type 0 where
-    pub found : (test : K × V → Bool) → test p ≡ true → ((x : K × V) → test x ≡ true → cmp x.0 p.0 ≡ Equal) → find test before ≡ Some p
-    pub gone : (test : K × V → Bool) → ((x : K × V) → test x ≡ true → cmp x.0 p.0 ≡ Equal) → find test after ≡ None
+    pub found : at cmp before p.0 ≡ Some p
+    pub gone : at cmp after p.0 ≡ None
     pub others : (test : K × V → Bool) → ((x : K × V) → cmp x.0 p.0 ≡ Equal → test x ≡ false) → find test after ≡ find test before
     pub exact : (x y : List ℕ) → slice_cmp nat_cmp x y ≡ Equal → x ≡ y
 
-  -- what any query finds in the list has no lesser key than p, or no greater one
+  -- no key that is found in the list is below that of p, or none is above
   abbrev pub IsLeast : List (K × V) → Type 0
-  IsLeast L = (test : K × V → Bool) (x : K × V) → find test L ≡ Some x → (test x ≡ true) × (cmp p.0 x.0 ≢ Greater)
+  IsLeast L = (k : K) → IsSome (value_at cmp L k) → cmp p.0 k ≢ Greater
 
   abbrev pub IsGreatest : List (K × V) → Type 0
-  IsGreatest L = (test : K × V → Bool) (x : K × V) → find test L ≡ Some x → (test x ≡ true) × (cmp x.0 p.0 ≢ Greater)
+  IsGreatest L = (k : K) → IsSome (value_at cmp L k) → cmp k p.0 ≢ Greater

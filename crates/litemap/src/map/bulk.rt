@@ -1,10 +1,11 @@
 //! Calls that take many pairs at once. The last pair of each key stays.
-ghost use Rattle.std.specs.Prelude.{◌≡◌, ◌<◌, ◌≤◌, ◌+◌, ◌*◌, ◌++◌, [], IfErr, IfOk, IsOk, OnOk, OnErr, length};
+ghost use Rattle.std.specs.Prelude.{◌≡◌, ◌<◌, ◌≤◌, ◌+◌, ◌*◌, ◌++◌, [], IfErr, IfOk, IsOk, OnOk, OnErr, length, reverse};
+ghost use Rattle.std.specs.Option.{option_or};
 ghost use Rattle.std.specs.Iterator.{IsFiniteIterable};
 ghost use Rattle.litemap_store.specs.Bulk.{GivesSome, IsExtended, IsExtendedCounted, IsHandedBack, IsRefusedCounted};
 ghost use Rattle.litemap_store.specs.Counts.{GoesOn, RisesByAtMost};
 ghost use Rattle.litemap_store.specs.Last.{Last, Rises};
-ghost use Rattle.litemap_store.specs.Pairs.{Rising};
+ghost use Rattle.litemap_store.specs.Pairs.{Rising, value_at};
 
 use crate::LiteMap;
 use litemap_store::store::{Count, NoRoom, StoreBulkMut, StoreFromIterable};
@@ -155,6 +156,9 @@ impl<K: Ord + Drop, V: Drop, S: StoreBulkMut<K, V>> LiteMap<K, V, S> {
         pairs: Vec<(K, V)>,
     ) -> Result<(), NoRoom<Vec<(K, V)>>>
         ensures last { OnOk result (Last K.cmp (self.old.pairs ++ pairs.items) self.new.pairs) }
+        // What a lookup finds: the last new value of the key if there is one, else what it found before.
+        ensures found { OnOk result ((key : K) → value_at K.cmp self.new.pairs key
+            ≡ option_or (value_at K.cmp (reverse pairs.items) key) (value_at K.cmp self.old.pairs key)) }
         ensures refused { OnErr result (self.new.pairs ≡ self.old.pairs) }
         ensures succeeds { Rises K.cmp self.old.pairs pairs.items → length pairs.items ≤ self.old.room → IsOk result }
         ensures back { IfErr result (λ e. IsHandedBack K.cmp pairs.items e.back.items) }
@@ -170,6 +174,8 @@ impl<K: Ord + Drop, V: Drop, S: StoreBulkMut<K, V>> LiteMap<K, V, S> {
         count: &mut Count,
     ) -> Result<(), NoRoom<Vec<(K, V)>>>
         ensures last { OnOk result (Last K.cmp (self.old.pairs ++ pairs.items) self.new.pairs) }
+        ensures found { OnOk result ((key : K) → value_at K.cmp self.new.pairs key
+            ≡ option_or (value_at K.cmp (reverse pairs.items) key) (value_at K.cmp self.old.pairs key)) }
         ensures refused { OnErr result (self.new.pairs ≡ self.old.pairs) }
         ensures succeeds { Rises K.cmp self.old.pairs pairs.items → length pairs.items ≤ self.old.room → IsOk result }
         ensures back { IfErr result (λ e. IsHandedBack K.cmp pairs.items e.back.items) }

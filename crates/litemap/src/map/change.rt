@@ -284,8 +284,10 @@ impl<K: Ord, V, S: StoreMut<K, V>> LiteMap<K, V, S> {
     /// Ok(tuesday.is_none() && friday == Some((5, "Fri")))
     /// ```
     pub fn try_insert(&mut self, key: K, value: V) -> Result<Option<(K, V)>, NoRoom<(K, V)>>
-        ensures { AddsIf (IsNone (at K.cmp self.old.pairs key)) (put K.cmp self.old.pairs key value) (key, value)
+        ensures adds { AddsIf (IsNone (at K.cmp self.old.pairs key)) (put K.cmp self.old.pairs key value) (key, value)
             self.old self.new result }
+        ensures updates { IfOk result (λ back. IsNone back
+            → Updates K.cmp key (Some value) self.old.pairs self.new.pairs) }
     {
         match self.search(&key, &mut Count::new()) {
             Ok(_) => Ok(Some((key, value))),

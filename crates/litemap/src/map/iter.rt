@@ -1,6 +1,7 @@
 //! Double-ended iterators over the pairs, the keys or the values of a map. None takes memory. After `None` they return `None`
 //! for good.
 ghost use Rattle.std.specs.Prelude.{◌≡◌};
+ghost use Rattle.litemap_store.specs.Pairs.{Rising};
 
 mod keys_values;
 mod range;
@@ -14,7 +15,8 @@ use std::marker::PhantomData;
 impl<'a, K: Ord + 'a, V: 'a, S: StoreIterable<'a, K, V>> LiteMap<K, V, S> {
     /// Returns an iterator over all pairs, in the order of their keys.
     pub fn iter(&'a self) -> S::KeyValueIter
-        ensures { S.KeyValueIter.rest result ≡ self.now.pairs }
+        ensures rest { S.KeyValueIter.rest result ≡ self.now.pairs }
+        ensures rising { Rising K.cmp self.now.pairs }
     {
         self.store.lm_iter()
     }
@@ -22,7 +24,8 @@ impl<'a, K: Ord + 'a, V: 'a, S: StoreIterable<'a, K, V>> LiteMap<K, V, S> {
     /// Returns an iterator over all keys, in their order.
     #[deprecated = "use keys() instead"]
     pub fn iter_keys(&'a self) -> KeysIterWrap<'a, K, V, S::KeyValueIter>
-        ensures { S.KeyValueIter.rest result ≡ self.now.pairs }
+        ensures rest { S.KeyValueIter.rest result ≡ self.now.pairs }
+        ensures rising { Rising K.cmp self.now.pairs }
     {
         self.keys()
     }
@@ -30,14 +33,16 @@ impl<'a, K: Ord + 'a, V: 'a, S: StoreIterable<'a, K, V>> LiteMap<K, V, S> {
     /// Returns an iterator over all values, in the order of their keys.
     #[deprecated = "use values() instead"]
     pub fn iter_values(&'a self) -> ValuesIterWrap<'a, K, V, S::KeyValueIter>
-        ensures { S.KeyValueIter.rest result ≡ self.now.pairs }
+        ensures rest { S.KeyValueIter.rest result ≡ self.now.pairs }
+        ensures rising { Rising K.cmp self.now.pairs }
     {
         self.values()
     }
 
     /// Returns an iterator over all keys, in their order.
     pub fn keys(&'a self) -> KeysIterWrap<'a, K, V, S::KeyValueIter>
-        ensures { S.KeyValueIter.rest result ≡ self.now.pairs }
+        ensures rest { S.KeyValueIter.rest result ≡ self.now.pairs }
+        ensures rising { Rising K.cmp self.now.pairs }
     {
         KeysIterWrap {
             iter: self.iter(),
@@ -47,7 +52,8 @@ impl<'a, K: Ord + 'a, V: 'a, S: StoreIterable<'a, K, V>> LiteMap<K, V, S> {
 
     /// Returns an iterator over all values, in the order of their keys.
     pub fn values(&'a self) -> ValuesIterWrap<'a, K, V, S::KeyValueIter>
-        ensures { S.KeyValueIter.rest result ≡ self.now.pairs }
+        ensures rest { S.KeyValueIter.rest result ≡ self.now.pairs }
+        ensures rising { Rising K.cmp self.now.pairs }
     {
         ValuesIterWrap {
             iter: self.iter(),

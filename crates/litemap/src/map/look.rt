@@ -45,14 +45,16 @@ impl<K: Ord, V, S: Store<K, V>> LiteMap<K, V, S> {
 
     /// Returns the pair with the smallest key, or `None` if the map is empty.
     pub fn first(&self) -> Option<(&K, &V)>
-        ensures { option_map deref_pair result ≡ slice_get self.now.pairs 0 }
+        ensures pair { option_map deref_pair result ≡ slice_get self.now.pairs 0 }
+        ensures rising { Rising K.cmp self.now.pairs }
     {
         self.store.lm_get(0)
     }
 
     /// Returns the pair with the greatest key, or `None` if the map is empty.
     pub fn last(&self) -> Option<(&K, &V)>
-        ensures { option_map deref_pair result ≡ slice_get self.now.pairs (length self.now.pairs - 1) }
+        ensures pair { option_map deref_pair result ≡ slice_get self.now.pairs (length self.now.pairs - 1) }
+        ensures rising { Rising K.cmp self.now.pairs }
     {
         self.store.lm_last()
     }
@@ -67,7 +69,8 @@ impl<K: Ord, V, S: Store<K, V>> LiteMap<K, V, S> {
     /// days.get(&3) == Some(&"Wednesday") && days.get(&4).is_none()
     /// ```
     pub fn get<Q: Query<K>>(&self, key: Q) -> Option<&V>
-        ensures { option_copied result ≡ value_at Q.order self.now.pairs (Q.sought key) }
+        ensures value { option_copied result ≡ value_at Q.order self.now.pairs (Q.sought key) }
+        ensures rising { Rising K.cmp self.now.pairs }
     {
         self.get_counted(key, &mut Count::new())
     }
@@ -75,6 +78,7 @@ impl<K: Ord, V, S: Store<K, V>> LiteMap<K, V, S> {
     /// `get`, counting its comparisons (own).
     pub fn get_counted<Q: Query<K>>(&self, key: Q, count: &mut Count) -> Option<&V>
         ensures value { option_copied result ≡ value_at Q.order self.now.pairs (Q.sought key) }
+        ensures rising { Rising K.cmp self.now.pairs }
         ensures cost { RisesByAtMost (digits (length self.now.pairs)) count.old count.new }
     {
         match self.search(key, count) {
@@ -171,6 +175,7 @@ impl<K: Ord, V, S: Store<K, V>> LiteMap<K, V, S> {
     // inserted.
     pub(crate) fn search<Q: Query<K>>(&self, key: Q, count: &mut Count) -> Result<usize, usize>
         ensures splits { Splits Q.order self.now.pairs (Q.sought key) result }
+        ensures rising { Rising K.cmp self.now.pairs }
         ensures cost { RisesByAtMost (digits (length self.now.pairs)) count.old count.new }
     {
         self.store

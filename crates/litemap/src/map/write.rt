@@ -68,6 +68,8 @@ impl<K: Ord, V, S: StoreMut<K, V>> LiteMap<K, V, S> {
         ensures* writes_back { sem 𝓛
             (LendsKey K.row V.row S.row K.Ord S.pairs S.room self.entry Q.order (Q.sought key) result) }
         ensures value { Some result.now ≡ value_at Q.order self.old.pairs (Q.sought key) }
+        ensures updates { (v : V) → Finds Q.order (Q.sought key) (Some v) self.old.pairs
+            (write Q.order self.old.pairs (Q.sought key) v) }
     {
         let index = self.search(key, &mut Count::new()).unwrap();
         self.value_in_mut(index)
