@@ -2,7 +2,7 @@
 --     keeps_part      in a part;  takes_at      once a pair was taken out;  is_least, is_greatest      at the ends
 --     retains      in what a closure keeps;  leaves_of      in what a closure wrote
 use Rattle.litemap.proofs.Common.{◌≡◌, ◌≢◌, ◌∙◌, ◌∷◌, ◌++◌, ◌-◌, ◌&&◌, [], Bool, true, false, true≢false, List, Option, None, Some, ap, arith, cond, drop, filter, ℕ, ◌+◌, drop_at, remove, suc, inl, inr, length, option_map, refl, slice_get, subst, sym, take, items_where_true, append-nil}
-use Rattle.litemap.proofs.Common.{Bor, MutBor, Mut, Ordering, at_in, equal_from_is_eq, is_eq, IsSome, at, value_at, Less, Equal, Greater, IsTotalOrder, Rising, greater_back, less_back, tied_itself}
+use Rattle.litemap.proofs.Common.{Bor, MutBor, Mut, Ordering, at_in, equal_from_is_eq, is_eq, IsSome, at, value_at, Less, Equal, Greater, IsTotalOrder, Rising, deref_pair, greater_back, key_alike, key_same, less_back, tied_itself}
 use Rattle.std.proofs.Common.{find, IfSome}
 use Rattle.std.specs.Option.{option_or}
 use Rattle.std.specs.List.Retain.{ReturnsInTurn}
@@ -18,7 +18,7 @@ use Rattle.litemap.specs.Retained.{Retains, ReturnsFor}
 use Rattle.litemap.specs.Updates.{IsGreatest, IsLeast, KeepsPart, TakesPair}
 use Rattle.litemap.specs.Written.{LeavesOf, WritesPair, Written}
 use Rattle.litemap.proofs.MergedTests.{find_passes, none_found}
-use Rattle.litemap.proofs.Rests.{greatest, least}
+use Rattle.litemap.proofs.Rests.{at-index, greatest, least}
 
 module _ {X : Type 0} (test : X → Bool) where
   find-kept : (keep : X → Bool) → ((x : X) → test x ≡ true → keep x ≡ true) → (L : List X) → find test (filter keep L) ≡ find test L
@@ -131,6 +131,20 @@ module _ {K V : Type 0} {cmp : K → K → Ordering} (o : IsTotalOrder cmp) (L :
             | inl s ↦ λ t. let u : cmp x.0 p.0 ≡ Greater = o.congr x.0 k p.0 f.1 ∙ t in let v : cmp x.0 p.0 ≡ Equal = rw s (tied_itself o x.0) in cc
             | inr l ↦ λ t. let u : cmp x.0 p.0 ≡ Greater = o.congr x.0 k p.0 f.1 ∙ t in cc
           ]
+
+-- the same of a pair of references
+module _ {K V : Type 0} {cmp : K → K → Ordering} (o : IsTotalOrder cmp) (L : List (K × V)) (r : Rising cmp L) where
+  pub found_there : (i : ℕ) (p : Option (Bor K × Bor V)) → option_map deref_pair p ≡ slice_get L i → IfSome p (λ q. at cmp L q.0.now ≡ Some (deref_pair q))
+  found_there i None e = tt
+  found_there i (Some q) e = at-index cmp o cmp q.0.now (key_same o q.0.now) (key_alike o q.0.now) L i (deref_pair q) r (sym e) (tied_itself o q.0.now)
+
+  pub least_there : (p : Option (Bor K × Bor V)) → option_map deref_pair p ≡ slice_get L 0 → IfSome p (λ q. IsLeast cmp (deref_pair q) L)
+  least_there None e = tt
+  least_there (Some q) e = is_least o L (deref_pair q) r (sym e)
+
+  pub greatest_there : (p : Option (Bor K × Bor V)) → option_map deref_pair p ≡ slice_get L (length L - 1) → IfSome p (λ q. IsGreatest cmp (deref_pair q) L)
+  greatest_there None e = tt
+  greatest_there (Some q) e = is_greatest o L (deref_pair q) r (sym e)
 
 -- ---- what a closure keeps
 module _ {F K V : Type 0} (g : Mut F (Bor K × (Bor V × Unit {0})) Bool) (test : K × V → Bool) where

@@ -1,0 +1,13 @@
+use Rattle.litemap.proofs.Common.{◌≡◌, ap, deref_pair, option_map, rules, slice_get}
+use Rattle.litemap.proofs.Queried.{found_there, least_there}
+use Rattle.litemap.proofs.map.LiteMap.first.Goals as goal
+
+pub returns-clause-found : goal.returns-clause-found
+returns-clause-found g c =
+    let there : option_map deref_pair c.lm_get.result ≡ slice_get c.args.self.now.pairs 0 = search rules in
+    found_there g.met.K.Ord.total c.args.self.now.pairs (rw (ap (λ m. m.pairs) c.self.view_is) at c.self.invariant) 0 c.lm_get.result there
+
+pub returns-clause-least : goal.returns-clause-least
+returns-clause-least g c =
+    let there : option_map deref_pair c.lm_get.result ≡ slice_get c.args.self.now.pairs 0 = search rules in
+    least_there g.met.K.Ord.total c.args.self.now.pairs (rw (ap (λ m. m.pairs) c.self.view_is) at c.self.invariant) c.lm_get.result there

@@ -1,0 +1,13 @@
+use Rattle.litemap.proofs.Common.{◌≡◌, ◌-◌, length, ap, deref_pair, option_map, rules, slice_get}
+use Rattle.litemap.proofs.Queried.{found_there, greatest_there}
+use Rattle.litemap.proofs.map.LiteMap.last.Goals as goal
+
+pub returns-clause-found : goal.returns-clause-found
+returns-clause-found g c =
+    let there : option_map deref_pair c.lm_last.result ≡ slice_get c.args.self.now.pairs (length c.args.self.now.pairs - 1) = search rules in
+    found_there g.met.K.Ord.total c.args.self.now.pairs (rw (ap (λ m. m.pairs) c.self.view_is) at c.self.invariant) (length c.args.self.now.pairs - 1) c.lm_last.result there
+
+pub returns-clause-greatest : goal.returns-clause-greatest
+returns-clause-greatest g c =
+    let there : option_map deref_pair c.lm_last.result ≡ slice_get c.args.self.now.pairs (length c.args.self.now.pairs - 1) = search rules in
+    greatest_there g.met.K.Ord.total c.args.self.now.pairs (rw (ap (λ m. m.pairs) c.self.view_is) at c.self.invariant) c.lm_last.result there
