@@ -3,6 +3,7 @@ pub mod All
 pub mod Combining
 pub mod Common
 pub mod Conversions
+pub mod Ends
 pub mod Entries
 pub mod Lists
 pub mod MergedTests
@@ -13,7 +14,6 @@ pub mod Places
 pub mod Placing
 pub mod Walks
 pub mod Queried
-pub mod Rests
 pub mod Retained
 pub mod Sets
 pub mod Sums

@@ -2,7 +2,7 @@
 --     keeps_part      in a part;  takes_at      once a pair was taken out;  is_least, is_greatest      at the ends
 --     retains      in what a closure keeps;  leaves_of      in what a closure wrote
 use Rattle.litemap.proofs.Common.{◌≡◌, ◌≢◌, ◌∙◌, ◌∷◌, ◌++◌, ◌-◌, ◌&&◌, [], Bool, true, false, true≢false, List, Option, None, Some, ap, arith, cond, drop, filter, ℕ, ◌+◌, drop_at, remove, suc, inl, inr, length, option_map, refl, slice_get, subst, sym, take, items_where_true, append-nil}
-use Rattle.litemap.proofs.Common.{Bor, MutBor, Mut, Ordering, at_in, equal_from_is_eq, is_eq, IsSome, at, value_at, Less, Equal, Greater, IsTotalOrder, Rising, deref_pair, greater_back, key_alike, key_same, less_back, tied_itself}
+use Rattle.litemap.proofs.Common.{Bor, MutBor, Mut, Ordering, at_in, equal_from_is_eq, is_eq, IsNone, IsSome, at, value_at, Less, Equal, Greater, IsTotalOrder, Rising, deref_pair, greater_back, key_alike, key_same, less_back, tied_itself}
 use Rattle.std.proofs.Common.{find, IfSome}
 use Rattle.std.specs.Option.{option_or}
 use Rattle.std.specs.List.Retain.{ReturnsInTurn}
@@ -18,7 +18,7 @@ use Rattle.litemap.specs.Retained.{Retains, ReturnsFor}
 use Rattle.litemap.specs.Updates.{IsGreatest, IsLeast, KeepsPart, TakesPair}
 use Rattle.litemap.specs.Written.{LeavesOf, WritesPair, Written}
 use Rattle.litemap.proofs.MergedTests.{find_passes, none_found}
-use Rattle.litemap.proofs.Rests.{at-index, greatest, least}
+use Rattle.litemap.proofs.Ends.{at-index, greatest, least}
 
 module _ {X : Type 0} (test : X → Bool) where
   find-kept : (keep : X → Bool) → ((x : X) → test x ≡ true → keep x ≡ true) → (L : List X) → find test (filter keep L) ≡ find test L
@@ -45,7 +45,7 @@ module _ {X : Type 0} (test : X → Bool) where
   found_by true x L y t e rest = inl (cc)
   found_by false x L y t e rest = inr (rest e)
 
-  In-found : (L : List X) (y : X) → find test L ≡ Some y → In y L
+  pub In-found : (L : List X) (y : X) → find test L ≡ Some y → In y L
   In-found [] y e = absurd (cc)
   In-found (x ∷ L) y e = found_by (test x) x L y refl e (In-found L y)
 
@@ -145,6 +145,10 @@ module _ {K V : Type 0} {cmp : K → K → Ordering} (o : IsTotalOrder cmp) (L :
   pub greatest_there : (p : Option (Bor K × Bor V)) → option_map deref_pair p ≡ slice_get L (length L - 1) → IfSome p (λ q. IsGreatest cmp (deref_pair q) L)
   greatest_there None e = tt
   greatest_there (Some q) e = is_greatest o L (deref_pair q) r (sym e)
+
+pub empty_there : {K V : Type 0} (p : Option (Bor K × Bor V)) (q : Option (K × V)) → IsNone p → option_map deref_pair p ≡ q → q ≡ None
+empty_there None q n e = sym e
+empty_there (Some x) q n e = absurd (cc)
 
 -- ---- what a closure keeps
 module _ {F K V : Type 0} (g : Mut F (Bor K × (Bor V × Unit {0})) Bool) (test : K × V → Bool) where

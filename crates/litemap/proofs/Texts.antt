@@ -7,7 +7,7 @@
 --     text_combined      what `extend_with` leaves, looked up by strings
 --     text_clones      the condition of `try_clone` and of the conversions, for `String` keys
 use Rattle.litemap.proofs.Common.{◌≡◌, ◌≢◌, ◌∷◌, ◌++◌, List, Some, None, Ok, IsSome, String, Vec, Bor, ℕ, cond, is_some}
-use Rattle.litemap.proofs.Common.{slice_get, slice_set, refl, nat_cmp, Ordering, Equal, IsTotalOrder, slice_cmp}
+use Rattle.litemap.proofs.Common.{slice_get, slice_set, refl, ap, sym, ◌∙◌, is_eq, nat_cmp, Ordering, Less, Equal, Greater, IsTotalOrder, slice_cmp}
 use Rattle.litemap.proofs.Common.{nat_list_cmp_total, on_texts, option_or, string_bytes, string_cmp, Merge, left, above, at}
 use Rattle.litemap.proofs.Common.{below, cut, index_of, key_or, place, put, value_at, write, value_at-cut, value_at-cut_other}
 use Rattle.litemap.proofs.Common.{value_at-put, value_at-put_other, value_at-write, value_at-write_apart, value_in-set}
@@ -24,6 +24,9 @@ use Rattle.litemap.proofs.Combining.{value_at-combined}
 -- the law of their order
 pub by_bytes_total : IsTotalOrder by_bytes
 by_bytes_total = on_texts (λ (a : Bor (List ℕ)). a.now)
+
+nat_list_cmp_itself : (t : List ℕ) → slice_cmp nat_cmp t t ≡ Equal
+nat_list_cmp_itself t = tied_itself nat_list_cmp_total t
 
 differs : (t u : List ℕ) → u ≢ t → slice_cmp nat_cmp u t ≢ Equal
 differs t u n e = n (exact_bytes u t e)
@@ -91,6 +94,16 @@ module _ {V Z : Type 0} where
   text_put_others L k u v n =
       value_at-between_apart string_cmp k by_string u (slice_cmp nat_cmp u (string_bytes k)) (differs (string_bytes k) u n) (turned (λ x. string_bytes x) (string_bytes k) u) L
       (key_or (at string_cmp L k) k, v) (key_or_equal string_cmp_total k L)
+
+  -- the same of all strings in one equation
+  pub text_put : (L : List (String Z × V)) (k : String Z) (u : List ℕ) (v : V) → value_at by_string (put string_cmp L k v) u
+      ≡ cond (is_eq (slice_cmp nat_cmp u (string_bytes k))) (Some v) (value_at by_string L u)
+  text_put L k u v = by (slice_cmp nat_cmp u (string_bytes k)) refl
+    where
+      by : (r : Ordering) → slice_cmp nat_cmp u (string_bytes k) ≡ r → value_at by_string (put string_cmp L k v) u ≡ cond (is_eq r) (Some v) (value_at by_string L u)
+      by Equal e = let s : u ≡ string_bytes k = exact_bytes u (string_bytes k) e in rw s (text_put_found L k v)
+      by Less e = text_put_others L k u v (λ s. let t : Less ≡ Equal = sym e ∙ ap (λ w. slice_cmp nat_cmp w (string_bytes k)) s ∙ nat_list_cmp_itself (string_bytes k) in cc)
+      by Greater e = text_put_others L k u v (λ s. let t : Greater ≡ Equal = sym e ∙ ap (λ w. slice_cmp nat_cmp w (string_bytes k)) s ∙ nat_list_cmp_itself (string_bytes k) in cc)
 
   pub text_write_found : (L : List (String Z × V)) (t : List ℕ) (v : V) → IsSome (at by_string L t) → value_at by_string (write by_string L t v) t ≡ Some v
   text_write_found L t v there = value_at-write by_string t L v there
@@ -177,6 +190,7 @@ pub ruleset string_keys = (
 
 pub ruleset text_keys = (
   text_put_found,
+  text_put,
   text_put_place,
   text_put_others,
   text_write_found,

@@ -1,5 +1,5 @@
 //! Calls that look at a map. None takes memory. A lookup of a key makes O(log n) comparisons.
-ghost use Rattle.std.specs.Prelude.{◌≡◌, ◌==◌, ◌-◌, ◌<◌, IfOk, IfSome, IsSome, Some, is_some, length, slice_get};
+ghost use Rattle.std.specs.Prelude.{◌≡◌, ◌==◌, ◌-◌, ◌<◌, [], IfOk, IfSome, IsNone, IsSome, Some, is_some, length, slice_get};
 ghost use Rattle.std.specs.Map.Iter.{deref_pair};
 ghost use Rattle.std.specs.Option.{option_copied, option_map};
 ghost use Rattle.litemap_store.specs.Counts.{RisesByAtMost, digits};
@@ -49,6 +49,7 @@ impl<K: Ord, V, S: Store<K, V>> LiteMap<K, V, S> {
         ensures pair { option_map deref_pair result ≡ slice_get self.now.pairs 0 }
         ensures found { IfSome result (λ p. at K.cmp self.now.pairs p.0.now ≡ Some (deref_pair p)) }
         ensures least { IfSome result (λ p. IsLeast K.cmp (deref_pair p) self.now.pairs) }
+        ensures empty { IsNone result → self.now.pairs ≡ [] }
         ensures rising { Rising K.cmp self.now.pairs }
     {
         self.store.lm_get(0)
@@ -59,6 +60,7 @@ impl<K: Ord, V, S: Store<K, V>> LiteMap<K, V, S> {
         ensures pair { option_map deref_pair result ≡ slice_get self.now.pairs (length self.now.pairs - 1) }
         ensures found { IfSome result (λ p. at K.cmp self.now.pairs p.0.now ≡ Some (deref_pair p)) }
         ensures greatest { IfSome result (λ p. IsGreatest K.cmp (deref_pair p) self.now.pairs) }
+        ensures empty { IsNone result → self.now.pairs ≡ [] }
         ensures rising { Rising K.cmp self.now.pairs }
     {
         self.store.lm_last()
