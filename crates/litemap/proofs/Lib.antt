@@ -16,6 +16,7 @@ pub mod Walks
 pub mod Queried
 pub mod Retained
 pub mod Sets
+pub mod StdMaps
 pub mod Sums
 pub mod Tables
 pub mod Texts

@@ -8,7 +8,9 @@ pub mod Entries
 pub mod FoundBy
 pub mod Lends
 pub mod Retained
+pub mod Runs
 pub mod TryFault
 pub mod Updates
 pub mod Within
+pub mod Words
 pub mod Written

@@ -1,7 +1,9 @@
 //! Double-ended iterators over the pairs, the keys or the values of a map. None takes memory. After `None` they return `None`
 //! for good.
 ghost use Rattle.std.specs.Prelude.{◌≡◌};
+ghost use Rattle.std.specs.Map.Iter.{deref_pair};
 ghost use Rattle.litemap_store.specs.Pairs.{Rising};
+ghost use Rattle.litemap.specs.Runs.{KeysInOrder, RunsInOrder, ValuesInOrder};
 
 mod keys_values;
 mod range;
@@ -17,6 +19,7 @@ impl<'a, K: Ord + 'a, V: 'a, S: StoreIterable<'a, K, V>> LiteMap<K, V, S> {
     pub fn iter(&'a self) -> S::KeyValueIter
         ensures rest { S.KeyValueIter.rest result ≡ self.now.pairs }
         ensures rising { Rising K.cmp self.now.pairs }
+        ensures runs { RunsInOrder S.KeyValueIter.next_gives (deref_pair {K = K} {X = V}) S.KeyValueIter.rest }
     {
         self.store.lm_iter()
     }
@@ -43,6 +46,7 @@ impl<'a, K: Ord + 'a, V: 'a, S: StoreIterable<'a, K, V>> LiteMap<K, V, S> {
     pub fn keys(&'a self) -> KeysIterWrap<'a, K, V, S::KeyValueIter>
         ensures rest { S.KeyValueIter.rest result ≡ self.now.pairs }
         ensures rising { Rising K.cmp self.now.pairs }
+        ensures runs { KeysInOrder S.KeyValueIter.rest }
     {
         KeysIterWrap {
             iter: self.iter(),
@@ -54,6 +58,7 @@ impl<'a, K: Ord + 'a, V: 'a, S: StoreIterable<'a, K, V>> LiteMap<K, V, S> {
     pub fn values(&'a self) -> ValuesIterWrap<'a, K, V, S::KeyValueIter>
         ensures rest { S.KeyValueIter.rest result ≡ self.now.pairs }
         ensures rising { Rising K.cmp self.now.pairs }
+        ensures runs { ValuesInOrder S.KeyValueIter.rest }
     {
         ValuesIterWrap {
             iter: self.iter(),

@@ -1,0 +1,8 @@
+use Rattle.litemap.proofs.Common.{ap, length}
+use Rattle.std.proofs.iter.runs.Sources.{from_front}
+use Rattle.std.specs.Map.{values_of}
+use Rattle.std.specs.Map.Iter.{deref}
+use Rattle.litemap.proofs.map.LiteMap.values.Goals as goal
+
+pub returns-clause-runs : goal.returns-clause-runs
+returns-clause-runs g c = from_front _ deref (λ s. values_of (g.S.KeyValueIter.PairIter.rest s)) (λ s t h. ap length h.0) (λ s x t h. h)

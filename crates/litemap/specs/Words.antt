@@ -1,0 +1,73 @@
+-- All that a caller says of a map, for one import. The first words are of a map's list of pairs, `m.pairs`; those below are of
+-- the map `m` itself, under the names that std has for its `BTreeMap`.
+pub use Rattle.std.specs.Prelude.{◌≡◌, ◌≢◌, ◌↔◌, ◌⊎◌, ◌+◌, ◌-◌, ◌<◌, ◌≤◌, ◌^◌, ◌==◌, ℕ, List, [], ◌∷◌, ◌++◌, Option, None, Some}
+pub use Rattle.std.specs.Prelude.{Ok, Err}
+pub use Rattle.std.specs.Prelude.{IsSome, IsNone, IsOk, IsErr, IsTrue, IfSome, IfNone, IfOk, IfErr, OnSome, OnOk, OnErr}
+pub use Rattle.std.specs.Prelude.{MatchOption, MatchResult}
+pub use Rattle.std.specs.Prelude.{All, length, map, filter, reverse, sum, codes, count_by, is_some, option_map, unwrap_or}
+pub use Rattle.std.specs.Prelude.{slice_get, string_bytes, if◌then◌else◌}
+pub use Rattle.std.specs.Bool.{IsFalse}
+pub use Rattle.std.specs.Option.{option_copied, option_or}
+pub use Rattle.std.specs.Map.{keys_of, values_of}
+pub use Rattle.std.specs.Map.Iter.{deref_pair}
+pub use Rattle.std.specs.Ordering.{nat_cmp, int_cmp}
+pub use Rattle.std.specs.String.{string_cmp}
+pub use Rattle.std.specs.declared.cmp.Ordering.TheVariants.{Less, Equal, Greater}
+pub use Rattle.std.specs.declared.ops.Bound.TheVariants.{Included, Excluded, Unbounded}
+pub use Rattle.litemap_store.specs.Pairs.{AllBelow, BelowAll, Rising, at, cut, index_of, place, put, value_at, value_in, write}
+pub use Rattle.litemap_store.specs.Queries.{by_slice, by_string, bytes_cmp}
+pub use Rattle.litemap_store.specs.Last.{Last}
+pub use Rattle.litemap_store.specs.Merge.{Merge, left}
+pub use Rattle.litemap_store.specs.Contents.{Contents}
+pub use Rattle.litemap.specs.ByBytes.{by_bytes}
+pub use Rattle.litemap.specs.Combined.{found_with}
+pub use Rattle.litemap.specs.Within.{before, within}
+use Rattle.std.specs.declared.cmp.Ordering.{Ordering}
+use Rattle.std.specs.declared.string.String.{String}
+
+module _ {K V : Type 0} where
+  -- the keys, in order
+  abbrev pub keys : Contents K V → List K
+  keys m = keys_of m.pairs
+
+  -- the values, in the keys' order
+  abbrev pub values : Contents K V → List V
+  values m = values_of m.pairs
+
+  -- how many pairs
+  abbrev pub btree_map_len : Contents K V → ℕ
+  btree_map_len m = length m.pairs
+
+  -- how many further pairs it takes without failing
+  abbrev pub spare : Contents K V → ℕ
+  spare m = m.room
+
+  -- n has the pairs of m
+  abbrev pub IsUnchanged : Contents K V → Contents K V → Type 0
+  IsUnchanged m n = n.pairs ≡ m.pairs
+
+  -- no pairs
+  abbrev pub IsEmpty : Contents K V → Type 0
+  IsEmpty m = m.pairs ≡ []
+
+-- the keys ascend, which holds of every map
+abbrev pub IsOrdered : {K V : Type 0} → (K → K → Ordering) → Contents K V → Type 0
+IsOrdered cmp m = Rising cmp m.pairs
+
+-- ---- `order` is how the keys compare with a query: with a key `cmp`, as in std
+module _ {K Q V : Type 0} (order : K → Q → Ordering) where
+  -- the map as a function: the value that the query finds
+  abbrev pub get : Contents K V → Q → Option V
+  get m q = value_at order m.pairs q
+
+  -- the key that the query finds
+  abbrev pub get_key : Contents K V → Q → Option K
+  get_key m q = option_map (λ p. p.0) (at order m.pairs q)
+
+  -- the query finds a key
+  abbrev pub ContainsKey : Contents K V → Q → Type 0
+  ContainsKey m q = IsSome (get m q)
+
+-- the value at the `String` key with these bytes
+abbrev pub get_by_text : {V Z : Type 0} → Contents (String Z) V → List ℕ → Option V
+get_by_text m bytes = get by_string m bytes
