@@ -19,6 +19,7 @@ mod shown;
 pub mod stores;
 pub mod sums;
 pub mod texts;
+pub mod trees;
 pub mod words;
 
 fn main(rt: HostRuntime) -> anyhow::Result<()> {

@@ -13,7 +13,7 @@ use crate::stores::{moved, total};
 use crate::sums::{self, Named};
 use crate::texts::{self, ByteNumbers, Numbers};
 use crate::words::{self, Counts};
-use crate::{config, reserved, scores};
+use crate::{config, reserved, scores, trees};
 use litemap::{LiteMap, TryFault, VecMap};
 use litemap_columns::ColumnMap;
 use std::alloc::{AllocError, Global};
@@ -45,6 +45,7 @@ pub(crate) fn show(rt: &impl Print, alloc: Global) -> anyhow::Result<()> {
     show_counts(rt, alloc)?;
     show_words(rt, alloc)?;
     show_bag(rt, alloc)?;
+    show_trees(rt, alloc)?;
     Ok(show_calendar(rt, alloc)?)
 }
 
@@ -334,6 +335,30 @@ fn show_bag(rt: &impl Print, alloc: Global) -> io::Result<()> {
     bag.keep(2);
     let left = (bag.get(&5), bag.get(&7));
     println!(rt; "bag added {all_added}, removed {removed:?}, left {left:?}")
+}
+
+// A stock and a map, by callers that were written for std's `BTreeMap`.
+fn show_trees(rt: &impl Print, alloc: Global) -> io::Result<()> {
+    let mut stock = trees::Stock::new(alloc);
+    let put = [stock.put(3, 30), stock.put(1, 30), stock.put(2, 20)];
+    stock.renumber(3, 4)?;
+    stock.take(2);
+    let (left, alike) = (
+        [stock.count(2), stock.count(3), stock.count(4)],
+        stock.items_with(30),
+    );
+    println!(rt; "stock put {put:?}, left {left:?}, alike {alike}")?;
+    let mut map = VecMap::new(alloc);
+    let grown = (
+        trees::grown(&mut map, 2),
+        trees::grown(&mut map, 3),
+        trees::grown(&mut map, 2),
+    );
+    let keys = trees::all_keys(&map, alloc)?;
+    trees::kept(&mut map);
+    let (two, three) = (trees::its_key(&map, 2), trees::its_key(&map, 3));
+    let words = trees::words(alloc)?;
+    println!(rt; "grown {grown:?}, keys {keys:?}, then {two:?}, {three:?}, {words:?}")
 }
 
 fn show_calendar(rt: &impl Print, alloc: Global) -> io::Result<()> {
