@@ -27,7 +27,7 @@ def listed(top):
             yield call, group
         elif re.match(rf"(?:pub )?fn {call.split(':')[-1]}_counted\b", line):
             yield f"{call}_counted", group
-        elif found := re.match(r"impl.*> (\w+) for (?:&'a )?LiteMap", line):
+        elif found := re.match(r"impl.*> (\w+)(?:<.*>)? for (?:&'a )?LiteMap", line):
             yield f"trait {found[1]}", group
 
 

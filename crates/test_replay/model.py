@@ -463,7 +463,8 @@ class Model:
             return self.text(part(name[5:], pair) for pair in pairs) + " exact"
         if name in CONVERSIONS:
             cloned = len(self.pairs) * CONVERSIONS[name]
-            return f"{'in order ' * (name == 'to_keys_by')}{self.text(self.pairs)} cloned {cloned}"
+            text = f"{'in order ' * (name == 'to_keys_by')}{self.text(self.pairs)} cloned {cloned}"
+            return text, max(len(self.pairs) - 1, 0) * (name == "cloned")
         if name == "lm_try_clone":
             return self.text(self.pairs)
         return None
@@ -735,7 +736,7 @@ KEYED = {*LOOK_UPS, *PUTS, *ENTRIES, *TWICE, *RENAMES, *named("take", "take_pair
 LOOKING = ["get", "get_pair", "get_more", "find", "index"]
 PAIRED, TAKING = ["put", "find_or_put", "enter"], ["take", "take_pair"]
 # The number of clones that each conversion makes of a pair.
-CONVERSIONS = {"try_clone": 2, "to_boxed_keys_values": 2, "to_boxed_keys": 2, "to_boxed_values": 2, "to_keys_by": 1}
+CONVERSIONS = {"try_clone": 2, "cloned": 2, "to_boxed_keys_values": 2, "to_boxed_keys": 2, "to_boxed_values": 2, "to_keys_by": 1}
 CONVERSIONS |= {"to_borrowed_keys_values": 0, "to_borrowed_keys": 1, "to_borrowed_values": 1}
 
 

@@ -38,6 +38,8 @@ NOT_CALLED = {
     "Query::compare_key": "what each look-up asks",
     "StoreSlice::lm_get_range": "what `get_indexed_range` hands on",
     "StoreMut::lm_try_clone": "what `try_clone` hands on",
+    "StoreAlloc::lm_alloc": "what `clone` and `extend` of std's traits ask",
+    "StoreColumns::lm_columns_mut": "what `iter_mut` hands on",
     "StoreIterable::lm_iter": "what `iter` hands on",
     "StoreIntoIterator::lm_into_iter": "what `into_iter` hands on",
     "extend_from_store": "what `extend_from_litemap` hands on",
@@ -53,6 +55,9 @@ NOT_CALLED = {
     "NameIndex::prefix_range_counted": "what `prefix_range` hands on",
 }
 NOT_TURNED = {
+    "LiteMap::as_store": "nothing else has its type",
+    "LiteMap::into_store": "nothing else has its type",
+    "StoreAlloc::lm_alloc": "its contract promises nothing",
     "extend_from_store": "what `extend_from_litemap` hands on",
     "JsonFault::told_in": "it promises nothing: its words are compared in test_formats",
     "JsonItem::wanted": "it promises nothing: its words are compared in test_formats",

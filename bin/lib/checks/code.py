@@ -12,7 +12,7 @@ LEFT_OUT = re.compile(r"^ *// \.\.\.\n", re.MULTILINE)
 SHOWN = ("example_uses", "example_formats", "example_store")
 CALLERS = ("example_uses", "example_formats", "example_store")
 # What is called by no name of its own: a program, and calls of traits.
-UNNAMED = {"main", "compare_key", "eq", "lm_iter", "lm_into_iter", "to_value", "from_value", "key_text", "from_key_text"}
+UNNAMED = {"main", "compare_key", "eq", "lm_alloc", "lm_iter", "lm_into_iter", "to_value", "from_value", "key_text", "from_key_text"}
 # A function, by the space before it, its name and its body.
 FUNCTION = re.compile(r"^( *)(?:pub(?:\(crate\))? )?fn (\w+)(.*?)^\1\}$", re.MULTILINE | re.DOTALL)
 

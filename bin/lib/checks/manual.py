@@ -11,10 +11,10 @@ INDEX = "docs/API.md"
 START, END = "<!-- bin/check writes what follows. -->\n", "<!-- bin/check writes what is above. -->\n"
 # What a caller wants to do, and the sources of the calls for it.
 GROUPS = {
-    "Make a map": "litemap: lib map",
+    "Make a map": "litemap: lib map map/traits map/inside",
     "Look up": "litemap: map/look map/ranges",
-    "Change": "litemap: map/change map/take try_fault",
-    "Write a value in place": "litemap: map/write",
+    "Change": "litemap: map/change map/take map/positions try_fault",
+    "Write a value in place": "litemap: map/write map/iter_mut",
     "Entries": "litemap: map/entry",
     "Many at once": "litemap: map/bulk",
     "Merge and compare keys": "litemap: map/merge map/sets",

@@ -14,8 +14,8 @@ ghost use Rattle.std.specs.Prelude.{⊤, refl};
 ghost use Rattle.litemap_store.specs.Contents.{with_value};
 
 use litemap::store::{
-    Count, KeepsMemory, NoRoom, SliceIter, Store, StoreBulkMut, StoreConstEmpty, StoreFromIterable,
-    StoreFromIterator, StoreIntoIterator, StoreIterable, StoreMut,
+    Count, KeepsMemory, NoRoom, SliceIter, Store, StoreAlloc, StoreBulkMut, StoreConstEmpty,
+    StoreFromIterable, StoreFromIterator, StoreIntoIterator, StoreIterable, StoreMut,
 };
 use std::alloc::{AllocError, Global};
 use std::marker::Model;
@@ -52,6 +52,12 @@ impl<K, V> Store<K, V> for FixedRoom<K, V> {
 
     fn lm_get(&self, index: usize) -> Option<(&K, &V)> {
         self.items.lm_get(index)
+    }
+}
+
+impl<K, V> StoreAlloc<K, V> for FixedRoom<K, V> {
+    fn lm_alloc(&self) -> Global {
+        *self.items.allocator()
     }
 }
 

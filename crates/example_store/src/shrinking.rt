@@ -6,7 +6,7 @@ ghost use Rattle.std.specs.Prelude.{◌≡◌, refl};
 ghost use Rattle.litemap_store.specs.Contents.{with_value};
 
 use litemap::store::{
-    Count, NoRoom, SliceIter, Store, StoreBulkMut, StoreConstEmpty, StoreFromIterable,
+    Count, NoRoom, SliceIter, Store, StoreAlloc, StoreBulkMut, StoreConstEmpty, StoreFromIterable,
     StoreFromIterator, StoreIntoIterator, StoreIterable, StoreMut,
 };
 use std::alloc::{AllocError, Global};
@@ -50,6 +50,12 @@ impl<K, V> Store<K, V> for Shrinking<K, V> {
 
     fn lm_get(&self, index: usize) -> Option<(&K, &V)> {
         self.items.lm_get(index)
+    }
+}
+
+impl<K, V> StoreAlloc<K, V> for Shrinking<K, V> {
+    fn lm_alloc(&self) -> Global {
+        *self.items.allocator()
     }
 }
 

@@ -4,6 +4,7 @@
 
 pub mod bag;
 pub mod calendar;
+pub mod collection;
 pub mod config;
 pub mod counting;
 pub mod headers;

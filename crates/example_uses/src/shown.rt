@@ -1,6 +1,7 @@
 //! What the callers return, a line or a few for each.
 use crate::bag::Bag;
 use crate::calendar::{self, Calendar};
+use crate::collection::{self, Config};
 use crate::counting::{self, Names};
 use crate::headers::{self, Borrowed, Headers};
 use crate::made::value_or_made;
@@ -46,7 +47,9 @@ pub(crate) fn show(rt: &impl Print, alloc: Global) -> anyhow::Result<()> {
     show_words(rt, alloc)?;
     show_bag(rt, alloc)?;
     show_trees(rt, alloc)?;
-    Ok(show_calendar(rt, alloc)?)
+    show_calendar(rt, alloc)?;
+    show_config(rt, alloc)?;
+    Ok(show_collected(rt, alloc)?)
 }
 
 // Pairs whose names are copied.
@@ -369,4 +372,38 @@ fn show_calendar(rt: &impl Print, alloc: Global) -> io::Result<()> {
     println!(rt; "month {:?}", calendar::month(&calendar, 2024, 2))?;
     calendar::drop_before(&mut calendar, &(2024, 2, 29));
     println!(rt; "from then on {calendar:?}")
+}
+
+// Limits that are copied, doubled up to one that has no double, removed at an index, and taken.
+fn show_config(rt: &impl Print, alloc: Global) -> io::Result<()> {
+    let limits = map_of(alloc, &[("a", 1), ("b", 2), ("c", u32::MAX), ("d", 4)])?;
+    let config = Config { limits, days: 7 };
+    let mut copy = collection::copied(&config)?;
+    let doubled = collection::double_all(&mut copy.limits);
+    let line = collection::take_line(&mut copy.limits, 1);
+    println!(rt;
+        "limits {:?}, copied {:?}, doubled {doubled:?}, taken {line:?}",
+        config.limits, copy.limits
+    )?;
+    let limits = collection::taken(&mut copy)?;
+    if limits.contains_key("a") {
+        println!(rt;
+            "limit of a {}, left {:?}",
+            collection::limit_of(&limits, "a"),
+            copy.limits
+        )?;
+    }
+    Ok(())
+}
+
+fn show_collected(rt: &impl Print, alloc: Global) -> io::Result<()> {
+    let map = collection::gathered(alloc, [(7, 1), (5, 2), (3, 3), (5, 4)].to_vec(alloc)?)?;
+    let mut columns: ColumnMap<u32, u32> = [(1, 9), (2, 5), (3, 0), (4, 9)]
+        .into_iter()
+        .collect(alloc)?;
+    collection::cap(&mut columns, 7);
+    println!(rt;
+        "collected {map:?}, within {}, capped {columns:?}",
+        collection::number_within(&map)
+    )
 }

@@ -1,10 +1,13 @@
 -- Lemmas of the proofs.
 pub mod All
+pub mod Collecting
 pub mod Combining
 pub mod Common
 pub mod Conversions
 pub mod Ends
 pub mod Entries
+pub mod KeptWriting
+pub mod Lending
 pub mod Lists
 pub mod MergedTests
 pub mod Numbers
@@ -12,6 +15,7 @@ pub mod Outcomes
 pub mod Parts
 pub mod Places
 pub mod Placing
+pub mod Positions
 pub mod Walks
 pub mod Queried
 pub mod Retained
@@ -21,5 +25,6 @@ pub mod Sums
 pub mod Tables
 pub mod Texts
 pub mod Updating
+pub mod TryWriting
 pub mod Cuts
 pub mod Writing

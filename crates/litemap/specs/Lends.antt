@@ -1,13 +1,14 @@
 -- What a map is once a reference to one of its values has ended. A contract passes what `K.row`, `S.pairs` and the like are,
 -- since the map's type takes them in the logic.
 use Rattle.std.specs.Prelude.{◌≡◌, ℕ, List, Option, OnSome, IfNone, ⊤}
-use Rattle.std.specs.Borrow.{Fml, RattleType, MutBor, Lends, LendsIf, LendsSo, follows_so}
+use Rattle.std.specs.Borrow.{Array, Fml, GName, RattleType, MutBor, Lends, LendsIf, LendsSo, follows, follows_so}
 use mathlib.Core.Option.{none}
 use Rattle.std.specs.Option.{option_copied_mut}
 use Rattle.std.specs.BTreeMap.Lent.{OrdMembers}
 use Rattle.std.specs.declared.cmp.Ordering.{Ordering}
 use Rattle.litemap_store.specs.Pairs.{set_value, value_in, write}
 use Rattle.litemap_store.specs.Contents.{Contents, with_pairs}
+use Rattle.litemap_store.specs.Lent.{set_values}
 use Rattle.litemap.specs.contracts.map.LiteMap.{the_row}
 
 module _ (K V S : RattleType) (key : OrdMembers K.Denot) (pairs : S.Denot → List (K.Denot × V.Denot)) (room : S.Denot → ℕ) where
@@ -47,3 +48,7 @@ module _ (K V S : RattleType) (key : OrdMembers K.Denot) (pairs : S.Denot → Li
     -- once all borrows of the map have ended, P holds of it
     abbrev pub RestsAs : (Contents K.Denot V.Denot → Type 0) → Fml
     RestsAs P = follows_so map_row map_row m.ghost_name none (λ _ _. ⊤) P
+
+    -- once the loan of that name ends, the map has the last values written through it
+    abbrev pub LendsValues : GName → Fml
+    LendsValues r = follows map_row (Array V 0) m.ghost_name r (λ values. with_pairs m.now (set_values m.now.pairs values))

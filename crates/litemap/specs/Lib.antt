@@ -6,11 +6,14 @@ pub mod Comparisons
 pub mod Conversions
 pub mod Entries
 pub mod FoundBy
+pub mod IterMut
+pub mod KeptWritten
 pub mod Lends
 pub mod Retained
 pub mod Runs
 pub mod TryFault
 pub mod Updates
+pub mod TryWritten
 pub mod Within
 pub mod Words
 pub mod Written

@@ -11,7 +11,7 @@ mod try_fault;
 
 pub use litemap_store::{Query, store};
 pub use map::{
-    Entry, KeysIterWrap, LiteMap, OccupiedEntry, RangeIter, VacantEntry, ValuesIterWrap,
+    Entry, IterMut, KeysIterWrap, LiteMap, OccupiedEntry, RangeIter, VacantEntry, ValuesIterWrap,
 };
 pub use try_fault::TryFault;
 

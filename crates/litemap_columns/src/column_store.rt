@@ -3,7 +3,8 @@ ghost use Rattle.std.specs.Prelude.{⊤, ◌≡◌, ◌+◌, ◌≤◌, ◌<◌,
 ghost use Rattle.std.specs.List.{zip};
 ghost use Rattle.std.specs.Map.{keys_of, values_of};
 ghost use Rattle.litemap_columns.specs.Columns.{columns};
-ghost use Rattle.litemap_store.specs.Contents.{with_value};
+ghost use Rattle.litemap_store.specs.Contents.{with_pairs, with_value};
+ghost use Rattle.litemap_store.specs.Lent.{set_values};
 ghost use Rattle.litemap_store.specs.Retain.{CallableOnEach, Kept};
 ghost use Rattle.litemap_store.specs.VecStore.{vec_room};
 
@@ -13,8 +14,8 @@ use litemap_store::reserved::{insert_reserved, remove_at};
 use litemap_store::retain::{SwapStore, retain};
 use litemap_store::slice_search;
 use litemap_store::store::{
-    Count, KeepsMemory, NoRoom, Store, StoreBulkMut, StoreConstEmpty, StoreFromIterable,
-    StoreFromIterator, StoreIntoIterator, StoreIterable, StoreMut,
+    Count, KeepsMemory, NoRoom, Store, StoreAlloc, StoreBulkMut, StoreColumns, StoreConstEmpty,
+    StoreFromIterable, StoreFromIterator, StoreIntoIterator, StoreIterable, StoreMut,
 };
 use std::alloc::{AllocError, Global};
 use std::cmp::Ordering;
@@ -103,6 +104,12 @@ impl<K, V> Store<K, V> for ColumnStore<K, V> {
     ) -> Result<usize, usize> {
         // The search needs only keys by index (`Keys`), which `ColumnIter` has too.
         slice_search::find(&self.lm_iter(), f, count)
+    }
+}
+
+impl<K, V> StoreAlloc<K, V> for ColumnStore<K, V> {
+    fn lm_alloc(&self) -> Global {
+        *self.keys.allocator()
     }
 }
 
@@ -303,4 +310,16 @@ fn append_reserved<T: Drop>(items: &mut Vec<T>, other: &mut Vec<T>)
     ensures len { vec_len items.new ≡ vec_len items.old + vec_len other.old }
 {
     items.append(other).unwrap();
+}
+
+impl<K, V> StoreColumns<K, V> for ColumnStore<K, V> {
+    ghost with_values = { λ s values. with_pairs s (set_values s.pairs values) };
+
+    fn lm_columns_mut(&mut self) -> (&[K], &mut [V]) {
+        (self.keys.as_slice(), self.values.as_mut_slice())
+    }
+
+    ghost writes_all = { λ _ _. refl };
+
+    ghost keeps_room_all = { λ _ _. refl };
 }

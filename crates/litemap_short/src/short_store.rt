@@ -5,8 +5,9 @@ ghost use Rattle.litemap_store.specs.Contents.{with_value};
 use crate::short_iter::ShortIntoIter;
 use crate::storage::{Storage, pair_at};
 use litemap_store::store::{
-    Count, KeepsMemory, NoRoom, SliceIter, SliceStore, Store, StoreBulkMut, StoreConstEmpty,
-    StoreFromIterable, StoreFromIterator, StoreIntoIterator, StoreIterable, StoreMut, StoreSlice,
+    Count, KeepsMemory, NoRoom, SliceIter, SliceStore, Store, StoreAlloc, StoreBulkMut,
+    StoreConstEmpty, StoreFromIterable, StoreFromIterator, StoreIntoIterator, StoreIterable,
+    StoreMut, StoreSlice,
 };
 use std::alloc::{AllocError, Global};
 use std::cmp::Ordering;
@@ -64,6 +65,12 @@ impl<K, V> Store<K, V> for ShortStore<K, V> {
         count: &mut Count,
     ) -> Result<usize, usize> {
         SliceStore::new(self.storage.as_slice()).lm_binary_search_by(f, count)
+    }
+}
+
+impl<K, V> StoreAlloc<K, V> for ShortStore<K, V> {
+    fn lm_alloc(&self) -> Global {
+        self.alloc
     }
 }
 

@@ -1,10 +1,11 @@
 //! The iterator over the pairs of a slice.
-ghost use Rattle.std.specs.Prelude.{◌≡◌, length, refl};
+ghost use Rattle.std.specs.Prelude.{◌≡◌, ⊤, length, refl};
 ghost use Rattle.std.specs.Iterator.{at_most};
 ghost use Rattle.std.specs.Map.Iter.{TakesFirst, TakesLast, deref_pair};
 ghost use Rattle.litemap_store.specs.{HintsExactly};
 
 use crate::store::PairIter;
+use std::alloc::AllocError;
 use std::iter::FusedIterator;
 use std::marker::Model;
 
@@ -30,6 +31,16 @@ impl<'a, K, V> SliceIter<'a, K, V> {
         ensures { result ≡ pairs.now }
     {
         SliceIter { rest: pairs }
+    }
+}
+
+impl<'a, K, V> Clone for SliceIter<'a, K, V> {
+    ghost is_clone = { λ s t. t ≡ s };
+
+    ghost is_infallible = { λ _. ⊤ };
+
+    fn clone(&self) -> Result<Self, AllocError> {
+        Ok(SliceIter { rest: self.rest })
     }
 }
 

@@ -8,8 +8,8 @@ use crate::reserved::remove_at;
 use crate::retain::{SwapStore, retain};
 use crate::slice_search;
 use crate::store::{
-    Count, KeepsMemory, NoRoom, SliceIter, SliceStore, Store, StoreBulkMut, StoreConstEmpty,
-    StoreFromIterable, StoreFromIterator, StoreIterable, StoreMut, StoreSlice,
+    Count, KeepsMemory, NoRoom, SliceIter, SliceStore, Store, StoreAlloc, StoreBulkMut,
+    StoreConstEmpty, StoreFromIterable, StoreFromIterator, StoreIterable, StoreMut, StoreSlice,
 };
 use std::alloc::{AllocError, Global};
 use std::cmp::Ordering;
@@ -44,6 +44,12 @@ impl<K, V> StoreConstEmpty<K, V> for Vec<(K, V)> {
 
     fn lm_empty(alloc: Global) -> Self {
         Vec::new(alloc)
+    }
+}
+
+impl<K, V> StoreAlloc<K, V> for Vec<(K, V)> {
+    fn lm_alloc(&self) -> Global {
+        *self.allocator()
     }
 }
 

@@ -1,6 +1,6 @@
 //! Cases: what neither a contract nor a line of `test_replay` says. The program writes how each came out.
 //!
-//! They are of maps: closures that call several keys equal, queries of each kind, constant tables, iterators that lie, the
+//! They are of maps: closures that call several keys equal, queries of each kind, constant tables, calls of a collection, iterators that lie, the
 //! greatest capacities, stores with a limit, what is printed, and small maps; and of the program `names`, over readers
 //! and writers in memory, with its names kept in one vector and in two columns: lines with their output, how much it reads, and
 //! an error at each read and each write.
@@ -16,6 +16,7 @@ macro_rules! outcomes {
 }
 
 mod closures;
+mod collection;
 mod constants;
 mod ends;
 mod faults;
@@ -60,10 +61,15 @@ fn main(rt: HostRuntime) -> ExitCode {
     }
 }
 
-fn cases(alloc: Global) -> [(&'static str, Outcome); 30] {
+fn cases(alloc: Global) -> [(&'static str, Outcome); 35] {
     outcomes! { alloc;
         closures::one_of_the_keys_called_equal_is_found,
         closures::a_closure_compares_with_another_type,
+        collection::a_map_is_indexed_and_taken,
+        collection::iterators_are_cloned,
+        collection::ranges_are_written_as_in_rust,
+        collection::a_store_comes_out,
+        collection::a_pair_goes_by_its_index,
         constants::numbers_of_each_type_are_found,
         constants::both_ends_of_a_type_are_found,
         constants::strings_and_bytes_are_found,

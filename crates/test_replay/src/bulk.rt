@@ -8,7 +8,7 @@ use crate::counted::{Key, Value};
 use crate::tested::Tested;
 use crate::{lists, sizes};
 use litemap::LiteMap;
-use litemap::store::{Count, NoRoom, StoreBulkMut, StoreMut};
+use litemap::store::{Count, NoRoom, StoreAlloc, StoreBulkMut, StoreMut};
 use litemap_columns::ColumnStore;
 use litemap_read::{PairSource, ReadFault, extend_from_source, read_pairs, read_results};
 use std::cell::Cell;
@@ -19,6 +19,7 @@ pub fn gather<S: Tested>(map: &mut Map<S>, call: &Call<'_>, to: &mut Answer) -> 
     renew(map, call, to).is_some()
         || insert_each(map, call, to).is_some()
         || extend(map, call, to).is_some()
+        || extend_by_trait(map, call, to).is_some()
         || take_vec(map, call, to).is_some()
         || merge(map, call, to).is_some()
         || combine(map, call, to).is_some()
@@ -38,6 +39,7 @@ fn renew<S: Tested>(map: &mut Map<S>, call: &Call<'_>, to: &mut Answer) -> Made 
         "with_capacity" => LiteMap::with_capacity(alloc, call.size(0)?),
         "clone" => map.try_clone(alloc),
         "from_iter" => LiteMap::from_iter(alloc, call.given()?),
+        "collected" => call.given()?.into_iter().collect(alloc),
         "from_iter_counted" => LiteMap::from_iter_counted(alloc, call.given()?, count),
         _ => return None,
     };
@@ -121,6 +123,19 @@ fn extend<S: StoreBulkMut<Key, Value>>(map: &mut Map<S>, call: &Call<'_>, to: &m
     } else {
         map.extend(call.alloc, pairs)
     });
+    Some(())
+}
+
+// `extend` of the trait, which is given no allocator.
+fn extend_by_trait<S: StoreBulkMut<Key, Value> + StoreAlloc<Key, Value>>(
+    map: &mut Map<S>,
+    call: &Call<'_>,
+    to: &mut Answer,
+) -> Made {
+    if call.name != "extended" {
+        return None;
+    }
+    to.room(Extend::extend(map, call.given()?));
     Some(())
 }
 

@@ -4,13 +4,13 @@ use crate::bulk::other;
 use crate::call::{Call, Made, Map};
 use crate::counted::{Key, Order, Value, with_rank};
 use litemap::VecMap;
-use litemap::store::{Store, StoreBulkMut, StoreMut};
+use litemap::store::{Store, StoreAlloc, StoreBulkMut, StoreMut};
 use std::alloc::AllocError;
 use std::cmp::Ordering;
 use std::hash::{FoldHasher, Hash, Hasher};
 
 /// Makes a call that copies, if the name is one. The last word tells how many keys and values were cloned.
-pub fn copy<S: StoreMut<Key, Value> + Drop>(
+pub fn copy<S: StoreMut<Key, Value> + StoreAlloc<Key, Value> + Drop>(
     map: &Map<S>,
     call: &Call<'_>,
     to: &mut Answer,
@@ -18,6 +18,7 @@ pub fn copy<S: StoreMut<Key, Value> + Drop>(
     let alloc = call.alloc;
     let made = match call.name {
         "try_clone" => map.try_clone(alloc).map(|clone| Pairs::of_map(&clone)),
+        "cloned" => map.clone().map(|clone| Pairs::of_map(&clone)),
         "to_boxed_keys_values" => pairs_of::<Box<Key>, Box<Value>>(map.to_boxed_keys_values(alloc)),
         "to_boxed_keys" => pairs_of::<Box<Key>, Value>(map.to_boxed_keys(alloc)),
         "to_boxed_values" => pairs_of::<Key, Box<Value>>(map.to_boxed_values(alloc)),

@@ -4,12 +4,14 @@ use crate::call::{Call, Map};
 use crate::counted::{Key, Value};
 use litemap::LiteMap;
 use litemap::store::{
-    StoreBulkMut, StoreConstEmpty, StoreFromIterable, StoreFromIterator, StoreIntoIterator,
+    StoreAlloc, StoreBulkMut, StoreConstEmpty, StoreFromIterable, StoreFromIterator,
+    StoreIntoIterator,
 };
 use std::alloc::AllocError;
 
 /// A store whose calls, and those of a map over it, are made.
 pub trait Tested: StoreConstEmpty<Key, Value>
+    + StoreAlloc<Key, Value>
     + StoreBulkMut<Key, Value>
     + StoreFromIterable<Key, Value>
     + StoreFromIterator<Key, Value>

@@ -173,7 +173,7 @@ fn steps<I: DoubleEndedIterator>(
 fn copy(map: &Map, name: &str) -> Option<String> {
     CLONED.set(0);
     let made = match name {
-        "try_clone" => pairs(&map.clone()),
+        "try_clone" | "cloned" => pairs(&map.clone()),
         "to_boxed_keys_values" => pairs::<Box<Key>, Box<Value>>(&map.to_boxed_keys_values()),
         "to_boxed_keys" => pairs::<Box<Key>, Value>(&map.to_boxed_keys()),
         "to_boxed_values" => pairs::<Key, Box<Value>>(&map.to_boxed_values()),
@@ -343,10 +343,10 @@ fn many(map: &mut Map, name: &str, given: &Given) -> Option<String> {
         "with_capacity" => *map = LiteMap::with_capacity(given.index(0)),
         "clear" => map.clear(),
         "reserve" => map.reserve(given.index(0)),
-        "from_iter" | "from_iter_counted" | "from_vec" | "from_vec_counted" => {
+        "from_iter" | "collected" | "from_iter_counted" | "from_vec" | "from_vec_counted" => {
             *map = given.pairs().collect()
         }
-        "extend" | "extend_counted" | "extend_from_vec" | "extend_from_vec_counted" => {
+        "extend" | "extended" | "extend_counted" | "extend_from_vec" | "extend_from_vec_counted" => {
             map.extend(given.pairs())
         }
         "extend_from_litemap" | "extend_from_litemap_counted" => {

@@ -9,7 +9,7 @@ use super::iter::RangeIter;
 use crate::LiteMap;
 use litemap_store::Query;
 use litemap_store::store::{Count, SliceStore, Store, StoreSlice};
-use std::ops::{Bound, Range};
+use std::ops::{Bound, Range, RangeBounds};
 
 impl<K: Ord, V, S: Store<K, V>> LiteMap<K, V, S> {
     /// Returns the range of the indices whose keys are within two bounds (own).
@@ -109,5 +109,19 @@ impl<K: Ord, V, S: StoreSlice<K, V>> LiteMap<K, V, S> {
             && is_up_to Q.order (bound_map Q.sought to) p.0) self.now.pairs result.pairs }
     {
         self.get_indexed_range(self.index_range(from, to)).unwrap()
+    }
+
+    /// Returns the pairs whose keys are within a range such as `3..7` or `..=k`, as a map that borrows them (own). It searches
+    /// for each bound. If the range runs backwards, the map is empty, where that of std panics.
+    ///
+    /// ```rust
+    /// // days: 1 Monday, 3 Wednesday, 5 Friday
+    /// days.range_in(2..5).as_slice() == [(3, "Wednesday")].as_slice() && days.range_in(..=3).len() == 2
+    /// ```
+    pub fn range_in<R: RangeBounds<K>>(&self, range: R) -> LiteMap<K, V, SliceStore<'_, K, V>>
+        ensures { R.has_bounds range → result.pairs
+            ≡ within K.cmp self.now.pairs (R.start_bound range) (R.end_bound range) }
+    {
+        self.range(range.start_bound(), range.end_bound())
     }
 }

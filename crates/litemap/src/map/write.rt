@@ -1,20 +1,23 @@
-//! Calls that return a mutable reference to a value, and one that writes all values. None takes memory, and each keeps the
-//! room. A search for a key makes O(log n) comparisons.
+//! Calls that return a mutable reference to a value, and those that write all values. None takes memory, and each but
+//! `retain_mut` keeps the room. A search for a key makes O(log n) comparisons.
 //!
 //! A reference starts at the value in the map, and the map ends with that one value replaced by what the reference holds at its
 //! end.
-ghost use Rattle.std.specs.Prelude.{◌≡◌, ◌<◌, length, map, ℕ, Ok, Err, Some, IfNone, IfSome, IsSome};
+ghost use Rattle.std.specs.Prelude.{◌≡◌, ◌+◌, ◌<◌, Bool, filter, length, map, ℕ, Ok, Err, OnOk, Some, IfNone, IfSome, IsSome};
 ghost use Rattle.std.specs.Borrow.{sem};
 ghost use Rattle.std.specs.Map.{keys_of};
 ghost use Rattle.std.specs.Option.{option_copied_mut};
 ghost use Rattle.litemap_store.specs.Pairs.{at, value_at, value_in, write};
 ghost use Rattle.litemap_store.specs.Search.{CallableOnKeys, Found};
+ghost use Rattle.litemap.specs.KeptWritten.{KeptWritten, WritesAndTests};
 ghost use Rattle.litemap.specs.Lends.{LendsThere, LendsFound, LendsKey, LendsIndex, LendsValue};
+ghost use Rattle.litemap.specs.TryWritten.{TryWrites, WrittenUntil};
 ghost use Rattle.litemap.specs.Updates.{Finds};
 ghost use Rattle.litemap.specs.Written.{CallableOnValues, LeavesOf, Writes, Written};
 
 use crate::LiteMap;
 use litemap_store::Query;
+use litemap_store::retain::SwapStore;
 use litemap_store::store::{Count, StoreMut};
 use std::cmp::Ordering;
 
@@ -120,6 +123,52 @@ impl<K: Ord, V, S: StoreMut<K, V>> LiteMap<K, V, S> {
     {
         write_each(&mut self.store, f);
     }
+
+    /// Calls `f` once on each key and a mutable reference to its value, in order, up to the first error, which it returns
+    /// (own). What was written before stays; an error also serves to end early. It compares no keys, and moves no pair.
+    ///
+    /// ```rust
+    /// let mut hours = opening_hours(alloc)?;
+    /// let later = hours.try_update(|day, hour| {
+    ///     *hour = hour.saturating_add(1);
+    ///     if *day < 3 { Ok(()) } else { Err("closed") }
+    /// });
+    /// Ok(later == Err("closed") && hours.as_slice() == [(1, 9), (3, 11)].as_slice())
+    /// ```
+    pub fn try_update<E, F: FnMut(&K, &mut V) -> Result<(), E>>(&mut self, f: F) -> Result<(), E>
+        requires { F.IsAlwaysCallable f }
+        ensures written { WrittenUntil F.FnMut f self.old.pairs self.new.pairs result }
+        ensures mapped { (write : K → V → V) → TryWrites F.FnMut f write
+            → OnOk result (self.new.pairs ≡ map (λ p. (p.0, write p.0 p.1)) self.old.pairs) }
+        ensures keys { keys_of self.new.pairs ≡ keys_of self.old.pairs }
+        ensures room { self.new.room ≡ self.old.room }
+    {
+        try_write_each(&mut self.store, f)
+    }
+}
+
+impl<K: Ord, V, S: StoreMut<K, V> + SwapStore<K, V>> LiteMap<K, V, S> {
+    /// Calls `f` once on each key and a mutable reference to its value, in order, keeps the pairs for which it returns `true`, as
+    /// it leaves them, and drops the others (own). If `f` keeps no state, and what it writes and returns depends on the pair
+    /// alone, the pairs are filtered and mapped. It compares no keys. A pair that stays moves at most once.
+    ///
+    /// ```rust
+    /// let mut hours = opening_hours(alloc)?;
+    /// hours.retain_mut(|_day, hour| {
+    ///     *hour = hour.saturating_sub(9);
+    ///     *hour > 0
+    /// });
+    /// Ok(hours.as_slice() == [(3, 1)].as_slice())
+    /// ```
+    pub fn retain_mut<F: FnMut(&K, &mut V) -> bool>(&mut self, f: F)
+        requires { F.IsAlwaysCallable f }
+        ensures kept { KeptWritten F.FnMut f self.old.pairs self.new.pairs }
+        ensures mapped { (write : K → V → V) (test : K → V → Bool) → WritesAndTests F.FnMut f write test
+            → self.new.pairs ≡ map (λ p. (p.0, write p.0 p.1)) (filter (λ p. test p.0 p.1) self.old.pairs) }
+        ensures room { self.old.room + length self.old.pairs ≡ self.new.room + length self.new.pairs }
+    {
+        retain_written(&mut self.store, f);
+    }
 }
 
 fn write_each<K, V, S: StoreMut<K, V>, F: FnMut(&K, &mut V)>(store: &mut S, mut f: F)
@@ -131,4 +180,42 @@ fn write_each<K, V, S: StoreMut<K, V>, F: FnMut(&K, &mut V)>(store: &mut S, mut 
         let (key, value) = store.lm_pair_mut(index);
         f(key, value);
     }
+}
+
+fn try_write_each<K, V, E, S: StoreMut<K, V>, F: FnMut(&K, &mut V) -> Result<(), E>>(
+    store: &mut S,
+    mut f: F,
+) -> Result<(), E>
+    requires { F.IsAlwaysCallable f }
+    ensures written { WrittenUntil F.FnMut f (S.pairs store.old) (S.pairs store.new) result }
+    ensures room { S.room store.new ≡ S.room store.old }
+{
+    for index in 0..store.lm_len() {
+        let (key, value) = store.lm_pair_mut(index);
+        match f(key, value) {
+            Ok(()) => {}
+            Err(error) => return Err(error),
+        }
+    }
+    Ok(())
+}
+
+fn retain_written<K, V, S: StoreMut<K, V> + SwapStore<K, V>, F: FnMut(&K, &mut V) -> bool>(
+    store: &mut S,
+    mut f: F,
+)
+    requires { F.IsAlwaysCallable f }
+    ensures kept { KeptWritten F.FnMut f (S.pairs store.old) (S.pairs store.new) }
+    ensures room { S.room store.old + length (S.pairs store.old) ≡ S.room store.new + length (S.pairs store.new) }
+{
+    let mut kept = 0;
+    for index in 0..store.lm_len() {
+        let (key, value) = store.lm_pair_mut(index);
+        let stays = f(key, value);
+        store.lm_swap(kept, index);
+        if stays {
+            kept += 1;
+        }
+    }
+    store.lm_truncate(kept);
 }

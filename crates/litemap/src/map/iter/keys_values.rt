@@ -6,6 +6,7 @@ ghost use Rattle.std.specs.Map.Iter.{TakesFirst, TakesLast, deref};
 ghost use Rattle.litemap_store.specs.Hints.{HintsExactly};
 
 use litemap_store::store::PairIter;
+use std::alloc::AllocError;
 use std::iter::FusedIterator;
 use std::marker::{Model, PhantomData};
 
@@ -20,6 +21,19 @@ impl<'a, K, V, I> Model for KeysIterWrap<'a, K, V, I> {
     ghost Value = { I };
 
     ghost view = { λ w. w.iter };
+}
+
+impl<'a, K, V, I: Clone> Clone for KeysIterWrap<'a, K, V, I> {
+    ghost is_clone = { I.is_clone };
+
+    ghost is_infallible = { I.is_infallible };
+
+    fn clone(&self) -> Result<Self, AllocError> {
+        Ok(KeysIterWrap {
+            iter: self.iter.clone()?,
+            marker: PhantomData,
+        })
+    }
 }
 
 impl<'a, K: 'a, V: 'a, I: PairIter<'a, K, V>> Iterator for KeysIterWrap<'a, K, V, I> {
@@ -67,6 +81,19 @@ impl<'a, K, V, I> Model for ValuesIterWrap<'a, K, V, I> {
     ghost Value = { I };
 
     ghost view = { λ w. w.iter };
+}
+
+impl<'a, K, V, I: Clone> Clone for ValuesIterWrap<'a, K, V, I> {
+    ghost is_clone = { I.is_clone };
+
+    ghost is_infallible = { I.is_infallible };
+
+    fn clone(&self) -> Result<Self, AllocError> {
+        Ok(ValuesIterWrap {
+            iter: self.iter.clone()?,
+            marker: PhantomData,
+        })
+    }
 }
 
 impl<'a, K: 'a, V: 'a, I: PairIter<'a, K, V>> Iterator for ValuesIterWrap<'a, K, V, I> {

@@ -1,5 +1,5 @@
 //! A double-ended iterator over the pairs between two indices of a store of any kind.
-ghost use Rattle.std.specs.Prelude.{◌≡◌, ◌≤◌, Some, length, slice_get};
+ghost use Rattle.std.specs.Prelude.{◌≡◌, ◌≤◌, ⊤, Some, length, slice_get};
 ghost use Rattle.std.specs.Iterator.{at_most};
 ghost use Rattle.std.specs.Map.Iter.{TakesFirst, TakesLast, deref_pair};
 ghost use Rattle.std.specs.Option.{option_map};
@@ -7,6 +7,7 @@ ghost use Rattle.litemap_store.specs.Hints.{HintsExactly};
 ghost use Rattle.litemap_store.specs.Pairs.{sub};
 
 use litemap_store::store::Store;
+use std::alloc::AllocError;
 use std::iter::FusedIterator;
 use std::marker::{Model, PhantomData};
 use std::ops::Range;
@@ -60,6 +61,21 @@ impl<'a, K, V, S: Store<K, V>> RangeIter<'a, K, V, S> {
         }
         let store = self.store;
         store.lm_get(self.start)
+    }
+}
+
+impl<'a, K, V, S: Store<K, V>> Clone for RangeIter<'a, K, V, S> {
+    ghost is_clone = { λ s t. t ≡ s };
+
+    ghost is_infallible = { λ _. ⊤ };
+
+    fn clone(&self) -> Result<Self, AllocError> {
+        Ok(RangeIter {
+            store: self.store,
+            start: self.start,
+            end: self.end,
+            marker: PhantomData,
+        })
     }
 }
 

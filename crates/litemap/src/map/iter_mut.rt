@@ -1,0 +1,108 @@
+//! Calls that lend all values at once, over a store whose keys lie side by side, and whose values do. No keys are compared, and no
+//! pairs move.
+ghost use Rattle.std.specs.Prelude.{◌≡◌, List, length};
+ghost use Rattle.std.specs.Borrow.{sem};
+ghost use Rattle.std.specs.Iterator.{at_most};
+ghost use Rattle.std.specs.List.{zip};
+ghost use Rattle.std.specs.Map.{keys_of, values_of};
+ghost use Rattle.std.specs.Map.Iter.{TakesFirst, deref_pair_mut};
+ghost use Rattle.litemap_store.specs.Lent.{set_values};
+ghost use Rattle.litemap.specs.IterMut.{iter_mut_loan, iter_mut_left};
+ghost use Rattle.litemap.specs.Lends.{LendsValues};
+
+use crate::LiteMap;
+use litemap_store::store::StoreColumns;
+use std::slice;
+
+impl<K: Ord, V, S: StoreColumns<K, V>> LiteMap<K, V, S> {
+    /// Returns the values, in the order of their keys, as a mutable slice (own). The map ends with the values that are left there.
+    ///
+    /// ```rust
+    /// let mut days: ColumnMap<u32, &str> = [(3, "Wednesday"), (1, "Monday")].into_iter().collect(alloc)?;
+    /// days.values_mut_slice().fill("open");
+    /// Ok(days.get(&1) == Some(&"open") && days.get(&3) == Some(&"open"))
+    /// ```
+    pub fn values_mut_slice(&mut self) -> &mut [V]
+        ensures* writes_back { sem 𝓛
+            (LendsValues K.row V.row S.row K.Ord S.pairs S.room self.entry result.ghost_name) }
+        ensures values { result.now ≡ values_of self.old.pairs }
+    {
+        self.store.lm_columns_mut().1
+    }
+
+    /// Returns an iterator over all pairs, in the order of their keys, that lends each value. The map keeps its keys.
+    ///
+    /// ```rust
+    /// let mut days: ColumnMap<u32, &str> = [(3, "Wednesday"), (1, "Monday")].into_iter().collect(alloc)?;
+    /// for (number, name) in &mut days {
+    ///     if *number == 3 {
+    ///         *name = "Wed";
+    ///     }
+    /// }
+    /// Ok(days.get(&1) == Some(&"Monday") && days.get(&3) == Some(&"Wed"))
+    /// ```
+    pub fn iter_mut(&mut self) -> IterMut<'_, K, V>
+        ensures* writes_back { sem 𝓛
+            (LendsValues K.row V.row S.row K.Ord S.pairs S.room self.entry (iter_mut_loan result)) }
+        ensures left { iter_mut_left result ≡ self.old.pairs }
+        ensures keys { (values : List V) → keys_of (set_values self.old.pairs values) ≡ keys_of self.old.pairs }
+    {
+        let (keys, values) = self.store.lm_columns_mut();
+        IterMut::new(keys, values)
+    }
+}
+
+impl<'a, K: Ord, V, S: StoreColumns<K, V>> IntoIterator for &'a mut LiteMap<K, V, S> {
+    type Item = (&'a K, &'a mut V);
+
+    type IntoIter = IterMut<'a, K, V>;
+
+    ghost into_iter_gives = { λ m r. iter_mut_left r ≡ m.now.pairs };
+
+    fn into_iter(self) -> IterMut<'a, K, V>
+        ensures* writes_back { sem 𝓛
+            (LendsValues K.row V.row S.row K.Ord S.pairs S.room self.entry (iter_mut_loan result)) }
+        ensures into_iter_gives { iter_mut_left result ≡ self.old.pairs }
+        ensures keys { (values : List V) → keys_of (set_values self.old.pairs values) ≡ keys_of self.old.pairs }
+    {
+        self.iter_mut()
+    }
+}
+
+/// The pairs of a map that are still to come, each value lent. It has no model, so that a contract can follow the loan.
+#[derive(Drop)]
+pub struct IterMut<'a, K, V> {
+    keys: slice::Iter<'a, K>,
+    values: slice::IterMut<'a, V>,
+}
+
+impl<'a, K, V> IterMut<'a, K, V> {
+    pub(super) fn new(keys: &'a [K], values: &'a mut [V]) -> Self
+        ensures left { iter_mut_left result ≡ zip keys.now values.old }
+        ensures loan { iter_mut_loan result ≡ values.entry.ghost_name }
+    {
+        IterMut {
+            keys: keys.iter(),
+            values: values.iter_mut(),
+        }
+    }
+}
+
+impl<'a, K, V> Iterator for IterMut<'a, K, V> {
+    type Item = (&'a K, &'a mut V);
+
+    ghost next_gives = { λ s r t. TakesFirst deref_pair_mut (iter_mut_left s) r (iter_mut_left t) };
+
+    ghost remaining = { λ s. at_most (length (iter_mut_left s)) };
+
+    fn next(&mut self) -> Option<(&'a K, &'a mut V)> {
+        // It tests both, so that it asks nothing of a caller.
+        if self.values.len() == 0 {
+            return None;
+        }
+        let Some(key) = self.keys.next() else {
+            return None;
+        };
+        Some((key, self.values.next().unwrap()))
+    }
+}

@@ -1,0 +1,112 @@
+//! Calls that remove pairs by their indices. They compare no keys, and take no memory.
+ghost use Rattle.std.specs.Prelude.{◌≡◌, ◌+◌, ◌-◌, ◌<◌, ◌≤◌, ◌++◌, IfOk, IsNone, IsSome, OnErr, OnOk, drop, length, remove, slice_get, slice_range, take, vec_capacity, vec_len};
+
+use crate::LiteMap;
+use litemap_store::store::StoreMut;
+use std::alloc::{AllocError, Global};
+use std::ops::Range;
+
+impl<K: Ord, V, S: StoreMut<K, V>> LiteMap<K, V, S> {
+    /// Removes the pair at an index, and returns it, or `None` if the index is not below the length (own). It moves all later
+    /// pairs down by one.
+    ///
+    /// ```rust
+    /// let mut days = three_days(alloc)?;
+    /// Ok(days.remove_indexed(1) == Some((3, "Wednesday")) && days.remove_indexed(2).is_none() && days.len() == 2)
+    /// ```
+    pub fn remove_indexed(&mut self, index: usize) -> Option<(K, V)>
+        ensures pair { result ≡ slice_get self.old.pairs index }
+        ensures pairs { self.new.pairs ≡ remove self.old.pairs index }
+        ensures unchanged { IsNone result → self.new ≡ self.old }
+        ensures room { S.keeps_memory → IsSome result → self.old.room < self.new.room }
+    {
+        if index < self.len() {
+            Some(self.take_at(index))
+        } else {
+            None
+        }
+    }
+}
+
+impl<K: Ord + Drop, V: Drop, S: StoreMut<K, V>> LiteMap<K, V, S> {
+    /// Keeps the first `len` pairs, and drops the others, the last one first (own). No pair moves, and a store that keeps its
+    /// memory has room for as many more as were dropped.
+    ///
+    /// ```rust
+    /// let mut days = three_days(alloc)?;
+    /// days.truncate(2);
+    /// Ok(days.as_slice() == [(1, "Monday"), (3, "Wednesday")].as_slice())
+    /// ```
+    pub fn truncate(&mut self, len: usize)
+        ensures pairs { self.new.pairs ≡ take len self.old.pairs }
+        ensures room { S.keeps_memory → self.old.room + length self.old.pairs ≤ self.new.room + length self.new.pairs }
+    {
+        drop_from(&mut self.store, len);
+    }
+}
+
+impl<K: Ord + Drop, V: Drop> LiteMap<K, V, Vec<(K, V)>> {
+    /// Drops the pairs at the indices of a range, as those of `index_range` (own). The others stay, and later ones move down once.
+    ///
+    /// ```rust
+    /// let mut days = three_days(alloc)?;
+    /// days.remove_range(0..2);
+    /// Ok(days.as_slice() == [(5, "Friday")].as_slice())
+    /// ```
+    pub fn remove_range(&mut self, range: Range<usize>)
+        requires ascends { range.start ≤ range.end }
+        requires within { range.end ≤ length self.old.pairs }
+        ensures pairs { self.new.pairs ≡ take range.start self.old.pairs ++ drop range.end self.old.pairs }
+        ensures room { self.old.room + (range.end - range.start) ≡ self.new.room }
+    {
+        drop(self.store.drain(range));
+    }
+
+    /// Removes the pairs at the indices of a range, and returns them, or changes nothing if memory runs out for them (own). They
+    /// move once, as do all later pairs.
+    ///
+    /// ```rust
+    /// let mut days = three_days(alloc)?;
+    /// let early = days.take_range(alloc, 0..2)?;
+    /// Ok(early.as_slice() == [(1, "Monday"), (3, "Wednesday")].as_slice() && days.len() == 1)
+    /// ```
+    pub fn take_range(
+        &mut self,
+        alloc: Global,
+        range: Range<usize>,
+    ) -> Result<Vec<(K, V)>, AllocError>
+        requires ascends { range.start ≤ range.end }
+        requires within { range.end ≤ length self.old.pairs }
+        ensures taken { IfOk result (λ v. v.items ≡ slice_range self.old.pairs range.start range.end) }
+        ensures left { OnOk result (self.new.pairs ≡ take range.start self.old.pairs ++ drop range.end self.old.pairs) }
+        ensures refused { OnErr result (self.new ≡ self.old) }
+    {
+        let mut taken = Vec::with_capacity(alloc, range.end - range.start)?;
+        move_range(&mut self.store, range, &mut taken);
+        Ok(taken)
+    }
+}
+
+// Drops the pairs from an index on, the last one first.
+fn drop_from<K: Drop, V: Drop, S: StoreMut<K, V>>(store: &mut S, len: usize)
+    ensures pairs { S.pairs store.new ≡ take len (S.pairs store.old) }
+    ensures room { S.keeps_memory → S.room store.old + length (S.pairs store.old) ≤ S.room store.new + length (S.pairs store.new) }
+{
+    while store.lm_len() > len {
+        let last = store.lm_len() - 1;
+        drop(store.lm_remove(last));
+    }
+}
+
+// Moves the items at the indices of a range to the end of a vector that has room for them.
+fn move_range<T: Drop>(items: &mut Vec<T>, range: Range<usize>, taken: &mut Vec<T>)
+    requires ascends { range.start ≤ range.end }
+    requires within { range.end ≤ vec_len items.old }
+    requires room { vec_len taken.old + (range.end - range.start) ≤ vec_capacity taken.old }
+    ensures taken { taken.new.items ≡ taken.old.items ++ slice_range items.old.items range.start range.end }
+    ensures left { items.new.items ≡ take range.start items.old.items ++ drop range.end items.old.items }
+{
+    for item in items.drain(range) {
+        taken.push_reserved(item);
+    }
+}

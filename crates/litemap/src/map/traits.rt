@@ -1,0 +1,98 @@
+//! The traits of `std` that a collection has: it is cloned, collected, extended, indexed and taken. Each forwards to a call of the
+//! map. That of `Extend` and of `Clone` is given no allocator, and takes the store's (`StoreAlloc`).
+ghost use Rattle.std.specs.Prelude.{◌≡◌, ◌++◌, [], IsSome, OnErr, Some};
+ghost use Rattle.std.specs.Borrow.{sem};
+ghost use Rattle.std.specs.Iterator.{ExtendsWithItems, IsFiniteIterable};
+ghost use Rattle.litemap_store.specs.Bulk.{GivesSome};
+ghost use Rattle.litemap_store.specs.Clones.{PairsBecame};
+ghost use Rattle.litemap_store.specs.Last.{Last};
+ghost use Rattle.litemap_store.specs.Pairs.{at, value_at};
+ghost use Rattle.litemap.specs.Lends.{LendsKey};
+
+use crate::LiteMap;
+use litemap_store::Query;
+use litemap_store::store::{
+    Store, StoreAlloc, StoreBulkMut, StoreConstEmpty, StoreFromIterable, StoreMut,
+};
+use std::alloc::{AllocError, Global};
+use std::default::Emptied;
+use std::ops::{Index, IndexMut};
+
+/// Clones the keys and values, as `try_clone` does. It fails if memory runs out, and where the clones of the keys don't ascend:
+/// it compares each with the one before it. It never fails for an empty map.
+impl<K: Ord + Clone, V: Clone, S: StoreMut<K, V> + StoreAlloc<K, V> + Drop> Clone
+    for LiteMap<K, V, S> {
+    ghost is_clone = { λ m n. PairsBecame K.is_clone V.is_clone m.pairs n.pairs };
+
+    ghost is_infallible = { λ m. m.pairs ≡ [] };
+
+    fn clone(&self) -> Result<Self, AllocError> {
+        let store = self.store.lm_try_clone(self.store.lm_alloc())?;
+        if !Self::is_sorted_store(&store) {
+            return Err(AllocError);
+        }
+        Ok(LiteMap::from_sorted_store_unchecked(store))
+    }
+}
+
+/// The map of the last pair of each key.
+impl<K: Ord + Drop, V: Drop, S: StoreFromIterable<K, V>> FromIterator<(K, V)> for LiteMap<K, V, S> {
+    type Alloc = Global;
+
+    ghost from_iter_gives = { λ items m. Last K.cmp items m.pairs };
+
+    fn from_iter<I: IntoIterator<Item = (K, V)>>(
+        alloc: Global,
+        iter: I,
+    ) -> Result<Self, AllocError> {
+        LiteMap::from_iter(alloc, iter)
+    }
+}
+
+/// Extends by the last pair of each key. If it fails, the map keeps its pairs.
+impl<K: Ord + Drop, V: Drop, S: StoreBulkMut<K, V> + StoreAlloc<K, V>> Extend<(K, V)>
+    for LiteMap<K, V, S> {
+    ghost extend_gives = { λ m items n. Last K.cmp (m.pairs ++ items) n.pairs };
+
+    fn extend<I: IntoIterator<Item = (K, V)>>(&mut self, iter: I) -> Result<(), AllocError>
+        requires { IsFiniteIterable I.into_iter_gives I.IntoIter.can_next I.IntoIter.remaining iter }
+        ensures ran { ExtendsWithItems I.into_iter_gives I.IntoIter.next_gives (λ m items n. Last K.cmp (m.pairs ++ items) n.pairs)
+            iter self.old self.new result }
+        ensures refused { OnErr result (self.new.pairs ≡ self.old.pairs) }
+        ensures refused_some { OnErr result (GivesSome I.into_iter_gives I.IntoIter.next_gives iter) }
+    {
+        let alloc = self.store.lm_alloc();
+        self.extend(alloc, iter)
+    }
+}
+
+impl<K: Ord, V, S: Store<K, V>, Q: Query<K>> Index<Q> for LiteMap<K, V, S> {
+    type Output = V;
+
+    ghost can_index = { λ m key. IsSome (at Q.order m.pairs (Q.sought key)) };
+
+    ghost index_gives = { λ m key value. Some value ≡ value_at Q.order m.pairs (Q.sought key) };
+
+    fn index(&self, key: Q) -> &V {
+        self.get(key).unwrap()
+    }
+}
+
+impl<K: Ord, V, S: StoreMut<K, V>, Q: Query<K>> IndexMut<Q> for LiteMap<K, V, S> {
+    fn index_mut(&mut self, key: Q) -> &mut V
+        requires { IsSome (at Q.order self.old.pairs (Q.sought key)) }
+        ensures* writes_back { sem 𝓛
+            (LendsKey K.row V.row S.row K.Ord S.pairs S.room self.entry Q.order (Q.sought key) result) }
+        ensures value { Some result.now ≡ value_at Q.order self.old.pairs (Q.sought key) }
+    {
+        self.index_mut(key)
+    }
+}
+
+impl<K: Ord, V, S: StoreConstEmpty<K, V> + StoreAlloc<K, V>> Emptied for LiteMap<K, V, S> {
+    ghost is_emptied = { λ m. m.pairs ≡ [] };
+
+    fn emptied(like: &Self) -> Result<Self, AllocError> {
+        Ok(LiteMap::new(like.store.lm_alloc()))
+    }
+}

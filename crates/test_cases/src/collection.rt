@@ -1,0 +1,93 @@
+//! A map as a collection of the kit, in calls that take no memory: indexed, taken, iterators that are cloned, ranges as Rust
+//! writes them, its store, pairs that go by their indices, and values that are written in a loop.
+use crate::Outcome;
+use litemap::VecMap;
+use std::alloc::{AllocError, Global};
+use std::mem;
+use std::ops::Bound;
+
+// The lengths at which calls by index are tried.
+const LENGTHS: [u32; 5] = [0, 1, 2, 5, 20];
+
+// So many numbers from 1 on, each with ten times as much.
+fn tens(alloc: Global, len: u32) -> Result<Vec<(u32, u32)>, AllocError> {
+    (1..len.saturating_add(1))
+        .map(|number| (number, number.wrapping_mul(10)))
+        .collect(alloc)
+}
+
+fn map_of_tens(alloc: Global, len: u32) -> Result<VecMap<u32, u32>, AllocError> {
+    tens(alloc, len)?.into_iter().collect(alloc)
+}
+
+// A value is read and written by `[]`, and a map that is taken leaves an empty one.
+pub(crate) fn a_map_is_indexed_and_taken(alloc: Global) -> Outcome {
+    let mut map = map_of_tens(alloc, 3)?;
+    if !map.contains_key(&2) {
+        return Ok(false);
+    }
+    map[&2] = 21;
+    let is_read = map.contains_key(&2) && map[&2] == 21;
+    let taken = mem::try_take(&mut map)?;
+    Ok(is_read && map.is_empty() && taken.as_slice() == [(1, 10), (2, 21), (3, 30)].as_slice())
+}
+
+// A clone of an iterator goes on from where that one is.
+pub(crate) fn iterators_are_cloned(alloc: Global) -> Outcome {
+    let map = map_of_tens(alloc, 3)?;
+    let (mut iter, mut range) = (
+        map.iter(),
+        map.iter_range(Bound::Excluded(&1), Bound::Unbounded),
+    );
+    let (mut keys, mut values) = (map.keys(), map.values());
+    let _passed = (
+        iter.next(),
+        range.next_back(),
+        keys.next(),
+        values.next_back(),
+    );
+    let (iter, range) = (iter.clone()?, range.clone()?);
+    let (mut keys, mut values) = (keys.clone()?, values.clone()?);
+    let rest = iter.len() == 2 && range.len() == 1;
+    Ok(rest && keys.next() == Some(&2) && values.next_back() == Some(&20))
+}
+
+// A range of numbers is what its two bounds are.
+pub(crate) fn ranges_are_written_as_in_rust(alloc: Global) -> Outcome {
+    let map = map_of_tens(alloc, 5)?;
+    let mut is_right = map.range_in(..).len() == 5;
+    for low in 0..7 {
+        let (from, all) = (Bound::Included(&low), Bound::Unbounded);
+        is_right &= map.range_in(low..).as_slice() == map.range(from, all).as_slice();
+        is_right &= map.range_in(..=low).as_slice() == map.range(all, from).as_slice();
+        for high in 0..7 {
+            let part = map.range(from, Bound::Excluded(&high));
+            is_right &= map.range_in(low..high).as_slice() == part.as_slice();
+        }
+    }
+    Ok(is_right)
+}
+
+// A map is what its store is, and memory that isn't needed is given back.
+pub(crate) fn a_store_comes_out(alloc: Global) -> Outcome {
+    let mut map = map_of_tens(alloc, 5)?;
+    map.reserve(100)?;
+    let had = map.capacity();
+    map.shrink_to_fit();
+    let is_small = map.capacity() == 5 && map.as_store().len() == 5;
+    Ok(had >= 105 && is_small && map.into_store().as_slice() == tens(alloc, 5)?.as_slice())
+}
+
+// A pair at an index goes as from a vector, at each index and at the length.
+pub(crate) fn a_pair_goes_by_its_index(alloc: Global) -> Outcome {
+    let mut is_right = true;
+    for len in LENGTHS {
+        for index in 0..len {
+            let (mut map, mut pairs) = (map_of_tens(alloc, len)?, tens(alloc, len)?);
+            is_right &= map.remove_indexed(len as usize).is_none();
+            is_right &= map.remove_indexed(index as usize) == Some(pairs.remove(index as usize));
+            is_right &= map.as_slice() == pairs.as_slice();
+        }
+    }
+    Ok(is_right)
+}
