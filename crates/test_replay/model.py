@@ -282,6 +282,10 @@ class Model:
         if name == "into_tuple_vec":
             text, self.pairs = self.text(self.pairs), []
             return text
+        if name == "take_range":
+            start, end = map(int, words)
+            taken, self.pairs[start:end] = self.pairs[start:end], []
+            return self.text(taken)
         if name == "is_sorted_store":
             falls = [place for place in range(1, size) if not self.rises(self.pairs[place - 1 : place + 1])]
             return ("false" if falls else "true"), falls[0] if falls else max(size - 1, 0)
@@ -824,7 +828,8 @@ def looks():
         parts = [f"get_indexed_range {start} {end}" for start in ends for end in ends]
         parts += [f"range {low} {first} {high} {last}" for low, high in bounds for first, last in pairs[::3]]
         yield from block(SLICED, length, 1, ["as_slice", "as_sliced", *parts])
-        yield from block("vec", length, 1, ["into_tuple_vec"])
+        taken = [f"take_range {start} {end}" for start in ends for end in ends if start <= end <= length]
+        yield from block("vec", length, 1, ["into_tuple_vec", *taken])
 
 
 def walks():
@@ -967,6 +972,7 @@ def refusable():
         calls = [*spelled(*PAIRED, KEY=[end], VALUE=[7]), f"or_default {end}", *CONVERSIONS, "lm_try_clone", "lm_push 9999 7"]
         calls += [f"{name} {more}" for name in RESERVED for more in (1, length)] + [f"split_off {key}" for key in (2, length, end - 1)]
         many = [name for name in EXTENSIONS + MERGES + MAKES + MADE if not name.endswith("counted")] + [f"{name} - -" for name in READS]
+        yield from block("vec", length, 0, [f"take_range {start} {length}" for start in {0, length // 2, length}])
         calls += ["lm_insert 0 1 7", *(f"{name} {pairs}" for name in many for pairs in given)]
         yield from block(GROWING, length, 0, calls)
 

@@ -10,6 +10,7 @@ pub mod KeptWriting
 pub mod Lending
 pub mod Lists
 pub mod MergedTests
+pub mod Nearest
 pub mod Numbers
 pub mod Outcomes
 pub mod Parts

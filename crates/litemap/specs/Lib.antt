@@ -9,6 +9,7 @@ pub mod FoundBy
 pub mod IterMut
 pub mod KeptWritten
 pub mod Lends
+pub mod Nearest
 pub mod Retained
 pub mod Runs
 pub mod TryFault

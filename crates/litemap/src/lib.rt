@@ -22,3 +22,6 @@ pub use try_fault::TryFault;
 /// pub type Days = VecMap<u32, &'static str>;
 /// ```
 pub type VecMap<K, V> = LiteMap<K, V, Vec<(K, V)>>;
+
+/// A map over pairs that it borrows (own), as those of `range` and of a constant table.
+pub type SliceMap<'a, K, V> = LiteMap<K, V, store::SliceStore<'a, K, V>>;

@@ -1,5 +1,5 @@
 //! The map: its type, and how one is made.
-ghost use Rattle.std.specs.Prelude.{◌≡◌, ◌↔◌, ◌≤◌, [], IfOk, IsOk, IsTrue};
+ghost use Rattle.std.specs.Prelude.{◌≡◌, ◌↔◌, ◌≤◌, [], IfErr, IfOk, IsOk, IsTrue, OnErr};
 ghost use Rattle.litemap_store.specs.Pairs.{Rising};
 ghost use Rattle.litemap_store.specs.Clones.{ClonesAreSame, ClonesCompareEqual, PairsBecame};
 
@@ -101,6 +101,26 @@ impl<K: Ord, V, S: Store<K, V>> LiteMap<K, V, S> {
         LiteMap {
             store,
             marker: PhantomData,
+        }
+    }
+
+    /// Returns the map over a store if its keys are strictly ascending, else the store (own). It takes no memory, and tests as
+    /// `is_sorted_store` does.
+    ///
+    /// ```rust
+    /// let falling = Days::try_from_sorted([(3, "Wednesday"), (1, "Monday")].to_vec(alloc)?);
+    /// falling.is_err() && Days::try_from_sorted(Vec::new(alloc)).is_ok()
+    /// ```
+    pub fn try_from_sorted(store: S) -> Result<Self, S>
+        ensures pairs { IfOk result (λ m. m.pairs ≡ S.pairs store) }
+        ensures room { IfOk result (λ m. m.room ≡ S.room store) }
+        ensures back { IfErr result (λ s. s ≡ store) }
+        ensures falls { OnErr result (¬ (Rising K.cmp (S.pairs store))) }
+    {
+        if Self::is_sorted_store(&store) {
+            Ok(LiteMap::from_sorted_store_unchecked(store))
+        } else {
+            Err(store)
         }
     }
 

@@ -315,6 +315,10 @@ fn append_reserved<T: Drop>(items: &mut Vec<T>, other: &mut Vec<T>)
 impl<K, V> StoreColumns<K, V> for ColumnStore<K, V> {
     ghost with_values = { λ s values. with_pairs s (set_values s.pairs values) };
 
+    fn lm_columns(&self) -> (&[K], &[V]) {
+        (self.keys.as_slice(), self.values.as_slice())
+    }
+
     fn lm_columns_mut(&mut self) -> (&[K], &mut [V]) {
         (self.keys.as_slice(), self.values.as_mut_slice())
     }

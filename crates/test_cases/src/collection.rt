@@ -2,6 +2,7 @@
 //! writes them, its store, pairs that go by their indices, and values that are written in a loop.
 use crate::Outcome;
 use litemap::VecMap;
+use litemap_columns::ColumnMap;
 use std::alloc::{AllocError, Global};
 use std::mem;
 use std::ops::Bound;
@@ -90,4 +91,80 @@ pub(crate) fn a_pair_goes_by_its_index(alloc: Global) -> Outcome {
         }
     }
     Ok(is_right)
+}
+
+// Pairs from an index on, and between two, go as from a vector, and the others stay.
+pub(crate) fn ranges_of_pairs_go(alloc: Global) -> Outcome {
+    let mut is_right = true;
+    for len in LENGTHS {
+        for start in 0..len as usize {
+            let end = len as usize - start / 2;
+            let (mut map, mut pairs) = (map_of_tens(alloc, len)?, tens(alloc, len)?);
+            map.remove_range(start..end);
+            drop(pairs.drain(start..end));
+            is_right &= map.as_slice() == pairs.as_slice();
+            map.truncate(start);
+            pairs.truncate(start);
+            is_right &= map.as_slice() == pairs.as_slice();
+        }
+    }
+    Ok(is_right)
+}
+
+// Each value is written once, in order, up to the first error.
+pub(crate) fn values_are_written_up_to_an_error(alloc: Global) -> Outcome {
+    let mut is_right = true;
+    for last in 0..22 {
+        let mut map = map_of_tens(alloc, 20)?;
+        let mut calls = 0u32;
+        let outcome = map.try_update(|key, value| {
+            calls = calls.wrapping_add(1);
+            *value = value.wrapping_add(calls);
+            if *key == last { Err(*key) } else { Ok(()) }
+        });
+        let wanted = if last > 0 && last < 21 { Err(last) } else { Ok(()) };
+        let written = if wanted.is_ok() { 20 } else { last };
+        is_right &= outcome == wanted && calls == written;
+        for (key, value) in &map {
+            let more = if *key <= written { *key } else { 0 };
+            is_right &= *value == key.wrapping_mul(10).wrapping_add(more);
+        }
+    }
+    Ok(is_right)
+}
+
+// Each pair is asked once, in order, and those that stay have what was written.
+pub(crate) fn pairs_are_written_and_dropped(alloc: Global) -> Outcome {
+    let mut is_right = true;
+    for step in 1..22 {
+        let mut map = map_of_tens(alloc, 20)?;
+        let mut calls = 0u32;
+        map.retain_mut(|key, value| {
+            calls = calls.wrapping_add(1);
+            *value = calls;
+            key.checked_rem(step) == Some(1)
+        });
+        is_right &= calls == 20 && map.len() == (1..21).filter(|key| key.checked_rem(step) == Some(1)).count();
+        for (key, value) in &map {
+            is_right &= key.checked_rem(step) == Some(1) && key == value;
+        }
+    }
+    Ok(is_right)
+}
+
+// Values in two columns are lent one after another, up to where the loop ends, and all at once.
+pub(crate) fn values_in_columns_are_lent(alloc: Global) -> Outcome {
+    let mut map: ColumnMap<u32, u32> = tens(alloc, 5)?.into_iter().collect(alloc)?;
+    let mut keys = 0u32;
+    for (key, value) in &mut map {
+        if *key == 4 {
+            break;
+        }
+        keys = keys.wrapping_mul(10).wrapping_add(*key);
+        *value = 7;
+    }
+    let is_half = map.values_slice() == [7, 7, 7, 40, 50].as_slice();
+    map.values_mut_slice().reverse();
+    let is_turned = map.values_slice() == [50, 40, 7, 7, 7].as_slice();
+    Ok(keys == 123 && is_half && is_turned && map.keys_slice() == [1, 2, 3, 4, 5].as_slice())
 }

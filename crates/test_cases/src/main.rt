@@ -61,7 +61,7 @@ fn main(rt: HostRuntime) -> ExitCode {
     }
 }
 
-fn cases(alloc: Global) -> [(&'static str, Outcome); 35] {
+fn cases(alloc: Global) -> [(&'static str, Outcome); 39] {
     outcomes! { alloc;
         closures::one_of_the_keys_called_equal_is_found,
         closures::a_closure_compares_with_another_type,
@@ -70,6 +70,10 @@ fn cases(alloc: Global) -> [(&'static str, Outcome); 35] {
         collection::ranges_are_written_as_in_rust,
         collection::a_store_comes_out,
         collection::a_pair_goes_by_its_index,
+        collection::ranges_of_pairs_go,
+        collection::values_are_written_up_to_an_error,
+        collection::pairs_are_written_and_dropped,
+        collection::values_in_columns_are_lent,
         constants::numbers_of_each_type_are_found,
         constants::both_ends_of_a_type_are_found,
         constants::strings_and_bytes_are_found,

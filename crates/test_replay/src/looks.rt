@@ -112,6 +112,17 @@ fn show_table(table: &LiteMap<Key, Value, SliceStore<'_, Key, Value>>, to: &mut 
     }
 }
 
+/// Makes `take_range`, if that is the name, and the indices are those of a range.
+pub fn take_range(map: &mut Map<Vec<Pair>>, call: &Call<'_>, to: &mut Answer) -> Made {
+    let (start, end) = (call.size(0)?, call.size(1)?);
+    if call.name != "take_range" || start > end || end > map.len() {
+        return None;
+    }
+    let taken = map.take_range(call.alloc, start..end);
+    to.pairs(taken.map(|taken| Pairs::of_slice(taken.as_slice())));
+    Some(())
+}
+
 /// Makes `into_tuple_vec`, if that is the name.
 pub fn vector(map: &mut Map<Vec<Pair>>, call: &Call<'_>, to: &mut Answer) -> Made {
     if call.name != "into_tuple_vec" {

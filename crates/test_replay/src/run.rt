@@ -5,7 +5,7 @@ use crate::call::{Call, Map, Pair};
 use crate::changes::rename;
 use crate::counted::{Key, Order, Seen, Value};
 use crate::line::{self, Line};
-use crate::looks::{vector, view};
+use crate::looks::{take_range, vector, view};
 use crate::sizes::grow;
 use crate::stores::text;
 use crate::tested::Tested;
@@ -27,6 +27,7 @@ impl Tested for Vec<Pair> {
             || rename(map, call, to).is_some()
             || view(map, call, to).is_some()
             || vector(map, call, to).is_some()
+            || take_range(map, call, to).is_some()
             || text(store, call, to).is_some()
     }
 }

@@ -1,4 +1,4 @@
-//! Calls that lend all values at once, over a store whose keys lie side by side, and whose values do. No keys are compared, and no
+//! Calls that lend all values at once, over a store whose keys lie side by side, as do its values. No keys are compared, and no
 //! pairs move.
 ghost use Rattle.std.specs.Prelude.{◌≡◌, List, length};
 ghost use Rattle.std.specs.Borrow.{sem};
@@ -15,6 +15,25 @@ use litemap_store::store::StoreColumns;
 use std::slice;
 
 impl<K: Ord, V, S: StoreColumns<K, V>> LiteMap<K, V, S> {
+    /// Returns the keys, in order, as a slice (own).
+    pub fn keys_slice(&self) -> &[K]
+        ensures { result.now ≡ keys_of self.now.pairs }
+    {
+        self.store.lm_columns().0
+    }
+
+    /// Returns the values, in the order of their keys, as a slice (own).
+    ///
+    /// ```rust
+    /// let days: ColumnMap<u32, &str> = [(3, "Wednesday"), (1, "Monday")].into_iter().collect(alloc)?;
+    /// days.keys_slice() == [1, 3].as_slice() && days.values_slice() == ["Monday", "Wednesday"].as_slice()
+    /// ```
+    pub fn values_slice(&self) -> &[V]
+        ensures { result.now ≡ values_of self.now.pairs }
+    {
+        self.store.lm_columns().1
+    }
+
     /// Returns the values, in the order of their keys, as a mutable slice (own). The map ends with the values that are left there.
     ///
     /// ```rust

@@ -6,8 +6,10 @@ ghost use Rattle.litemap_store.specs.Counts.{RisesByAtMost, digits};
 ghost use Rattle.litemap_store.specs.Pairs.{Rising, at, value_at, value_in};
 ghost use Rattle.litemap_store.specs.Search.{CallableOnKeys, Found};
 ghost use Rattle.litemap_store.specs.Splits.{Splits};
+ghost use Rattle.std.specs.declared.cmp.Ordering.TheVariants.{Greater, Less};
 ghost use Rattle.litemap.specs.FoundBy.{FindsIndex, GetsFound};
 ghost use Rattle.litemap.specs.Updates.{IsGreatest, IsLeast};
+ghost use Rattle.litemap.specs.Nearest.{Nearest};
 
 use crate::LiteMap;
 use litemap_store::Query;
@@ -170,6 +172,37 @@ impl<K: Ord, V, S: Store<K, V>> LiteMap<K, V, S> {
         ensures within { IfOk result (λ index. index < length self.now.pairs) }
     {
         self.store.lm_binary_search_by(f, &mut Count::new())
+    }
+
+    /// Returns the pair with the greatest key that is not above `key`, or `None` if all are (own).
+    ///
+    /// ```rust
+    /// // days: 1 Monday, 3 Wednesday, 5 Friday
+    /// days.floor(&4) == Some((&3, &"Wednesday")) && days.floor(&5) == days.last() && days.floor(&0).is_none()
+    /// ```
+    pub fn floor<Q: Query<K>>(&self, key: Q) -> Option<(&K, &V)>
+        ensures { Nearest K.cmp Q.order Greater self.now.pairs (Q.sought key) (option_map deref_pair result) }
+    {
+        match self.search(key, &mut Count::new()) {
+            Ok(index) => self.store.lm_get(index),
+            Err(0) => None,
+            Err(index) => self.store.lm_get(index - 1),
+        }
+    }
+
+    /// Returns the pair with the smallest key that is not below `key`, or `None` if all are (own).
+    ///
+    /// ```rust
+    /// // days: 1 Monday, 3 Wednesday, 5 Friday
+    /// days.ceiling(&2) == Some((&3, &"Wednesday")) && days.ceiling(&1) == days.first() && days.ceiling(&6).is_none()
+    /// ```
+    pub fn ceiling<Q: Query<K>>(&self, key: Q) -> Option<(&K, &V)>
+        ensures { Nearest K.cmp Q.order Less self.now.pairs (Q.sought key) (option_map deref_pair result) }
+    {
+        match self.search(key, &mut Count::new()) {
+            Ok(index) => self.store.lm_get(index),
+            Err(index) => self.store.lm_get(index),
+        }
     }
 
     pub(super) fn value_in(&self, index: usize) -> Option<&V>

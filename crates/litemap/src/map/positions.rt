@@ -1,8 +1,11 @@
-//! Calls that remove pairs by their indices. They compare no keys, and take no memory.
-ghost use Rattle.std.specs.Prelude.{◌≡◌, ◌+◌, ◌-◌, ◌<◌, ◌≤◌, ◌++◌, IfOk, IsNone, IsSome, OnErr, OnOk, drop, length, remove, slice_get, slice_range, take, vec_capacity, vec_len};
+//! Calls that insert and remove pairs by their indices. No keys are compared.
+ghost use Rattle.std.specs.Prelude.{◌≡◌, ◌+◌, ◌-◌, ◌<◌, ◌≤◌, ◌++◌, Err, IfOk, IsNone, IsSome, OnErr, OnOk, drop, length};
+ghost use Rattle.std.specs.Prelude.{remove, slice_get, slice_range, take, vec_capacity, vec_len};
+ghost use Rattle.litemap_store.specs.Pairs.{index_of, put};
+ghost use Rattle.litemap.specs.Changes.{RefusedFull};
 
 use crate::LiteMap;
-use litemap_store::store::StoreMut;
+use litemap_store::store::{NoRoom, StoreMut};
 use std::alloc::{AllocError, Global};
 use std::ops::Range;
 
@@ -25,6 +28,32 @@ impl<K: Ord, V, S: StoreMut<K, V>> LiteMap<K, V, S> {
         } else {
             None
         }
+    }
+}
+
+impl<K: Ord + Drop, V, S: StoreMut<K, V>> LiteMap<K, V, S> {
+    /// Inserts a pair at the index that `find_index` returned for its absent key, which isn't searched again (own). It moves all
+    /// later pairs up by one, and fails as `insert` does.
+    ///
+    /// ```rust
+    /// let mut days = three_days(alloc)?;
+    /// if let Err(index) = days.find_index(&2) {
+    ///     days.insert_indexed(index, 2, "Tuesday")?;
+    /// }
+    /// Ok(days.get(&2) == Some(&"Tuesday"))
+    /// ```
+    pub fn insert_indexed(
+        &mut self,
+        index: usize,
+        key: K,
+        value: V,
+    ) -> Result<(), NoRoom<(K, V)>>
+        requires { index_of K.cmp self.old.pairs key ≡ Err index }
+        ensures put { OnOk result (self.new.pairs ≡ put K.cmp self.old.pairs key value) }
+        ensures refused { RefusedFull (key, value) self.old self.new result }
+    {
+        self.keys_ascend();
+        self.insert_at(index, key, value)
     }
 }
 

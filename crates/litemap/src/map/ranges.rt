@@ -6,9 +6,9 @@ ghost use Rattle.litemap.specs.Updates.{KeepsPart};
 ghost use Rattle.litemap.specs.Within.{IsIndexRange, IsCut, before, is_before, is_up_to, within};
 
 use super::iter::RangeIter;
-use crate::LiteMap;
+use crate::{LiteMap, SliceMap};
 use litemap_store::Query;
-use litemap_store::store::{Count, SliceStore, Store, StoreSlice};
+use litemap_store::store::{Count, Store, StoreSlice};
 use std::ops::{Bound, Range, RangeBounds};
 
 impl<K: Ord, V, S: Store<K, V>> LiteMap<K, V, S> {
@@ -101,7 +101,7 @@ impl<K: Ord, V, S: StoreSlice<K, V>> LiteMap<K, V, S> {
         &self,
         from: Bound<Q>,
         to: Bound<Q>,
-    ) -> LiteMap<K, V, SliceStore<'_, K, V>>
+    ) -> SliceMap<'_, K, V>
         ensures pairs { result.pairs ≡ within Q.order self.now.pairs
             (bound_map Q.sought from) (bound_map Q.sought to) }
         // What lookups find in it.
@@ -118,10 +118,25 @@ impl<K: Ord, V, S: StoreSlice<K, V>> LiteMap<K, V, S> {
     /// // days: 1 Monday, 3 Wednesday, 5 Friday
     /// days.range_in(2..5).as_slice() == [(3, "Wednesday")].as_slice() && days.range_in(..=3).len() == 2
     /// ```
-    pub fn range_in<R: RangeBounds<K>>(&self, range: R) -> LiteMap<K, V, SliceStore<'_, K, V>>
+    pub fn range_in<R: RangeBounds<K>>(&self, range: R) -> SliceMap<'_, K, V>
         ensures { R.has_bounds range → result.pairs
             ≡ within K.cmp self.now.pairs (R.start_bound range) (R.end_bound range) }
     {
         self.range(range.start_bound(), range.end_bound())
+    }
+
+    /// Returns the pairs whose keys are within a range of what keys are looked up by, as `"a".."f"`, as a map that borrows them
+    /// (own). It is as `range_in`.
+    ///
+    /// ```rust
+    /// // days: 1 Monday, 3 Wednesday, 5 Friday
+    /// let (low, high) = (2, 5);
+    /// days.range_by(&low..&high).as_slice() == [(3, "Wednesday")].as_slice()
+    /// ```
+    pub fn range_by<Q: Query<K>, R: RangeBounds<Q>>(&self, range: R) -> SliceMap<'_, K, V>
+        ensures { R.has_bounds range → result.pairs ≡ within Q.order self.now.pairs
+            (bound_map Q.sought (R.start_bound range)) (bound_map Q.sought (R.end_bound range)) }
+    {
+        self.range(range.start_bound().map(|q| *q), range.end_bound().map(|q| *q))
     }
 }

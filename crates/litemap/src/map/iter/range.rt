@@ -8,6 +8,7 @@ ghost use Rattle.litemap_store.specs.Pairs.{sub};
 
 use litemap_store::store::Store;
 use std::alloc::AllocError;
+use std::fmt::{self, Debug, Formatter, Write};
 use std::iter::FusedIterator;
 use std::marker::{Model, PhantomData};
 use std::ops::Range;
@@ -61,6 +62,19 @@ impl<'a, K, V, S: Store<K, V>> RangeIter<'a, K, V, S> {
         }
         let store = self.store;
         store.lm_get(self.start)
+    }
+}
+
+/// Formats the pairs still to come as a map. What is printed is not promised.
+impl<'a, K: Debug, V: Debug, S: Store<K, V>> Debug for RangeIter<'a, K, V, S> {
+    fn fmt<W: Write>(&self, f: &mut Formatter<W>) -> fmt::Result {
+        let mut out = f.debug_map();
+        for index in self.start..self.end {
+            if let Some((key, value)) = self.store.lm_get(index) {
+                out.entry(key, value);
+            }
+        }
+        out.finish()
     }
 }
 
