@@ -349,6 +349,8 @@ class Model:
                 self.pairs[place] = (old[0], value)
                 return str(old[1]), search
             return self.put(key, value) or "none", search
+        if name == "insert_indexed":
+            return ("there", search) if there else (self.put(key, value) or "placed", 0)
         if name == "try_insert":
             return (f"back {key}:{value}" if there else self.put(key, value) or "placed"), search
         if there:
@@ -729,7 +731,7 @@ READ_ONLY = {"get"}
 FEW = 16
 LOOK_UPS = {"find_index", "find_index_counted", "find_index_by", "lm_binary_search_by", "contains_key", "get_key_value"}
 LOOK_UPS |= {"get", "get_counted", "get_by", "index", "get_mut", "get_mut_by", "index_mut"}
-PUTS, ENTERING = named("put", "find_or_put"), named("enter")
+PUTS, ENTERING = named("put", "put_at", "find_or_put"), named("enter")
 ENTRIES, TWICE = [*ENTERING, *named("enter_key", "enter_out", "enter_text")], named("enter_twice")
 EXTENSIONS = named("extend", "store_extend")
 MERGES, COMBINES, BESIDE, READS, RUNS, MAKES = map(named, ("merge", "combine", "beside", "read", "run", "make"))
@@ -738,7 +740,7 @@ RENAMES, MADE = named("rename"), named("store_make")
 KEYED = {*LOOK_UPS, *PUTS, *ENTRIES, *TWICE, *RENAMES, *named("take", "take_pair"), "split_off"}
 # The groups of lookups, of calls with a pair, and of those that take a key out.
 LOOKING = ["get", "get_pair", "get_more", "find", "index"]
-PAIRED, TAKING = ["put", "find_or_put", "enter"], ["take", "take_pair"]
+PAIRED, TAKING = ["put", "put_at", "find_or_put", "enter"], ["take", "take_pair"]
 # The number of clones that each conversion makes of a pair.
 CONVERSIONS = {"try_clone": 2, "cloned": 2, "to_boxed_keys_values": 2, "to_boxed_keys": 2, "to_boxed_values": 2, "to_keys_by": 1}
 CONVERSIONS |= {"to_borrowed_keys_values": 0, "to_borrowed_keys": 1, "to_borrowed_values": 1}
@@ -1229,6 +1231,10 @@ ELSEWHERE = {
     "into_mut": "entry_into_mut",
     "lm_size_hint": "iter",
 }
+ELSEWHERE |= dict.fromkeys("range_in range_by floor ceiling remove_indexed truncate remove_range try_from_sorted".split(), "test_cases")
+ELSEWHERE |= dict.fromkeys("try_update retain_mut iter_mut keys_slice values_slice values_mut_slice".split(), "test_cases")
+ELSEWHERE |= dict.fromkeys("as_store into_store capacity shrink_to_fit lm_columns lm_columns_mut".split(), "test_cases")
+ELSEWHERE |= {"lm_alloc": "extended"}
 SOURCES = ["litemap/src/map.rt", "litemap/src/map", "litemap/src/const_family.rt", "litemap_read/src/read.rt"]
 SOURCES += ["litemap_read/src/laws.rt", "litemap_store/src/store.rt", "litemap_store/src/into_iter.rt"]
 

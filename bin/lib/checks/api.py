@@ -39,6 +39,7 @@ NOT_CALLED = {
     "StoreSlice::lm_get_range": "what `get_indexed_range` hands on",
     "StoreMut::lm_try_clone": "what `try_clone` hands on",
     "StoreAlloc::lm_alloc": "what `clone` and `extend` of std's traits ask",
+    "StoreColumns::lm_columns": "what `keys_slice` hands on",
     "StoreColumns::lm_columns_mut": "what `iter_mut` hands on",
     "StoreIterable::lm_iter": "what `iter` hands on",
     "StoreIntoIterator::lm_into_iter": "what `into_iter` hands on",

@@ -103,7 +103,7 @@ module _ {K Q V : Type 0} {cmp : K → K → Ordering} (o : IsTotalOrder cmp) {o
         by None there = absurd (slice_get-None (below order L q) j (sym same ∙ there) (let l = long in omega arith))
         by (Some p) there =
             let last : slice_get (below order L q) (length (below order L q) - 1) ≡ Some p =
-                subst (λ k. slice_get (below order L q) k ≡ Some p) {x = j} {y = length (below order L q) - 1} (let l = long in omega arith) (sym same ∙ there) in
+            subst (λ k. slice_get (below order L q) k ≡ Some p) {x = j} {y = length (below order L q) - 1} (let l = long in omega arith) (sym same ∙ there) in
             let inside = In-from_filter (λ x. is_lt (order x.0 q)) L p (In-slice_get (below order L q) _ p last) in
             nearest Greater p inside.0 (λ h. let l = inside.1 in let m : is_lt (order p.0 q) ≡ false = rw h refl in cc)
             (λ r k n. last_top o (below order L q) p r (Rising-filter cmp _ L rising) last (low r k n))

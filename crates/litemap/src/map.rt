@@ -104,7 +104,7 @@ impl<K: Ord, V, S: Store<K, V>> LiteMap<K, V, S> {
         }
     }
 
-    /// Returns the map over a store if its keys are strictly ascending, else the store (own). It takes no memory, and tests as
+    /// Returns the map over a store if its keys are strictly ascending, else the store (own). It takes no memory, and compares as
     /// `is_sorted_store` does.
     ///
     /// ```rust

@@ -7,6 +7,9 @@ use std::alloc::{AllocError, Global};
 use std::mem;
 use std::ops::Bound;
 
+// A map of numbers.
+type Map = VecMap<u32, u32>;
+
 // The lengths at which calls by index are tried.
 const LENGTHS: [u32; 5] = [0, 1, 2, 5, 20];
 
@@ -17,7 +20,7 @@ fn tens(alloc: Global, len: u32) -> Result<Vec<(u32, u32)>, AllocError> {
         .collect(alloc)
 }
 
-fn map_of_tens(alloc: Global, len: u32) -> Result<VecMap<u32, u32>, AllocError> {
+fn map_of_tens(alloc: Global, len: u32) -> Result<Map, AllocError> {
     tens(alloc, len)?.into_iter().collect(alloc)
 }
 
@@ -82,24 +85,27 @@ pub(crate) fn a_store_comes_out(alloc: Global) -> Outcome {
 // A pair at an index goes as from a vector, at each index and at the length.
 pub(crate) fn a_pair_goes_by_its_index(alloc: Global) -> Outcome {
     let mut is_right = true;
-    for len in LENGTHS {
-        for index in 0..len {
-            let (mut map, mut pairs) = (map_of_tens(alloc, len)?, tens(alloc, len)?);
-            is_right &= map.remove_indexed(len as usize).is_none();
-            is_right &= map.remove_indexed(index as usize) == Some(pairs.remove(index as usize));
-            is_right &= map.as_slice() == pairs.as_slice();
-        }
+    for index in 0..21 {
+        let (mut map, mut pairs) = (map_of_tens(alloc, 20)?, tens(alloc, 20)?);
+        let wanted = if index < pairs.len() {
+            Some(pairs.remove(index))
+        } else {
+            None
+        };
+        is_right &= map.remove_indexed(index) == wanted && map.as_slice() == pairs.as_slice();
     }
     Ok(is_right)
 }
 
-// Pairs from an index on, and between two, go as from a vector, and the others stay.
+// Pairs between two indices go, and then those from the first one on, as from a vector.
 pub(crate) fn ranges_of_pairs_go(alloc: Global) -> Outcome {
     let mut is_right = true;
-    for len in LENGTHS {
-        for start in 0..len as usize {
-            let end = len as usize - start / 2;
-            let (mut map, mut pairs) = (map_of_tens(alloc, len)?, tens(alloc, len)?);
+    for start in 0..6 {
+        for end in start..6 {
+            let (mut map, mut pairs) = (map_of_tens(alloc, 20)?, tens(alloc, 20)?);
+            if map.len() < end || pairs.len() < end {
+                return Ok(false);
+            }
             map.remove_range(start..end);
             drop(pairs.drain(start..end));
             is_right &= map.as_slice() == pairs.as_slice();
@@ -122,7 +128,11 @@ pub(crate) fn values_are_written_up_to_an_error(alloc: Global) -> Outcome {
             *value = value.wrapping_add(calls);
             if *key == last { Err(*key) } else { Ok(()) }
         });
-        let wanted = if last > 0 && last < 21 { Err(last) } else { Ok(()) };
+        let wanted = if last > 0 && last < 21 {
+            Err(last)
+        } else {
+            Ok(())
+        };
         let written = if wanted.is_ok() { 20 } else { last };
         is_right &= outcome == wanted && calls == written;
         for (key, value) in &map {
@@ -136,7 +146,7 @@ pub(crate) fn values_are_written_up_to_an_error(alloc: Global) -> Outcome {
 // Each pair is asked once, in order, and those that stay have what was written.
 pub(crate) fn pairs_are_written_and_dropped(alloc: Global) -> Outcome {
     let mut is_right = true;
-    for step in 1..22 {
+    for step in 1u32..22 {
         let mut map = map_of_tens(alloc, 20)?;
         let mut calls = 0u32;
         map.retain_mut(|key, value| {
@@ -144,7 +154,8 @@ pub(crate) fn pairs_are_written_and_dropped(alloc: Global) -> Outcome {
             *value = calls;
             key.checked_rem(step) == Some(1)
         });
-        is_right &= calls == 20 && map.len() == (1..21).filter(|key| key.checked_rem(step) == Some(1)).count();
+        let kept = (1u32..21).filter(|key| key.checked_rem(step) == Some(1));
+        is_right &= calls == 20 && map.len() == kept.count();
         for (key, value) in &map {
             is_right &= key.checked_rem(step) == Some(1) && key == value;
         }
@@ -167,4 +178,40 @@ pub(crate) fn values_in_columns_are_lent(alloc: Global) -> Outcome {
     map.values_mut_slice().reverse();
     let is_turned = map.values_slice() == [50, 40, 7, 7, 7].as_slice();
     Ok(keys == 123 && is_half && is_turned && map.keys_slice() == [1, 2, 3, 4, 5].as_slice())
+}
+
+// The pair at a number, or next to it on either side, is what a walk from that end finds.
+pub(crate) fn pairs_next_to_a_number_are_found(alloc: Global) -> Outcome {
+    let mut is_right = true;
+    for len in LENGTHS {
+        let map: Map = (1..len.saturating_add(1))
+            .map(|n| (n.wrapping_mul(2), n))
+            .collect(alloc)?;
+        for number in 0..44 {
+            let below = map
+                .iter_range(Bound::Unbounded, Bound::Included(&number))
+                .next_back();
+            let above = map
+                .iter_range(Bound::Included(&number), Bound::Unbounded)
+                .next();
+            is_right &= map.floor(&number) == below && map.ceiling(&number) == above;
+            is_right &= map.range_by::<&u32, _>(&number..&44).first() == above;
+        }
+    }
+    Ok(is_right)
+}
+
+// A store of ascending keys becomes a map, and any other comes back.
+pub(crate) fn sorted_stores_become_maps(alloc: Global) -> Outcome {
+    let mut is_right = true;
+    for len in LENGTHS {
+        let map = Map::try_from_sorted(tens(alloc, len)?);
+        is_right &= map.is_ok_and(|map: Map| map.len() == len as usize);
+        let mut pairs = tens(alloc, len)?;
+        pairs.push((len, 0))?;
+        let back = Map::try_from_sorted(pairs);
+        is_right &= len == 0
+            || back.is_err_and(|pairs: Vec<(u32, u32)>| pairs.len() == len as usize + 1);
+    }
+    Ok(is_right)
 }

@@ -61,7 +61,7 @@ fn main(rt: HostRuntime) -> ExitCode {
     }
 }
 
-fn cases(alloc: Global) -> [(&'static str, Outcome); 39] {
+fn cases(alloc: Global) -> [(&'static str, Outcome); 41] {
     outcomes! { alloc;
         closures::one_of_the_keys_called_equal_is_found,
         closures::a_closure_compares_with_another_type,
@@ -74,6 +74,8 @@ fn cases(alloc: Global) -> [(&'static str, Outcome); 39] {
         collection::values_are_written_up_to_an_error,
         collection::pairs_are_written_and_dropped,
         collection::values_in_columns_are_lent,
+        collection::pairs_next_to_a_number_are_found,
+        collection::sorted_stores_become_maps,
         constants::numbers_of_each_type_are_found,
         constants::both_ends_of_a_type_are_found,
         constants::strings_and_bytes_are_found,

@@ -25,6 +25,14 @@ fn put<S: StoreMut<Key, Value>>(map: &mut Map<S>, call: &Call<'_>, to: &mut Answ
         "insert_counted" => show_old(map.insert_counted(key, value, &mut Count::new()), to),
         "try_insert" => show_back(map.try_insert(key, value), to),
         "try_append" => show_back(map.try_append(key, value), to),
+        "insert_indexed" => match map.find_index(&key) {
+            Err(index) => {
+                // What finds the index is no part of the call.
+                call.begin();
+                show_back(map.insert_indexed(index, key, value).map(|_| None), to);
+            }
+            Ok(_) => to.word("there"),
+        },
         _ => return None,
     }
     Some(())

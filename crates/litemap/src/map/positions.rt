@@ -42,12 +42,7 @@ impl<K: Ord + Drop, V, S: StoreMut<K, V>> LiteMap<K, V, S> {
     /// }
     /// Ok(days.get(&2) == Some(&"Tuesday"))
     /// ```
-    pub fn insert_indexed(
-        &mut self,
-        index: usize,
-        key: K,
-        value: V,
-    ) -> Result<(), NoRoom<(K, V)>>
+    pub fn insert_indexed(&mut self, index: usize, key: K, value: V) -> Result<(), NoRoom<(K, V)>>
         requires { index_of K.cmp self.old.pairs key ≡ Err index }
         ensures put { OnOk result (self.new.pairs ≡ put K.cmp self.old.pairs key value) }
         ensures refused { RefusedFull (key, value) self.old self.new result }

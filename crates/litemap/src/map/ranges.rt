@@ -97,11 +97,7 @@ impl<K: Ord, V, S: StoreSlice<K, V>> LiteMap<K, V, S> {
     /// Returns the pairs whose keys are within two bounds, as a map that borrows them (own).
     ///
     /// The bounds are those of `index_range`: if they cross, it is empty.
-    pub fn range<Q: Query<K>>(
-        &self,
-        from: Bound<Q>,
-        to: Bound<Q>,
-    ) -> SliceMap<'_, K, V>
+    pub fn range<Q: Query<K>>(&self, from: Bound<Q>, to: Bound<Q>) -> SliceMap<'_, K, V>
         ensures pairs { result.pairs ≡ within Q.order self.now.pairs
             (bound_map Q.sought from) (bound_map Q.sought to) }
         // What lookups find in it.
@@ -129,14 +125,16 @@ impl<K: Ord, V, S: StoreSlice<K, V>> LiteMap<K, V, S> {
     /// (own). It is as `range_in`.
     ///
     /// ```rust
-    /// // days: 1 Monday, 3 Wednesday, 5 Friday
-    /// let (low, high) = (2, 5);
-    /// days.range_by(&low..&high).as_slice() == [(3, "Wednesday")].as_slice()
+    /// let names: VecMap<String, u8> = [("ann".to_string(alloc)?, 1), ("gil".to_string(alloc)?, 2)].into_iter().collect(alloc)?;
+    /// Ok(names.range_by("a".."f").len() == 1 && names.range_by("b"..).len() == 1)
     /// ```
     pub fn range_by<Q: Query<K>, R: RangeBounds<Q>>(&self, range: R) -> SliceMap<'_, K, V>
         ensures { R.has_bounds range → result.pairs ≡ within Q.order self.now.pairs
             (bound_map Q.sought (R.start_bound range)) (bound_map Q.sought (R.end_bound range)) }
     {
-        self.range(range.start_bound().map(|q| *q), range.end_bound().map(|q| *q))
+        self.range(
+            range.start_bound().map(|q| *q),
+            range.end_bound().map(|q| *q),
+        )
     }
 }
