@@ -28,6 +28,12 @@ pub enum Call {
     Remove,
     /// Moves values to absent keys one by one, in no order.
     Rename,
+    /// Writes all values, by a closure.
+    Update,
+    /// Writes all values, in a loop over what the map lends, where its store does.
+    IterMut,
+    /// Keeps about half of the pairs, and writes their values.
+    RetainMut,
     /// Keeps about half of the pairs.
     Retain,
     /// Keeps all pairs.
@@ -68,7 +74,7 @@ pub enum Call {
 
 impl Call {
     /// All calls.
-    pub const ALL: [Call; 28] = [
+    pub const ALL: [Call; 31] = [
         Call::Get,
         Call::GetMissing,
         Call::GetIndexed,
@@ -79,6 +85,9 @@ impl Call {
         Call::Append,
         Call::Remove,
         Call::Rename,
+        Call::Update,
+        Call::IterMut,
+        Call::RetainMut,
         Call::Retain,
         Call::RetainAll,
         Call::RetainNone,
@@ -113,6 +122,9 @@ impl Display for Call {
             Call::Append => "append",
             Call::Remove => "remove",
             Call::Rename => "rename",
+            Call::Update => "update",
+            Call::IterMut => "iter_mut",
+            Call::RetainMut => "retain_mut",
             Call::Retain => "retain",
             Call::RetainAll => "retain_all",
             Call::RetainNone => "retain_none",
@@ -152,6 +164,8 @@ pub fn call_all<K: Key>(call: Call, cases: &mut [Case<K>]) -> u64 {
                 let pairs = take(&mut case.given);
                 sum = sum.wrapping_add(rename(&mut case.map, &case.keys, pairs));
             }
+            Call::Update | Call::IterMut => update(&mut case.map),
+            Call::RetainMut => retain_mut(&mut case.map),
             Call::Retain => retain(&mut case.map),
             Call::RetainAll => retain_all(&mut case.map),
             Call::RetainNone => retain_none(&mut case.map),
@@ -257,6 +271,20 @@ fn rename<K: Key>(map: &mut LiteMap<K, u64>, keys: &[K], pairs: Vec<(K, u64)>) -
         }
     }
     sum
+}
+
+#[inline(never)]
+fn update<K: Key>(map: &mut LiteMap<K, u64>) {
+    for (_, value) in map.iter_mut() {
+        *value = value.wrapping_add(2);
+    }
+}
+
+// The values are written first, since `retain` shows them only.
+#[inline(never)]
+fn retain_mut<K: Key>(map: &mut LiteMap<K, u64>) {
+    update(map);
+    map.retain(|_, value| *value & 2 == 0);
 }
 
 #[inline(never)]

@@ -2,13 +2,13 @@
 ghost use Rattle.std.specs.Prelude.{◌≡◌, IfOk};
 
 use crate::levels::Level;
-use litemap::LiteMap;
+use litemap::VecMap;
 use litemap_json::laws::one_reading;
 use litemap_json::{from_json, to_json};
 use std::alloc::{AllocError, Global};
 
 /// How many messages of each level are shown.
-pub type Limits = LiteMap<Level, u32, Vec<(Level, u32)>>;
+pub type Limits = VecMap<Level, u32>;
 
 /// The limits, written as JSON and read back.
 pub fn copied(alloc: Global, limits: &Limits) -> Result<Limits, AllocError>

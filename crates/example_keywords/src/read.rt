@@ -5,7 +5,7 @@ ghost use Rattle.example_keywords.specs.Keywords.{IsKeywordRead, IsPutFirst, IsR
 
 use crate::parts::{Key, canonical, first_part, joined_value, key_of};
 use litemap::LiteMap;
-use litemap_short::ShortStore;
+use litemap_short::ShortMap;
 use std::alloc::{AllocError, Global};
 use thiserror::Error;
 
@@ -13,7 +13,7 @@ use thiserror::Error;
 /// value's own.
 ///
 /// A value is the text of its parts, with a `-` between each two; it is empty if there is none, and for `true`.
-pub type Keywords = LiteMap<Key, String, ShortStore<Key, String>>;
+pub type Keywords = ShortMap<Key, String>;
 
 /// Why a text can't be read as keywords.
 #[derive(Debug, PartialEq, Drop, Error)]

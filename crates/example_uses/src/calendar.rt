@@ -3,8 +3,7 @@ ghost use Rattle.std.specs.Prelude.{◌≡◌, ◌≢◌, ◌<◌, ◌==◌, ◌
 ghost use Rattle.std.specs.declared.cmp.Ordering.TheVariants.{Less};
 ghost use Rattle.litemap_store.specs.Pairs.{value_at};
 
-use litemap::store::SliceStore;
-use litemap::{LiteMap, VecMap};
+use litemap::{SliceMap, VecMap};
 use std::ops::Bound;
 
 /// A year, a month and a day.
@@ -14,11 +13,7 @@ pub type Date = (u16, u8, u8);
 pub type Calendar = VecMap<Date, String>;
 
 /// The days of a month.
-pub fn month(
-    calendar: &Calendar,
-    year: u16,
-    month: u8,
-) -> LiteMap<Date, String, SliceStore<'_, Date, String>>
+pub fn month(calendar: &Calendar, year: u16, month: u8) -> SliceMap<'_, Date, String>
     requires { month < u8.MAX }
     ensures { result.pairs ≡ filter (λ p. (p.0.0 == year) && (p.0.1 == month)) calendar.entry.now.pairs }
 {

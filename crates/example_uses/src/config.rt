@@ -7,12 +7,12 @@ ghost use Rattle.std.specs.String.{string_cmp};
 ghost use Rattle.litemap_store.specs.Pairs.{at, value_at};
 ghost use Rattle.litemap_store.specs.Queries.{by_string};
 
-use litemap::LiteMap;
 use litemap::store::NoRoom;
+use litemap::{LiteMap, VecMap};
 use std::alloc::{AllocError, Global};
 
 /// Settings that own their strings.
-pub type Settings = LiteMap<String, String, Vec<(String, String)>>;
+pub type Settings = VecMap<String, String>;
 
 /// The settings of a program: its defaults, and over them those of a user. Of each name the last value counts, as
 /// in the two lists read backwards.

@@ -42,7 +42,7 @@ pub(crate) fn put_count<K: Ord + Drop, S: StoreMut<K, usize>>(
 pub fn count_words<K: Ord + Copy>(
     alloc: Global,
     words: &[K],
-) -> Result<LiteMap<K, usize, Vec<(K, usize)>>, AllocError>
+) -> Result<VecMap<K, usize>, AllocError>
     ensures { IfOk result (λ counts. (word : K) → unwrap_or (value_at K.cmp counts.pairs word) 0
         ≡ count_by (λ w. is_eq (K.cmp w word)) words.now) }
 {

@@ -6,11 +6,11 @@ ghost use Rattle.litemap_store.specs.Queries.{by_string};
 ghost use Rattle.litemap_store.specs.Clones.{PairsBecame};
 ghost use Rattle.litemap.specs.ByBytes.{by_bytes};
 
-use litemap::LiteMap;
+use litemap::VecMap;
 use std::alloc::{AllocError, Global};
 
 /// Headers that own their strings.
-pub type Headers = LiteMap<String, String, Vec<(String, String)>>;
+pub type Headers = VecMap<String, String>;
 
 /// Sets a header, and returns the value before. All others stay.
 pub fn set(headers: &mut Headers, name: String, value: String) -> Result<Option<String>, AllocError>
@@ -43,7 +43,7 @@ pub fn copy_of(alloc: Global, headers: &Headers) -> Result<Headers, AllocError>
 }
 
 /// Headers whose strings are borrowed.
-pub type Borrowed<'k> = LiteMap<&'k str, &'k str, Vec<(&'k str, &'k str)>>;
+pub type Borrowed<'k> = VecMap<&'k str, &'k str>;
 
 /// Sets a header whose strings are borrowed.
 pub fn set_borrowed<'k>(

@@ -10,17 +10,17 @@ ghost use Rattle.std.specs.declared.ops.Bound.TheVariants.{Included, Unbounded};
 ghost use Rattle.litemap_store.specs.Pairs.{at, index_of, place, value_at, value_in};
 ghost use Rattle.litemap.specs.Within.{within};
 
-use litemap::LiteMap;
 use litemap::store::StoreMut;
+use litemap::{LiteMap, VecMap};
 use std::alloc::AllocError;
 use std::io;
 use std::ops::Bound;
 
 /// Ages by numbers of people.
-pub type Ages = LiteMap<u32, u8, Vec<(u32, u8)>>;
+pub type Ages = VecMap<u32, u8>;
 
 /// Readings by signed times.
-pub type Readings = LiteMap<i64, u8, Vec<(i64, u8)>>;
+pub type Readings = VecMap<i64, u8>;
 
 /// Sets an age, which is then found, at the index where it belongs. All others stay. Its error is an `io::Error`, as
 /// that of a function which reads input, too.
@@ -122,7 +122,7 @@ pub struct Shelf {
 }
 
 /// How many there are, by shelf.
-pub type Stock = LiteMap<Shelf, u32, Vec<(Shelf, u32)>>;
+pub type Stock = VecMap<Shelf, u32>;
 
 /// Sets how many are on a shelf. All others stay.
 pub fn set_stock(stock: &mut Stock, shelf: Shelf, count: u32) -> Result<(), AllocError>

@@ -8,7 +8,7 @@ ghost use Rattle.std.specs.Ordering.{as_partial_cmp, nat_cmp, on};
 ghost use Rattle.litemap_store.specs.Pairs.{value_at};
 ghost use Rattle.litemap_store.specs.Queries.{key_one_side};
 
-use litemap::{LiteMap, Query};
+use litemap::{Query, VecMap};
 use std::cmp::Ordering;
 
 /// Someone with a number.
@@ -78,7 +78,7 @@ impl Query<Person> for Number {
 }
 
 /// What is kept for the person with a number.
-pub fn kept_for<'a, V>(map: &'a LiteMap<Person, V, Vec<(Person, V)>>, number: u32) -> Option<&'a V>
+pub fn kept_for<'a, V>(map: &'a VecMap<Person, V>, number: u32) -> Option<&'a V>
     ensures { option_copied result
         ≡ value_at (λ person number. nat_cmp person.number number) map.entry.now.pairs number }
 {

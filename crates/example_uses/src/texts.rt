@@ -11,14 +11,14 @@ ghost use Rattle.litemap_store.specs.Queries.{by_slice, by_string};
 
 use crate::scores;
 use litemap::store::Store;
-use litemap::{LiteMap, Query};
+use litemap::{LiteMap, Query, VecMap};
 use std::alloc::{AllocError, Global};
 
 /// Numbers at strings that the map owns.
-pub type Numbers = LiteMap<String, u32, Vec<(String, u32)>>;
+pub type Numbers = VecMap<String, u32>;
 
 /// Numbers at bytes that the map owns.
-pub type ByteNumbers = LiteMap<Vec<u8>, u32, Vec<(Vec<u8>, u32)>>;
+pub type ByteNumbers = VecMap<Vec<u8>, u32>;
 
 /// The number at a tag such as `de-CH`, else that at its language, which stands before the first `-`.
 #[tactic(auto, using(std::proofs::lemmas::Str::Pattern::split_once_first))]

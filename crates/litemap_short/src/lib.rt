@@ -6,5 +6,15 @@ mod short_iter;
 mod short_store;
 mod storage;
 
+use litemap::LiteMap;
 pub use short_iter::ShortIntoIter;
 pub use short_store::ShortStore;
+
+/// A map that keeps no pair or one in itself, and more in a vector.
+///
+/// ```rust
+/// let mut days: ShortMap<u32, &str> = LiteMap::new(alloc);
+/// days.insert(1, "Monday")?;
+/// Ok(days.get(&1) == Some(&"Monday"))
+/// ```
+pub type ShortMap<K, V> = LiteMap<K, V, ShortStore<K, V>>;

@@ -4,12 +4,12 @@ ghost use Rattle.name_table.specs.{IsFound, IsRead, IsUnread};
 
 use crate::error::NameFault;
 use crate::name_bytes::NameBytes;
-use litemap::LiteMap;
+use litemap::VecMap;
 use litemap_read::{ReadFault, read_pairs};
 use std::alloc::Global;
 
 /// A map of strings that lie in the bytes of a name table.
-pub type NameMap<'a> = LiteMap<&'a str, &'a str, Vec<(&'a str, &'a str)>>;
+pub type NameMap<'a> = VecMap<&'a str, &'a str>;
 
 /// Reads the name table that the bytes begin with, and returns its map and how many bytes it takes. Keys and values are slices
 /// of the bytes. The last entry of each key stays, and the others are dropped. Bytes after the table are left unread. The Rust

@@ -6,7 +6,7 @@ ghost use Rattle.serde_json.specs.Written.{compact_text};
 ghost use Rattle.litemap_json.specs.declared.fault.JsonFault.TheVariants.{Memory};
 ghost use Rattle.names.specs.Rewriting.{FlagsReadAs, IsFlagsFault, IsJsonText, IsRewritten, flags_tree};
 
-use litemap::LiteMap;
+use litemap::VecMap;
 use litemap_json::{JsonFault, from_json, to_json};
 use serde_json::Value;
 use std::alloc::Global;
@@ -26,7 +26,7 @@ pub enum FlagsFault {
     Json(JsonFault),
 }
 
-type FlagMap = LiteMap<bool, u32, Vec<(bool, u32)>>;
+type FlagMap = VecMap<bool, u32>;
 
 /// Rewrites data of an older form (own). It reads a JSON text of a map whose keys are `true` and `false` and whose items are
 /// numbers of 32 bits, and returns the compact text of the map as it is written now, as an object. Older maps were written as

@@ -3,11 +3,11 @@ ghost use Rattle.std.specs.Prelude.{◌≡◌};
 ghost use Rattle.litemap_store.specs.Pairs.{Rising};
 
 use crate::Outcome;
-use litemap::LiteMap;
 use litemap::store::SliceStore;
+use litemap::{LiteMap, SliceMap};
 use std::alloc::Global;
 
-type Table<'a, K, V> = LiteMap<K, V, SliceStore<'a, K, V>>;
+type Table<'a, K, V> = SliceMap<'a, K, V>;
 
 const TWO: &[(&str, u32)] = &[("a", 11), ("b", 22)];
 

@@ -6,7 +6,7 @@ use example_store::fixed_room::FixedRoom;
 use litemap::LiteMap;
 use litemap::store::{Count, Store, StoreIntoIterator, StoreMut};
 use litemap_columns::ColumnStore;
-use litemap_short::ShortStore;
+use litemap_short::{ShortMap, ShortStore};
 use std::alloc::{AllocError, Global};
 use std::mem;
 
@@ -62,6 +62,6 @@ pub(crate) fn the_longest_store_grows_no_more(alloc: Global) -> Outcome {
 
 // A count takes no memory, and a short store of small pairs a word beside a vector's three.
 pub(crate) fn a_count_takes_no_memory(_: Global) -> Outcome {
-    let short = size_of::<LiteMap<[u8; 2], [u8; 8], ShortStore<[u8; 2], [u8; 8]>>>();
+    let short = size_of::<ShortMap<[u8; 2], [u8; 8]>>();
     Ok(size_of::<Count>() == 0 && short == 4 * size_of::<usize>())
 }

@@ -1,7 +1,7 @@
 //! Keys of each kind looked up by what can stand for them: by a string, by a slice, and by the key itself.
 use crate::{Outcome, all_right};
 use litemap::store::Count;
-use litemap::{LiteMap, Query};
+use litemap::{LiteMap, Query, VecMap};
 use std::alloc::{AllocError, Global};
 use std::borrow::CowStr;
 use std::boxed::{BoxedSlice, BoxedStr};
@@ -9,7 +9,7 @@ use std::convert::identity;
 use std::rc::RcStr;
 use std::sync::ArcStr;
 
-type Map<K> = LiteMap<K, u32, Vec<(K, u32)>>;
+type Map<K> = VecMap<K, u32>;
 
 // The strings of the keys, and the number at each.
 const LIST: &[(&str, u32)] = &[("", 1), ("a", 2), ("aab", 3), ("ab", 4), ("b\u{e9}", 5)];

@@ -2,8 +2,8 @@
 use crate::answer::{Answer, Pairs};
 use crate::call::{Call, Made, Map, Pair};
 use crate::counted::{Key, Value};
-use litemap::LiteMap;
-use litemap::store::{Count, SliceStore, Store, StoreSlice};
+use litemap::store::{Count, Store, StoreSlice};
+use litemap::{LiteMap, SliceMap};
 use std::mem;
 
 /// Makes a call of these, if the name is one.
@@ -102,7 +102,7 @@ pub fn view<S: StoreSlice<Key, Value>>(map: &Map<S>, call: &Call<'_>, to: &mut A
 }
 
 // What the calls of a constant table return, but for those by a key.
-fn show_table(table: &LiteMap<Key, Value, SliceStore<'_, Key, Value>>, to: &mut Answer) {
+fn show_table(table: &SliceMap<'_, Key, Value>, to: &mut Answer) {
     to.show(Pairs::of_map(table));
     to.show(table.const_len());
     to.show(table.const_is_empty());

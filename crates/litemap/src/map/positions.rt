@@ -1,8 +1,9 @@
 //! Calls that insert and remove pairs by their indices. No keys are compared.
-ghost use Rattle.std.specs.Prelude.{◌≡◌, ◌+◌, ◌-◌, ◌<◌, ◌≤◌, ◌++◌, Err, IfOk, IsNone, IsSome, OnErr, OnOk, drop, length};
-ghost use Rattle.std.specs.Prelude.{remove, slice_get, slice_range, take, vec_capacity, vec_len};
+ghost use Rattle.std.specs.Prelude.{◌≡◌, ◌+◌, ◌-◌, ◌<◌, ◌≤◌, ◌++◌, Err, IfOk, IfSome, IsNone, IsSome, OnErr, OnOk, Some, drop};
+ghost use Rattle.std.specs.Prelude.{length, remove, slice_get, slice_range, take, vec_capacity, vec_len};
 ghost use Rattle.litemap_store.specs.Pairs.{index_of, put};
 ghost use Rattle.litemap.specs.Changes.{RefusedFull};
+ghost use Rattle.litemap.specs.Updates.{TakesPair, Updates};
 
 use crate::LiteMap;
 use litemap_store::store::{NoRoom, StoreMut};
@@ -20,6 +21,7 @@ impl<K: Ord, V, S: StoreMut<K, V>> LiteMap<K, V, S> {
     pub fn remove_indexed(&mut self, index: usize) -> Option<(K, V)>
         ensures pair { result ≡ slice_get self.old.pairs index }
         ensures pairs { self.new.pairs ≡ remove self.old.pairs index }
+        ensures taken { IfSome result (λ p. TakesPair K.cmp p self.old.pairs self.new.pairs) }
         ensures unchanged { IsNone result → self.new ≡ self.old }
         ensures room { S.keeps_memory → IsSome result → self.old.room < self.new.room }
     {
@@ -45,6 +47,7 @@ impl<K: Ord + Drop, V, S: StoreMut<K, V>> LiteMap<K, V, S> {
     pub fn insert_indexed(&mut self, index: usize, key: K, value: V) -> Result<(), NoRoom<(K, V)>>
         requires { index_of K.cmp self.old.pairs key ≡ Err index }
         ensures put { OnOk result (self.new.pairs ≡ put K.cmp self.old.pairs key value) }
+        ensures updates { OnOk result (Updates K.cmp key (Some value) self.old.pairs self.new.pairs) }
         ensures refused { RefusedFull (key, value) self.old self.new result }
     {
         self.keys_ascend();

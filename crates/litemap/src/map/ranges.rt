@@ -115,8 +115,10 @@ impl<K: Ord, V, S: StoreSlice<K, V>> LiteMap<K, V, S> {
     /// days.range_in(2..5).as_slice() == [(3, "Wednesday")].as_slice() && days.range_in(..=3).len() == 2
     /// ```
     pub fn range_in<R: RangeBounds<K>>(&self, range: R) -> SliceMap<'_, K, V>
-        ensures { R.has_bounds range → result.pairs
+        ensures pairs { R.has_bounds range → result.pairs
             ≡ within K.cmp self.now.pairs (R.start_bound range) (R.end_bound range) }
+        ensures stays { R.has_bounds range → KeepsPart (λ p. not (is_before K.cmp (R.start_bound range) p.0)
+            && is_up_to K.cmp (R.end_bound range) p.0) self.now.pairs result.pairs }
     {
         self.range(range.start_bound(), range.end_bound())
     }
