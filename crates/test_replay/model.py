@@ -434,6 +434,10 @@ class Model:
             self.pairs = [pair for place, pair in enumerate(self.pairs) if bits >> place % 64 & 1]
             self.freed(size - len(self.pairs))
             return str(size)
+        if name == "extract":
+            bits, every = int(words[0]), list(enumerate(self.pairs))
+            self.pairs = [pair for place, pair in every if not bits >> place % 64 & 1]
+            return self.text(pair for place, pair in every if bits >> place % 64 & 1)
         if name == "update":
             more = int(words[0])
             self.pairs = [(key, value + more + place) for place, (key, value) in enumerate(self.pairs)]
@@ -865,8 +869,9 @@ def changes():
         writes += [f"retain {bits}" for bits in RETAINED]
         twice = [*spelled("enter_twice", KEY=present(length) + absent(length), VALUE=[7])]
         yield from block(ALL, length, 1, calls + writes + twice, is_fixed=False)
+        writes += [f"extract {bits}" for bits in RETAINED]
         yield from block(GROWING, length, 0, calls + writes + [f"reserve {more}" for more in (2, 8, 100)])
-        yield from block("fixed", length, 0, calls + writes[:-8] + ["reserve 0", "reserve 1"], is_fixed=True)
+        yield from block("fixed", length, 0, calls + writes[: -8 - len(RETAINED)] + ["reserve 0", "reserve 1"], is_fixed=True)
 
 
 # Which pairs are kept, by the bits of a number: none, all, the first, all but the first, in turns, the last of 64, and others.
@@ -974,6 +979,7 @@ def refusable():
         calls = [*spelled(*PAIRED, KEY=[end], VALUE=[7]), f"or_default {end}", *CONVERSIONS, "lm_try_clone", "lm_push 9999 7"]
         calls += [f"{name} {more}" for name in RESERVED for more in (1, length)] + [f"split_off {key}" for key in (2, length, end - 1)]
         many = [name for name in EXTENSIONS + MERGES + MAKES + MADE if not name.endswith("counted")] + [f"{name} - -" for name in READS]
+        calls += [f"extract {bits}" for bits in RETAINED[:3]]
         yield from block("vec", length, 0, [f"take_range {start} {length}" for start in {0, length // 2, length}])
         calls += ["lm_insert 0 1 7", *(f"{name} {pairs}" for name in many for pairs in given)]
         yield from block(GROWING, length, 0, calls)

@@ -13,6 +13,7 @@ pub mod MergedTests
 pub mod Nearest
 pub mod Numbers
 pub mod Outcomes
+pub mod Parting
 pub mod Parts
 pub mod Places
 pub mod Placing

@@ -10,6 +10,7 @@ pub mod IterMut
 pub mod KeptWritten
 pub mod Lends
 pub mod Nearest
+pub mod Parted
 pub mod Retained
 pub mod Runs
 pub mod TryFault

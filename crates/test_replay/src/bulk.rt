@@ -4,6 +4,7 @@ ghost use Rattle.std.specs.Vec.Iter.{into_iter_items};
 
 use crate::answer::{Answer, Pairs};
 use crate::call::{Call, Made, Map, Pair};
+use crate::changes::is_kept;
 use crate::counted::{Key, Value};
 use crate::tested::Tested;
 use crate::{lists, sizes};
@@ -24,6 +25,7 @@ pub fn gather<S: Tested>(map: &mut Map<S>, call: &Call<'_>, to: &mut Answer) -> 
         || merge(map, call, to).is_some()
         || combine(map, call, to).is_some()
         || split(map, call, to).is_some()
+        || extract(map, call, to).is_some()
         || go_beside(map, call, to).is_some()
         || read(map, call, to).is_some()
         || read_each(map, call, to).is_some()
@@ -215,6 +217,17 @@ fn split<S: StoreBulkMut<Key, Value>>(map: &mut Map<S>, call: &Call<'_>, to: &mu
     }
     let later = map.split_off(call.alloc, &call.key(0)?);
     to.pairs(later.map(|later| Pairs::of_map(&later)));
+    Some(())
+}
+
+// The pairs whose bit is set in the number, which is turned by one bit after each, become another map.
+fn extract<S: Tested>(map: &mut Map<S>, call: &Call<'_>, to: &mut Answer) -> Made {
+    if call.name != "extract" {
+        return None;
+    }
+    let (number, mut times) = (call.number(0)?, 0u64);
+    let gone = map.extract(call.alloc, |_, _| is_kept(number, &mut times));
+    to.pairs(gone.map(|gone| Pairs::of_map(&gone)));
     Some(())
 }
 

@@ -1,19 +1,22 @@
 //! Calls that remove pairs and return them, keys with their values. A call for one pair takes no memory.
 ghost use Rattle.std.specs.Prelude.{◌≡◌, ◌≢◌, ◌⊎◌, ◌+◌, ◌-◌, ◌++◌, ◌<◌, ◌≤◌, [], IsNone, IsSome, None, Some, IfOk, IsOk, OnErr, OnOk};
-ghost use Rattle.std.specs.Prelude.{drop, IfSome, length, not, remove, slice_get, take};
+ghost use Rattle.std.specs.Prelude.{Bool, drop, filter, IfSome, length, not, remove, slice_get, take};
 ghost use Rattle.std.specs.Ordering.{is_lt};
 ghost use Rattle.std.specs.declared.ops.Bound.TheVariants.{Included, Unbounded};
 ghost use Rattle.litemap_store.specs.Counts.{RisesByAtMost, digits};
 ghost use Rattle.litemap_store.specs.Pairs.{Rising, at, below};
+ghost use Rattle.litemap_store.specs.Retain.{Tests};
 ghost use Rattle.litemap.specs.Changes.{Removes};
+ghost use Rattle.litemap.specs.Parted.{Parted};
 ghost use Rattle.litemap.specs.Updates.{Finds, IsGreatest, IsLeast, KeepsPart, Places, TakesPair};
 ghost use Rattle.litemap.specs.Within.{within};
 
 use crate::LiteMap;
 use litemap_store::Query;
 use litemap_store::split_store::split_store;
-use litemap_store::store::{Count, StoreMut};
+use litemap_store::store::{Count, StoreIntoIterator, StoreMut};
 use std::alloc::{AllocError, Global};
+use std::mem;
 use std::ops::Bound;
 
 impl<K: Ord, V, S: StoreMut<K, V>> LiteMap<K, V, S> {
@@ -118,5 +121,56 @@ impl<K: Ord + Drop, V: Drop, S: StoreMut<K, V> + Drop> LiteMap<K, V, S> {
         let index = self.start_of(Bound::Included(key), &mut Count::new());
         let later = split_store(alloc, &mut self.store, index)?;
         Ok(LiteMap::from_sorted_store_unchecked(later))
+    }
+}
+
+impl<K: Ord + Drop, V: Drop, S: StoreIntoIterator<K, V> + Drop> LiteMap<K, V, S> {
+    /// Removes the pairs for which `f` returns true, and returns them as another map, as an expiry that reports what went (own).
+    ///
+    /// `f` is called once on each pair, in order. If it keeps no state, both maps are filtered by it. Before the first call memory
+    /// for all pairs is taken, twice; if it runs out, nothing changes. Each pair moves once, and no keys are compared.
+    ///
+    /// ```rust
+    /// let mut hours = opening_hours(alloc)?;
+    /// let early = hours.extract(alloc, |_day, hour| *hour < 9)?;
+    /// Ok(early.as_slice() == [(1, 8)].as_slice() && hours.as_slice() == [(3, 10)].as_slice())
+    /// ```
+    pub fn extract<F: FnMut(&K, &V) -> bool>(
+        &mut self,
+        alloc: Global,
+        f: F,
+    ) -> Result<Self, AllocError>
+        requires { F.IsAlwaysCallable f }
+        ensures parted { IfOk result (λ m. Parted F.FnMut f self.old.pairs self.new.pairs m.pairs) }
+        ensures filtered { (test : K × V → Bool) → Tests F.FnMut f test → IfOk result (λ m.
+            (self.new.pairs ≡ filter (λ p. not (test p)) self.old.pairs) × (m.pairs ≡ filter test self.old.pairs)) }
+        ensures refused { OnErr result (self.new ≡ self.old) }
+    {
+        let stays = S::lm_with_capacity(alloc, self.len())?;
+        let mut goes = S::lm_with_capacity(alloc, self.len())?;
+        let all = mem::replace(&mut self.store, stays);
+        part(all, f, &mut self.store, &mut goes);
+        Ok(LiteMap::from_sorted_store_unchecked(goes))
+    }
+}
+
+// Moves each pair into one of two empty stores that have room, by what `f` returns for it.
+fn part<K: Drop, V: Drop, S: StoreIntoIterator<K, V>, F: FnMut(&K, &V) -> bool>(
+    all: S,
+    mut f: F,
+    stays: &mut S,
+    goes: &mut S,
+)
+    requires callable { F.IsAlwaysCallable f }
+    requires stays { (S.pairs stays.old ≡ []) × (length (S.pairs all) ≤ S.room stays.old) }
+    requires goes { (S.pairs goes.old ≡ []) × (length (S.pairs all) ≤ S.room goes.old) }
+    ensures { Parted F.FnMut f (S.pairs all) (S.pairs stays.new) (S.pairs goes.new) }
+{
+    for (key, value) in all.lm_into_iter() {
+        if f(&key, &value) {
+            goes.lm_push(key, value).unwrap();
+        } else {
+            stays.lm_push(key, value).unwrap();
+        }
     }
 }
