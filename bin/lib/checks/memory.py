@@ -14,6 +14,7 @@ WITHOUT = {
         ["litemap_store", "litemap", "litemap_short", "litemap_columns", "litemap_read"],
         "lines of test_replay, whose model tells of a call that no line makes",
     ),
+    "litemap_set": "the map's own calls, by which it takes memory",
     **dict.fromkeys(["names_core", "names_main"], "whole runs of the program, in bin/requests"),
 }
 SHOWN = {

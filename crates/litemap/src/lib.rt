@@ -11,7 +11,8 @@ mod try_fault;
 
 pub use litemap_store::{Query, store};
 pub use map::{
-    Entry, IterMut, KeysIterWrap, LiteMap, OccupiedEntry, RangeIter, VacantEntry, ValuesIterWrap,
+    Entry, IntoKeys, IntoValues, IterMut, KeysIterWrap, LiteMap, OccupiedEntry, RangeIter,
+    VacantEntry, ValuesIterWrap,
 };
 pub use try_fault::TryFault;
 

@@ -23,7 +23,7 @@ mod traits;
 mod write;
 
 pub use entry::{Entry, OccupiedEntry, VacantEntry};
-pub use iter::{KeysIterWrap, RangeIter, ValuesIterWrap};
+pub use iter::{IntoKeys, IntoValues, KeysIterWrap, RangeIter, ValuesIterWrap};
 pub use iter_mut::IterMut;
 use litemap_store::store::{Store, StoreConstEmpty, StoreMut};
 use std::alloc::{AllocError, Global};

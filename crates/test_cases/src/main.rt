@@ -1,7 +1,7 @@
 //! Cases: what neither a contract nor a line of `test_replay` says. The program writes how each came out.
 //!
-//! They are of maps: closures that call several keys equal, queries of each kind, constant tables, calls of a collection, iterators that lie, the
-//! greatest capacities, stores with a limit, what is printed, and small maps; and of the program `names`, over readers
+//! They are of maps: closures that call several keys equal, queries of each kind, constant tables, calls of a collection, iterators
+//! that lie, the greatest capacities, stores with a limit, what is printed, sets, and small maps; and of the program `names`, over readers
 //! and writers in memory, with its names kept in one vector and in two columns: lines with their output, how much it reads, and
 //! an error at each read and each write.
 //!
@@ -26,6 +26,7 @@ mod lines;
 mod printing;
 mod queries;
 mod runs;
+mod sets;
 mod small;
 mod watch;
 
@@ -61,7 +62,7 @@ fn main(rt: HostRuntime) -> ExitCode {
     }
 }
 
-fn cases(alloc: Global) -> [(&'static str, Outcome); 41] {
+fn cases(alloc: Global) -> [(&'static str, Outcome); 43] {
     outcomes! { alloc;
         closures::one_of_the_keys_called_equal_is_found,
         closures::a_closure_compares_with_another_type,
@@ -92,6 +93,10 @@ fn cases(alloc: Global) -> [(&'static str, Outcome); 41] {
         printing::an_error_writes_what_it_is,
         queries::keys_are_asked_by_texts,
         queries::keys_are_asked_by_slices,
+        sets::a_set_has_each_key_once,
+        sets::strings_are_members,
+        sets::keys_are_collected,
+        sets::sets_are_combined,
         small::languages_are_found_by_their_codes,
         small::a_range_has_ranges,
         small::keys_are_made_by_a_closure,

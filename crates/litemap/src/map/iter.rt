@@ -6,11 +6,13 @@ ghost use Rattle.litemap_store.specs.Pairs.{Rising};
 ghost use Rattle.litemap.specs.Runs.{KeysInOrder, RunsInOrder, ValuesInOrder};
 
 mod keys_values;
+mod owned;
 mod range;
 
 use crate::LiteMap;
 pub use keys_values::{KeysIterWrap, ValuesIterWrap};
 use litemap_store::store::{StoreIntoIterator, StoreIterable};
+pub use owned::{IntoKeys, IntoValues};
 pub use range::RangeIter;
 use std::marker::PhantomData;
 
@@ -99,5 +101,39 @@ impl<K: Ord + Drop, V: Drop, S: StoreIntoIterator<K, V>> IntoIterator for LiteMa
 
     fn into_iter(self) -> S::KeyValueIntoIter {
         self.store.lm_into_iter()
+    }
+}
+
+impl<K: Ord + Drop, V: Drop, S: StoreIntoIterator<K, V>> LiteMap<K, V, S> {
+    /// Returns an iterator over all keys by value, in their order, that drops the values (own).
+    ///
+    /// ```rust
+    /// let days = three_days(alloc)?;
+    /// let mut numbers = days.into_keys();
+    /// Ok(numbers.len() == 3 && numbers.next() == Some(1))
+    /// ```
+    pub fn into_keys(self) -> IntoKeys<K, V, S::KeyValueIntoIter>
+        ensures { S.KeyValueIntoIter.owned result ≡ self.pairs }
+    {
+        IntoKeys {
+            iter: self.into_iter(),
+            marker: PhantomData,
+        }
+    }
+
+    /// Returns an iterator over all values by value, in the order of their keys, that drops the keys (own).
+    ///
+    /// ```rust
+    /// let days = three_days(alloc)?;
+    /// let mut names = days.into_values();
+    /// Ok(names.len() == 3 && names.next() == Some("Monday"))
+    /// ```
+    pub fn into_values(self) -> IntoValues<K, V, S::KeyValueIntoIter>
+        ensures { S.KeyValueIntoIter.owned result ≡ self.pairs }
+    {
+        IntoValues {
+            iter: self.into_iter(),
+            marker: PhantomData,
+        }
     }
 }
