@@ -1,9 +1,9 @@
 //! Cases: what neither a contract nor a line of `test_replay` says. The program writes how each came out.
 //!
-//! They are of maps: closures that call several keys equal, queries of each kind, constant tables, calls of a collection, iterators
-//! that lie, the greatest capacities, stores with a limit, what is printed, sets, and small maps; and of the program `names`, over readers
-//! and writers in memory, with its names kept in one vector and in two columns: lines with their output, how much it reads, and
-//! an error at each read and each write.
+//! They are of maps: closures that call several keys equal, queries of each kind, constant tables, calls of a collection,
+//! iterators that lie, the greatest capacities, stores with a limit, what is printed, sets, and small maps. And they are of the
+//! program `names`, over readers and writers in memory, with its names kept in one vector and in two columns: lines with their
+//! output, how much it reads, and an error at each read and each write.
 //!
 //! If there is standard input, it is lines of `names` instead, whose names are kept in two columns (`bin/requests`).
 #![tactic(auto)]
@@ -62,7 +62,7 @@ fn main(rt: HostRuntime) -> ExitCode {
     }
 }
 
-fn cases(alloc: Global) -> [(&'static str, Outcome); 43] {
+fn cases(alloc: Global) -> [(&'static str, Outcome); 46] {
     outcomes! { alloc;
         closures::one_of_the_keys_called_equal_is_found,
         closures::a_closure_compares_with_another_type,
@@ -100,6 +100,7 @@ fn cases(alloc: Global) -> [(&'static str, Outcome); 43] {
         small::languages_are_found_by_their_codes,
         small::a_range_has_ranges,
         small::keys_are_made_by_a_closure,
+        small::keys_and_values_leave_a_map,
         faults::each_read_fails,
         faults::each_write_fails,
         faults::last_lines_fail,
