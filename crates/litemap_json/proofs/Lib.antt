@@ -4,6 +4,7 @@ pub mod ArraysOfTwo
 pub mod ByPlace
 pub mod ByText
 pub mod Digits
+pub mod Elements
 pub mod Floats
 pub mod OneMap
 pub mod Joined

@@ -1,6 +1,6 @@
 -- A map as JSON: the tree of a list of pairs, and the pairs that a tree spells. Keys and items are seen as their trees, and
 -- keys as the bytes of their strings too.
-use Rattle.std.specs.Prelude.{ℕ, ◌+◌, List, [], ◌∷◌, map, if◌then◌else◌, is_some, Option, Some, None, Result, Ok, Err}
+use Rattle.std.specs.Prelude.{⊤, ℕ, ◌+◌, List, [], ◌∷◌, map, if◌then◌else◌, is_some, Option, Some, None, Result, Ok, Err}
 use Rattle.serde_json.specs.Data.{Data, array, object}
 use Rattle.serde_json.specs.Data.{Items, no_items, item, Members, no_members, member, put}
 use Rattle.serde_json.specs.View.{items_of}
@@ -78,3 +78,9 @@ module _ (key : List ℕ → Option Data) (key_item json_item : Data → Result 
   pairs (array ds) = row_pairs 0 ds
   pairs (object ms) = member_pairs 0 ms
   pairs _ = Err NotAMap
+
+-- it is an array with an element, or an object with a member
+abbrev pub HasElements : Data → Type 0
+HasElements (array (item d ds)) = ⊤
+HasElements (object (member s d ms)) = ⊤
+HasElements _ = ⊥

@@ -1,8 +1,9 @@
 //! A JSON value as a map.
-ghost use Rattle.std.specs.Prelude.{◌≡◌, ◌≢◌, Err, IfErr, IfOk, Ok, string_bytes};
+ghost use Rattle.std.specs.Prelude.{◌≡◌, ◌≢◌, Err, IfErr, IfOk, Ok, OnErr, string_bytes};
+ghost use Rattle.serde_json.specs.Data.{array, object};
 ghost use Rattle.serde_json.specs.View.{items_view, members_view, view};
 ghost use Rattle.litemap_json.specs.Item.{Reads, two_of};
-ghost use Rattle.litemap_json.specs.Json.{member_at, member_pairs, pair_at, pairs, row_at, row_pairs};
+ghost use Rattle.litemap_json.specs.Json.{HasElements, member_at, member_pairs, pair_at, pairs, row_at, row_pairs};
 ghost use Rattle.litemap_json.specs.Reading.{ReadsAs, pair_seen, seen};
 ghost use Rattle.litemap_json.specs.declared.fault.JsonFault.TheVariants as reading;
 
@@ -25,7 +26,8 @@ use std::alloc::Global;
 /// # Errors
 ///
 /// A value that is no object and no array is `NotAMap`. Else the error is that of the first element or member that is no pair. If
-/// memory runs out, it is `Memory`, which may come in place of an error at the same or a later index.
+/// memory runs out, it is `Memory`, which may come in place of an error at the same or a later index, but not of an empty array
+/// or object.
 ///
 /// ```rust
 /// let value = Value::from_str(alloc, r#"{"10":9,"3":8}"#)?;
@@ -40,6 +42,7 @@ pub fn from_json<K: JsonKey + Drop, V: JsonItem + Drop, S: StoreBulkMut<K, V>>(
         (λ map. ReadsAs K.cmp K.key K.item V.item K.json V.json (view value.now) map.pairs) }
     ensures refused { IfErr result
         (λ e. e ≢ reading.Memory → pairs K.key K.item V.item (view value.now) ≡ Err e) }
+    ensures refused_some { IfErr result (λ e. e ≡ reading.Memory → HasElements (view value.now)) }
 {
     LiteMap::from_vec(alloc, pairs_of(alloc, value)?).map_err(|_| JsonFault::Memory)
 }
@@ -49,8 +52,9 @@ fn pairs_of<K: JsonKey + Drop, V: JsonItem + Drop>(
     alloc: Global,
     value: &Value,
 ) -> Result<Vec<(K, V)>, JsonFault>
-    ensures { Reads reading.Memory (λ found. seen K.json V.json found.items)
+    ensures read { Reads reading.Memory (λ found. seen K.json V.json found.items)
         (pairs K.key K.item V.item (view value.now)) result }
+    ensures refused_some { IfErr result (λ e. e ≡ reading.Memory → HasElements (view value.now)) }
 {
     if let Some(list) = value.as_array() {
         read_rows(alloc, list)
@@ -65,8 +69,9 @@ fn read_rows<K: JsonKey + Drop, V: JsonItem + Drop>(
     alloc: Global,
     list: &Vec<Value>,
 ) -> Result<Vec<(K, V)>, JsonFault>
-    ensures { Reads reading.Memory (λ found. seen K.json V.json found.items)
+    ensures read { Reads reading.Memory (λ found. seen K.json V.json found.items)
         (row_pairs K.key K.item V.item 0 (items_view list.now.items)) result }
+    ensures refused_some { OnErr result (HasElements (array (items_view list.now.items))) }
 {
     let mut found = Vec::new(alloc);
     for (place, row) in list.iter().enumerate() {
@@ -115,8 +120,9 @@ fn read_members<K: JsonKey + Drop, V: JsonItem + Drop>(
     alloc: Global,
     members: &Map<String, Value>,
 ) -> Result<Vec<(K, V)>, JsonFault>
-    ensures { Reads reading.Memory (λ found. seen K.json V.json found.items)
+    ensures read { Reads reading.Memory (λ found. seen K.json V.json found.items)
         (member_pairs K.key K.item V.item 0 (members_view members.now.entries)) result }
+    ensures refused_some { OnErr result (HasElements (object (members_view members.now.entries))) }
 {
     let mut found = Vec::new(alloc);
     let mut place = 0usize;

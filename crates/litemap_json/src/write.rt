@@ -1,5 +1,5 @@
 //! A map as a JSON value.
-ghost use Rattle.std.specs.Prelude.{◌≡◌, ◌≢◌, Ok, Err, IfOk, IfErr, OnOk, string_bytes};
+ghost use Rattle.std.specs.Prelude.{◌≡◌, ◌≢◌, [], Ok, Err, IfOk, IfErr, OnErr, OnOk, string_bytes};
 ghost use Rattle.serde_json.specs.Data.{array, no_members, put};
 ghost use Rattle.serde_json.specs.View.{members_view, view};
 ghost use Rattle.litemap_store.specs.Pairs.{Rising};
@@ -26,13 +26,14 @@ use std::alloc::{AllocError, Global};
 /// # Errors
 ///
 /// In an object a later key with no string is an error, `KeyWithoutText`, with its index. `Memory` may come in place of any
-/// result.
+/// result but that of the empty map.
 pub fn to_json<K: JsonKey, V: JsonItem, S: Store<K, V>>(
     alloc: Global,
     map: &LiteMap<K, V, S>,
 ) -> Result<Value, WriteFault>
     ensures tree { IfOk result (λ value. tree K.text K.json V.json map.now.pairs ≡ Ok (view value)) }
     ensures refused { IfErr result (λ fault. fault ≢ Memory → tree K.text K.json V.json map.now.pairs ≡ Err fault) }
+    ensures refused_some { OnErr result (map.now.pairs ≢ []) }
     ensures reads_back { IfOk result
         (λ value. ReadsAs K.cmp K.key K.item V.item K.json V.json (view value) map.now.pairs) }
 {
@@ -49,6 +50,7 @@ fn array_of<K: JsonKey, V: JsonItem, S: Store<K, V>>(
     map: &LiteMap<K, V, S>,
 ) -> Result<Value, AllocError>
     ensures tree { IfOk result (λ value. view value ≡ array (rows K.text K.json V.json map.now.pairs)) }
+    ensures refused_some { OnErr result (map.now.pairs ≢ []) }
     ensures reads_back { OnOk result (AllReadBack K.item V.item K.json V.json map.now.pairs) }
     ensures rising { Rising K.cmp map.now.pairs }
 {
