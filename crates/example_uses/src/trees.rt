@@ -1,6 +1,7 @@
 //! Callers that were written for std's `BTreeMap`. Their bodies and clauses are as they were: only the two `use` lines differ.
-ghost use Rattle.litemap.specs.Words.{◌≡◌, ◌≢◌, ◌+◌, ◌≤◌, ◌==◌, IfOk, IsTrue, MatchResult, None, OnOk, Some, count_by, if◌then◌else◌};
-ghost use Rattle.litemap.specs.Words.{codes, is_some, nat_cmp, option_map, unwrap_or};
+ghost use Rattle.std.specs.Prelude.{◌≡◌, ◌≢◌, ◌+◌, ◌≤◌, ◌==◌, IfOk, IsTrue, MatchResult, None, OnOk, Some, if◌then◌else◌};
+ghost use Rattle.std.specs.Prelude.{codes, count_by, is_some, option_map, unwrap_or};
+ghost use Rattle.std.specs.Ordering.{nat_cmp};
 ghost use Rattle.litemap.specs.Words.{btree_map_len, get, get_by_text, get_key, keys, values};
 
 use litemap::VecMap as BTreeMap;

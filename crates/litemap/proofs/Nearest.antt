@@ -1,7 +1,7 @@
 -- The pair next to a query, on either side, by what a search found.
 --     Nearest-floor_equal, Nearest-ceiling_equal      the pair with an equal key;  Nearest-floor, Nearest-no_floor, Nearest-ceiling      those beside where an absent key would go
 --     missing-index_of      an index at which a key would go is where a search finds none
-use Rattle.litemap.proofs.Common.{◌≡◌, ◌≢◌, ◌+◌, ◌-◌, ◌<◌, ◌∙◌, ◌++◌, ◌∷◌, [], ℕ, zero, suc, List, Option, Some, None, Result, Ok, Err, Bool, true, false, cond, ap, arith, refl, subst, sym, inl, inr, Ordering, Less, Equal, Greater, IsTotalOrder, tied_itself, is_lt, is_gt, is_some, length, slice_get, Rising, BelowAll, above, at, at_in, below, index_of, place, found_get, greater_back, slice_get-None}
+use Rattle.litemap.proofs.Common.{◌≡◌, ◌≢◌, ◌+◌, ◌-◌, ◌<◌, ◌∙◌, ◌++◌, ◌∷◌, [], ℕ, zero, suc, List, Option, Some, None, Ok, Err, true, false, ap, arith, refl, subst, sym, inl, inr, Ordering, Less, Equal, Greater, IsTotalOrder, tied_itself, is_lt, is_gt, is_some, length, slice_get, Rising, above, at, at_in, below, index_of, place, found_get, greater_back, slice_get-None}
 use Rattle.std.specs.Prelude.{if◌then◌else◌}
 use Rattle.litemap_store.specs.Queries.{OneSide, key_one_side}
 use Rattle.litemap_store.specs.Splits.{IsFoundAt, IsMissingAt}

@@ -1,10 +1,13 @@
 -- What a closure writes into a list of pairs.
 --     written_on, written_all      from one pair to the next, and after the last;  CallableOnValues-rest      what may be called on after one
 --     keys-written, Rising-keys, map-written      what is left has the same keys, ascends, and is mapped
+--     keys_of-write, length-write      once a value is written at a query
 use Rattle.litemap.proofs.Common.{◌≡◌, ℕ, ◌+◌, List, [], ◌∷◌, ◌++◌, map, take, drop, drop-set-lt, slice_get, slice_set, Some}
 use Rattle.litemap.proofs.Common.{None, refl, ap, ◌∙◌, subst, arith, Ordering, Less, Bor, MutBor, ◌≤◌, length, sym, append_assoc}
 use Rattle.litemap.proofs.Common.{append-nil, drop_all, take_all, take_more_set, slice_get_within, keys_of, option_map_or}
-use Rattle.litemap.proofs.Common.{BelowAll, Rising, set_value, drop_at, Mut}
+use Rattle.litemap.proofs.Common.{BelowAll, Rising, set_value, drop_at, Mut, Result, Ok, Err, above, below, write}
+use Rattle.std.proofs.lemmas.Map.Entries.{length-keys_of}
+use Rattle.litemap_store.specs.Splits.{Splits}
 use Rattle.litemap.specs.Written.{CallableOnValues, Writes, WritesPair, Written}
 
 module _ {K V : Type 0} where
@@ -57,3 +60,19 @@ module _ {K V : Type 0} (cmp : K → K → Ordering) where
   Rising-keys [] (q ∷ M) e h = absurd (cc)
   Rising-keys (p ∷ L) [] e h = absurd (cc)
   Rising-keys (p ∷ L) (q ∷ M) e h = let s : p.0 ≡ q.0 = cc in let t : keys_of M ≡ keys_of L = cc in (subst (λ x. BelowAll cmp x M) s (BelowAll-keys p.0 L M t h.0), Rising-keys L M t h.1)
+
+-- ---- the keys once a value is written at a query, which are as they were
+module _ {K Q V : Type 0} (order : K → Q → Ordering) (q : Q) where
+  keys-between : (A : List (K × V)) (p : K × V) (v : V) (B : List (K × V)) → keys_of (A ++ (p.0, v) ∷ B) ≡ keys_of (A ++ p ∷ B)
+  keys-between [] p v B = refl
+  keys-between (a ∷ A) p v B = ap (λ M. a.0 ∷ M) (keys-between A p v B)
+
+  pub keys_of-write : (L : List (K × V)) (r : Result ℕ ℕ) → Splits order L q r → (v : V) → keys_of (write order L q v) ≡ keys_of L
+  keys_of-write L (Ok i) s v =
+      ap (λ o. keys_of (option_map_or (λ p. below order L q ++ (p.0, v) ∷ above order L q) o L)) s.found
+      ∙ keys-between (below order L q) s.pair v (above order L q)
+      ∙ sym (ap keys_of s.is)
+  keys_of-write L (Err i) s v = ap (λ o. keys_of (option_map_or (λ p. below order L q ++ (p.0, v) ∷ above order L q) o L)) s.missing
+
+  pub length-write : (L : List (K × V)) (r : Result ℕ ℕ) → Splits order L q r → (v : V) → length (write order L q v) ≡ length L
+  length-write L r s v = sym (length-keys_of (write order L q v)) ∙ ap length (keys_of-write L r s v) ∙ length-keys_of L

@@ -1,11 +1,9 @@
--- All that a caller says of a map, for one import. The first words are of a map's list of pairs, `m.pairs`; those below are of
--- the map `m` itself, under the names that std has for its `BTreeMap`.
-pub use Rattle.std.specs.Prelude.{◌≡◌, ◌≢◌, ◌↔◌, ◌⊎◌, ◌+◌, ◌-◌, ◌<◌, ◌≤◌, ◌^◌, ◌==◌, ℕ, List, [], ◌∷◌, ◌++◌, Option, None, Some}
-pub use Rattle.std.specs.Prelude.{Ok, Err}
-pub use Rattle.std.specs.Prelude.{IsSome, IsNone, IsOk, IsErr, IsTrue, IfSome, IfNone, IfOk, IfErr, OnSome, OnOk, OnErr}
-pub use Rattle.std.specs.Prelude.{MatchOption, MatchResult}
-pub use Rattle.std.specs.Prelude.{All, length, map, filter, reverse, sum, codes, count_by, is_some, option_map, unwrap_or}
-pub use Rattle.std.specs.Prelude.{slice_get, string_bytes, if◌then◌else◌}
+-- All that a caller says of a map, for one import beside that of the operators. The words that are passed on are of a map's
+-- list of pairs, `m.pairs`; those below are of the map `m` itself, under the names that std has for its `BTreeMap`.
+pub use Rattle.std.specs.Prelude.{ℕ, List, [], Option, None, Some, Ok, Err, IsSome, IsNone, IsOk, IsErr, IsTrue}
+pub use Rattle.std.specs.Prelude.{IfSome, IfNone, IfOk, IfErr, OnSome, OnOk, OnErr, MatchOption, MatchResult}
+pub use Rattle.std.specs.Prelude.{All, length, map, filter, reverse, slice_get, sum, codes, count_by, string_bytes}
+pub use Rattle.std.specs.Prelude.{is_some, option_map, unwrap_or}
 pub use Rattle.std.specs.Bool.{IsFalse}
 pub use Rattle.std.specs.Option.{option_copied, option_or}
 pub use Rattle.std.specs.Map.{keys_of, values_of}
@@ -22,6 +20,7 @@ pub use Rattle.litemap_store.specs.Contents.{Contents}
 pub use Rattle.litemap.specs.ByBytes.{by_bytes}
 pub use Rattle.litemap.specs.Combined.{found_with}
 pub use Rattle.litemap.specs.Within.{before, within}
+use Rattle.std.specs.Prelude.{◌≡◌}
 use Rattle.std.specs.declared.cmp.Ordering.{Ordering}
 use Rattle.std.specs.declared.string.String.{String}
 

@@ -38,6 +38,8 @@ impl<K: Ord, V, S: StoreMut<K, V>> LiteMap<K, V, S> {
         // What lookups find after a write.
         ensures updates { (v : V) → IsSome (at Q.order self.old.pairs (Q.sought key)) → Finds Q.order (Q.sought key)
             (Some v) self.old.pairs (write Q.order self.old.pairs (Q.sought key) v) }
+        ensures keys { (v : V) → keys_of (write Q.order self.old.pairs (Q.sought key) v) ≡ keys_of self.old.pairs }
+        ensures len { (v : V) → length (write Q.order self.old.pairs (Q.sought key) v) ≡ length self.old.pairs }
     {
         match self.search(key, &mut Count::new()) {
             Ok(index) => Some(self.value_in_mut(index)),

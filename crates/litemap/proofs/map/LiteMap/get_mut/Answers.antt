@@ -1,5 +1,6 @@
-use Rattle.litemap.proofs.Common.{◌∙◌, inl, sym, with_pairs, found_value, found_write, found_within}
+use Rattle.litemap.proofs.Common.{◌∙◌, Ok, inl, sym, with_pairs, found_value, found_write, found_within}
 use Rattle.litemap.proofs.Updating.{finds_write}
+use Rattle.litemap.proofs.Writing.{keys_of-write, length-write}
 use Rattle.litemap.proofs.map.LiteMap.get_mut.Goals as goal
 
 pub returns-in-Ok : goal.returns-in-Ok
@@ -9,6 +10,8 @@ returns-in-Ok g c = (
     writes_back = tt;
     value = sym c.value_in_mut.ensures.value ∙ found_value _ _ _ _ c.in-Ok.ensures.splits;
     updates = λ v there. (finds_write g.Q.Query.order (g.Q.Query.sought c.args.key) c.args.self.now.pairs c.in-Ok.index c.in-Ok.ensures.splits v);
+    keys = keys_of-write _ _ _ (Ok _) c.in-Ok.ensures.splits;
+    len = length-write _ _ _ (Ok _) c.in-Ok.ensures.splits;
   },
 )
 

@@ -1,4 +1,4 @@
-use Rattle.litemap.proofs.Common.{◌≡◌, ◌++◌, ◌∷◌, ◌∙◌, [], Bool, List, ap, arith, false, length, refl, rules, subst, suc, sym, true}
+use Rattle.litemap.proofs.Common.{◌≡◌, ◌++◌, ◌∷◌, [], ap, arith, false, length, refl, rules, subst, suc, true}
 use denote.Param.Always.{mut_next}
 use Rattle.litemap_store.specs.Retain.{CalledOnPair}
 use Rattle.litemap.proofs.Parting.{Parted-all, Parted-goes, Parted-stays, SoFar}
