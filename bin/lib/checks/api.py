@@ -19,12 +19,12 @@ COST = re.compile(r"\bcompar|\bmoves?\b|\bsearch", re.IGNORECASE)
 COST_OF_ALL = re.compile(r"^//!.*(?:O\(|No keys are compared)", re.MULTILINE)
 FREE = {
     "LiteMap": "new_vec into_tuple_vec from_sorted_store_unchecked new with_capacity len keys_ascend is_empty get_indexed first last"
-    " get_indexed_mut clear iter iter_keys iter_values keys values into_keys into_values get_indexed_range as_sliced as_slice const_len const_is_empty"
+    " get_indexed_mut clear iter iter_keys iter_values keys values into_keys into_values first_entry last_entry get_indexed_range as_sliced as_slice const_len const_is_empty"
     # This call moves pairs if the store takes other memory.
     " const_get_indexed_or_panic reserve",
     "OccupiedEntry": "key get get_mut into_mut insert",
-    "VacantEntry": "key",
-    "Entry": "and_modify",
+    "VacantEntry": "key into_key",
+    "Entry": "key and_modify",
 }
 FREE = [f"{owner}::{name}" for owner, names in FREE.items() for name in names.split()]
 # Words that mean the same in Rust, and those that the page explains with the signs.

@@ -1,6 +1,6 @@
 -- From what is at the index of an entry to what its calls promise.
 use Rattle.litemap.proofs.Common.{◌≡◌, ℕ, zero, suc, ◌<◌, List, [], ◌∷◌, length, Some, slice_get, slice_set, refl, sym, ap, ◌∙◌}
-use Rattle.litemap.proofs.Common.{arith, remove, Ordering, slice_get_within, option_map, option_map_or, above, at, below, key_or}
+use Rattle.litemap.proofs.Common.{Err, Ok, Result, arith, remove, Ordering, slice_get_within, option_map, option_map_or, above, at, below, key_or}
 use Rattle.litemap.proofs.Common.{place, put, set_value, value_in, put_get, set_value-suc}
 use Rattle.std.proofs.Math.Seq.{set-append_seam}
 use Rattle.std.specs.Coded.{le_prop}
@@ -9,7 +9,9 @@ use Rattle.std.specs.declared.cmp.PartialEq as eq
 use Rattle.std.specs.declared.cmp.PartialOrd as partial
 use Rattle.litemap_store.specs.declared.store.Store as store
 use Rattle.litemap.specs.declared.map.entry.OccupiedEntry.{OccupiedEntry}
-use Rattle.litemap.specs.Entries.{IsWritten, Occupied, map_with_value, still_within, with_entry_value}
+use Rattle.litemap.specs.declared.map.entry.Entry.{Entry}
+use Rattle.litemap_store.specs.declared.no_room.NoRoom.{NoRoom}
+use Rattle.litemap.specs.Entries.{EntryRefused, IsWritten, Occupied, map_with_value, still_within, with_entry_value}
 
 -- a write at the index of a key that was just put
 pub set_value-put : {K V : Type 0} (cmp : K → K → Ordering) (L : List (K × V)) (k : K) (v w : V) (i : ℕ) → i ≡ place cmp L k → set_value (put cmp L k v) i w ≡ put cmp L k w
@@ -64,3 +66,8 @@ module _ {K V S : Type 0} {g : ord.Ghosts K} {g' : eq.Ghosts K} {g'' : partial.G
     same_map = refl;
     same_room = refl;
   }
+
+  -- what holds of the value that comes back
+  pub refused_weaker : {A : Type 0} (e : Entry K V S g g' g'' s) (P Q : V → Type 0) → ((v : V) → P v → Q v) → (r : Result A (NoRoom (K × V))) → EntryRefused e P r → EntryRefused e Q r
+  refused_weaker e P Q h (Ok a) k = record { absent = k.absent; full = k.full; back = tt }
+  refused_weaker e P Q h (Err x) k = record { absent = k.absent; full = k.full; back = (k.back.0, h x.back.1 k.back.1) }

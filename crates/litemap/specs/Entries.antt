@@ -1,11 +1,12 @@
 -- What an entry shows: the map that it borrows, its key, its value, and what calls on it make of the pairs.
-use Rattle.std.specs.Prelude.{◌≡◌, ◌+◌, ◌<◌, ◌≤◌, List, [], Option, Some, None, IsSome, Result, IfErr, IsOk, OnErr}
+use Rattle.std.specs.Prelude.{◌≡◌, ℕ, ◌+◌, ◌<◌, ◌≤◌, List, [], Option, Some, None, IsSome, Result, Ok, Err, IfErr, IsOk, OnErr, ⊤}
 use Rattle.std.specs.Prelude.{length, slice_get}
 use Rattle.std.proofs.Common.{subst, sym}
 use Rattle.std.specs.declared.cmp.Ord as ord
 use Rattle.std.specs.declared.cmp.PartialEq as eq
 use Rattle.std.specs.declared.cmp.PartialOrd as partial
-use Rattle.std.specs.Borrow.{Fml, RattleType, MutBor, follows, follows_so, name_if_ok}
+use Rattle.std.specs.Borrow.{Bor, Fml, RattleType, RestsIfNone, MutBor, follows, follows_so, name_if_ok}
+use Rattle.std.specs.Fn.{FnOnceReturnsAt, FnOnceTakesAt, Once}
 use Rattle.std.specs.List.{remove}
 use Rattle.std.specs.Option.{option_map}
 use mir.Syntax.{named}
@@ -15,6 +16,8 @@ use Rattle.litemap_store.specs.Pairs.{put, set_value, value_in}
 use Rattle.litemap_store.proofs.Lists.Seams.{length-set_value}
 use Rattle.litemap_store.specs.Contents.{Contents, with_pairs}
 use Rattle.litemap.specs.declared.map.entry.OccupiedEntry.{OccupiedEntry}
+use Rattle.litemap.specs.declared.try_fault.TryFault.{TryFault}
+use Rattle.litemap.specs.TryFault.{IfClosure, IfNoRoom}
 use Rattle.litemap.specs.declared.map.entry.VacantEntry.{VacantEntry}
 use Rattle.litemap.specs.declared.map.entry.Entry.{Entry}
 use Rattle.litemap.specs.declared.map.entry.Entry.TheVariants as variants
@@ -94,6 +97,31 @@ module _ {K V S : Type 0} {g : ord.Ghosts K} {g' : eq.Ghosts K} {g'' : partial.G
     pub full : OnErr result ((entry_map e).now.room ≡ 0)
     pub back : IfErr result (λ refused. (entry_key e ≡ Some refused.back.0) × P refused.back.1)
 
+  -- the occupied entry is that of the pair at index i of the list
+  pub record IsEntryAt (L : List (K × V)) (i : ℕ) (o : OccupiedEntry K V S g g' g'' s) : Type 0 where
+    pub key : entry_key (Occupied o) ≡ option_map (λ p. p.0) (slice_get L i)
+    pub value : entry_value (Occupied o) ≡ value_in L i
+    pub writes : (v : V) → pairs_with (Occupied o) v ≡ set_value L i v
+    pub removes : pairs_without (Occupied o) ≡ remove L i
+
+  -- if the key is absent, f may be called on it
+  abbrev pub IsTakenFor : {F : Type 0} → Once F (Bor K × Unit {0}) V → F → Entry K V S g g' g'' s → Type 0
+  IsTakenFor call f (variants.Occupied o) = ⊤
+  IsTakenFor call f (variants.Vacant e) = FnOnceTakesAt call f e.key
+
+  -- if the key is absent, f returns v for it
+  abbrev pub IsMadeFor : {F : Type 0} → Once F (Bor K × Unit {0}) V → F → Entry K V S g g' g'' s → V → Type 0
+  IsMadeFor call f (variants.Occupied o) v = ⊤
+  IsMadeFor call f (variants.Vacant e) v = FnOnceReturnsAt call f e.key v
+
+  -- it fails only if the key is absent: with an error of which Made holds; or at room 0, with the key and a value of which it does
+  pub record EntryFails {A E : Type 0} (e : Entry K V S g g' g'' s) (Made : Result V E → Type 0)
+      (result : Result A (TryFault K V E)) : Type 0 where
+    pub absent : OnErr result (entry_value e ≡ None)
+    pub closure : IfClosure result (λ error. Made (Err error))
+    pub full : IfNoRoom result (λ _ _. (entry_map e).now.room ≡ 0)
+    pub back : IfNoRoom result (λ k v. (entry_key e ≡ Some k) × Made (Ok v))
+
 module _ (K V S : RattleType) {g : ord.Ghosts K.Denot} {g' : eq.Ghosts K.Denot} {g'' : partial.Ghosts K.Denot}
     {s : store.Ghosts S.Denot K.Denot V.Denot} where
   -- once the reference r ends, the map has the last value written through it at the key of the occupied entry
@@ -112,3 +140,7 @@ module _ (K V S : RattleType) {g : ord.Ghosts K.Denot} {g' : eq.Ghosts K.Denot} 
   EntryLends e r =
       follows_so (the_row K V S g g' g'' s) V (entry_map e).ghost_name (name_if_ok (λ x. x.ghost_name) r)
       (λ v n. IsOk r → Leaves e n v) (λ n. OnErr r (n.pairs ≡ (entry_map e).now.pairs))
+
+  -- if there is no entry, the map stays
+  abbrev pub RestsIfEmpty : MutBor (Contents K.Denot V.Denot) → Option (OccupiedEntry K.Denot V.Denot S.Denot g g' g'' s) → Fml
+  RestsIfEmpty m r = RestsIfNone (the_row K V S g g' g'' s) m (λ o. o.map.ghost_name) r (λ n. n ≡ m.now)

@@ -19,6 +19,7 @@ mod closures;
 mod collection;
 mod constants;
 mod ends;
+mod entries;
 mod faults;
 mod hints;
 mod limits;
@@ -62,7 +63,7 @@ fn main(rt: HostRuntime) -> ExitCode {
     }
 }
 
-fn cases(alloc: Global) -> [(&'static str, Outcome); 46] {
+fn cases(alloc: Global) -> [(&'static str, Outcome); 49] {
     outcomes! { alloc;
         closures::one_of_the_keys_called_equal_is_found,
         closures::a_closure_compares_with_another_type,
@@ -84,6 +85,9 @@ fn cases(alloc: Global) -> [(&'static str, Outcome); 46] {
         ends::room_past_the_end_is_refused,
         ends::the_longest_store_grows_no_more,
         ends::a_count_takes_no_memory,
+        entries::ends_have_entries,
+        entries::values_are_made_for_absent_keys,
+        entries::a_value_may_fail,
         hints::the_size_hint_is_no_matter,
         limits::a_bounded_store_grows_to_its_limit,
         limits::a_limit_goes_with_the_store_that_is_replaced,

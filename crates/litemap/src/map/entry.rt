@@ -3,12 +3,16 @@
 //! An entry borrows its map for as long as it lives. A call that consumes the entry and returns a reference passes the borrow on
 //! to that reference. In clauses `self.entry` is the entry as it was passed; `writes_back` says that the map then has the value
 //! last written through a reference.
-ghost use Rattle.std.specs.Prelude.{◌≡◌, ◌<◌, IfOk, IsNone, IsSome, None, Some, length, unwrap_or};
+ghost use Rattle.std.specs.Prelude.{◌≡◌, ◌↔◌, ◌-◌, ◌<◌, Err, IfOk, IfSome, IsNone, IsSome, None, Ok, OnOk, Some, length, unwrap_or};
 ghost use Rattle.std.specs.Borrow.{sem, MutBor};
+ghost use Rattle.std.specs.Fn.{FnOnceReturnsAt, FnOnceTakesAt};
 ghost use Rattle.litemap_store.specs.Splits.{IsMissingAt};
 
-use crate::LiteMap;
+use crate::{LiteMap, TryFault};
+use litemap_store::Query;
 use litemap_store::store::{Count, NoRoom, Store, StoreMut};
+use std::alloc::Global;
+use std::default::MadeWith;
 use std::fmt::{self, Debug, Formatter, Write};
 use std::mem;
 
@@ -78,11 +82,75 @@ impl<K: Ord + Drop, V, S: StoreMut<K, V>> LiteMap<K, V, S> {
     }
 }
 
+impl<K: Ord, V, S: StoreMut<K, V>> LiteMap<K, V, S> {
+    ghost use Rattle.litemap.specs.Entries.{IsEntryAt, Occupied, RestsIfEmpty, entry_map};
+
+    /// Returns the entry of the smallest key, or `None` if the map is empty (own). It compares no keys.
+    ///
+    /// ```rust
+    /// let mut days = three_days(alloc)?;
+    /// let Some(first) = days.first_entry() else {
+    ///     return Ok(false);
+    /// };
+    /// Ok(first.remove_entry() == (1, "Monday") && days.len() == 2)
+    /// ```
+    pub fn first_entry(&mut self) -> Option<OccupiedEntry<'_, K, V, S>>
+        ensures there { IsSome result ↔ (0 < length self.old.pairs) }
+        ensures entry { IfSome result (IsEntryAt self.old.pairs 0) }
+        ensures same_map { IfSome result (λ o. (entry_map (Occupied o)).ghost_name ≡ self.entry.ghost_name) }
+        ensures unchanged { IfSome result (λ o. (entry_map (Occupied o)).now ≡ self.old) }
+        ensures* rests { sem 𝓛 (RestsIfEmpty K.row V.row S.row self.entry result) }
+    {
+        if self.is_empty() {
+            return None;
+        }
+        Some(OccupiedEntry {
+            map: self,
+            index: 0,
+        })
+    }
+
+    /// Returns the entry of the greatest key, or `None` if the map is empty (own). It compares no keys.
+    ///
+    /// ```rust
+    /// let mut days = three_days(alloc)?;
+    /// let Some(mut last) = days.last_entry() else {
+    ///     return Ok(false);
+    /// };
+    /// last.insert("Fri");
+    /// Ok(days.last() == Some((&5, &"Fri")))
+    /// ```
+    pub fn last_entry(&mut self) -> Option<OccupiedEntry<'_, K, V, S>>
+        ensures there { IsSome result ↔ (0 < length self.old.pairs) }
+        ensures entry { IfSome result (IsEntryAt self.old.pairs (length self.old.pairs - 1)) }
+        ensures same_map { IfSome result (λ o. (entry_map (Occupied o)).ghost_name ≡ self.entry.ghost_name) }
+        ensures unchanged { IfSome result (λ o. (entry_map (Occupied o)).now ≡ self.old) }
+        ensures* rests { sem 𝓛 (RestsIfEmpty K.row V.row S.row self.entry result) }
+    {
+        if self.is_empty() {
+            return None;
+        }
+        let index = self.len() - 1;
+        Some(OccupiedEntry { map: self, index })
+    }
+}
+
 impl<'a, K: Ord, V, S: StoreMut<K, V>> Entry<'a, K, V, S> {
+    ghost use Rattle.litemap.specs.Entries.{EntryFails, IsMadeFor, IsTakenFor};
     ghost use Rattle.std.specs.Map.Calls.{ModifiesValue};
     ghost use Rattle.std.specs.Option.{UnwrapsOrElse};
     ghost use Rattle.litemap.specs.Entries.{EntryLends, EntryRefused, entry_key, entry_map, entry_value};
     ghost use Rattle.litemap.specs.Entries.{pairs_with, pairs_without};
+
+    /// Returns the key in the map, or the one that was looked up if it is absent (own).
+    pub fn key(&self) -> &K
+        ensures { entry_key self.now ≡ Some result.now }
+    {
+        match self {
+            Entry::Occupied(entry) => entry.key(),
+            Entry::Vacant(entry) => entry.key(),
+        }
+    }
 
     /// Returns a mutable reference to the value; if the key is absent, inserts it first with `default`.
     ///
@@ -125,6 +193,87 @@ impl<'a, K: Ord, V, S: StoreMut<K, V>> Entry<'a, K, V, S> {
         match self {
             Entry::Occupied(occupied) => Ok(occupied.into_mut()),
             Entry::Vacant(vacant) => vacant.insert(default()),
+        }
+    }
+
+    /// Returns a mutable reference to the value; if the key is absent, inserts it first with what `default` returns for it
+    /// (own). If the key is present, `default` is not called. It moves and fails as `or_insert` does.
+    ///
+    /// ```rust
+    /// // days: 1 Monday, 3 Wednesday, 5 Friday
+    /// Ok(*days.entry(6).or_insert_with_key(|number| if *number > 5 { "weekend" } else { "weekday" })? == "weekend")
+    /// ```
+    pub fn or_insert_with_key<F: FnOnce(&K) -> V>(
+        self,
+        default: F,
+    ) -> Result<&'a mut V, NoRoom<(K, V)>>
+        requires { IsTakenFor F.FnOnce default self }
+        ensures* writes_back { sem 𝓛 (EntryLends K.row V.row S.row self.entry result) }
+        ensures value { IfOk result
+            (λ slot. UnwrapsOrElse (entry_value self.entry) (IsMadeFor F.FnOnce default self.entry) slot.now) }
+        ensures refused { EntryRefused self.entry (IsMadeFor F.FnOnce default self.entry) result }
+    {
+        match self {
+            Entry::Occupied(occupied) => Ok(occupied.into_mut()),
+            Entry::Vacant(vacant) => {
+                let value = returned_for(&vacant.key, default);
+                vacant.insert(value)
+            }
+        }
+    }
+
+    /// Returns a mutable reference to the value; if the key is absent, inserts it first with a value that is made with the
+    /// allocator, as an empty vector is (own). It moves and fails as `or_insert` does.
+    ///
+    /// ```rust
+    /// let mut names: VecMap<u32, Vec<&str>> = LiteMap::new(alloc);
+    /// names.entry(1).or_made_with(alloc)?.push("Monday")?;
+    /// names.entry(1).or_made_with(alloc)?.push("Mon")?;
+    /// Ok(names.get(&1).is_some_and(|list| list.len() == 2))
+    /// ```
+    pub fn or_made_with(self, alloc: Global) -> Result<&'a mut V, NoRoom<(K, V)>>
+    where
+        V: MadeWith<Global>,
+        ensures* writes_back { sem 𝓛 (EntryLends K.row V.row S.row self.entry result) }
+        ensures value { IfOk result (λ slot. UnwrapsOrElse (entry_value self.entry) V.is_made_with slot.now) }
+        ensures refused { EntryRefused self.entry V.is_made_with result }
+    {
+        match self {
+            Entry::Occupied(occupied) => Ok(occupied.into_mut()),
+            Entry::Vacant(vacant) => vacant.insert(V::made_with(alloc)),
+        }
+    }
+
+    /// Returns a mutable reference to the value; if the key is absent, inserts it first with what `default` returns (own). If
+    /// the key is present, `default` is not called.
+    ///
+    /// # Errors
+    ///
+    /// `TryFault::Closure` is the error of `default`: nothing changes, and the key is dropped. `TryFault::NoRoom` says that
+    /// memory ran out, and returns the key and the value of `default`: the map keeps its pairs.
+    ///
+    /// ```rust
+    /// // days: 1 Monday, 3 Wednesday, 5 Friday
+    /// match days.entry(7).or_try_insert_with(|| Err("closed")) {
+    ///     Err(TryFault::Closure(fault)) => Ok(fault == "closed"),
+    ///     _ => Ok(false),
+    /// }
+    /// ```
+    pub fn or_try_insert_with<E, F: FnOnce() -> Result<V, E>>(
+        self,
+        default: F,
+    ) -> Result<&'a mut V, TryFault<K, V, E>>
+    where
+        K: Drop,
+        requires { entry_value self ≡ None → F.pre default }
+        ensures* writes_back { sem 𝓛 (EntryLends K.row V.row S.row self.entry result) }
+        ensures value { IfOk result
+            (λ slot. UnwrapsOrElse (entry_value self.entry) (λ v. F.post default (Ok v)) slot.now) }
+        ensures errors { EntryFails self.entry (F.post default) result }
+    {
+        match self {
+            Entry::Occupied(occupied) => Ok(occupied.into_mut()),
+            Entry::Vacant(vacant) => vacant.try_insert_with(default),
         }
     }
 
@@ -216,19 +365,37 @@ impl<'a, K: Ord, V, S: StoreMut<K, V>> OccupiedEntry<'a, K, V, S> {
         ensures removed { self.exit.0.now.pairs ≡ pairs_without (Occupied self.entry) }
         ensures room { S.keeps_memory → (entry_map (Occupied self.entry)).now.room < self.exit.0.now.room }
     {
+        self.remove_entry().1
+    }
+
+    /// Removes the pair, and returns it (own). The key returned is the map's own. It moves and leaves room as `remove` does.
+    pub fn remove_entry(self) -> (K, V)
+        ensures key { entry_key (Occupied self.entry) ≡ Some result.0 }
+        ensures value { entry_value (Occupied self.entry) ≡ Some result.1 }
+        ensures removed { self.exit.0.now.pairs ≡ pairs_without (Occupied self.entry) }
+        ensures room { S.keeps_memory → (entry_map (Occupied self.entry)).now.room < self.exit.0.now.room }
+    {
         let index = self.index;
-        self.map.take_at(index).1
+        self.map.take_at(index)
     }
 }
 
 impl<'a, K: Ord, V, S: StoreMut<K, V>> VacantEntry<'a, K, V, S> {
-    ghost use Rattle.litemap.specs.Entries.{EntryLends, EntryRefused, Vacant, entry_key};
+    ghost use Rattle.litemap.specs.Entries.{EntryFails, EntryLends, EntryRefused, Vacant, entry_key, entry_map};
 
     /// Returns the key that was looked up.
     pub fn key(&self) -> &K
         ensures { entry_key (Vacant self.now) ≡ Some result.now }
     {
         &self.key
+    }
+
+    /// Returns the key that was looked up, by value (own). The map stays as it is.
+    pub fn into_key(self) -> K
+        ensures key { entry_key (Vacant self.entry) ≡ Some result }
+        ensures unchanged { self.exit.0.now ≡ (entry_map (Vacant self.entry)).now }
+    {
+        self.key
     }
 
     /// Inserts the key with a value, and returns a mutable reference to the value. The pairs with greater keys move up by one.
@@ -250,6 +417,37 @@ impl<'a, K: Ord, V, S: StoreMut<K, V>> VacantEntry<'a, K, V, S> {
         map.insert_at(index, key, value)?;
         Ok(map.value_in_mut(index))
     }
+
+    // `insert` of what `default` returns.
+    fn try_insert_with<E, F: FnOnce() -> Result<V, E>>(
+        self,
+        default: F,
+    ) -> Result<&'a mut V, TryFault<K, V, E>>
+    where
+        K: Drop,
+        requires { F.pre default }
+        ensures* writes_back { sem 𝓛 (EntryLends K.row V.row S.row (Vacant self.entry) result) }
+        ensures value { IfOk result (λ slot. F.post default (Ok slot.now)) }
+        ensures errors { EntryFails (Vacant self.entry) (F.post default) result }
+    {
+        let VacantEntry { map, key, index } = self;
+        let value = match default() {
+            Ok(value) => value,
+            Err(error) => return Err(TryFault::Closure(error)),
+        };
+        if let Err(refused) = map.insert_at(index, key, value) {
+            let (key, value) = refused.back;
+            return Err(TryFault::NoRoom { key, value });
+        }
+        Ok(map.value_in_mut(index))
+    }
+}
+
+fn returned_for<K, V, F: FnOnce(&K) -> V>(key: &K, f: F) -> V
+    requires { FnOnceTakesAt F.FnOnce f key.now }
+    ensures { FnOnceReturnsAt F.FnOnce f key.now result }
+{
+    f(key)
 }
 
 /// Formats the key and the value of an occupied entry, and the key of a vacant one. What is printed is not promised.
