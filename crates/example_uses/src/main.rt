@@ -12,6 +12,7 @@ pub mod made;
 pub mod message;
 pub mod names;
 pub mod numbers;
+pub mod parts;
 pub mod people;
 pub mod reserved;
 pub mod scores;

@@ -1,5 +1,5 @@
 //! A query of a caller's own: people are ordered by their number alone, and looked up by a number.
-ghost use Rattle.std.specs.Prelude.{◌≡◌, ◌==◌, ℕ};
+ghost use Rattle.std.specs.Prelude.{◌≡◌, ◌≢◌, ◌==◌, ℕ, None, OnOk, Some};
 ghost use Rattle.std.proofs.Common.{rules};
 ghost use Rattle.std.specs.Cmp.{nat_cmp_total, partial_order_from_own_ties};
 ghost use Rattle.std.specs.Cmp.Rules.{comparing};
@@ -9,6 +9,7 @@ ghost use Rattle.litemap_store.specs.Pairs.{value_at};
 ghost use Rattle.litemap_store.specs.Queries.{key_one_side};
 
 use litemap::{Query, VecMap};
+use std::alloc::AllocError;
 use std::cmp::Ordering;
 
 /// Someone with a number.
@@ -83,4 +84,26 @@ pub fn kept_for<'a, V>(map: &'a VecMap<Person, V>, number: u32) -> Option<&'a V>
         ≡ value_at (λ person number. nat_cmp person.number number) map.entry.now.pairs number }
 {
     map.get(Number(number))
+}
+
+/// Keeps a value for a person, or for the one that is there with that number.
+pub fn keep_for<V: Drop>(
+    map: &mut VecMap<Person, V>,
+    person: Person,
+    value: V,
+) -> Result<(), AllocError>
+    ensures kept { OnOk result (value_at (λ person number. nat_cmp person.number number) map.new.pairs person.number ≡ Some value) }
+{
+    map.insert(person, value)?;
+    Ok(())
+}
+
+/// Drops the person with a number. All others keep what they have.
+pub fn drop_person<V: Drop>(map: &mut VecMap<Person, V>, number: u32)
+    ensures gone { value_at (λ person number. nat_cmp person.number number) map.new.pairs number ≡ None }
+    ensures others { (other : _) → other ≢ number
+        → value_at (λ person number. nat_cmp person.number number) map.new.pairs other
+        ≡ value_at (λ person number. nat_cmp person.number number) map.old.pairs other }
+{
+    map.remove(Number(number));
 }

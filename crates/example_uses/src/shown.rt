@@ -8,13 +8,13 @@ use crate::made::value_or_made;
 use crate::message::{Field, read_headers};
 use crate::names::route;
 use crate::numbers::{self, Ages, Readings, Shelf, Stock};
-use crate::people::{Person, kept_for};
+use crate::people::{self, Person, kept_for};
 use crate::sets::{self, Set};
 use crate::stores::{moved, total};
 use crate::sums::{self, Named};
 use crate::texts::{self, ByteNumbers, Numbers};
 use crate::words::{self, Counts};
-use crate::{config, reserved, scores, trees};
+use crate::{config, parts, reserved, scores, trees};
 use litemap::{LiteMap, TryFault, VecMap};
 use litemap_columns::ColumnMap;
 use std::alloc::{AllocError, Global};
@@ -47,6 +47,8 @@ pub(crate) fn show(rt: &impl Print, alloc: Global) -> anyhow::Result<()> {
     show_words(rt, alloc)?;
     show_bag(rt, alloc)?;
     show_trees(rt, alloc)?;
+    show_parts(rt, alloc)?;
+    show_counted(rt, alloc)?;
     show_calendar(rt, alloc)?;
     show_config(rt, alloc)?;
     Ok(show_collected(rt, alloc)?)
@@ -142,12 +144,13 @@ fn show_kept(rt: &impl Print, alloc: Global) -> io::Result<()> {
     let mut people = LiteMap::new_vec(alloc);
     for (number, name, kept) in [(3, "c", 'x'), (1, "a", 'y')] {
         let name = name.to_string(alloc)?;
-        people.insert(Person { number, name }, kept)?;
+        people::keep_for(&mut people, Person { number, name }, kept)?;
     }
     for number in 0..4 {
         println!(rt; "kept for {number}: {:?}", kept_for(&people, number))?;
     }
-    Ok(())
+    people::drop_person(&mut people, 3);
+    println!(rt; "dropped 3: {:?}", kept_for(&people, 3))
 }
 
 // A number that moves to another name: to a new one, to one that is there, to its own, and one that isn't there.
@@ -372,6 +375,43 @@ fn show_calendar(rt: &impl Print, alloc: Global) -> io::Result<()> {
     println!(rt; "month {:?}", calendar::month(&calendar, 2024, 2))?;
     calendar::drop_before(&mut calendar, &(2024, 2, 29));
     println!(rt; "from then on {calendar:?}")
+}
+
+// Ages that are lowered, split, taken, and found next to a number and at an index.
+fn show_parts(rt: &impl Print, alloc: Global) -> io::Result<()> {
+    let mut ages: Ages = LiteMap::from_iter(alloc, [(1, 9), (2, 0), (5, 30), (7, 8)])?;
+    parts::lower(&mut ages);
+    let raised = parts::celebrate(&mut ages, 3)?;
+    let later = parts::split_from(&mut ages, alloc, 5)?;
+    println!(rt; "lowered {ages:?}, 3 raised {raised}, from 5 {later:?}")?;
+    println!(rt;
+        "from 2 {:?}, at 1 {:?}",
+        parts::nearest_from(&ages, 2),
+        parts::pair_at(&ages, 1)
+    )?;
+    parts::keep_below(&mut ages, 8);
+    let least = parts::take_least(&mut ages);
+    println!(rt; "taken {least:?}, left {ages:?}")
+}
+
+// Counts that are set, lowered, looked up in a part, and kept or dropped by names.
+fn show_counted(rt: &impl Print, alloc: Global) -> io::Result<()> {
+    let pairs = owned(alloc, &[("a", 1), ("b", 2), ("c", 3), ("d", 4)])?;
+    let mut counts = parts::Counts::from_vec(alloc, pairs)?;
+    parts::lower_counts(&mut counts);
+    parts::set_count(&mut counts, "d".to_string(alloc)?, 9)?;
+    parts::drop_zeros(&mut counts);
+    let between = parts::count_between(&counts, "b", "d", "c");
+    println!(rt;
+        "counts {counts:?}, c {between:?}, at 0 {:?}",
+        parts::count_at(&counts, 0)
+    )?;
+    let mut later = parts::split_at_name(&mut counts, alloc, "c")?;
+    let other = parts::Counts::from_vec(alloc, owned(alloc, &[("b", 0), ("c", 0)])?)?;
+    parts::keep_common(&mut counts, &other);
+    parts::drop_common(&mut later, &other);
+    let least = parts::take_least_name(&mut later);
+    println!(rt; "common {counts:?}, taken {least:?}, left {later:?}")
 }
 
 // Limits that are copied, doubled up to one that has no double, removed at an index, and taken.

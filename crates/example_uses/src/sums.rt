@@ -35,6 +35,8 @@ pub fn add(sum: &mut Vector, alloc: Global, other: Vector) -> Result<(), NoRoom<
 pub type Named = VecMap<String, u64>;
 
 /// Adds the numbers of other names. A sum that is too great becomes the greatest number.
+// With all lemmas of the root's set the search reaches its limit here.
+#[tactic(auto, using(litemap::proofs::Texts::text_combined))]
 pub fn add_capped(named: &mut Named, alloc: Global, other: Named) -> Result<(), AllocError>
     ensures added { OnOk result ((name : _) → value_at by_string named.new.pairs name
         ≡ found_with (λ _ here new. min (here + new) 18446744073709551615)

@@ -59,10 +59,11 @@ impl<K: Ord + Drop, V: Drop, S: StoreBulkMut<K, V> + StoreAlloc<K, V>> Extend<(K
         ensures ran { ExtendsWithItems I.into_iter_gives I.IntoIter.next_gives (λ m items n. Last K.cmp (m.pairs ++ items) n.pairs)
             iter self.old self.new result }
         ensures refused { OnErr result (self.new.pairs ≡ self.old.pairs) }
-        ensures refused_some { OnErr result (GivesSome I.into_iter_gives I.IntoIter.next_gives iter) }
+        ensures refused_some { S.fails_for_pairs_only
+            → OnErr result (GivesSome I.into_iter_gives I.IntoIter.next_gives iter) }
     {
         let alloc = self.store.lm_alloc();
-        self.extend(alloc, iter)
+        self.extend(alloc, iter.into_iter())
     }
 }
 
