@@ -1,6 +1,6 @@
 -- From what `extend` of a map promises of an iterator to what std's `Extend` asks of what becomes it.
-use Rattle.litemap.proofs.Common.{◌≡◌, List, [], ◌++◌, Option, Ordering, Result, Ok, Err, OnOk, OnErr, append-nil, refl, subst, sym}
-use Rattle.std.specs.Iterator.{ExtendsWithItems}
+use Rattle.litemap.proofs.Common.{◌≡◌, List, [], ◌++◌, Option, Some, Ordering, Result, Ok, Err, OnOk, OnErr, append-nil, refl, subst, sym}
+use Rattle.std.specs.Iterator.{Drains, ExtendsWithItems}
 use Rattle.litemap_store.specs.Bulk.{GivesSome, IsExtended}
 use Rattle.litemap_store.specs.Last.{Last}
 use Rattle.litemap_store.specs.Pairs.{Rising}
