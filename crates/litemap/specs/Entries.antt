@@ -2,17 +2,18 @@
 use Rattle.std.specs.Prelude.{◌≡◌, ℕ, ◌+◌, ◌<◌, ◌≤◌, List, [], Option, Some, None, IsSome, Result, Ok, Err, IfErr, IsOk, OnErr, ⊤}
 use Rattle.std.specs.Prelude.{length, slice_get}
 use Rattle.std.proofs.Common.{subst, sym}
+use Rattle.std.specs.declared.cmp.Ordering.{Ordering}
 use Rattle.std.specs.declared.cmp.Ord as ord
 use Rattle.std.specs.declared.cmp.PartialEq as eq
 use Rattle.std.specs.declared.cmp.PartialOrd as partial
-use Rattle.std.specs.Borrow.{Bor, Fml, RattleType, RestsIfNone, MutBor, follows, follows_so, name_if_ok}
+use Rattle.std.specs.Borrow.{Bor, Fml, RattleType, RestsIfErr, RestsIfNone, MutBor, follows, follows_so, name_if_ok}
 use Rattle.std.specs.Fn.{FnOnceReturnsAt, FnOnceTakesAt, Once}
 use Rattle.std.specs.List.{remove}
 use Rattle.std.specs.Option.{option_map}
 use mir.Syntax.{named}
 use Rattle.litemap_store.specs.declared.no_room.NoRoom.{NoRoom}
 use Rattle.litemap_store.specs.declared.store.Store as store
-use Rattle.litemap_store.specs.Pairs.{put, set_value, value_in}
+use Rattle.litemap_store.specs.Pairs.{at, cut, key_or, put, set_value, value_at, value_in, write}
 use Rattle.litemap_store.proofs.Lists.Seams.{length-set_value}
 use Rattle.litemap_store.specs.Contents.{Contents, with_pairs}
 use Rattle.litemap.specs.declared.map.entry.OccupiedEntry.{OccupiedEntry}
@@ -104,6 +105,20 @@ module _ {K V S : Type 0} {g : ord.Ghosts K} {g' : eq.Ghosts K} {g'' : partial.G
     pub writes : (v : V) → pairs_with (Occupied o) v ≡ set_value L i v
     pub removes : pairs_without (Occupied o) ≡ remove L i
 
+  -- the entry is that of the key k in the list
+  pub record IsEntryOf (L : List (K × V)) (k : K) (e : Entry K V S g g' g'' s) : Type 0 where
+    pub key : entry_key e ≡ Some (key_or (at g.cmp L k) k)
+    pub value : entry_value e ≡ value_at g.cmp L k
+    pub writes : (v : V) → pairs_with e v ≡ put g.cmp L k v
+    pub removes : pairs_without e ≡ cut g.cmp L k
+
+  -- the entry is that of the key in the list which is equal to q
+  pub record IsFoundBy {Q : Type 0} (order : K → Q → Ordering) (L : List (K × V)) (q : Q) (e : Entry K V S g g' g'' s) : Type 0 where
+    pub key : entry_key e ≡ option_map (λ p. p.0) (at order L q)
+    pub value : entry_value e ≡ value_at order L q
+    pub writes : (v : V) → pairs_with e v ≡ write order L q v
+    pub removes : pairs_without e ≡ cut order L q
+
   -- if the key is absent, f may be called on it
   abbrev pub IsTakenFor : {F : Type 0} → Once F (Bor K × Unit {0}) V → F → Entry K V S g g' g'' s → Type 0
   IsTakenFor call f (variants.Occupied o) = ⊤
@@ -144,3 +159,7 @@ module _ (K V S : RattleType) {g : ord.Ghosts K.Denot} {g' : eq.Ghosts K.Denot} 
   -- if there is no entry, the map stays
   abbrev pub RestsIfEmpty : MutBor (Contents K.Denot V.Denot) → Option (OccupiedEntry K.Denot V.Denot S.Denot g g' g'' s) → Fml
   RestsIfEmpty m r = RestsIfNone (the_row K V S g g' g'' s) m (λ o. o.map.ghost_name) r (λ n. n ≡ m.now)
+
+  -- if the call fails, the map stays
+  abbrev pub RestsIfRefused : {E : Type 0} → MutBor (Contents K.Denot V.Denot) → Result (Entry K.Denot V.Denot S.Denot g g' g'' s) E → Fml
+  RestsIfRefused m r = RestsIfErr (the_row K V S g g' g'' s) m (λ e. (entry_map e).ghost_name) r (λ n. n ≡ m.now)

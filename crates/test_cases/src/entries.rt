@@ -47,3 +47,20 @@ pub(crate) fn a_value_may_fail(alloc: Global) -> Outcome {
     let kept = *days.entry(7).or_try_insert_with(|| Err(AllocError))? == "Sunday";
     Ok(failed && left && made && kept && days.last() == Some((&7, &"Sunday")))
 }
+
+// A key is made only if it is absent.
+pub(crate) fn a_key_is_made_if_absent(alloc: Global) -> Outcome {
+    let mut counts: VecMap<String, u32> = LiteMap::new(alloc);
+    let mut made = 0u32;
+    for word in ["to", "be", "or", "not", "to", "be"] {
+        let count = counts
+            .entry_by(word, || {
+                made = made.wrapping_add(1);
+                word.to_string(alloc)
+            })?
+            .or_insert(0)?;
+        *count = count.wrapping_add(1);
+    }
+    let failed = counts.entry_by("that", || Err("closed")).is_err();
+    Ok(made == 4 && failed && counts.len() == 4 && counts.get("be") == Some(&2) && counts.get("or") == Some(&1))
+}

@@ -63,7 +63,7 @@ fn main(rt: HostRuntime) -> ExitCode {
     }
 }
 
-fn cases(alloc: Global) -> [(&'static str, Outcome); 49] {
+fn cases(alloc: Global) -> [(&'static str, Outcome); 50] {
     outcomes! { alloc;
         closures::one_of_the_keys_called_equal_is_found,
         closures::a_closure_compares_with_another_type,
@@ -88,6 +88,7 @@ fn cases(alloc: Global) -> [(&'static str, Outcome); 49] {
         entries::ends_have_entries,
         entries::values_are_made_for_absent_keys,
         entries::a_value_may_fail,
+        entries::a_key_is_made_if_absent,
         hints::the_size_hint_is_no_matter,
         limits::a_bounded_store_grows_to_its_limit,
         limits::a_limit_goes_with_the_store_that_is_replaced,

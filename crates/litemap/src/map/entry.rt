@@ -3,7 +3,7 @@
 //! An entry borrows its map for as long as it lives. A call that consumes the entry and returns a reference passes the borrow on
 //! to that reference. In clauses `self.entry` is the entry as it was passed; `writes_back` says that the map then has the value
 //! last written through a reference.
-ghost use Rattle.std.specs.Prelude.{◌≡◌, ◌↔◌, ◌-◌, ◌<◌, Err, IfOk, IfSome, IsNone, IsSome, None, Ok, OnOk, Some, length, unwrap_or};
+ghost use Rattle.std.specs.Prelude.{◌≡◌, ◌↔◌, ◌-◌, ◌<◌, Err, IfErr, IfOk, IfSome, IsNone, IsSome, None, Ok, OnErr, Some, length, unwrap_or};
 ghost use Rattle.std.specs.Borrow.{sem, MutBor};
 ghost use Rattle.std.specs.Fn.{FnOnceReturnsAt, FnOnceTakesAt};
 ghost use Rattle.litemap_store.specs.Splits.{IsMissingAt};
@@ -45,6 +45,7 @@ pub struct VacantEntry<'a, K: Ord, V, S: Store<K, V>> {
 impl<K: Ord + Drop, V, S: StoreMut<K, V>> LiteMap<K, V, S> {
     ghost use Rattle.litemap_store.specs.Pairs.{at, cut, key_or, put, value_at};
     ghost use Rattle.litemap.specs.Entries.{MatchEntry, entry_key, entry_map, entry_value, pairs_with, pairs_without};
+    ghost use Rattle.litemap.specs.Entries.{IsEntryOf, IsFoundBy, RestsIfRefused};
 
     /// Looks a key up, and returns its entry, through which its value is read, written, inserted or removed without a second
     /// search. If an equal key is present, it stays in the map, and the one passed in is dropped.
@@ -79,6 +80,44 @@ impl<K: Ord + Drop, V, S: StoreMut<K, V>> LiteMap<K, V, S> {
                 index,
             }),
         }
+    }
+
+    /// Looks up the key that a query finds, and returns its entry; if there is none, returns the entry of the key that `make`
+    /// returns (own). So a key is made, as of a `&str`, only if it is absent. It compares as `entry` does, and once more as much if
+    /// a key is made. It takes no memory, and fails only if `make` does.
+    ///
+    /// ```rust
+    /// let mut counts: VecMap<String, u32> = LiteMap::new(alloc);
+    /// for word in ["to", "be", "or", "not", "to", "be"] {
+    ///     *counts.entry_by(word, || word.to_string(alloc))?.or_insert(0)? += 1;
+    /// }
+    /// Ok(counts.len() == 4 && counts.get("be") == Some(&2))
+    /// ```
+    pub fn entry_by<Q: Query<K>, E, F: FnOnce() -> Result<K, E>>(
+        &mut self,
+        query: Q,
+        make: F,
+    ) -> Result<Entry<'_, K, V, S>, E>
+        requires { at Q.order self.old.pairs (Q.sought query) ≡ None → F.pre make }
+        // The map that it borrows, unchanged; so is the map after an error.
+        ensures same_map { IfOk result (λ e. (entry_map e).ghost_name ≡ self.entry.ghost_name) }
+        ensures unchanged { IfOk result (λ e. (entry_map e).now ≡ self.old) }
+        ensures* rests { sem 𝓛 (RestsIfRefused K.row V.row S.row self.entry result) }
+
+        // The entry of the key that is found, or of the one that is made.
+        ensures found { IsSome (at Q.order self.old.pairs (Q.sought query))
+            → IfOk result (IsFoundBy Q.order self.old.pairs (Q.sought query)) }
+        ensures made { at Q.order self.old.pairs (Q.sought query) ≡ None
+            → IfOk result (λ e. (key : K) × F.post make (Ok key) × IsEntryOf self.old.pairs key e) }
+
+        ensures absent { OnErr result (at Q.order self.old.pairs (Q.sought query) ≡ None) }
+        ensures error { IfErr result (λ error. F.post make (Err error)) }
+    {
+        if let Ok(index) = self.search(query, &mut Count::new()) {
+            return Ok(Entry::Occupied(OccupiedEntry { map: self, index }));
+        }
+        let key = make()?;
+        Ok(self.entry(key))
     }
 }
 
@@ -245,7 +284,7 @@ impl<'a, K: Ord, V, S: StoreMut<K, V>> Entry<'a, K, V, S> {
     }
 
     /// Returns a mutable reference to the value; if the key is absent, inserts it first with what `default` returns (own). If
-    /// the key is present, `default` is not called.
+    /// the key is present, `default` is not called. It moves pairs as `or_insert` does.
     ///
     /// # Errors
     ///

@@ -1,0 +1,25 @@
+use Rattle.litemap.proofs.Common.{◌≡◌, None, Some, ap, option_map, refl, sym, found_get, found_remove, found_value, found_within, found_write, ◌∙◌}
+use Rattle.litemap.proofs.map.LiteMap.entry_by.Goals as goal
+
+pub returns-in-Ok : goal.returns-in-Ok
+returns-in-Ok g c =
+    let splits = c.in-Ok.ensures.splits in (
+      (refl, λ w. refl, tt),
+      record {
+        same_map = refl;
+        unchanged = refl;
+        rests = tt;
+        found = λ there. record {
+          key = rw splits.found (ap (option_map (λ p. p.0)) (found_get _ _ _ _ splits));
+          value = found_value _ _ _ _ splits;
+          writes = found_write _ _ _ _ splits;
+          removes = found_remove _ _ _ _ splits;
+        };
+        made = λ none. absurd (let both : None ≡ Some splits.pair = sym none ∙ splits.found in cc);
+        absent = tt;
+        error = tt;
+      },
+    )
+
+pub invariant_of-result : goal.invariant_of-result
+invariant_of-result g c = record { within = found_within _ _ _ _ c.in-Ok.ensures.splits }
