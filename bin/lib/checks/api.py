@@ -47,6 +47,8 @@ NOT_CALLED = {
     "split_store": "what `split_off` hands on",
     "insert_reserved": "what `lm_insert` hands on",
     "remove_at": "what `lm_remove` hands on",
+    "drop_from": "what `truncate` hands on",
+    "move_range": "what `take_range` hands on",
     "Count::refuse": "what bulk calls ask of their count if a growth was refused",
     **dict.fromkeys(["SwapStore::lm_pair", "SwapStore::lm_swap", "SwapStore::lm_truncate"], "what `lm_retain` asks"),
     "serialize": "what `with` of a field in example_formats asks",

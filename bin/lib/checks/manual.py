@@ -18,7 +18,7 @@ GROUPS = {
     "Entries": "litemap: map/entry",
     "Many at once": "litemap: map/bulk",
     "Merge and compare keys": "litemap: map/merge map/sets",
-    "Walk": "litemap: map/iter map/iter/keys_values map/iter/owned map/iter/range",
+    "Walk": "litemap: map/iter map/iter/keys_values map/iter/range",
     "Compare and hash": "litemap: map/comparisons",
     "Convert and borrow": "litemap: map/conversions map/becomes map/slice",
     "Tables in constants": "litemap: const_family",
@@ -29,7 +29,7 @@ GROUPS = {
     "Lookups in name tables": "name_index: table index name_entries indexed index_write error laws",
     "Sets": "litemap_set: set bulk combine",
     "What a call can be asked by": "litemap_store: query",
-    "Stores": "litemap_store: store into_iter vec_impl slice_impl slice_iter count growth no_room retain reserved slice_search merge "
+    "Stores": "litemap_store: store into_iter vec_impl slice_impl slice_iter owned_iter iter_mut count growth no_room retain reserved slice_search merge "
     "split_store; litemap_short: short_store short_iter; litemap_columns: lib column_store column_iter",
     "Laws, for proofs": "litemap_store: laws",
     "The program": "names_core: program watch; names: laws",

@@ -16,11 +16,6 @@ module _ {K V : Type 0} where
   zip-parts [] = refl
   zip-parts (p ∷ L) = ap (λ l. p ∷ l) (zip-parts L)
 
-  pub zip_with_none : (ks : List K) (vs : List V) → length vs ≡ 0 → zip ks vs ≡ []
-  zip_with_none [] vs h = refl
-  zip_with_none (k ∷ ks) [] h = refl
-  zip_with_none (k ∷ ks) (v ∷ vs) h = absurd (omega (arith, h))
-
   -- values that were each computed of the old one
   pub set_values-map : (h : V → V) (L : List (K × V)) → set_values L (map h (values_of L)) ≡ map (λ p. (p.0, h p.1)) L
   set_values-map h L = (λ j. zip (keys_of L) (all j)) ∙ zipped L

@@ -6,7 +6,6 @@ pub mod Comparisons
 pub mod Conversions
 pub mod Entries
 pub mod FoundBy
-pub mod IterMut
 pub mod KeptWritten
 pub mod Lends
 pub mod Nearest

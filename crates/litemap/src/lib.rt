@@ -9,10 +9,10 @@ mod const_family;
 mod map;
 mod try_fault;
 
+pub use litemap_store::store::{IntoKeys, IntoValues, IterMut};
 pub use litemap_store::{Query, store};
 pub use map::{
-    Entry, IntoKeys, IntoValues, IterMut, KeysIterWrap, LiteMap, OccupiedEntry, RangeIter,
-    VacantEntry, ValuesIterWrap,
+    Entry, KeysIterWrap, LiteMap, OccupiedEntry, RangeIter, VacantEntry, ValuesIterWrap,
 };
 pub use try_fault::TryFault;
 

@@ -23,8 +23,7 @@ mod traits;
 mod write;
 
 pub use entry::{Entry, OccupiedEntry, VacantEntry};
-pub use iter::{IntoKeys, IntoValues, KeysIterWrap, RangeIter, ValuesIterWrap};
-pub use iter_mut::IterMut;
+pub use iter::{KeysIterWrap, RangeIter, ValuesIterWrap};
 use litemap_store::store::{Store, StoreConstEmpty, StoreMut};
 use std::alloc::{AllocError, Global};
 use std::default::MadeWith;

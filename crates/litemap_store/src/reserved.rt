@@ -1,11 +1,12 @@
 //! Capacity that is taken first, pairs that go into a store which has it, and pairs that leave a store from its end.
-ghost use Rattle.std.specs.Prelude.{◌≡◌, ◌↔◌, ◌+◌, ◌<◌, ◌≤◌, List, ◌++◌, ◌∷◌, [], drop, insert, length, remove, reverse};
-ghost use Rattle.std.specs.Prelude.{slice_index_or, take, vec_capacity, vec_len, IfOk, IfSome, IsNone};
+ghost use Rattle.std.specs.Prelude.{◌≡◌, ◌↔◌, ◌+◌, ◌-◌, ◌<◌, ◌≤◌, List, ◌++◌, ◌∷◌, [], drop, insert, length, remove, reverse};
+ghost use Rattle.std.specs.Prelude.{slice_index_or, slice_range, take, vec_capacity, vec_len, IfOk, IfSome, IsNone};
 
 use crate::growth::{Refused, with_capacity};
 use crate::store::{Store, StoreMut};
 use std::alloc::Global;
 use std::mem;
+use std::ops::Range;
 
 // The most bytes that move at once: std moves more of them by a loop.
 const PART_BYTES: usize = 2048;
@@ -118,6 +119,30 @@ pub(crate) fn take_from<K: Drop, V: Drop, S: StoreMut<K, V>>(
 {
     while store.lm_len() > index {
         side.push_reserved(take_last(store));
+    }
+}
+
+/// Drops the pairs from an index on, the last one first.
+pub fn drop_from<K: Drop, V: Drop, S: StoreMut<K, V>>(store: &mut S, len: usize)
+    ensures pairs { S.pairs store.new ≡ take len (S.pairs store.old) }
+    ensures room { S.keeps_memory → S.room store.old + length (S.pairs store.old) ≤ S.room store.new + length (S.pairs store.new) }
+{
+    while store.lm_len() > len {
+        let last = store.lm_len() - 1;
+        drop(store.lm_remove(last));
+    }
+}
+
+/// Moves the items at the indices of a range to the end of a vector that has room for them.
+pub fn move_range<T: Drop>(items: &mut Vec<T>, range: Range<usize>, taken: &mut Vec<T>)
+    requires ascends { range.start ≤ range.end }
+    requires within { range.end ≤ vec_len items.old }
+    requires room { vec_len taken.old + (range.end - range.start) ≤ vec_capacity taken.old }
+    ensures taken { taken.new.items ≡ taken.old.items ++ slice_range items.old.items range.start range.end }
+    ensures left { items.new.items ≡ take range.start items.old.items ++ drop range.end items.old.items }
+{
+    for item in items.drain(range) {
+        taken.push_reserved(item);
     }
 }
 

@@ -6,13 +6,11 @@ ghost use Rattle.litemap_store.specs.Pairs.{Rising};
 ghost use Rattle.litemap.specs.Runs.{KeysInOrder, RunsInOrder, ValuesInOrder};
 
 mod keys_values;
-mod owned;
 mod range;
 
 use crate::LiteMap;
 pub use keys_values::{KeysIterWrap, ValuesIterWrap};
-use litemap_store::store::{StoreIntoIterator, StoreIterable};
-pub use owned::{IntoKeys, IntoValues};
+use litemap_store::store::{IntoKeys, IntoValues, StoreIntoIterator, StoreIterable};
 pub use range::RangeIter;
 use std::marker::PhantomData;
 
@@ -115,10 +113,7 @@ impl<K: Ord + Drop, V: Drop, S: StoreIntoIterator<K, V>> LiteMap<K, V, S> {
     pub fn into_keys(self) -> IntoKeys<K, V, S::KeyValueIntoIter>
         ensures { S.KeyValueIntoIter.owned result ≡ self.pairs }
     {
-        IntoKeys {
-            iter: self.into_iter(),
-            marker: PhantomData,
-        }
+        IntoKeys::new(self.into_iter())
     }
 
     /// Returns an iterator over all values by value, in the order of their keys, that drops the keys (own).
@@ -131,9 +126,6 @@ impl<K: Ord + Drop, V: Drop, S: StoreIntoIterator<K, V>> LiteMap<K, V, S> {
     pub fn into_values(self) -> IntoValues<K, V, S::KeyValueIntoIter>
         ensures { S.KeyValueIntoIter.owned result ≡ self.pairs }
     {
-        IntoValues {
-            iter: self.into_iter(),
-            marker: PhantomData,
-        }
+        IntoValues::new(self.into_iter())
     }
 }

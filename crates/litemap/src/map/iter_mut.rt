@@ -1,18 +1,14 @@
 //! Calls that lend all values at once, over a store whose keys lie side by side, as do its values. No keys are compared, and no
 //! pairs move.
-ghost use Rattle.std.specs.Prelude.{◌≡◌, List, length};
+ghost use Rattle.std.specs.Prelude.{◌≡◌, List};
 ghost use Rattle.std.specs.Borrow.{sem};
-ghost use Rattle.std.specs.Iterator.{at_most};
-ghost use Rattle.std.specs.List.{zip};
 ghost use Rattle.std.specs.Map.{keys_of, values_of};
-ghost use Rattle.std.specs.Map.Iter.{TakesFirst, deref_pair_mut};
 ghost use Rattle.litemap_store.specs.Lent.{set_values};
-ghost use Rattle.litemap.specs.IterMut.{iter_mut_loan, iter_mut_left};
+ghost use Rattle.litemap_store.specs.IterMut.{iter_mut_loan, iter_mut_left};
 ghost use Rattle.litemap.specs.Lends.{LendsValues};
 
 use crate::LiteMap;
-use litemap_store::store::StoreColumns;
-use std::slice;
+use litemap_store::store::{IterMut, StoreColumns};
 
 impl<K: Ord, V, S: StoreColumns<K, V>> LiteMap<K, V, S> {
     /// Returns the keys, in order, as a slice (own).
@@ -85,43 +81,5 @@ impl<'a, K: Ord, V, S: StoreColumns<K, V>> IntoIterator for &'a mut LiteMap<K, V
         ensures keys { (values : List V) → keys_of (set_values self.old.pairs values) ≡ keys_of self.old.pairs }
     {
         self.iter_mut()
-    }
-}
-
-/// The pairs of a map that are still to come, each value lent. It has no model, so that a contract can follow the loan.
-#[derive(Drop)]
-pub struct IterMut<'a, K, V> {
-    keys: slice::Iter<'a, K>,
-    values: slice::IterMut<'a, V>,
-}
-
-impl<'a, K, V> IterMut<'a, K, V> {
-    pub(super) fn new(keys: &'a [K], values: &'a mut [V]) -> Self
-        ensures left { iter_mut_left result ≡ zip keys.now values.old }
-        ensures loan { iter_mut_loan result ≡ values.entry.ghost_name }
-    {
-        IterMut {
-            keys: keys.iter(),
-            values: values.iter_mut(),
-        }
-    }
-}
-
-impl<'a, K, V> Iterator for IterMut<'a, K, V> {
-    type Item = (&'a K, &'a mut V);
-
-    ghost next_gives = { λ s r t. TakesFirst deref_pair_mut (iter_mut_left s) r (iter_mut_left t) };
-
-    ghost remaining = { λ s. at_most (length (iter_mut_left s)) };
-
-    fn next(&mut self) -> Option<(&'a K, &'a mut V)> {
-        // It tests both, so that it asks nothing of a caller.
-        if self.values.len() == 0 {
-            return None;
-        }
-        let Some(key) = self.keys.next() else {
-            return None;
-        };
-        Some((key, self.values.next().unwrap()))
     }
 }

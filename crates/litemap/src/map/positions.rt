@@ -1,11 +1,12 @@
 //! Calls that insert and remove pairs by their indices. No keys are compared.
 ghost use Rattle.std.specs.Prelude.{◌≡◌, ◌+◌, ◌-◌, ◌<◌, ◌≤◌, ◌++◌, Err, IfOk, IfSome, IsNone, IsSome, OnErr, OnOk, Some, drop};
-ghost use Rattle.std.specs.Prelude.{length, remove, slice_get, slice_range, take, vec_capacity, vec_len};
+ghost use Rattle.std.specs.Prelude.{length, remove, slice_get, slice_range, take};
 ghost use Rattle.litemap_store.specs.Pairs.{index_of, put};
 ghost use Rattle.litemap.specs.Changes.{RefusedFull};
 ghost use Rattle.litemap.specs.Updates.{TakesPair, Updates};
 
 use crate::LiteMap;
+use litemap_store::reserved::{drop_from, move_range};
 use litemap_store::store::{NoRoom, StoreMut};
 use std::alloc::{AllocError, Global};
 use std::ops::Range;
@@ -111,29 +112,5 @@ impl<K: Ord + Drop, V: Drop> LiteMap<K, V, Vec<(K, V)>> {
         let mut taken = Vec::with_capacity(alloc, range.end - range.start)?;
         move_range(&mut self.store, range, &mut taken);
         Ok(taken)
-    }
-}
-
-// Drops the pairs from an index on, the last one first.
-fn drop_from<K: Drop, V: Drop, S: StoreMut<K, V>>(store: &mut S, len: usize)
-    ensures pairs { S.pairs store.new ≡ take len (S.pairs store.old) }
-    ensures room { S.keeps_memory → S.room store.old + length (S.pairs store.old) ≤ S.room store.new + length (S.pairs store.new) }
-{
-    while store.lm_len() > len {
-        let last = store.lm_len() - 1;
-        drop(store.lm_remove(last));
-    }
-}
-
-// Moves the items at the indices of a range to the end of a vector that has room for them.
-fn move_range<T: Drop>(items: &mut Vec<T>, range: Range<usize>, taken: &mut Vec<T>)
-    requires ascends { range.start ≤ range.end }
-    requires within { range.end ≤ vec_len items.old }
-    requires room { vec_len taken.old + (range.end - range.start) ≤ vec_capacity taken.old }
-    ensures taken { taken.new.items ≡ taken.old.items ++ slice_range items.old.items range.start range.end }
-    ensures left { items.new.items ≡ take range.start items.old.items ++ drop range.end items.old.items }
-{
-    for item in items.drain(range) {
-        taken.push_reserved(item);
     }
 }

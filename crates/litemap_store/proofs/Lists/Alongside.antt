@@ -1,7 +1,7 @@
 -- Lists whose elements are in a relation, index by index.
 --     alongside-push      one more element at the end of each;  alongside-more      the element at the next index, and one at the end of the other list
---     alongside-zip      of keys and of values, and so of the pairs
-use Rattle.litemap_store.proofs.Names.{[], ℕ, ◌++◌, ◌+◌, ◌∙◌, ◌∷◌, ◌≡◌, AllZip, ap, get_or_from_slice_get, List, slice_get}
+--     alongside-zip      of keys and of values, and so of the pairs;  zip_with_none      no pair, if there is no value
+use Rattle.litemap_store.proofs.Names.{[], ℕ, ◌++◌, ◌+◌, ◌∙◌, ◌∷◌, ◌≡◌, AllZip, ap, arith, get_or_from_slice_get, length, List, refl, slice_get}
 use Rattle.litemap_store.proofs.Names.{slice_get_within, Some, subst, sym, take, take_more, zip}
 
 module _ {A B : Type 0} (R : A → B → Type 0) where
@@ -26,3 +26,8 @@ module _ {K L V W : Type 0} (C : K → L → Type 0) (D : V → W → Type 0) wh
   alongside-zip (k ∷ ks) (j ∷ js) [] (w ∷ ws) c d = absurd d
   alongside-zip (k ∷ ks) (j ∷ js) (v ∷ vs) [] c d = absurd d
   alongside-zip (k ∷ ks) (j ∷ js) (v ∷ vs) (w ∷ ws) c d = ((c.0, d.0), alongside-zip ks js vs ws c.1 d.1)
+
+pub zip_with_none : {K V : Type 0} (ks : List K) (vs : List V) → length vs ≡ 0 → zip ks vs ≡ []
+zip_with_none [] vs h = refl
+zip_with_none (k ∷ ks) [] h = refl
+zip_with_none (k ∷ ks) (v ∷ vs) h = absurd (omega (arith, h))

@@ -1,7 +1,7 @@
-use Rattle.litemap.proofs.Common.{arith}
+use Rattle.std.proofs.Common.{arith}
 use Rattle.std.specs.Slice.Iter.{iter_mut_rest, iter_rest}
-use Rattle.litemap.proofs.Lending.{zip_with_none}
-use Rattle.litemap.proofs.map.iter_mut.IterMutIterator.next.Goals as goal
+use Rattle.litemap_store.proofs.Lists.Alongside.{zip_with_none}
+use Rattle.litemap_store.proofs.iter_mut.IterMutIterator.next.Goals as goal
 
 pub returns-then-len-eq0-clause-steps : goal.returns-then-len-eq0-clause-steps
 returns-then-len-eq0-clause-steps g c =

@@ -1,5 +1,5 @@
-use Rattle.litemap.proofs.Common.{◌+◌, ◌≡◌, ◌≤◌, length, take}
-use Rattle.litemap.proofs.map.positions.drop_from.Given as goal
+use Rattle.std.proofs.Common.{◌+◌, ◌≡◌, ◌≤◌, length, take}
+use Rattle.litemap_store.proofs.reserved.drop_from.Given as goal
 
 abbrev pub invariant-loop-store : goal.invariant-loop-store
 invariant-loop-store g l = record {

@@ -1,9 +1,9 @@
--- What the iterator that lends the values of a map shows.
+-- What the iterator that lends the values of two columns shows.
 use Rattle.std.specs.Prelude.{List}
 use Rattle.std.specs.Borrow.{GName}
 use Rattle.std.specs.List.{zip}
 use Rattle.std.specs.Slice.Iter.{iter_mut_name, iter_mut_rest, iter_rest}
-use Rattle.litemap.specs.declared.map.iter_mut.IterMut.{IterMut}
+use Rattle.litemap_store.specs.declared.iter_mut.IterMut.{IterMut}
 
 module _ {K V : Type 0} where
   -- the pairs still to come

@@ -1,23 +1,35 @@
-//! Iterators over the keys and over the values of a map, by value.
+//! Iterators over the keys and over the values of a store's pairs, by value.
 ghost use Rattle.std.specs.Prelude.{◌≡◌, length};
 ghost use Rattle.std.specs.Iterator.{YieldsFirst, at_most};
 ghost use Rattle.std.specs.Map.{keys_of, values_of};
-ghost use Rattle.litemap_store.specs.Hints.{HintsExactly};
+ghost use Rattle.litemap_store.specs.{HintsExactly};
 
-use litemap_store::store::PairIntoIter;
+use crate::store::PairIntoIter;
 use std::marker::{Model, PhantomData};
 
 /// An iterator over keys by value. It drops their values. A contract sees the iterator over their pairs.
 #[derive(Debug, Drop)]
 pub struct IntoKeys<K, V, I> {
-    pub(super) iter: I,
-    pub(super) marker: PhantomData<(K, V)>,
+    iter: I,
+    marker: PhantomData<(K, V)>,
 }
 
 impl<K, V, I> Model for IntoKeys<K, V, I> {
     ghost Value = { I };
 
     ghost view = { λ w. w.iter };
+}
+
+impl<K, V, I> IntoKeys<K, V, I> {
+    /// Returns an iterator over the keys of the pairs that another one yields.
+    pub fn new(iter: I) -> Self
+        ensures { result ≡ iter }
+    {
+        IntoKeys {
+            iter,
+            marker: PhantomData,
+        }
+    }
 }
 
 impl<K, V: Drop, I: PairIntoIter<K, V>> Iterator for IntoKeys<K, V, I> {
@@ -47,14 +59,26 @@ impl<K, V: Drop, I: PairIntoIter<K, V>> ExactSizeIterator for IntoKeys<K, V, I> 
 /// An iterator over values by value. It drops their keys. A contract sees the iterator over their pairs.
 #[derive(Debug, Drop)]
 pub struct IntoValues<K, V, I> {
-    pub(super) iter: I,
-    pub(super) marker: PhantomData<(K, V)>,
+    iter: I,
+    marker: PhantomData<(K, V)>,
 }
 
 impl<K, V, I> Model for IntoValues<K, V, I> {
     ghost Value = { I };
 
     ghost view = { λ w. w.iter };
+}
+
+impl<K, V, I> IntoValues<K, V, I> {
+    /// Returns an iterator over the values of the pairs that another one yields.
+    pub fn new(iter: I) -> Self
+        ensures { result ≡ iter }
+    {
+        IntoValues {
+            iter,
+            marker: PhantomData,
+        }
+    }
 }
 
 impl<K: Drop, V, I: PairIntoIter<K, V>> Iterator for IntoValues<K, V, I> {

@@ -1,6 +1,6 @@
 use Rattle.std.proofs.Common.{◌≡◌, ◌+◌, ◌≤◌, ◌++◌, drop, slice_range, take, vec_capacity, vec_len}
 use Rattle.std.specs.Vec.Iter.{drain_items, drain_kept, drain_len}
-use Rattle.litemap.proofs.map.positions.move_range.Given as goal
+use Rattle.litemap_store.proofs.reserved.move_range.Given as goal
 
 abbrev pub invariant-loop-item : goal.invariant-loop-item
 invariant-loop-item g l =
