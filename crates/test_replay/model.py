@@ -1239,6 +1239,8 @@ ELSEWHERE = {
 }
 ELSEWHERE |= dict.fromkeys("range_in range_by floor ceiling remove_indexed truncate remove_range try_from_sorted".split(), "test_cases")
 ELSEWHERE |= dict.fromkeys("try_update retain_mut iter_mut keys_slice values_slice values_mut_slice".split(), "test_cases")
+ELSEWHERE |= dict.fromkeys("entry_by first_entry last_entry or_insert_with_key or_made_with or_try_insert_with into_key".split(), "test_cases")
+ELSEWHERE |= dict.fromkeys("into_keys into_values".split(), "test_cases")
 ELSEWHERE |= dict.fromkeys("as_store into_store capacity shrink_to_fit lm_columns lm_columns_mut".split(), "test_cases")
 ELSEWHERE |= {"lm_alloc": "extended"}
 SOURCES = ["litemap/src/map.rt", "litemap/src/map", "litemap/src/const_family.rt", "litemap_read/src/read.rt"]

@@ -1,6 +1,6 @@
 //! A map as any collection of the kit: in a struct that derives `Clone`, collected, indexed, changed in a loop that ends at an
-//! error, by index, and in a range of numbers. Nothing here has an attribute or a proof file.
-ghost use Rattle.std.specs.Prelude.{◌≡◌, [], IfOk, IsSome, OnOk, Some, length, remove, slice_get, string_bytes};
+//! error, by index, and in a range of numbers; and a set of numbers. Nothing here has an attribute or a proof file.
+ghost use Rattle.std.specs.Prelude.{◌≡◌, [], IfOk, IsSome, OnErr, OnOk, Some, length, not, remove, slice_get, string_bytes, true};
 ghost use Rattle.std.specs.Map.{keys_of};
 ghost use Rattle.std.specs.Ordering.{nat_cmp};
 ghost use Rattle.std.specs.declared.ops.Bound.TheVariants.{Excluded, Included};
@@ -9,9 +9,11 @@ ghost use Rattle.litemap_store.specs.Clones.{PairsBecame};
 ghost use Rattle.litemap_store.specs.Last.{Last};
 ghost use Rattle.litemap_store.specs.Pairs.{at, value_at};
 ghost use Rattle.litemap_store.specs.Queries.{by_string};
+ghost use Rattle.litemap_set.specs.Sets.{contains};
 
 use litemap::VecMap;
 use litemap_columns::ColumnMap;
+use litemap_set::VecSet;
 use std::alloc::{AllocError, Global};
 use std::mem;
 
@@ -96,4 +98,13 @@ pub fn cap(map: &mut ColumnMap<u32, u32>, most: u32)
         }
         *value = most.min(*value);
     }
+}
+
+/// Notes a day, and returns whether it is new. All that were noted stay.
+pub fn note(days: &mut VecSet<u32>, day: u32) -> Result<bool, AllocError>
+    ensures new { IfOk result (λ is_new. is_new ≡ not (contains nat_cmp days.old.keys day)) }
+    ensures noted { OnOk result (contains nat_cmp days.new.keys day ≡ true) }
+    ensures refused { OnErr result (days.new.keys ≡ days.old.keys) }
+{
+    Ok(days.insert(day)?)
 }

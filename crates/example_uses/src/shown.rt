@@ -17,6 +17,7 @@ use crate::words::{self, Counts};
 use crate::{config, parts, reserved, scores, trees};
 use litemap::{LiteMap, TryFault, VecMap};
 use litemap_columns::ColumnMap;
+use litemap_set::VecSet;
 use std::alloc::{AllocError, Global};
 use std::io;
 
@@ -445,5 +446,12 @@ fn show_collected(rt: &impl Print, alloc: Global) -> io::Result<()> {
     println!(rt;
         "collected {map:?}, within {}, capped {columns:?}",
         collection::number_within(&map)
-    )
+    )?;
+    let mut days = VecSet::new(alloc);
+    let is_new = [
+        collection::note(&mut days, 3)?,
+        collection::note(&mut days, 1)?,
+        collection::note(&mut days, 3)?,
+    ];
+    println!(rt; "new {is_new:?}, noted {days:?}")
 }
