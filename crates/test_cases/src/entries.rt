@@ -10,29 +10,44 @@ fn days(alloc: Global) -> Result<VecMap<u32, &'static str>, AllocError> {
 // The first and the last entry are written and removed; an empty map has none.
 pub(crate) fn ends_have_entries(alloc: Global) -> Outcome {
     let mut days = days(alloc)?;
-    let first = days.first_entry().map(|entry| entry.remove_entry());
-    let last = days.last_entry().map(|mut entry| entry.insert("Fri"));
-    let right = first == Some((1, "Monday")) && last == Some("Friday");
+    let Some(first) = days.first_entry() else {
+        return Ok(false);
+    };
+    let removed = first.remove_entry() == (1, "Monday");
+    let Some(mut last) = days.last_entry() else {
+        return Ok(false);
+    };
+    let right = removed && last.insert("Fri") == "Friday";
     let left = days.as_slice() == [(3, "Wednesday"), (5, "Fri")].as_slice();
     let mut none: VecMap<u32, u32> = LiteMap::new(alloc);
     Ok(right && left && none.first_entry().is_none() && none.last_entry().is_none())
 }
 
+// A vector is made once for its key.
+pub(crate) fn a_vector_is_made_once(alloc: Global) -> Outcome {
+    let mut lists: VecMap<u32, Vec<u32>> = LiteMap::new(alloc);
+    let list = lists.entry(7).or_made_with(alloc)?;
+    list.push(1)?;
+    let list = lists.entry(7).or_made_with(alloc)?;
+    list.push(2)?;
+    let made = lists.get(&7);
+    Ok(made.is_some_and(|list| list.as_slice() == [1, 2].as_slice()))
+}
+
 // A value is made only for an absent key, which a vacant entry gives back.
 pub(crate) fn values_are_made_for_absent_keys(alloc: Global) -> Outcome {
-    let mut lists: VecMap<u32, Vec<u32>> = LiteMap::new(alloc);
-    lists.entry(7).or_made_with(alloc)?.push(1)?;
-    lists.entry(7).or_made_with(alloc)?.push(2)?;
-    let both = lists.get(&7).is_some_and(|list| list.as_slice() == [1, 2].as_slice());
-    let mut days = days(alloc)?;
-    let key = *days.entry(3).key() == 3 && *days.entry(4).key() == 4;
-    let made = *days.entry(6).or_insert_with_key(|number| if *number == 6 { "six" } else { "other" })? == "six";
-    let kept = *days.entry(6).or_insert_with_key(|_number| "other")? == "six";
-    let given = match days.entry(2) {
-        Entry::Occupied(_) => false,
-        Entry::Vacant(entry) => entry.into_key() == 2,
+    let mut squares: VecMap<u32, u32> = LiteMap::from_iter(alloc, [(1, 1), (3, 9)])?;
+    let key = *squares.entry(3).key() == 3 && *squares.entry(4).key() == 4;
+    let made = *squares
+        .entry(6)
+        .or_insert_with_key(|number| number.wrapping_mul(6))?
+        == 36;
+    let kept = *squares.entry(6).or_insert_with_key(|number| *number)? == 36;
+    let Entry::Vacant(vacant) = squares.entry(2) else {
+        return Ok(false);
     };
-    Ok(both && key && made && kept && given && days.len() == 4)
+    let given = vacant.into_key() == 2;
+    Ok(key && made && kept && given && squares.len() == 3)
 }
 
 // A value that can't be made leaves the map.
@@ -43,7 +58,10 @@ pub(crate) fn a_value_may_fail(alloc: Global) -> Outcome {
         _ => false,
     };
     let left = days.len() == 3 && !days.contains_key(&7);
-    let made = *days.entry(7).or_try_insert_with(|| Ok::<_, AllocError>("Sunday"))? == "Sunday";
+    let made = *days
+        .entry(7)
+        .or_try_insert_with(|| Ok::<_, AllocError>("Sunday"))?
+        == "Sunday";
     let kept = *days.entry(7).or_try_insert_with(|| Err(AllocError))? == "Sunday";
     Ok(failed && left && made && kept && days.last() == Some((&7, &"Sunday")))
 }
@@ -62,5 +80,11 @@ pub(crate) fn a_key_is_made_if_absent(alloc: Global) -> Outcome {
         *count = count.wrapping_add(1);
     }
     let failed = counts.entry_by("that", || Err("closed")).is_err();
-    Ok(made == 4 && failed && counts.len() == 4 && counts.get("be") == Some(&2) && counts.get("or") == Some(&1))
+    Ok(
+        made == 4
+            && failed
+            && counts.len() == 4
+            && counts.get("be") == Some(&2)
+            && counts.get("or") == Some(&1),
+    )
 }
