@@ -1,7 +1,7 @@
 -- From the pairs of a map to the keys of a set.
 --     ascends, length-keys, find-keys, contains-keys      what the keys of ascending pairs are, and what is found among them
 --     contains-put, length-put, keys-put      after a put
---     GivesSome-from_keys, IsSameSet-from_vec, on_err      what an iterator and a vector yield;  contains-last, contains-last_of_more      among the last pairs of a list
+--     GivesSome-from_keys, GivesSome-from_more, IsSameSet-from_vec, on_err      what an iterator and a vector yield;  contains-last, contains-last_of_more      among the last pairs of a list
 --     any-kept, none-kept, keys-cut, length-cut      after a cut, which is a filter of the keys
 use Rattle.litemap_store.proofs.Names.{[], ℕ, ◌++◌, ◌+◌, ◌∙◌, ◌∷◌, ◌≡◌, AllByRecursion, ap, arith, Bool, cond, cons_option, Equal, false, filter, filter-append, Greater, is_eq, is_gt, is_lt, is_some, IsTotalOrder, length, length-append, Less, List, None, not, Option, option_map, Ordering, refl, reverse, reverse-append, Some, suc, sym, tied_back, true, Vec}
 use Rattle.std.specs.Prelude.{◌||◌, ◌≤◌, Err, Ok, OnErr, Result, find}
@@ -15,13 +15,13 @@ use Rattle.std.proofs.lemmas.List.Folds.{list_any-append}
 use Rattle.litemap_store.specs.Pairs.{Rising, above, at, below, cut, key_or, put, value_at}
 use Rattle.litemap_store.specs.Queries.{OneSide, key_one_side}
 use Rattle.litemap_store.specs.Bulk.{Gives, GivesSome}
-use Rattle.litemap_store.specs.Last.{Last}
+use Rattle.litemap_store.specs.Last.{Last, Rises}
 use Rattle.litemap_store.proofs.Callers.Extended.{given_by_vec}
 use Rattle.litemap_store.proofs.Callers.LastLookups.{at-Last}
 use Rattle.litemap_store.proofs.Callers.Lookups.{value_at-put, value_at-put_other}
 use Rattle.litemap_store.proofs.Callers.Tallies.{value_at_equal}
 use Rattle.litemap_store.proofs.Lists.Membership.{In-from_filter}
-use Rattle.litemap_store.proofs.Last.FirstGiven.{GivesSome-from_some}
+use Rattle.litemap_store.proofs.Last.FirstGiven.{GivesSome-from_some, Rises-none}
 use Rattle.litemap_store.proofs.Last.KeepLast.{filter_all}
 use Rattle.litemap_store.proofs.Search.Splitting.{at_in, parted}
 use Rattle.litemap_set.specs.Sets.{IsExtendedBy, IsSameSet, contains}
@@ -121,10 +121,16 @@ any-reverse test (x ∷ L) =
     turned false false = refl
 
 -- an iterator yields something if no call fails for nothing
-pub GivesSome-from_keys : {U T K V : Type 0} (becomes : U → T → Type 0) (steps : T → Option K → T → Type 0) (iter : U) (cmp : K → K → Ordering) (room : ℕ) (L : List (K × V))
-    → Gives becomes steps iter (keys_of L) → (Rising cmp L → length L ≤ room → ⊥) → GivesSome becomes steps iter
-GivesSome-from_keys becomes steps iter cmp room [] g some = absurd (some tt (omega arith))
-GivesSome-from_keys becomes steps iter cmp room (p ∷ L) g some = GivesSome-from_some becomes steps iter (p.0 ∷ keys_of L) g (omega arith)
+pub GivesSome-from_more : {U T K V : Type 0} (becomes : U → T → Type 0) (steps : T → Option K → T → Type 0) (iter : U)
+    (cmp : K → K → Ordering) (room : ℕ) (old L : List (K × V)) → Gives becomes steps iter (keys_of L)
+    → (Rises cmp old L → length L ≤ room → ⊥) → GivesSome becomes steps iter
+GivesSome-from_more becomes steps iter cmp room old [] g some = absurd (some (Rises-none cmp old) (omega arith))
+GivesSome-from_more becomes steps iter cmp room old (p ∷ L) g some = GivesSome-from_some becomes steps iter (p.0 ∷ keys_of L) g (omega arith)
+
+pub GivesSome-from_keys : {U T K V : Type 0} (becomes : U → T → Type 0) (steps : T → Option K → T → Type 0) (iter : U)
+    (cmp : K → K → Ordering) (room : ℕ) (L : List (K × V)) → Gives becomes steps iter (keys_of L)
+    → (Rising cmp L → length L ≤ room → ⊥) → GivesSome becomes steps iter
+GivesSome-from_keys becomes steps iter cmp room L g some = GivesSome-from_more becomes steps iter cmp room [] L g (λ r. some r.rising)
 
 -- what a vector yields are its items
 pub IsSameSet-from_vec : {K Z : Type 0} {cmp : K → K → Ordering} {becomes : Vec K Z → IntoIter K Z → Type 0} (v : Vec K Z) (new : List K) → IsExtendedBy cmp becomes into_iter_steps v [] new

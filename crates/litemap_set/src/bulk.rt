@@ -58,6 +58,7 @@ impl<K: Ord + Drop> VecSet<K> {
         ensures extended { OnOk result
             (IsExtendedBy K.cmp I.into_iter_gives I.IntoIter.next_gives iter self.old.keys self.new.keys) }
         ensures refused { OnErr result (self.new.keys ≡ self.old.keys) }
+        ensures refused_some { OnErr result (GivesSome I.into_iter_gives I.IntoIter.next_gives iter) }
     {
         let pairs = with_units(alloc, iter)?;
         self.map.extend_from_vec(alloc, pairs)?;

@@ -1,5 +1,5 @@
 use Rattle.std.specs.Map.{keys_of}
-use Rattle.litemap_set.proofs.Keys.{contains-last_of_more}
+use Rattle.litemap_set.proofs.Keys.{GivesSome-from_more, contains-last_of_more, on_err}
 use Rattle.litemap_set.proofs.set.VecSet.extend.Goals as goal
 
 pub returns-clause-extended : goal.returns-clause-extended
@@ -8,3 +8,9 @@ returns-clause-extended g c = rw (← c.self.view_is) (record {
   gives = c.in_ok-pairs.ensures.given;
   union = λ q. contains-last_of_more g.met.K.Ord.total q c.self.inside.map.pairs c.in_ok-pairs.pairs.items c.extend_from_vec.new.self.pairs c.in_ok-extend_from_vec.ensures.last;
 })
+
+pub returns-in_err-extend_from_vec-clause-refused_some : goal.returns-in_err-extend_from_vec-clause-refused_some
+returns-in_err-extend_from_vec-clause-refused_some g c =
+    on_err c.from_residual-in_err-extend_from_vec.result (GivesSome-from_more g.I.IntoIterator.into_iter_gives g.I.IntoIter.Iterator.next_gives
+    c.args.iter g.K.Ord.cmp c.self.inside.map.room c.self.inside.map.pairs c.in_ok-pairs.pairs.items c.in_ok-pairs.ensures.given
+    (λ rises fits. let ok = c.in_err-extend_from_vec.ensures.succeeds rises fits in cc))
