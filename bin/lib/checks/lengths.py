@@ -1,9 +1,14 @@
-"""No sentence of a page is too long. Those of definitions, which docs/API.md and docs/api repeat, may have any length."""
+"""No sentence of a page is too long, and no line of a definition or a proof too wide.
+
+Sentences of definitions, which docs/API.md and docs/api repeat, may have any length.
+"""
 import re
 
 from lib.checks.pages import BLOCKS, CODE, LINK
+from lib.shared import TOP
 
 MOST_WORDS = 40
+MOST_COLUMNS = 160
 END = re.compile(r"(?<=[^.][.!?])[\"')*]*(?:\s+|$)")
 
 
@@ -24,3 +29,7 @@ def check(report, _):
         for sentence in sentences(block):
             told = f"{block.where}: a sentence of {words(sentence)} words: {' '.join(sentence.split())[:80]}"
             report.see(words(sentence) <= MOST_WORDS, told)
+    for place in (place for folder in ("specs", "proofs") for place in sorted(TOP.glob(f"crates/*/{folder}/**/*.antt"))):
+        for number, line in enumerate(place.read_text(encoding="utf-8").splitlines(), start=1):
+            told = f"{place.relative_to(TOP)}:{number}: a line of {len(line)} columns"
+            report.see(len(line) <= MOST_COLUMNS, told)

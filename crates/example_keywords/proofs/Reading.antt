@@ -1,5 +1,6 @@
 -- Keywords, read one by one, and put into a map if their keys are absent.
-use Rattle.std.proofs.Common.{◌≡◌, ◌≢◌, ◌↔◌, ℕ, true, false, List, [], ◌∷◌, ◌++◌, Option, Some, None, IsNone, IsSome, String, map, refl, sym, ap, ◌∙◌, subst, append_assoc, append-nil, IsTrue, option_map, string_bytes}
+use Rattle.std.proofs.Common.{◌≡◌, ◌≢◌, ◌↔◌, ℕ, true, false, List, [], ◌∷◌, ◌++◌, Option, Some, None, IsNone, IsSome, String, map, refl, sym, ap, ◌∙◌, subst}
+use Rattle.std.proofs.Common.{append_assoc, append-nil, IsTrue, option_map, string_bytes}
 use Rattle.std.proofs.lemmas.List.{map-append}
 use Rattle.std.proofs.lemmas.List.Folds.{find-append}
 use Rattle.std.proofs.lemmas.List.Splits.{join_with_byte-slice_split}
@@ -14,7 +15,8 @@ use Rattle.std.specs.declared.cmp.Ordering.TheVariants.{Less, Equal, Greater}
 use Rattle.litemap_store.specs.Pairs.{at, put, value_at}
 use Rattle.litemap_store.proofs.Callers.Lookups.{value_at-put, value_at-put_other}
 use Rattle.litemap_store.proofs.Search.Splitting.{each-append}
-use Rattle.example_keywords.specs.Keywords.{AreJoined, AreRead, IsKeyword, IsKeywordRead, IsPutFirst, IsRead, Keyword, canonical, is_key, is_value_part, joined, keyword_parts, pair_of, parts_in, parts_of, value_in, value_of, with_part}
+use Rattle.example_keywords.specs.Keywords.{AreJoined, AreRead, IsKeyword, IsKeywordRead, IsPutFirst, IsRead, Keyword, canonical, is_key, is_value_part, joined}
+use Rattle.example_keywords.specs.Keywords.{keyword_parts, pair_of, parts_in, parts_of, value_in, value_of, with_part}
 
 -- ---- a pair inserted if its key is absent
 
@@ -43,7 +45,8 @@ module _ {Z : Type 0} (L : List (List ℕ × String Z)) (k : List ℕ) (v : Stri
   stays : IsSome (at by L k) → IsPutFirst L pair L
   stays there key = found (by key k) refl
     where
-      some : (o : Option (List ℕ × String Z)) (x : Option (List ℕ)) → IsSome o → option_map (λ w. string_bytes w) (option_map (λ p. p.1) o) ≡ option_or (option_map (λ w. string_bytes w) (option_map (λ p. p.1) o)) x
+      some : (o : Option (List ℕ × String Z)) (x : Option (List ℕ)) → IsSome o → option_map (λ w. string_bytes w) (option_map (λ p. p.1) o)
+          ≡ option_or (option_map (λ w. string_bytes w) (option_map (λ p. p.1) o)) x
       some None x h = cc
       some (Some p) x h = refl
 
@@ -63,8 +66,10 @@ module _ {Z : Type 0} (L : List (List ℕ × String Z)) (k : List ℕ) (v : Stri
       found : (o : Ordering) → by key k ≡ o → value_in (put by L k v) key ≡ option_or (value_in L key) (value_of (pair ∷ []) key)
       found Equal e =
           let same : k ≡ key = sym (exact_bytes key k e) in
-          let there : value_in (put by L k v) key ≡ Some (string_bytes v) = ap (option_map (λ w. string_bytes w)) (subst (λ x. value_at by (put by L k v) x ≡ Some v) same (value_at-put nat_list_cmp_total k L v)) in
-          let none : value_in L key ≡ None = subst (λ x. value_in L x ≡ None) same (ap (λ o. option_map (λ w. string_bytes w) (option_map (λ p. p.1) o)) absent) in
+          let there : value_in (put by L k v) key ≡ Some (string_bytes v) =
+          ap (option_map (λ w. string_bytes w)) (subst (λ x. value_at by (put by L k v) x ≡ Some v) same (value_at-put nat_list_cmp_total k L v)) in
+          let none : value_in L key ≡ None =
+          subst (λ x. value_in L x ≡ None) same (ap (λ o. option_map (λ w. string_bytes w) (option_map (λ p. p.1) o)) absent) in
           there ∙ sym (same_key key e) ∙ ap (λ o. option_or o (value_of (pair ∷ []) key)) (sym none)
       found _ e = others (λ f. cc)
 
@@ -77,7 +82,8 @@ module _ {Z : Type 0} (L : List (List ℕ × String Z)) (k : List ℕ) (v : Stri
   some_from (Some p) h = refl
 
   -- what `try_insert` leaves
-  pub put_first : {X : Type 0} (M : List (List ℕ × String Z)) (back : Option X) → IsNone back ↔ IsNone (at by L k) → (IsNone back → M ≡ put by L k v) → (IsSome back → M ≡ L) → IsPutFirst L (k, string_bytes v) M
+  pub put_first : {X : Type 0} (M : List (List ℕ × String Z)) (back : Option X) → IsNone back ↔ IsNone (at by L k) → (IsNone back → M ≡ put by L k v)
+      → (IsSome back → M ≡ L) → IsPutFirst L (k, string_bytes v) M
   put_first M None added put_is same = rw (put_is refl) (placed (none_from (at by L k) (added.0 refl)))
   put_first M (Some x) added put_is same = rw (same refl) (stays (some_from (at by L k) (λ n. let e : true ≡ false = added.1 n in cc)))
 
@@ -88,14 +94,16 @@ joined-push first [] part = refl
 joined-push first (next ∷ parts) part =
     ap (λ t. first ++ 45 ∷ t) (joined-push next parts part) ∙ sym (append_assoc first (45 ∷ joined (next ∷ parts)) (45 ∷ part))
 
-with_part-joined : (parts : List (List ℕ)) (part : List ℕ) → AllByRecursion (λ part. IsTrue (is_value_part part)) parts → with_part (joined parts) part ≡ joined (parts ++ part ∷ [])
+with_part-joined : (parts : List (List ℕ)) (part : List ℕ) → AllByRecursion (λ part. IsTrue (is_value_part part)) parts
+    → with_part (joined parts) part ≡ joined (parts ++ part ∷ [])
 with_part-joined [] part h = refl
 with_part-joined ([] ∷ parts) part h = cc
 with_part-joined ((b ∷ first) ∷ []) part h = append_assoc (b ∷ first) (45 ∷ []) part
 with_part-joined ((b ∷ first) ∷ next ∷ parts) part h =
     append_assoc (joined ((b ∷ first) ∷ next ∷ parts)) (45 ∷ []) part ∙ sym (joined-push (b ∷ first) (next ∷ parts) part)
 
-pub joined_more : (due : Option (List ℕ)) (text rest part new : List ℕ) (more : Option (List ℕ)) → AreJoined due text (Some rest) → parts_of rest ≡ part ∷ parts_in more → is_value_part part ≡ true → new ≡ with_part text part → AreJoined due new more
+pub joined_more : (due : Option (List ℕ)) (text rest part new : List ℕ) (more : Option (List ℕ)) → AreJoined due text (Some rest)
+    → parts_of rest ≡ part ∷ parts_in more → is_value_part part ≡ true → new ≡ with_part text part → AreJoined due new more
 joined_more due text rest part new more r e v n = record {
   value = r.value ++ part ∷ [];
   each = each-append (λ part. IsTrue (is_value_part part)) r.value (part ∷ []) r.each (v, tt);
@@ -121,7 +129,9 @@ value_of-append J K key =
     ∙ map-option_or (λ (p : List ℕ × List ℕ). p.1) (at (slice_cmp nat_cmp) J key) (at (slice_cmp nat_cmp) K key)
 
 module _ {Z : Type 0} where
-  pub keyword_read : (rest part key value text : List ℕ) (after more : Option (List ℕ)) (old new : List (List ℕ × String Z)) → parts_of rest ≡ part ∷ parts_in after → IsTrue (is_key part) → AreJoined after text more → key ≡ map to_ascii_lowercase part → value ≡ canonical text → IsPutFirst old (key, value) new → IsKeywordRead rest more old new
+  pub keyword_read : (rest part key value text : List ℕ) (after more : Option (List ℕ)) (old new : List (List ℕ × String Z))
+      → parts_of rest ≡ part ∷ parts_in after → IsTrue (is_key part) → AreJoined after text more → key ≡ map to_ascii_lowercase part → value ≡ canonical text
+      → IsPutFirst old (key, value) new → IsKeywordRead rest more old new
   keyword_read rest part key value text after more old new e k r f g p = record {
     keyword = record { key = part; value = r.value };
     valid = (k, r.each);
@@ -131,7 +141,8 @@ module _ {Z : Type 0} where
 
   -- ---- all keywords
 
-  pub read_more : (text rest : List ℕ) (more : Option (List ℕ)) (old new : List (List ℕ × String Z)) → AreRead text (Some rest) old → IsKeywordRead rest more old new → AreRead text more new
+  pub read_more : (text rest : List ℕ) (more : Option (List ℕ)) (old new : List (List ℕ × String Z)) → AreRead text (Some rest) old
+      → IsKeywordRead rest more old new → AreRead text more new
   read_more text rest more old new r k = record {
     keywords = r.keywords ++ k.keyword ∷ [];
     each = each-append IsKeyword r.keywords (k.keyword ∷ []) r.each (k.valid, tt);

@@ -31,5 +31,6 @@ module _ {K V : Type 0} {cmp : K → K → Ordering} (o : IsTotalOrder cmp) (C :
   KeysKeepOrder-clones list seen is equal p q a b i j c d less =
       sym (o.congr p.0 a b (equal p a (subst (In p) is i) c)) ∙ sym (alike_right o q.0 b p.0 (equal q b (subst (In q) is j) d)) ∙ less
 
-  pub Rising-clones : (D : V → V → Type 0) (before seen after : List (K × V)) → before ≡ seen → ClonesCompareEqual cmp C seen → PairsBecame C D before after → Rising cmp before → Rising cmp after
+  pub Rising-clones : (D : V → V → Type 0) (before seen after : List (K × V)) → before ≡ seen → ClonesCompareEqual cmp C seen → PairsBecame C D before after
+      → Rising cmp before → Rising cmp after
   Rising-clones D before seen after is equal = Rising-became cmp cmp C D before after (KeysKeepOrder-clones before seen is equal)

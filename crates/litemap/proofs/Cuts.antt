@@ -21,7 +21,8 @@ module _ {X : Type 0} (test : X → Bool) where
   IsCut-append [] B h k = IsCut-zero B k
   IsCut-append (x ∷ A) B h k = (h.0, IsCut-append A B h.1 k)
 
-  IsCut-seam : (A : List X) (x : X) (B : List X) → AllByRecursion (λ y. test y ≡ true) A → test x ≡ true → AllByRecursion (λ y. test y ≡ false) B → IsCut test (A ++ x ∷ B) (suc (length A))
+  IsCut-seam : (A : List X) (x : X) (B : List X) → AllByRecursion (λ y. test y ≡ true) A → test x ≡ true → AllByRecursion (λ y. test y ≡ false) B
+      → IsCut test (A ++ x ∷ B) (suc (length A))
   IsCut-seam [] x B h e k = (e, IsCut-zero B k)
   IsCut-seam (y ∷ A) x B h e k = (h.0, IsCut-seam A x B h.1 e k)
 
@@ -102,23 +103,28 @@ module _ {X : Type 0} (early late : X → Bool) where
 -- ---- where a query cuts a list
 module _ {K Q V : Type 0} (order : K → Q → Ordering) (test : Ordering → Bool) (less : test Less ≡ true) (greater : test Greater ≡ false) (q : Q) where
   each-below : (L : List (K × V)) → AllByRecursion (λ (y : K × V). test (order y.0 q) ≡ true) (below order L q)
-  each-below L = from_each (λ (y : K × V). test (order y.0 q) ≡ true) (below order L q) (λ x i. ap test (less_from_is_lt _ (In-from_filter (λ (p : K × V). is_lt (order p.0 q)) L x i).1) ∙ less)
+  each-below L = from_each (λ (y : K × V). test (order y.0 q) ≡ true) (below order L q)
+      (λ x i. ap test (less_from_is_lt _ (In-from_filter (λ (p : K × V). is_lt (order p.0 q)) L x i).1) ∙ less)
 
   each-above : (L : List (K × V)) → AllByRecursion (λ (y : K × V). test (order y.0 q) ≡ false) (above order L q)
-  each-above L = from_each (λ (y : K × V). test (order y.0 q) ≡ false) (above order L q) (λ x i. ap test (greater_from_is_gt _ (In-from_filter (λ (p : K × V). is_gt (order p.0 q)) L x i).1) ∙ greater)
+  each-above L = from_each (λ (y : K × V). test (order y.0 q) ≡ false) (above order L q)
+      (λ x i. ap test (greater_from_is_gt _ (In-from_filter (λ (p : K × V). is_gt (order p.0 q)) L x i).1) ∙ greater)
 
   cut_missing : (L : List (K × V)) (i : ℕ) → IsMissingAt order L q i → IsCut (λ p. test (order p.0 q)) L i
   cut_missing L i m =
-      rw m.place (subst (λ M. IsCut (λ p. test (order p.0 q)) M (length (below order L q))) (sym m.is) (IsCut-append (λ p. test (order p.0 q)) (below order L q) (above order L q) (each-below L) (each-above L)))
+      rw m.place (subst (λ M. IsCut (λ p. test (order p.0 q)) M (length (below order L q))) (sym m.is)
+      (IsCut-append (λ p. test (order p.0 q)) (below order L q) (above order L q) (each-below L) (each-above L)))
 
   cut_found : (L : List (K × V)) (i : ℕ) → IsFoundAt order L q i → test Equal ≡ false → IsCut (λ p. test (order p.0 q)) L i
   cut_found L i f e =
-      rw f.place (subst (λ M. IsCut (λ p. test (order p.0 q)) M (length (below order L q))) (sym f.is) (IsCut-append (λ p. test (order p.0 q)) (below order L q) (f.pair ∷ above order L q) (each-below L) (ap test f.equal ∙ e, each-above L)))
+      rw f.place (subst (λ M. IsCut (λ p. test (order p.0 q)) M (length (below order L q))) (sym f.is)
+      (IsCut-append (λ p. test (order p.0 q)) (below order L q) (f.pair ∷ above order L q) (each-below L) (ap test f.equal ∙ e, each-above L)))
 
   cut_past_found : (L : List (K × V)) (i : ℕ) → IsFoundAt order L q i → test Equal ≡ true → IsCut (λ p. test (order p.0 q)) L (i + 1)
   cut_past_found L i f e =
       let next : i + 1 ≡ suc (length (below order L q)) = omega (arith, f.place) in
-      rw next (subst (λ M. IsCut (λ p. test (order p.0 q)) M (suc (length (below order L q)))) (sym f.is) (IsCut-seam (λ p. test (order p.0 q)) (below order L q) f.pair (above order L q) (each-below L) (ap test f.equal ∙ e) (each-above L)))
+      rw next (subst (λ M. IsCut (λ p. test (order p.0 q)) M (suc (length (below order L q)))) (sym f.is)
+      (IsCut-seam (λ p. test (order p.0 q)) (below order L q) f.pair (above order L q) (each-below L) (ap test f.equal ∙ e) (each-above L)))
 
 module _ {K Q V : Type 0} (order : K → Q → Ordering) (q : Q) (L : List (K × V)) (i : ℕ) where
   pub before_found : IsFoundAt order L q i → IsCut (λ p. is_lt (order p.0 q)) L i

@@ -1,15 +1,13 @@
 -- The pair at an index of an ascending list: what its key finds, for any query; and the pairs at the ends.
 --     at-index      what its key finds;  least, greatest      what each pair is to the first, to the last
-use Rattle.litemap.proofs.Common.{◌≡◌, ◌≢◌, ◌∙◌, ◌∷◌, ◌-◌, ◌++◌, ◌&&◌, ℕ, [], Bool, true, false, List, Option, None, Some, ap, cond, filter, inl, inr, is_eq, is_le, is_lt, is_some, length, map, not, option_map, refl, slice_get, subst, sym}
-use Rattle.litemap.proofs.Common.{Ordering, Less, Equal, Greater, IsTotalOrder, Rising, at, below, value_at, at-filter_gone, at-filter_kept, at-same, at-rising}
-use Rattle.std.proofs.Common.{find, ◌⊎◌}
-use Rattle.std.specs.declared.ops.Bound.{Bound}
-use Rattle.std.specs.declared.ops.Bound.TheVariants.{Included, Excluded, Unbounded}
+use Rattle.litemap.proofs.Common.{◌≡◌, ◌∷◌, ◌-◌, ℕ, [], List, Some, inl, inr}
+use Rattle.litemap.proofs.Common.{length, refl, slice_get, subst}
+use Rattle.litemap.proofs.Common.{Ordering, Less, Equal, IsTotalOrder, Rising, at, at-rising}
+use Rattle.std.proofs.Common.{◌⊎◌}
 use Rattle.litemap_store.specs.Last.{In}
 use Rattle.litemap_store.proofs.Last.KeepLast.{rising_across}
 use Rattle.litemap_store.proofs.Lists.Joined.{In-slice_get, first_split, last_split}
-use Rattle.litemap_store.proofs.Lists.Membership.{In-cases, In-from_filter, each}
-use Rattle.litemap.specs.Within.{is_before, is_up_to, within}
+use Rattle.litemap_store.proofs.Lists.Membership.{In-cases, each}
 
 module _ {K Q : Type 0} (cmp : K → K → Ordering) (o : IsTotalOrder cmp) (order : K → Q → Ordering) (q : Q)
     (same : (x y : K) → order x q ≡ Equal → order y q ≡ Equal → cmp x y ≡ Equal)

@@ -14,7 +14,8 @@ use Rattle.litemap_store.specs.declared.no_room.NoRoom.{NoRoom}
 use Rattle.litemap.specs.Entries.{EntryRefused, IsWritten, Occupied, map_with_value, still_within, with_entry_value}
 
 -- a write at the index of a key that was just put
-pub set_value-put : {K V : Type 0} (cmp : K → K → Ordering) (L : List (K × V)) (k : K) (v w : V) (i : ℕ) → i ≡ place cmp L k → set_value (put cmp L k v) i w ≡ put cmp L k w
+pub set_value-put : {K V : Type 0} (cmp : K → K → Ordering) (L : List (K × V)) (k : K) (v w : V) (i : ℕ) → i ≡ place cmp L k
+    → set_value (put cmp L k v) i w ≡ put cmp L k w
 set_value-put cmp L k v w i p =
     ap (λ j. set_value (put cmp L k v) j w) p
     ∙ ap (λ o. option_map_or (λ q. slice_set (put cmp L k v) (place cmp L k) (q.0, w)) o (put cmp L k v)) (put_get cmp L k v)
@@ -39,7 +40,8 @@ remove-set_value (p ∷ L) zero v = refl
 remove-set_value (p ∷ L) (suc i) v = ap (λ M. remove M (suc i)) (set_value-suc p L i v) ∙ ap (λ M. p ∷ M) (remove-set_value L i v)
 
 -- and the key there
-pub key-set_value : {K V : Type 0} (L : List (K × V)) (i : ℕ) (v : V) → option_map (λ p. p.0) (slice_get (set_value L i v) i) ≡ option_map (λ p. p.0) (slice_get L i)
+pub key-set_value : {K V : Type 0} (L : List (K × V)) (i : ℕ) (v : V) → option_map (λ p. p.0) (slice_get (set_value L i v) i)
+    ≡ option_map (λ p. p.0) (slice_get L i)
 key-set_value [] i v = refl
 key-set_value (p ∷ L) zero v = refl
 key-set_value (p ∷ L) (suc i) v = ap (λ M. option_map (λ q. q.0) (slice_get M (suc i))) (set_value-suc p L i v) ∙ key-set_value L i v
@@ -55,7 +57,8 @@ module _ {K V S : Type 0} {g : ord.Ghosts K} {g' : eq.Ghosts K} {g'' : partial.G
   pub same_entry : (o : OccupiedEntry K V S g g' g'' s) (v : V) (h : o.index < length (set_value o.map.now.pairs o.index v))
       → record { map = record o.map { now = map_with_value o v }; index = o.index; within = h } ≡ with_entry_value o v
   same_entry o v h =
-      ap (λ (x : o.index < length (set_value o.map.now.pairs o.index v)). let e : OccupiedEntry K V S g g' g'' s = record { map = record o.map { now = map_with_value o v }; index = o.index; within = x } in e) (le_prop h (still_within o v))
+      ap (λ (x : o.index < length (set_value o.map.now.pairs o.index v)). let e : OccupiedEntry K V S g g' g'' s = record
+      { map = record o.map { now = map_with_value o v }; index = o.index; within = x } in e) (le_prop h (still_within o v))
 
   pub written : (o : OccupiedEntry K V S g g' g'' s) (v : V) → IsWritten (Occupied o) v (Occupied (with_entry_value o v))
   written o v = record {
@@ -68,6 +71,7 @@ module _ {K V S : Type 0} {g : ord.Ghosts K} {g' : eq.Ghosts K} {g'' : partial.G
   }
 
   -- what holds of the value that comes back
-  pub refused_weaker : {A : Type 0} (e : Entry K V S g g' g'' s) (P Q : V → Type 0) → ((v : V) → P v → Q v) → (r : Result A (NoRoom (K × V))) → EntryRefused e P r → EntryRefused e Q r
+  pub refused_weaker : {A : Type 0} (e : Entry K V S g g' g'' s) (P Q : V → Type 0) → ((v : V) → P v → Q v) → (r : Result A (NoRoom (K × V)))
+      → EntryRefused e P r → EntryRefused e Q r
   refused_weaker e P Q h (Ok a) k = record { absent = k.absent; full = k.full; back = tt }
   refused_weaker e P Q h (Err x) k = record { absent = k.absent; full = k.full; back = (k.back.0, h x.back.1 k.back.1) }

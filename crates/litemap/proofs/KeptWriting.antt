@@ -1,6 +1,9 @@
 -- What a closure that may write values keeps of a list of pairs.
---     KeptWritten-yes, -no, -all      the steps of a loop that brings pairs to the front, and its end;  Rising-kept_written      what is kept of an ascending list ascends
-use Rattle.litemap.proofs.Common.{◌≡◌, ℕ, zero, suc, ◌+◌, ◌≤◌, List, [], ◌∷◌, ◌++◌, take, drop, slice_get, slice_set, Some, None, Bool, true, false, cond, refl, ap, ◌∙◌, subst, sym, Ordering, Less, Bor, MutBor, Mut, filter, map, length, append_assoc, append-nil, drop_all, option_map, option_map_or, BelowAll, Rising, set_value, set_value-suc, drop_at}
+--     KeptWritten-yes, -no, -all      the steps of a loop that brings pairs to the front, and its end;  Rising-kept_written      what is kept of an ascending
+-- list ascends
+use Rattle.litemap.proofs.Common.{◌≡◌, ℕ, zero, suc, ◌+◌, ◌≤◌, List, [], ◌∷◌, ◌++◌, take, drop, slice_get, slice_set, Some, None, Bool, true, false, cond, refl}
+use Rattle.litemap.proofs.Common.{ap, ◌∙◌, subst, sym, Ordering, Less, Bor, MutBor, Mut, filter, map, length, append_assoc, append-nil, drop_all, option_map}
+use Rattle.litemap.proofs.Common.{option_map_or, BelowAll, Rising, set_value, set_value-suc, drop_at}
 use Rattle.litemap_store.proofs.Names.{swap, take-set-le}
 use Rattle.litemap_store.proofs.Stores.Retaining.{Moved, Moved_if}
 use Rattle.litemap.specs.KeptWritten.{KeptWritten, LeavesPair, WritesAndTests}
@@ -14,7 +17,9 @@ module _ {K V : Type 0} where
   get-written (q ∷ L) (suc i) p v e = ap (λ M. slice_get M (suc i)) (set_value-suc q L i v) ∙ get-written L i p v e
 
   take-before : (L : List (K × V)) (k i : ℕ) (v : V) → k ≤ i → take k (set_value L i v) ≡ take k L
-  take-before L k i v le = elim (slice_get L i) as (λ o. take k (option_map_or (λ p. slice_set L i (p.0, v)) o L) ≡ take k L) [ None ↦ refl | Some p ↦ take-set-le k L i (p.0, v) le ]
+  take-before L k i v le =
+      elim (slice_get L i) as
+      (λ o. take k (option_map_or (λ p. slice_set L i (p.0, v)) o L) ≡ take k L) [ None ↦ refl | Some p ↦ take-set-le k L i (p.0, v) le ]
 
 module _ {F K V : Type 0} (g : Mut F (Bor K × (MutBor V × Unit {0})) (Bool × (MutBor V × Unit {0}))) (f₀ : F) (L₀ : List (K × V)) where
   -- f was called on the first i pairs, and the first k are those kept
@@ -22,7 +27,8 @@ module _ {F K V : Type 0} (g : Mut F (Bor K × (MutBor V × Unit {0})) (Bool × 
   SoFar f L k i = (M : List (K × V)) → KeptWritten g f (drop i L) M → KeptWritten g f₀ L₀ (take k L ++ M)
 
   -- f leaves w as the value of the pair p at index i, and that pair is swapped to index k
-  module _ (f : F) (L : List (K × V)) (k i : ℕ) (p : K × V) (w : V) (b : Bool) (f' : F) (called : LeavesPair g f p b f' (p.0, w)) (L' : List (K × V)) (swapped : L' ≡ swap (set_value L i w) k i) (le : k ≤ i) (there : slice_get L i ≡ Some p) (so_far : SoFar f L k i) where
+  module _ (f : F) (L : List (K × V)) (k i : ℕ) (p : K × V) (w : V) (b : Bool) (f' : F) (called : LeavesPair g f p b f' (p.0, w)) (L' : List (K × V))
+      (swapped : L' ≡ swap (set_value L i w) k i) (le : k ≤ i) (there : slice_get L i ≡ Some p) (so_far : SoFar f L k i) where
     q : K × V
     q = (p.0, w)
 
@@ -37,7 +43,8 @@ module _ {F K V : Type 0} (g : Mut F (Bor K × (MutBor V × Unit {0})) (Bool × 
     pub KeptWritten-yes : b ≡ true → SoFar f' L' (k + 1) (i + 1)
     KeptWritten-yes is = λ M kept.
         subst (KeptWritten g f₀ L₀)
-        (ap (λ c. take k L ++ cond c ((p.0, w) ∷ M) M) is ∙ sym (append_assoc (take k L) ((p.0, w) ∷ []) M) ∙ ap (λ N. (N ++ (p.0, w) ∷ []) ++ M) (sym (take-before L k i w le)) ∙ ap (λ N. N ++ M) (sym (moved.front is)))
+        (ap (λ c. take k L ++ cond c ((p.0, w) ∷ M) M) is ∙ sym (append_assoc (take k L) ((p.0, w) ∷ []) M)
+        ∙ ap (λ N. (N ++ (p.0, w) ∷ []) ++ M) (sym (take-before L k i w le)) ∙ ap (λ N. N ++ M) (sym (moved.front is)))
         (next M kept)
 
     pub KeptWritten-no : b ≡ false → SoFar f' L' k (i + 1)
@@ -63,7 +70,8 @@ module _ {F K V : Type 0} (cmp : K → K → Ordering) (g : Mut F (Bor K × (Mut
   Rising-kept_written f [] M h r = subst (Rising cmp) (sym h) tt
   Rising-kept_written f (p ∷ L) M (b, f', q, c, N, h, is) r =
       (elim b as (λ x. M ≡ cond x (q ∷ N) N → Rising cmp M) [
-        | true ↦ λ e. subst (Rising cmp) (sym e) (subst (λ x. BelowAll cmp x N) (ap (λ x. x.0) (sym c.leaves)) (each-kept p.0 f' L N h r.0), Rising-kept_written f' L N h r.1)
+        | true ↦ λ e. subst (Rising cmp) (sym e)
+            (subst (λ x. BelowAll cmp x N) (ap (λ x. x.0) (sym c.leaves)) (each-kept p.0 f' L N h r.0), Rising-kept_written f' L N h r.1)
         | false ↦ λ e. subst (Rising cmp) (sym e) (Rising-kept_written f' L N h r.1)
       ]) is
 
@@ -75,7 +83,8 @@ module _ {F K V : Type 0} (g : Mut F (Bor K × (MutBor V × Unit {0})) (Bool × 
   new-cond true p L = refl
   new-cond false p L = refl
 
-  pub map-kept_written : (f : F) → WritesAndTests g f write test → (L M : List (K × V)) → KeptWritten g f L M → M ≡ map (λ p. (p.0, write p.0 p.1)) (filter (λ p. test p.0 p.1) L)
+  pub map-kept_written : (f : F) → WritesAndTests g f write test → (L M : List (K × V)) → KeptWritten g f L M
+      → M ≡ map (λ p. (p.0, write p.0 p.1)) (filter (λ p. test p.0 p.1) L)
   map-kept_written f s [] M h = h
   map-kept_written f s (p ∷ L) M (b, f', q, c, N, h, is) =
       let a = s p q b f' c in

@@ -10,7 +10,8 @@ use Rattle.litemap_store.specs.Lent.{set_values}
 module _ {K V : Type 0} where
   pub keys-set_values : (L : List (K × V)) (ws : List V) → keys_of (set_values L ws) ≡ keys_of L
   keys-set_values L ws =
-      keys_of-zip (keys_of L) (refill (length L) (values_of L) ws) (sym (length_refill (length L) (values_of L) ws (sym (length-map L (λ p. p.1)))) ∙ sym (length-map L (λ p. p.0)))
+      keys_of-zip (keys_of L) (refill (length L) (values_of L) ws)
+      (sym (length_refill (length L) (values_of L) ws (sym (length-map L (λ p. p.1)))) ∙ sym (length-map L (λ p. p.0)))
 
   pub zip-parts : (L : List (K × V)) → zip (keys_of L) (values_of L) ≡ L
   zip-parts [] = refl

@@ -1,5 +1,6 @@
 -- What any query finds after a merge, by its test of pairs: for the clause `found`.
-use Rattle.litemap.proofs.Common.{◌≡◌, ◌∙◌, ◌∷◌, [], Bool, true, false, true≢false, List, Option, None, Some, ap, cond, is_eq, is_some, inl, inr, option_map, option_or, refl, subst, sym}
+use Rattle.litemap.proofs.Common.{◌≡◌, ◌∙◌, ◌∷◌, [], Bool, true, false, true≢false, List, Option, None, Some, ap, cond, is_eq, is_some, inl, inr, option_map}
+use Rattle.litemap.proofs.Common.{option_or, refl, subst, sym}
 use Rattle.litemap.proofs.Common.{Contents, Err, IfOk, Ok, Result}
 use Rattle.litemap.proofs.Common.{Ordering, IsTotalOrder, Merge, at, key_alike, key_same, left, tied_itself, value_at-merged, value_at-left}
 use Rattle.std.proofs.Common.{find, ◌⊎◌}
@@ -14,7 +15,8 @@ module _ {X : Type 0} where
   find_ext f g e (x ∷ L) = ap (λ b. cond b (Some x) (find f L)) (e x) ∙ ap (λ r. cond (g x) (Some x) r) (find_ext f g e L)
 
   module _ (test : X → Bool) where
-    passes_by : (x : X) (L : List X) (y : X) (b : Bool) → test x ≡ b → cond b (Some x) (find test L) ≡ Some y → (find test L ≡ Some y → test y ≡ true) → test y ≡ true
+    passes_by : (x : X) (L : List X) (y : X) (b : Bool) → test x ≡ b → cond b (Some x) (find test L) ≡ Some y → (find test L ≡ Some y → test y ≡ true)
+        → test y ≡ true
     passes_by x L y true t e rest = let s : x ≡ y = cc in subst (λ z. test z ≡ true) s t
     passes_by x L y false t e rest = rest e
 
@@ -22,7 +24,8 @@ module _ {X : Type 0} where
     find_passes [] y e = absurd (cc)
     find_passes (x ∷ L) y e = passes_by x L y (test x) refl e (find_passes L y)
 
-    fails_by : (x : X) (L : List X) (y : X) (b : Bool) → test x ≡ b → cond b (Some x) (find test L) ≡ None → (find test L ≡ None → In y L → test y ≡ false) → (x ≡ y) ⊎ In y L → test y ≡ false
+    fails_by : (x : X) (L : List X) (y : X) (b : Bool) → test x ≡ b → cond b (Some x) (find test L) ≡ None → (find test L ≡ None → In y L → test y ≡ false)
+        → (x ≡ y) ⊎ In y L → test y ≡ false
     fails_by x L y true t e rest i = absurd (cc)
     fails_by x L y false t e rest (inl s) = subst (λ z. test z ≡ false) s t
     fails_by x L y false t e rest (inr i) = rest e i

@@ -1,7 +1,10 @@
 -- The pair next to a query, on either side, by what a search found.
---     Nearest-floor_equal, Nearest-ceiling_equal      the pair with an equal key;  Nearest-floor, Nearest-no_floor, Nearest-ceiling      those beside where an absent key would go
+--     Nearest-floor_equal, Nearest-ceiling_equal      the pair with an equal key;  Nearest-floor, Nearest-no_floor, Nearest-ceiling      those beside where an
+-- absent key would go
 --     missing-index_of      an index at which a key would go is where a search finds none
-use Rattle.litemap.proofs.Common.{◌≡◌, ◌≢◌, ◌+◌, ◌-◌, ◌<◌, ◌∙◌, ◌++◌, ◌∷◌, [], ℕ, zero, suc, List, Option, Some, None, Ok, Err, true, false, ap, arith, refl, subst, sym, inl, inr, Ordering, Less, Equal, Greater, IsTotalOrder, tied_itself, is_lt, is_gt, is_some, length, slice_get, Rising, above, at, at_in, below, index_of, place, found_get, greater_back, slice_get-None}
+use Rattle.litemap.proofs.Common.{◌≡◌, ◌≢◌, ◌+◌, ◌-◌, ◌<◌, ◌∙◌, ◌++◌, ◌∷◌, [], ℕ, zero, suc, List, Option, Some, None, Ok, Err, true, false, ap, arith, refl}
+use Rattle.litemap.proofs.Common.{subst, sym, inl, inr, Ordering, Less, Equal, Greater, IsTotalOrder, tied_itself, is_lt, is_gt, is_some, length, slice_get}
+use Rattle.litemap.proofs.Common.{Rising, above, at, at_in, below, index_of, place, found_get, greater_back, slice_get-None}
 use Rattle.std.specs.Prelude.{if◌then◌else◌}
 use Rattle.litemap_store.specs.Queries.{OneSide, key_one_side}
 use Rattle.litemap_store.specs.Splits.{IsFoundAt, IsMissingAt}
@@ -55,8 +58,10 @@ module _ {K V : Type 0} {cmp : K → K → Ordering} (o : IsTotalOrder cmp) wher
       let back = o.trans p.0 r.0 p.0 l h in
       let same = tied_itself o p.0 in cc
 
-module _ {K Q V : Type 0} {cmp : K → K → Ordering} (o : IsTotalOrder cmp) {order : K → Q → Ordering} (one : OneSide cmp order) (L : List (K × V)) (q : Q) (rising : Rising cmp L) where
-  nearest : (past : Ordering) (p : K × V) → In p L → order p.0 q ≢ past → ((r : K × V) → In r L → order r.0 q ≢ past → cmp r.0 p.0 ≢ past) → Nearest cmp order past L q (Some p)
+module _ {K Q V : Type 0} {cmp : K → K → Ordering} (o : IsTotalOrder cmp) {order : K → Q → Ordering} (one : OneSide cmp order) (L : List (K × V)) (q : Q)
+    (rising : Rising cmp L) where
+  nearest : (past : Ordering) (p : K × V) → In p L → order p.0 q ≢ past → ((r : K × V) → In r L → order r.0 q ≢ past → cmp r.0 p.0 ≢ past)
+      → Nearest cmp order past L q (Some p)
   nearest past p i s next = record {
     there = at-Rising o L p.0 p rising i (tied_itself o p.0);
     side = s;
@@ -73,11 +78,13 @@ module _ {K Q V : Type 0} {cmp : K → K → Ordering} (o : IsTotalOrder cmp) {o
 
     pub Nearest-floor_equal : Nearest cmp order Greater L q (slice_get L i)
     Nearest-floor_equal = rw (found_get order L q i found)
-        (nearest Greater found.pair here (λ h. let e = found.equal in cc) (λ r j n h. elim (one q found.pair.0 r.0 (greater_back o r.0 found.pair.0 h)) [ inl l ↦ (let e = found.equal in cc) | inr g ↦ n g ]))
+        (nearest Greater found.pair here (λ h. let e = found.equal in cc)
+        (λ r j n h. elim (one q found.pair.0 r.0 (greater_back o r.0 found.pair.0 h)) [ inl l ↦ (let e = found.equal in cc) | inr g ↦ n g ]))
 
     pub Nearest-ceiling_equal : Nearest cmp order Less L q (slice_get L i)
     Nearest-ceiling_equal = rw (found_get order L q i found)
-        (nearest Less found.pair here (λ h. let e = found.equal in cc) (λ r j n h. elim (one q r.0 found.pair.0 h) [ inl l ↦ n l | inr g ↦ (let e = found.equal in cc) ]))
+        (nearest Less found.pair here (λ h. let e = found.equal in cc)
+        (λ r j n h. elim (one q r.0 found.pair.0 h) [ inl l ↦ n l | inr g ↦ (let e = found.equal in cc) ]))
 
   -- no key is equal, and i keys are smaller
   module _ (i : ℕ) (missing : IsMissingAt order L q i) where
@@ -129,7 +136,8 @@ module _ {K Q V : Type 0} {cmp : K → K → Ordering} (o : IsTotalOrder cmp) {o
             (λ r k n. first_top o (above order L q) p r (Rising-filter cmp _ L rising) e (high r k n))
 
 -- ---- an index at which an absent key would go
-pub missing-index_of : {K V : Type 0} {cmp : K → K → Ordering} → IsTotalOrder cmp → (L : List (K × V)) (k : K) (i : ℕ) → Rising cmp L → index_of cmp L k ≡ Err i → IsMissingAt cmp L k i
+pub missing-index_of : {K V : Type 0} {cmp : K → K → Ordering} → IsTotalOrder cmp → (L : List (K × V)) (k : K) (i : ℕ) → Rising cmp L → index_of cmp L k ≡ Err i
+    → IsMissingAt cmp L k i
 missing-index_of {K} {V} {cmp} o L k i r e = by (at cmp L k) refl e
   where
     by : (x : Option (K × V)) → at cmp L k ≡ x → (if is_some x then Ok (place cmp L k) else Err (place cmp L k)) ≡ Err i → IsMissingAt cmp L k i

@@ -28,7 +28,8 @@ module _ {V : Type 0} where
   -- what a write leaves if it finds the key
   pub number_written_others : (L : List (ℕ × V)) (k q : ℕ) (p : ℕ × V) (v : V) → at nat_cmp L k ≡ Some p → q ≢ k
       → value_at nat_cmp (below nat_cmp L k ++ (p.0, v) ∷ above nat_cmp L k) q ≡ value_at nat_cmp L q
-  number_written_others L k q p v is n = value_at-written_apart nat_cmp k nat_cmp q (nat_cmp q k) (λ e. n (exact_unsigned q k e)) (λ x e. nat_cmp_total.congr x q k e) L p v is
+  number_written_others L k q p v is n =
+      value_at-written_apart nat_cmp k nat_cmp q (nat_cmp q k) (λ e. n (exact_unsigned q k e)) (λ x e. nat_cmp_total.congr x q k e) L p v is
 
   -- what a write at an index leaves if a pair is there
   pub number_set_others : (L : List (ℕ × V)) (i : ℕ) (q : ℕ) (p : ℕ × V) (v : V) → slice_get L i ≡ Some p → p.0 ≢ q

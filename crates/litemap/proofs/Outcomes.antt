@@ -19,8 +19,10 @@ length-cut {K} {Q} {V} order L q = omega (arith, length-append (below order L q)
   where
     parts : (M : List (K × V)) → length (below order M q) + length (above order M q) ≤ length M
     parts [] = omega arith
-    parts (p ∷ M) = elim (order p.0 q) as (λ r. length (cond (is_lt r) (p ∷ below order M q) (below order M q)) + length (cond (is_gt r) (p ∷ above order M q) (above order M q)) ≤ length (p ∷ M)) [
-      | Less ↦ omega (arith, parts M)
-      | Equal ↦ omega (arith, parts M)
-      | Greater ↦ omega (arith, parts M)
-    ]
+    parts (p ∷ M) = elim (order p.0 q) as
+        (λ r. length (cond (is_lt r) (p ∷ below order M q) (below order M q)) + length (cond (is_gt r) (p ∷ above order M q) (above order M q))
+        ≤ length (p ∷ M)) [
+          | Less ↦ omega (arith, parts M)
+          | Equal ↦ omega (arith, parts M)
+          | Greater ↦ omega (arith, parts M)
+        ]

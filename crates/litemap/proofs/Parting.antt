@@ -1,7 +1,8 @@
 -- What a closure makes of a list of pairs that it parts.
 --     Parted-goes, Parted-stays, Parted-all      the steps of a loop over the pairs, and its end
 --     Rising-parted      both parts of an ascending list ascend;  filter-parted      if the closure returns a test
-use Rattle.litemap.proofs.Common.{◌≡◌, List, [], ◌∷◌, ◌++◌, Bool, true, false, refl, ap, ◌∙◌, subst, sym, Ordering, Bor, Mut, append_assoc, append-nil, filter, not, BelowAll, Rising}
+use Rattle.litemap.proofs.Common.{◌≡◌, List, [], ◌∷◌, ◌++◌, Bool, true, false, refl, ap, ◌∙◌, subst, sym, Ordering, Bor, Mut, append_assoc, append-nil, filter}
+use Rattle.litemap.proofs.Common.{not, BelowAll, Rising}
 use Rattle.std.specs.Prelude.{if◌then◌else◌}
 use Rattle.litemap_store.specs.Retain.{CalledOnPair, Tests}
 use Rattle.litemap.specs.Parted.{Parted}
@@ -13,21 +14,25 @@ module _ {F K V : Type 0} (g : Mut F (Bor K × (Bor V × Unit {0})) Bool) where
 
   module _ (f₀ : F) (L₀ : List (K × V)) (f : F) (p : K × V) (L A B : List (K × V)) (f' : F) (so_far : SoFar f₀ L₀ f (p ∷ L) A B) where
     pub Parted-goes : CalledOnPair g f p true f' → SoFar f₀ L₀ f' L A (B ++ p ∷ [])
-    Parted-goes called M N parted = subst (Parted g f₀ L₀ (A ++ M)) (sym (append_assoc B (p ∷ []) N)) (so_far M (p ∷ N) (true, f', called, M, N, parted, refl, refl))
+    Parted-goes called M N parted =
+        subst (Parted g f₀ L₀ (A ++ M)) (sym (append_assoc B (p ∷ []) N)) (so_far M (p ∷ N) (true, f', called, M, N, parted, refl, refl))
 
     pub Parted-stays : CalledOnPair g f p false f' → SoFar f₀ L₀ f' L (A ++ p ∷ []) B
-    Parted-stays called M N parted = subst (λ C. Parted g f₀ L₀ C (B ++ N)) (sym (append_assoc A (p ∷ []) M)) (so_far (p ∷ M) N (false, f', called, M, N, parted, refl, refl))
+    Parted-stays called M N parted =
+        subst (λ C. Parted g f₀ L₀ C (B ++ N)) (sym (append_assoc A (p ∷ []) M)) (so_far (p ∷ M) N (false, f', called, M, N, parted, refl, refl))
 
   pub Parted-all : (f₀ : F) (L₀ : List (K × V)) (f : F) (A B : List (K × V)) → SoFar f₀ L₀ f [] A B → Parted g f₀ L₀ A B
   Parted-all f₀ L₀ f A B so_far =
       subst (λ C. Parted g f₀ L₀ C B) (append-nil A) (subst (Parted g f₀ L₀ (A ++ [])) (append-nil B) (so_far [] [] (refl, refl)))
 
-  pub filter-parted : (f : F) (test : K × V → Bool) → Tests g f test → (L A B : List (K × V)) → Parted g f L A B → (A ≡ filter (λ p. not (test p)) L) × (B ≡ filter test L)
+  pub filter-parted : (f : F) (test : K × V → Bool) → Tests g f test → (L A B : List (K × V)) → Parted g f L A B
+      → (A ≡ filter (λ p. not (test p)) L) × (B ≡ filter test L)
   filter-parted f test s [] A B h = h
   filter-parted f test s (p ∷ L) A B (b, f', c, M, N, h, stays, goes) =
       let a = s p b f' c in
       let rest = filter-parted f test s L M N (subst (λ x. Parted g x L M N) a.1 h) in
-      (elim b as (λ x. x ≡ test p → A ≡ (if x then M else p ∷ M) → B ≡ (if x then p ∷ N else N) → (A ≡ filter (λ q. not (test q)) (p ∷ L)) × (B ≡ filter test (p ∷ L))) [
+      (elim b as (λ x. x ≡ test p → A ≡ (if x then M else p ∷ M) → B ≡ (if x then p ∷ N else N) → (A ≡ filter (λ q. not (test q)) (p ∷ L))
+      × (B ≡ filter test (p ∷ L))) [
         | true ↦ λ is e t. rw (sym is) (e ∙ rest.0, t ∙ ap (λ X. p ∷ X) rest.1)
         | false ↦ λ is e t. rw (sym is) (e ∙ ap (λ X. p ∷ X) rest.0, t ∙ rest.1)
       ]) a.0 stays goes

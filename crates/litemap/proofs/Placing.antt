@@ -47,7 +47,8 @@ module _ {F K V E : Type 0} (g : Once F (Bor K × Unit {0}) (Result V E)) (f : F
       let made : IsNone (at cmp old.pairs key) → (v : V) × FnOnceReturnsAt g f key (Ok v) × (n.pairs ≡ put cmp old.pairs key v) =
       λ none. subst (λ s. OnOk s ((v : V) × FnOnceReturnsAt g f key (Ok v) × (n.pairs ≡ put cmp old.pairs key v))) is (found.put none) in
       let same : (none : IsNone (at cmp old.pairs key)) → (made none).0 ≡ there.1.now =
-      λ none. same_value (made none).0 there.1.now (sym (put_value cmp old.pairs key (made none).0) ∙ ap (value_in _) (sym place-is) ∙ ap (λ L. value_in L there.0) (sym (made none).2) ∙ shown.1) in
+      λ none. same_value (made none).0 there.1.now
+      (sym (put_value cmp old.pairs key (made none).0) ∙ ap (value_in _) (sym place-is) ∙ ap (λ L. value_in L there.0) (sym (made none).2) ∙ shown.1) in
       record {
         leaves = record {
           present = λ some. (found.present some).1;
@@ -59,7 +60,8 @@ module _ {F K V E : Type 0} (g : Once F (Bor K × Unit {0}) (Result V E)) (f : F
         place = place-is;
         present = λ some. refl;
         within = λ some. subst (λ m. there.0 < length m.pairs) (found.present some).1 (subst (λ s. IfOk s (λ i. i < length n.pairs)) is found.within);
-        value = λ some. sym shown.1 ∙ ap (option_map (λ p. p.1)) (subst (λ s. IfOk s (λ i. slice_get n.pairs i ≡ at cmp n.pairs key)) is found.there) ∙ ap (λ m. value_at cmp m.pairs key) (found.present some).1;
+        value = λ some. sym shown.1 ∙ ap (option_map (λ p. p.1)) (subst (λ s. IfOk s (λ i. slice_get n.pairs i ≡ at cmp n.pairs key)) is found.there)
+            ∙ ap (λ m. value_at cmp m.pairs key) (found.present some).1;
         answered = λ none. subst (λ v. FnOnceReturnsAt g f key (Ok v)) (same none) (made none).1;
         errors = record { closure = tt; full = tt; back = tt };
       }

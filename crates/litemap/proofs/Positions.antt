@@ -19,7 +19,8 @@ module _ {K V : Type 0} (cmp : K → K → Ordering) where
   Rising-cut_range L zero b le h = Rising-drop cmp L b h
   Rising-cut_range L (suc a) zero le h = absurd (omega (arith, le))
   Rising-cut_range [] (suc a) (suc b) le h = h
-  Rising-cut_range (p ∷ L) (suc a) (suc b) le h = (each-cut_range (λ q. cmp p.0 q.0 ≡ Less) L a b (omega (arith, le)) h.0, Rising-cut_range L a b (omega (arith, le)) h.1)
+  Rising-cut_range (p ∷ L) (suc a) (suc b) le h =
+      (each-cut_range (λ q. cmp p.0 q.0 ≡ Less) L a b (omega (arith, le)) h.0, Rising-cut_range L a b (omega (arith, le)) h.1)
 
   pub Rising-truncate : (L : List (K × V)) (n : ℕ) → Rising cmp L → Rising cmp (take n L)
   Rising-truncate L zero h = tt

@@ -1,10 +1,11 @@
 -- What any query finds, by its test of pairs, in what a call leaves that changes more than one key.
 --     keeps_part      in a part;  takes_at      once a pair was taken out;  is_least, is_greatest      at the ends
 --     retains      in what a closure keeps;  leaves_of      in what a closure wrote
-use Rattle.litemap.proofs.Common.{◌≡◌, ◌≢◌, ◌∙◌, ◌∷◌, ◌++◌, ◌-◌, ◌&&◌, [], Bool, true, false, true≢false, List, Option, None, Some, ap, arith, cond, drop, filter, ℕ, ◌+◌, drop_at, remove, suc, inl, inr, length, option_map, refl, slice_get, subst, sym, take, items_where_true, append-nil}
-use Rattle.litemap.proofs.Common.{Bor, MutBor, Mut, Ordering, at_in, equal_from_is_eq, is_eq, IsNone, IsSome, at, value_at, Less, Equal, Greater, IsTotalOrder, Rising, deref_pair, greater_back, key_alike, key_same, less_back, tied_itself}
+use Rattle.litemap.proofs.Common.{◌≡◌, ◌≢◌, ◌∙◌, ◌∷◌, ◌++◌, ◌-◌, ◌&&◌, [], Bool, true, false, true≢false, List, Option, None, Some, ap, arith, cond, drop}
+use Rattle.litemap.proofs.Common.{filter, ℕ, ◌+◌, drop_at, remove, suc, inl, inr, length, option_map, refl, slice_get, subst, sym, take, items_where_true}
+use Rattle.litemap.proofs.Common.{Bor, MutBor, Mut, Ordering, at_in, equal_from_is_eq, is_eq, IsNone, IsSome, at, Less, Equal, Greater, IsTotalOrder}
+use Rattle.litemap.proofs.Common.{Rising, deref_pair, greater_back, key_alike, key_same, less_back, tied_itself}
 use Rattle.std.proofs.Common.{find, IfSome}
-use Rattle.std.specs.Option.{option_or}
 use Rattle.std.specs.List.Retain.{ReturnsInTurn}
 use Rattle.std.proofs.lemmas.List.Folds.{find-append}
 use Rattle.std.proofs.lemmas.List.{take-append-drop}
@@ -12,12 +13,11 @@ use Rattle.std.proofs.lemmas.Map.Lookups.{exact_bytes}
 use Rattle.litemap_store.specs.Last.{In}
 use Rattle.litemap_store.specs.Retain.{CalledOnPair, Kept}
 use Rattle.litemap_store.proofs.Last.KeepLast.{rising_across}
-use Rattle.litemap_store.proofs.Lists.Membership.{In-left, In-right, each}
-use Rattle.litemap_store.proofs.Search.Splitting.{not_is_eq}
+use Rattle.litemap_store.proofs.Lists.Membership.{In-right, each}
 use Rattle.litemap.specs.Retained.{Retains, ReturnsFor}
 use Rattle.litemap.specs.Updates.{IsGreatest, IsLeast, KeepsPart, TakesPair}
 use Rattle.litemap.specs.Written.{LeavesOf, WritesPair, Written}
-use Rattle.litemap.proofs.MergedTests.{find_passes, none_found}
+use Rattle.litemap.proofs.MergedTests.{none_found}
 use Rattle.litemap.proofs.Ends.{at-index, greatest, least}
 
 module _ {X : Type 0} (test : X → Bool) where
@@ -25,7 +25,8 @@ module _ {X : Type 0} (test : X → Bool) where
   find-kept keep h [] = refl
   find-kept keep h (x ∷ L) = by (test x) (keep x) refl refl (find-kept keep h L)
     where
-      by : (s k : Bool) → test x ≡ s → keep x ≡ k → find test (filter keep L) ≡ find test L → find test (cond k (x ∷ filter keep L) (filter keep L)) ≡ cond s (Some x) (find test L)
+      by : (s k : Bool) → test x ≡ s → keep x ≡ k → find test (filter keep L) ≡ find test L → find test (cond k (x ∷ filter keep L) (filter keep L))
+          ≡ cond s (Some x) (find test L)
       by true true e f rest = rw e refl
       by true false e f rest = absurd (true≢false (sym (h x e) ∙ f))
       by false true e f rest = rw e rest
@@ -78,10 +79,14 @@ keeps_part keep L M e = record {
 module _ {K V : Type 0} {cmp : K → K → Ordering} (o : IsTotalOrder cmp) (A B : List (K × V)) (p : K × V) (r : Rising cmp (A ++ p ∷ B)) where
   module _ (test : K × V → Bool) (own : (x : K × V) → test x ≡ true → cmp x.0 p.0 ≡ Equal) where
     none-before : find test A ≡ None
-    none-before = none_found test A (λ x i. not-passed test x (λ t. let l : cmp x.0 p.0 ≡ Less = rising_across cmp A (p ∷ B) r x p i (inl refl) in let e = own x t in cc))
+    none-before = none_found test A
+        (λ x i. not-passed test x (λ t. let l : cmp x.0 p.0 ≡ Less = rising_across cmp A (p ∷ B) r x p i (inl refl) in let e = own x t in cc))
 
     none-after : find test B ≡ None
-    none-after = none_found test B (λ x i. not-passed test x (λ t. let l : cmp x.0 p.0 ≡ Greater = less_back o p.0 x.0 (rising_across cmp (A ++ p ∷ []) B (subst (Rising cmp) (seam A) r) p x (In-right A (p ∷ []) p (inl refl)) i) in let e = own x t in cc))
+    none-after = none_found test B
+        (λ x i. not-passed test x
+        (λ t. let l : cmp x.0 p.0 ≡ Greater = less_back o p.0 x.0
+        (rising_across cmp (A ++ p ∷ []) B (subst (Rising cmp) (seam A) r) p x (In-right A (p ∷ []) p (inl refl)) i) in let e = own x t in cc))
       where
         seam : (A : List (K × V)) → A ++ p ∷ B ≡ (A ++ p ∷ []) ++ B
         seam [] = refl
@@ -117,7 +122,8 @@ module _ {K V : Type 0} {cmp : K → K → Ordering} (o : IsTotalOrder cmp) (L :
           let f = at_in cmp L k x e in
           elim (least cmp L p x r g f.0) [
             | inl s ↦ λ t. let u : cmp p.0 k ≡ Equal = rw s f.1 in cc
-            | inr l ↦ λ t. let u : cmp x.0 p.0 ≡ Less = o.congr x.0 k p.0 f.1 ∙ greater_back o p.0 k t in let v : cmp x.0 p.0 ≡ Greater = less_back o p.0 x.0 l in cc
+            | inr l ↦ λ t. let u : cmp x.0 p.0 ≡ Less = o.congr x.0 k p.0 f.1 ∙ greater_back o p.0 k t in let v : cmp x.0 p.0 ≡ Greater =
+                less_back o p.0 x.0 l in cc
           ]
 
   pub is_greatest : slice_get L (length L - 1) ≡ Some p → IsGreatest cmp p L
@@ -164,7 +170,8 @@ module _ {F K V : Type 0} (g : Mut F (Bor K × (Bor V × Unit {0})) Bool) (test 
   first_stays true bs p L t y = rw t refl
   first_stays false bs p L t y = absurd (cc)
 
-  first_goes : (b : Bool) (bs : List Bool) (p : K × V) (L : List (K × V)) → b ≡ false → find test (items_where_true bs L) ≡ None → find test (items_where_true (b ∷ bs) (p ∷ L)) ≡ None
+  first_goes : (b : Bool) (bs : List Bool) (p : K × V) (L : List (K × V)) → b ≡ false → find test (items_where_true bs L) ≡ None
+      → find test (items_where_true (b ∷ bs) (p ∷ L)) ≡ None
   first_goes true bs p L y is = absurd (cc)
   first_goes false bs p L y is = is
 
@@ -188,7 +195,8 @@ module _ {F K V : Type 0} (g : Mut F (Bor K × (Bor V × Unit {0})) Bool) (test 
       ]) refl
 
   module _ (cmp : K → K → Ordering) (own : (p q : K × V) → test p ≡ true → test q ≡ true → cmp p.0 q.0 ≡ Equal) where
-    kept-gone : (bs : List Bool) (L : List (K × V)) (f f' : F) → length bs ≡ length L → Rising cmp L → ReturnsInTurn (CalledOnPair g) f bs L f' → ReturnsFor g f test L false
+    kept-gone : (bs : List Bool) (L : List (K × V)) (f f' : F) → length bs ≡ length L → Rising cmp L → ReturnsInTurn (CalledOnPair g) f bs L f'
+        → ReturnsFor g f test L false
         → find test (items_where_true bs L) ≡ None
     kept-gone [] L f f' n h turn a = refl
     kept-gone (b ∷ bs) [] f f' n h turn a = refl
@@ -200,25 +208,31 @@ module _ {F K V : Type 0} (g : Mut F (Bor K × (Bor V × Unit {0})) Bool) (test 
           | false ↦ λ e. skipped b bs p L None e (kept-gone bs L turn.0 f' (omega arith) h.1 turn.2 (later f turn.0 p L false one.0 e a))
         ]) refl
 
-pub retains : {F K V : Type 0} (g : Mut F (Bor K × (Bor V × Unit {0})) Bool) (cmp : K → K → Ordering) (f : F) (L L' M : List (K × V)) → Kept g f L M → L ≡ L' → Rising cmp L → Retains g f cmp L' M
+pub retains : {F K V : Type 0} (g : Mut F (Bor K × (Bor V × Unit {0})) Bool) (cmp : K → K → Ordering) (f : F) (L L' M : List (K × V)) → Kept g f L M → L ≡ L'
+    → Rising cmp L → Retains g f cmp L' M
 retains g cmp f L L' M kept is r = record {
-  stays = λ test a. ap (find test) (kept.4) ∙ kept-stays g test kept.0 L f kept.1 kept.2 kept.3 (subst (λ N. ReturnsFor g f test N true) (sym is) a) ∙ ap (find test) is;
-  gone = λ test own a. ap (find test) (kept.4) ∙ kept-gone g test cmp own kept.0 L f kept.1 kept.2 r kept.3 (subst (λ N. ReturnsFor g f test N false) (sym is) a);
+  stays = λ test a. ap (find test) (kept.4) ∙ kept-stays g test kept.0 L f kept.1 kept.2 kept.3 (subst (λ N. ReturnsFor g f test N true) (sym is) a)
+      ∙ ap (find test) is;
+  gone = λ test own a. ap (find test) (kept.4) ∙ kept-gone g test cmp own kept.0 L f kept.1 kept.2 r kept.3
+      (subst (λ N. ReturnsFor g f test N false) (sym is) a);
   exact = exact_bytes;
 }
 
 -- ---- what a closure wrote
-module _ {F K V : Type 0} (g : Mut F (Bor K × (MutBor V × Unit {0})) (Unit {0} × (MutBor V × Unit {0}))) (test : K × V → Bool) (alike : (k : K) (v w : V) → test (k, v) ≡ test (k, w)) where
+module _ {F K V : Type 0} (g : Mut F (Bor K × (MutBor V × Unit {0})) (Unit {0} × (MutBor V × Unit {0}))) (test : K × V → Bool)
+    (alike : (k : K) (v w : V) → test (k, v) ≡ test (k, w)) where
   abbrev Leaves : F → (V → V) → Type 0
   Leaves f h = (p q : K × V) (f' : F) → WritesPair g f p q f' → (f' ≡ f) × (test p ≡ true → q.1 ≡ h p.1)
 
-  written-found : (h : V → V) (L M : List (K × V)) (f : F) → Leaves f h → Written g f L M → option_map (λ p. p.1) (find test M) ≡ option_map h (option_map (λ p. p.1) (find test L))
+  written-found : (h : V → V) (L M : List (K × V)) (f : F) → Leaves f h → Written g f L M
+      → option_map (λ p. p.1) (find test M) ≡ option_map h (option_map (λ p. p.1) (find test L))
   written-found h [] M f a w = rw w refl
   written-found h (p ∷ L) M f a w =
       let one = a p w.0 w.1 w.3 in
       by (test p) refl one.1 (written-found h L w.2 w.1 (subst (λ e. Leaves e h) (sym one.0) a) w.4)
     where
-      by : (c : Bool) → test p ≡ c → (test p ≡ true → w.0.1 ≡ h p.1) → option_map (λ x. x.1) (find test w.2) ≡ option_map h (option_map (λ x. x.1) (find test L))
+      by : (c : Bool) → test p ≡ c → (test p ≡ true → w.0.1 ≡ h p.1)
+          → option_map (λ x. x.1) (find test w.2) ≡ option_map h (option_map (λ x. x.1) (find test L))
           → option_map (λ x. x.1) (find test M) ≡ option_map h (option_map (λ x. x.1) (find test (p ∷ L)))
       by true t v rest = rw (w.5, w.3.leaves) (rw (alike p.0 w.3.left.now p.1) (rw t (ap Some (sym (ap (λ q. q.1) w.3.leaves) ∙ v t))))
       by false t v rest = rw (w.5, w.3.leaves) (rw (alike p.0 w.3.left.now p.1) (rw t rest))
@@ -233,7 +247,8 @@ module _ {F K V : Type 0} (g : Mut F (Bor K × (MutBor V × Unit {0})) (Unit {0}
       by true t v rest = let s : w.3.left.now ≡ p.1 = sym (ap (λ q. q.1) w.3.leaves) ∙ v t in rw (w.5, w.3.leaves) (rw (s, t) refl)
       by false t v rest = rw (w.5, w.3.leaves) (rw (alike p.0 w.3.left.now p.1) (rw t rest))
 
-pub leaves_of : {F K V : Type 0} (g : Mut F (Bor K × (MutBor V × Unit {0})) (Unit {0} × (MutBor V × Unit {0}))) (f : F) (L L' M : List (K × V)) → Written g f L M → L ≡ L' → LeavesOf g f L' M
+pub leaves_of : {F K V : Type 0} (g : Mut F (Bor K × (MutBor V × Unit {0})) (Unit {0} × (MutBor V × Unit {0}))) (f : F) (L L' M : List (K × V))
+    → Written g f L M → L ≡ L' → LeavesOf g f L' M
 leaves_of g f L L' M w is = record {
   found = λ test h alike a. written-found g test alike h L M f a w ∙ ap (λ N. option_map h (option_map (λ p. p.1) (find test N))) is;
   stays = λ test alike a. written-stays g test alike L M f a w ∙ ap (find test) is;

@@ -43,7 +43,8 @@ module _ {K V : Type 0} (cmp : K → K → Ordering) (k : K) where
   module _ {F : Type 0} (g : Mut F (Bor K × (Bor V × Unit {0})) Bool) where
     later : (f f' : F) (p : K × V) (L : List (K × V)) (b : Bool) → f' ≡ f → is_eq (cmp p.0 k) ≡ false
         → ReturnsAt g f cmp (p ∷ L) k b → ReturnsAt g f' cmp L k b
-    later f f' p L b same n a = subst (λ h. ReturnsAt g h cmp L k b) (sym same) (λ q c h called. ((a q c h called).0, λ equal is. (a q c h called).1 equal (rw n is)))
+    later f f' p L b same n a =
+        subst (λ h. ReturnsAt g h cmp L k b) (sym same) (λ q c h called. ((a q c h called).0, λ equal is. (a q c h called).1 equal (rw n is)))
 
     kept_yes : (bs : List Bool) (L : List (K × V)) (f f' : F) → length bs ≡ length L → ReturnsInTurn (CalledOnPair g) f bs L f'
         → ReturnsAt g f cmp L k true → at cmp (items_where_true bs L) k ≡ at cmp L k
@@ -70,7 +71,10 @@ module _ {K V : Type 0} (cmp : K → K → Ordering) (k : K) where
 
     module _ (f : F) (L L' M : List (K × V)) (kept : Kept g f L M) (is : L ≡ L') where
       pub value_at-kept_yes : ReturnsAt g f cmp L' k true → value_at cmp M k ≡ value_at cmp L' k
-      value_at-kept_yes a = ap (option_map (λ q. q.1)) (ap (λ N. at cmp N k) (kept.4) ∙ kept_yes kept.0 L f kept.1 kept.2 kept.3 (subst (λ N. ReturnsAt g f cmp N k true) (sym is) a) ∙ ap (λ N. at cmp N k) is)
+      value_at-kept_yes a =
+          ap (option_map (λ q. q.1))
+          (ap (λ N. at cmp N k) (kept.4) ∙ kept_yes kept.0 L f kept.1 kept.2 kept.3 (subst (λ N. ReturnsAt g f cmp N k true) (sym is) a)
+          ∙ ap (λ N. at cmp N k) is)
 
       pub value_at-kept_no : IsTotalOrder cmp → Rising cmp L → ReturnsAt g f cmp L' k false → value_at cmp M k ≡ None
       value_at-kept_no o h a =

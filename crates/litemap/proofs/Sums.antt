@@ -1,8 +1,10 @@
 -- Sums of values that are numbers, after a change of an ascending list. A premise has the list M that is left.
 --     key_put_sum, key_cut_sum, key_write_sum      by keys;  text_cut_sum, text_write_sum      by strings
 --     found_below_sum      a value that is found is at most the sum
-use Rattle.litemap.proofs.Common.{◌≡◌, ◌∙◌, ◌∷◌, ◌+◌, ◌++◌, ◌≤◌, ℕ, [], List, Option, None, Some, String, true, false, ap, arith, cond, is_eq, option_map, refl, sym, unwrap_or}
-use Rattle.litemap.proofs.Common.{Ordering, IsTotalOrder, Rising, above, at, below, cut, key_or, put, value_at, write, nat_list_cmp_total, string_bytes, string_cmp}
+use Rattle.litemap.proofs.Common.{◌≡◌, ◌∙◌, ◌∷◌, ◌+◌, ◌++◌, ◌≤◌, ℕ, [], List, Option, None, Some, String, true, false, ap, arith, cond, is_eq, option_map, refl}
+use Rattle.litemap.proofs.Common.{sym, unwrap_or}
+use Rattle.litemap.proofs.Common.{Ordering, IsTotalOrder, Rising, above, at, below, cut, key_or, put, value_at, write, nat_list_cmp_total, string_bytes}
+use Rattle.litemap.proofs.Common.{string_cmp}
 use Rattle.std.proofs.Common.{sum}
 use Rattle.std.specs.Map.{values_of}
 use Rattle.std.specs.Option.{option_map_or}
@@ -46,7 +48,8 @@ module _ {K : Type 0} where
     pub total-write : (v w : ℕ) → value_at order L q ≡ Some w → total (write order L q v) + w ≡ total L + v
     total-write v w e = by (at order L q) refl
       where
-        by : (a : Option (K × ℕ)) → at order L q ≡ a → total (option_map_or (λ p. below order L q ++ (p.0, v) ∷ above order L q) (at order L q) L) + w ≡ total L + v
+        by : (a : Option (K × ℕ)) → at order L q ≡ a → total (option_map_or (λ p. below order L q ++ (p.0, v) ∷ above order L q) (at order L q) L) + w
+            ≡ total L + v
         by None f = let g : None ≡ Some w = sym (ap (option_map (λ p. p.1)) f) ∙ e in absurd (cc)
         by (Some p) f =
             let g : number (at order L q) ≡ w = ap (λ o. unwrap_or o 0) e in
@@ -65,7 +68,8 @@ module _ {K : Type 0} where
         → sum (values_of M) + unwrap_or (value_at cmp L k) 0 ≡ sum (values_of L) + v
     key_put_sum L M k v o r e = rw e (total-over (key_one_side o) L k r (key_or (at cmp L k) k, v))
 
-    pub key_cut_sum : (L M : List (K × ℕ)) (k : K) → IsTotalOrder cmp → Rising cmp L → M ≡ cut cmp L k → sum (values_of M) + unwrap_or (value_at cmp L k) 0 ≡ sum (values_of L)
+    pub key_cut_sum : (L M : List (K × ℕ)) (k : K) → IsTotalOrder cmp → Rising cmp L → M ≡ cut cmp L k → sum (values_of M) + unwrap_or (value_at cmp L k) 0
+        ≡ sum (values_of L)
     key_cut_sum L M k o r e = rw e (total-cut (key_one_side o) L k r)
 
     pub key_write_sum : (L M : List (K × ℕ)) (k : K) (v w : ℕ) → IsTotalOrder cmp → Rising cmp L → M ≡ write cmp L k v → value_at cmp L k ≡ Some w
@@ -76,7 +80,8 @@ module _ {Z : Type 0} where
   text_one_side : OneSide (string_cmp {Z = Z}) by_string
   text_one_side t x y = key_one_side nat_list_cmp_total t (string_bytes x) (string_bytes y)
 
-  pub text_cut_sum : (L M : List (String Z × ℕ)) (t : List ℕ) → Rising string_cmp L → M ≡ cut by_string L t → sum (values_of M) + unwrap_or (value_at by_string L t) 0 ≡ sum (values_of L)
+  pub text_cut_sum : (L M : List (String Z × ℕ)) (t : List ℕ) → Rising string_cmp L → M ≡ cut by_string L t
+      → sum (values_of M) + unwrap_or (value_at by_string L t) 0 ≡ sum (values_of L)
   text_cut_sum L M t r e = rw e (total-cut text_one_side L t r)
 
   pub text_write_sum : (L M : List (String Z × ℕ)) (t : List ℕ) (v w : ℕ) → Rising string_cmp L → M ≡ write by_string L t v → value_at by_string L t ≡ Some w

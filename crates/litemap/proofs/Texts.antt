@@ -59,16 +59,19 @@ module _ {V Z : Type 0} where
   pub string_put_found : (L : List (String Z × V)) (k : String Z) (v : V) → value_at string_cmp (put string_cmp L k v) k ≡ Some v
   string_put_found L k v = value_at-put string_cmp_total k L v
 
-  pub string_put_others : (L : List (String Z × V)) (k q : String Z) (v : V) → string_cmp q k ≢ Equal → value_at string_cmp (put string_cmp L k v) q ≡ value_at string_cmp L q
+  pub string_put_others : (L : List (String Z × V)) (k q : String Z) (v : V) → string_cmp q k ≢ Equal → value_at string_cmp (put string_cmp L k v) q
+      ≡ value_at string_cmp L q
   string_put_others L k q v differs = value_at-put_other string_cmp_total L k q differs v
 
   pub string_cut_gone : (L : List (String Z × V)) (k : String Z) → value_at string_cmp (cut string_cmp L k) k ≡ None
   string_cut_gone L k = value_at-cut string_cmp k L
 
-  pub string_cut_others : (L : List (String Z × V)) (k q : String Z) → string_cmp q k ≢ Equal → value_at string_cmp (cut string_cmp L k) q ≡ value_at string_cmp L q
+  pub string_cut_others : (L : List (String Z × V)) (k q : String Z) → string_cmp q k ≢ Equal → value_at string_cmp (cut string_cmp L k) q
+      ≡ value_at string_cmp L q
   string_cut_others L k q differs = value_at-cut_other string_cmp_total L k q differs
 
-  pub string_write_found : (L : List (String Z × V)) (k : String Z) (v : V) → IsSome (at string_cmp L k) → value_at string_cmp (write string_cmp L k v) k ≡ Some v
+  pub string_write_found : (L : List (String Z × V)) (k : String Z) (v : V) → IsSome (at string_cmp L k) → value_at string_cmp (write string_cmp L k v) k
+      ≡ Some v
   string_write_found L k v there = value_at-write string_cmp k L v there
 
   -- what a write leaves if it finds the key
@@ -76,10 +79,13 @@ module _ {V Z : Type 0} where
       → value_at string_cmp (below string_cmp L k ++ (p.0, v) ∷ above string_cmp L k) q ≡ value_at string_cmp L q
   string_written_others L k q p v is n = value_at-written_apart string_cmp k string_cmp q (string_cmp q k) n (λ x e. string_cmp_total.congr x q k e) L p v is
 
-  pub string_merged : (A B M : List (String Z × V)) (k : String Z) → Merge string_cmp A B M → value_at string_cmp M k ≡ option_or (value_at string_cmp B k) (value_at string_cmp A k)
-  string_merged A B M k merge = value_at-merged string_cmp string_cmp_total string_cmp k (key_same string_cmp_total k) (key_alike string_cmp_total k) A B M merge
+  pub string_merged : (A B M : List (String Z × V)) (k : String Z) → Merge string_cmp A B M
+      → value_at string_cmp M k ≡ option_or (value_at string_cmp B k) (value_at string_cmp A k)
+  string_merged A B M k merge =
+      value_at-merged string_cmp string_cmp_total string_cmp k (key_same string_cmp_total k) (key_alike string_cmp_total k) A B M merge
 
-  pub string_left : (A B : List (String Z × V)) (k : String Z) → value_at string_cmp (left string_cmp A B) k ≡ cond (is_some (at string_cmp B k)) (value_at string_cmp A k) None
+  pub string_left : (A B : List (String Z × V)) (k : String Z) → value_at string_cmp (left string_cmp A B) k
+      ≡ cond (is_some (at string_cmp B k)) (value_at string_cmp A k) None
   string_left A B k = value_at-left string_cmp string_cmp_total string_cmp k (key_same string_cmp_total k) (key_alike string_cmp_total k) A B
 
   -- ---- the same, looked up by strings
@@ -90,9 +96,11 @@ module _ {V Z : Type 0} where
   pub text_put_found : (L : List (String Z × V)) (k : String Z) (v : V) → value_at by_string (put string_cmp L k v) (string_bytes k) ≡ Some v
   text_put_found L k v = value_at-put string_cmp_total k L v
 
-  pub text_put_others : (L : List (String Z × V)) (k : String Z) (u : List ℕ) (v : V) → u ≢ string_bytes k → value_at by_string (put string_cmp L k v) u ≡ value_at by_string L u
+  pub text_put_others : (L : List (String Z × V)) (k : String Z) (u : List ℕ) (v : V) → u ≢ string_bytes k → value_at by_string (put string_cmp L k v) u
+      ≡ value_at by_string L u
   text_put_others L k u v n =
-      value_at-between_apart string_cmp k by_string u (slice_cmp nat_cmp u (string_bytes k)) (differs (string_bytes k) u n) (turned (λ x. string_bytes x) (string_bytes k) u) L
+      value_at-between_apart string_cmp k by_string u (slice_cmp nat_cmp u (string_bytes k)) (differs (string_bytes k) u n)
+      (turned (λ x. string_bytes x) (string_bytes k) u) L
       (key_or (at string_cmp L k) k, v) (key_or_equal string_cmp_total k L)
 
   -- the same of all strings in one equation
@@ -100,10 +108,13 @@ module _ {V Z : Type 0} where
       ≡ cond (is_eq (slice_cmp nat_cmp u (string_bytes k))) (Some v) (value_at by_string L u)
   text_put L k u v = by (slice_cmp nat_cmp u (string_bytes k)) refl
     where
-      by : (r : Ordering) → slice_cmp nat_cmp u (string_bytes k) ≡ r → value_at by_string (put string_cmp L k v) u ≡ cond (is_eq r) (Some v) (value_at by_string L u)
+      by : (r : Ordering) → slice_cmp nat_cmp u (string_bytes k) ≡ r → value_at by_string (put string_cmp L k v) u
+          ≡ cond (is_eq r) (Some v) (value_at by_string L u)
       by Equal e = let s : u ≡ string_bytes k = exact_bytes u (string_bytes k) e in rw s (text_put_found L k v)
-      by Less e = text_put_others L k u v (λ s. let t : Less ≡ Equal = sym e ∙ ap (λ w. slice_cmp nat_cmp w (string_bytes k)) s ∙ nat_list_cmp_itself (string_bytes k) in cc)
-      by Greater e = text_put_others L k u v (λ s. let t : Greater ≡ Equal = sym e ∙ ap (λ w. slice_cmp nat_cmp w (string_bytes k)) s ∙ nat_list_cmp_itself (string_bytes k) in cc)
+      by Less e = text_put_others L k u v
+          (λ s. let t : Less ≡ Equal = sym e ∙ ap (λ w. slice_cmp nat_cmp w (string_bytes k)) s ∙ nat_list_cmp_itself (string_bytes k) in cc)
+      by Greater e = text_put_others L k u v
+          (λ s. let t : Greater ≡ Equal = sym e ∙ ap (λ w. slice_cmp nat_cmp w (string_bytes k)) s ∙ nat_list_cmp_itself (string_bytes k) in cc)
 
   pub text_write_found : (L : List (String Z × V)) (t : List ℕ) (v : V) → IsSome (at by_string L t) → value_at by_string (write by_string L t v) t ≡ Some v
   text_write_found L t v there = value_at-write by_string t L v there
@@ -116,13 +127,16 @@ module _ {V Z : Type 0} where
       → value_at by_string (slice_set L i (p.0, v)) u ≡ value_at by_string L u
   text_set_others L i u p v is n = value_at-set by_string u L i p v is (λ e. n (exact_bytes (string_bytes p.0) u e))
 
-  pub text_put_place : (L : List (String Z × V)) (k : String Z) (v : V) → index_of by_string (put string_cmp L k v) (string_bytes k) ≡ Ok (place by_string L (string_bytes k))
+  pub text_put_place : (L : List (String Z × V)) (k : String Z) (v : V) → index_of by_string (put string_cmp L k v) (string_bytes k)
+      ≡ Ok (place by_string L (string_bytes k))
   text_put_place L k v = index_of-put string_cmp_total k L v
 
-  pub text_merged : (A B M : List (String Z × V)) (t : List ℕ) → Merge string_cmp A B M → value_at by_string M t ≡ option_or (value_at by_string B t) (value_at by_string A t)
+  pub text_merged : (A B M : List (String Z × V)) (t : List ℕ) → Merge string_cmp A B M
+      → value_at by_string M t ≡ option_or (value_at by_string B t) (value_at by_string A t)
   text_merged A B M t merge = value_at-merged string_cmp string_cmp_total by_string t (same_bytes t) (alike_bytes t) A B M merge
 
-  pub text_left : (A B : List (String Z × V)) (t : List ℕ) → value_at by_string (left string_cmp A B) t ≡ cond (is_some (at by_string B t)) (value_at by_string A t) None
+  pub text_left : (A B : List (String Z × V)) (t : List ℕ) → value_at by_string (left string_cmp A B) t
+      ≡ cond (is_some (at by_string B t)) (value_at by_string A t) None
   text_left A B t = value_at-left string_cmp string_cmp_total by_string t (same_bytes t) (alike_bytes t) A B
 
   pub text_combined : (combine : String Z → V → V → V) (A B M : List (String Z × V)) (t : List ℕ) → Merge string_cmp A (combined string_cmp combine A B) M
@@ -137,32 +151,38 @@ module _ {V Z : Type 0} where
 
   -- ---- `Vec<u8>`, looked up by bytes
 
-  pub byte_write_found : (L : List (Vec ℕ Z × V)) (t : List ℕ) (v : V) → IsSome (at (by_slice nat_cmp) L t) → value_at (by_slice nat_cmp) (write (by_slice nat_cmp) L t v) t ≡ Some v
+  pub byte_write_found : (L : List (Vec ℕ Z × V)) (t : List ℕ) (v : V) → IsSome (at (by_slice nat_cmp) L t)
+      → value_at (by_slice nat_cmp) (write (by_slice nat_cmp) L t v) t ≡ Some v
   byte_write_found L t v there = value_at-write (by_slice nat_cmp) t L v there
 
-  pub byte_write_others : (L : List (Vec ℕ Z × V)) (t u : List ℕ) (v : V) → u ≢ t → value_at (by_slice nat_cmp) (write (by_slice nat_cmp) L t v) u ≡ value_at (by_slice nat_cmp) L u
+  pub byte_write_others : (L : List (Vec ℕ Z × V)) (t u : List ℕ) (v : V) → u ≢ t → value_at (by_slice nat_cmp) (write (by_slice nat_cmp) L t v) u
+      ≡ value_at (by_slice nat_cmp) L u
   byte_write_others L t u v n = write_others (λ k. k.items) L t u v n
 
   pub byte_cut_gone : (L : List (Vec ℕ Z × V)) (t : List ℕ) → value_at (by_slice nat_cmp) (cut (by_slice nat_cmp) L t) t ≡ None
   byte_cut_gone L t = value_at-cut (by_slice nat_cmp) t L
 
-  pub byte_cut_others : (L : List (Vec ℕ Z × V)) (t u : List ℕ) → u ≢ t → value_at (by_slice nat_cmp) (cut (by_slice nat_cmp) L t) u ≡ value_at (by_slice nat_cmp) L u
+  pub byte_cut_others : (L : List (Vec ℕ Z × V)) (t u : List ℕ) → u ≢ t → value_at (by_slice nat_cmp) (cut (by_slice nat_cmp) L t) u
+      ≡ value_at (by_slice nat_cmp) L u
   byte_cut_others L t u n = cut_others (λ k. k.items) L t u n
 
 module _ {V : Type 0} where
   pub str_put_found : (L : List (Bor (List ℕ) × V)) (k : Bor (List ℕ)) (v : V) → value_at by_bytes (put by_bytes L k v) k ≡ Some v
   str_put_found L k v = value_at-put by_bytes_total k L v
 
-  pub str_put_others : (L : List (Bor (List ℕ) × V)) (k q : Bor (List ℕ)) (v : V) → by_bytes q k ≢ Equal → value_at by_bytes (put by_bytes L k v) q ≡ value_at by_bytes L q
+  pub str_put_others : (L : List (Bor (List ℕ) × V)) (k q : Bor (List ℕ)) (v : V) → by_bytes q k ≢ Equal → value_at by_bytes (put by_bytes L k v) q
+      ≡ value_at by_bytes L q
   str_put_others L k q v differs = value_at-put_other by_bytes_total L k q differs v
 
   pub str_cut_gone : (L : List (Bor (List ℕ) × V)) (k : Bor (List ℕ)) → value_at by_bytes (cut by_bytes L k) k ≡ None
   str_cut_gone L k = value_at-cut by_bytes k L
 
-  pub str_cut_others : (L : List (Bor (List ℕ) × V)) (k q : Bor (List ℕ)) → by_bytes q k ≢ Equal → value_at by_bytes (cut by_bytes L k) q ≡ value_at by_bytes L q
+  pub str_cut_others : (L : List (Bor (List ℕ) × V)) (k q : Bor (List ℕ)) → by_bytes q k ≢ Equal → value_at by_bytes (cut by_bytes L k) q
+      ≡ value_at by_bytes L q
   str_cut_others L k q differs = value_at-cut_other by_bytes_total L k q differs
 
-  pub str_write_found : (L : List (Bor (List ℕ) × V)) (k : Bor (List ℕ)) (v : V) → IsSome (at by_bytes L k) → value_at by_bytes (write by_bytes L k v) k ≡ Some v
+  pub str_write_found : (L : List (Bor (List ℕ) × V)) (k : Bor (List ℕ)) (v : V) → IsSome (at by_bytes L k) → value_at by_bytes (write by_bytes L k v) k
+      ≡ Some v
   str_write_found L k v there = value_at-write by_bytes k L v there
 
   -- what a write leaves if it finds the key
@@ -170,10 +190,12 @@ module _ {V : Type 0} where
       → value_at by_bytes (below by_bytes L k ++ (p.0, v) ∷ above by_bytes L k) q ≡ value_at by_bytes L q
   str_written_others L k q p v is n = value_at-written_apart by_bytes k by_bytes q (by_bytes q k) n (λ x e. by_bytes_total.congr x q k e) L p v is
 
-  pub str_merged : (A B M : List (Bor (List ℕ) × V)) (k : Bor (List ℕ)) → Merge by_bytes A B M → value_at by_bytes M k ≡ option_or (value_at by_bytes B k) (value_at by_bytes A k)
+  pub str_merged : (A B M : List (Bor (List ℕ) × V)) (k : Bor (List ℕ)) → Merge by_bytes A B M
+      → value_at by_bytes M k ≡ option_or (value_at by_bytes B k) (value_at by_bytes A k)
   str_merged A B M k merge = value_at-merged by_bytes by_bytes_total by_bytes k (key_same by_bytes_total k) (key_alike by_bytes_total k) A B M merge
 
-  pub str_left : (A B : List (Bor (List ℕ) × V)) (k : Bor (List ℕ)) → value_at by_bytes (left by_bytes A B) k ≡ cond (is_some (at by_bytes B k)) (value_at by_bytes A k) None
+  pub str_left : (A B : List (Bor (List ℕ) × V)) (k : Bor (List ℕ)) → value_at by_bytes (left by_bytes A B) k
+      ≡ cond (is_some (at by_bytes B k)) (value_at by_bytes A k) None
   str_left A B k = value_at-left by_bytes by_bytes_total by_bytes k (key_same by_bytes_total k) (key_alike by_bytes_total k) A B
 
 pub ruleset string_keys = (

@@ -1,8 +1,10 @@
 -- What lookups find after one key has changed: for the clauses `updates`.
 --     updates_put, places_put      after a put;  finds_cut, places_cut      after a cut;  finds_write      after a write
-use Rattle.litemap.proofs.Common.{◌≡◌, ◌∙◌, ◌∷◌, ◌++◌, ◌+◌, ℕ, Bool, false, List, Option, None, Some, IsSome, Result, option_map, true, is_gt, is_lt, [], Ok, Err, arith, ap, append-nil, is_eq, is_some, length}
+use Rattle.litemap.proofs.Common.{◌≡◌, ◌∙◌, ◌∷◌, ◌++◌, ◌+◌, ℕ, Bool, false, List, Option, None, Some, IsSome, Result, option_map, true, is_gt, is_lt, [], Ok}
+use Rattle.litemap.proofs.Common.{Err, arith, ap, append-nil, is_eq, is_some, length}
 use Rattle.litemap.proofs.Common.{length-append, option_or, refl, subst, sym, Ordering, Less, Equal, Greater, IsTotalOrder, key_or_equal}
-use Rattle.litemap.proofs.Common.{above, at, below, cut, index_of, key_or, place, put, value_at, write, value_at-cut, value_at-put, value_at-put_other, value_at-write}
+use Rattle.litemap.proofs.Common.{above, at, below, cut, index_of, key_or, place, put, value_at, write, value_at-cut, value_at-put, value_at-put_other}
+use Rattle.litemap.proofs.Common.{value_at-write}
 use Rattle.std.proofs.Common.{find}
 use Rattle.std.specs.Option.{option_map_or}
 use Rattle.std.proofs.lemmas.List.Folds.{find-append}
@@ -35,14 +37,16 @@ module _ {K Q V : Type 0} (order : K → Q → Ordering) (q : Q) where
   others-between : (L : List (K × V)) (x : K × V) → order x.0 q ≡ Equal → (r : Result ℕ ℕ) → Splits order L q r
       → (test : K × V → Bool) → ((p : K × V) → order p.0 q ≡ Equal → test p ≡ false) → find test (below order L q ++ x ∷ above order L q) ≡ find test L
   others-between L x e (Ok i) s test apart =
-      join test apart (below order L q) (x ∷ above order L q) (s.pair ∷ above order L q) (skip test apart x (above order L q) e ∙ sym (skip test apart s.pair (above order L q) s.equal)) ∙ ap (find test) (sym s.is)
+      join test apart (below order L q) (x ∷ above order L q) (s.pair ∷ above order L q)
+      (skip test apart x (above order L q) e ∙ sym (skip test apart s.pair (above order L q) s.equal)) ∙ ap (find test) (sym s.is)
   others-between L x e (Err i) s test apart =
       join test apart (below order L q) (x ∷ above order L q) (above order L q) (skip test apart x (above order L q) e) ∙ ap (find test) (sym s.is)
 
   others-cut : (L : List (K × V)) (r : Result ℕ ℕ) → Splits order L q r
       → (test : K × V → Bool) → ((p : K × V) → order p.0 q ≡ Equal → test p ≡ false) → find test (cut order L q) ≡ find test L
   others-cut L (Ok i) s test apart =
-      join test apart (below order L q) (above order L q) (s.pair ∷ above order L q) (sym (skip test apart s.pair (above order L q) s.equal)) ∙ ap (find test) (sym s.is)
+      join test apart (below order L q) (above order L q) (s.pair ∷ above order L q) (sym (skip test apart s.pair (above order L q) s.equal))
+      ∙ ap (find test) (sym s.is)
   others-cut L (Err i) s test apart = ap (find test) (sym s.is)
 
   count-found : (L : List (K × V)) (p : K × V) → at order L q ≡ Some p → number (at order L q) ≡ 1
@@ -51,7 +55,8 @@ module _ {K Q V : Type 0} (order : K → Q → Ordering) (q : Q) where
   count-missing : (L : List (K × V)) → at order L q ≡ None → number (at order L q) ≡ 0
   count-missing L e = ap number e
 
-  len-between : (L : List (K × V)) (x : K × V) (r : Result ℕ ℕ) → Splits order L q r → length (below order L q ++ x ∷ above order L q) + number (at order L q) ≡ length L + 1
+  len-between : (L : List (K × V)) (x : K × V) (r : Result ℕ ℕ) → Splits order L q r → length (below order L q ++ x ∷ above order L q) + number (at order L q)
+      ≡ length L + 1
   len-between L x (Ok i) s =
       let a = length-between (below order L q) (above order L q) x in
       let b = ap length s.is ∙ length-between (below order L q) (above order L q) s.pair in
@@ -76,15 +81,20 @@ module _ {K Q V : Type 0} (order : K → Q → Ordering) (q : Q) where
   below-below L = filter_all (λ (p : K × V). is_lt (order p.0 q)) (below order L q) (λ x i. (In-from_filter (λ (p : K × V). is_lt (order p.0 q)) L x i).1)
 
   below-above : (L : List (K × V)) → below order (above order L q) q ≡ []
-  below-above L = filter_none (λ (p : K × V). is_lt (order p.0 q)) (above order L q) (λ x i. elim (order x.0 q) as (λ c. is_gt c ≡ true → is_lt c ≡ false) [ Less ↦ λ h. absurd cc | Equal ↦ λ h. refl | Greater ↦ λ h. refl ] (In-from_filter (λ (p : K × V). is_gt (order p.0 q)) L x i).1)
+  below-above L = filter_none (λ (p : K × V). is_lt (order p.0 q)) (above order L q)
+      (λ x i. elim (order x.0 q) as (λ c. is_gt c ≡ true → is_lt c ≡ false) [ Less ↦ λ h. absurd cc | Equal ↦ λ h. refl | Greater ↦ λ h. refl ]
+      (In-from_filter (λ (p : K × V). is_gt (order p.0 q)) L x i).1)
 
   place-cut : (L : List (K × V)) → place order (cut order L q) q ≡ place order L q
-  place-cut L = ap length (filter-append (λ p. is_lt (order p.0 q)) (below order L q) (above order L q) ∙ ap (λ M. M ++ below order (above order L q) q) (below-below L) ∙ ap (λ M. below order L q ++ M) (below-above L) ∙ append-nil (below order L q))
+  place-cut L = ap length
+      (filter-append (λ p. is_lt (order p.0 q)) (below order L q) (above order L q) ∙ ap (λ M. M ++ below order (above order L q) q) (below-below L)
+      ∙ ap (λ M. below order L q ++ M) (below-above L) ∙ append-nil (below order L q))
 
   place-between : (L : List (K × V)) (x : K × V) → order x.0 q ≡ Equal → place order (below order L q ++ x ∷ above order L q) q ≡ place order L q
   place-between L x e =
       let none : below order (x ∷ above order L q) q ≡ [] = rw e (below-above L) in
-      ap length (filter-append (λ p. is_lt (order p.0 q)) (below order L q) (x ∷ above order L q) ∙ ap (λ M. M ++ below order (x ∷ above order L q) q) (below-below L) ∙ ap (λ M. below order L q ++ M) none ∙ append-nil (below order L q))
+      ap length (filter-append (λ p. is_lt (order p.0 q)) (below order L q) (x ∷ above order L q) ∙ ap (λ M. M ++ below order (x ∷ above order L q) q)
+      (below-below L) ∙ ap (λ M. below order L q ++ M) none ∙ append-nil (below order L q))
 
   pub finds_cut : (L : List (K × V)) (r : Result ℕ ℕ) → Splits order L q r → Finds order q None L (cut order L q)
   finds_cut L r s = record { found = value_at-cut order q L; others = others-cut L r s; exact = exact_bytes }
@@ -95,7 +105,8 @@ module _ {K Q V : Type 0} (order : K → Q → Ordering) (q : Q) where
   pub finds_write : (L : List (K × V)) (i : ℕ) → IsFoundAt order L q i → (v : V) → Finds order q (Some v) L (write order L q v)
   finds_write L i s v =
       let x : K × V = (s.pair.0, v) in
-      let e : write order L q v ≡ below order L q ++ x ∷ above order L q = ap (λ o. option_map_or (λ p. below order L q ++ (p.0, v) ∷ above order L q) o L) s.found in record {
+      let e : write order L q v ≡ below order L q ++ x ∷ above order L q =
+      ap (λ o. option_map_or (λ p. below order L q ++ (p.0, v) ∷ above order L q) o L) s.found in record {
         found = value_at-write order q L v (subst (λ o. IsSome o) (sym s.found) refl);
         others = λ test apart. ap (find test) e ∙ others-between L x s.equal (Ok i) s test apart;
         exact = exact_bytes;

@@ -40,7 +40,8 @@ module _ {M : Type 1} {𝓤 : Ura M} (𝓛 : Logic 𝓤) (ρ : Lft) (q : Share) 
       let Back' : SProp 𝓤 = wand 𝓤 (A.lft (a ∷ ρ) s) (sep 𝓤 (A.lft (a ∷ []) full_share) (A.lft ρ q)) in
       use2 𝓛 (‵ (flft (a ∷ ρ) s) ⊛ raw Back') (lft-common 𝓛 (a ∷ []) ρ full_share q) $ split ! $ move ! (1 ∷ []) $
       use1 𝓛 (raw (Ends a s)) (wand_i 𝓤 Back' (A.lft (a ∷ ρ) s) _ (qed 𝓛 (raw Back' ∷ ‵ (flft (a ∷ ρ) s) ∷ []) ∵ updating ! $ move ! (1 ∷ 0 ∷ []) $
-      use2 𝓛 (‵ (flft (a ∷ []) full_share) ⊛ ‵ (flft ρ q)) (apply∗ 𝓤 (A.lft (a ∷ ρ) s) (sep 𝓤 (A.lft (a ∷ []) full_share) (A.lft ρ q))) $ split ! $ lft_end ! tt $
+      use2 𝓛 (‵ (flft (a ∷ []) full_share) ⊛ ‵ (flft ρ q)) (apply∗ 𝓤 (A.lft (a ∷ ρ) s) (sep 𝓤 (A.lft (a ∷ []) full_share) (A.lft ρ q))) $ split !
+      $ lft_end ! tt $
       use1 𝓛 (‵ (fdead (a ∷ ρ))) (𝓛.lfts.dead-incl (a ∷ ρ) (a ∷ []) (meet_⊑_left (a ∷ []) ρ)) $ now ! $ done !)) $
       now ! $ show ! Begun (a, s) $ move ! (1 ∷ 0 ∷ []) $ done !)
 
@@ -49,4 +50,5 @@ pub weaker_rest : {M : Type 1} {𝓤 : Ura M} (𝓛 : Logic 𝓤) (R : RattleTyp
     → ent 𝓤 (sem 𝓛 (follows_so R R γ none (λ _ _. ⊤) P)) (sem 𝓛 (follows_so R R γ none (λ _ _. ⊤) Q))
 unfolding such_by
 weaker_rest {𝓤 = 𝓤} 𝓛 R γ P Q h =
-    ex_e 𝓤 _ (λ s. ex_i 𝓤 (λ (t : (s : (R.Denot → R.Denot) × R.Denot) × ((w : R.Denot) → ⊤) × Q s.1). sem 𝓛 (follows_if R R γ none t.0.0 t.0.1)) (s.0, s.1, h s.0.1 s.2))
+    ex_e 𝓤 _ (λ s. ex_i 𝓤 (λ (t : (s : (R.Denot → R.Denot) × R.Denot) × ((w : R.Denot) → ⊤) × Q s.1). sem 𝓛 (follows_if R R γ none t.0.0 t.0.1))
+    (s.0, s.1, h s.0.1 s.2))

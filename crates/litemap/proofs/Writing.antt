@@ -13,7 +13,9 @@ use Rattle.litemap.specs.Written.{CallableOnValues, Writes, WritesPair, Written}
 module _ {K V : Type 0} where
   -- with another value at index i: the pairs after it, and those up to it
   pub drop-written : (L : List (K × V)) (i : ℕ) (v : V) → drop (i + 1) (set_value L i v) ≡ drop (i + 1) L
-  drop-written L i v = elim (slice_get L i) as (λ o. drop (i + 1) (option_map_or (λ p. slice_set L i (p.0, v)) o L) ≡ drop (i + 1) L) [ None ↦ refl | Some p ↦ drop-set-lt (i + 1) L i (p.0, v) (omega arith) ]
+  drop-written L i v =
+      elim (slice_get L i) as (λ o. drop (i + 1) (option_map_or (λ p. slice_set L i (p.0, v)) o L) ≡ drop (i + 1) L)
+      [ None ↦ refl | Some p ↦ drop-set-lt (i + 1) L i (p.0, v) (omega arith) ]
 
   pub take-written : (L : List (K × V)) (i : ℕ) (p : K × V) (v : V) → slice_get L i ≡ Some p → take (i + 1) (set_value L i v) ≡ take i L ++ (p.0, v) ∷ []
   take-written L i p v e = rw e (take_more_set L i (p.0, v) (slice_get_within L i p e))
@@ -52,14 +54,16 @@ module _ {K V : Type 0} (cmp : K → K → Ordering) where
   BelowAll-keys k [] [] e h = tt
   BelowAll-keys k [] (q ∷ M) e h = absurd (cc)
   BelowAll-keys k (p ∷ L) [] e h = absurd (cc)
-  BelowAll-keys k (p ∷ L) (q ∷ M) e h = let s : p.0 ≡ q.0 = cc in let t : keys_of M ≡ keys_of L = cc in (subst (λ x. cmp k x ≡ Less) s h.0, BelowAll-keys k L M t h.1)
+  BelowAll-keys k (p ∷ L) (q ∷ M) e h = let s : p.0 ≡ q.0 = cc in let t : keys_of M ≡ keys_of L =
+      cc in (subst (λ x. cmp k x ≡ Less) s h.0, BelowAll-keys k L M t h.1)
 
   -- a list with the keys of an ascending one ascends
   pub Rising-keys : (L M : List (K × V)) → keys_of M ≡ keys_of L → Rising cmp L → Rising cmp M
   Rising-keys [] [] e h = tt
   Rising-keys [] (q ∷ M) e h = absurd (cc)
   Rising-keys (p ∷ L) [] e h = absurd (cc)
-  Rising-keys (p ∷ L) (q ∷ M) e h = let s : p.0 ≡ q.0 = cc in let t : keys_of M ≡ keys_of L = cc in (subst (λ x. BelowAll cmp x M) s (BelowAll-keys p.0 L M t h.0), Rising-keys L M t h.1)
+  Rising-keys (p ∷ L) (q ∷ M) e h = let s : p.0 ≡ q.0 = cc in let t : keys_of M ≡ keys_of L =
+      cc in (subst (λ x. BelowAll cmp x M) s (BelowAll-keys p.0 L M t h.0), Rising-keys L M t h.1)
 
 -- ---- the keys once a value is written at a query, which are as they were
 module _ {K Q V : Type 0} (order : K → Q → Ordering) (q : Q) where

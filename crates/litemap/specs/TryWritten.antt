@@ -9,7 +9,9 @@ module _ {F K V E : Type 0} (g : Mut F (Bor K × (MutBor V × Unit {0})) (Result
   -- calls left, and those after them
   abbrev pub WrittenUntil : F → List (K × V) → List (K × V) → Result (Unit {0}) E → Type 0
   WrittenUntil f [] M r = (M ≡ []) × (r ≡ Ok tt)
-  WrittenUntil f (p ∷ L) M r = (q : K × V) × (f' : F) × (answer : Result (Unit {0}) E) × LeavesPair g f p answer f' q × MatchResult answer (λ _. (N : List (K × V)) × WrittenUntil f' L N r × (M ≡ q ∷ N)) (λ e. (r ≡ Err e) × (M ≡ q ∷ L))
+  WrittenUntil f (p ∷ L) M r =
+      (q : K × V) × (f' : F) × (answer : Result (Unit {0}) E) × LeavesPair g f p answer f' q
+      × MatchResult answer (λ _. (N : List (K × V)) × WrittenUntil f' L N r × (M ≡ q ∷ N)) (λ e. (r ≡ Err e) × (M ≡ q ∷ L))
 
   -- f leaves of each pair the value that `write` computes of it, and keeps no state
   abbrev pub TryWrites : F → (K → V → V) → Type 0

@@ -1,5 +1,6 @@
 -- What was written reads as the same list.
-use Rattle.std.proofs.Common.{◌≡◌, ◌≢◌, ℕ, ◌+◌, List, [], ◌∷◌, ◌++◌, ◌⊎◌, inl, inr, ◌↔◌, Option, Some, Result, Ok, Ordering, Less, Equal, Greater, refl, sym, ap, subst, ◌∙◌, nat_cmp, length, get_or, drop, take, slice_get, suc, ◌<◌, ◌≤◌}
+use Rattle.std.proofs.Common.{◌≡◌, ◌≢◌, ℕ, ◌+◌, List, [], ◌∷◌, ◌++◌, ◌⊎◌, inl, inr, ◌↔◌, Option, Some, Result, Ok, Ordering, Less, Equal, Greater, refl, sym}
+use Rattle.std.proofs.Common.{ap, subst, ◌∙◌, nat_cmp, length, get_or, drop, take, slice_get, suc, ◌<◌, ◌≤◌}
 use Rattle.std.proofs.lemmas.List.{take_more, take_all}
 use Rattle.std.proofs.lemmas.Map.Lookups.{exact_bytes}
 use Rattle.std.specs.Cmp.{IsTotalOrder}
@@ -30,11 +31,13 @@ module _ {K V : Type 0} (cmp : K → K → Ordering) (total : IsTotalOrder cmp) 
   last_from p (q ∷ qs) d (inl e) = inl (e, from_each (λ (r : K × V). cmp p.0 r.0 ≢ Equal) qs (λ r i. rw (sym e) (d.0 r i)))
   last_from p (q ∷ qs) d (inr i) = inr (last_from p qs d.1 i)
 
-  rows_read : (place : ℕ) (L : List (K × V)) → AllReadBack key_item json_item key_json json L → row_pairs key key_item json_item place (rows text key_json json L) ≡ Ok (seen key_json json L)
+  rows_read : (place : ℕ) (L : List (K × V)) → AllReadBack key_item json_item key_json json L
+      → row_pairs key key_item json_item place (rows text key_json json L) ≡ Ok (seen key_json json L)
   rows_read place [] h = refl
   rows_read place (p ∷ ps) h = rw (h.0.0, h.0.1, rows_read (place + 1) ps h.1)
 
-  pub array_again : (L : List (K × V)) → Rising cmp L → AllReadBack key_item json_item key_json json L → ReadsAs cmp key key_item json_item key_json json (array (rows text key_json json L)) L
+  pub array_again : (L : List (K × V)) → Rising cmp L → AllReadBack key_item json_item key_json json L
+      → ReadsAs cmp key key_item json_item key_json json (array (rows text key_json json L)) L
   array_again L r h = record { spelled = L; spells = rows_read 0 L h; last = Last-rising cmp L r }
 
   -- the members spell the pairs, one by one
@@ -52,11 +55,13 @@ module _ {K V : Type 0} (cmp : K → K → Ordering) (total : IsTotalOrder cmp) 
   abbrev pub Adds : K × V → List (K × V) → Members → Type 0
   Adds x I ms = (J : List (K × V)) × Spells J ms × ((p : K × V) → In p J ↔ ((x ≡ p) ⊎ In p I)) × Distinct J
 
-  module _ (told : (x y : K) → key_json x ≡ key_json y → cmp x y ≡ Equal) (x : K × V) (s : List ℕ) (named : text x.0 ≡ Some s) (known : key s ≡ Some (key_json x.0)) (read : json_item (json x.1) ≡ Ok (json x.1)) where
+  module _ (told : (x y : K) → key_json x ≡ key_json y → cmp x y ≡ Equal) (x : K × V) (s : List ℕ) (named : text x.0 ≡ Some s)
+      (known : key s ≡ Some (key_json x.0)) (read : json_item (json x.1) ≡ Ok (json x.1)) where
     apart_back : (q : K × V) → cmp x.0 q.0 ≢ Equal → cmp q.0 x.0 ≢ Equal
     apart_back q a e = a (total.antisymm x.0 q.0 ∙ ap ordering_reverse e)
 
-    adds_at : (o : Ordering) (q : K × V) (I : List (K × V)) (l : List ℕ) (e : Data) (ms : Members) → slice_cmp nat_cmp s l ≡ o → Spells (q ∷ I) (member l e ms) → Distinct (q ∷ I)
+    adds_at : (o : Ordering) (q : K × V) (I : List (K × V)) (l : List ℕ) (e : Data) (ms : Members) → slice_cmp nat_cmp s l ≡ o → Spells (q ∷ I) (member l e ms)
+        → Distinct (q ∷ I)
         → ((r : K × V) → In r (q ∷ I) → cmp x.0 r.0 ≢ Equal) → Adds x I (put s (json x.1) ms)
         → Adds x (q ∷ I) (match_ordering o (member s (json x.1) (member l e ms)) (member l (json x.1) ms) (member l e (put s (json x.1) ms)))
     adds_at Less q I l e ms is h d a rest = (x ∷ q ∷ I, (named, known, refl, read, h), λ p. (λ i. i, λ i. i), (a, d))
@@ -93,8 +98,10 @@ module _ {K V : Type 0} (cmp : K → K → Ordering) (total : IsTotalOrder cmp) 
     λ i. elim (In-cases done (x ∷ []) p i) [ inl j ↦ inr j | inr j ↦ elim j [ inl e ↦ inl e | inr k ↦ absurd k ] ],
   )
 
-  pub gathered_more : (told : (x y : K) → key_json x ≡ key_json y → cmp x y ≡ Equal) (x : K × V) (s : List ℕ) → text x.0 ≡ Some s → key s ≡ Some (key_json x.0) → json_item (json x.1) ≡ Ok (json x.1)
-      → (ms : Members) (done : List (K × V)) → Gathered ms done → ((q : K × V) → In q done → cmp x.0 q.0 ≢ Equal) → Gathered (put s (json x.1) ms) (done ++ x ∷ [])
+  pub gathered_more : (told : (x y : K) → key_json x ≡ key_json y → cmp x y ≡ Equal) (x : K × V) (s : List ℕ) → text x.0 ≡ Some s → key s ≡ Some (key_json x.0)
+      → json_item (json x.1) ≡ Ok (json x.1)
+      → (ms : Members) (done : List (K × V)) → Gathered ms done → ((q : K × V) → In q done → cmp x.0 q.0 ≢ Equal)
+      → Gathered (put s (json x.1) ms) (done ++ x ∷ [])
   gathered_more told x s named known read ms done g apart =
       let more = adds told x s named known read g.0 ms g.1 g.3 (λ q i. apart q ((g.2 q).0 i)) in (
         more.0,
@@ -107,7 +114,8 @@ module _ {K V : Type 0} (cmp : K → K → Ordering) (total : IsTotalOrder cmp) 
       )
 
   -- no pair before x has an equal key
-  pub apart_before : (L : List (K × V)) (i : ℕ) (x : K × V) → i < length L → x ≡ get_or L i x → Rising cmp L → (q : K × V) → In q (take i L) → cmp x.0 q.0 ≢ Equal
+  pub apart_before : (L : List (K × V)) (i : ℕ) (x : K × V) → i < length L → x ≡ get_or L i x → Rising cmp L → (q : K × V) → In q (take i L)
+      → cmp x.0 q.0 ≢ Equal
   apart_before L i x h e r q j =
       let parts = split_at L i x h in
       let less : cmp q.0 x.0 ≡ Less = rising_across cmp (take i L) (get_or L i x ∷ drop (suc i) L) (subst (Rising cmp) parts r) q x j (inl (sym e)) in
@@ -120,7 +128,8 @@ module _ {K V : Type 0} (cmp : K → K → Ordering) (total : IsTotalOrder cmp) 
   abbrev pub Gathers : List (K × V) → ℕ → Members → Type 0
   Gathers L i ms = (object_with text key_json json i ms (drop i L) ≡ object_with text key_json json 0 no_members L) × Gathered ms (take i L)
 
-  pub object_step : (told : (x y : K) → key_json x ≡ key_json y → cmp x y ≡ Equal) (L : List (K × V)) (i : ℕ) (x : K × V) (s : List ℕ) (ms : Members) → Some x ≡ slice_get L i → Rising cmp L
+  pub object_step : (told : (x y : K) → key_json x ≡ key_json y → cmp x y ≡ Equal) (L : List (K × V)) (i : ℕ) (x : K × V) (s : List ℕ) (ms : Members)
+      → Some x ≡ slice_get L i → Rising cmp L
       → text x.0 ≡ Some s → key s ≡ Some (key_json x.0) → json_item (json x.1) ≡ Ok (json x.1) → Gathers L i ms → Gathers L (i + 1) (put s (json x.1) ms)
   object_step told L i x s ms here r named known read g =
       let found = at_place L i x here in (
@@ -129,7 +138,8 @@ module _ {K V : Type 0} (cmp : K → K → Ordering) (total : IsTotalOrder cmp) 
             (gathered_more told x s named known read ms (take i L) g.1 (apart_before L i x found.0 found.1 r)),
       )
 
-  pub object_end : (L : List (K × V)) (i : ℕ) (ms : Members) (d : Data) → length L ≤ i → Rising cmp L → d ≡ object ms → Gathers L i ms → ReadsAs cmp key key_item json_item key_json json d L
+  pub object_end : (L : List (K × V)) (i : ℕ) (ms : Members) (d : Data) → length L ≤ i → Rising cmp L → d ≡ object ms → Gathers L i ms
+      → ReadsAs cmp key key_item json_item key_json json d L
   object_end L i ms d h r e g =
       let all : Gathered ms L = subst (λ done. Gathered ms done) (take_all i L h) g.1 in
       rw e (record {
@@ -138,6 +148,9 @@ module _ {K V : Type 0} (cmp : K → K → Ordering) (total : IsTotalOrder cmp) 
         last = record { rising = r; exactly = λ p. (λ i. last_from p all.0 all.3 ((all.2 p).1 i), λ h. (all.2 p).0 (In-from_last cmp p all.0 h)) };
       })
 
-  pub array_step : (L : List (K × V)) (i : ℕ) (x : K × V) → i < length L → x ≡ get_or L i x → AllReadBack key_item json_item key_json json (take i L) → ReadsBack key_item json_item key_json json x
+  pub array_step : (L : List (K × V)) (i : ℕ) (x : K × V) → i < length L → x ≡ get_or L i x → AllReadBack key_item json_item key_json json (take i L)
+      → ReadsBack key_item json_item key_json json x
       → AllReadBack key_item json_item key_json json (take (i + 1) L)
-  array_step L i x h e all here = subst (λ done. AllReadBack key_item json_item key_json json done) (sym (take_next L i x h e)) (each-append (ReadsBack key_item json_item key_json json) (take i L) (x ∷ []) all (here, tt))
+  array_step L i x h e all here =
+      subst (λ done. AllReadBack key_item json_item key_json json done) (sym (take_next L i x h e))
+      (each-append (ReadsBack key_item json_item key_json json) (take i L) (x ∷ []) all (here, tt))

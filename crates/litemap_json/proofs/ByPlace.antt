@@ -1,5 +1,6 @@
 -- A list that is read index by index.
-use Rattle.std.proofs.Common.{◌≡◌, ℕ, suc, ◌+◌, ◌<◌, List, [], ◌∷◌, ◌++◌, length, get_or, drop, slice_get, refl, Option, Some, None, option_map, Ok, Err, Result, sym, ◌∙◌, ap, add-one, drop-cons, append_assoc}
+use Rattle.std.proofs.Common.{◌≡◌, ℕ, suc, ◌+◌, ◌<◌, List, [], ◌∷◌, ◌++◌, length, get_or, drop, slice_get, refl, Option, Some, None, option_map, Ok, Err}
+use Rattle.std.proofs.Common.{Result, sym, ◌∙◌, ap, add-one, drop-cons, append_assoc}
 use Rattle.std.proofs.lemmas.List.{map-append}
 use Rattle.std.proofs.lemmas.Option.{get_or_from_slice_get, slice_get_within}
 use Rattle.serde_json.specs.Data.{Data, Members, put}
@@ -16,11 +17,13 @@ pub next : {X : Type 0} (L : List X) (i : ℕ) (x : X) → i < length L → x �
 next L i x h e = rw add-one (drop-cons L i x h ∙ ap (λ y. y ∷ drop (suc i) L) (sym e))
 
 module _ {K V : Type 0} (text : K → Option (List ℕ)) (key_json : K → Data) (json : V → Data) where
-  pub made_step : (L : List (K × V)) (i : ℕ) (x : K × V) (s : List ℕ) (ms : Members) (r : Result Data WriteFault) → i < length L → x ≡ get_or L i x → text x.0 ≡ Some s
+  pub made_step : (L : List (K × V)) (i : ℕ) (x : K × V) (s : List ℕ) (ms : Members) (r : Result Data WriteFault) → i < length L → x ≡ get_or L i x
+      → text x.0 ≡ Some s
       → object_with text key_json json i ms (drop i L) ≡ r → object_with text key_json json (i + 1) (put s (json x.1) ms) (drop (i + 1) L) ≡ r
   made_step L i x s ms r h e named made = (rw (next L i x h e, named) at made)
 
-  pub made_stop : {N : Type 0} (bytes : N → List ℕ) (L : List (K × V)) (i : ℕ) (x : K × V) (name : Option N) (ms : Members) (r : Result Data WriteFault) → Some x ≡ slice_get L i → option_map bytes name ≡ text x.0 → name ≡ None
+  pub made_stop : {N : Type 0} (bytes : N → List ℕ) (L : List (K × V)) (i : ℕ) (x : K × V) (name : Option N) (ms : Members) (r : Result Data WriteFault)
+      → Some x ≡ slice_get L i → option_map bytes name ≡ text x.0 → name ≡ None
       → object_with text key_json json i ms (drop i L) ≡ r → r ≡ Err (KeyWithoutText i)
   made_stop bytes L i x name ms r here made none so_far =
       let found = at_place L i x here in
@@ -36,7 +39,8 @@ after_more ps p (Err e) = refl
 after_more ps p (Ok qs) = ap Ok (sym (append_assoc ps (p ∷ []) qs))
 
 -- a pair more is read
-pub seen_more : {K V : Type 0} (key_json : K → Data) (json : V → Data) (L M : List (K × V)) (x : K × V) (all next : Result (List (Data × Data)) JsonFault) (a : Result (Data × Data) JsonFault)
+pub seen_more : {K V : Type 0} (key_json : K → Data) (json : V → Data) (L M : List (K × V)) (x : K × V) (all next : Result (List (Data × Data)) JsonFault)
+    (a : Result (Data × Data) JsonFault)
     → M ≡ L ++ x ∷ [] → a ≡ Ok (pair_seen key_json json x) → all ≡ after (seen key_json json L) (before a next) → all ≡ after (seen key_json json M) next
 seen_more key_json json L M x all next a pushed read so_far =
     rw pushed (rw (map-append (pair_seen key_json json) L (x ∷ [])) ((rw read at so_far) ∙ after_more (seen key_json json L) (pair_seen key_json json x) next))

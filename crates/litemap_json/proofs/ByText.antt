@@ -12,7 +12,8 @@ abbrev tree_of : {Z : Type 0} → String Z → Data
 tree_of s = string (string_bytes s)
 
 module _ {Z V : Type 0} (json : V → Data) (text : List ℕ) where
-  pub values_seen : (L M : List (String Z × V)) → seen tree_of json L ≡ seen tree_of json M → option_map json (value_at by_string L text) ≡ option_map json (value_at by_string M text)
+  pub values_seen : (L M : List (String Z × V)) → seen tree_of json L ≡ seen tree_of json M → option_map json (value_at by_string L text)
+      ≡ option_map json (value_at by_string M text)
   values_seen [] [] e = refl
   values_seen (p ∷ L) (q ∷ M) e =
       let here : pair_seen tree_of json p ≡ pair_seen tree_of json q = cc in
@@ -22,7 +23,8 @@ module _ {Z V : Type 0} (json : V → Data) (text : List ℕ) where
       let rest : seen tree_of json L ≡ seen tree_of json M = cc in
       let value : Option (String Z × V) → Option Data = λ found. option_map json (option_map (λ r. r.1) found) in
       let compared : is_eq (by_string p.0 text) ≡ is_eq (by_string q.0 text) = ap (λ s. is_eq (slice_cmp nat_cmp s text)) bytes in
-      rw compared (elim (is_eq (by_string q.0 text)) as (λ b. value (cond b (Some p) (at by_string L text)) ≡ value (cond b (Some q) (at by_string M text))) [ true ↦ ap Some items | false ↦ values_seen L M rest ])
+      rw compared (elim (is_eq (by_string q.0 text)) as (λ b. value (cond b (Some p) (at by_string L text)) ≡ value (cond b (Some q) (at by_string M text)))
+      [ true ↦ ap Some items | false ↦ values_seen L M rest ])
   values_seen _ _ e = absurd cc
 
 pub same_values : {V : Type 0} (json : V → Data) → ((v w : V) → json v ≡ json w → v ≡ w) → (a b : Option V) → option_map json a ≡ option_map json b → a ≡ b

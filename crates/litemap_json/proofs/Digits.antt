@@ -1,5 +1,6 @@
 -- The decimal digits of numbers, compared as strings.
-use Rattle.std.proofs.Common.{◌≡◌, ℕ, zero, suc, ◌+◌, ◌-◌, ◌*◌, ◌/◌, ◌%◌, ◌^◌, ◌<◌, ◌≤◌, List, [], ◌∷◌, ◌++◌, length, decimal, nat_cmp, true, Ordering, Less, Equal, Greater, Option, None, Some, IfNone, IfSome, unwrap_or, refl, sym, ap, ◌∙◌, arith}
+use Rattle.std.proofs.Common.{◌≡◌, ℕ, zero, suc, ◌+◌, ◌-◌, ◌*◌, ◌/◌, ◌%◌, ◌^◌, ◌<◌, ◌≤◌, List, [], ◌∷◌, ◌++◌, length, decimal, nat_cmp, true, Ordering, Less}
+use Rattle.std.proofs.Common.{Equal, Greater, Option, None, Some, IfNone, IfSome, unwrap_or, refl, sym, ap, ◌∙◌, arith}
 use Rattle.std.proofs.Math.Nat.{add-mul, mul-le-mul_right, mul_assoc, mul_comm, mul-one, one-le-pow, one-mul, pow-suc, pow-zero}
 use Rattle.std.proofs.lemmas.Cmp.{by_ranked, ranked}
 use Rattle.std.proofs.lemmas.Fmt.{decimal_by_steps, decimal_digit, length-decimal-le}
@@ -41,7 +42,8 @@ shifted c p q a b e f = sym (nat_cmp_is a b (nat_cmp p q) (go (nat_cmp p q) (ran
     go Greater h = omega (arith, h, e, f)
 
 -- Filled up they compare as numbers. If these are equal, the shorter ones come first.
-order : (s t : List ℕ) (m : ℕ) → AreDigits s → AreDigits t → length s ≤ m → length t ≤ m → slice_cmp nat_cmp s t ≡ ordering_then (nat_cmp (filled s m) (filled t m)) (nat_cmp (length s) (length t))
+order : (s t : List ℕ) (m : ℕ) → AreDigits s → AreDigits t → length s ≤ m → length t ≤ m
+    → slice_cmp nat_cmp s t ≡ ordering_then (nat_cmp (filled s m) (filled t m)) (nat_cmp (length s) (length t))
 order [] [] m d e k l = refl
 order [] (y ∷ t) m d e k l = first (filled (y ∷ t) m)
   where
@@ -60,11 +62,16 @@ order (x ∷ s) (y ∷ t) (suc k) d e a b =
     let left = (x - 48) * 10 ^ k + p in
     let right = (y - 48) * 10 ^ k + q in
     by_ranked (x < y) (x ≡ y) (y < x) (nat_cmp x y) (ranked x y (nat_cmp x y) refl)
-    (λ is h. let less : nat_cmp left right ≡ Less = sym (nat_cmp_is left right Less (below (x - 48) (y - 48) (10 ^ k) p q (omega (arith, h, d.0)) (filled-below s k d.2 (omega (arith, a))))) in rw (is, less) refl)
+    (λ is h. let less : nat_cmp left right ≡ Less = sym
+    (nat_cmp_is left right Less (below (x - 48) (y - 48) (10 ^ k) p q (omega (arith, h, d.0)) (filled-below s k d.2 (omega (arith, a))))) in
+    rw (is, less) refl)
     (λ is h. let same : nat_cmp left right ≡ nat_cmp p q = shifted ((x - 48) * 10 ^ k) p q left right refl (ap (λ z. (z - 48) * 10 ^ k + q) (sym h)) in
-    let long : nat_cmp (suc (length s)) (suc (length t)) ≡ nat_cmp (length s) (length t) = shifted 1 (length s) (length t) (suc (length s)) (suc (length t)) (omega arith) (omega arith) in
+    let long : nat_cmp (suc (length s)) (suc (length t)) ≡ nat_cmp (length s) (length t) =
+    shifted 1 (length s) (length t) (suc (length s)) (suc (length t)) (omega arith) (omega arith) in
     rw (is, same, long) (order s t k d.2 e.2 (omega (arith, a)) (omega (arith, b))))
-    (λ is h. let more : nat_cmp left right ≡ Greater = sym (nat_cmp_is left right Greater (below (y - 48) (x - 48) (10 ^ k) q p (omega (arith, h, e.0)) (filled-below t k e.2 (omega (arith, b))))) in rw (is, more) refl)
+    (λ is h. let more : nat_cmp left right ≡ Greater = sym
+    (nat_cmp_is left right Greater (below (y - 48) (x - 48) (10 ^ k) q p (omega (arith, h, e.0)) (filled-below t k e.2 (omega (arith, b))))) in
+    rw (is, more) refl)
 
 filled-append : (s : List ℕ) (c m : ℕ) → length s < m → filled (s ++ c ∷ []) m ≡ filled s m + (c - 48) * 10 ^ (m - length s - 1)
 filled-append s c zero l = absurd (omega (arith, l))
@@ -107,12 +114,14 @@ more n ds h of = record { digits = by_digits ds of.digits; value = by_value; lon
         let e : m - length (ds ++ (48 + n % 10) ∷ []) ≡ j = omega (arith, long, l) in
         let f : m - length ds ≡ suc j = omega (arith, long, l) in
         let g : 48 + n % 10 - 48 ≡ n % 10 = omega arith in
-        let front : filled ds m ≡ n / 10 * (10 ^ j * 10) = of.value m (omega (arith, long, l)) ∙ ap (λ i. n / 10 * 10 ^ i) f ∙ ap (λ t. n / 10 * t) (pow-suc 10 j) in
+        let front : filled ds m ≡ n / 10 * (10 ^ j * 10) =
+        of.value m (omega (arith, long, l)) ∙ ap (λ i. n / 10 * 10 ^ i) f ∙ ap (λ t. n / 10 * t) (pow-suc 10 j) in
         let whole : n ≡ n / 10 * 10 + n % 10 = omega arith in
         filled-append ds (48 + n % 10) m (omega (arith, long, l)) ∙ rw (front, g, e) (parts (n / 10) (n % 10) n (10 ^ j) whole)
       where
         parts : (a b c t : ℕ) → c ≡ a * 10 + b → a * (t * 10) + b * t ≡ c * t
-        parts a b c t e = ap (λ x. a * x + b * t) (mul_comm t 10) ∙ ap (λ x. x + b * t) (sym (mul_assoc a 10 t)) ∙ sym (add-mul (a * 10) b t) ∙ ap (λ x. x * t) (sym e)
+        parts a b c t e = ap (λ x. a * x + b * t) (mul_comm t 10) ∙ ap (λ x. x + b * t) (sym (mul_assoc a 10 t)) ∙ sym (add-mul (a * 10) b t)
+            ∙ ap (λ x. x * t) (sym e)
 
     by_long : (d : ℕ) → 10 ^ d ≤ n → n < 10 * 10 ^ d → length (ds ++ (48 + n % 10) ∷ []) ≡ d + 1
     by_long zero l u = absurd (omega (arith, h, u, pow-zero 10))
@@ -123,7 +132,8 @@ more n ds h of = record { digits = by_digits ds of.digits; value = by_value; lon
 digits_of : (n : ℕ) → n < 2 ^ 64 → DigitsOf n (decimal n)
 digits_of = decimal_by_steps DigitsOf one more
 
-pub length-decimal : (n : ℕ) (d : Option ℕ) → n < 2 ^ 64 → IfNone d (n ≡ 0) → IfSome d (λ k. 10 ^ k ≤ n) → IfSome d (λ k. n < 10 * 10 ^ k) → length (decimal n) ≡ unwrap_or d 0 + 1
+pub length-decimal : (n : ℕ) (d : Option ℕ) → n < 2 ^ 64 → IfNone d (n ≡ 0) → IfSome d (λ k. 10 ^ k ≤ n) → IfSome d (λ k. n < 10 * 10 ^ k)
+    → length (decimal n) ≡ unwrap_or d 0 + 1
 length-decimal n None small z l u = rw (z, decimal_digit 0 (omega arith)) refl
 length-decimal n (Some k) small z l u = (digits_of n small).long k l u
 
@@ -141,9 +151,11 @@ to_length m a b small_a small_b short_a short_b =
     let of_b = digits_of b small_b in
     order (decimal a) (decimal b) m of_a.digits of_b.digits short_a short_b ∙ rw (of_a.value m short_a, of_b.value m short_b) refl
 
-to_20 : (a b : ℕ) → a < 2 ^ 64 → b < 2 ^ 64 → slice_cmp nat_cmp (decimal a) (decimal b) ≡ ordering_then (nat_cmp (whole a) (whole b)) (nat_cmp (length (decimal a)) (length (decimal b)))
+to_20 : (a b : ℕ) → a < 2 ^ 64 → b < 2 ^ 64 → slice_cmp nat_cmp (decimal a) (decimal b) ≡ ordering_then (nat_cmp (whole a) (whole b))
+    (nat_cmp (length (decimal a)) (length (decimal b)))
 to_20 a b small_a small_b =
-    to_length 20 a b small_a small_b (length-decimal-le 20 a (omega arith) (omega (arith, small_a)) small_a) (length-decimal-le 20 b (omega arith) (omega (arith, small_b)) small_b)
+    to_length 20 a b small_a small_b (length-decimal-le 20 a (omega arith) (omega (arith, small_a)) small_a)
+    (length-decimal-le 20 b (omega arith) (omega (arith, small_b)) small_b)
 
 -- numbers with i and j digits after the first
 pub slice_cmp-decimal : (a b i j : ℕ) → a < 2 ^ 64 → b < 2 ^ 64 → length (decimal a) ≡ i + 1 → length (decimal b) ≡ j + 1
@@ -156,13 +168,17 @@ slice_cmp-decimal a b i j small_a small_b long_a long_b =
     to_length m a b small_a small_b (omega (arith, long_a)) (omega (arith, long_b)) ∙ rw (x, y, lengths) refl
 
 -- the first digits decide if they differ
-pub slice_cmp-first : (a b : ℕ) (o : Ordering) → a < 2 ^ 64 → b < 2 ^ 64 → o ≡ nat_cmp (first_digits a) (first_digits b) → is_ne o ≡ true → o ≡ slice_cmp nat_cmp (decimal a) (decimal b)
+pub slice_cmp-first : (a b : ℕ) (o : Ordering) → a < 2 ^ 64 → b < 2 ^ 64 → o ≡ nat_cmp (first_digits a) (first_digits b) → is_ne o ≡ true
+    → o ≡ slice_cmp nat_cmp (decimal a) (decimal b)
 slice_cmp-first a b o small_a small_b e apart = by o (ranked (first_digits a) (first_digits b) o e) apart
   where
-    by : (o : Ordering) → MatchOrdering o (first_digits a < first_digits b) (first_digits a ≡ first_digits b) (first_digits b < first_digits a) → is_ne o ≡ true → o ≡ slice_cmp nat_cmp (decimal a) (decimal b)
-    by Less h n = let less : nat_cmp (whole a) (whole b) ≡ Less = sym (nat_cmp_is (whole a) (whole b) Less (omega (arith, h))) in sym (to_20 a b small_a small_b ∙ rw less refl)
+    by : (o : Ordering) → MatchOrdering o (first_digits a < first_digits b) (first_digits a ≡ first_digits b) (first_digits b < first_digits a) → is_ne o ≡ true
+        → o ≡ slice_cmp nat_cmp (decimal a) (decimal b)
+    by Less h n = let less : nat_cmp (whole a) (whole b) ≡ Less =
+        sym (nat_cmp_is (whole a) (whole b) Less (omega (arith, h))) in sym (to_20 a b small_a small_b ∙ rw less refl)
     by Equal h n = absurd cc
-    by Greater h n = let more : nat_cmp (whole a) (whole b) ≡ Greater = sym (nat_cmp_is (whole a) (whole b) Greater (omega (arith, h))) in sym (to_20 a b small_a small_b ∙ rw more refl)
+    by Greater h n = let more : nat_cmp (whole a) (whole b) ≡ Greater =
+        sym (nat_cmp_is (whole a) (whole b) Greater (omega (arith, h))) in sym (to_20 a b small_a small_b ∙ rw more refl)
 
 pub first_digits-all : (n i : ℕ) → length (decimal n) ≡ i + 1 → i ≡ 19 → n / 10 ≡ first_digits n
 first_digits-all n i long e =

@@ -1,5 +1,6 @@
 -- Items by their names: one more, wherever its name belongs.
-use Rattle.std.proofs.Common.{◌≡◌, ◌≢◌, ℕ, ◌+◌, ◌<◌, ◌≤◌, List, [], ◌∷◌, ◌++◌, length, get_or, drop, Option, Some, Ok, Ordering, Less, Equal, Greater, inl, inr, refl, sym, ap, subst, ◌∙◌}
+use Rattle.std.proofs.Common.{◌≡◌, ◌≢◌, ℕ, ◌+◌, ◌<◌, ◌≤◌, List, [], ◌∷◌, ◌++◌, length, get_or, drop, Option, Some, Ok, Ordering, Less, Equal, Greater, inl, inr}
+use Rattle.std.proofs.Common.{refl, sym, ap, subst, ◌∙◌}
 use Rattle.std.proofs.lemmas.List.{drop_all}
 use Rattle.std.proofs.lemmas.Map.Lookups.{exact_bytes}
 use Rattle.std.specs.Ordering.{nat_cmp, is_gt, is_lt, ordering_reverse}
@@ -30,11 +31,13 @@ module _ {N V : Type 0} (bytes : N → List ℕ) (json : V → Data) where
   past : (p q : N × V) (M : List (N × V)) → name_cmp q.0 p.0 ≢ Less → BelowAll name_cmp q.0 M → (below name_cmp M p.0 ≡ []) × (above name_cmp M p.0 ≡ M)
   past p q M n b =
       let later = λ (x : N × V) (i : In x M).
-      elim (key_one_side name_cmp_total p.0 q.0 x.0 (each (λ (y : N × V). name_cmp q.0 y.0 ≡ Less) M b x i)) as (λ _. name_cmp x.0 p.0 ≡ Greater) [ inl h ↦ absurd (n h) | inr g ↦ g ] in
+      elim (key_one_side name_cmp_total p.0 q.0 x.0 (each (λ (y : N × V). name_cmp q.0 y.0 ≡ Less) M b x i)) as
+      (λ _. name_cmp x.0 p.0 ≡ Greater) [ inl h ↦ absurd (n h) | inr g ↦ g ] in
       (filter_none _ M (λ x i. ap is_lt (later x i)), filter_all _ M (λ x i. ap is_gt (later x i)))
 
   put_at : (o : Ordering) (p q : N × V) (M : List (N × V)) → name_cmp q.0 p.0 ≡ o → BelowAll name_cmp q.0 M
-      → named bytes json (With p M) ≡ put (bytes p.0) (json p.1) (named bytes json M) → named bytes json (With p (q ∷ M)) ≡ put (bytes p.0) (json p.1) (named bytes json (q ∷ M))
+      → named bytes json (With p M) ≡ put (bytes p.0) (json p.1) (named bytes json M)
+      → named bytes json (With p (q ∷ M)) ≡ put (bytes p.0) (json p.1) (named bytes json (q ∷ M))
   put_at Less p q M e b rest =
       let back : name_cmp p.0 q.0 ≡ Greater = name_cmp_total.antisymm p.0 q.0 ∙ ap ordering_reverse e in
       rw (e, back) (ap (member (bytes q.0) (json q.1)) rest)
@@ -74,4 +77,5 @@ module _ {N V : Type 0} (bytes : N → List ℕ) (json : V → Data) where
     pub name_end : (L : List (K × W)) (i : ℕ) (names N : List (N × V)) → length L ≤ i → Named L i names → Last name_cmp names N
         → object_with text key_json json_of 0 no_members L ≡ Ok (object (named bytes json N))
     name_end L i names N h held last =
-        sym held.2 ∙ ap (object_with text key_json json_of i (named bytes json held.0)) (drop_all i L h) ∙ ap (λ M. Ok (object (named bytes json M))) (Last-unique name_cmp name_cmp_total names held.0 N held.1 last)
+        sym held.2 ∙ ap (object_with text key_json json_of i (named bytes json held.0)) (drop_all i L h) ∙ ap (λ M. Ok (object (named bytes json M)))
+        (Last-unique name_cmp name_cmp_total names held.0 N held.1 last)

@@ -1,5 +1,6 @@
 -- The maps that one tree is read as have the same trees of keys and items.
-use Rattle.std.proofs.Common.{◌≡◌, ℕ, List, [], ◌∷◌, ◌++◌, Bool, true, false, cond, filter, Option, Result, Ok, Ordering, Equal, refl, sym, ap, ap₂, ◌∙◌, append-nil, append_assoc}
+use Rattle.std.proofs.Common.{◌≡◌, ℕ, List, [], ◌∷◌, ◌++◌, Bool, true, false, cond, filter, Option, Result, Ok, Ordering, Equal, refl, sym, ap, ap₂, ◌∙◌}
+use Rattle.std.proofs.Common.{append-nil, append_assoc}
 use Rattle.std.proofs.lemmas.List.{map-append}
 use Rattle.std.specs.Cmp.{IsTotalOrder}
 use Rattle.std.specs.Ordering.{is_gt, is_lt, ordering_reverse}
@@ -11,7 +12,8 @@ use Rattle.litemap_json.specs.declared.item.ItemFault.{ItemFault}
 use Rattle.litemap_json.specs.Reading.{ReadsAs, pair_seen, seen}
 use Rattle.litemap_json.specs.declared.fault.JsonFault.{JsonFault}
 
-module _ {K V : Type 0} (cmp : K → K → Ordering) (total : IsTotalOrder cmp) (key_json : K → Data) (json : V → Data) (told : (x y : K) → key_json x ≡ key_json y → cmp x y ≡ Equal) where
+module _ {K V : Type 0} (cmp : K → K → Ordering) (total : IsTotalOrder cmp) (key_json : K → Data) (json : V → Data)
+    (told : (x y : K) → key_json x ≡ key_json y → cmp x y ≡ Equal) where
   abbrev the_ok : List (Data × Data) → Result (List (Data × Data)) JsonFault
   the_ok x = Ok x
 
@@ -23,7 +25,8 @@ module _ {K V : Type 0} (cmp : K → K → Ordering) (total : IsTotalOrder cmp) 
       total.congr x a y (told x a e) ∙ total.antisymm a y ∙ ap ordering_reverse (total.congr y b a (told y b f)) ∙ sym (total.antisymm a b)
 
   -- the pairs that are kept by how their keys compare with a key
-  kept_alike : (t : Ordering → Bool) (k l : K) → key_json k ≡ key_json l → (L M : List (K × V)) → Sees L ≡ Sees M → Sees (filter (λ p. t (cmp p.0 k)) L) ≡ Sees (filter (λ p. t (cmp p.0 l)) M)
+  kept_alike : (t : Ordering → Bool) (k l : K) → key_json k ≡ key_json l → (L M : List (K × V)) → Sees L ≡ Sees M
+      → Sees (filter (λ p. t (cmp p.0 k)) L) ≡ Sees (filter (λ p. t (cmp p.0 l)) M)
   kept_alike t k l e [] [] s = refl
   kept_alike t k l e (p ∷ L) (q ∷ M) s =
       let here : pair_seen key_json json p ≡ pair_seen key_json json q = cc in
@@ -32,7 +35,8 @@ module _ {K V : Type 0} (cmp : K → K → Ordering) (total : IsTotalOrder cmp) 
       let same = cmp_alike p.0 k q.0 l (ap (λ (d : Data × Data). d.0) here) e in
       let L' = filter (λ (x : K × V). t (cmp x.0 k)) L in
       let M' = filter (λ (x : K × V). t (cmp x.0 l)) M in
-      rw same (elim (t (cmp q.0 l)) as (λ b. Sees (cond b (p ∷ L') L') ≡ Sees (cond b (q ∷ M') M')) [ true ↦ ap₂ (λ d ds. d ∷ ds) here others | false ↦ others ])
+      rw same (elim (t (cmp q.0 l)) as
+      (λ b. Sees (cond b (p ∷ L') L') ≡ Sees (cond b (q ∷ M') M')) [ true ↦ ap₂ (λ d ds. d ∷ ds) here others | false ↦ others ])
   kept_alike t k l e _ _ s = absurd cc
 
   put_alike : (p q : K × V) → pair_seen key_json json p ≡ pair_seen key_json json q → (L M : List (K × V)) → Sees L ≡ Sees M
@@ -44,7 +48,8 @@ module _ {K V : Type 0} (cmp : K → K → Ordering) (total : IsTotalOrder cmp) 
       ∙ sym (map-append (pair_seen key_json json) (below cmp M q.0) (q ∷ above cmp M q.0))
 
   -- L and M are the last pairs of the lists so far, N and O of all
-  last_alike : (D E J I L M N O : List (K × V)) → Sees J ≡ Sees I → Sees L ≡ Sees M → Last cmp D L → Last cmp E M → Last cmp (D ++ J) N → Last cmp (E ++ I) O → Sees N ≡ Sees O
+  last_alike : (D E J I L M N O : List (K × V)) → Sees J ≡ Sees I → Sees L ≡ Sees M → Last cmp D L → Last cmp E M → Last cmp (D ++ J) N → Last cmp (E ++ I) O
+      → Sees N ≡ Sees O
   last_alike D E [] [] L M N O e s a b c d =
       let first = Last-unique cmp total D L N a (rw append-nil at c) in
       let second = Last-unique cmp total E M O b (rw append-nil at d) in
@@ -65,7 +70,8 @@ module _ {K V : Type 0} (cmp : K → K → Ordering) (total : IsTotalOrder cmp) 
       last_alike [] [] a.spelled b.spelled [] [] L M same refl none none a.last b.last
 
 -- if a tree tells its key, and another its item, the trees of a list tell the list
-module _ {K V : Type 0} (key_json : K → Data) (json : V → Data) (keys : (x y : K) → key_json x ≡ key_json y → x ≡ y) (items : (v w : V) → json v ≡ json w → v ≡ w) where
+module _ {K V : Type 0} (key_json : K → Data) (json : V → Data) (keys : (x y : K) → key_json x ≡ key_json y → x ≡ y)
+    (items : (v w : V) → json v ≡ json w → v ≡ w) where
   same_pair : (p q : K × V) → pair_seen key_json json p ≡ pair_seen key_json json q → p ≡ q
   same_pair p q e =
       let k = keys p.0 q.0 (ap (λ (d : Data × Data). d.0) e) in

@@ -1,5 +1,6 @@
 -- Whole numbers that 64 bits hold are made, and those that are printed are read back, in that one spelling.
-use Rattle.std.proofs.Common.{◌≡◌, inl, inr, ℕ, suc, ◌^◌, if◌then◌else◌, ℤ, pos, negsuc, neg_ℤ, List, ◌∷◌, Bool, true, false, Some, None, Result, Ok, Err, decimal, arith, refl, sym, ap, subst, ◌∙◌}
+use Rattle.std.proofs.Common.{◌≡◌, inl, inr, ℕ, suc, ◌^◌, if◌then◌else◌, ℤ, pos, negsuc, neg_ℤ, List, ◌∷◌, Bool, true, false, Some, None, Result, Ok, Err}
+use Rattle.std.proofs.Common.{decimal, arith, refl, sym, ap, subst, ◌∙◌}
 use Rattle.std.proofs.lemmas.Bool.{lt-ltb, both_ways}
 use Rattle.std.proofs.lemmas.Bool.Decides.{Decides-int_eq}
 use Rattle.std.proofs.lemmas.Fmt.{decimal_is_IsNumeral_wide}
@@ -24,7 +25,8 @@ held_by_128 (negsuc n) (inl h) = lt-ltb n (2 ^ 127) (omega (arith, ints, h.0))
 held_by_128 (negsuc n) (inr h) = lt-ltb n (2 ^ 127) (omega (arith, ints, h.sfits))
 
 -- what is made if 64 bits hold a number is made of each that is held
-pub some_held : {X : Type 0} (made : Option X) (z : ℤ) (P : X → Type 0) → MatchOption made (¬ FitsUnsigned w64 z × ¬ FitsSigned w64 z) P → IsHeld z → IsSome made
+pub some_held : {X : Type 0} (made : Option X) (z : ℤ) (P : X → Type 0) → MatchOption made (¬ FitsUnsigned w64 z × ¬ FitsSigned w64 z) P → IsHeld z
+    → IsSome made
 some_held None z P m (inl h) = absurd (m.0 h)
 some_held None z P m (inr h) = absurd (m.1 h)
 some_held (Some x) z P m h = refl
@@ -67,7 +69,8 @@ pub read_whole : (fits : ℤ → Bool) (z : ℤ) → fits z ≡ true → IsHeld 
 read_whole fits z h held = rw (whole_of_text-printed z (fits_signed w128 z (held_by_128 z held)), h)
 
 -- a text that `parse` rejects is no such number's
-unread_at : {E : Type 0} (t u : Bool) (s : List ℕ) (z : ℤ) (r : Result ℤ E) → bytes_eq (signed_decimal z) s ≡ t → signed_fits 127 z ≡ u → ParsesSigned w128 10 s r → ((y : ℤ) → r ≡ Ok y → ⊥)
+unread_at : {E : Type 0} (t u : Bool) (s : List ℕ) (z : ℤ) (r : Result ℤ E) → bytes_eq (signed_decimal z) s ≡ t → signed_fits 127 z ≡ u
+    → ParsesSigned w128 10 s r → ((y : ℤ) → r ≡ Ok y → ⊥)
     → None ≡ kept (signed_fits 127) (if t then Some z else None)
 unread_at true true s z r e f parsed never =
     absurd (never z (parse_printed z s r (fits_signed w128 z f) (sym ((bytes_eq-Decides (signed_decimal z) s).0 e)) parsed))

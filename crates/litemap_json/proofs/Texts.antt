@@ -1,5 +1,6 @@
 -- The tokens of a map, pair by pair, and their text.
-use Rattle.std.proofs.Common.{◌≡◌, ℕ, ◌+◌, ◌<◌, ◌≤◌, List, [], ◌∷◌, ◌++◌, length, get_or, drop, Option, Some, Ok, Less, Greater, nat_cmp, refl, sym, ap, ap₂, subst, ◌∙◌, arith, append_assoc}
+use Rattle.std.proofs.Common.{◌≡◌, ℕ, ◌+◌, ◌<◌, ◌≤◌, List, [], ◌∷◌, ◌++◌, length, get_or, drop, Option, Some, Ok, Less, Greater, nat_cmp, refl, sym, ap, ap₂}
+use Rattle.std.proofs.Common.{subst, ◌∙◌, arith, append_assoc}
 use Rattle.std.proofs.lemmas.List.{drop_all}
 use Rattle.std.specs.Cmp.Lexicographic.{slice_cmp, nat_list_cmp_total}
 use Rattle.json.specs.Json as json
@@ -32,7 +33,8 @@ text_of_tree d ts text w e same =
     }
 
 -- a member before others
-member_before : (s : List ℕ) (d : Data) (ms : Members) (mid new end : List Token) → WritesTree d (mid ++ key s ∷ []) new → WritesMembers ms new end → WritesMembers (member s d ms) mid end
+member_before : (s : List ℕ) (d : Data) (ms : Members) (mid new end : List Token) → WritesTree d (mid ++ key s ∷ []) new → WritesMembers ms new end
+    → WritesMembers (member s d ms) mid end
 member_before s d ms mid new end w more = (
   json.member s w.0 more.0,
   more.1 ∙ ap (λ ts. ts ++ members_tokens more.0) w.1 ∙ append_assoc (mid ++ key s ∷ []) (json_tokens w.0) (members_tokens more.0)
@@ -43,14 +45,16 @@ member_before s d ms mid new end w more = (
 module _ {N V : Type 0} (bytes : N → List ℕ) (json_of : V → Data) where
   -- the members of the named items before an index are written
   abbrev pub NamedHeld : List (N × V) → ℕ → List Token → Type 0
-  NamedHeld M i mid = (end : List Token) → WritesMembers (named bytes json_of (drop i M)) mid end → WritesMembers (named bytes json_of M) (begin_object ∷ []) end
+  NamedHeld M i mid = (end : List Token) → WritesMembers (named bytes json_of (drop i M)) mid end
+      → WritesMembers (named bytes json_of M) (begin_object ∷ []) end
 
   pub named_more : (M : List (N × V)) (i : ℕ) (x : N × V) (mid new : List Token) → i < length M → x ≡ get_or M i x
       → WritesTree (json_of x.1) (mid ++ key (bytes x.0) ∷ []) new → NamedHeld M i mid → NamedHeld M (i + 1) new
   named_more M i x mid new h e w held = λ end rest. held end (subst (λ N. WritesMembers (named bytes json_of N) mid end) (sym (next M i x h e))
       (member_before (bytes x.0) (json_of x.1) (named bytes json_of (drop (i + 1) M)) mid new end w rest))
 
-  pub named_end : (M : List (N × V)) (i : ℕ) (mid new : List Token) → length M ≤ i → new ≡ mid ++ end_object ∷ [] → NamedHeld M i mid → WritesTree (object (named bytes json_of M)) [] new
+  pub named_end : (M : List (N × V)) (i : ℕ) (mid new : List Token) → length M ≤ i → new ≡ mid ++ end_object ∷ [] → NamedHeld M i mid
+      → WritesTree (object (named bytes json_of M)) [] new
   named_end M i mid new h e held =
       let all = held new (subst (λ N. WritesMembers (named bytes json_of N) mid new) (sym (drop_all i M h)) (json.no_members, e, refl)) in
       (json.object all.0, all.1, ap json.object all.2)
@@ -58,9 +62,11 @@ module _ {N V : Type 0} (bytes : N → List ℕ) (json_of : V → Data) where
 module _ {K V : Type 0} (text : K → Option (List ℕ)) (key_json : K → Data) (json_of : V → Data) where
   -- the rows of the pairs before an index are written
   abbrev pub RowsHeld : List (K × V) → ℕ → List Token → Type 0
-  RowsHeld L i mid = (end : List Token) → WritesItems (rows text key_json json_of (drop i L)) mid end → WritesItems (rows text key_json json_of L) (begin_array ∷ []) end
+  RowsHeld L i mid = (end : List Token) → WritesItems (rows text key_json json_of (drop i L)) mid end
+      → WritesItems (rows text key_json json_of L) (begin_array ∷ []) end
 
-  pub rows_more : (L : List (K × V)) (i : ℕ) (x : K × V) (mid new : List Token) → i < length L → x ≡ get_or L i x → WritesTree (row text key_json json_of x) mid new
+  pub rows_more : (L : List (K × V)) (i : ℕ) (x : K × V) (mid new : List Token) → i < length L → x ≡ get_or L i x
+      → WritesTree (row text key_json json_of x) mid new
       → RowsHeld L i mid → RowsHeld L (i + 1) new
   rows_more L i x mid new h e w held = λ end rest. held end (subst (λ M. WritesItems (rows text key_json json_of M) mid end) (sym (next L i x h e)) (
     json.item w.0 rest.0,
@@ -68,7 +74,8 @@ module _ {K V : Type 0} (text : K → Option (List ℕ)) (key_json : K → Data)
     ap₂ json.item w.2 rest.2,
   ))
 
-  pub rows_end : (L : List (K × V)) (i : ℕ) (mid new : List Token) → length L ≤ i → new ≡ mid ++ end_array ∷ [] → RowsHeld L i mid → WritesTree (array (rows text key_json json_of L)) [] new
+  pub rows_end : (L : List (K × V)) (i : ℕ) (mid new : List Token) → length L ≤ i → new ≡ mid ++ end_array ∷ [] → RowsHeld L i mid
+      → WritesTree (array (rows text key_json json_of L)) [] new
   rows_end L i mid new h e held =
       let all = held new (subst (λ M. WritesItems (rows text key_json json_of M) mid new) (sym (drop_all i L h)) (json.no_items, e, refl)) in
       (json.array all.0, all.1, ap json.array all.2)
@@ -91,10 +98,12 @@ module _ {K V : Type 0} (text : K → Option (List ℕ)) (key_json : K → Data)
       let ms = held.0 in
       let after = put-above s d ms (held.1 s (λ later. above last s (rises later))) in (
         joined ms (member s d no_members),
-        λ r up. above-joined r s d ms (held.1 r (λ later. above last r (nat_list_cmp_total.trans last s r (rises later) (below r s (up (omega arith)))))) (up (omega arith)),
+        λ r up. above-joined r s d ms (held.1 r (λ later. above last r (nat_list_cmp_total.trans last s r (rises later) (below r s (up (omega arith))))))
+            (up (omega arith)),
         subst (λ m. object_with text key_json json_of (i + 1) m (drop (i + 1) L) ≡ object_with text key_json json_of 0 no_members L) after
             (made_step text key_json json_of L i x s ms (object_with text key_json json_of 0 no_members L) h e is held.2),
-        λ rest end more. subst (λ m. WritesMembers m (begin_object ∷ []) end) (sym (joined-one ms rest s d)) (held.3 (member s d rest) end (member_before s d rest mid new end w more)),
+        λ rest end more. subst (λ m. WritesMembers m (begin_object ∷ []) end) (sym (joined-one ms rest s d))
+            (held.3 (member s d rest) end (member_before s d rest mid new end w more)),
       )
 
   pub pairs_end : (L : List (K × V)) (i : ℕ) (last : List ℕ) (mid new : List Token) → length L ≤ i → new ≡ mid ++ end_object ∷ [] → PairsHeld L i last mid

@@ -1,5 +1,6 @@
 -- A token that is written for a string, a boolean or a number is the tree of it.
-use Rattle.std.proofs.Common.{◌≡◌, ℕ, ◌^◌, ◌<◌, ℤ, pos, negsuc, List, [], ◌∷◌, ◌++◌, Bool, true, false, cond, Some, None, option_and_then, decimal, nat_lt, SFits, w64, refl, sym, ap, ◌∙◌, arith, append-nil, append_assoc}
+use Rattle.std.proofs.Common.{◌≡◌, ℕ, ◌^◌, ◌<◌, ℤ, pos, negsuc, List, [], ◌∷◌, ◌++◌, Bool, true, false, cond, Some, None, option_and_then, decimal, nat_lt}
+use Rattle.std.proofs.Common.{SFits, w64, refl, sym, ap, ◌∙◌, arith, append-nil, append_assoc}
 use Rattle.std.specs.Fmt.{signed_decimal}
 use Rattle.json.specs.Json as json
 use Rattle.json.specs.Lex.{tokens}
@@ -34,12 +35,14 @@ pub kept_signed : (z : ℤ) → SFits w64 z → unless_float (signed_decimal z) 
 kept_signed (pos n) fits = kept (decimal n) (unsigned n) (number_of-decimal n (grind arith)) refl
 kept_signed (negsuc n) fits = kept (signed_decimal (negsuc n)) (negative (negsuc n)) (number_of-negative n (grind arith)) refl
 
-of_unsigned : (m : Num) (n : ℕ) (old new : List Token) → n < 2 ^ 64 → as_u64 m ≡ Some n → new ≡ old ++ token.number (decimal n) ∷ [] → WritesTree (number m) old new
+of_unsigned : (m : Num) (n : ℕ) (old new : List Token) → n < 2 ^ 64 → as_u64 m ≡ Some n → new ≡ old ++ token.number (decimal n) ∷ []
+    → WritesTree (number m) old new
 of_unsigned (unsigned m) n old new h e t =
     let same : n ≡ m = cc in (json.number (decimal n), t, ap json.number (kept (decimal n) (unsigned n) (number_of-decimal n h) refl ∙ ap decimal same))
 of_unsigned _ n old new h e t = absurd cc
 
-pub writes_unsigned : (d : Data) (n : ℕ) (old new : List Token) → n < 2 ^ 64 → option_and_then as_u64 (as_number d) ≡ Some n → new ≡ old ++ token.number (decimal n) ∷ [] → WritesTree d old new
+pub writes_unsigned : (d : Data) (n : ℕ) (old new : List Token) → n < 2 ^ 64 → option_and_then as_u64 (as_number d) ≡ Some n
+    → new ≡ old ++ token.number (decimal n) ∷ [] → WritesTree d old new
 writes_unsigned (number m) n old new h e t = of_unsigned m n old new h e t
 writes_unsigned _ n old new h e t = absurd cc
 
@@ -51,18 +54,21 @@ small : (m : ℕ) (z : ℤ) (b : Bool) → cond b (Some (pos m)) None ≡ Some z
 small m z true e = cc
 small m z false e = absurd cc
 
-of_signed : (m : Num) (z : ℤ) (old new : List Token) → Kept z → as_i64 m ≡ Some z → new ≡ old ++ token.number (signed_decimal z) ∷ [] → WritesTree (number m) old new
+of_signed : (m : Num) (z : ℤ) (old new : List Token) → Kept z → as_i64 m ≡ Some z → new ≡ old ++ token.number (signed_decimal z) ∷ []
+    → WritesTree (number m) old new
 of_signed (unsigned m) z old new h e t =
     let same : pos m ≡ z = small m z (nat_lt m (2 ^ 63)) e in (json.number (signed_decimal z), t, ap json.number (h ∙ ap signed_decimal (sym same)))
 of_signed (negative y) z old new h e t = let same : z ≡ y = cc in (json.number (signed_decimal z), t, ap json.number (h ∙ ap signed_decimal same))
 of_signed (float x) z old new h e t = absurd cc
 
-pub writes_signed : (d : Data) (z : ℤ) (old new : List Token) → Kept z → option_and_then as_i64 (as_number d) ≡ Some z → new ≡ old ++ token.number (signed_decimal z) ∷ [] → WritesTree d old new
+pub writes_signed : (d : Data) (z : ℤ) (old new : List Token) → Kept z → option_and_then as_i64 (as_number d) ≡ Some z
+    → new ≡ old ++ token.number (signed_decimal z) ∷ [] → WritesTree d old new
 writes_signed (number m) z old new h e t = of_signed m z old new h e t
 writes_signed _ z old new h e t = absurd cc
 
 -- the tokens of two trees between brackets
-pub writes_two : (d e : Data) (old opened first second new : List Token) → opened ≡ old ++ token.begin_array ∷ [] → WritesTree d opened first → WritesTree e first second → new ≡ second ++ token.end_array ∷ []
+pub writes_two : (d e : Data) (old opened first second new : List Token) → opened ≡ old ++ token.begin_array ∷ [] → WritesTree d opened first
+    → WritesTree e first second → new ≡ second ++ token.end_array ∷ []
     → WritesTree (pair_json d e) old new
 writes_two d e old opened first second new o a b c = (
   json.array (json.item a.0 (json.item b.0 json.no_items)),

@@ -27,7 +27,8 @@ not_both (Some x) s n = cc
 
 module _ {K V : Type 0} (cmp : K → K → Ordering) (o : IsTotalOrder cmp) where
   -- the call fails with this
-  refused_so : (old : Contents K V) (c : Call K V) (a : Answer K V) (new : Contents K V) → IsRefused cmp old c a new → (back : Option (K × V)) × (a ≡ NoRoom back)
+  refused_so : (old : Contents K V) (c : Call K V) (a : Answer K V) (new : Contents K V) → IsRefused cmp old c a new
+      → (back : Option (K × V)) × (a ≡ NoRoom back)
   refused_so old (call.Insert k v) a new h = (Some (k, v), h.1.0)
   refused_so old (call.TryInsert k v) a new h = (Some (k, v), h.1.0)
   refused_so old (call.TryAppend k v) a new h = (Some (k, v), h.1.0)
@@ -35,7 +36,8 @@ module _ {K V : Type 0} (cmp : K → K → Ordering) (o : IsTotalOrder cmp) wher
   refused_so old (call.Reserve n) a new h = (None, h.0)
   refused_so old _ a new h = absurd h
 
-  done : (old : Contents K V) (c : Call K V) (a : Answer K V) (new : Contents K V) → Step cmp old c a new → ((back : Option (K × V)) → a ≡ NoRoom back → ⊥) → IsDone cmp old c a new
+  done : (old : Contents K V) (c : Call K V) (a : Answer K V) (new : Contents K V) → Step cmp old c a new → ((back : Option (K × V)) → a ≡ NoRoom back → ⊥)
+      → IsDone cmp old c a new
   done old c a new (inl d) not = d
   done old c a new (inr r) not = let s = refused_so old c a new r in absurd (not s.0 s.1)
 
@@ -60,7 +62,8 @@ module _ {K V : Type 0} (cmp : K → K → Ordering) (o : IsTotalOrder cmp) wher
   done_agree m₁ m₂ n₁ n₂ (call.Insert k v) a₁ a₂ e h₁ h₂ =
       (same_answer (λ L. Value (value_at cmp L k)) m₁ m₂ n₁ n₂ a₁ a₂ e h₁.0 h₂.0, h₁.1.0 ∙ ap (λ L. put cmp L k v) e ∙ sym h₂.1.0)
   done_agree m₁ m₂ n₁ n₂ (call.TryInsert k v) a₁ a₂ e (inl h₁) (inl h₂) = (h₁.1 ∙ sym h₂.1, kept (λ L. Back None) m₁ m₂ n₁ n₂ a₁ a₂ e h₁.2 h₂.2)
-  done_agree m₁ m₂ n₁ n₂ (call.TryInsert k v) a₁ a₂ e (inl h₁) (inr h₂) = absurd (not_both (at cmp m₁.pairs k) h₁.0 (subst (λ L. IsNone (at cmp L k)) (sym e) h₂.0))
+  done_agree m₁ m₂ n₁ n₂ (call.TryInsert k v) a₁ a₂ e (inl h₁) (inr h₂) =
+      absurd (not_both (at cmp m₁.pairs k) h₁.0 (subst (λ L. IsNone (at cmp L k)) (sym e) h₂.0))
   done_agree m₁ m₂ n₁ n₂ (call.TryInsert k v) a₁ a₂ e (inr h₁) (inl h₂) = absurd (not_both (at cmp m₂.pairs k) h₂.0 (subst (λ L. IsNone (at cmp L k)) e h₁.0))
   done_agree m₁ m₂ n₁ n₂ (call.TryInsert k v) a₁ a₂ e (inr h₁) (inr h₂) = (h₁.1 ∙ sym h₂.1, h₁.2.0 ∙ ap (λ L. put cmp L k v) e ∙ sym h₂.2.0)
   done_agree m₁ m₂ n₁ n₂ (call.TryAppend k v) a₁ a₂ e (inl h₁) (inl h₂) = (h₁.1 ∙ sym h₂.1, kept (λ L. Back None) m₁ m₂ n₁ n₂ a₁ a₂ e h₁.2 h₂.2)
@@ -79,7 +82,8 @@ module _ {K V : Type 0} (cmp : K → K → Ordering) (o : IsTotalOrder cmp) wher
   runs_agree s₁ s₂ e₁ e₂ [] (a₁ ∷ as₁) as₂ e r₁ r₂ n = absurd r₁
   runs_agree s₁ s₂ e₁ e₂ (c ∷ cs) [] as₂ e r₁ r₂ n = absurd r₁
   runs_agree s₁ s₂ e₁ e₂ (c ∷ cs) (a₁ ∷ as₁) (a₂ ∷ as₂) e r₁ r₂ n =
-      let one = done_agree s₁ s₂ r₁.0 r₂.0 c a₁ a₂ e (done s₁ c a₁ r₁.0 r₁.1 (λ back is. (n back).0 (inl is))) (done s₂ c a₂ r₂.0 r₂.1 (λ back is. (n back).1 (inl is))) in
+      let one = done_agree s₁ s₂ r₁.0 r₂.0 c a₁ a₂ e (done s₁ c a₁ r₁.0 r₁.1 (λ back is. (n back).0 (inl is)))
+      (done s₂ c a₂ r₂.0 r₂.1 (λ back is. (n back).1 (inl is))) in
       let rest = runs_agree r₁.0 r₂.0 e₁ e₂ cs as₁ as₂ one.1 r₁.2 r₂.2 (λ back. (λ i. (n back).0 (inr i), λ i. (n back).1 (inr i))) in
       (ap (λ a. a ∷ as₁) one.0 ∙ ap (λ more. a₂ ∷ more) rest.0, rest.1)
   runs_agree s₁ s₂ e₁ e₂ _ _ _ e r₁ r₂ n = absurd r₂

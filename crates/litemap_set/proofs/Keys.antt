@@ -1,9 +1,12 @@
 -- From the pairs of a map to the keys of a set.
 --     ascends, length-keys, find-keys, contains-keys      what the keys of ascending pairs are, and what is found among them
 --     contains-put, length-put, keys-put      after a put
---     GivesSome-from_keys, GivesSome-from_more, IsSameSet-from_vec, on_err      what an iterator and a vector yield;  contains-last, contains-last_of_more      among the last pairs of a list
+--     GivesSome-from_keys, GivesSome-from_more, IsSameSet-from_vec, on_err      what an iterator and a vector yield;  contains-last, contains-last_of_more
+-- among the last pairs of a list
 --     any-kept, none-kept, keys-cut, length-cut      after a cut, which is a filter of the keys
-use Rattle.litemap_store.proofs.Names.{[], ℕ, ◌++◌, ◌+◌, ◌∙◌, ◌∷◌, ◌≡◌, AllByRecursion, ap, arith, Bool, cond, cons_option, Equal, false, filter, filter-append, Greater, is_eq, is_gt, is_lt, is_some, IsTotalOrder, length, length-append, Less, List, None, not, Option, option_map, Ordering, refl, reverse, reverse-append, Some, suc, sym, tied_back, true, Vec}
+use Rattle.litemap_store.proofs.Names.{[], ℕ, ◌++◌, ◌+◌, ◌∙◌, ◌∷◌, ◌≡◌, AllByRecursion, ap, arith, Bool, cond, cons_option, Equal, false, filter, filter-append}
+use Rattle.litemap_store.proofs.Names.{Greater, is_eq, is_gt, is_lt, is_some, IsTotalOrder, length, length-append, Less, List, None, not, Option, option_map}
+use Rattle.litemap_store.proofs.Names.{Ordering, refl, reverse, reverse-append, Some, suc, sym, tied_back, true, Vec}
 use Rattle.std.specs.Prelude.{◌||◌, ◌≤◌, Err, Ok, OnErr, Result, find}
 use Rattle.std.specs.List.{list_any}
 use Rattle.std.specs.List.Sorted.{IsStrictlySortedBy}
@@ -44,7 +47,8 @@ module _ {K Q V : Type 0} (order : K → Q → Ordering) (q : Q) where
   pub find-keys : (L : List (K × V)) → option_map (λ p. p.0) (at order L q) ≡ find (λ k. is_eq (order k q)) (keys_of L)
   find-keys [] = refl
   find-keys (p ∷ L) =
-      elim (is_eq (order p.0 q)) as (λ b. option_map (λ x. x.0) (cond b (Some p) (at order L q)) ≡ cond b (Some p.0) (find (λ k. is_eq (order k q)) (keys_of L))) [
+      elim (is_eq (order p.0 q)) as
+      (λ b. option_map (λ x. x.0) (cond b (Some p) (at order L q)) ≡ cond b (Some p.0) (find (λ k. is_eq (order k q)) (keys_of L))) [
         | true ↦ refl
         | false ↦ find-keys L
       ]
@@ -66,7 +70,8 @@ module _ {K Q V : Type 0} (order : K → Q → Ordering) (q : Q) where
   contains-value L = is_some-value (at order L q) ∙ contains-keys L
 
   -- a key is new exactly if there was no old value
-  pub new_if_absent : (L : List (K × V)) (old : Option V) (is_new : Bool) → is_some old ≡ not is_new → old ≡ value_at order L q → is_new ≡ not (contains order (keys_of L) q)
+  pub new_if_absent : (L : List (K × V)) (old : Option V) (is_new : Bool) → is_some old ≡ not is_new → old ≡ value_at order L q
+      → is_new ≡ not (contains order (keys_of L) q)
   new_if_absent L old is_new e f = by is_new (is_some old) e ∙ ap not (ap is_some f ∙ contains-value L)
     where
       by : (a b : Bool) → b ≡ not a → a ≡ not b
@@ -91,7 +96,9 @@ module _ {K V : Type 0} {cmp : K → K → Ordering} (o : IsTotalOrder cmp) (L :
     pub keys-put : is_some (at cmp L k) ≡ true → keys_of (put cmp L k v) ≡ keys_of L
     keys-put there =
         map-append (λ p. p.0) (below cmp L k) ((key_or (at cmp L k) k, v) ∷ above cmp L k)
-        ∙ elim (at cmp L k) as (λ a. is_some a ≡ true → keys_of (below cmp L k) ++ key_or a k ∷ keys_of (above cmp L k) ≡ keys_of (below cmp L k) ++ keys_of (cons_option a (above cmp L k))) [
+        ∙ elim (at cmp L k) as
+        (λ a. is_some a ≡ true → keys_of (below cmp L k) ++ key_or a k ∷ keys_of (above cmp L k) ≡ keys_of (below cmp L k)
+        ++ keys_of (cons_option a (above cmp L k))) [
           | None ↦ λ h. absurd (cc)
           | Some p ↦ λ h. refl
         ] there
@@ -106,13 +113,15 @@ module _ {K V : Type 0} {cmp : K → K → Ordering} (o : IsTotalOrder cmp) (L :
           | None ↦ omega arith
           | Some p ↦ omega arith
         ]
-        ∙ ap (λ n. n + cond (not (is_some (at cmp L k))) 1 0) (sym (length-append (keys_of (below cmp L k)) (keys_of (cons_option (at cmp L k) (above cmp L k)))) ∙ ap length (sym keys_parted))
+        ∙ ap (λ n. n + cond (not (is_some (at cmp L k))) 1 0)
+        (sym (length-append (keys_of (below cmp L k)) (keys_of (cons_option (at cmp L k) (above cmp L k)))) ∙ ap length (sym keys_parted))
 
 -- ---- the last pairs of a list
 any-reverse : {X : Type 0} (test : X → Bool) (L : List X) → list_any test (reverse L) ≡ list_any test L
 any-reverse test [] = refl
 any-reverse test (x ∷ L) =
-    ap (list_any test) (reverse-append (x ∷ []) L) ∙ list_any-append test (reverse L) (x ∷ []) ∙ ap (λ b. b || (test x || false)) (any-reverse test L) ∙ turned (list_any test L) (test x)
+    ap (list_any test) (reverse-append (x ∷ []) L) ∙ list_any-append test (reverse L) (x ∷ []) ∙ ap (λ b. b || (test x || false)) (any-reverse test L)
+    ∙ turned (list_any test L) (test x)
   where
     turned : (a b : Bool) → (a || (b || false)) ≡ (b || a)
     turned true true = refl
@@ -133,9 +142,11 @@ pub GivesSome-from_keys : {U T K V : Type 0} (becomes : U → T → Type 0) (ste
 GivesSome-from_keys becomes steps iter cmp room L g some = GivesSome-from_more becomes steps iter cmp room [] L g (λ r. some r.rising)
 
 -- what a vector yields are its items
-pub IsSameSet-from_vec : {K Z : Type 0} {cmp : K → K → Ordering} {becomes : Vec K Z → IntoIter K Z → Type 0} (v : Vec K Z) (new : List K) → IsExtendedBy cmp becomes into_iter_steps v [] new
+pub IsSameSet-from_vec : {K Z : Type 0} {cmp : K → K → Ordering} {becomes : Vec K Z → IntoIter K Z → Type 0} (v : Vec K Z) (new : List K)
+    → IsExtendedBy cmp becomes into_iter_steps v [] new
     → ((w : Vec K Z) (it : IntoIter K Z) → becomes w it → into_iter_items it ≡ w.items) → IsSameSet cmp v.items new
-IsSameSet-from_vec {cmp = cmp} {becomes = becomes} v new made holds q = made.union q ∙ ap (λ ks. contains cmp ks q) (given_by_vec becomes holds v made.given made.gives)
+IsSameSet-from_vec {cmp = cmp} {becomes = becomes} v new made holds q =
+    made.union q ∙ ap (λ ks. contains cmp ks q) (given_by_vec becomes holds v made.given made.gives)
 
 -- what holds if a call fails
 pub on_err : {X E P : Type 0} (r : Result X E) → P → OnErr r P
@@ -152,7 +163,8 @@ module _ {K V : Type 0} {cmp : K → K → Ordering} (o : IsTotalOrder cmp) (q :
       sym (contains-keys cmp q M) ∙ ap is_some (at-Last o J M last q) ∙ contains-keys cmp q (reverse J)
       ∙ sym (any-keys (reverse J)) ∙ any-reverse (λ p. is_eq (cmp p.0 q)) J ∙ any-keys J
 
-  pub contains-last_of_more : (L J M : List (K × V)) → Last cmp (L ++ J) M → contains cmp (keys_of M) q ≡ (contains cmp (keys_of L) q || contains cmp (keys_of J) q)
+  pub contains-last_of_more : (L J M : List (K × V)) → Last cmp (L ++ J) M
+      → contains cmp (keys_of M) q ≡ (contains cmp (keys_of L) q || contains cmp (keys_of J) q)
   contains-last_of_more L J M last =
       contains-last (L ++ J) M last ∙ ap (λ ks. contains cmp ks q) (map-append (λ p. p.0) L J) ∙ list_any-append (λ k. is_eq (cmp k q)) (keys_of L) (keys_of J)
 
@@ -164,32 +176,40 @@ module _ {K Q : Type 0} (order : K → Q → Ordering) (q : Q) where
   -- a test that no equal key passes finds the same among the others
   pub any-kept : (test : K → Bool) → ((k : K) → order k q ≡ Equal → test k ≡ false) → (ks : List K) → list_any test (filter other ks) ≡ list_any test ks
   any-kept test apart [] = refl
-  any-kept test apart (k ∷ ks) = (elim (order k q) as (λ r. order k q ≡ r → list_any test (cond (not (is_eq r)) (k ∷ filter other ks) (filter other ks)) ≡ (test k || list_any test ks)) [
-    | Less ↦ λ e. ap (λ b. test k || b) (any-kept test apart ks)
-    | Equal ↦ λ e. any-kept test apart ks ∙ ap (λ b. b || list_any test ks) (sym (apart k e))
-    | Greater ↦ λ e. ap (λ b. test k || b) (any-kept test apart ks)
-  ]) refl
+  any-kept test apart (k ∷ ks) =
+      (elim (order k q) as (λ r. order k q ≡ r → list_any test (cond (not (is_eq r)) (k ∷ filter other ks) (filter other ks)) ≡ (test k || list_any test ks)) [
+        | Less ↦ λ e. ap (λ b. test k || b) (any-kept test apart ks)
+        | Equal ↦ λ e. any-kept test apart ks ∙ ap (λ b. b || list_any test ks) (sym (apart k e))
+        | Greater ↦ λ e. ap (λ b. test k || b) (any-kept test apart ks)
+      ]) refl
 
   pub none-kept : (ks : List K) → contains order (filter other ks) q ≡ false
   none-kept [] = refl
-  none-kept (k ∷ ks) = (elim (is_eq (order k q)) as (λ r. is_eq (order k q) ≡ r → contains order (cond (not r) (k ∷ filter other ks) (filter other ks)) q ≡ false) [
-    | true ↦ λ e. none-kept ks
-    | false ↦ λ e. ap (λ b. b || contains order (filter other ks) q) e ∙ none-kept ks
-  ]) refl
+  none-kept (k ∷ ks) =
+      (elim (is_eq (order k q)) as (λ r. is_eq (order k q) ≡ r → contains order (cond (not r) (k ∷ filter other ks) (filter other ks)) q ≡ false) [
+        | true ↦ λ e. none-kept ks
+        | false ↦ λ e. ap (λ b. b || contains order (filter other ks) q) e ∙ none-kept ks
+      ]) refl
 
 keys-filter : {K V : Type 0} (keep : K → Bool) (L : List (K × V)) → keys_of (filter (λ p. keep p.0) L) ≡ filter keep (keys_of L)
 keys-filter keep [] = refl
-keys-filter keep (p ∷ L) = elim (keep p.0) as (λ b. keys_of (cond b (p ∷ filter (λ x. keep x.0) L) (filter (λ x. keep x.0) L)) ≡ cond b (p.0 ∷ filter keep (keys_of L)) (filter keep (keys_of L))) [
-  | true ↦ ap (λ M. p.0 ∷ M) (keys-filter keep L)
-  | false ↦ keys-filter keep L
-]
+keys-filter keep (p ∷ L) =
+    elim (keep p.0) as (λ b. keys_of (cond b (p ∷ filter (λ x. keep x.0) L) (filter (λ x. keep x.0) L)) ≡ cond b (p.0 ∷ filter keep (keys_of L))
+    (filter keep (keys_of L))) [
+      | true ↦ ap (λ M. p.0 ∷ M) (keys-filter keep L)
+      | false ↦ keys-filter keep L
+    ]
 
 module _ {K Q V : Type 0} {cmp : K → K → Ordering} (order : K → Q → Ordering) (side : OneSide cmp order) (q : Q) (L : List (K × V)) (r : Rising cmp L) where
   low : filter (λ p. other order q p.0) (below order L q) ≡ below order L q
-  low = filter_all (λ p. other order q p.0) (below order L q) (λ x i. elim (order x.0 q) as (λ c. is_lt c ≡ true → not (is_eq c) ≡ true) [ Less ↦ λ h. refl | Equal ↦ λ h. absurd cc | Greater ↦ λ h. refl ] (In-from_filter (λ (p : K × V). is_lt (order p.0 q)) L x i).1)
+  low = filter_all (λ p. other order q p.0) (below order L q)
+      (λ x i. elim (order x.0 q) as (λ c. is_lt c ≡ true → not (is_eq c) ≡ true) [ Less ↦ λ h. refl | Equal ↦ λ h. absurd cc | Greater ↦ λ h. refl ]
+      (In-from_filter (λ (p : K × V). is_lt (order p.0 q)) L x i).1)
 
   up : filter (λ p. other order q p.0) (above order L q) ≡ above order L q
-  up = filter_all (λ p. other order q p.0) (above order L q) (λ x i. elim (order x.0 q) as (λ c. is_gt c ≡ true → not (is_eq c) ≡ true) [ Less ↦ λ h. refl | Equal ↦ λ h. absurd cc | Greater ↦ λ h. refl ] (In-from_filter (λ (p : K × V). is_gt (order p.0 q)) L x i).1)
+  up = filter_all (λ p. other order q p.0) (above order L q)
+      (λ x i. elim (order x.0 q) as (λ c. is_gt c ≡ true → not (is_eq c) ≡ true) [ Less ↦ λ h. refl | Equal ↦ λ h. absurd cc | Greater ↦ λ h. refl ]
+      (In-from_filter (λ (p : K × V). is_gt (order p.0 q)) L x i).1)
 
   high : filter (λ p. other order q p.0) (cons_option (at order L q) (above order L q)) ≡ above order L q
   high = (elim (at order L q) as (λ a. at order L q ≡ a → filter (λ p. other order q p.0) (cons_option a (above order L q)) ≡ above order L q) [
@@ -211,7 +231,9 @@ module _ {K Q V : Type 0} {cmp : K → K → Ordering} (order : K → Q → Orde
   length-cut =
       ap (λ b. length (keys_of (cut order L q)) + cond b 1 0) (sym (contains-keys order q L))
       ∙ ap (λ n. n + cond (is_some (at order L q)) 1 0) (length-keys (cut order L q) ∙ length-append (below order L q) (above order L q))
-      ∙ elim (at order L q) as (λ a. (length (below order L q) + length (above order L q)) + cond (is_some a) 1 0 ≡ length (below order L q) + length (cons_option a (above order L q))) [
+      ∙ elim (at order L q) as
+      (λ a. (length (below order L q) + length (above order L q)) + cond (is_some a) 1 0
+      ≡ length (below order L q) + length (cons_option a (above order L q))) [
         | None ↦ omega arith
         | Some p ↦ omega arith
       ]

@@ -3,7 +3,8 @@
 --     walk-ascends, contains-walk, walk-own      it ascends, which keys are in it, and which of two equal keys
 --     subset_if_none, disjoint_if_none      what it says of two sets that a walk yields nothing
 --     walk-union, walk-intersection, walk-difference, walk-symmetric_difference      which keys are in the four that sets have
-use Rattle.litemap_store.proofs.Names.{[], ◌∙◌, ◌∷◌, ◌≡◌, ◌⊎◌, AllByRecursion, ap, Bool, cond, Equal, false, Greater, In, inl, inr, is_eq, IsTotalOrder, Less, List, not, Ordering, refl, sym, true, subst}
+use Rattle.litemap_store.proofs.Names.{[], ◌∙◌, ◌∷◌, ◌≡◌, ◌⊎◌, AllByRecursion, ap, Bool, cond, Equal, false, Greater, In, inl, inr, is_eq, IsTotalOrder, Less}
+use Rattle.litemap_store.proofs.Names.{List, not, Ordering, refl, sym, true, subst}
 use Rattle.std.specs.Prelude.{◌&&◌, ◌||◌, ◌↔◌, IsTrue, None, Option, Some, is_some}
 use Rattle.std.specs.List.Sorted.{IsStrictlySortedBy}
 use Rattle.std.specs.Map.Iter.{TakesFirst}
@@ -78,7 +79,8 @@ module _ {K : Type 0} {cmp : K → K → Ordering} (o : IsTotalOrder cmp) where
     walk-ascends (x ∷ A) (y ∷ B) a b = by_rank (IsStrictlySortedBy cmp) (cmp x y) _ _ _
         (λ e. sorted_cons first x _ (all_walk cmp first both second (λ z. cmp x z ≡ Less) A (y ∷ B) a.0 (under_all x y B e b.0)) (walk-ascends A (y ∷ B) a.1 b))
         (λ e. sorted_cons both x _ (all_walk cmp first both second (λ z. cmp x z ≡ Less) A B a.0 (under_level x y B e b.0)) (walk-ascends A B a.1 b.1))
-        (λ e. sorted_cons second y _ (all_walk cmp first both second (λ z. cmp y z ≡ Less) (x ∷ A) B (under_all y x A (greater_back o x y e) a.0) b.0) (walk-ascends (x ∷ A) B a b.1))
+        (λ e. sorted_cons second y _ (all_walk cmp first both second (λ z. cmp y z ≡ Less) (x ∷ A) B (under_all y x A (greater_back o x y e) a.0) b.0)
+        (walk-ascends (x ∷ A) B a b.1))
 
     -- ---- which keys are in it
     module _ (q : K) where
@@ -118,7 +120,8 @@ module _ {K : Type 0} {cmp : K → K → Ordering} (o : IsTotalOrder cmp) where
           and_false true = refl
           and_false false = refl
 
-      pub contains-walk : (A B : List K) → IsStrictlySortedBy cmp A → IsStrictlySortedBy cmp B → has (walk cmp (first, both, second) A B) ≡ chosen (has A) (has B)
+      pub contains-walk : (A B : List K) → IsStrictlySortedBy cmp A → IsStrictlySortedBy cmp B → has (walk cmp (first, both, second) A B)
+          ≡ chosen (has A) (has B)
       unfolding IsStrictlySortedBy
       contains-walk [] B a b = has_all second B
       contains-walk (x ∷ A) [] a b = has_all first (x ∷ A) ∙ elim (has (x ∷ A)) as (λ h. (h && first) ≡ chosen h false) [ true ↦ refl | false ↦ refl ]
@@ -185,7 +188,9 @@ module _ {K : Type 0} {cmp : K → K → Ordering} (o : IsTotalOrder cmp) where
             | inl j ↦ inl (inr j)
             | inr j ↦ inr (inr j.0, not_first x A B (under_level x y B e b.0) j.0 j.1)
           ]))
-          (λ e. In-cons second y _ (λ h. inr (inl h, clear k y (x ∷ A) (under_all y x A (greater_back o x y e) a.0) (ap is_eq (subst (λ z. cmp y z ≡ Equal) h (tied_itself o y))))) (λ i. elim (walk-own (x ∷ A) B a b.1 i) [
+          (λ e. In-cons second y _
+          (λ h. inr (inl h, clear k y (x ∷ A) (under_all y x A (greater_back o x y e) a.0) (ap is_eq (subst (λ z. cmp y z ≡ Equal) h (tied_itself o y)))))
+          (λ i. elim (walk-own (x ∷ A) B a b.1 i) [
             | inl j ↦ inl j
             | inr j ↦ inr (inr j.0, j.1)
           ]))
@@ -240,14 +245,17 @@ module _ {K : Type 0} {cmp : K → K → Ordering} (o : IsTotalOrder cmp) where
         by : (s : Option X) → TakesFirst shows L s M → is_some s ≡ not b → (b ≡ true → (q : K) → P q ≡ false) × (((q : K) → P q ≡ false) → b ≡ true)
         by None t e = (λ h q. sym (members q) ∙ ap (λ N. contains cmp N q) t.0, λ h. not_false b (sym e))
         by (Some x) t e =
-            let there : P (shows x) ≡ true = sym (members (shows x)) ∙ ap (λ N. contains cmp N (shows x)) t ∙ ap (λ c. is_eq c || contains cmp M (shows x)) (tied_itself o (shows x)) in
+            let there : P (shows x) ≡ true =
+            sym (members (shows x)) ∙ ap (λ N. contains cmp N (shows x)) t ∙ ap (λ c. is_eq c || contains cmp M (shows x)) (tied_itself o (shows x)) in
             (λ h. absurd (let f : true ≡ false = e ∙ ap not h in cc), λ h. absurd (let f : true ≡ false = sym there ∙ h (shows x) in cc))
 
     module _ (A B : List K) where
       pub subset_if_none : IsDifference cmp A B L → IsTrue b ↔ IsSubset cmp A B
       subset_if_none members =
-          let h = none_first (λ q. contains cmp A q && not (contains cmp B q)) members in
-          (λ is q there. in_both (contains cmp A q) (contains cmp B q) (h.0 is q) there, λ all. h.1 (λ q. none_left (contains cmp A q) (contains cmp B q) (all q)))
+          let h = none_first (λ q. contains cmp A q && not (contains cmp B q)) members in (
+            λ is q there. in_both (contains cmp A q) (contains cmp B q) (h.0 is q) there,
+            λ all. h.1 (λ q. none_left (contains cmp A q) (contains cmp B q) (all q)),
+          )
         where
           in_both : (s t : Bool) → (s && not t) ≡ false → s ≡ true → t ≡ true
           in_both true true e f = refl
@@ -261,8 +269,10 @@ module _ {K : Type 0} {cmp : K → K → Ordering} (o : IsTotalOrder cmp) where
 
       pub disjoint_if_none : IsIntersection cmp A B L → IsTrue b ↔ IsDisjoint cmp A B
       disjoint_if_none members =
-          let h = none_first (λ q. contains cmp A q && contains cmp B q) members in
-          (λ is q there. in_one (contains cmp A q) (contains cmp B q) (h.0 is q) there, λ all. h.1 (λ q. none_common (contains cmp A q) (contains cmp B q) (all q)))
+          let h = none_first (λ q. contains cmp A q && contains cmp B q) members in (
+            λ is q there. in_one (contains cmp A q) (contains cmp B q) (h.0 is q) there,
+            λ all. h.1 (λ q. none_common (contains cmp A q) (contains cmp B q) (all q)),
+          )
         where
           in_one : (s t : Bool) → (s && t) ≡ false → s ≡ true → t ≡ false
           in_one true true e f = absurd cc

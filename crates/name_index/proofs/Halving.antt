@@ -31,8 +31,10 @@ module _ {X : Type 0} (pairs : X → List (List ℕ × List ℕ)) (order : List 
   }
 
   module _ {size low high : ℕ} {old now new : Count} (name : List ℕ) (h : Halved size low high old now) (l : low < high)
-      (there : (x : X) → IsKeyAt (pairs x) (low + (high - low) / 2) name) (same : new.name ≡ now.name) (asked : new.total ≡ now.total + 1) (kept : new.refusals ≡ now.refusals) where
-    to : (from until : ℕ) → from ≤ until → until ≤ size → digits (until - from) + 1 ≤ digits (high - low) → ((x : X) → Narrowed order (pairs x) from until) → Halved size from until old new
+      (there : (x : X) → IsKeyAt (pairs x) (low + (high - low) / 2) name) (same : new.name ≡ now.name) (asked : new.total ≡ now.total + 1)
+      (kept : new.refusals ≡ now.refusals) where
+    to : (from until : ℕ) → from ≤ until → until ≤ size → digits (until - from) + 1 ≤ digits (high - low) → ((x : X) → Narrowed order (pairs x) from until)
+        → Halved size from until old new
     to from until o w m n = record {
       known = h.known;
       ordered = o;

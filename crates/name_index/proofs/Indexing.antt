@@ -1,5 +1,6 @@
 -- What the bytes of an index have at an offset, they have once; and what a search and a check know.
-use Rattle.std.proofs.Common.{◌≡◌, Bool, true, false, ℕ, zero, suc, ◌+◌, ◌-◌, ◌*◌, ◌<◌, ◌≤◌, List, [], ◌∷◌, ◌++◌, length, take, drop, get_or, slice_get, Some, None, Option, Bor, refl, sym, ap, ◌∙◌, subst, arith, length-append, IfNone, IfSome, IsTrue, is_lt, Less}
+use Rattle.std.proofs.Common.{◌≡◌, Bool, true, false, ℕ, zero, suc, ◌+◌, ◌-◌, ◌*◌, ◌<◌, ◌≤◌, List, [], ◌∷◌, ◌++◌, length, take, drop, get_or, slice_get, Some}
+use Rattle.std.proofs.Common.{None, Option, Bor, refl, sym, ap, ◌∙◌, subst, arith, length-append, IfNone, IfSome, IsTrue, is_lt, Less}
 use Rattle.std.proofs.lemmas.List.{same_lists}
 use Rattle.std.proofs.lemmas.Option.{slice_get-get_or}
 use Rattle.litemap_store.specs.Counts.{RisesByAtMost}
@@ -97,7 +98,9 @@ pub record Followed (bytes : List ℕ) (count : ℕ) (last : Option (Bor (List �
   pub last_is : LastKey last pairs
   pub asked : RisesByAtMost (length pairs - 1) old new
 
-pub followed_next : (bytes : List ℕ) (count index : ℕ) (last : Option (Bor (List ℕ))) (key value : Bor (List ℕ)) (old middle new : Count) → Followed bytes count last index old middle → IsEntry bytes count index (key.now, value.now) → IsAbove last key.now → IfNone last (RisesByAtMost 0 middle new) → RisesByAtMost 1 middle new → Followed bytes count (Some key) (index + 1) old new
+pub followed_next : (bytes : List ℕ) (count index : ℕ) (last : Option (Bor (List ℕ))) (key value : Bor (List ℕ)) (old middle new : Count)
+    → Followed bytes count last index old middle → IsEntry bytes count index (key.now, value.now) → IsAbove last key.now
+    → IfNone last (RisesByAtMost 0 middle new) → RisesByAtMost 1 middle new → Followed bytes count (Some key) (index + 1) old new
 followed_next bytes count index last key value old middle new f r a z o =
     let p : List ℕ × List ℕ = (key.now, value.now) in
     record {
@@ -109,7 +112,8 @@ followed_next bytes count index last key value old middle new f r a z o =
       asked = asked_next last f.pairs p f.last_is f.asked z o;
     }
 
-pub followed_end : (bytes : List ℕ) (count index : ℕ) (last : Option (Bor (List ℕ))) (old new : Count) → HasOffsets bytes count → Followed bytes count last index old new → index ≡ count → (pairs : List (List ℕ × List ℕ)) × IsIndex bytes pairs
+pub followed_end : (bytes : List ℕ) (count index : ℕ) (last : Option (Bor (List ℕ))) (old new : Count) → HasOffsets bytes count
+    → Followed bytes count last index old new → index ≡ count → (pairs : List (List ℕ × List ℕ)) × IsIndex bytes pairs
 followed_end bytes count index last old new offsets f e =
     let n : count ≡ length f.pairs = sym e ∙ sym f.number in (
       f.pairs,
@@ -121,7 +125,8 @@ followed_end bytes count index last old new offsets f e =
     )
 
 -- if the next key isn't above the last one, the bytes are no index
-pub falls_there : (bytes : List ℕ) (count index : ℕ) (last : Bor (List ℕ)) (key value : List ℕ) (old new : Count) → HasOffsets bytes count → index < count → Followed bytes count (Some last) index old new → IsEntry bytes count index (key, value) → (text_order last.now key ≡ Less → ⊥) → NoIndex bytes
+pub falls_there : (bytes : List ℕ) (count index : ℕ) (last : Bor (List ℕ)) (key value : List ℕ) (old new : Count) → HasOffsets bytes count → index < count
+    → Followed bytes count (Some last) index old new → IsEntry bytes count index (key, value) → (text_order last.now key ≡ Less → ⊥) → NoIndex bytes
 falls_there bytes count index last key value old new offsets l f r never pairs x =
     let front = f.last_is.0 in
     let p : List ℕ × List ℕ = (last.now, f.last_is.1) in
@@ -131,7 +136,9 @@ falls_there bytes count index last key value old new offsets l f r never pairs x
     let a = entry_is bytes count offsets pairs x (length front) p (omega (arith, n, l)) (f.entries (length front) p g) in
     never (Less-from_Rising text_order pairs index p (key, value) more x.rises (rw n a) (entry_is bytes count offsets pairs x index (key, value) l r))
 
-pub falls : (bytes : List ℕ) (count index : ℕ) (last : Option (Bor (List ℕ))) (key value : List ℕ) (b : Bool) (old new : Count) → HasOffsets bytes count → index < count → Followed bytes count last index old new → IsEntry bytes count index (key, value) → IfNone last (IsTrue b) → IfSome last (λ l. b ≡ is_lt (text_order l.now key)) → b ≡ false → NoIndex bytes
+pub falls : (bytes : List ℕ) (count index : ℕ) (last : Option (Bor (List ℕ))) (key value : List ℕ) (b : Bool) (old new : Count) → HasOffsets bytes count
+    → index < count → Followed bytes count last index old new → IsEntry bytes count index (key, value) → IfNone last (IsTrue b)
+    → IfSome last (λ l. b ≡ is_lt (text_order l.now key)) → b ≡ false → NoIndex bytes
 falls bytes count index None key value b old new offsets l f r n s e = let h : b ≡ true = n in absurd (cc)
 falls bytes count index (Some last) key value b old new offsets l f r n s e =
     falls_there bytes count index last key value old new offsets l f r (λ is. let h : b ≡ true = s ∙ ap is_lt is in absurd (cc))
@@ -143,4 +150,5 @@ index_unique bytes J K x y =
     let e : length K ≡ length J = number_unique bytes 0 (length K) (length J) y.number x.number in
     same_lists J K (sym e) (λ k d l.
     let h : k < length K = omega (arith, e, l) in
-    entry_unique bytes (length J) k (get_or J k d) (get_or K k d) (x.entries k (get_or J k d) (slice_get-get_or J k d l)) (rw (← e) (y.entries k (get_or K k d) (slice_get-get_or K k d h))))
+    entry_unique bytes (length J) k (get_or J k d) (get_or K k d) (x.entries k (get_or J k d) (slice_get-get_or J k d l))
+    (rw (← e) (y.entries k (get_or K k d) (slice_get-get_or K k d h))))

@@ -16,7 +16,8 @@ pub agree_numbers : (n m : ℕ) → Agree (Number n ∷ []) (Number m ∷ [])
 agree_numbers n m = (tt, λ _. tt)
 
 -- the number that bytes begin with is one
-pub one_number : {n m : ℕ} {rest other : List ℕ} (bytes : List ℕ) → (p : Begins bytes (Number n ∷ []) rest) → (q : Begins bytes (Number m ∷ []) other) → (p.front ≡ q.front) × (n ≡ m) × (rest ≡ other)
+pub one_number : {n m : ℕ} {rest other : List ℕ} (bytes : List ℕ) → (p : Begins bytes (Number n ∷ []) rest) → (q : Begins bytes (Number m ∷ []) other)
+    → (p.front ≡ q.front) × (n ≡ m) × (rest ≡ other)
 one_number {n} {m} bytes p q =
     let u = begins_unique bytes (agree_numbers n m) p q in
     let e : Number n ∷ [] ≡ Number m ∷ [] = u.1 in
@@ -28,7 +29,8 @@ pub text_no_fault : (bytes rest text : List ℕ) (place : ℕ) (error : NameFaul
 text_no_fault bytes rest text place error b w = parts_no_fault (text_parts text) (text_parts w.0) bytes rest place error (agree_text text w.0) b w.1
 
 -- the string that is read is the one that is there, and what follows it comes after
-pub text_next : (bytes rest middle s t : List ℕ) (xs : List Part) → Begins bytes (text_parts t ++ xs) rest → Begins bytes (text_parts s) middle → (s ≡ t) × Begins middle xs rest
+pub text_next : (bytes rest middle s t : List ℕ) (xs : List Part) → Begins bytes (text_parts t ++ xs) rest → Begins bytes (text_parts s) middle
+    → (s ≡ t) × Begins middle xs rest
 text_next bytes rest middle s t xs p q =
     let d = begins_split bytes rest (text_parts t) xs p in
     let u = begins_unique bytes (agree_text s t) q d.1 in
@@ -37,7 +39,8 @@ text_next bytes rest middle s t xs p q =
     (g, rw u.2 d.2)
 
 -- the same of a pair
-pub pair_next : (bytes rest after : List ℕ) (p q : List ℕ × List ℕ) (J : List (List ℕ × List ℕ)) → Begins bytes (pair_parts (p ∷ J)) after → Begins bytes (pair_parts (q ∷ [])) rest → (q ≡ p) × Begins rest (pair_parts J) after
+pub pair_next : (bytes rest after : List ℕ) (p q : List ℕ × List ℕ) (J : List (List ℕ × List ℕ)) → Begins bytes (pair_parts (p ∷ J)) after
+    → Begins bytes (pair_parts (q ∷ [])) rest → (q ≡ p) × Begins rest (pair_parts J) after
 pair_next bytes rest after p q J b c =
     let d = begins_split bytes after (pair_parts (p ∷ [])) (pair_parts J) b in
     let u = begins_unique bytes (agree_pairs (q ∷ []) (p ∷ []) refl) c d.1 in

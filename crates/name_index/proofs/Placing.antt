@@ -1,5 +1,6 @@
 -- Offsets of entries: one more of them, what is read at one, and the entries between two.
-use Rattle.std.proofs.Common.{◌≡◌, ⊎_elim, ℕ, zero, suc, ◌+◌, ◌-◌, ◌<◌, ◌≤◌, List, [], ◌∷◌, ◌++◌, length, min, take, drop, get_or, slice_get, slice_range, Some, Result, refl, sym, ap, ◌∙◌, subst, arith, length-append}
+use Rattle.std.proofs.Common.{◌≡◌, ⊎_elim, ℕ, zero, suc, ◌+◌, ◌-◌, ◌<◌, ◌≤◌, List, [], ◌∷◌, ◌++◌, length, min, take, drop, get_or, slice_get, slice_range, Some}
+use Rattle.std.proofs.Common.{Result, refl, sym, ap, ◌∙◌, subst, arith, length-append}
 use Rattle.std.proofs.Math.Seq.{take-length}
 use Rattle.std.proofs.lemmas.Bool.{cases_lt, le-leb}
 use Rattle.std.proofs.lemmas.List.{drop_at, length-drop, length-take, length-take-le, nil_from_length, take-append-drop, take_min}
@@ -16,7 +17,8 @@ use Rattle.name_table.specs.ReadOn.{begins_none, begins_pairs, pair_parts-append
 use Rattle.name_table.specs.declared.number.TheConstants.{NUMBER_LIMIT}
 use Rattle.name_table.proofs.PartLemmas.{begins_split}
 use Rattle.name_table.proofs.OneReading.{agree_pairs, begins_unique}
-use Rattle.name_index.specs.{AreFar, IfTooFar, IsFar, AreEntries, ArePlaced, AsPlaced, BeginsPair, BeginsText, IsIndexed, IsKeyAt, OfTable, left_one, text_order}
+use Rattle.name_index.specs.{AreFar, IfTooFar, IsFar, AreEntries, ArePlaced, AsPlaced, BeginsPair, BeginsText, IsIndexed, IsKeyAt, OfTable, left_one}
+use Rattle.name_index.specs.{text_order}
 use Rattle.name_index.specs.declared.error.NameIndexFault.{NameIndexFault}
 use Rattle.name_index.specs.declared.error.NameIndexFault.TheVariants.{NoRoom, TooFar}
 use Rattle.name_index.proofs.KnownParts.{one_number, text_next}
@@ -24,7 +26,8 @@ use Rattle.name_index.proofs.Rises.{rising_table}
 use Rattle.name_index.proofs.Scanning.{Walked, one_side, to_key, walked_begins, walked_next, walked_pair}
 
 -- what holds of each element by its index, and of one more
-pub each_push : {X : Type 0} (P : ℕ → X → Type 0) (L : List X) (x : X) → ((i : ℕ) (y : X) → slice_get L i ≡ Some y → P i y) → P (length L) x → (i : ℕ) (y : X) → slice_get (L ++ x ∷ []) i ≡ Some y → P i y
+pub each_push : {X : Type 0} (P : ℕ → X → Type 0) (L : List X) (x : X) → ((i : ℕ) (y : X) → slice_get L i ≡ Some y → P i y) → P (length L) x → (i : ℕ) (y : X)
+    → slice_get (L ++ x ∷ []) i ≡ Some y → P i y
 each_push P [] x each h zero y e = let s : x ≡ y = cc in subst (λ z. P 0 z) s h
 each_push P [] x each h (suc i) y e = absurd (cc)
 each_push P (z ∷ L) x each h zero y e = each zero y e
@@ -58,10 +61,12 @@ noted_start entries count these = record {
     none (suc i) place e = absurd (cc)
 
 -- how far the rest comes after the first entry
-pub place_is_front : (entries : List ℕ) (count : ℕ) (offsets rest : List ℕ) (index place : ℕ) → (n : Noted entries count offsets rest index) → place + length rest ≡ length entries → length n.read.front ≡ place
+pub place_is_front : (entries : List ℕ) (count : ℕ) (offsets rest : List ℕ) (index place : ℕ) → (n : Noted entries count offsets rest index)
+    → place + length rest ≡ length entries → length n.read.front ≡ place
 place_is_front entries count offsets rest index place n e = omega (arith, e, ap length n.read.split, length-append n.read.front rest)
 
-pub far_here : (entries : List ℕ) (count : ℕ) (offsets rest : List ℕ) (index : ℕ) → Noted entries count offsets rest index → index < count → NUMBER_LIMIT + length rest ≤ length entries → AreFar entries count
+pub far_here : (entries : List ℕ) (count : ℕ) (offsets rest : List ℕ) (index : ℕ) → Noted entries count offsets rest index → index < count
+    → NUMBER_LIMIT + length rest ≤ length entries → AreFar entries count
 far_here entries count offsets rest index n l h = record {
   before = n.before;
   rest = rest;
@@ -70,7 +75,9 @@ far_here entries count offsets rest index n l h = record {
   far = omega (arith, h, ap length n.read.split, length-append n.read.front rest);
 }
 
-pub noted_next : (entries : List ℕ) (count : ℕ) (offsets rest : List ℕ) (index place : ℕ) (pair : List ℕ × List ℕ) (after : List ℕ) → (n : Noted entries count offsets rest index) → index < count → place + length rest ≡ length entries → place < NUMBER_LIMIT → Begins rest (pair_parts (pair ∷ [])) after → Noted entries count (offsets ++ place ∷ []) after (index + 1)
+pub noted_next : (entries : List ℕ) (count : ℕ) (offsets rest : List ℕ) (index place : ℕ) (pair : List ℕ × List ℕ) (after : List ℕ)
+    → (n : Noted entries count offsets rest index) → index < count → place + length rest ≡ length entries → place < NUMBER_LIMIT
+    → Begins rest (pair_parts (pair ∷ [])) after → Noted entries count (offsets ++ place ∷ []) after (index + 1)
 noted_next entries count offsets rest index place pair after n within e small b =
     let f = place_is_front entries count offsets rest index place n e in
     let d : drop place entries ≡ rest = ap (λ c. drop place c) n.read.split ∙ drop_at n.read.front rest place f in
@@ -82,7 +89,8 @@ noted_next entries count offsets rest index place pair after n within e small b 
       so_many = omega (arith, n.so_many, length-append n.before (pair ∷ []));
       near = λ g. ⊎_elim
           (λ h. n.near (record { before = g.before; rest = g.rest; spelled = g.spelled; due = h; far = g.far }))
-          (λ h. let u = begins_unique entries (agree_pairs g.before n.before (omega (arith, h, g.due, n.so_many))) g.spelled n.read in omega (arith, g.far, small, f, ap length u.0))
+          (λ h. let u = begins_unique entries (agree_pairs g.before n.before (omega (arith, h, g.due, n.so_many))) g.spelled n.read in
+          omega (arith, g.far, small, f, ap length u.0))
           (cases_lt (length g.before) index);
       within = each_push (λ i p. p ≤ length entries) offsets place n.within (omega (arith, e));
       there =
@@ -100,12 +108,18 @@ pub too_far_weaker : {P Q : Type 0} (error : NameIndexFault) → (P → Q) → I
 too_far_weaker NoRoom h p = tt
 too_far_weaker TooFar h p = h p
 
-pub placed_end : (entries : List ℕ) (count : ℕ) (offsets rest : List ℕ) (index : ℕ) → Noted entries count offsets rest index → index ≡ count → ArePlaced entries offsets
+pub placed_end : (entries : List ℕ) (count : ℕ) (offsets rest : List ℕ) (index : ℕ) → Noted entries count offsets rest index → index ≡ count
+    → ArePlaced entries offsets
 placed_end entries count offsets rest index n e =
     record {
       these = record {
         pairs = n.walked.these.pairs;
-        left = record { after = n.walked.these.left.after; spelled = n.walked.these.left.spelled; len_is = omega (arith, n.walked.these.left.len_is, n.number, e) };
+        left = record {
+          after = n.walked.these.left.after;
+          spelled = n.walked.these.left.spelled;
+          len_is = omega
+              (arith, n.walked.these.left.len_is, n.number, e);
+        };
         rises = n.walked.these.rises;
       };
       within = n.within;
@@ -128,7 +142,8 @@ module _ (entries offsets : List ℕ) (index : ℕ) (d : ℕ) (placed : ArePlace
   pub pair_begins : BeginsPair (drop (get_or offsets index d) entries)
   pair_begins = walked_begins walked_at l
 
-  pub pair_there : (pair : List ℕ × List ℕ) (after : List ℕ) → Begins (drop (get_or offsets index d) entries) (pair_parts (pair ∷ [])) after → slice_get placed.these.pairs index ≡ Some pair
+  pub pair_there : (pair : List ℕ × List ℕ) (after : List ℕ) → Begins (drop (get_or offsets index d) entries) (pair_parts (pair ∷ [])) after
+      → slice_get placed.these.pairs index ≡ Some pair
   pair_there pair after b = walked_pair walked_at l pair after b
 
   -- the key alone
@@ -151,19 +166,22 @@ module _ (entries offsets : List ℕ) (index : ℕ) (d : ℕ) (placed : ArePlace
 abbrev pub pairs_at : {entries offsets : List ℕ} → ArePlaced entries offsets → List (List ℕ × List ℕ)
 pairs_at placed = placed.these.pairs
 
-pub splits_at : {entries offsets : List ℕ} (key : List ℕ) (r : Result ℕ ℕ) (placed : ArePlaced entries offsets) → Finds (to_key key) (pairs_at placed) r → Splits text_order (pairs_at placed) key r
+pub splits_at : {entries offsets : List ℕ} (key : List ℕ) (r : Result ℕ ℕ) (placed : ArePlaced entries offsets) → Finds (to_key key) (pairs_at placed) r
+    → Splits text_order (pairs_at placed) key r
 splits_at key r placed f = Splits-from_Finds one_side placed.these.pairs key placed.these.rises r f
 
 -- ---- what is found
 
 -- what holds of placed entries holds of the table
-pub of_indexed : {P : List (List ℕ × List ℕ) → Type 0} (bytes entries items offsets : List ℕ) → IsIndexed bytes entries items → offsets ≡ items → AsPlaced entries offsets P → OfTable bytes P
+pub of_indexed : {P : List (List ℕ × List ℕ) → Type 0} (bytes entries items offsets : List ℕ) → IsIndexed bytes entries items → offsets ≡ items
+    → AsPlaced entries offsets P → OfTable bytes P
 of_indexed bytes entries items offsets x e h =
     let y = rw (sym e) at x in
     (y.placed.these.pairs, rising_table bytes entries (length offsets) (record { counted = y.counted; these = y.placed.these }), h y.placed)
 
 -- a bound by the number of pairs, which is that of the offsets
-pub cost_by_pairs : (entries offsets : List ℕ) (placed : ArePlaced entries offsets) (old new : Count) → RisesByAtMost (digits (length offsets)) old new → RisesByAtMost (digits (length placed.these.pairs)) old new
+pub cost_by_pairs : (entries offsets : List ℕ) (placed : ArePlaced entries offsets) (old new : Count) → RisesByAtMost (digits (length offsets)) old new
+    → RisesByAtMost (digits (length placed.these.pairs)) old new
 cost_by_pairs entries offsets placed old new r = rw placed.these.left.len_is r
 
 -- ---- between two indices: at the first one stand so many entries, which are those between

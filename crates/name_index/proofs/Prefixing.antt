@@ -1,7 +1,8 @@
 -- How the first bytes of ascending names compare with a string, and where this splits the names.
 --     head_below, head_begins      what its first bytes say of a name;  side      on which side of the split it lies
 --     edge_place, edges_part      what the two edges say
-use Rattle.std.proofs.Common.{◌≡◌, ◌==◌, ◌&&◌, ◌⊎◌, inl, inr, ℕ, zero, suc, ◌+◌, ◌-◌, ◌≤◌, Bool, true, false, not, cond, List, [], ◌∷◌, length, filter, eqb-true, eq-eqb, true≢false, Some, Err, refl, sym, ap, ◌∙◌, subst, arith, Ordering, Less, Equal, Greater}
+use Rattle.std.proofs.Common.{◌≡◌, ◌==◌, ◌&&◌, ◌⊎◌, inl, inr, ℕ, zero, suc, ◌+◌, ◌-◌, ◌≤◌, Bool, true, false, not, cond, List, [], ◌∷◌, length, filter}
+use Rattle.std.proofs.Common.{eqb-true, eq-eqb, true≢false, Some, Err, refl, sym, ap, ◌∙◌, subst, arith, Ordering, Less, Equal, Greater}
 use Rattle.std.proofs.lemmas.Cmp.{ranked, tied_itself}
 use Rattle.std.specs.Cmp.{nat_cmp_total}
 use Rattle.std.specs.Ordering.{is_le, is_lt, nat_cmp, ordering_then}
@@ -22,7 +23,8 @@ head_le : (text a b : List ℕ) → text_order a b ≡ Less → is_le (head_orde
 head_le (t ∷ text) (x ∷ a) [] e h = absurd (cc)
 head_le (t ∷ text) (x ∷ a) (y ∷ b) e h = by (head_le text a b) (nat_cmp x y) refl (nat_cmp y t) refl h
   where
-    by : (text_order a b ≡ Less → is_le (head_order b text) ≡ true → is_le (head_order a text) ≡ true) → (o : Ordering) → nat_cmp x y ≡ o → (u : Ordering) → nat_cmp y t ≡ u
+    by : (text_order a b ≡ Less → is_le (head_order b text) ≡ true → is_le (head_order a text) ≡ true) → (o : Ordering) → nat_cmp x y ≡ o → (u : Ordering)
+        → nat_cmp y t ≡ u
         → is_le (ordering_then (nat_cmp y t) (head_order b text)) ≡ true → is_le (ordering_then (nat_cmp x t) (head_order a text)) ≡ true
     by rest Less d Less f g = rw (nat_cmp_total.trans x y t d f)
     by rest Less d Equal f g = rw (ap (nat_cmp x) (sym (ranked y t Equal (sym f))) ∙ d)
@@ -96,12 +98,15 @@ module _ {entries offsets : List ℕ} (after : Bool) (text : List ℕ) (placed :
   pub cut_sides : (n : ℕ) → Finds (side after text) (pairs_at placed) (Err n) → IsCut (λ p. leads_to after text p.0) placed.these.pairs n
   cut_sides n f =
       let same : (λ (p : List ℕ × List ℕ). is_lt (side after text p.0)) ≡ (λ p. leads_to after text p.0) = λ i p. side_is (leads_to after text p.0) i in
-      subst (λ t. IsCut t placed.these.pairs n) same (before_missing (λ name text. side after text name) text placed.these.pairs n (Splits-from_Finds (side_one after) placed.these.pairs text placed.these.rises (Err n) f))
+      subst (λ t. IsCut t placed.these.pairs n) same
+      (before_missing (λ name text. side after text name) text placed.these.pairs n
+      (Splits-from_Finds (side_one after) placed.these.pairs text placed.these.rises (Err n) f))
 
 -- ---- what the two edges say
 
 -- they lie in order
-edges_ordered : (text : List ℕ) (L : List (List ℕ × List ℕ)) (a b : ℕ) → IsCut (λ p. leads_to false text p.0) L a → IsCut (λ p. leads_to true text p.0) L b → a ≤ b
+edges_ordered : (text : List ℕ) (L : List (List ℕ × List ℕ)) (a b : ℕ) → IsCut (λ p. leads_to false text p.0) L a → IsCut (λ p. leads_to true text p.0) L b
+    → a ≤ b
 edges_ordered text [] a b p r = omega (arith, p)
 edges_ordered text (q ∷ L) zero b p r = omega arith
 edges_ordered text (q ∷ L) (suc a) zero p r = absurd (true≢false (sym (lower (head_order q.0 text) p.0) ∙ r.0))
@@ -112,7 +117,8 @@ edges_ordered text (q ∷ L) (suc a) zero p r = absurd (true≢false (sym (lower
     lower Greater h = absurd (cc)
 edges_ordered text (q ∷ L) (suc a) (suc b) p r = let k = edges_ordered text L a b p.1 r.1 in omega (arith, k)
 
-module _ (text : List ℕ) (L : List (List ℕ × List ℕ)) (a b : ℕ) (first : IsCut (λ p. leads_to false text p.0) L a) (last : IsCut (λ p. leads_to true text p.0) L b) where
+module _ (text : List ℕ) (L : List (List ℕ × List ℕ)) (a b : ℕ) (first : IsCut (λ p. leads_to false text p.0) L a)
+    (last : IsCut (λ p. leads_to true text p.0) L b) where
   pub edge_place : a ≡ place text_order L text
   edge_place =
       sym (length-before (λ p. leads_to false text p.0) L a first) ∙ (λ i. length (filter (λ p. head_below text p.0 i) L))

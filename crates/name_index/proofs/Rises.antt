@@ -1,5 +1,6 @@
 -- Reading on while the keys ascend, and where they don't.
-use Rattle.std.proofs.Common.{◌≡◌, true, false, ℕ, ◌+◌, ◌-◌, ◌<◌, List, [], ◌∷◌, ◌++◌, length, Option, Some, None, slice_get, refl, sym, ap, ◌∙◌, subst, arith, inl, inr, ⊎_elim, append_assoc, length-append, Bor, is_lt, Bool, IfNone, IfSome, IsTrue, Less}
+use Rattle.std.proofs.Common.{◌≡◌, true, false, ℕ, ◌+◌, ◌-◌, ◌<◌, List, [], ◌∷◌, ◌++◌, length, Option, Some, None, slice_get, refl, sym, ap, ◌∙◌, subst, arith}
+use Rattle.std.proofs.Common.{inl, inr, ⊎_elim, append_assoc, length-append, Bor, is_lt, Bool, IfNone, IfSome, IsTrue, Less}
 use Rattle.std.proofs.lemmas.Bool.{cases_lt}
 use Rattle.litemap_store.specs.Counts.{RisesByAtMost}
 use Rattle.litemap_store.specs.Pairs.{AllBelow, Rising}
@@ -44,7 +45,8 @@ checked_start s count = record {
 }
 
 -- one comparison more, but for the first key
-pub asked_next : {c d e : Count} (last : Option (Bor (List ℕ))) (L : List (List ℕ × List ℕ)) (p : List ℕ × List ℕ) → LastKey last L → RisesByAtMost (length L - 1) c d → IfNone last (RisesByAtMost 0 d e) → RisesByAtMost 1 d e → RisesByAtMost (length (L ++ p ∷ []) - 1) c e
+pub asked_next : {c d e : Count} (last : Option (Bor (List ℕ))) (L : List (List ℕ × List ℕ)) (p : List ℕ × List ℕ) → LastKey last L
+    → RisesByAtMost (length L - 1) c d → IfNone last (RisesByAtMost 0 d e) → RisesByAtMost 1 d e → RisesByAtMost (length (L ++ p ∷ []) - 1) c e
 asked_next None L p l r z o = in_turn (length L - 1) 0 (length (L ++ p ∷ []) - 1) (omega (arith, length-append L (p ∷ []), ap length l)) r z
 asked_next (Some last) L p l r z o =
     in_turn (length L - 1) 1 (length (L ++ p ∷ []) - 1) (omega (arith, length-append L (p ∷ []), ap length l.2, length-append l.0 ((last.now, l.1) ∷ []))) r o
@@ -58,19 +60,23 @@ pub last_at : (front : List (List ℕ × List ℕ)) (p : List ℕ × List ℕ) �
 last_at [] p = refl
 last_at (q ∷ front) p = last_at front p
 
-pub is_rising_from : (last : Option (Bor (List ℕ))) (L : List (List ℕ × List ℕ)) (p : List ℕ × List ℕ) → LastKey last L → Rising text_order L → IsAbove last p.0 → Rising text_order (L ++ p ∷ [])
+pub is_rising_from : (last : Option (Bor (List ℕ))) (L : List (List ℕ × List ℕ)) (p : List ℕ × List ℕ) → LastKey last L → Rising text_order L → IsAbove last p.0
+    → Rising text_order (L ++ p ∷ [])
 is_rising_from None L p e r a = let P : List (List ℕ × List ℕ) → Type 0 = λ M. Rising text_order (M ++ p ∷ []) in subst P (sym e) (tt, tt)
 is_rising_from (Some last) L p e r a =
     let M = e.0 ++ (last.now, e.1) ∷ [] in
     let s : Rising text_order M = rw (← e.2) r in
-    let b : AllBelow text_order M p.0 = AllBelow-from_last text_order_total M p.0 (length e.0) (last.now, e.1) s (omega (arith, length-append e.0 ((last.now, e.1) ∷ []))) (last_at e.0 (last.now, e.1)) a in
+    let b : AllBelow text_order M p.0 =
+    AllBelow-from_last text_order_total M p.0 (length e.0) (last.now, e.1) s (omega (arith, length-append e.0 ((last.now, e.1) ∷ [])))
+    (last_at e.0 (last.now, e.1)) a in
     rw e.2 (Rising-push text_order M p.0 p.1 s b)
 
 rising_last : (L : List (List ℕ × List ℕ)) (x y : List ℕ × List ℕ) → Rising text_order ((L ++ x ∷ []) ++ y ∷ []) → text_order x.0 y.0 ≡ Less
 rising_last [] x y r = r.0.0
 rising_last (z ∷ L) x y r = rising_last L x y r.1
 
-pub falls_on : (last : Bor (List ℕ)) (L : List (List ℕ × List ℕ)) (p : List ℕ × List ℕ) → LastKey (Some last) L → Rising text_order (L ++ p ∷ []) → text_order last.now p.0 ≡ Less
+pub falls_on : (last : Bor (List ℕ)) (L : List (List ℕ × List ℕ)) (p : List ℕ × List ℕ) → LastKey (Some last) L → Rising text_order (L ++ p ∷ [])
+    → text_order last.now p.0 ≡ Less
 falls_on last L p e r =
     rising_last e.0 (last.now, e.1) p (rw (← e.2) r)
 
@@ -79,12 +85,15 @@ pub above_true : (last : Option (Bor (List ℕ))) (key : List ℕ) (b : Bool) �
 above_true None key b s t = tt
 above_true (Some last) key b s t = Less-from_is_lt (text_order last.now key) (sym t ∙ s)
 
-pub above_false : (last : Option (Bor (List ℕ))) (L : List (List ℕ × List ℕ)) (p : List ℕ × List ℕ) (b : Bool) → LastKey last L → IfNone last (IsTrue b) → IfSome last (λ l. b ≡ is_lt (text_order l.now p.0)) → b ≡ false → Rising text_order (L ++ p ∷ []) → ⊥
+pub above_false : (last : Option (Bor (List ℕ))) (L : List (List ℕ × List ℕ)) (p : List ℕ × List ℕ) (b : Bool) → LastKey last L → IfNone last (IsTrue b)
+    → IfSome last (λ l. b ≡ is_lt (text_order l.now p.0)) → b ≡ false → Rising text_order (L ++ p ∷ []) → ⊥
 above_false None L p b e n s f r = let h : b ≡ true = n in absurd (cc)
 above_false (Some last) L p b e n s f r = let h : b ≡ true = s ∙ ap is_lt (falls_on last L p e r) in absurd (cc)
 
 -- one more pair was read, and its key is above the last one
-pub checked_next : (s t u : Remaining) (last : Option (Bor (List ℕ))) (key value : Bor (List ℕ)) (old middle new : Count) → Checked s t last old middle → IsAfter t u ((key.now, value.now) ∷ []) → IsAbove last key.now → IfNone last (RisesByAtMost 0 middle new) → RisesByAtMost 1 middle new → Checked s u (Some key) old new
+pub checked_next : (s t u : Remaining) (last : Option (Bor (List ℕ))) (key value : Bor (List ℕ)) (old middle new : Count) → Checked s t last old middle
+    → IsAfter t u ((key.now, value.now) ∷ []) → IsAbove last key.now → IfNone last (RisesByAtMost 0 middle new) → RisesByAtMost 1 middle new
+    → Checked s u (Some key) old new
 checked_next s t u last key value old middle new c n a z o =
     let p : List ℕ × List ℕ = (key.now, value.now) in
     record {
@@ -111,12 +120,14 @@ parts bytes entries s c e a =
 pub rising_table : (bytes entries : List ℕ) (count : ℕ) → (o : IsOpened bytes entries count) → IsRisingTable bytes o.these.pairs
 rising_table bytes entries count o = record {
   rest = o.these.left.after;
-  table = begins_then bytes entries o.these.left.after (Number (length o.these.pairs) ∷ []) (pair_parts o.these.pairs) (rw o.these.left.len_is o.counted) o.these.left.spelled;
+  table = begins_then bytes entries o.these.left.after (Number (length o.these.pairs) ∷ []) (pair_parts o.these.pairs)
+      (rw o.these.left.len_is o.counted) o.these.left.spelled;
   rises = o.these.rises;
 }
 
 -- what holds of its entries holds of the table
-pub of_entries : {P : List (List ℕ × List ℕ) → Type 0} (bytes entries : List ℕ) (count : ℕ) → Begins bytes (Number count ∷ []) entries → OfEntries entries count P → OfTable bytes P
+pub of_entries : {P : List (List ℕ × List ℕ) → Type 0} (bytes entries : List ℕ) (count : ℕ) → Begins bytes (Number count ∷ []) entries
+    → OfEntries entries count P → OfTable bytes P
 of_entries bytes entries count b e = (e.0.pairs, rising_table bytes entries count (record { counted = b; these = e.0 }), e.1)
 
 -- ---- a table whose keys ascend has no error, and other bytes have one at most
@@ -131,7 +142,8 @@ counted_one bytes s t c d =
     λ i. record { rest = u.2 i; place = p i; left = u.1 i }
 
 -- of pairs that bytes begin with and more of them, these are the first ones
-first_pairs : (J K : List (List ℕ × List ℕ)) (bytes middle after : List ℕ) → Begins bytes (pair_parts J) middle → Begins bytes (pair_parts K) after → length J < length K → (q : List ℕ × List ℕ) × (more : List (List ℕ × List ℕ)) × (K ≡ J ++ q ∷ more) × Begins middle (pair_parts (q ∷ more)) after
+first_pairs : (J K : List (List ℕ × List ℕ)) (bytes middle after : List ℕ) → Begins bytes (pair_parts J) middle → Begins bytes (pair_parts K) after
+    → length J < length K → (q : List ℕ × List ℕ) × (more : List (List ℕ × List ℕ)) × (K ≡ J ++ q ∷ more) × Begins middle (pair_parts (q ∷ more)) after
 first_pairs J [] bytes middle after b k l = absurd (omega (arith, l))
 first_pairs [] (p ∷ K) bytes middle after b k l =
     (p, K, refl, rw (← (b.split ∙ ap (λ c. c ++ middle) b.spelled)) k)
@@ -146,7 +158,8 @@ next_no_fault : (t : Remaining) (f : NameFault) (q : List ℕ × List ℕ) (rest
 next_no_fault t f q rest b w = parts_no_fault (pair_parts (q ∷ [])) (pair_parts (w.0 ∷ [])) t.rest rest t.place f (agree_pairs (q ∷ []) (w.0 ∷ []) refl) b w.2
 
 -- nothing stops if a pair is the next one of some whose keys ascend
-next_stops_not : (t : Remaining) (J more : List (List ℕ × List ℕ)) (q : List ℕ × List ℕ) (after : List ℕ) (f : NameTableFault) → Rising text_order (J ++ q ∷ more) → Begins t.rest (pair_parts (q ∷ more)) after → NextStops J t f → ⊥
+next_stops_not : (t : Remaining) (J more : List (List ℕ × List ℕ)) (q : List ℕ × List ℕ) (after : List ℕ) (f : NameTableFault)
+    → Rising text_order (J ++ q ∷ more) → Begins t.rest (pair_parts (q ∷ more)) after → NextStops J t f → ⊥
 next_stops_not t J more q after (Format f) r b w = let p = begins_split t.rest after (pair_parts (q ∷ [])) (pair_parts more) b in next_no_fault t f q p.0 p.1 w
 next_stops_not t J more q after (NotAscending at) r b w =
     let n = pair_next t.rest w.0.rest after q w.1 more b w.2.spelled in
@@ -154,13 +167,15 @@ next_stops_not t J more q after (NotAscending at) r b w =
     w.4 (Rising-left text_order (J ++ w.1 ∷ []) more (rw (← e) r))
 
 next_stops_one : (t : Remaining) (J : List (List ℕ × List ℕ)) (f g : NameTableFault) → NextStops J t f → NextStops J t g → f ≡ g
-next_stops_one t J (Format f) (Format g) p q = ap (λ e. Format e) (fault_unique (pair_parts (p.0 ∷ [])) (pair_parts (q.0 ∷ [])) t.rest t.place f g (agree_pairs (p.0 ∷ []) (q.0 ∷ []) refl) p.2 q.2)
+next_stops_one t J (Format f) (Format g) p q =
+    ap (λ e. Format e) (fault_unique (pair_parts (p.0 ∷ [])) (pair_parts (q.0 ∷ [])) t.rest t.place f g (agree_pairs (p.0 ∷ []) (q.0 ∷ []) refl) p.2 q.2)
 next_stops_one t J (Format f) (NotAscending b) p q = absurd (next_no_fault t f q.1 q.0.rest q.2.spelled p)
 next_stops_one t J (NotAscending a) (Format g) p q = absurd (next_no_fault t g p.1 p.0.rest p.2.spelled q)
 next_stops_one t J (NotAscending a) (NotAscending b) p q = ap (λ i. NotAscending i) (p.3 ∙ sym q.3)
 
 -- nor before the last of them
-stops_not : (s : Remaining) (K : List (List ℕ × List ℕ)) (after : List ℕ) (f : NameTableFault) → Begins s.rest (pair_parts K) after → Rising text_order K → (w : StopsAt s f) → length w.1 < length K → ⊥
+stops_not : (s : Remaining) (K : List (List ℕ × List ℕ)) (after : List ℕ) (f : NameTableFault) → Begins s.rest (pair_parts K) after → Rising text_order K
+    → (w : StopsAt s f) → length w.1 < length K → ⊥
 stops_not s K after f k r w l =
     let n = first_pairs w.1 K s.rest w.0.rest after w.2.spelled k l in
     next_stops_not w.0 w.1 n.1 n.0 after f (rw (← n.2) r) n.3 w.4
@@ -192,7 +207,8 @@ rising_no_fault bytes pairs error t =
     stops_not w.0 pairs t.rest error (rw (← u.2) d.2) t.rises w.2 (omega (arith, u.1, w.2.2.count, is_due w.2.0 w.2.1 error w.2.4)))
 
 pub rising_fault_unique : (bytes : List ℕ) (f g : NameTableFault) → IsFault bytes f → IsFault bytes g → f ≡ g
-rising_fault_unique bytes f g (inl p) (inl q) = p.1 ∙ ap (λ e. Format e) (fault_unique (Number 0 ∷ []) (Number 0 ∷ []) bytes 0 p.0 q.0 (agree_numbers 0 0) (inl p.2) (inl q.2)) ∙ sym q.1
+rising_fault_unique bytes f g (inl p) (inl q) =
+    p.1 ∙ ap (λ e. Format e) (fault_unique (Number 0 ∷ []) (Number 0 ∷ []) bytes 0 p.0 q.0 (agree_numbers 0 0) (inl p.2) (inl q.2)) ∙ sym q.1
 rising_fault_unique bytes f g (inl p) (inr q) = absurd (number_no_fault bytes q.0.rest q.0.left p.0 q.1.spelled p.2)
 rising_fault_unique bytes f g (inr p) (inl q) = absurd (number_no_fault bytes p.0.rest p.0.left q.0 p.1.spelled q.2)
 rising_fault_unique bytes f g (inr p) (inr q) = stops_one q.0 f g (subst (λ s. StopsAt s f) (counted_one bytes p.0 q.0 p.1 q.1) p.2) q.2

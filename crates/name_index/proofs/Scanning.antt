@@ -1,5 +1,6 @@
 -- What a walk over entries knows: the pairs from an index on are still to be read, and those before it are below the key.
-use Rattle.std.proofs.Common.{◌≡◌, ℕ, ◌+◌, ◌<◌, ◌≤◌, List, [], ◌∷◌, length, drop, get_or, slice_get, Some, None, Ok, Err, refl, sym, ap, ◌∙◌, subst, arith, Bor, Ordering, Equal}
+use Rattle.std.proofs.Common.{◌≡◌, ℕ, ◌+◌, ◌<◌, ◌≤◌, List, [], ◌∷◌, length, drop, get_or, slice_get, Some, None, Ok, Err, refl, sym, ap, ◌∙◌, subst, arith, Bor}
+use Rattle.std.proofs.Common.{Ordering, Equal}
 use Rattle.std.proofs.lemmas.List.{drop_more}
 use Rattle.std.proofs.lemmas.Option.{slice_get-get_or}
 use Rattle.std.specs.Cmp.{IsTotalOrder}
@@ -41,7 +42,9 @@ module _ {entries : List ℕ} {count : ℕ} {rest : List ℕ} {index : ℕ} (w :
   cut_here = subst (λ L. Begins rest (pair_parts L) w.these.left.after) (drop_more w.these.pairs index ([], []) within) w.here
 
   pub walked_begins : BeginsPair rest
-  walked_begins = let f = begins_split rest w.these.left.after (pair_parts (get_or w.these.pairs index ([], []) ∷ [])) (pair_parts (drop (index + 1) w.these.pairs)) cut_here in (get_or w.these.pairs index ([], []), f.0, f.1)
+  walked_begins = let f =
+      begins_split rest w.these.left.after (pair_parts (get_or w.these.pairs index ([], []) ∷ [])) (pair_parts (drop (index + 1) w.these.pairs)) cut_here in
+      (get_or w.these.pairs index ([], []), f.0, f.1)
 
   module _ (pair : List ℕ × List ℕ) (later : List ℕ) (read : Begins rest (pair_parts (pair ∷ [])) later) where
     pub next_here : (pair ≡ get_or w.these.pairs index ([], [])) × Begins later (pair_parts (drop (index + 1) w.these.pairs)) w.these.left.after
@@ -56,7 +59,8 @@ module _ {entries : List ℕ} {count : ℕ} {rest : List ℕ} {index : ℕ} (w :
 
 -- ---- what a search finds
 
-pub value_at_split : (pairs : List (List ℕ × List ℕ)) (key : List ℕ) (i : ℕ) (p : List ℕ × List ℕ) → Splits text_order pairs key (Ok i) → slice_get pairs i ≡ Some p → value_at text_order pairs key ≡ Some p.1
+pub value_at_split : (pairs : List (List ℕ × List ℕ)) (key : List ℕ) (i : ℕ) (p : List ℕ × List ℕ) → Splits text_order pairs key (Ok i)
+    → slice_get pairs i ≡ Some p → value_at text_order pairs key ≡ Some p.1
 value_at_split pairs key i p s e =
     let a : at text_order pairs key ≡ Some p = sym (there-from_Splits text_order pairs key (Ok i) s) ∙ e in
     rw a refl
@@ -69,9 +73,11 @@ module _ (pairs : List (List ℕ × List ℕ)) (key : List ℕ) (rises : Rising 
   ascends = Ascends-by_query one_side pairs key rises
 
   -- a walk's end: at a pair whose key is equal, or between those below and those above
-  pub scanned_found : (index : ℕ) (name : List ℕ) (value : Bor (List ℕ)) → slice_get pairs index ≡ Some (name, value.now) → text_order name key ≡ Equal → IsScanned pairs key (Ok (index, value))
+  pub scanned_found : (index : ℕ) (name : List ℕ) (value : Bor (List ℕ)) → slice_get pairs index ≡ Some (name, value.now) → text_order name key ≡ Equal
+      → IsScanned pairs key (Ok (index, value))
   scanned_found index name value e is =
-      let s : Splits text_order pairs key (Ok index) = Splits-from_Finds one_side pairs key rises (Ok index) (Finds-here (to_key key) pairs index name value.now e is) in
+      let s : Splits text_order pairs key (Ok index) =
+      Splits-from_Finds one_side pairs key rises (Ok index) (Finds-here (to_key key) pairs index name value.now e is) in
       (s, value_at_split pairs key index (name, value.now) s e)
 
   pub scanned_missing : (low high : ℕ) → high ≤ low → low ≤ length pairs → Narrowed (to_key key) pairs low high → IsScanned pairs key (Err low)

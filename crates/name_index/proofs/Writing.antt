@@ -1,5 +1,6 @@
 -- What is written of an index stays as it is when further bytes come after it.
-use Rattle.std.proofs.Common.{◌≡◌, ℕ, ◌+◌, ◌*◌, ◌<◌, ◌≤◌, List, [], ◌∷◌, ◌++◌, length, take, drop, map, get_or, slice_get, Some, refl, sym, ap, ◌∙◌, arith, append_assoc, length-append, inl, inr, eq-or-lt_of_le, option_map, Bor}
+use Rattle.std.proofs.Common.{◌≡◌, ℕ, ◌+◌, ◌*◌, ◌<◌, ◌≤◌, List, [], ◌∷◌, ◌++◌, length, take, drop, map, get_or, slice_get, Some, refl, sym, ap, ◌∙◌, arith}
+use Rattle.std.proofs.Common.{append_assoc, length-append, inl, inr, eq-or-lt_of_le, option_map, Bor}
 use Rattle.std.specs.Int.{from_le_bytes, w32}
 use Rattle.std.proofs.lemmas.List.{drop-append-le, length-drop, length-take, take-append-le, length-map}
 use Rattle.std.proofs.lemmas.List.Sums.{sum_by-cons, sum_by-take-le, sum_by_more}
@@ -64,7 +65,8 @@ module _ (pairs : List (List ℕ × List ℕ)) (index : ℕ) (pair : List ℕ ×
   pub size_within : entries_size (take index pairs) + pair_size pair ≤ entries_size pairs
   size_within = omega (arith, size_more, sum_by-take-le pair_size pairs (index + 1))
 
-pub offsets_next : (old new : List ℕ) (pairs : List (List ℕ × List ℕ)) (index place : ℕ) → AreOffsets old pairs index → place ≡ entries_size (take index pairs) → Adds old new 4 → IsNumberAt new (length old) place → AreOffsets new pairs (index + 1)
+pub offsets_next : (old new : List ℕ) (pairs : List (List ℕ × List ℕ)) (index place : ℕ) → AreOffsets old pairs index → place ≡ entries_size (take index pairs)
+    → Adds old new 4 → IsNumberAt new (length old) place → AreOffsets new pairs (index + 1)
 offsets_next old new pairs index place p e a n = record {
   number = number_kept old new 4 0 (length pairs) a p.number;
   size = omega (arith, adds_length old new 4 a, p.size);
@@ -77,7 +79,8 @@ offsets_next old new pairs index place p e a n = record {
   ];
 }
 
-pub pairs_next : (old middle new : List ℕ) (pairs : List (List ℕ × List ℕ)) (index : ℕ) (pair : List ℕ × List ℕ) → AddsPairs old middle pairs index → slice_get pairs index ≡ Some pair → Adds middle new (pair_size pair) → IsPairAt new (length middle) pair → AddsPairs old new pairs (index + 1)
+pub pairs_next : (old middle new : List ℕ) (pairs : List (List ℕ × List ℕ)) (index : ℕ) (pair : List ℕ × List ℕ) → AddsPairs old middle pairs index
+    → slice_get pairs index ≡ Some pair → Adds middle new (pair_size pair) → IsPairAt new (length middle) pair → AddsPairs old new pairs (index + 1)
 pairs_next old middle new pairs index pair p e a here =
     record {
       adds = rw (size_more pairs index pair e) (adds_then old middle new (entries_size (take index pairs)) (pair_size pair) p.adds a);
@@ -86,7 +89,8 @@ pairs_next old middle new pairs index pair p e a here =
         | inl h ↦
             let g : slice_get pairs index ≡ Some q = rw (← h) f in
             let s : pair ≡ q = cc in
-            let w : length middle ≡ length old + entries_size (take i pairs) = adds_length old middle (entries_size (take index pairs)) p.adds ∙ ap (λ k. length old + entries_size (take k pairs)) (sym h) in
+            let w : length middle ≡ length old + entries_size (take i pairs) =
+            adds_length old middle (entries_size (take index pairs)) p.adds ∙ ap (λ k. length old + entries_size (take k pairs)) (sym h) in
             let Q : ℕ → List ℕ × List ℕ → Type 0 = λ n r. IsPairAt new n r in
             rw (← w) (rw (← s) here)
       ];
@@ -94,7 +98,8 @@ pairs_next old middle new pairs index pair p e a here =
 
 -- ---- the whole
 
-pub index_written : (old new : List ℕ) (pairs : List (List ℕ × List ℕ)) → AreOffsets old pairs (length pairs) → AddsPairs old new pairs (length pairs) → Rising text_order pairs → IsIndex new pairs
+pub index_written : (old new : List ℕ) (pairs : List (List ℕ × List ℕ)) → AreOffsets old pairs (length pairs) → AddsPairs old new pairs (length pairs)
+    → Rising text_order pairs → IsIndex new pairs
 index_written old new pairs p a rises = record {
   number = number_kept old new (entries_size (take (length pairs) pairs)) 0 (length pairs) a.adds p.number;
   entries = λ i pair e.
@@ -112,7 +117,8 @@ index_written old new pairs p a rises = record {
 
 -- ---- a map's pairs, as what they refer to
 
-pub shown_at : (pairs : List (Bor (List ℕ) × Bor (List ℕ))) (index : ℕ) (d : Bor (List ℕ) × Bor (List ℕ)) → index < length pairs → slice_get (map shown pairs) index ≡ Some (shown (get_or pairs index d))
+pub shown_at : (pairs : List (Bor (List ℕ) × Bor (List ℕ))) (index : ℕ) (d : Bor (List ℕ) × Bor (List ℕ)) → index < length pairs
+    → slice_get (map shown pairs) index ≡ Some (shown (get_or pairs index d))
 shown_at pairs index d l = slice_get-map shown pairs index ∙ ap (λ o. option_map shown o) (slice_get-get_or pairs index d l)
 
 length_less : (pairs : List (List ℕ × List ℕ)) → length pairs ≤ entries_size pairs
@@ -127,14 +133,19 @@ module _ (pairs : List (Bor (List ℕ) × Bor (List ℕ))) (index : ℕ) (d : Bo
   pub too_large_at : NUMBER_LIMIT ≤ pair_size (shown (get_or pairs index d)) → NUMBER_LIMIT ≤ entries_size (map shown pairs)
   too_large_at h = omega (arith, h, size_within (map shown pairs) index (shown (get_or pairs index d)) (shown_at pairs index d l))
 
-  pub too_far_at : (place : ℕ) → place ≡ entries_size (take index (map shown pairs)) → NUMBER_LIMIT ≤ place + pair_size (shown (get_or pairs index d)) → NUMBER_LIMIT ≤ entries_size (map shown pairs)
+  pub too_far_at : (place : ℕ) → place ≡ entries_size (take index (map shown pairs)) → NUMBER_LIMIT ≤ place + pair_size (shown (get_or pairs index d))
+      → NUMBER_LIMIT ≤ entries_size (map shown pairs)
   too_far_at place e h = omega (arith, e, h, size_within (map shown pairs) index (shown (get_or pairs index d)) (shown_at pairs index d l))
 
-pub place_next : (pairs : List (Bor (List ℕ) × Bor (List ℕ))) (index : ℕ) (d : Bor (List ℕ) × Bor (List ℕ)) (place next : ℕ) → index < length pairs → place ≡ entries_size (take index (map shown pairs)) → next ≡ place + pair_size (shown (get_or pairs index d)) → next ≡ entries_size (take (index + 1) (map shown pairs))
+pub place_next : (pairs : List (Bor (List ℕ) × Bor (List ℕ))) (index : ℕ) (d : Bor (List ℕ) × Bor (List ℕ)) (place next : ℕ) → index < length pairs
+    → place ≡ entries_size (take index (map shown pairs)) → next ≡ place + pair_size (shown (get_or pairs index d))
+    → next ≡ entries_size (take (index + 1) (map shown pairs))
 place_next pairs index d place next l e n =
-    n ∙ ap (λ k. k + pair_size (shown (get_or pairs index d))) e ∙ sym (size_more (map shown pairs) index (shown (get_or pairs index d)) (shown_at pairs index d l))
+    n ∙ ap (λ k. k + pair_size (shown (get_or pairs index d))) e
+    ∙ sym (size_more (map shown pairs) index (shown (get_or pairs index d)) (shown_at pairs index d l))
 
-pub shown_written : (old new : List ℕ) (pairs : List (Bor (List ℕ) × Bor (List ℕ))) → AreOffsets old (map shown pairs) (length pairs) → AddsPairs old new (map shown pairs) (length pairs) → Rising by_bytes pairs → IsIndex new (map shown pairs)
+pub shown_written : (old new : List ℕ) (pairs : List (Bor (List ℕ) × Bor (List ℕ))) → AreOffsets old (map shown pairs) (length pairs)
+    → AddsPairs old new (map shown pairs) (length pairs) → Rising by_bytes pairs → IsIndex new (map shown pairs)
 shown_written old new pairs p a rises =
     let e : length pairs ≡ length (map shown pairs) = sym (length-map pairs shown) in
     index_written old new (map shown pairs) (rw (← e) p) (rw (← e) a) ((shown_rise pairs).0 rises)

@@ -1,9 +1,12 @@
 -- Each list of bytes begins with a table, or has an error.
-use Rattle.std.proofs.Common.{◌≡◌, ◌≢◌, ◌⊎◌, inl, inr, ℕ, zero, suc, ◌+◌, ◌-◌, ◌*◌, ◌%◌, ◌≤◌, Bool, true, false, List, [], ◌∷◌, length, take, drop, refl, sym, arith, ⊎_elim, length-take-le, take-append-drop}
+use Rattle.std.proofs.Common.{◌≡◌, ◌≢◌, ◌⊎◌, inl, inr, ℕ, zero, suc, ◌+◌, ◌-◌, ◌*◌, ◌%◌, ◌≤◌, Bool, true, false, List, [], ◌∷◌, length, take, drop, refl, sym}
+use Rattle.std.proofs.Common.{arith, ⊎_elim, length-take-le, take-append-drop}
 use Rattle.std.proofs.lemmas.Bool.{cases_lt}
 use Rattle.std.proofs.lemmas.Str.{IsUtf8-from_is_utf8, is_utf8-from_IsUtf8}
 use Rattle.std.specs.Str.{is_utf8}
-use Rattle.name_table.specs.{Begins, Number, pair_parts, table_parts, text_parts, Position, IsAfter, IsCounted, Remaining, Fault, PartFault, TextFault, PairsFault, BeginsNumber, WhyUnread, begins_none, begins_pairs, begins_then, NameFault, Truncated, NotUtf8, NumberTooLarge, MOST_BYTES, NUMBER_LIMIT}
+use Rattle.name_table.specs.{Begins, Number, pair_parts, table_parts, text_parts, Position, IsAfter, IsCounted, Remaining, Fault, PartFault, TextFault}
+use Rattle.name_table.specs.{PairsFault, BeginsNumber, WhyUnread, begins_none, begins_pairs, begins_then, NameFault, Truncated, NotUtf8, NumberTooLarge}
+use Rattle.name_table.specs.{MOST_BYTES, NUMBER_LIMIT}
 use Rattle.name_table.proofs.PartLemmas.{begins_last, begins_more, begins_number, begins_text, large_fault, text_fault, unread_fault, unread_more}
 use Rattle.name_table.proofs.Remains.{fault_later, is_next, key_fault, pairs_fault, pairs_from_next, value_fault}
 
@@ -43,12 +46,27 @@ length_read bytes place =
 abbrev TextRead : List ℕ → ℕ → Type 0
 TextRead bytes place = ((text : List ℕ) × (rest : List ℕ) × Begins bytes (text_parts text) rest) ⊎ ((f : NameFault) × TextFault bytes place f)
 
-sized_read : (bytes tail : List ℕ) (place size : ℕ) → Begins bytes (Number size ∷ []) tail → size ≤ length tail → (b : Bool) → is_utf8 (take size tail) ≡ b → TextRead bytes place
+sized_read : (bytes tail : List ℕ) (place size : ℕ) → Begins bytes (Number size ∷ []) tail → size ≤ length tail → (b : Bool) → is_utf8 (take size tail) ≡ b
+    → TextRead bytes place
 sized_read bytes tail place size n h true u =
-    inl (take size tail, drop size tail, begins_text bytes tail (drop size tail) (take size tail) size n (sym (take-append-drop size tail)) (length-take-le size tail h) (IsUtf8-from_is_utf8 (take size tail) u))
+    inl (
+      take size tail,
+      drop size tail,
+      begins_text bytes tail (drop size tail) (take size tail) size n (sym (take-append-drop size tail))
+          (length-take-le size tail h) (IsUtf8-from_is_utf8 (take size tail) u),
+    )
 sized_read bytes tail place size n h false u =
     let next = place + length n.front in
-    inr (NotUtf8 next, text_fault bytes tail place next size (NotUtf8 next) n refl (λ text l. (refl, omega (arith, l, h), λ v. let w : is_utf8 (take size tail) ≡ true = is_utf8-from_IsUtf8 (take size tail) (rw l at v) in absurd (cc))))
+    inr (
+      NotUtf8 next,
+      text_fault bytes tail place next size (NotUtf8 next) n refl
+          (λ text l. (
+            refl,
+            omega (arith, l, h),
+            λ v. let w : is_utf8 (take size tail) ≡ true = is_utf8-from_IsUtf8 (take size tail) (rw l at v) in
+                absurd (cc),
+          )),
+    )
 
 text_read : (bytes : List ℕ) (place : ℕ) → TextRead bytes place
 text_read bytes place =
@@ -77,7 +95,8 @@ pairs_read (suc n) s e =
     ⊎_elim
     (λ v. let after : Position = record { rest = v.1; place = middle.place + length v.2.front } in
     let t : Remaining = record { rest = after.rest; place = after.place; left = s.left - 1 } in
-    let next : IsAfter s t ((k.0, v.0) ∷ []) = is_next s k.0 v.0 middle after (record { spelled = k.2; place = refl }) (record { spelled = v.2; place = refl }) h in
+    let next : IsAfter s t ((k.0, v.0) ∷ []) =
+    is_next s k.0 v.0 middle after (record { spelled = k.2; place = refl }) (record { spelled = v.2; place = refl }) h in
     ⊎_elim
     (λ r. inl ((k.0, v.0) ∷ r.0, r.1, begins_pairs s.rest t.rest r.1 ((k.0, v.0) ∷ []) r.0 next.spelled r.2, omega (arith, r.3, next.count)))
     (λ f. inr (f.0, fault_later s t (k.0, v.0) next f.0 f.1))
@@ -89,7 +108,8 @@ pairs_read (suc n) s e =
 
 -- ---- a table
 
-pub table_read : (bytes : List ℕ) → ((pairs : List (List ℕ × List ℕ)) × (rest : List ℕ) × Begins bytes (table_parts pairs) rest) ⊎ ((error : NameFault) × ((pairs : List (List ℕ × List ℕ)) × Fault (table_parts pairs) bytes 0 error))
+pub table_read : (bytes : List ℕ) → ((pairs : List (List ℕ × List ℕ)) × (rest : List ℕ) × Begins bytes (table_parts pairs) rest)
+    ⊎ ((error : NameFault) × ((pairs : List (List ℕ × List ℕ)) × Fault (table_parts pairs) bytes 0 error))
 table_read bytes =
     ⊎_elim
     (λ r.

@@ -1,8 +1,10 @@
 -- Bytes begin with one spelling at most, and have one reading: a table, or an error.
-use Rattle.std.proofs.Common.{◌≡◌, ℕ, ◌+◌, ◌≤◌, List, [], ◌∷◌, ◌++◌, length, refl, sym, ap, ◌∙◌, subst, arith, inl, inr, ⊎_elim, append_assoc, append-nil, length-append, IsUtf8}
+use Rattle.std.proofs.Common.{◌≡◌, ℕ, ◌+◌, ◌≤◌, List, [], ◌∷◌, ◌++◌, length, refl, sym, ap, ◌∙◌, subst, arith, inl, inr, ⊎_elim, append_assoc, append-nil}
+use Rattle.std.proofs.Common.{length-append, IsUtf8}
 use Rattle.std.proofs.lemmas.List.{append_cancel_left, take_at}
 use Rattle.std.specs.List.{AllByRecursion}
-use Rattle.name_table.specs.{value_of, EndsAtLast, Part, Number, Text, IsPart, AreParts, Begins, text_parts, pair_parts, table_parts, Fault, PartFault, NameFault, Truncated, NotUtf8, NumberTooLarge}
+use Rattle.name_table.specs.{value_of, EndsAtLast, Part, Number, Text, IsPart, AreParts, Begins, text_parts, pair_parts, table_parts, Fault, PartFault}
+use Rattle.name_table.specs.{NameFault, Truncated, NotUtf8, NumberTooLarge}
 
 -- ---- numbers and strings
 
@@ -97,7 +99,8 @@ parts_unique (x ∷ xs) (y ∷ ys) a b u v g p q e =
 parts_unique _ _ a b u v g p q e = absurd g
 
 -- the same of bytes that begin with them
-pub begins_unique : {xs ys : List Part} {u v : List ℕ} (bytes : List ℕ) → Agree xs ys → (p : Begins bytes xs u) → (q : Begins bytes ys v) → (p.front ≡ q.front) × (xs ≡ ys) × (u ≡ v)
+pub begins_unique : {xs ys : List Part} {u v : List ℕ} (bytes : List ℕ) → Agree xs ys → (p : Begins bytes xs u) → (q : Begins bytes ys v)
+    → (p.front ≡ q.front) × (xs ≡ ys) × (u ≡ v)
 begins_unique {xs} {ys} {u} {v} bytes g p q =
     let e : p.front ++ u ≡ q.front ++ v = sym p.split ∙ q.split in
     let h = parts_unique xs ys p.front q.front u v g p.spelled q.spelled e in
@@ -106,7 +109,8 @@ begins_unique {xs} {ys} {u} {v} bytes g p q =
 -- ---- errors
 
 -- if bytes begin with parts like these, their error is one of what comes after them
-pub fault_past : (xs ys more : List Part) (front rest bytes : List ℕ) (place : ℕ) (f : NameFault) → Agree xs ys → AreParts front xs → bytes ≡ front ++ rest → Fault (ys ++ more) bytes place f → Fault more rest (place + length front) f
+pub fault_past : (xs ys more : List Part) (front rest bytes : List ℕ) (place : ℕ) (f : NameFault) → Agree xs ys → AreParts front xs → bytes ≡ front ++ rest
+    → Fault (ys ++ more) bytes place f → Fault more rest (place + length front) f
 fault_past [] [] more front rest bytes place f g p e w =
     let r : bytes ≡ rest = e ∙ ap (λ c. c ++ rest) p in
     let n : place ≡ place + length front = omega (arith, ap length p) in
@@ -155,13 +159,15 @@ like_sym _ _ l = l
 -- neither of two errors comes after the other
 pub fault_unique : (xs ys : List Part) (bytes : List ℕ) (place : ℕ) (f h : NameFault) → Agree xs ys → Fault xs bytes place f → Fault ys bytes place h → f ≡ h
 fault_unique (x ∷ xs) (y ∷ ys) bytes place f h g (inl p) (inl q) = part_fault_unique x y bytes place f h g.0 p q
-fault_unique (x ∷ xs) (y ∷ ys) bytes place f h g (inl p) (inr q) = absurd (part_clash y x q.0 q.1 place f q.3 (like_sym x y g.0) (subst (λ c. PartFault x c place f) q.2 p))
+fault_unique (x ∷ xs) (y ∷ ys) bytes place f h g (inl p) (inr q) =
+    absurd (part_clash y x q.0 q.1 place f q.3 (like_sym x y g.0) (subst (λ c. PartFault x c place f) q.2 p))
 fault_unique (x ∷ xs) (y ∷ ys) bytes place f h g (inr p) (inl q) = absurd (part_clash x y p.0 p.1 place h p.3 g.0 (subst (λ c. PartFault y c place h) p.2 q))
 fault_unique (x ∷ xs) (y ∷ ys) bytes place f h g (inr p) (inr q) =
     let k : p.0 ++ p.1 ≡ q.0 ++ q.1 = sym p.2 ∙ q.2 in
     let u = part_unique x y p.0 q.0 p.1 q.1 p.3 q.3 g.0 k in
     let r : p.1 ≡ q.1 = same_rest p.0 q.0 p.1 q.1 u.0 k in
-    fault_unique xs ys q.1 (place + length q.0) f h (g.1 u.1) (subst (λ c. Fault xs q.1 (place + length c) f) u.0 (subst (λ c. Fault xs c (place + length p.0) f) r p.4)) q.4
+    fault_unique xs ys q.1 (place + length q.0) f h (g.1 u.1)
+    (subst (λ c. Fault xs q.1 (place + length c) f) u.0 (subst (λ c. Fault xs c (place + length p.0) f) r p.4)) q.4
 fault_unique [] _ bytes place f h g p q = absurd p
 fault_unique _ [] bytes place f h g p q = absurd q
 
@@ -172,7 +178,9 @@ agree_texts s t xs ys h = (tt, λ n. let l : length s ≡ length t = cc in (l, �
 
 pub agree_pairs : (J K : List (List ℕ × List ℕ)) → length J ≡ length K → Agree (pair_parts J) (pair_parts K)
 agree_pairs [] [] e = tt
-agree_pairs (p ∷ J) (q ∷ K) e = agree_texts p.0 q.0 (text_parts p.1 ++ pair_parts J) (text_parts q.1 ++ pair_parts K) (λ _ _. agree_texts p.1 q.1 (pair_parts J) (pair_parts K) (λ _ _. agree_pairs J K (omega (arith, e))))
+agree_pairs (p ∷ J) (q ∷ K) e =
+    agree_texts p.0 q.0 (text_parts p.1 ++ pair_parts J) (text_parts q.1 ++ pair_parts K)
+    (λ _ _. agree_texts p.1 q.1 (pair_parts J) (pair_parts K) (λ _ _. agree_pairs J K (omega (arith, e))))
 agree_pairs _ _ e = absurd (omega arith)
 
 pub agree_tables : (J K : List (List ℕ × List ℕ)) → Agree (table_parts J) (table_parts K)
@@ -191,12 +199,14 @@ pair_parts-inj _ _ e = absurd cc
 
 -- ---- tables
 
-pub table_unique : (bytes : List ℕ) (J K : List (List ℕ × List ℕ)) (rest rest' : List ℕ) → Begins bytes (table_parts J) rest → Begins bytes (table_parts K) rest' → (J ≡ K) × (rest ≡ rest')
+pub table_unique : (bytes : List ℕ) (J K : List (List ℕ × List ℕ)) (rest rest' : List ℕ) → Begins bytes (table_parts J) rest
+    → Begins bytes (table_parts K) rest' → (J ≡ K) × (rest ≡ rest')
 table_unique bytes J K rest rest' p q =
     let u = begins_unique bytes (agree_tables J K) p q in
     let f : table_parts J ≡ table_parts K = u.1 in
     let g : pair_parts J ≡ pair_parts K = cc in
     (pair_parts-inj J K g, u.2)
 
-pub table_no_fault : (bytes : List ℕ) (J K : List (List ℕ × List ℕ)) (rest : List ℕ) (error : NameFault) → Begins bytes (table_parts J) rest → Fault (table_parts K) bytes 0 error → ⊥
+pub table_no_fault : (bytes : List ℕ) (J K : List (List ℕ × List ℕ)) (rest : List ℕ) (error : NameFault) → Begins bytes (table_parts J) rest
+    → Fault (table_parts K) bytes 0 error → ⊥
 table_no_fault bytes J K rest error p w = parts_no_fault (table_parts J) (table_parts K) bytes rest 0 error (agree_tables J K) p w

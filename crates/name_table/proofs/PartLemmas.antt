@@ -1,8 +1,10 @@
 -- Parts, one after another, and their errors; numbers, one byte longer.
-use Rattle.std.proofs.Common.{◌≡◌, ◌≢◌, ℕ, ◌+◌, ◌-◌, ◌*◌, ◌%◌, ◌^◌, ◌<◌, ◌≤◌, List, [], ◌∷◌, ◌++◌, length, refl, sym, ap, ◌∙◌, subst, arith, inl, inr, append_assoc, append-nil, length-append, replicate, IsUtf8}
+use Rattle.std.proofs.Common.{◌≡◌, ◌≢◌, ℕ, ◌+◌, ◌-◌, ◌*◌, ◌%◌, ◌^◌, ◌<◌, ◌≤◌, List, [], ◌∷◌, ◌++◌, length, refl, sym, ap, ◌∙◌, subst, arith, inl, inr}
+use Rattle.std.proofs.Common.{append_assoc, append-nil, length-append, replicate, IsUtf8}
 use Rattle.std.proofs.Math.Nat.{pow-succ', pow-le-pow_right}
 use Rattle.std.proofs.lemmas.List.{length-replicate}
-use Rattle.name_table.specs.{value_of, EndsAtLast, Part, Number, Text, IsPart, AreParts, Begins, text_parts, Position, IsPast, PartFault, Fault, TextFault, BeginsNumber, WhyUnread, begins_then, NameFault, Truncated, NotUtf8, NumberTooLarge, MOST_BYTES, NUMBER_LIMIT}
+use Rattle.name_table.specs.{value_of, EndsAtLast, Part, Number, Text, IsPart, AreParts, Begins, text_parts, Position, IsPast, PartFault, Fault, TextFault}
+use Rattle.name_table.specs.{BeginsNumber, WhyUnread, begins_then, NameFault, Truncated, NotUtf8, NumberTooLarge, MOST_BYTES, NUMBER_LIMIT}
 
 pub AreParts-one : (bytes : List ℕ) (x : Part) → IsPart bytes x → AreParts bytes (x ∷ [])
 AreParts-one bytes x p = (bytes, [], sym (append-nil bytes), p, refl)
@@ -28,18 +30,30 @@ AreParts-split bytes (x ∷ xs) ys p =
     }
 
 -- a string of so many bytes after their number
-pub begins_text : (bytes tail rest text : List ℕ) (size : ℕ) → Begins bytes (Number size ∷ []) tail → tail ≡ text ++ rest → length text ≡ size → IsUtf8 text → Begins bytes (text_parts text) rest
+pub begins_text : (bytes tail rest text : List ℕ) (size : ℕ) → Begins bytes (Number size ∷ []) tail → tail ≡ text ++ rest → length text ≡ size → IsUtf8 text
+    → Begins bytes (text_parts text) rest
 begins_text bytes tail rest text size p e l u =
     begins_then bytes tail rest (Number (length text) ∷ []) (Text text ∷ []) (rw l p)
     (record { front = text; split = e; spelled = AreParts-one text (Text text) (refl, u) })
 
 -- the same from position to position
-pub past_text : (s : Position) (tail rest text : List ℕ) (place size : ℕ) → IsPast s (record { rest = tail; place = place }) (Number size ∷ []) → tail ≡ text ++ rest → length text ≡ size → IsUtf8 text → IsPast s (record { rest = rest; place = place + size }) (text_parts text)
+pub past_text : (s : Position) (tail rest text : List ℕ) (place size : ℕ) → IsPast s (record { rest = tail; place = place }) (Number size ∷ [])
+    → tail ≡ text ++ rest → length text ≡ size → IsUtf8 text → IsPast s (record { rest = rest; place = place + size }) (text_parts text)
 past_text s tail rest text place size p e l u =
     let b = begins_text s.rest tail rest text size p.spelled e l u in
     record {
       spelled = b;
-      place = omega (arith, p.place, l, ap length p.spelled.split, length-append p.spelled.front tail, ap length b.split, length-append b.front rest, ap length e, length-append text rest);
+      place = omega (
+        arith,
+        p.place,
+        l,
+        ap length p.spelled.split,
+        length-append p.spelled.front tail,
+        ap length b.split,
+        length-append b.front rest,
+        ap length e,
+        length-append text rest,
+      );
     }
 
 -- what follows some parts begins where these end
@@ -53,7 +67,8 @@ begins_split bytes rest xs ys p =
 
 -- ---- errors
 
-after : (xs more : List Part) (front rest : List ℕ) (place : ℕ) (f : NameFault) → AreParts front xs → Fault more rest (place + length front) f → Fault (xs ++ more) (front ++ rest) place f
+after : (xs more : List Part) (front rest : List ℕ) (place : ℕ) (f : NameFault) → AreParts front xs → Fault more rest (place + length front) f
+    → Fault (xs ++ more) (front ++ rest) place f
 after [] more front rest place f p w =
     let n : place + length front ≡ place = omega (arith, ap length p) in
     subst (λ c. Fault more (c ++ rest) place f) (sym p) (subst (λ k. Fault more rest k f) n w)
@@ -63,7 +78,8 @@ after (x ∷ xs) more front rest place f p w =
     inr (p.0, p.1 ++ rest, e, p.3, after xs more p.1 rest (place + length p.0) f p.4 (subst (λ k. Fault more rest k f) n w))
 
 -- one of the parts after those that were read can't be read
-pub fault_after : (xs more : List Part) (bytes rest : List ℕ) (place next : ℕ) (f : NameFault) → (b : Begins bytes xs rest) → next ≡ place + length b.front → Fault more rest next f → Fault (xs ++ more) bytes place f
+pub fault_after : (xs more : List Part) (bytes rest : List ℕ) (place next : ℕ) (f : NameFault) → (b : Begins bytes xs rest) → next ≡ place + length b.front
+    → Fault more rest next f → Fault (xs ++ more) bytes place f
 fault_after xs more bytes rest place next f b n w =
     subst (λ c. Fault (xs ++ more) c place f) (sym b.split) (after xs more b.front rest place f b.spelled (subst (λ k. Fault more rest k f) n w))
 
@@ -74,11 +90,15 @@ fault_more (x ∷ xs) more bytes place f (inl w) = inl w
 fault_more (x ∷ xs) more bytes place f (inr w) = inr (w.0, w.1, w.2, w.3, fault_more xs more w.1 (place + length w.0) f w.4)
 
 -- a string, of which the length was read: some string is as long
-pub text_fault : (bytes tail : List ℕ) (place next size : ℕ) (f : NameFault) → (b : Begins bytes (Number size ∷ []) tail) → next ≡ place + length b.front → ((text : List ℕ) → length text ≡ size → PartFault (Text text) tail next f) → TextFault bytes place f
+pub text_fault : (bytes tail : List ℕ) (place next size : ℕ) (f : NameFault) → (b : Begins bytes (Number size ∷ []) tail) → next ≡ place + length b.front
+    → ((text : List ℕ) → length text ≡ size → PartFault (Text text) tail next f) → TextFault bytes place f
 text_fault bytes tail place next size f b n w =
     let text : List ℕ = replicate size 0 in
-    let l : length text ≡ size = length-replicate size 0 in
-    (text, subst (λ k. Fault (Number k ∷ Text text ∷ []) bytes place f) (sym l) (fault_after (Number size ∷ []) (Text text ∷ []) bytes tail place next f b n (inl (w text l))))
+    let l : length text ≡ size = length-replicate size 0 in (
+      text,
+      subst (λ k. Fault (Number k ∷ Text text ∷ []) bytes place f) (sym l)
+          (fault_after (Number size ∷ []) (Text text ∷ []) bytes tail place next f b n (inl (w text l))),
+    )
 
 -- ---- numbers
 
@@ -130,7 +150,8 @@ begins_number bytes rest n r h = record {
   spelled = (r.front, [], sym (append-nil r.front), record { ends = r.ends; value = r.value; short = r.short; small = h }, refl);
 }
 
-pub large_fault : (bytes rest : List ℕ) (n place : ℕ) → BeginsNumber bytes MOST_BYTES n rest → NUMBER_LIMIT ≤ n → PartFault (Number 0) bytes place (NumberTooLarge place)
+pub large_fault : (bytes rest : List ℕ) (n place : ℕ) → BeginsNumber bytes MOST_BYTES n rest → NUMBER_LIMIT ≤ n
+    → PartFault (Number 0) bytes place (NumberTooLarge place)
 large_fault bytes rest n place r h = (r.front, rest, refl, r.split, inr (r.ends, r.short, omega (arith, r.value, h)))
 
 pub unread_fault : (f : NameFault) (bytes : List ℕ) (place : ℕ) → WhyUnread f place MOST_BYTES bytes → PartFault (Number 0) bytes place f

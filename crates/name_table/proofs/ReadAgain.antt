@@ -9,7 +9,8 @@ use Rattle.name_table.specs.{Begins, IsTable, table_parts, shown, IsReadAgain}
 use Rattle.name_table.proofs.OneReading.{table_no_fault, table_unique}
 
 -- the keys ascend in what references refer to as they do in the references
-below_shown : (key : Bor (List ℕ)) (pairs : List (Bor (List ℕ) × Bor (List ℕ))) → BelowAll by_bytes key pairs ↔ BelowAll (slice_cmp nat_cmp) key.now (map shown pairs)
+below_shown : (key : Bor (List ℕ)) (pairs : List (Bor (List ℕ) × Bor (List ℕ)))
+    → BelowAll by_bytes key pairs ↔ BelowAll (slice_cmp nat_cmp) key.now (map shown pairs)
 below_shown key [] = ((λ b. tt), λ b. tt)
 below_shown key (p ∷ pairs) = let e = below_shown key pairs in ((λ b. (b.0, e.0 b.1)), λ b. (b.0, e.1 b.1))
 
@@ -23,7 +24,8 @@ shown_rise (p ∷ pairs) =
 pub by_bytes_total : IsTotalOrder by_bytes
 by_bytes_total = on_texts (λ (a : Bor (List ℕ)). a.now)
 
-pub read_again : (bytes : List ℕ) (pairs : List (Bor (List ℕ) × Bor (List ℕ))) → IsTable bytes (map shown pairs) → Rising by_bytes pairs → IsReadAgain bytes pairs
+pub read_again : (bytes : List ℕ) (pairs : List (Bor (List ℕ) × Bor (List ℕ))) → IsTable bytes (map shown pairs) → Rising by_bytes pairs
+    → IsReadAgain bytes pairs
 read_again bytes pairs table rising =
     let whole : Begins bytes (table_parts (map shown pairs)) [] = record { front = bytes; split = sym (append-nil bytes); spelled = table } in
     record {

@@ -1,12 +1,14 @@
 -- What is left of a table, from pair to pair and as a whole.
-use Rattle.std.proofs.Common.{◌≡◌, ◌≢◌, ℕ, ◌+◌, ◌-◌, ◌≤◌, ◌⊎◌, List, [], ◌∷◌, ◌++◌, length, map, refl, sym, ap, ◌∙◌, subst, arith, inl, ⊎_elim, length-append, Bor, replicate}
+use Rattle.std.proofs.Common.{◌≡◌, ◌≢◌, ℕ, ◌+◌, ◌-◌, ◌≤◌, ◌⊎◌, List, [], ◌∷◌, ◌++◌, length, map, refl, sym, ap, ◌∙◌, subst, arith, inl, ⊎_elim, length-append}
+use Rattle.std.proofs.Common.{Bor, replicate}
 use Rattle.std.proofs.lemmas.List.{length-map, length-replicate}
 use Rattle.litemap.specs.ByBytes.{by_bytes}
 use Rattle.litemap_store.specs.Last.{Last}
 use Rattle.litemap_read.specs.ReadFault.{IfSource}
 use Rattle.litemap_read.specs.declared.source.ReadFault.{ReadFault}
 use Rattle.litemap_read.specs.declared.source.ReadFault.TheVariants.{NoRoom, Source}
-use Rattle.name_table.specs.{Number, Begins, text_parts, pair_parts, Position, IsPast, Remaining, shown, NoPair, CanBeRead, AllCanBeRead, IsAfter, IsCounted, Fault, TextFault, NextFault, PairsFault, IsUnread, IsRead, begins_none, begins_pairs, begins_then, NameFault}
+use Rattle.name_table.specs.{Number, Begins, text_parts, pair_parts, Position, IsPast, Remaining, shown, NoPair, CanBeRead, AllCanBeRead, IsAfter, IsCounted}
+use Rattle.name_table.specs.{Fault, TextFault, NextFault, PairsFault, IsUnread, IsRead, begins_none, begins_pairs, begins_then, NameFault}
 use Rattle.name_table.proofs.OneReading.{agree_pairs, begins_unique, fault_past}
 use Rattle.name_table.proofs.PartLemmas.{begins_split, fault_after, fault_more}
 
@@ -23,7 +25,8 @@ all_none_can_be_read s e = record { pairs = []; after = s.rest; spelled = begins
 pub key_fault : (s : Remaining) (f : NameFault) → s.left ≢ 0 → TextFault s.rest s.place f → NextFault s f
 key_fault s f h w = ((w.0, []), omega (arith, h), fault_more (text_parts w.0) (text_parts []) s.rest s.place f w.1)
 
-pub value_fault : (s : Remaining) (middle key : List ℕ) (place : ℕ) (f : NameFault) → s.left ≢ 0 → (b : Begins s.rest (text_parts key) middle) → place ≡ s.place + length b.front → TextFault middle place f → NextFault s f
+pub value_fault : (s : Remaining) (middle key : List ℕ) (place : ℕ) (f : NameFault) → s.left ≢ 0 → (b : Begins s.rest (text_parts key) middle)
+    → place ≡ s.place + length b.front → TextFault middle place f → NextFault s f
 value_fault s middle key place f h b e w =
     ((key, w.0), omega (arith, h), fault_after (text_parts key) (text_parts w.0) s.rest middle s.place place f b e w.1)
 
@@ -40,14 +43,16 @@ abbrev pub position : Remaining → Position
 position s = record { rest = s.rest; place = s.place }
 
 -- from the strings of its key and its value
-pub is_next : (s : Remaining) (key value : List ℕ) (middle after : Position) → IsPast (position s) middle (text_parts key) → IsPast middle after (text_parts value) → s.left ≢ 0 → IsAfter s (record { rest = after.rest; place = after.place; left = s.left - 1 }) ((key, value) ∷ [])
+pub is_next : (s : Remaining) (key value : List ℕ) (middle after : Position) → IsPast (position s) middle (text_parts key)
+    → IsPast middle after (text_parts value) → s.left ≢ 0 → IsAfter s (record { rest = after.rest; place = after.place; left = s.left - 1 }) ((key, value) ∷ [])
 is_next s key value middle after k v h = record {
   spelled = begins_then s.rest middle.rest after.rest (text_parts key) (text_parts value) k.spelled v.spelled;
   place = omega (arith, k.place, v.place, length-append k.spelled.front v.spelled.front);
   count = omega (arith, h);
 }
 
-pub gives_one_more : (s t : Remaining) (q : Bor (List ℕ) × Bor (List ℕ)) (L : List (Bor (List ℕ) × Bor (List ℕ))) → IsAfter s t (shown q ∷ []) → CanBeRead t L → CanBeRead s (q ∷ L)
+pub gives_one_more : (s t : Remaining) (q : Bor (List ℕ) × Bor (List ℕ)) (L : List (Bor (List ℕ) × Bor (List ℕ))) → IsAfter s t (shown q ∷ []) → CanBeRead t L
+    → CanBeRead s (q ∷ L)
 gives_one_more s t q L n r = record {
   after = r.after;
   spelled = begins_pairs s.rest t.rest r.after (shown q ∷ []) (map shown L) n.spelled r.spelled;
@@ -64,7 +69,8 @@ module _ (s t : Remaining) (p : List ℕ × List ℕ) (n : IsAfter s t (p ∷ []
   earlier : (f : NameFault) (pairs : List (List ℕ × List ℕ)) → length pairs ≡ s.left → Fault (pair_parts pairs) s.rest s.place f → PairsFault t f
   earlier f [] l w = absurd w
   earlier f (q ∷ J) l w =
-      let past = fault_past (pair_parts (p ∷ [])) (pair_parts (q ∷ [])) (pair_parts J) n.spelled.front t.rest s.rest s.place f (agree_pairs (p ∷ []) (q ∷ []) refl) n.spelled.spelled n.spelled.split w in
+      let past = fault_past (pair_parts (p ∷ [])) (pair_parts (q ∷ [])) (pair_parts J) n.spelled.front t.rest s.rest s.place f
+      (agree_pairs (p ∷ []) (q ∷ []) refl) n.spelled.spelled n.spelled.split w in
       (J, omega (arith, l, n.count), subst (λ k. Fault (pair_parts J) t.rest k f) (sym n.place) past)
 
   pub fault_earlier : (f : NameFault) → PairsFault s f → PairsFault t f
@@ -91,10 +97,14 @@ module _ (s t : Remaining) (p : List ℕ × List ℕ) (n : IsAfter s t (p ∷ []
 -- ---- a whole table: its number of pairs, and the pairs that are due by it
 
 pub pairs_fault : (bytes : List ℕ) (s : Remaining) (f : NameFault) → IsCounted bytes s → PairsFault s f → IsUnread bytes (Source f)
-pairs_fault bytes s f c w =
-    (w.0, subst (λ k. Fault (Number k ∷ pair_parts w.0) bytes 0 f) (sym w.1) (fault_after (Number s.left ∷ []) (pair_parts w.0) bytes s.rest 0 s.place f c.spelled (omega (arith, c.place)) w.2))
+pairs_fault bytes s f c w = (
+  w.0,
+  subst (λ k. Fault (Number k ∷ pair_parts w.0) bytes 0 f) (sym w.1)
+      (fault_after (Number s.left ∷ []) (pair_parts w.0) bytes s.rest 0 s.place f c.spelled (omega (arith, c.place)) w.2),
+)
 
-pub unread : (bytes : List ℕ) (s : Remaining) (error : ReadFault NameFault) → IsCounted bytes s → IfSource error (PairsFault s) → (error ≡ NoRoom → 1 ≤ s.left) → IsUnread bytes error
+pub unread : (bytes : List ℕ) (s : Remaining) (error : ReadFault NameFault) → IsCounted bytes s → IfSource error (PairsFault s) → (error ≡ NoRoom → 1 ≤ s.left)
+    → IsUnread bytes error
 unread bytes s NoRoom c w some = (s.left, s.rest, c.spelled, some refl)
 unread bytes s (Source e) c w some = pairs_fault bytes s e c w
 
@@ -103,7 +113,8 @@ unread bytes s (Source e) c w some = pairs_fault bytes s e c w
 begins_nothing : (bytes rest : List ℕ) → Begins bytes [] rest → bytes ≡ rest
 begins_nothing bytes rest b = b.split ∙ ap (λ c. c ++ rest) b.spelled
 
-pub none_due : (P K : List (List ℕ × List ℕ)) (bytes middle end : List ℕ) (due : ℕ) → Begins bytes (pair_parts P) middle → Begins bytes (pair_parts K) end → length K ≡ length P + due → (due ≡ 0) ⊎ NoPair middle → due ≡ 0
+pub none_due : (P K : List (List ℕ × List ℕ)) (bytes middle end : List ℕ) (due : ℕ) → Begins bytes (pair_parts P) middle → Begins bytes (pair_parts K) end
+    → length K ≡ length P + due → (due ≡ 0) ⊎ NoPair middle → due ≡ 0
 none_due [] [] bytes middle end due p k l stops = omega (arith, l)
 none_due [] (q ∷ K) bytes middle end due p k l stops =
     let d = begins_split bytes end (pair_parts (q ∷ [])) (pair_parts K) k in
@@ -116,16 +127,23 @@ none_due (p ∷ P) (q ∷ K) bytes middle end due b k l stops =
     none_due P K e.0 middle end due (rw (← ((begins_unique bytes (agree_pairs (p ∷ []) (q ∷ []) refl) d.1 e.1).2)) d.2) e.2 (omega (arith, l)) stops
 
 -- from the number of pairs on, all were read
-module _ (bytes : List ℕ) (s t : Remaining) (given : List (Bor (List ℕ) × Bor (List ℕ))) (counted : IsCounted bytes s) (gives : CanBeRead s given) (all : AllCanBeRead s) (empty : CanBeRead t []) (read : List (List ℕ × List ℕ)) (on : IsAfter s t read) where
+module _ (bytes : List ℕ) (s t : Remaining) (given : List (Bor (List ℕ) × Bor (List ℕ))) (counted : IsCounted bytes s) (gives : CanBeRead s given)
+    (all : AllCanBeRead s) (empty : CanBeRead t []) (read : List (List ℕ × List ℕ)) (on : IsAfter s t read) where
   given_all : length given ≡ s.left
   given_all =
       let l : length (map shown given) ≡ length given = length-map given shown in
-      omega (arith, none_due (map shown given) all.pairs s.rest gives.after all.after gives.due gives.spelled all.spelled (omega (arith, gives.count, all.count, l)) gives.stops, gives.count)
+      omega (
+        arith,
+        none_due (map shown given) all.pairs s.rest gives.after all.after gives.due gives.spelled all.spelled
+            (omega (arith, gives.count, all.count, l)) gives.stops,
+        gives.count,
+      )
 
   on_all : length read ≡ s.left
   on_all =
       let stops : (empty.due ≡ 0) ⊎ NoPair t.rest = rw (begins_nothing t.rest empty.after empty.spelled) empty.stops in
-      let e : empty.due ≡ 0 = none_due read all.pairs s.rest t.rest all.after empty.due on.spelled all.spelled (omega (arith, on.count, all.count, empty.count)) stops in
+      let e : empty.due ≡ 0 =
+      none_due read all.pairs s.rest t.rest all.after empty.due on.spelled all.spelled (omega (arith, on.count, all.count, empty.count)) stops in
       omega (arith, e, on.count, empty.count)
 
   same_bytes : gives.spelled.front ≡ on.spelled.front
@@ -136,7 +154,8 @@ module _ (bytes : List ℕ) (s t : Remaining) (given : List (Bor (List ℕ) × B
   pub is_read : (M : List (Bor (List ℕ) × Bor (List ℕ))) → Last by_bytes given M → IsRead bytes M t.place
   is_read M last =
       let l : s.left ≡ length (map shown given) = sym given_all ∙ sym (length-map given shown) in
-      let b : Begins bytes (Number (length (map shown given)) ∷ []) s.rest = record { front = counted.spelled.front; split = counted.spelled.split; spelled = rw (← l) counted.spelled.spelled } in
+      let b : Begins bytes (Number (length (map shown given)) ∷ []) s.rest =
+      record { front = counted.spelled.front; split = counted.spelled.split; spelled = rw (← l) counted.spelled.spelled } in
       record {
         pairs = given;
         rest = gives.after;

@@ -15,7 +15,8 @@ pub IsUtf8_word : (bytes : List ℕ) → IsWord bytes → IsUtf8 bytes
 IsUtf8_word bytes w = IsUtf8-from_ascii bytes (IsAscii-from_all bytes (All-weaker IsGraphic (λ b. b < 128) (λ b p. omega arith) bytes w.1))
 
 -- two words are what stands between the spaces of their text
-pub words_split : (name line rest key value : List ℕ) → line ≡ name ++ rest → line ≡ name ++ (key ++ (32 ∷ value)) → IsWord key → IsWord value → slice_split (λ b. b == 32) rest ≡ key ∷ (value ∷ [])
+pub words_split : (name line rest key value : List ℕ) → line ≡ name ++ rest → line ≡ name ++ (key ++ (32 ∷ value)) → IsWord key → IsWord value
+    → slice_split (λ b. b == 32) rest ≡ key ∷ (value ∷ [])
 words_split name line rest key value is e k v =
     rw (append_cancel_left name rest (key ++ (32 ∷ value)) (sym is ∙ e))
     (slice_split_at (λ b. b == 32) key 32 value (whole key k) refl ∙ ap (λ parts. key ∷ parts) (slice_split_none (λ b. b == 32) value (whole value v)))

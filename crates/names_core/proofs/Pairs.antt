@@ -1,5 +1,6 @@
 -- The text and the tokens of pairs, one after another.
-use Rattle.std.proofs.Common.{◌≡◌, ◌∙◌, ◌==◌, ◌+◌, ◌<◌, ◌++◌, ◌∷◌, ℕ, true, false, List, [], Global, String, IfSome, ap, append_assoc, arith, flat_map, inl, inr, length, map, refl, slice_get, sym, take}
+use Rattle.std.proofs.Common.{◌≡◌, ◌∙◌, ◌==◌, ◌+◌, ◌<◌, ◌++◌, ◌∷◌, ℕ, true, false, List, [], Global, String, IfSome, ap, append_assoc, arith, flat_map, inl}
+use Rattle.std.proofs.Common.{inr, length, map, refl, slice_get, sym, take}
 use Rattle.std.proofs.lemmas.List.{flat_map_more, take_more}
 use Rattle.std.proofs.lemmas.Option.{slice_get_cases}
 use Rattle.json.specs.Print.{print, print_from, quoted}
@@ -20,13 +21,17 @@ flat_map_one_more front f xs i old new low so_far more =
 regroup : (name value rest : List ℕ) → (name ++ 58 ∷ []) ++ (value ++ rest) ≡ (name ++ (58 ∷ value)) ++ rest
 regroup name value rest = simp append_assoc
 
-print-later : (L : List (String Global × String Global)) → print_from true (flat_map (λ p. pair_tokens (pair_bytes p)) L ++ (end_object ∷ [])) ≡ later_members (map pair_bytes L) ++ (125 ∷ [])
+print-later : (L : List (String Global × String Global)) → print_from true (flat_map (λ p. pair_tokens (pair_bytes p)) L ++ (end_object ∷ []))
+    ≡ later_members (map pair_bytes L) ++ (125 ∷ [])
 unfolding print_from
 print-later [] = refl
 print-later (p ∷ L) =
-    rw (print-later L) (ap (λ t. 44 ∷ t) (regroup (quoted (pair_bytes p).0) (quoted (pair_bytes p).1) _ ∙ sym (append_assoc (member_text (pair_bytes p)) (later_members (map pair_bytes L)) (125 ∷ []))))
+    rw (print-later L) (ap (λ t. 44 ∷ t)
+    (regroup (quoted (pair_bytes p).0) (quoted (pair_bytes p).1) _
+    ∙ sym (append_assoc (member_text (pair_bytes p)) (later_members (map pair_bytes L)) (125 ∷ []))))
 
-pub print-object : (L : List (String Global × String Global)) → (length L == 0) ≡ false → print (begin_object ∷ (flat_map (λ p. pair_tokens (pair_bytes p)) L ++ (end_object ∷ []))) ≡ json_text (map pair_bytes L)
+pub print-object : (L : List (String Global × String Global)) → (length L == 0) ≡ false
+    → print (begin_object ∷ (flat_map (λ p. pair_tokens (pair_bytes p)) L ++ (end_object ∷ []))) ≡ json_text (map pair_bytes L)
 unfolding print_from
 print-object [] some = absurd cc
 print-object (p ∷ L) some = rw (print-later L) (ap (λ t. 123 ∷ t) (regroup (quoted (pair_bytes p).0) (quoted (pair_bytes p).1) _))

@@ -1,5 +1,6 @@
 -- Lemmas on what is written through a `Watch`, one text after another.
-use Rattle.std.proofs.Common.{◌+◌, ◌++◌, ◌||◌, ℕ, Bool, true, false, List, [], Option, length, take, refl, ap, ◌∙◌, arith, inl, inr, length-append, take-add, take_at, drop_at}
+use Rattle.std.proofs.Common.{◌+◌, ◌++◌, ◌||◌, ℕ, Bool, true, false, List, [], Option, length, take, refl, ap, ◌∙◌, arith, inl, inr, length-append, take-add}
+use Rattle.std.proofs.Common.{take_at, drop_at}
 use Rattle.std.specs.Io.KnownBytes.{Appends}
 use Rattle.std.proofs.KnownBytes.{Appends-nil, Appends-trans}
 use Rattle.std.proofs.lemmas.List.{take-append-le}
@@ -8,15 +9,20 @@ use Rattle.names_core.specs.declared.watch.Watch.{Watch}
 
 Takes-after : (a b c : Option (List ℕ)) (s t : List ℕ) (fault : Bool) → Appends a b s → Takes b c t fault → Takes a c (s ++ t) fault
 Takes-after a b c s t false first then = Appends-trans a b c s t first then
-Takes-after a b c s t true first (n, low, then) =
-    (length s + n, omega (arith, length-append s t), rw (take-add, take_at s t (length s) refl, drop_at s t (length s) refl) (Appends-trans a b c s (take n t) first then))
+Takes-after a b c s t true first (n, low, then) = (
+  length s + n,
+  omega (arith, length-append s t),
+  rw (take-add, take_at s t (length s) refl, drop_at s t (length s) refl)
+      (Appends-trans a b c s (take n t) first then),
+)
 
 module _ {W : Type 0} (contents : W → Option (List ℕ)) where
   pub Writes-nil : (w : Watch W) → Writes contents w w [] false
   Writes-nil w = record { takes = Appends-nil _; failed = refl; met = refl; nothing_after = λ unmet. refl }
 
   -- one text after another
-  pub Writes-after : (old mid new : Watch W) (s t : List ℕ) (fault : Bool) → Writes contents old mid s false → Writes contents mid new t fault → Writes contents old new (s ++ t) fault
+  pub Writes-after : (old mid new : Watch W) (s t : List ℕ) (fault : Bool) → Writes contents old mid s false → Writes contents mid new t fault
+      → Writes contents old new (s ++ t) fault
   Writes-after old mid new s t fault first then = record {
     takes = Takes-after _ _ _ s t fault first.takes then.takes;
     failed = then.failed ∙ ap (λ b. fault || b) first.failed;
@@ -24,7 +30,8 @@ module _ {W : Type 0} (contents : W → Option (List ℕ)) where
     nothing_after = λ unmet. then.nothing_after (first.met ∙ unmet) ∙ first.nothing_after unmet;
   }
 
-  pub Ends-after : (old mid new : Watch W) (s t : List ℕ) (status result : ℕ) → Writes contents old mid s false → Ends contents mid new t status result → Ends contents old new (s ++ t) status result
+  pub Ends-after : (old mid new : Watch W) (s t : List ℕ) (status result : ℕ) → Writes contents old mid s false → Ends contents mid new t status result
+      → Ends contents old new (s ++ t) status result
   Ends-after old mid new s t status result first (inl (is, then)) = inl (is, Writes-after old mid new s t false first then)
   Ends-after old mid new s t status result first (inr (is, then)) = inr (is, Writes-after old mid new s t true first then)
 

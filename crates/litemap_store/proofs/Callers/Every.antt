@@ -3,7 +3,9 @@
 --     every_pair      after a put, a cut and a write, and of a part, as of a range; and of the pair that a lookup finds
 --     All-merged      of the values after a merge: cited by name, since the lists that are merged stand in no goal
 --     put_ends      a put in front of all keys, and past the first
-use Rattle.litemap_store.proofs.Names.{[], ℕ, ◌++◌, ◌<◌, ◌∙◌, ◌∷◌, ◌≡◌, ◌≢◌, ◌⊎◌, above, All, All-from_recursion, ap, arith, at, below, BelowAll, Bool, cut, Equal, filter, get_or, Greater, In, inl, inr, is_gt, is_lt, IsTotalOrder, key_or, length, Less, List, Merge, None, Option, option_map_or, Ordering, put, recursion_from_All, refl, Some, suc, sym, write}
+use Rattle.litemap_store.proofs.Names.{[], ℕ, ◌++◌, ◌<◌, ◌∙◌, ◌∷◌, ◌≡◌, ◌≢◌, ◌⊎◌, above, All, All-from_recursion, ap, arith, at, below, BelowAll, Bool, cut}
+use Rattle.litemap_store.proofs.Names.{Equal, filter, get_or, Greater, In, inl, inr, is_gt, is_lt, IsTotalOrder, key_or, length, Less, List, Merge, None}
+use Rattle.litemap_store.proofs.Names.{Option, option_map_or, Ordering, put, recursion_from_All, refl, Some, suc, sym, write}
 use Rattle.litemap_store.proofs.Last.KeepLast.{filter_all, filter_none}
 use Rattle.litemap_store.proofs.Lists.Membership.{In-cases, In-from_filter, In-get_or, each, from_each}
 use Rattle.litemap_store.proofs.Search.Splitting.{at_in, at_none, less_back}
@@ -24,7 +26,8 @@ module _ {X : Type 0} where
 
 module _ {K V : Type 0} where
   in_parts : (L : List (K × V)) (x : K × V) (left right : K × V → Bool) → In x (filter left L ++ filter right L) → In x L
-  in_parts L x left right i = elim (In-cases (filter left L) (filter right L) x i) [ inl a ↦ (In-from_filter left L x a).0 | inr b ↦ (In-from_filter right L x b).0 ]
+  in_parts L x left right i =
+      elim (In-cases (filter left L) (filter right L) x i) [ inl a ↦ (In-from_filter left L x a).0 | inr b ↦ (In-from_filter right L x b).0 ]
 
   in_between : (L : List (K × V)) (x y : K × V) (left right : K × V → Bool) → In x (filter left L ++ y ∷ filter right L) → (y ≡ x) ⊎ In x L
   in_between L x y left right i = elim (In-cases (filter left L) (y ∷ filter right L) x i) [
@@ -51,7 +54,8 @@ module _ {K Q V : Type 0} (order : K → Q → Ordering) (L : List (K × V)) (q 
       × (((p : K × V) × (at order L q ≡ Some p) × (get_or (write order L q v) i d ≡ (p.0, v))) ⊎ Stands L d (get_or (write order L q v) i d))
   get_or-write v i d l = (refl, by (at order L q) refl (In-get_or (write order L q v) i d l))
     where
-      by : (o : Option (K × V)) → at order L q ≡ o → In (get_or (write order L q v) i d) (option_map_or (λ p. below order L q ++ (p.0, v) ∷ above order L q) o L)
+      by : (o : Option (K × V)) → at order L q ≡ o
+          → In (get_or (write order L q v) i d) (option_map_or (λ p. below order L q ++ (p.0, v) ∷ above order L q) o L)
           → ((p : K × V) × (at order L q ≡ Some p) × (get_or (write order L q v) i d ≡ (p.0, v))) ⊎ Stands L d (get_or (write order L q v) i d)
       by None e n = inr (stands L d _ n)
       by (Some p) e n = elim (in_between L _ _ _ _ n) [ inl f ↦ inl (p, e, sym f) | inr h ↦ inr (stands L d _ h) ]
@@ -73,11 +77,13 @@ module _ {K V : Type 0} {cmp : K → K → Ordering} where
       let greater : (x : K × V) → In x L → cmp x.0 k ≡ Greater = λ x i. less_back o k x.0 (each (λ (q : K × V). cmp k q.0 ≡ Less) L b x i) in
       let low : below cmp L k ≡ [] = filter_none _ L (λ x i. ap is_lt (greater x i)) in
       let high : above cmp L k ≡ L = filter_all _ L (λ x i. ap is_gt (greater x i)) in
-      let none : at cmp L k ≡ None = at_none cmp L k (from_each (λ (q : K × V). cmp q.0 k ≢ Equal) L (λ x i e. let f : Greater ≡ Equal = sym (greater x i) ∙ e in absurd (cc))) in
+      let none : at cmp L k ≡ None =
+      at_none cmp L k (from_each (λ (q : K × V). cmp q.0 k ≢ Equal) L (λ x i e. let f : Greater ≡ Equal = sym (greater x i) ∙ e in absurd (cc))) in
       rw (low, none, high) refl
 
 -- and past the first
-pub put-past : {K V : Type 0} (cmp : K → K → Ordering) (p : K × V) (L : List (K × V)) (k : K) (v : V) → cmp p.0 k ≡ Less → put cmp (p ∷ L) k v ≡ p ∷ put cmp L k v
+pub put-past : {K V : Type 0} (cmp : K → K → Ordering) (p : K × V) (L : List (K × V)) (k : K) (v : V) → cmp p.0 k ≡ Less
+    → put cmp (p ∷ L) k v ≡ p ∷ put cmp L k v
 put-past cmp p L k v less = rw less refl
 
 pub ruleset every_pair = (get_or-put, get_or-cut, get_or-write, get_or-filter, at_stands)

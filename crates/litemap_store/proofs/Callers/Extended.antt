@@ -9,11 +9,13 @@ use Rattle.std.specs.Vec.Iter.{into_iter_items, into_iter_steps}
 use Rattle.std.specs.declared.vec.IntoIter.{IntoIter}
 use Rattle.litemap_store.proofs.Callers.LastLookups.{at-Last, value_at-Last_of_more}
 
-module _ {X Z : Type 0} (becomes : Vec X Z → IntoIter X Z → Type 0) (holds : (v : Vec X Z) (it : IntoIter X Z) → becomes v it → into_iter_items it ≡ v.items) where
-  pub given_by_vec : (v : Vec X Z) (items : List X) → Gives becomes into_iter_steps v items → items ≡ v.items
-  given_by_vec v items g = All-taken g.0 items g.2 ∙ holds v g.0 g.1
+module _ {X Z : Type 0} (becomes : Vec X Z → IntoIter X Z → Type 0) (holds : (v : Vec X Z) (it : IntoIter X Z) → becomes v it → into_iter_items it ≡ v.items)
+  where
+    pub given_by_vec : (v : Vec X Z) (items : List X) → Gives becomes into_iter_steps v items → items ≡ v.items
+    given_by_vec v items g = All-taken g.0 items g.2 ∙ holds v g.0 g.1
 
-module _ {K V Z : Type 0} {cmp : K → K → Ordering} (o : IsTotalOrder cmp) (becomes : Vec (K × V) Z → IntoIter (K × V) Z → Type 0) (holds : (v : Vec (K × V) Z) (it : IntoIter (K × V) Z) → becomes v it → into_iter_items it ≡ v.items) where
+module _ {K V Z : Type 0} {cmp : K → K → Ordering} (o : IsTotalOrder cmp) (becomes : Vec (K × V) Z → IntoIter (K × V) Z → Type 0)
+    (holds : (v : Vec (K × V) Z) (it : IntoIter (K × V) Z) → becomes v it → into_iter_items it ≡ v.items) where
   module _ (v : Vec (K × V) Z) (old new : List (K × V)) (e : IsExtended cmp becomes into_iter_steps v old new) where
     -- the last pairs of the old ones followed by the vector's
     pub Last-extended : Last cmp (old ++ v.items) new
@@ -30,5 +32,6 @@ module _ {K V Z : Type 0} {cmp : K → K → Ordering} (o : IsTotalOrder cmp) (b
     old_stays r k none = value_at-extended r k ∙ ap (λ f. option_or f (value_at cmp old k)) none
 
   -- a key finds its last value
-  pub value_at-collected : (v : Vec (K × V) Z) (new : List (K × V)) → IsExtended cmp becomes into_iter_steps v [] new → (k : K) → value_at cmp new k ≡ value_at cmp (reverse v.items) k
+  pub value_at-collected : (v : Vec (K × V) Z) (new : List (K × V)) → IsExtended cmp becomes into_iter_steps v [] new → (k : K)
+      → value_at cmp new k ≡ value_at cmp (reverse v.items) k
   value_at-collected v new e k = ap (option_map (λ p. p.1)) (at-Last o v.items new (Last-extended v [] new e) k)

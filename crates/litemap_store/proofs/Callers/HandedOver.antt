@@ -6,7 +6,8 @@ use Rattle.litemap_store.proofs.Names.{Option, Ordering, Rising, Some, subst, sy
 use Rattle.std.proofs.iter.Yields.{gives_Drains, listed}
 use Rattle.litemap_store.proofs.Last.Pairs.{Last-rising, Last-unique}
 
-module _ {T X : Type 0} (steps : T → Option X → T → Type 0) (owned : T → List X) (first : (s : T) (r : Option X) (t : T) → steps s r t → YieldsFirst owned s r t) where
+module _ {T X : Type 0} (steps : T → Option X → T → Type 0) (owned : T → List X)
+    (first : (s : T) (r : Option X) (t : T) → steps s r t → YieldsFirst owned s r t) where
   pub given_by_owned : (s : T) (xs : List X) → Drains steps s xs → xs ≡ owned s
   given_by_owned s xs d =
       sym (map-id xs)

@@ -6,7 +6,11 @@
 --     value_at-write, value_at-write_apart      the same after a write;  value_at-written_apart      if a write finds the key
 --     value_in-set_value_other, value_at-set_value      after a write at an index;  value_in-set, value_at-set      if a pair is there
 --     length-put_present, length-put_absent, length-cut_present, cut-absent, Rising-cut      what both leave of an ascending list
-use Rattle.litemap_store.proofs.Names.{[], ℕ, ◌++◌, ◌+◌, ◌∙◌, ◌∷◌, ◌≡◌, ◌≢◌, above, ap, append-nil, arith, at, below, Bool, cond, cons_option, cut, Equal, false, filter, filter-append, find-append, Greater, IfSome, index_of, is_eq, is_gt, is_lt, IsSome, IsTotalOrder, key_one_side, key_or, length, length-append, Less, List, None, Ok, Option, option_map, option_map_or, option_or, Ordering, place, put, refl, Rising, set_value, slice_get, slice_set, Some, suc, sym, true, value_at, value_in, write, zero}
+use Rattle.litemap_store.proofs.Names.{[], ℕ, ◌++◌, ◌+◌, ◌∙◌, ◌∷◌, ◌≡◌, ◌≢◌, above, ap, append-nil, arith, at, below, Bool, cond, cons_option, cut, Equal}
+use Rattle.litemap_store.proofs.Names.{false, filter, filter-append, find-append, Greater, IfSome, index_of, is_eq, is_gt, is_lt, IsSome, IsTotalOrder}
+use Rattle.litemap_store.proofs.Names.{key_one_side, key_or, length, length-append, Less, List, None, Ok, Option, option_map, option_map_or, option_or}
+use Rattle.litemap_store.proofs.Names.{Ordering, place, put, refl, Rising, set_value, slice_get, slice_set, Some, suc, sym, true, value_at, value_in, write}
+use Rattle.litemap_store.proofs.Names.{zero}
 use Rattle.litemap_store.proofs.Last.KeepLast.{filter_all, filter_none}
 use Rattle.litemap_store.proofs.Lists.Membership.{In-from_filter}
 use Rattle.litemap_store.proofs.Lists.Seams.{set_value-suc}
@@ -55,10 +59,12 @@ module _ {K Q V : Type 0} (order : K → Q → Ordering) (q : Q) where
 
   -- the value that was written is found
   pub value_at-write : (L : List (K × V)) (v : V) → IsSome (at order L q) → value_at order (write order L q v) q ≡ Some v
-  value_at-write L v there = (elim (at order L q) as (λ a. at order L q ≡ a → IsSome a → value_at order (option_map_or (λ p. below order L q ++ (p.0, v) ∷ above order L q) a L) q ≡ Some v) [
-    | None ↦ λ e h. absurd (cc)
-    | Some p ↦ λ e h. ap (option_map (λ p. p.1)) (at-between L (p.0, v) (at_in order L q p e).1)
-  ]) refl there
+  value_at-write L v there =
+      (elim (at order L q) as (λ a. at order L q ≡ a → IsSome a → value_at order (option_map_or (λ p. below order L q ++ (p.0, v) ∷ above order L q) a L) q
+      ≡ Some v) [
+        | None ↦ λ e h. absurd (cc)
+        | Some p ↦ λ e h. ap (option_map (λ p. p.1)) (at-between L (p.0, v) (at_in order L q p e).1)
+      ]) refl there
 
 -- ---- another query q', if all keys that it finds compare alike with q, and not as Equal
 module _ {K Q Q' V : Type 0} (order : K → Q → Ordering) (q : Q) (order' : K → Q' → Ordering) (q' : Q')
@@ -82,19 +88,23 @@ module _ {K Q Q' V : Type 0} (order : K → Q → Ordering) (q : Q) (order' : K 
   value_at-cut_apart L = ap (option_map (λ p. p.1)) (find-append (λ p. is_eq (order' p.0 q')) (below order L q) (above order L q) ∙ others L)
 
   -- and with a pair with an equal key between the two parts
-  pub value_at-between_apart : (L : List (K × V)) (p : K × V) → order p.0 q ≡ Equal → value_at order' (below order L q ++ p ∷ above order L q) q' ≡ value_at order' L q'
+  pub value_at-between_apart : (L : List (K × V)) (p : K × V) → order p.0 q ≡ Equal → value_at order' (below order L q ++ p ∷ above order L q) q'
+      ≡ value_at order' L q'
   value_at-between_apart L p e =
       let miss : is_eq (order' p.0 q') ≡ false = not_is_eq (order' p.0 q') (λ h. differs (sym (turned p.0 h) ∙ e)) in
       let same : at order' (p ∷ above order L q) q' ≡ at order' (above order L q) q' = rw miss refl in
       ap (option_map (λ p. p.1))
-      (find-append (λ p. is_eq (order' p.0 q')) (below order L q) (p ∷ above order L q) ∙ ap (λ r. option_or (at order' (below order L q) q') r) same ∙ others L)
+      (find-append (λ p. is_eq (order' p.0 q')) (below order L q) (p ∷ above order L q) ∙ ap (λ r. option_or (at order' (below order L q) q') r) same
+      ∙ others L)
 
   -- after a write it finds what it found before
   pub value_at-write_apart : (L : List (K × V)) (v : V) → value_at order' (write order L q v) q' ≡ value_at order' L q'
-  value_at-write_apart L v = (elim (at order L q) as (λ a. at order L q ≡ a → value_at order' (option_map_or (λ p. below order L q ++ (p.0, v) ∷ above order L q) a L) q' ≡ value_at order' L q') [
-    | None ↦ λ e. refl
-    | Some p ↦ λ e. value_at-between_apart L (p.0, v) (at_in order L q p e).1
-  ]) refl
+  value_at-write_apart L v =
+      (elim (at order L q) as
+      (λ a. at order L q ≡ a → value_at order' (option_map_or (λ p. below order L q ++ (p.0, v) ∷ above order L q) a L) q' ≡ value_at order' L q') [
+        | None ↦ λ e. refl
+        | Some p ↦ λ e. value_at-between_apart L (p.0, v) (at_in order L q p e).1
+      ]) refl
 
   -- if a write finds the key, it leaves this
   pub value_at-written_apart : (L : List (K × V)) (p : K × V) (v : V) → at order L q ≡ Some p
@@ -149,14 +159,18 @@ module _ {K V : Type 0} {cmp : K → K → Ordering} (o : IsTotalOrder cmp) wher
     below-below L = filter_all (λ (p : K × V). is_lt (cmp p.0 k)) (below cmp L k) (λ x i. (In-from_filter (λ (p : K × V). is_lt (cmp p.0 k)) L x i).1)
 
     below-above : (L : List (K × V)) → below cmp (above cmp L k) k ≡ []
-    below-above L = filter_none (λ (p : K × V). is_lt (cmp p.0 k)) (above cmp L k) (λ x i. elim (cmp x.0 k) as (λ c. is_gt c ≡ true → is_lt c ≡ false) [ Less ↦ λ h. absurd cc | Equal ↦ λ h. refl | Greater ↦ λ h. refl ] (In-from_filter (λ (p : K × V). is_gt (cmp p.0 k)) L x i).1)
+    below-above L = filter_none (λ (p : K × V). is_lt (cmp p.0 k)) (above cmp L k)
+        (λ x i. elim (cmp x.0 k) as (λ c. is_gt c ≡ true → is_lt c ≡ false) [ Less ↦ λ h. absurd cc | Equal ↦ λ h. refl | Greater ↦ λ h. refl ]
+        (In-from_filter (λ (p : K × V). is_gt (cmp p.0 k)) L x i).1)
 
     -- as many keys are smaller as before
     pub place-put : (L : List (K × V)) (v : V) → place cmp (put cmp L k v) k ≡ place cmp L k
     place-put L v =
         let x : K × V = (key_or (at cmp L k) k, v) in
         let none : below cmp (x ∷ above cmp L k) k ≡ [] = rw (key_or_equal o k L) (below-above L) in
-        let whole : below cmp (put cmp L k v) k ≡ below cmp L k = filter-append (λ p. is_lt (cmp p.0 k)) (below cmp L k) (x ∷ above cmp L k) ∙ ap (λ M. M ++ below cmp (x ∷ above cmp L k) k) (below-below L) ∙ ap (λ M. below cmp L k ++ M) none ∙ append-nil (below cmp L k) in
+        let whole : below cmp (put cmp L k v) k ≡ below cmp L k =
+        filter-append (λ p. is_lt (cmp p.0 k)) (below cmp L k) (x ∷ above cmp L k) ∙ ap (λ M. M ++ below cmp (x ∷ above cmp L k) k) (below-below L)
+        ∙ ap (λ M. below cmp L k ++ M) none ∙ append-nil (below cmp L k) in
         ap length whole
 
     -- and there the key is found
@@ -181,7 +195,8 @@ module _ {K V : Type 0} {cmp : K → K → Ordering} (o : IsTotalOrder cmp) wher
       whole : length L ≡ length (below cmp L k) + suc (length (above cmp L k))
       whole = by (at cmp L k) there (parted (key_one_side o) L k r)
         where
-          by : (a : Option (K × V)) → IsSome a → L ≡ below cmp L k ++ cons_option a (above cmp L k) → length L ≡ length (below cmp L k) + suc (length (above cmp L k))
+          by : (a : Option (K × V)) → IsSome a → L ≡ below cmp L k ++ cons_option a (above cmp L k)
+              → length L ≡ length (below cmp L k) + suc (length (above cmp L k))
           by None h e = absurd (cc)
           by (Some p) h e = ap length e ∙ length-append (below cmp L k) (p ∷ above cmp L k)
 
@@ -189,7 +204,8 @@ module _ {K V : Type 0} {cmp : K → K → Ordering} (o : IsTotalOrder cmp) wher
       length-put_present v = length-append (below cmp L k) ((key_or (at cmp L k) k, v) ∷ above cmp L k) ∙ sym whole
 
       pub length-cut_present : length (cut cmp L k) + 1 ≡ length L
-      length-cut_present = let e : length (cut cmp L k) ≡ length (below cmp L k) + length (above cmp L k) = length-append (below cmp L k) (above cmp L k) in let w = whole in omega arith
+      length-cut_present = let e : length (cut cmp L k) ≡ length (below cmp L k) + length (above cmp L k) =
+          length-append (below cmp L k) (above cmp L k) in let w = whole in omega arith
 
     -- if it is absent, a put adds one, and a cut leaves the list
     module _ (missing : at cmp L k ≡ None) where
@@ -199,7 +215,8 @@ module _ {K V : Type 0} {cmp : K → K → Ordering} (o : IsTotalOrder cmp) wher
       pub length-put_absent : (v : V) → length (put cmp L k v) ≡ length L + 1
       length-put_absent v =
           let e : length L ≡ length (below cmp L k) + length (above cmp L k) = ap length parts ∙ length-append (below cmp L k) (above cmp L k) in
-          let p : length (put cmp L k v) ≡ length (below cmp L k) + suc (length (above cmp L k)) = length-append (below cmp L k) ((key_or (at cmp L k) k, v) ∷ above cmp L k) in
+          let p : length (put cmp L k v) ≡ length (below cmp L k) + suc (length (above cmp L k)) =
+          length-append (below cmp L k) ((key_or (at cmp L k) k, v) ∷ above cmp L k) in
           omega arith
 
       pub cut-absent : cut cmp L k ≡ L
@@ -207,4 +224,5 @@ module _ {K V : Type 0} {cmp : K → K → Ordering} (o : IsTotalOrder cmp) wher
 
     -- a cut leaves an ascending list
     pub Rising-cut : Rising cmp (cut cmp L k)
-    Rising-cut = Rising-append cmp (below cmp L k) (above cmp L k) (Rising-filter cmp _ L r) (Rising-filter cmp _ L r) (λ x y i j. o.trans x.0 k y.0 (kept_below o L k x i) (kept_above o L k y j))
+    Rising-cut = Rising-append cmp (below cmp L k) (above cmp L k) (Rising-filter cmp _ L r) (Rising-filter cmp _ L r)
+        (λ x y i j. o.trans x.0 k y.0 (kept_below o L k x i) (kept_above o L k y j))

@@ -4,7 +4,9 @@
 --     value_at-merged      the value of B if B has the key, else that of A
 --     value_at-left      the value of A if B has the key, else none
 --     at-same      what a key that the query finds finds;  key_same, key_alike      both, if the query is a key
-use Rattle.litemap_store.proofs.Names.{[], ◌∙◌, ◌∷◌, ◌≡◌, ◌≢◌, alike_right, AllByRecursion, ap, at, Bool, cases_Bool, cond, cons_option, Equal, false, In, inl, inr, is_eq, is_some, IsMerged, IsTotalOrder, left, Less, List, Merge, None, NoneEqual, Option, option_map, option_or, Ordering, refl, Rising, Some, subst, sym, tied_back, true, true≢false, value_at}
+use Rattle.litemap_store.proofs.Names.{[], ◌∙◌, ◌∷◌, ◌≡◌, ◌≢◌, alike_right, AllByRecursion, ap, at, Bool, cases_Bool, cond, cons_option, Equal, false, In, inl}
+use Rattle.litemap_store.proofs.Names.{inr, is_eq, is_some, IsMerged, IsTotalOrder, left, Less, List, Merge, None, NoneEqual, Option, option_map, option_or}
+use Rattle.litemap_store.proofs.Names.{Ordering, refl, Rising, Some, subst, sym, tied_back, true, true≢false, value_at}
 use Rattle.litemap_store.proofs.Lists.Membership.{each, from_each}
 use Rattle.litemap_store.proofs.Search.Splitting.{at_in, at_none, equal_from_is_eq, none_equal, not_is_eq}
 
@@ -40,15 +42,18 @@ module _ {K Q : Type 0} (cmp : K → K → Ordering) (o : IsTotalOrder cmp) (ord
       shown : (p : K × V) → IsMerged cmp A B p → order p.0 q ≡ Equal → value_at order M q ≡ Some p.1
       shown p m e = ap (option_map (λ x. x.1)) (at-rising M p merge.rising ((merge.exactly p).1 m) e)
 
-      by_both : (a b : Option (K × V)) → at order A q ≡ a → at order B q ≡ b → value_at order M q ≡ option_or (option_map (λ p. p.1) b) (option_map (λ p. p.1) a)
-      by_both None None e f = ap (option_map (λ p. p.1)) (at_none order M q (from_each (λ (p : K × V). order p.0 q ≢ Equal) M (λ x i g. elim ((merge.exactly x).0 i) [
-        | inl h ↦ each (λ (p : K × V). order p.0 q ≢ Equal) A (none_equal order A q e) x h.0 g
-        | inr (inl h) ↦ each (λ (p : K × V). order p.0 q ≢ Equal) B (none_equal order B q f) x h.0 g
-        | inr (inr h) ↦ each (λ (p : K × V). order p.0 q ≢ Equal) A (none_equal order A q e) (x.0, h.0.0) h.0.1 g
-      ])))
+      by_both : (a b : Option (K × V)) → at order A q ≡ a → at order B q ≡ b
+          → value_at order M q ≡ option_or (option_map (λ p. p.1) b) (option_map (λ p. p.1) a)
+      by_both None None e f =
+          ap (option_map (λ p. p.1)) (at_none order M q (from_each (λ (p : K × V). order p.0 q ≢ Equal) M (λ x i g. elim ((merge.exactly x).0 i) [
+            | inl h ↦ each (λ (p : K × V). order p.0 q ≢ Equal) A (none_equal order A q e) x h.0 g
+            | inr (inl h) ↦ each (λ (p : K × V). order p.0 q ≢ Equal) B (none_equal order B q f) x h.0 g
+            | inr (inr h) ↦ each (λ (p : K × V). order p.0 q ≢ Equal) A (none_equal order A q e) (x.0, h.0.0) h.0.1 g
+          ])))
       by_both (Some a) None e f = let t = at_in order A q a e in shown a (inl (t.0, none_like a.0 B t.1 (none_equal order B q f))) t.1
       by_both None (Some b) e f = let t = at_in order B q b f in shown b (inr (inl (t.0, none_like b.0 A t.1 (none_equal order A q e)))) t.1
-      by_both (Some a) (Some b) e f = let s = at_in order A q a e in let t = at_in order B q b f in shown (a.0, b.1) (inr (inr ((a.1, s.0), (b.0, same a.0 b.0 s.1 t.1, t.0)))) s.1
+      by_both (Some a) (Some b) e f = let s = at_in order A q a e in let t =
+          at_in order B q b f in shown (a.0, b.1) (inr (inr ((a.1, s.0), (b.0, same a.0 b.0 s.1 t.1, t.0)))) s.1
 
       -- the value of B if B has the key, else that of A
       pub value_at-merged : value_at order M q ≡ option_or (value_at order B q) (value_at order A q)

@@ -15,7 +15,8 @@ module _ {K : Type 0} {cmp : K → K → Ordering} where
   value_at_equal o L k q e = rw (at_equal o L k q e) refl
 
   by_case : (r : Ordering) (L : List (K × ℕ)) (k q : K) → IsTotalOrder cmp → cmp k q ≡ r
-      → unwrap_or (value_at cmp (put cmp L k (unwrap_or (value_at cmp L k) 0 + 1)) q) 0 ≡ cond (is_eq r) (unwrap_or (value_at cmp L q) 0 + 1) (unwrap_or (value_at cmp L q) 0)
+      → unwrap_or (value_at cmp (put cmp L k (unwrap_or (value_at cmp L k) 0 + 1)) q) 0 ≡ cond (is_eq r) (unwrap_or (value_at cmp L q) 0 + 1)
+      (unwrap_or (value_at cmp L q) 0)
   by_case Equal L k q o e =
       let n = unwrap_or (value_at cmp L k) 0 + 1 in
       ap (λ v. unwrap_or v 0) (value_at_equal o (put cmp L k n) k q e ∙ value_at-put o k L n) ∙ ap (λ v. unwrap_or v 0 + 1) (sym (value_at_equal o L k q e))
@@ -23,5 +24,6 @@ module _ {K : Type 0} {cmp : K → K → Ordering} where
   by_case Greater L k q o e = ap (λ v. unwrap_or v 0) (value_at-put_other o L k q (λ h. let d : Greater ≡ Equal = sym e ∙ tied_back o q k h in cc) _)
 
   pub number_at_raised : (L : List (K × ℕ)) (k q : K) → IsTotalOrder cmp
-      → unwrap_or (value_at cmp (put cmp L k (unwrap_or (value_at cmp L k) 0 + 1)) q) 0 ≡ cond (is_eq (cmp k q)) (unwrap_or (value_at cmp L q) 0 + 1) (unwrap_or (value_at cmp L q) 0)
+      → unwrap_or (value_at cmp (put cmp L k (unwrap_or (value_at cmp L k) 0 + 1)) q) 0 ≡ cond (is_eq (cmp k q)) (unwrap_or (value_at cmp L q) 0 + 1)
+      (unwrap_or (value_at cmp L q) 0)
   number_at_raised L k q o = by_case (cmp k q) L k q o refl

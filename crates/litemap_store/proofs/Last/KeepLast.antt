@@ -1,7 +1,11 @@
 -- What a stable sort keeps, and a pass that keeps the last of each run of equal keys.
 --     last_by_stable      the same pairs are last after it;  KeptLast, passed_over, passed_more      what the pass has kept so far, and after one more pair
 --     Last-push      a pair above all goes after the last pairs;  all_below      keys below one above the last;  filter_all, filter_none, last_cases      lists
-use Rattle.litemap_store.proofs.Names.{[], ℕ, ◌++◌, ◌+◌, ◌<◌, ◌↔◌, ◌∙◌, ◌∷◌, ◌≡◌, ◌≢◌, ◌≤◌, ◌⊎◌, above, alike_right, AllBelow, ap, append-nil, arith, below, Bool, cases_lt, cond, drop, drop-set-lt, drop_more, Equal, false, filter, filter-append, get_or, get_or_default, Greater, In, inl, inr, is_eq, is_gt, is_lt, IsSortedByKey, IsTotalOrder, Last, length, length-swap, Less, List, Ordering, ranks_by, refl, Rising, set, set-set, sorted_far, StandsLast, subst, subst₂, suc, swap, swap_is, sym, take, take-set-le, take_more, take_more_set, tied_back, tied_itself, true, true≢false, zero}
+use Rattle.litemap_store.proofs.Names.{[], ℕ, ◌++◌, ◌+◌, ◌<◌, ◌↔◌, ◌∙◌, ◌∷◌, ◌≡◌, ◌≢◌, ◌≤◌, ◌⊎◌, above, alike_right, AllBelow, ap, append-nil, arith, below}
+use Rattle.litemap_store.proofs.Names.{Bool, cases_lt, cond, drop, drop-set-lt, drop_more, Equal, false, filter, filter-append, get_or, get_or_default, Greater}
+use Rattle.litemap_store.proofs.Names.{In, inl, inr, is_eq, is_gt, is_lt, IsSortedByKey, IsTotalOrder, Last, length, length-swap, Less, List, Ordering}
+use Rattle.litemap_store.proofs.Names.{ranks_by, refl, Rising, set, set-set, sorted_far, StandsLast, subst, subst₂, suc, swap, swap_is, sym, take, take-set-le}
+use Rattle.litemap_store.proofs.Names.{take_more, take_more_set, tied_back, tied_itself, true, true≢false, zero}
 use Rattle.std.specs.List.Sorted.{IsStableBy, ties}
 use Rattle.litemap_store.proofs.Lists.Membership.{In-right, In-filter, In-from_filter, each, from_each}
 use Rattle.litemap_store.proofs.Last.Pairs.{In-from_last, Last-put}
@@ -34,7 +38,8 @@ pub take-swap : {X : Type 0} (xs : List X) (k i : ℕ) (d : X) → k ≤ i → i
 take-swap xs k i d le h =
     let is = swap_is xs k i d (omega arith) h in
     elim (cases_lt k i) [
-      | inl before ↦ rw (← is) (take-set-le (k + 1) (set xs k (get_or xs i d)) i (get_or xs k d) (omega arith) ∙ take_more_set xs k (get_or xs i d) (omega arith))
+      | inl before ↦ rw (← is)
+          (take-set-le (k + 1) (set xs k (get_or xs i d)) i (get_or xs k d) (omega arith) ∙ take_more_set xs k (get_or xs i d) (omega arith))
       | inr not_before ↦ let e : k ≡ i = omega arith in rw (← is, e, set-set) (take_more_set xs i (get_or xs i d) h)
     ]
 
@@ -45,14 +50,17 @@ drop-swap xs k i d le h =
 
 pub rising_across : {K V : Type 0} (cmp : K → K → Ordering) (A B : List (K × V)) → Rising cmp (A ++ B) → (a b : K × V) → In a A → In b B → cmp a.0 b.0 ≡ Less
 rising_across cmp [] B r a b i j = absurd i
-rising_across {K} {V} cmp (x ∷ A) B r a b (inl e) j = subst (λ (y : K × V). cmp y.0 b.0 ≡ Less) e (each (λ (q : K × V). cmp x.0 q.0 ≡ Less) (A ++ B) r.0 b (In-right A B b j))
+rising_across {K} {V} cmp (x ∷ A) B r a b (inl e) j =
+    subst (λ (y : K × V). cmp y.0 b.0 ≡ Less) e (each (λ (q : K × V). cmp x.0 q.0 ≡ Less) (A ++ B) r.0 b (In-right A B b j))
 rising_across cmp (x ∷ A) B r a b (inr i) j = rising_across cmp A B r.1 a b i j
 
 -- if the last key is below k, so are all
-pub all_below : {K V : Type 0} {cmp : K → K → Ordering} → IsTotalOrder cmp → (L N : List (K × V)) (l : K × V) (k : K) → Rising cmp L → L ≡ N ++ l ∷ [] → cmp l.0 k ≡ Less → AllBelow cmp L k
+pub all_below : {K V : Type 0} {cmp : K → K → Ordering} → IsTotalOrder cmp → (L N : List (K × V)) (l : K × V) (k : K) → Rising cmp L → L ≡ N ++ l ∷ []
+    → cmp l.0 k ≡ Less → AllBelow cmp L k
 all_below {K} {V} {cmp} o L N l k r e less =
     rw e (each-append (λ (q : K × V). cmp q.0 k ≡ Less) N (l ∷ [])
-    (from_each (λ (q : K × V). cmp q.0 k ≡ Less) N (λ x i. o.trans x.0 l.0 k (rising_across cmp N (l ∷ []) (subst (Rising cmp) e r) x l i (inl refl)) less)) (less, tt))
+    (from_each (λ (q : K × V). cmp q.0 k ≡ Less) N (λ x i. o.trans x.0 l.0 k (rising_across cmp N (l ∷ []) (subst (Rising cmp) e r) x l i (inl refl)) less))
+    (less, tt))
 
 -- the first i pairs of S are passed, and the first k of xs are those kept of them
 pub record KeptLast {K V : Type 0} (cmp : K → K → Ordering) (S xs : List (K × V)) (k i : ℕ) : Type 0 where
@@ -62,28 +70,41 @@ pub record KeptLast {K V : Type 0} (cmp : K → K → Ordering) (S xs : List (K 
 
 module _ {K : Type 0} (cmp : K → K → Ordering) (o : IsTotalOrder cmp) where
   -- ---- what a filter that passes equal keys keeps
-  pub StandsLast-filter : {V : Type 0} (t : K × V → Bool) (p : K × V) (J : List (K × V)) → ((q : K × V) → cmp p.0 q.0 ≡ Equal → t q ≡ true) → StandsLast cmp p J → StandsLast cmp p (filter t J)
+  pub StandsLast-filter : {V : Type 0} (t : K × V → Bool) (p : K × V) (J : List (K × V)) → ((q : K × V) → cmp p.0 q.0 ≡ Equal → t q ≡ true) → StandsLast cmp p J
+      → StandsLast cmp p (filter t J)
   StandsLast-filter t p [] f h = h
   StandsLast-filter {V} t p (q ∷ J) f (inl h) =
       let yes : t q ≡ true = f q (subst (λ (x : K × V). cmp p.0 x.0 ≡ Equal) (sym h.0) (tied_itself o p.0)) in
-      rw yes (inl (h.0, from_each (λ (x : K × V). cmp p.0 x.0 ≢ Equal) (filter t J) (λ x i. each (λ (x : K × V). cmp p.0 x.0 ≢ Equal) J h.1 x (In-from_filter t J x i).0)))
+      rw yes (inl (
+        h.0,
+        from_each (λ (x : K × V). cmp p.0 x.0 ≢ Equal) (filter t J)
+            (λ x i. each (λ (x : K × V). cmp p.0 x.0 ≢ Equal) J h.1 x (In-from_filter t J x i).0),
+      ))
   StandsLast-filter t p (q ∷ J) f (inr h) =
       let rest : StandsLast cmp p (filter t J) = StandsLast-filter t p J f h in
       elim (t q) as (λ b. StandsLast cmp p (cond b (q ∷ filter t J) (filter t J))) [ true ↦ inr rest | false ↦ rest ]
 
-  pub StandsLast-from_filter : {V : Type 0} (t : K × V → Bool) (p : K × V) (J : List (K × V)) → ((q : K × V) → cmp p.0 q.0 ≡ Equal → t q ≡ true) → StandsLast cmp p (filter t J) → StandsLast cmp p J
+  pub StandsLast-from_filter : {V : Type 0} (t : K × V → Bool) (p : K × V) (J : List (K × V)) → ((q : K × V) → cmp p.0 q.0 ≡ Equal → t q ≡ true)
+      → StandsLast cmp p (filter t J) → StandsLast cmp p J
   StandsLast-from_filter t p [] f h = h
   StandsLast-from_filter {V} t p (q ∷ J) f h = by (t q) (StandsLast-from_filter t p J f) h
     where
-      by : (b : Bool) → (StandsLast cmp p (filter t J) → StandsLast cmp p J) → StandsLast cmp p (cond b (q ∷ filter t J) (filter t J)) → StandsLast cmp p (q ∷ J)
-      by true rest (inl e) = inl (e.0, from_each (λ (x : K × V). cmp p.0 x.0 ≢ Equal) J (λ x i same. each (λ (x : K × V). cmp p.0 x.0 ≢ Equal) (filter t J) e.1 x (In-filter t J x i (f x same)) same))
+      by : (b : Bool) → (StandsLast cmp p (filter t J) → StandsLast cmp p J) → StandsLast cmp p (cond b (q ∷ filter t J) (filter t J))
+          → StandsLast cmp p (q ∷ J)
+      by true rest (inl e) =
+          inl (
+            e.0,
+            from_each (λ (x : K × V). cmp p.0 x.0 ≢ Equal) J
+                (λ x i same. each (λ (x : K × V). cmp p.0 x.0 ≢ Equal) (filter t J) e.1 x (In-filter t J x i (f x same)) same),
+          )
       by true rest (inr e) = inr (rest e)
       by false rest e = inr (rest e)
 
   tie : {V : Type 0} (p q : K × V) → cmp p.0 q.0 ≡ Equal → ties (λ (x y : K × V). is_lt (cmp x.0 y.0)) p q ≡ true
   tie p q e = rw (e, tied_back o p.0 q.0 e) refl
 
-  pub last_by_stable : {V : Type 0} (J S : List (K × V)) → IsStableBy (λ (x y : K × V). is_lt (cmp x.0 y.0)) J S → (p : K × V) → StandsLast cmp p S ↔ StandsLast cmp p J
+  pub last_by_stable : {V : Type 0} (J S : List (K × V)) → IsStableBy (λ (x y : K × V). is_lt (cmp x.0 y.0)) J S → (p : K × V)
+      → StandsLast cmp p S ↔ StandsLast cmp p J
   last_by_stable {V} J S stable p =
       let t : K × V → Bool = ties (λ (x y : K × V). is_lt (cmp x.0 y.0)) p in
       let e : filter t S ≡ filter t J = stable p in (
@@ -108,8 +129,12 @@ module _ {K : Type 0} (cmp : K → K → Ordering) (o : IsTotalOrder cmp) where
     Last-push_over N q e same =
         let r : Rising cmp (N ++ q ∷ []) = subst (Rising cmp) e last.rising in
         let less : (x : K × V) → In x N → cmp x.0 p.0 ≡ Less = λ x i. sym (alike_right o q.0 p.0 x.0 same) ∙ rising_across cmp N (q ∷ []) r x q i (inl refl) in
-        let a : below cmp (N ++ q ∷ []) p.0 ≡ N = filter-append (λ (x : K × V). is_lt (cmp x.0 p.0)) N (q ∷ []) ∙ rw (filter_all (λ (x : K × V). is_lt (cmp x.0 p.0)) N (λ x i. ap is_lt (less x i)), same) (append-nil N) in
-        let b : above cmp (N ++ q ∷ []) p.0 ≡ [] = filter-append (λ (x : K × V). is_gt (cmp x.0 p.0)) N (q ∷ []) ∙ rw (filter_none (λ (x : K × V). is_gt (cmp x.0 p.0)) N (λ x i. ap is_gt (less x i)), same) refl in
+        let a : below cmp (N ++ q ∷ []) p.0 ≡ N =
+        filter-append (λ (x : K × V). is_lt (cmp x.0 p.0)) N (q ∷ [])
+        ∙ rw (filter_all (λ (x : K × V). is_lt (cmp x.0 p.0)) N (λ x i. ap is_lt (less x i)), same) (append-nil N) in
+        let b : above cmp (N ++ q ∷ []) p.0 ≡ [] =
+        filter-append (λ (x : K × V). is_gt (cmp x.0 p.0)) N (q ∷ [])
+        ∙ rw (filter_none (λ (x : K × V). is_gt (cmp x.0 p.0)) N (λ x i. ap is_gt (less x i)), same) refl in
         rw (e, a, b) at (Last-put cmp o J M last p)
 
   -- ---- the pass
@@ -137,7 +162,8 @@ module _ {K : Type 0} (cmp : K → K → Ordering) (o : IsTotalOrder cmp) where
         }
 
     -- or goes after it
-    pub kept_more : IsSortedByKey (λ (x : K × V). x.0) cmp S → cmp (get_or xs k d).0 (get_or xs i d).0 ≢ Equal → KeptLast cmp S (swap xs (k + 1) i) ((k + 1) + 1) (i + 1)
+    pub kept_more : IsSortedByKey (λ (x : K × V). x.0) cmp S → cmp (get_or xs k d).0 (get_or xs i d).0 ≢ Equal
+        → KeptLast cmp S (swap xs (k + 1) i) ((k + 1) + 1) (i + 1)
     kept_more sorted differ =
         let long = kept.long in
         let p = get_or xs i d in
@@ -145,7 +171,8 @@ module _ {K : Type 0} (cmp : K → K → Ordering) (o : IsTotalOrder cmp) where
         let t : take (k + 1) xs ≡ take k xs ++ q ∷ [] = take_more xs k d (omega arith) in
         let there : In q (take (k + 1) xs) = subst (In q) (sym t) (In-right (take k xs) (q ∷ []) q (inl refl)) in
         let at = In-take i S q (In-from_last cmp q (take i S) ((kept.last.exactly q).0 there)) in
-        let far : is_lt (cmp (get_or S i d).0 (get_or S at.0 d).0) ≡ false = sorted_far (λ (x y : K × V). is_lt (cmp x.0 y.0)) (ranks_by o (λ (x : K × V). x.0)) S sorted at.0 i d (let a = at.1 in omega arith) within in
+        let far : is_lt (cmp (get_or S i d).0 (get_or S at.0 d).0) ≡ false =
+        sorted_far (λ (x y : K × V). is_lt (cmp x.0 y.0)) (ranks_by o (λ (x : K × V). x.0)) S sorted at.0 i d (let a = at.1 in omega arith) within in
         let not_less : is_lt (cmp p.0 q.0) ≡ false = subst₂ (λ (x y : K × V). is_lt (cmp x.0 y.0) ≡ false) (sym next_same.0) (at.3 d) far in
         let first : cmp q.0 p.0 ≡ Less = less_of q.0 p.0 (cmp q.0 p.0) refl differ not_less in
         let all = each (λ (x : K × V). cmp x.0 p.0 ≡ Less) (take (k + 1) xs) (all_below o (take (k + 1) xs) (take k xs) q p.0 kept.last.rising t first) in
@@ -158,7 +185,8 @@ module _ {K : Type 0} (cmp : K → K → Ordering) (o : IsTotalOrder cmp) where
         }
 
   -- the same as the code reads the pairs
-  module _ {V : Type 0} (S xs ys : List (K × V)) (k n i : ℕ) (q p : K × V) (r : Ordering) (kept : KeptLast cmp S xs (k + 1) i) (before : k < i) (within : i < length S) (read_q : q ≡ get_or xs k q) (read_p : p ≡ get_or xs i p) (asked : r ≡ cmp q.0 p.0) where
+  module _ {V : Type 0} (S xs ys : List (K × V)) (k n i : ℕ) (q p : K × V) (r : Ordering) (kept : KeptLast cmp S xs (k + 1) i) (before : k < i)
+      (within : i < length S) (read_q : q ≡ get_or xs k q) (read_p : p ≡ get_or xs i p) (asked : r ≡ cmp q.0 p.0) where
     q_is : q ≡ get_or xs k p
     q_is = let long = kept.long in read_q ∙ get_or_default xs k q p (omega arith)
 
@@ -166,4 +194,5 @@ module _ {K : Type 0} (cmp : K → K → Ordering) (o : IsTotalOrder cmp) where
     passed_over is_equal e f = rw (e, f) (kept_over S xs k i p kept before within (rw (← q_is, ← read_p) (sym asked ∙ equal_from_is_eq r is_equal)))
 
     pub passed_more : IsSortedByKey (λ (x : K × V). x.0) cmp S → is_eq r ≡ false → ys ≡ swap xs (k + 1) i → n ≡ k + 1 → KeptLast cmp S ys (n + 1) (i + 1)
-    passed_more sorted not_eq e f = rw (e, f) (kept_more S xs k i p kept before within sorted (rw (← q_is, ← read_p) (λ same. true≢false (sym (ap is_eq (asked ∙ same)) ∙ not_eq))))
+    passed_more sorted not_eq e f =
+        rw (e, f) (kept_more S xs k i p kept before within sorted (rw (← q_is, ← read_p) (λ same. true≢false (sym (ap is_eq (asked ∙ same)) ∙ not_eq))))

@@ -1,7 +1,10 @@
 -- A pair that is moved to its place among the first of a list, from after them.
 --     put_over, put_between      replacing the pair of an equal key, and between others
 --     kept_put      what is kept so far, with one more pair
-use Rattle.litemap_store.proofs.Names.{[], ℕ, ◌++◌, ◌+◌, ◌-◌, ◌<◌, ◌∙◌, ◌∷◌, ◌≡◌, ◌≤◌, ap, arith, drop, drop-append_seam, drop-take, drop_more, get_or, get_or-drop, get_or_from_slice_get, IsFoundAt, IsMissingAt, IsPutIn, IsTotalOrder, Last, length, length-drop, length-take-le, length_push, List, Ordering, set, slice_get, slice_get_within, Some, subst₂, suc, swap, swap_is, sym, take, take-append-add, take-append-le, take-append_seam, take-set-le, take-set-lt, take-take, take_more}
+use Rattle.litemap_store.proofs.Names.{[], ℕ, ◌++◌, ◌+◌, ◌-◌, ◌<◌, ◌∙◌, ◌∷◌, ◌≡◌, ◌≤◌, ap, arith, drop, drop-append_seam, drop-take, drop_more, get_or}
+use Rattle.litemap_store.proofs.Names.{get_or-drop, get_or_from_slice_get, IsFoundAt, IsMissingAt, IsPutIn, IsTotalOrder, Last, length, length-drop}
+use Rattle.litemap_store.proofs.Names.{length-take-le, length_push, List, Ordering, set, slice_get, slice_get_within, Some, subst₂, suc, swap, swap_is, sym}
+use Rattle.litemap_store.proofs.Names.{take, take-append-add, take-append-le, take-append_seam, take-set-le, take-set-lt, take-take, take_more}
 use Rattle.std.proofs.lemmas.Slice.{drop-put_mid}
 use borrow.Rule.Slice.PartMut.{mid_of, put_mid}
 use Rattle.litemap_store.proofs.Last.KeepLast.{KeptLast, drop-swap}
@@ -15,7 +18,8 @@ turned part M ys x e is =
     is ∙ ap (λ n. drop n part ++ take n part) long ∙ ap (λ L. drop (length M) L ++ take (length M) L) e
     ∙ ap (λ L. L ++ take (length M) (M ++ x ∷ [])) (drop-append_seam M (x ∷ [])) ∙ ap (λ L. x ∷ L) (take-append_seam M (x ∷ []))
 
-module _ {K V : Type 0} (cmp : K → K → Ordering) (xs : List (K × V)) (k at : ℕ) (p : K × V) (before : k ≤ at) (within : at < length xs) (is : slice_get xs at ≡ Some p) where
+module _ {K V : Type 0} (cmp : K → K → Ordering) (xs : List (K × V)) (k at : ℕ) (p : K × V) (before : k ≤ at) (within : at < length xs)
+    (is : slice_get xs at ≡ Some p) where
   first : length (take k xs) ≡ k
   first = length-take-le k xs (omega arith)
 
@@ -42,7 +46,8 @@ module _ {K V : Type 0} (cmp : K → K → Ordering) (xs : List (K × V)) (k at 
       ∙ ap (λ x. take (at - i) (drop i xs) ++ x ∷ []) (get_or-drop i xs (at - i) p ∙ ap (λ n. get_or xs n p) there ∙ get_or_from_slice_get xs at p p is)
 
   -- the first i, then p, then the others of the first k
-  lifted : (i : ℕ) (ys rest : List (K × V)) → i ≤ k → ys ≡ p ∷ take (at - i) (drop i xs) → take (k + 1) (take i xs ++ (ys ++ rest)) ≡ take i (take k xs) ++ p ∷ drop i (take k xs)
+  lifted : (i : ℕ) (ys rest : List (K × V)) → i ≤ k → ys ≡ p ∷ take (at - i) (drop i xs) → take (k + 1) (take i xs ++ (ys ++ rest)) ≡ take i (take k xs)
+      ++ p ∷ drop i (take k xs)
   lifted i ys rest low e =
       let M = take (at - i) (drop i xs) in
       let len : length (take i xs) ≡ i = length-take-le i xs (omega arith) in
@@ -51,8 +56,10 @@ module _ {K V : Type 0} (cmp : K → K → Ordering) (xs : List (K × V)) (k at 
       let enough : length M ≡ at - i = length-take-le (at - i) (drop i xs) (omega arith) in
       let all : k ≡ i + (k - i) = omega arith in
       let others : take (k - i) (M ++ rest) ≡ drop i (take k xs) =
-      take-append-le (k - i) M rest (omega arith) ∙ take-take (k - i) (at - i) (drop i xs) (omega arith) ∙ sym (drop-take i (k - i) xs) ∙ ap (λ n. drop i (take n xs)) (sym all) in
-      ap (λ n. take n (take i xs ++ (ys ++ rest))) more ∙ take-append-add (take i xs) (ys ++ rest) (suc (k - i)) ∙ ap (λ L. take i xs ++ take (suc (k - i)) (L ++ rest)) e
+      take-append-le (k - i) M rest (omega arith) ∙ take-take (k - i) (at - i) (drop i xs) (omega arith) ∙ sym (drop-take i (k - i) xs)
+      ∙ ap (λ n. drop i (take n xs)) (sym all) in
+      ap (λ n. take n (take i xs ++ (ys ++ rest))) more ∙ take-append-add (take i xs) (ys ++ rest) (suc (k - i))
+      ∙ ap (λ L. take i xs ++ take (suc (k - i)) (L ++ rest)) e
       ∙ ap (λ L. take i xs ++ p ∷ L) others ∙ ap (λ L. L ++ p ∷ drop i (take k xs)) (sym (take-take i k xs low))
 
   pub put_between : (i : ℕ) (ys : List (K × V)) → IsMissingAt cmp (take k xs) p.0 i → length ys ≡ length (mid_of i (at + 1 - i) xs)
@@ -70,7 +77,8 @@ module _ {K V : Type 0} (cmp : K → K → Ordering) (xs : List (K × V)) (k at 
         after = drop-put_mid i (at + 1 - i) xs ys (at + 1) (omega arith) (omega arith) (same ∙ room);
       }
 
-pub kept_put : {K V : Type 0} (cmp : K → K → Ordering) → IsTotalOrder cmp → (S xs ys : List (K × V)) (k n i : ℕ) → KeptLast cmp S xs k i → length ys ≡ length xs → IsPutIn cmp xs ys k n i → KeptLast cmp S ys n (i + 1)
+pub kept_put : {K V : Type 0} (cmp : K → K → Ordering) → IsTotalOrder cmp → (S xs ys : List (K × V)) (k n i : ℕ) → KeptLast cmp S xs k i → length ys ≡ length xs
+    → IsPutIn cmp xs ys k n i → KeptLast cmp S ys n (i + 1)
 kept_put cmp o S xs ys k n i kept same put =
     let p = put.pair in
     let long = kept.long in

@@ -3,12 +3,15 @@
 --     Last-join, Last-join_right      the last pairs of a part in place of the part;  Last-same      the same pairs are last
 --     StandsLast-left, StandsLast-right, StandsLast-cases      which pairs of a joined list are last;  stands_before, stands_after      and if a part changes
 --     in_put, put_has      what is in a list after a put
-use Rattle.litemap_store.proofs.Names.{[], ◌++◌, ◌↔◌, ◌∙◌, ◌∷◌, ◌≡◌, ◌≢◌, ◌⊎◌, above, alike_right, ap, append-nil, append_assoc, at, below, Equal, Greater, In, inl, inr, is_gt, is_lt, IsTotalOrder, Last, Less, List, None, NoneEqual, Option, Ordering, refl, Rising, Some, StandsLast, subst, sym, tied_back, tied_itself}
+use Rattle.litemap_store.proofs.Names.{[], ◌++◌, ◌↔◌, ◌∙◌, ◌∷◌, ◌≡◌, ◌≢◌, ◌⊎◌, above, alike_right, ap, append-nil, append_assoc, at, below, Equal, Greater, In}
+use Rattle.litemap_store.proofs.Names.{inl, inr, is_gt, is_lt, IsTotalOrder, Last, Less, List, None, NoneEqual, Option, Ordering, refl, Rising, Some}
+use Rattle.litemap_store.proofs.Names.{StandsLast, subst, sym, tied_back, tied_itself}
 use Rattle.litemap_store.proofs.Lists.Membership.{In-left, In-right, In-cases, In-filter, In-from_filter, each, from_each}
 use Rattle.litemap_store.proofs.Search.Splitting.{Rising-between, at_in, each-append, each-weaker, greater_from_is_gt, less_back, less_from_is_lt, none_equal}
 
 -- ---- which pairs of a joined list are last
-pub StandsLast-left : {K V : Type 0} (cmp : K → K → Ordering) (p : K × V) (A B : List (K × V)) → StandsLast cmp p A → NoneEqual cmp p.0 B → StandsLast cmp p (A ++ B)
+pub StandsLast-left : {K V : Type 0} (cmp : K → K → Ordering) (p : K × V) (A B : List (K × V)) → StandsLast cmp p A → NoneEqual cmp p.0 B
+    → StandsLast cmp p (A ++ B)
 StandsLast-left cmp p [] B h n = absurd h
 StandsLast-left {K} {V} cmp p (a ∷ A) B (inl h) n = inl (h.0, each-append (λ (q : K × V). cmp p.0 q.0 ≢ Equal) A B h.1 n)
 StandsLast-left cmp p (a ∷ A) B (inr h) n = inr (StandsLast-left cmp p A B h n)
@@ -17,18 +20,26 @@ pub StandsLast-right : {K V : Type 0} (cmp : K → K → Ordering) (p : K × V) 
 StandsLast-right cmp p [] B h = h
 StandsLast-right cmp p (a ∷ A) B h = inr (StandsLast-right cmp p A B h)
 
-pub StandsLast-cases : {K V : Type 0} (cmp : K → K → Ordering) (p : K × V) (A B : List (K × V)) → StandsLast cmp p (A ++ B) → (StandsLast cmp p A × NoneEqual cmp p.0 B) ⊎ StandsLast cmp p B
+pub StandsLast-cases : {K V : Type 0} (cmp : K → K → Ordering) (p : K × V) (A B : List (K × V)) → StandsLast cmp p (A ++ B)
+    → (StandsLast cmp p A × NoneEqual cmp p.0 B) ⊎ StandsLast cmp p B
 StandsLast-cases cmp p [] B h = inr h
-StandsLast-cases {K} {V} cmp p (a ∷ A) B (inl h) = inl (inl (h.0, from_each (λ (q : K × V). cmp p.0 q.0 ≢ Equal) A (λ x i. each (λ (q : K × V). cmp p.0 q.0 ≢ Equal) (A ++ B) h.1 x (In-left A B x i))), from_each (λ (q : K × V). cmp p.0 q.0 ≢ Equal) B (λ x i. each (λ (q : K × V). cmp p.0 q.0 ≢ Equal) (A ++ B) h.1 x (In-right A B x i)))
+StandsLast-cases {K} {V} cmp p (a ∷ A) B (inl h) =
+    inl (
+      inl (h.0, from_each (λ (q : K × V). cmp p.0 q.0 ≢ Equal) A (λ x i. each (λ (q : K × V). cmp p.0 q.0 ≢ Equal) (A ++ B) h.1 x (In-left A B x i))),
+      from_each (λ (q : K × V). cmp p.0 q.0 ≢ Equal) B (λ x i. each (λ (q : K × V). cmp p.0 q.0 ≢ Equal) (A ++ B) h.1 x (In-right A B x i)),
+    )
 StandsLast-cases cmp p (a ∷ A) B (inr h) = elim (StandsLast-cases cmp p A B h) [ inl j ↦ inl (inr j.0, j.1) | inr j ↦ inr j ]
 
 -- so if one part replaces another
-pub stands_before : {K V : Type 0} (cmp : K → K → Ordering) (p : K × V) (P Q B : List (K × V)) → (StandsLast cmp p P → StandsLast cmp p Q) → StandsLast cmp p (P ++ B) → StandsLast cmp p (Q ++ B)
+pub stands_before : {K V : Type 0} (cmp : K → K → Ordering) (p : K × V) (P Q B : List (K × V)) → (StandsLast cmp p P → StandsLast cmp p Q)
+    → StandsLast cmp p (P ++ B) → StandsLast cmp p (Q ++ B)
 stands_before cmp p P Q B f h = elim (StandsLast-cases cmp p P B h) [ inl j ↦ StandsLast-left cmp p Q B (f j.0) j.1 | inr j ↦ StandsLast-right cmp p Q B j ]
 
-pub stands_after : {K V : Type 0} (cmp : K → K → Ordering) (p : K × V) (A P Q : List (K × V)) → (NoneEqual cmp p.0 P → NoneEqual cmp p.0 Q) → (StandsLast cmp p P → StandsLast cmp p Q)
+pub stands_after : {K V : Type 0} (cmp : K → K → Ordering) (p : K × V) (A P Q : List (K × V)) → (NoneEqual cmp p.0 P → NoneEqual cmp p.0 Q)
+    → (StandsLast cmp p P → StandsLast cmp p Q)
     → StandsLast cmp p (A ++ P) → StandsLast cmp p (A ++ Q)
-stands_after cmp p A P Q n f h = elim (StandsLast-cases cmp p A P h) [ inl j ↦ StandsLast-left cmp p A Q j.0 (n j.1) | inr j ↦ StandsLast-right cmp p A Q (f j) ]
+stands_after cmp p A P Q n f h =
+    elim (StandsLast-cases cmp p A P h) [ inl j ↦ StandsLast-left cmp p A Q j.0 (n j.1) | inr j ↦ StandsLast-right cmp p A Q (f j) ]
 
 -- a pair that is last in a list is in it
 pub In-from_last : {K V : Type 0} (cmp : K → K → Ordering) (p : K × V) (J : List (K × V)) → StandsLast cmp p J → In p J
@@ -39,7 +50,13 @@ In-from_last cmp p (q ∷ J) (inr h) = inr (In-from_last cmp p J h)
 -- in an ascending list each pair is last
 pub last_in_rising : {K V : Type 0} (cmp : K → K → Ordering) (p : K × V) (L : List (K × V)) → Rising cmp L → In p L → StandsLast cmp p L
 last_in_rising cmp p [] r h = h
-last_in_rising {K} {V} cmp p (q ∷ L) r (inl e) = inl (e, from_each (λ (x : K × V). cmp p.0 x.0 ≢ Equal) L (λ x i same. let less : cmp q.0 x.0 ≡ Less = each (λ (y : K × V). cmp q.0 y.0 ≡ Less) L r.0 x i in let here : cmp p.0 x.0 ≡ Less = subst (λ (y : K × V). cmp y.0 x.0 ≡ Less) e less in cc))
+last_in_rising {K} {V} cmp p (q ∷ L) r (inl e) =
+    inl (
+      e,
+      from_each (λ (x : K × V). cmp p.0 x.0 ≢ Equal) L
+          (λ x i same. let less : cmp q.0 x.0 ≡ Less = each (λ (y : K × V). cmp q.0 y.0 ≡ Less) L r.0 x i in
+          let here : cmp p.0 x.0 ≡ Less = subst (λ (y : K × V). cmp y.0 x.0 ≡ Less) e less in cc),
+    )
 last_in_rising cmp p (q ∷ L) r (inr h) = inr (last_in_rising cmp p L r.1 h)
 
 pub Last-rising : {K V : Type 0} (cmp : K → K → Ordering) (L : List (K × V)) → Rising cmp L → Last cmp L L
@@ -161,7 +178,10 @@ module _ {K : Type 0} (cmp : K → K → Ordering) (o : IsTotalOrder cmp) where
   )) b
     where
       none : (k : K) → NoneEqual cmp k D → NoneEqual cmp k J₂
-      none k n = from_each (λ (q : K × V). cmp k q.0 ≢ Equal) J₂ (λ x i e. let r = has_last J₂ x i in each (λ (q : K × V). cmp k q.0 ≢ Equal) D n r.0 ((a.exactly r.0).1 r.2) (sym (alike_right o x.0 r.0.0 k r.1) ∙ e))
+      none k n = from_each (λ (q : K × V). cmp k q.0 ≢ Equal) J₂
+          (λ x i e. let r = has_last J₂ x i in each (λ (q : K × V). cmp k q.0 ≢ Equal) D n r.0 ((a.exactly r.0).1 r.2)
+          (sym (alike_right o x.0 r.0.0 k r.1) ∙ e))
 
       none_back : (k : K) → NoneEqual cmp k J₂ → NoneEqual cmp k D
-      none_back k n = from_each (λ (q : K × V). cmp k q.0 ≢ Equal) D (λ x i. each (λ (q : K × V). cmp k q.0 ≢ Equal) J₂ n x (In-from_last cmp x J₂ ((a.exactly x).0 i)))
+      none_back k n = from_each (λ (q : K × V). cmp k q.0 ≢ Equal) D
+          (λ x i. each (λ (q : K × V). cmp k q.0 ≢ Equal) J₂ n x (In-from_last cmp x J₂ ((a.exactly x).0 i)))

@@ -41,7 +41,8 @@ module _ {K V : Type 0} {cmp : K → K → Ordering} (o : IsTotalOrder cmp) wher
       last = λ x. (
         λ h. rw (append_assoc B (p ∷ []) Y) at (stands_before cmp x (p ∷ B) (B ++ p ∷ []) Y (λ i. elim i [
           | inl j ↦ StandsLast-right cmp x B (p ∷ []) (inl (j.0, tt))
-          | inr j ↦ StandsLast-left cmp x B (p ∷ []) j ((λ e. each (λ (q : K × V). cmp p.0 q.0 ≢ Equal) B none x (In-from_last cmp x B j) (tied_back o x.0 p.0 e)), tt)
+          | inr j ↦ StandsLast-left cmp x B (p ∷ []) j
+              ((λ e. each (λ (q : K × V). cmp p.0 q.0 ≢ Equal) B none x (In-from_last cmp x B j) (tied_back o x.0 p.0 e)), tt)
         ]) h),
         λ h. stands_before cmp x (B ++ p ∷ []) (p ∷ B) Y (λ i. elim (StandsLast-cases cmp x B (p ∷ []) i) [
           | inl j ↦ inr j.0
@@ -61,11 +62,15 @@ module _ {K V : Type 0} {cmp : K → K → Ordering} (o : IsTotalOrder cmp) wher
   front : (A : List (K × V)) (p : K × V) (k : K) → AllBelow cmp (A ++ p ∷ []) k → AllBelow cmp A k
   front A p k b = from_each (λ (q : K × V). cmp q.0 k ≡ Less) A (λ x i. each (λ (q : K × V). cmp q.0 k ≡ Less) (A ++ p ∷ []) b x (In-left A (p ∷ []) x i))
 
-  sifted_same : (J A B A' B' : List (K × V)) → Sifted cmp V A B J A' B' → Aside A B → (x : K × V) → StandsLast cmp x (A' ++ B') ↔ StandsLast cmp x (A ++ (B ++ J))
+  sifted_same : (J A B A' B' : List (K × V)) → Sifted cmp V A B J A' B' → Aside A B → (x : K × V)
+      → StandsLast cmp x (A' ++ B') ↔ StandsLast cmp x (A ++ (B ++ J))
   sifted_same [] A B A' B' s aside x = (λ h. rw (append-nil, s.0, s.1) h, λ h. rw (← s.0, ← s.1) (rw append-nil at h))
   sifted_same (p ∷ J) A B A' B' (inl s) aside x =
-      let none : NoneEqual cmp p.0 B = from_each (λ (q : K × V). cmp p.0 q.0 ≢ Equal) B (λ b i e. each (λ (q : K × V). ¬ (AllBelow cmp A q.0)) B aside b i (below_like A p.0 b.0 e s.0)) in
-      let kept : Aside (A ++ p ∷ []) B = from_each (λ (b : K × V). ¬ (AllBelow cmp (A ++ p ∷ []) b.0)) B (λ b i all. each (λ (q : K × V). ¬ (AllBelow cmp A q.0)) B aside b i (front A p b.0 all)) in
+      let none : NoneEqual cmp p.0 B =
+      from_each (λ (q : K × V). cmp p.0 q.0 ≢ Equal) B (λ b i e. each (λ (q : K × V). ¬ (AllBelow cmp A q.0)) B aside b i (below_like A p.0 b.0 e s.0)) in
+      let kept : Aside (A ++ p ∷ []) B =
+      from_each (λ (b : K × V). ¬ (AllBelow cmp (A ++ p ∷ []) b.0)) B
+      (λ b i all. each (λ (q : K × V). ¬ (AllBelow cmp A q.0)) B aside b i (front A p b.0 all)) in
       let rest = sifted_same J (A ++ p ∷ []) B A' B' s.1 kept x in
       let over = last_after A (p ∷ (B ++ J)) (B ++ p ∷ J) (passed p B J none) x in (
         λ h. over.0 (rw append_assoc at (rest.0 h)),

@@ -11,14 +11,16 @@ module _ {A B : Type 0} (R : A → B → Type 0) where
   alongside-push (w ∷ xs) [] x y h r = absurd h
   alongside-push (w ∷ xs) (z ∷ ys) x y h r = (h.0, alongside-push xs ys x y h.1 r)
 
-  pub alongside-more : (xs : List A) (ys : List B) (i : ℕ) (x : A) (y : B) → slice_get xs i ≡ Some x → R x y → AllZip R (take i xs) ys → AllZip R (take (i + 1) xs) (ys ++ y ∷ [])
+  pub alongside-more : (xs : List A) (ys : List B) (i : ℕ) (x : A) (y : B) → slice_get xs i ≡ Some x → R x y → AllZip R (take i xs) ys
+      → AllZip R (take (i + 1) xs) (ys ++ y ∷ [])
   alongside-more xs ys i x y is r h =
       subst (λ l. AllZip R l (ys ++ y ∷ []))
       (ap (λ z. take i xs ++ z ∷ []) (sym (get_or_from_slice_get xs i x x is)) ∙ sym (take_more xs i x (slice_get_within xs i x is)))
       (alongside-push (take i xs) ys x y h r)
 
 module _ {K L V W : Type 0} (C : K → L → Type 0) (D : V → W → Type 0) where
-  pub alongside-zip : (ks : List K) (js : List L) (vs : List V) (ws : List W) → AllZip C ks js → AllZip D vs ws → AllZip (λ p q. C p.0 q.0 × D p.1 q.1) (zip ks vs) (zip js ws)
+  pub alongside-zip : (ks : List K) (js : List L) (vs : List V) (ws : List W) → AllZip C ks js → AllZip D vs ws
+      → AllZip (λ p q. C p.0 q.0 × D p.1 q.1) (zip ks vs) (zip js ws)
   alongside-zip [] [] vs ws c d = tt
   alongside-zip [] (j ∷ js) vs ws c d = absurd c
   alongside-zip (k ∷ ks) [] vs ws c d = absurd c

@@ -1,23 +1,29 @@
 -- Ascending lists, by their neighbours, and joined.
 --     adjacent_from_Rising, Rising-from_adjacent, adjacent_more      of two neighbours the later one has the greater key
---     Rising-after      if the last key of one is below the first of the other;  Rising-from_Rises, not_above      if all of one are below the other, or are not
+--     Rising-after      if the last key of one is below the first of the other;  Rising-from_Rises, not_above      if all of one are below the other, or are
+-- not
 --     empty_from_last, empty_from_first, last_split, first_split      an empty list, and what one begins and ends with
 --     below_all      a key below all
-use Rattle.litemap_store.proofs.Names.{[], ℕ, ◌++◌, ◌+◌, ◌-◌, ◌↔◌, ◌∙◌, ◌∷◌, ◌≡◌, AllAdjacentBelow, AllByRecursion, ap, arith, BelowAll, Bool, cases_lt, false, get_or_from_slice_get, In, inl, inr, IsTotalOrder, IsTrue, length, Less, List, None, Ordering, refl, Rises, Rising, slice_get, slice_get_within, Some, sub-one, subst, suc, suc-add, sym, true≢false}
+use Rattle.litemap_store.proofs.Names.{[], ℕ, ◌++◌, ◌+◌, ◌-◌, ◌↔◌, ◌∙◌, ◌∷◌, ◌≡◌, AllAdjacentBelow, AllByRecursion, ap, arith, BelowAll, Bool, cases_lt, false}
+use Rattle.litemap_store.proofs.Names.{get_or_from_slice_get, In, inl, inr, IsTotalOrder, IsTrue, length, Less, List, None, Ordering, refl, Rises, Rising}
+use Rattle.litemap_store.proofs.Names.{slice_get, slice_get_within, Some, sub-one, subst, suc, suc-add, sym, true≢false}
 use Rattle.litemap_store.proofs.Last.KeepLast.{all_below, rising_across}
 use Rattle.litemap_store.proofs.Lists.Membership.{In-get_or, each}
 use Rattle.litemap_store.proofs.Lists.Places.{AllPairs-from_Rising, slice_get-None}
 use Rattle.litemap_store.proofs.Search.Splitting.{Rising-append, each-weaker}
 
 -- if k is below the first key, it is below all
-pub below_all : {K V : Type 0} {cmp : K → K → Ordering} → IsTotalOrder cmp → (k : K) (b : K × V) (L : List (K × V)) → cmp k b.0 ≡ Less → Rising cmp (b ∷ L) → BelowAll cmp k (b ∷ L)
+pub below_all : {K V : Type 0} {cmp : K → K → Ordering} → IsTotalOrder cmp → (k : K) (b : K × V) (L : List (K × V)) → cmp k b.0 ≡ Less → Rising cmp (b ∷ L)
+    → BelowAll cmp k (b ∷ L)
 below_all {K} {V} o k b L l r = (l, each-weaker (λ (x : K × V). o.trans k b.0 x.0 l) L r.0)
 
 -- ---- by neighbours
-pub adjacent_from_Rising : {K V : Type 0} (cmp : K → K → Ordering) (L : List (K × V)) → Rising cmp L → AllAdjacentBelow (λ (p q : K × V). cmp p.0 q.0 ≡ Less) L (length L)
+pub adjacent_from_Rising : {K V : Type 0} (cmp : K → K → Ordering) (L : List (K × V)) → Rising cmp L
+    → AllAdjacentBelow (λ (p q : K × V). cmp p.0 q.0 ≡ Less) L (length L)
 adjacent_from_Rising cmp L r k d h = AllPairs-from_Rising cmp L r k (k + 1) d (omega arith) h
 
-pub Rising-from_adjacent : {K V : Type 0} (cmp : K → K → Ordering) → IsTotalOrder cmp → (L : List (K × V)) → AllAdjacentBelow (λ (p q : K × V). cmp p.0 q.0 ≡ Less) L (length L) → Rising cmp L
+pub Rising-from_adjacent : {K V : Type 0} (cmp : K → K → Ordering) → IsTotalOrder cmp → (L : List (K × V))
+    → AllAdjacentBelow (λ (p q : K × V). cmp p.0 q.0 ≡ Less) L (length L) → Rising cmp L
 Rising-from_adjacent cmp o [] a = tt
 Rising-from_adjacent cmp o (p ∷ []) a = (tt, tt)
 Rising-from_adjacent {K} {V} cmp o (p ∷ (q ∷ L)) a =
@@ -26,7 +32,8 @@ Rising-from_adjacent {K} {V} cmp o (p ∷ (q ∷ L)) a =
     (below_all o p.0 q L first rest, rest)
 
 -- one more neighbour
-pub adjacent_more : {K V : Type 0} (cmp : K → K → Ordering) (L : List (K × V)) (n : ℕ) (p q : K × V) → AllAdjacentBelow (λ (p q : K × V). cmp p.0 q.0 ≡ Less) L n
+pub adjacent_more : {K V : Type 0} (cmp : K → K → Ordering) (L : List (K × V)) (n : ℕ) (p q : K × V)
+    → AllAdjacentBelow (λ (p q : K × V). cmp p.0 q.0 ≡ Less) L n
     → slice_get L (n - 1) ≡ Some p → slice_get L n ≡ Some q → cmp p.0 q.0 ≡ Less → AllAdjacentBelow (λ (p q : K × V). cmp p.0 q.0 ≡ Less) L (n + 1)
 adjacent_more cmp L n p q a first second less k d h = elim (cases_lt (k + 1) n) [
   | inl before ↦ a k d before
@@ -62,7 +69,8 @@ first_split [] x e = absurd (cc)
 first_split (y ∷ L) x e = let s : y ≡ x = cc in (L, ap (λ z. z ∷ L) s)
 
 -- the last key of A is below the first of B
-pub Rising-after : {K V : Type 0} (cmp : K → K → Ordering) → IsTotalOrder cmp → (A B : List (K × V)) (a b : K × V) → slice_get A (length A - 1) ≡ Some a → slice_get B 0 ≡ Some b
+pub Rising-after : {K V : Type 0} (cmp : K → K → Ordering) → IsTotalOrder cmp → (A B : List (K × V)) (a b : K × V) → slice_get A (length A - 1) ≡ Some a
+    → slice_get B 0 ≡ Some b
     → Rising cmp A → Rising cmp B → (cmp a.0 b.0 ≡ Less) ↔ Rising cmp (A ++ B)
 Rising-after {K} {V} cmp o A B a b is_last is_first r s =
     let end = last_split A a is_last in
@@ -75,8 +83,11 @@ Rising-after {K} {V} cmp o A B a b is_last is_first r s =
     )
 
 pub Rising-from_Rises : {K V : Type 0} (cmp : K → K → Ordering) (A B : List (K × V)) → Rising cmp A → Rises cmp A B → Rising cmp (A ++ B)
-Rising-from_Rises {K} {V} cmp A B r h = Rising-append cmp A B r h.rising (λ a b i j. each (λ (q : K × V). cmp a.0 q.0 ≡ Less) B (each (λ (p : K × V). AllByRecursion (λ (q : K × V). cmp p.0 q.0 ≡ Less) B) A h.below a i) b j)
+Rising-from_Rises {K} {V} cmp A B r h =
+    Rising-append cmp A B r h.rising
+    (λ a b i j. each (λ (q : K × V). cmp a.0 q.0 ≡ Less) B (each (λ (p : K × V). AllByRecursion (λ (q : K × V). cmp p.0 q.0 ≡ Less) B) A h.below a i) b j)
 
 -- if a test of that fails, it does not hold
-pub not_above : {K V : Type 0} (cmp : K → K → Ordering) (A B : List (K × V)) (r : Bool) → Rising cmp A → (Rising cmp (A ++ B) → IsTrue r) → r ≡ false → Rises cmp A B → ⊥
+pub not_above : {K V : Type 0} (cmp : K → K → Ordering) (A B : List (K × V)) (r : Bool) → Rising cmp A → (Rising cmp (A ++ B) → IsTrue r) → r ≡ false
+    → Rises cmp A B → ⊥
 not_above cmp A B r rising says not h = true≢false (sym (says (Rising-from_Rises cmp A B rising h)) ∙ not)

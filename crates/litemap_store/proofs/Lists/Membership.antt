@@ -1,7 +1,8 @@
 -- What is in a list, and what holds of each element.
 --     In-left, In-right, In-cases      elements of a joined list;  In-filter, In-from_filter      what a filter keeps
 --     each, from_each      what holds of each element;  In-get_or      what is at an index
-use Rattle.litemap_store.proofs.Names.{[], ℕ, ◌++◌, ◌<◌, ◌∙◌, ◌∷◌, ◌≡◌, ◌⊎◌, AllByRecursion, ap, arith, Bool, cond, false, filter, get_or, In, inl, inr, length, List, refl, subst, suc, sym, true, zero}
+use Rattle.litemap_store.proofs.Names.{[], ℕ, ◌++◌, ◌<◌, ◌∙◌, ◌∷◌, ◌≡◌, ◌⊎◌, AllByRecursion, ap, arith, Bool, cond, false, filter, get_or, In, inl, inr, length}
+use Rattle.litemap_store.proofs.Names.{List, refl, subst, suc, sym, true, zero}
 
 -- ---- elements of a joined list
 pub In-left : {X : Type 0} (A B : List X) (x : X) → In x A → In x (A ++ B)
@@ -26,7 +27,8 @@ In-filter p (y ∷ L) x (inr h) t =
     let rest : In x (filter p L) = In-filter p L x h t in
     elim (p y) as (λ b. In x (cond b (y ∷ filter p L) (filter p L))) [ true ↦ inr rest | false ↦ rest ]
 
-from_cond : {X : Type 0} (p : X → Bool) (b : Bool) (y : X) (L M : List X) (x : X) → p y ≡ b → (In x L → In x M × (p x ≡ true)) → In x (cond b (y ∷ L) L) → In x (y ∷ M) × (p x ≡ true)
+from_cond : {X : Type 0} (p : X → Bool) (b : Bool) (y : X) (L M : List X) (x : X) → p y ≡ b → (In x L → In x M × (p x ≡ true)) → In x (cond b (y ∷ L) L)
+    → In x (y ∷ M) × (p x ≡ true)
 from_cond p true y L M x t f (inl e) = (inl e, sym (ap p e) ∙ t)
 from_cond p true y L M x t f (inr h) = (inr (f h).0, (f h).1)
 from_cond p false y L M x t f h = (inr (f h).0, (f h).1)

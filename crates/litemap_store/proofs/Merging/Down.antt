@@ -3,7 +3,10 @@
 --     taken_found, found_drop, missing_drop      the parts by the index that a search found
 --     Merge-down, left-down      one step: what is merged above the last key of B, and what is displaced there
 --     left-same      what is displaced depends on what the keys of B find;  length-after, length-option      how long a list is that was read from its end
-use Rattle.litemap_store.proofs.Names.{[], ℕ, ◌++◌, ◌+◌, ◌∙◌, ◌∷◌, ◌≡◌, ◌≤◌, above, alike_right, ap, append_assoc, arith, at, below, cons_option, drop, drop-append-add, drop-append_seam, Equal, filter_map-append, In, inl, inr, is_gt, is_lt, IsFoundAt, IsMissingAt, IsTotalOrder, key_one_side, key_or, left, length, length-append, length-reverse, Less, List, Merge, None, Option, option_map, Ordering, put, refl, reverse, Rising, same_from_push, Some, subst, sym, take, take-append-add}
+use Rattle.litemap_store.proofs.Names.{[], ℕ, ◌++◌, ◌+◌, ◌∙◌, ◌∷◌, ◌≡◌, ◌≤◌, above, alike_right, ap, append_assoc, arith, at, below, cons_option, drop}
+use Rattle.litemap_store.proofs.Names.{drop-append-add, drop-append_seam, Equal, filter_map-append, In, inl, inr, is_gt, is_lt, IsFoundAt, IsMissingAt}
+use Rattle.litemap_store.proofs.Names.{IsTotalOrder, key_one_side, key_or, left, length, length-append, length-reverse, Less, List, Merge, None, Option}
+use Rattle.litemap_store.proofs.Names.{option_map, Ordering, put, refl, reverse, Rising, same_from_push, Some, subst, sym, take, take-append-add}
 use Rattle.litemap_store.proofs.Last.KeepLast.{rising_across}
 use Rattle.litemap_store.proofs.Callers.Lookups.{at-filter_kept}
 use Rattle.litemap_store.proofs.Lists.Membership.{In-cases, from_each}
@@ -15,7 +18,8 @@ module _ {K V : Type 0} (cmp : K → K → Ordering) (o : IsTotalOrder cmp) wher
   pub length-parts : (L : List (K × V)) (k : K) → Rising cmp L → length (below cmp L k) + length (above cmp L k) ≤ length L
   length-parts L k r = by (at cmp L k) (ap length (parted (key_one_side o) L k r))
     where
-      by : (s : Option (K × V)) → length L ≡ length (below cmp L k ++ cons_option s (above cmp L k)) → length (below cmp L k) + length (above cmp L k) ≤ length L
+      by : (s : Option (K × V)) → length L ≡ length (below cmp L k ++ cons_option s (above cmp L k)) → length (below cmp L k) + length (above cmp L k)
+          ≤ length L
       by None e = omega (arith, length-append (below cmp L k) (above cmp L k))
       by (Some a) e = omega (arith, length-append (below cmp L k) (a ∷ above cmp L k))
 
@@ -28,7 +32,8 @@ module _ {K V : Type 0} (cmp : K → K → Ordering) (o : IsTotalOrder cmp) wher
         ∙ drop-append-add (below cmp L k) (f.pair ∷ above cmp L k) 1
 
     -- the last of the pairs up to there is the one that was found
-    pub taken_found : IsFoundAt cmp L k i → (T N : List (K × V)) (p : K × V) → T ≡ take (i + 1) L → T ≡ N ++ p ∷ [] → (N ≡ below cmp L k) × (at cmp L k ≡ Some p)
+    pub taken_found : IsFoundAt cmp L k i → (T N : List (K × V)) (p : K × V) → T ≡ take (i + 1) L → T ≡ N ++ p ∷ []
+        → (N ≡ below cmp L k) × (at cmp L k ≡ Some p)
     taken_found f T N p t s =
         let upto : take (i + 1) L ≡ below cmp L k ++ f.pair ∷ [] =
         ap (λ M. take (i + 1) M) f.is
@@ -58,7 +63,8 @@ module _ {K V : Type 0} (cmp : K → K → Ordering) (o : IsTotalOrder cmp) wher
     above_rises = Rising-filter cmp (λ (q : K × V). is_gt (cmp q.0 b.0)) A r
 
     top : (t : Option (K × V)) → at cmp A b.0 ≡ t → Merge cmp (cons_option t (above cmp A b.0)) (b ∷ []) ((key_or t b.0, b.1) ∷ above cmp A b.0)
-    top None e = Merge-before cmp o (above cmp A b.0) (b ∷ []) above_rises (tt, tt) (from_each (λ (q : K × V). cmp b.0 q.0 ≡ Less) (above cmp A b.0) (kept_above o A b.0), above_rises)
+    top None e = Merge-before cmp o (above cmp A b.0) (b ∷ []) above_rises (tt, tt)
+        (from_each (λ (q : K × V). cmp b.0 q.0 ≡ Less) (above cmp A b.0) (kept_above o A b.0), above_rises)
     top (Some a) e =
         let same : cmp a.0 b.0 ≡ Equal = (at_in cmp A b.0 a e).1 in
         let over : Across cmp o (a ∷ b ∷ []) (above cmp A b.0 ++ []) = (λ x y i j. elim (In-cases (above cmp A b.0) [] y j) [
@@ -69,7 +75,8 @@ module _ {K V : Type 0} (cmp : K → K → Ordering) (o : IsTotalOrder cmp) wher
           ]
           | inr k ↦ absurd k
         ]) in
-        Merge-join cmp o (a ∷ []) (above cmp A b.0) (b ∷ []) [] ((a.0, b.1) ∷ []) (above cmp A b.0) (Merge-one a b same) (Merge-none cmp (above cmp A b.0) above_rises) over
+        Merge-join cmp o (a ∷ []) (above cmp A b.0) (b ∷ []) [] ((a.0, b.1) ∷ []) (above cmp A b.0) (Merge-one a b same)
+        (Merge-none cmp (above cmp A b.0) above_rises) over
 
     -- what is below b is below its pair in A, and above
     under : (t : Option (K × V)) → at cmp A b.0 ≡ t → (x y : K × V) → cmp x.0 b.0 ≡ Less → In y (cons_option t (above cmp A b.0)) → cmp x.0 y.0 ≡ Less
@@ -91,7 +98,8 @@ module _ {K V : Type 0} (cmp : K → K → Ordering) (o : IsTotalOrder cmp) wher
     Merge-above M m =
         let whole : List (K × V) = M ++ (key_or (at cmp A b.0) b.0, b.1) ∷ above cmp A b.0 in
         subst (λ (L : List (K × V)). Merge cmp L (B ++ b ∷ []) whole) (sym (parted (key_one_side o) A b.0 r))
-        (Merge-join cmp o (below cmp A b.0) (cons_option (at cmp A b.0) (above cmp A b.0)) B (b ∷ []) M ((key_or (at cmp A b.0) b.0, b.1) ∷ above cmp A b.0) m (top (at cmp A b.0) refl) apart)
+        (Merge-join cmp o (below cmp A b.0) (cons_option (at cmp A b.0) (above cmp A b.0)) B (b ∷ []) M ((key_or (at cmp A b.0) b.0, b.1) ∷ above cmp A b.0) m
+        (top (at cmp A b.0) refl) apart)
 
   -- ---- what is displaced
   -- a lower key finds below a key what it finds in the whole list
@@ -112,7 +120,8 @@ module _ {K V : Type 0} (cmp : K → K → Ordering) (o : IsTotalOrder cmp) wher
   cons_onto (Some p) R = refl
 
   left-above : (A B R : List (K × V)) (b : K × V) → Rising cmp (B ++ b ∷ [])
-      → left cmp A (B ++ b ∷ []) ++ R ≡ left cmp (below cmp A b.0) B ++ cons_option (option_map (λ (a : K × V). let p : K × V = (b.0, a.1) in p) (at cmp A b.0)) R
+      → left cmp A (B ++ b ∷ []) ++ R ≡ left cmp (below cmp A b.0) B
+      ++ cons_option (option_map (λ (a : K × V). let p : K × V = (b.0, a.1) in p) (at cmp A b.0)) R
   left-above A B R b s =
       let t : Option (K × V) = option_map (λ (a : K × V). let p : K × V = (b.0, a.1) in p) (at cmp A b.0) in
       ap (λ W. W ++ R) (filter_map-append (λ (x : K × V). option_map (λ (a : K × V). let p : K × V = (x.0, a.1) in p) (at cmp A x.0)) B (b ∷ [])

@@ -57,13 +57,33 @@ module _ {K V : Type 0} (cmp : K → K → Ordering) (o : IsTotalOrder cmp) wher
         subst₂ (λ (a b : K). cmp a b ≡ Less) s.2 t.2 (f s.0 t.0 s.1 t.1)
 
     from_first : (p : K × V) → IsMerged cmp A₁ B₁ p → IsMerged cmp (A₁ ++ A₂) (B₁ ++ B₂) p
-    from_first p (inl h) = inl (In-left A₁ A₂ p h.0, each-append (λ (q : K × V). cmp p.0 q.0 ≢ Equal) B₁ B₂ h.1 (none_above p.0 B₂ (λ y i. f p y (In-left A₁ B₁ p h.0) (In-right A₂ B₂ y i))))
-    from_first p (inr (inl h)) = inr (inl (In-left B₁ B₂ p h.0, each-append (λ (q : K × V). cmp p.0 q.0 ≢ Equal) A₁ A₂ h.1 (none_above p.0 A₂ (λ y i. f p y (In-right A₁ B₁ p h.0) (In-left A₂ B₂ y i)))))
+    from_first p (inl h) =
+        inl (
+          In-left A₁ A₂ p h.0,
+          each-append (λ (q : K × V). cmp p.0 q.0 ≢ Equal) B₁ B₂ h.1
+              (none_above p.0 B₂ (λ y i. f p y (In-left A₁ B₁ p h.0) (In-right A₂ B₂ y i))),
+        )
+    from_first p (inr (inl h)) =
+        inr (inl (
+          In-left B₁ B₂ p h.0,
+          each-append (λ (q : K × V). cmp p.0 q.0 ≢ Equal) A₁ A₂ h.1
+              (none_above p.0 A₂ (λ y i. f p y (In-right A₁ B₁ p h.0) (In-left A₂ B₂ y i))),
+        ))
     from_first p (inr (inr h)) = inr (inr ((h.0.0, In-left A₁ A₂ (p.0, h.0.0) h.0.1), (h.1.0, h.1.1, In-left B₁ B₂ (h.1.0, p.1) h.1.2)))
 
     from_second : (p : K × V) → IsMerged cmp A₂ B₂ p → IsMerged cmp (A₁ ++ A₂) (B₁ ++ B₂) p
-    from_second p (inl h) = inl (In-right A₁ A₂ p h.0, each-append (λ (q : K × V). cmp p.0 q.0 ≢ Equal) B₁ B₂ (none_below p.0 B₁ (λ x i. f x p (In-right A₁ B₁ x i) (In-left A₂ B₂ p h.0))) h.1)
-    from_second p (inr (inl h)) = inr (inl (In-right B₁ B₂ p h.0, each-append (λ (q : K × V). cmp p.0 q.0 ≢ Equal) A₁ A₂ (none_below p.0 A₁ (λ x i. f x p (In-left A₁ B₁ x i) (In-right A₂ B₂ p h.0))) h.1))
+    from_second p (inl h) =
+        inl (
+          In-right A₁ A₂ p h.0,
+          each-append (λ (q : K × V). cmp p.0 q.0 ≢ Equal) B₁ B₂
+              (none_below p.0 B₁ (λ x i. f x p (In-right A₁ B₁ x i) (In-left A₂ B₂ p h.0))) h.1,
+        )
+    from_second p (inr (inl h)) =
+        inr (inl (
+          In-right B₁ B₂ p h.0,
+          each-append (λ (q : K × V). cmp p.0 q.0 ≢ Equal) A₁ A₂
+              (none_below p.0 A₁ (λ x i. f x p (In-left A₁ B₁ x i) (In-right A₂ B₂ p h.0))) h.1,
+        ))
     from_second p (inr (inr h)) = inr (inr ((h.0.0, In-right A₁ A₂ (p.0, h.0.0) h.0.1), (h.1.0, h.1.1, In-right B₁ B₂ (h.1.0, p.1) h.1.2)))
 
     back : (p : K × V) → IsMerged cmp (A₁ ++ A₂) (B₁ ++ B₂) p → In p (M₁ ++ M₂)
@@ -105,12 +125,14 @@ module _ {K V : Type 0} (cmp : K → K → Ordering) (o : IsTotalOrder cmp) wher
 
     pub Merge-after : Rising cmp (A ++ B) → Merge cmp A B (A ++ B)
     Merge-after t =
-        let h : Merge cmp (A ++ []) B (A ++ B) = Merge-join A [] [] B A B (Merge-none cmp A r) (Merge-all cmp B s) (λ x y i j. rising_across cmp A B t x y (in_left A x i) j) in
+        let h : Merge cmp (A ++ []) B (A ++ B) =
+        Merge-join A [] [] B A B (Merge-none cmp A r) (Merge-all cmp B s) (λ x y i j. rising_across cmp A B t x y (in_left A x i) j) in
         rw append-nil at h
 
     pub Merge-before : Rising cmp (B ++ A) → Merge cmp A B (B ++ A)
     Merge-before t =
-        let h : Merge cmp A (B ++ []) (B ++ A) = Merge-join [] A B [] B A (Merge-all cmp B s) (Merge-none cmp A r) (λ x y i j. rising_across cmp B A t x y i (in_left A y j)) in
+        let h : Merge cmp A (B ++ []) (B ++ A) =
+        Merge-join [] A B [] B A (Merge-all cmp B s) (Merge-none cmp A r) (λ x y i j. rising_across cmp B A t x y i (in_left A y j)) in
         rw append-nil at h
 
     pub left-after : Rising cmp (A ++ B) → left cmp A B ≡ []

@@ -1,7 +1,9 @@
 -- What a merge has, what it displaces, and how merges are joined.
 --     left_none, none_from_left      nothing is displaced if no key is common;  keys_of_merge, Merge-unique      what a merge has
 --     Merge-put, left-put      one more pair of B;  at-merged      what a lookup finds among the merged pairs
-use Rattle.litemap_store.proofs.Names.{[], ◌++◌, ◌↔◌, ◌∙◌, ◌∷◌, ◌≡◌, ◌≢◌, ◌⊎◌, above, AllByRecursion, ap, at, below, BelowAll, cons_option, Equal, filter_map-append, HasKey, In, inl, inr, IsMerged, IsTotalOrder, key_or, left, List, Merge, None, NoneEqual, Option, option_map, Ordering, put, refl, Rising, Some, subst, sym, tied_back}
+use Rattle.litemap_store.proofs.Names.{[], ◌++◌, ◌↔◌, ◌∙◌, ◌∷◌, ◌≡◌, ◌≢◌, ◌⊎◌, above, AllByRecursion, ap, at, below, BelowAll, cons_option, Equal}
+use Rattle.litemap_store.proofs.Names.{filter_map-append, HasKey, In, inl, inr, IsMerged, IsTotalOrder, key_or, left, List, Merge, None, NoneEqual, Option}
+use Rattle.litemap_store.proofs.Names.{option_map, Ordering, put, refl, Rising, Some, subst, sym, tied_back}
 use Rattle.litemap_store.proofs.Callers.LastLookups.{at-Rising}
 use Rattle.litemap_store.proofs.Last.Pairs.{in_put, none_from_at, put_has, some_equal, same_rising}
 use Rattle.litemap_store.proofs.Lists.Membership.{In-left, In-right, In-cases, each, from_each}
@@ -19,7 +21,8 @@ module _ {K : Type 0} (cmp : K → K → Ordering) (o : IsTotalOrder cmp) where
   none_from_left A [] e = tt
   none_from_left {V} A (b ∷ B) e = by (at cmp A b.0) refl (none_from_left A B) e
     where
-      by : (r : Option (K × V)) → at cmp A b.0 ≡ r → (left cmp A B ≡ [] → AllByRecursion (λ (b : K × V). NoneEqual cmp b.0 A) B) → cons_option (option_map (λ (a : K × V). (b.0, a.1)) r) (left cmp A B) ≡ [] → AllByRecursion (λ (b : K × V). NoneEqual cmp b.0 A) (b ∷ B)
+      by : (r : Option (K × V)) → at cmp A b.0 ≡ r → (left cmp A B ≡ [] → AllByRecursion (λ (b : K × V). NoneEqual cmp b.0 A) B)
+          → cons_option (option_map (λ (a : K × V). (b.0, a.1)) r) (left cmp A B) ≡ [] → AllByRecursion (λ (b : K × V). NoneEqual cmp b.0 A) (b ∷ B)
       by None f rest e = (none_from_at cmp o A b.0 f, rest e)
       by (Some a) f rest e = absurd (cc)
 
@@ -28,13 +31,15 @@ module _ {K : Type 0} (cmp : K → K → Ordering) (o : IsTotalOrder cmp) where
   BelowAll-left A k [] h = tt
   BelowAll-left {V} A k (b ∷ B) h =
       let rest : BelowAll cmp k (left cmp A B) = BelowAll-left A k B h.1 in
-      elim (at cmp A b.0) as (λ r. BelowAll cmp k (cons_option (option_map (λ (a : K × V). let p : K × V = (b.0, a.1) in p) r) (left cmp A B))) [ None ↦ rest | Some a ↦ (h.0, rest) ]
+      elim (at cmp A b.0) as (λ r. BelowAll cmp k (cons_option (option_map (λ (a : K × V). let p : K × V = (b.0, a.1) in p) r) (left cmp A B)))
+      [ None ↦ rest | Some a ↦ (h.0, rest) ]
 
   pub Rising-left : {V : Type 0} (A B : List (K × V)) → Rising cmp B → Rising cmp (left cmp A B)
   Rising-left A [] r = tt
   Rising-left {V} A (b ∷ B) r =
       let rest : Rising cmp (left cmp A B) = Rising-left A B r.1 in
-      elim (at cmp A b.0) as (λ s. Rising cmp (cons_option (option_map (λ (a : K × V). let p : K × V = (b.0, a.1) in p) s) (left cmp A B))) [ None ↦ rest | Some a ↦ (BelowAll-left A b.0 B r.0, rest) ]
+      elim (at cmp A b.0) as (λ s. Rising cmp (cons_option (option_map (λ (a : K × V). let p : K × V = (b.0, a.1) in p) s) (left cmp A B)))
+      [ None ↦ rest | Some a ↦ (BelowAll-left A b.0 B r.0, rest) ]
 
   -- ---- one more pair is merged
   module _ {V : Type 0} (A B M : List (K × V)) (merge : Merge cmp A B M) (b : K × V) (new : NoneEqual cmp b.0 B) where
@@ -71,7 +76,12 @@ module _ {K : Type 0} (cmp : K → K → Ordering) (o : IsTotalOrder cmp) where
     none_with k n d = each-append (λ (q : K × V). cmp k q.0 ≢ Equal) B (b ∷ []) n (d, tt)
 
     new_pair : (r : Option (K × V)) → at cmp M b.0 ≡ r → IsMerged cmp A (B ++ b ∷ []) (key_or r b.0, b.1)
-    new_pair None e = inr (inl (there, from_each (λ (q : K × V). cmp b.0 q.0 ≢ Equal) A (λ x i. let h = old_key x i in each (λ (q : K × V). cmp b.0 q.0 ≢ Equal) M (none_from_at cmp o M b.0 e) (x.0, h.0) h.1)))
+    new_pair None e = inr
+        (inl (
+          there,
+          from_each (λ (q : K × V). cmp b.0 q.0 ≢ Equal) A
+              (λ x i. let h = old_key x i in each (λ (q : K × V). cmp b.0 q.0 ≢ Equal) M (none_from_at cmp o M b.0 e) (x.0, h.0) h.1),
+        ))
     new_pair (Some q) e = let h = at_in cmp M b.0 q e in elim (whose q h.0) [
       | inl w ↦ inr (inr (w, (b.0, h.1, there)))
       | inr i ↦ absurd (apart q i h.1)
@@ -95,7 +105,13 @@ module _ {K : Type 0} (cmp : K → K → Ordering) (o : IsTotalOrder cmp) where
     kept p h d = put_has cmp o M b.0 (key_or (at cmp M b.0) b.0, b.1) p ((merge.exactly p).1 h) d
 
     from_merged : (p : K × V) → IsMerged cmp A (B ++ b ∷ []) p → In p (put cmp M b.0 b.1)
-    from_merged p (inl h) = kept p (inl (h.0, from_each (λ (q : K × V). cmp p.0 q.0 ≢ Equal) B (λ x i. each (λ (q : K × V). cmp p.0 q.0 ≢ Equal) (B ++ b ∷ []) h.1 x (In-left B (b ∷ []) x i)))) (each (λ (q : K × V). cmp p.0 q.0 ≢ Equal) (B ++ b ∷ []) h.1 b there)
+    from_merged p (inl h) =
+        kept p (inl (
+          h.0,
+          from_each (λ (q : K × V). cmp p.0 q.0 ≢ Equal) B
+              (λ x i. each (λ (q : K × V). cmp p.0 q.0 ≢ Equal) (B ++ b ∷ []) h.1 x (In-left B (b ∷ []) x i)),
+        ))
+        (each (λ (q : K × V). cmp p.0 q.0 ≢ Equal) (B ++ b ∷ []) h.1 b there)
     from_merged p (inr (inl h)) = elim (In-cases B (b ∷ []) p h.0) [
       | inl i ↦ kept p (inr (inl (i, h.1))) (apart p i)
       | inr (inl e) ↦ placed p (let n : NoneEqual cmp b.0 A = subst (λ (q : K × V). NoneEqual cmp q.0 A) (sym e) h.1 in
@@ -124,9 +140,11 @@ module _ {K : Type 0} (cmp : K → K → Ordering) (o : IsTotalOrder cmp) where
 
     -- and the value that it finds there is displaced
     pub left-put : left cmp A (B ++ b ∷ []) ≡ left cmp A B ++ cons_option (option_map (λ (a : K × V). let p : K × V = (b.0, a.1) in p) (at cmp M b.0)) []
-    left-put = filter_map-append (λ (x : K × V). option_map (λ (a : K × V). let p : K × V = (x.0, a.1) in p) (at cmp A x.0)) B (b ∷ []) ∙ ap (λ r. left cmp A B ++ cons_option (option_map (λ (a : K × V). let p : K × V = (b.0, a.1) in p) r) []) (sym at-merged)
+    left-put = filter_map-append (λ (x : K × V). option_map (λ (a : K × V). let p : K × V = (x.0, a.1) in p) (at cmp A x.0)) B (b ∷ [])
+        ∙ ap (λ r. left cmp A B ++ cons_option (option_map (λ (a : K × V). let p : K × V = (b.0, a.1) in p) r) []) (sym at-merged)
 
-  pub keys_of_merge : {V : Type 0} (A B M : List (K × V)) → Merge cmp A B M → (k : K) → HasKey cmp V k M ↔ (HasKey cmp V k A ⊎ (HasKey cmp V k B × NoneEqual cmp k A))
+  pub keys_of_merge : {V : Type 0} (A B M : List (K × V)) → Merge cmp A B M → (k : K)
+      → HasKey cmp V k M ↔ (HasKey cmp V k A ⊎ (HasKey cmp V k B × NoneEqual cmp k A))
   keys_of_merge {V} A B M merge k = (there, back)
     where
       there : HasKey cmp V k M → HasKey cmp V k A ⊎ (HasKey cmp V k B × NoneEqual cmp k A)

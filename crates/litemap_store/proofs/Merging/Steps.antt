@@ -1,6 +1,8 @@
 -- One pair after the other is merged.
 --     MergedUpTo, MergedUpTo-none, MergedUpTo-more, MergedUpTo-all      what is merged of B
-use Rattle.litemap_store.proofs.Names.{[], ◌*◌, ◌++◌, ◌+◌, ◌∙◌, ◌∷◌, ◌≡◌, ◌≤◌, ap, append-nil, append_assoc, arith, at, cons_option, Count, digits, digits-mono, inl, IsTotalOrder, left, length, length-append, List, Merge, None, NoneEqual, Option, option_map, Ordering, put, refl, RisesByAtMost, Rising, Some, subst, suc, suc-mul, sym, zero-mul}
+use Rattle.litemap_store.proofs.Names.{[], ◌*◌, ◌++◌, ◌+◌, ◌∙◌, ◌∷◌, ◌≡◌, ◌≤◌, ap, append-nil, append_assoc, arith, at, cons_option, Count, digits, digits-mono}
+use Rattle.litemap_store.proofs.Names.{inl, IsTotalOrder, left, length, length-append, List, Merge, None, NoneEqual, Option, option_map, Ordering, put, refl}
+use Rattle.litemap_store.proofs.Names.{RisesByAtMost, Rising, Some, subst, suc, suc-mul, sym, zero-mul}
 use Rattle.litemap_store.proofs.Stores.Counting.{in_turn, not_asked}
 use Rattle.litemap_store.proofs.Last.KeepLast.{rising_across}
 use Rattle.litemap_store.proofs.Callers.Lookups.{length-put_absent, length-put_present}
@@ -32,7 +34,8 @@ module _ {K V : Type 0} (cmp : K → K → Ordering) (o : IsTotalOrder cmp) wher
     cost = rw zero-mul (not_asked c);
   }
 
-  pub MergedUpTo-more : (A B Y Z M rest : List (K × V)) (before now after : Count) (b : K × V) (Z' M' rest' : List (K × V)) → Rising cmp B → MergedUpTo A B Y Z M rest before now
+  pub MergedUpTo-more : (A B Y Z M rest : List (K × V)) (before now after : Count) (b : K × V) (Z' M' rest' : List (K × V)) → Rising cmp B
+      → MergedUpTo A B Y Z M rest before now
       → Z ≡ b ∷ Z' → M' ≡ put cmp M b.0 b.1 → rest' ≡ rest ++ cons_option (option_map (λ (p : K × V). let q : K × V = (b.0, p.1) in q) (at cmp M b.0)) []
       → RisesByAtMost (digits (length M)) now after
       → MergedUpTo A B (Y ++ b ∷ []) Z' M' rest' before after
@@ -46,7 +49,8 @@ module _ {K V : Type 0} (cmp : K → K → Ordering) (o : IsTotalOrder cmp) wher
       record {
         given = append_assoc Y (b ∷ []) Z' ∙ is;
         merged = rw m (Merge-put cmp o A Y M h.merged b new);
-        left_over = l ∙ ap (λ W. W ++ cons_option (option_map (λ (p : K × V). let q : K × V = (b.0, p.1) in q) (at cmp M b.0)) []) h.left_over ∙ sym (left-put cmp o A Y M h.merged b new);
+        left_over = l ∙ ap (λ W. W ++ cons_option (option_map (λ (p : K × V). let q : K × V = (b.0, p.1) in q) (at cmp M b.0)) []) h.left_over
+            ∙ sym (left-put cmp o A Y M h.merged b new);
         long = (let k = length-put M b.0 b.1 h.merged.rising in let e : length M' ≡ length (put cmp M b.0 b.1) = ap length m in omega arith);
         cost = (
             let low : digits (length M) ≤ d = digits-mono (length M) (length A + length B) (omega arith) in
@@ -60,5 +64,7 @@ module _ {K V : Type 0} (cmp : K → K → Ordering) (o : IsTotalOrder cmp) wher
   pub MergedUpTo-all : (A B Y Z M rest : List (K × V)) (before now : Count) → MergedUpTo A B Y Z M rest before now → Z ≡ []
       → Merge cmp A B M × ((rest ≡ left cmp A B) × RisesByAtMost (length B * digits (length A + length B)) before now)
   MergedUpTo-all A B Y Z M rest before now h z =
-      let all : Y ≡ B = sym (append-nil Y) ∙ ap (λ W. Y ++ W) (sym z) ∙ h.given in
-      (subst (λ W. Merge cmp A W M) all h.merged, (subst (λ W. rest ≡ left cmp A W) all h.left_over, subst (λ W. RisesByAtMost (length W * digits (length A + length B)) before now) all h.cost))
+      let all : Y ≡ B = sym (append-nil Y) ∙ ap (λ W. Y ++ W) (sym z) ∙ h.given in (
+        subst (λ W. Merge cmp A W M) all h.merged,
+        (subst (λ W. rest ≡ left cmp A W) all h.left_over, subst (λ W. RisesByAtMost (length W * digits (length A + length B)) before now) all h.cost),
+      )

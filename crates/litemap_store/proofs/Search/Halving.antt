@@ -4,7 +4,10 @@
 --     Seen ord l hit low left, Seen-next, left_next      the same for the search that notes a hit and the number of indices left
 --     takes, takes_next      from `Callable`: the closure may be called on a key of the list; each call uses up one of n
 --     next      the same of `Shape`, and what the closure returns
-use Rattle.litemap_store.proofs.Names.{[], ℕ, ◌+◌, ◌-◌, ◌/◌, ◌<◌, ◌∙◌, ◌∷◌, ◌≡◌, ◌≢◌, ◌≤◌, AllWithin, Any, ap, arith, Ascends, Bool, Bor, Callable, CalledAt, cases_lt, cond, digits, digits-halved, Equal, Err, false, filter, Finds, get_or_from_slice_get, Greater, inl, inr, is_eq, is_lt, length, Less, List, Mut, Ok, Ordering, ordering_index, refl, Shape, slice_get, slice_get_within, slice_index_or, Some, subst, suc, sym, TakesAt, true, zero}
+use Rattle.litemap_store.proofs.Names.{[], ℕ, ◌+◌, ◌-◌, ◌/◌, ◌<◌, ◌∙◌, ◌∷◌, ◌≡◌, ◌≢◌, ◌≤◌, AllWithin, Any, ap, arith, Ascends, Bool, Bor, Callable, CalledAt}
+use Rattle.litemap_store.proofs.Names.{cases_lt, cond, digits, digits-halved, Equal, Err, false, filter, Finds, get_or_from_slice_get, Greater, inl, inr, is_eq}
+use Rattle.litemap_store.proofs.Names.{is_lt, length, Less, List, Mut, Ok, Ordering, ordering_index, refl, Shape, slice_get, slice_get_within, slice_index_or}
+use Rattle.litemap_store.proofs.Names.{Some, subst, suc, sym, TakesAt, true, zero}
 
 top : (o : Ordering) → 2 ≤ ordering_index o → o ≡ Greater
 top Less h = absurd (omega arith)
@@ -28,7 +31,8 @@ counted p (x ∷ xs) zero h passes fails =
     rw e r
 counted p (x ∷ xs) (suc n) h passes fails =
     let e : p x ≡ true = passes 0 x (omega arith) in
-    let r : n ≡ length (filter p xs) = counted p xs n (omega arith) (λ k d l. passes (suc k) d (omega arith)) (λ k d a b. fails (suc k) d (omega arith) (omega arith)) in
+    let r : n ≡ length (filter p xs) =
+    counted p xs n (omega arith) (λ k d l. passes (suc k) d (omega arith)) (λ k d a b. fails (suc k) d (omega arith) (omega arith)) in
     rw e (ap suc r)
 
 -- how many indices are left of some after a result at the middle
@@ -148,7 +152,8 @@ module _ {F K V : Type 0} (g : Mut F (Bor K × Unit {0}) Ordering) (l : List (K 
 
 module _ {F K V : Type 0} (g : Mut F (Bor K × Unit {0}) Ordering) (l : List (K × V)) (ord : K → Ordering) where
   -- after a call, one call less is left
-  pub next : (m n i : ℕ) (f : F) (k : K) (v : V) (r : Ordering) (f' : F) → m + 1 ≤ n → Shape g l ord n f → slice_get l i ≡ Some (k, v) → CalledAt g f k r f' → (ord k ≡ r) × Shape g l ord m f'
+  pub next : (m n i : ℕ) (f : F) (k : K) (v : V) (r : Ordering) (f' : F) → m + 1 ≤ n → Shape g l ord n f → slice_get l i ≡ Some (k, v) → CalledAt g f k r f'
+      → (ord k ≡ r) × Shape g l ord m f'
   next m n i f k v r f' h s there c =
       let b : Any (λ q. q.0 ≡ c.shown.now) l = subst (λ (x : K). Any (λ q. q.0 ≡ x) l) (sym c.shows) (known l i k v there) in (
         sym (((s.answers.at (c.shown ∷ []) (omega arith) b).1 r f' c.called).0 ∙ ap ord c.shows),

@@ -2,7 +2,11 @@
 --     Ascends-by_query      how keys compare with a query ascends over an ascending list
 --     Splits-from_Finds      what such a search finds splits the list
 --     index_of-, there-from_Splits      and is the query's index, at which its pair is;  Rising-put, Rising-remove, ..      what the calls leave ascends
-use Rattle.litemap_store.proofs.Names.{[], ℕ, ◌++◌, ◌<◌, ◌∙◌, ◌∷◌, ◌≡◌, ◌≢◌, ◌≤◌, above, alike_right, AllByRecursion, ap, arith, Ascends, at, below, BelowAll, Bool, cond, cons_option, Equal, Err, false, filter, Finds, get_or, Greater, IfOk, In, index_of, inl, inr, is_eq, is_gt, is_lt, IsFoundAt, IsTotalOrder, key_or, length, Less, List, None, Ok, OneSide, Ordering, ordering_index, ordering_reverse, put, recursion_from_All, refl, remove, Result, Rising, set_value, slice_get, Some, Splits, subst, suc, sym, tied_itself, true, zero}
+use Rattle.litemap_store.proofs.Names.{[], ℕ, ◌++◌, ◌<◌, ◌∙◌, ◌∷◌, ◌≡◌, ◌≢◌, ◌≤◌, above, alike_right, AllByRecursion, ap, arith, Ascends, at, below, BelowAll}
+use Rattle.litemap_store.proofs.Names.{Bool, cond, cons_option, Equal, Err, false, filter, Finds, get_or, Greater, IfOk, In, index_of, inl, inr, is_eq, is_gt}
+use Rattle.litemap_store.proofs.Names.{is_lt, IsFoundAt, IsTotalOrder, key_or, length, Less, List, None, Ok, OneSide, Ordering, ordering_index}
+use Rattle.litemap_store.proofs.Names.{ordering_reverse, put, recursion_from_All, refl, remove, Result, Rising, set_value, slice_get, Some, Splits, subst, suc}
+use Rattle.litemap_store.proofs.Names.{sym, tied_itself, true, zero}
 use Rattle.litemap_store.proofs.Lists.Membership.{In-from_filter, each, from_each}
 use Rattle.litemap_store.proofs.Lists.Seams.{each-set_value, found_there, set_value-suc}
 use Rattle.litemap_store.proofs.Lists.Places.{AllPairs-from_Rising}
@@ -61,7 +65,8 @@ module _ {K V : Type 0} (cmp : K → K → Ordering) where
   Rising-filter test [] r = r
   Rising-filter test (p ∷ L) r =
       let rest : Rising cmp (filter test L) = Rising-filter test L r.1 in
-      elim (test p) as (λ b. Rising cmp (cond b (p ∷ filter test L) (filter test L))) [ true ↦ (each-filter (λ (q : K × V). cmp p.0 q.0 ≡ Less) test L r.0, rest) | false ↦ rest ]
+      elim (test p) as (λ b. Rising cmp (cond b (p ∷ filter test L) (filter test L)))
+      [ true ↦ (each-filter (λ (q : K × V). cmp p.0 q.0 ≡ Less) test L r.0, rest) | false ↦ rest ]
 
 module _ {K Q V : Type 0} (order : K → Q → Ordering) where
   -- every key of the list is above q
@@ -154,7 +159,8 @@ module _ {K Q : Type 0} {cmp : K → K → Ordering} {order : K → Q → Orderi
           found = rw less f.found;
         }
 
-    parted_by : (p : K × V) (L : List (K × V)) (q : Q) (r : Ordering) → order p.0 q ≡ r → BelowAll cmp p.0 L → L ≡ below order L q ++ cons_option (at order L q) (above order L q)
+    parted_by : (p : K × V) (L : List (K × V)) (q : Q) (r : Ordering) → order p.0 q ≡ r → BelowAll cmp p.0 L
+        → L ≡ below order L q ++ cons_option (at order L q) (above order L q)
         → p ∷ L ≡ below order (p ∷ L) q ++ cons_option (at order (p ∷ L) q) (above order (p ∷ L) q)
     parted_by p L q Less e b is = rw e (ap (λ M. p ∷ M) is)
     parted_by p L q Equal e b is =
@@ -202,7 +208,8 @@ module _ {K : Type 0} {cmp : K → K → Ordering} (o : IsTotalOrder cmp) where
 
     -- the key that a put leaves
     pub key_or_equal : (k : K) (L : List (K × V)) → cmp (key_or (at cmp L k) k) k ≡ Equal
-    key_or_equal k L = (elim (at cmp L k) as (λ a. at cmp L k ≡ a → cmp (key_or a k) k ≡ Equal) [ None ↦ λ e. tied_itself o k | Some p ↦ λ e. (at_in cmp L k p e).1 ]) refl
+    key_or_equal k L = (elim (at cmp L k) as
+        (λ a. at cmp L k ≡ a → cmp (key_or a k) k ≡ Equal) [ None ↦ λ e. tied_itself o k | Some p ↦ λ e. (at_in cmp L k p e).1 ]) refl
 
     pub Rising-put : (L : List (K × V)) (k : K) (v : V) → Rising cmp L → Rising cmp (put cmp L k v)
     Rising-put L k v r = Rising-between L k (key_or (at cmp L k) k, v) (key_or_equal k L) r
@@ -218,4 +225,5 @@ module _ {K V : Type 0} (cmp : K → K → Ordering) where
   pub Rising-set_value : (L : List (K × V)) (i : ℕ) (v : V) → Rising cmp L → Rising cmp (set_value L i v)
   Rising-set_value [] i v h = h
   Rising-set_value (p ∷ L) zero v h = h
-  Rising-set_value (p ∷ L) (suc i) v h = subst (Rising cmp) (sym (set_value-suc p L i v)) (each-set_value (λ k. cmp p.0 k ≡ Less) L i v h.0, Rising-set_value L i v h.1)
+  Rising-set_value (p ∷ L) (suc i) v h =
+      subst (Rising cmp) (sym (set_value-suc p L i v)) (each-set_value (λ k. cmp p.0 k ≡ Less) L i v h.0, Rising-set_value L i v h.1)

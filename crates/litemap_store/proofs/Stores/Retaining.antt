@@ -1,7 +1,11 @@
 -- What a closure keeps of a list of pairs.
 --     Kept-none, Kept-more      from one pair to the next;  Moved, Moved_if      what a pair that moves to the front leaves
---     KeptSoFar-takes, -yes, -no, Kept-all      the steps of a loop that brings pairs to the front;  Rising-from_Kept      what is kept of an ascending list ascends
-use Rattle.litemap_store.proofs.Names.{[], ℕ, ◌++◌, ◌+◌, ◌<◌, ◌∙◌, ◌∷◌, ◌≡◌, ◌≤◌, AllByRecursion, ap, append-nil, append_assoc, arith, Bool, Bor, CallableOnEach, CalledOnPair, cases_lt, cond, drop, drop_all, false, get_or, get_or_from_slice_get, inl, inr, items_where_true, Kept, KeptSoFar, length, Less, List, Mut, Ordering, refl, Rising, slice_get, slice_get_within, slice_set, Some, subst, suc, swap, swap_is, sym, take, take-set-le, take_more, TakesPair, true, true≢false}
+--     KeptSoFar-takes, -yes, -no, Kept-all      the steps of a loop that brings pairs to the front;  Rising-from_Kept      what is kept of an ascending list
+-- ascends
+use Rattle.litemap_store.proofs.Names.{[], ℕ, ◌++◌, ◌+◌, ◌<◌, ◌∙◌, ◌∷◌, ◌≡◌, ◌≤◌, AllByRecursion, ap, append-nil, append_assoc, arith, Bool, Bor}
+use Rattle.litemap_store.proofs.Names.{CallableOnEach, CalledOnPair, cases_lt, cond, drop, drop_all, false, get_or, get_or_from_slice_get, inl, inr}
+use Rattle.litemap_store.proofs.Names.{items_where_true, Kept, KeptSoFar, length, Less, List, Mut, Ordering, refl, Rising, slice_get, slice_get_within}
+use Rattle.litemap_store.proofs.Names.{slice_set, Some, subst, suc, swap, swap_is, sym, take, take-set-le, take_more, TakesPair, true, true≢false}
 use Rattle.litemap_store.proofs.Last.KeepLast.{drop-swap, take-swap}
 use Rattle.litemap_store.proofs.Lists.Places.{drop_at}
 
@@ -17,7 +21,8 @@ module _ {X : Type 0} where
       → (stays ≡ true → k < i → moves ≡ true) → L' ≡ cond moves (swap L k i) L → Moved L L' k i x stays
   Moved_if L L' k i x stays true u at goes is = let h = slice_get_within L i x at in record {
     after = ap (drop (i + 1)) is ∙ drop-swap L k i x u h;
-    before = ap (take k) (is ∙ sym (swap_is L k i x (omega arith) h)) ∙ take-set-le k (slice_set L k (get_or L i x)) i (get_or L k x) u ∙ take-set-le k L k (get_or L i x) (omega arith);
+    before = ap (take k) (is ∙ sym (swap_is L k i x (omega arith) h)) ∙ take-set-le k (slice_set L k (get_or L i x)) i (get_or L k x) u
+        ∙ take-set-le k L k (get_or L i x) (omega arith);
     front = λ _. ap (take (k + 1)) is ∙ take-swap L k i x u h ∙ ap (λ y. take k L ++ y ∷ []) (get_or_from_slice_get L i x x at);
   }
   Moved_if L L' k i x stays false u at goes is = let h = slice_get_within L i x at in record {
@@ -42,8 +47,10 @@ module _ {F K V : Type 0} (g : Mut F (Bor K × (Bor V × Unit {0})) Bool) where
   pub CallableOnEach-first : (f : F) (p : K × V) (L : List (K × V)) → CallableOnEach g f (p ∷ L) → TakesPair g f p
   CallableOnEach-first f p L c = c.at [] L f p refl refl
 
-  pub CallableOnEach-rest : (f : F) (p : K × V) (b : Bool) (f' : F) (L : List (K × V)) → CalledOnPair g f p b f' → CallableOnEach g f (p ∷ L) → CallableOnEach g f' L
-  CallableOnEach-rest f p b f' L called c = record { at = λ before after s q is folds. c.at (p ∷ before) after s q (ap (λ N. p ∷ N) is) (f', (b, called), folds) }
+  pub CallableOnEach-rest : (f : F) (p : K × V) (b : Bool) (f' : F) (L : List (K × V)) → CalledOnPair g f p b f' → CallableOnEach g f (p ∷ L)
+      → CallableOnEach g f' L
+  CallableOnEach-rest f p b f' L called c =
+      record { at = λ before after s q is folds. c.at (p ∷ before) after s q (ap (λ N. p ∷ N) is) (f', (b, called), folds) }
 
   module _ (f₀ : F) (L₀ : List (K × V)) where
     module _ (f : F) (L : List (K × V)) (k i : ℕ) (p : K × V) (now : KeptSoFar g f₀ L₀ f L k i) (at : slice_get L i ≡ Some p) where
@@ -56,10 +63,12 @@ module _ {F K V : Type 0} (g : Mut F (Bor K × (Bor V × Unit {0})) Bool) where
       -- p is moved to index k, if it stays
       module _ (b : Bool) (f' : F) (called : CalledOnPair g f p b f') (L' : List (K × V)) (moved : Moved L L' k i p b) where
         callable' : CallableOnEach g f' (drop (i + 1) L')
-        callable' = subst (CallableOnEach g f') (sym moved.after) (CallableOnEach-rest f p b f' (drop (i + 1) L) called (subst (CallableOnEach g f) here now.callable))
+        callable' = subst (CallableOnEach g f') (sym moved.after)
+            (CallableOnEach-rest f p b f' (drop (i + 1) L) called (subst (CallableOnEach g f) here now.callable))
 
         so_far' : (M : List (K × V)) → Kept g f' (drop (i + 1) L') M → Kept g f₀ L₀ (take k L ++ cond b (p ∷ M) M)
-        so_far' M kept = now.so_far (cond b (p ∷ M) M) (subst (λ N. Kept g f N (cond b (p ∷ M) M)) (sym here) (Kept-more f p b f' (drop (i + 1) L) M called (subst (λ N. Kept g f' N M) moved.after kept)))
+        so_far' M kept = now.so_far (cond b (p ∷ M) M)
+            (subst (λ N. Kept g f N (cond b (p ∷ M) M)) (sym here) (Kept-more f p b f' (drop (i + 1) L) M called (subst (λ N. Kept g f' N M) moved.after kept)))
 
         pub KeptSoFar-yes : b ≡ true → KeptSoFar g f₀ L₀ f' L' (k + 1) (i + 1)
         KeptSoFar-yes kept_it = record {

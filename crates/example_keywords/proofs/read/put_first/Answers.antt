@@ -6,4 +6,5 @@ use Rattle.example_keywords.proofs.read.put_first.Goals as goal
 pub returns : goal.returns
 returns c =
     let e = c.in_ok-try_insert.ensures.adds in
-    put_first c.args.pairs.now.pairs c.args.key c.args.value c.try_insert.new.self.pairs c.in_ok-try_insert.field-0 e.added e.put (λ s. ap (λ (m : Contents (List ℕ) (String Global)). m.pairs) (e.unchanged s))
+    put_first c.args.pairs.now.pairs c.args.key c.args.value c.try_insert.new.self.pairs c.in_ok-try_insert.field-0 e.added e.put
+    (λ s. ap (λ (m : Contents (List ℕ) (String Global)). m.pairs) (e.unchanged s))

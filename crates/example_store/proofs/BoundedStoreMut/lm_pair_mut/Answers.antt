@@ -11,6 +11,10 @@ returns g c =
     let room = min (vec_room items) (g.row.LIMIT - vec_len items) in
     let within = rw (← c.self.view_is) at c.requires in
     let at : slice_get items.items c.args.index ≡ Some c.index_mut-pair.result.now = slice_get_read _ _ _ _ refl within c.index_mut-pair.ensures.value in (
-      (refl, λ w. rw (← c.self.view_is) (sym (ap (λ o. record { pairs = option_map_or (λ p. slice_set items.items c.args.index (p.0, w)) o items.items; room = room }) at))),
+      (
+        refl,
+        λ w. rw (← c.self.view_is)
+            (sym (ap (λ o. record { pairs = option_map_or (λ p. slice_set items.items c.args.index (p.0, w)) o items.items; room = room }) at)),
+      ),
       record { writes_back = tt; pair = rw (← c.self.view_is) at },
     )

@@ -6,11 +6,13 @@ use Rattle.litemap_store.proofs.Lists.Seams.{put_value}
 use Rattle.example_uses.proofs.made.value_or_made.Goals as goal
 
 -- the value that was inserted is the one that the reference shows
-placed : (g : _) (c : goal.After-result-1 g) (n : IsNone (at g.K.Ord.cmp c.args.map.now.pairs c.args.key)) → (c.in_ok-index.ensures.put n).0 ≡ c.unwrap.result.1.now
+placed : (g : _) (c : goal.After-result-1 g) (n : IsNone (at g.K.Ord.cmp c.args.map.now.pairs c.args.key))
+    → (c.in_ok-index.ensures.put n).0 ≡ c.unwrap.result.1.now
 placed g c n =
     let e = c.in_ok-index.ensures in let p = e.put n in let cmp = g.K.Ord.cmp in let old = c.args.map.now.pairs in
     let shown = ap (option_map (λ q. q.1)) (sym c.get_indexed.ensures ∙ ap (option_map deref_pair) c.unwrap.ensures) in
-    let stands = ap (λ M. option_map (λ q. q.1) (slice_get M c.in_ok-index.index)) p.2 ∙ ap (λ i. option_map (λ q. q.1) (slice_get (put cmp old c.args.key p.0) i)) e.place ∙ put_value cmp old c.args.key p.0 in
+    let stands = ap (λ M. option_map (λ q. q.1) (slice_get M c.in_ok-index.index)) p.2
+    ∙ ap (λ i. option_map (λ q. q.1) (slice_get (put cmp old c.args.key p.0) i)) e.place ∙ put_value cmp old c.args.key p.0 in
     let same : Some p.0 ≡ Some c.unwrap.result.1.now = sym stands ∙ shown in cc
 
 pub returns-clause-made : goal.returns-clause-made

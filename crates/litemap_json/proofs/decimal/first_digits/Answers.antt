@@ -6,7 +6,14 @@ pub returns-then-digits-eq19 : goal.returns-then-digits-eq19
 returns-then-digits-eq19 c = first_digits-all c.args.number c.digits-digits.result c.digits-digits.ensures.length c.if-digits-eq19.true
 
 pub overflow_mul-result : goal.overflow_mul-result
-overflow_mul-result c = rw c.pow.ensures (omega (arith, (first_digits-zeros c.args.number c.digits-digits.result (omega (arith, c.ranges.number.fits)) c.digits-digits.ensures.length (omega (arith, c.digits-digits.ensures.bound, c.if-digits-eq19.false))).1))
+overflow_mul-result c =
+    rw c.pow.ensures (omega (
+      arith,
+      (first_digits-zeros c.args.number c.digits-digits.result (omega (arith, c.ranges.number.fits)) c.digits-digits.ensures.length
+          (omega (arith, c.digits-digits.ensures.bound, c.if-digits-eq19.false))).1,
+    ))
 
 pub returns : goal.returns
-returns c = rw c.pow.ensures (first_digits-zeros c.args.number c.digits-digits.result (omega (arith, c.ranges.number.fits)) c.digits-digits.ensures.length (omega (arith, c.digits-digits.ensures.bound, c.if-digits-eq19.false))).0
+returns c = rw c.pow.ensures
+    (first_digits-zeros c.args.number c.digits-digits.result (omega (arith, c.ranges.number.fits)) c.digits-digits.ensures.length
+    (omega (arith, c.digits-digits.ensures.bound, c.if-digits-eq19.false))).0

@@ -5,11 +5,13 @@ use Rattle.litemap_json.proofs.text.by_name.Goals as goal
 
 pub loop-place-init : goal.loop-place-init
 loop-place-init g c =
-    name_none g.N.Name.bytes (λ r. g.V.JsonItem.json r.now) g.K.JsonKey.text g.K.JsonItem.json g.V.JsonItem.json c.args.map.now.pairs _ c.in_ok-items.ensures.items
+    name_none g.N.Name.bytes (λ r. g.V.JsonItem.json r.now) g.K.JsonKey.text g.K.JsonItem.json g.V.JsonItem.json c.args.map.now.pairs _
+    c.in_ok-items.ensures.items
 
 pub returns-in_default-clause-refused : goal.returns-in_default-clause-refused
 returns-in_default-clause-refused g c =
-    λ _. made_stop g.K.JsonKey.text g.K.JsonItem.json g.V.JsonItem.json g.N.Name.bytes c.args.map.now.pairs c.loop-place.place _ _ _ _ c.pair_at.ensures c.in_ok-name.ensures c.in_default.is c.loop-place.invariant.2
+    λ _. made_stop g.K.JsonKey.text g.K.JsonItem.json g.V.JsonItem.json g.N.Name.bytes c.args.map.now.pairs c.loop-place.place _ _ _ _ c.pair_at.ensures
+    c.in_ok-name.ensures c.in_default.is c.loop-place.invariant.2
 
 pub loop-place-preserved : goal.loop-place-preserved
 loop-place-preserved g c =
@@ -18,10 +20,12 @@ loop-place-preserved g c =
     let found = at_place L c.loop-place.place x c.pair_at.ensures in
     let named : g.K.JsonKey.text x.0 ≡ Some (g.N.Name.bytes c.in-Some.name) = sym c.in_ok-name.ensures ∙ ap (option_map g.N.Name.bytes) c.in-Some.is in
     rw c.in_ok-push_pair.ensures
-    (name_more g.N.Name.bytes (λ r. g.V.JsonItem.json r.now) g.K.JsonKey.text g.K.JsonItem.json g.V.JsonItem.json L c.loop-place.place x (c.in-Some.name, c.pair_at.result.1) c.loop-place.items.items
+    (name_more g.N.Name.bytes (λ r. g.V.JsonItem.json r.now) g.K.JsonKey.text g.K.JsonItem.json g.V.JsonItem.json L c.loop-place.place x
+    (c.in-Some.name, c.pair_at.result.1) c.loop-place.items.items
     found.0 found.1 named refl c.loop-place.invariant)
 
 pub returns-in-Ok-clause-named : goal.returns-in-Ok-clause-named
 returns-in-Ok-clause-named g c =
-    name_end g.N.Name.bytes (λ r. g.V.JsonItem.json r.now) g.K.JsonKey.text g.K.JsonItem.json g.V.JsonItem.json c.args.map.now.pairs c.loop-place.place c.loop-place.items.items c.in-Ok.named.pairs
+    name_end g.N.Name.bytes (λ r. g.V.JsonItem.json r.now) g.K.JsonKey.text g.K.JsonItem.json g.V.JsonItem.json c.args.map.now.pairs c.loop-place.place
+    c.loop-place.items.items c.in-Ok.named.pairs
     (omega arith) c.loop-place.invariant (rw g.met.N.Name.by_bytes at c.in-Ok.ensures.made)

@@ -17,5 +17,7 @@ loop-place-preserved g c =
 pub returns : goal.returns
 returns g c =
     let M = c.args.items.now.pairs in
-    let w = named_end g.N.Name.bytes (λ r. g.V.JsonItem.json r.now) M c.loop-place.place c.loop-place.out.tokens c.end_object.new.self.tokens (omega arith) c.in_ok-end_object.ensures.ok c.loop-place.invariant.1 in
-    text_of_tree (object (named g.N.Name.bytes (λ r. g.V.JsonItem.json r.now) M)) c.end_object.new.self.tokens (string_bytes c.text_of.result) w c.text_of.ensures.text c.text_of.ensures.tokens
+    let w = named_end g.N.Name.bytes (λ r. g.V.JsonItem.json r.now) M c.loop-place.place c.loop-place.out.tokens c.end_object.new.self.tokens
+    (omega arith) c.in_ok-end_object.ensures.ok c.loop-place.invariant.1 in
+    text_of_tree (object (named g.N.Name.bytes (λ r. g.V.JsonItem.json r.now) M)) c.end_object.new.self.tokens
+    (string_bytes c.text_of.result) w c.text_of.ensures.text c.text_of.ensures.tokens

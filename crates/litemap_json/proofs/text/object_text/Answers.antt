@@ -11,7 +11,8 @@ loop-place-init g c = (
 
 pub returns-in_default-clause-refused : goal.returns-in_default-clause-refused
 returns-in_default-clause-refused g c =
-    λ _. made_stop g.K.JsonKey.text g.K.JsonItem.json g.V.JsonItem.json string_bytes c.args.map.now.pairs c.loop-place.place _ _ _ _ c.pair_at.ensures c.in_ok-name.ensures.text c.in_default.is c.loop-place.invariant.1.2
+    λ _. made_stop g.K.JsonKey.text g.K.JsonItem.json g.V.JsonItem.json string_bytes c.args.map.now.pairs c.loop-place.place _ _ _ _ c.pair_at.ensures
+    c.in_ok-name.ensures.text c.in_default.is c.loop-place.invariant.1.2
 
 pub loop-place-preserved : goal.loop-place-preserved
 loop-place-preserved g c =
@@ -21,12 +22,14 @@ loop-place-preserved g c =
     let s = string_bytes c.in-Some.name in
     let named : g.K.JsonKey.text x.0 ≡ Some s = sym c.in_ok-name.ensures.text ∙ ap (option_map string_bytes) c.in-Some.is in (
       c.write_member.ensures.before ∙ c.loop-place.invariant.0,
-      pairs_more g.K.JsonKey.text g.K.JsonItem.json g.V.JsonItem.json L c.loop-place.place x (string_bytes c.loop-place.last) s c.loop-place.out.tokens c.write_member.new.out.tokens
+      pairs_more g.K.JsonKey.text g.K.JsonItem.json g.V.JsonItem.json L c.loop-place.place x
+          (string_bytes c.loop-place.last) s c.loop-place.out.tokens c.write_member.new.out.tokens
           found.0 found.1 named (c.rises.ensures c.if-not-rises.false) c.in_ok-write_member.ensures.tree c.loop-place.invariant.1,
     )
 
 pub returns-clause-text : goal.returns-clause-text
 returns-clause-text g c =
-    let made = pairs_end g.K.JsonKey.text g.K.JsonItem.json g.V.JsonItem.json c.args.map.now.pairs c.loop-place.place (string_bytes c.loop-place.last) c.loop-place.out.tokens c.end_object.new.self.tokens
+    let made = pairs_end g.K.JsonKey.text g.K.JsonItem.json g.V.JsonItem.json c.args.map.now.pairs c.loop-place.place
+    (string_bytes c.loop-place.last) c.loop-place.out.tokens c.end_object.new.self.tokens
     (omega arith) c.in_ok-end_object.ensures.ok c.loop-place.invariant.1 in
     (made.0, made.1, text_of_tree made.0 c.end_object.new.self.tokens (string_bytes c.text_of.result) made.2 c.text_of.ensures.text c.text_of.ensures.tokens)

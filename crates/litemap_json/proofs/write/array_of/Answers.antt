@@ -12,7 +12,8 @@ loop-place-preserved g c =
     let found = at_place L c.loop-place.place x c.pair_at.ensures in
     record {
       made = grind (arith, common_steps, found.0, found.1);
-      readable = array_step g.K.Ord.cmp g.met.K.Ord.total g.K.JsonKey.text g.K.JsonKey.key g.K.JsonItem.item g.V.JsonItem.item g.K.JsonItem.json g.V.JsonItem.json
+      readable = array_step g.K.Ord.cmp g.met.K.Ord.total g.K.JsonKey.text g.K.JsonKey.key g.K.JsonItem.item g.V.JsonItem.item g.K.JsonItem.json
+          g.V.JsonItem.json
           L c.loop-place.place x found.0 found.1 c.loop-place.invariant.readable c.in_ok-value_of_two.ensures.reads_back;
     }
 

@@ -11,12 +11,16 @@ loop-call-preserved g c =
     let room = c.loop-call.invariant.room in
     let pushed = c.push_reserved.ensures in
     record {
-      run = rw c.push_reserved.ensures.items (Run-push g.K.Ord.cmp c.in-Some.call c.answer.result c.args.map.now c.loop-call.map c.answer.new.map c.loop-call.yielded c.loop-call.answers.items c.loop-call.invariant.run c.answer.ensures);
+      run = rw c.push_reserved.ensures.items
+          (Run-push g.K.Ord.cmp c.in-Some.call c.answer.result c.args.map.now c.loop-call.map c.answer.new.map c.loop-call.yielded c.loop-call.answers.items
+          c.loop-call.invariant.run c.answer.ensures);
       room = grind (arith, common_steps, c.in-Some.ensures.steps);
     }
 
 pub returns-clause-run : goal.returns-clause-run
 returns-clause-run g c =
     let all : c.loop-call.yielded ≡ c.args.calls.items =
-    All-taken _ _ (c.next.new.self, (c.loop-call.call-iterator, c.loop-call.yielded_by, c.in-None.ensures.steps)) ∙ c.into_iter-call-iterator.ensures.into_iter_gives.0 in
-    subst (λ (calls : List (Call g.row.K.Denot g.row.V.Denot)). Run g.K.Ord.cmp c.args.map.now calls c.loop-call.answers.items c.loop-call.map) all c.loop-call.invariant.run
+    All-taken _ _ (c.next.new.self, (c.loop-call.call-iterator, c.loop-call.yielded_by, c.in-None.ensures.steps))
+    ∙ c.into_iter-call-iterator.ensures.into_iter_gives.0 in
+    subst (λ (calls : List (Call g.row.K.Denot g.row.V.Denot)). Run g.K.Ord.cmp c.args.map.now calls c.loop-call.answers.items c.loop-call.map) all
+    c.loop-call.invariant.run

@@ -26,7 +26,8 @@ pub returns-in_err-push-in-Ok-Some-clause-asked : goal.returns-in_err-push-in-Ok
 returns-in_err-push-in-Ok-Some-clause-asked g c =
     let before = c.loop-pair.invariant in
     asked_refused c.from_residual.result c.from_residual.ensures.1 (returns-in_err-push-in-Ok-Some-clause-rest g c)
-    (g.met.P.PairSource.leads_on _ _ _ before.led c.next_pair.ensures.leads) (omega (arith, before.left, (rw c.in-Ok-Some.field-0-is at c.in-Ok-Some.ensures.next).1))
+    (g.met.P.PairSource.leads_on _ _ _ before.led c.next_pair.ensures.leads)
+    (omega (arith, before.left, (rw c.in-Ok-Some.field-0-is at c.in-Ok-Some.ensures.next).1))
 
 pub returns-in-Err-clause-rest : goal.returns-in-Err-clause-rest
 returns-in-Err-clause-rest g c = (c.loop-pair.pairs.items, λ rest h. c.loop-pair.invariant.seen rest ((c.in-Err.ensures.next.1.0 rest).0 h))

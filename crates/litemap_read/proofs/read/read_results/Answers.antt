@@ -13,7 +13,8 @@ loop-item-preserved g c =
     let pair : g.row.K.Denot × g.row.V.Denot = (c.in-Ok.key, c.in-Ok.value) in (
       seen ++ pair ∷ [],
       ap (λ xs. xs ++ c.in-Some.item ∷ []) before.1 ∙ ap (λ r. map (λ p. Ok p) seen ++ r ∷ []) c.in-Ok.is ∙ sym (map-append (λ p. Ok p) seen (pair ∷ [])),
-      Sifted-joins g.K.Ord.cmp seen (pair ∷ []) [] [] c.loop-item.map.pairs c.loop-item.aside.items c.append_or_defer.new.map.pairs c.append_or_defer.new.aside.items before.2 c.in_ok-append_or_defer-in-Ok.ensures,
+      Sifted-joins g.K.Ord.cmp seen (pair ∷ []) [] [] c.loop-item.map.pairs c.loop-item.aside.items c.append_or_defer.new.map.pairs
+          c.append_or_defer.new.aside.items before.2 c.in_ok-append_or_defer-in-Ok.ensures,
     )
 
 pub returns-clause-read : goal.returns-clause-read
@@ -24,23 +25,28 @@ returns-clause-read g c =
     record {
       given = before.0;
       gives = subst P before.1 all;
-      last = Last-sifted g.met.K.Ord.total before.0 c.loop-item.map.pairs c.loop-item.aside.items c.extend_from_vec.new.self.pairs before.2 c.in_ok-extend_from_vec.ensures.last;
+      last = Last-sifted g.met.K.Ord.total before.0 c.loop-item.map.pairs c.loop-item.aside.items c.extend_from_vec.new.self.pairs before.2
+          c.in_ok-extend_from_vec.ensures.last;
     }
 
 pub returns-in_err-append_or_defer-in-Ok-clause-refused_some : goal.returns-in_err-append_or_defer-in-Ok-clause-refused_some
 returns-in_err-append_or_defer-in-Ok-clause-refused_some g c =
     always_if_err _ c.from_residual.result (GivesSome-from_Yields g.I.IntoIterator.into_iter_gives g.I.IntoIter.Iterator.next_gives c.args.iter
-    c.into_iter-item-iterator.result c.loop-item.item-iterator c.next.new.self c.loop-item.yielded c.in-Some.item c.into_iter-item-iterator.ensures.into_iter_gives c.loop-item.yielded_by c.in-Some.ensures.steps)
+    c.into_iter-item-iterator.result c.loop-item.item-iterator c.next.new.self c.loop-item.yielded c.in-Some.item
+    c.into_iter-item-iterator.ensures.into_iter_gives c.loop-item.yielded_by c.in-Some.ensures.steps)
 
 -- if no item came, nothing was put aside
 pub returns-in_err-extend_from_vec-clause-refused_some : goal.returns-in_err-extend_from_vec-clause-refused_some
 returns-in_err-extend_from_vec-clause-refused_some g c =
     let before = c.loop-item.invariant in
     let aside = c.loop-item.aside.items in
-    let put_aside = rw c.in_err-extend_from_vec.was at (some_refused g.K.Ord.cmp c.extend_from_vec.result c.loop-item.map.pairs aside c.loop-item.map.room c.extend_from_vec.ensures.succeeds) in
+    let put_aside = rw c.in_err-extend_from_vec.was at
+    (some_refused g.K.Ord.cmp c.extend_from_vec.result c.loop-item.map.pairs aside c.loop-item.map.room c.extend_from_vec.ensures.succeeds) in
     let all : Gives g.I.IntoIterator.into_iter_gives g.I.IntoIter.Iterator.next_gives c.args.iter c.loop-item.yielded = search rules in
-    always_if_err _ c.from_residual-in_err-extend_from_vec.result (GivesSome-from_some g.I.IntoIterator.into_iter_gives g.I.IntoIter.Iterator.next_gives c.args.iter
-    c.loop-item.yielded all (some_given before.0 c.loop-item.yielded before.1 (some_sifted g.K.Ord.cmp before.0 c.loop-item.map.pairs aside before.2 put_aside)))
+    always_if_err _ c.from_residual-in_err-extend_from_vec.result
+    (GivesSome-from_some g.I.IntoIterator.into_iter_gives g.I.IntoIter.Iterator.next_gives c.args.iter
+    c.loop-item.yielded all
+    (some_given before.0 c.loop-item.yielded before.1 (some_sifted g.K.Ord.cmp before.0 c.loop-item.map.pairs aside before.2 put_aside)))
 
 pub loop-item-init-derived : goal.loop-item-init-derived
 loop-item-init-derived g c = c.requires _ c.into_iter-item-iterator.ensures.into_iter_gives

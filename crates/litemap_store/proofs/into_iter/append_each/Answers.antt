@@ -7,6 +7,7 @@ loop-key-preserved g c =
     let room = c.loop-key.invariant.room in let after = c.push_reserved.ensures.room in record {
       can = g.met.I.PairIntoIter.can _;
       ends = search rules;
-      list = rw c.push_reserved.ensures.pairs (append_assoc _ ((c.in-Some.key, c.in-Some.value) ∷ []) _ ∙ ap (λ L. g.S.Store.pairs c.loop-key.store ++ L) (sym first) ∙ c.loop-key.invariant.list);
+      list = rw c.push_reserved.ensures.pairs
+          (append_assoc _ ((c.in-Some.key, c.in-Some.value) ∷ []) _ ∙ ap (λ L. g.S.Store.pairs c.loop-key.store ++ L) (sym first) ∙ c.loop-key.invariant.list);
       room = omega arith;
     }

@@ -17,6 +17,18 @@ loop-index-preserved g c =
     let inv = c.loop-index.invariant in
     let there = Moved_if _ _ _ _ _ c.is_kept.result false inv.kept.within c.lm_pair.ensures in
     elim c.if-is_kept.branch [
-      | then-is_kept+else-kept-index w ↦ record { len = inv.len; room = inv.room; kept = rw w.kept-is (KeptSoFar-yes g.F.FnMut _ _ _ _ _ _ _ inv.kept c.lm_pair.ensures _ _ c.is_kept.ensures _ (there (λ stay lt. absurd (omega (arith, lt, w.if-kept-index.false))) refl) w.if-is_kept.true) }
-      | else-is_kept w ↦ record { len = inv.len; room = inv.room; kept = rw w.kept-is (KeptSoFar-no g.F.FnMut _ _ _ _ _ _ _ inv.kept c.lm_pair.ensures _ _ c.is_kept.ensures _ (there (λ stay lt. absurd (true≢false (sym stay ∙ w.if-is_kept.false))) refl) w.if-is_kept.false) }
+      | then-is_kept+else-kept-index w ↦ record {
+        len = inv.len;
+        room = inv.room;
+        kept = rw w.kept-is
+            (KeptSoFar-yes g.F.FnMut _ _ _ _ _ _ _ inv.kept c.lm_pair.ensures _ _ c.is_kept.ensures _
+            (there (λ stay lt. absurd (omega (arith, lt, w.if-kept-index.false))) refl) w.if-is_kept.true);
+      }
+      | else-is_kept w ↦ record {
+        len = inv.len;
+        room = inv.room;
+        kept = rw w.kept-is
+            (KeptSoFar-no g.F.FnMut _ _ _ _ _ _ _ inv.kept c.lm_pair.ensures _ _ c.is_kept.ensures _
+            (there (λ stay lt. absurd (true≢false (sym stay ∙ w.if-is_kept.false))) refl) w.if-is_kept.false);
+      }
     ]

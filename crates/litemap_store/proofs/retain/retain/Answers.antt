@@ -13,8 +13,18 @@ loop-index-preserved g c =
     let len = ap length c.lm_swap.ensures.pairs ∙ length-swap _ _ _ ∙ inv.len in
     let room = c.lm_swap.ensures.room ∙ inv.room in
     elim c.if-stays.branch [
-      | then-stays w ↦ record { len = len; room = room; kept = rw w.kept-is (KeptSoFar-yes g.F.FnMut _ _ _ _ _ _ _ inv.kept c.lm_pair.ensures _ _ c.is_kept-stays.ensures _ moved w.if-stays.true) }
-      | else-stays w ↦ record { len = len; room = room; kept = rw w.kept-is (KeptSoFar-no g.F.FnMut _ _ _ _ _ _ _ inv.kept c.lm_pair.ensures _ _ c.is_kept-stays.ensures _ moved w.if-stays.false) }
+      | then-stays w ↦ record {
+        len = len;
+        room = room;
+        kept = rw w.kept-is
+            (KeptSoFar-yes g.F.FnMut _ _ _ _ _ _ _ inv.kept c.lm_pair.ensures _ _ c.is_kept-stays.ensures _ moved w.if-stays.true);
+      }
+      | else-stays w ↦ record {
+        len = len;
+        room = room;
+        kept = rw w.kept-is
+            (KeptSoFar-no g.F.FnMut _ _ _ _ _ _ _ inv.kept c.lm_pair.ensures _ _ c.is_kept-stays.ensures _ moved w.if-stays.false);
+      }
     ]
 
 pub returns-clause-kept : goal.returns-clause-kept

@@ -13,5 +13,6 @@ returns-clause-splits g c =
 
 pub returns-clause-missing : goal.returns-clause-missing
 returns-clause-missing g c =
-    elim c.lm_binary_search_by.result as (λ r. Splits g.K.Ord.cmp (g.S.Store.pairs c.args.store.now) c.args.key.now r → IfErr r (λ i. i ≤ length (g.S.Store.pairs c.args.store.now)))
+    elim c.lm_binary_search_by.result as
+    (λ r. Splits g.K.Ord.cmp (g.S.Store.pairs c.args.store.now) c.args.key.now r → IfErr r (λ i. i ≤ length (g.S.Store.pairs c.args.store.now)))
     [ Ok i ↦ λ s. tt | Err i ↦ λ s. missing_within g.K.Ord.cmp (g.S.Store.pairs c.args.store.now) c.args.key.now i s ] (returns-clause-splits g c)

@@ -30,7 +30,8 @@ loop-left-preserved g c =
     let is_hit : c.choose-hit.result ≡ cond (is_eq order) (low + (left - left / 2)) c.loop-left.hit =
     c.choose-hit.ensures ∙ ap (λ b. cond b (low + (left - left / 2)) c.loop-left.hit) c.is_eq-is_equal.ensures in
     let is_left : c.choose-left.result ≡ left_after small order left =
-    rw (c.choose-left.ensures, c.choose.ensures, c.choose-before.ensures, c.choose-rest.ensures, c.is_lt-is_less.ensures, c.is_eq-is_equal.ensures) (refl {a = left_after small order left}) in
+    rw (c.choose-left.ensures, c.choose.ensures, c.choose-before.ensures, c.choose-rest.ensures, c.is_lt-is_less.ensures, c.is_eq-is_equal.ensures)
+    (refl {a = left_after small order left}) in
     let d : digits c.choose-left.result + 1 ≤ digits left = rw is_left t.1 in
     let k = c.ask-order.ensures.counted in
     record {
@@ -47,4 +48,7 @@ loop-left-preserved g c =
 pub returns-clause-found : goal.returns-clause-found
 returns-clause-found g c =
     let inv = c.loop-left.invariant in
-    record { at = λ ord sh. Finds-nowhere ord (g.S.Keys.pairs c.args.keys.now) c.loop-left.low (c.loop-left.low + c.loop-left.left) (omega arith) (omega arith) ((inv.seen ord sh).1.open_ (omega arith)) }
+    record {
+      at = λ ord sh. Finds-nowhere ord (g.S.Keys.pairs c.args.keys.now) c.loop-left.low (c.loop-left.low + c.loop-left.left) (omega arith) (omega arith)
+          ((inv.seen ord sh).1.open_ (omega arith));
+    }

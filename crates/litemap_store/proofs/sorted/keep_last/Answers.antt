@@ -13,11 +13,15 @@ loop-i-preserved g c =
       | then-not-is_eq w ↦ record {
         before = (let e = w.last-is in let b = inv.before in omega arith);
         within = (let e = w.last-is in let b = inv.before in omega arith);
-        kept = passed_more g.K.Ord.cmp o _ _ _ _ _ _ q p c.cmp.result inv.kept inv.before (omega arith) c.index-now-last.is c.index-now-i.is (rw (← c.index-now-last.is, ← c.index-now-i.is) at c.cmp.ensures) c.requires (sym c.is_eq.ensures ∙ w.if-not-is_eq.true) (c.swap.ensures.after ∙ ap (λ n. swap c.loop-i.pairs n c.loop-i.i) w.last-is) w.last-is;
+        kept = passed_more g.K.Ord.cmp o _ _ _ _ _ _ q p c.cmp.result inv.kept inv.before (omega arith) c.index-now-last.is c.index-now-i.is
+            (rw (← c.index-now-last.is, ← c.index-now-i.is) at c.cmp.ensures) c.requires (sym c.is_eq.ensures ∙ w.if-not-is_eq.true)
+            (c.swap.ensures.after ∙ ap (λ n. swap c.loop-i.pairs n c.loop-i.i) w.last-is) w.last-is;
       }
       | else-not-is_eq w ↦ record {
         before = (let e = w.last-is in let b = inv.before in omega arith);
         within = (let e = w.last-is in let b = inv.within in omega arith);
-        kept = passed_over g.K.Ord.cmp o _ _ _ _ _ _ q p c.cmp.result inv.kept inv.before (omega arith) c.index-now-last.is c.index-now-i.is (rw (← c.index-now-last.is, ← c.index-now-i.is) at c.cmp.ensures) (sym c.is_eq.ensures ∙ w.if-not-is_eq.false) (c.swap.ensures.after ∙ ap (λ n. swap c.loop-i.pairs n c.loop-i.i) w.last-is) w.last-is;
+        kept = passed_over g.K.Ord.cmp o _ _ _ _ _ _ q p c.cmp.result inv.kept inv.before (omega arith) c.index-now-last.is c.index-now-i.is
+            (rw (← c.index-now-last.is, ← c.index-now-i.is) at c.cmp.ensures) (sym c.is_eq.ensures ∙ w.if-not-is_eq.false)
+            (c.swap.ensures.after ∙ ap (λ n. swap c.loop-i.pairs n c.loop-i.i) w.last-is) w.last-is;
       }
     ]

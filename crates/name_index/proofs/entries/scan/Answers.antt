@@ -15,8 +15,15 @@ returns-in-Equal c =
     let inv = c.loop-index.invariant in
     let pair = c.read_valid_pair.result.0 in
     let e = walked_pair inv.walked (omega arith) (pair.0.now, pair.1.now) _ c.read_valid_pair.ensures in
-    let s = scanned_found inv.walked.these.pairs c.args.key.now inv.walked.these.rises c.loop-index.index pair.0.now pair.1 e (sym c.cmp.ensures.answer ∙ c.in-Equal.is) in
-    (inv.walked.these, (s, in_turn c.loop-index.index 1 _ (omega (arith, s.0.place)) inv.asked (asked_one c.cmp.ensures.same c.cmp.ensures.counted c.cmp.ensures.refusals)))
+    let s = scanned_found inv.walked.these.pairs c.args.key.now inv.walked.these.rises c.loop-index.index pair.0.now pair.1 e
+    (sym c.cmp.ensures.answer ∙ c.in-Equal.is) in (
+      inv.walked.these,
+      (
+        s,
+        in_turn c.loop-index.index 1 _ (omega (arith, s.0.place)) inv.asked
+            (asked_one c.cmp.ensures.same c.cmp.ensures.counted c.cmp.ensures.refusals),
+      ),
+    )
 
 pub returns-in-Greater : goal.returns-in-Greater
 returns-in-Greater c =
@@ -24,9 +31,17 @@ returns-in-Greater c =
     let pair = c.read_valid_pair.result.0 in
     let pairs = inv.walked.these.pairs in
     let e = walked_pair inv.walked (omega arith) (pair.0.now, pair.1.now) _ c.read_valid_pair.ensures in
-    let n = Narrowed-greater (to_key c.args.key.now) pairs (ascends pairs c.args.key.now inv.walked.these.rises) _ _ c.loop-index.index _ _ e inv.narrowed (sym c.cmp.ensures.answer ∙ c.in-Greater.is) in
-    let s = scanned_missing pairs c.args.key.now inv.walked.these.rises c.loop-index.index c.loop-index.index (omega arith) (omega (arith, inv.walked.these.left.len_is)) n in
-    (inv.walked.these, (s, in_turn c.loop-index.index 1 _ (omega (arith, s.place)) inv.asked (asked_one c.cmp.ensures.same c.cmp.ensures.counted c.cmp.ensures.refusals)))
+    let n = Narrowed-greater (to_key c.args.key.now) pairs (ascends pairs c.args.key.now inv.walked.these.rises) _ _ c.loop-index.index _ _ e inv.narrowed
+    (sym c.cmp.ensures.answer ∙ c.in-Greater.is) in
+    let s = scanned_missing pairs c.args.key.now inv.walked.these.rises c.loop-index.index c.loop-index.index (omega arith)
+    (omega (arith, inv.walked.these.left.len_is)) n in (
+      inv.walked.these,
+      (
+        s,
+        in_turn c.loop-index.index 1 _ (omega (arith, s.place)) inv.asked
+            (asked_one c.cmp.ensures.same c.cmp.ensures.counted c.cmp.ensures.refusals),
+      ),
+    )
 
 pub loop-index-preserved : goal.loop-index-preserved
 loop-index-preserved c =
@@ -36,7 +51,8 @@ loop-index-preserved c =
     let e = walked_pair inv.walked (omega arith) (pair.0.now, pair.1.now) _ c.read_valid_pair.ensures in
     record {
       walked = walked_next inv.walked (omega arith) (pair.0.now, pair.1.now) _ c.read_valid_pair.ensures;
-      narrowed = Narrowed-less (to_key c.args.key.now) pairs (ascends pairs c.args.key.now inv.walked.these.rises) _ _ c.loop-index.index _ _ e inv.narrowed (sym c.cmp.ensures.answer ∙ c.in-Less.is);
+      narrowed = Narrowed-less (to_key c.args.key.now) pairs (ascends pairs c.args.key.now inv.walked.these.rises) _ _ c.loop-index.index _ _ e inv.narrowed
+          (sym c.cmp.ensures.answer ∙ c.in-Less.is);
       asked = in_turn c.loop-index.index 1 _ (omega arith) inv.asked (asked_one c.cmp.ensures.same c.cmp.ensures.counted c.cmp.ensures.refusals);
     }
 
@@ -45,5 +61,6 @@ returns c =
     let inv = c.loop-index.invariant in
     let pairs = inv.walked.these.pairs in
     let end : c.loop-index.index ≡ c.args.len = omega arith in
-    let s = scanned_missing pairs c.args.key.now inv.walked.these.rises c.args.len (length pairs) (omega (arith, inv.walked.these.left.len_is)) (omega (arith, inv.walked.these.left.len_is)) (rw (← end) inv.narrowed) in
+    let s = scanned_missing pairs c.args.key.now inv.walked.these.rises c.args.len (length pairs) (omega (arith, inv.walked.these.left.len_is))
+    (omega (arith, inv.walked.these.left.len_is)) (rw (← end) inv.narrowed) in
     (inv.walked.these, (s, at_most c.loop-index.index _ (omega (arith, s.place, end)) inv.asked))

@@ -18,7 +18,9 @@ pub loop-pair-preserved : goal.loop-pair-preserved
 loop-pair-preserved c =
     let inv = c.loop-pair.invariant in
     record {
-      offsets = offsets_next _ _ _ c.loop-pair.pair-index c.loop-pair.offset inv.offsets inv.offset_is c.in_ok-put_number-2.ensures.adds c.in_ok-put_number-2.ensures.number;
-      offset_is = place_next c.args.pairs.now c.loop-pair.pair-index _ c.loop-pair.offset c.in_ok-offset.offset c.loop-pair-test.true inv.offset_is c.in_ok-offset.ensures.next;
+      offsets = offsets_next _ _ _ c.loop-pair.pair-index c.loop-pair.offset inv.offsets inv.offset_is c.in_ok-put_number-2.ensures.adds
+          c.in_ok-put_number-2.ensures.number;
+      offset_is = place_next c.args.pairs.now c.loop-pair.pair-index _ c.loop-pair.offset c.in_ok-offset.offset c.loop-pair-test.true inv.offset_is
+          c.in_ok-offset.ensures.next;
       small = c.in_ok-offset.ensures.small;
     }

@@ -4,7 +4,8 @@ use Rattle.name_index.proofs.indexed_search.entry_at.Goals as goal
 
 pub returns-in_err-key-clause-error : goal.returns-in_err-key-clause-error
 returns-in_err-key-clause-error c =
-    always_on_err c.from_residual-in_err-key.result (λ pair e. c.in_err-key.ensures.error pair.0 (rw (← begins_unique _ _ _ _ _ e.1 c.in_ok-at.ensures.place) e.2.0))
+    always_on_err c.from_residual-in_err-key.result
+    (λ pair e. c.in_err-key.ensures.error pair.0 (rw (← begins_unique _ _ _ _ _ e.1 c.in_ok-at.ensures.place) e.2.0))
 
 pub returns-in_err-value-clause-error : goal.returns-in_err-value-clause-error
 returns-in_err-value-clause-error c =

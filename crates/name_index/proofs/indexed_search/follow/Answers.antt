@@ -9,12 +9,14 @@ returns-in_err-key-clause-error c = always_on_err c.from_residual.result (no_ind
 
 pub returns-then-not-is_above-clause-error : goal.returns-then-not-is_above-clause-error
 returns-then-not-is_above-clause-error c =
-    falls _ _ c.loop-index.index c.loop-index.last c.in_ok-key.key.now c.in_ok-key.field-0-1.now c.is_above.result _ _ c.requires (omega arith) c.loop-index.invariant c.in_ok-key.ensures.entry c.is_above.ensures.first c.is_above.ensures.later c.if-not-is_above.true
+    falls _ _ c.loop-index.index c.loop-index.last c.in_ok-key.key.now c.in_ok-key.field-0-1.now c.is_above.result _ _ c.requires
+    (omega arith) c.loop-index.invariant c.in_ok-key.ensures.entry c.is_above.ensures.first c.is_above.ensures.later c.if-not-is_above.true
 
 pub loop-index-preserved : goal.loop-index-preserved
 loop-index-preserved c =
     followed_next _ _ c.loop-index.index c.loop-index.last c.in_ok-key.key c.in_ok-key.field-0-1 _ _ _ c.loop-index.invariant c.in_ok-key.ensures.entry
-    (above_true c.loop-index.last c.in_ok-key.key.now c.is_above.result c.is_above.ensures.later c.if-not-is_above.false) c.is_above.ensures.unasked c.is_above.ensures.cost
+    (above_true c.loop-index.last c.in_ok-key.key.now c.is_above.result c.is_above.ensures.later c.if-not-is_above.false) c.is_above.ensures.unasked
+    c.is_above.ensures.cost
 
 pub returns-clause-ok : goal.returns-clause-ok
 returns-clause-ok c =

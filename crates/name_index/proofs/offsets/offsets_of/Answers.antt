@@ -15,7 +15,9 @@ pub loop-preserved : goal.loop-preserved
 loop-preserved c =
     let inv = c.loop.invariant in
     let pair = c.read_valid_pair.result.0 in
-    rw c.in_ok-push.ensures (noted_next c.args.entries.now c.args.len _ _ c.loop.counter _ (pair.0.now, pair.1.now) c.read_valid_pair.result.1.now inv (omega arith) c.in_ok-offset_of.ensures.offset (omega arith) c.read_valid_pair.ensures)
+    rw c.in_ok-push.ensures
+    (noted_next c.args.entries.now c.args.len _ _ c.loop.counter _ (pair.0.now, pair.1.now) c.read_valid_pair.result.1.now inv
+    (omega arith) c.in_ok-offset_of.ensures.offset (omega arith) c.read_valid_pair.ensures)
 
 pub returns-clause-placed : goal.returns-clause-placed
 returns-clause-placed c = placed_end c.args.entries.now c.args.len _ _ c.loop.counter c.loop.invariant (omega arith)

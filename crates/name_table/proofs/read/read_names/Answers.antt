@@ -12,9 +12,11 @@ pub returns-in_err-map-clause-error : goal.returns-in_err-map-clause-error
 returns-in_err-map-clause-error c =
     let p = err_from_is_err_and c.from_residual-in_err-map.result c.from_residual-in_err-map.ensures.1 in
     rw (p.1, p.2)
-    (unread c.args.bytes.now c.in_ok-names.names c.in_err-map.field-0.0 c.in_ok-names.ensures.ok c.in_err-map.ensures.asked.error c.in_err-map.ensures.asked.refused_some)
+    (unread c.args.bytes.now c.in_ok-names.names c.in_err-map.field-0.0 c.in_ok-names.ensures.ok c.in_err-map.ensures.asked.error
+    c.in_err-map.ensures.asked.refused_some)
 
 pub returns-clause-read : goal.returns-clause-read
 returns-clause-read c =
     let r = c.in_ok-map.ensures in
-    rw c.place.ensures (is_read c.args.bytes.now c.in_ok-names.names c.read_pairs.new.source r.read.given c.in_ok-names.ensures.ok r.read.gives r.asked.ends r.asked.empty r.asked.leads.0 r.asked.leads.1 _ r.read.last)
+    rw c.place.ensures (is_read c.args.bytes.now c.in_ok-names.names c.read_pairs.new.source r.read.given c.in_ok-names.ensures.ok r.read.gives r.asked.ends
+    r.asked.empty r.asked.leads.0 r.asked.leads.1 _ r.read.last)

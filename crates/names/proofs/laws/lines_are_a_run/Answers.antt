@@ -9,7 +9,8 @@ use Rattle.names_core.specs.declared.line.Command.TheVariants.{Del, Find, Get, P
 use Rattle.names.specs.Laws.{LinesAreARun, call_of}
 use Rattle.names.proofs.laws.lines_are_a_run.Goals as goal
 
-step : (old next : TextMap) (text : List ℕ) (command : Command) → Answers old command text next → (answer : Answer (List ℕ) (List ℕ)) × Step by_bytes old (call_of command) answer next
+step : (old next : TextMap) (text : List ℕ) (command : Command) → Answers old command text next
+    → (answer : Answer (List ℕ) (List ℕ)) × Step by_bytes old (call_of command) answer next
 step old next text (Put k v) (told, (puts, room, kept)) = (Value (value_at by_bytes old.pairs k.now), inl (refl, (puts, room), kept))
 step old next text (Get k) (told, same) = (Value (value_at by_bytes old.pairs k.now), inl (refl, same))
 step old next text (Del k) (told, cuts, kept) = (Value (value_at by_bytes old.pairs k.now), inl (refl, cuts, kept))

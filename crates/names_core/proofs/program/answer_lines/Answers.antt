@@ -1,4 +1,5 @@
-use Rattle.std.proofs.Common.{◌==◌, ◌++◌, ◌∷◌, length, [], false, true, refl, inl, inr, sym, ◌∙◌, arith, rules, append_assoc, append-nil, length-append, ap, subst}
+use Rattle.std.proofs.Common.{◌==◌, ◌++◌, ◌∷◌, length, [], false, true, refl, inl, inr, sym, ◌∙◌, arith, rules, append_assoc, append-nil, length-append, ap}
+use Rattle.std.proofs.Common.{subst}
 use Rattle.std.proofs.lemmas.List.Splits.{length-slice_split}
 use Rattle.std.proofs.lemmas.List.Sums.{count_by-le-length}
 use Rattle.names_core.specs.Reply.{names_of}
@@ -36,8 +37,13 @@ loop-rest-preserved g c =
 
 pub returns-clause-told : goal.returns-clause-told
 returns-clause-told g c =
-    let was = c.loop-rest.invariant in
-    (_, 0, AllDone _ c.requires (subst (λ l. Leaves l was.text (names_of c.loop-rest.names)) (sym (rw (c.in_default.is, append-nil) at was.lines)) was.leaves) refl, inl (refl, was.writes))
+    let was = c.loop-rest.invariant in (
+      _,
+      0,
+      AllDone _ c.requires (subst (λ l. Leaves l was.text (names_of c.loop-rest.names)) (sym (rw (c.in_default.is, append-nil) at was.lines)) was.leaves)
+          refl,
+      inl (refl, was.writes),
+    )
 
 pub returns-in_default-write_all-clause-told : goal.returns-in_default-write_all-clause-told
 returns-in_default-write_all-clause-told g c =
@@ -49,7 +55,8 @@ returns-in_default-write_all-clause-told g c =
       _,
       3,
       NoMemory (was.before ++ (said ∷ [])) _ (was.text ++ c.as_bytes.result.now) _ c.requires (lines ∙ sym (append_assoc was.before (said ∷ []) _))
-          (was.leaves.0, was.leaves.1, DoesEach-more _ _ _ was.before said was.text _ was.leaves.2 does) (sym (append_assoc was.text c.as_bytes.result.now no_memory)) refl,
+          (was.leaves.0, was.leaves.1, DoesEach-more _ _ _ was.before said was.text _ was.leaves.2 does)
+          (sym (append_assoc was.text c.as_bytes.result.now no_memory)) refl,
       inr (refl, Writes-after _ _ _ _ was.text _ true was.writes wrote),
     )
 
@@ -57,8 +64,12 @@ pub returns-in-Ok-Bad-clause-told : goal.returns-in-Ok-Bad-clause-told
 returns-in-Ok-Bad-clause-told g c =
     let was = c.loop-rest.invariant in
     let lines = rw (c.in-Some.is, c.first_line.ensures) at was.lines in
-    let bad = rw c.in-Ok-Bad.field-0-is at c.in-Ok-Bad.ensures in
-    (_, 2, BadLine was.before _ _ was.text _ c.requires lines was.leaves bad.0 (rw (c.as_bytes-in-Ok-Bad.ensures.value, bad.1, was.counted)) refl, Ends-after _ _ _ _ was.text _ 2 _ was.writes c.finish.ensures)
+    let bad = rw c.in-Ok-Bad.field-0-is at c.in-Ok-Bad.ensures in (
+      _,
+      2,
+      BadLine was.before _ _ was.text _ c.requires lines was.leaves bad.0 (rw (c.as_bytes-in-Ok-Bad.ensures.value, bad.1, was.counted)) refl,
+      Ends-after _ _ _ _ was.text _ 2 _ was.writes c.finish.ensures,
+    )
 
 pub returns-in-Err-clause-told : goal.returns-in-Err-clause-told
 returns-in-Err-clause-told g c =

@@ -15,4 +15,5 @@ pub returns : goal.returns
 returns g c = rw (flat_map-map, ← take_all c.loop-index.index c.args.names.now.pairs (omega arith)) c.loop-index.invariant
 
 pub unwrap-requires : goal.unwrap-requires
-unwrap-requires g c = is_there _ _ c.args.names.now.pairs c.loop-index.index c.get_indexed.ensures (omega (arith, c.loop-index-test.true, c.len-index-end.ensures.len))
+unwrap-requires g c =
+    is_there _ _ c.args.names.now.pairs c.loop-index.index c.get_indexed.ensures (omega (arith, c.loop-index-test.true, c.len-index-end.ensures.len))

@@ -11,7 +11,10 @@ returns-in-Ok g c =
     let done = c.in-Ok.ensures.inserts in
     let L = c.args.names.now.pairs in
     let key = c.args.key.now in
-    IfOk-weaker _ _ (λ text. (string_bytes text ≡ old_text (value_at by_bytes (map pair_bytes L) key)) × Puts (names_of c.args.names.now) key c.args.value.now (names_of c.insert.new.self))
-    (λ text told. rw (← c.in_ok-key.ensures.ok, ← c.in_ok-value.ensures.ok)
-    (told ∙ ap old_text (ap (option_map string_bytes) done.old ∙ sym (value-bytes L _)), (ap (map pair_bytes) done.put ∙ sym (put-bytes L _ _), done.refused.room, λ h. done.room_kept (there L _ h))))
+    IfOk-weaker _ _ (λ text. (string_bytes text ≡ old_text (value_at by_bytes (map pair_bytes L) key)) × Puts (names_of c.args.names.now) key c.args.value.now
+    (names_of c.insert.new.self))
+    (λ text told. rw (← c.in_ok-key.ensures.ok, ← c.in_ok-value.ensures.ok) (
+      told ∙ ap old_text (ap (option_map string_bytes) done.old ∙ sym (value-bytes L _)),
+      (ap (map pair_bytes) done.put ∙ sym (put-bytes L _ _), done.refused.room, λ h. done.room_kept (there L _ h)),
+    ))
     c.old_text.ensures

@@ -30,7 +30,8 @@ loop-index-preserved g c =
       same_length = length-set_value pairs i w ∙ inv.same_length;
       room = g.met.S.StoreMut.keeps_room store i w ∙ inv.room;
       callable = subst (CallableOnEachOf g.F.Fn f cmp there) (sym (drop-written pairs i w)) (subst (CallableOnEachOf g.F.Fn f cmp there) here inv.callable).1;
-      so_far = written_on (Combined g.F.Fn f cmp there (g.S.Store.pairs c.args.store.now)) pairs i (Combined g.F.Fn f cmp there) (Combined g.F.Fn f cmp there) p w
+      so_far = written_on (Combined g.F.Fn f cmp there (g.S.Store.pairs c.args.store.now)) pairs i (Combined g.F.Fn f cmp there)
+          (Combined g.F.Fn f cmp there) p w
           c.lm_pair_mut-value.ensures.pair (λ M combined. (w, M, c.combine.ensures.settled, combined, refl)) inv.so_far;
       cost = in_turn (i * d) d ((i + 1) * d) more inv.cost c.combine.ensures.cost;
     })

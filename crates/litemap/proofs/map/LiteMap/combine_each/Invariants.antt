@@ -11,6 +11,7 @@ invariant-loop-index g l =
       same_length : length pairs ≡ length old;
       room : g.S.Store.room l.store ≡ g.S.Store.room l.fn.store;
       callable : CallableOnEachOf g.F.Fn l.fn.f g.K.Ord.cmp here (drop l.index pairs);
-      so_far : (M : List (g.row.K.Denot × g.row.V.Denot)) → Combined g.F.Fn l.fn.f g.K.Ord.cmp here (drop l.index pairs) M → Combined g.F.Fn l.fn.f g.K.Ord.cmp here old (take l.index pairs ++ M);
+      so_far : (M : List (g.row.K.Denot × g.row.V.Denot)) → Combined g.F.Fn l.fn.f g.K.Ord.cmp here (drop l.index pairs) M
+          → Combined g.F.Fn l.fn.f g.K.Ord.cmp here old (take l.index pairs ++ M);
       cost : RisesByAtMost (l.index * digits (length here)) l.fn.count l.count;
     }

@@ -6,6 +6,7 @@ use Rattle.litemap.proofs.map.LiteMap.extend_from_vec_counted.Goals as goal
 pub returns-clause-found : goal.returns-clause-found
 returns-clause-found g c =
     let old = c.args.self.now.pairs in
-    let all : OnOk c.match-lm_extend_from_vec.result (Last g.K.Ord.cmp (old ++ c.args.pairs.items) (g.S.Store.pairs c.lm_extend_from_vec.new.self)) = search rules in
+    let all : OnOk c.match-lm_extend_from_vec.result (Last g.K.Ord.cmp (old ++ c.args.pairs.items) (g.S.Store.pairs c.lm_extend_from_vec.new.self)) =
+    search rules in
     on_ok_weaker c.match-lm_extend_from_vec.result
     (λ last key. value_at-Last_of_more g.met.K.Ord.total old c.args.pairs.items _ (rw (ap (λ m. m.pairs) c.self.view_is) at c.self.invariant) last key) all

@@ -15,7 +15,10 @@ pub returns-clause-cost : goal.returns-clause-cost
 returns-clause-cost g c =
     let n = length c.args.self.now.pairs in
     let m = length c.args.other.pairs in
-    let same = ap length c.from_sorted_store_unchecked-combined.ensures.pairs ∙ length-combined g.F.Fn c.args.f g.K.Ord.cmp c.args.self.now.pairs _ _ c.combine_each.ensures.combined ∙ ap (λ o. length o.pairs) c.other.view_is in
-    let merge = subst (λ x. RisesByAtMost (2 + x * digits (n + x)) c.combine_each.new.count c.extend_from_litemap_counted.new.count) same c.extend_from_litemap_counted.ensures.cost in
-    let searches = subst (λ o. RisesByAtMost (length o.pairs * digits n) c.args.count.now c.combine_each.new.count) c.other.view_is c.combine_each.ensures.cost in
+    let same = ap length c.from_sorted_store_unchecked-combined.ensures.pairs
+    ∙ length-combined g.F.Fn c.args.f g.K.Ord.cmp c.args.self.now.pairs _ _ c.combine_each.ensures.combined ∙ ap (λ o. length o.pairs) c.other.view_is in
+    let merge = subst (λ x. RisesByAtMost (2 + x * digits (n + x)) c.combine_each.new.count c.extend_from_litemap_counted.new.count) same
+    c.extend_from_litemap_counted.ensures.cost in
+    let searches = subst (λ o. RisesByAtMost (length o.pairs * digits n) c.args.count.now c.combine_each.new.count) c.other.view_is c.combine_each.ensures.cost
+    in
     in_turn (m * digits n) (2 + m * digits (n + m)) _ (omega arith) searches merge

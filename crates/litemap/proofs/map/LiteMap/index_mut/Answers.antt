@@ -6,7 +6,12 @@ pub returns : goal.returns
 returns g c =
     let f = rw c.unwrap-index.ensures at c.search.ensures.splits in (
       (refl, λ w. ap (with_pairs c.args.self.now) (found_write _ _ _ _ f w)),
-      record { writes_back = tt; value = sym c.value_in_mut.ensures.value ∙ found_value _ _ _ _ f; updates = λ v. finds_write g.Q.Query.order (g.Q.Query.sought c.args.key) c.args.self.now.pairs c.unwrap-index.result f v },
+      record {
+        writes_back = tt;
+        value = sym c.value_in_mut.ensures.value ∙ found_value _ _ _ _ f;
+        updates = λ v. finds_write g.Q.Query.order
+            (g.Q.Query.sought c.args.key) c.args.self.now.pairs c.unwrap-index.result f v;
+      },
     )
 
 pub value_in_mut-requires : goal.value_in_mut-requires

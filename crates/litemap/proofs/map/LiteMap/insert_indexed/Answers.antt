@@ -10,4 +10,6 @@ insert_at-requires g c = missing-index_of g.met.K.Ord.total _ _ _ c.keys_ascend.
 pub returns-clause-updates : goal.returns-clause-updates
 returns-clause-updates g c =
     let missing = missing-index_of g.met.K.Ord.total c.args.self.now.pairs c.args.key c.args.index c.keys_ascend.ensures c.requires in
-    on_ok_weaker c.insert_at.result (λ put. subst (Updates g.K.Ord.cmp c.args.key (Some c.args.value) c.args.self.now.pairs) (sym put) (updates_put g.met.K.Ord.total c.args.self.now.pairs c.args.key c.args.value (Err c.args.index) missing)) c.insert_at.ensures.put
+    on_ok_weaker c.insert_at.result
+    (λ put. subst (Updates g.K.Ord.cmp c.args.key (Some c.args.value) c.args.self.now.pairs) (sym put)
+    (updates_put g.met.K.Ord.total c.args.self.now.pairs c.args.key c.args.value (Err c.args.index) missing)) c.insert_at.ensures.put

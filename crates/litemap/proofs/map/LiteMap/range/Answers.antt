@@ -1,5 +1,4 @@
-use Rattle.litemap.proofs.Common.{◌≡◌, rules}
-use Rattle.litemap.specs.Within.{within}
+use Rattle.litemap.proofs.Common.{rules}
 use Rattle.litemap.proofs.Queried.{keeps_part}
 use Rattle.litemap.proofs.map.LiteMap.range.Goals as goal
 

@@ -9,4 +9,5 @@ invariant_of-self g c =
 
 pub returns-clause-mapped : goal.returns-clause-mapped
 returns-clause-mapped g c = λ write test s.
-    map-kept_written g.F.FnMut write test c.args.f s _ _ c.retain_written.ensures.kept ∙ ap (λ m. map (λ p. (p.0, write p.0 p.1)) (filter (λ p. test p.0 p.1) m.pairs)) c.self.view_is
+    map-kept_written g.F.FnMut write test c.args.f s _ _ c.retain_written.ensures.kept
+    ∙ ap (λ m. map (λ p. (p.0, write p.0 p.1)) (filter (λ p. test p.0 p.1) m.pairs)) c.self.view_is

@@ -29,11 +29,13 @@ returns-clause-below g c =
 
 pub returns-clause-from : goal.returns-clause-from
 returns-clause-from g c =
-    c.from_sorted_store_unchecked.ensures.pairs ∙ rw (c.in_ok-later.ensures.later, ap (λ m. m.pairs) c.self.view_is) (drop-cut _ _ _ c.start_of-index.ensures.cut)
+    c.from_sorted_store_unchecked.ensures.pairs ∙ rw (c.in_ok-later.ensures.later, ap (λ m. m.pairs) c.self.view_is)
+    (drop-cut _ _ _ c.start_of-index.ensures.cut)
 
 pub returns-clause-all : goal.returns-clause-all
 returns-clause-all g c =
-    rw (c.from_sorted_store_unchecked.ensures.pairs, c.in_ok-later.ensures.stays, c.in_ok-later.ensures.later, ← c.self.view_is) (take-append-drop c.start_of-index.result _)
+    rw (c.from_sorted_store_unchecked.ensures.pairs, c.in_ok-later.ensures.stays, c.in_ok-later.ensures.later, ← c.self.view_is)
+    (take-append-drop c.start_of-index.result _)
 
 pub returns-clause-unchanged : goal.returns-clause-unchanged
 returns-clause-unchanged g c = λ none.

@@ -1,5 +1,4 @@
-use Rattle.litemap.proofs.Common.{Rising-remove, subst, sym}
-use Rattle.litemap.specs.Updates.{TakesPair}
+use Rattle.litemap.proofs.Common.{Rising-remove}
 use Rattle.litemap.proofs.Queried.{takes_at}
 use Rattle.litemap.proofs.map.LiteMap.take_at.Goals as goal
 

@@ -4,4 +4,5 @@ use Rattle.litemap.proofs.map.LiteMap.try_append.Goals as goal
 pub invariant_of-self-2 : goal.invariant_of-self-2
 invariant_of-self-2 g c =
     let above = c.is_above_all.ensures.0 c.if-not-is_above_all.false in
-    rw c.in_ok-lm_push.ensures.ok (Rising-push g.K.Ord.cmp (g.S.Store.pairs c.self.inside.store) c.args.key c.args.value c.self.invariant (rw (← c.self.view_is) at above))
+    rw c.in_ok-lm_push.ensures.ok
+    (Rising-push g.K.Ord.cmp (g.S.Store.pairs c.self.inside.store) c.args.key c.args.value c.self.invariant (rw (← c.self.view_is) at above))

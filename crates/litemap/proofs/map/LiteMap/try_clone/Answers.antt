@@ -5,7 +5,8 @@ use Rattle.litemap.proofs.map.LiteMap.try_clone.Goals as goal
 
 pub from_sorted_store_unchecked-requires : goal.from_sorted_store_unchecked-requires
 from_sorted_store_unchecked-requires g c =
-    Rising-clones g.met.K.Ord.total g.K.Clone.is_clone g.V.Clone.is_clone _ _ _ (ap (λ m. m.pairs) c.self.view_is) c.requires c.in_ok-store.ensures.clones c.self.invariant
+    Rising-clones g.met.K.Ord.total g.K.Clone.is_clone g.V.Clone.is_clone _ _ _
+    (ap (λ m. m.pairs) c.self.view_is) c.requires c.in_ok-store.ensures.clones c.self.invariant
 
 pub returns-clause-same : goal.returns-clause-same
 returns-clause-same g c = λ keys values.

@@ -7,7 +7,8 @@ use Rattle.litemap.proofs.map.LiteMap.try_update.Goals as goal
 
 pub invariant_of-self : goal.invariant_of-self
 invariant_of-self g c =
-    Rising-keys g.K.Ord.cmp (g.S.Store.pairs c.self.inside.store) _ (keys-written_until g.F.FnMut c.args.f _ _ _ c.try_write_each.ensures.written) c.self.invariant
+    Rising-keys g.K.Ord.cmp (g.S.Store.pairs c.self.inside.store) _
+    (keys-written_until g.F.FnMut c.args.f _ _ _ c.try_write_each.ensures.written) c.self.invariant
 
 pub returns-clause-keys : goal.returns-clause-keys
 returns-clause-keys g c =
@@ -15,4 +16,5 @@ returns-clause-keys g c =
 
 pub returns-clause-mapped : goal.returns-clause-mapped
 returns-clause-mapped g c = λ write s.
-    on_ok_weaker c.try_write_each.result (λ e. e ∙ ap (λ m. map (λ p. (p.0, write p.0 p.1)) m.pairs) c.self.view_is) (map-written_until g.F.FnMut c.args.f write s _ _ _ c.try_write_each.ensures.written)
+    on_ok_weaker c.try_write_each.result (λ e. e ∙ ap (λ m. map (λ p. (p.0, write p.0 p.1)) m.pairs) c.self.view_is)
+    (map-written_until g.F.FnMut c.args.f write s _ _ _ c.try_write_each.ensures.written)

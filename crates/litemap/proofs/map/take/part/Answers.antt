@@ -11,7 +11,8 @@ loop-key-preserved g c =
     let first : owned c.loop-key.key-iterator ≡ p ∷ owned c.next.new.self = g.met.S.KeyValueIntoIter.PairIntoIter.first _ _ _ c.in-Some.ensures.steps in
     let shorter : length (owned c.loop-key.key-iterator) ≡ suc (length (owned c.next.new.self)) = ap length first in
     let called : CalledOnPair g.F.FnMut c.loop-key.f p false c.f.new.self = record { key = _; value = _; shows = (refl, refl); called = c.if-f.ensures } in
-    let pushed : g.S.Store.pairs c.lm_push-else-f.new.self ≡ g.S.Store.pairs c.loop-key.stays ++ p ∷ [] = rw c.unwrap-else-f.ensures at c.lm_push-else-f.ensures.ok in
+    let pushed : g.S.Store.pairs c.lm_push-else-f.new.self ≡ g.S.Store.pairs c.loop-key.stays ++ p ∷ [] =
+    rw c.unwrap-else-f.ensures at c.lm_push-else-f.ensures.ok in
     let inv = c.loop-key.invariant in let stays = inv.stays in let goes = inv.goes in let after = c.lm_push-else-f.ensures.room in
     record {
       can = g.met.S.KeyValueIntoIter.PairIntoIter.can _;
@@ -19,7 +20,9 @@ loop-key-preserved g c =
       callable = mut_next g.F.FnMut c.loop-key.f _ _ c.f.new.self c.f.new.self called.called refl inv.callable;
       stays = omega arith;
       goes = omega arith;
-      so_far = rw pushed (Parted-stays g.F.FnMut _ _ c.loop-key.f p _ _ _ c.f.new.self (subst (λ L. SoFar g.F.FnMut c.args.f (g.S.Store.pairs c.args.all) c.loop-key.f L (g.S.Store.pairs c.loop-key.stays) (g.S.Store.pairs c.loop-key.goes)) first inv.so_far) called);
+      so_far = rw pushed (Parted-stays g.F.FnMut _ _ c.loop-key.f p _ _ _ c.f.new.self
+          (subst (λ L. SoFar g.F.FnMut c.args.f (g.S.Store.pairs c.args.all) c.loop-key.f L (g.S.Store.pairs c.loop-key.stays)
+          (g.S.Store.pairs c.loop-key.goes)) first inv.so_far) called);
     }
 
 pub loop-key-preserved-then-f : goal.loop-key-preserved-then-f
@@ -37,10 +40,13 @@ loop-key-preserved-then-f g c =
       callable = mut_next g.F.FnMut c.loop-key.f _ _ c.f.new.self c.f.new.self called.called refl inv.callable;
       stays = omega arith;
       goes = omega arith;
-      so_far = rw pushed (Parted-goes g.F.FnMut _ _ c.loop-key.f p _ _ _ c.f.new.self (subst (λ L. SoFar g.F.FnMut c.args.f (g.S.Store.pairs c.args.all) c.loop-key.f L (g.S.Store.pairs c.loop-key.stays) (g.S.Store.pairs c.loop-key.goes)) first inv.so_far) called);
+      so_far = rw pushed (Parted-goes g.F.FnMut _ _ c.loop-key.f p _ _ _ c.f.new.self
+          (subst (λ L. SoFar g.F.FnMut c.args.f (g.S.Store.pairs c.args.all) c.loop-key.f L (g.S.Store.pairs c.loop-key.stays)
+          (g.S.Store.pairs c.loop-key.goes)) first inv.so_far) called);
     }
 
 pub returns : goal.returns
 returns g c =
     Parted-all g.F.FnMut _ _ c.loop-key.f _ _
-    (subst (λ L. SoFar g.F.FnMut c.args.f (g.S.Store.pairs c.args.all) c.loop-key.f L (g.S.Store.pairs c.loop-key.stays) (g.S.Store.pairs c.loop-key.goes)) (g.met.S.KeyValueIntoIter.PairIntoIter.first _ _ _ c.in-None.ensures.steps).0 c.loop-key.invariant.so_far)
+    (subst (λ L. SoFar g.F.FnMut c.args.f (g.S.Store.pairs c.args.all) c.loop-key.f L (g.S.Store.pairs c.loop-key.stays) (g.S.Store.pairs c.loop-key.goes))
+    (g.met.S.KeyValueIntoIter.PairIntoIter.first _ _ _ c.in-None.ensures.steps).0 c.loop-key.invariant.so_far)

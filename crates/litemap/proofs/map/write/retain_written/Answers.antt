@@ -31,10 +31,27 @@ loop-index-preserved g c =
     let len = ap length swapped ∙ length-swap (set_value pairs i w) k i ∙ length-set_value pairs i w ∙ inv.same_length in
     let room = c.lm_swap.ensures.room ∙ g.met.S.StoreMut.keeps_room store i w ∙ inv.room in
     elim c.if-stays.branch [
-      | then-stays w' ↦ rw w'.kept-is (record { callable = callable; within = (let u = inv.within in omega arith); same_length = len; room = room; so_far = KeptWritten-yes g.F.FnMut _ _ f pairs k i p w b f' called _ swapped inv.within c.lm_pair_mut-value.ensures.pair inv.so_far w'.if-stays.true })
-      | else-stays w' ↦ rw w'.kept-is (record { callable = callable; within = (let u = inv.within in omega arith); same_length = len; room = room; so_far = KeptWritten-no g.F.FnMut _ _ f pairs k i p w b f' called _ swapped inv.within c.lm_pair_mut-value.ensures.pair inv.so_far w'.if-stays.false })
+      | then-stays w' ↦ rw w'.kept-is
+          (record {
+            callable = callable;
+            within = (let u = inv.within in omega arith);
+            same_length = len;
+            room = room;
+            so_far = KeptWritten-yes g.F.FnMut _ _ f
+                pairs k i p w b f' called _ swapped inv.within c.lm_pair_mut-value.ensures.pair inv.so_far w'.if-stays.true;
+          })
+      | else-stays w' ↦ rw w'.kept-is
+          (record {
+            callable = callable;
+            within = (let u = inv.within in omega arith);
+            same_length = len;
+            room = room;
+            so_far = KeptWritten-no g.F.FnMut _ _ f
+                pairs k i p w b f' called _ swapped inv.within c.lm_pair_mut-value.ensures.pair inv.so_far w'.if-stays.false;
+          })
     ]
 
 pub returns-clause-kept : goal.returns-clause-kept
 returns-clause-kept g c =
-    rw c.lm_truncate.ensures.pairs (KeptWritten-all g.F.FnMut _ _ c.loop-index.f (g.S.Store.pairs c.loop-index.store) _ c.loop-index.index (omega arith) c.loop-index.invariant.so_far)
+    rw c.lm_truncate.ensures.pairs
+    (KeptWritten-all g.F.FnMut _ _ c.loop-index.f (g.S.Store.pairs c.loop-index.store) _ c.loop-index.index (omega arith) c.loop-index.invariant.so_far)

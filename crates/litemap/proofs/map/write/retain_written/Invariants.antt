@@ -11,5 +11,6 @@ invariant-loop-index g l =
       within : l.kept ≤ l.index;
       same_length : length pairs ≡ length old;
       room : g.S.Store.room l.store ≡ g.S.Store.room l.fn.store;
-      so_far : (M : List (g.row.K.Denot × g.row.V.Denot)) → KeptWritten g.F.FnMut l.f (drop l.index pairs) M → KeptWritten g.F.FnMut l.fn.f old (take l.kept pairs ++ M);
+      so_far : (M : List (g.row.K.Denot × g.row.V.Denot)) → KeptWritten g.F.FnMut l.f (drop l.index pairs) M
+          → KeptWritten g.F.FnMut l.fn.f old (take l.kept pairs ++ M);
     }

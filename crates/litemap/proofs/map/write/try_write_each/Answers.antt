@@ -28,9 +28,12 @@ returns-in-Err-clause-written g c =
       leaves = refl;
     } in
     let r : Result (Unit {0}) g.row.E.Denot = Err c.in-Err.error in
-    let answered : MatchResult c.f.result (λ _. (N : List (g.row.K.Denot × g.row.V.Denot)) × WrittenUntil g.F.FnMut f' rest N r × (q ∷ rest ≡ q ∷ N)) (λ e. (r ≡ Err e) × (q ∷ rest ≡ q ∷ rest)) = rw c.in-Err.is (refl, refl) in
-    let done = c.loop-index.invariant.so_far r (q ∷ rest) (subst (λ N. WrittenUntil g.F.FnMut f N (q ∷ rest) r) (sym here) (q, f', c.f.result, called, answered)) in
-    subst (λ N. WrittenUntil g.F.FnMut c.args.f (g.S.Store.pairs c.args.store.now) N r) (sym (g.met.S.StoreMut.writes store i w ∙ with_written pairs i p w c.lm_pair_mut-value.ensures.pair)) done
+    let answered : MatchResult c.f.result (λ _. (N : List (g.row.K.Denot × g.row.V.Denot)) × WrittenUntil g.F.FnMut f' rest N r × (q ∷ rest ≡ q ∷ N))
+    (λ e. (r ≡ Err e) × (q ∷ rest ≡ q ∷ rest)) = rw c.in-Err.is (refl, refl) in
+    let done = c.loop-index.invariant.so_far r (q ∷ rest)
+    (subst (λ N. WrittenUntil g.F.FnMut f N (q ∷ rest) r) (sym here) (q, f', c.f.result, called, answered)) in
+    subst (λ N. WrittenUntil g.F.FnMut c.args.f (g.S.Store.pairs c.args.store.now) N r)
+    (sym (g.met.S.StoreMut.writes store i w ∙ with_written pairs i p w c.lm_pair_mut-value.ensures.pair)) done
 
 pub loop-index-preserved : goal.loop-index-preserved
 loop-index-preserved g c =
@@ -55,8 +58,17 @@ loop-index-preserved g c =
       callable = mut_next g.F.FnMut f _ _ f' f' called.called refl inv.callable;
       same_length = length-set_value pairs i w ∙ inv.same_length;
       room = g.met.S.StoreMut.keeps_room store i w ∙ inv.room;
-      so_far = λ r. written_on (λ M. WrittenUntil g.F.FnMut c.args.f (g.S.Store.pairs c.args.store.now) M r) pairs i (λ L M. WrittenUntil g.F.FnMut f L M r) (λ L M. WrittenUntil g.F.FnMut f' L M r) p w c.lm_pair_mut-value.ensures.pair
-          (λ M written. (q, f', c.f.result, called, (let a : MatchResult c.f.result (λ _. (N : List (g.row.K.Denot × g.row.V.Denot)) × WrittenUntil g.F.FnMut f' (drop (i + 1) pairs) N r × (q ∷ M ≡ q ∷ N)) (λ e. (r ≡ Err e) × (q ∷ M ≡ q ∷ drop (i + 1) pairs)) = rw c.in-Ok.is (M, written, refl) in a))) (inv.so_far r);
+      so_far = λ r. written_on (λ M. WrittenUntil g.F.FnMut c.args.f (g.S.Store.pairs c.args.store.now) M r) pairs i (λ L M. WrittenUntil g.F.FnMut f L M r)
+          (λ L M. WrittenUntil g.F.FnMut f' L M r) p w c.lm_pair_mut-value.ensures.pair
+          (λ M written. (
+            q,
+            f',
+            c.f.result,
+            called,
+            (let a : MatchResult c.f.result
+                (λ _. (N : List (g.row.K.Denot × g.row.V.Denot)) × WrittenUntil g.F.FnMut f' (drop (i + 1) pairs) N r × (q ∷ M ≡ q ∷ N))
+                (λ e. (r ≡ Err e) × (q ∷ M ≡ q ∷ drop (i + 1) pairs)) = rw c.in-Ok.is (M, written, refl) in a),
+          )) (inv.so_far r);
     })
 
 pub returns-clause-written : goal.returns-clause-written

@@ -10,5 +10,6 @@ invariant-loop-index g l =
       callable : goal.F-IsAlwaysCallable g l.f;
       same_length : length pairs ≡ length old;
       room : g.S.Store.room l.store ≡ g.S.Store.room l.fn.store;
-      so_far : (r : Result (Unit {0}) g.row.E.Denot) (M : List (g.row.K.Denot × g.row.V.Denot)) → WrittenUntil g.F.FnMut l.f (drop l.index pairs) M r → WrittenUntil g.F.FnMut l.fn.f old (take l.index pairs ++ M) r;
+      so_far : (r : Result (Unit {0}) g.row.E.Denot) (M : List (g.row.K.Denot × g.row.V.Denot)) → WrittenUntil g.F.FnMut l.f (drop l.index pairs) M r
+          → WrittenUntil g.F.FnMut l.fn.f old (take l.index pairs ++ M) r;
     }

@@ -34,8 +34,10 @@ loop-index-preserved g c =
     rw (g.met.S.StoreMut.writes store i w) (record {
       same_length = length-set_value pairs i w ∙ inv.same_length;
       room = g.met.S.StoreMut.keeps_room store i w ∙ inv.room;
-      callable = subst (CallableOnValues g.F.FnMut f') (sym (drop-written pairs i w)) (CallableOnValues-rest g.F.FnMut f p (p.0, w) f' rest called (subst (CallableOnValues g.F.FnMut f) here inv.callable));
-      so_far = written_on (Written g.F.FnMut c.args.f (g.S.Store.pairs c.args.store.now)) pairs i (Written g.F.FnMut f) (Written g.F.FnMut f') p w c.lm_pair_mut-value.ensures.pair
+      callable = subst (CallableOnValues g.F.FnMut f') (sym (drop-written pairs i w))
+          (CallableOnValues-rest g.F.FnMut f p (p.0, w) f' rest called (subst (CallableOnValues g.F.FnMut f) here inv.callable));
+      so_far = written_on (Written g.F.FnMut c.args.f (g.S.Store.pairs c.args.store.now)) pairs i (Written g.F.FnMut f)
+          (Written g.F.FnMut f') p w c.lm_pair_mut-value.ensures.pair
           (λ M written. ((p.0, w), f', M, called, written, refl)) inv.so_far;
     })
 

@@ -10,5 +10,6 @@ invariant-loop-index g l =
       same_length : length pairs ≡ length old;
       room : g.S.Store.room l.store ≡ g.S.Store.room l.fn.store;
       callable : CallableOnValues g.F.FnMut l.f (drop l.index pairs);
-      so_far : (M : List (g.row.K.Denot × g.row.V.Denot)) → Written g.F.FnMut l.f (drop l.index pairs) M → Written g.F.FnMut l.fn.f old (take l.index pairs ++ M);
+      so_far : (M : List (g.row.K.Denot × g.row.V.Denot)) → Written g.F.FnMut l.f (drop l.index pairs) M
+          → Written g.F.FnMut l.fn.f old (take l.index pairs ++ M);
     }

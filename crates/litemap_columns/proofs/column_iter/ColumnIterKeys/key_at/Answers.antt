@@ -7,7 +7,8 @@ bounds-keys-index g c = within-zip c.self.inside.keys.now c.self.inside.values.n
 
 pub offset_bounds-keys-index : goal.offset_bounds-keys-index
 offset_bounds-keys-index g c =
-    let within : c.args.index < length c.self.inside.keys.now = within-zip c.self.inside.keys.now c.self.inside.values.now c.args.index c.self.invariant (rw (← c.self.view_is) at c.requires) in
+    let within : c.args.index < length c.self.inside.keys.now =
+    within-zip c.self.inside.keys.now c.self.inside.values.now c.args.index c.self.invariant (rw (← c.self.view_is) at c.requires) in
     omega arith
 
 pub returns : goal.returns

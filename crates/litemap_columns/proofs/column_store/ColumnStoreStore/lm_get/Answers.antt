@@ -7,7 +7,9 @@ returns-then-index-len g c =
     let keys = c.self.inside.keys in
     let values = c.self.inside.values in
     let within : c.args.index < length keys.items = omega (arith, keys.ok.0, c.if-index-len.true, c.len.ensures) in
-    rw (← c.self.view_is) (sym (zip-read keys.items values.items c.args.index _ _ (same_length keys values c.self.invariant) within c.index.ensures c.index-then-index-len.ensures))
+    rw (← c.self.view_is)
+    (sym (zip-read keys.items values.items c.args.index _ _
+    (same_length keys values c.self.invariant) within c.index.ensures c.index-then-index-len.ensures))
 
 pub returns-else-index-len : goal.returns-else-index-len
 returns-else-index-len g c =

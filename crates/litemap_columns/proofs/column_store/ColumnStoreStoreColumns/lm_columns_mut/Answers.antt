@@ -16,7 +16,11 @@ returns g c =
     let ks : keys.items ≡ keys_of (zip keys.items values.items) = sym (firsts-zip keys.items values.items (sym even)) in
     let vs : values.items ≡ values_of (zip keys.items values.items) = sym (seconds-zip keys.items values.items (sym even)) in
     let n : vec_len values ≡ length (zip keys.items values.items) = values.ok.0 ∙ sym even ∙ sym (length-zip_same keys.items values.items even) in (
-      (refl, λ w. (λ j. record { pairs = zip (ks j) (refill (n j) (vs j) w); room = min (vec_room keys) (vec_room values) }) ∙ ap (λ m. with_pairs m (set_values m.pairs w)) c.self.view_is),
+      (
+        refl,
+        λ w. (λ j. record { pairs = zip (ks j) (refill (n j) (vs j) w); room = min (vec_room keys) (vec_room values) })
+            ∙ ap (λ m. with_pairs m (set_values m.pairs w)) c.self.view_is,
+      ),
       record {
         writes_back = tt;
         keys = c.as_slice.ensures.value ∙ ks ∙ ap (λ m. keys_of m.pairs) c.self.view_is;

@@ -12,7 +12,8 @@ loop-key-preserved g c =
     let value = c.in-Some.value in
     let inv = c.loop-key.invariant in
     record {
-      list = rw (c.in_ok-push.ensures.items, c.in_ok-push-2.ensures.items) (zip-append keys.items values.items key value (same_length keys values inv.same_length) ∙ ap (λ L. L ++ (key, value) ∷ []) inv.list);
+      list = rw (c.in_ok-push.ensures.items, c.in_ok-push-2.ensures.items)
+          (zip-append keys.items values.items key value (same_length keys values inv.same_length) ∙ ap (λ L. L ++ (key, value) ∷ []) inv.list);
       same_length = omega (arith, inv.same_length, c.in_ok-push.ensures.len, c.in_ok-push-2.ensures.len);
     }
 

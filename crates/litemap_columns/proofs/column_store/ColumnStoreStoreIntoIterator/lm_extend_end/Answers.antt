@@ -8,7 +8,8 @@ returns-in_default-clause-full g c =
     let keys = c.other.inside.keys in
     let values = c.other.inside.values in
     let list : zip keys.items values.items ≡ c.args.other.pairs = ap (λ s. s.pairs) c.other.view_is in
-    let long : length c.args.other.pairs ≡ length keys.items = sym (ap length list) ∙ length-zip_same keys.items values.items (same_length keys values c.other.invariant) in
+    let long : length c.args.other.pairs ≡ length keys.items =
+    sym (ap length list) ∙ length-zip_same keys.items values.items (same_length keys values c.other.invariant) in
     omega (arith, long, c.in_default.ensures.full, c.len.ensures, keys.ok.0)
 
 pub returns-clause-ok : goal.returns-clause-ok

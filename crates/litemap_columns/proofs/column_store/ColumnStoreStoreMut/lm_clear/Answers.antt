@@ -8,4 +8,17 @@ returns-clause-room g c =
     let keys = c.self.inside.keys in
     let values = c.self.inside.values in
     let all : length (zip keys.items values.items) ≡ length keys.items = length-zip_same keys.items values.items (same_length keys values c.self.invariant) in
-    rw (← c.self.view_is) (omega (arith, all, keys.ok.0, keys.ok.1, values.ok.0, values.ok.1, c.self.invariant, c.clear.ensures.len, c.clear-2.ensures.len, c.clear.ensures.capacity, c.clear-2.ensures.capacity))
+    rw (← c.self.view_is)
+    (omega (
+      arith,
+      all,
+      keys.ok.0,
+      keys.ok.1,
+      values.ok.0,
+      values.ok.1,
+      c.self.invariant,
+      c.clear.ensures.len,
+      c.clear-2.ensures.len,
+      c.clear.ensures.capacity,
+      c.clear-2.ensures.capacity,
+    ))

@@ -13,7 +13,12 @@ pub returns : goal.returns
 returns g c =
     let keys = c.self.inside.keys in
     let values = c.self.inside.values in
-    let at = columns-read c.self.inside.keys c.self.inside.values c.args.index c.self.invariant (rw (← c.self.view_is) at c.requires) _ _ c.index.ensures c.index_mut.ensures.value in (
-      (refl, λ w. rw (← c.self.view_is) (ap (λ L. record { pairs = L; room = min (vec_room keys) (vec_room values) }) (zip-set_value keys.items values.items c.args.index w))),
+    let at = columns-read c.self.inside.keys c.self.inside.values c.args.index c.self.invariant
+    (rw (← c.self.view_is) at c.requires) _ _ c.index.ensures c.index_mut.ensures.value in (
+      (
+        refl,
+        λ w. rw (← c.self.view_is)
+            (ap (λ L. record { pairs = L; room = min (vec_room keys) (vec_room values) }) (zip-set_value keys.items values.items c.args.index w)),
+      ),
       record { writes_back = tt; pair = rw (← c.self.view_is) at },
     )

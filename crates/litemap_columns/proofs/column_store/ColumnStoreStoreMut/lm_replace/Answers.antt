@@ -10,7 +10,8 @@ index_mut-requires-2 g c = within-values c.self.inside.keys c.self.inside.values
 pub returns-clause-old : goal.returns-clause-old
 returns-clause-old g c =
     rw (← c.self.view_is, c.replace-old_key.ensures.value, c.replace-old_value.ensures.value)
-    (columns-read c.self.inside.keys c.self.inside.values c.args.index c.self.invariant (rw (← c.self.view_is) at c.requires) _ _ c.index_mut.ensures.value c.index_mut-2.ensures.value)
+    (columns-read c.self.inside.keys c.self.inside.values c.args.index c.self.invariant
+    (rw (← c.self.view_is) at c.requires) _ _ c.index_mut.ensures.value c.index_mut-2.ensures.value)
 
 pub returns-clause-pairs : goal.returns-clause-pairs
 returns-clause-pairs g c =

@@ -18,4 +18,5 @@ returns-clause-pairs g c =
     let same = same_length c.self.inside.keys c.self.inside.values c.self.invariant in
     let a = within-columns c.self.inside.keys c.self.inside.values c.args.a c.self.invariant (rw (← c.self.view_is) at c.requires.a) in
     let b = within-columns c.self.inside.keys c.self.inside.values c.args.b c.self.invariant (rw (← c.self.view_is) at c.requires.b) in
-    rw (← c.self.view_is, c.swap.ensures.items, c.swap-2.ensures.items) (zip-swap c.self.inside.keys.items c.self.inside.values.items c.args.a c.args.b same a b)
+    rw (← c.self.view_is, c.swap.ensures.items, c.swap-2.ensures.items)
+    (zip-swap c.self.inside.keys.items c.self.inside.values.items c.args.a c.args.b same a b)

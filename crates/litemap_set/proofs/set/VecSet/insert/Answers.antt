@@ -19,7 +19,8 @@ returns-in-Err-clause-absent g c =
 
 pub returns-clause-added : goal.returns-clause-added
 returns-clause-added g c =
-    rw (← c.self.view_is) (new_if_absent g.K.Ord.cmp c.args.key c.self.inside.map.pairs c.in-Ok.old c.is_none.result c.is_none.ensures c.in-Ok.ensures.inserts.old)
+    rw (← c.self.view_is)
+    (new_if_absent g.K.Ord.cmp c.args.key c.self.inside.map.pairs c.in-Ok.old c.is_none.result c.is_none.ensures c.in-Ok.ensures.inserts.old)
 
 pub returns-clause-updates : goal.returns-clause-updates
 returns-clause-updates g c = λ q.
@@ -29,11 +30,13 @@ pub returns-clause-len : goal.returns-clause-len
 returns-clause-len g c =
     let L = c.self.inside.map.pairs in
     rw (returns-clause-added g c) (rw c.in-Ok.ensures.inserts.put (rw (← c.self.view_is) (
-    length-put g.met.K.Ord.total L c.args.key tt c.keys_ascend.ensures ∙ ap (λ b. length (keys_of L) + cond (not b) 1 0) (contains-keys g.K.Ord.cmp c.args.key L)
+    length-put g.met.K.Ord.total L c.args.key tt c.keys_ascend.ensures ∙ ap (λ b. length (keys_of L) + cond (not b) 1 0)
+    (contains-keys g.K.Ord.cmp c.args.key L)
     )))
 
 pub returns-clause-unchanged : goal.returns-clause-unchanged
 returns-clause-unchanged g c =
     let L = c.self.inside.map.pairs in
     on_false c.is_none.result (λ h. rw c.in-Ok.ensures.inserts.put (rw (← c.self.view_is) (keys-put g.met.K.Ord.total L c.args.key tt c.keys_ascend.ensures
-    (contains-keys g.K.Ord.cmp c.args.key L ∙ not-not c.is_none.result _ (new_if_absent g.K.Ord.cmp c.args.key L c.in-Ok.old c.is_none.result c.is_none.ensures c.in-Ok.ensures.inserts.old) h))))
+    (contains-keys g.K.Ord.cmp c.args.key L
+    ∙ not-not c.is_none.result _ (new_if_absent g.K.Ord.cmp c.args.key L c.in-Ok.old c.is_none.result c.is_none.ensures c.in-Ok.ensures.inserts.old) h))))

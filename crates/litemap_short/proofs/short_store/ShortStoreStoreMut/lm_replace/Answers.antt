@@ -16,7 +16,8 @@ returns-clause-old g c =
 
 pub returns-clause-pairs : goal.returns-clause-pairs
 returns-clause-pairs g c =
-    rw (← c.self.view_is, c.replace.ensures.after) (items-with_item c.self.inside.storage c.args.index (c.args.key, c.args.value) (rw (← c.self.view_is) at c.requires))
+    rw (← c.self.view_is, c.replace.ensures.after)
+    (items-with_item c.self.inside.storage c.args.index (c.args.key, c.args.value) (rw (← c.self.view_is) at c.requires))
 
 pub returns-clause-room : goal.returns-clause-room
 returns-clause-room g c =

@@ -7,13 +7,15 @@ use Rattle.litemap_store.proofs.Last.OneByOne.{kept_put}
 use Rattle.litemap_store.proofs.bulk.few.settle_few.Goals as goal
 
 pub returns-then-is_rising_from-clause-last : goal.returns-then-is_rising_from-clause-last
-returns-then-is_rising_from-clause-last g c = Last-rising g.K.Ord.cmp _ (rw c.deref.ensures.value at (c.is_rising_from.ensures.rising.0 c.if-is_rising_from.true))
+returns-then-is_rising_from-clause-last g c =
+    Last-rising g.K.Ord.cmp _ (rw c.deref.ensures.value at (c.is_rising_from.ensures.rising.0 c.if-is_rising_from.true))
 
 pub returns-clause-all_above : goal.returns-clause-all_above
 returns-clause-all_above g c = λ h.
     let L = c.args.store.now.items in
     absurd (not_above g.K.Ord.cmp (take c.args.from L) (drop c.args.from L) c.is_rising_from.result c.requires.rising
-    (λ up. c.is_rising_from.ensures.rising.1 (rw c.deref.ensures.value (subst (Rising g.K.Ord.cmp) (take-append-drop c.args.from L) up))) c.if-is_rising_from.false h)
+    (λ up. c.is_rising_from.ensures.rising.1 (rw c.deref.ensures.value (subst (Rising g.K.Ord.cmp) (take-append-drop c.args.from L) up)))
+    c.if-is_rising_from.false h)
 
 pub put_next-kept-requires-clause-rising : goal.put_next-kept-requires-clause-rising
 put_next-kept-requires-clause-rising g c = rw c.deref_mut.ensures.value c.loop-at.invariant.kept.last.rising
@@ -21,7 +23,9 @@ put_next-kept-requires-clause-rising g c = rw c.deref_mut.ensures.value c.loop-a
 pub returns-clause-cost : goal.returns-clause-cost
 returns-clause-cost g c =
     let L = c.args.store.now in let end : c.loop-at.at ≡ vec_len L = omega arith in
-    in_turn (length (drop c.args.from L.items)) ((vec_len L - c.args.from) * digits (vec_len L)) _ (omega (arith, c.requires.few, length-drop c.args.from L.items, L.ok.0)) (rw c.deref.ensures.value at c.is_rising_from.ensures.cost) (rw end at c.loop-at.invariant.cost)
+    in_turn (length (drop c.args.from L.items)) ((vec_len L - c.args.from) * digits (vec_len L)) _
+    (omega (arith, c.requires.few, length-drop c.args.from L.items, L.ok.0)) (rw c.deref.ensures.value at c.is_rising_from.ensures.cost)
+    (rw end at c.loop-at.invariant.cost)
 
 pub loop-at-init : goal.loop-at-init
 loop-at-init g c = record {
@@ -45,7 +49,8 @@ loop-at-preserved g c =
     let before = inv.before in let start = inv.start in
     let low : digits c.loop-at.kept ≤ digits all = digits-mono c.loop-at.kept all (omega arith) in
     let more : c.loop-at.at + 1 - c.args.from ≡ suc (c.loop-at.at - c.args.from) = omega arith in
-    let sum : (c.loop-at.at + 1 - c.args.from) * digits all ≡ (c.loop-at.at - c.args.from) * digits all + digits all = ap (λ n. n * digits all) more ∙ suc-mul (c.loop-at.at - c.args.from) (digits all) in
+    let sum : (c.loop-at.at + 1 - c.args.from) * digits all ≡ (c.loop-at.at - c.args.from) * digits all + digits all =
+    ap (λ n. n * digits all) more ∙ suc-mul (c.loop-at.at - c.args.from) (digits all) in
     record {
       start = omega arith;
       before = omega arith;

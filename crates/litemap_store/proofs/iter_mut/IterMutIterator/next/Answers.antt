@@ -5,4 +5,5 @@ use Rattle.litemap_store.proofs.iter_mut.IterMutIterator.next.Goals as goal
 
 pub returns-then-len-eq0-clause-steps : goal.returns-then-len-eq0-clause-steps
 returns-then-len-eq0-clause-steps g c =
-    let e = zip_with_none (iter_rest c.args.self.now.keys) (iter_mut_rest c.args.self.now.values) (omega (arith, c.len.ensures.value, c.if-len-eq0.true)) in (e, e)
+    let e = zip_with_none (iter_rest c.args.self.now.keys) (iter_mut_rest c.args.self.now.values) (omega (arith, c.len.ensures.value, c.if-len-eq0.true)) in
+    (e, e)

@@ -13,7 +13,8 @@ loop-order-preserved g c =
     record {
       old_rises = taken.old_rises;
       new_rise = taken.new_rise;
-      merged = λ M m. subst (λ L. Merge g.K.Ord.cmp c.new-olds.result c.new-news.result (L ++ M)) (sym pushed) (rw (append_assoc done (pair ∷ []) M) (was.merged (pair ∷ M) (taken.goes_before M m)));
+      merged = λ M m. subst (λ L. Merge g.K.Ord.cmp c.new-olds.result c.new-news.result (L ++ M)) (sym pushed)
+          (rw (append_assoc done (pair ∷ []) M) (was.merged (pair ∷ M) (taken.goes_before M m)));
       left_over = taken.left_over ∙ was.left_over;
       room = let k = was.room in let r = c.push_reserved.ensures.room in omega arith;
       rest_room = c.take_lower-key.ensures.room;
@@ -25,7 +26,8 @@ loop-order-preserved g c =
 pub returns-clause-merges : goal.returns-clause-merges
 returns-clause-merges g c =
     let end = c.in_default.ensures.lower in
-    let olds : c.new-olds.result ≡ g.S.Store.pairs c.args.store.now = c.new-olds.ensures ∙ c.lm_into_iter.ensures ∙ ap g.S.Store.pairs c.replace.ensures.value in
+    let olds : c.new-olds.result ≡ g.S.Store.pairs c.args.store.now =
+    c.new-olds.ensures ∙ c.lm_into_iter.ensures ∙ ap g.S.Store.pairs c.replace.ensures.value in
     let news : c.new-news.result ≡ g.S.Store.pairs c.args.other = c.new-news.ensures ∙ c.lm_into_iter-2.ensures in
     let kept : Merge g.K.Ord.cmp c.loop-order.olds c.loop-order.news [] = rw (end.0, end.1) (Merge-none g.K.Ord.cmp [] tt) in
     let merged = rw (append-nil, olds, news) at (c.loop-order.invariant.merged [] kept) in

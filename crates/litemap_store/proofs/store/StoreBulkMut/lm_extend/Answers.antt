@@ -4,7 +4,8 @@ use Rattle.litemap_store.proofs.store.StoreBulkMut.lm_extend.Given.{Over}
 use Rattle.litemap_store.proofs.store.StoreBulkMut.lm_extend.Goals as goal
 use Rattle.litemap_store.proofs.store.StoreBulkMut.lm_extend.Goals.{After-put_pairs}
 
-gathered : (g : Over) (c : After-put_pairs g) → Gives g.I.IntoIterator.into_iter_gives g.I.IntoIter.Iterator.next_gives c.args.iter c.append_items.new.items.items
+gathered : (g : Over) (c : After-put_pairs g)
+    → Gives g.I.IntoIterator.into_iter_gives g.I.IntoIter.Iterator.next_gives c.args.iter c.append_items.new.items.items
 gathered g c = let given = c.in_default.ensures.gathered in rw (given.1, c.new-pairs.ensures.items) given.2
 
 pub returns-in-Ok-clause-extended : goal.returns-in-Ok-clause-extended
@@ -20,5 +21,7 @@ returns-in-Ok-clause-extended g c =
 
 pub returns-clause-refused_some : goal.returns-clause-refused_some
 returns-clause-refused_some g c _ =
-    rw c.in-Err-put_pairs.is at (GivesSome-from_refused g.K.Ord.cmp g.I.IntoIterator.into_iter_gives g.I.IntoIter.Iterator.next_gives c.args.iter c.put_pairs.result
-    (g.Self.Store.pairs c.args.self.now) c.append_items.new.items.items (g.Self.Store.room c.args.self.now) (gathered g (goal.at.returns-clause-refused_some g c).After-put_pairs) c.put_pairs.ensures.succeeds)
+    rw c.in-Err-put_pairs.is at
+    (GivesSome-from_refused g.K.Ord.cmp g.I.IntoIterator.into_iter_gives g.I.IntoIter.Iterator.next_gives c.args.iter c.put_pairs.result
+    (g.Self.Store.pairs c.args.self.now) c.append_items.new.items.items (g.Self.Store.room c.args.self.now)
+    (gathered g (goal.at.returns-clause-refused_some g c).After-put_pairs) c.put_pairs.ensures.succeeds)

@@ -5,7 +5,9 @@ use Rattle.litemap_store.proofs.vec_impl.VecTuple2StoreBulkMut.lm_extend.Goals a
 use Rattle.litemap_store.proofs.vec_impl.VecTuple2StoreBulkMut.lm_extend.Goals.{After-settle}
 
 -- the old pairs, and after them those that were pushed
-parts : (g : Over) (c : After-settle g) → let given = c.in_default.ensures.gathered.0 in (take c.len-len.result c.append_items.new.items.items ≡ c.args.self.now.items) × (drop c.len-len.result c.append_items.new.items.items ≡ given)
+parts : (g : Over) (c : After-settle g) → let given =
+    c.in_default.ensures.gathered.0 in (take c.len-len.result c.append_items.new.items.items ≡ c.args.self.now.items)
+    × (drop c.len-len.result c.append_items.new.items.items ≡ given)
 parts g c =
     let old = c.args.self.now.items in
     let given = c.in_default.ensures.gathered.0 in
@@ -27,4 +29,6 @@ returns-in-Ok-clause-extended g c =
 pub returns-in-Err-settle-clause-refused_some : goal.returns-in-Err-settle-clause-refused_some
 returns-in-Err-settle-clause-refused_some g c _ =
     let part = parts g (goal.at.returns-in-Err-settle-clause-refused_some g c).After-settle in
-    rw c.in-Err-settle.is at (GivesSome-from_refused g.K.Ord.cmp g.I.IntoIterator.into_iter_gives g.I.IntoIter.Iterator.next_gives c.args.iter c.settle.result c.args.self.now.items _ 0 c.in_default.ensures.gathered.2 (λ h _. (rw (part.0, part.1) at c.settle.ensures.succeeds) h))
+    rw c.in-Err-settle.is at
+    (GivesSome-from_refused g.K.Ord.cmp g.I.IntoIterator.into_iter_gives g.I.IntoIter.Iterator.next_gives c.args.iter c.settle.result c.args.self.now.items
+    _ 0 c.in_default.ensures.gathered.2 (λ h _. (rw (part.0, part.1) at c.settle.ensures.succeeds) h))

@@ -8,10 +8,12 @@ pub new-requires : goal.new-requires
 new-requires c =
     let x = rw (sym c.as_slice-offsets.ensures.value) at c.self.invariant in
     rw (tail_is c.self.inside.entries.now (get_or c.as_slice-offsets.result.now c.args.range.start 0))
-    (between_are c.self.inside.entries.now c.as_slice-offsets.result.now c.args.range.start c.min-end.result 0 x.placed c.if-range-end.true (omega (arith, c.min-end.ensures)))
+    (between_are c.self.inside.entries.now c.as_slice-offsets.result.now c.args.range.start c.min-end.result 0 x.placed c.if-range-end.true
+    (omega (arith, c.min-end.ensures)))
 
 pub new-requires-else-range-end : goal.new-requires-else-range-end
-new-requires-else-range-end c = record { pairs = []; left = record { after = c.self.inside.entries.now; spelled = begins_none c.self.inside.entries.now; len_is = refl }; rises = tt }
+new-requires-else-range-end c =
+    record { pairs = []; left = record { after = c.self.inside.entries.now; spelled = begins_none c.self.inside.entries.now; len_is = refl }; rises = tt }
 
 pub returns-then-range-end : goal.returns-then-range-end
 returns-then-range-end c =
@@ -20,7 +22,8 @@ returns-then-range-end c =
     let L = p.these.pairs in
     let e : c.min-end.result ≡ min c.args.range.end (length L) = omega (arith, c.min-end.ensures, c.as_slice-offsets.ensures.len, p.these.left.len_is) in
     let n = rw (tail_is c.self.inside.entries.now (get_or c.as_slice-offsets.result.now c.args.range.start 0)) at c.new.ensures in
-    rw (← e) (n.1 ∙ between_is c.self.inside.entries.now c.as_slice-offsets.result.now c.args.range.start c.min-end.result 0 p c.if-range-end.true (omega (arith, c.min-end.ensures)) n.0) ∙ slice_clamped L c.args.range.start c.args.range.end))
+    rw (← e) (n.1 ∙ between_is c.self.inside.entries.now c.as_slice-offsets.result.now c.args.range.start c.min-end.result 0 p c.if-range-end.true
+    (omega (arith, c.min-end.ensures)) n.0) ∙ slice_clamped L c.args.range.start c.args.range.end))
 
 pub returns-else-range-end : goal.returns-else-range-end
 returns-else-range-end c =

@@ -21,7 +21,8 @@ returns-in_err-offsets-clause-too_far c =
     let parts = c.parts-len.ensures.parts in
     let p = err_from_is_err_and c.from_residual.result c.from_residual.ensures.1 in
     rw (p.1, p.2)
-    (rw (← c.parts-len.ensures.bytes) (too_far_weaker c.in_err-offsets.field-0.0 (λ f. (c.parts-len.result.1.now, c.parts-len.result.2, parts.counted, f)) c.in_err-offsets.ensures.too_far))
+    (rw (← c.parts-len.ensures.bytes)
+    (too_far_weaker c.in_err-offsets.field-0.0 (λ f. (c.parts-len.result.1.now, c.parts-len.result.2, parts.counted, f)) c.in_err-offsets.ensures.too_far))
 
 pub returns-clause-near : goal.returns-clause-near
 returns-clause-near c =

@@ -18,4 +18,9 @@ returns-clause-cost c =
     let a = c.partition_point-start.ensures.cost in
     let b = c.partition_point-end.ensures.cost in
     rw (← c.self.view_is)
-    (of_indexed _ _ _ _ c.self.invariant c.as_slice-offsets.ensures.value (λ p. record { same = b.same ∙ a.same; not_lowered = (omega (arith, a.not_lowered.0, b.not_lowered.0), omega (arith, a.not_lowered.1, b.not_lowered.1)); most = rw p.these.left.len_is (omega (arith, a.most, b.most)) }))
+    (of_indexed _ _ _ _ c.self.invariant c.as_slice-offsets.ensures.value
+    (λ p. record {
+      same = b.same ∙ a.same;
+      not_lowered = (omega (arith, a.not_lowered.0, b.not_lowered.0), omega (arith, a.not_lowered.1, b.not_lowered.1));
+      most = rw p.these.left.len_is (omega (arith, a.most, b.most));
+    }))

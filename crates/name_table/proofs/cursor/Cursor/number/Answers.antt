@@ -15,4 +15,6 @@ returns-then-number-lt-NUMBER_LIMIT-clause-ok c =
 
 pub returns-else-number-lt-NUMBER_LIMIT-clause-err : goal.returns-else-number-lt-NUMBER_LIMIT-clause-err
 returns-else-number-lt-NUMBER_LIMIT-clause-err c =
-    rw (← c.self.view_is) (large_fault c.self.inside.rest.now c.in_ok-number.rest.now c.in_ok-number.number c.self.inside.place c.in_ok-number.ensures.ok c.if-number-lt-NUMBER_LIMIT.false)
+    rw (← c.self.view_is)
+    (large_fault c.self.inside.rest.now c.in_ok-number.rest.now c.in_ok-number.number c.self.inside.place c.in_ok-number.ensures.ok
+    c.if-number-lt-NUMBER_LIMIT.false)

@@ -7,8 +7,18 @@ decided : {K V : Type 0} (k : K → K → Option Ordering) (v : V → V → Opti
 decided k v l w L M of_keys of_values = lists_agrees (then_agrees (λ p q. of_keys p.0 q.0) (λ p q. of_values p.1 q.1)) L M
 
 pub unwrap-requires : goal.unwrap-requires
-unwrap-requires g c = rw (c.partial_cmp.ensures, decided g.K.PartialOrd.partial_cmp g.V.PartialOrd.partial_cmp g.K.Ord.cmp g.V.Ord.cmp c.args.self.now.pairs c.args.other.now.pairs g.met.K.Ord.matches_partial_cmp g.met.V.Ord.matches_partial_cmp)
+unwrap-requires g c =
+    rw (
+      c.partial_cmp.ensures,
+      decided g.K.PartialOrd.partial_cmp g.V.PartialOrd.partial_cmp g.K.Ord.cmp g.V.Ord.cmp c.args.self.now.pairs c.args.other.now.pairs
+          g.met.K.Ord.matches_partial_cmp g.met.V.Ord.matches_partial_cmp,
+    )
 
 pub returns : goal.returns
 returns g c =
-    cc (decided g.K.PartialOrd.partial_cmp g.V.PartialOrd.partial_cmp g.K.Ord.cmp g.V.Ord.cmp c.args.self.now.pairs c.args.other.now.pairs g.met.K.Ord.matches_partial_cmp g.met.V.Ord.matches_partial_cmp, c.partial_cmp.ensures, c.unwrap.ensures)
+    cc (
+      decided g.K.PartialOrd.partial_cmp g.V.PartialOrd.partial_cmp g.K.Ord.cmp g.V.Ord.cmp c.args.self.now.pairs c.args.other.now.pairs
+          g.met.K.Ord.matches_partial_cmp g.met.V.Ord.matches_partial_cmp,
+      c.partial_cmp.ensures,
+      c.unwrap.ensures,
+    )

@@ -7,17 +7,23 @@ pub returns-then-ne : goal.returns-then-ne
 returns-then-ne g c =
     let left = sym c.get_indexed.ensures ∙ ap (option_map deref_pair) c.unwrap-here.ensures in
     let right = sym c.get_indexed-in-loop-index.ensures ∙ ap (option_map deref_pair) c.unwrap-there.ensures in
-    sym (sym c.loop-index.invariant ∙ pointwise_ends (λ p q. g.K.PartialEq.eq p.0 q.0 && g.V.PartialEq.eq p.1 q.1) _ _ c.loop-index.index _ _ left right (not-true _ (sym c.ne.ensures ∙ c.if-ne.true)))
+    sym (sym c.loop-index.invariant ∙ pointwise_ends (λ p q. g.K.PartialEq.eq p.0 q.0 && g.V.PartialEq.eq p.1 q.1) _ _ c.loop-index.index _ _ left right
+    (not-true _ (sym c.ne.ensures ∙ c.if-ne.true)))
 
 pub loop-index-preserved : goal.loop-index-preserved
 loop-index-preserved g c =
     let left = sym c.get_indexed.ensures ∙ ap (option_map deref_pair) c.unwrap-here.ensures in
     let right = sym c.get_indexed-in-loop-index.ensures ∙ ap (option_map deref_pair) c.unwrap-there.ensures in
-    sym (pointwise_on (λ p q. g.K.PartialEq.eq p.0 q.0 && g.V.PartialEq.eq p.1 q.1) _ _ c.loop-index.index _ _ left right (not-false _ (sym c.ne.ensures ∙ c.if-ne.false))) ∙ c.loop-index.invariant
+    sym (pointwise_on (λ p q. g.K.PartialEq.eq p.0 q.0 && g.V.PartialEq.eq p.1 q.1) _ _ c.loop-index.index _ _ left right
+    (not-false _ (sym c.ne.ensures ∙ c.if-ne.false))) ∙ c.loop-index.invariant
 
 pub returns : goal.returns
 returns g c =
-    rw (drop_all c.loop-index.index c.args.self.now.pairs (omega arith), drop_all c.loop-index.index c.args.other.now.pairs (omega arith)) at c.loop-index.invariant
+    rw (
+      drop_all c.loop-index.index c.args.self.now.pairs (omega arith),
+      drop_all c.loop-index.index c.args.other.now.pairs
+          (omega arith),
+    ) at c.loop-index.invariant
 
 pub unwrap-here-requires : goal.unwrap-here-requires
 unwrap-here-requires g c = is_there _ _ _ c.loop-index.index c.get_indexed.ensures (omega arith)

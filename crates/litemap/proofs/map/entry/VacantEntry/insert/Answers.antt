@@ -21,4 +21,5 @@ returns g c =
     )
 
 pub value_in_mut-requires : goal.value_in_mut-requires
-value_in_mut-requires g c = rw c.in_ok-insert_at.ensures.put (within-put g.K.Ord.cmp c.args.self.map.now.pairs c.args.self.key c.args.value c.args.self.index c.args.self.missing.place)
+value_in_mut-requires g c =
+    rw c.in_ok-insert_at.ensures.put (within-put g.K.Ord.cmp c.args.self.map.now.pairs c.args.self.key c.args.value c.args.self.index c.args.self.missing.place)

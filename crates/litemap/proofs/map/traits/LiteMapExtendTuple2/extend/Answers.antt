@@ -13,5 +13,6 @@ returns-clause-ran g c =
 pub returns-clause-refused_some : goal.returns-clause-refused_some
 returns-clause-refused_some g c some =
     on_err_weaker c.extend.result
-    (gives_some g.K.Ord.cmp g.I.IntoIterator.into_iter_gives g.I.IntoIter.Iterator.next_gives c.args.iter c.into_iter.result c.into_iter.ensures.into_iter_gives)
+    (gives_some g.K.Ord.cmp g.I.IntoIterator.into_iter_gives g.I.IntoIter.Iterator.next_gives c.args.iter c.into_iter.result
+    c.into_iter.ensures.into_iter_gives)
     (c.extend.ensures.refused_some some)
