@@ -4,8 +4,9 @@
 use Rattle.litemap.proofs.Common.{◌≡◌, ◌≢◌, ◌∙◌, ◌∷◌, ◌++◌, ◌-◌, ◌&&◌, [], Bool, true, false, true≢false, List, Option, None, Some, ap, arith, cond, drop}
 use Rattle.litemap.proofs.Common.{filter, ℕ, ◌+◌, drop_at, remove, suc, inl, inr, length, option_map, refl, slice_get, subst, sym, take, items_where_true}
 use Rattle.litemap.proofs.Common.{Bor, MutBor, Mut, Ordering, at_in, equal_from_is_eq, is_eq, IsNone, IsSome, at, Less, Equal, Greater, IsTotalOrder}
-use Rattle.litemap.proofs.Common.{Rising, deref_pair, greater_back, key_alike, key_same, less_back, tied_itself}
+use Rattle.litemap.proofs.Common.{Rising, at-rising, deref_pair, greater_back, key_alike, key_same, less_back, tied_itself}
 use Rattle.std.proofs.Common.{find, IfSome}
+use Rattle.std.specs.List.{AllByRecursion}
 use Rattle.std.specs.List.Retain.{ReturnsInTurn}
 use Rattle.std.proofs.lemmas.List.Folds.{find-append}
 use Rattle.std.proofs.lemmas.List.{take-append-drop}
@@ -13,7 +14,7 @@ use Rattle.std.proofs.lemmas.Map.Lookups.{exact_bytes}
 use Rattle.litemap_store.specs.Last.{In}
 use Rattle.litemap_store.specs.Retain.{CalledOnPair, Kept}
 use Rattle.litemap_store.proofs.Last.KeepLast.{rising_across}
-use Rattle.litemap_store.proofs.Lists.Membership.{In-right, each}
+use Rattle.litemap_store.proofs.Lists.Membership.{In-from_filter, In-right, each, from_each}
 use Rattle.litemap.specs.Retained.{Retains, ReturnsFor}
 use Rattle.litemap.specs.Updates.{IsGreatest, IsLeast, KeepsPart, TakesPair}
 use Rattle.litemap.specs.Written.{LeavesOf, WritesPair, Written}
@@ -143,6 +144,11 @@ module _ {K V : Type 0} {cmp : K → K → Ordering} (o : IsTotalOrder cmp) (L :
   pub found_there : (i : ℕ) (p : Option (Bor K × Bor V)) → option_map deref_pair p ≡ slice_get L i → IfSome p (λ q. at cmp L q.0.now ≡ Some (deref_pair q))
   found_there i None e = tt
   found_there i (Some q) e = at-index cmp o cmp q.0.now (key_same o q.0.now) (key_alike o q.0.now) L i (deref_pair q) r (sym e) (tied_itself o q.0.now)
+
+  -- each pair that a filter keeps is what its key finds
+  pub kept_found : (keep : K × V → Bool) (M : List (K × V)) → M ≡ filter keep L → AllByRecursion (λ p. at cmp L p.0 ≡ Some p) M
+  kept_found keep M e = subst (AllByRecursion (λ p. at cmp L p.0 ≡ Some p)) (sym e) (from_each (λ p. at cmp L p.0 ≡ Some p) (filter keep L) (λ p i.
+      at-rising cmp o cmp p.0 (key_same o p.0) (key_alike o p.0) L p r (In-from_filter keep L p i).0 (tied_itself o p.0)))
 
   pub least_there : (p : Option (Bor K × Bor V)) → option_map deref_pair p ≡ slice_get L 0 → IfSome p (λ q. IsLeast cmp (deref_pair q) L)
   least_there None e = tt

@@ -1,7 +1,9 @@
 //! Calls for the keys within two bounds. None takes memory, and each makes O(log n) comparisons for each bound.
 ghost use Rattle.std.specs.Prelude.{◌≡◌, ◌+◌, ◌*◌, ◌&&◌, Some, length, not};
+ghost use Rattle.std.specs.List.{AllByRecursion};
 ghost use Rattle.std.specs.Range.Bound.{bound_map};
 ghost use Rattle.litemap_store.specs.Counts.{RisesByAtMost, digits};
+ghost use Rattle.litemap_store.specs.Pairs.{at};
 ghost use Rattle.litemap.specs.Updates.{KeepsPart};
 ghost use Rattle.litemap.specs.Within.{IsIndexRange, IsCut, before, is_before, is_up_to, within};
 
@@ -55,8 +57,10 @@ impl<K: Ord, V, S: Store<K, V>> LiteMap<K, V, S> {
     /// early.next_back() == Some((&3, &"Wednesday")) && early.len() == 1
     /// ```
     pub fn iter_range<Q: Query<K>>(&self, from: Bound<Q>, to: Bound<Q>) -> RangeIter<'_, K, V, S>
-        ensures { result ≡ within Q.order self.now.pairs
+        ensures pairs { result ≡ within Q.order self.now.pairs
             (bound_map Q.sought from) (bound_map Q.sought to) }
+        // Each of them is what its key finds in the map.
+        ensures found { AllByRecursion (λ p. at K.cmp self.now.pairs p.0 ≡ Some p) result }
     {
         RangeIter::between(&self.store, self.index_range(from, to))
     }
