@@ -63,7 +63,7 @@ fn main(rt: HostRuntime) -> ExitCode {
     }
 }
 
-fn cases(alloc: Global) -> [(&'static str, Outcome); 51] {
+fn cases(alloc: Global) -> [(&'static str, Outcome); 52] {
     outcomes! { alloc;
         closures::one_of_the_keys_called_equal_is_found,
         closures::a_closure_compares_with_another_type,
@@ -115,6 +115,7 @@ fn cases(alloc: Global) -> [(&'static str, Outcome); 51] {
         lines::the_longest_input_is_answered,
         lines::one_byte_too_many_is_read,
         watch::a_call_is_one_call,
+        watch::a_call_after_a_failed_one_is_made,
         watch::a_whole_write_ends_at_a_fault,
     }
 }

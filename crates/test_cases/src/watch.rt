@@ -66,8 +66,8 @@ impl Write for Noting {
 // The most bytes that a call is handed.
 const MOST: usize = 70_000;
 
-// The calls that one through a `Watch` makes, of `MOST` bytes at most, if a write takes at most `most`, and call `at` fails.
-fn made_by(call: Call, most: usize, at: u64, fault: Fault) -> Made {
+// The calls that these through a `Watch` make, of `MOST` bytes at most, if a write takes at most `most`, and call `at` fails.
+fn made_by(calls: &[Call], most: usize, at: u64, fault: Fault) -> Made {
     let mut bytes = [b'a'; MOST];
     let mut noting = Noting {
         made: [None; 3],
@@ -77,11 +77,13 @@ fn made_by(call: Call, most: usize, at: u64, fault: Fault) -> Made {
         most,
     };
     let mut watch = Watch::new(&mut noting);
-    match call {
-        Call::Read(len) => drop(watch.read(&mut bytes[..len.min(MOST)])),
-        Call::Write(len) => drop(watch.write(&bytes[..len.min(MOST)])),
-        Call::WriteAll(len) => drop(watch.write_all(&bytes[..len.min(MOST)])),
-        Call::Flush => drop(watch.flush()),
+    for call in calls {
+        match *call {
+            Call::Read(len) => drop(watch.read(&mut bytes[..len.min(MOST)])),
+            Call::Write(len) => drop(watch.write(&bytes[..len.min(MOST)])),
+            Call::WriteAll(len) => drop(watch.write_all(&bytes[..len.min(MOST)])),
+            Call::Flush => drop(watch.flush()),
+        }
     }
     noting.made
 }
@@ -92,8 +94,22 @@ pub(crate) fn a_call_is_one_call(_: Global) -> Outcome {
         for at in [0, NEVER] {
             for &len in &[0, 1, 64, 65, 5_000, 8_192, 65_536, MOST] {
                 for call in [Call::Read(len), Call::Write(len), Call::Flush] {
-                    is_right &= made_by(call, usize::MAX, at, *fault) == [Some(call), None, None];
+                    is_right &= made_by(&[call], usize::MAX, at, *fault)
+                        == [Some(call), None, None];
                 }
+            }
+        }
+    }
+    Ok(is_right)
+}
+
+pub(crate) fn a_call_after_a_failed_one_is_made(_: Global) -> Outcome {
+    let mut is_right = true;
+    for fault in &FAULTS {
+        for first in [Call::Read(3), Call::Write(3)] {
+            for second in [Call::Read(2), Call::Write(2), Call::Flush] {
+                let made = made_by(&[first, second], usize::MAX, 0, *fault);
+                is_right &= made == [Some(first), Some(second), None];
             }
         }
     }
@@ -122,7 +138,7 @@ pub(crate) fn a_whole_write_ends_at_a_fault(_: Global) -> Outcome {
     for fault in &FAULTS {
         for &(len, most, at, [first, second]) in rows {
             let wanted = [first.map(Call::Write), second.map(Call::Write), None];
-            is_right &= made_by(Call::WriteAll(len), most, at, *fault) == wanted;
+            is_right &= made_by(&[Call::WriteAll(len)], most, at, *fault) == wanted;
         }
     }
     Ok(is_right)
