@@ -45,7 +45,6 @@ pub fn to_toml(alloc: Global, config: &Config) -> Result<String, toml::ser::Writ
 }
 
 /// Puts a user's limits over those that are there, or leaves them as they are if memory runs out.
-#[tactic(auto, using(litemap::proofs::Texts::text_keys))]
 pub fn overlay(limits: &mut Limits, alloc: Global, user: Limits) -> Result<(), AllocError>
     // The user's limit if there is one, else the one that was there.
     ensures found { OnOk result ((name : _) → value_at by_string limits.new.pairs name

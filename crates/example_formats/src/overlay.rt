@@ -44,7 +44,6 @@ pub fn overlay(settings: &mut Settings, alloc: Global, text: &str) -> Result<(),
 }
 
 // Puts the settings that a value spells over those that are there.
-#[tactic(auto, using(litemap::proofs::Texts::text_keys))]
 fn overlay_value(settings: &mut Settings, alloc: Global, value: &Value) -> Result<(), OverlayFault>
     ensures found { OnOk result ((user : _)
         × ReadsAs string_cmp ⟦<String as JsonKey>⟧.key ⟦<String as JsonItem>⟧.item ⟦<String as JsonItem>⟧.item
