@@ -79,7 +79,7 @@ def names(calls, top, width):
         y = top + ROW * row
         if row % 2 == 0:
             yield f'<rect y="{y}" width="{width}" height="{ROW}" fill="#f5f5f5"/>'
-        yield text(16, y + ROW / 2 + 4, tables.TITLES.get(call, call).replace("`", ""))
+        yield text(16, y + ROW / 2 + 4, tables.TITLES[call].replace("`", ""))
 
 
 def ratios(ours, theirs):

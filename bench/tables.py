@@ -98,7 +98,7 @@ def parts(ours, theirs):
         rows = []
         for call in distinct(measure.call for measure in of_part):
             cells = [cell(ours, theirs, Measure(call, keys, store, size)) for size in sizes]
-            rows.append([TITLES.get(call, call), *cells])
+            rows.append([TITLES[call], *cells])
         yield f"{KEYS.get(keys, keys)} {of_store(store)}", sizes, rows
 
 

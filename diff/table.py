@@ -3,8 +3,6 @@ import re
 
 import lines
 
-# What titles of measures name and docs/api doesn't list.
-OF_OTHERS = ["==", "into_iter", "SerdeMap", "to_string", "from_str"]
 
 def rows(top):
     """Each call of ours, the calls of lines that make it, and what the table says about the Rust crate's."""
@@ -31,28 +29,6 @@ def listed(top):
             yield f"trait {found[1]}", group
 
 
-def measured(top):
-    """What bench/run measures: its name in the programs, and the names in backticks in its title."""
-    for line in (top / "diff" / "calls.txt").read_text().splitlines():
-        if line.count(" | ") == 1 and not line.startswith("#"):
-            name, title = line.split(" | ")
-            yield name, re.findall(r"`([^`]+)`", title)
-
-
-def missing_measures(top, calls):
-    """What the table lacks of what the programs of bench/run print, and what it names that they don't, or that is no call."""
-    texts = "\n".join(file.read_text() for file in (top / "bench" / "rattle").glob("*.in"))
-    printed = set(re.findall(r'=> "(\w+)"|println!\(rt; "(\w+) \{', texts))
-    printed |= set(re.findall(r'"(\w+)"()', " ".join(re.findall(r'\[\s*"\w+",[^]]*\]', texts))))
-    printed = {name for names in printed for name in names if name}
-    table = dict(measured(top))
-    known = {call.split("::")[-1] for call in calls} | {*calls, *OF_OTHERS}
-    lacks = [f"{it}, which bench measures" for it in sorted(printed - {*table})]
-    spare = [f"{it}, which bench doesn't measure" for it in sorted({*table} - printed)]
-    spare += [f"{it}, which is no call" for it in sorted({name for names in table.values() for name in names} - known)]
-    return lacks, spare
-
-
 def missing(top, crate=None):
     """What the table lacks of our calls and of the Rust crate's, and what it names that doesn't exist."""
     table, calls = list(rows(top)), dict(listed(top))
@@ -66,6 +42,4 @@ def missing(top, crate=None):
     there = {*calls, *(f"group {group}" for group in calls.values()), "-"}
     spare = [f"{it}, which docs/api does not list" for it in sorted(named - there)]
     spare += [f"{it}, which no line calls" for it in sorted(made - picked)]
-    of_bench = missing_measures(top, calls)
-    lacks, spare = lacks + of_bench[0], spare + of_bench[1]
     return [f"diff/calls.txt has no row for {it}" for it in lacks] + [f"diff/calls.txt names {it}" for it in spare]

@@ -2,73 +2,41 @@
 use crate::cases::Case;
 use crate::keys::Key;
 use litemap::LiteMap;
-use std::fmt::{self, Display, Formatter};
 use std::mem::take;
 
-/// A call that is measured.
-#[derive(Clone, Copy)]
+/// A call that is measured. Its title is in diff/calls.txt, under its name in lower case.
+#[derive(Clone, Copy, Debug)]
 pub enum Call {
-    /// Looks up present keys.
     Get,
-    /// Looks up absent keys.
     GetMissing,
-    /// Looks up each pair by its index.
     GetIndexed,
-    /// Iterates over all pairs.
     Iterate,
-    /// Iterates over a map that is moved, to the end.
     IntoIter,
-    /// Compares with a map of the same pairs.
     Equal,
-    /// Inserts pairs one by one, in no order.
     Insert,
-    /// Appends pairs one by one.
     Append,
-    /// Removes keys one by one, in no order.
     Remove,
-    /// Moves values to absent keys one by one, in no order.
     Rename,
-    /// Writes all values, by a closure.
     Update,
-    /// Writes all values, in a loop over what the map lends, where its store does.
     IterMut,
-    /// Keeps about half of the pairs, and writes their values.
     RetainMut,
-    /// Keeps about half of the pairs.
     Retain,
-    /// Keeps all pairs.
     RetainAll,
-    /// Keeps no pair.
     RetainNone,
-    /// Makes a map of ascending pairs.
     FromIterRising,
-    /// Makes a map of pairs in no order.
     FromIter,
-    /// Inserts ascending pairs, each between two that are there.
     ExtendRising,
-    /// Inserts ascending pairs after all others.
     ExtendAbove,
-    /// Inserts pairs in no order.
     Extend,
-    /// Inserts a few pairs in no order.
     ExtendFew,
-    /// Inserts a few pairs in no order, by `extend` here too.
     ExtendFromVec,
-    /// Merges a map whose keys are above all others.
     MergeApart,
-    /// Merges a map whose keys lie between the others.
     MergeInterleaved,
-    /// Merges a map with the same keys.
     MergeEqual,
-    /// Merges a map of which every second key is there, and adds to the values of those keys.
     ExtendWith,
-    /// Keeps every second pair, by the keys of another map.
     KeepKeys,
-    /// Removes every second pair, by the keys of another map.
     RemoveKeys,
-    /// Tests whether another map has all keys, which it has.
     IsSubset,
-    /// Copies the map.
     Clone,
 }
 
@@ -109,44 +77,6 @@ impl Call {
     ];
 }
 
-impl Display for Call {
-    fn fmt(&self, f: &mut Formatter) -> fmt::Result {
-        f.write_str(match self {
-            Call::Get => "get",
-            Call::GetMissing => "get_missing",
-            Call::GetIndexed => "get_indexed",
-            Call::Iterate => "iterate",
-            Call::IntoIter => "into_iter",
-            Call::Equal => "equal",
-            Call::Insert => "insert",
-            Call::Append => "append",
-            Call::Remove => "remove",
-            Call::Rename => "rename",
-            Call::Update => "update",
-            Call::IterMut => "iter_mut",
-            Call::RetainMut => "retain_mut",
-            Call::Retain => "retain",
-            Call::RetainAll => "retain_all",
-            Call::RetainNone => "retain_none",
-            Call::FromIterRising => "from_iter_rising",
-            Call::FromIter => "from_iter",
-            Call::ExtendRising => "extend_rising",
-            Call::ExtendAbove => "extend_above",
-            Call::Extend => "extend",
-            Call::ExtendFew => "extend_few",
-            Call::ExtendFromVec => "extend_from_vec",
-            Call::MergeApart => "merge_apart",
-            Call::MergeInterleaved => "merge_interleaved",
-            Call::MergeEqual => "merge_equal",
-            Call::ExtendWith => "extend_with",
-            Call::KeepKeys => "keep_keys",
-            Call::RemoveKeys => "remove_keys",
-            Call::IsSubset => "is_subset",
-            Call::Clone => "clone",
-        })
-    }
-}
-
 /// Makes a call of each case, and returns the sum of the results.
 pub fn call_all<K: Key>(call: Call, cases: &mut [Case<K>]) -> u64 {
     let mut sum: u64 = 0;
@@ -174,9 +104,7 @@ pub fn call_all<K: Key>(call: Call, cases: &mut [Case<K>]) -> u64 {
             | Call::ExtendAbove
             | Call::Extend
             | Call::ExtendFew
-            | Call::ExtendFromVec => {
-                extend(&mut case.map, take(&mut case.given))
-            }
+            | Call::ExtendFromVec => extend(&mut case.map, take(&mut case.given)),
             Call::MergeApart | Call::MergeInterleaved | Call::MergeEqual => {
                 case.made = merge(&mut case.map, take(&mut case.other))
             }

@@ -17,13 +17,6 @@ pub struct Case<K> {
     pub made: Option<LiteMap<K, u64>>,
 }
 
-/// The numbers of the pairs in a map, of those that are passed to it, and of those in the map that is passed to it.
-struct Parts<'a> {
-    map: &'a [u64],
-    given: &'a [u64],
-    other: &'a [u64],
-}
-
 /// The cases of a round: so many maps that some thousands of calls are made.
 pub fn cases<K: Key>(data: &Data, call: Call, round: usize) -> Vec<Case<K>> {
     (0..how_many(data, call))
@@ -57,11 +50,13 @@ pub fn how_many_pairs(data: &Data, call: Call) -> usize {
 }
 
 fn make_case<K: Key>(draw: &Draw, call: Call, round: usize) -> Case<K> {
-    let parts = parts_of(draw, call);
+    let (map, given, other) = parts_of(draw, call);
+    // What is merged has other values than the map, and what is compared the same.
+    let more = u64::from(!matches!(call, Call::Equal));
     Case {
-        map: LiteMap::from_iter(keys::pairs(parts.map, 0)),
-        given: keys::pairs(parts.given, 0),
-        other: LiteMap::from_iter(keys::pairs(parts.other, more_of(call))),
+        map: LiteMap::from_iter(keys::pairs(map, 0)),
+        given: keys::pairs(given, 0),
+        other: LiteMap::from_iter(keys::pairs(other, more)),
         keys: match call {
             Call::Get => keys::keys(&draw.asked(round)),
             Call::GetMissing => keys::keys(&draw.missing(round)),
@@ -72,21 +67,14 @@ fn make_case<K: Key>(draw: &Draw, call: Call, round: usize) -> Case<K> {
     }
 }
 
-// The difference between the values of the map that is passed and those of the map itself.
-fn more_of(call: Call) -> u64 {
-    match call {
-        Call::Equal => 0,
-        _ => 1,
-    }
-}
-
-fn parts_of(draw: &Draw, call: Call) -> Parts<'_> {
+/// The numbers of the pairs in a map, of those that are passed to it, and of those in the map that is passed to it.
+fn parts_of(draw: &Draw, call: Call) -> (&[u64], &[u64], &[u64]) {
     let (scattered, rising) = (&draw.scattered[..], &draw.rising[..]);
-    let (lower, upper) = rising.split_at(rising.len() / 2);
     let (evens, odds) = (&draw.evens[..], &draw.odds[..]);
+    let (lower, upper) = rising.split_at(rising.len() / 2);
     let (first, second) = scattered.split_at(scattered.len() / 2);
     let (before, inserted) = scattered.split_at(scattered.len() - draw.removed().len());
-    let (map, given, other): (&[u64], &[u64], &[u64]) = match call {
+    match call {
         Call::Insert => (before, inserted, &[]),
         Call::Append | Call::FromIterRising => (&[], rising, &[]),
         Call::FromIter => (&[], scattered, &[]),
@@ -100,6 +88,5 @@ fn parts_of(draw: &Draw, call: Call) -> Parts<'_> {
         Call::ExtendWith => (evens, &[], rising),
         Call::KeepKeys | Call::RemoveKeys => (rising, &[], evens),
         _ => (rising, &[], &[]),
-    };
-    Parts { map, given, other }
+    }
 }

@@ -1,18 +1,16 @@
 //! Maps of few pairs, many in a round. Each round makes them anew, of its own keys, so that no pattern can be learned.
 use crate::keys;
-use crate::measure::{nanos_used, weight};
+use crate::measure::{nanos_used, weight, Round, ROUNDS};
 use litemap::LiteMap;
 
 /// The numbers of pairs in the maps.
 const SIZES: [usize; 4] = [0, 1, 2, 8];
 
-/// The number of maps in a round, and the number of rounds.
+/// The number of maps in a round.
 const MAPS: usize = 2000;
 
-const ROUNDS: usize = 30;
-
 /// A map, a key to look up, and one to insert.
-struct Few {
+struct Case {
     map: LiteMap<u64, u64>,
     asked: u64,
     added: u64,
@@ -21,103 +19,75 @@ struct Few {
 /// Writes the lines of the vector.
 pub fn measure_few() {
     for size in SIZES {
-        for call in ["few_get", "few_insert", "few_iterate", "few_clone"] {
-            measure_call(call, size);
+        for call in ["few_get", "few_insert", "few_clone"] {
+            let (mut nanos, mut answer) = (u128::MAX, 0u64);
+            for round in 0..ROUNDS {
+                let found = call_round(call, size, round);
+                nanos = nanos.min(found.nanos);
+                answer = answer.wrapping_mul(31).wrapping_add(found.answer);
+            }
+            println!(
+                "{call} few Vec {size} {} {answer}",
+                nanos * 1000 / MAPS as u128
+            );
         }
     }
 }
 
-fn measure_call(call: &str, size: usize) {
-    let mut lowest = u128::MAX;
-    let mut answer: u64 = 0;
-    for round in 0..ROUNDS {
-        let (nanos, answered) = few_round(call, size, round);
-        lowest = lowest.min(nanos);
-        answer = answer.wrapping_mul(31).wrapping_add(answered);
-    }
-    println!(
-        "{call} few Vec {size} {} {answer}",
-        lowest * 1000 / MAPS as u128
-    );
-}
-
-/// The time of a round, and a number that stands for the results and the maps after it.
-fn few_round(call: &str, size: usize, round: usize) -> (u128, u64) {
-    let mut maps = few_maps(size, round);
-    let mut left = Vec::with_capacity(MAPS);
+fn call_round(call: &str, size: usize, round: usize) -> Round {
+    let mut cases = cases(size, round);
+    let mut copies = Vec::with_capacity(MAPS);
     let start = nanos_used();
-    let sum = match call {
-        "few_get" => get(&maps),
-        "few_insert" => insert(&mut maps),
-        "few_iterate" => iterate(&maps),
-        _ => clone(&maps, &mut left),
+    let mut answer = match call {
+        "few_get" => get(&cases),
+        "few_insert" => insert(&mut cases),
+        _ => clone(&cases, &mut copies),
     };
     let nanos = nanos_used() - start;
-    let mut answer = sum;
-    for few in &maps {
-        answer = answer.wrapping_mul(31).wrapping_add(weight(&few.map));
-    }
-    for map in &left {
+    for map in cases.iter().map(|case| &case.map).chain(&copies) {
         answer = answer.wrapping_mul(31).wrapping_add(weight(map));
     }
-    (nanos, answer)
+    Round { nanos, answer }
 }
 
 /// The maps of a round, whose pairs were inserted one by one.
-fn few_maps(size: usize, round: usize) -> Vec<Few> {
-    let mut maps = Vec::with_capacity(MAPS);
+fn cases(size: usize, round: usize) -> Vec<Case> {
     let mut place = round as u64 * 1_000_000;
-    for _ in 0..MAPS {
-        let chance = keys::number(place) >> 1;
-        let asked = place + chance.checked_rem(size as u64).unwrap_or(0);
+    let mut next_case = || {
+        let chance = (keys::number(place) >> 1).checked_rem(size as u64);
+        let asked = keys::number(place + chance.unwrap_or(0));
         let mut map = LiteMap::new_vec();
         for _ in 0..size {
             let number = keys::number(place);
             let _old = map.insert(number, number);
             place += 1;
         }
-        maps.push(Few {
-            map,
-            asked: keys::number(asked),
-            added: keys::number(place),
-        });
+        let added = keys::number(place);
         place += 1;
-    }
-    maps
+        Case { map, asked, added }
+    };
+    (0..MAPS).map(|_| next_case()).collect()
 }
 
 #[inline(never)]
-fn get(maps: &[Few]) -> u64 {
+fn get(cases: &[Case]) -> u64 {
     let mut sum: u64 = 0;
-    for few in maps {
-        if let Some(value) = few.map.get(&few.asked) {
-            sum = sum.wrapping_add(*value);
-        }
+    for case in cases {
+        sum = sum.wrapping_add(case.map.get(&case.asked).copied().unwrap_or(0));
     }
     sum
 }
 
 #[inline(never)]
-fn insert(maps: &mut [Few]) -> u64 {
-    for few in maps {
-        let _old = few.map.insert(few.added, few.added);
+fn insert(cases: &mut [Case]) -> u64 {
+    for case in cases {
+        let _old = case.map.insert(case.added, case.added);
     }
     0
 }
 
 #[inline(never)]
-fn iterate(maps: &[Few]) -> u64 {
-    let mut sum: u64 = 0;
-    for few in maps {
-        sum = sum.wrapping_add(crate::calls::total(&few.map));
-    }
-    sum
-}
-
-#[inline(never)]
-fn clone(maps: &[Few], left: &mut Vec<LiteMap<u64, u64>>) -> u64 {
-    for few in maps {
-        left.push(few.map.clone());
-    }
+fn clone(cases: &[Case], copies: &mut Vec<LiteMap<u64, u64>>) -> u64 {
+    copies.extend(cases.iter().map(|case| case.map.clone()));
     0
 }

@@ -1,7 +1,6 @@
 //! The measures of bench/rattle, for the Rust crate: the same work on the same keys, and lines of the same form.
 mod calls;
 mod cases;
-mod consts;
 mod few;
 #[cfg(feature = "json")]
 mod json;
@@ -24,12 +23,10 @@ fn main() {
     for size in SIZES {
         let numbers = Data::new::<u64>(size);
         measure_keys::<u64>(&numbers);
-        consts::measure_numbers(&numbers);
         #[cfg(feature = "json")]
         json::measure_json::<u64>(&numbers);
         let texts = Data::new::<String>(size);
         measure_keys::<String>(&texts);
-        consts::measure_texts(&texts);
         #[cfg(feature = "json")]
         json::measure_json::<String>(&texts);
     }

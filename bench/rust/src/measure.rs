@@ -70,7 +70,7 @@ pub fn measure<K: Key>(data: &Data, call: Call) {
     });
     let pairs = cases::how_many_pairs(data, call) as u128;
     println!(
-        "{call} {} Vec {} {} {answer}",
+        "{call:?} {} Vec {} {} {answer}",
         K::NAME,
         data.size,
         nanos * 1000 / pairs
