@@ -1,4 +1,4 @@
-# What bin/names, bin/program, bin/release and bin/test share: it proves and builds the program if its sources have changed.
+# What bin/names, bin/program and bin/test share: it proves and builds the program if its sources have changed.
 # The caller sets `top`, the top of the repository.
 program=$top/crates/names_main/out/names_main
 

@@ -1,14 +1,11 @@
 """Tables, lines of crates.txt and lists name all crates and all scripts, and no others; modules don't import each other."""
 import os
 import re
-import subprocess
 
 from lib.checks.pages import BLOCKS, CODE, TEXTS
 from lib.checks.sources import LIBRARIES, NOT_LISTED, RUST
 from lib.shared import CRATES, TOP
 
-# The libraries that bin/release does not pack, and why.
-NOT_PACKED = {}
 # The modules that may import what imports them, and why.
 BOTH_WAYS = {"litemap_store/store": "bodies of its traits call what is written over the traits"}
 # What a module imports from its crate, and a list within such a path.
@@ -72,9 +69,7 @@ def check(report, _):
             for used in [it for it in uses if it in CRATES]:
                 report.see(used in dict(shown), f"{page} has a line of {name}, and none of {used}, which it uses")
     report.see(lines_in("CALLING.md"), "CALLING.md shows no lines of crates.txt")
-    packed = subprocess.run([TOP / "bin" / "release", "--list"], capture_output=True, text=True).stdout.split()
     for name in LIBRARIES:
         told = f"docs/api/ does not name {name}, and NOT_LISTED in bin/lib/checks/api.py has no reason"
         named = any(page.startswith("docs/api/") and f"../crates/{name}/" in text for page, text in TEXTS.items())
         report.see(name in NOT_LISTED or named, told)
-        report.see(name in packed or name in NOT_PACKED, f"bin/release does not pack {name}, and NOT_PACKED has no reason")
