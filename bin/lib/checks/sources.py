@@ -39,16 +39,15 @@ def squeezed(text):
     return re.sub(r",? ([)>])", r"\1", re.sub(r"([(<]) ", r"\1", text)).rstrip(",")
 
 
-def comment_above(text, start):
-    """The lines of the `///` above an item."""
-    above = reversed(text[:start].splitlines())
-    said = [*itertools.takewhile(lambda line: re.match(r" *(///|#\[)", line), above)][::-1]
-    return "\n".join(re.sub(r"^ */// ?", "", line) for line in said if "///" in line)
+def comment_above(lines):
+    """The comment in the last of the lines above an item."""
+    said = [*itertools.takewhile(lambda line: re.match(r" *(///|--(?! ----)|#\[)", line), reversed(lines))][::-1]
+    return "\n".join(re.sub(r"^ *(?:///|--) ?", "", line) for line in said if not re.match(r" *#\[", line))
 
 
-def without_examples(comment):
-    """A comment as one line, without its examples."""
-    return " ".join(re.sub(r"```.*?```", "", comment, flags=re.DOTALL).split())
+def said_above(lines):
+    """The comment above an item as one line, without its examples."""
+    return " ".join(re.sub(r"```.*?```", "", comment_above(lines), flags=re.DOTALL).split())
 
 
 class Function:
@@ -68,8 +67,7 @@ class Function:
         self.label = f"{self.owner}::{self.name}" if self.owner else self.name
         self.is_public = "pub fn" in self.head or outer.startswith("pub trait")
         self.path, self.line = source.replace("/", "/src/", 1) + ".rt", text.count("\n", 0, found.start()) + 1
-        self.comment = comment_above(text, found.start())
-        self.said = without_examples(self.comment)
+        self.comment = comment_above(text[: found.start()].splitlines())
 
 
 def functions_of(source, text):
@@ -109,7 +107,7 @@ def impls_of(text):
         hidden = subject and re.search(rf"^pub\(crate\) (?:enum|struct) {subject[1]}\b", text, re.MULTILINE)
         if trait and trait[1] not in OWN_TRAITS and not hidden:
             gives = re.findall(r"ghost next\w*_gives = .*;", found[2])
-            yield head, trait[1], without_examples(comment_above(text, found.start())), gives
+            yield head, trait[1], said_above(text[: found.start()].splitlines()), gives
 
 
 RUST, SPECS, PROOFS = texts("*/src/**/*.rt"), texts("*/specs/**/*.antt"), texts("*/proofs/**/*.antt")

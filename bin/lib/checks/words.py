@@ -2,7 +2,7 @@
 import re
 import textwrap
 
-from lib.checks.sources import LIBRARIES, NOT_LISTED, RUST, SPECS
+from lib.checks.sources import LIBRARIES, NOT_LISTED, RUST, SPECS, said_above
 
 # A definition of a specs file, the head of a module with its parameters, and what a file imports.
 ITEM = re.compile(r"( *)(?:abbrev |unfoldable )*pub (record |data )?([^\s:]+)")
@@ -70,15 +70,6 @@ def arguments(cases, known):
     return found
 
 
-def above(lines, at):
-    """The comment above a line, without its examples."""
-    first = at
-    while first and re.match(r" *(?:--(?! ----)|///|#\[)", lines[first - 1]) and indent(lines[first - 1]) == indent(lines[at]):
-        first -= 1
-    said = "\n".join(re.sub(r"^ *(?:--|///) ?", "", it) for it in lines[first:at] if "#[" not in it)
-    return " ".join(re.sub(r"```.*?```", "", said, flags=re.DOTALL).split())
-
-
 def end_of(lines, at, name):
     """The line after the definition that begins at a line."""
     depth, end = indent(lines[at]), at + 1
@@ -102,7 +93,7 @@ def spec_word(path, lines, at, end, outer):
         known = {it for _, names, _ in IMPORT.findall("\n".join(lines)) for it in re.split(r",\s*", names)}
         parameters = arguments(cases, known) or explicit(typed.partition(" :")[2])
         shown = "".join(cases).rstrip()
-    return Word(path, at + 1, (kind or "").strip(), name, " ".join([name, *outer, *parameters]), above(lines, at), shown)
+    return Word(path, at + 1, (kind or "").strip(), name, " ".join([name, *outer, *parameters]), said_above(lines[:at]), shown)
 
 
 def spec_words(path, text):
@@ -127,7 +118,7 @@ def type_word(path, text, found):
     line = text.count("\n", 0, found.start())
     shown = re.sub(r"^ *#\[.*\n", "", found[0], flags=re.MULTILINE)
     is_shown = found["kind"] in ("enum", "type", "const") or found["kind"] == "struct" and "pub " in found["rest"] + found["inside"]
-    said = above(text.splitlines(), line)
+    said = said_above(text.splitlines()[:line])
     model = re.search(rf"Model for {found['name']}\b(?:(?!^\}}).)*?ghost Value = \{{ (.*?) \}};", text, re.DOTALL | re.MULTILINE)
     seen = model[1] if model else ""
     word = Word(path, line + 1, found["kind"], found["name"], found["name"], said, shown if is_shown else "", seen)
@@ -145,7 +136,7 @@ def rust_words(path, text):
             line = text.count("\n", 0, found.start("inside") + member.start())
             name = member["name"] or member["type"]
             head, shown = f"{found['name']}.{name}", f"{name} : {' '.join(member['of'].split())}" if member["of"] else ""
-            yield head, Word(path, line + 1, "member", name, head, above(lines, line), shown)
+            yield head, Word(path, line + 1, "member", name, head, said_above(lines[:line]), shown)
 
 
 def all_words():
