@@ -54,5 +54,5 @@ def read(page):
 
 TEXTS, BLOCKS = {}, {}
 PAGES = sorted(it.relative_to(TOP).as_posix() for it in (TOP / "docs").rglob("*.md"))
-for name in ["README.md", "CALLING.md", "CONTRIBUTING.md", "CHANGELOG.md", *PAGES]:
+for name in ["README.md", "CALLING.md", "PROVING.md", "CONTRIBUTING.md", "CHANGELOG.md", *PAGES]:
     read(name)
