@@ -3,8 +3,8 @@ import re
 import textwrap
 
 from lib.checks.pages import slug
-from lib.checks.scopes import SCOPES, bounds_of, closure, displayed, members_of, types_in
-from lib.checks.sources import CALLS, IMPLS, exported
+from lib.checks.scopes import SCOPES, TRAITS, bounds_of, closure, displayed, members_of, types_in
+from lib.checks.sources import CALLS, IMPLS, SOURCES, example_of, exported, squeezed
 from lib.checks.words import WORDS
 
 INDEX = "docs/API.md"
@@ -49,7 +49,11 @@ PINNED = {
     "Name tables": LAST,
 }
 EACH = ["Last", "IsExtended", "IsExtendedCounted", "IsGathered"]
+# The calls whose words a page shows only on demand, since only proofs by hand use them.
+FOLDED = ["LiteMap::try_get_or_insert"]
 TYPES, TWINS = ("struct", "enum", "type", "trait"), "\n\n"
+# The bounds of an impl that most calls have.
+USUAL = ["K: Ord", "S: Store<K, V>"]
 CLAUSE = re.compile(r"\b(?:requires|ensures\*?)(?: \w+)? (?=\{)")
 
 
@@ -113,6 +117,11 @@ def types_of(group):
 
 
 ENTRIES = {group: group_entries(group) for group in GROUPS}
+# The types that hold pairs, each with those of our traits that it has.
+STORES = {}
+for head in (squeezed(it) for text in SOURCES.values() for it in re.findall(r"^impl\b[^{]*", text, re.MULTILINE)):
+    if found := re.search(r"(\w+)(?:<[^>]*>)? for (Vec|\w+Store)\b", head):
+        STORES.setdefault(found[2], []).append(found[1])
 USED = {group: {word for it in entries for word in it.words} for group, entries in ENTRIES.items()}
 OF_MANY = [it for it in dict.fromkeys(WORDS.values()) if sum(it in used for used in USED.values()) >= MANY]
 OF_MANY.sort(key=lambda word: word.head.lower())
@@ -163,9 +172,35 @@ def is_told(group, word, far, above):
     return word.name in pinned or near and word not in OF_MANY
 
 
+def parameters(head):
+    """The generic parameters of an impl, with their bounds."""
+    parts, depth = [""], 0
+    for sign in head.partition("<")[2] if head.startswith("impl<") else "":
+        depth += (sign == "<") - (sign == ">")
+        if depth < 0:
+            break
+        parts = [*parts, ""] if sign == "," and not depth else [*parts[:-1], parts[-1] + sign]
+    return [part.strip() for part in parts if ": " in part and not part.strip().startswith("'")]
+
+
+def types_with(bound):
+    """The types of the libraries that have each of our traits in a bound."""
+    traits = [it for it in re.findall(r"\w+", re.sub(r"<[^>]*>", "", bound)) if it in TRAITS]
+    return [name for name in STORES if all(trait in STORES[name] for trait in traits)] if traits else []
+
+
+def bounds_text(call):
+    """The bounds of a call's impl, if they are more than the usual ones, and the stores that meet them."""
+    told = []
+    for bound in (it for it in parameters(call.outer) if it not in USUAL):
+        stores = types_with(bound.partition(": ")[2]) if bound.startswith("S: ") else []
+        told.append(f"`{bound}`" + (f" (over {', '.join(f'`{it}`' for it in stores)})" if stores else ""))
+    return f"Bounds: {', '.join(told)}.\n\n" if told else ""
+
+
 def words_text(it, group, above):
     """What a page says about the words of a call. `above` has the titles that already explain a word: these are linked."""
-    text, types = "", []
+    text, types, elsewhere = "", [], []
     for word, far in it.words.items():
         link = f"[`{word.name if word.kind in TYPES else word.head}`](#{slug(above.get(word, ''))})"
         if is_told(group, word, far, above):
@@ -174,15 +209,21 @@ def words_text(it, group, above):
         elif word in above and far == 0:
             types += [link] if word.kind in TYPES else []
             text += "" if word.kind in TYPES else said(word, link)
+        elif far == 0:
+            elsewhere.append(source_link(f"`{word.name}`", word, page_of(group)))
     text += f"- {', '.join(types)}\n" if types else ""
-    return f"Its words:\n\n{text}\n" if text else ""
+    text += f"- Explained [once](../API.md#words-of-many-groups), or at the end: {', '.join(elsewhere)}\n" if elsewhere else ""
+    text = f"Its words:\n\n{text}\n" if text else ""
+    return f"<details><summary>What only a proof by hand uses</summary>\n\n{text}</details>\n\n" if it.title in FOLDED else text
 
 
 def entry(it, group, above):
     """The text of a call in the page of a group."""
     paragraphs, examples = comment(it.call.comment)
+    examples = examples or block(example_of(it.call).rstrip("\n"), "rust") * bool(example_of(it.call))
     link = source_link(f"`{it.call.path.replace('/src/', '/')}`", it.call, page_of(group))
-    return f"## {it.title}\n\n{paragraphs}{link}:\n\n{block(TWINS.join(it.contracts))}{examples}{words_text(it, group, above)}"
+    contracts = block(TWINS.join(it.contracts))
+    return f"## {it.title}\n\n{paragraphs}{bounds_text(it.call)}{link}:\n\n{contracts}{examples}{words_text(it, group, above)}"
 
 
 def listed(title, words, page):

@@ -33,6 +33,14 @@ def examples_of(text):
             yield comment, block, re.match("///|fn |impl |pub ", block) and "\n// ...\n" not in block
 
 
+def shown_by_types(text):
+    """The blocks of Rust in the `///` above a type, a trait or an impl of its own calls, each after the name of the type."""
+    for comment, block, _ in examples_of(text):
+        item = re.match(r"(?:#\[.*\n)*(?:pub (?:struct|enum|trait) (\w+)|impl(?:<.*?>)? (\w+)[<{ ])", text[comment.end() :])
+        if item:
+            yield item[1] or item[2], block
+
+
 def squeezed(text):
     """A head as one line, without its comments."""
     text = re.sub(r"\s+", " ", re.sub(r"//[^\n]*", "", text)).strip()
@@ -68,6 +76,7 @@ class Function:
         self.is_public = "pub fn" in self.head or outer.startswith("pub trait")
         self.path, self.line = source.replace("/", "/src/", 1) + ".rt", text.count("\n", 0, found.start()) + 1
         self.comment = comment_above(text[: found.start()].splitlines())
+        self.examples = re.findall(r"^```rust\n(.*?)^```$", self.comment, re.MULTILINE | re.DOTALL)
 
 
 def functions_of(source, text):
@@ -116,4 +125,20 @@ OWN_TRAITS = {"Model", *re.findall(r"^(?:pub(?:\([a-z]+\))? )?trait (\w+)", "\n"
 SOURCES = {it.replace("/src/", "/").removesuffix(".rt"): text for it, text in RUST.items() if it.split("/")[0] in LIBRARIES}
 FUNCTIONS = {source: [*functions_of(source, text)] for source, text in SOURCES.items()}
 CALLS = {source: calls for library in LIBRARIES for source, calls in library_calls(library)}
+LISTED = [(source, call) for source, calls in CALLS.items() for call in calls]
 IMPLS = {source: [*impls_of(text)] for source, text in SOURCES.items()}
+# The examples of the libraries, each after its source and the type whose calls it shows: first those above types, then those of
+# calls.
+EXAMPLES = [(source, owner, block) for source, text in SOURCES.items() for owner, block in shown_by_types(text)]
+EXAMPLES += [(source, call.owner, block) for source, call in LISTED for block in call.examples]
+
+
+def example_of(call):
+    """The example of a call: its own, else the first of its type that makes it, or, if no other type has a call of its name, the
+    first of its library, but one of its source if there is one; "" if there is none."""
+    library = call.source.split("/")[0]
+    named = {it.owner for source, it in LISTED if source.startswith(f"{library}/") and it.name == call.name}
+    near = sorted((it for it in EXAMPLES if it[0].startswith(f"{library}/")), key=lambda it: it[0] != call.source)
+    makes = re.compile(rf"(?:\.|\b[A-Z]\w*(?<!Store)(?<!Vec)(?:::<[^(]*>)?::){call.name}(?:::<[^(]*>)?\(")
+    found = [block for _, owner, block in near if makes.search(block) and (owner == call.owner or len(named) == 1)]
+    return [*call.examples, *found, ""][0]

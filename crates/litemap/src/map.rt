@@ -90,7 +90,7 @@ impl<K: Ord, V, S: Store<K, V>> LiteMap<K, V, S> {
     ///     return Ok(false);
     /// }
     /// let days: Days = LiteMap::from_sorted_store_unchecked(pairs);
-    /// Ok(days.get(&3) == Some(&"Wednesday"))
+    /// Ok(days.try_clone(alloc)?.into_tuple_vec() == days.into_tuple_vec())
     /// ```
     pub fn from_sorted_store_unchecked(store: S) -> Self
         requires { Rising K.cmp (S.pairs store) }

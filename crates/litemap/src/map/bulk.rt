@@ -57,6 +57,11 @@ impl<K: Ord + Drop, V: Drop, S: StoreFromIterable<K, V>> LiteMap<K, V, S> {
     }
 }
 
+/// ```rust
+/// let mut days: Days = LiteMap::from_vec(alloc, [(2, "Tue"), (2, "Tuesday")].to_vec(alloc)?)?;
+/// days.extend_from_vec(alloc, [(1, "Monday")].to_vec(alloc)?)?;
+/// Ok(days.as_slice() == [(1, "Monday"), (2, "Tuesday")].as_slice())
+/// ```
 impl<K: Ord + Drop, V: Drop, S: StoreBulkMut<K, V>> LiteMap<K, V, S> {
     /// Returns a map of the pairs of a vector, or an error if memory runs out (own). The last pair of each key stays, its key
     /// included.

@@ -33,6 +33,7 @@ impl<K: Ord + Drop, V, S: StoreMut<K, V>> LiteMap<K, V, S> {
     ///
     /// ```rust
     /// let mut days = three_days(alloc)?;
+    /// days.reserve(1)?;
     /// Ok(days.insert(2, "Tuesday")?.is_none() && days.insert(5, "Fri")? == Some("Friday"))
     /// ```
     pub fn insert(&mut self, key: K, value: V) -> Result<Option<V>, NoRoom<(K, V)>>
@@ -64,11 +65,12 @@ impl<K: Ord + Drop, V, S: StoreMut<K, V>> LiteMap<K, V, S> {
         }
     }
 
-    /// Returns the index and the value of a key; if the key was absent, inserts it first with what `f` returns for it.
+    /// Prefer `try_find_or_insert`, if the map is used afterwards. Returns the index and the value of a key; if the key was absent,
+    /// inserts it first with what `f` returns for it.
     ///
     /// Errors, comparisons and moves are those of `try_find_or_insert`. If the key was absent, nothing is said of the length
-    /// while the value is borrowed. The clause `leaves` says what the call leaves of the map, and only a proof by hand can use it
-    /// (docs/DECISIONS.md): to go on using the map, call `try_find_or_insert`.
+    /// while the value is borrowed. Only a proof by hand can use the clause `leaves`, which says what the call leaves of the map
+    /// (docs/DECISIONS.md).
     ///
     /// ```rust
     /// let mut days = three_days(alloc)?;
@@ -187,7 +189,9 @@ impl<K: Ord + Drop, V, S: StoreMut<K, V>> LiteMap<K, V, S> {
     ///
     /// ```rust
     /// let mut days = three_days(alloc)?;
-    /// Ok(days.remove(&3) == Some("Wednesday") && days.remove(&3).is_none())
+    /// let is_removed = days.remove(&3) == Some("Wednesday") && days.remove_by(|number| number.cmp(&5)) == Some("Friday");
+    /// days.clear();
+    /// Ok(is_removed && days.remove(&1).is_none())
     /// ```
     pub fn remove<Q: Query<K>>(&mut self, key: Q) -> Option<V>
         ensures value { result ≡ value_at Q.order self.old.pairs (Q.sought key) }

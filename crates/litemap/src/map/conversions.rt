@@ -13,6 +13,12 @@ use crate::LiteMap;
 use litemap_store::store::{Store, StoreMut};
 use std::alloc::{AllocError, Global};
 
+/// ```rust
+/// // hours: 1 8, 3 10
+/// let boxed: VecMap<Box<u32>, Box<u8>> = hours.to_boxed_keys_values(alloc)?;
+/// let (keys, values): (VecMap<Box<u32>, u8>, VecMap<u32, Box<u8>>) = (hours.to_boxed_keys(alloc)?, hours.to_boxed_values(alloc)?);
+/// Ok(boxed.len() == 2 && keys.last().is_some_and(|(_, hour)| *hour == 10) && values.get(&1).is_some_and(|hour| **hour == 8))
+/// ```
 impl<K: Ord + Clone, V: Clone, S: Store<K, V>> LiteMap<K, V, S> {
     /// Returns a map with boxes of clones of the keys and values, or an error if memory runs out.
     pub fn to_boxed_keys_values<B: StoreMut<Box<K>, Box<V>> + Drop>(
@@ -76,7 +82,8 @@ impl<'a, K: Ord + 'a, V: 'a, S: Store<K, V>> LiteMap<K, V, S> {
     /// ```rust
     /// // hours: 1 8, 3 10
     /// let lent: VecMap<&u32, &u8> = hours.to_borrowed_keys_values(alloc)?;
-    /// Ok(lent.get(&&3) == Some(&&10))
+    /// let (keys, values): (VecMap<&u32, u8>, VecMap<u32, &u8>) = (hours.to_borrowed_keys(alloc)?, hours.to_borrowed_values(alloc)?);
+    /// Ok(lent.get(&&3) == Some(&&10) && keys.get(&&1) == Some(&8) && values.get(&1) == Some(&&8))
     /// ```
     pub fn to_borrowed_keys_values<B: StoreMut<&'a K, &'a V> + Drop>(
         &'a self,

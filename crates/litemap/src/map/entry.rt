@@ -17,6 +17,15 @@ use std::fmt::{self, Debug, Formatter, Write};
 use std::mem;
 
 /// A key of a map, present or absent.
+///
+/// ```rust
+/// // hours: 1 8, 3 10
+/// let is_made = *hours.entry(2).or_default()? == 0 && *hours.entry(4).or_insert_with(|| 9)? == 9 && *hours.entry(4).key() == 4;
+/// match hours.entry(5) {
+///     Entry::Vacant(entry) => Ok(is_made && entry.into_key() == 5),
+///     Entry::Occupied(_) => Ok(false),
+/// }
+/// ```
 #[derive(Drop)]
 pub enum Entry<'a, K: Ord, V, S: Store<K, V>> {
     /// The key is present.
@@ -26,6 +35,17 @@ pub enum Entry<'a, K: Ord, V, S: Store<K, V>> {
 }
 
 /// The entry of a present key. No call on it takes memory, compares keys, or fails.
+///
+/// ```rust
+/// // hours: 1 8, 3 10
+/// let Entry::Occupied(mut entry) = hours.entry(1) else {
+///     return Ok(false);
+/// };
+/// *entry.get_mut() = 9;
+/// let is_nine = *entry.key() == 1 && *entry.get() == 9 && *entry.into_mut() == 9;
+/// let (first, last) = (hours.first_entry().map(|it| it.remove_entry()), hours.last_entry().map(|it| it.remove()));
+/// Ok(is_nine && first == Some((1, 9)) && last == Some(10))
+/// ```
 #[derive(Drop)]
 pub struct OccupiedEntry<'a, K: Ord, V, S: Store<K, V>> {
     map: &'a mut LiteMap<K, V, S>,

@@ -44,7 +44,7 @@ impl<K: Ord, V> LiteMap<K, V, Vec<(K, V)>> {
     /// ```rust
     /// let mut days: Days = LiteMap::with_capacity(alloc, 100)?;
     /// days.shrink_to_fit();
-    /// days.capacity() == 0
+    /// days.capacity() == 0 && days.as_store().is_empty()
     /// ```
     pub fn shrink_to_fit(&mut self)
         ensures pairs { self.new.pairs ≡ self.old.pairs }

@@ -14,6 +14,11 @@ use litemap_store::store::{IntoKeys, IntoValues, StoreIntoIterator, StoreIterabl
 pub use range::RangeIter;
 use std::marker::PhantomData;
 
+/// ```rust
+/// // days: 1 Monday, 3 Wednesday, 5 Friday
+/// let (keys, values) = (days.keys().next() == days.iter_keys().next(), days.values().next() == days.iter_values().next());
+/// keys && values && days.keys().len() == 3 && days.iter().next_back() == Some((&5, &"Friday"))
+/// ```
 impl<'a, K: Ord + 'a, V: 'a, S: StoreIterable<'a, K, V>> LiteMap<K, V, S> {
     /// Returns an iterator over all pairs, in the order of their keys.
     pub fn iter(&'a self) -> S::KeyValueIter

@@ -16,6 +16,12 @@ use litemap_store::Query;
 use litemap_store::store::{Count, Store};
 use std::cmp::Ordering;
 
+/// ```rust
+/// // days: 1 Monday, 3 Wednesday, 5 Friday
+/// days.keys_ascend();
+/// let is_wednesday = days.contains_key(&3) && *days.index(&3) == "Wednesday" && days.get_key_value(&3) == days.get_indexed(1);
+/// is_wednesday && !days.is_empty() && days.len() == 3 && days.first() == days.get_indexed(0) && days.last() == days.get_indexed(2)
+/// ```
 impl<K: Ord, V, S: Store<K, V>> LiteMap<K, V, S> {
     /// Returns the number of pairs.
     pub fn len(&self) -> usize

@@ -54,7 +54,9 @@ impl<K: Ord + Drop, V: Drop, S: StoreBulkMut<K, V>> LiteMap<K, V, S> {
     /// let mut days = three_days(alloc)?;
     /// let open: VecMap<u32, ()> = LiteMap::from_iter(alloc, [(1, ()), (2, ()), (5, ())])?;
     /// days.keep_keys_of(&open);
-    /// Ok(days.as_slice() == [(1, "Monday"), (5, "Friday")].as_slice())
+    /// let is_left = days.is_subset(&open) && days.as_slice() == [(1, "Monday"), (5, "Friday")].as_slice();
+    /// days.remove_keys_of(&open);
+    /// Ok(is_left && days.is_empty())
     /// ```
     pub fn keep_keys_of<W, T: Store<K, W>>(&mut self, other: &LiteMap<K, W, T>)
         ensures pairs { self.new.pairs ≡ filter (λ p. is_some (at K.cmp other.now.pairs p.0)) self.old.pairs }

@@ -19,6 +19,11 @@ use std::alloc::{AllocError, Global};
 use std::mem;
 use std::ops::Bound;
 
+/// ```rust
+/// let mut days = three_days(alloc)?;
+/// let (first, last) = (days.pop_first(), days.pop_last());
+/// Ok(first == Some((1, "Monday")) && last == Some((5, "Friday")) && days.remove_entry(&3) == Some((3, "Wednesday")))
+/// ```
 impl<K: Ord, V, S: StoreMut<K, V>> LiteMap<K, V, S> {
     /// Removes the pair with an equal key, and returns it, or `None` if there is none (own). The key returned is the map's own,
     /// which may differ from the one that is looked up. It compares and moves as `remove` does.

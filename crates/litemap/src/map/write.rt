@@ -21,6 +21,12 @@ use litemap_store::retain::SwapStore;
 use litemap_store::store::{Count, StoreMut};
 use std::cmp::Ordering;
 
+/// ```rust
+/// let mut days = three_days(alloc)?;
+/// let monday = days.get_indexed_mut(0).map(|name| mem::replace(name, "Mon"));
+/// let friday = days.get_mut_by(|number| number.cmp(&5)).map(|name| mem::replace(name, "Fri"));
+/// Ok(monday == Some("Monday") && friday == Some("Friday") && days.contains_key(&1) && *days.index_mut(&1) == "Mon")
+/// ```
 impl<K: Ord, V, S: StoreMut<K, V>> LiteMap<K, V, S> {
     /// Returns a mutable reference to the value of the pair with an equal key, or `None` if there is none.
     ///
