@@ -11,6 +11,10 @@ use Rattle.litemap_store.specs.Pairs.{Rising}
 abbrev pub Gives : {U T X : Type 0} → (U → T → Type 0) → (T → Option X → T → Type 0) → U → List X → Type 0
 Gives {U} {T} becomes steps iter items = (it : T) × becomes iter it × Drains steps it items
 
+-- iter becomes an iterator that yields items of which P holds, and then ends
+abbrev pub GivesSuch : {U T X : Type 0} → (U → T → Type 0) → (T → Option X → T → Type 0) → U → (List X → Type 0) → Type 0
+GivesSuch {X = X} becomes steps iter P = (items : List X) × Gives becomes steps iter items × P items
+
 -- iter becomes an iterator that yields an item first
 abbrev pub GivesSome : {U T X : Type 0} → (U → T → Type 0) → (T → Option X → T → Type 0) → U → Type 0
 GivesSome {U} {T} {X} becomes steps iter = (it rest : T) × (x : X) × becomes iter it × steps it (Some x) rest
@@ -46,4 +50,4 @@ module _ {U T K V : Type 0} (cmp : K → K → Ordering) (becomes : U → T → 
   -- if the call fails, none was counted, or no more than for the pairs that iter yields before it ends
   abbrev pub IsRefusedCounted : U → List (K × V) → Count → Count → Type 0
   IsRefusedCounted iter old before after = RisesByAtMost 0 before after
-      ⊎ ((given : List (K × V)) × Gives becomes steps iter given × IsCountedFor cmp old given before after)
+      ⊎ GivesSuch becomes steps iter (λ given. IsCountedFor cmp old given before after)

@@ -2,7 +2,7 @@
 ghost use Rattle.std.specs.Prelude.{◌≡◌, ◌<◌, ◌≤◌, ◌+◌, ◌*◌, ◌++◌, [], IfErr, IfOk, IsOk, OnOk, OnErr, length, reverse};
 ghost use Rattle.std.specs.Option.{option_or};
 ghost use Rattle.std.specs.Iterator.{IsFiniteIterable};
-ghost use Rattle.litemap_store.specs.Bulk.{GivesSome, IsExtended, IsExtendedCounted, IsHandedBack, IsRefusedCounted};
+ghost use Rattle.litemap_store.specs.Bulk.{GivesSome, GivesSuch, IsExtended, IsExtendedCounted, IsHandedBack, IsRefusedCounted};
 ghost use Rattle.litemap_store.specs.Counts.{GoesOn, RisesByAtMost};
 ghost use Rattle.litemap_store.specs.Last.{Last, Rises};
 ghost use Rattle.litemap_store.specs.Pairs.{Rising, value_at};
@@ -45,6 +45,8 @@ impl<K: Ord + Drop, V: Drop, S: StoreFromIterable<K, V>> LiteMap<K, V, S> {
         requires { IsFiniteIterable I.into_iter_gives I.IntoIter.can_next I.IntoIter.remaining iter }
         ensures made { IfOk result (λ m. IsExtendedCounted K.cmp I.into_iter_gives I.IntoIter.next_gives
             iter [] m.pairs count.old count.new) }
+        ensures rising { OnOk result (GivesSuch I.into_iter_gives I.IntoIter.next_gives iter
+            (λ given. Rising K.cmp given → RisesByAtMost (length given) count.old count.new)) }
         ensures refused_cost { OnErr result
             (IsRefusedCounted K.cmp I.into_iter_gives I.IntoIter.next_gives iter [] count.old count.new) }
         ensures refused_some { S.fails_for_pairs_only
@@ -137,6 +139,11 @@ impl<K: Ord + Drop, V: Drop, S: StoreBulkMut<K, V>> LiteMap<K, V, S> {
         requires { IsFiniteIterable I.into_iter_gives I.IntoIter.can_next I.IntoIter.remaining iter }
         ensures extended { OnOk result (IsExtendedCounted K.cmp I.into_iter_gives I.IntoIter.next_gives
             iter self.old.pairs self.new.pairs count.old count.new) }
+        // The bounds of `extended`, each of its own.
+        ensures all_above { OnOk result (GivesSuch I.into_iter_gives I.IntoIter.next_gives iter
+            (λ given. Rises K.cmp self.old.pairs given → RisesByAtMost (length given) count.old count.new)) }
+        ensures rising { OnOk result (GivesSuch I.into_iter_gives I.IntoIter.next_gives iter (λ given.
+            Rising K.cmp given → RisesByAtMost (length self.old.pairs + 2 * length given) count.old count.new)) }
         ensures refused { OnErr result (self.new.pairs ≡ self.old.pairs) }
         ensures refused_cost { OnErr result (IsRefusedCounted K.cmp I.into_iter_gives I.IntoIter.next_gives
             iter self.old.pairs count.old count.new) }
