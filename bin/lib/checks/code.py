@@ -7,7 +7,7 @@ from lib.shared import TOP
 
 # The lines that a block leaves out.
 LEFT_OUT = re.compile(r"^ *// \.\.\.\n", re.MULTILINE)
-# The sources whose items are shown in comments; so are those of bin/lib/examples.rt.in.
+# The sources whose items are shown in comments. Pages and comments show items of bin/lib/examples.rt.in, too.
 SHOWN = re.compile(r"example_(?:uses|formats|store)/src/\w+\.rt")
 
 
@@ -23,11 +23,12 @@ def stands_in(block, sources):
 
 
 def check(report, _):
+    examples = (TOP / "bin" / "lib" / "examples.rt.in").read_text(encoding="utf-8")
     for block in (it for page, blocks in BLOCKS.items() if not page.startswith("docs/api/") for it in blocks):
         if block.language == "rust":
-            report.see(stands_in(block.inside, RUST.values()), f"{block.where}: the block stands in no crate")
+            report.see(stands_in(block.inside, [*RUST.values(), examples]), f"{block.where}: the block stands in no crate")
     shown = [trimmed(text) for path, text in RUST.items() if SHOWN.fullmatch(path)]
-    shown.append(trimmed((TOP / "bin" / "lib" / "examples.rt.in").read_text(encoding="utf-8")))
+    shown.append(trimmed(examples))
     for path, text in RUST.items():
         for comment, block, is_item in examples_of(text):
             line = text.count("\n", 0, comment.start()) + 1

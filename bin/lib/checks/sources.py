@@ -139,6 +139,7 @@ def example_of(call):
     library = call.source.split("/")[0]
     named = {it.owner for source, it in LISTED if source.startswith(f"{library}/") and it.name == call.name}
     near = sorted((it for it in EXAMPLES if it[0].startswith(f"{library}/")), key=lambda it: it[0] != call.source)
-    makes = re.compile(rf"(?:\.|\b[A-Z]\w*(?<!Store)(?<!Vec)(?:::<[^(]*>)?::){call.name}(?:::<[^(]*>)?\(")
+    above = r"(?:\.|\b[A-Z]\w*(?<!Store)(?<!Vec)(?:::<[^(]*>)?::)" if call.owner else r"(?<![.:\w])"
+    makes = re.compile(rf"{above}{call.name}(?:::<[^(]*>)?\(")
     found = [block for _, owner, block in near if makes.search(block) and (owner == call.owner or len(named) == 1)]
     return [*call.examples, *found, ""][0]

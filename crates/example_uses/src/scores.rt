@@ -11,7 +11,7 @@ use std::alloc::{AllocError, Global};
 /// A map from names to scores, over a vector.
 pub type Scores = VecMap<String, u32>;
 
-/// Sets a score, which a lookup of the name then finds. An error leaves the map.
+/// Sets a score, which a lookup of the name then finds. On error the map is unchanged.
 pub fn set(scores: &mut Scores, name: String, score: u32) -> Result<(), AllocError>
     ensures there { OnOk result (value_at by_string scores.new.pairs (string_bytes name) ≡ Some score) }
     ensures refused { OnErr result (scores.new.pairs ≡ scores.old.pairs) }
