@@ -2,9 +2,9 @@
 import pathlib
 import typing
 
-CALLS = pathlib.Path(__file__).resolve().parent.parent / "diff" / "calls.txt"
-# The titles of what is measured, by the names in the lines of the programs. A new measure gets a row in diff/calls.txt.
-TITLES = dict(row.split(" | ") for row in CALLS.read_text(encoding="utf-8").splitlines() if row.count(" | ") == 1 and row[0] != "#")
+MEASURED = pathlib.Path(__file__).resolve().parent.parent / "crates" / "test_replay" / "calls" / "measured.txt"
+# The titles of what is measured, by the names in the lines of the programs. A new measure gets a row in measured.txt.
+TITLES = dict(row.split(" | ") for row in MEASURED.read_text(encoding="utf-8").splitlines()[1:])
 KEYS = {
     "number": "`u64` keys",
     "text": "`String` keys",

@@ -15,7 +15,7 @@ RANGES = [3, 8, 20, 60, 60, 200, 600, 2**27]
 PLACES = [2, 6, 20, 60, 200]
 # Lengths of lists at which a body here takes another way.
 LENGTHS = [7, 8, 9, 15, 16, 17, 18, 20, 21, 30, 31, 32, 33, 41, 63, 64, 65, 100, 255, 256]
-# The stores that rows of calls.txt name.
+# The stores that rows of arguments.txt name.
 OVER = {"all": STORES, "slice": SLICED, "vec": ["vec"]}
 # By store, how often one of some calls is picked, the words after it, and the calls.
 CALLS_OVER = {

@@ -1,17 +1,21 @@
-"""Compares the table of all calls, diff/calls.txt, with docs/api, with the calls of lines, and with the Rust crate."""
+"""Compares the tables of calls in crates/test_replay/calls with docs/api, with the calls of lines, and with the Rust crate."""
 import re
 
 import lines
 
 
+def read(top, name):
+    """The rows of a table, without its first line, which says what its columns are."""
+    _, *rows = (top / "crates" / "test_replay" / "calls" / name).read_text().splitlines()
+    return [row.split(" | ") for row in rows]
+
+
 def rows(top):
     """Each call of ours, the calls of lines that make it, and what the table says about the Rust crate's."""
-    for line in (top / "diff" / "calls.txt").read_text().splitlines():
-        if line.count("|") == 2 and not line.startswith("#"):
-            ours, made, theirs = (part.strip() for part in line.split("|"))
-            owner, colons, names = ours.rpartition("::")
-            for name in names.split(" ") if colons else [ours]:
-                yield f"{owner}{colons}{name}", made.replace("=", name).split(" "), theirs.replace("=", name)
+    for ours, made, theirs in read(top, "beside.txt"):
+        owner, colons, names = ours.rpartition("::")
+        for name in names.split(" ") if colons else [ours]:
+            yield f"{owner}{colons}{name}", made.replace("=", name).split(" "), theirs.replace("=", name)
 
 
 def listed(top):
@@ -42,4 +46,5 @@ def missing(top, crate=None):
     there = {*calls, *(f"group {group}" for group in calls.values()), "-"}
     spare = [f"{it}, which docs/api does not list" for it in sorted(named - there)]
     spare += [f"{it}, which no line calls" for it in sorted(made - picked)]
-    return [f"diff/calls.txt has no row for {it}" for it in lacks] + [f"diff/calls.txt names {it}" for it in spare]
+    where = "table in crates/test_replay/calls"
+    return [f"no {where} has a row for {it}" for it in lacks] + [f"a {where} names {it}" for it in spare]

@@ -23,16 +23,18 @@ LENGTHS = [0, 1, 2, 3, 4, 5, 7, 8, 9, 12, 16, 17, 20, 21, 24, 30, 33, 65, 100, 1
 GROWING = "vec columns short"
 SLICED = "vec short"
 ALL = GROWING + " fixed"
-# A row of diff/calls.txt: how often one of its calls is picked, over which stores, the words after them, and their names.
-Group = collections.namedtuple("Group", "often over words names")
+# A row of calls/arguments.txt, whose first line says what its columns are.
+Group = collections.namedtuple("Group", "often over words refused names")
 
 
-def group(often, over, words, names):
-    return Group(int(often), over, words.replace("-", "").split(), names.split(" "))
+def group(often, over, words, refused, names):
+    return Group(int(often), over, words.replace("-", "").split(), refused, names.split(" "))
 
 
-ROWS = [row.split(" | ") for row in (FOLDER.parent.parent / "diff" / "calls.txt").read_text(encoding="utf-8").splitlines()]
-GROUPS = {name: group(*row) for name, *row in (row for row in ROWS if len(row) == 5)}
+_, *ROWS = (FOLDER / "calls" / "arguments.txt").read_text(encoding="utf-8").splitlines()
+GROUPS = {name: group(*row) for name, *row in (row.split(" | ") for row in ROWS)}
+# The group of each call.
+GROUP_OF = {name: it for it in GROUPS.values() for name in it.names}
 
 
 def named(*groups):
@@ -735,16 +737,17 @@ READ_ONLY = {"get"}
 FEW = 16
 LOOK_UPS = {"find_index", "find_index_counted", "find_index_by", "lm_binary_search_by", "contains_key", "get_key_value"}
 LOOK_UPS |= {"get", "get_counted", "get_by", "index", "get_mut", "get_mut_by", "index_mut"}
-PUTS, ENTERING = named("put", "put_at", "find_or_put"), named("enter")
-ENTRIES, TWICE = [*ENTERING, *named("enter_key", "enter_out", "enter_text")], named("enter_twice")
-EXTENSIONS = named("extend", "store_extend")
-MERGES, COMBINES, BESIDE, READS, RUNS, MAKES = map(named, ("merge", "combine", "beside", "read", "run", "make"))
-RENAMES, MADE = named("rename"), named("store_make")
+PUTS, ENTERING = named("put", "put_at", "find_or_put", "find_or_fail"), named("enter")
+ENTRIES, TWICE = [*ENTERING, *named("enter_default", "enter_key", "enter_out", "enter_text")], named("enter_twice")
+EXTENDING, MAKING = ["extend", "extend_of_vec"], ["make", "make_of_vec"]
+STORE_EXTENDING, STORE_MAKING = ["store_extend", "store_extend_of_vec"], ["store_sort", "store_sort_vec", "store_make"]
+EXTENSIONS, MAKES, MADE = named(*EXTENDING, *STORE_EXTENDING), named(*MAKING), named(*STORE_MAKING)
+MERGES, COMBINES, BESIDE, READS, RUNS, RENAMES = map(named, ("merge", "combine", "beside", "read", "run", "rename"))
 # The calls whose first word is a key that is searched for.
 KEYED = {*LOOK_UPS, *PUTS, *ENTRIES, *TWICE, *RENAMES, *named("take", "take_pair"), "split_off"}
 # The groups of lookups, of calls with a pair, and of those that take a key out.
 LOOKING = ["get", "get_pair", "get_more", "find", "index"]
-PAIRED, TAKING = ["put", "put_at", "find_or_put", "enter"], ["take", "take_pair"]
+PAIRED, TAKING = ["put", "put_at", "find_or_put", "find_or_fail", "enter"], ["take", "take_pair"]
 # The number of clones that each conversion makes of a pair.
 CONVERSIONS = {"try_clone": 2, "cloned": 2, "to_boxed_keys_values": 2, "to_boxed_keys": 2, "to_boxed_values": 2, "to_keys_by": 1}
 CONVERSIONS |= {"to_borrowed_keys_values": 0, "to_borrowed_keys": 1, "to_borrowed_values": 1}
@@ -862,7 +865,7 @@ def changes():
     """The calls that insert, write or remove one pair, or visit all pairs."""
     for length in LENGTHS + [3000]:
         words = {"KEY": keys(length), "VALUE": [7]}
-        calls = [*spelled(*PAIRED, "enter_key", "enter_out", "enter_text", "enter_write", MORE=[9], **words)]
+        calls = [*spelled(*PAIRED, "enter_default", "enter_key", "enter_out", "enter_text", "enter_write", MORE=[9], **words)]
         writes = [*spelled("write", **words), *spelled("write_at", PLACE=(*indices(length), length, 2**64 - 1), VALUE=[7])]
         writes += spelled(*TAKING, **words)
         writes += ["pop_first", "pop_last", "clear", "update 5", "reserve 0", "reserve 1"]
@@ -914,18 +917,18 @@ def bulk():
     for length in [0, 1, 2, 3, 5, 12, 16, 17, 24, 30, 33, 65, 100, 129, 1000]:
         given = list(inputs(length)) + ([f"{2 * length + 1},1000,1", "1,1000,2", "4000,1000,-4"] if length in (0, 17, 1000) else [])
         given += astray(length) if length in (0, 1, 12, 33, 129) else []
-        calls = [*spelled("extend", "merge", PAIRS=given)]
+        calls = [*spelled(*EXTENDING, "merge", PAIRS=given)]
         calls += [f"split_off {key}" for key in keys(length)]
         yield from block(GROWING, length, 0, [*calls, *spelled("read", HINT="-", ERROR="-", PAIRS=given)])
         yield from block(GROWING, length, 3000, [call for call in calls if is_before(call)])
         yield from block(ALL, length, 3000, [call for call in calls if not is_before(call)])
         if length in (0, 5, 30):
-            made = [*spelled("make", PAIRS=given)]
+            made = [*spelled(*MAKING, PAIRS=given)]
             yield from block(ALL, length, 0, made + ["new", "with_capacity 0", "with_capacity 1", "with_capacity 16", "with_capacity 100", "with_capacity 100000"])
             hints = [0, 1, 3, 17, 65536, 65537, 2**40, 2**63, 2**64 - 1]
             errors = spelled("read", HINT=hints, ERROR=("-", 0, 1, 4, 5), PAIRS=["1,5,2"])
             yield from block(GROWING, length, 0, errors)
-    above = [*spelled("extend", PAIRS=[f"1001,{count},1" for count in (0, 1, 2, 40)])]
+    above = [*spelled(*EXTENDING, PAIRS=[f"1001,{count},1" for count in (0, 1, 2, 40)])]
     for room in (0, 1, 2, 39):
         yield from block("fixed", 20, room, above + ["reserve 3", f"reserve {room}"], is_fixed=True)
 
@@ -935,7 +938,6 @@ def is_before(call):
     name, *words = call.split(" ")
     codes = [int(key) for key, _ in Model(Order("number")).given(words)] if name in MERGES + COMBINES else []
     return bool(codes) and max(codes) < 2
-
 
 
 def stores():
@@ -957,14 +959,14 @@ def stores():
         if length:
             yield from block("fixed", length, 0, ["lm_extend_end 9999:1", "lm_extend_start 1:1"], is_fixed=True)
         given = list(inputs(length))
-        many = [*spelled("store_extend", *(["store_join"] if length <= 33 else []), PAIRS=given)]
+        many = [*spelled(*STORE_EXTENDING, *(["store_join"] if length <= 33 else []), PAIRS=given)]
         yield from block(GROWING, length, 0, many)
         yield from block(ALL, length, 100, [call for call in many if not call.startswith("lm_extend_start")])
     for length in range(5):
         for given in itertools.product("123", repeat=length):
             pairs = "".join(f" {key}:{place}" for place, key in enumerate(given, 1))
             yield from chain(ALL, [f"lm_from_pairs{pairs}", "is_sorted_store"])
-    made = [*spelled("store_make", PAIRS=[*inputs(20)])]
+    made = [*spelled(*STORE_MAKING, PAIRS=[*inputs(20)])]
     yield from block(ALL, 5, 0, made + ["lm_empty 0", "lm_with_capacity 0", "lm_with_capacity 1", "lm_with_capacity 17"])
 
 

@@ -4,7 +4,7 @@ use crate::keys::Key;
 use litemap::LiteMap;
 use std::mem::take;
 
-/// A call that is measured. Its title is in diff/calls.txt, under its name in lower case.
+/// A call that is measured. Its title is in crates/test_replay/calls/measured.txt.
 #[derive(Clone, Copy, Debug)]
 pub enum Call {
     Get,

@@ -1,4 +1,4 @@
-"""The pages of all calls, and diff/calls.txt, agree with the sources."""
+"""The pages of all calls, and the tables in crates/test_replay/calls, agree with the sources."""
 import re
 import sys
 
