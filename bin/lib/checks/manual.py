@@ -11,16 +11,16 @@ INDEX = "docs/API.md"
 START, END = "<!-- bin/check writes what follows. -->\n", "<!-- bin/check writes what is above. -->\n"
 # What a caller wants to do, and the sources of the calls for it.
 GROUPS = {
-    "Make a map": "litemap: lib map map/traits map/inside",
+    "Make a map": "litemap: lib map map/traits",
     "Look up": "litemap: map/look map/ranges",
     "Change": "litemap: map/change map/take map/positions try_fault",
-    "Write a value in place": "litemap: map/write map/iter_mut",
+    "Write a value in place": "litemap: map/write",
     "Entries": "litemap: map/entry",
     "Many at once": "litemap: map/bulk",
-    "Merge and compare keys": "litemap: map/merge map/sets",
-    "Walk": "litemap: map/iter map/iter/keys_values map/iter/range",
+    "Merge and compare keys": "litemap: map/merge",
+    "Walk": "litemap: map/iter map/iter/range",
     "Compare and hash": "litemap: map/comparisons",
-    "Convert and borrow": "litemap: map/conversions map/becomes map/slice",
+    "Convert and borrow": "litemap: map/conversions",
     "Tables in constants": "litemap: const_family",
     "Read from a source": "litemap_read: source vec_source read laws",
     "JSON": "litemap_json: write text read fault told laws item pairs written",

@@ -42,8 +42,7 @@ impl<'a, K: Ord, V> LiteMap<K, V, SliceStore<'a, K, V>> {
         &pairs[index]
     }
 
-    // Returns the index and the value of the equal key, or `None` if there is none. Unlike `get`, the public lookups below have
-    // no counted variant: each passes a fresh count.
+    // Returns the index and the value of the equal key, or `None` if there is none.
     fn const_find<Q: Query<K>>(&self, key: Q, count: &mut Count) -> Option<(usize, &'a V)>
         ensures found { GetsWithIndex Q.order self.now.pairs (Q.sought key) result }
         ensures cost { RisesByAtMost (digits (length self.now.pairs)) count.old count.new }

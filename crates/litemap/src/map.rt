@@ -1,23 +1,18 @@
 //! The map: its type, and how one is made.
-ghost use Rattle.std.specs.Prelude.{◌≡◌, ◌↔◌, ◌≤◌, [], IfErr, IfOk, IsOk, IsTrue, OnErr};
+ghost use Rattle.std.specs.Prelude.{◌≡◌, ◌↔◌, ◌+◌, ◌≤◌, [], IfErr, IfOk, IsOk, IsTrue, OnErr, length};
 ghost use Rattle.litemap_store.specs.Pairs.{Rising};
 ghost use Rattle.litemap_store.specs.Clones.{ClonesAreSame, ClonesCompareEqual, PairsBecame};
 
-mod becomes;
 mod bulk;
 mod change;
 mod comparisons;
 mod conversions;
 mod entry;
-mod inside;
 mod iter;
-mod iter_mut;
 mod look;
 mod merge;
 mod positions;
 mod ranges;
-mod sets;
-mod slice;
 mod take;
 mod traits;
 mod write;
@@ -78,6 +73,28 @@ impl<K: Ord, V> LiteMap<K, V, Vec<(K, V)>> {
     {
         self.store
     }
+
+    /// Returns the number of pairs that the map has memory for (own).
+    pub fn capacity(&self) -> usize
+        ensures { result ≡ length self.now.pairs + self.now.room }
+    {
+        self.store.capacity()
+    }
+
+    /// Gives spare memory back where it can, and all memory of an empty map (own). It may move all pairs, and never fails.
+    ///
+    /// ```rust
+    /// let mut days: Days = LiteMap::with_capacity(alloc, 100)?;
+    /// days.shrink_to_fit();
+    /// days.capacity() == 0 && days.as_store().is_empty()
+    /// ```
+    pub fn shrink_to_fit(&mut self)
+        ensures pairs { self.new.pairs ≡ self.old.pairs }
+        ensures room { self.new.room ≤ self.old.room }
+        ensures frees { self.old.pairs ≡ [] → self.new.room ≡ 0 }
+    {
+        self.store.shrink_to_fit();
+    }
 }
 
 impl<K: Ord, V, S: Store<K, V>> LiteMap<K, V, S> {
@@ -137,6 +154,29 @@ impl<K: Ord, V, S: Store<K, V>> LiteMap<K, V, S> {
         }
         true
     }
+
+    /// Returns a reference to the store (own).
+    pub fn as_store(&self) -> &S
+        ensures pairs { S.pairs result.now ≡ self.now.pairs }
+        ensures room { S.room result.now ≡ self.now.room }
+    {
+        &self.store
+    }
+
+    /// Returns the store, whose keys are strictly ascending (own). `from_sorted_store_unchecked` makes a map of it again.
+    ///
+    /// ```rust
+    /// let days: ColumnMap<u32, &str> = [(3, "Wednesday"), (1, "Monday")].into_iter().collect(alloc)?;
+    /// let (numbers, names) = days.into_store().into_columns();
+    /// Ok(numbers.as_slice() == [1, 3].as_slice() && names.as_slice() == ["Monday", "Wednesday"].as_slice())
+    /// ```
+    pub fn into_store(self) -> S
+        ensures pairs { S.pairs result ≡ self.pairs }
+        ensures room { S.room result ≡ self.room }
+        ensures rising { Rising K.cmp (S.pairs result) }
+    {
+        self.store
+    }
 }
 
 impl<K: Ord, V, S: StoreConstEmpty<K, V>> LiteMap<K, V, S> {
@@ -172,8 +212,7 @@ impl<K: Ord, V, S: StoreMut<K, V>> LiteMap<K, V, S> {
     /// Returns a map of clones of the keys and values, or an error if memory runs out. It never fails for an empty map.
     ///
     /// A clone of each key has to compare `Equal` to it; for `String` keys the caller's attribute
-    /// `using(litemap::proofs::Texts::text_clones)` shows that. No keys are compared. In the Rust crate this is the trait
-    /// `Clone`.
+    /// `using(litemap::proofs::Texts::text_clones)` shows that. No keys are compared.
     pub fn try_clone(&self, alloc: Global) -> Result<Self, AllocError>
     where
         K: Clone,

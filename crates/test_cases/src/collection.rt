@@ -36,6 +36,21 @@ pub(crate) fn a_map_is_indexed_and_taken(alloc: Global) -> Outcome {
     Ok(is_read && map.is_empty() && taken.as_slice() == [(1, 10), (2, 21), (3, 30)].as_slice())
 }
 
+// A map goes into another, whose own keys stay, and is empty then.
+pub(crate) fn a_map_goes_into_another(alloc: Global) -> Outcome {
+    let mut outcome = true;
+    for len in LENGTHS {
+        let mut map = map_of_tens(alloc, len)?;
+        let mut more: Map = VecMap::from_iter(alloc, [(2, 7), (30, 8)])?;
+        map.append(alloc, &mut more)?;
+        more.append(alloc, &mut map)?;
+        let found = more.get(&2) == Some(&7) && more.get(&30) == Some(&8);
+        let old = more.get(&1) == if len > 0 { Some(&10) } else { None };
+        outcome = outcome && map.is_empty() && found && old;
+    }
+    Ok(outcome)
+}
+
 // A clone of an iterator goes on from where that one is.
 pub(crate) fn iterators_are_cloned(alloc: Global) -> Outcome {
     let map = map_of_tens(alloc, 3)?;

@@ -63,11 +63,12 @@ fn main(rt: HostRuntime) -> ExitCode {
     }
 }
 
-fn cases(alloc: Global) -> [(&'static str, Outcome); 52] {
+fn cases(alloc: Global) -> [(&'static str, Outcome); 53] {
     outcomes! { alloc;
         closures::one_of_the_keys_called_equal_is_found,
         closures::a_closure_compares_with_another_type,
         collection::a_map_is_indexed_and_taken,
+        collection::a_map_goes_into_another,
         collection::iterators_are_cloned,
         collection::ranges_are_written_as_in_rust,
         collection::a_store_comes_out,

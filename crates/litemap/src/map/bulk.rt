@@ -16,8 +16,7 @@ impl<K: Ord + Drop, V: Drop, S: StoreFromIterable<K, V>> LiteMap<K, V, S> {
     /// key included.
     ///
     /// It compares each key with the one before it, and sorts the pairs only if they don't ascend. Over the stores of this
-    /// library it never fails for an iterator that yields nothing. Of a vector it returns the map that the clause `made` of
-    /// `from_vec` tells in one line. In the Rust crate this is the trait `FromIterator`.
+    /// library it never fails for an iterator that yields nothing.
     ///
     /// ```rust
     /// let days: Days = LiteMap::from_iter(alloc, [(2, "Tue"), (1, "Mon"), (2, "Tuesday")])?;
@@ -98,8 +97,7 @@ impl<K: Ord + Drop, V: Drop, S: StoreBulkMut<K, V>> LiteMap<K, V, S> {
     }
 
     /// Extends the map by the pairs that an iterator yields, or fails if memory runs out. The last pair of each key stays, its
-    /// key included. Old pairs count as earlier than new ones: so a new key replaces an equal old one. Of a vector it leaves what
-    /// the clause `last` of `extend_from_vec` tells in one line.
+    /// key included. Old pairs count as earlier than new ones: so a new key replaces an equal old one.
     ///
     /// If it fails, the map keeps its pairs, and those taken from the iterator are dropped. Over the stores of this library it
     /// never fails for an iterator that yields nothing. It does not use the iterator's size hint. Nothing is promised of the
@@ -107,7 +105,7 @@ impl<K: Ord + Drop, V: Drop, S: StoreBulkMut<K, V>> LiteMap<K, V, S> {
     ///
     /// Ascending pairs above the last key are appended, with at most one comparison for each. Other ascending pairs are merged,
     /// with at most one comparison for each old and two for each new pair, and each pair moves a constant number of times. Pairs
-    /// that don't ascend are sorted first, by comparisons that aren't counted. In the Rust crate this is the trait `Extend`.
+    /// that don't ascend are sorted first, by comparisons that aren't counted.
     ///
     /// ```rust
     /// let mut days = three_days(alloc)?;

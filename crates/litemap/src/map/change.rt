@@ -74,10 +74,7 @@ impl<K: Ord + Drop, V, S: StoreMut<K, V>> LiteMap<K, V, S> {
     ///
     /// ```rust
     /// let mut days = three_days(alloc)?;
-    /// match days.try_get_or_insert(7, |_number| Err("closed")) {
-    ///     Err(TryFault::Closure(fault)) => Ok(fault == "closed"),
-    ///     _ => Ok(false),
-    /// }
+    /// Ok(days.try_get_or_insert(7, |_number| Err("closed")) == Err(TryFault::Closure("closed")))
     /// ```
     pub fn try_get_or_insert<E, F: FnOnce(&K) -> Result<V, E> + Drop>(
         &mut self,
@@ -88,7 +85,6 @@ impl<K: Ord + Drop, V, S: StoreMut<K, V>> LiteMap<K, V, S> {
         // The map once the borrow of the value has ended.
         ensures* leaves { sem 𝓛 (RestsAs K.row V.row S.row K.Ord S.pairs S.room self.entry
             (IsInsertedAt F.FnOnce f K.cmp key self.old result)) }
-
         // The index and the value: what was found, or what the closure returned.
         ensures place { IfOk result (λ there. there.0 ≡ place K.cmp self.old.pairs key) }
         ensures present { IsSome (at K.cmp self.old.pairs key) → IsOk result }
@@ -98,7 +94,6 @@ impl<K: Ord + Drop, V, S: StoreMut<K, V>> LiteMap<K, V, S> {
             → IfOk result (λ there. Some there.1.now ≡ value_at K.cmp self.old.pairs key) }
         ensures answered { IsNone (at K.cmp self.old.pairs key)
             → IfOk result (λ there. FnOnceReturnsAt F.FnOnce f key (Ok there.1.now)) }
-
         ensures errors { FailsAs F.FnOnce f key self.old.room result }
     {
         let found = self.try_find_or_insert(key, f);
@@ -130,8 +125,7 @@ impl<K: Ord + Drop, V, S: StoreMut<K, V>> LiteMap<K, V, S> {
 
     /// Returns the index of a key; if the key was absent, inserts it first with what `f` returns for it (own).
     ///
-    /// If the key was present, `f` is not called, and the key passed in is dropped. It compares and moves as `insert` does. The
-    /// Rust crate has `try_get_or_insert` alone.
+    /// If the key was present, `f` is not called, and the key passed in is dropped. It compares and moves as `insert` does.
     ///
     /// # Errors
     ///
@@ -140,10 +134,8 @@ impl<K: Ord + Drop, V, S: StoreMut<K, V>> LiteMap<K, V, S> {
     ///
     /// ```rust
     /// let mut days = three_days(alloc)?;
-    /// match days.try_find_or_insert(7, |_number| Ok::<_, AllocError>("Sunday")) {
-    ///     Ok(place) => Ok(days.get_indexed(place) == Some((&7, &"Sunday"))),
-    ///     _ => Ok(false),
-    /// }
+    /// let place = days.try_find_or_insert(7, |_number| Ok::<_, AllocError>("Sunday"))?;
+    /// Ok(days.get_indexed(place) == Some((&7, &"Sunday")))
     /// ```
     pub fn try_find_or_insert<E, F: FnOnce(&K) -> Result<V, E> + Drop>(
         &mut self,
@@ -155,13 +147,11 @@ impl<K: Ord + Drop, V, S: StoreMut<K, V>> LiteMap<K, V, S> {
         ensures place { IfOk result (λ index. index ≡ place K.cmp self.old.pairs key) }
         ensures within { IfOk result (λ index. index < length self.new.pairs) }
         ensures there { IfOk result (λ index. slice_get self.new.pairs index ≡ at K.cmp self.new.pairs key) }
-
         // The map as it was if the key is present, else with what the closure returned.
         ensures present { IsSome (at K.cmp self.old.pairs key) → IsOk result × (self.new ≡ self.old) }
         ensures put { IsNone (at K.cmp self.old.pairs key) → OnOk result
             ((v : V) × FnOnceReturnsAt F.FnOnce f key (Ok v) × (self.new.pairs ≡ put K.cmp self.old.pairs key v)) }
         ensures room { self.old.room ≤ self.new.room + 1 }
-
         // If nothing is inserted the list stays; if the closure returns an error, so does the room.
         ensures errors { FailsAs F.FnOnce f key self.old.room result }
         ensures refused { OnErr result (self.new.pairs ≡ self.old.pairs) }

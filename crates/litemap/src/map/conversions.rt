@@ -1,17 +1,19 @@
-//! Maps made of the pairs of another one, in the same order, over any store that can grow. No keys are compared.
+//! Maps made of the pairs of another one, in the same order. No keys are compared. Those that only borrow pairs take no memory.
 //!
-//! Room for all pairs is taken first. An empty map takes none, and its conversion never fails. A clone of a key has to compare
-//! `Equal` to it. The Rust crate boxes and borrows keys and values as any type that they borrow as, and has no `to_keys_by`.
-ghost use Rattle.std.specs.Prelude.{◌≡◌};
+//! Else room for all pairs is taken first. An empty map takes none, and its conversion never fails. A clone of a key has to compare
+//! `Equal` to it.
+ghost use Rattle.std.specs.Prelude.{◌≡◌, ⊤, IfOk};
 ghost use Rattle.std.specs.Fn.{FnReturnsAt};
+ghost use Rattle.std.specs.Option.{option_map};
 ghost use Rattle.litemap_store.specs.Last.{In};
 ghost use Rattle.litemap_store.specs.Clones.{ClonesCompareEqual};
+ghost use Rattle.litemap_store.specs.Pairs.{Rising, sub};
 ghost use Rattle.litemap.specs.Conversions.{Converts, KeysKeepOrder, TakesKeys};
 
-use super::becomes::{Answered, Becomes, Boxed, Cloned, Lent};
-use crate::LiteMap;
-use litemap_store::store::{Store, StoreMut};
+use crate::{LiteMap, SliceMap};
+use litemap_store::store::{SliceStore, Store, StoreMut, StoreSlice};
 use std::alloc::{AllocError, Global};
+use std::ops::Range;
 
 /// ```rust
 /// // hours: 1 8, 3 10
@@ -120,6 +122,37 @@ impl<'a, K: Ord + 'a, V: 'a, S: Store<K, V>> LiteMap<K, V, S> {
     }
 }
 
+impl<K: Ord, V, S: StoreSlice<K, V>> LiteMap<K, V, S> {
+    /// Returns the pairs at a range of indices as a map that borrows them, or `None` if the start is past the end or the end
+    /// past the length. Its indices count from the start of the range.
+    ///
+    /// ```rust
+    /// // days: 1 Monday, 3 Wednesday, 5 Friday
+    /// days.get_indexed_range(1..3).is_some_and(|part| part.find_index(&3) == Ok(0) && part.get(&1).is_none())
+    /// ```
+    pub fn get_indexed_range(&self, range: Range<usize>) -> Option<SliceMap<'_, K, V>>
+        ensures { option_map (λ part. part.pairs) result ≡ sub self.now.pairs range.start range.end }
+    {
+        let pairs = self.store.lm_get_range(range)?;
+        Some(LiteMap::from_sorted_store_unchecked(SliceStore::new(pairs)))
+    }
+
+    /// Returns all pairs as a map that borrows them.
+    pub fn as_sliced(&self) -> SliceMap<'_, K, V>
+        ensures { result.pairs ≡ self.now.pairs }
+    {
+        LiteMap::from_sorted_store_unchecked(SliceStore::new(self.as_slice()))
+    }
+
+    /// Returns all pairs as a slice. Their keys are strictly ascending.
+    pub fn as_slice(&self) -> &[(K, V)]
+        ensures pairs { result.now ≡ self.now.pairs }
+        ensures rising { Rising K.cmp result.now }
+    {
+        self.store.lm_get_range(0..self.store.lm_len()).unwrap()
+    }
+}
+
 // The one body of all conversions.
 fn converted<'a, K, V, S, L, W, B, X, Y>(
     map: &'a LiteMap<K, V, S>,
@@ -151,4 +184,66 @@ where
         }
     }
     Ok(LiteMap::from_sorted_store_unchecked(made))
+}
+
+// A conversion of a value.
+trait Becomes<'a, X, Y> {
+    /// Whether it accepts a value.
+    ghost takes: { Self → X → Type 0 } = { λ _ _. ⊤ };
+
+    /// What it may make of a value.
+    ghost became: { Self → X → Y → Type 0 };
+
+    fn made_of(&self, alloc: Global, value: &'a X) -> Result<Y, AllocError>
+        requires { takes self.now value.now }
+        ensures { IfOk result (became self.now value.now) };
+}
+
+// A clone.
+struct Cloned;
+
+// A box of a clone.
+struct Boxed;
+
+// A reference.
+struct Lent;
+
+// What a closure returns.
+#[derive(Drop)]
+struct Answered<F> {
+    f: F,
+}
+
+impl<'a, X: Clone> Becomes<'a, X, X> for Cloned {
+    ghost became = { λ _. X.is_clone };
+
+    fn made_of(&self, alloc: Global, value: &'a X) -> Result<X, AllocError> {
+        value.clone()
+    }
+}
+
+impl<'a, X: Clone> Becomes<'a, X, Box<X>> for Boxed {
+    ghost became = { λ _ x b. X.is_clone x b.value };
+
+    fn made_of(&self, alloc: Global, value: &'a X) -> Result<Box<X>, AllocError> {
+        Ok(Box::new(alloc, value.clone()?)?)
+    }
+}
+
+impl<'a, X: 'a> Becomes<'a, X, &'a X> for Lent {
+    ghost became = { λ _ x r. r.now ≡ x };
+
+    fn made_of(&self, alloc: Global, value: &'a X) -> Result<&'a X, AllocError> {
+        Ok(value)
+    }
+}
+
+impl<'a, X, Y, F: Fn(&X) -> Y> Becomes<'a, X, Y> for Answered<F> {
+    ghost takes = { λ s x. (k : _) → k.now ≡ x → F.Fn.pre s.f (k, tt) };
+
+    ghost became = { λ s. FnReturnsAt F.Fn s.f };
+
+    fn made_of(&self, alloc: Global, value: &'a X) -> Result<Y, AllocError> {
+        Ok((self.f)(value))
+    }
 }

@@ -81,13 +81,11 @@ impl<K: Ord + Drop, V, S: StoreMut<K, V>> LiteMap<K, V, S> {
         // The map that it borrows, unchanged.
         ensures same_map { (entry_map result).ghost_name ≡ self.entry.ghost_name }
         ensures unchanged { (entry_map result).now ≡ self.old }
-
         // Occupied exactly if an equal key is present.
         ensures found { MatchEntry result
             (IsSome (at K.cmp self.old.pairs key)) (IsNone (at K.cmp self.old.pairs key)) }
         ensures key { entry_key result ≡ Some (key_or (at K.cmp self.old.pairs key) key) }
         ensures value { entry_value result ≡ value_at K.cmp self.old.pairs key }
-
         // What a write through it makes of the pairs, and what a removal does.
         ensures writes { (v : V) → pairs_with result v ≡ put K.cmp self.old.pairs key v }
         ensures removes { pairs_without result ≡ cut K.cmp self.old.pairs key }
@@ -123,13 +121,11 @@ impl<K: Ord + Drop, V, S: StoreMut<K, V>> LiteMap<K, V, S> {
         ensures same_map { IfOk result (λ e. (entry_map e).ghost_name ≡ self.entry.ghost_name) }
         ensures unchanged { IfOk result (λ e. (entry_map e).now ≡ self.old) }
         ensures* rests { sem 𝓛 (RestsIfRefused K.row V.row S.row self.entry result) }
-
         // The entry of the key that is found, or of the one that is made.
         ensures found { IsSome (at Q.order self.old.pairs (Q.sought query))
             → IfOk result (IsFoundBy Q.order self.old.pairs (Q.sought query)) }
         ensures made { at Q.order self.old.pairs (Q.sought query) ≡ None
             → IfOk result (λ e. (key : K) × F.post make (Ok key) × IsEntryOf self.old.pairs key e) }
-
         ensures absent { OnErr result (at Q.order self.old.pairs (Q.sought query) ≡ None) }
         ensures error { IfErr result (λ error. F.post make (Err error)) }
     {
@@ -148,10 +144,8 @@ impl<K: Ord, V, S: StoreMut<K, V>> LiteMap<K, V, S> {
     ///
     /// ```rust
     /// let mut days = three_days(alloc)?;
-    /// let Some(first) = days.first_entry() else {
-    ///     return Ok(false);
-    /// };
-    /// Ok(first.remove_entry() == (1, "Monday") && days.len() == 2)
+    /// let first = days.first_entry().map(|entry| entry.remove_entry());
+    /// Ok(first == Some((1, "Monday")) && days.len() == 2)
     /// ```
     pub fn first_entry(&mut self) -> Option<OccupiedEntry<'_, K, V, S>>
         ensures there { IsSome result ↔ (0 < length self.old.pairs) }
@@ -173,11 +167,8 @@ impl<K: Ord, V, S: StoreMut<K, V>> LiteMap<K, V, S> {
     ///
     /// ```rust
     /// let mut days = three_days(alloc)?;
-    /// let Some(mut last) = days.last_entry() else {
-    ///     return Ok(false);
-    /// };
-    /// last.insert("Fri");
-    /// Ok(days.last() == Some((&5, &"Fri")))
+    /// let old = days.last_entry().map(|mut entry| entry.insert("Fri"));
+    /// Ok(old == Some("Friday") && days.last() == Some((&5, &"Fri")))
     /// ```
     pub fn last_entry(&mut self) -> Option<OccupiedEntry<'_, K, V, S>>
         ensures there { IsSome result ↔ (0 < length self.old.pairs) }
@@ -313,10 +304,7 @@ impl<'a, K: Ord, V, S: StoreMut<K, V>> Entry<'a, K, V, S> {
     ///
     /// ```rust
     /// // days: 1 Monday, 3 Wednesday, 5 Friday
-    /// match days.entry(7).or_try_insert_with(|| Err("closed")) {
-    ///     Err(TryFault::Closure(fault)) => Ok(fault == "closed"),
-    ///     _ => Ok(false),
-    /// }
+    /// days.entry(7).or_try_insert_with(|| Err("closed")) == Err(TryFault::Closure("closed"))
     /// ```
     pub fn or_try_insert_with<E, F: FnOnce() -> Result<V, E>>(
         self,

@@ -1,18 +1,20 @@
 //! Double-ended iterators over the pairs, the keys or the values of a map. None takes memory. After `None` they return `None`
 //! for good.
-ghost use Rattle.std.specs.Prelude.{◌≡◌};
-ghost use Rattle.std.specs.Map.Iter.{deref_pair};
+ghost use Rattle.std.specs.Prelude.{◌≡◌, length, Some};
+ghost use Rattle.std.specs.Iterator.{at_most};
+ghost use Rattle.std.specs.Map.{keys_of, values_of};
+ghost use Rattle.std.specs.Map.Iter.{TakesFirst, TakesLast, deref, deref_pair};
+ghost use Rattle.litemap_store.specs.Hints.{HintsExactly};
 ghost use Rattle.litemap_store.specs.Pairs.{Rising};
 ghost use Rattle.litemap.specs.Runs.{KeysInOrder, RunsInOrder, ValuesInOrder};
 
-mod keys_values;
 mod range;
 
 use crate::LiteMap;
-pub use keys_values::{KeysIterWrap, ValuesIterWrap};
-use litemap_store::store::{IntoKeys, IntoValues, StoreIntoIterator, StoreIterable};
+use litemap_store::store::{IntoKeys, IntoValues, PairIter, StoreIntoIterator, StoreIterable};
 pub use range::RangeIter;
-use std::marker::PhantomData;
+use std::iter::FusedIterator;
+use std::marker::{Model, PhantomData};
 
 /// ```rust
 /// // days: 1 Monday, 3 Wednesday, 5 Friday
@@ -111,9 +113,7 @@ impl<K: Ord + Drop, V: Drop, S: StoreIntoIterator<K, V>> LiteMap<K, V, S> {
     /// Returns an iterator over all keys by value, in their order, that drops the values (own).
     ///
     /// ```rust
-    /// let days = three_days(alloc)?;
-    /// let mut numbers = days.into_keys();
-    /// Ok(numbers.len() == 3 && numbers.next() == Some(1))
+    /// Ok(three_days(alloc)?.into_keys().eq([1, 3, 5]))
     /// ```
     pub fn into_keys(self) -> IntoKeys<K, V, S::KeyValueIntoIter>
         ensures { S.KeyValueIntoIter.owned result ≡ self.pairs }
@@ -124,9 +124,7 @@ impl<K: Ord + Drop, V: Drop, S: StoreIntoIterator<K, V>> LiteMap<K, V, S> {
     /// Returns an iterator over all values by value, in the order of their keys, that drops the keys (own).
     ///
     /// ```rust
-    /// let days = three_days(alloc)?;
-    /// let mut names = days.into_values();
-    /// Ok(names.len() == 3 && names.next() == Some("Monday"))
+    /// Ok(three_days(alloc)?.into_values().eq(["Monday", "Wednesday", "Friday"]))
     /// ```
     pub fn into_values(self) -> IntoValues<K, V, S::KeyValueIntoIter>
         ensures { S.KeyValueIntoIter.owned result ≡ self.pairs }
@@ -134,3 +132,99 @@ impl<K: Ord + Drop, V: Drop, S: StoreIntoIterator<K, V>> LiteMap<K, V, S> {
         IntoValues::new(self.into_iter())
     }
 }
+
+/// An iterator over keys. A contract sees the iterator over their pairs.
+#[derive(Debug, Drop)]
+#[derive_where(Clone; I)]
+pub struct KeysIterWrap<'a, K, V, I> {
+    iter: I,
+    marker: PhantomData<(&'a K, &'a V)>,
+}
+
+impl<'a, K, V, I> Model for KeysIterWrap<'a, K, V, I> {
+    ghost Value = { I };
+
+    ghost view = { λ w. w.iter };
+}
+
+impl<'a, K: 'a, V: 'a, I: PairIter<'a, K, V>> Iterator for KeysIterWrap<'a, K, V, I> {
+    type Item = &'a K;
+
+    ghost next_gives = { λ s r t. TakesFirst deref (keys_of (I.rest s)) r (keys_of (I.rest t)) };
+
+    ghost remaining = { λ s. at_most (length (I.rest s)) };
+
+    fn next(&mut self) -> Option<&'a K> {
+        Some(self.iter.next()?.0)
+    }
+
+    fn size_hint(&self) -> (usize, Option<usize>)
+        ensures { HintsExactly (length (I.rest self.now)) result }
+    {
+        self.iter.lm_size_hint()
+    }
+}
+
+impl<'a, K: 'a, V: 'a, I: PairIter<'a, K, V>> DoubleEndedIterator for KeysIterWrap<'a, K, V, I> {
+    ghost next_back_gives = { λ s r t. TakesLast deref (keys_of (I.rest s)) r (keys_of (I.rest t)) };
+
+    fn next_back(&mut self) -> Option<&'a K> {
+        Some(self.iter.next_back()?.0)
+    }
+}
+
+impl<'a, K: 'a, V: 'a, I: PairIter<'a, K, V>> ExactSizeIterator for KeysIterWrap<'a, K, V, I> {
+    fn len(&self) -> usize {
+        self.iter.len()
+    }
+}
+
+impl<'a, K: 'a, V: 'a, I: PairIter<'a, K, V>> FusedIterator for KeysIterWrap<'a, K, V, I> {}
+
+/// An iterator over values. A contract sees the iterator over their pairs.
+#[derive(Debug, Drop)]
+#[derive_where(Clone; I)]
+pub struct ValuesIterWrap<'a, K, V, I> {
+    iter: I,
+    marker: PhantomData<(&'a K, &'a V)>,
+}
+
+impl<'a, K, V, I> Model for ValuesIterWrap<'a, K, V, I> {
+    ghost Value = { I };
+
+    ghost view = { λ w. w.iter };
+}
+
+impl<'a, K: 'a, V: 'a, I: PairIter<'a, K, V>> Iterator for ValuesIterWrap<'a, K, V, I> {
+    type Item = &'a V;
+
+    ghost next_gives = { λ s r t. TakesFirst deref (values_of (I.rest s)) r (values_of (I.rest t)) };
+
+    ghost remaining = { λ s. at_most (length (I.rest s)) };
+
+    fn next(&mut self) -> Option<&'a V> {
+        Some(self.iter.next()?.1)
+    }
+
+    fn size_hint(&self) -> (usize, Option<usize>)
+        ensures { HintsExactly (length (I.rest self.now)) result }
+    {
+        self.iter.lm_size_hint()
+    }
+}
+
+impl<'a, K: 'a, V: 'a, I: PairIter<'a, K, V>> DoubleEndedIterator for ValuesIterWrap<'a, K, V, I> {
+    ghost next_back_gives = { λ s r t. TakesLast deref (values_of (I.rest s)) r (values_of (I.rest t)) };
+
+    fn next_back(&mut self) -> Option<&'a V> {
+        Some(self.iter.next_back()?.1)
+    }
+}
+
+impl<'a, K: 'a, V: 'a, I: PairIter<'a, K, V>> ExactSizeIterator for ValuesIterWrap<'a, K, V, I> {
+    fn len(&self) -> usize {
+        self.iter.len()
+    }
+}
+
+impl<'a, K: 'a, V: 'a, I: PairIter<'a, K, V>> FusedIterator for ValuesIterWrap<'a, K, V, I> {}

@@ -140,8 +140,7 @@ impl<K: Ord, V, S: Store<K, V>> LiteMap<K, V, S> {
         self.search(key, &mut Count::new()).is_ok()
     }
 
-    /// Returns the value of the pair with an equal key, which has to be there. In the Rust crate this is the operator `[]`,
-    /// which panics if there is none.
+    /// Returns the value of the pair with an equal key, which has to be there, as the operator `[]` does.
     pub fn index<Q: Query<K>>(&self, key: Q) -> &V
         requires { IsSome (at Q.order self.now.pairs (Q.sought key)) }
         ensures { Some result.now ≡ value_at Q.order self.now.pairs (Q.sought key) }

@@ -1,19 +1,24 @@
-//! Merging maps.
-ghost use Rattle.std.specs.Prelude.{◌≡◌, ◌⊎◌, ◌+◌, ◌*◌, ◌<◌, List, MatchOption, OnErr, OnOk, Some, [], length, IfOk, IfSome};
+//! Merges maps, and compares their keys side by side: those that both have, and those that one lacks.
+ghost use Rattle.std.specs.Prelude.{◌≡◌, ◌⊎◌, ◌+◌, ◌*◌, ◌<◌, ◌≤◌, List, MatchOption, None, OnErr, OnOk, Some, [], filter, length, IfOk, IfSome};
+ghost use Rattle.std.specs.Prelude.{IsSome, IsTrue, if◌then◌else◌, is_some, not};
+ghost use Rattle.std.specs.List.{list_all};
 ghost use Rattle.std.specs.Option.{option_or};
-ghost use Rattle.litemap_store.specs.Counts.{RisesByAtMost, digits};
-ghost use Rattle.litemap_store.specs.Merge.{Apart};
-ghost use Rattle.litemap_store.specs.Pairs.{at, value_at};
-ghost use Rattle.litemap.specs.Updates.{Displaces, Overlays};
+ghost use Rattle.litemap_store.specs.Counts.{GoesOn, RisesByAtMost, digits};
+ghost use Rattle.litemap_store.specs.Merge.{Apart, Merge};
+ghost use Rattle.litemap_store.specs.Pairs.{Rising, above, at, value_at};
+ghost use Rattle.litemap.specs.Updates.{Displaces, KeepsPart, Overlays};
 ghost use Rattle.litemap.specs.Changes.{IsMergedInto};
 ghost use Rattle.litemap.specs.Combined.{CallableOnCommon, CallableOnEachOf, Combined, Combines, LeavesOfBoth};
 ghost use Rattle.litemap.specs.Combined.{TakesBoth, combined, found_with};
 ghost use Rattle.litemap_store.specs.Contents.{with_pairs};
 
+use super::iter::RangeIter;
 use crate::LiteMap;
 use litemap_store::merge::extend_from_store;
-use litemap_store::store::{Count, NoRoom, StoreIntoIterator};
-use std::alloc::Global;
+use litemap_store::store::{Count, NoRoom, Store, StoreBulkMut, StoreIntoIterator};
+use std::alloc::{AllocError, Global};
+use std::cmp::Ordering;
+use std::mem;
 
 impl<K: Ord + Drop, V: Drop, S: StoreIntoIterator<K, V> + Drop> LiteMap<K, V, S> {
     /// Merges another map into this one, and returns a map of what it displaced, or `None` if no key is common.
@@ -29,15 +34,12 @@ impl<K: Ord + Drop, V: Drop, S: StoreIntoIterator<K, V> + Drop> LiteMap<K, V, S>
     /// If memory runs out, the map keeps its pairs, and the error returns the other map whole: all room is taken before the
     /// first change. It never fails if a map is empty, or if all keys of one map are above the other's and both have room for
     /// each other's pairs; if the other's keys are above, room in this map is enough. Nothing is promised of the room after it.
-    /// The Rust crate requires `StoreFromIterator` too, and inserts pairs that go between others one by one.
     ///
     /// ```rust
     /// let mut days = three_days(alloc)?;
     /// let short: Days = LiteMap::from_iter(alloc, [(4, "Thu"), (5, "Fri")])?;
-    /// match days.extend_from_litemap(alloc, short)? {
-    ///     Some(old) => Ok(old.as_slice() == [(5, "Friday")].as_slice() && days.len() == 4),
-    ///     None => Ok(false),
-    /// }
+    /// let old = days.extend_from_litemap(alloc, short)?;
+    /// Ok(old.is_some_and(|old| old.as_slice() == [(5, "Friday")].as_slice()) && days.len() == 4)
     /// ```
     pub fn extend_from_litemap(
         &mut self,
@@ -45,7 +47,6 @@ impl<K: Ord + Drop, V: Drop, S: StoreIntoIterator<K, V> + Drop> LiteMap<K, V, S>
         other: Self,
     ) -> Result<Option<Self>, NoRoom<Self>>
         ensures merged { IsMergedInto K.cmp other self.old self.new result }
-
         // What a lookup finds: the other map's value if it has the key, else what it found before.
         ensures found { OnOk result ((key : K) → value_at K.cmp self.new.pairs key
             ≡ option_or (value_at K.cmp other.pairs key) (value_at K.cmp self.old.pairs key)) }
@@ -65,7 +66,6 @@ impl<K: Ord + Drop, V: Drop, S: StoreIntoIterator<K, V> + Drop> LiteMap<K, V, S>
         count: &mut Count,
     ) -> Result<Option<Self>, NoRoom<Self>>
         ensures merged { IsMergedInto K.cmp other self.old self.new result }
-
         // The comparisons: none if a map is empty, and two if all keys of one are above the other's.
         ensures uncounted { (self.old.pairs ≡ []) ⊎ (other.pairs ≡ []) → RisesByAtMost 0 count.old count.new }
         ensures apart { Apart K.cmp self.old.pairs other.pairs → RisesByAtMost 2 count.old count.new }
@@ -79,6 +79,34 @@ impl<K: Ord + Drop, V: Drop, S: StoreIntoIterator<K, V> + Drop> LiteMap<K, V, S>
             Err(error) => Err(NoRoom {
                 back: LiteMap::from_sorted_store_unchecked(error.back),
             }),
+        }
+    }
+
+    /// Moves all pairs of another map into this one, which keeps its own keys, and leaves the other empty (own). It is
+    /// `extend_from_litemap`, and drops what that displaces. If memory runs out, both maps keep their pairs.
+    ///
+    /// ```rust
+    /// let (mut days, mut short) = (three_days(alloc)?, Days::from_iter(alloc, [(4, "Thu"), (5, "Fri")])?);
+    /// days.append(alloc, &mut short)?;
+    /// Ok(days.get(&5) == Some(&"Fri") && days.len() == 4 && short.is_empty())
+    /// ```
+    pub fn append(&mut self, alloc: Global, other: &mut Self) -> Result<(), AllocError>
+        ensures merged { OnOk result (Merge K.cmp self.old.pairs other.old.pairs self.new.pairs) }
+        ensures emptied { OnOk result (other.new.pairs ≡ []) }
+        // What lookups find.
+        ensures found { OnOk result ((key : K) → value_at K.cmp self.new.pairs key
+            ≡ option_or (value_at K.cmp other.old.pairs key) (value_at K.cmp self.old.pairs key)) }
+        ensures overlays { OnOk result (Overlays K.cmp self.old.pairs other.old.pairs self.new.pairs) }
+        ensures refused { OnErr result
+            ((self.new.pairs ≡ self.old.pairs) × (other.new.pairs ≡ other.old.pairs)) }
+    {
+        let taken = mem::replace(other, LiteMap::with_capacity(alloc, 0)?);
+        match self.extend_from_litemap(alloc, taken) {
+            Ok(_displaced) => Ok(()),
+            Err(refused) => {
+                *other = refused.back;
+                Err(AllocError)
+            }
         }
     }
 
@@ -109,7 +137,6 @@ impl<K: Ord + Drop, V: Drop, S: StoreIntoIterator<K, V> + Drop> LiteMap<K, V, S>
             × IsMergedInto K.cmp (with_pairs other M) self.old self.new result }
         ensures combined { (combine : K → V → V → V) → Combines F.Fn f combine → IsMergedInto K.cmp
             (with_pairs other (combined K.cmp combine self.old.pairs other.pairs)) self.old self.new result }
-
         // What a lookup finds: both values combined if both maps have the key, else the value of the one that has it.
         ensures found { (combine : K → V → V → V) → Combines F.Fn f combine → OnOk result ((key : K)
             → value_at K.cmp self.new.pairs key
@@ -163,4 +190,114 @@ impl<K: Ord + Drop, V: Drop, S: StoreIntoIterator<K, V> + Drop> LiteMap<K, V, S>
             f(key, here, value);
         }
     }
+}
+
+impl<K: Ord, V, S: Store<K, V>> LiteMap<K, V, S> {
+    /// Returns whether another map has all keys of this one (own). Its values and its store may be of other types.
+    ///
+    /// It walks both maps side by side, up to the first key that the other lacks, with at most one comparison for each key of
+    /// both.
+    pub fn is_subset<W, T: Store<K, W>>(&self, other: &LiteMap<K, W, T>) -> bool
+        ensures all { result ≡ list_all (λ p. is_some (at K.cmp other.now.pairs p.0)) self.now.pairs }
+        ensures found { IsTrue result → (key : K)
+            → IsSome (value_at K.cmp self.now.pairs key) → IsSome (value_at K.cmp other.now.pairs key) }
+    {
+        self.is_subset_counted(other, &mut Count::new())
+    }
+
+    /// `is_subset`, counting its comparisons (own).
+    pub fn is_subset_counted<W, T: Store<K, W>>(
+        &self,
+        other: &LiteMap<K, W, T>,
+        count: &mut Count,
+    ) -> bool
+        ensures all { result ≡ list_all (λ p. is_some (at K.cmp other.now.pairs p.0)) self.now.pairs }
+        ensures cost { RisesByAtMost (length self.now.pairs + length other.now.pairs) count.old count.new }
+    {
+        let mut rest = RangeIter::all(&other.store);
+        let mut keys = RangeIter::all(&self.store);
+        while let Some((key, _)) = keys.next() {
+            if !skip_to(&mut rest, key, count) {
+                return false;
+            }
+        }
+        true
+    }
+}
+
+impl<K: Ord + Drop, V: Drop, S: StoreBulkMut<K, V>> LiteMap<K, V, S> {
+    /// Keeps the pairs whose keys another map has, and drops the others (own). A store that keeps its memory has room for as
+    /// many pairs as were dropped.
+    ///
+    /// It walks both maps side by side, with at most one comparison for each key of both. The values and the store of the other
+    /// map may be of other types.
+    ///
+    /// ```rust
+    /// let mut days = three_days(alloc)?;
+    /// let open: VecMap<u32, ()> = LiteMap::from_iter(alloc, [(1, ()), (2, ()), (5, ())])?;
+    /// days.keep_keys_of(&open);
+    /// let is_left = days.is_subset(&open) && days.as_slice() == [(1, "Monday"), (5, "Friday")].as_slice();
+    /// days.remove_keys_of(&open);
+    /// Ok(is_left && days.is_empty())
+    /// ```
+    pub fn keep_keys_of<W, T: Store<K, W>>(&mut self, other: &LiteMap<K, W, T>)
+        ensures pairs { self.new.pairs ≡ filter (λ p. is_some (at K.cmp other.now.pairs p.0)) self.old.pairs }
+        // What a lookup finds: what it found before, if the other map has the key.
+        ensures found { (key : K) → value_at K.cmp self.new.pairs key
+            ≡ if is_some (at K.cmp other.now.pairs key) then value_at K.cmp self.old.pairs key else None }
+        ensures stays { KeepsPart (λ p. is_some (at K.cmp other.now.pairs p.0)) self.old.pairs self.new.pairs }
+        ensures room { S.keeps_memory → self.old.room + length self.old.pairs ≤ self.new.room + length self.new.pairs }
+    {
+        let mut rest = RangeIter::all(&other.store);
+        self.store.lm_retain(
+            move |key, _|
+                ensures { Rising K.cmp rest.entry → (rest.exit ≡ above K.cmp rest.entry key.now)
+                    × (result ≡ is_some (at K.cmp rest.entry key.now)) }
+            { skip_to(&mut rest, key, &mut Count::new()) },
+        );
+    }
+
+    /// Drops the pairs whose keys another map has, and keeps the others (own). It compares and leaves room as `keep_keys_of`
+    /// does.
+    pub fn remove_keys_of<W, T: Store<K, W>>(&mut self, other: &LiteMap<K, W, T>)
+        ensures pairs { self.new.pairs ≡ filter (λ p. not (is_some (at K.cmp other.now.pairs p.0))) self.old.pairs }
+        // What a lookup finds: what it found before, if the other map lacks the key.
+        ensures found { (key : K) → value_at K.cmp self.new.pairs key
+            ≡ if is_some (at K.cmp other.now.pairs key) then None else value_at K.cmp self.old.pairs key }
+        ensures stays { KeepsPart (λ p. not (is_some (at K.cmp other.now.pairs p.0))) self.old.pairs self.new.pairs }
+        ensures room { S.keeps_memory → self.old.room + length self.old.pairs ≤ self.new.room + length self.new.pairs }
+    {
+        let mut rest = RangeIter::all(&other.store);
+        self.store.lm_retain(
+            move |key, _|
+                ensures { Rising K.cmp rest.entry → (rest.exit ≡ above K.cmp rest.entry key.now)
+                    × (result ≡ not (is_some (at K.cmp rest.entry key.now))) }
+            { !skip_to(&mut rest, key, &mut Count::new()) },
+        );
+    }
+}
+
+// Skips the pairs whose keys are at most `key`, and returns whether one of them is equal.
+fn skip_to<'a, K: Ord + 'a, W: 'a, T: Store<K, W>>(
+    rest: &mut RangeIter<'a, K, W, T>,
+    key: &K,
+    count: &mut Count,
+) -> bool
+    ensures passed { Rising K.cmp rest.old
+        → (rest.new ≡ above K.cmp rest.old key.now) × (result ≡ is_some (at K.cmp rest.old key.now)) }
+    ensures counted { GoesOn count.old count.new }
+    ensures cost { count.new.total + length rest.new ≤ count.old.total + length rest.old + 1 }
+{
+    while let Some((there, _)) = rest.first() {
+        match count.cmp(there, key) {
+            Ordering::Less => {}
+            Ordering::Equal => {
+                rest.next();
+                return true;
+            }
+            Ordering::Greater => return false,
+        }
+        rest.next();
+    }
+    false
 }

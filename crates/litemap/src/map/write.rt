@@ -1,16 +1,18 @@
-//! Calls that return a mutable reference to a value, and those that write all values. None takes memory, and each but
-//! `retain_mut` keeps the room. A search for a key makes O(log n) comparisons.
+//! Calls that return a mutable reference to a value, and those that write or lend all values. None takes memory, and each but
+//! `retain_mut` keeps the room, and moves no pair. A search for a key makes O(log n) comparisons; no other call compares keys.
 //!
 //! A reference starts at the value in the map, and the map ends with that one value replaced by what the reference holds at its
 //! end.
-ghost use Rattle.std.specs.Prelude.{◌≡◌, ◌+◌, ◌<◌, Bool, filter, length, map, ℕ, Ok, Err, OnOk, Some, IfNone, IfSome, IsSome};
+ghost use Rattle.std.specs.Prelude.{◌≡◌, ◌+◌, ◌<◌, Bool, List, filter, length, map, ℕ, Ok, Err, OnOk, Some, IfNone, IfSome, IsSome};
 ghost use Rattle.std.specs.Borrow.{sem};
-ghost use Rattle.std.specs.Map.{keys_of};
+ghost use Rattle.std.specs.Map.{keys_of, values_of};
 ghost use Rattle.std.specs.Option.{option_copied_mut};
+ghost use Rattle.litemap_store.specs.IterMut.{iter_mut_loan, iter_mut_left};
+ghost use Rattle.litemap_store.specs.Lent.{set_values};
 ghost use Rattle.litemap_store.specs.Pairs.{at, value_at, value_in, write};
 ghost use Rattle.litemap_store.specs.Search.{CallableOnKeys, Found};
 ghost use Rattle.litemap.specs.KeptWritten.{KeptWritten, WritesAndTests};
-ghost use Rattle.litemap.specs.Lends.{LendsThere, LendsFound, LendsKey, LendsIndex, LendsValue};
+ghost use Rattle.litemap.specs.Lends.{LendsThere, LendsFound, LendsKey, LendsIndex, LendsValue, LendsValues};
 ghost use Rattle.litemap.specs.TryWritten.{TryWrites, WrittenUntil};
 ghost use Rattle.litemap.specs.Updates.{Finds};
 ghost use Rattle.litemap.specs.Written.{CallableOnValues, LeavesOf, Writes, Written};
@@ -18,7 +20,7 @@ ghost use Rattle.litemap.specs.Written.{CallableOnValues, LeavesOf, Writes, Writ
 use crate::LiteMap;
 use litemap_store::Query;
 use litemap_store::retain::SwapStore;
-use litemap_store::store::{Count, StoreMut};
+use litemap_store::store::{Count, IterMut, StoreColumns, StoreMut};
 use std::cmp::Ordering;
 
 /// ```rust
@@ -72,8 +74,7 @@ impl<K: Ord, V, S: StoreMut<K, V>> LiteMap<K, V, S> {
         }
     }
 
-    /// Returns a mutable reference to the value of the pair with an equal key, which has to be there. In the Rust crate this is
-    /// the operator of `IndexMut`, which panics if there is none.
+    /// Returns a mutable reference to the value of the pair with an equal key, which has to be there, as the operator `[]` does.
     pub fn index_mut<Q: Query<K>>(&mut self, key: Q) -> &mut V
         requires { IsSome (at Q.order self.old.pairs (Q.sought key)) }
         ensures* writes_back { sem 𝓛
@@ -86,8 +87,7 @@ impl<K: Ord, V, S: StoreMut<K, V>> LiteMap<K, V, S> {
         self.value_in_mut(index)
     }
 
-    /// Returns a mutable reference to the value at an index, or `None` if it is not below the length (own). The Rust crate has
-    /// `iter_mut` instead.
+    /// Returns a mutable reference to the value at an index, or `None` if it is not below the length (own).
     pub fn get_indexed_mut(&mut self, index: usize) -> Option<&mut V>
         ensures* writes_back { sem 𝓛
             (LendsIndex K.row V.row S.row K.Ord S.pairs S.room self.entry index result) }
@@ -176,6 +176,78 @@ impl<K: Ord, V, S: StoreMut<K, V> + SwapStore<K, V>> LiteMap<K, V, S> {
         ensures room { self.old.room + length self.old.pairs ≡ self.new.room + length self.new.pairs }
     {
         retain_written(&mut self.store, f);
+    }
+}
+
+impl<K: Ord, V, S: StoreColumns<K, V>> LiteMap<K, V, S> {
+    /// Returns the keys, in order, as a slice (own).
+    pub fn keys_slice(&self) -> &[K]
+        ensures { result.now ≡ keys_of self.now.pairs }
+    {
+        self.store.lm_columns().0
+    }
+
+    /// Returns the values, in the order of their keys, as a slice (own).
+    ///
+    /// ```rust
+    /// let days: ColumnMap<u32, &str> = [(3, "Wednesday"), (1, "Monday")].into_iter().collect(alloc)?;
+    /// days.keys_slice() == [1, 3].as_slice() && days.values_slice() == ["Monday", "Wednesday"].as_slice()
+    /// ```
+    pub fn values_slice(&self) -> &[V]
+        ensures { result.now ≡ values_of self.now.pairs }
+    {
+        self.store.lm_columns().1
+    }
+
+    /// Returns the values, in the order of their keys, as a mutable slice (own). The map ends with the values that are left there.
+    ///
+    /// ```rust
+    /// let mut days: ColumnMap<u32, &str> = [(3, "Wednesday"), (1, "Monday")].into_iter().collect(alloc)?;
+    /// days.values_mut_slice().fill("open");
+    /// Ok(days.get(&1) == Some(&"open") && days.get(&3) == Some(&"open"))
+    /// ```
+    pub fn values_mut_slice(&mut self) -> &mut [V]
+        ensures* writes_back { sem 𝓛
+            (LendsValues K.row V.row S.row K.Ord S.pairs S.room self.entry result.ghost_name) }
+        ensures values { result.now ≡ values_of self.old.pairs }
+    {
+        self.store.lm_columns_mut().1
+    }
+
+    /// Returns an iterator over all pairs, in the order of their keys, that lends each value. The map keeps its keys.
+    ///
+    /// ```rust
+    /// let mut days: ColumnMap<u32, &str> = [(3, "Wednesday"), (1, "Monday")].into_iter().collect(alloc)?;
+    /// for (number, name) in &mut days {
+    ///     *name = if *number == 3 { "open" } else { "closed" };
+    /// }
+    /// Ok(days.get(&1) == Some(&"closed") && days.get(&3) == Some(&"open"))
+    /// ```
+    pub fn iter_mut(&mut self) -> IterMut<'_, K, V>
+        ensures* writes_back { sem 𝓛
+            (LendsValues K.row V.row S.row K.Ord S.pairs S.room self.entry (iter_mut_loan result)) }
+        ensures left { iter_mut_left result ≡ self.old.pairs }
+        ensures keys { (values : List V) → keys_of (set_values self.old.pairs values) ≡ keys_of self.old.pairs }
+    {
+        let (keys, values) = self.store.lm_columns_mut();
+        IterMut::new(keys, values)
+    }
+}
+
+impl<'a, K: Ord, V, S: StoreColumns<K, V>> IntoIterator for &'a mut LiteMap<K, V, S> {
+    type Item = (&'a K, &'a mut V);
+
+    type IntoIter = IterMut<'a, K, V>;
+
+    ghost into_iter_gives = { λ m r. iter_mut_left r ≡ m.now.pairs };
+
+    fn into_iter(self) -> IterMut<'a, K, V>
+        ensures* writes_back { sem 𝓛
+            (LendsValues K.row V.row S.row K.Ord S.pairs S.room self.entry (iter_mut_loan result)) }
+        ensures into_iter_gives { iter_mut_left result ≡ self.old.pairs }
+        ensures keys { (values : List V) → keys_of (set_values self.old.pairs values) ≡ keys_of self.old.pairs }
+    {
+        self.iter_mut()
     }
 }
 

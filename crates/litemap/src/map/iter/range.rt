@@ -1,5 +1,5 @@
 //! A double-ended iterator over the pairs between two indices of a store of any kind.
-ghost use Rattle.std.specs.Prelude.{◌≡◌, ◌≤◌, ⊤, Some, length, slice_get};
+ghost use Rattle.std.specs.Prelude.{◌≡◌, ◌≤◌, Some, length, slice_get};
 ghost use Rattle.std.specs.Iterator.{at_most};
 ghost use Rattle.std.specs.Map.Iter.{TakesFirst, TakesLast, deref_pair};
 ghost use Rattle.std.specs.Option.{option_map};
@@ -7,7 +7,6 @@ ghost use Rattle.litemap_store.specs.Hints.{HintsExactly};
 ghost use Rattle.litemap_store.specs.Pairs.{sub};
 
 use litemap_store::store::Store;
-use std::alloc::AllocError;
 use std::fmt::{self, Debug, Formatter, Write};
 use std::iter::FusedIterator;
 use std::marker::{Model, PhantomData};
@@ -16,6 +15,7 @@ use std::ops::Range;
 /// An iterator over the pairs of a map whose keys are within two bounds. A contract sees the list of those that are still to
 /// come.
 #[derive(Drop)]
+#[derive_where(Clone)]
 pub struct RangeIter<'a, K, V, S: Store<K, V>> {
     store: &'a S,
     start: usize,
@@ -75,21 +75,6 @@ impl<'a, K: Debug, V: Debug, S: Store<K, V>> Debug for RangeIter<'a, K, V, S> {
             }
         }
         out.finish()
-    }
-}
-
-impl<'a, K, V, S: Store<K, V>> Clone for RangeIter<'a, K, V, S> {
-    ghost is_clone = { λ s t. t ≡ s };
-
-    ghost is_infallible = { λ _. ⊤ };
-
-    fn clone(&self) -> Result<Self, AllocError> {
-        Ok(RangeIter {
-            store: self.store,
-            start: self.start,
-            end: self.end,
-            marker: PhantomData,
-        })
     }
 }
 

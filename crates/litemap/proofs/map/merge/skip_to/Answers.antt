@@ -1,6 +1,6 @@
 use Rattle.litemap.proofs.Common.{◌∙◌}
 use Rattle.litemap.proofs.Sets.{at_end, at_equal, at_greater}
-use Rattle.litemap.proofs.map.sets.skip_to.Goals as goal
+use Rattle.litemap.proofs.map.merge.skip_to.Goals as goal
 
 pub returns-in-Equal-clause-passed : goal.returns-in-Equal-clause-passed
 returns-in-Equal-clause-passed g c = λ r.

@@ -1,5 +1,5 @@
 use Rattle.litemap.proofs.Common.{◌≡◌, ◌+◌, ◌≤◌, is_some, length, GoesOn, Rising, above, at}
-use Rattle.litemap.proofs.map.sets.skip_to.Given as goal
+use Rattle.litemap.proofs.map.merge.skip_to.Given as goal
 
 abbrev pub invariant-loop-there : goal.invariant-loop-there
 invariant-loop-there g l =
