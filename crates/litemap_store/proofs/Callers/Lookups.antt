@@ -1,11 +1,10 @@
--- What a lookup finds in a list after a put and after a cut: lemmas for the proofs of callers. The functions of the module
--- `laws` have them as their contracts. A proof takes the order's laws from its bound, as `g.met.K.Ord.total`, or from std, as
--- `nat_cmp_total` and `string_cmp_total`.
+-- What a lookup finds in a list after a put and after a cut: lemmas for the proofs of callers. A proof takes the order's laws
+-- from its bound, as `g.met.K.Ord.total`, or from std, as `nat_cmp_total` and `string_cmp_total`.
 --     at-put, value_at-put, value_at-put_other, place-put, index_of-put      after a put
 --     value_at-cut, value_at-cut_other, value_at-cut_apart      after a cut, by the query, by another key, and by another query
 --     value_at-write, value_at-write_apart      the same after a write;  value_at-written_apart      if a write finds the key
 --     value_in-set_value_other, value_at-set_value      after a write at an index;  value_in-set, value_at-set      if a pair is there
---     length-put_present, length-put_absent, length-cut_present, cut-absent, Rising-cut      what both leave of an ascending list
+--     length-put_present, length-put_absent, Rising-cut      what both leave of an ascending list
 use Rattle.litemap_store.proofs.Names.{[], ℕ, ◌++◌, ◌+◌, ◌∙◌, ◌∷◌, ◌≡◌, ◌≢◌, above, ap, append-nil, arith, at, below, Bool, cond, cons_option, cut, Equal}
 use Rattle.litemap_store.proofs.Names.{false, filter, filter-append, find-append, Greater, IfSome, index_of, is_eq, is_gt, is_lt, IsSome, IsTotalOrder}
 use Rattle.litemap_store.proofs.Names.{key_one_side, key_or, length, length-append, Less, List, None, Ok, Option, option_map, option_map_or, option_or}
@@ -190,7 +189,7 @@ module _ {K V : Type 0} {cmp : K → K → Ordering} (o : IsTotalOrder cmp) wher
 
   -- ---- what both leave of an ascending list
   module _ (L : List (K × V)) (k : K) (r : Rising cmp L) where
-    -- if the key is present, a put leaves the length, and a cut takes one
+    -- if the key is present, a put leaves the length
     module _ (there : IsSome (at cmp L k)) where
       whole : length L ≡ length (below cmp L k) + suc (length (above cmp L k))
       whole = by (at cmp L k) there (parted (key_one_side o) L k r)
@@ -203,11 +202,7 @@ module _ {K V : Type 0} {cmp : K → K → Ordering} (o : IsTotalOrder cmp) wher
       pub length-put_present : (v : V) → length (put cmp L k v) ≡ length L
       length-put_present v = length-append (below cmp L k) ((key_or (at cmp L k) k, v) ∷ above cmp L k) ∙ sym whole
 
-      pub length-cut_present : length (cut cmp L k) + 1 ≡ length L
-      length-cut_present = let e : length (cut cmp L k) ≡ length (below cmp L k) + length (above cmp L k) =
-          length-append (below cmp L k) (above cmp L k) in let w = whole in omega arith
-
-    -- if it is absent, a put adds one, and a cut leaves the list
+    -- if it is absent, a put adds one
     module _ (missing : at cmp L k ≡ None) where
       parts : L ≡ below cmp L k ++ above cmp L k
       parts = rw missing at (parted (key_one_side o) L k r)
@@ -218,9 +213,6 @@ module _ {K V : Type 0} {cmp : K → K → Ordering} (o : IsTotalOrder cmp) wher
           let p : length (put cmp L k v) ≡ length (below cmp L k) + suc (length (above cmp L k)) =
           length-append (below cmp L k) ((key_or (at cmp L k) k, v) ∷ above cmp L k) in
           omega arith
-
-      pub cut-absent : cut cmp L k ≡ L
-      cut-absent = sym parts
 
     -- a cut leaves an ascending list
     pub Rising-cut : Rising cmp (cut cmp L k)

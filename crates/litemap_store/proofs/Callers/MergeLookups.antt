@@ -1,6 +1,5 @@
--- What a lookup finds in a merge, and in what is displaced: lemmas for the proofs of callers. `laws::merge_is_found` has them
--- as its contract. They hold for any query: `same` says that the keys it finds are equal, `alike` that with a key it finds
--- every equal one.
+-- What a lookup finds in a merge, and in what is displaced: lemmas for the proofs of callers. They hold for any query: `same`
+-- says that the keys it finds are equal, `alike` that with a key it finds every equal one.
 --     value_at-merged      the value of B if B has the key, else that of A
 --     value_at-left      the value of A if B has the key, else none
 --     at-same      what a key that the query finds finds;  key_same, key_alike      both, if the query is a key
