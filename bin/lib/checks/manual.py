@@ -86,10 +86,8 @@ class Entry:
         self.names, self.words = names, closure(key for key in names.values() if key)
 
     def sentence(self):
-        """The first sentence of a call's comment, with the mark of what the Rust crate lacks."""
-        first = " ".join(self.call.comment.split("\n\n")[0].split())
-        said = re.match(r".*?\.(?= |$)|.*", first)[0]
-        return said + " (own)" * ("(own)" in first and "(own)" not in said)
+        """The first sentence of a call's comment."""
+        return re.match(r".*?\.(?= |$)|.*", " ".join(self.call.comment.split("\n\n")[0].split()))[0]
 
 
 def entries_of(calls, titles):

@@ -24,8 +24,6 @@ def own_key(module, name):
     """The key of what a module has under a name, or None if it isn't ours."""
     if module.split(".")[0] not in CRATES:
         return None
-    if module.endswith(".TheConstants"):
-        return name
     if module.endswith(".specs"):
         return next((key for key in WORDS if key.startswith(f"{module}.") and key.endswith(f".{name}")), name)
     declared = re.search(r"\.declared\..*?\b([A-Z]\w*)(?:\.TheVariants)?$", module)
