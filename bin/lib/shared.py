@@ -52,19 +52,22 @@ def texts_in(folder):
 
 
 class Body:
-    """A wrong body: its title, the texts that it replaces, and what catches it, if that is stored.
+    """A wrong body: its title, the promises that it breaks, the texts that it replaces, and what catches it, if that is stored.
 
     For each text that it replaces `changes` has the file, a text before it ('' if it occurs once), the text, and the new one.
     """
 
     CHANGE = r"(?:file: (.+)\n)?(?:after: (.+)\n)?old: (.+)\nnew: ?(.*)\n"
-    WHOLE = re.compile(r"(?:# )?(?P<title>[^#\n].*)\n(?P<changes>file: (?:.+\n)+?)(?:caught: (?P<caught>.+)\n)?")
+    WHOLE = re.compile(
+        r"(?:# )?(?P<title>[^#\n].*)\n(?:(?:# )?breaks: (?P<breaks>.+)\n)?(?P<changes>file: (?:.+\n)+?)(?:caught: (?P<caught>.+)\n)?"
+    )
 
     def __init__(self, text):
         found = self.WHOLE.fullmatch(text + "\n")
         if not found or not re.fullmatch(f"(?:{self.CHANGE})+", found["changes"]):
-            raise ValueError(f"the lines below a title aren't 'file:', 'after:', 'old:', 'new:', 'caught:', in this order: {text}")
+            raise ValueError(f"the lines below a title aren't 'breaks:', 'file:', 'after:', 'old:', 'new:', 'caught:', in this order: {text}")
         self.text, self.title, self.caught, self.changes = text, found["title"], found["caught"], []
+        self.breaks = found["breaks"] or ""
         for path, *change in re.findall(self.CHANGE, found["changes"]):
             self.changes.append((path or self.changes[-1][0], *change))
 
