@@ -120,17 +120,16 @@ def write_files(folder, files):
 class Watched:
     """A test program that runs on all that its model makes, with bin/lib/allocator.c loaded before the C library.
 
-    What the model makes, which may be passed in as `files`, is written into a folder of the program's own in `room`. A line of
-    output is that of a call if it has `sign`. The input `timed` is not part of what is given: it is run by itself, with a limit of
-    time.
+    What the model makes, which may be passed in as `files`, is written into a folder of the program's own in `room`. The input
+    `timed` is not part of what is given: it is run by itself, with a limit of time.
     """
 
     # How many seconds of processor time it may take, some ten times as many as it does: only a wrong body takes more.
     MOST_TIME = 20
 
-    def __init__(self, room, crate, sign, program=None, files=None):
-        self.folder, self.sign, self.library = TOP / "crates" / crate, sign, f"{room}/allocator.so"
-        self.program = program or self.folder / "out" / crate
+    def __init__(self, room, crate, files=None):
+        self.folder, self.library = TOP / "crates" / crate, f"{room}/allocator.so"
+        self.program = self.folder / "out" / crate
         self.model, self.whole, stdin = model(crate), pathlib.Path(room) / "whole" / crate, self.folder / "stdin"
         self.files = files or self.model["files"]()
         write_files(self.whole, self.files)
@@ -142,18 +141,18 @@ class Watched:
         subprocess.run([clang, *options, "-o", self.library, TOP / "bin" / "lib" / "allocator.c"], check=True)
 
     def run(self, before="", given=None, most=None, **more):
-        """Runs the program on this text and then its input, or another one: the status, the lines of calls, and the numbers of each
-        call. It ends after so many seconds of processor time at most."""
+        """Runs the program on this text and then its input, or another one: the status, the lines of output, and the numbers of
+        each call. It ends after so many seconds of processor time at most."""
         env, given = os.environ | {"LD_PRELOAD": self.library} | more, before + (self.given if given is None else given)
         data = self.whole / "data"
         how = {"cwd": data if data.is_dir() else self.folder, "env": env, "input": given, "capture_output": True, "text": True}
         limit = most and (lambda: resource.setrlimit(resource.RLIMIT_CPU, (most, most)))
         run = subprocess.run([self.program], preexec_fn=limit, **how)
-        return run.returncode, [line for line in run.stdout.splitlines() if self.sign in line], run.stderr.splitlines()
+        return run.returncode, run.stdout.splitlines(), run.stderr.splitlines()
 
-    def run_timed(self, **more):
+    def run_timed(self):
         """How it ends on the timed input, and its lines."""
-        return self.run(given=self.timed, most=self.MOST_TIME, **more)[:2]
+        return self.run(given=self.timed, most=self.MOST_TIME)[:2]
 
 
 class Report:

@@ -1,0 +1,33 @@
+// Linked into the programs of bin/planted: picks the wrong body whose number is the first argument, and tells at the end what a run did.
+//
+// The hooks belong to the checks of memory that `rt try` links. Body 0 is right: each search asks for it, and so is counted.
+typedef unsigned long size_t;
+
+int atoi(const char *text);
+int printf(const char *format, ...);
+
+static unsigned picked;
+static long searches, requests, bytes, held;
+
+__attribute__((constructor)) static void pick(int count, char **words) {
+    picked = count > 1 ? atoi(words[1]) : 0;
+}
+
+unsigned char is_planted(unsigned body) {
+    searches += body == 0;
+    return body != 0 && body == picked;
+}
+
+void __sanitizer_malloc_hook(const volatile void *block, size_t size) {
+    requests += block != 0;
+    held += block != 0;
+    bytes += size;
+}
+
+void __sanitizer_free_hook(const volatile void *block) {
+    held -= block != 0;
+}
+
+__attribute__((destructor)) static void tell(void) {
+    printf("%ld searches, %ld requests of %ld bytes, %ld blocks held\n", searches, requests, bytes, held);
+}
