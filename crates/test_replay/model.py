@@ -254,54 +254,42 @@ class Model:
         return self.text([self.pairs[index]]) if -1 <= index < len(self.pairs) and self.pairs else "none"
 
     def look(self, name, words, search):
-        size = len(self.pairs)
-        if name in ("len", "lm_len"):
-            return str(size)
-        if name in ("is_empty", "lm_is_empty"):
-            return "false" if size else "true"
-        if name == "first":
-            return self.pair_at(0)
-        if name in ("last", "lm_last"):
-            return self.pair_at(-1)
-        if name in ("get_indexed", "lm_get"):
-            return self.pair_at(int(words[0]))
-        if name in ("keys_ascend",):
-            return "ok"
-        if name == "debug":
-            return "{" + ", ".join(f"{key}: {value}" for key, value in self.pairs) + "}"
-        if name == "debug_lines":
-            return " ".join(["{", *(f"    {key}: {value}," for key, value in self.pairs), "}"]) if size else "{}"
-        if name == "lm_debug":
-            return "[" + ", ".join(f"({key}, {value})" for key, value in self.pairs) + "]"
-        if name == "lm_debug_lines":
-            parts = [f"    (         {key},         {value},     )," for key, value in self.pairs]
-            return " ".join(["[", *parts, "]"]) if size else "[]"
-        if name in ("as_slice",):
-            return self.text(self.pairs)
-        if name == "as_sliced":
-            tail = f" {self.pair_at(0)}" if size else ""
-            return f"{self.text(self.pairs)} {size} {'false' if size else 'true'}{tail}"
-        if name == "into_tuple_vec":
-            text, self.pairs = self.text(self.pairs), []
-            return text
-        if name == "take_range":
-            start, end = map(int, words)
-            taken, self.pairs[start:end] = self.pairs[start:end], []
+        pairs, size = self.pairs, len(self.pairs)
+        texts = {
+            "len": lambda: str(size),
+            "lm_len": lambda: str(size),
+            "is_empty": lambda: "false" if size else "true",
+            "lm_is_empty": lambda: "false" if size else "true",
+            "first": lambda: self.pair_at(0),
+            "last": lambda: self.pair_at(-1),
+            "lm_last": lambda: self.pair_at(-1),
+            "get_indexed": lambda: self.pair_at(int(words[0])),
+            "lm_get": lambda: self.pair_at(int(words[0])),
+            "keys_ascend": lambda: "ok",
+            "as_slice": lambda: self.text(pairs),
+            "as_sliced": lambda: " ".join([self.text(pairs), f"{size} true" if not size else f"{size} false {self.pair_at(0)}"]),
+            "debug": lambda: "{" + ", ".join(f"{key}: {value}" for key, value in pairs) + "}",
+            "debug_lines": lambda: " ".join(["{", *(f"    {key}: {value}," for key, value in pairs), "}"]) if size else "{}",
+            "lm_debug": lambda: "[" + ", ".join(f"({key}, {value})" for key, value in pairs) + "]",
+            "lm_debug_lines": lambda: " ".join(["[", *map(DEBUG_LINES.format, *zip(*pairs)), "]"]) if size else "[]",
+        }
+        if name in texts:
+            return texts[name]()
+        if name in ("into_tuple_vec", "take_range"):
+            start, end = map(int, words or (0, size))
+            taken, self.pairs = pairs[start:end], pairs[:start] + pairs[end:]
             return self.text(taken)
         if name == "is_sorted_store":
-            falls = [place for place in range(1, size) if not self.rises(self.pairs[place - 1 : place + 1])]
+            falls = [place for place in range(1, size) if not self.rises(pairs[place - 1 : place + 1])]
             return ("false" if falls else "true"), falls[0] if falls else max(size - 1, 0)
         if name == "get_indexed_range":
             start, end = map(int, words)
-            return self.text(self.pairs[start:end]) if start <= end <= size else "none"
-        if name in ("index_range", "index_range_counted"):
+            return self.text(pairs[start:end]) if start <= end <= size else "none"
+        if name in ("index_range", "index_range_counted", "range", "iter_range"):
             start, end = self.bounds(words)
-            return f"{start} {end}", self.two_searches(words)
-        if name in ("range", "iter_range"):
-            start, end = self.bounds(words)
-            part = self.pairs[start:end]
-            last = [self.text(part[-1:]) if part else "none", self.text(part[:-1])]
-            return self.text(part) if name == "range" else " ".join(last), self.two_searches(words)
+            part = pairs[start:end]
+            told = f"{self.text(part[-1:]) if part else 'none'} {self.text(part[:-1])}" if name == "iter_range" else self.text(part)
+            return (f"{start} {end}" if name.startswith("index") else told), self.two_searches(words)
         return None
 
     def two_searches(self, words):
@@ -506,16 +494,14 @@ class Model:
     def many(self, name, words, search):
         if name == "clone":
             return "ok"
-        if name in ("new", "lm_empty"):
-            self.pairs, self.room = [], None if self.room is None else 0
-            return "ok"
-        if name in ("with_capacity", "lm_with_capacity", "reserve", "lm_reserve") and int(words[0]) > 2**48:
+        size = int(words[0]) if name in RESERVED else 0
+        if size > 2**48:
             return "refused"
-        if name in ("with_capacity", "lm_with_capacity"):
-            self.pairs, self.room = [], None if self.room is None else int(words[0])
+        if name in ("new", "lm_empty", "with_capacity", "lm_with_capacity"):
+            self.pairs, self.room = [], None if self.room is None else size
             return "ok"
         if name in ("reserve", "lm_reserve"):
-            return "ok" if self.room is None or self.room >= int(words[0]) else "refused"
+            return "ok" if self.room is None or self.room >= size else "refused"
         if name == "lm_push":
             return self.placed(len(self.pairs), words)
         if name == "lm_insert":
@@ -538,14 +524,10 @@ class Model:
             return self.text(later), search
         if name in RUNS:
             return self.run(words)
-        if name.startswith("grow_"):
-            count, step = map(int, words)
-            keys = sorted(place * step % 10007 for place in range(1, count + 1))
-            return self.text((str(key), 0 if name == "grow_set" else key) for key in keys)
-        if name in ("extend_small", "extend_set"):
-            length, count, step = map(int, words)
-            keys = {2 * place for place in range(1, length + 1)} | {place * step % 10007 for place in range(1, count + 1)}
-            return self.text((str(key), 0 if name == "extend_set" else key) for key in sorted(keys))
+        if name.startswith("grow_") or name in ("extend_small", "extend_set"):
+            *length, count, step = map(int, words)
+            keys = {2 * place for place in range(1, sum(length) + 1)} | {place * step % 10007 for place in range(1, count + 1)}
+            return self.text((str(key), 0 if name.endswith("set") else key) for key in sorted(keys))
         pairs = self.given(words)
         if name in (*MAKES, "lm_sort_from_iter", "lm_sort_from_vec"):
             cost = Model(self.order).cost(pairs)
@@ -731,6 +713,8 @@ class Model:
         return ("equal" if mine == theirs else "less" if mine < theirs else "greater"), most
 
 
+# A pair of a store, as `{:#?}` prints it.
+DEBUG_LINES = "    (         {},         {},     ),"
 # Calls that leave the list, so that a sweep needs no copy of it.
 READ_ONLY = {"get"}
 # The most pairs that a vector puts in one by one.
@@ -1223,28 +1207,14 @@ def rows():
 
 
 # The calls that no line makes, and what runs them.
-ELSEWHERE = {
-    "const_get_with_index": "test_cases: each type of keys",
-    "const_len": "as_sliced",
-    "const_is_empty": "as_sliced",
-    "const_get_indexed_or_panic": "as_sliced",
-    "new_vec": "test_cases",
-    "from_sorted_store_unchecked": "test_cases",
-    "key": "entry",
-    "same_results": "a law",
-    "lm_get_range": "get_indexed_range",
-    "lm_iter": "iter",
-    "lm_into_iter": "into_iter",
-    "lm_size_hint": "into_iter; what `size_hint` of keys and values returns",
-    "into_mut": "entry_into_mut",
-    "lm_size_hint": "iter",
-}
-ELSEWHERE |= dict.fromkeys("range_in range_by floor ceiling remove_indexed truncate remove_range try_from_sorted".split(), "test_cases")
-ELSEWHERE |= dict.fromkeys("try_update retain_mut iter_mut keys_slice values_slice values_mut_slice".split(), "test_cases")
-ELSEWHERE |= dict.fromkeys("entry_by first_entry last_entry or_insert_with_key or_made_with or_try_insert_with into_key".split(), "test_cases")
-ELSEWHERE |= dict.fromkeys("into_keys into_values append".split(), "test_cases")
-ELSEWHERE |= dict.fromkeys("as_store into_store capacity shrink_to_fit lm_columns lm_columns_mut".split(), "test_cases")
-ELSEWHERE |= {"lm_alloc": "extended"}
+ELSEWHERE = dict.fromkeys("const_len const_is_empty const_get_indexed_or_panic".split(), "as_sliced")
+ELSEWHERE |= {"key": "entry", "into_mut": "entry_into_mut", "same_results": "a law", "lm_get_range": "get_indexed_range"}
+ELSEWHERE |= {"lm_iter": "iter", "lm_size_hint": "iter", "lm_into_iter": "into_iter", "lm_alloc": "extended"}
+TRIED = """const_get_with_index new_vec from_sorted_store_unchecked range_in range_by floor ceiling remove_indexed truncate remove_range
+    try_from_sorted try_update retain_mut iter_mut keys_slice values_slice values_mut_slice entry_by first_entry last_entry
+    or_insert_with_key or_made_with or_try_insert_with into_key into_keys into_values append as_store into_store capacity shrink_to_fit
+    lm_columns lm_columns_mut"""
+ELSEWHERE |= dict.fromkeys(TRIED.split(), "test_cases")
 SOURCES = ["litemap/src/map.rt", "litemap/src/map", "litemap/src/const_family.rt", "litemap_read/src/read.rt"]
 SOURCES += ["litemap_read/src/laws.rt", "litemap_store/src/store.rt", "litemap_store/src/into_iter.rt"]
 
