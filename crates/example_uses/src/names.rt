@@ -21,7 +21,7 @@ pub const ROUTES: &[(&str, u8)] = &[
     ("/users/me", 9),
 ];
 
-/// The number at a path. The map takes no memory.
+/// The number at a path. The map needs no heap.
 pub fn route(path: &str) -> Option<u8>
     ensures { result ≡ value_at bytes_cmp (map (λ p. (p.0.now, p.1)) ROUTES.now) path.entry.now }
 {

@@ -1,4 +1,4 @@
-//! The search of the stores whose keys lie in slices, with no branch on a comparison.
+//! The search of the stores whose keys lie in slices. The next index is chosen with no branch on a comparison.
 ghost use Rattle.std.specs.Prelude.{◌≡◌, ◌<◌, IfOk, List, Some, length, slice_get, if◌then◌else◌};
 ghost use Rattle.litemap_store.specs.{CallableOnKeys, Found, RisesByAtMost, digits};
 
