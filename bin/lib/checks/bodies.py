@@ -22,7 +22,7 @@ UNBREAKABLE = {
     "no body may lose a pair whose type isn't Drop": "insert_reserved.len remove_at.len LiteMap::reserve.pairs"
     " LiteMap::reserve.room_not_lowered LiteMap::update.keys LiteMap::try_update.keys VacantEntry::into_key.key",
     "each pair of a map is what its key finds": "LiteMap::first.found LiteMap::last.found LiteMap::iter_range.found",
-    "each slice of a map ascends, and so do the keys of two sets": "LiteMap::as_slice.rising VecSet::*.ascending VecSet::*difference.own",
+    "each slice of a map ascends, and so do the keys of two sets": "LiteMap::as_slice.rising VecSet::*.ascending",
     "it speaks of the type alone": "JsonItem::to_value.reads_back JsonKey::key_text.reads_back",
 }
 # The libraries whose bodies don't say yet which clauses they break.

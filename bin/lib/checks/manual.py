@@ -27,7 +27,7 @@ GROUPS = {
     "Through serde": "litemap_serde: write read pairs holder",
     "Name tables": "name_table: read write name_bytes cursor error laws",
     "Lookups in name tables": "name_index: table index name_entries indexed index_write error laws",
-    "Sets": "litemap_set: set bulk combine",
+    "Sets": "litemap_set: lib",
     "What a call can be asked by": "litemap_store: query",
     "Stores": "litemap_store: store into_iter vec_impl slice_impl slice_iter owned_iter iter_mut count growth no_room retain reserved slice_search merge "
     "split_store; litemap_short: short_store short_iter; litemap_columns: lib column_store column_iter",

@@ -1,33 +1,33 @@
 -- From the pairs of a map to the keys of a set.
 --     ascends, length-keys, find-keys, contains-keys      what the keys of ascending pairs are, and what is found among them
 --     contains-put, length-put, keys-put      after a put
---     GivesSome-from_keys, GivesSome-from_more, IsSameSet-from_vec, on_err      what an iterator and a vector yield;  contains-last, contains-last_of_more
--- among the last pairs of a list
+--     GivesSome-from_more      what an iterator yields;  on_err, on_ok_both      what calls return
+--     has_last      the last pairs of a list;  union_of_merge      a merge
 --     any-kept, none-kept, keys-cut, length-cut      after a cut, which is a filter of the keys
 use Rattle.litemap_store.proofs.Names.{[], ℕ, ◌++◌, ◌+◌, ◌∙◌, ◌∷◌, ◌≡◌, AllByRecursion, ap, arith, Bool, cond, cons_option, Equal, false, filter, filter-append}
-use Rattle.litemap_store.proofs.Names.{Greater, is_eq, is_gt, is_lt, is_some, IsTotalOrder, length, length-append, Less, List, None, not, Option, option_map}
-use Rattle.litemap_store.proofs.Names.{Ordering, refl, reverse, reverse-append, Some, suc, sym, tied_back, true, Vec}
-use Rattle.std.specs.Prelude.{◌||◌, ◌≤◌, Err, Ok, OnErr, Result, find}
+use Rattle.litemap_store.proofs.Names.{Greater, In, inl, inr, is_eq, is_gt, is_lt, is_some, IsTotalOrder, length, length-append, Less, List, None, not, Option}
+use Rattle.litemap_store.proofs.Names.{option_map, Ordering, refl, reverse, reverse-append, Some, suc, sym, tied_back, true}
+use Rattle.std.specs.Prelude.{◌||◌, ◌≤◌, Err, Ok, OnErr, OnOk, Result, find}
 use Rattle.std.specs.List.{list_any}
 use Rattle.std.specs.List.Sorted.{IsStrictlySortedBy}
 use Rattle.std.specs.Map.{keys_of}
-use Rattle.std.specs.Vec.Iter.{into_iter_items, into_iter_steps}
-use Rattle.std.specs.declared.vec.IntoIter.{IntoIter}
 use Rattle.std.proofs.lemmas.List.{map-append}
 use Rattle.std.proofs.lemmas.List.Folds.{list_any-append}
 use Rattle.litemap_store.specs.Pairs.{Rising, above, at, below, cut, key_or, put, value_at}
 use Rattle.litemap_store.specs.Queries.{OneSide, key_one_side}
 use Rattle.litemap_store.specs.Bulk.{Gives, GivesSome}
 use Rattle.litemap_store.specs.Last.{Last, Rises}
-use Rattle.litemap_store.proofs.Callers.Extended.{given_by_vec}
 use Rattle.litemap_store.proofs.Callers.LastLookups.{at-Last}
 use Rattle.litemap_store.proofs.Callers.Lookups.{value_at-put, value_at-put_other}
 use Rattle.litemap_store.proofs.Callers.Tallies.{value_at_equal}
 use Rattle.litemap_store.proofs.Lists.Membership.{In-from_filter}
+use Rattle.litemap_store.proofs.Merging.Merges.{at_none, keys_of_merge}
+use Rattle.litemap_store.specs.Merge.{Merge}
+use Rattle.std.specs.Option.{option_or}
 use Rattle.litemap_store.proofs.Last.FirstGiven.{GivesSome-from_some, Rises-none}
 use Rattle.litemap_store.proofs.Last.KeepLast.{filter_all}
 use Rattle.litemap_store.proofs.Search.Splitting.{at_in, parted}
-use Rattle.litemap_set.specs.Sets.{IsExtendedBy, IsSameSet, contains}
+use Rattle.litemap_set.specs.Sets.{HasLast, IsUnion, contains, key_at}
 
 module _ {K V : Type 0} (cmp : K → K → Ordering) where
   below_keys : (k : K) (L : List (K × V)) → AllByRecursion (λ q. cmp k q.0 ≡ Less) L → AllByRecursion (λ y. cmp k y ≡ Less) (keys_of L)
@@ -136,17 +136,10 @@ pub GivesSome-from_more : {U T K V : Type 0} (becomes : U → T → Type 0) (ste
 GivesSome-from_more becomes steps iter cmp room old [] g some = absurd (some (Rises-none cmp old) (omega arith))
 GivesSome-from_more becomes steps iter cmp room old (p ∷ L) g some = GivesSome-from_some becomes steps iter (p.0 ∷ keys_of L) g (omega arith)
 
-pub GivesSome-from_keys : {U T K V : Type 0} (becomes : U → T → Type 0) (steps : T → Option K → T → Type 0) (iter : U)
-    (cmp : K → K → Ordering) (room : ℕ) (L : List (K × V)) → Gives becomes steps iter (keys_of L)
-    → (Rising cmp L → length L ≤ room → ⊥) → GivesSome becomes steps iter
-GivesSome-from_keys becomes steps iter cmp room L g some = GivesSome-from_more becomes steps iter cmp room [] L g (λ r. some r.rising)
-
--- what a vector yields are its items
-pub IsSameSet-from_vec : {K Z : Type 0} {cmp : K → K → Ordering} {becomes : Vec K Z → IntoIter K Z → Type 0} (v : Vec K Z) (new : List K)
-    → IsExtendedBy cmp becomes into_iter_steps v [] new
-    → ((w : Vec K Z) (it : IntoIter K Z) → becomes w it → into_iter_items it ≡ w.items) → IsSameSet cmp v.items new
-IsSameSet-from_vec {cmp = cmp} {becomes = becomes} v new made holds q =
-    made.union q ∙ ap (λ ks. contains cmp ks q) (given_by_vec becomes holds v made.given made.gives)
+-- what follows from two things that hold if a call succeeds
+pub on_ok_both : {X E P Q R : Type 0} (r : Result X E) → (P → Q → R) → OnOk r P → OnOk r Q → OnOk r R
+on_ok_both (Ok x) f p q = f p q
+on_ok_both (Err e) f p q = tt
 
 -- what holds if a call fails
 pub on_err : {X E P : Type 0} (r : Result X E) → P → OnErr r P
@@ -158,15 +151,60 @@ module _ {K V : Type 0} {cmp : K → K → Ordering} (o : IsTotalOrder cmp) (q :
   any-keys [] = refl
   any-keys (p ∷ L) = ap (λ b. is_eq (cmp p.0 q) || b) (any-keys L)
 
-  pub contains-last : (J M : List (K × V)) → Last cmp J M → contains cmp (keys_of M) q ≡ contains cmp (keys_of J) q
+  contains-last : (J M : List (K × V)) → Last cmp J M → contains cmp (keys_of M) q ≡ contains cmp (keys_of J) q
   contains-last J M last =
       sym (contains-keys cmp q M) ∙ ap is_some (at-Last o J M last q) ∙ contains-keys cmp q (reverse J)
       ∙ sym (any-keys (reverse J)) ∙ any-reverse (λ p. is_eq (cmp p.0 q)) J ∙ any-keys J
 
-  pub contains-last_of_more : (L J M : List (K × V)) → Last cmp (L ++ J) M
+  contains-last_of_more : (L J M : List (K × V)) → Last cmp (L ++ J) M
       → contains cmp (keys_of M) q ≡ (contains cmp (keys_of L) q || contains cmp (keys_of J) q)
   contains-last_of_more L J M last =
       contains-last (L ++ J) M last ∙ ap (λ ks. contains cmp ks q) (map-append (λ p. p.0) L J) ∙ list_any-append (λ k. is_eq (cmp k q)) (keys_of L) (keys_of J)
+
+keys_of-reverse : {K V : Type 0} (L : List (K × V)) → keys_of (reverse L) ≡ reverse (keys_of L)
+keys_of-reverse [] = refl
+keys_of-reverse (p ∷ L) =
+    ap keys_of (reverse-append (p ∷ []) L) ∙ map-append (λ x. x.0) (reverse L) (p ∷ []) ∙ ap (λ M. M ++ p.0 ∷ []) (keys_of-reverse L)
+    ∙ sym (reverse-append (p.0 ∷ []) (keys_of L))
+
+pub has_last : {K V : Type 0} {cmp : K → K → Ordering} (o : IsTotalOrder cmp) (L J M : List (K × V)) → Last cmp (L ++ J) M
+    → HasLast cmp (keys_of L) (keys_of J) (keys_of M)
+has_last {cmp = cmp} o L J M last = record {
+  members = λ q. contains-last_of_more o q L J M last;
+  last = λ q.
+      sym (find-keys cmp q M) ∙ ap (option_map (λ p. p.0)) (at-Last o (L ++ J) M last q) ∙ find-keys cmp q (reverse (L ++ J))
+      ∙ ap (λ ks. key_at cmp ks q) (keys_of-reverse (L ++ J) ∙ ap reverse (map-append (λ p. p.0) L J));
+}
+
+-- ---- a merge
+module _ {K V : Type 0} {cmp : K → K → Ordering} (o : IsTotalOrder cmp) where
+  in_pairs : (k : K) (L : List (K × V)) → In k (keys_of L) → (v : V) × In (k, v) L
+  in_pairs k [] i = absurd i
+  in_pairs k (p ∷ L) (inl e) = (p.1, inl (λ j. (e j, p.1)))
+  in_pairs k (p ∷ L) (inr i) = let h = in_pairs k L i in (h.0, inr h.1)
+
+  in_keys : (k : K) (L : List (K × V)) (v : V) → In (k, v) L → In k (keys_of L)
+  in_keys k [] v i = absurd i
+  in_keys k (p ∷ L) v (inl e) = inl (ap (λ x. x.0) e)
+  in_keys k (p ∷ L) v (inr i) = inr (in_keys k L v i)
+
+  pub union_of_merge : (A B M : List (K × V)) → Merge cmp A B M
+      → ((q : K) → value_at cmp M q ≡ option_or (value_at cmp B q) (value_at cmp A q)) → IsUnion cmp (keys_of A) (keys_of B) (keys_of M)
+  union_of_merge A B M merge found = record {
+    members = λ q. sym (contains-value cmp q M) ∙ ap is_some (found q) ∙ either (value_at cmp B q) (value_at cmp A q)
+        ∙ (λ j. contains-value cmp q A j || contains-value cmp q B j);
+    own = λ k i. elim ((keys_of_merge cmp o A B M merge k).0 (in_pairs k M i)) [
+      | inl h ↦ inl (in_keys k A h.0 h.1)
+      | inr h ↦ inr (in_keys k B h.0.0 h.0.1, sym (contains-keys cmp k A) ∙ ap is_some (at_none cmp o A k h.1))
+    ];
+    ascending = ascends cmp M merge.rising;
+  }
+    where
+      either : (b a : Option V) → is_some (option_or b a) ≡ (is_some a || is_some b)
+      either None None = refl
+      either None (Some y) = refl
+      either (Some x) None = refl
+      either (Some x) (Some y) = refl
 
 -- ---- a cut
 module _ {K Q : Type 0} (order : K → Q → Ordering) (q : Q) where

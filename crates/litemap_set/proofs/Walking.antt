@@ -12,7 +12,7 @@ use Rattle.std.specs.Ordering.{match_ordering}
 use Rattle.std.proofs.lemmas.Cmp.{tied_itself}
 use Rattle.litemap_store.proofs.Lists.Membership.{each}
 use Rattle.litemap_store.proofs.Search.Splitting.{each-weaker, greater_back, less_back}
-use Rattle.litemap_set.specs.Sets.{IsDifference, IsDisjoint, IsIntersection, IsSubset, IsSymmetricDifference, IsUnion, contains}
+use Rattle.litemap_set.specs.Sets.{IsDisjoint, IsSubset, contains}
 use Rattle.litemap_set.specs.Walks.{all_if, cons_if, walk}
 
 by_rank : {X : Type 0} (P : X → Type 0) (r : Ordering) (a b c : X) → (r ≡ Less → P a) → (r ≡ Equal → P b) → (r ≡ Greater → P c) → P (match_ordering r a b c)
@@ -197,7 +197,7 @@ module _ {K : Type 0} {cmp : K → K → Ordering} (o : IsTotalOrder cmp) where
 
   -- ---- the four that sets have
   module _ (A B : List K) (a : IsStrictlySortedBy cmp A) (b : IsStrictlySortedBy cmp B) where
-    pub walk-union : IsUnion cmp A B (walk cmp (true, true, true) A B)
+    pub walk-union : (q : K) → contains cmp (walk cmp (true, true, true) A B) q ≡ (contains cmp A q || contains cmp B q)
     walk-union q = contains-walk true true true q A B a b ∙ by (contains cmp A q) (contains cmp B q)
       where
         by : (s t : Bool) → cond s (cond t true true) (t && true) ≡ (s || t)
@@ -206,7 +206,7 @@ module _ {K : Type 0} {cmp : K → K → Ordering} (o : IsTotalOrder cmp) where
         by false true = refl
         by false false = refl
 
-    pub walk-intersection : IsIntersection cmp A B (walk cmp (false, true, false) A B)
+    pub walk-intersection : (q : K) → contains cmp (walk cmp (false, true, false) A B) q ≡ (contains cmp A q && contains cmp B q)
     walk-intersection q = contains-walk false true false q A B a b ∙ by (contains cmp A q) (contains cmp B q)
       where
         by : (s t : Bool) → cond s (cond t true false) (t && false) ≡ (s && t)
@@ -215,7 +215,7 @@ module _ {K : Type 0} {cmp : K → K → Ordering} (o : IsTotalOrder cmp) where
         by false true = refl
         by false false = refl
 
-    pub walk-difference : IsDifference cmp A B (walk cmp (true, false, false) A B)
+    pub walk-difference : (q : K) → contains cmp (walk cmp (true, false, false) A B) q ≡ (contains cmp A q && not (contains cmp B q))
     walk-difference q = contains-walk true false false q A B a b ∙ by (contains cmp A q) (contains cmp B q)
       where
         by : (s t : Bool) → cond s (cond t false true) (t && false) ≡ (s && not t)
@@ -224,7 +224,8 @@ module _ {K : Type 0} {cmp : K → K → Ordering} (o : IsTotalOrder cmp) where
         by false true = refl
         by false false = refl
 
-    pub walk-symmetric_difference : IsSymmetricDifference cmp A B (walk cmp (true, false, true) A B)
+    pub walk-symmetric_difference : (q : K) → contains cmp (walk cmp (true, false, true) A B) q
+        ≡ cond (contains cmp A q) (not (contains cmp B q)) (contains cmp B q)
     walk-symmetric_difference q = contains-walk true false true q A B a b ∙ by (contains cmp A q) (contains cmp B q)
       where
         by : (s t : Bool) → cond s (cond t false true) (t && true) ≡ cond s (not t) t
@@ -250,7 +251,7 @@ module _ {K : Type 0} {cmp : K → K → Ordering} (o : IsTotalOrder cmp) where
             (λ h. absurd (let f : true ≡ false = e ∙ ap not h in cc), λ h. absurd (let f : true ≡ false = sym there ∙ h (shows x) in cc))
 
     module _ (A B : List K) where
-      pub subset_if_none : IsDifference cmp A B L → IsTrue b ↔ IsSubset cmp A B
+      pub subset_if_none : ((q : K) → contains cmp L q ≡ (contains cmp A q && not (contains cmp B q))) → IsTrue b ↔ IsSubset cmp A B
       subset_if_none members =
           let h = none_first (λ q. contains cmp A q && not (contains cmp B q)) members in (
             λ is q there. in_both (contains cmp A q) (contains cmp B q) (h.0 is q) there,
@@ -267,7 +268,7 @@ module _ {K : Type 0} {cmp : K → K → Ordering} (o : IsTotalOrder cmp) where
           none_left true false f = absurd (let e : false ≡ true = f refl in cc)
           none_left false t f = refl
 
-      pub disjoint_if_none : IsIntersection cmp A B L → IsTrue b ↔ IsDisjoint cmp A B
+      pub disjoint_if_none : ((q : K) → contains cmp L q ≡ (contains cmp A q && contains cmp B q)) → IsTrue b ↔ IsDisjoint cmp A B
       disjoint_if_none members =
           let h = none_first (λ q. contains cmp A q && contains cmp B q) members in (
             λ is q there. in_one (contains cmp A q) (contains cmp B q) (h.0 is q) there,

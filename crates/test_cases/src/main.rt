@@ -63,7 +63,7 @@ fn main(rt: HostRuntime) -> ExitCode {
     }
 }
 
-fn cases(alloc: Global) -> [(&'static str, Outcome); 53] {
+fn cases(alloc: Global) -> [(&'static str, Outcome); 54] {
     outcomes! { alloc;
         closures::one_of_the_keys_called_equal_is_found,
         closures::a_closure_compares_with_another_type,
@@ -104,6 +104,7 @@ fn cases(alloc: Global) -> [(&'static str, Outcome); 53] {
         sets::strings_are_members,
         sets::keys_are_collected,
         sets::sets_are_combined,
+        sets::sets_are_values,
         small::languages_are_found_by_their_codes,
         small::a_range_has_ranges,
         small::keys_are_made_by_a_closure,

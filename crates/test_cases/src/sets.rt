@@ -37,8 +37,8 @@ pub(crate) fn keys_are_collected(alloc: Global) -> Outcome {
     let mut days = VecSet::from_iter(alloc, [5, 1, 3, 1])?;
     days.extend(alloc, [4, 5])?;
     days.extend(alloc, [0u32; 0])?;
-    let same = VecSet::from_vec(alloc, [4, 3, 5, 4, 1].to_vec(alloc)?)?;
-    let none: VecSet<u32> = VecSet::from_vec(alloc, Vec::new(alloc))?;
+    let same: VecSet<u32> = [4, 3, 5, 4, 1].into_iter().collect(alloc)?;
+    let none: VecSet<u32> = VecSet::from_iter(alloc, Vec::new(alloc))?;
     let mut sum = 0u32;
     for day in &days {
         sum = sum.wrapping_add(*day);
@@ -86,4 +86,17 @@ fn are_compared(
         && !days.is_disjoint(weekend)
         && none.is_disjoint(days)
         && none.is_subset(none)
+}
+
+// Sets are cloned and compared by their keys, and those of another set are moved into one.
+pub(crate) fn sets_are_values(alloc: Global) -> Outcome {
+    let mut days = days(alloc)?;
+    let copy = days.clone()?;
+    let mut more = VecSet::from_iter(alloc, [6, 5])?;
+    days.append(alloc, &mut more)?;
+    let merged = days.iter().eq([1, 3, 5, 6].iter()) && more.is_empty() && copy < days;
+    let kept = days.remove(&6) && days == copy && days.cmp(&copy).is_eq();
+    days.append(alloc, &mut more)?;
+    more.append(alloc, &mut days)?;
+    Ok(merged && kept && more == copy && days.is_empty())
 }

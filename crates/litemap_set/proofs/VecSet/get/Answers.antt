@@ -1,0 +1,11 @@
+use Rattle.std.proofs.Common.{ap, option_map, ◌∙◌}
+use Rattle.litemap_set.proofs.Keys.{find-keys}
+use Rattle.litemap_set.proofs.VecSet.get.Goals as goal
+
+pub returns : goal.returns
+returns g c =
+    rw (← c.self.view_is) (ap (option_map (λ p. p.0)) c.in-Some.ensures ∙ find-keys g.Q.Query.order (g.Q.Query.sought c.args.key) c.self.inside.map.pairs)
+
+pub returns-in_default : goal.returns-in_default
+returns-in_default g c =
+    rw (← c.self.view_is) (ap (option_map (λ p. p.0)) c.in_default.ensures ∙ find-keys g.Q.Query.order (g.Q.Query.sought c.args.key) c.self.inside.map.pairs)
