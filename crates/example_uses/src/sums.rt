@@ -35,7 +35,7 @@ pub fn add(sum: &mut Vector, alloc: Global, other: Vector) -> Result<(), NoRoom<
 pub type Named = VecMap<String, u64>;
 
 /// Adds the numbers of other names. A sum that is too great becomes the greatest number.
-// With all lemmas of the root's set the search reaches its limit here.
+// By this lemma alone: with all of the root's set the search doesn't prove `added`.
 #[tactic(auto, using(litemap::proofs::Texts::text_combined))]
 pub fn add_capped(named: &mut Named, alloc: Global, other: Named) -> Result<(), AllocError>
     ensures added { OnOk result ((name : _) → value_at by_string named.new.pairs name
