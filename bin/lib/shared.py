@@ -140,15 +140,16 @@ class Watched:
         clang = kit() / "toolchain" / "bin" / "clang"
         subprocess.run([clang, *options, "-o", self.library, TOP / "bin" / "lib" / "allocator.c"], check=True)
 
-    def run(self, before="", given=None, most=None, **more):
+    def run(self, before="", given=None, most=None, output=None, **more):
         """Runs the program on this text and then its input, or another one: the status, the lines of output, and the numbers of
-        each call. It ends after so many seconds of processor time at most."""
+        each call. It ends after so many seconds of processor time at most. Its output may go to a file, and has no lines then."""
         env, given = os.environ | {"LD_PRELOAD": self.library} | more, before + (self.given if given is None else given)
         data = self.whole / "data"
-        how = {"cwd": data if data.is_dir() else self.folder, "env": env, "input": given, "capture_output": True, "text": True}
+        how = {"cwd": data if data.is_dir() else self.folder, "env": env, "input": given, "stderr": subprocess.PIPE, "text": True}
         limit = most and (lambda: resource.setrlimit(resource.RLIMIT_CPU, (most, most)))
-        run = subprocess.run([self.program], preexec_fn=limit, **how)
-        return run.returncode, run.stdout.splitlines(), run.stderr.splitlines()
+        with open(output or os.devnull, "w") as file:
+            run = subprocess.run([self.program], preexec_fn=limit, stdout=file if output else subprocess.PIPE, **how)
+        return run.returncode, (run.stdout or "").splitlines(), run.stderr.splitlines()
 
     def run_timed(self):
         """How it ends on the timed input, and its lines."""
