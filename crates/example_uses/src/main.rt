@@ -8,6 +8,7 @@ pub mod collection;
 pub mod config;
 pub mod counting;
 pub mod headers;
+pub mod keywords;
 pub mod made;
 pub mod message;
 pub mod names;

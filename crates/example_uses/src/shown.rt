@@ -14,7 +14,7 @@ use crate::stores::{moved, total};
 use crate::sums::{self, Named};
 use crate::texts::{self, ByteNumbers, Numbers};
 use crate::words::{self, Counts};
-use crate::{config, parts, reserved, scores, trees};
+use crate::{config, keywords, parts, reserved, scores, trees};
 use litemap::{LiteMap, TryFault, VecMap};
 use litemap_columns::ColumnMap;
 use litemap_set::VecSet;
@@ -52,7 +52,8 @@ pub(crate) fn show(rt: &impl Print, alloc: Global) -> anyhow::Result<()> {
     show_counted(rt, alloc)?;
     show_calendar(rt, alloc)?;
     show_config(rt, alloc)?;
-    Ok(show_collected(rt, alloc)?)
+    show_collected(rt, alloc)?;
+    Ok(show_keywords(rt, alloc)?)
 }
 
 // Pairs whose names are copied.
@@ -454,4 +455,13 @@ fn show_collected(rt: &impl Print, alloc: Global) -> io::Result<()> {
         collection::note(&mut days, 3)?,
     ];
     println!(rt; "new {is_new:?}, noted {days:?}")
+}
+
+// The keywords of a locale that has one, to which a key that is there and another one are added.
+fn show_keywords(rt: &impl Print, alloc: Global) -> io::Result<()> {
+    let mut keywords = keywords::only(alloc, "nu", "thai");
+    print!(rt; "keywords {keywords:?}")?;
+    keywords::add(&mut keywords, "nu", "latn")?;
+    keywords::add(&mut keywords, "ca", "buddhist")?;
+    println!(rt; ", then {keywords:?}")
 }
