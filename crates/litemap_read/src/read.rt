@@ -62,6 +62,14 @@ pub fn read_pairs<K: Ord + Drop, V: Drop, S: StoreBulkMut<K, V>, P: PairSource<K
 ///
 /// They are those of `read_pairs`. The pairs are gathered in a vector before the map changes, so an error leaves the map's list.
 /// The pairs read so far are dropped then, and the source stays after them. To keep them, call `next_pair` and insert each pair.
+///
+/// ```rust
+/// const MORE: &[u8] = b"\x01\x02it\x07Italian";
+/// // ...
+/// let mut languages: NameMap = LiteMap::from_iter(alloc, [("de", "German")])?;
+/// extend_from_source(alloc, &mut languages, &mut NameBytes::new(MORE)?)?;
+/// Ok(languages.len() == 2 && languages.get("it") == Some(&"Italian"))
+/// ```
 pub fn extend_from_source<K: Ord + Drop, V: Drop, S: StoreBulkMut<K, V>, P: PairSource<K, V>>(
     alloc: Global,
     map: &mut LiteMap<K, V, S>,
@@ -84,6 +92,12 @@ pub fn extend_from_source<K: Ord + Drop, V: Drop, S: StoreBulkMut<K, V>, P: Pair
 ///
 /// The first error that the iterator gives is returned as `ReadFault::Source`, and the iterator isn't called after it. If
 /// memory runs out, it is `ReadFault::NoRoom`. In both cases the pairs read so far are dropped.
+///
+/// ```rust
+/// let rows: [Result<(u32, &str), AllocError>; 2] = [Ok((2, "Tuesday")), Ok((1, "Monday"))];
+/// let days: Days = read_results(alloc, rows)?;
+/// Ok(days.as_slice() == [(1, "Monday"), (2, "Tuesday")].as_slice())
+/// ```
 pub fn read_results<
     K: Ord + Drop,
     V: Drop,

@@ -21,6 +21,13 @@ pub type NameMap<'a> = VecMap<&'a str, &'a str>;
 ///
 /// `ReadFault::Source` has the error of the first number or string that can't be read. If memory runs out, it is
 /// `ReadFault::NoRoom`, which doesn't come if the table has no entry.
+///
+/// ```rust
+/// const LANGUAGES: &[u8] = b"\x02\x02de\x06German\x02fr\x06French";
+/// // ...
+/// let (languages, size) = read_names(alloc, LANGUAGES)?;
+/// Ok(size == LANGUAGES.len() && languages.get("fr") == Some(&"French"))
+/// ```
 pub fn read_names<'a>(
     alloc: Global,
     bytes: &'a [u8],
