@@ -1,9 +1,8 @@
 //! A key-value map kept as one flat list of pairs with strictly ascending keys, over stores that a user may plug in.
 //!
 //! The Rust crate lacks the calls that are marked (own). In costs, n is the number of pairs. Except `clone` and
-//! `try_from_sorted`, which test keys, a call fails only if memory runs out, a store's limit is reached, or a closure fails, and
-//! then leaves the list unchanged, unless it is `try_update`. A store that keeps its memory, as a vector does, has room for another
-//! pair after each removal.
+//! `try_from_sorted`, a call fails only if memory runs out, a store is full, or a closure fails, and then keeps the list,
+//! unless it is `try_update`. A store that keeps its memory, as a vector does, has room for another pair after each removal.
 #![tactic(auto)]
 
 mod const_family;
