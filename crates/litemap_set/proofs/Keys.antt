@@ -229,7 +229,7 @@ module _ {K Q : Type 0} (order : K → Q → Ordering) (q : Q) where
         | false ↦ λ e. ap (λ b. b || contains order (filter other ks) q) e ∙ none-kept ks
       ]) refl
 
-keys-filter : {K V : Type 0} (keep : K → Bool) (L : List (K × V)) → keys_of (filter (λ p. keep p.0) L) ≡ filter keep (keys_of L)
+pub keys-filter : {K V : Type 0} (keep : K → Bool) (L : List (K × V)) → keys_of (filter (λ p. keep p.0) L) ≡ filter keep (keys_of L)
 keys-filter keep [] = refl
 keys-filter keep (p ∷ L) =
     elim (keep p.0) as (λ b. keys_of (cond b (p ∷ filter (λ x. keep x.0) L) (filter (λ x. keep x.0) L)) ≡ cond b (p.0 ∷ filter keep (keys_of L))

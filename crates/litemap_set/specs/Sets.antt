@@ -3,6 +3,7 @@ use Rattle.std.specs.Prelude.{◌≡◌, ◌⊎◌, ◌+◌, ◌<◌, ◌≤◌,
 use Rattle.std.specs.Prelude.{[], ◌∷◌, filter, find, length, map, not, refl, reverse, ⊤}
 pub use Rattle.std.specs.Map.{keys_of}
 use Rattle.std.specs.Bool.{OnFalse}
+use Rattle.std.specs.Fn.{CalledAt}
 use Rattle.std.specs.declared.cmp.Ordering.{Ordering}
 use Rattle.std.specs.declared.cmp.Ordering.TheVariants.{Equal}
 use Rattle.std.specs.Ordering.{is_eq}
@@ -11,6 +12,8 @@ use Rattle.std.specs.List.Sorted.{IsStrictlySortedBy}
 use Rattle.litemap_store.specs.declared.no_room.NoRoom.{NoRoom}
 use Rattle.litemap_store.specs.Bulk.{Gives}
 use Rattle.litemap_store.specs.Last.{In}
+use denote.Param.Members.{Mut}
+use denote.Ref.{Bor}
 
 -- what a contract sees of a set: its keys, and how many further ones it takes without failing
 pub record Keys (K : Type 0) : Type 0 where
@@ -102,3 +105,7 @@ pub record RemovesKey {K Q : Type 0} (order : K → Q → Ordering) (q : Q) (old
   pub len : length new.keys + (if result then 1 else 0) ≡ length old.keys
   pub unchanged : OnFalse result (new ≡ old)
   pub room : IsTrue result → old.room < new.room
+
+-- f returns the test of each key, and keeps no state
+abbrev pub TestsKeys : {F K : Type 0} → Mut F (Bor K × Unit {0}) Bool → F → (K → Bool) → Type 0
+TestsKeys {F} {K} g f test = (k : K) (b : Bool) (f' : F) → CalledAt g f k b f' → (b ≡ test k) × (f' ≡ f)

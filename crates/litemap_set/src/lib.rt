@@ -3,7 +3,7 @@
 //! one comparison for each key of both, and take no memory.
 #![tactic(auto)]
 
-ghost use Rattle.std.specs.Prelude.{◌≡◌, ◌↔◌, ◌==◌, ◌-◌, [], IfOk, IsTrue, OnErr, OnOk, length, slice_get};
+ghost use Rattle.std.specs.Prelude.{◌≡◌, ◌↔◌, ◌==◌, ◌-◌, [], Bool, IfOk, IsTrue, OnErr, OnOk, filter, length, slice_get};
 ghost use Rattle.std.specs.Iterator.{IsFiniteIterable, at_most};
 ghost use Rattle.std.specs.List.Sorted.{IsStrictlySortedBy};
 ghost use Rattle.std.specs.Map.{keys_of};
@@ -11,7 +11,7 @@ ghost use Rattle.std.specs.Map.Iter.{TakesFirst, deref};
 ghost use Rattle.std.specs.Option.{option_copied};
 ghost use Rattle.litemap_store.specs.Bulk.{Gives, GivesSome};
 ghost use Rattle.litemap_set.specs.Sets.{HasLast, IsDifference, IsDisjoint, IsExtendedBy, IsIntersection, IsSubset, IsSymmetricDifference, IsUnion};
-ghost use Rattle.litemap_set.specs.Sets.{InsertsKey, RemovesKey, contains, key_at};
+ghost use Rattle.litemap_set.specs.Sets.{InsertsKey, RemovesKey, TestsKeys, contains, key_at};
 ghost use Rattle.litemap_set.specs.Walks.{walk};
 
 use litemap::{IntoKeys, KeysIterWrap, LiteMap, Query, VecMap};
@@ -197,6 +197,19 @@ impl<K: Ord + Drop> VecSet<K> {
     {
         self.map.keys_ascend();
         self.map.remove(key).is_some()
+    }
+
+    /// Keeps the keys for which `f` returns true, and drops the others. `f` is called once for each key, in order.
+    pub fn retain<F: FnMut(&K) -> bool>(&mut self, mut f: F)
+        requires { (state : F) (key : _) → F.pre state key }
+        ensures { (test : K → Bool) → TestsKeys F.FnMut f test → self.new.keys ≡ filter test self.old.keys }
+    {
+        self.map.retain(
+            move |key, _|
+                requires { F.pre f key }
+                ensures { F.step f.entry key.entry result f.exit }
+            { f(key) },
+        );
     }
 
     /// Moves the keys of another set into this one; of two equal keys this set's stays. It compares as a map's merge does. If
