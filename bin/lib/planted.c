@@ -7,7 +7,7 @@ int atoi(const char *text);
 int printf(const char *format, ...);
 
 static unsigned picked;
-static long searches, requests, bytes, held;
+static long searches, requests, bytes, held, over;
 
 __attribute__((constructor)) static void pick(int count, char **words) {
     picked = count > 1 ? atoi(words[1]) : 0;
@@ -20,8 +20,9 @@ unsigned char is_planted(unsigned body) {
 
 void __sanitizer_malloc_hook(const volatile void *block, size_t size) {
     requests += block != 0;
-    held += block != 0;
     bytes += size;
+    over += held;
+    held += block != 0;
 }
 
 void __sanitizer_free_hook(const volatile void *block) {
@@ -29,5 +30,5 @@ void __sanitizer_free_hook(const volatile void *block) {
 }
 
 __attribute__((destructor)) static void tell(void) {
-    printf("%ld searches, %ld requests of %ld bytes, %ld blocks held\n", searches, requests, bytes, held);
+    printf("%ld searches, %ld requests of %ld bytes, at which %ld blocks are held, and %ld at the end\n", searches, requests, bytes, over, held);
 }
