@@ -43,8 +43,8 @@ WHOLE = ["The program"]
 LAST = "Last In StandsLast NoneEqual Rising BelowAll"
 PINNED = {
     "Look up": "RisesByAtMost digits",
-    "Many at once": f"{LAST} RisesByAtMost",
-    "Merge and compare keys": "RisesByAtMost digits",
+    "Many at once": f"{LAST} RisesByAtMost Gives",
+    "Merge and compare keys": "RisesByAtMost digits Rising BelowAll In NoneEqual",
     "Read from a source": LAST,
     "Name tables": LAST,
 }
