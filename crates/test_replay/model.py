@@ -866,7 +866,7 @@ RETAINED = [0, 2**64 - 1, 1, 2**64 - 2, 0x5555555555555555, 0xAAAAAAAAAAAAAAAA, 
 
 
 def inputs(length):
-    """Bulk input of each kind: none, above, below, between, equal, descending, each key twice, in no order."""
+    """Bulk input of each kind: none, above, below, between, equal, descending, each key twice, in random order."""
     end = 2 * length
     yield ""
     for count in (1, 2, 5, 17, 40):
@@ -1043,7 +1043,7 @@ def listed():
 
 
 def scattered():
-    """Input in no order around the length that is sorted without memory, and every short list into every short map."""
+    """Input in random order around the length that is sorted without memory, and every short list into every short map."""
     for count in (19, 20, 21, 40, 41, 1000):
         pairs = " ".join(f"{place * 7919 % (count // 3 + 1)}:{place}" for place in range(count))
         yield from chain(ALL, [f"from_iter {pairs}", f"extend {pairs}", f"from_vec {pairs}"], room=4000)

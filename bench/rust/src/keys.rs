@@ -82,7 +82,7 @@ pub struct Draw {
     pub evens: Vec<u64>,
     /// Every second one of these, from the second on.
     pub odds: Vec<u64>,
-    /// Some more, in no order.
+    /// Some more, in random order.
     pub few: Vec<u64>,
 }
 
