@@ -1,7 +1,7 @@
 //! Calls of maps over pairs of other sizes than those of `test_replay`: of 8 bytes, of 4 with values of none, and keys of 48.
 //!
 //! Each line of standard input is `KIND STORE CALL LEN FIRST COUNT STEP`, and has a line of standard output. `KIND` names the
-//! types of a pair (`made`), and `STORE` is `vec` or `columns`. The map has the `LEN` keys 2, 4 and so on, and no room for more.
+//! types of a pair (`made`), and `STORE` is `vec` or `columns`. The map has the `LEN` keys 10,002, 10,004 and so on, and no more room.
 //! Given are `COUNT` pairs, of the key `FIRST` and each that is `STEP` above the one before it, with the number after its key as
 //! its value. The output is what the call tells, a number, and the sum of the pairs after it (`sums`).
 //!
