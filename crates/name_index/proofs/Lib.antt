@@ -1,8 +1,7 @@
-pub mod KnownParts
-pub mod Placing
-pub mod Prefixing
+pub mod AtIndex
 pub mod Halving
-pub mod Indexing
+pub mod Prefixing
+pub mod Reading
+pub mod Tables
+pub mod Following
 pub mod Writing
-pub mod Scanning
-pub mod Rises
