@@ -1,7 +1,8 @@
-pub mod AtIndex
-pub mod Halving
+pub mod KnownParts
+pub mod Placing
 pub mod Prefixing
-pub mod Reading
-pub mod Tables
-pub mod Following
+pub mod Halving
+pub mod Indexing
 pub mod Writing
+pub mod Scanning
+pub mod Rises
