@@ -194,9 +194,14 @@ class Model:
         self.pairs.insert(place, (key, value))
         return None
 
-    def freed(self, count=1):
+    def freed(self, count):
         if self.room is not None:
             self.room += count
+
+    def remove(self, index):
+        """Takes out the pair at an index."""
+        self.freed(1)
+        return self.pairs.pop(index)
 
     def bounds(self, words):
         """The indices between two bounds."""
@@ -229,11 +234,11 @@ class Model:
         name, *words = call.split(" ")
         if name == "sweep":
             return self.sweep(*words)
-        search = self.search(words[0]) if name in KEYED else digits(len(self.pairs))
+        search = self.search(words[0]) if name in KEYED else 0
         for group in [self.look, self.by_key, self.put_in, self.enter, self.take, self.walk, self.many]:
-            answer = group(name, words, search)
+            answer = group(name, words)
             if answer is not None:
-                return answer if isinstance(answer, tuple) else (answer, 0)
+                return answer if isinstance(answer, tuple) else (answer, search)
         raise ValueError(call)
 
     def sweep(self, name, *words):
@@ -253,7 +258,7 @@ class Model:
     def pair_at(self, index):
         return self.text([self.pairs[index]]) if -1 <= index < len(self.pairs) and self.pairs else "none"
 
-    def look(self, name, words, search):
+    def look(self, name, words):
         pairs, size = self.pairs, len(self.pairs)
         texts = {
             "len": lambda: str(size),
@@ -296,11 +301,9 @@ class Model:
         """The most comparisons of a search for each bound that there is."""
         return sum(self.search(key) for bound, key in zip(words[::2], words[1::2]) if bound != "-")
 
-    def by_key(self, name, words, search):
-        if len(words) != 1 and name not in ("get_mut", "get_mut_by", "index_mut", "get_indexed_mut", "lm_get_mut", "lm_pair_mut"):
-            return None
+    def by_key(self, name, words):
         if name in ("get_indexed_mut", "lm_get_mut", "lm_pair_mut"):
-            index, value = int(words[0]), int(words[1])
+            index, value = map(int, words)
             if index >= len(self.pairs):
                 return "none"
             key, old = self.pairs[index]
@@ -309,146 +312,111 @@ class Model:
         if name not in LOOK_UPS:
             return None
         place, there = self.place(words[0])
-        pair = self.pairs[place] if there else None
-        if name in ("find_index", "find_index_counted", "find_index_by", "lm_binary_search_by"):
-            return f"{'ok' if there else 'err'} {place}", search
-        if name == "contains_key":
-            return ("true" if there else "false"), search
-        if name == "get_key_value":
-            return (self.text([pair]) if there else "none"), search
-        if name in ("index", "index_mut") and not there:
-            return "absent", search
-        if not there:
-            return "none", search
-        if name in ("get_mut", "get_mut_by", "index_mut"):
-            self.pairs[place] = (pair[0], int(words[1]))
-        return str(pair[1]), search
+        if name.startswith("find_index") or name == "lm_binary_search_by":
+            return f"{'ok' if there else 'err'} {place}"
+        if name == "contains_key" or not there:
+            return str(there).lower() if name == "contains_key" else "absent" if name.startswith("index") else "none"
+        key, value = self.pairs[place]
+        if words[1:]:
+            self.pairs[place] = (key, int(words[1]))
+        return f"{key}:{value}" if name == "get_key_value" else str(value)
 
-    def put_in(self, name, words, search):
+    def put_in(self, name, words):
         if name not in PUTS:
             return None
         key, value = words[0], int(words[1])
         place, there = self.place(key)
-        old = self.pairs[place] if there else None
         if name == "try_append":
-            if place < len(self.pairs):
-                return f"back {key}:{value}", 1
-            return self.put(key, value) or "placed", min(len(self.pairs), 1) if self.room is None else 1
+            return (f"back {key}:{value}" if place < len(self.pairs) else self.put(key, value) or "placed"), 1
+        stored, old = self.pairs[place] if there else (key, value)
         if name in ("insert", "insert_counted"):
             if there:
-                self.pairs[place] = (old[0], value)
-                return str(old[1]), search
-            return self.put(key, value) or "none", search
+                self.pairs[place] = (stored, value)
+            return str(old) if there else self.put(key, value) or "none"
         if name == "insert_indexed":
-            return ("there", search) if there else (self.put(key, value) or "placed", 0)
+            return "there" if there else (self.put(key, value) or "placed", 0)
         if name == "try_insert":
-            return (f"back {key}:{value}" if there else self.put(key, value) or "placed"), search
-        if there:
-            return (f"{place} {old[1]} asked 0" if "get" in name else f"{place} asked 0"), search
-        if name.endswith("fail"):
-            return f"closure {value} asked 1", search
-        refused = self.put(key, value)
-        return (f"{refused or (f'{place} {value}' if 'get' in name else place)} asked 1"), search
+            return f"back {key}:{value}" if there else self.put(key, value) or "placed"
+        if name.endswith("fail") and not there:
+            return f"closure {value} asked 1"
+        refused = None if there else self.put(key, value)
+        return f"{refused or (f'{place} {old}' if 'get' in name else place)} asked {int(not there)}"
 
-    def enter(self, name, words, search):
+    def enter(self, name, words):
         if name not in ENTRIES + TWICE:
             return None
         # the key, the value if there is one, and what is written into the value that is lent
         key, value, *more = words[0], *[0] * (name == "or_default" or len(words) == 1), *map(int, words[1:])
         place, there = self.place(key)
+        stored, old = self.pairs[place] if there else (key, value)
         if name in ("entry_debug", "entry_debug_lines"):
-            stored, old = self.pairs[place] if there else (key, 0)
             text = f"OccupiedEntry {{ key: {stored}, value: {old} }}" if there else f"VacantEntry {{ key: {key} }}"
-            return (re.sub(r"(\w+: \w+),?", r"    \1,", text) if name == "entry_debug_lines" else text), search
-        if "_then_" in name:
-            return self.enter_twice(name, place, there, value, more), search
+            return re.sub(r"(\w+: \w+),?", r"    \1,", text) if name == "entry_debug_lines" else text
         if name == "entry":
-            return (f"occupied {self.pairs[place][0]}" if there else f"vacant {key}"), search
-        if name in ("entry_get", "entry_remove") and not there:
-            return "vacant", search
+            return f"occupied {stored}" if there else f"vacant {key}"
+        if name in ("entry_get", "entry_remove", *TWICE) and not there:
+            return "vacant"
+        if name.endswith("remove"):
+            self.remove(place)
+            return f"{old} {value}" if name in TWICE else str(old)
         if name == "entry_get":
-            return str(self.pairs[place][1]), search
-        if name == "entry_remove":
-            self.freed()
-            return str(self.pairs.pop(place)[1]), search
-        asked = ""
-        if name in ("or_insert", "or_insert_with", "and_modify"):
-            asked = f" asked {int(name == 'or_insert_with' and not there or name == 'and_modify' and there)}"
+            return str(old)
+        # how often the closure is asked, if there is one
+        asked = {"or_insert": 0, "or_insert_with": not there, "and_modify": there}.get(name)
+        asked = "" if asked is None else f" asked {int(asked)}"
         if not there:
             refused = self.put(key, value)
             if refused:
-                return refused + asked, search
-            self.pairs[place] = (key, *(more or [value]))
-            return f"{value}{asked}", search
-        stored, old = self.pairs[place]
-        if name in ("entry_insert", "entry_get_mut", "entry_into_mut"):
-            self.pairs[place] = (stored, value)
-            return str(old), search
-        old += value if name == "and_modify" else 0
+                return refused + asked
+        if name in TWICE:
+            self.pairs[place] = (stored, *(more or [value]))
+            return f"{old} {value}"
+        if there and name in ("entry_insert", "entry_get_mut", "entry_into_mut"):
+            more = [value]
+        elif there and name == "and_modify":
+            old += value
         self.pairs[place] = (stored, *(more or [old]))
-        return f"{old}{asked}", search
+        return f"{old}{asked}"
 
-    def enter_twice(self, name, place, there, value, more):
-        """Makes two calls of one entry."""
-        if not there:
-            return "vacant"
-        key, old = self.pairs.pop(place)
-        if name.endswith("remove"):
-            self.freed()
-        else:
-            self.pairs.insert(place, (key, *(more or [value])))
-        return f"{old} {value}"
-
-    def take(self, name, words, search):
-        if name in ("remove", "remove_counted", "remove_by", "remove_entry"):
+    def take(self, name, words):
+        if name in TAKES:
             place, there = self.place(words[0])
-            if not there:
-                return "none", search
-            key, value = self.pairs.pop(place)
-            self.freed()
-            return (f"{key}:{value}" if name == "remove_entry" else str(value)), search
+            key, value = self.remove(place) if there else (None, "none")
+            return f"{key}:{value}" if name == "remove_entry" and there else str(value)
         if name in RENAMES:
-            return self.rename(*words, search)
+            return self.rename(*words)
         if name in ("pop_first", "pop_last", "lm_remove"):
-            if not self.pairs:
-                return "none"
-            self.freed()
-            index = {"pop_first": 0, "pop_last": -1}.get(name)
-            return self.text([self.pairs.pop(int(words[0]) if index is None else index)])
+            index = {"pop_first": 0, "pop_last": -1}.get(name) if name != "lm_remove" else int(words[0])
+            return self.text([self.remove(index)]) if self.pairs else "none"
         if name in ("clear", "lm_clear"):
             self.freed(len(self.pairs))
             self.pairs = []
             return "ok"
-        if name in ("retain", "lm_retain"):
-            bits, size = int(words[0]), len(self.pairs)
-            self.pairs = [pair for place, pair in enumerate(self.pairs) if bits >> place % 64 & 1]
+        if name in ("retain", "lm_retain", "extract"):
+            size, marked = len(self.pairs), {False: [], True: []}
+            for place, pair in enumerate(self.pairs):
+                marked[bool(int(words[0]) >> place % 64 & 1)].append(pair)
+            self.pairs = marked[name != "extract"]
             self.freed(size - len(self.pairs))
-            return str(size)
-        if name == "extract":
-            bits, every = int(words[0]), list(enumerate(self.pairs))
-            self.pairs = [pair for place, pair in every if not bits >> place % 64 & 1]
-            return self.text(pair for place, pair in every if bits >> place % 64 & 1)
+            return self.text(marked[True]) if name == "extract" else str(size)
         if name == "update":
-            more = int(words[0])
-            self.pairs = [(key, value + more + place) for place, (key, value) in enumerate(self.pairs)]
+            self.pairs = [(key, value + int(words[0]) + place) for place, (key, value) in enumerate(self.pairs)]
             return str(len(self.pairs))
         return None
 
-    def rename(self, key, new_key, search):
-        place, there = self.place(key)
+    def rename(self, key, new_key):
+        cost, (place, there) = self.search(key), self.place(key)
         if not there:
-            return "false", search
-        _, value = self.pairs.pop(place)
-        self.freed()
-        cost = search + self.search(new_key)
-        place, there = self.place(new_key)
+            return "false", cost
+        _, value = self.remove(place)
+        cost, (place, there) = cost + self.search(new_key), self.place(new_key)
         if there:
             self.pairs[place] = (self.pairs[place][0], value)
         else:
             self.put(new_key, value)
         return "true", cost
 
-    def walk(self, name, words, search):
+    def walk(self, name, words):
         if name in ("iter", "keys", "values"):
             front, back = map(int, words)
             ahead, behind = self.pairs[:front], self.pairs[max(front, len(self.pairs) - back) :][::-1]
@@ -465,9 +433,7 @@ class Model:
             cloned = len(self.pairs) * CONVERSIONS[name]
             text = f"{'in order ' * (name == 'to_keys_by')}{self.text(self.pairs)} cloned {cloned}"
             return text, max(len(self.pairs) - 1, 0) * (name == "cloned")
-        if name == "lm_try_clone":
-            return self.text(self.pairs)
-        return None
+        return self.text(self.pairs) if name == "lm_try_clone" else None
 
     def keys_in_turns(self, words):
         """The keys that are taken from either end, as words say, or the number of keys that are left."""
@@ -491,44 +457,48 @@ class Model:
         is_few = len(pairs) <= FEW and len(pairs) * digits(total) < total and not (rises and below)
         return max(merge, tested + rises + self.searches(pairs)[0] if is_few else 0)
 
-    def many(self, name, words, search):
-        if name == "clone":
-            return "ok"
+    def many(self, name, words):
         size = int(words[0]) if name in RESERVED else 0
         if size > 2**48:
             return "refused"
-        if name in ("new", "lm_empty", "with_capacity", "lm_with_capacity"):
-            self.pairs, self.room = [], None if self.room is None else size
+        if name in ("clone", "new", "lm_empty", "with_capacity", "lm_with_capacity"):
+            if name != "clone":
+                self.pairs, self.room = [], None if self.room is None else size
             return "ok"
         if name in ("reserve", "lm_reserve"):
             return "ok" if self.room is None or self.room >= size else "refused"
-        if name == "lm_push":
-            return self.placed(len(self.pairs), words)
-        if name == "lm_insert":
-            return self.placed(int(words[0]), words[1:])
+        if name in ("lm_push", "lm_insert"):
+            *index, key, value = words
+            if not self.taken():
+                return f"refused {key}:{value}"
+            self.pairs.insert(int(index[0]) if index else len(self.pairs), (key, int(value)))
+            return "ok"
         if name == "lm_replace":
-            index, pair = int(words[0]), (words[1], int(words[2]))
-            old, self.pairs[index] = self.pairs[index], pair
+            index, key, value = words
+            old, self.pairs[int(index)] = self.pairs[int(index)], (key, int(value))
             return self.text([old])
         if name in READS:
             return self.read(name, words)
         if name == "read_results":
             return self.read_results(words)
         if name == "find_by_slice":
-            below = min((int(words[0]) - 1) // 2, int(words[1]))
-            there = int(words[0]) % 2 == 0 and int(words[0]) <= 2 * int(words[1])
-            return f"{'ok' if there else 'err'} {below}", searched(int(words[1]), below, there)
+            key, length = map(int, words)
+            below, there = min((key - 1) // 2, length), key % 2 == 0 and key <= 2 * length
+            return f"{'ok' if there else 'err'} {below}", searched(length, below, there)
         if name == "split_off":
             place, _ = self.place(words[0])
             self.pairs, later = self.pairs[:place], self.pairs[place:]
-            return self.text(later), search
+            return self.text(later)
         if name in RUNS:
             return self.run(words)
         if name.startswith("grow_") or name in ("extend_small", "extend_set"):
             *length, count, step = map(int, words)
             keys = {2 * place for place in range(1, sum(length) + 1)} | {place * step % 10007 for place in range(1, count + 1)}
             return self.text((str(key), 0 if name.endswith("set") else key) for key in sorted(keys))
-        pairs = self.given(words)
+        return self.of_pairs(name, self.given(words))
+
+    def of_pairs(self, name, pairs):
+        """Makes a call that is given pairs."""
         if name in (*MAKES, "lm_sort_from_iter", "lm_sort_from_vec"):
             cost = Model(self.order).cost(pairs)
             self.pairs = self.last(pairs)
@@ -537,36 +507,25 @@ class Model:
             self.pairs = pairs
             return "ok"
         if name == "insert_each":
-            return self.insert_each(pairs)
+            cost, absent = self.searches(pairs)
+            self.pairs = self.last(self.pairs + pairs)
+            return str(sum(absent)), cost
         if name in EXTENSIONS:
             return self.extend(name, pairs)
-        if name == "extend_from_clone":
-            return self.merge(self.pairs)
-        if name in ("extend_from_litemap", "extend_from_litemap_counted"):
-            return self.merge(self.last(pairs))
+        if name in (*MERGES, "extend_from_clone"):
+            return self.merge(self.last(pairs) if name in MERGES else self.pairs)
         if name in COMBINES:
             return self.combine(self.last(pairs))
         if name in BESIDE:
             return self.beside(name, self.last(pairs))
-        if name in ("lm_extend_end", "lm_extend_start") and not self.taken(len(pairs)):
-            return f"refused {self.text(pairs)}"
         if name in ("lm_extend_end", "lm_extend_start"):
+            if not self.taken(len(pairs)):
+                return f"refused {self.text(pairs)}"
             self.pairs = self.pairs + pairs if name.endswith("end") else pairs + self.pairs
             return "ok"
         if name in ("eq", "hash", "cmp", "partial_cmp"):
             return self.compare(name, self.last(pairs))
         return None
-
-    def placed(self, index, words):
-        if not self.taken():
-            return f"refused {words[0]}:{words[1]}"
-        self.pairs.insert(index, (words[0], int(words[1])))
-        return "ok"
-
-    def insert_each(self, pairs):
-        cost, absent = self.searches(pairs)
-        self.pairs = self.last(self.pairs + pairs)
-        return str(sum(absent)), cost
 
     def extend(self, name, pairs):
         cost = self.cost(pairs)
@@ -664,41 +623,23 @@ class Model:
         made = Model(self.order)
         answers = [made.step(word)[0] for word in words]
         is_put = all(word.startswith("insert:") for word in words)
-        return f"[{', '.join(answers)}] {made.look('debug', [], 0)}", len(words) * digits(len(words)) if is_put else None
+        return f"[{', '.join(answers)}] {made.look('debug', [])}", len(words) * digits(len(words)) if is_put else None
 
     def step(self, word):
         """Makes a call of a list: what it returns, and its error out of memory, if it may need some."""
         kind, _, rest = word.partition(":")
-        if kind in ("insert", "try_insert", "try_append"):
-            return self.step_put(kind, *rest.split(":"))
-        if kind == "clear":
-            self.pairs = []
-            return "Done", None
-        if kind in ("extend", "reserve"):
-            self.pairs = self.last(self.pairs + self.given(rest.split("+"))) if kind == "extend" else self.pairs
-            return "Done", "NoRoom(None)"
-        if kind in ("len", "value_at"):
-            index = int(rest or 0)
-            value = f"Some({self.pairs[index][1]})" if index < len(self.pairs) else "None"
-            return (f"Number({len(self.pairs)})" if kind == "len" else f"Value({value})"), None
-        place, there = self.place(rest)
-        if kind == "find":
-            return f"Place({'Ok' if there else 'Err'}({place}))", None
-        if kind == "contains":
-            return f"Flag({'true' if there else 'false'})", None
-        value = f"Some({self.pairs[place][1]})" if there else "None"
-        self.pairs = [pair for at, pair in enumerate(self.pairs) if kind == "get" or not there or at != place]
-        return f"Value({value})", None
-
-    def step_put(self, kind, key, value):
-        place, there = self.place(key)
-        if kind == "insert" and there:
-            self.pairs[place], old = (self.pairs[place][0], int(value)), self.pairs[place][1]
-            return f"Value(Some({old}))", None
-        if there or kind == "try_append" and place < len(self.pairs):
-            return f"Back(Some(({key}, {value})))", None
-        self.pairs.insert(place, (key, int(value)))
-        return ("Value(None)" if kind == "insert" else "Back(None)"), f"NoRoom(Some(({key}, {value})))"
+        (call, result), pair, size = STEPS[kind], f"Some(({rest.replace(':', ', ')}))", len(self.pairs)
+        answer, _ = self.make(" ".join([call, *rest.split("+" if kind == "extend" else ":")]).rstrip())
+        told = {
+            "Done": "",
+            "Number": f"({answer})",
+            "Flag": f"({answer})",
+            "Place": f"({answer.title().replace(' ', '(')}))",
+            "Value": "(None)" if answer == "none" else f"(Some({answer.rpartition(':')[2]}))",
+            "Back": f"({pair})" if answer.startswith("back") else "(None)",
+        }
+        refusal = "NoRoom(None)" if kind in ("extend", "reserve") else f"NoRoom({pair})" if len(self.pairs) > size else None
+        return result + told[result], refusal
 
     def compare(self, name, other):
         mine = [(self.order.rank(key), value) for key, value in self.pairs]
@@ -713,6 +654,10 @@ class Model:
         return ("equal" if mine == theirs else "less" if mine < theirs else "greater"), most
 
 
+# The calls of a list: the call of a map that each makes, and what its result is.
+STEPS = {"len": ("len", "Number"), "find": ("find_index", "Place"), "contains": ("contains_key", "Flag"), "value_at": ("get_indexed", "Value")}
+STEPS |= {kind: (kind, "Value") for kind in ("insert", "get", "remove")} | {kind: (kind, "Back") for kind in ("try_insert", "try_append")}
+STEPS |= {kind: (kind, "Done") for kind in ("clear", "extend", "reserve")}
 # A pair of a store, as `{:#?}` prints it.
 DEBUG_LINES = "    (         {},         {},     ),"
 # Calls that leave the list, so that a sweep needs no copy of it.
@@ -728,7 +673,8 @@ STORE_EXTENDING, STORE_MAKING = ["store_extend", "store_extend_of_vec"], ["store
 EXTENSIONS, MAKES, MADE = named(*EXTENDING, *STORE_EXTENDING), named(*MAKING), named(*STORE_MAKING)
 MERGES, COMBINES, BESIDE, READS, RUNS, RENAMES = map(named, ("merge", "combine", "beside", "read", "run", "rename"))
 # The calls whose first word is a key that is searched for.
-KEYED = {*LOOK_UPS, *PUTS, *ENTRIES, *TWICE, *RENAMES, *named("take", "take_pair"), "split_off"}
+TAKES = named("take", "take_pair")
+KEYED = {*LOOK_UPS, *PUTS, *ENTRIES, *TWICE, *TAKES, "split_off"}
 # The groups of lookups, of calls with a pair, and of those that take a key out.
 LOOKING = ["get", "get_pair", "get_more", "find", "index"]
 PAIRED, TAKING = ["put", "put_at", "find_or_put", "find_or_fail", "enter"], ["take", "take_pair"]
