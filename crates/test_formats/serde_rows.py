@@ -273,7 +273,7 @@ def answer_of(what, text, answer):
     return text if answer is SAME else answer
 
 
-def rows():
-    """The lines, each with its output."""
+def rows(_):
+    """The rows, each with its output. None of them has a title."""
     rows = [*MAPS, *whole_numbers(), *wrong_types(), *many(), *of_every_length(), *faults(), *toml_rows(), *csv_rows()]
     return [(f"{what} {text}", answer_of(what, text, answer)) for what, text, answer in rows]

@@ -231,27 +231,6 @@ NOT_RISING = [*map(bytes.fromhex, (
 # Names that begin with one another, and with characters of more than one byte.
 ALIKE = written([(key, str(place)) for place, key in enumerate(["", "a", "ab", "abc", "abd", "ac", "b", "bé", "bê"])])
 RISING = [*map(bytes.fromhex, ("01 00", "01 0000", "02 0000 016100", "02 016100 02616100"))]
-# Titles, and the tables below each: numbers of one to five bytes, longer spellings, too large ones, and strings of each kind.
-TITLED = {title: [*map(bytes.fromhex, tables)] for title, tables in {
-    "no bytes are no table, and a zero is the empty one": ("", "00", "0000"),
-    "bytes that end within an entry": ["7f0161"],
-    "a key and a value that are not UTF-8": ("01 01ff00", "01 0001ff", "01 0000"),
-    "numbers that are too large": ("8080808010", "ffffffffff01"),
-    "the greatest number, and one above it":
-        ("ffffffff0f", "ffffffff10", "8000", "8080808000", "808080808000", "80", "80808080", "8080808080"),
-    "128 and 300 in two bytes": ("8001", "ac02"),
-    "of equal keys the last entry stays": ["02 01610131 01610132"],
-    "entries that descend": (
-        "02 01620131 01610132", "01 82006100", "01 8200616200", "01 8180808000 610162", "01 8180808010 610162", "01 02c3a902c3b6",
-        "01 01c302c3b6", "01 016101c3", "01 03eda080", "01 04f4908080", "01 ff7f61", "01 02ff", "01 0561626364", "01 ffffffff0f"),
-}.items()}
-TITLED |= {
-    "eleven languages are read; of their first 116 bytes, 1, 4 and 10 the error says where they end":
-        [TABLE, *(TABLE[:size] for size in (116, 1, 4, 10))],
-    "bytes after the last entry are not read": [TABLE + b"\x00\x00"],
-    "a count may be spelled in more bytes than it needs": [b"\x8b\x00" + TABLE[1:]],
-}
-READ = [it for tables in TITLED.values() for it in tables]
 # A count of 2^32 - 1 before five bytes.
 MANY_DUE = b"\xff\xff\xff\xff" + bytes(5)
 # Indexes of no pair, of one, of eleven, and of strings with more bytes than characters; bytes after an index; keys that descend,
@@ -336,29 +315,6 @@ def of_keys(word, keys):
 
 # A language at the end, at the start, unknown ones, one that another begins with, and one that begins with another.
 CODES = ("tr", "ar", "zz", "", "t", "trx", "ccp")
-# The words of rows, and the bytes that stand after each of them.
-BEFORE = [
-    (["walk"], READ),
-    (["again"], [it for it in READ if it != TABLE]),
-    (["find a"], [b"", b"\x00", TABLE[:116], READ[19], b"\x01\x01\xff\x00"]),
-    (of_keys("name", ("tr", "zu", "en", "xx", "")), [TABLE]),
-    (["name de"], [b"", TABLE[:116], TABLE[:1]]),
-    (["table"], READ + NOT_RISING + RISING + [b"\xff\xff\xff\xff\x0f\x01a\x00\x01b"]),
-    (of_keys("ask", CODES), [TABLE]),
-    (["ask a"], [b"", b"\x00", TABLE[:116], NOT_RISING[0]]),
-    (["table", *of_keys("begin", ("", "a", "ab", "abc", "abcd", "abz", "ac", "b", "bé", "bêt", "c", "0", "abcé"))], [ALIKE]),
-    (of_keys("begin", ("", "t", "tr", "zz")), [TABLE]),
-    (["begin a"], [b"\x00", b"\x01\x01", *(written([(key, "1")]) for key in ("a", "ab", "b"))]),
-    (of_keys("word", ("tr", "ar", "zz", "", "t", "ccp")), [TABLE]),
-    (["word a"], [b"\x00", TABLE[:116], NOT_RISING[0]]),
-]
-AFTER = [
-    (["index"], [b"\x00", READ[19], READ[20], READ[25], TABLE, NOT_RISING[1], READ[28]]),
-    (["opened"], INDEXES),
-    (of_keys("look", CODES), [indexed(PAIRS)]),
-    (["look a"], [b"", indexed([]), MANY_DUE]),
-    (["many 100000", "often 20000", "faults"], [b""]),
-]
 REWRITTEN = [(b'{"\xff":1}', "the bytes are not a JSON text"), (b"", "the bytes are not a JSON text")]
 REWRITTEN += [(b" [ [ false , 0 ] ] \n", '{"false":0}')]
 
@@ -368,22 +324,40 @@ def lined(rows):
     return [(f"{words} {data.hex() or '-'}", answer(words, data)) for words, data in rows]
 
 
-def titled():
-    """The titles, and the lines below each with their output."""
-    assert len(TABLE) == 117 and table(TABLE) == (PAIRS, 117)
-    parts = {title: product(["read"], tables) for title, tables in TITLED.items()} | {
-        "eleven languages as the bytes of a name table": [("again", TABLE)],
-        "strings of 127 bytes, 128 and 300": product(["again"], map(long_text, (127, 128, 300))),
-        "a language is found by its code in the bytes, and an unknown code is not": product(of_keys("find", CODES), [TABLE]),
-        "each proper prefix of eleven languages ends too early": [("prefixes", TABLE)],
-    }
-    return [it for title, rows in parts.items() for it in (title, *lined(rows))]
+def told(row):
+    """The output of a row that is stored."""
+    words, _, data = row.rpartition(" ")
+    return answer(words, bytes.fromhex(data.strip("-")))
 
 
-def rows():
-    """The other lines, each with its output."""
-    found = [it for words, tables in BEFORE for it in product(words, tables)]
+def rows(titled):
+    """The rows without a title, each with its output. `read` has the tables of those with one."""
+    read = [bytes.fromhex(row.split(" ")[1].strip("-")) for row, _ in titled if row.startswith("read ")]
+    # The words of rows, and the bytes that stand after each of them.
+    before = [
+        (["walk"], read),
+        (["again"], [it for it in read if it != TABLE]),
+        (["find a"], [b"", b"\x00", TABLE[:116], read[19], b"\x01\x01\xff\x00"]),
+        (of_keys("name", ("tr", "zu", "en", "xx", "")), [TABLE]),
+        (["name de"], [b"", TABLE[:116], TABLE[:1]]),
+        (["table"], read + NOT_RISING + RISING + [b"\xff\xff\xff\xff\x0f\x01a\x00\x01b"]),
+        (of_keys("ask", CODES), [TABLE]),
+        (["ask a"], [b"", b"\x00", TABLE[:116], NOT_RISING[0]]),
+        (["table", *of_keys("begin", ("", "a", "ab", "abc", "abcd", "abz", "ac", "b", "bé", "bêt", "c", "0", "abcé"))], [ALIKE]),
+        (of_keys("begin", ("", "t", "tr", "zz")), [TABLE]),
+        (["begin a"], [b"\x00", b"\x01\x01", *(written([(key, "1")]) for key in ("a", "ab", "b"))]),
+        (of_keys("word", ("tr", "ar", "zz", "", "t", "ccp")), [TABLE]),
+        (["word a"], [b"\x00", TABLE[:116], NOT_RISING[0]]),
+    ]
+    after = [
+        (["index"], [b"\x00", read[19], read[20], read[25], TABLE, NOT_RISING[1], read[28]]),
+        (["opened"], INDEXES),
+        (of_keys("look", CODES), [indexed(PAIRS)]),
+        (["look a"], [b"", indexed([]), MANY_DUE]),
+        (["many 100000", "often 20000", "faults"], [b""]),
+    ]
+    found = [it for words, tables in before for it in product(words, tables)]
     found += [*large_lines(), *sized_lines(), *faulty_lines(), *ascii_lines()]
-    found += [it for words, tables in AFTER for it in product(words, tables)]
+    found += [it for words, tables in after for it in product(words, tables)]
     sweeps = [("changes", TABLE), *product(["cuts", "damages"], [indexed(PAIRS)]), ("strings", bytes.fromhex("0001026180ff"))]
     return [*lined(found), *((f"rewrite {data.hex() or '-'}", told) for data, told in REWRITTEN), *lined(sweeps)]
