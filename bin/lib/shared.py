@@ -24,8 +24,9 @@ CRATES = uses_in(TOP)
 
 
 def parser(text):
-    """A parser of a script's words, with this text as its --help."""
-    return argparse.ArgumentParser(description=text, formatter_class=argparse.RawDescriptionHelpFormatter)
+    """A parser of the words of a script that counts cases, with this text as its --help."""
+    counts = "The last line is 'N passed, M failed', and the exit status is 0 only if none failed."
+    return argparse.ArgumentParser(description=text, epilog=counts, formatter_class=argparse.RawDescriptionHelpFormatter)
 
 
 def used_by(*names):
