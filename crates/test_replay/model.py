@@ -655,8 +655,9 @@ class Model:
 
 
 # The calls of a list: the call of a map that each makes, and what its result is.
-STEPS = {"len": ("len", "Number"), "find": ("find_index", "Place"), "contains": ("contains_key", "Flag"), "value_at": ("get_indexed", "Value")}
-STEPS |= {kind: (kind, "Value") for kind in ("insert", "get", "remove")} | {kind: (kind, "Back") for kind in ("try_insert", "try_append")}
+STEPS = {"len": ("len", "Number"), "find": ("find_index", "Place"), "contains": ("contains_key", "Flag")}
+STEPS |= {kind: (kind, "Value") for kind in ("insert", "get", "remove")} | {"value_at": ("get_indexed", "Value")}
+STEPS |= {"try_insert": ("try_insert", "Back"), "try_append": ("try_append", "Back")}
 STEPS |= {kind: (kind, "Done") for kind in ("clear", "extend", "reserve")}
 # A pair of a store, as `{:#?}` prints it.
 DEBUG_LINES = "    (         {},         {},     ),"
@@ -1004,14 +1005,18 @@ def scattered():
         yield from chain("vec columns", [f"read_pairs - - {pairs}".strip()], "letter")
 
 
+def of_letters(letters, name):
+    """Every two maps over these letters, of which a call merges the second into the first."""
+    sets = [it for length in range(len(letters) + 1) for it in itertools.combinations(letters, length)]
+    for old, new in itertools.product(sets, sets):
+        calls = ["from_vec" + "".join(f" {key}:{place}" for place, key in enumerate(old))]
+        calls += [name + "".join(f" {key.upper()}:{9 - place}" for place, key in enumerate(new))]
+        yield from chain(GROWING, calls, "letter", 8)
+
+
 def merged():
     """Every two maps over four letters, longer maps at the lengths where the way of merging changes, and each total up to 600."""
-    sets = ["".join(it) for length in range(5) for it in itertools.combinations("abcd", length)]
-    for old in sets:
-        for new in sets:
-            calls = ["from_vec" + "".join(f" {key}:{place}" for place, key in enumerate(old))]
-            calls += ["extend_from_litemap" + "".join(f" {key.upper()}:{9 - place}" for place, key in enumerate(new))]
-            yield from chain(GROWING, calls, "letter", 8)
+    yield from of_letters("abcd", "extend_from_litemap")
     for length in (5, 20, 60, 100, 400, 6000, 12000):
         for count in sorted({1, 2, 3, 60, length // 8, length // 3, length, 3 * length} - {0}):
             if length < 6000 or count in (1, 2, 3, 60, 1500):
@@ -1051,11 +1056,7 @@ def renamed():
 
 def combined():
     """Merges whose values are combined: every two maps over three letters, and each kind of input at some lengths."""
-    sets = ["".join(it) for length in range(4) for it in itertools.combinations("abc", length)]
-    for old, new in itertools.product(sets, sets):
-        calls = ["from_vec" + "".join(f" {key}:{place}" for place, key in enumerate(old))]
-        calls += ["extend_with" + "".join(f" {key.upper()}:{9 - place}" for place, key in enumerate(new))]
-        yield from chain(GROWING, calls, "letter", 8)
+    yield from of_letters("abc", "extend_with")
     for length in (0, 1, 2, 3, 12, 17, 24, 30, 33, 65, 100, 129, 513, 1000):
         calls = [*spelled("combine", PAIRS=[*inputs(length)])]
         yield from block(GROWING, length, 0, calls)
