@@ -16,33 +16,15 @@ RANGE = "it is a whole number outside of the type's range"
 FLOAT = "it is a number with a fraction or an exponent, `-0`, or a number of more than 64 bits"
 
 
-def not_a_pair(place):
-    return f"the element at place {place} (from 0) is not an array of exactly a key and an item"
-
-
-def key_text(place):
-    return f"the name of the member at place {place} (from 0, by the byte order of the names) is not a key's text"
-
-
-def key(place, fault):
-    return f"the key at place {place} (from 0): {fault}"
-
-
-def item(place, fault):
-    return f"the item at place {place} (from 0): {fault}"
-
-
-def no_text(place):
-    fault = f"the key at place {place} (from 0) has no text, and the first key has one: give all keys a text, or none"
-    return f"{fault}; a key has no text in JSON, and the first key has one"
-
-
-# What `rewrite_flags` says of bytes that are no JSON, and of JSON that is no map of flags.
+# What errors say: of an index, of an index and why, of why alone.
+not_a_pair = "the element at place {} (from 0) is not an array of exactly a key and an item".format
+key_text = "the name of the member at place {} (from 0, by the byte order of the names) is not a key's text".format
+key, item = "the key at place {} (from 0): {}".format, "the item at place {} (from 0): {}".format
+NO_TEXT = "the key at place {} (from 0) has no text, and the first key has one: give all keys a text, or none"
+no_text = f"{NO_TEXT}; a key has no text in JSON, and the first key has one".format
+no_flags = "the JSON value is not a map from flags to numbers: {}".format
+# What `rewrite_flags` says of bytes that are no JSON.
 NO_JSON = "the bytes are not a JSON text"
-
-
-def no_flags(fault):
-    return f"the JSON value is not a map from flags to numbers: {fault}"
 
 
 def whole_numbers():
@@ -55,12 +37,10 @@ def whole_numbers():
             yield types, f"[[{number},0]]", f'{{"{number}":0}}' if fits else key(0, fault)
             yield types, f"[[0,{number}]]", f'{{"0":{number}}}' if fits else item(0, fault)
             yield types, f'{{"{number}":{number}}}', None if fits else key_text(0)
-        for text in ("1.0", "-0", "1e2", "0.5", "-1.5", "1E2", "-0.0"):
-            yield types, f"[[{text},0]]", key(0, FLOAT)
-            yield types, f'{{"0":{text}}}', item(0, FLOAT)
-        for text in ("null", "true", '"1"', "[1]", '{"1":1}'):
-            yield types, f"[[{text},0]]", key(0, SHAPE)
-            yield types, f'{{"0":{text}}}', item(0, SHAPE)
+        wrong = dict.fromkeys(("1.0", "-0", "1e2", "0.5", "-1.5", "1E2", "-0.0"), FLOAT)
+        for text, fault in (wrong | dict.fromkeys(("null", "true", '"1"', "[1]", '{"1":1}'), SHAPE)).items():
+            yield types, f"[[{text},0]]", key(0, fault)
+            yield types, f'{{"0":{text}}}', item(0, fault)
         for name in ("", "+1", "01", "00", "-0", "-01", "+0", " 1", "1 ", "1.0", "1e2", "0x1", "-", "+", "--1", "1_0", "١"):
             yield types, f'{{"{name}":0}}', key_text(0)
         for text in ("01", "+1", ".5", "1.", "0x1"):
@@ -72,14 +52,8 @@ def told(wanted, found, at=""):
     return f"{at}{wanted} is wanted, and {found} stands there"
 
 
-def told_name(wanted, name):
-    return f"the name {name} is no key's text: {wanted} is wanted"
-
-
-def told_at(part, place):
-    return f"the {part} at place {place} (from 0): "
-
-
+told_name = "the name {1} is no key's text: {0} is wanted".format
+told_at = "the {} at place {} (from 0): ".format
 # A value of each kind, and its name in errors.
 KINDS = [("null", "null"), ("true", "a truth value"), ("false", "a truth value"), ("1.5", "1.5"), ("-0.5", "-0.5"), ("1e300", "1e+300"),
          ("[0]", "an array"), ("[]", "an array"), ("{}", "an object"), ('{"a":0}', "an object"), ('"x"', "a text"), ('""', "a text")]
@@ -120,9 +94,8 @@ def told_faults():
             yield f"told {types}", f'{{"1":{number}}}', told(WANTED[types][2], number, '"1": ')
     ports = '{"host":8080,"port":%s}'
     wanted = "a whole number of 16 bits"
-    yield "told ports", ports % '"x"', told(wanted, "a text", '"port": ')
-    yield "told ports", ports % 65536, told(wanted, 65536, '"port": ')
-    yield "told ports", ports % -1, told(wanted, -1, '"port": ')
+    for text, found in (('"x"', "a text"), (65536, 65536), (-1, -1)):
+        yield "told ports", ports % text, told(wanted, found, '"port": ')
     yield "told ports", ports % 65535, "a map"
     for name in (*TOLD_NAMES, r'a\"b'):
         yield "told ports", '{"%s":null}' % name, told(wanted, "null", f'"{name}": ')
@@ -237,20 +210,20 @@ def long_flags():
 
 def early_faults():
     """An error at each index to 12 and at a later one, of keys that ascend, that descend and that are equal, and at the next index too."""
-    bad = [("[0]", not_a_pair), ("null", not_a_pair)] + [(f"[{text},0]", lambda place, fault=fault: key(place, fault)) for text, fault in (
-        ("null", SHAPE), ('"0"', SHAPE), ("65536", RANGE), ("-1", RANGE), ("1.0", FLOAT))]
-    bad += [(f"[0,{text}]", lambda place, fault=fault: item(place, fault)) for text, fault in (
-        ("{}", SHAPE), ("null", SHAPE), ("65536", RANGE), ("-1", RANGE), ("1.0", FLOAT))]
+    of_keys = {"null": SHAPE, '"0"': SHAPE, "65536": RANGE, "-1": RANGE, "1.0": FLOAT}
+    of_items = {"{}": SHAPE, "null": SHAPE, "65536": RANGE, "-1": RANGE, "1.0": FLOAT}
+    bad = [("[0]", not_a_pair), ("null", not_a_pair), *((f"[{text},0]", key, why) for text, why in of_keys.items())]
+    bad += [(f"[0,{text}]", item, why) for text, why in of_items.items()]
     for place in (*range(13), 33):
         count = place + 3
         for keys in (range(count), range(count, 0, -1), [7] * count):
             good = [f"[{number},0]" for number in keys]
-            for text, fault in bad:
-                yield "u16", array([*good[:place], text, good[place], text]), fault(place)
+            for text, fault, *why in bad:
+                yield "u16", array([*good[:place], text, good[place], text]), fault(place, *why)
         names = [str(10000 + number) for number in range(count)]
         for order in (names, names[::-1]):
-            for text, fault in (("{}", SHAPE), ("null", SHAPE), ("65536", RANGE), ("-1", RANGE), ("1.0", FLOAT)):
-                yield "u16", object_of((name, text if name >= names[place] else 0) for name in order), item(place, fault)
+            for text, why in of_items.items():
+                yield "u16", object_of((name, text if name >= names[place] else 0) for name in order), item(place, why)
             yield "u16", object_of((name if name < names[place] else name + "x", 0) for name in order), key_text(place)
         odd = [*range(0, 2 * place, 2), 2 * place + 1, *range(2 * place + 2, 2 * count, 2)]
         answer = no_text(place) if place else array(f'[{number},"a"]' for number in odd)
