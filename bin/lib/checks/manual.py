@@ -90,21 +90,16 @@ class Entry:
         return re.match(r".*?\.(?= |$)|.*", " ".join(self.call.comment.split("\n\n")[0].split()))[0]
 
 
-def entries_of(calls, titles):
-    """The entries of the calls of a source, with titles that are none of these."""
-    labels = {call.label: call for call in calls}
-    for call in calls:
+def entries_of(group):
+    """The entries of a group, each with a title of its own."""
+    found, titles = [], set()
+    for call in (it for source in sources_of(group) for it in CALLS.get(source, ())):
+        labels = {it.label: it for it in CALLS[call.source]}
         if call.label.removesuffix("_counted") in labels and call.label.endswith("_counted"):
             continue
-        title = f"{call.source.split('/')[-1]}::{call.label}" if call.label in titles else call.label
-        titles.add(title)
-        yield Entry(call, labels.get(f"{call.label}_counted"), title)
-
-
-def group_entries(group):
-    """The entries of a group."""
-    titles = set()
-    return [it for source in sources_of(group) for it in entries_of(CALLS.get(source, ()), titles)]
+        titles.add(title := f"{call.source.split('/')[-1]}::{call.label}" if call.label in titles else call.label)
+        found.append(Entry(call, labels.get(f"{call.label}_counted"), title))
+    return found
 
 
 def types_of(group):
@@ -114,7 +109,7 @@ def types_of(group):
     return [it for it in words if exported(it.path.split("/")[0])(paths[it.path], it.name)]
 
 
-ENTRIES = {group: group_entries(group) for group in GROUPS}
+ENTRIES = {group: entries_of(group) for group in GROUPS}
 # The types that hold pairs, each with those of our traits that it has.
 STORES = {}
 for head in (squeezed(it) for text in SOURCES.values() for it in re.findall(r"^impl\b[^{]*", text, re.MULTILINE)):
@@ -172,13 +167,7 @@ def is_told(group, word, far, above):
 
 def parameters(head):
     """The generic parameters of an impl, with their bounds."""
-    parts, depth = [""], 0
-    for sign in head.partition("<")[2] if head.startswith("impl<") else "":
-        depth += (sign == "<") - (sign == ">")
-        if depth < 0:
-            break
-        parts = [*parts, ""] if sign == "," and not depth else [*parts[:-1], parts[-1] + sign]
-    return [part.strip() for part in parts if ": " in part and not part.strip().startswith("'")]
+    return re.findall(r"(?<!')\b\w+: (?:[^<>,]|<(?:[^<>]|<[^<>]*>)*>)+", head) if head.startswith("impl<") else []
 
 
 def types_with(bound):
