@@ -49,7 +49,7 @@ PINNED = {
     "Name tables": LAST,
 }
 EACH = ["Last", "IsExtended", "IsExtendedCounted", "IsGathered"]
-# The calls whose words a page shows only on demand, since only proofs by hand use them.
+# The calls whose words a page shows only on demand, since most are for proofs by hand.
 FOLDED = ["LiteMap::try_get_or_insert"]
 TYPES, TWINS = ("struct", "enum", "type", "trait"), "\n\n"
 # The bounds of an impl that most calls have.
@@ -201,7 +201,7 @@ def words_text(it, group, above):
     text += f"- {', '.join(types)}\n" if types else ""
     text += f"- Explained [once](../API.md#words-of-many-groups), or at the end: {', '.join(elsewhere)}\n" if elsewhere else ""
     text = f"Its words:\n\n{text}\n" if text else ""
-    return f"<details><summary>What only a proof by hand uses</summary>\n\n{text}</details>\n\n" if it.title in FOLDED else text
+    return f"<details><summary>Its words, most of them for proofs by hand</summary>\n\n{text}</details>\n\n" if it.title in FOLDED else text
 
 
 def entry(it, group, above):
