@@ -24,5 +24,5 @@ pub use try_fault::TryFault;
 /// ```
 pub type VecMap<K, V> = LiteMap<K, V, Vec<(K, V)>>;
 
-/// A map over pairs that it borrows (own), as those of `range` and of a constant table.
+/// A map over pairs that it borrows (own), such as those of `range` and of a constant table.
 pub type SliceMap<'a, K, V> = LiteMap<K, V, store::SliceStore<'a, K, V>>;

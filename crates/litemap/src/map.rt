@@ -81,7 +81,7 @@ impl<K: Ord, V> LiteMap<K, V, Vec<(K, V)>> {
         self.store.capacity()
     }
 
-    /// Gives spare memory back where it can, and all memory of an empty map (own). It may move all pairs, and never fails.
+    /// Gives spare memory back if it can, and all memory of an empty map (own). It may move all pairs, and never fails.
     ///
     /// ```rust
     /// let mut days: Days = LiteMap::with_capacity(alloc, 100)?;

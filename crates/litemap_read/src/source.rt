@@ -21,7 +21,7 @@ pub trait PairSource<K, V> {
     type Fault;
 
     /// The list is one that it can still give. There is more than one only if a contract tells values apart that the source
-    /// doesn't, as strings with equal bytes at two addresses.
+    /// doesn't, such as strings with equal bytes at two addresses.
     ghost gives: { Self → List (K × V) → Type 0 };
 
     /// How many pairs it can still give.

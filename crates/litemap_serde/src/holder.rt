@@ -12,7 +12,7 @@ use std::alloc::Global;
 use std::default::MadeWith;
 use std::ops::Deref;
 
-/// A map with serde's traits, for where no `#[serde(with = "litemap_serde")]` can stand, as in a vector or in another map.
+/// A map with serde's traits, for types that can't have `#[serde(with = "litemap_serde")]`, such as items of a vector.
 ///
 /// The map is the field: `holder.0`.
 ///

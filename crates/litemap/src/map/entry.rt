@@ -101,8 +101,8 @@ impl<K: Ord + Drop, V, S: StoreMut<K, V>> LiteMap<K, V, S> {
     }
 
     /// Looks up the key that a query finds, and returns its entry; if there is none, returns the entry of the key that `make`
-    /// returns (own). So a key is made, as of a `&str`, only if it is absent. It compares as `entry` does, and once more as much if
-    /// a key is made. It takes no memory, and fails only if `make` does.
+    /// returns (own). So a key, such as the `String` of a `&str`, is made only if it is absent. It compares as `entry` does, and once
+    /// more as much if a key is made. It takes no memory, and fails only if `make` does.
     ///
     /// ```rust
     /// let mut counts: VecMap<String, u32> = LiteMap::new(alloc);

@@ -74,7 +74,8 @@ impl<K: Ord + Drop, V: Drop, S: StoreMut<K, V>> LiteMap<K, V, S> {
 }
 
 impl<K: Ord + Drop, V: Drop> LiteMap<K, V, Vec<(K, V)>> {
-    /// Drops the pairs at the indices of a range, as those of `index_range` (own). The others stay, and later ones move down once.
+    /// Drops the pairs at the indices of a range, such as that of `index_range` (own). The others stay, and later ones move down
+    /// once.
     ///
     /// ```rust
     /// let mut days = three_days(alloc)?;

@@ -112,7 +112,7 @@ impl<K: Ord, V, S: StoreSlice<K, V>> LiteMap<K, V, S> {
     }
 
     /// Returns the pairs whose keys are within a range such as `3..7` or `..=k`, as a map that borrows them (own). It searches
-    /// for each bound. If the range runs backwards, the map is empty, where that of std panics.
+    /// for each bound. If the range runs backwards, the map is empty; std's maps panic.
     ///
     /// ```rust
     /// // days: 1 Monday, 3 Wednesday, 5 Friday
@@ -127,8 +127,8 @@ impl<K: Ord, V, S: StoreSlice<K, V>> LiteMap<K, V, S> {
         self.range(range.start_bound(), range.end_bound())
     }
 
-    /// Returns the pairs whose keys are within a range of what keys are looked up by, as `"a".."f"`, as a map that borrows them
-    /// (own). It is as `range_in`.
+    /// Returns the pairs whose keys are within a range of what keys are looked up by, such as `"a".."f"`, as a map that borrows
+    /// them (own). It is like `range_in`.
     ///
     /// ```rust
     /// let names: VecMap<String, u8> = [("ann".to_string(alloc)?, 1), ("gil".to_string(alloc)?, 2)].into_iter().collect(alloc)?;

@@ -130,7 +130,7 @@ impl<K: Ord + Drop, V: Drop, S: StoreMut<K, V> + Drop> LiteMap<K, V, S> {
 }
 
 impl<K: Ord + Drop, V: Drop, S: StoreIntoIterator<K, V> + Drop> LiteMap<K, V, S> {
-    /// Removes the pairs for which `f` returns true, and returns them as another map, as an expiry that reports what went (own).
+    /// Removes the pairs for which `f` returns true, and returns them as another map, such as one of what has expired (own).
     ///
     /// `f` is called once on each pair, in order. If it keeps no state, both maps are filtered by it. Before the first call memory
     /// for all pairs is taken, twice; if it runs out, nothing changes. Each pair moves once, and no keys are compared.

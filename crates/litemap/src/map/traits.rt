@@ -18,7 +18,7 @@ use std::alloc::{AllocError, Global};
 use std::default::Emptied;
 use std::ops::{Index, IndexMut};
 
-/// Clones the keys and values, as `try_clone` does. It fails if memory runs out, and where the clones of the keys don't ascend:
+/// Clones the keys and values, as `try_clone` does. It fails if memory runs out, or if the clones of the keys don't ascend:
 /// it compares each with the one before it. It never fails for an empty map.
 impl<K: Ord + Clone, V: Clone, S: StoreMut<K, V> + StoreAlloc<K, V> + Drop> Clone
     for LiteMap<K, V, S> {
