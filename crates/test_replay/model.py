@@ -1160,7 +1160,7 @@ ELSEWHERE |= {"lm_iter": "iter", "lm_size_hint": "iter", "lm_into_iter": "into_i
 TRIED = """const_get_with_index new_vec from_sorted_store_unchecked range_in range_by floor ceiling remove_indexed truncate remove_range
     try_from_sorted try_update retain_mut iter_mut keys_slice values_slice values_mut_slice entry_by first_entry last_entry
     or_insert_with_key or_made_with or_try_insert_with into_key into_keys into_values append as_store into_store capacity shrink_to_fit
-    lm_columns lm_columns_mut"""
+    shrink_to from_array insert_entry lm_columns lm_columns_mut"""
 ELSEWHERE |= dict.fromkeys(TRIED.split(), "test_cases")
 SOURCES = ["litemap/src/map.rt", "litemap/src/map", "litemap/src/const_family.rt", "litemap_read/src/read.rt"]
 SOURCES += ["litemap_read/src/laws.rt", "litemap_store/src/store.rt", "litemap_store/src/into_iter.rt"]

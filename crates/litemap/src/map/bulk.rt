@@ -59,9 +59,9 @@ impl<K: Ord + Drop, V: Drop, S: StoreFromIterable<K, V>> LiteMap<K, V, S> {
 }
 
 /// ```rust
-/// let mut days: Days = LiteMap::from_vec(alloc, [(2, "Tue"), (2, "Tuesday")].to_vec(alloc)?)?;
+/// let mut days: Days = LiteMap::from_array(alloc, [(2, "Tue"), (2, "Tuesday")])?;
 /// days.extend_from_vec(alloc, [(1, "Monday")].to_vec(alloc)?)?;
-/// Ok(days.as_slice() == [(1, "Monday"), (2, "Tuesday")].as_slice())
+/// Ok(days == Days::from_vec(alloc, [(1, "Monday"), (2, "Tuesday")].to_vec(alloc)?)?)
 /// ```
 impl<K: Ord + Drop, V: Drop, S: StoreBulkMut<K, V>> LiteMap<K, V, S> {
     /// Returns a map of the pairs of a vector, or an error if memory runs out (own). The last pair of each key stays, its key
@@ -76,6 +76,13 @@ impl<K: Ord + Drop, V: Drop, S: StoreBulkMut<K, V>> LiteMap<K, V, S> {
         ensures back { IfErr result (λ e. IsHandedBack K.cmp pairs.items e.back.items) }
     {
         Self::from_vec_counted(alloc, pairs, &mut Count::new())
+    }
+
+    /// Returns a map of the pairs of an array, as `from_vec` does of a vector, or an error if memory runs out (own).
+    pub fn from_array<const N: usize>(alloc: Global, pairs: [(K, V); N]) -> Result<Self, AllocError>
+        ensures { IfOk result (λ m. Last K.cmp pairs m.pairs) }
+    {
+        Ok(LiteMap::from_vec(alloc, Vec::from_array(alloc, pairs)?)?)
     }
 
     /// `from_vec`, counting its comparisons: at most one for each pair if they ascend, also if it fails (own).

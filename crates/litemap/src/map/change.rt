@@ -273,9 +273,7 @@ impl<K: Ord, V, S: StoreMut<K, V>> LiteMap<K, V, S> {
     ///
     /// ```rust
     /// let mut days = three_days(alloc)?;
-    /// let tuesday = days.try_insert(2, "Tuesday")?;
-    /// let friday = days.try_insert(5, "Fri")?;
-    /// Ok(tuesday.is_none() && friday == Some((5, "Fri")))
+    /// Ok(days.try_insert(2, "Tuesday")?.is_none() && days.try_insert(5, "Fri")? == Some((5, "Fri")))
     /// ```
     pub fn try_insert(&mut self, key: K, value: V) -> Result<Option<(K, V)>, NoRoom<(K, V)>>
         ensures adds { AddsIf (IsNone (at K.cmp self.old.pairs key)) (put K.cmp self.old.pairs key value) (key, value)
@@ -298,9 +296,7 @@ impl<K: Ord, V, S: StoreMut<K, V>> LiteMap<K, V, S> {
     ///
     /// ```rust
     /// let mut days = three_days(alloc)?;
-    /// let saturday = days.try_append(6, "Saturday")?;
-    /// let tuesday = days.try_append(2, "Tuesday")?;
-    /// Ok(saturday.is_none() && tuesday == Some((2, "Tuesday")))
+    /// Ok(days.try_append(6, "Saturday")?.is_none() && days.try_append(2, "Tuesday")? == Some((2, "Tuesday")))
     /// ```
     pub fn try_append(&mut self, key: K, value: V) -> Result<Option<(K, V)>, NoRoom<(K, V)>>
         ensures { AddsIf (AllBelow K.cmp self.old.pairs key) (self.old.pairs ++ (key, value) ∷ []) (key, value)

@@ -149,6 +149,9 @@ impl<K: Ord + Drop, V: Drop, S: StoreIntoIterator<K, V> + Drop> LiteMap<K, V, S>
         ensures parted { IfOk result (λ m. Parted F.FnMut f self.old.pairs self.new.pairs m.pairs) }
         ensures filtered { (test : K × V → Bool) → Tests F.FnMut f test → IfOk result (λ m.
             (self.new.pairs ≡ filter (λ p. not (test p)) self.old.pairs) × (m.pairs ≡ filter test self.old.pairs)) }
+        // What lookups find in both.
+        ensures parts { (test : K × V → Bool) → Tests F.FnMut f test → IfOk result (λ m.
+            KeepsPart (λ p. not (test p)) self.old.pairs self.new.pairs × KeepsPart test self.old.pairs m.pairs) }
         ensures refused { OnErr result (self.new ≡ self.old) }
     {
         let stays = S::lm_with_capacity(alloc, self.len())?;
