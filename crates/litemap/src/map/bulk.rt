@@ -6,6 +6,7 @@ ghost use Rattle.litemap_store.specs.Bulk.{GivesSome, GivesSuch, IsExtended, IsE
 ghost use Rattle.litemap_store.specs.Counts.{GoesOn, RisesByAtMost};
 ghost use Rattle.litemap_store.specs.Last.{Last, Rises};
 ghost use Rattle.litemap_store.specs.Pairs.{Rising, value_at};
+ghost use Rattle.litemap.specs.Updates.{Overlays};
 
 use crate::LiteMap;
 use litemap_store::store::{Count, NoRoom, StoreBulkMut, StoreFromIterable};
@@ -176,6 +177,8 @@ impl<K: Ord + Drop, V: Drop, S: StoreBulkMut<K, V>> LiteMap<K, V, S> {
         // What a lookup finds: the last new value of the key if there is one, else what it found before.
         ensures found { OnOk result ((key : K) → value_at K.cmp self.new.pairs key
             ≡ option_or (value_at K.cmp (reverse pairs.items) key) (value_at K.cmp self.old.pairs key)) }
+        // The same of lookups by anything else than a key.
+        ensures overlays { OnOk result (Overlays K.cmp self.old.pairs (reverse pairs.items) self.new.pairs) }
         ensures refused { OnErr result (self.new.pairs ≡ self.old.pairs) }
         ensures succeeds { Rises K.cmp self.old.pairs pairs.items → length pairs.items ≤ self.old.room → IsOk result }
         ensures back { IfErr result (λ e. IsHandedBack K.cmp pairs.items e.back.items) }
@@ -193,6 +196,7 @@ impl<K: Ord + Drop, V: Drop, S: StoreBulkMut<K, V>> LiteMap<K, V, S> {
         ensures last { OnOk result (Last K.cmp (self.old.pairs ++ pairs.items) self.new.pairs) }
         ensures found { OnOk result ((key : K) → value_at K.cmp self.new.pairs key
             ≡ option_or (value_at K.cmp (reverse pairs.items) key) (value_at K.cmp self.old.pairs key)) }
+        ensures overlays { OnOk result (Overlays K.cmp self.old.pairs (reverse pairs.items) self.new.pairs) }
         ensures refused { OnErr result (self.new.pairs ≡ self.old.pairs) }
         ensures succeeds { Rises K.cmp self.old.pairs pairs.items → length pairs.items ≤ self.old.room → IsOk result }
         ensures back { IfErr result (λ e. IsHandedBack K.cmp pairs.items e.back.items) }

@@ -1,6 +1,6 @@
 //! Calls that change a map.
 ghost use Rattle.std.specs.Prelude.{◌≡◌, ◌↔◌, ◌+◌, ◌*◌, ◌≤◌, ◌<◌, [], ◌∷◌, ◌++◌, length, slice_get, remove, filter, Bool, Some};
-ghost use Rattle.std.specs.Prelude.{IsNone, IsSome, IsTrue, IsOk, None, Ok, IfOk, OnOk, OnErr, true, false};
+ghost use Rattle.std.specs.Prelude.{IsNone, IsSome, IsTrue, IsOk, None, Ok, IfOk, IfSome, OnOk, OnErr, true, false};
 ghost use Rattle.std.specs.Fn.{FnOnceReturnsAt, FnOnceTakesAt};
 ghost use Rattle.litemap_store.specs.Counts.{RisesByAtMost, digits};
 ghost use Rattle.litemap_store.specs.Pairs.{AllBelow, at, place, put, value_at};
@@ -12,7 +12,7 @@ ghost use Rattle.litemap.specs.FoundBy.{RemovesFound};
 ghost use Rattle.litemap.specs.Retained.{Retains, ReturnsAt};
 ghost use Rattle.std.specs.Borrow.{sem};
 ghost use Rattle.litemap.specs.Lends.{RestsAs};
-ghost use Rattle.litemap.specs.Updates.{Finds, Moves, Places, Updates};
+ghost use Rattle.litemap.specs.Updates.{Finds, Moves, Places, TakesPair, Updates};
 ghost use Rattle.litemap.specs.TryFault.{FailsAs, IfClosure, IsInsertedAt, Shown};
 
 use crate::{LiteMap, TryFault};
@@ -248,6 +248,7 @@ impl<K: Ord + Drop, V, S: StoreMut<K, V>> LiteMap<K, V, S> {
         requires { CallableOnKeys F.FnMut self.old.pairs f }
         ensures found { RemovesFound F.FnMut self.old.pairs f result self.new.pairs }
         ensures unchanged { IsNone result → self.new ≡ self.old }
+        ensures taken { IfSome result (λ v. (key : K) × TakesPair K.cmp (key, v) self.old.pairs self.new.pairs) }
         ensures room { S.keeps_memory → IsSome result → self.old.room < self.new.room }
     {
         match self.find_index_by(f) {
@@ -299,8 +300,10 @@ impl<K: Ord, V, S: StoreMut<K, V>> LiteMap<K, V, S> {
     /// Ok(days.try_append(6, "Saturday")?.is_none() && days.try_append(2, "Tuesday")? == Some((2, "Tuesday")))
     /// ```
     pub fn try_append(&mut self, key: K, value: V) -> Result<Option<(K, V)>, NoRoom<(K, V)>>
-        ensures { AddsIf (AllBelow K.cmp self.old.pairs key) (self.old.pairs ++ (key, value) ∷ []) (key, value)
+        ensures adds { AddsIf (AllBelow K.cmp self.old.pairs key) (self.old.pairs ++ (key, value) ∷ []) (key, value)
             self.old self.new result }
+        ensures updates { IfOk result (λ back. IsNone back
+            → Updates K.cmp key (Some value) self.old.pairs self.new.pairs) }
     {
         if !self.is_above_all(&key) {
             return Ok(Some((key, value)));
