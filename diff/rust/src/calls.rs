@@ -314,8 +314,9 @@ fn fill(entry: VacantEntry<Key, Value, Vec<(Key, Value)>>, given: &Given) -> Str
     given.write(entry.insert(given.value()), 2)
 }
 
-/// Puts the pairs of another map in one by one: a value that is there already becomes three times that, the new one, what the new
-/// key's code leaves by seven, and a thousand for each that was there before. The result is as of a merge, and how many were there.
+/// Puts the pairs of another map in one by one: a value that is there already becomes three times that, the new one, what the
+/// new key's code leaves by seven, and a thousand for each that was there before. Returns what a merge does, and how many were
+/// there.
 fn combine(map: &mut Map, other: Map) -> String {
     let mut left = Vec::new();
     for (key, mut value) in other {
