@@ -15,7 +15,7 @@ use crate::bulk::merge::merge;
 use crate::growth::{Refused, reserve};
 use crate::into_iter::append_each;
 use crate::sorted::{keep_rising, lies_below};
-use crate::store::{Count, StoreMut};
+use crate::store::{Count, StoreIntoIterator};
 use std::alloc::Global;
 use std::mem;
 
@@ -64,7 +64,7 @@ fn make_room<K, V>(items: &mut Vec<(K, V)>) -> Result<(), Refused>
 }
 
 /// Puts the pairs of a vector in, which is left empty. Of each key the last pair stays.
-pub fn put_pairs<K: Ord + Drop, V: Drop, S: StoreMut<K, V> + Drop>(
+pub fn put_pairs<K: Ord + Drop, V: Drop, S: StoreIntoIterator<K, V> + Drop>(
     alloc: Global,
     store: &mut S,
     pairs: &mut Vec<(K, V)>,

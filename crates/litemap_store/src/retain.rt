@@ -1,7 +1,8 @@
 //! `lm_retain` of stores whose pairs can be swapped.
 ghost use Rattle.std.specs.Prelude.{◌≡◌, ◌+◌, ◌<◌, ◌≤◌, Some, length, slice_get, take, swap};
 ghost use Rattle.std.specs.Map.Iter.{deref_pair};
-ghost use Rattle.litemap_store.specs.{CallableOnEach, CalledOnPair, Kept, KeptSoFar, TakesPair};
+ghost use Rattle.litemap_store.specs.{CallableOnEach, CalledOnPair, Kept, TakesPair};
+ghost use Rattle.litemap_store.specs.Steps.{KeptSoFar};
 
 use crate::store::Store;
 

@@ -1,7 +1,8 @@
 //! Few new pairs, which stand after those of a vector, are put in one by one where they stand.
 ghost use Rattle.std.specs.Prelude.{◌≡◌, ◌↔◌, ◌<◌, ◌≤◌, ◌+◌, ◌-◌, ◌*◌, IsTrue, drop, length, take, vec_len};
-ghost use Rattle.litemap_store.specs.{IsPutIn, RisesByAtMost, Rising, digits};
+ghost use Rattle.litemap_store.specs.{RisesByAtMost, Rising, digits};
 ghost use Rattle.litemap_store.specs.Last.{Last, Rises};
+ghost use Rattle.litemap_store.specs.Steps.{IsPutIn};
 
 use crate::searches::{binary_digits, search, walk_is_cheaper};
 use crate::sorted::{is_rising, lies_below};

@@ -1,7 +1,7 @@
 use Rattle.litemap_store.proofs.Names.{sym}
 use Rattle.std.specs.Map.Iter.{deref_pair}
 use Rattle.litemap_store.proofs.Merging.Walking.{lower_from_cmp, lower_new, lower_old}
-use Rattle.litemap_store.proofs.merge.side_by_side.compare_firsts.Goals as goal
+use Rattle.litemap_store.proofs.walk.compare_firsts.Goals as goal
 
 pub returns-in_default-clause-lower : goal.returns-in_default-clause-lower
 returns-in_default-clause-lower g c =
