@@ -27,12 +27,15 @@ ALL = GROWING + " fixed"
 Group = collections.namedtuple("Group", "often over words refused names")
 
 
-def group(often, over, words, refused, names):
-    return Group(int(often), over, words.replace("-", "").split(), refused, names.split(" "))
+def table_of(name):
+    """The rows of a table of calls, whose first line says what its columns are."""
+    return (FOLDER / "calls" / name).read_text(encoding="utf-8").splitlines()[1:]
 
 
-_, *ROWS = (FOLDER / "calls" / "arguments.txt").read_text(encoding="utf-8").splitlines()
-GROUPS = {name: group(*row) for name, *row in (row.split(" | ") for row in ROWS)}
+GROUPS = {}
+for row in table_of("arguments.txt"):
+    name, often, over, words, refused, names = row.split(" | ")
+    GROUPS[name] = Group(int(often), over, words.replace("-", "").split(), refused, names.split(" "))
 # The group of each call.
 GROUP_OF = {name: it for it in GROUPS.values() for name in it.names}
 
@@ -84,16 +87,6 @@ def sorting(keys):
     return sort + number - 1
 
 
-def walked(mine, theirs):
-    """The comparisons of a walk over two lists side by side, until one of them ends."""
-    return len({key for key in mine + theirs if key <= min(mine[-1], theirs[-1])})
-
-
-def walked_back(mine, theirs):
-    """The same from their ends."""
-    return len({key for key in mine + theirs if key >= max(mine[0], theirs[0])})
-
-
 def summed(total, text):
     """A checksum that continues another one with the bytes of a text."""
     for byte in text.encode():
@@ -118,19 +111,15 @@ class Order:
 
     def __init__(self, name):
         self.name, self.rank = name, RANKS[name]
-        self.code = int if name in ("number", "falling") else code_of_text
-
-
-def code_of_text(word):
-    """The number whose bytes, from the highest one on, are those of a word."""
-    return int.from_bytes(word.encode().ljust(8, b"\0"), "big")
+        # The number of a word: of a text the one whose bytes, from the highest one on, are those of the text.
+        self.code = int if name in ("number", "falling") else lambda word: int.from_bytes(word.encode().ljust(8, b"\0"), "big")
 
 
 class Model:
-    """A map: its pairs as words, its room, if that is fixed (None if it grows), and the places of keys that are known."""
+    """A map: its pairs as words, and its room, if that is fixed (None if it grows)."""
 
     def __init__(self, order, pairs=(), room=None):
-        self.order, self.pairs, self.room, self.places = order, list(pairs), room, {}
+        self.order, self.pairs, self.room = order, list(pairs), room
 
     def text(self, pairs):
         """The text of pairs in a line."""
@@ -145,8 +134,6 @@ class Model:
 
     def place(self, key):
         """The number of smaller keys, and whether an equal one is present."""
-        if key in self.places:
-            return self.places[key]
         rank = self.order.rank
         below = bisect.bisect_left(self.pairs, rank(key), key=lambda pair: rank(pair[0]))
         return below, below < len(self.pairs) and rank(self.pairs[below][0]) == rank(key)
@@ -245,14 +232,14 @@ class Model:
         """Makes a call at each key and each gap: a checksum of what it returns and leaves, and the most comparisons of one."""
         pairs, room, most, total = self.pairs, self.room, 0, 0
         for code in map(str, range(1, 2 * len(pairs) + 2)):
-            self.pairs, self.room = pairs if name in READ_ONLY else list(pairs), room
-            self.places = {code: self.place(code)} if name in READ_ONLY else {}
+            # `get` leaves the list, which needs no copy then.
+            self.pairs, self.room = pairs if name == "get" else list(pairs), room
             answer, cost = self.make(" ".join([name, code, *words]))
             if not name.startswith("lm_"):
                 place, there = self.place(code)
                 answer += f" {self.pairs[place][1] if there else 'none'} {len(self.pairs)}"
             most, total = max(most, cost), summed(total, answer)
-        self.pairs, self.room, self.places = pairs, room, {}
+        self.pairs, self.room = pairs, room
         return f"swept {total % 10**9}", most
 
     def pair_at(self, index):
@@ -294,12 +281,9 @@ class Model:
             start, end = self.bounds(words)
             part = pairs[start:end]
             told = f"{self.text(part[-1:]) if part else 'none'} {self.text(part[:-1])}" if name == "iter_range" else self.text(part)
-            return (f"{start} {end}" if name.startswith("index") else told), self.two_searches(words)
+            cost = sum(self.search(key) for bound, key in zip(words[::2], words[1::2]) if bound != "-")
+            return (f"{start} {end}" if name.startswith("index") else told), cost
         return None
-
-    def two_searches(self, words):
-        """The most comparisons of a search for each bound that there is."""
-        return sum(self.search(key) for bound, key in zip(words[::2], words[1::2]) if bound != "-")
 
     def by_key(self, name, words):
         if name in ("get_indexed_mut", "lm_get_mut", "lm_pair_mut"):
@@ -452,7 +436,9 @@ class Model:
         # it is tested up to the first pair that doesn't ascend
         tested = next((place for place in range(1, len(theirs)) if theirs[place - 1] >= theirs[place]), len(theirs) - 1)
         below = not mine or mine[-1] < min(theirs)
-        walk = 0 if below else walked_back(mine, sorted(theirs))
+        # a walk over two lists from their ends, until one of them ends
+        end = 0 if below else max(mine[0], min(theirs))
+        walk = 0 if below else len({key for key in mine + theirs if key >= end})
         merge = tested + (0 if rises else sorting(theirs)) + bool(mine) + walk
         is_few = len(pairs) <= FEW and len(pairs) * digits(total) < total and not (rises and below)
         return max(merge, tested + rises + self.searches(pairs)[0] if is_few else 0)
@@ -555,7 +541,9 @@ class Model:
             return 2
         total = len(mine) + len(theirs)
         if total <= len(theirs) * digits(total):
-            return 2 + walked(mine, theirs)
+            # a walk over two lists side by side, until one of them ends
+            end = min(mine[-1], theirs[-1])
+            return 2 + len({key for key in mine + theirs if key <= end})
         one_by_one, left = self.searches(pairs)[0], len(mine)
         from_the_end = 0
         for key in reversed(theirs):
@@ -661,8 +649,6 @@ STEPS |= {"try_insert": ("try_insert", "Back"), "try_append": ("try_append", "Ba
 STEPS |= {kind: (kind, "Done") for kind in ("clear", "extend", "reserve")}
 # A pair of a store, as `{:#?}` prints it.
 DEBUG_LINES = "    (         {},         {},     ),"
-# Calls that leave the list, so that a sweep needs no copy of it.
-READ_ONLY = {"get"}
 # The most pairs that a vector puts in one by one.
 FEW = 16
 LOOK_UPS = {"find_index", "find_index_counted", "find_index_by", "lm_binary_search_by", "contains_key", "get_key_value"}
@@ -881,7 +867,7 @@ def stores():
         looks += [f"lm_binary_search_by {key}" for key in keys(length)]
         looks += [f"lm_retain {bits}" for bits in RETAINED]
         if length:
-            looks += [f"{name} {index}{tail}" for name, tail in STORED for index in places]
+            looks += [call.format(index) for call in ("lm_pair_mut {} 7", "lm_replace {} 1 7", "lm_remove {}") for index in places]
         puts = ["lm_push 9999 7", *(f"lm_insert {index} 1 7" for index in {*places, length})]
         yield from block(ALL, length, 1, looks + puts + ["lm_reserve 0", "lm_reserve 1"])
         yield from block(SLICED, length, 1, ["lm_debug", "lm_debug_lines"] if length <= 129 else [])
@@ -899,9 +885,6 @@ def stores():
             yield from chain(ALL, [f"lm_from_pairs{pairs}", "is_sorted_store"])
     made = [*spelled(*STORE_MAKING, PAIRS=[*inputs(20)])]
     yield from block(ALL, 5, 0, made + ["lm_empty 0", "lm_with_capacity 0", "lm_with_capacity 1", "lm_with_capacity 17"])
-
-
-STORED = [("lm_pair_mut", " 7"), ("lm_replace", " 1 7"), ("lm_remove", "")]
 
 
 def refusable():
@@ -1153,27 +1136,19 @@ def rows():
         yield text
 
 
-# The calls that no line makes, and what runs them.
-ELSEWHERE = dict.fromkeys("const_len const_is_empty const_get_indexed_or_panic".split(), "as_sliced")
-ELSEWHERE |= {"key": "entry", "into_mut": "entry_into_mut", "same_results": "a law", "lm_get_range": "get_indexed_range"}
-ELSEWHERE |= {"lm_iter": "iter", "lm_size_hint": "iter", "lm_into_iter": "into_iter", "lm_alloc": "extended"}
-TRIED = """const_get_with_index new_vec from_sorted_store_unchecked range_in range_by floor ceiling remove_indexed truncate remove_range
-    try_from_sorted try_update retain_mut iter_mut keys_slice values_slice values_mut_slice entry_by first_entry last_entry
-    or_insert_with_key or_made_with or_try_insert_with into_key into_keys into_values append as_store into_store capacity shrink_to_fit
-    shrink_to from_array insert_entry lm_columns lm_columns_mut"""
-ELSEWHERE |= dict.fromkeys(TRIED.split(), "test_cases")
-SOURCES = ["litemap/src/map.rt", "litemap/src/map", "litemap/src/const_family.rt", "litemap_read/src/read.rt"]
-SOURCES += ["litemap_read/src/laws.rt", "litemap_store/src/store.rt", "litemap_store/src/into_iter.rt"]
+# The calls of stores that no line makes: calls of maps make them, or cases of test_cases.
+OF_MAPS = {"lm_alloc", "lm_columns", "lm_columns_mut", "lm_get_range", "lm_into_iter", "lm_iter", "lm_size_hint"}
 
 
-def unmade(made):
-    """The calls of maps and stores that no line makes."""
-    names = set()
-    for path in SOURCES:
-        place = FOLDER.parent / path
-        for source in sorted(place.rglob("*.rt")) if place.is_dir() else [place]:
-            names |= set(re.findall(r"^ *(?:pub fn|(?:final )?fn(?= lm_)) (\w+)", source.read_text(encoding="utf-8"), re.MULTILINE))
-    return sorted(names - made - set(ELSEWHERE))
+def judged():
+    """The calls that lines have to make: those of the tables of calls that diff makes or lines alone judge, and those of stores."""
+    names = {*GROUP_OF}
+    for row in table_of("beside.txt"):
+        names |= {*row.partition(" | ")[0].rpartition("::")[2].split(" ")} if "lines of data" in row else set()
+    for source in ("store", "into_iter"):
+        text = (FOLDER.parent / "litemap_store" / "src" / f"{source}.rt").read_text(encoding="utf-8")
+        names |= {*re.findall(r"^    (?:final )?fn (lm_\w+)", text, re.MULTILINE)}
+    return names - OF_MAPS
 
 
 FILES = {"looks": looks, "walks": walks, "changes": changes, "bulk": bulk, "stores": stores, "scattered": scattered}
@@ -1240,4 +1215,4 @@ def sample(files):
 def faults(files):
     """A message for each call that no line makes."""
     made = {found for text in files.values() for found in re.findall(r"^(?:\+ )?(\w+)(?= .*= )", text, re.MULTILINE)}
-    return [f"no line makes {call}" for call in unmade(made)]
+    return [f"no line makes {call}" for call in sorted(judged() - made)]
