@@ -20,8 +20,8 @@ FLOAT = "it is a number with a fraction or an exponent, `-0`, or a number of mor
 not_a_pair = "the element at place {} (from 0) is not an array of exactly a key and an item".format
 key_text = "the name of the member at place {} (from 0, by the byte order of the names) is not a key's text".format
 key, item = "the key at place {} (from 0): {}".format, "the item at place {} (from 0): {}".format
-NO_TEXT = "the key at place {} (from 0) has no text, and the first key has one: give all keys a text, or none"
-no_text = f"{NO_TEXT}; a key has no text in JSON, and the first key has one".format
+no_text = ("the key at place {} (from 0) has no text, and the first key has one: give all keys a text, or none; "
+           "a key has no text in JSON, and the first key has one").format
 no_flags = "the JSON value is not a map from flags to numbers: {}".format
 # What `rewrite_flags` says of bytes that are no JSON.
 NO_JSON = "the bytes are not a JSON text"

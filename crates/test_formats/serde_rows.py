@@ -267,13 +267,8 @@ def csv_rows():
     yield "csv-rows", printed("b,a,b\n1,2,3\n"), '[{"a":"2","b":"3"}]'
 
 
-def answer_of(what, text, answer):
-    if answer is None:
-        return map_again(what, text)
-    return text if answer is SAME else answer
-
-
 def rows(_):
     """The rows, each with its output. None of them has a title."""
     rows = [*MAPS, *whole_numbers(), *wrong_types(), *many(), *of_every_length(), *faults(), *toml_rows(), *csv_rows()]
-    return [(f"{what} {text}", answer_of(what, text, answer)) for what, text, answer in rows]
+    rows = [(what, text, map_again(what, text) if answer is None else answer) for what, text, answer in rows]
+    return [(f"{what} {text}", text if answer is SAME else answer) for what, text, answer in rows]

@@ -169,8 +169,7 @@ class Model:
         """Takes room for so many pairs, if it is there."""
         if self.room is not None and self.room < count:
             return False
-        if self.room is not None:
-            self.room -= count
+        self.freed(-count)
         return True
 
     def put(self, key, value):
@@ -263,7 +262,7 @@ class Model:
             "debug": lambda: "{" + ", ".join(f"{key}: {value}" for key, value in pairs) + "}",
             "debug_lines": lambda: " ".join(["{", *(f"    {key}: {value}," for key, value in pairs), "}"]) if size else "{}",
             "lm_debug": lambda: "[" + ", ".join(f"({key}, {value})" for key, value in pairs) + "]",
-            "lm_debug_lines": lambda: " ".join(["[", *map(DEBUG_LINES.format, *zip(*pairs)), "]"]) if size else "[]",
+            "lm_debug_lines": lambda: " ".join(["[", *(f"    (         {key},         {value},     )," for key, value in pairs), "]"]) if size else "[]",
         }
         if name in texts:
             return texts[name]()
@@ -406,7 +405,12 @@ class Model:
             ahead, behind = self.pairs[:front], self.pairs[max(front, len(self.pairs) - back) :][::-1]
             return self.text(part(name, pair) for pair in ahead + behind) + " exact"
         if name == "keys_in_turns":
-            return self.keys_in_turns(words)
+            # the keys that are taken from either end, as words say, or the number of keys that are left
+            left, answers = [key for key, _ in self.pairs], []
+            for word in words:
+                key = left.pop(0 if word == "next" else -1) if left and word != "len" else "none"
+                answers.append(str(len(left)) if word == "len" else key)
+            return " ".join(answers)
         if name == "into_iter":
             text, self.pairs = self.text(self.pairs[: int(words[0])]), []
             return text + " exact"
@@ -418,14 +422,6 @@ class Model:
             text = f"{'in order ' * (name == 'to_keys_by')}{self.text(self.pairs)} cloned {cloned}"
             return text, max(len(self.pairs) - 1, 0) * (name == "cloned")
         return self.text(self.pairs) if name == "lm_try_clone" else None
-
-    def keys_in_turns(self, words):
-        """The keys that are taken from either end, as words say, or the number of keys that are left."""
-        left, answers = [key for key, _ in self.pairs], []
-        for word in words:
-            key = left.pop(0 if word == "next" else -1) if left and word != "len" else "none"
-            answers.append(str(len(left)) if word == "len" else key)
-        return " ".join(answers)
 
     def cost(self, pairs):
         """The most comparisons of bulk input: by a merge, or in a vector by a search for each of few pairs."""
@@ -647,8 +643,6 @@ STEPS = {"len": ("len", "Number"), "find": ("find_index", "Place"), "contains": 
 STEPS |= {kind: (kind, "Value") for kind in ("insert", "get", "remove")} | {"value_at": ("get_indexed", "Value")}
 STEPS |= {"try_insert": ("try_insert", "Back"), "try_append": ("try_append", "Back")}
 STEPS |= {kind: (kind, "Done") for kind in ("clear", "extend", "reserve")}
-# A pair of a store, as `{:#?}` prints it.
-DEBUG_LINES = "    (         {},         {},     ),"
 # The most pairs that a vector puts in one by one.
 FEW = 16
 LOOK_UPS = {"find_index", "find_index_counted", "find_index_by", "lm_binary_search_by", "contains_key", "get_key_value"}
