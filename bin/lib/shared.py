@@ -127,9 +127,6 @@ class Watched:
     of time.
     """
 
-    # How many seconds of processor time it may take, some ten times as many as it does: only a wrong body takes more.
-    MOST_TIME = 20
-
     def __init__(self, room, crate, whole=None):
         self.folder, self.library = TOP / "crates" / crate, f"{room}/allocator.so"
         self.program = self.folder / "out" / crate
@@ -153,10 +150,6 @@ class Watched:
         with open(output or os.devnull, "w") as file:
             run = subprocess.run([self.program], preexec_fn=limit, stdout=file if output else subprocess.PIPE, **how)
         return run.returncode, (run.stdout or "").splitlines(), run.stderr.splitlines()
-
-    def run_timed(self):
-        """How it ends on the timed input, and its lines."""
-        return self.run(given=self.timed, most=self.MOST_TIME)[:2]
 
 
 class Report:
