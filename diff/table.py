@@ -4,15 +4,10 @@ import re
 import lines
 
 
-def read(top, name):
-    """The rows of a table, without its first line, which says what its columns are."""
-    _, *rows = (top / "crates" / "test_replay" / "calls" / name).read_text().splitlines()
-    return [row.split(" | ") for row in rows]
-
-
 def rows(top):
     """Each call of ours, the calls of lines that make it, and what the table says about the Rust crate's."""
-    for ours, made, theirs in read(top, "beside.txt"):
+    _, *table = (top / "crates" / "test_replay" / "calls" / "beside.txt").read_text().splitlines()
+    for ours, made, theirs in (row.split(" | ") for row in table):
         owner, colons, names = ours.rpartition("::")
         for name in names.split(" ") if colons else [ours]:
             yield f"{owner}{colons}{name}", made.replace("=", name).split(" "), theirs.replace("=", name)

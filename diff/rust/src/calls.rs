@@ -1,5 +1,5 @@
 //! The calls that lines make.
-use crate::keys::{pair, pairs, text, Key, Order, Pair, Value, CLONED, NO_KEY};
+use crate::keys::{pair, pairs, text, Code, Key, Order, Pair, Value, CLONED};
 use litemap::Entry::{Occupied, Vacant};
 use litemap::{LiteMap, VacantEntry};
 use std::mem::{replace, take};
@@ -96,7 +96,6 @@ const CALLS: &[Call] = &[
         Ok(index) => format!("ok {index}"),
         Err(index) => format!("err {index}"),
     }),
-    // Iterators.
     ("iter", |map, given| steps(map.len(), map.iter(), given, pair)),
     ("keys", |map, given| steps(map.len(), map.keys(), given, of_key)),
     ("values", |map, given| steps(map.len(), map.values(), given, of_value)),
@@ -118,7 +117,6 @@ const CALLS: &[Call] = &[
         let ordering = (*map).partial_cmp(&given.map());
         or_none(ordering.map(|ordering| format!("{ordering:?}").to_lowercase()))
     }),
-    // Insertions.
     ("insert insert_counted", |map, given| or_none(map.insert(given.key(), given.value()))),
     ("try_insert", |map, given| back(map.try_insert(given.key(), given.value()))),
     ("try_append", |map, given| back(map.try_append(given.key(), given.value()))),
@@ -126,7 +124,6 @@ const CALLS: &[Call] = &[
     ("try_get_or_fail", |map, given| try_get(map, given, Err(given.value()), true)),
     ("try_find_or_insert", |map, given| try_get(map, given, Ok(given.value()), false)),
     ("try_find_or_fail", |map, given| try_get(map, given, Err(given.value()), false)),
-    // Entries.
     ("entry", |map, given| match map.entry(given.key()) {
         Occupied(entry) => format!("occupied {}", entry.key().code),
         Vacant(entry) => format!("vacant {}", entry.key().code),
@@ -184,8 +181,7 @@ const CALLS: &[Call] = &[
     ("remove remove_counted remove_by", |map, given| or_none(map.remove(&given.key()))),
     ("rename rename_counted", |map, given| {
         let moved = map.remove(&given.key());
-        let new_key = || Key::new(given.order, given.words[1]);
-        moved.map(|value| map.insert(new_key(), value)).is_some().to_string()
+        moved.map(|value| map.insert(Key::new(given.order, given.words[1]), value)).is_some().to_string()
     }),
     ("update", |map, given| {
         for (index, (_, slot)) in map.into_iter().enumerate() {
@@ -242,14 +238,13 @@ fn one(found: (&Key, &Value)) -> String {
     text([pair(found)])
 }
 
-/// What an iterator of keys yields.
+// What iterators of keys and of values yield: no value, and no key.
 fn of_key(key: &Key) -> Pair {
     (key.code, 0)
 }
 
-/// What an iterator of values yields.
 fn of_value(value: &Value) -> Pair {
-    (NO_KEY, value.0)
+    (Code::default(), value.0)
 }
 
 /// The results of the calls of a constant table.
@@ -288,10 +283,7 @@ fn copied(make: impl FnOnce() -> Vec<Pair>) -> String {
 }
 
 fn back(back: Option<(Key, Value)>) -> String {
-    match back {
-        None => "placed".to_string(),
-        Some(back) => format!("back {}", text([pair(back)])),
-    }
+    back.map_or("placed".to_string(), |back| format!("back {}", text([pair(back)])))
 }
 
 /// `try_get_or_insert`, with the value or without it.
@@ -327,9 +319,8 @@ fn combine(map: &mut Map, other: Map) -> String {
         }
         map.insert(key, value);
     }
-    let times = left.len();
-    match times {
-        0 => "none asked 0".to_string(),
-        _ => format!("left {} asked {times}", text(left)),
+    if left.is_empty() {
+        return "none asked 0".to_string();
     }
+    format!("left {} asked {}", text(left.iter().copied()), left.len())
 }

@@ -32,14 +32,11 @@ impl Order {
 }
 
 /// The number that a key's word stands for: itself, or the bytes of a string, the first one highest.
-#[derive(Clone, Copy, PartialEq)]
+#[derive(Clone, Copy, Default, PartialEq)]
 pub struct Code {
     is_text: bool,
     pub number: u64,
 }
-
-/// The key that is shown for an iterator of values.
-pub const NO_KEY: Code = Code { is_text: false, number: 0 };
 
 impl Display for Code {
     fn fmt(&self, f: &mut Formatter) -> fmt::Result {
