@@ -440,7 +440,8 @@ impl<'a, K: Ord, V, S: StoreMut<K, V>> OccupiedEntry<'a, K, V, S> {
 }
 
 impl<'a, K: Ord, V, S: StoreMut<K, V>> VacantEntry<'a, K, V, S> {
-    ghost use Rattle.litemap.specs.Entries.{EntryFails, EntryLends, EntryRefused, IsGivenBack, IsInserted, Vacant, entry_key, entry_map};
+    ghost use Rattle.litemap.specs.Entries.{EntryFails, EntryLends, EntryRefused, IsGivenBack, IsInserted, Vacant};
+    ghost use Rattle.litemap.specs.Entries.{entry_key, entry_map};
 
     /// Returns the key that was looked up.
     pub fn key(&self) -> &K
