@@ -7,9 +7,7 @@ use Rattle.std.specs.Prelude.{if◌then◌else◌}
 use Rattle.std.proofs.Common.{find}
 use Rattle.litemap_store.specs.Last.{In, Last}
 use Rattle.std.proofs.lemmas.Map.Lookups.{exact_bytes}
-use Rattle.litemap.specs.Combined.{OverlaysWith, combined, found_with}
 use Rattle.litemap.specs.Updates.{Displaces, IsKeyTest, Overlays}
-use Rattle.litemap.proofs.Combining.{value_at-combined}
 use Rattle.litemap_store.proofs.Callers.LastLookups.{value_at-last_of_more}
 use Rattle.litemap_store.proofs.Names.{IfSome}
 
@@ -68,14 +66,6 @@ module _ {K V : Type 0} (cmp : K → K → Ordering) (o : IsTotalOrder cmp) wher
   overlays_last L J M last r = record {
     all = λ test key. by_keys cmp test key L (reverse J) M (λ a b _. option_or b a)
         (λ x. value_at-last_of_more cmp o cmp x.0 (key_same o x.0) (key_alike o x.0) L J M last r) refl;
-    exact = exact_bytes;
-  }
-
-  -- a merge in which a closure combines values
-  pub overlays_with : (combine : K → V → V → V) (A B M : List (K × V)) → Merge cmp A (combined cmp combine A B) M → OverlaysWith cmp combine A B M
-  overlays_with combine A B M merge = record {
-    all = λ test key. by_keys cmp test key A B M (λ a _ p. found_with combine a p)
-        (λ x. value_at-combined cmp o cmp x.0 (key_same o x.0) (key_alike o x.0) combine A B M merge) refl;
     exact = exact_bytes;
   }
 

@@ -1,14 +1,10 @@
 -- A merge in which a closure may write the other map's value of each common key.
-use Rattle.std.specs.Prelude.{◌≡◌, ℕ, Bool, List, [], ◌∷◌, find, map, MatchOption, Option, option_map, Some, None}
-use Rattle.std.specs.Cmp.Lexicographic.{slice_cmp}
+use Rattle.std.specs.Prelude.{◌≡◌, List, [], ◌∷◌, map, MatchOption, Option, Some, None}
 use Rattle.std.specs.Fn.{FnReturns, Shared}
 use Rattle.std.specs.List.{AllByRecursion}
 use Rattle.std.specs.Option.{option_map_or}
-use Rattle.std.specs.Ordering.{nat_cmp}
 use Rattle.std.specs.declared.cmp.Ordering.{Ordering}
-use Rattle.std.specs.declared.cmp.Ordering.TheVariants.{Equal}
 use Rattle.litemap_store.specs.Pairs.{at, value_at}
-use Rattle.litemap.specs.Updates.{IsKeyTest}
 use denote.Ref.{Bor, MutBor}
 
 module _ {K V : Type 0} where
@@ -21,12 +17,6 @@ module _ {K V : Type 0} where
   found_with combine here None = here
   found_with combine None (Some p) = Some p.1
   found_with combine (Some v) (Some p) = Some (combine p.0 v p.1)
-
--- what any query finds: what `found_with` makes of what it finds in A and in B
-pub record OverlaysWith {K V : Type 0} (cmp : K → K → Ordering) (combine : K → V → V → V) (A B M : List (K × V)) : Type 0 where
-  pub all : (test : K × V → Bool) → IsKeyTest cmp test
-      → option_map (λ p. p.1) (find test M) ≡ found_with combine (option_map (λ p. p.1) (find test A)) (find test B)
-  pub exact : (x y : List ℕ) → slice_cmp nat_cmp x y ≡ Equal → x ≡ y
 
 module _ {F K V : Type 0} (g : Shared F (Bor K × (Bor V × (MutBor V × Unit {0}))) (Unit {0} × (MutBor V × Unit {0})))
     (f : F) where

@@ -9,7 +9,7 @@ ghost use Rattle.litemap_store.specs.Pairs.{Rising, above, at, value_at};
 ghost use Rattle.litemap.specs.Updates.{Displaces, KeepsPart, Overlays};
 ghost use Rattle.litemap.specs.Changes.{IsMergedInto};
 ghost use Rattle.litemap.specs.Combined.{CallableOnCommon, CallableOnEachOf, Combined, Combines, LeavesOfBoth};
-ghost use Rattle.litemap.specs.Combined.{OverlaysWith, TakesBoth, combined, found_with};
+ghost use Rattle.litemap.specs.Combined.{TakesBoth, combined, found_with};
 ghost use Rattle.litemap_store.specs.Contents.{with_pairs};
 
 use super::iter::RangeIter;
@@ -141,9 +141,6 @@ impl<K: Ord + Drop, V: Drop, S: StoreIntoIterator<K, V> + Drop> LiteMap<K, V, S>
         ensures found { (combine : K → V → V → V) → Combines F.Fn f combine → OnOk result ((key : K)
             → value_at K.cmp self.new.pairs key
             ≡ found_with combine (value_at K.cmp self.old.pairs key) (at K.cmp other.pairs key)) }
-        // The same of lookups by anything else than a key.
-        ensures overlays { (combine : K → V → V → V) → Combines F.Fn f combine → OnOk result
-            (OverlaysWith K.cmp combine self.old.pairs other.pairs self.new.pairs) }
     {
         self.extend_with_counted(alloc, other, f, &mut Count::new())
     }

@@ -1,7 +1,6 @@
 use Rattle.litemap.proofs.Common.{subst, on_ok_weaker, key_alike, key_same, with_pairs}
 use Rattle.litemap.specs.Changes.{IsMergedInto}
 use Rattle.litemap.proofs.Combining.{combined-from, value_at-combined}
-use Rattle.litemap.proofs.MergedTests.{overlays_with}
 use Rattle.litemap.proofs.map.LiteMap.extend_with.Goals as goal
 
 pub returns-clause-combined : goal.returns-clause-combined
@@ -18,10 +17,4 @@ returns-clause-found g c = λ combine by.
     let old = c.args.self.now.pairs in
     on_ok_weaker c.extend_with_counted.result
     (λ merged key. value_at-combined cmp o cmp key (key_same o key) (key_alike o key) combine old c.args.other.pairs _ merged)
-    (returns-clause-combined g c combine by).merges.merged
-
-pub returns-clause-overlays : goal.returns-clause-overlays
-returns-clause-overlays g c = λ combine by.
-    on_ok_weaker c.extend_with_counted.result
-    (λ merged. overlays_with g.K.Ord.cmp g.met.K.Ord.total combine c.args.self.now.pairs c.args.other.pairs _ merged)
     (returns-clause-combined g c combine by).merges.merged
