@@ -90,8 +90,6 @@ def index_text(data, at):
 def index_entries(data):
     """How many entries an index has, and each of them by its index."""
     number = index_number(data, 0)
-    if 4 + 4 * number > len(data):
-        raise Fault(f"the bytes end within the number or string at byte {len(data) // 4 * 4}")
 
     def entry(index):
         key, middle = index_text(data, 4 + 4 * number + index_number(data, 4 + 4 * index))
@@ -182,7 +180,7 @@ def strings(alphabet):
 
 
 # The errors that no other line shows.
-FAULTS = "there is not enough memory; a number of the name table is too large; there is not enough memory; an entry of the name table begins too far after the first; "
+FAULTS = "there is not enough memory; a number of the name table is too large; there is not enough memory; an entry of the name table begins at too high an offset; "
 FAULTS += "there is not enough memory; the bytes are not a JSON text; the JSON value is not a map from flags to numbers: "
 FAULTS += "a map is an object or an array of [key, item] arrays, and this value is neither"
 ANSWERS = {

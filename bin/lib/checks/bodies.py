@@ -25,8 +25,6 @@ UNBREAKABLE = {
     "each slice of a map ascends, and so do the keys of two sets": "LiteMap::as_slice.rising VecSet::*.ascending",
     "it speaks of the type alone": "JsonItem::to_value.reads_back JsonKey::key_text.reads_back",
 }
-# The libraries whose bodies don't say yet which clauses they break.
-UNNAMED = ["name_index"]
 
 
 @functools.cache
@@ -53,7 +51,7 @@ def see(file, crate, report):
 def clauses():
     """The clauses of public calls on what these return or leave, as (call, name), each with its words. Laws do nothing."""
     for source, calls in CALLS.items():
-        unnamed = {source, source.split("/")[0]} & {*NOT_LISTED, *UNNAMED}
+        unnamed = {source, source.split("/")[0]} & {*NOT_LISTED}
         for call in (it for it in calls if not unnamed and not it.head.endswith("()")):
             yield from (((call.label, name), " ".join(words.split())) for name, words in CLAUSE.findall(call.contract))
 

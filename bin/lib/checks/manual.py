@@ -26,7 +26,7 @@ GROUPS = {
     "JSON": "litemap_json: write text read fault told laws item pairs written",
     "Through serde": "litemap_serde: write read pairs holder",
     "Name tables": "name_table: read write name_bytes cursor error laws",
-    "Lookups in name tables": "name_index: table index name_entries indexed index_write error laws",
+    "Lookups in name tables": "name_index: names index indexed index_write error laws",
     "Sets": "litemap_set: lib",
     "What a call can be asked by": "litemap_store: query",
     "Stores": "litemap_store: store into_iter vec_impl slice_impl slice_iter owned_iter iter_mut count growth no_room retain reserved slice_search merge "
