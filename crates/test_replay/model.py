@@ -945,6 +945,15 @@ def roomy():
         yield from block(GROWING, length, count, [f"{name} 3,{count},2" for name in MERGES + EXTENSIONS])
 
 
+def swept():
+    """Each key and each gap of a map of 64 pairs: split off there, removed by an entry, renamed, and as a bound of each kind."""
+    keys, bounds = range(1, 130), ("in", "out", "-")
+    calls = [*spelled("split", KEY=keys), *(f"entry_remove {key}" for key in keys)]
+    calls += [f"rename {key} {new_key}" for key in keys for new_key in (1, 129)]
+    calls += [f"index_range {low} {key} {high} {130 - key}" for key in keys for low in bounds for high in bounds]
+    yield from block(GROWING, 64, 0, calls)
+
+
 def long():
     """Calls at a hundred thousand pairs, whose time bin/requests limits: lookups, iterators, removals and as many new pairs."""
     count, calls = 100000, ["retain 0", "clear", "lm_retain 0", "insert_each 200001,100000,1", "sweep get"]
@@ -1147,7 +1156,8 @@ def judged():
 
 FILES = {"looks": looks, "walks": walks, "changes": changes, "bulk": bulk, "stores": stores, "scattered": scattered}
 FILES |= {"refusable": refusable, "merged": merged, "beside": beside, "twenty": twenty, "picked": picked, "rows": rows}
-FILES |= {"renamed": renamed, "combined": combined, "listed": listed, "grown": grown, "roomy": roomy, "sliced": sliced, "long": long}
+FILES |= {"renamed": renamed, "combined": combined, "listed": listed, "grown": grown, "roomy": roomy, "sliced": sliced, "swept": swept}
+FILES |= {"long": long}
 
 
 def calls_of(lines):
