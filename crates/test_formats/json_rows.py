@@ -6,6 +6,7 @@ comes from the program itself: that of whole numbers comes from Python's integer
 program reads each row over a vector and over two columns, except those of `limits` (the rows of `levels` again), of `inserted`, of
 `names` and of `overlay`.
 """
+import itertools
 
 WHOLE = {f"{kind}{bits}": (0 if kind == "u" else -(2 ** (bits - 1)), 2 ** (bits if kind == "u" else bits - 1) - 1)
          for kind in "ui" for bits in (8, 16, 32, 64)}
@@ -85,7 +86,8 @@ def told_faults():
                 yield f"told {types}", f"[{text}]", told(ROW, found, told_at("element", 0))
         for name in TOLD_NAMES:
             yield f"told {types}", '{"%s":0}' % name, told_name(first, f'"{name}"')
-        yield f"told {types}", "7", told(MAP, "7")
+        for text, found in [("7", "7"), *(it for it in KINDS if it[0][0] not in "[{")]:
+            yield f"told {types}", text, told(MAP, found)
         yield f"told {types}", "[]", "a map"
         yield f"told {types}", "[", "no JSON"
     for types in ("u8", "i8", "u16", "i16", "u32", "i32"):
@@ -200,6 +202,28 @@ def ascii_texts():
     yield "text", object_of((name, f'"{name}"') for name in reversed(names)), object_of((name, f'"{name}"') for name in names)
 
 
+def mixed_texts():
+    """Strings with ASCII and other characters at each place, as names, keys and items: short ones alone, long ones together."""
+    short = ["".join(it) for length in (2, 3) for it in itertools.product("aé😀", repeat=length)]
+    pairs = itertools.permutations("aé😀", 2)
+    long = [one * place + other + one * (33 - place) for one, other in pairs for place in range(34)]
+    for texts in (*([text] for text in short), sorted(long, key=str.encode)):
+        answer = object_of((text, f'"{text}"') for text in texts)
+        yield "text", answer, None
+        yield "text", array(f'["{text}","{text}"]' for text in texts), answer
+
+
+def last_names():
+    """Many pairs of which the last name alone is below the others, below all but the first, or below the one before it."""
+    for count in (1, 2, 12, 20, 33, 50, 51, 65, 101, 129, 700):
+        for last in (1000, 2005, 10 * (198 + count) + 5):
+            pairs = [(str(number), f'"{number}"') for number in [*range(200, 200 + count), last]]
+            answer = object_of(sorted(pairs))
+            yield "words", array(f"[{name},{text}]" for name, text in pairs), answer
+            yield "words", object_of(pairs), answer
+            yield "text", object_of(pairs), answer
+
+
 def long_flags():
     """Flags that are brought over from long texts: after so many spaces so many pairs, and one element more."""
     for spaces, pairs in ((246, 0), (0, 9), (0, 10), (0, 101), (5000, 28), (0, 1000)):
@@ -263,7 +287,7 @@ def values():
 def rows(titled):
     """The rows without a title, each with its output."""
     rows = [*whole_numbers(), *long_maps(), *late_faults(), *long_texts(), *told_faults()]
-    rows += [*all_numbers(), *ascii_texts(), *early_faults(), *parts(), *values(), *long_flags()]
+    rows += [*all_numbers(), *ascii_texts(), *early_faults(), *parts(), *values(), *long_flags(), *mixed_texts(), *last_names()]
     rows = [(f"{types} {text}", text if answer is None else answer) for types, text, answer in rows]
     # Keys that descend where their names ascend are written as strings are.
     return rows + [(f"falling {row.removeprefix('text ')}", answer) for row, answer in titled + rows if row.startswith("text ")]

@@ -12,8 +12,12 @@ import runpy
 
 FOLDER = pathlib.Path(__file__).resolve().parent
 KINDS = {name: runpy.run_path(str(FOLDER / f"{name}_rows.py")) for name in ("json", "serde", "table")}
-# A row of many lookups, whose time bin/requests bounds.
-TIMED = "table often 20000 -\n"
+# A row of many lookups, and long maps that are read and written, of so many pairs: bin/requests bounds their time.
+MANY = 200000
+OBJECT = "{" + ",".join(f'"{10**6 + number}":{number}' for number in range(MANY)) + "}"
+ARRAY = "[" + ",".join(f"[{10**6 + number},{number}]" for number in range(MANY)) + "]"
+LONG = [("table often 100000 -", "100000 found")]
+LONG += [(f"{kind} {text}", OBJECT) for kind in ("json u32", "serde i64") for text in (OBJECT, ARRAY)]
 
 
 def written(rows):
@@ -43,9 +47,12 @@ def others():
         yield from ((f"{name} {row}", answer) for row, answer in kind["rows"](rows))
 
 
+TIMED = written(LONG)["stdin"]
+
+
 def files():
     """All rows, without titles."""
-    return written([*(row for row in titled() if not row[0].startswith("# ")), *others()])
+    return written([*(row for row in titled() if not row[0].startswith("# ")), *others(), *LONG])
 
 
 # A longer row is stored only as the first of its kind.

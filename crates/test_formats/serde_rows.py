@@ -59,8 +59,8 @@ MAPS = [
     ("perhaps", "null", SAME), ("perhaps", '{"b":1,"a":2}', '{"a":2,"b":1}'), ("perhaps", "7", "data"),
     # keys that have no text: they are written as pairs, and not as a map
     ("places", '{"at":[[[2,1],"p"],[[-1,5],"q"],[[2,1],"r"]]}', '{"at":[[[-1,5],"q"],[[2,1],"r"]]}'),
-    ("places", printed({"at": [[[number, 0], str(number)] for number in range(30, 0, -1)]}),
-     printed({"at": [[[number, 0], str(number)] for number in range(1, 31)]})),
+    *[("places", printed({"at": [[[number, 0], str(number)] for number in range(count, 0, -1)]}),
+       printed({"at": [[[number, 0], str(number)] for number in range(1, count + 1)]})) for count in (30, 100, 101, 1000)],
     ("places", '{"at":[]}', SAME), ("places", '{"at":{}}', '{"at":[]}'), ("places", '{"at":[[[2],"p"]]}', "data"), ("places", "{}", "data"),
     ("points", "[[[2,1],7]]", "not written"), ("points", "[]", "{}"),
     # the forms of enums, and members among others

@@ -352,7 +352,7 @@ def rows(titled):
         (["opened"], INDEXES),
         (of_keys("look", CODES), [indexed(PAIRS)]),
         (["look a"], [b"", indexed([]), MANY_DUE]),
-        (["many 100000", "often 20000", "faults"], [b""]),
+        (["many 100000", "often 2000", "faults"], [b""]),
     ]
     found = [it for words, tables in before for it in product(words, tables)]
     found += [*large_lines(), *sized_lines(), *faulty_lines(), *ascii_lines()]
