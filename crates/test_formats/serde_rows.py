@@ -18,7 +18,7 @@ def printed(value):
 
 def key_of(what, name):
     """The key that is read from a name in an object."""
-    if what in WHOLE or what == "words":
+    if what in WHOLE or what in SMALL or what == "words":
         return int(name)
     return {"true": True, "false": False}[name] if what == "bool" else name
 
@@ -165,6 +165,21 @@ def of_every_length():
         yield "codes", printed(f"code,name\n{rows}"), printed({str(key): str(item) for key, item in last.items()})
 
 
+# Items of one byte and of none.
+SMALL = {"bytes": lambda place: place % 256, "bits": lambda place: place % 3 == 0, "units": lambda _: None}
+
+
+def small():
+    """Maps of 100 and of 1,000 pairs with small items, and with keys of one byte, from objects and sequences."""
+    for count in (100, 1000):
+        for keys in orders(count):
+            for what, item in SMALL.items():
+                yield what, printed({str(key): item(place) for place, key in enumerate(keys)}), None
+                yield what, printed([[key, item(place)] for place, key in enumerate(keys)]), None
+            yield "u8", "{" + ",".join(f'"{key % 256}":{place % 256}' for place, key in enumerate(keys)) + "}", None
+            yield "u8", printed([[key % 256, place % 256] for place, key in enumerate(keys)]), None
+
+
 def faults():
     """An error at each index to 12 and at later ones, after keys that ascend, that descend and that are equal, with right pairs after it."""
     bad_pairs = ('[1,"x"]', "[1,null]", '["x",1]', "[null,1]", "[1.5,1]", "[1]", "[1,1,1]", "[]", "7", "null")
@@ -269,6 +284,6 @@ def csv_rows():
 
 def rows(_):
     """The rows, each with its output. None of them has a title."""
-    rows = [*MAPS, *whole_numbers(), *wrong_types(), *many(), *of_every_length(), *faults(), *toml_rows(), *csv_rows()]
+    rows = [*MAPS, *whole_numbers(), *wrong_types(), *many(), *of_every_length(), *small(), *faults(), *toml_rows(), *csv_rows()]
     rows = [(what, text, map_again(what, text) if answer is None else answer) for what, text, answer in rows]
     return [(f"{what} {text}", text if answer is SAME else answer) for what, text, answer in rows]
