@@ -27,7 +27,7 @@ where
         → IfOk result (λ v. FnOnceReturnsAt F.FnOnce f key (Ok v)) }
     ensures put { IsNone (at K.cmp map.old.pairs key)
         → IfOk result (λ v. map.new.pairs ≡ put K.cmp map.old.pairs key v) }
-    ensures refused { OnErr result (map.new.pairs ≡ map.old.pairs) }
+    ensures unchanged { OnErr result (map.new.pairs ≡ map.old.pairs) }
     ensures closure { IfClosure result (λ fault. FnOnceReturnsAt F.FnOnce f key (Err fault)) }
     ensures full { IfNoRoom result (λ _ _. map.old.room ≡ 0) }
 {

@@ -91,7 +91,7 @@ pub record InsertsKey {K : Type 0} (cmp : K → K → Ordering) (key : K) (old n
   -- it fails only for a new key, at room 0, and then returns it
   pub absent : OnErr result (contains cmp old.keys key ≡ false)
   pub full : OnErr result (old.room ≡ 0)
-  pub refused : OnErr result (new.keys ≡ old.keys)
+  pub unchanged : OnErr result (new.keys ≡ old.keys)
   pub back : IfErr result (λ e. e.back ≡ key)
   pub room : old.room ≤ new.room + 1
 

@@ -109,7 +109,7 @@ impl<'a> NameIndex<'a> {
     /// It fails only if memory runs out. It takes memory for all entries at once, and none if there is no entry.
     pub fn to_map(&self, alloc: Global) -> Result<NameMap<'a>, AllocError>
         ensures pairs { IfOk result (λ made. map shown made.pairs ≡ self.now) }
-        ensures refused { OnErr result (0 < length self.now) }
+        ensures refused_some { OnErr result (0 < length self.now) }
     {
         let mut pairs = Vec::with_capacity(alloc, self.number())?;
         for pair in self.iter() {

@@ -96,7 +96,7 @@ fn put_number(bytes: &mut Vec<u8>, number: usize) -> Result<(), NameWriteFault>
     ensures number { OnOk result (IsNumberAt bytes.new.items (length bytes.old.items) number) }
     ensures small { OnOk result (number < NUMBER_LIMIT) }
     ensures too_large { IfErr result (λ error. IfTooLarge error (NUMBER_LIMIT ≤ number)) }
-    ensures refused { NUMBER_LIMIT ≤ number → result ≡ Err TooLarge }
+    ensures error { NUMBER_LIMIT ≤ number → result ≡ Err TooLarge }
 {
     if number >= NUMBER_LIMIT {
         return Err(NameWriteFault::TooLarge);

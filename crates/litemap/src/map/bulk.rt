@@ -128,7 +128,7 @@ impl<K: Ord + Drop, V: Drop, S: StoreBulkMut<K, V>> LiteMap<K, V, S> {
         requires { IsFiniteIterable I.into_iter_gives I.IntoIter.can_next I.IntoIter.remaining iter }
         ensures extended { OnOk result
             (IsExtended K.cmp I.into_iter_gives I.IntoIter.next_gives iter self.old.pairs self.new.pairs) }
-        ensures refused { OnErr result (self.new.pairs ≡ self.old.pairs) }
+        ensures unchanged { OnErr result (self.new.pairs ≡ self.old.pairs) }
         ensures refused_some { S.fails_for_pairs_only
             → OnErr result (GivesSome I.into_iter_gives I.IntoIter.next_gives iter) }
     {
@@ -150,7 +150,7 @@ impl<K: Ord + Drop, V: Drop, S: StoreBulkMut<K, V>> LiteMap<K, V, S> {
             (λ given. Rises K.cmp self.old.pairs given → RisesByAtMost (length given) count.old count.new)) }
         ensures rising { OnOk result (GivesSuch I.into_iter_gives I.IntoIter.next_gives iter (λ given.
             Rising K.cmp given → RisesByAtMost (length self.old.pairs + 2 * length given) count.old count.new)) }
-        ensures refused { OnErr result (self.new.pairs ≡ self.old.pairs) }
+        ensures unchanged { OnErr result (self.new.pairs ≡ self.old.pairs) }
         ensures refused_cost { OnErr result (IsRefusedCounted K.cmp I.into_iter_gives I.IntoIter.next_gives
             iter self.old.pairs count.old count.new) }
         ensures refused_some { S.fails_for_pairs_only
@@ -179,7 +179,7 @@ impl<K: Ord + Drop, V: Drop, S: StoreBulkMut<K, V>> LiteMap<K, V, S> {
             ≡ option_or (value_at K.cmp (reverse pairs.items) key) (value_at K.cmp self.old.pairs key)) }
         // The same of lookups by anything else than a key.
         ensures overlays { OnOk result (Overlays K.cmp self.old.pairs (reverse pairs.items) self.new.pairs) }
-        ensures refused { OnErr result (self.new.pairs ≡ self.old.pairs) }
+        ensures unchanged { OnErr result (self.new.pairs ≡ self.old.pairs) }
         ensures succeeds { Rises K.cmp self.old.pairs pairs.items → length pairs.items ≤ self.old.room → IsOk result }
         ensures back { IfErr result (λ e. IsHandedBack K.cmp pairs.items e.back.items) }
     {
@@ -197,7 +197,7 @@ impl<K: Ord + Drop, V: Drop, S: StoreBulkMut<K, V>> LiteMap<K, V, S> {
         ensures found { OnOk result ((key : K) → value_at K.cmp self.new.pairs key
             ≡ option_or (value_at K.cmp (reverse pairs.items) key) (value_at K.cmp self.old.pairs key)) }
         ensures overlays { OnOk result (Overlays K.cmp self.old.pairs (reverse pairs.items) self.new.pairs) }
-        ensures refused { OnErr result (self.new.pairs ≡ self.old.pairs) }
+        ensures unchanged { OnErr result (self.new.pairs ≡ self.old.pairs) }
         ensures succeeds { Rises K.cmp self.old.pairs pairs.items → length pairs.items ≤ self.old.room → IsOk result }
         ensures back { IfErr result (λ e. IsHandedBack K.cmp pairs.items e.back.items) }
         ensures all_above { Rises K.cmp self.old.pairs pairs.items → RisesByAtMost (length pairs.items) count.old count.new }

@@ -154,8 +154,8 @@ impl<K: Ord + Drop, V, S: StoreMut<K, V>> LiteMap<K, V, S> {
         ensures room { self.old.room ≤ self.new.room + 1 }
         // If nothing is inserted the list stays; if the closure returns an error, so does the room.
         ensures errors { FailsAs F.FnOnce f key self.old.room result }
-        ensures refused { OnErr result (self.new.pairs ≡ self.old.pairs) }
-        ensures unmoved { IfClosure result (λ _. self.new ≡ self.old) }
+        ensures unchanged { OnErr result (self.new.pairs ≡ self.old.pairs) }
+        ensures unchanged_by_closure { IfClosure result (λ _. self.new ≡ self.old) }
     {
         let index = match self.search(&key, &mut Count::new()) {
             Ok(index) => return Ok(index),

@@ -97,7 +97,7 @@ impl<K: Ord + Drop, V: Drop, S: StoreIntoIterator<K, V> + Drop> LiteMap<K, V, S>
         ensures found { OnOk result ((key : K) → value_at K.cmp self.new.pairs key
             ≡ option_or (value_at K.cmp other.old.pairs key) (value_at K.cmp self.old.pairs key)) }
         ensures overlays { OnOk result (Overlays K.cmp self.old.pairs other.old.pairs self.new.pairs) }
-        ensures refused { OnErr result
+        ensures unchanged { OnErr result
             ((self.new.pairs ≡ self.old.pairs) × (other.new.pairs ≡ other.old.pairs)) }
     {
         let taken = mem::replace(other, LiteMap::with_capacity(alloc, 0)?);

@@ -116,8 +116,8 @@ impl<K: Ord + Drop, V: Drop, S: StoreMut<K, V> + Drop> LiteMap<K, V, S> {
         ensures all { IfOk result (λ m. self.new.pairs ++ m.pairs ≡ self.old.pairs) }
         ensures room { S.keeps_memory → IfOk result (λ m. below Q.order self.old.pairs (Q.sought key) ≢ []
             → self.old.room + length m.pairs ≤ self.new.room) }
-        ensures refused { OnErr result (self.new ≡ self.old) }
-        ensures unchanged { within Q.order self.old.pairs (Included (Q.sought key)) Unbounded ≡ [] → self.new ≡ self.old }
+        ensures unchanged { OnErr result (self.new ≡ self.old) }
+        ensures unchanged_at_end { within Q.order self.old.pairs (Included (Q.sought key)) Unbounded ≡ [] → self.new ≡ self.old }
         ensures whole { below Q.order self.old.pairs (Q.sought key) ≡ [] → self.old.pairs ≢ []
             → IfOk result (λ m. m ≡ self.old) }
         ensures succeeds { (below Q.order self.old.pairs (Q.sought key) ≡ [])
@@ -152,7 +152,7 @@ impl<K: Ord + Drop, V: Drop, S: StoreIntoIterator<K, V> + Drop> LiteMap<K, V, S>
         // What lookups find in both.
         ensures parts { (test : K × V → Bool) → Tests F.FnMut f test → IfOk result (λ m.
             KeepsPart (λ p. not (test p)) self.old.pairs self.new.pairs × KeepsPart test self.old.pairs m.pairs) }
-        ensures refused { OnErr result (self.new ≡ self.old) }
+        ensures unchanged { OnErr result (self.new ≡ self.old) }
     {
         let stays = S::lm_with_capacity(alloc, self.len())?;
         let mut goes = S::lm_with_capacity(alloc, self.len())?;

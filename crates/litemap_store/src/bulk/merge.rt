@@ -44,7 +44,7 @@ pub fn merge<K: Ord + Drop, V: Drop, S: StoreIntoIterator<K, V> + Drop>(
     requires store { Rising K.cmp (S.pairs store.old) }
     requires pairs { Rising K.cmp pairs.old.items }
     ensures last { OnOk result (Last K.cmp (S.pairs store.old ++ pairs.old.items) (S.pairs store.new)) }
-    ensures refused { OnErr result (S.pairs store.new ≡ S.pairs store.old) }
+    ensures unchanged { OnErr result (S.pairs store.new ≡ S.pairs store.old) }
     ensures cost { RisesByAtMost (length (S.pairs store.old) + length pairs.old.items) count.old count.new }
     ensures empty { OnOk result (pairs.new.items ≡ []) }
     ensures back { OnErr result (pairs.new.items ≡ pairs.old.items) }

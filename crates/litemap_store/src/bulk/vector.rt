@@ -23,7 +23,7 @@ pub fn settle<K: Ord + Drop, V: Drop>(
     requires from { from ≤ vec_len store.old }
     requires rising { Rising K.cmp (take from store.old.items) }
     ensures last { OnOk result (Last K.cmp store.old.items store.new.items) }
-    ensures refused { OnErr result (store.new.items ≡ take from store.old.items) }
+    ensures unchanged { OnErr result (store.new.items ≡ take from store.old.items) }
     ensures all_above { Rises K.cmp (take from store.old.items) (drop from store.old.items)
         → RisesByAtMost (length (drop from store.old.items)) count.old count.new }
     ensures cost { RisesByAtMost (from + 2 * length (drop from store.old.items)) count.old count.new }
@@ -60,7 +60,7 @@ pub fn put_in_vec<K: Ord + Drop, V: Drop>(
 ) -> Result<(), Refused>
     requires { Rising K.cmp store.old.items }
     ensures last { OnOk result (Last K.cmp (store.old.items ++ pairs.old.items) store.new.items) }
-    ensures refused { OnErr result (store.new.items ≡ store.old.items) }
+    ensures unchanged { OnErr result (store.new.items ≡ store.old.items) }
     ensures all_above { Rises K.cmp store.old.items pairs.old.items
         → RisesByAtMost (length pairs.old.items) count.old count.new }
     ensures cost { RisesByAtMost (length store.old.items + 2 * length pairs.old.items) count.old count.new }
@@ -85,7 +85,7 @@ pub fn put_in_vec<K: Ord + Drop, V: Drop>(
 // Appends items in one move. If there are none, and the capacity is less than the new ones' number, their vector replaces it.
 fn append_in_vec<K, V>(store: &mut Vec<(K, V)>, items: &mut Vec<(K, V)>) -> Result<(), Refused>
     ensures appended { OnOk result (store.new.items ≡ store.old.items ++ items.old.items) }
-    ensures refused { OnErr result (store.new.items ≡ store.old.items) }
+    ensures unchanged { OnErr result (store.new.items ≡ store.old.items) }
     ensures succeeds { (store.old.items ≡ []) ⊎ (length items.old.items ≤ vec_room store.old) → IsOk result }
     ensures empty { OnOk result (items.new.items ≡ []) }
     ensures back { OnErr result (items.new.items ≡ items.old.items) }

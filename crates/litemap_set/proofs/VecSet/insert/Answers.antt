@@ -25,7 +25,7 @@ returns-in-Err g c =
       room_kept = tt;
       absent = sym (contains-keys g.K.Ord.cmp c.args.key c.self.inside.map.pairs) ∙ ap is_some refused.absent;
       full = refused.refused.full;
-      refused = ap keys_of refused.refused.unchanged;
+      unchanged = ap keys_of refused.refused.unchanged;
       back = ap (λ p. p.0) refused.refused.back;
       room = refused.refused.room;
     })
@@ -48,7 +48,7 @@ returns g c =
       room_kept = on_false c.is_none.result (λ h. inserts.room_kept (contains-keys g.K.Ord.cmp key L ∙ there h));
       absent = tt;
       full = tt;
-      refused = tt;
+      unchanged = tt;
       back = tt;
       room = inserts.refused.room;
     })

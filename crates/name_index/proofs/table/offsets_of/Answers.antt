@@ -8,7 +8,7 @@ use Rattle.name_index.proofs.table.offsets_of.Goals as goal
 pub returns-in_err-names-clause-error : goal.returns-in_err-names-clause-error
 returns-in_err-names-clause-error c =
     let p = err_from_is_err_and c.from_residual.result c.from_residual.ensures.1 in
-    rw p.1 (inl (c.in_err-names.field-0.0, p.2, c.in_err-names.ensures.err))
+    rw p.1 (inl (c.in_err-names.field-0.0, p.2, c.in_err-names.ensures.error))
 
 pub loop-offsets-init : goal.loop-offsets-init
 loop-offsets-init c = rw c.in_ok-offsets.ensures.items (reached_start c.args.bytes.now c.in_ok-names.names c.in_ok-names.ensures.ok)
