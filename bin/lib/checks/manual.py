@@ -48,7 +48,7 @@ PINNED = {
     "Read from a source": LAST,
     "Name tables": LAST,
 }
-EACH = ["Last", "IsExtended", "IsExtendedCounted", "IsGathered"]
+EACH = ["Last", "IsGathered", "IsExtendedCounted"]
 # The groups that name the words of another one's page, and don't explain them again.
 BELOW = {"Lookups in name tables": "Name tables"}
 # The calls whose words a page shows only on demand, since most are for proofs by hand.

@@ -2,7 +2,7 @@
 ghost use Rattle.std.specs.Prelude.{◌≡◌, ◌<◌, ◌≤◌, ◌+◌, ◌*◌, ◌++◌, [], IfErr, IfOk, IsOk, OnOk, OnErr, length, reverse};
 ghost use Rattle.std.specs.Option.{option_or};
 ghost use Rattle.std.specs.Iterator.{IsFiniteIterable};
-ghost use Rattle.litemap_store.specs.Bulk.{GivesSome, GivesSuch, IsExtended, IsExtendedCounted, IsHandedBack, IsRefusedCounted};
+ghost use Rattle.litemap_store.specs.Bulk.{Gives, GivesSome, GivesSuch, IsExtendedCounted, IsGathered, IsHandedBack, IsRefusedCounted};
 ghost use Rattle.litemap_store.specs.Counts.{GoesOn, RisesByAtMost};
 ghost use Rattle.litemap_store.specs.Last.{Last, Rises};
 ghost use Rattle.litemap_store.specs.Pairs.{Rising, value_at};
@@ -29,7 +29,7 @@ impl<K: Ord + Drop, V: Drop, S: StoreFromIterable<K, V>> LiteMap<K, V, S> {
     ) -> Result<Self, AllocError>
         requires { IsFiniteIterable I.into_iter_gives I.IntoIter.can_next I.IntoIter.remaining iter }
         ensures made { IfOk result
-            (λ m. IsExtended K.cmp I.into_iter_gives I.IntoIter.next_gives iter [] m.pairs) }
+            (λ m. IsGathered K.cmp (Gives I.into_iter_gives I.IntoIter.next_gives iter) [] m.pairs) }
         ensures refused_some { S.fails_for_pairs_only
             → OnErr result (GivesSome I.into_iter_gives I.IntoIter.next_gives iter) }
     {
@@ -127,7 +127,7 @@ impl<K: Ord + Drop, V: Drop, S: StoreBulkMut<K, V>> LiteMap<K, V, S> {
     ) -> Result<(), AllocError>
         requires { IsFiniteIterable I.into_iter_gives I.IntoIter.can_next I.IntoIter.remaining iter }
         ensures extended { OnOk result
-            (IsExtended K.cmp I.into_iter_gives I.IntoIter.next_gives iter self.old.pairs self.new.pairs) }
+            (IsGathered K.cmp (Gives I.into_iter_gives I.IntoIter.next_gives iter) self.old.pairs self.new.pairs) }
         ensures unchanged { OnErr result (self.new.pairs ≡ self.old.pairs) }
         ensures refused_some { S.fails_for_pairs_only
             → OnErr result (GivesSome I.into_iter_gives I.IntoIter.next_gives iter) }
