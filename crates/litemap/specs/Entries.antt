@@ -146,7 +146,8 @@ module _ {K V S : Type 0} {g : ord.Ghosts K} {g' : eq.Ghosts K} {g'' : partial.G
   IsMadeFor call f (variants.Occupied o) v = ⊤
   IsMadeFor call f (variants.Vacant e) v = FnOnceReturnsAt call f e.key v
 
-  -- it fails only if the key is absent: with an error of which Made holds; or at room 0, with the key and a value of which it does
+  -- it fails only if the key is absent: with an error of which Made holds; or at room 0, with the key and a value of which it
+  -- does
   pub record EntryFails {A E : Type 0} (e : Entry K V S g g' g'' s) (Made : Result V E → Type 0)
       (result : Result A (TryFault K V E)) : Type 0 where
     pub absent : OnErr result (entry_value e ≡ None)

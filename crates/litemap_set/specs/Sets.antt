@@ -1,5 +1,6 @@
 -- A set as the list of its keys, in ascending order. Two keys are equal if the order returns Equal; they may be two values.
-use Rattle.std.specs.Prelude.{◌≡◌, ◌⊎◌, ◌+◌, ◌<◌, ◌≤◌, ℕ, Bool, false, ◌&&◌, ◌||◌, List, ◌++◌, Option, Result, IfErr, IfOk, IsTrue, OnErr, OnOk, if◌then◌else◌}
+use Rattle.std.specs.Prelude.{◌≡◌, ◌⊎◌, ◌+◌, ◌<◌, ◌≤◌, ℕ, Bool, false, ◌&&◌, ◌||◌, List, ◌++◌, Option, Result, IfErr, IfOk}
+use Rattle.std.specs.Prelude.{IsTrue, OnErr, OnOk, if◌then◌else◌}
 use Rattle.std.specs.Prelude.{[], ◌∷◌, filter, find, length, map, not, refl, reverse, ⊤}
 pub use Rattle.std.specs.Map.{keys_of}
 use Rattle.std.specs.Bool.{OnFalse}

@@ -10,7 +10,8 @@ ghost use Rattle.std.specs.Map.{keys_of};
 ghost use Rattle.std.specs.Map.Iter.{TakesFirst, deref};
 ghost use Rattle.std.specs.Option.{option_copied};
 ghost use Rattle.litemap_store.specs.Bulk.{Gives, GivesSome};
-ghost use Rattle.litemap_set.specs.Sets.{HasLast, IsDifference, IsDisjoint, IsExtendedBy, IsIntersection, IsSubset, IsSymmetricDifference, IsUnion};
+ghost use Rattle.litemap_set.specs.Sets.{HasLast, IsDifference, IsDisjoint, IsExtendedBy, IsIntersection, IsSubset};
+ghost use Rattle.litemap_set.specs.Sets.{IsSymmetricDifference, IsUnion};
 ghost use Rattle.litemap_set.specs.Sets.{InsertsKey, RemovesKey, TestsKeys, contains, key_at};
 ghost use Rattle.litemap_set.specs.Walks.{walk};
 

@@ -1,6 +1,7 @@
-//! Calls that take memory of a store or of a vector. If one fails, it returns a `Refused`, which nothing else makes: so a function
-//! that returns one was refused a growth.
-ghost use Rattle.std.specs.Prelude.{◌≡◌, ◌⊎◌, ◌<◌, ◌≤◌, ◌+◌, ◌++◌, [], IfErr, IfOk, IsOk, OnErr, OnOk, drop, length, take, vec_len};
+//! Calls that take memory of a store or of a vector. If one fails, it returns a `Refused`, which nothing else makes: so a
+//! function that returns one was refused a growth.
+ghost use Rattle.std.specs.Prelude.{◌≡◌, ◌⊎◌, ◌<◌, ◌≤◌, ◌+◌, ◌++◌, [], IfErr, IfOk, IsOk, OnErr, OnOk, drop, length, take};
+ghost use Rattle.std.specs.Prelude.{vec_len};
 ghost use Rattle.std.specs.List.Sorted.{IsSortedByClosure, IsStableByClosure};
 
 use crate::store::{StoreIntoIterator, StoreMut};

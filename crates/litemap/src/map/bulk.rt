@@ -2,7 +2,8 @@
 ghost use Rattle.std.specs.Prelude.{◌≡◌, ◌<◌, ◌≤◌, ◌+◌, ◌*◌, ◌++◌, [], IfErr, IfOk, IsOk, OnOk, OnErr, length, reverse};
 ghost use Rattle.std.specs.Option.{option_or};
 ghost use Rattle.std.specs.Iterator.{IsFiniteIterable};
-ghost use Rattle.litemap_store.specs.Bulk.{Gives, GivesSome, GivesSuch, IsExtendedCounted, IsGathered, IsHandedBack, IsRefusedCounted};
+ghost use Rattle.litemap_store.specs.Bulk.{Gives, GivesSome, GivesSuch, IsExtendedCounted, IsGathered, IsHandedBack};
+ghost use Rattle.litemap_store.specs.Bulk.{IsRefusedCounted};
 ghost use Rattle.litemap_store.specs.Counts.{GoesOn, RisesByAtMost};
 ghost use Rattle.litemap_store.specs.Last.{Last, Rises};
 ghost use Rattle.litemap_store.specs.Pairs.{Rising, value_at};

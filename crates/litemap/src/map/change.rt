@@ -65,12 +65,11 @@ impl<K: Ord + Drop, V, S: StoreMut<K, V>> LiteMap<K, V, S> {
         }
     }
 
-    /// Prefer `try_find_or_insert`, if the map is used afterwards. Returns the index and the value of a key; if the key was absent,
-    /// inserts it first with what `f` returns for it.
+    /// Prefer `try_find_or_insert`, if the map is used afterwards. Returns the index and the value of a key; if the key was
+    /// absent, inserts it first with what `f` returns for it.
     ///
-    /// Errors, comparisons and moves are those of `try_find_or_insert`. If the key was absent, nothing is said of the length
-    /// while the value is borrowed. Only a proof by hand can use the clause `leaves`, which says what the call leaves of the map
-    /// (docs/DECISIONS.md).
+    /// Errors, comparisons and moves are those of `try_find_or_insert`, whose contract says what the map is afterwards. Here only
+    /// the clause `leaves` does, and only a proof by hand can use it (docs/DECISIONS.md).
     ///
     /// ```rust
     /// let mut days = three_days(alloc)?;

@@ -3,7 +3,8 @@
 //! An entry borrows its map for as long as it lives. A call that consumes the entry and returns a reference passes the borrow on
 //! to that reference. In clauses `self.entry` is the entry as it was passed; `writes_back` says that the map then has the value
 //! last written through a reference.
-ghost use Rattle.std.specs.Prelude.{◌≡◌, ◌↔◌, ◌-◌, ◌<◌, Err, IfErr, IfOk, IfSome, IsNone, IsSome, None, Ok, OnErr, Some, length, unwrap_or};
+ghost use Rattle.std.specs.Prelude.{◌≡◌, ◌↔◌, ◌-◌, ◌<◌, Err, IfErr, IfOk, IfSome, IsNone, IsSome, None, Ok, OnErr, Some, length};
+ghost use Rattle.std.specs.Prelude.{unwrap_or};
 ghost use Rattle.std.specs.Borrow.{sem, MutBor};
 ghost use Rattle.std.specs.Fn.{FnOnceReturnsAt, FnOnceTakesAt};
 ghost use Rattle.litemap_store.specs.Splits.{IsMissingAt};
@@ -101,8 +102,8 @@ impl<K: Ord + Drop, V, S: StoreMut<K, V>> LiteMap<K, V, S> {
     }
 
     /// Looks up the key that a query finds, and returns its entry; if there is none, returns the entry of the key that `make`
-    /// returns (own). So a key, such as the `String` of a `&str`, is made only if it is absent. It compares as `entry` does, and once
-    /// more as much if a key is made. It takes no memory, and fails only if `make` does.
+    /// returns (own). So a key, such as the `String` of a `&str`, is made only if it is absent. It compares as `entry` does,
+    /// and once more as much if a key is made. It takes no memory, and fails only if `make` does.
     ///
     /// ```rust
     /// let mut counts: VecMap<String, u32> = LiteMap::new(alloc);

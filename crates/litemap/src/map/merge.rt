@@ -1,5 +1,6 @@
 //! Merges maps, and compares their keys side by side: those that both have, and those that one lacks.
-ghost use Rattle.std.specs.Prelude.{◌≡◌, ◌⊎◌, ◌+◌, ◌*◌, ◌<◌, ◌≤◌, List, MatchOption, None, OnErr, OnOk, Some, [], filter, length, IfOk, IfSome};
+ghost use Rattle.std.specs.Prelude.{◌≡◌, ◌⊎◌, ◌+◌, ◌*◌, ◌<◌, ◌≤◌, List, MatchOption, None, OnErr, OnOk, Some, [], filter, length};
+ghost use Rattle.std.specs.Prelude.{IfOk, IfSome};
 ghost use Rattle.std.specs.Prelude.{IsSome, IsTrue, if◌then◌else◌, is_some, not};
 ghost use Rattle.std.specs.List.{list_all};
 ghost use Rattle.std.specs.Option.{option_or};

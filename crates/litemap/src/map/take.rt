@@ -1,5 +1,6 @@
 //! Calls that remove pairs and return them, keys with their values. A call for one pair takes no memory.
-ghost use Rattle.std.specs.Prelude.{◌≡◌, ◌≢◌, ◌⊎◌, ◌+◌, ◌-◌, ◌++◌, ◌<◌, ◌≤◌, [], IsNone, IsSome, None, Some, IfOk, IsOk, OnErr, OnOk};
+ghost use Rattle.std.specs.Prelude.{◌≡◌, ◌≢◌, ◌⊎◌, ◌+◌, ◌-◌, ◌++◌, ◌<◌, ◌≤◌, [], IsNone, IsSome, None, Some, IfOk, IsOk, OnErr};
+ghost use Rattle.std.specs.Prelude.{OnOk};
 ghost use Rattle.std.specs.Prelude.{Bool, drop, filter, IfSome, length, not, remove, slice_get, take};
 ghost use Rattle.std.specs.Ordering.{is_lt};
 ghost use Rattle.std.specs.declared.ops.Bound.TheVariants.{Included, Unbounded};
@@ -132,8 +133,8 @@ impl<K: Ord + Drop, V: Drop, S: StoreMut<K, V> + Drop> LiteMap<K, V, S> {
 impl<K: Ord + Drop, V: Drop, S: StoreIntoIterator<K, V> + Drop> LiteMap<K, V, S> {
     /// Removes the pairs for which `f` returns true, and returns them as another map, such as one of what has expired (own).
     ///
-    /// `f` is called once on each pair, in order. If it keeps no state, both maps are filtered by it. Before the first call memory
-    /// for all pairs is taken, twice; if it runs out, nothing changes. Each pair moves once, and no keys are compared.
+    /// `f` is called once on each pair, in order. If it keeps no state, both maps are filtered by it. Before the first call
+    /// memory for all pairs is taken, twice; if it runs out, nothing changes. Each pair moves once, and no keys are compared.
     ///
     /// ```rust
     /// let mut hours = opening_hours(alloc)?;

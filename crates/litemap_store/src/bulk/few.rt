@@ -22,9 +22,9 @@ pub fn is_few(old: usize, given: usize) -> bool
     given <= FEW_PAIRS && !walk_is_cheaper(total, given, binary_digits(total))
 }
 
-/// Puts the pairs from an index on, which are few, among those before, whose keys ascend: of each key the last stays. Unless all
-/// ascend, each goes in by one search, in their order, and displaced pairs gather at the end and are dropped last. It takes no
-/// memory.
+/// Puts the pairs from an index on, which are few, among those before, whose keys ascend: of each key the last stays. If not all
+/// ascend, it inserts pair by pair, one search each. Pairs that they replace are swapped to the end, and dropped last. It takes
+/// no memory.
 pub fn settle_few<K: Ord + Drop, V: Drop>(store: &mut Vec<(K, V)>, from: usize, count: &mut Count)
     requires from { from ≤ vec_len store.old }
     requires rising { Rising K.cmp (take from store.old.items) }
