@@ -1,9 +1,9 @@
 -- Which map a tree is read as.
-use Rattle.std.specs.Prelude.{◌≡◌, ℕ, List, [], map, ◌++◌, Option, Result, Ok, Err}
+use Rattle.std.specs.Prelude.{◌≡◌, ℕ, List, map, ◌++◌, Option, Result, Ok, Err}
 use Rattle.std.specs.declared.cmp.Ordering.{Ordering}
 use Rattle.std.specs.List.{AllByRecursion}
 use Rattle.serde_json.specs.Data.{Data}
-use Rattle.litemap_store.specs.Bulk.{IsGathered}
+use Rattle.litemap_store.specs.Last.{Last}
 use Rattle.litemap_json.specs.declared.item.ItemFault.{ItemFault}
 use Rattle.litemap_json.specs.Json.{pairs}
 use Rattle.litemap_json.specs.declared.fault.JsonFault.{JsonFault}
@@ -19,8 +19,10 @@ seen key_json json L = map (pair_seen key_json json) L
 module _ {K V : Type 0} (cmp : K → K → Ordering) (key : List ℕ → Option Data) (key_item json_item : Data → Result Data ItemFault)
     (key_json : K → Data) (json : V → Data) where
   -- the tree d represents pairs, and L has the last one of each key
-  abbrev pub ReadsAs : Data → List (K × V) → Type 0
-  ReadsAs d L = IsGathered cmp (λ given. pairs key key_item json_item d ≡ Ok (seen key_json json given)) [] L
+  pub record ReadsAs (d : Data) (L : List (K × V)) : Type 0 where
+    pub given : List (K × V)
+    pub gives : pairs key key_item json_item d ≡ Ok (seen key_json json given)
+    pub last : Last cmp given L
 
 -- what is read from the trees of a pair is that pair
 abbrev pub ReadsBack : {K V : Type 0} → (Data → Result Data ItemFault) → (Data → Result Data ItemFault)
