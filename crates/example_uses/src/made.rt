@@ -22,7 +22,7 @@ where
     ensures found { IsSome (at K.cmp map.old.pairs key) → IsOk result }
     ensures value { IsSome (at K.cmp map.old.pairs key)
         → IfOk result (λ v. Some v ≡ value_at K.cmp map.old.pairs key) }
-    ensures unchanged { IsSome (at K.cmp map.old.pairs key) → map.new ≡ map.old }
+    ensures present { IsSome (at K.cmp map.old.pairs key) → map.new ≡ map.old }
     ensures made { IsNone (at K.cmp map.old.pairs key)
         → IfOk result (λ v. FnOnceReturnsAt F.FnOnce f key (Ok v)) }
     ensures put { IsNone (at K.cmp map.old.pairs key)
