@@ -87,7 +87,7 @@ pub record InsertsKey {K : Type 0} (cmp : K → K → Ordering) (key : K) (old n
   pub updates : OnOk result ((q : K) → contains cmp new.keys q ≡ (is_eq (cmp key q) || contains cmp old.keys q))
   pub len : IfOk result (λ is_new. length new.keys ≡ length old.keys + (if is_new then 1 else 0))
   -- an equal key stays, and so does all else
-  pub unchanged : IfOk result (λ is_new. OnFalse is_new (new.keys ≡ old.keys))
+  pub present : IfOk result (λ is_new. OnFalse is_new (new.keys ≡ old.keys))
   pub room_kept : IfOk result (λ is_new. OnFalse is_new (new.room ≡ old.room))
   -- it fails only for a new key, at room 0, and then returns it
   pub absent : OnErr result (contains cmp old.keys key ≡ false)
