@@ -3,9 +3,9 @@
 --     halved_end      if no index is left
 use Rattle.std.proofs.Common.{◌≡◌, ℕ, ◌+◌, ◌-◌, ◌/◌, ◌<◌, ◌≤◌, List, length, Ok, Err, refl, ◌∙◌, arith, Ordering, Less, Equal, Greater}
 use Rattle.litemap_store.specs.Counts.{RisesByAtMost, digits, digits-halved}
-use Rattle.litemap_store.specs.Search.{Ascends, Finds}
+use Rattle.litemap_store.specs.Search.{Ascends, FindsEqual}
 use Rattle.litemap_store.specs.declared.count.Count.{Count}
-use Rattle.litemap_store.proofs.Search.Halving.{Narrowed, Narrowed-whole, Narrowed-less, Narrowed-greater, Finds-here, Finds-nowhere}
+use Rattle.litemap_store.proofs.Search.Halving.{Narrowed, Narrowed-whole, Narrowed-less, Narrowed-greater, FindsEqual-here, FindsEqual-nowhere}
 use Rattle.name_index.specs.{IsKeyAt}
 
 module _ (pairs : List (List ℕ × List ℕ)) (order : List ℕ → Ordering) where
@@ -55,8 +55,8 @@ module _ (pairs : List (List ℕ × List ℕ)) (order : List ℕ → Ordering) w
         to low (low + (high - low) / 2) (omega arith) (omega (arith, l, h.within)) (digits-halved _ _ (omega (arith, l)) (omega (arith, l)))
         (Narrowed-greater order pairs h.ascends low high (low + (high - low) / 2) name there.0 there.1 h.narrowed is)
 
-    pub halved_equal : order name ≡ Equal → Finds order pairs (Ok (low + (high - low) / 2))
-    halved_equal is = Finds-here order pairs (low + (high - low) / 2) name there.0 there.1 is
+    pub halved_equal : order name ≡ Equal → FindsEqual order pairs (Ok (low + (high - low) / 2))
+    halved_equal is = FindsEqual-here order pairs (low + (high - low) / 2) name there.0 there.1 is
 
     pub halved_asked : RisesByAtMost (digits (length pairs)) old new
     halved_asked =
@@ -67,5 +67,5 @@ module _ (pairs : List (List ℕ × List ℕ)) (order : List ℕ → Ordering) w
           most = omega (arith, asked, h.cost, m);
         }
 
-  pub halved_end : {low high : ℕ} {old new : Count} → Halved low high old new → high ≤ low → Finds order pairs (Err low)
-  halved_end {low = low} {high = high} h l = Finds-nowhere order pairs low high l (omega (arith, h.ordered, h.within, l)) h.narrowed
+  pub halved_end : {low high : ℕ} {old new : Count} → Halved low high old new → high ≤ low → FindsEqual order pairs (Err low)
+  halved_end {low = low} {high = high} h l = FindsEqual-nowhere order pairs low high l (omega (arith, h.ordered, h.within, l)) h.narrowed
