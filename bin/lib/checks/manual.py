@@ -26,7 +26,7 @@ GROUPS = {
     "JSON": "litemap_json: write text read fault told laws item pairs written",
     "Through serde": "litemap_serde: write read pairs holder",
     "Name tables": "name_table: read write name_bytes cursor error laws",
-    "Lookups in name tables": "name_index: names index indexed index_write error laws",
+    "Lookups in name tables": "name_index: table index name_entries indexed index_write error laws",
     "Sets": "litemap_set: lib",
     "What a call can be asked by": "litemap_store: query",
     "Stores": "litemap_store: store into_iter vec_impl slice_impl slice_iter owned_iter iter_mut count growth no_room retain reserved slice_search merge "
@@ -44,13 +44,11 @@ LAST = "Last In StandsLast NoneEqual Rising BelowAll"
 PINNED = {
     "Look up": "RisesByAtMost digits",
     "Many at once": f"{LAST} RisesByAtMost Gives",
-    "Merge and compare keys": "Merge RisesByAtMost digits Rising BelowAll In NoneEqual",
+    "Merge and compare keys": "RisesByAtMost digits Rising BelowAll In NoneEqual",
     "Read from a source": LAST,
     "Name tables": LAST,
 }
-EACH = ["Last", "StandsLast", "IsGathered", "IsExtendedCounted"]
-# The groups that name the words of another one's page, and don't explain them again.
-BELOW = {"Lookups in name tables": "Name tables"}
+EACH = ["Last", "IsExtended", "IsExtendedCounted", "IsGathered"]
 # The calls whose words a page shows only on demand, since most are for proofs by hand.
 FOLDED = ["LiteMap::try_get_or_insert"]
 TYPES, TWINS = ("struct", "enum", "type", "trait"), "\n\n"
@@ -92,16 +90,21 @@ class Entry:
         return re.match(r".*?\.(?= |$)|.*", " ".join(self.call.comment.split("\n\n")[0].split()))[0]
 
 
-def entries_of(group):
-    """The entries of a group, each with a title of its own."""
-    found, titles = [], set()
-    for call in (it for source in sources_of(group) for it in CALLS.get(source, ())):
-        labels = {it.label: it for it in CALLS[call.source]}
+def entries_of(calls, titles):
+    """The entries of the calls of a source, with titles that are none of these."""
+    labels = {call.label: call for call in calls}
+    for call in calls:
         if call.label.removesuffix("_counted") in labels and call.label.endswith("_counted"):
             continue
-        titles.add(title := f"{call.source.split('/')[-1]}::{call.label}" if call.label in titles else call.label)
-        found.append(Entry(call, labels.get(f"{call.label}_counted"), title))
-    return found
+        title = f"{call.source.split('/')[-1]}::{call.label}" if call.label in titles else call.label
+        titles.add(title)
+        yield Entry(call, labels.get(f"{call.label}_counted"), title)
+
+
+def group_entries(group):
+    """The entries of a group."""
+    titles = set()
+    return [it for source in sources_of(group) for it in entries_of(CALLS.get(source, ()), titles)]
 
 
 def types_of(group):
@@ -111,7 +114,7 @@ def types_of(group):
     return [it for it in words if exported(it.path.split("/")[0])(paths[it.path], it.name)]
 
 
-ENTRIES = {group: entries_of(group) for group in GROUPS}
+ENTRIES = {group: group_entries(group) for group in GROUPS}
 # The types that hold pairs, each with those of our traits that it has.
 STORES = {}
 for head in (squeezed(it) for text in SOURCES.values() for it in re.findall(r"^impl\b[^{]*", text, re.MULTILINE)):
@@ -162,14 +165,20 @@ def is_told(group, word, far, above):
     """Whether a call of a group explains a word that is so far. `above` has the words that a call above it explains."""
     pinned = PINNED.get(group, "").split()
     if word in above:
-        return word.name in EACH and group in PINNED and far <= 2
+        return word.name in EACH and group in PINNED and far <= 1
     near = group in WHOLE or far <= (NEAR_TYPES if word.kind in TYPES else NEAR)
     return word.name in pinned or near and word not in OF_MANY
 
 
 def parameters(head):
     """The generic parameters of an impl, with their bounds."""
-    return re.findall(r"(?<!')\b\w+: (?:[^<>,]|<(?:[^<>]|<[^<>]*>)*>)+", head) if head.startswith("impl<") else []
+    parts, depth = [""], 0
+    for sign in head.partition("<")[2] if head.startswith("impl<") else "":
+        depth += (sign == "<") - (sign == ">")
+        if depth < 0:
+            break
+        parts = [*parts, ""] if sign == "," and not depth else [*parts[:-1], parts[-1] + sign]
+    return [part.strip() for part in parts if ": " in part and not part.strip().startswith("'")]
 
 
 def types_with(bound):
@@ -188,16 +197,14 @@ def bounds_text(call):
 
 
 def words_text(it, group, above):
-    """What a page says about the words of a call. `above` has a link to what explains a word already."""
+    """What a page says about the words of a call. `above` has the titles that already explain a word: these are linked."""
     text, types, elsewhere = "", [], []
     for word, far in it.words.items():
-        link = f"[`{word.name if word.kind in TYPES else word.head}`]({above.get(word)})"
+        link = f"[`{word.name if word.kind in TYPES else word.head}`](#{slug(above.get(word, ''))})"
         if is_told(group, word, far, above):
             text += told(word, page_of(group))
-            above[word] = f"#{slug(it.title)}"
-        elif word in above and (far or it.call.owner in (word.name, word.head.split(".")[0])):
-            pass
-        elif word in above:
+            above[word] = it.title
+        elif word in above and far == 0:
             types += [link] if word.kind in TYPES else []
             text += "" if word.kind in TYPES else said(word, link)
         elif far == 0:
@@ -229,19 +236,10 @@ def impls_text(group):
         yield from (*textwrap.wrap(said, 120, initial_indent="/// ", subsequent_indent="/// "), head, *(f"    {it}" for it in gives))
 
 
-def explained(group):
-    """A link to what the page of a group explains, by word."""
-    above, page = {}, f"{slug(group)}.md"
-    for it in ENTRIES[group]:
-        entry(it, group, above)
-    return {word: page + above.get(word, "#words-of-these-definitions") for word in USED[group] if word not in OF_MANY}
-
-
 def page_text(group):
     """The page of a group."""
-    page, above = page_of(group), explained(BELOW[group]) if group in BELOW else {}
+    page, above = page_of(group), {}
     text = f"# {group}\n\n{START}\n{HEAD}" if ENTRIES[group] else f"# {group}\n\n{START}\n"
-    text += f"The words of [{BELOW[group]}]({slug(BELOW[group])}.md) are explained there.\n\n" if group in BELOW else ""
     text += "".join(entry(it, group, above) for it in ENTRIES[group])
     types = [it for it in types_of(group) if it not in OF_MANY and it not in above]
     text += listed("Other types", types, page)

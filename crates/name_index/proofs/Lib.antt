@@ -1,5 +1,8 @@
-pub mod AtIndex
-pub mod Halving
+pub mod KnownParts
+pub mod Placing
 pub mod Prefixing
-pub mod Tables
+pub mod Halving
+pub mod Indexing
 pub mod Writing
+pub mod Scanning
+pub mod Rises

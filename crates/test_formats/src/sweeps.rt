@@ -1,25 +1,26 @@
 //! Many cases at once.
 use crate::{Written, indexes, tables, texts};
 use litemap_read::ReadFault;
+use name_index::CheckedNames;
 use name_table::{NameWriteFault, read_names, write_names};
 use std::alloc::{AllocError, Global};
 use std::fmt::Write;
 
 /// How many cases were read, and what came of them.
 #[derive(Drop)]
-pub struct Tally {
-    // Whether each case is an index, or a table.
-    of_indexes: bool,
+pub struct Tally<'a> {
+    // If each case is an index: another one, by whose keys it is looked up.
+    keys: Option<CheckedNames<'a>>,
     // How many cases there are; how many are read, truncated, not UTF-8, too large; for how many two results differ.
     counts: [u64; 6],
     checksum: u64,
 }
 
-impl Tally {
+impl<'a> Tally<'a> {
     /// No case.
-    pub fn new(of_indexes: bool) -> Self {
+    pub fn new(keys: Option<CheckedNames<'a>>) -> Self {
         Tally {
-            of_indexes,
+            keys,
             counts: [0; 6],
             checksum: 0xcbf2_9ce4_8422_2325,
         }
@@ -28,9 +29,10 @@ impl Tally {
     // Reads one more case, and adds what is read of it.
     fn add(&mut self, alloc: Global, bytes: &[u8]) -> Written {
         let mut text = String::new(alloc);
-        if self.of_indexes {
+        if let Some(keys) = &self.keys {
             indexes::write_opened(bytes, &mut text)?;
-            self.count(text.as_str(), true);
+            let is_one = indexes::is_opened_alike(bytes, keys);
+            self.count(text.as_str(), is_one);
         } else {
             texts::write_read(alloc, bytes, &mut text)?;
             self.count(text.as_str(), is_read_again(alloc, bytes)?);
@@ -91,7 +93,7 @@ fn is_read_again(alloc: Global, bytes: &[u8]) -> Result<bool, AllocError> {
 }
 
 /// Each proper prefix.
-pub fn prefixes(alloc: Global, bytes: &[u8], tally: &mut Tally) -> Written {
+pub fn prefixes(alloc: Global, bytes: &[u8], tally: &mut Tally<'_>) -> Written {
     for size in 0..bytes.len() {
         tally.add(alloc, &bytes[..size])?;
     }
@@ -99,7 +101,7 @@ pub fn prefixes(alloc: Global, bytes: &[u8], tally: &mut Tally) -> Written {
 }
 
 /// Each change of one byte.
-pub fn changes(alloc: Global, bytes: &[u8], tally: &mut Tally) -> Written {
+pub fn changes(alloc: Global, bytes: &[u8], tally: &mut Tally<'_>) -> Written {
     for (place, byte) in bytes.iter().enumerate() {
         for value in 0..=255u8 {
             if value != *byte {
@@ -115,7 +117,7 @@ pub fn changes(alloc: Global, bytes: &[u8], tally: &mut Tally) -> Written {
 }
 
 /// Each string of up to four of these bytes.
-pub fn strings(alloc: Global, bytes: &[u8], tally: &mut Tally) -> Written {
+pub fn strings(alloc: Global, bytes: &[u8], tally: &mut Tally<'_>) -> Written {
     let mut total = 1usize;
     for size in 0..5 {
         for code in 0..total {
@@ -127,7 +129,13 @@ pub fn strings(alloc: Global, bytes: &[u8], tally: &mut Tally) -> Written {
 }
 
 // The string of a size that is spelled by a number in the base of the bytes, the lowest digit first.
-fn add_string(alloc: Global, bytes: &[u8], size: usize, code: usize, tally: &mut Tally) -> Written {
+fn add_string(
+    alloc: Global,
+    bytes: &[u8],
+    size: usize,
+    code: usize,
+    tally: &mut Tally<'_>,
+) -> Written {
     let base = bytes.len();
     if base == 0 {
         return Ok(());

@@ -79,8 +79,7 @@ impl<K: Ord + Drop, V: Drop> LiteMap<K, V, Vec<(K, V)>> {
     ///
     /// ```rust
     /// let mut days = three_days(alloc)?;
-    /// let early = days.index_range(Bound::Unbounded, Bound::Excluded(&4));
-    /// days.remove_range(early);
+    /// days.remove_range(0..2);
     /// Ok(days.as_slice() == [(5, "Friday")].as_slice())
     /// ```
     pub fn remove_range(&mut self, range: Range<usize>)
@@ -97,9 +96,8 @@ impl<K: Ord + Drop, V: Drop> LiteMap<K, V, Vec<(K, V)>> {
     ///
     /// ```rust
     /// let mut days = three_days(alloc)?;
-    /// let early = days.index_range(Bound::Unbounded, Bound::Excluded(&4));
-    /// let taken = days.take_range(alloc, early)?;
-    /// Ok(taken.as_slice() == [(1, "Monday"), (3, "Wednesday")].as_slice() && days.len() == 1)
+    /// let early = days.take_range(alloc, 0..2)?;
+    /// Ok(early.as_slice() == [(1, "Monday"), (3, "Wednesday")].as_slice() && days.len() == 1)
     /// ```
     pub fn take_range(
         &mut self,
@@ -110,7 +108,7 @@ impl<K: Ord + Drop, V: Drop> LiteMap<K, V, Vec<(K, V)>> {
         requires within { range.end ≤ length self.old.pairs }
         ensures taken { IfOk result (λ v. v.items ≡ slice_range self.old.pairs range.start range.end) }
         ensures left { OnOk result (self.new.pairs ≡ take range.start self.old.pairs ++ drop range.end self.old.pairs) }
-        ensures unchanged { OnErr result (self.new ≡ self.old) }
+        ensures refused { OnErr result (self.new ≡ self.old) }
     {
         let mut taken = Vec::with_capacity(alloc, range.end - range.start)?;
         move_range(&mut self.store, range, &mut taken);
