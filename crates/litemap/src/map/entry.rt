@@ -107,7 +107,8 @@ impl<K: Ord + Drop, V, S: StoreMut<K, V>> LiteMap<K, V, S> {
     /// ```rust
     /// let mut counts: VecMap<String, u32> = LiteMap::new(alloc);
     /// for word in ["to", "be", "or", "not", "to", "be"] {
-    ///     *counts.entry_by(word, || word.to_string(alloc))?.or_insert(0)? += 1;
+    ///     let count = counts.entry_by(word, || word.to_string(alloc))?.or_insert(0)?;
+    ///     *count = count.saturating_add(1);
     /// }
     /// Ok(counts.len() == 4 && counts.get("be") == Some(&2))
     /// ```
