@@ -79,7 +79,8 @@ impl<K: Ord + Drop, V: Drop> LiteMap<K, V, Vec<(K, V)>> {
     ///
     /// ```rust
     /// let mut days = three_days(alloc)?;
-    /// days.remove_range(0..2);
+    /// let early = days.index_range(Bound::Unbounded, Bound::Excluded(&4));
+    /// days.remove_range(early);
     /// Ok(days.as_slice() == [(5, "Friday")].as_slice())
     /// ```
     pub fn remove_range(&mut self, range: Range<usize>)
@@ -96,8 +97,9 @@ impl<K: Ord + Drop, V: Drop> LiteMap<K, V, Vec<(K, V)>> {
     ///
     /// ```rust
     /// let mut days = three_days(alloc)?;
-    /// let early = days.take_range(alloc, 0..2)?;
-    /// Ok(early.as_slice() == [(1, "Monday"), (3, "Wednesday")].as_slice() && days.len() == 1)
+    /// let early = days.index_range(Bound::Unbounded, Bound::Excluded(&4));
+    /// let taken = days.take_range(alloc, early)?;
+    /// Ok(taken.as_slice() == [(1, "Monday"), (3, "Wednesday")].as_slice() && days.len() == 1)
     /// ```
     pub fn take_range(
         &mut self,
