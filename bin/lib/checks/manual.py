@@ -49,6 +49,8 @@ PINNED = {
     "Name tables": LAST,
 }
 EACH = ["Last", "IsExtended", "IsExtendedCounted", "IsGathered"]
+# The groups that name the words of another one's page, and don't explain them again.
+BELOW = {"Lookups in name tables": "Name tables"}
 # The calls whose words a page shows only on demand, since most are for proofs by hand.
 FOLDED = ["LiteMap::try_get_or_insert"]
 TYPES, TWINS = ("struct", "enum", "type", "trait"), "\n\n"
@@ -197,14 +199,16 @@ def bounds_text(call):
 
 
 def words_text(it, group, above):
-    """What a page says about the words of a call. `above` has the titles that already explain a word: these are linked."""
+    """What a page says about the words of a call. `above` has a link to what explains a word already."""
     text, types, elsewhere = "", [], []
     for word, far in it.words.items():
-        link = f"[`{word.name if word.kind in TYPES else word.head}`](#{slug(above.get(word, ''))})"
+        link = f"[`{word.name if word.kind in TYPES else word.head}`]({above.get(word)})"
         if is_told(group, word, far, above):
             text += told(word, page_of(group))
-            above[word] = it.title
-        elif word in above and far == 0:
+            above[word] = f"#{slug(it.title)}"
+        elif word in above and (far or it.call.owner in (word.name, word.head.split(".")[0])):
+            pass
+        elif word in above:
             types += [link] if word.kind in TYPES else []
             text += "" if word.kind in TYPES else said(word, link)
         elif far == 0:
@@ -236,10 +240,19 @@ def impls_text(group):
         yield from (*textwrap.wrap(said, 120, initial_indent="/// ", subsequent_indent="/// "), head, *(f"    {it}" for it in gives))
 
 
+def explained(group):
+    """A link to what the page of a group explains, by word."""
+    above, page = {}, f"{slug(group)}.md"
+    for it in ENTRIES[group]:
+        entry(it, group, above)
+    return {word: page + above.get(word, "#words-of-these-definitions") for word in USED[group] if word not in OF_MANY}
+
+
 def page_text(group):
     """The page of a group."""
-    page, above = page_of(group), {}
+    page, above = page_of(group), explained(BELOW[group]) if group in BELOW else {}
     text = f"# {group}\n\n{START}\n{HEAD}" if ENTRIES[group] else f"# {group}\n\n{START}\n"
+    text += f"The words of [{BELOW[group]}]({slug(BELOW[group])}.md) are explained there.\n\n" if group in BELOW else ""
     text += "".join(entry(it, group, above) for it in ENTRIES[group])
     types = [it for it in types_of(group) if it not in OF_MANY and it not in above]
     text += listed("Other types", types, page)
