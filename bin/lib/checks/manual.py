@@ -44,11 +44,11 @@ LAST = "Last In StandsLast NoneEqual Rising BelowAll"
 PINNED = {
     "Look up": "RisesByAtMost digits",
     "Many at once": f"{LAST} RisesByAtMost Gives",
-    "Merge and compare keys": "RisesByAtMost digits Rising BelowAll In NoneEqual",
+    "Merge and compare keys": "Merge RisesByAtMost digits Rising BelowAll In NoneEqual",
     "Read from a source": LAST,
     "Name tables": LAST,
 }
-EACH = ["Last", "IsExtended", "IsExtendedCounted", "IsGathered"]
+EACH = ["Last", "StandsLast", "IsExtended", "IsExtendedCounted", "IsGathered"]
 # The groups that name the words of another one's page, and don't explain them again.
 BELOW = {"Lookups in name tables": "Name tables"}
 # The calls whose words a page shows only on demand, since most are for proofs by hand.
@@ -167,7 +167,7 @@ def is_told(group, word, far, above):
     """Whether a call of a group explains a word that is so far. `above` has the words that a call above it explains."""
     pinned = PINNED.get(group, "").split()
     if word in above:
-        return word.name in EACH and group in PINNED and far <= 1
+        return word.name in EACH and group in PINNED and far <= 2
     near = group in WHOLE or far <= (NEAR_TYPES if word.kind in TYPES else NEAR)
     return word.name in pinned or near and word not in OF_MANY
 
