@@ -21,19 +21,13 @@ static long held, last, peak, told;
 // Counts a block that is held from now on, unless it is null.
 static void *counted(void *block) {
     held += malloc_usable_size(block);
-    if (held > peak) {
-        peak = held;
-    }
+    peak = held > peak ? held : peak;
     return block;
 }
 
-void *malloc(size_t size) {
-    return counted(__libc_malloc(size));
-}
+void *malloc(size_t size) { return counted(__libc_malloc(size)); }
 
-void *calloc(size_t many, size_t size) {
-    return counted(__libc_calloc(many, size));
-}
+void *calloc(size_t many, size_t size) { return counted(__libc_calloc(many, size)); }
 
 // A block that grows counts as one, although the C library may hold both the old and the new one for a while.
 void *realloc(void *block, size_t size) {

@@ -1,41 +1,19 @@
-"""The tables of bench/run, as text and as Markdown."""
+"""The tables of bench/run, as Markdown."""
+import collections
 import pathlib
 import typing
 
 MEASURED = pathlib.Path(__file__).resolve().parent.parent / "crates" / "test_replay" / "calls" / "measured.txt"
-# The titles of what is measured, by the names in the lines of the programs. A new measure gets a row in measured.txt.
-TITLES = dict(row.split(" | ") for row in MEASURED.read_text(encoding="utf-8").splitlines()[1:])
-KEYS = {
-    "number": "`u64` keys",
-    "text": "`String` keys",
-    "few": "few `u64` keys, a call,",
-    "name": "names of 50 bytes,",
-}
-# The calls in the table of bytes at the peak, and its number of pairs.
+KEYS = {"number": "`u64` keys", "text": "`String` keys", "few": "Few `u64` keys, a call,"}
+OTHERS = ["BTreeMap", "HashMap", "IndexMap"]
+# The rows in the table of bytes at the peak, and its number of pairs.
 HELD = ["from_iter_rising", "from_iter", "extend_rising", "extend", "merge_apart", "merge_interleaved", "merge_equal", "clone"]
 HELD_SIZE = 100_000
-# The keys whose rows the plot has, and their names there.
-PLOTTED = {"number": "numbers", "text": "strings"}
-# The format in which pairs are written, or what is asked of them. Other names are those of stores.
-FORMATS = {
-    "json": "as JSON",
-    "table": "as a name table",
-    "made": "opened, an entry",
-    "asked": "a lookup",
-}
-
-
-class Measure(typing.NamedTuple):
-    """A measure: its call, keys, store and size."""
-
-    call: str
-    keys: str
-    store: str
-    size: int
-
-    def over(self, store):
-        """The same measure over another store."""
-        return self._replace(store=store)
+# The first line of measured.txt says what its columns are.
+Row = collections.namedtuple("Row", "name title over call")
+ROWS = {row.name: row for row in (Row(*line.split(" | ")) for line in MEASURED.read_text(encoding="utf-8").splitlines()[1:])}
+# A measure: its row, keys, store and size.
+Measure = collections.namedtuple("Measure", "row keys store size")
 
 
 class Found(typing.NamedTuple):
@@ -45,12 +23,17 @@ class Found(typing.NamedTuple):
     answer: str
 
     def lowest(self):
-        return min(self.times)
+        return max(min(self.times), 1)
 
     def spread(self):
-        """The noise: the lowest times of every second pass and of the other passes, the greater divided by the smaller one."""
-        halves = min(self.times[::2]), min(self.times[1::2] or self.times)
-        return max(halves) / max(min(halves), 1)
+        """By how many percent the lowest time of every second pass and that of the others differ."""
+        halves = [max(min(times), 1) for times in (self.times[::2], self.times[1::2] or self.times)]
+        return (max(halves) / min(halves) - 1) * 100
+
+
+def lines(names=ROWS):
+    """The input of the programs: for each of these rows and what it measures a line with its name, its call and its keys."""
+    return "".join(f"{over} {name} {ROWS[name].call}\n" for name in names for over in ROWS[name].over.split(" "))
 
 
 def distinct(items):
@@ -68,95 +51,73 @@ def shown(picos):
 
 def found_there(theirs, measure):
     """The outcome of the measure in the Rust crate, which has one store, and JSON if it was built with serde."""
-    return (theirs or {}).get(measure.over("Vec"))
-
-
-def ratio(ours, theirs, measure):
-    """How many times as long it takes here as in the Rust crate, if that has such a measure."""
-    there = found_there(theirs, measure)
-    return None if there is None else ours[measure].lowest() / max(there.lowest(), 1)
+    store = measure.store if measure.store == "json" else "Vec"
+    return None if measure.store in OTHERS else theirs.get(measure._replace(store=store))
 
 
 def cell(ours, theirs, measure):
     """The time of a measure, and if the Rust crate has it too, how many times as long it takes here."""
     if measure not in ours:
         return ""
-    here, times = shown(ours[measure].lowest()), ratio(ours, theirs, measure)
-    return here if times is None else f"{here} ({times:{'.2f' if times >= 0.1 else '.2g'}})"
+    here, there = ours[measure].lowest(), found_there(theirs, measure)
+    if there is None:
+        return shown(here)
+    times = here / there.lowest()
+    return f"{shown(here)} ({times:{'.2f' if times >= 0.1 else '.2g'}})"
 
 
-def of_store(name):
-    """How the title of a table names a format, or a store."""
-    return FORMATS.get(name, f"over `{name}`")
+def title(keys, store):
+    """How the title of a table names a type of keys, and a store or a format."""
+    return f"{KEYS[keys]} as JSON" if store == "json" else f"{KEYS[keys]} over `{store}`"
 
 
-def parts(ours, theirs):
-    """A table for each type of keys and each store: its title, its sizes, and its rows."""
-    for keys, store in distinct((measure.keys, measure.store) for measure in ours):
-        of_part = [measure for measure in ours if (measure.keys, measure.store) == (keys, store)]
-        sizes = distinct(measure.size for measure in of_part)
-        rows = []
-        for call in distinct(measure.call for measure in of_part):
-            cells = [cell(ours, theirs, Measure(call, keys, store, size)) for size in sizes]
-            rows.append([TITLES[call], *cells])
-        yield f"{KEYS.get(keys, keys)} {of_store(store)}", sizes, rows
+def table_of(ours, theirs, keys, store):
+    """The table of a type of keys and a store."""
+    measures = [measure for measure in ours if (measure.keys, measure.store) == (keys, store)]
+    sizes = distinct(measure.size for measure in measures)
+    yield [f"{title(keys, store)}, pairs", *(f"{size:,}" for size in sizes)]
+    for row in distinct(measure.row for measure in measures):
+        yield [ROWS[row].title, *(cell(ours, theirs, Measure(row, keys, store, size)) for size in sizes)]
+
+
+def table_of_others(ours):
+    """The table of the kit's maps beside ours."""
+    yield ["Nanoseconds a pair, `u64` keys", "`LiteMap`", *(f"`{store}`" for store in OTHERS)]
+    for measure in [measure for measure in ours if measure.store == OTHERS[0]]:
+        cells = [shown(ours[measure._replace(store=store)].lowest()) for store in ("Vec", *OTHERS)]
+        yield [f"{ROWS[measure.row].title}, {measure.size:,} pairs", *cells]
 
 
 def held_cell(ours, theirs, measure):
     """The bytes a pair at the peak, here and there: the clock advanced by a microsecond for each byte."""
-    here, there = ours[measure], found_there(theirs, measure)
-    return " : ".join(f"{found.lowest() / 1_000_000:.0f}" for found in (here, there) if found is not None)
+    founds = [ours[measure], found_there(theirs, measure)]
+    return " : ".join(f"{found.lowest() / 1_000_000:.0f}" for found in founds if found is not None)
 
 
-def held_rows(ours, theirs=None):
-    """The columns of the table of bytes, for each type of keys and each store, and its rows."""
-    columns = distinct((measure.keys, measure.store) for measure in ours if measure.call in HELD)
-    rows = []
-    for call in HELD:
-        measures = [Measure(call, keys, store, HELD_SIZE) for keys, store in columns]
-        rows.append([TITLES[call], *(held_cell(ours, theirs, measure) for measure in measures)])
-    heads = [f"{KEYS[keys]} {of_store(store)}" for keys, store in columns]
-    return heads, rows
-
-
-def every_table(ours, theirs, held):
-    """The rows of each table, its head first: of the tables of times, and of that of the bytes at the peak."""
-    for title, sizes, rows in parts(ours, theirs):
-        yield [[f"{title}, pairs", *(f"{size:,}" for size in sizes)], *rows]
-    heads, rows = held_rows(*held)
-    there = " : there" if held[1:] else ""
-    yield [[f"bytes a pair at the peak, here{there}, {HELD_SIZE:,} pairs", *heads], *rows]
-
-
-def plain(ours, theirs, held):
-    """The tables as text. `held` has the bytes of both programs."""
-    there = ", and how many times as long as in the Rust crate" if theirs else ""
-    lines = [f"Nanoseconds a pair, or what a title says: here{there}.", ""]
-    for rows in every_table(ours, theirs, held):
-        widths = [max(len(row[column]) for row in rows) for column in range(len(rows[0]))]
-        for name, *cells in rows:
-            aligned = [text.rjust(width) for text, width in zip(cells, widths[1:])]
-            lines.append("  ".join([name.ljust(widths[0]), *aligned]).replace("`", ""))
-        lines.append("")
-    return "\n".join(lines)
+def table_of_bytes(ours, theirs):
+    """The table of bytes."""
+    columns = [(keys, store) for keys in ("number", "text") for store in ("Vec", "ColumnStore")]
+    there = " : there" if theirs else ""
+    yield [f"Bytes a pair at the peak, here{there}, {HELD_SIZE:,} pairs", *(title(*column) for column in columns)]
+    for row in HELD:
+        yield [ROWS[row].title, *(held_cell(ours, theirs, Measure(row, *column, HELD_SIZE)) for column in columns)]
 
 
 def markdown(ours, theirs, held):
-    """The tables as Markdown. `held` has the bytes of both programs."""
+    """All tables, from the times of both programs, of which theirs may be empty, and the bytes of each."""
+    stores = distinct((measure.keys, measure.store) for measure in ours if measure.store not in OTHERS)
+    tables = [table_of(ours, theirs, *store) for store in stores]
     lines = []
-    for (title, *heads), *rows in every_table(ours, theirs, held):
-        lines += ["", "| " + " | ".join([f"{title[0].upper()}{title[1:]}", *heads]) + " |"]
-        lines.append("|---|" + "---:|" * len(heads))
+    for head, *rows in [*tables, table_of_others(ours), table_of_bytes(*held)]:
+        lines += ["", "| " + " | ".join(head) + " |", "|---|" + "---:|" * (len(head) - 1)]
         lines += ["| " + " | ".join(row) + " |" for row in rows]
-    return "\n".join([*lines, "", ""])
+    return "\n".join([*lines, "", noise([*ours.values(), *theirs.values()])])
 
 
-def noise(ours, theirs):
+def noise(founds):
     """A sentence on how well the measures repeat."""
-    every = [*ours.values(), *(theirs or {}).values()]
-    spreads = sorted(found.spread() for found in every)
-    half, most = [(spreads[len(spreads) * part // 100] - 1) * 100 for part in (50, 90)]
-    passes = len(every[0].times)
+    spreads, passes = sorted(found.spread() for found in founds), len(founds[0].times)
+    half, most = spreads[len(spreads) // 2], spreads[len(spreads) * 9 // 10]
     if passes == 1:
         return "From one pass, so nothing is known of how well it repeats.\n"
     return (

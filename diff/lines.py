@@ -17,10 +17,9 @@ PLACES = [2, 6, 20, 60, 200]
 LENGTHS = [7, 8, 9, 15, 16, 17, 18, 20, 21, 30, 31, 32, 33, 41, 63, 64, 65, 100, 255, 256]
 # The stores that rows of arguments.txt name.
 OVER = {"all": STORES, "slice": SLICED, "vec": ["vec"]}
-# By store, how often one of some calls is picked, the words after it, and the calls.
-CALLS_OVER = {
-    store: [(row.often, row.words, row.names) for row in MODEL["GROUPS"].values() if row.often and store in OVER[row.over]] for store in STORES
-}
+# The groups of calls by store, each with how often one of its calls is picked.
+GROUPS = [group for group in MODEL["GROUPS"].values() if group.often]
+CALLS_OVER = {store: [group for group in GROUPS if store in OVER[group.over]] for store in STORES}
 
 
 def word(order, number):
@@ -41,9 +40,8 @@ class Run:
         self.range = self.random.choice(RANGES)
         self.calls = []
         groups = CALLS_OVER[self.store]
-        weights = [often for often, _, _ in groups]
-        for _, words, names in self.random.choices(groups, weights, k=LENGTH):
-            self.add(self.random.choice(names), words)
+        for group in self.random.choices(groups, [group.often for group in groups], k=LENGTH):
+            self.add(self.random.choice(group.names), group.words)
         del self.calls[LENGTH:]
 
     def below(self, limit):
@@ -53,28 +51,24 @@ class Run:
     def add(self, name, words):
         """Adds a call with words of these kinds."""
         if words == ["ALIKE"]:
-            pairs = self.pairs()
-            self.calls.append(" ".join(["from_vec", *pairs]))
-            self.calls.append(" ".join([name, *self.changed(pairs)]))
-            return
-        given = [self.given(kind) for kind in words]
+            given = self.pairs()
+            self.calls.append(" ".join(["from_vec", *given]))
+            given = self.changed(given)
+        else:
+            given = [self.given(kind) for kind in words]
         self.calls.append(" ".join([name, *given]).rstrip())
 
     def given(self, kind):
         """Picks the words of a kind."""
-        match kind:
-            case "KEY":
-                return word(self.order, self.below(self.range))
-            case "VALUE" | "MORE":
-                return str(self.below(1000))
-            case "PLACE":
-                return str(self.below(self.random.choice(PLACES)))
-            case "BITS":
-                return str(self.random.getrandbits(64) | self.random.getrandbits(64))
-            case "PAIRS":
-                return " ".join(self.pairs())
-            case _:
-                return "0"
+        if kind == "KEY":
+            return word(self.order, self.below(self.range))
+        if kind == "PLACE":
+            return str(self.below(self.random.choice(PLACES)))
+        if kind == "BITS":
+            return str(self.random.getrandbits(64) | self.random.getrandbits(64))
+        if kind == "PAIRS":
+            return " ".join(self.pairs())
+        return "0" if kind == "ZERO" else str(self.below(1000))
 
     def pairs(self):
         """Picks a list of pairs: the keys ascend, descend, are equal, lie above the others or between them, or none of these."""
@@ -103,5 +97,4 @@ class Run:
 
     def text(self, calls):
         """The lines of these calls, which begin with an empty map and state no results."""
-        lines = [f"on {self.store}", f"with {self.order} 0 0", " = ? | *\n+ ".join(calls) + " = ? | *\n"]
-        return "\n".join(lines)
+        return f"on {self.store}\nwith {self.order} 0 0\n" + " = ? | *\n+ ".join(calls) + " = ? | *\n"

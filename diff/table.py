@@ -4,15 +4,10 @@ import re
 import lines
 
 
-def read(top, name):
-    """The rows of a table, without its first line, which says what its columns are."""
-    _, *rows = (top / "crates" / "test_replay" / "calls" / name).read_text().splitlines()
-    return [row.split(" | ") for row in rows]
-
-
 def rows(top):
     """Each call of ours, the calls of lines that make it, and what the table says about the Rust crate's."""
-    for ours, made, theirs in read(top, "beside.txt"):
+    _, *table = (top / "crates" / "test_replay" / "calls" / "beside.txt").read_text().splitlines()
+    for ours, made, theirs in (row.split(" | ") for row in table):
         owner, colons, names = ours.rpartition("::")
         for name in names.split(" ") if colons else [ours]:
             yield f"{owner}{colons}{name}", made.replace("=", name).split(" "), theirs.replace("=", name)
@@ -41,7 +36,7 @@ def missing(top, crate=None):
     theirs = set(re.findall(r"\bpub (?:const )?fn (\w+)", (crate / "src" / "map.rs").read_text() if crate else ""))
     lacks += [f"the Rust crate's {it}" for it in sorted(theirs - set(re.findall(r"\w+", " ".join(row[2] for row in table))))]
     made = {call for _, calls_of_lines, _ in table for call in calls_of_lines} - {"-"}
-    picked = {name for groups in lines.CALLS_OVER.values() for _, _, names in groups for name in names}
+    picked = {name for groups in lines.CALLS_OVER.values() for group in groups for name in group.names}
     lacks += [f"{it}, which lines call" for it in sorted(picked - made)]
     there = {*calls, *(f"group {group}" for group in calls.values()), "-"}
     spare = [f"{it}, which docs/api does not list" for it in sorted(named - there)]

@@ -2,25 +2,15 @@
 # The caller sets `top`, the top of the repository.
 program=$top/crates/names_main/out/names_main
 
-# Prints these crates and the libraries of the repository below them, each after the ones that it uses.
-with_libraries() {
-    awk -F '[: ]+' -v names="$*" '
-        function add(crate, i, count, words) {
-            if (!(crate in line) || seen[crate]++) return
-            count = split(line[crate], words, " ")
-            for (i = 2; i <= count; i++) add(words[i])
-            print crate
-        }
-        !/^#/ && NF { line[$1] = $0 }
-        END { split(names, wanted, " "); for (place = 1; place in wanted; place++) add(wanted[place]) }' "$top/crates.txt"
-}
+# Prints this crate and the libraries of the repository below it, each after the ones that it uses.
+with_libraries() { (cd -- "$top/bin" && python3 -B -c "from lib import shared; print(*shared.used_by('$1'), sep='\n')"); }
 
 # Prints the checksum of what the program is made from: of the contents of files, and not of their times.
 sources_sum() {
     (
-        cd -- "$top/crates" && with_libraries names_main | sed 's/.*/^&:/' | grep -f - ../crates.txt
+        cd -- "$top/crates"
         with_libraries names_main | xargs -I '{}' find '{}' -name out -prune -o \( -name '*.rt' -o -name '*.antt' \) -type f -print0 \
-            | LC_ALL=C sort -z | xargs -0 sha256sum
+            | LC_ALL=C sort -z | xargs -0 sha256sum ../crates.txt
     ) | sha256sum
 }
 

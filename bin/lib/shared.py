@@ -24,8 +24,9 @@ CRATES = uses_in(TOP)
 
 
 def parser(text):
-    """A parser of a script's words, with this text as its --help."""
-    return argparse.ArgumentParser(description=text, formatter_class=argparse.RawDescriptionHelpFormatter)
+    """A parser of the words of a script that counts cases, with this text as its --help."""
+    counts = "The last line is 'N passed, M failed', and the exit status is 0 only if none failed."
+    return argparse.ArgumentParser(description=text, epilog=counts, formatter_class=argparse.RawDescriptionHelpFormatter)
 
 
 def used_by(*names):
@@ -105,9 +106,11 @@ def model(crate):
     return runpy.run_path(f"{TOP}/crates/{crate}/model.py")
 
 
-def files_in(folder):
-    """The texts of all files in a folder, by their names."""
-    return {it.relative_to(folder).as_posix(): it.read_bytes().decode() for it in folder.rglob("*") if it.is_file()}
+def made(crate, whole=None):
+    """What the model of a crate makes, by the names of files. If a folder is named, it is read from there."""
+    files = (whole / crate).rglob("*") if whole else ()
+    read = {it.relative_to(whole / crate).as_posix(): it.read_bytes().decode() for it in files if it.is_file()}
+    return read or model(crate)["files"]()
 
 
 def write_files(folder, files):
@@ -120,18 +123,15 @@ def write_files(folder, files):
 class Watched:
     """A test program that runs on all that its model makes, with bin/lib/allocator.c loaded before the C library.
 
-    What the model makes, which may be passed in as `files`, is written into a folder of the program's own in `room`. The input
-    `timed` is not part of what is given: it is run by itself, with a limit of time.
+    What the model makes is written into a folder of the program's own in `room`. The input `timed` is run by itself, with a limit
+    of time.
     """
 
-    # How many seconds of processor time it may take, some ten times as many as it does: only a wrong body takes more.
-    MOST_TIME = 20
-
-    def __init__(self, room, crate, files=None):
+    def __init__(self, room, crate, whole=None):
         self.folder, self.library = TOP / "crates" / crate, f"{room}/allocator.so"
         self.program = self.folder / "out" / crate
         self.model, self.whole, stdin = model(crate), pathlib.Path(room) / "whole" / crate, self.folder / "stdin"
-        self.files = files or self.model["files"]()
+        self.files = made(crate, whole)
         write_files(self.whole, self.files)
         given = self.files.get("stdin") or (stdin.read_text(encoding="utf-8") if stdin.is_file() else "")
         self.timed = self.model.get("TIMED", "")
@@ -151,10 +151,6 @@ class Watched:
             run = subprocess.run([self.program], preexec_fn=limit, stdout=file if output else subprocess.PIPE, **how)
         return run.returncode, (run.stdout or "").splitlines(), run.stderr.splitlines()
 
-    def run_timed(self):
-        """How it ends on the timed input, and its lines."""
-        return self.run(given=self.timed, most=self.MOST_TIME)[:2]
-
 
 class Report:
     """Counts what holds, and prints what doesn't, the first 200 times."""
@@ -163,19 +159,16 @@ class Report:
         self.passed = self.failed = 0
         self.lock = threading.Lock()
 
-    def count(self, holds):
+    def see(self, holds, text=""):
         with self.lock:
             self.passed += bool(holds)
             self.failed += not holds
-
-    def see(self, holds, text):
-        self.count(holds)
-        if not holds and self.failed <= 200:
+        if text and not holds and self.failed <= 200:
             print(text, flush=True)
 
     def tell(self, name, holds, why):
         """Counts a case, and prints a line with its name and result."""
-        self.count(holds)
+        self.see(holds)
         print(f"{name}: ok" if holds else f"{name}: FAILED, {why}", flush=True)
 
     def end(self):

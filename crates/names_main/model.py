@@ -21,34 +21,22 @@ def quoted(text):
     return b'"' + text.replace(b"\\", b"\\\\").replace(b'"', b'\\"') + b'"'
 
 
-def value_line(value):
-    """The reply to `get` and `del`."""
-    return b"none\n" if value is None else b"= " + value + b"\n"
-
-
-def place_line(names, key):
-    """The reply to `find`."""
-    place = sum(name < key for name in names)
-    return b"%s %d\n" % (b"ok" if key in names else b"err", place)
-
-
 def answer(names, kind, words):
     """The reply to a line that is not bad, which is carried out on the names."""
+    if kind == "all":
+        return b"".join(key + b" " + names[key] + b"\n" for key in sorted(names))
+    if kind == "json":
+        members = b",".join(quoted(key) + b":" + quoted(names[key]) for key in sorted(names))
+        return b"{" + members + b"}\n" if names else b"[]\n"
+    old = names.get(words[0])
+    if kind == "find":
+        return b"%s %d\n" % (b"err" if old is None else b"ok", sum(name < words[0] for name in names))
     if kind == "put":
-        old = names.get(words[0])
         names[words[0]] = words[1]
         return b"new\n" if old is None else b"old " + old + b"\n"
-    if kind == "get":
-        return value_line(names.get(words[0]))
     if kind == "del":
-        return value_line(names.pop(words[0], None))
-    if kind == "find":
-        return place_line(names, words[0])
-    pairs = sorted(names.items())
-    if kind == "all":
-        return b"".join(key + b" " + value + b"\n" for key, value in pairs)
-    members = b",".join(quoted(key) + b":" + quoted(value) for key, value in pairs)
-    return b"{" + members + b"}\n" if pairs else b"[]\n"
+        names.pop(words[0], None)
+    return b"none\n" if old is None else b"= " + old + b"\n"
 
 
 def told(given):

@@ -1,11 +1,12 @@
-"""Maps as JSON: the rows `TYPES TEXT`, and the output of each.
+"""Maps as JSON: the rows `TYPES TEXT` that have no title, and the output of each.
 
-The rows are those below, written by hand with their output, below titles; for each type of whole numbers its least and its greatest
-value, one past each, and other spellings, as keys in arrays, as names in objects and as items; and long strings and maps of up to
-1,000 pairs, with errors at early and late indices. No output comes from the program itself: that of whole numbers comes from
-Python's integers, and that of long maps from Python's order. The program reads each row over a vector and over two columns, except
-those of `limits` (the rows of `levels` again), of `inserted`, of `names` and of `overlay`.
+They are, for each type of whole numbers, its least and its greatest value, one past each, and other spellings, as keys in arrays,
+as names in objects and as items; and long strings and maps of up to 1,000 pairs, with errors at early and late indices. No output
+comes from the program itself: that of whole numbers comes from Python's integers, and that of long maps from Python's order. The
+program reads each row over a vector and over two columns, except those of `limits` (the rows of `levels` again), of `inserted`, of
+`names` and of `overlay`.
 """
+import itertools
 
 WHOLE = {f"{kind}{bits}": (0 if kind == "u" else -(2 ** (bits - 1)), 2 ** (bits if kind == "u" else bits - 1) - 1)
          for kind in "ui" for bits in (8, 16, 32, 64)}
@@ -16,170 +17,15 @@ RANGE = "it is a whole number outside of the type's range"
 FLOAT = "it is a number with a fraction or an exponent, `-0`, or a number of more than 64 bits"
 
 
-def not_a_pair(place):
-    return f"the element at place {place} (from 0) is not an array of exactly a key and an item"
-
-
-def key_text(place):
-    return f"the name of the member at place {place} (from 0, by the byte order of the names) is not a key's text"
-
-
-def key(place, fault):
-    return f"the key at place {place} (from 0): {fault}"
-
-
-def item(place, fault):
-    return f"the item at place {place} (from 0): {fault}"
-
-
-def no_text(place):
-    fault = f"the key at place {place} (from 0) has no text, and the first key has one: give all keys a text, or none"
-    return f"{fault}; a key has no text in JSON, and the first key has one"
-
-
-# What `rewrite_flags` says of bytes that are no JSON, and of JSON that is no map of flags.
+# What errors say: of an index, of an index and why, of why alone.
+not_a_pair = "the element at place {} (from 0) is not an array of exactly a key and an item".format
+key_text = "the name of the member at place {} (from 0, by the byte order of the names) is not a key's text".format
+key, item = "the key at place {} (from 0): {}".format, "the item at place {} (from 0): {}".format
+no_text = ("the key at place {} (from 0) has no text, and the first key has one: give all keys a text, or none; "
+           "a key has no text in JSON, and the first key has one").format
+no_flags = "the JSON value is not a map from flags to numbers: {}".format
+# What `rewrite_flags` says of bytes that are no JSON.
 NO_JSON = "the bytes are not a JSON text"
-
-
-def no_flags(fault):
-    return f"the JSON value is not a map from flags to numbers: {fault}"
-
-
-TONGUES = ('[[[1,"en"],"one"],[[1,"zh"],"一"],[[2,"en"],"two"],[[2,"zh"],"二"],[[4,"en"],"four"],[[5,"en"],"five"],'
-           '[[5,"zh"],"五"],[[7,"zh"],"七"]]')
-MIXED = ('[[[5,"zh"],"五"],[[1,"zh"],"一"],[[7,"zh"],"七"],[[2,"en"],"two"],[[1,"en"],"one"],[[4,"en"],"four"],'
-         '[[2,"zh"],"二"],[[5,"en"],"five"]]')
-
-# Titles, and the rows below each. The output None stands for the text itself.
-ROWS = [
-    "an object if the first key has a text, with its members in the byte order of their names",
-    "numbers are written as the names of an object",
-    *[(types, pairs, '{"1":"jat","2":"ji","3":"saam","4":"sei"}') for types, pairs in (
-        ("inserted", "1:jat 4:sei 3:saam 2:ji"), ("words", '[[1,"jat"],[4,"sei"],[3,"saam"],[2,"ji"]]'))],
-    "10 is written before 2, and both are read again",
-    ("words", '[[10,"ten"],[2,"two"]]', '{"10":"ten","2":"two"}'),
-    ("words", '{"10":"ten","2":"two"}', None),
-    ("words", ' { "2" : "two" , "10" : "ten" } ', '{"10":"ten","2":"two"}'),
-    "what was written is read again",
-    ("words", '{"1":"one","2":"two","4":"four","5":"five"}', None),
-    "else an array, in the order of the keys",
-    "pairs as keys are written as an array",
-    ("tongues", TONGUES, None),
-    ("tongues", MIXED, TONGUES),
-    ("tongues", '{"1":"one"}', key_text(0)),
-    "the empty map is written as an array, and read of both",
-    ("words", "[]", None), ("words", "{}", "[]"), ("tongues", "{}", "[]"), ("flags", "[]", None), ("flags", "{}", "[]"),
-    "of equal keys the last pair stays",
-    ("flags", "[[true,1],[true,5]]", '{"true":5}'),
-    ("tongues", '[[[1,"a"],"x"],[[0,"b"],"y"],[[1,"a"],"z"]]', '[[[0,"b"],"y"],[[1,"a"],"z"]]'),
-    "a number, `null`, a truth value and a string are no maps",
-    *[("u32", text, NOT_A_MAP) for text in ("7", "null", "true", '"x"', "2.5")],
-    ("words", "[[1,", "no JSON"), ("words", "", "no JSON"), ("words", '{"1":"a"', "no JSON"), ("words", "[] []", "no JSON"),
-    "the first error: the pair's shape, then the key, then the item",
-    "an element of one item is no pair",
-    ("words", '[[1,"a"],[2]]', not_a_pair(1)),
-    "an item with a fraction is none",
-    ("u32", "[[1,2.5]]", item(0, FLOAT)),
-    "a key below 0 is out of range",
-    ("u32", "[[-1,3]]", key(0, RANGE)),
-    "other spellings of a number are no names",
-    *[("u32", '{"%s":3}' % name, key_text(0)) for name in ("01", "+1", "")],
-    "a name out of range is no key",
-    ("u8", '{"300":1}', key_text(0)),
-    ("u32", "[[-1,2.5]]", key(0, RANGE)),
-    ("u32", '{"x":2.5}', key_text(0)),
-    "an item of another kind, and a name that is no key, after a member that is right",
-    ("words", '{"1":"a","2":7}', item(1, SHAPE)),
-    ("words", '{"1":"a","x":"b"}', key_text(1)),
-    ("words", '{"x":"b","1":7}', item(0, SHAPE)),
-    "keys of which some have a text",
-    "a later key without a text can't be written",
-    ("evens", '[[2,"a"],[3,"b"]]', no_text(1)),
-    ("evens", '[[4,"a"],[2,"b"],[6,"c"],[7,"d"],[9,"e"]]', no_text(3)),
-    "a first key without a text makes an array",
-    ("evens", '[[1,"a"],[2,"b"]]', None),
-    ("evens", '[[2,"b"],[1,"a"],[4,"c"]]', '[[1,"a"],[2,"b"],[4,"c"]]'),
-    ("evens", '[[2,"a"],[4,"b"]]', '{"2":"a","4":"b"}'),
-    ("evens", '{"2":"a","3":"b"}', key_text(1)),
-    "booleans: their texts are names, and arrays stay readable",
-    "flags are written as names, and read of both shapes",
-    ("flags", "[[true,1],[false,2]]", '{"false":2,"true":1}'),
-    ("flags", "[[false,2],[true,1]]", '{"false":2,"true":1}'),
-    ("flags", '{"true":1,"false":2}', '{"false":2,"true":1}'),
-    ("flags", "[[false,2]]", '{"false":2}'),
-    *[("flags", '{"%s":1}' % name, key_text(0)) for name in ("True", "FALSE", "true ", "tru", "1", "0", "", "null")],
-    *[("flags", f"[[{word},1]]", key(0, SHAPE)) for word in ("0", "1", '"true"', "null", "[]", "{}")],
-    *[("bool", f"[[true,{word}]]", item(0, SHAPE)) for word in ("0", '"true"', "null", "[true]", "{}", "1.5")],
-    ("bool", '{"true":false,"false":true}', '{"false":true,"true":false}'),
-    "strings",
-    ("text", r'{"a":"\"","b":"\\"}', None),
-    ("text", r'[["\"","a"],["\\","b"]]', r'{"\"":"a","\\":"b"}'),
-    ("text", r'{"":"","\u0000":"\u0000","\u001f":"\u007f"}', '{"":"","\\u0000":"\\u0000","\\u001f":"\x7f"}'),
-    ("text", r'{"\b\f\n\r\t":"\u0008\u000c\u000A\u000d\u0009"}', r'{"\b\f\n\r\t":"\b\f\n\r\t"}'),
-    ("text", r'{"\/":"\u002f"}', '{"/":"/"}'),
-    ("text", r'{"\ud83d\ude00":"\u00e9"}', '{"😀":"é"}'),
-    ("text", '{"😀":"𝄞","é":"字"}', '{"é":"字","😀":"𝄞"}'),
-    ("text", '{"\uffff":"1","\U00010000":"2","b":"3","a":"4","B":"5"}', '{"B":"5","a":"4","b":"3","\uffff":"1","\U00010000":"2"}'),
-    ("text", r'{"a":"\ud83d"}', "no JSON"),
-    *[("text", f'[["a",{word}]]', item(0, SHAPE)) for word in ("7", "null", "true", "[]", '{"a":"a"}')],
-    *[("text", f'[[{word},"a"]]', key(0, SHAPE)) for word in ("7", "null", "true", "[]", '["a"]')],
-    "an enum of unit variants",
-    *[row for types in ("levels", "limits") for row in (
-        (types, '{"low":1,"middle":2,"high":3}', '{"high":3,"low":1,"middle":2}'),
-        (types, '[["high",3],["low",1],["high",4]]', '{"high":4,"low":1}'),
-        (types, '{"middle":2}', None), (types, "{}", "[]"), (types, "7", NOT_A_MAP), (types, "[", "no JSON"),
-        *[(types, '{"%s":1}' % name, key_text(0)) for name in ("Low", "lo", "lower", "", "0")],
-        *[(types, f"[[{word},1]]", key(0, SHAPE)) for word in ('"Low"', '""', "0", "null", '["low"]')],
-        (types, '{"low":-1}', item(0, RANGE)), (types, '{"high":1,"low":"1"}', item(1, SHAPE)))],
-    "numbers by their names",
-    ("names", '{"b":2,"a":1,"":0,"ab":4294967295}', '{"":0,"a":1,"ab":4294967295,"b":2}'), ("names", '[["b",2],["b",3]]', '{"b":3}'),
-    ("names", "{}", "[]"), ("names", "[", "no JSON"), ("names", "7", NOT_A_MAP), ("names", '{"a":-1}', item(0, RANGE)),
-    "two settings overlaid",
-    ("overlay", '{"fr":"French","en":"English"}', '{"de":"","en":"English","fr":"French"}'), ("overlay", "[]", '{"de":"","fr":""}'),
-    ("overlay", "[", "no JSON"), ("overlay", '{"de":1}', item(0, SHAPE)), ("overlay", "7", NOT_A_MAP),
-    "flags that are brought over",
-    "flags in an array and in an object become an object",
-    ("rewrite", "[[false,2],[true,1]]", '{"false":2,"true":1}'), ("rewrite", '{"true":1,"false":2}', '{"false":2,"true":1}'),
-    ("rewrite", '{"true":1}', None), ("rewrite", '{"true":4294967295}', None), ("rewrite", r'{"\u0074rue":7}', '{"true":7}'),
-    "no flags become an array",
-    ("rewrite", "[]", None), ("rewrite", "{}", "[]"),
-    "of equal flags the last one stays",
-    ("rewrite", "[[true,1],[true,5]]", '{"true":5}'), ("rewrite", "[[true,1],[false,2],[true,3]]", '{"false":2,"true":3}'),
-    "a name that is no flag, a key that is none, and what is no JSON",
-    *[("rewrite", text, no_flags(fault)) for text, fault in (
-        ("7", NOT_A_MAP), ("[[0,1]]", key(0, SHAPE)), ('[[true,1],["true",1]]', key(1, SHAPE)), ("[[true,1],[true]]", not_a_pair(1)),
-        ("[[true,4294967296]]", item(0, RANGE)), ('{"false":0,"true":-1}', item(1, RANGE)), ('{"yes":1}', key_text(0)), ('{"True":1}', key_text(0)))],
-    *[("rewrite", text, NO_JSON) for text in ("[[true,", "[[true,1]", "", "[[true,1]]x")],
-    "pairs of pairs",
-    ("nested", "[[[[1,true],\"x\"],[7,[false,-8]]]]", None),
-    ("nested", '[[[[1,true],"x"],[7,[false,-8]]],[[[1,false],"y"],[0,[true,127]]],[[[0,true],"z"],[1,[true,0]]]]',
-     '[[[[0,true],"z"],[1,[true,0]]],[[[1,false],"y"],[0,[true,127]]],[[[1,true],"x"],[7,[false,-8]]]]'),
-    ("nested", '[[[[256,1],"x"],[7,[false,-8]]]]', key(0, RANGE)),
-    ("nested", '[[[[1,1],7],[7,[false,-8]]]]', key(0, SHAPE)),
-    ("nested", '[[[[1,true,2],"x"],[7,[false,-8]]]]', key(0, SHAPE)),
-    ("nested", '[[[[1],"x"],[7,[false,-8]]]]', key(0, SHAPE)),
-    ("nested", '[[[{"1":true},"x"],[7,[false,-8]]]]', key(0, SHAPE)),
-    ("nested", '[[[[1,true],"x"],[7,[false,-129]]]]', item(0, RANGE)),
-    ("nested", '[[[[1,true],"x"],[7.5,[0,-129]]]]', item(0, FLOAT)),
-    ("nested", '[[[[1,true],"x"],[7,[false,1e1]]]]', item(0, FLOAT)),
-    ("nested", '[[[[1,true],"x"],[]]]', item(0, SHAPE)),
-]
-
-
-def bad_elements():
-    """A bad element at each index of three, and at two indices."""
-    yield "a bad element at each index of three, and at two"
-    bad = [(text, not_a_pair) for text in ("5", "[]", "[1]", '[1,"a",2]', "null", '{"1":"a"}')]
-    bad += [(text, lambda place: key(place, SHAPE)) for text in ('["x","a"]', '["x",7]', '[null,"a"]')]
-    bad += [('[4294967296,"a"]', lambda place: key(place, RANGE)), ('[1.5,"a"]', lambda place: key(place, FLOAT))]
-    bad += [(text, lambda place: item(place, SHAPE)) for text in ("[1,7]", "[1,null]")]
-    good = ['[1,"a"]', '[2,"b"]', '[3,"c"]']
-    for text, fault in bad:
-        for place in range(3):
-            yield "words", "[" + ",".join([*good[:place], text, *good[place + 1:]]) + "]", fault(place)
-    for first, fault in bad:
-        for second, _ in bad:
-            yield "words", f"[{first},[2,\"b\"],{second}]", fault(0)
 
 
 def whole_numbers():
@@ -192,12 +38,10 @@ def whole_numbers():
             yield types, f"[[{number},0]]", f'{{"{number}":0}}' if fits else key(0, fault)
             yield types, f"[[0,{number}]]", f'{{"0":{number}}}' if fits else item(0, fault)
             yield types, f'{{"{number}":{number}}}', None if fits else key_text(0)
-        for text in ("1.0", "-0", "1e2", "0.5", "-1.5", "1E2", "-0.0"):
-            yield types, f"[[{text},0]]", key(0, FLOAT)
-            yield types, f'{{"0":{text}}}', item(0, FLOAT)
-        for text in ("null", "true", '"1"', "[1]", '{"1":1}'):
-            yield types, f"[[{text},0]]", key(0, SHAPE)
-            yield types, f'{{"0":{text}}}', item(0, SHAPE)
+        wrong = dict.fromkeys(("1.0", "-0", "1e2", "0.5", "-1.5", "1E2", "-0.0"), FLOAT)
+        for text, fault in (wrong | dict.fromkeys(("null", "true", '"1"', "[1]", '{"1":1}'), SHAPE)).items():
+            yield types, f"[[{text},0]]", key(0, fault)
+            yield types, f'{{"0":{text}}}', item(0, fault)
         for name in ("", "+1", "01", "00", "-0", "-01", "+0", " 1", "1 ", "1.0", "1e2", "0x1", "-", "+", "--1", "1_0", "١"):
             yield types, f'{{"{name}":0}}', key_text(0)
         for text in ("01", "+1", ".5", "1.", "0x1"):
@@ -209,14 +53,8 @@ def told(wanted, found, at=""):
     return f"{at}{wanted} is wanted, and {found} stands there"
 
 
-def told_name(wanted, name):
-    return f"the name {name} is no key's text: {wanted} is wanted"
-
-
-def told_at(part, place):
-    return f"the {part} at place {place} (from 0): "
-
-
+told_name = "the name {1} is no key's text: {0} is wanted".format
+told_at = "the {} at place {} (from 0): ".format
 # A value of each kind, and its name in errors.
 KINDS = [("null", "null"), ("true", "a truth value"), ("false", "a truth value"), ("1.5", "1.5"), ("-0.5", "-0.5"), ("1e300", "1e+300"),
          ("[0]", "an array"), ("[]", "an array"), ("{}", "an object"), ('{"a":0}', "an object"), ('"x"', "a text"), ('""', "a text")]
@@ -248,7 +86,8 @@ def told_faults():
                 yield f"told {types}", f"[{text}]", told(ROW, found, told_at("element", 0))
         for name in TOLD_NAMES:
             yield f"told {types}", '{"%s":0}' % name, told_name(first, f'"{name}"')
-        yield f"told {types}", "7", told(MAP, "7")
+        for text, found in [("7", "7"), *(it for it in KINDS if it[0][0] not in "[{")]:
+            yield f"told {types}", text, told(MAP, found)
         yield f"told {types}", "[]", "a map"
         yield f"told {types}", "[", "no JSON"
     for types in ("u8", "i8", "u16", "i16", "u32", "i32"):
@@ -257,9 +96,8 @@ def told_faults():
             yield f"told {types}", f'{{"1":{number}}}', told(WANTED[types][2], number, '"1": ')
     ports = '{"host":8080,"port":%s}'
     wanted = "a whole number of 16 bits"
-    yield "told ports", ports % '"x"', told(wanted, "a text", '"port": ')
-    yield "told ports", ports % 65536, told(wanted, 65536, '"port": ')
-    yield "told ports", ports % -1, told(wanted, -1, '"port": ')
+    for text, found in (('"x"', "a text"), (65536, 65536), (-1, -1)):
+        yield "told ports", ports % text, told(wanted, found, '"port": ')
     yield "told ports", ports % 65535, "a map"
     for name in (*TOLD_NAMES, r'a\"b'):
         yield "told ports", '{"%s":null}' % name, told(wanted, "null", f'"{name}": ')
@@ -364,6 +202,28 @@ def ascii_texts():
     yield "text", object_of((name, f'"{name}"') for name in reversed(names)), object_of((name, f'"{name}"') for name in names)
 
 
+def mixed_texts():
+    """Strings with ASCII and other characters at each place, as names, keys and items: short ones alone, long ones together."""
+    short = ["".join(it) for length in (2, 3) for it in itertools.product("aé😀", repeat=length)]
+    pairs = itertools.permutations("aé😀", 2)
+    long = [one * place + other + one * (33 - place) for one, other in pairs for place in range(34)]
+    for texts in (*([text] for text in short), sorted(long, key=str.encode)):
+        answer = object_of((text, f'"{text}"') for text in texts)
+        yield "text", answer, None
+        yield "text", array(f'["{text}","{text}"]' for text in texts), answer
+
+
+def last_names():
+    """Many pairs of which the last name alone is below the others, below all but the first, or below the one before it."""
+    for count in (1, 2, 12, 20, 33, 50, 51, 65, 101, 129, 700):
+        for last in (1000, 2005, 10 * (198 + count) + 5):
+            pairs = [(str(number), f'"{number}"') for number in [*range(200, 200 + count), last]]
+            answer = object_of(sorted(pairs))
+            yield "words", array(f"[{name},{text}]" for name, text in pairs), answer
+            yield "words", object_of(pairs), answer
+            yield "text", object_of(pairs), answer
+
+
 def long_flags():
     """Flags that are brought over from long texts: after so many spaces so many pairs, and one element more."""
     for spaces, pairs in ((246, 0), (0, 9), (0, 10), (0, 101), (5000, 28), (0, 1000)):
@@ -374,20 +234,20 @@ def long_flags():
 
 def early_faults():
     """An error at each index to 12 and at a later one, of keys that ascend, that descend and that are equal, and at the next index too."""
-    bad = [("[0]", not_a_pair), ("null", not_a_pair)] + [(f"[{text},0]", lambda place, fault=fault: key(place, fault)) for text, fault in (
-        ("null", SHAPE), ('"0"', SHAPE), ("65536", RANGE), ("-1", RANGE), ("1.0", FLOAT))]
-    bad += [(f"[0,{text}]", lambda place, fault=fault: item(place, fault)) for text, fault in (
-        ("{}", SHAPE), ("null", SHAPE), ("65536", RANGE), ("-1", RANGE), ("1.0", FLOAT))]
+    of_keys = {"null": SHAPE, '"0"': SHAPE, "65536": RANGE, "-1": RANGE, "1.0": FLOAT}
+    of_items = {"{}": SHAPE, "null": SHAPE, "65536": RANGE, "-1": RANGE, "1.0": FLOAT}
+    bad = [("[0]", not_a_pair), ("null", not_a_pair), *((f"[{text},0]", key, why) for text, why in of_keys.items())]
+    bad += [(f"[0,{text}]", item, why) for text, why in of_items.items()]
     for place in (*range(13), 33):
         count = place + 3
         for keys in (range(count), range(count, 0, -1), [7] * count):
             good = [f"[{number},0]" for number in keys]
-            for text, fault in bad:
-                yield "u16", array([*good[:place], text, good[place], text]), fault(place)
+            for text, fault, *why in bad:
+                yield "u16", array([*good[:place], text, good[place], text]), fault(place, *why)
         names = [str(10000 + number) for number in range(count)]
         for order in (names, names[::-1]):
-            for text, fault in (("{}", SHAPE), ("null", SHAPE), ("65536", RANGE), ("-1", RANGE), ("1.0", FLOAT)):
-                yield "u16", object_of((name, text if name >= names[place] else 0) for name in order), item(place, fault)
+            for text, why in of_items.items():
+                yield "u16", object_of((name, text if name >= names[place] else 0) for name in order), item(place, why)
             yield "u16", object_of((name if name < names[place] else name + "x", 0) for name in order), key_text(place)
         odd = [*range(0, 2 * place, 2), 2 * place + 1, *range(2 * place + 2, 2 * count, 2)]
         answer = no_text(place) if place else array(f'[{number},"a"]' for number in odd)
@@ -424,19 +284,10 @@ def values():
     yield "value", "[", "no JSON"
 
 
-def lined(rows):
-    """The lines of rows, each with its output; titles stay."""
-    return [row if isinstance(row, str) else (f"{row[0]} {row[1]}", row[1] if row[2] is None else row[2]) for row in rows]
-
-
-def titled():
-    """The titles, and the lines below each with their output."""
-    return lined([*ROWS, *bad_elements()])
-
-
-def rows():
-    """The other lines, each with its output."""
+def rows(titled):
+    """The rows without a title, each with its output."""
     rows = [*whole_numbers(), *long_maps(), *late_faults(), *long_texts(), *told_faults()]
-    rows += [*all_numbers(), *ascii_texts(), *early_faults(), *parts(), *values(), *long_flags()]
+    rows += [*all_numbers(), *ascii_texts(), *early_faults(), *parts(), *values(), *long_flags(), *mixed_texts(), *last_names()]
+    rows = [(f"{types} {text}", text if answer is None else answer) for types, text, answer in rows]
     # Keys that descend where their names ascend are written as strings are.
-    return lined([*rows, *(("falling", *row[1:]) for row in [*ROWS, *rows] if row[0] == "text")])
+    return rows + [(f"falling {row.removeprefix('text ')}", answer) for row, answer in titled + rows if row.startswith("text ")]

@@ -1,16 +1,23 @@
 """Makes the input of the program `test_formats`, and the output that it must write: its files stdin and stdout.
 
-Each kind of rows is made, with the output, by a file of its own here; no output comes from the program itself. bin/data stores the
-rows that have a title, below that, and a sample of the others. bin/requests runs all of them.
+They begin with the rows that have a title, which are written by hand: those of JSON in both files, those of tables in stdin alone.
+Each kind of the other rows is made, with the output, by a file of its own here; no output comes from the program itself. bin/data
+stores a sample of them, and bin/requests runs all.
 """
 import collections
+import functools
+import itertools
 import pathlib
 import runpy
 
 FOLDER = pathlib.Path(__file__).resolve().parent
 KINDS = {name: runpy.run_path(str(FOLDER / f"{name}_rows.py")) for name in ("json", "serde", "table")}
-# A row of many lookups, whose time bin/requests bounds.
-TIMED = "table often 20000 -\n"
+# A row of many lookups, and long maps that are read and written, of so many pairs: bin/requests bounds their time.
+MANY = 200000
+OBJECT = "{" + ",".join(f'"{10**6 + number}":{number}' for number in range(MANY)) + "}"
+ARRAY = "[" + ",".join(f"[{10**6 + number},{number}]" for number in range(MANY)) + "]"
+LONG = [("table often 100000 -", "100000 found")]
+LONG += [(f"{kind} {text}", OBJECT) for kind in ("json u32", "serde i64") for text in (OBJECT, ARRAY)]
 
 
 def written(rows):
@@ -18,20 +25,34 @@ def written(rows):
     return {"stdin": "".join(f"{row}\n" for row, _ in rows), "stdout": "".join(f"{answer}\n" for _, answer in rows)}
 
 
+# The title of the rows that are not written by hand.
+SAMPLE = "# a sample of the other rows"
+
+
+@functools.cache
 def titled():
-    """The rows that have a title, below that, with the output of each."""
-    rows = [(name, row) for name, kind in KINDS.items() if "titled" in kind for row in kind["titled"]()]
-    return [(f"# {row}",) * 2 if isinstance(row, str) else (f"{name} {row[0]}", row[1]) for name, row in rows]
+    """The titles, and the rows below each with their output. That of tables comes from the reader in table_rows.py."""
+    texts = ((FOLDER / name).read_text(encoding="utf-8").split("\n") for name in ("stdin", "stdout"))
+    read, found = KINDS["table"]["told"], []
+    for row, answer in itertools.takewhile(lambda pair: pair[0] != SAMPLE, zip(*texts)):
+        kind, _, rest = row.partition(" ")
+        found.append((row, {"#": row, "json": answer}.get(kind) or read(rest)))
+    return found
 
 
 def others():
     """The other rows, with the output of each."""
-    return [(f"{name} {row}", answer) for name, kind in KINDS.items() for row, answer in kind["rows"]()]
+    for name, kind in KINDS.items():
+        rows = [(row.removeprefix(f"{name} "), answer) for row, answer in titled() if row.startswith(f"{name} ")]
+        yield from ((f"{name} {row}", answer) for row, answer in kind["rows"](rows))
+
+
+TIMED = written(LONG)["stdin"]
 
 
 def files():
     """All rows, without titles."""
-    return written([row for row in titled() if not row[0].startswith("# ")] + others())
+    return written([*(row for row in titled() if not row[0].startswith("# ")), *others(), *LONG])
 
 
 # A longer row is stored only as the first of its kind.
@@ -40,7 +61,7 @@ MOST_STORED = 2500
 
 def sample(files):
     """What is stored: the rows that have a title, and a sample of the others."""
-    return written([*titled(), ("# a sample of the other rows",) * 2, *sampled(others())])
+    return written([*titled(), (SAMPLE,) * 2, *sampled(others())])
 
 
 def sampled(rows):

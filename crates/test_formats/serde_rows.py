@@ -18,7 +18,7 @@ def printed(value):
 
 def key_of(what, name):
     """The key that is read from a name in an object."""
-    if what in WHOLE or what == "words":
+    if what in WHOLE or what in SMALL or what == "words":
         return int(name)
     return {"true": True, "false": False}[name] if what == "bool" else name
 
@@ -59,8 +59,8 @@ MAPS = [
     ("perhaps", "null", SAME), ("perhaps", '{"b":1,"a":2}', '{"a":2,"b":1}'), ("perhaps", "7", "data"),
     # keys that have no text: they are written as pairs, and not as a map
     ("places", '{"at":[[[2,1],"p"],[[-1,5],"q"],[[2,1],"r"]]}', '{"at":[[[-1,5],"q"],[[2,1],"r"]]}'),
-    ("places", printed({"at": [[[number, 0], str(number)] for number in range(30, 0, -1)]}),
-     printed({"at": [[[number, 0], str(number)] for number in range(1, 31)]})),
+    *[("places", printed({"at": [[[number, 0], str(number)] for number in range(count, 0, -1)]}),
+       printed({"at": [[[number, 0], str(number)] for number in range(1, count + 1)]})) for count in (30, 100, 101, 1000)],
     ("places", '{"at":[]}', SAME), ("places", '{"at":{}}', '{"at":[]}'), ("places", '{"at":[[[2],"p"]]}', "data"), ("places", "{}", "data"),
     ("points", "[[[2,1],7]]", "not written"), ("points", "[]", "{}"),
     # the forms of enums, and members among others
@@ -165,6 +165,21 @@ def of_every_length():
         yield "codes", printed(f"code,name\n{rows}"), printed({str(key): str(item) for key, item in last.items()})
 
 
+# Items of one byte and of none.
+SMALL = {"bytes": lambda place: place % 256, "bits": lambda place: place % 3 == 0, "units": lambda _: None}
+
+
+def small():
+    """Maps of 100 and of 1,000 pairs with small items, and with keys of one byte, from objects and sequences."""
+    for count in (100, 1000):
+        for keys in orders(count):
+            for what, item in SMALL.items():
+                yield what, printed({str(key): item(place) for place, key in enumerate(keys)}), None
+                yield what, printed([[key, item(place)] for place, key in enumerate(keys)]), None
+            yield "u8", "{" + ",".join(f'"{key % 256}":{place % 256}' for place, key in enumerate(keys)) + "}", None
+            yield "u8", printed([[key % 256, place % 256] for place, key in enumerate(keys)]), None
+
+
 def faults():
     """An error at each index to 12 and at later ones, after keys that ascend, that descend and that are equal, with right pairs after it."""
     bad_pairs = ('[1,"x"]', "[1,null]", '["x",1]', "[null,1]", "[1.5,1]", "[1]", "[1,1,1]", "[]", "7", "null")
@@ -267,13 +282,8 @@ def csv_rows():
     yield "csv-rows", printed("b,a,b\n1,2,3\n"), '[{"a":"2","b":"3"}]'
 
 
-def answer_of(what, text, answer):
-    if answer is None:
-        return map_again(what, text)
-    return text if answer is SAME else answer
-
-
-def rows():
-    """The lines, each with its output."""
-    rows = [*MAPS, *whole_numbers(), *wrong_types(), *many(), *of_every_length(), *faults(), *toml_rows(), *csv_rows()]
-    return [(f"{what} {text}", answer_of(what, text, answer)) for what, text, answer in rows]
+def rows(_):
+    """The rows, each with its output. None of them has a title."""
+    rows = [*MAPS, *whole_numbers(), *wrong_types(), *many(), *of_every_length(), *small(), *faults(), *toml_rows(), *csv_rows()]
+    rows = [(what, text, map_again(what, text) if answer is None else answer) for what, text, answer in rows]
+    return [(f"{what} {text}", text if answer is SAME else answer) for what, text, answer in rows]

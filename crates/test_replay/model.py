@@ -27,12 +27,15 @@ ALL = GROWING + " fixed"
 Group = collections.namedtuple("Group", "often over words refused names")
 
 
-def group(often, over, words, refused, names):
-    return Group(int(often), over, words.replace("-", "").split(), refused, names.split(" "))
+def table_of(name):
+    """The rows of a table of calls, whose first line says what its columns are."""
+    return (FOLDER / "calls" / name).read_text(encoding="utf-8").splitlines()[1:]
 
 
-_, *ROWS = (FOLDER / "calls" / "arguments.txt").read_text(encoding="utf-8").splitlines()
-GROUPS = {name: group(*row) for name, *row in (row.split(" | ") for row in ROWS)}
+GROUPS = {}
+for row in table_of("arguments.txt"):
+    name, often, over, words, refused, names = row.split(" | ")
+    GROUPS[name] = Group(int(often), over, words.replace("-", "").split(), refused, names.split(" "))
 # The group of each call.
 GROUP_OF = {name: it for it in GROUPS.values() for name in it.names}
 
@@ -84,16 +87,6 @@ def sorting(keys):
     return sort + number - 1
 
 
-def walked(mine, theirs):
-    """The comparisons of a walk over two lists side by side, until one of them ends."""
-    return len({key for key in mine + theirs if key <= min(mine[-1], theirs[-1])})
-
-
-def walked_back(mine, theirs):
-    """The same from their ends."""
-    return len({key for key in mine + theirs if key >= max(mine[0], theirs[0])})
-
-
 def summed(total, text):
     """A checksum that continues another one with the bytes of a text."""
     for byte in text.encode():
@@ -118,19 +111,15 @@ class Order:
 
     def __init__(self, name):
         self.name, self.rank = name, RANKS[name]
-        self.code = int if name in ("number", "falling") else code_of_text
-
-
-def code_of_text(word):
-    """The number whose bytes, from the highest one on, are those of a word."""
-    return int.from_bytes(word.encode().ljust(8, b"\0"), "big")
+        # The number of a word: of a text the one whose bytes, from the highest one on, are those of the text.
+        self.code = int if name in ("number", "falling") else lambda word: int.from_bytes(word.encode().ljust(8, b"\0"), "big")
 
 
 class Model:
-    """A map: its pairs as words, its room, if that is fixed (None if it grows), and the places of keys that are known."""
+    """A map: its pairs as words, and its room, if that is fixed (None if it grows)."""
 
     def __init__(self, order, pairs=(), room=None):
-        self.order, self.pairs, self.room, self.places = order, list(pairs), room, {}
+        self.order, self.pairs, self.room = order, list(pairs), room
 
     def text(self, pairs):
         """The text of pairs in a line."""
@@ -145,8 +134,6 @@ class Model:
 
     def place(self, key):
         """The number of smaller keys, and whether an equal one is present."""
-        if key in self.places:
-            return self.places[key]
         rank = self.order.rank
         below = bisect.bisect_left(self.pairs, rank(key), key=lambda pair: rank(pair[0]))
         return below, below < len(self.pairs) and rank(self.pairs[below][0]) == rank(key)
@@ -182,8 +169,7 @@ class Model:
         """Takes room for so many pairs, if it is there."""
         if self.room is not None and self.room < count:
             return False
-        if self.room is not None:
-            self.room -= count
+        self.freed(-count)
         return True
 
     def put(self, key, value):
@@ -194,9 +180,14 @@ class Model:
         self.pairs.insert(place, (key, value))
         return None
 
-    def freed(self, count=1):
+    def freed(self, count):
         if self.room is not None:
             self.room += count
+
+    def remove(self, index):
+        """Takes out the pair at an index."""
+        self.freed(1)
+        return self.pairs.pop(index)
 
     def bounds(self, words):
         """The indices between two bounds."""
@@ -229,31 +220,31 @@ class Model:
         name, *words = call.split(" ")
         if name == "sweep":
             return self.sweep(*words)
-        search = self.search(words[0]) if name in KEYED else digits(len(self.pairs))
+        search = self.search(words[0]) if name in KEYED else 0
         for group in [self.look, self.by_key, self.put_in, self.enter, self.take, self.walk, self.many]:
-            answer = group(name, words, search)
+            answer = group(name, words)
             if answer is not None:
-                return answer if isinstance(answer, tuple) else (answer, 0)
+                return answer if isinstance(answer, tuple) else (answer, search)
         raise ValueError(call)
 
     def sweep(self, name, *words):
         """Makes a call at each key and each gap: a checksum of what it returns and leaves, and the most comparisons of one."""
         pairs, room, most, total = self.pairs, self.room, 0, 0
         for code in map(str, range(1, 2 * len(pairs) + 2)):
-            self.pairs, self.room = pairs if name in READ_ONLY else list(pairs), room
-            self.places = {code: self.place(code)} if name in READ_ONLY else {}
+            # `get` leaves the list, which needs no copy then.
+            self.pairs, self.room = pairs if name == "get" else list(pairs), room
             answer, cost = self.make(" ".join([name, code, *words]))
             if not name.startswith("lm_"):
                 place, there = self.place(code)
                 answer += f" {self.pairs[place][1] if there else 'none'} {len(self.pairs)}"
             most, total = max(most, cost), summed(total, answer)
-        self.pairs, self.room, self.places = pairs, room, {}
+        self.pairs, self.room = pairs, room
         return f"swept {total % 10**9}", most
 
     def pair_at(self, index):
         return self.text([self.pairs[index]]) if -1 <= index < len(self.pairs) and self.pairs else "none"
 
-    def look(self, name, words, search):
+    def look(self, name, words):
         pairs, size = self.pairs, len(self.pairs)
         texts = {
             "len": lambda: str(size),
@@ -271,7 +262,7 @@ class Model:
             "debug": lambda: "{" + ", ".join(f"{key}: {value}" for key, value in pairs) + "}",
             "debug_lines": lambda: " ".join(["{", *(f"    {key}: {value}," for key, value in pairs), "}"]) if size else "{}",
             "lm_debug": lambda: "[" + ", ".join(f"({key}, {value})" for key, value in pairs) + "]",
-            "lm_debug_lines": lambda: " ".join(["[", *map(DEBUG_LINES.format, *zip(*pairs)), "]"]) if size else "[]",
+            "lm_debug_lines": lambda: " ".join(["[", *(f"    (         {key},         {value},     )," for key, value in pairs), "]"]) if size else "[]",
         }
         if name in texts:
             return texts[name]()
@@ -289,18 +280,13 @@ class Model:
             start, end = self.bounds(words)
             part = pairs[start:end]
             told = f"{self.text(part[-1:]) if part else 'none'} {self.text(part[:-1])}" if name == "iter_range" else self.text(part)
-            return (f"{start} {end}" if name.startswith("index") else told), self.two_searches(words)
+            cost = sum(self.search(key) for bound, key in zip(words[::2], words[1::2]) if bound != "-")
+            return (f"{start} {end}" if name.startswith("index") else told), cost
         return None
 
-    def two_searches(self, words):
-        """The most comparisons of a search for each bound that there is."""
-        return sum(self.search(key) for bound, key in zip(words[::2], words[1::2]) if bound != "-")
-
-    def by_key(self, name, words, search):
-        if len(words) != 1 and name not in ("get_mut", "get_mut_by", "index_mut", "get_indexed_mut", "lm_get_mut", "lm_pair_mut"):
-            return None
+    def by_key(self, name, words):
         if name in ("get_indexed_mut", "lm_get_mut", "lm_pair_mut"):
-            index, value = int(words[0]), int(words[1])
+            index, value = map(int, words)
             if index >= len(self.pairs):
                 return "none"
             key, old = self.pairs[index]
@@ -309,152 +295,122 @@ class Model:
         if name not in LOOK_UPS:
             return None
         place, there = self.place(words[0])
-        pair = self.pairs[place] if there else None
-        if name in ("find_index", "find_index_counted", "find_index_by", "lm_binary_search_by"):
-            return f"{'ok' if there else 'err'} {place}", search
-        if name == "contains_key":
-            return ("true" if there else "false"), search
-        if name == "get_key_value":
-            return (self.text([pair]) if there else "none"), search
-        if name in ("index", "index_mut") and not there:
-            return "absent", search
-        if not there:
-            return "none", search
-        if name in ("get_mut", "get_mut_by", "index_mut"):
-            self.pairs[place] = (pair[0], int(words[1]))
-        return str(pair[1]), search
+        if name.startswith("find_index") or name == "lm_binary_search_by":
+            return f"{'ok' if there else 'err'} {place}"
+        if name == "contains_key" or not there:
+            return str(there).lower() if name == "contains_key" else "absent" if name.startswith("index") else "none"
+        key, value = self.pairs[place]
+        if words[1:]:
+            self.pairs[place] = (key, int(words[1]))
+        return f"{key}:{value}" if name == "get_key_value" else str(value)
 
-    def put_in(self, name, words, search):
+    def put_in(self, name, words):
         if name not in PUTS:
             return None
         key, value = words[0], int(words[1])
         place, there = self.place(key)
-        old = self.pairs[place] if there else None
         if name == "try_append":
-            if place < len(self.pairs):
-                return f"back {key}:{value}", 1
-            return self.put(key, value) or "placed", min(len(self.pairs), 1) if self.room is None else 1
+            return (f"back {key}:{value}" if place < len(self.pairs) else self.put(key, value) or "placed"), 1
+        stored, old = self.pairs[place] if there else (key, value)
         if name in ("insert", "insert_counted"):
             if there:
-                self.pairs[place] = (old[0], value)
-                return str(old[1]), search
-            return self.put(key, value) or "none", search
+                self.pairs[place] = (stored, value)
+            return str(old) if there else self.put(key, value) or "none"
         if name == "insert_indexed":
-            return ("there", search) if there else (self.put(key, value) or "placed", 0)
+            return "there" if there else (self.put(key, value) or "placed", 0)
         if name == "try_insert":
-            return (f"back {key}:{value}" if there else self.put(key, value) or "placed"), search
-        if there:
-            return (f"{place} {old[1]} asked 0" if "get" in name else f"{place} asked 0"), search
-        if name.endswith("fail"):
-            return f"closure {value} asked 1", search
-        refused = self.put(key, value)
-        return (f"{refused or (f'{place} {value}' if 'get' in name else place)} asked 1"), search
+            return f"back {key}:{value}" if there else self.put(key, value) or "placed"
+        if name.endswith("fail") and not there:
+            return f"closure {value} asked 1"
+        refused = None if there else self.put(key, value)
+        return f"{refused or (f'{place} {old}' if 'get' in name else place)} asked {int(not there)}"
 
-    def enter(self, name, words, search):
+    def enter(self, name, words):
         if name not in ENTRIES + TWICE:
             return None
         # the key, the value if there is one, and what is written into the value that is lent
         key, value, *more = words[0], *[0] * (name == "or_default" or len(words) == 1), *map(int, words[1:])
         place, there = self.place(key)
+        stored, old = self.pairs[place] if there else (key, value)
         if name in ("entry_debug", "entry_debug_lines"):
-            stored, old = self.pairs[place] if there else (key, 0)
             text = f"OccupiedEntry {{ key: {stored}, value: {old} }}" if there else f"VacantEntry {{ key: {key} }}"
-            return (re.sub(r"(\w+: \w+),?", r"    \1,", text) if name == "entry_debug_lines" else text), search
-        if "_then_" in name:
-            return self.enter_twice(name, place, there, value, more), search
+            return re.sub(r"(\w+: \w+),?", r"    \1,", text) if name == "entry_debug_lines" else text
         if name == "entry":
-            return (f"occupied {self.pairs[place][0]}" if there else f"vacant {key}"), search
-        if name in ("entry_get", "entry_remove") and not there:
-            return "vacant", search
+            return f"occupied {stored}" if there else f"vacant {key}"
+        if name in ("entry_get", "entry_remove", *TWICE) and not there:
+            return "vacant"
+        if name.endswith("remove"):
+            self.remove(place)
+            return f"{old} {value}" if name in TWICE else str(old)
         if name == "entry_get":
-            return str(self.pairs[place][1]), search
-        if name == "entry_remove":
-            self.freed()
-            return str(self.pairs.pop(place)[1]), search
-        asked = ""
-        if name in ("or_insert", "or_insert_with", "and_modify"):
-            asked = f" asked {int(name == 'or_insert_with' and not there or name == 'and_modify' and there)}"
+            return str(old)
+        # how often the closure is asked, if there is one
+        asked = {"or_insert": 0, "or_insert_with": not there, "and_modify": there}.get(name)
+        asked = "" if asked is None else f" asked {int(asked)}"
         if not there:
             refused = self.put(key, value)
             if refused:
-                return refused + asked, search
-            self.pairs[place] = (key, *(more or [value]))
-            return f"{value}{asked}", search
-        stored, old = self.pairs[place]
-        if name in ("entry_insert", "entry_get_mut", "entry_into_mut"):
-            self.pairs[place] = (stored, value)
-            return str(old), search
-        old += value if name == "and_modify" else 0
+                return refused + asked
+        if name in TWICE:
+            self.pairs[place] = (stored, *(more or [value]))
+            return f"{old} {value}"
+        if there and name in ("entry_insert", "entry_get_mut", "entry_into_mut"):
+            more = [value]
+        elif there and name == "and_modify":
+            old += value
         self.pairs[place] = (stored, *(more or [old]))
-        return f"{old}{asked}", search
+        return f"{old}{asked}"
 
-    def enter_twice(self, name, place, there, value, more):
-        """Makes two calls of one entry."""
-        if not there:
-            return "vacant"
-        key, old = self.pairs.pop(place)
-        if name.endswith("remove"):
-            self.freed()
-        else:
-            self.pairs.insert(place, (key, *(more or [value])))
-        return f"{old} {value}"
-
-    def take(self, name, words, search):
-        if name in ("remove", "remove_counted", "remove_by", "remove_entry"):
+    def take(self, name, words):
+        if name in TAKES:
             place, there = self.place(words[0])
-            if not there:
-                return "none", search
-            key, value = self.pairs.pop(place)
-            self.freed()
-            return (f"{key}:{value}" if name == "remove_entry" else str(value)), search
+            key, value = self.remove(place) if there else (None, "none")
+            return f"{key}:{value}" if name == "remove_entry" and there else str(value)
         if name in RENAMES:
-            return self.rename(*words, search)
+            return self.rename(*words)
         if name in ("pop_first", "pop_last", "lm_remove"):
-            if not self.pairs:
-                return "none"
-            self.freed()
-            index = {"pop_first": 0, "pop_last": -1}.get(name)
-            return self.text([self.pairs.pop(int(words[0]) if index is None else index)])
+            index = {"pop_first": 0, "pop_last": -1}.get(name) if name != "lm_remove" else int(words[0])
+            return self.text([self.remove(index)]) if self.pairs else "none"
         if name in ("clear", "lm_clear"):
             self.freed(len(self.pairs))
             self.pairs = []
             return "ok"
-        if name in ("retain", "lm_retain"):
-            bits, size = int(words[0]), len(self.pairs)
-            self.pairs = [pair for place, pair in enumerate(self.pairs) if bits >> place % 64 & 1]
+        if name in ("retain", "lm_retain", "extract"):
+            size, marked = len(self.pairs), {False: [], True: []}
+            for place, pair in enumerate(self.pairs):
+                marked[bool(int(words[0]) >> place % 64 & 1)].append(pair)
+            self.pairs = marked[name != "extract"]
             self.freed(size - len(self.pairs))
-            return str(size)
-        if name == "extract":
-            bits, every = int(words[0]), list(enumerate(self.pairs))
-            self.pairs = [pair for place, pair in every if not bits >> place % 64 & 1]
-            return self.text(pair for place, pair in every if bits >> place % 64 & 1)
+            return self.text(marked[True]) if name == "extract" else str(size)
         if name == "update":
-            more = int(words[0])
-            self.pairs = [(key, value + more + place) for place, (key, value) in enumerate(self.pairs)]
+            self.pairs = [(key, value + int(words[0]) + place) for place, (key, value) in enumerate(self.pairs)]
             return str(len(self.pairs))
         return None
 
-    def rename(self, key, new_key, search):
-        place, there = self.place(key)
+    def rename(self, key, new_key):
+        cost, (place, there) = self.search(key), self.place(key)
         if not there:
-            return "false", search
-        _, value = self.pairs.pop(place)
-        self.freed()
-        cost = search + self.search(new_key)
-        place, there = self.place(new_key)
+            return "false", cost
+        _, value = self.remove(place)
+        cost, (place, there) = cost + self.search(new_key), self.place(new_key)
         if there:
             self.pairs[place] = (self.pairs[place][0], value)
         else:
             self.put(new_key, value)
         return "true", cost
 
-    def walk(self, name, words, search):
+    def walk(self, name, words):
         if name in ("iter", "keys", "values"):
             front, back = map(int, words)
             ahead, behind = self.pairs[:front], self.pairs[max(front, len(self.pairs) - back) :][::-1]
             return self.text(part(name, pair) for pair in ahead + behind) + " exact"
         if name == "keys_in_turns":
-            return self.keys_in_turns(words)
+            # the keys that are taken from either end, as words say, or the number of keys that are left
+            left, answers = [key for key, _ in self.pairs], []
+            for word in words:
+                key = left.pop(0 if word == "next" else -1) if left and word != "len" else "none"
+                answers.append(str(len(left)) if word == "len" else key)
+            return " ".join(answers)
         if name == "into_iter":
             text, self.pairs = self.text(self.pairs[: int(words[0])]), []
             return text + " exact"
@@ -465,17 +421,7 @@ class Model:
             cloned = len(self.pairs) * CONVERSIONS[name]
             text = f"{'in order ' * (name == 'to_keys_by')}{self.text(self.pairs)} cloned {cloned}"
             return text, max(len(self.pairs) - 1, 0) * (name == "cloned")
-        if name == "lm_try_clone":
-            return self.text(self.pairs)
-        return None
-
-    def keys_in_turns(self, words):
-        """The keys that are taken from either end, as words say, or the number of keys that are left."""
-        left, answers = [key for key, _ in self.pairs], []
-        for word in words:
-            key = left.pop(0 if word == "next" else -1) if left and word != "len" else "none"
-            answers.append(str(len(left)) if word == "len" else key)
-        return " ".join(answers)
+        return self.text(self.pairs) if name == "lm_try_clone" else None
 
     def cost(self, pairs):
         """The most comparisons of bulk input: by a merge, or in a vector by a search for each of few pairs."""
@@ -486,49 +432,55 @@ class Model:
         # it is tested up to the first pair that doesn't ascend
         tested = next((place for place in range(1, len(theirs)) if theirs[place - 1] >= theirs[place]), len(theirs) - 1)
         below = not mine or mine[-1] < min(theirs)
-        walk = 0 if below else walked_back(mine, sorted(theirs))
+        # a walk over two lists from their ends, until one of them ends
+        end = 0 if below else max(mine[0], min(theirs))
+        walk = 0 if below else len({key for key in mine + theirs if key >= end})
         merge = tested + (0 if rises else sorting(theirs)) + bool(mine) + walk
         is_few = len(pairs) <= FEW and len(pairs) * digits(total) < total and not (rises and below)
         return max(merge, tested + rises + self.searches(pairs)[0] if is_few else 0)
 
-    def many(self, name, words, search):
-        if name == "clone":
-            return "ok"
+    def many(self, name, words):
         size = int(words[0]) if name in RESERVED else 0
         if size > 2**48:
             return "refused"
-        if name in ("new", "lm_empty", "with_capacity", "lm_with_capacity"):
-            self.pairs, self.room = [], None if self.room is None else size
+        if name in ("clone", "new", "lm_empty", "with_capacity", "lm_with_capacity"):
+            if name != "clone":
+                self.pairs, self.room = [], None if self.room is None else size
             return "ok"
         if name in ("reserve", "lm_reserve"):
             return "ok" if self.room is None or self.room >= size else "refused"
-        if name == "lm_push":
-            return self.placed(len(self.pairs), words)
-        if name == "lm_insert":
-            return self.placed(int(words[0]), words[1:])
+        if name in ("lm_push", "lm_insert"):
+            *index, key, value = words
+            if not self.taken():
+                return f"refused {key}:{value}"
+            self.pairs.insert(int(index[0]) if index else len(self.pairs), (key, int(value)))
+            return "ok"
         if name == "lm_replace":
-            index, pair = int(words[0]), (words[1], int(words[2]))
-            old, self.pairs[index] = self.pairs[index], pair
+            index, key, value = words
+            old, self.pairs[int(index)] = self.pairs[int(index)], (key, int(value))
             return self.text([old])
         if name in READS:
             return self.read(name, words)
         if name == "read_results":
             return self.read_results(words)
         if name == "find_by_slice":
-            below = min((int(words[0]) - 1) // 2, int(words[1]))
-            there = int(words[0]) % 2 == 0 and int(words[0]) <= 2 * int(words[1])
-            return f"{'ok' if there else 'err'} {below}", searched(int(words[1]), below, there)
+            key, length = map(int, words)
+            below, there = min((key - 1) // 2, length), key % 2 == 0 and key <= 2 * length
+            return f"{'ok' if there else 'err'} {below}", searched(length, below, there)
         if name == "split_off":
             place, _ = self.place(words[0])
             self.pairs, later = self.pairs[:place], self.pairs[place:]
-            return self.text(later), search
+            return self.text(later)
         if name in RUNS:
             return self.run(words)
         if name.startswith("grow_") or name in ("extend_small", "extend_set"):
             *length, count, step = map(int, words)
             keys = {2 * place for place in range(1, sum(length) + 1)} | {place * step % 10007 for place in range(1, count + 1)}
             return self.text((str(key), 0 if name.endswith("set") else key) for key in sorted(keys))
-        pairs = self.given(words)
+        return self.of_pairs(name, self.given(words))
+
+    def of_pairs(self, name, pairs):
+        """Makes a call that is given pairs."""
         if name in (*MAKES, "lm_sort_from_iter", "lm_sort_from_vec"):
             cost = Model(self.order).cost(pairs)
             self.pairs = self.last(pairs)
@@ -537,36 +489,25 @@ class Model:
             self.pairs = pairs
             return "ok"
         if name == "insert_each":
-            return self.insert_each(pairs)
+            cost, absent = self.searches(pairs)
+            self.pairs = self.last(self.pairs + pairs)
+            return str(sum(absent)), cost
         if name in EXTENSIONS:
             return self.extend(name, pairs)
-        if name == "extend_from_clone":
-            return self.merge(self.pairs)
-        if name in ("extend_from_litemap", "extend_from_litemap_counted"):
-            return self.merge(self.last(pairs))
+        if name in (*MERGES, "extend_from_clone"):
+            return self.merge(self.last(pairs) if name in MERGES else self.pairs)
         if name in COMBINES:
             return self.combine(self.last(pairs))
         if name in BESIDE:
             return self.beside(name, self.last(pairs))
-        if name in ("lm_extend_end", "lm_extend_start") and not self.taken(len(pairs)):
-            return f"refused {self.text(pairs)}"
         if name in ("lm_extend_end", "lm_extend_start"):
+            if not self.taken(len(pairs)):
+                return f"refused {self.text(pairs)}"
             self.pairs = self.pairs + pairs if name.endswith("end") else pairs + self.pairs
             return "ok"
         if name in ("eq", "hash", "cmp", "partial_cmp"):
             return self.compare(name, self.last(pairs))
         return None
-
-    def placed(self, index, words):
-        if not self.taken():
-            return f"refused {words[0]}:{words[1]}"
-        self.pairs.insert(index, (words[0], int(words[1])))
-        return "ok"
-
-    def insert_each(self, pairs):
-        cost, absent = self.searches(pairs)
-        self.pairs = self.last(self.pairs + pairs)
-        return str(sum(absent)), cost
 
     def extend(self, name, pairs):
         cost = self.cost(pairs)
@@ -596,7 +537,9 @@ class Model:
             return 2
         total = len(mine) + len(theirs)
         if total <= len(theirs) * digits(total):
-            return 2 + walked(mine, theirs)
+            # a walk over two lists side by side, until one of them ends
+            end = min(mine[-1], theirs[-1])
+            return 2 + len({key for key in mine + theirs if key <= end})
         one_by_one, left = self.searches(pairs)[0], len(mine)
         from_the_end = 0
         for key in reversed(theirs):
@@ -664,41 +607,23 @@ class Model:
         made = Model(self.order)
         answers = [made.step(word)[0] for word in words]
         is_put = all(word.startswith("insert:") for word in words)
-        return f"[{', '.join(answers)}] {made.look('debug', [], 0)}", len(words) * digits(len(words)) if is_put else None
+        return f"[{', '.join(answers)}] {made.look('debug', [])}", len(words) * digits(len(words)) if is_put else None
 
     def step(self, word):
         """Makes a call of a list: what it returns, and its error out of memory, if it may need some."""
         kind, _, rest = word.partition(":")
-        if kind in ("insert", "try_insert", "try_append"):
-            return self.step_put(kind, *rest.split(":"))
-        if kind == "clear":
-            self.pairs = []
-            return "Done", None
-        if kind in ("extend", "reserve"):
-            self.pairs = self.last(self.pairs + self.given(rest.split("+"))) if kind == "extend" else self.pairs
-            return "Done", "NoRoom(None)"
-        if kind in ("len", "value_at"):
-            index = int(rest or 0)
-            value = f"Some({self.pairs[index][1]})" if index < len(self.pairs) else "None"
-            return (f"Number({len(self.pairs)})" if kind == "len" else f"Value({value})"), None
-        place, there = self.place(rest)
-        if kind == "find":
-            return f"Place({'Ok' if there else 'Err'}({place}))", None
-        if kind == "contains":
-            return f"Flag({'true' if there else 'false'})", None
-        value = f"Some({self.pairs[place][1]})" if there else "None"
-        self.pairs = [pair for at, pair in enumerate(self.pairs) if kind == "get" or not there or at != place]
-        return f"Value({value})", None
-
-    def step_put(self, kind, key, value):
-        place, there = self.place(key)
-        if kind == "insert" and there:
-            self.pairs[place], old = (self.pairs[place][0], int(value)), self.pairs[place][1]
-            return f"Value(Some({old}))", None
-        if there or kind == "try_append" and place < len(self.pairs):
-            return f"Back(Some(({key}, {value})))", None
-        self.pairs.insert(place, (key, int(value)))
-        return ("Value(None)" if kind == "insert" else "Back(None)"), f"NoRoom(Some(({key}, {value})))"
+        (call, result), pair, size = STEPS[kind], f"Some(({rest.replace(':', ', ')}))", len(self.pairs)
+        answer, _ = self.make(" ".join([call, *rest.split("+" if kind == "extend" else ":")]).rstrip())
+        told = {
+            "Done": "",
+            "Number": f"({answer})",
+            "Flag": f"({answer})",
+            "Place": f"({answer.title().replace(' ', '(')}))",
+            "Value": "(None)" if answer == "none" else f"(Some({answer.rpartition(':')[2]}))",
+            "Back": f"({pair})" if answer.startswith("back") else "(None)",
+        }
+        refusal = "NoRoom(None)" if kind in ("extend", "reserve") else f"NoRoom({pair})" if len(self.pairs) > size else None
+        return result + told[result], refusal
 
     def compare(self, name, other):
         mine = [(self.order.rank(key), value) for key, value in self.pairs]
@@ -713,10 +638,11 @@ class Model:
         return ("equal" if mine == theirs else "less" if mine < theirs else "greater"), most
 
 
-# A pair of a store, as `{:#?}` prints it.
-DEBUG_LINES = "    (         {},         {},     ),"
-# Calls that leave the list, so that a sweep needs no copy of it.
-READ_ONLY = {"get"}
+# The calls of a list: the call of a map that each makes, and what its result is.
+STEPS = {"len": ("len", "Number"), "find": ("find_index", "Place"), "contains": ("contains_key", "Flag")}
+STEPS |= {kind: (kind, "Value") for kind in ("insert", "get", "remove")} | {"value_at": ("get_indexed", "Value")}
+STEPS |= {"try_insert": ("try_insert", "Back"), "try_append": ("try_append", "Back")}
+STEPS |= {kind: (kind, "Done") for kind in ("clear", "extend", "reserve")}
 # The most pairs that a vector puts in one by one.
 FEW = 16
 LOOK_UPS = {"find_index", "find_index_counted", "find_index_by", "lm_binary_search_by", "contains_key", "get_key_value"}
@@ -728,7 +654,8 @@ STORE_EXTENDING, STORE_MAKING = ["store_extend", "store_extend_of_vec"], ["store
 EXTENSIONS, MAKES, MADE = named(*EXTENDING, *STORE_EXTENDING), named(*MAKING), named(*STORE_MAKING)
 MERGES, COMBINES, BESIDE, READS, RUNS, RENAMES = map(named, ("merge", "combine", "beside", "read", "run", "rename"))
 # The calls whose first word is a key that is searched for.
-KEYED = {*LOOK_UPS, *PUTS, *ENTRIES, *TWICE, *RENAMES, *named("take", "take_pair"), "split_off"}
+TAKES = named("take", "take_pair")
+KEYED = {*LOOK_UPS, *PUTS, *ENTRIES, *TWICE, *TAKES, "split_off"}
 # The groups of lookups, of calls with a pair, and of those that take a key out.
 LOOKING = ["get", "get_pair", "get_more", "find", "index"]
 PAIRED, TAKING = ["put", "put_at", "find_or_put", "find_or_fail", "enter"], ["take", "take_pair"]
@@ -934,7 +861,7 @@ def stores():
         looks += [f"lm_binary_search_by {key}" for key in keys(length)]
         looks += [f"lm_retain {bits}" for bits in RETAINED]
         if length:
-            looks += [f"{name} {index}{tail}" for name, tail in STORED for index in places]
+            looks += [call.format(index) for call in ("lm_pair_mut {} 7", "lm_replace {} 1 7", "lm_remove {}") for index in places]
         puts = ["lm_push 9999 7", *(f"lm_insert {index} 1 7" for index in {*places, length})]
         yield from block(ALL, length, 1, looks + puts + ["lm_reserve 0", "lm_reserve 1"])
         yield from block(SLICED, length, 1, ["lm_debug", "lm_debug_lines"] if length <= 129 else [])
@@ -952,9 +879,6 @@ def stores():
             yield from chain(ALL, [f"lm_from_pairs{pairs}", "is_sorted_store"])
     made = [*spelled(*STORE_MAKING, PAIRS=[*inputs(20)])]
     yield from block(ALL, 5, 0, made + ["lm_empty 0", "lm_with_capacity 0", "lm_with_capacity 1", "lm_with_capacity 17"])
-
-
-STORED = [("lm_pair_mut", " 7"), ("lm_replace", " 1 7"), ("lm_remove", "")]
 
 
 def refusable():
@@ -1021,6 +945,15 @@ def roomy():
         yield from block(GROWING, length, count, [f"{name} 3,{count},2" for name in MERGES + EXTENSIONS])
 
 
+def swept():
+    """Each key and each gap of a map of 64 pairs: split off there, removed by an entry, renamed, and as a bound of each kind."""
+    keys, bounds = range(1, 130), ("in", "out", "-")
+    calls = [*spelled("split", KEY=keys), *(f"entry_remove {key}" for key in keys)]
+    calls += [f"rename {key} {new_key}" for key in keys for new_key in (1, 129)]
+    calls += [f"index_range {low} {key} {high} {130 - key}" for key in keys for low in bounds for high in bounds]
+    yield from block(GROWING, 64, 0, calls)
+
+
 def long():
     """Calls at a hundred thousand pairs, whose time bin/requests limits: lookups, iterators, removals and as many new pairs."""
     count, calls = 100000, ["retain 0", "clear", "lm_retain 0", "insert_each 200001,100000,1", "sweep get"]
@@ -1058,14 +991,18 @@ def scattered():
         yield from chain("vec columns", [f"read_pairs - - {pairs}".strip()], "letter")
 
 
+def of_letters(letters, name):
+    """Every two maps over these letters, of which a call merges the second into the first."""
+    sets = [it for length in range(len(letters) + 1) for it in itertools.combinations(letters, length)]
+    for old, new in itertools.product(sets, sets):
+        calls = ["from_vec" + "".join(f" {key}:{place}" for place, key in enumerate(old))]
+        calls += [name + "".join(f" {key.upper()}:{9 - place}" for place, key in enumerate(new))]
+        yield from chain(GROWING, calls, "letter", 8)
+
+
 def merged():
     """Every two maps over four letters, longer maps at the lengths where the way of merging changes, and each total up to 600."""
-    sets = ["".join(it) for length in range(5) for it in itertools.combinations("abcd", length)]
-    for old in sets:
-        for new in sets:
-            calls = ["from_vec" + "".join(f" {key}:{place}" for place, key in enumerate(old))]
-            calls += ["extend_from_litemap" + "".join(f" {key.upper()}:{9 - place}" for place, key in enumerate(new))]
-            yield from chain(GROWING, calls, "letter", 8)
+    yield from of_letters("abcd", "extend_from_litemap")
     for length in (5, 20, 60, 100, 400, 6000, 12000):
         for count in sorted({1, 2, 3, 60, length // 8, length // 3, length, 3 * length} - {0}):
             if length < 6000 or count in (1, 2, 3, 60, 1500):
@@ -1105,11 +1042,7 @@ def renamed():
 
 def combined():
     """Merges whose values are combined: every two maps over three letters, and each kind of input at some lengths."""
-    sets = ["".join(it) for length in range(4) for it in itertools.combinations("abc", length)]
-    for old, new in itertools.product(sets, sets):
-        calls = ["from_vec" + "".join(f" {key}:{place}" for place, key in enumerate(old))]
-        calls += ["extend_with" + "".join(f" {key.upper()}:{9 - place}" for place, key in enumerate(new))]
-        yield from chain(GROWING, calls, "letter", 8)
+    yield from of_letters("abc", "extend_with")
     for length in (0, 1, 2, 3, 12, 17, 24, 30, 33, 65, 100, 129, 513, 1000):
         calls = [*spelled("combine", PAIRS=[*inputs(length)])]
         yield from block(GROWING, length, 0, calls)
@@ -1206,32 +1139,25 @@ def rows():
         yield text
 
 
-# The calls that no line makes, and what runs them.
-ELSEWHERE = dict.fromkeys("const_len const_is_empty const_get_indexed_or_panic".split(), "as_sliced")
-ELSEWHERE |= {"key": "entry", "into_mut": "entry_into_mut", "same_results": "a law", "lm_get_range": "get_indexed_range"}
-ELSEWHERE |= {"lm_iter": "iter", "lm_size_hint": "iter", "lm_into_iter": "into_iter", "lm_alloc": "extended"}
-TRIED = """const_get_with_index new_vec from_sorted_store_unchecked range_in range_by floor ceiling remove_indexed truncate remove_range
-    try_from_sorted try_update retain_mut iter_mut keys_slice values_slice values_mut_slice entry_by first_entry last_entry
-    or_insert_with_key or_made_with or_try_insert_with into_key into_keys into_values append as_store into_store capacity shrink_to_fit
-    lm_columns lm_columns_mut"""
-ELSEWHERE |= dict.fromkeys(TRIED.split(), "test_cases")
-SOURCES = ["litemap/src/map.rt", "litemap/src/map", "litemap/src/const_family.rt", "litemap_read/src/read.rt"]
-SOURCES += ["litemap_read/src/laws.rt", "litemap_store/src/store.rt", "litemap_store/src/into_iter.rt"]
+# The calls of stores that no line makes: calls of maps make them, or cases of test_cases.
+OF_MAPS = {"lm_alloc", "lm_columns", "lm_columns_mut", "lm_get_range", "lm_into_iter", "lm_iter", "lm_size_hint"}
 
 
-def unmade(made):
-    """The calls of maps and stores that no line makes."""
-    names = set()
-    for path in SOURCES:
-        place = FOLDER.parent / path
-        for source in sorted(place.rglob("*.rt")) if place.is_dir() else [place]:
-            names |= set(re.findall(r"^ *(?:pub fn|(?:final )?fn(?= lm_)) (\w+)", source.read_text(encoding="utf-8"), re.MULTILINE))
-    return sorted(names - made - set(ELSEWHERE))
+def judged():
+    """The calls that lines have to make: those of the tables of calls that diff makes or lines alone judge, and those of stores."""
+    names = {*GROUP_OF}
+    for row in table_of("beside.txt"):
+        names |= {*row.partition(" | ")[0].rpartition("::")[2].split(" ")} if "lines of data" in row else set()
+    for source in ("store", "into_iter"):
+        text = (FOLDER.parent / "litemap_store" / "src" / f"{source}.rt").read_text(encoding="utf-8")
+        names |= {*re.findall(r"^    (?:final )?fn (lm_\w+)", text, re.MULTILINE)}
+    return names - OF_MAPS
 
 
 FILES = {"looks": looks, "walks": walks, "changes": changes, "bulk": bulk, "stores": stores, "scattered": scattered}
 FILES |= {"refusable": refusable, "merged": merged, "beside": beside, "twenty": twenty, "picked": picked, "rows": rows}
-FILES |= {"renamed": renamed, "combined": combined, "listed": listed, "grown": grown, "roomy": roomy, "sliced": sliced, "long": long}
+FILES |= {"renamed": renamed, "combined": combined, "listed": listed, "grown": grown, "roomy": roomy, "sliced": sliced, "swept": swept}
+FILES |= {"long": long}
 
 
 def calls_of(lines):
@@ -1293,4 +1219,4 @@ def sample(files):
 def faults(files):
     """A message for each call that no line makes."""
     made = {found for text in files.values() for found in re.findall(r"^(?:\+ )?(\w+)(?= .*= )", text, re.MULTILINE)}
-    return [f"no line makes {call}" for call in unmade(made)]
+    return [f"no line makes {call}" for call in sorted(judged() - made)]

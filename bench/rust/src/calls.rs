@@ -1,198 +1,128 @@
-//! The calls that are measured, many at a time.
-use crate::cases::Case;
-use crate::keys::Key;
+//! What is measured, and its calls, each in a loop over the cases of a round.
 use litemap::LiteMap;
 use std::mem::take;
 
-/// A call that is measured. Its title is in crates/test_replay/calls/measured.txt.
-#[derive(Clone, Copy, Debug)]
-pub enum Call {
-    Get,
-    GetMissing,
-    GetIndexed,
-    Iterate,
-    IntoIter,
-    Equal,
-    Insert,
-    Append,
-    Remove,
-    Rename,
-    Update,
-    IterMut,
-    RetainMut,
-    Retain,
-    RetainAll,
-    RetainNone,
-    FromIterRising,
-    FromIter,
-    ExtendRising,
-    ExtendAbove,
-    Extend,
-    ExtendFew,
-    ExtendFromVec,
-    MergeApart,
-    MergeInterleaved,
-    MergeEqual,
-    ExtendWith,
-    KeepKeys,
-    RemoveKeys,
-    IsSubset,
-    Clone,
+/// A map, and the arguments of its call: pairs, another map, in place of which stands what the call makes, and keys to look up.
+pub struct Case<K, M> {
+    pub map: M,
+    pub given: Vec<(K, u64)>,
+    pub other: M,
+    pub asked: Vec<(K, u64)>,
 }
 
-impl Call {
-    /// All calls.
-    pub const ALL: [Call; 31] = [
-        Call::Get,
-        Call::GetMissing,
-        Call::GetIndexed,
-        Call::Iterate,
-        Call::IntoIter,
-        Call::Equal,
-        Call::Insert,
-        Call::Append,
-        Call::Remove,
-        Call::Rename,
-        Call::Update,
-        Call::IterMut,
-        Call::RetainMut,
-        Call::Retain,
-        Call::RetainAll,
-        Call::RetainNone,
-        Call::FromIterRising,
-        Call::FromIter,
-        Call::ExtendRising,
-        Call::ExtendAbove,
-        Call::Extend,
-        Call::ExtendFew,
-        Call::ExtendFromVec,
-        Call::MergeApart,
-        Call::MergeInterleaved,
-        Call::MergeEqual,
-        Call::ExtendWith,
-        Call::KeepKeys,
-        Call::RemoveKeys,
-        Call::IsSubset,
-        Call::Clone,
-    ];
+/// What is measured: a map, or what is made of one.
+pub trait Measured<K>: Sized {
+    /// Its name in the tables.
+    const NAME: &'static str;
+
+    /// Makes it of pairs.
+    fn made(pairs: Vec<(K, u64)>) -> Self;
+
+    /// Makes a call of each case, and returns the sum of the results.
+    fn call(call: &str, cases: &mut [Case<K, Self>]) -> u64;
+
+    /// The sum of all values, by `iter`.
+    fn total(&self) -> u64 {
+        0
+    }
 }
+
+impl<K: Ord + Clone> Measured<K> for LiteMap<K, u64> {
+    const NAME: &'static str = "Vec";
+
+    fn made(pairs: Vec<(K, u64)>) -> Self {
+        // Few pairs are inserted one by one, as they mostly are.
+        if pairs.len() > 8 {
+            return LiteMap::from_iter(pairs);
+        }
+        let mut map = LiteMap::new_vec();
+        insert(&mut map, pairs);
+        map
+    }
+
+    fn call(call: &str, cases: &mut [Case<K, Self>]) -> u64 {
+        look(call, cases)
+    }
+
+    fn total(&self) -> u64 {
+        let mut sum: u64 = 0;
+        for (_, value) in self {
+            sum = sum.wrapping_add(*value);
+        }
+        sum
+    }
+}
+
+/// The cases of a map.
+type Cases<K> = [Case<K, LiteMap<K, u64>>];
 
 /// Makes a call of each case, and returns the sum of the results.
-pub fn call_all<K: Key>(call: Call, cases: &mut [Case<K>]) -> u64 {
-    let mut sum: u64 = 0;
-    for case in cases {
-        match call {
-            Call::Get | Call::GetMissing => sum = sum.wrapping_add(get(&case.map, &case.keys)),
-            Call::GetIndexed => sum = sum.wrapping_add(get_indexed(&case.map)),
-            Call::Iterate => sum = sum.wrapping_add(total(&case.map)),
-            Call::IntoIter => sum = sum.wrapping_add(into_iter(take(&mut case.map))),
-            Call::Equal => sum = sum.wrapping_add(are_equal(&case.map, &case.other)),
-            Call::Insert => insert(&mut case.map, take(&mut case.given)),
-            Call::Append => append(&mut case.map, take(&mut case.given)),
-            Call::Remove => sum = sum.wrapping_add(remove(&mut case.map, &case.keys)),
-            Call::Rename => {
-                let pairs = take(&mut case.given);
-                sum = sum.wrapping_add(rename(&mut case.map, &case.keys, pairs));
-            }
-            Call::Update | Call::IterMut => update(&mut case.map),
-            Call::RetainMut => retain_mut(&mut case.map),
-            Call::Retain => retain(&mut case.map),
-            Call::RetainAll => retain_all(&mut case.map),
-            Call::RetainNone => retain_none(&mut case.map),
-            Call::FromIterRising | Call::FromIter => case.map = from_iter(take(&mut case.given)),
-            Call::ExtendRising
-            | Call::ExtendAbove
-            | Call::Extend
-            | Call::ExtendFew
-            | Call::ExtendFromVec => extend(&mut case.map, take(&mut case.given)),
-            Call::MergeApart | Call::MergeInterleaved | Call::MergeEqual => {
-                case.made = merge(&mut case.map, take(&mut case.other))
-            }
-            Call::ExtendWith => case.made = extend_with(&mut case.map, take(&mut case.other)),
-            Call::KeepKeys => keep_keys(&mut case.map, &case.other),
-            Call::RemoveKeys => remove_keys(&mut case.map, &case.other),
-            Call::IsSubset => sum = sum.wrapping_add(is_subset(&case.map, &case.other)),
-            Call::Clone => case.made = Some(clone(&case.map)),
-        }
+#[inline(never)]
+fn each<K, M>(cases: &mut [Case<K, M>], call: impl Fn(&mut Case<K, M>) -> u64) -> u64 {
+    cases.iter_mut().map(call).fold(0, u64::wrapping_add)
+}
+
+/// Makes a call that returns nothing, of each case.
+#[inline(never)]
+fn done<K, M>(cases: &mut [Case<K, M>], call: impl Fn(&mut Case<K, M>)) -> u64 {
+    cases.iter_mut().for_each(call);
+    0
+}
+
+/// The calls that leave the maps as they are, or make others.
+fn look<K: Ord + Clone>(call: &str, cases: &mut Cases<K>) -> u64 {
+    match call {
+        "get" => each(cases, |case| sum(case.asked.iter().map(|(key, _)| case.map.get(key).copied()))),
+        "iter" => each(cases, |case| case.map.total()),
+        "equal" => each(cases, |case| u64::from(case.map == case.other)),
+        "is_subset" => each(cases, |case| u64::from(case.map.iter().all(|(key, _)| case.other.contains_key(key)))),
+        "clone" => done(cases, |case| case.other = case.map.clone()),
+        "from_iter" => done(cases, |case| case.map = LiteMap::from_iter(take(&mut case.given))),
+        _ => change(call, cases),
     }
-    sum
 }
 
-#[inline(never)]
-fn get<K: Key>(map: &LiteMap<K, u64>, keys: &[K]) -> u64 {
-    let mut sum: u64 = 0;
-    for key in keys {
-        if let Some(value) = map.get(key) {
-            sum = sum.wrapping_add(*value);
-        }
+/// The calls that change the maps.
+fn change<K: Ord + Clone>(call: &str, cases: &mut Cases<K>) -> u64 {
+    match call {
+        "insert" => done(cases, |case| insert(&mut case.map, take(&mut case.given))),
+        "remove" => each(cases, |case| sum(case.asked.iter().map(|(key, _)| case.map.remove(key)))),
+        "rename" => each(cases, |case| rename(&mut case.map, &case.asked, take(&mut case.given))),
+        "update" | "iter_mut" => done(cases, |case| update(&mut case.map)),
+        // The values are written first, since `retain` shows them only.
+        "retain_mut" => done(cases, |case| {
+            update(&mut case.map);
+            case.map.retain(|_, value| *value & 2 == 0);
+        }),
+        "retain" => done(cases, |case| case.map.retain(|_, value| *value & 2 == 0)),
+        // All values are even.
+        "retain_all" => done(cases, |case| case.map.retain(|_, value| *value & 1 == 0)),
+        "retain_none" => done(cases, |case| case.map.retain(|_, value| *value & 1 == 1)),
+        "keep_keys_of" => done(cases, |case| case.map.retain(|key, _| case.other.contains_key(key))),
+        "remove_keys_of" => done(cases, |case| case.map.retain(|key, _| !case.other.contains_key(key))),
+        "extend" | "extend_from_vec" => done(cases, |case| case.map.extend(take(&mut case.given))),
+        "extend_from_litemap" => done(cases, |case| {
+            let left = case.map.extend_from_litemap(take(&mut case.other));
+            case.other = left.unwrap_or_default();
+        }),
+        "extend_with" => done(cases, extend_with),
+        _ => panic!("no call: {call}"),
     }
-    sum
 }
 
-/// The sum of all values of a map, by `iter`.
-#[inline(never)]
-pub fn total<K: Key>(map: &LiteMap<K, u64>) -> u64 {
-    let mut sum: u64 = 0;
-    for (_, value) in map {
-        sum = sum.wrapping_add(*value);
-    }
-    sum
+fn sum(found: impl Iterator<Item = Option<u64>>) -> u64 {
+    found.fold(0, |sum, value| sum.wrapping_add(value.unwrap_or(0)))
 }
 
-#[inline(never)]
-fn get_indexed<K: Key>(map: &LiteMap<K, u64>) -> u64 {
-    let mut sum: u64 = 0;
-    for index in 0..map.len() {
-        if let Some((_, value)) = map.get_indexed(index) {
-            sum = sum.wrapping_add(*value);
-        }
-    }
-    sum
-}
-
-#[inline(never)]
-fn into_iter<K: Key>(map: LiteMap<K, u64>) -> u64 {
-    let mut sum: u64 = 0;
-    for (_, value) in map {
-        sum = sum.wrapping_add(value);
-    }
-    sum
-}
-
-#[inline(never)]
-fn are_equal<K: Key>(map: &LiteMap<K, u64>, other: &LiteMap<K, u64>) -> u64 {
-    u64::from(map == other)
-}
-
-#[inline(never)]
-fn insert<K: Key>(map: &mut LiteMap<K, u64>, pairs: Vec<(K, u64)>) {
+fn insert<K: Ord + Clone>(map: &mut LiteMap<K, u64>, pairs: Vec<(K, u64)>) {
     for (key, value) in pairs {
         let _old = map.insert(key, value);
     }
 }
 
-#[inline(never)]
-fn append<K: Key>(map: &mut LiteMap<K, u64>, pairs: Vec<(K, u64)>) {
-    for (key, value) in pairs {
-        let _back = map.try_append(key, value);
-    }
-}
-
-#[inline(never)]
-fn remove<K: Key>(map: &mut LiteMap<K, u64>, keys: &[K]) -> u64 {
+fn rename<K: Ord + Clone>(map: &mut LiteMap<K, u64>, asked: &[(K, u64)], pairs: Vec<(K, u64)>) -> u64 {
     let mut sum: u64 = 0;
-    for key in keys {
-        if let Some(value) = map.remove(key) {
-            sum = sum.wrapping_add(value);
-        }
-    }
-    sum
-}
-
-#[inline(never)]
-fn rename<K: Key>(map: &mut LiteMap<K, u64>, keys: &[K], pairs: Vec<(K, u64)>) -> u64 {
-    let mut sum: u64 = 0;
-    for (key, (new_key, _)) in keys.iter().zip(pairs) {
+    for ((key, _), (new_key, _)) in asked.iter().zip(pairs) {
         if let Some(value) = map.remove(key) {
             let _old = map.insert(new_key, value);
             sum = sum.wrapping_add(1);
@@ -201,80 +131,18 @@ fn rename<K: Key>(map: &mut LiteMap<K, u64>, keys: &[K], pairs: Vec<(K, u64)>) -
     sum
 }
 
-#[inline(never)]
-fn update<K: Key>(map: &mut LiteMap<K, u64>) {
+fn update<K: Ord + Clone>(map: &mut LiteMap<K, u64>) {
     for (_, value) in map.iter_mut() {
         *value = value.wrapping_add(2);
     }
 }
 
-// The values are written first, since `retain` shows them only.
-#[inline(never)]
-fn retain_mut<K: Key>(map: &mut LiteMap<K, u64>) {
-    update(map);
-    map.retain(|_, value| *value & 2 == 0);
-}
-
-#[inline(never)]
-fn retain<K: Key>(map: &mut LiteMap<K, u64>) {
-    map.retain(|_, value| *value & 2 == 0);
-}
-
-// All values are even.
-#[inline(never)]
-fn retain_all<K: Key>(map: &mut LiteMap<K, u64>) {
-    map.retain(|_, value| *value & 1 == 0);
-}
-
-#[inline(never)]
-fn retain_none<K: Key>(map: &mut LiteMap<K, u64>) {
-    map.retain(|_, value| *value & 1 == 1);
-}
-
-#[inline(never)]
-fn keep_keys<K: Key>(map: &mut LiteMap<K, u64>, other: &LiteMap<K, u64>) {
-    map.retain(|key, _| other.contains_key(key));
-}
-
-#[inline(never)]
-fn remove_keys<K: Key>(map: &mut LiteMap<K, u64>, other: &LiteMap<K, u64>) {
-    map.retain(|key, _| !other.contains_key(key));
-}
-
-#[inline(never)]
-fn is_subset<K: Key>(map: &LiteMap<K, u64>, other: &LiteMap<K, u64>) -> u64 {
-    u64::from(map.iter().all(|(key, _)| other.contains_key(key)))
-}
-
-#[inline(never)]
-fn from_iter<K: Key>(pairs: Vec<(K, u64)>) -> LiteMap<K, u64> {
-    LiteMap::from_iter(pairs)
-}
-
-#[inline(never)]
-fn extend<K: Key>(map: &mut LiteMap<K, u64>, pairs: Vec<(K, u64)>) {
-    map.extend(pairs);
-}
-
-#[inline(never)]
-fn merge<K: Key>(map: &mut LiteMap<K, u64>, other: LiteMap<K, u64>) -> Option<LiteMap<K, u64>> {
-    map.extend_from_litemap(other)
-}
-
-#[inline(never)]
-fn extend_with<K: Key>(
-    map: &mut LiteMap<K, u64>,
-    mut other: LiteMap<K, u64>,
-) -> Option<LiteMap<K, u64>> {
+fn extend_with<K: Ord + Clone>(case: &mut Case<K, LiteMap<K, u64>>) {
+    let mut other = take(&mut case.other);
     for (key, new) in other.iter_mut() {
-        if let Some(here) = map.get(key) {
+        if let Some(here) = case.map.get(key) {
             *new = here.wrapping_add(*new);
         }
     }
-    map.extend_from_litemap(other)
-}
-
-#[inline(never)]
-fn clone<K: Key>(map: &LiteMap<K, u64>) -> LiteMap<K, u64> {
-    map.clone()
+    case.other = case.map.extend_from_litemap(other).unwrap_or_default();
 }

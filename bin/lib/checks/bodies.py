@@ -25,8 +25,6 @@ UNBREAKABLE = {
     "each slice of a map ascends, and so do the keys of two sets": "LiteMap::as_slice.rising VecSet::*.ascending",
     "it speaks of the type alone": "JsonItem::to_value.reads_back JsonKey::key_text.reads_back",
 }
-# The libraries whose bodies don't say yet which clauses they break.
-UNNAMED = ["name_index"]
 
 
 @functools.cache
@@ -37,48 +35,23 @@ def texts_of(crate):
     return {f"{name}/{path}": text for name in CRATES for path, text in texts_of(name).items()}
 
 
-def misfit(texts, body):
-    """Why a wrong body doesn't fit, None if it does."""
-    try:
-        edited(texts, body)
-    except ValueError as error:
-        return error
-    return None
-
-
-def place(texts, body):
-    """The position of a wrong body in the sources."""
-    path, after, old, _ = body.changes[0]
-    return path, texts[path].find(old, texts[path].find(after))
-
-
-def see_order(file, found, is_written, report):
-    """Compares the order of a file's bodies with that of the sources, or sorts them."""
-    ordered = sorted(found, key=lambda it: place(texts_of(file.name), it))
-    if is_written and ordered != found:
-        head = file.read_text(encoding="utf-8").split("\n\n")[0]
-        file.write_text("\n\n".join([head, *(it.text for it in ordered)]) + "\n", encoding="utf-8")
-    elif ordered != found:
-        first = next(now.title for now, then in zip(found, ordered) if now != then)
-        report.see(False, f"wrong/{file.name}: not sorted by source from {first!r} on: bin/check bodies --write sorts it")
-
-
-def see(file, crate, is_written, report):
-    """Checks the wrong bodies of a file."""
-    found, texts, name = bodies(file), texts_of(crate), file.relative_to(TOP)
-    whys = [(misfit(texts, it), it.title) for it in found]
-    for why, title in whys:
-        report.see(why is None, f"{name}: {title}: {why}")
+def see(file, crate, report):
+    """Checks the wrong bodies of a file, and returns them."""
+    found, name = bodies(file), file.relative_to(TOP)
+    for body in found:
+        try:
+            edited(texts_of(crate), body)
+        except ValueError as error:
+            report.see(False, f"{name}: {body.title}: {error}")
     for title, times in collections.Counter(it.title for it in found).items():
         report.see(times == 1, f"{name}: {title}: this title stands {times} times")
-    if name.parts[0] == "wrong" and not any(why for why, _ in whys):
-        see_order(file, found, is_written, report)
+    return found
 
 
 def clauses():
     """The clauses of public calls on what these return or leave, as (call, name), each with its words. Laws do nothing."""
     for source, calls in CALLS.items():
-        unnamed = {source, source.split("/")[0]} & {*NOT_LISTED, *UNNAMED}
+        unnamed = {source, source.split("/")[0]} & {*NOT_LISTED}
         for call in (it for it in calls if not unnamed and not it.head.endswith("()")):
             yield from (((call.label, name), " ".join(words.split())) for name, words in CLAUSE.findall(call.contract))
 
@@ -101,14 +74,14 @@ def see_clauses(broken, report):
         report.see(not {*names} & {spelled.get(it) for it in broken}, f"a wrong body breaks {pattern}, which UNBREAKABLE names")
 
 
-def check(report, write):
+def check(report, _):
     files, broken = {file: file.name for file in TOP.glob("wrong/*")}, {}
     files |= {file: file.parts[-3] for file in TOP.glob("crates/*/must-fail/*.edit")}
     files |= dict.fromkeys(TOP.glob("crates/*/planted"))
     for file in sorted(files):
         try:
-            see(file, files[file], write, report)
-            for label, *names in (call.split() for body in bodies(file) for call in body.breaks.split(";") if call):
+            found = see(file, files[file], report)
+            for label, *names in (call.split() for body in found for call in body.breaks.split(";") if call):
                 broken |= {(label, name): file.relative_to(TOP) for name in names or [""]}
         except ValueError as error:
             report.see(False, f"{file.relative_to(TOP)}: {error}")

@@ -1,10 +1,11 @@
-"""The code in pages and comments is code of a proved crate."""
+"""The code in pages and comments is code of a proved crate, and no line of a definition or of a proof is wider than a screen."""
 import re
 
 from lib.checks.pages import BLOCKS
-from lib.checks.sources import RUST, examples_of
+from lib.checks.sources import PROOFS, RUST, SPECS, examples_of
 from lib.shared import TOP
 
+MOST_COLUMNS = 160
 # The lines that a block leaves out.
 LEFT_OUT = re.compile(r"^ *// \.\.\.\n", re.MULTILINE)
 # The sources whose items are shown in comments. Pages and comments show items of bin/lib/examples.rt.in, too.
@@ -34,3 +35,6 @@ def check(report, _):
             line = text.count("\n", 0, comment.start()) + 1
             is_there = not is_item or stands_in(trimmed(block), shown)
             report.see(is_there, f"crates/{path}:{line}: the block in the comment stands in no crate")
+    for path, text in (SPECS | PROOFS).items():
+        for number, line in enumerate(text.splitlines(), start=1):
+            report.see(len(line) <= MOST_COLUMNS, f"crates/{path}:{number}: a line of {len(line)} columns")

@@ -26,7 +26,7 @@ GROUPS = {
     "JSON": "litemap_json: write text read fault told laws item pairs written",
     "Through serde": "litemap_serde: write read pairs holder",
     "Name tables": "name_table: read write name_bytes cursor error laws",
-    "Lookups in name tables": "name_index: table index name_entries indexed index_write error laws",
+    "Lookups in name tables": "name_index: names index indexed index_write error laws",
     "Sets": "litemap_set: lib",
     "What a call can be asked by": "litemap_store: query",
     "Stores": "litemap_store: store into_iter vec_impl slice_impl slice_iter owned_iter iter_mut count growth no_room retain reserved slice_search merge "
@@ -48,7 +48,7 @@ PINNED = {
     "Read from a source": LAST,
     "Name tables": LAST,
 }
-EACH = ["Last", "StandsLast", "IsExtended", "IsExtendedCounted", "IsGathered"]
+EACH = ["Last", "StandsLast", "IsGathered", "IsExtendedCounted"]
 # The groups that name the words of another one's page, and don't explain them again.
 BELOW = {"Lookups in name tables": "Name tables"}
 # The calls whose words a page shows only on demand, since most are for proofs by hand.
@@ -92,21 +92,16 @@ class Entry:
         return re.match(r".*?\.(?= |$)|.*", " ".join(self.call.comment.split("\n\n")[0].split()))[0]
 
 
-def entries_of(calls, titles):
-    """The entries of the calls of a source, with titles that are none of these."""
-    labels = {call.label: call for call in calls}
-    for call in calls:
+def entries_of(group):
+    """The entries of a group, each with a title of its own."""
+    found, titles = [], set()
+    for call in (it for source in sources_of(group) for it in CALLS.get(source, ())):
+        labels = {it.label: it for it in CALLS[call.source]}
         if call.label.removesuffix("_counted") in labels and call.label.endswith("_counted"):
             continue
-        title = f"{call.source.split('/')[-1]}::{call.label}" if call.label in titles else call.label
-        titles.add(title)
-        yield Entry(call, labels.get(f"{call.label}_counted"), title)
-
-
-def group_entries(group):
-    """The entries of a group."""
-    titles = set()
-    return [it for source in sources_of(group) for it in entries_of(CALLS.get(source, ()), titles)]
+        titles.add(title := f"{call.source.split('/')[-1]}::{call.label}" if call.label in titles else call.label)
+        found.append(Entry(call, labels.get(f"{call.label}_counted"), title))
+    return found
 
 
 def types_of(group):
@@ -116,7 +111,7 @@ def types_of(group):
     return [it for it in words if exported(it.path.split("/")[0])(paths[it.path], it.name)]
 
 
-ENTRIES = {group: group_entries(group) for group in GROUPS}
+ENTRIES = {group: entries_of(group) for group in GROUPS}
 # The types that hold pairs, each with those of our traits that it has.
 STORES = {}
 for head in (squeezed(it) for text in SOURCES.values() for it in re.findall(r"^impl\b[^{]*", text, re.MULTILINE)):
@@ -174,13 +169,7 @@ def is_told(group, word, far, above):
 
 def parameters(head):
     """The generic parameters of an impl, with their bounds."""
-    parts, depth = [""], 0
-    for sign in head.partition("<")[2] if head.startswith("impl<") else "":
-        depth += (sign == "<") - (sign == ">")
-        if depth < 0:
-            break
-        parts = [*parts, ""] if sign == "," and not depth else [*parts[:-1], parts[-1] + sign]
-    return [part.strip() for part in parts if ": " in part and not part.strip().startswith("'")]
+    return re.findall(r"(?<!')\b\w+: (?:[^<>,]|<(?:[^<>]|<[^<>]*>)*>)+", head) if head.startswith("impl<") else []
 
 
 def types_with(bound):

@@ -1,5 +1,6 @@
 """What pages name exists: paths, links and their anchors, what a file is said to have, and calls."""
 import collections
+import functools
 import os
 import re
 
@@ -19,27 +20,21 @@ CODE_OF = {path: re.sub(r"^ *(?://|--).*", "", text, flags=re.MULTILINE) for pat
 
 
 def all_paths():
-    """The files and folders, by each end of their paths, also without `src/` and without a suffix."""
-    ends = {}
+    """The files and folders from the top of the repository."""
     for folder, folders, files in os.walk(TOP):
         folders[:] = [it for it in folders if it not in (".git", "out")]
-        for name in folders + files:
-            path = os.path.relpath(os.path.join(folder, name), TOP)
-            for form in {path, path.replace("/src/", "/")}:
-                for whole in {form, os.path.splitext(form)[0]}:
-                    for at in [0, *(it.end() for it in re.finditer("/", whole))]:
-                        ends.setdefault(whole[at:], set()).add(path)
-    return ends
+        yield from (os.path.relpath(os.path.join(folder, name), TOP) for name in folders + files)
 
 
-PATHS = all_paths()
+PATHS = {path: path.replace("/src/", "/") for path in all_paths()}
 
 
+@functools.cache
 def found_at(path):
-    """The files and folders that a path may mean."""
-    path = re.sub(r"/out(/.*)?$|/$", "", path)
-    shape = re.compile(ANY.sub("[^/]+", path)) if ANY.search(path) else None
-    return {it for end, found in PATHS.items() if shape.fullmatch(end) for it in found} if shape else PATHS.get(path, set())
+    """The files and folders that a path may mean, which is the end of theirs, also without `src/` and without a suffix."""
+    named = ANY.sub("[^/]+", re.sub(r"/out(/.*)?$|/$", "", path))
+    end = re.compile(rf"(?:.*/)?{named}(?:\.\w+)?")
+    return {it for it, short in PATHS.items() if end.fullmatch(it) or end.fullmatch(short)}
 
 
 def paths_of(block):

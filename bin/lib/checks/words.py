@@ -44,13 +44,7 @@ def indent(line):
 
 def explicit(text):
     """The names of the parameters in a header that each use has to pass: those in parentheses."""
-    names, depth, start = [], 0, 0
-    for at, sign in enumerate(text):
-        start = at if not depth and sign in "({" else start
-        depth += (sign in "({") - (sign in ")}")
-        if not depth and sign == ")" and " : " in text[start:at]:
-            names += text[start + 1 : at].split(" : ")[0].split()
-    return names
+    return " ".join(re.findall(r"\(([\w' ]+) : ", re.sub(r"\{[^{}]*\}", "", text))).split()
 
 
 def argument(patterns, known):

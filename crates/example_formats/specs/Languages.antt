@@ -4,7 +4,7 @@ use Rattle.std.specs.Option.{unwrap_or}
 use Rattle.litemap.specs.ByBytes.{by_bytes}
 use Rattle.litemap_store.specs.Pairs.{value_at}
 use Rattle.name_table.specs.Reads.{IsFound}
-use Rattle.name_index.specs.Tables.{text_order}
+use Rattle.name_index.specs.Names.{text_order}
 use denote.Ref.{Bor}
 
 -- the name that was found in the bytes, or else the one in the table

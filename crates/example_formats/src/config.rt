@@ -49,7 +49,7 @@ pub fn overlay(limits: &mut Limits, alloc: Global, user: Limits) -> Result<(), A
     // The user's limit if there is one, else the one that was there.
     ensures found { OnOk result ((name : _) → value_at by_string limits.new.pairs name
         ≡ option_or (value_at by_string user.pairs name) (value_at by_string limits.old.pairs name)) }
-    ensures refused { OnErr result (limits.new.pairs ≡ limits.old.pairs) }
+    ensures unchanged { OnErr result (limits.new.pairs ≡ limits.old.pairs) }
 {
     limits.extend_from_litemap(alloc, user)?;
     Ok(())

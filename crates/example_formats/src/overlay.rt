@@ -34,7 +34,7 @@ pub fn overlay(settings: &mut Settings, alloc: Global, text: &str) -> Result<(),
         ⟦<String as JsonItem>⟧.json ⟦<String as JsonItem>⟧.json tree user
         × ((name : _) → value_at by_string settings.new.pairs name
         ≡ option_or (value_at by_string user name) (value_at by_string settings.old.pairs name))) }
-    ensures refused { OnErr result (settings.new.pairs ≡ settings.old.pairs) }
+    ensures unchanged { OnErr result (settings.new.pairs ≡ settings.old.pairs) }
 {
     match Value::from_str(alloc, text) {
         Ok(value) => overlay_value(settings, alloc, &value),
@@ -50,7 +50,7 @@ fn overlay_value(settings: &mut Settings, alloc: Global, value: &Value) -> Resul
         ⟦<String as JsonItem>⟧.json ⟦<String as JsonItem>⟧.json (view value.now) user
         × ((name : _) → value_at by_string settings.new.pairs name
         ≡ option_or (value_at by_string user name) (value_at by_string settings.old.pairs name))) }
-    ensures refused { OnErr result (settings.new.pairs ≡ settings.old.pairs) }
+    ensures unchanged { OnErr result (settings.new.pairs ≡ settings.old.pairs) }
 {
     let user: Settings = from_json(alloc, value).map_err(OverlayFault::Settings)?;
     let Ok(_) = settings.extend_from_litemap(alloc, user) else {

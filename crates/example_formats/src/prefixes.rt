@@ -1,12 +1,12 @@
 //! The names of a table that begin with a string.
 ghost use Rattle.std.specs.Prelude.{◌≡◌, filter};
-ghost use Rattle.name_index.specs.Tables.{OfTable, begins};
+ghost use Rattle.name_index.specs.Names.{begins};
 
-use name_index::{NameEntries, NameIndex};
+use name_index::{NameEntries, NameIndex, Names};
 
 /// The entries whose names begin with a string, in order.
-pub fn beginning<'a>(index: &NameIndex<'a>, text: &str) -> NameEntries<'a>
-    ensures { OfTable index.now (λ pairs. result ≡ filter (λ p. begins p.0 text.now) pairs) }
+pub fn beginning<'t, 'a>(index: &'t NameIndex<'a>, text: &str) -> NameEntries<'t, 'a>
+    ensures { result ≡ filter (λ p. begins p.0 text.now) index.now }
 {
     index.entries_in(index.prefix_range(text))
 }

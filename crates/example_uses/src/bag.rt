@@ -56,7 +56,7 @@ impl<K: Ord + Drop, S: StoreMut<K, usize>> Bag<K, S> {
     pub fn add(&mut self, element: K) -> Result<(), BagError>
         ensures added { OnOk result (self.new
             ≡ put K.cmp self.old element (unwrap_or (value_at K.cmp self.old element) 0 + 1)) }
-        ensures refused { OnErr result (self.new ≡ self.old) }
+        ensures unchanged { OnErr result (self.new ≡ self.old) }
         ensures full { result ≡ Err BagError.Full → value_at K.cmp self.old element ≡ Some usize.MAX }
         ensures no_memory { result ≡ Err BagError.NoMemory → at K.cmp self.old element ≡ None }
     {

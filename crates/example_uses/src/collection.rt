@@ -104,7 +104,7 @@ pub fn cap(map: &mut ColumnMap<u32, u32>, most: u32)
 pub fn note(days: &mut VecSet<u32>, day: u32) -> Result<bool, AllocError>
     ensures new { IfOk result (λ is_new. is_new ≡ not (contains nat_cmp days.old.keys day)) }
     ensures noted { OnOk result (contains nat_cmp days.new.keys day ≡ true) }
-    ensures refused { OnErr result (days.new.keys ≡ days.old.keys) }
+    ensures unchanged { OnErr result (days.new.keys ≡ days.old.keys) }
 {
     Ok(days.insert(day)?)
 }

@@ -44,7 +44,7 @@ pub fn override_with(
     // The last setting of the user if there is one, else the one that was there.
     ensures found { OnOk result ((name : _) → value_at string_cmp settings.new.pairs name
         ≡ option_or (value_at string_cmp (reverse user.items) name) (value_at string_cmp settings.old.pairs name)) }
-    ensures refused { OnErr result (settings.new.pairs ≡ settings.old.pairs) }
+    ensures unchanged { OnErr result (settings.new.pairs ≡ settings.old.pairs) }
 {
     settings.keys_ascend();
     settings.extend_from_vec(alloc, user)?;
@@ -64,7 +64,7 @@ pub fn overlay(
     // What is displaced: the old setting if the user has one, else nothing.
     ensures displaced { IfOk result (λ rest. IfSome rest (λ old. (name : _) → value_at by_string old.pairs name
         ≡ if is_some (at by_string user.pairs name) then value_at by_string settings.old.pairs name else None)) }
-    ensures refused { OnErr result (settings.new.pairs ≡ settings.old.pairs) }
+    ensures unchanged { OnErr result (settings.new.pairs ≡ settings.old.pairs) }
     ensures back { IfErr result (λ refused. refused.back.pairs ≡ user.pairs) }
 {
     settings.extend_from_litemap(alloc, user)

@@ -18,7 +18,7 @@ pub fn count_word<K: Ord + Drop, S: StoreMut<K, usize>>(
     ensures counted { OnOk result ((other : K) → unwrap_or (value_at K.cmp counts.new.pairs other) 0
         ≡ if is_eq (K.cmp word other) then unwrap_or (value_at K.cmp counts.old.pairs other) 0 + 1
         else unwrap_or (value_at K.cmp counts.old.pairs other) 0) }
-    ensures refused { OnErr result (counts.new.pairs ≡ counts.old.pairs) }
+    ensures unchanged { OnErr result (counts.new.pairs ≡ counts.old.pairs) }
 {
     put_count(counts, word)
 }
@@ -31,7 +31,7 @@ pub(crate) fn put_count<K: Ord + Drop, S: StoreMut<K, usize>>(
     requires { unwrap_or (value_at K.cmp counts.old.pairs word) 0 < usize.MAX }
     ensures put { OnOk result (counts.new.pairs
         ≡ put K.cmp counts.old.pairs word (unwrap_or (value_at K.cmp counts.old.pairs word) 0 + 1)) }
-    ensures refused { OnErr result (counts.new.pairs ≡ counts.old.pairs) }
+    ensures unchanged { OnErr result (counts.new.pairs ≡ counts.old.pairs) }
 {
     counts.entry(word).and_modify(|n| *n += 1).or_insert(1)?;
     Ok(())
@@ -64,7 +64,7 @@ pub fn count_name(names: &mut Names, name: String) -> Result<(), AllocError>
         ≡ Some (unwrap_or (value_at by_string names.old.pairs (string_bytes name)) 0 + 1)) }
     ensures others { OnOk result ((other : _) → other ≢ string_bytes name
         → value_at by_string names.new.pairs other ≡ value_at by_string names.old.pairs other) }
-    ensures refused { OnErr result (names.new.pairs ≡ names.old.pairs) }
+    ensures unchanged { OnErr result (names.new.pairs ≡ names.old.pairs) }
 {
     names.entry(name).and_modify(|n| *n += 1).or_insert(1)?;
     Ok(())

@@ -18,7 +18,7 @@ pub fn set(headers: &mut Headers, name: String, value: String) -> Result<Option<
     ensures set { OnOk result (value_at by_string headers.new.pairs (string_bytes name) ≡ Some value) }
     ensures others { OnOk result ((other : _) → other ≢ string_bytes name
         → value_at by_string headers.new.pairs other ≡ value_at by_string headers.old.pairs other) }
-    ensures refused { OnErr result (headers.new.pairs ≡ headers.old.pairs) }
+    ensures unchanged { OnErr result (headers.new.pairs ≡ headers.old.pairs) }
 {
     Ok(headers.insert(name, value)?)
 }
@@ -52,7 +52,7 @@ pub fn set_borrowed<'k>(
     value: &'k str,
 ) -> Result<(), AllocError>
     ensures set { OnOk result (value_at by_bytes headers.new.pairs name.entry ≡ Some value.entry) }
-    ensures refused { OnErr result (headers.new.pairs ≡ headers.old.pairs) }
+    ensures unchanged { OnErr result (headers.new.pairs ≡ headers.old.pairs) }
 {
     headers.insert(name, value)?;
     Ok(())

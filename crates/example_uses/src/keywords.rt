@@ -27,7 +27,7 @@ pub fn add<'k>(keywords: &mut Keywords<'k>, key: &'k str, value: &'k str) -> Res
         ≡ option_or (value_at by_bytes keywords.old.pairs key.entry) (Some value.entry)) }
     ensures others { OnOk result ((other : _) → by_bytes other key.entry ≢ Equal
         → value_at by_bytes keywords.new.pairs other ≡ value_at by_bytes keywords.old.pairs other) }
-    ensures refused { OnErr result (keywords.new.pairs ≡ keywords.old.pairs) }
+    ensures unchanged { OnErr result (keywords.new.pairs ≡ keywords.old.pairs) }
     ensures absent { OnErr result (value_at by_bytes keywords.old.pairs key.entry ≡ None) }
     ensures full { OnErr result (keywords.old.room ≡ 0) }
 {

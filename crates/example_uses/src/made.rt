@@ -22,12 +22,12 @@ where
     ensures found { IsSome (at K.cmp map.old.pairs key) → IsOk result }
     ensures value { IsSome (at K.cmp map.old.pairs key)
         → IfOk result (λ v. Some v ≡ value_at K.cmp map.old.pairs key) }
-    ensures unchanged { IsSome (at K.cmp map.old.pairs key) → map.new ≡ map.old }
+    ensures present { IsSome (at K.cmp map.old.pairs key) → map.new ≡ map.old }
     ensures made { IsNone (at K.cmp map.old.pairs key)
         → IfOk result (λ v. FnOnceReturnsAt F.FnOnce f key (Ok v)) }
     ensures put { IsNone (at K.cmp map.old.pairs key)
         → IfOk result (λ v. map.new.pairs ≡ put K.cmp map.old.pairs key v) }
-    ensures refused { OnErr result (map.new.pairs ≡ map.old.pairs) }
+    ensures unchanged { OnErr result (map.new.pairs ≡ map.old.pairs) }
     ensures closure { IfClosure result (λ fault. FnOnceReturnsAt F.FnOnce f key (Err fault)) }
     ensures full { IfNoRoom result (λ _ _. map.old.room ≡ 0) }
 {

@@ -29,7 +29,7 @@ pub fn set_age(ages: &mut Ages, id: u32, age: u8) -> io::Result<()>
     ensures place { OnOk result (index_of nat_cmp ages.new.pairs id ≡ Ok (place nat_cmp ages.old.pairs id)) }
     ensures others { OnOk result ((other : _) → other ≢ id
         → value_at nat_cmp ages.new.pairs other ≡ value_at nat_cmp ages.old.pairs other) }
-    ensures refused { OnErr result (ages.new.pairs ≡ ages.old.pairs) }
+    ensures unchanged { OnErr result (ages.new.pairs ≡ ages.old.pairs) }
     ensures memory { IfErr result (λ fault. error_kind fault ≡ OutOfMemory) }
 {
     ages.insert(id, age)?;

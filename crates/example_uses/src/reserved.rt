@@ -16,7 +16,7 @@ pub fn insert_both<K: Ord + Drop, V: Drop, S: StoreMut<K, V>>(
 ) -> Result<(), AllocError>
     ensures one { OnOk result (one.new.pairs ≡ put K.cmp one.old.pairs first.0 first.1) }
     ensures other { OnOk result (other.new.pairs ≡ put K.cmp other.old.pairs second.0 second.1) }
-    ensures refused { OnErr result ((one.new.pairs ≡ one.old.pairs) × (other.new.pairs ≡ other.old.pairs)) }
+    ensures unchanged { OnErr result ((one.new.pairs ≡ one.old.pairs) × (other.new.pairs ≡ other.old.pairs)) }
 {
     one.reserve(1)?;
     other.reserve(1)?;

@@ -14,7 +14,7 @@ pub type Scores = VecMap<String, u32>;
 /// Sets a score, which a lookup of the name then finds. On error the map is unchanged.
 pub fn set(scores: &mut Scores, name: String, score: u32) -> Result<(), AllocError>
     ensures there { OnOk result (value_at by_string scores.new.pairs (string_bytes name) ≡ Some score) }
-    ensures refused { OnErr result (scores.new.pairs ≡ scores.old.pairs) }
+    ensures unchanged { OnErr result (scores.new.pairs ≡ scores.old.pairs) }
 {
     scores.insert(name, score)?;
     Ok(())
@@ -41,7 +41,7 @@ pub fn set_all(
     more: Vec<(String, u32)>,
 ) -> Result<(), AllocError>
     ensures last { OnOk result (Last string_cmp (scores.old.pairs ++ more.items) scores.new.pairs) }
-    ensures refused { OnErr result (scores.new.pairs ≡ scores.old.pairs) }
+    ensures unchanged { OnErr result (scores.new.pairs ≡ scores.old.pairs) }
 {
     scores.extend_from_vec(alloc, more)?;
     Ok(())

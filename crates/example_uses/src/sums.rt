@@ -18,7 +18,7 @@ pub fn add(sum: &mut Vector, alloc: Global, other: Vector) -> Result<(), NoRoom<
     requires { (i : _) → number_at sum.old.pairs i + number_at other.pairs i ≤ u64.MAX }
     ensures added { OnOk result ((i : _) →
         number_at sum.new.pairs i ≡ number_at sum.old.pairs i + number_at other.pairs i) }
-    ensures refused { OnErr result (sum.new.pairs ≡ sum.old.pairs) }
+    ensures unchanged { OnErr result (sum.new.pairs ≡ sum.old.pairs) }
 {
     sum.extend_with(
         alloc,
@@ -41,7 +41,7 @@ pub fn add_capped(named: &mut Named, alloc: Global, other: Named) -> Result<(), 
     ensures added { OnOk result ((name : _) → value_at by_string named.new.pairs name
         ≡ found_with (λ _ here new. min (here + new) 18446744073709551615)
         (value_at by_string named.old.pairs name) (at by_string other.pairs name)) }
-    ensures refused { OnErr result (named.new.pairs ≡ named.old.pairs) }
+    ensures unchanged { OnErr result (named.new.pairs ≡ named.old.pairs) }
 {
     named.extend_with(
         alloc,

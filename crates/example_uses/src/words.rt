@@ -20,7 +20,7 @@ pub fn count_word<'k>(counts: &mut Counts<'k>, word: &'k str) -> Result<(), Allo
     ensures counted { OnOk result ((other : _) → unwrap_or (value_at by_bytes counts.new.pairs other) 0
         ≡ if is_eq (by_bytes word.entry other) then unwrap_or (value_at by_bytes counts.old.pairs other) 0 + 1
         else unwrap_or (value_at by_bytes counts.old.pairs other) 0) }
-    ensures refused { OnErr result (counts.new.pairs ≡ counts.old.pairs) }
+    ensures unchanged { OnErr result (counts.new.pairs ≡ counts.old.pairs) }
 {
     put_count(counts, word)
 }

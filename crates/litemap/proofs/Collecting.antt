@@ -1,7 +1,7 @@
 -- From what `extend` of a map promises of an iterator to what std's `Extend` asks of what becomes it.
 use Rattle.litemap.proofs.Common.{◌≡◌, List, [], ◌++◌, Option, Some, Ordering, Result, Ok, Err, OnOk, OnErr, append-nil, refl, subst, sym}
 use Rattle.std.specs.Iterator.{Drains, ExtendsWithItems}
-use Rattle.litemap_store.specs.Bulk.{GivesSome, IsExtended}
+use Rattle.litemap_store.specs.Bulk.{Gives, GivesSome, IsGathered}
 use Rattle.litemap_store.specs.Last.{Last}
 use Rattle.litemap_store.specs.Pairs.{Rising}
 use Rattle.litemap_store.proofs.Last.Pairs.{Last-rising}
@@ -9,7 +9,7 @@ use Rattle.litemap_store.proofs.Last.Pairs.{Last-rising}
 module _ {U T K V : Type 0} (cmp : K → K → Ordering) (becomes : U → T → Type 0) (steps : T → Option (K × V) → T → Type 0)
     (iter : U) (it : T) where
   pub extends_items : {E : Type 0} (old new : List (K × V)) (r : Result (Unit {0}) E) → becomes iter it → Rising cmp old
-      → OnOk r (IsExtended cmp (λ s t. t ≡ s) steps it old new) → OnErr r (new ≡ old)
+      → OnOk r (IsGathered cmp (Gives (λ s t. t ≡ s) steps it) old new) → OnErr r (new ≡ old)
       → ExtendsWithItems becomes steps (λ (l : List (K × V)) xs m. Last cmp (l ++ xs) m) iter old new r
   extends_items old new (Ok u) made rising extended same =
       let gives = extended.gives in

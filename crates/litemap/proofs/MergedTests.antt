@@ -1,13 +1,15 @@
--- What any query finds after a merge, by its test of pairs: for the clause `found`.
-use Rattle.litemap.proofs.Common.{◌≡◌, ◌∙◌, ◌∷◌, [], Bool, true, false, true≢false, List, Option, None, Some, ap, cond, is_eq, is_some, inl, inr, option_map}
-use Rattle.litemap.proofs.Common.{option_or, refl, subst, sym}
-use Rattle.litemap.proofs.Common.{Contents, Err, IfOk, Ok, Result}
-use Rattle.litemap.proofs.Common.{Ordering, IsTotalOrder, Merge, at, key_alike, key_same, left, tied_itself, value_at-merged, value_at-left}
-use Rattle.std.proofs.Common.{find, ◌⊎◌}
-use Rattle.litemap_store.specs.Last.{In}
+-- What any query finds after a merge, by its test of pairs: for the clauses `overlays` and `displaced`.
+use Rattle.litemap.proofs.Common.{◌≡◌, ◌∙◌, ◌∷◌, ◌++◌, [], Bool, true, false, List, Option, None, Some, ap, cond, is_eq, is_some, inl, inr, option_map}
+use Rattle.litemap.proofs.Common.{option_or, refl, reverse, subst, sym}
+use Rattle.litemap.proofs.Common.{Contents, Err, IfOk, Ok, Result, Rising}
+use Rattle.litemap.proofs.Common.{Ordering, IsTotalOrder, Merge, at, key_alike, key_same, left, value_at, value_at-merged, value_at-left}
+use Rattle.std.specs.Prelude.{if◌then◌else◌}
+use Rattle.std.proofs.Common.{find}
+use Rattle.litemap_store.specs.Last.{In, Last}
 use Rattle.std.proofs.lemmas.Map.Lookups.{exact_bytes}
 use Rattle.litemap.specs.Updates.{Displaces, IsKeyTest, Overlays}
-use Rattle.litemap_store.proofs.Names.{cons_option, IfSome}
+use Rattle.litemap_store.proofs.Callers.LastLookups.{value_at-last_of_more}
+use Rattle.litemap_store.proofs.Names.{IfSome}
 
 module _ {X : Type 0} where
   find_ext : (f g : X → Bool) → ((x : X) → f x ≡ g x) → (L : List X) → find f L ≡ find g L
@@ -24,103 +26,58 @@ module _ {X : Type 0} where
     find_passes [] y e = absurd (cc)
     find_passes (x ∷ L) y e = passes_by x L y (test x) refl e (find_passes L y)
 
-    fails_by : (x : X) (L : List X) (y : X) (b : Bool) → test x ≡ b → cond b (Some x) (find test L) ≡ None → (find test L ≡ None → In y L → test y ≡ false)
-        → (x ≡ y) ⊎ In y L → test y ≡ false
-    fails_by x L y true t e rest i = absurd (cc)
-    fails_by x L y false t e rest (inl s) = subst (λ z. test z ≡ false) s t
-    fails_by x L y false t e rest (inr i) = rest e i
-
-    find_fails : (L : List X) (y : X) → find test L ≡ None → In y L → test y ≡ false
-    find_fails [] y e i = absurd i
-    find_fails (x ∷ L) y e i = fails_by x L y (test x) refl e (find_fails L y) i
-
     pub none_found : (L : List X) → ((x : X) → In x L → test x ≡ false) → find test L ≡ None
     none_found [] n = refl
     none_found (x ∷ L) n = rw (n x (inl refl)) (none_found L (λ y i. n y (inr i)))
 
-module _ {K V : Type 0} (cmp : K → K → Ordering) (o : IsTotalOrder cmp) (test : K × V → Bool) (key : IsKeyTest cmp test) where
+module _ {K V : Type 0} (cmp : K → K → Ordering) (test : K × V → Bool) (key : IsKeyTest cmp test) where
   abbrev found : List (K × V) → Option V
   found L = option_map (λ p. p.1) (find test L)
 
   as_key : (x : K × V) → test x ≡ true → (L : List (K × V)) → find test L ≡ at cmp L x.0
   as_key x t L = find_ext test (λ y. is_eq (cmp y.0 x.0)) (λ y. key x y t) L
 
-  module _ (A B M : List (K × V)) (merge : Merge cmp A B M) where
-    by_witness : (x : K × V) → test x ≡ true → found M ≡ option_or (found B) (found A)
-    by_witness x t =
-        rw (as_key x t M, as_key x t B, as_key x t A)
-        (value_at-merged cmp o cmp x.0 (key_same o x.0) (key_alike o x.0) A B M merge)
-
-    none_merged : find test A ≡ None → find test B ≡ None → (p : K × V) → In p M → test p ≡ false
-    none_merged a b p i = elim ((merge.exactly p).0 i) [
-      | inl h ↦ find_fails test A p a h.0
-      | inr (inl h) ↦ find_fails test B p b h.0
-      | inr (inr h) ↦ by (test p) refl (find_fails test A (p.0, h.0.0) a h.0.1)
-    ]
+  module _ (A B M : List (K × V)) where
+    -- an equation of what is found in three lists holds if it does of each key, and if nothing is found
+    by_keys : (r : Option V → Option V → Option (K × V) → Option V)
+        → ((x : K × V) → value_at cmp M x.0 ≡ r (value_at cmp A x.0) (value_at cmp B x.0) (at cmp B x.0)) → r None None None ≡ None
+        → found M ≡ r (found A) (found B) (find test B)
+    by_keys r each none = by (find test A) (find test B) (find test M) refl refl refl
       where
-        by : (c : Bool) {v : V} → test p ≡ c → test (p.0, v) ≡ false → c ≡ false
-        by false t f = refl
-        by true {v} t f = absurd (true≢false (sym (key p (p.0, v) t ∙ ap is_eq (tied_itself o p.0)) ∙ f))
+        here : (x : K × V) → test x ≡ true → found M ≡ r (found A) (found B) (find test B)
+        here x t = rw (as_key x t M, as_key x t A, as_key x t B) (each x)
 
-    by_both : (a b : Option (K × V)) → find test A ≡ a → find test B ≡ b → found M ≡ option_or (found B) (found A)
-    by_both (Some x) b e f = by_witness x (find_passes test A x e)
-    by_both None (Some y) e f = by_witness y (find_passes test B y f)
-    by_both None None e f =
-        let n : find test M ≡ None = none_found test M (none_merged e f) in
-        rw (n, e, f) refl
+        by : (a b m : Option (K × V)) → find test A ≡ a → find test B ≡ b → find test M ≡ m → found M ≡ r (found A) (found B) (find test B)
+        by (Some x) b m e f g = here x (find_passes test A x e)
+        by None (Some y) m e f g = here y (find_passes test B y f)
+        by None None (Some z) e f g = here z (find_passes test M z g)
+        by None None None e f g = rw (g, e, f) (sym none)
 
-    pub found_merged : found M ≡ option_or (found B) (found A)
-    found_merged = by_both (find test A) (find test B) refl refl
+module _ {K V : Type 0} (cmp : K → K → Ordering) (o : IsTotalOrder cmp) where
+  pub overlays : (A B M : List (K × V)) → Merge cmp A B M → Overlays cmp A B M
+  overlays A B M merge = record {
+    all = λ test key. by_keys cmp test key A B M (λ a b _. option_or b a)
+        (λ x. value_at-merged cmp o cmp x.0 (key_same o x.0) (key_alike o x.0) A B M merge) refl;
+    exact = exact_bytes;
+  }
 
-  -- another value at the key of a pair that fails
-  fails_too : (b : K × V) (v : V) → test b ≡ false → test (b.0, v) ≡ false
-  fails_too b v f = by (test (b.0, v)) refl
-    where
-      by : (c : Bool) → test (b.0, v) ≡ c → c ≡ false
-      by false t = refl
-      by true t = absurd (true≢false (sym (key (b.0, v) b t ∙ ap is_eq (tied_itself o b.0)) ∙ f))
+  -- more pairs, of which the last of each key counts
+  pub overlays_last : (L J M : List (K × V)) → Last cmp (L ++ J) M → Rising cmp L → Overlays cmp L (reverse J) M
+  overlays_last L J M last r = record {
+    all = λ test key. by_keys cmp test key L (reverse J) M (λ a b _. option_or b a)
+        (λ x. value_at-last_of_more cmp o cmp x.0 (key_same o x.0) (key_alike o x.0) L J M last r) refl;
+    exact = exact_bytes;
+  }
 
-  none_left : (A B : List (K × V)) → find test B ≡ None → find test (left cmp A B) ≡ None
-  none_left A [] e = refl
-  none_left A (b ∷ B) e = by (at cmp A b.0) (fails_here (test b) refl e) (none_left A B (fails_there (test b) refl e))
-    where
-      fails_here : (c : Bool) → test b ≡ c → cond c (Some b) (find test B) ≡ None → test b ≡ false
-      fails_here true t f = absurd (cc)
-      fails_here false t f = t
+  displaces : (A B : List (K × V)) → Displaces cmp A B (left cmp A B)
+  displaces A B = record {
+    each = λ k. value_at-left cmp o cmp k (key_same o k) (key_alike o k) A B;
+    all = λ test key. by_keys cmp test key A B (left cmp A B) (λ a _ p. if is_some p then a else None)
+        (λ x. value_at-left cmp o cmp x.0 (key_same o x.0) (key_alike o x.0) A B) refl;
+  }
 
-      fails_there : (c : Bool) → test b ≡ c → cond c (Some b) (find test B) ≡ None → find test B ≡ None
-      fails_there true t f = absurd (cc)
-      fails_there false t f = f
-
-      by : (r : Option (K × V)) → test b ≡ false → find test (left cmp A B) ≡ None
-          → find test (cons_option (option_map (λ (a : K × V). let p : K × V = (b.0, a.1) in p) r) (left cmp A B)) ≡ None
-      by None f rest = rest
-      by (Some a) f rest = rw (fails_too b a.1 f) rest
-
-  pub found_left : (A B : List (K × V)) → found (left cmp A B) ≡ cond (is_some (find test B)) (found A) None
-  found_left A B = by (find test B) refl
-    where
-      by : (b : Option (K × V)) → find test B ≡ b → found (left cmp A B) ≡ cond (is_some (find test B)) (found A) None
-      by (Some y) f =
-          let t = find_passes test B y f in
-          rw (as_key y t (left cmp A B), as_key y t B, as_key y t A)
-          (value_at-left cmp o cmp y.0 (key_same o y.0) (key_alike o y.0) A B)
-      by None f = rw (none_left A B f, f) refl
-
-pub overlays : {K V : Type 0} (cmp : K → K → Ordering) (o : IsTotalOrder cmp) (A B M : List (K × V)) → Merge cmp A B M → Overlays cmp A B M
-overlays cmp o A B M merge = record {
-  all = λ test key. found_merged cmp o test key A B M merge;
-  exact = exact_bytes;
-}
-
-displaces : {K V : Type 0} (cmp : K → K → Ordering) (o : IsTotalOrder cmp) (A B : List (K × V)) → Displaces cmp A B (left cmp A B)
-displaces cmp o A B = record {
-  each = λ k. value_at-left cmp o cmp k (key_same o k) (key_alike o k) A B;
-  all = λ test key. found_left cmp o test key A B;
-}
-
-pub displaced_by : {K V E : Type 0} (cmp : K → K → Ordering) (o : IsTotalOrder cmp) (A B : List (K × V)) (r : Result (Option (Contents K V)) E)
-    → IfOk r (λ rest. IfSome rest (λ s. s.pairs ≡ left cmp A B)) → IfOk r (λ rest. IfSome rest (λ s. Displaces cmp A B s.pairs))
-displaced_by cmp o A B (Ok (Some s)) e = subst (λ L. Displaces cmp A B L) (sym e) (displaces cmp o A B)
-displaced_by cmp o A B (Ok None) e = e
-displaced_by cmp o A B (Err x) e = e
+  pub displaced_by : {E : Type 0} (A B : List (K × V)) (r : Result (Option (Contents K V)) E)
+      → IfOk r (λ rest. IfSome rest (λ s. s.pairs ≡ left cmp A B)) → IfOk r (λ rest. IfSome rest (λ s. Displaces cmp A B s.pairs))
+  displaced_by A B (Ok (Some s)) e = subst (λ L. Displaces cmp A B L) (sym e) (displaces A B)
+  displaced_by A B (Ok None) e = e
+  displaced_by A B (Err x) e = e

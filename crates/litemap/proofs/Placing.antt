@@ -19,8 +19,8 @@ module _ {F K V E : Type 0} (g : Once F (Bor K × Unit {0}) (Result V E)) (f : F
     pub put : IsNone (at cmp old.pairs key) → OnOk r ((v : V) × FnOnceReturnsAt g f key (Ok v) × (n.pairs ≡ put cmp old.pairs key v))
     pub room : old.room ≤ n.room + 1
     pub errors : FailsAs g f key old.room r
-    pub refused : OnErr r (n.pairs ≡ old.pairs)
-    pub unmoved : IfClosure r (λ _. n ≡ old)
+    pub unchanged : OnErr r (n.pairs ≡ old.pairs)
+    pub unchanged_by_closure : IfClosure r (λ _. n ≡ old)
 
   fails_alike : (e : TryFault K V E) → FailsAs g f key old.room {A = ℕ} (Err e) → FailsAs g f key old.room {A = ℕ × Bor V} (Err e)
   fails_alike (Closure e) h = record { closure = h.closure; full = tt; back = tt }
@@ -54,8 +54,8 @@ module _ {F K V E : Type 0} (g : Once F (Bor K × Unit {0}) (Result V E)) (f : F
           present = λ some. (found.present some).1;
           put = λ none. (made none).2 ∙ ap (put cmp old.pairs key) (same none);
           room = found.room;
-          refused = tt;
-          unmoved = tt;
+          unchanged = tt;
+          unchanged_by_closure = tt;
         };
         place = place-is;
         present = λ some. refl;
@@ -71,8 +71,8 @@ module _ {F K V E : Type 0} (g : Once F (Bor K × Unit {0}) (Result V E)) (f : F
           present = λ some. (found.present some).1;
           put = λ none. tt;
           room = found.room;
-          refused = subst (λ s. OnErr s (n.pairs ≡ old.pairs)) shown found.refused;
-          unmoved = still_unmoved e (subst (λ s. IfClosure s (λ _. n ≡ old)) shown found.unmoved);
+          unchanged = subst (λ s. OnErr s (n.pairs ≡ old.pairs)) shown found.unchanged;
+          unchanged_by_closure = still_unmoved e (subst (λ s. IfClosure s (λ _. n ≡ old)) shown found.unchanged_by_closure);
         };
         place = tt;
         present = λ some. subst IsOk shown (found.present some).0;

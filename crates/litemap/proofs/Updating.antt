@@ -1,5 +1,5 @@
 -- What lookups find after one key has changed: for the clauses `updates`.
---     updates_put, places_put      after a put;  finds_cut, places_cut      after a cut;  finds_write      after a write
+--     updates_put, places_put, updates_push      after a put;  finds_cut, places_cut      after a cut;  finds_write      after a write
 use Rattle.litemap.proofs.Common.{◌≡◌, ◌∙◌, ◌∷◌, ◌++◌, ◌+◌, ℕ, Bool, false, List, Option, None, Some, IsSome, Result, option_map, true, is_gt, is_lt, [], Ok}
 use Rattle.litemap.proofs.Common.{Err, arith, ap, append-nil, is_eq, is_some, length}
 use Rattle.litemap.proofs.Common.{length-append, option_or, refl, subst, sym, Ordering, Less, Equal, Greater, IsTotalOrder, key_or_equal}
@@ -10,7 +10,9 @@ use Rattle.std.specs.Option.{option_map_or}
 use Rattle.std.proofs.lemmas.List.Folds.{find-append}
 use Rattle.litemap_store.proofs.Names.{filter-append}
 use Rattle.litemap_store.proofs.Last.KeepLast.{filter_all, filter_none}
-use Rattle.litemap_store.proofs.Lists.Membership.{In-from_filter}
+use Rattle.litemap_store.proofs.Lists.Membership.{In-from_filter, each}
+use Rattle.litemap_store.specs.Pairs.{AllBelow}
+use Rattle.litemap.proofs.MergedTests.{none_found}
 use Rattle.std.specs.Prelude.{if◌then◌else◌}
 use Rattle.std.proofs.lemmas.Cmp.{tied_back}
 use Rattle.std.proofs.lemmas.Map.Lookups.{exact_bytes}
@@ -127,6 +129,17 @@ module _ {K V : Type 0} {cmp : K → K → Ordering} (o : IsTotalOrder cmp) (L :
 
   pub updates_put : (r : Result ℕ ℕ) → Splits cmp L k r → Updates cmp k (Some v) L (put cmp L k v)
   updates_put r s = record { finds = finds_put r s; each = λ q. each_by q (cmp q k) refl }
+
+  -- a pair above all others
+  pub updates_push : AllBelow cmp L k → Updates cmp k (Some v) L (L ++ (k, v) ∷ [])
+  updates_push b =
+      let less = each (λ (p : K × V). cmp p.0 k ≡ Less) L b in
+      let low : below cmp L k ≡ L = filter_all (λ (p : K × V). is_lt (cmp p.0 k)) L (λ x i. ap is_lt (less x i)) in
+      let high : above cmp L k ≡ [] = filter_none (λ (p : K × V). is_gt (cmp p.0 k)) L (λ x i. ap is_gt (less x i)) in
+      let none : at cmp L k ≡ None = none_found (λ (p : K × V). is_eq (cmp p.0 k)) L (λ x i. ap is_eq (less x i)) in
+      let s : Splits cmp L k (Err (length L)) = record { is = sym (rw (low, high) (append-nil L)); place = ap length (sym low); missing = none } in
+      let e : put cmp L k v ≡ L ++ (k, v) ∷ [] = rw (low, high, none) refl in
+      subst (λ M. Updates cmp k (Some v) L M) e (updates_put (Err (length L)) s)
 
   pub places_put : (r : Result ℕ ℕ) → Splits cmp L k r → Places cmp k (Some v) L (put cmp L k v)
   places_put r s =

@@ -91,6 +91,23 @@ module _ {K V S : Type 0} {g : ord.Ghosts K} {g' : eq.Ghosts K} {g'' : partial.G
     pub room : (entry_map e).now.room ≤ n.room + 1
     pub room_kept : IsSome (entry_value e) → n.room ≡ (entry_map e).now.room
 
+  -- the occupied entry is the entry e once v is its value: calls on it make the same of the pairs
+  pub record IsInserted (e : Entry K V S g g' g'' s) (v : V) (o : OccupiedEntry K V S g g' g'' s) : Type 0 where
+    pub value : entry_value (Occupied o) ≡ Some v
+    pub same_key : entry_key (Occupied o) ≡ entry_key e
+    pub same_writes : (w : V) → pairs_with (Occupied o) w ≡ pairs_with e w
+    pub same_removal : pairs_without (Occupied o) ≡ pairs_without e
+    pub same_map : o.map.ghost_name ≡ (entry_map e).ghost_name
+    pub leaves : Leaves e o.map.now v
+
+  -- the vacant entry b is the entry e, whose key is absent, of a map whose room is 0
+  pub record IsGivenBack (e : Entry K V S g g' g'' s) (b : VacantEntry K V S g g' g'' s) : Type 0 where
+    pub absent : entry_value e ≡ None
+    pub full : (entry_map e).now.room ≡ 0
+    pub same_key : entry_key e ≡ Some b.key
+    pub same_pairs : b.map.now.pairs ≡ (entry_map e).now.pairs
+    pub same_map : b.map.ghost_name ≡ (entry_map e).ghost_name
+
   -- it fails only if the key is absent and the room is 0: the error has the key, and a value of which P holds
   pub record EntryRefused (e : Entry K V S g g' g'' s) (P : V → Type 0) {A : Type 0}
       (result : Result A (NoRoom (K × V))) : Type 0 where
@@ -129,7 +146,8 @@ module _ {K V S : Type 0} {g : ord.Ghosts K} {g' : eq.Ghosts K} {g'' : partial.G
   IsMadeFor call f (variants.Occupied o) v = ⊤
   IsMadeFor call f (variants.Vacant e) v = FnOnceReturnsAt call f e.key v
 
-  -- it fails only if the key is absent: with an error of which Made holds; or at room 0, with the key and a value of which it does
+  -- it fails only if the key is absent: with an error of which Made holds; or at room 0, with the key and a value of which it
+  -- does
   pub record EntryFails {A E : Type 0} (e : Entry K V S g g' g'' s) (Made : Result V E → Type 0)
       (result : Result A (TryFault K V E)) : Type 0 where
     pub absent : OnErr result (entry_value e ≡ None)

@@ -3,8 +3,8 @@ use Rattle.std.specs.Prelude.{◌≡◌, ◌≢◌, List, Option, Some, IfSome}
 use Rattle.std.specs.declared.cmp.Ordering.{Ordering}
 use Rattle.litemap_store.specs.Pairs.{at}
 
--- found is the pair of L that is nearest to q among those whose keys are not `past` it (`Greater`: above, `Less`: below), if there
--- is one
+-- found is the pair of L that is nearest to q among those whose keys are not `past` it (`Greater`: above, `Less`: below), if
+-- there is one
 pub record Nearest {K Q V : Type 0} (cmp : K → K → Ordering) (order : K → Q → Ordering) (past : Ordering) (L : List (K × V)) (q : Q)
     (found : Option (K × V)) : Type 0 where
   pub there : IfSome found (λ p. at cmp L p.0 ≡ Some p)

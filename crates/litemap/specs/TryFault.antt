@@ -40,5 +40,5 @@ module _ {F K V E : Type 0} (g : Once F (Bor K × Unit {0}) (Result V E)) (f : F
     pub present : IsSome (at cmp old.pairs key) → n ≡ old
     pub put : IsNone (at cmp old.pairs key) → IfOk result (λ there. n.pairs ≡ put cmp old.pairs key there.1.now)
     pub room : old.room ≤ n.room + 1
-    pub refused : OnErr result (n.pairs ≡ old.pairs)
-    pub unmoved : IfClosure result (λ _. n ≡ old)
+    pub unchanged : OnErr result (n.pairs ≡ old.pairs)
+    pub unchanged_by_closure : IfClosure result (λ _. n ≡ old)

@@ -1,5 +1,6 @@
 -- What lookups find after one key has changed.
-use Rattle.std.specs.Prelude.{◌≡◌, ◌≢◌, ◌+◌, ℕ, Bool, true, false, List, Option, None, Ok, Err, IsSome, Some, find, option_map, is_some, length, if◌then◌else◌}
+use Rattle.std.specs.Prelude.{◌≡◌, ◌≢◌, ◌+◌, ℕ, Bool, true, false, List, Option, None, Ok, Err, IsSome, Some, find, option_map}
+use Rattle.std.specs.Prelude.{is_some, length, if◌then◌else◌}
 use Rattle.std.specs.Cmp.Lexicographic.{slice_cmp}
 use Rattle.std.specs.Option.{option_or}
 use Rattle.std.specs.Ordering.{is_eq, nat_cmp}
@@ -49,7 +50,8 @@ pub record Displaces {K V : Type 0} (cmp : K → K → Ordering) (A B D : List (
   pub all : (test : K × V → Bool) → IsKeyTest cmp test
       → option_map (λ p. p.1) (find test D) ≡ (if is_some (find test B) then option_map (λ p. p.1) (find test A) else None)
 
--- M is the part of L that passes `keep`: a query whose pairs all pass finds what it found before, one whose pairs all fail nothing
+-- M is the part of L that passes `keep`: a query whose pairs all pass finds what it found before, one whose pairs all fail
+-- nothing
 pub record KeepsPart {K V : Type 0} (keep : K × V → Bool) (L M : List (K × V)) : Type 0 where
   pub stays : (test : K × V → Bool) → ((p : K × V) → test p ≡ true → keep p ≡ true) → find test M ≡ find test L
   pub gone : (test : K × V → Bool) → ((p : K × V) → test p ≡ true → keep p ≡ false) → find test M ≡ None

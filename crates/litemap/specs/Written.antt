@@ -21,8 +21,8 @@ module _ {F K V : Type 0} (g : Mut F (Bor K × (MutBor V × Unit {0})) (Unit {0}
   Written f (p ∷ L) M = (q : K × V) × (f' : F) × (N : List (K × V)) × WritesPair f p q f' × Written f' L N × (M ≡ q ∷ N)
 
   -- a call of f on p may leave it as f'
-  abbrev pub Asks : F → K × V → F → Type 0
-  Asks f p f' = (q : K × V) × WritesPair f p q f'
+  abbrev pub AsksToWrite : F → K × V → F → Type 0
+  AsksToWrite f p f' = (q : K × V) × WritesPair f p q f'
 
   -- f may be called on the key and the value of the pair p
   abbrev pub TakesValue : F → K × V → Type 0
@@ -31,7 +31,7 @@ module _ {F K V : Type 0} (g : Mut F (Bor K × (MutBor V × Unit {0})) (Unit {0}
   -- f may be called on each pair of L in order, in the state that the calls on the pairs before left
   pub record CallableOnValues (f : F) (L : List (K × V)) : Type 0 where
     pub at : (before after : List (K × V)) (f' : F) (p : K × V)
-        → L ≡ before ++ p ∷ after → FoldsTo Asks f before f' → TakesValue f' p
+        → L ≡ before ++ p ∷ after → FoldsTo AsksToWrite f before f' → TakesValue f' p
 
   -- f leaves of each pair the value that `write` computes of it, and keeps no state
   abbrev pub Writes : F → (K → V → V) → Type 0

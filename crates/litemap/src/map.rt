@@ -1,5 +1,5 @@
 //! The map: its type, and how one is made.
-ghost use Rattle.std.specs.Prelude.{◌≡◌, ◌↔◌, ◌+◌, ◌≤◌, [], IfErr, IfOk, IsOk, IsTrue, OnErr, length};
+ghost use Rattle.std.specs.Prelude.{◌≡◌, ◌↔◌, ◌+◌, ◌≤◌, [], IfErr, IfOk, IsOk, IsTrue, OnErr, length, min};
 ghost use Rattle.litemap_store.specs.Pairs.{Rising};
 ghost use Rattle.litemap_store.specs.Clones.{ClonesAreSame, ClonesCompareEqual, PairsBecame};
 
@@ -85,8 +85,10 @@ impl<K: Ord, V> LiteMap<K, V, Vec<(K, V)>> {
     ///
     /// ```rust
     /// let mut days: Days = LiteMap::with_capacity(alloc, 100)?;
+    /// days.shrink_to(10);
+    /// let is_kept = days.capacity() >= 10;
     /// days.shrink_to_fit();
-    /// days.capacity() == 0 && days.as_store().is_empty()
+    /// Ok(is_kept && days.capacity() == 0 && days.as_store().is_empty())
     /// ```
     pub fn shrink_to_fit(&mut self)
         ensures pairs { self.new.pairs ≡ self.old.pairs }
@@ -94,6 +96,15 @@ impl<K: Ord, V> LiteMap<K, V, Vec<(K, V)>> {
         ensures frees { self.old.pairs ≡ [] → self.new.room ≡ 0 }
     {
         self.store.shrink_to_fit();
+    }
+
+    /// `shrink_to_fit`, but keeps memory for `capacity` pairs if there was so much (own).
+    pub fn shrink_to(&mut self, capacity: usize)
+        ensures pairs { self.new.pairs ≡ self.old.pairs }
+        ensures room { self.new.room ≤ self.old.room }
+        ensures kept { min capacity (length self.old.pairs + self.old.room) ≤ length self.new.pairs + self.new.room }
+    {
+        self.store.shrink_to(capacity);
     }
 }
 
@@ -232,12 +243,6 @@ impl<K: Ord, V, S: StoreMut<K, V>> LiteMap<K, V, S> {
 /// Formats it as a map. What is printed is not promised.
 impl<K: Ord + Debug, V: Debug, S: Store<K, V>> Debug for LiteMap<K, V, S> {
     fn fmt<W: Write>(&self, f: &mut Formatter<W>) -> fmt::Result {
-        let mut out = f.debug_map();
-        for index in 0..self.len() {
-            if let Some((key, value)) = self.get_indexed(index) {
-                out.entry(key, value);
-            }
-        }
-        out.finish()
+        RangeIter::all(&self.store).fmt(f)
     }
 }

@@ -38,7 +38,7 @@ module _ {K V : Type 0} (cmp : K → K → Ordering) (total : IsTotalOrder cmp) 
 
   pub array_again : (L : List (K × V)) → Rising cmp L → AllReadBack key_item json_item key_json json L
       → ReadsAs cmp key key_item json_item key_json json (array (rows text key_json json L)) L
-  array_again L r h = record { spelled = L; spells = rows_read 0 L h; last = Last-rising cmp L r }
+  array_again L r h = record { given = L; gives = rows_read 0 L h; last = Last-rising cmp L r }
 
   -- the members spell the pairs, one by one
   abbrev pub Spells : List (K × V) → Members → Type 0
@@ -143,8 +143,8 @@ module _ {K V : Type 0} (cmp : K → K → Ordering) (total : IsTotalOrder cmp) 
   object_end L i ms d h r e g =
       let all : Gathered ms L = subst (λ done. Gathered ms done) (take_all i L h) g.1 in
       rw e (record {
-        spelled = all.0;
-        spells = members_read 0 all.0 ms all.1;
+        given = all.0;
+        gives = members_read 0 all.0 ms all.1;
         last = record { rising = r; exactly = λ p. (λ i. last_from p all.0 all.3 ((all.2 p).1 i), λ h. (all.2 p).0 (In-from_last cmp p all.0 h)) };
       })
 

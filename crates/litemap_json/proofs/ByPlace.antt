@@ -4,7 +4,7 @@ use Rattle.std.proofs.Common.{Result, sym, ◌∙◌, ap, add-one, drop-cons, ap
 use Rattle.std.proofs.lemmas.List.{map-append}
 use Rattle.std.proofs.lemmas.Option.{get_or_from_slice_get, slice_get_within}
 use Rattle.serde_json.specs.Data.{Data, Members, put}
-use Rattle.litemap_json.specs.Json.{before, object_with}
+use Rattle.litemap_json.specs.Json.{object_with, prepended}
 use Rattle.litemap_json.specs.Reading.{after, pair_seen, seen}
 use Rattle.litemap_json.specs.declared.fault.JsonFault.{JsonFault}
 use Rattle.litemap_json.specs.declared.fault.WriteFault.{WriteFault}
@@ -34,13 +34,13 @@ pub after_none : (r : Result (List (Data × Data)) JsonFault) → r ≡ after []
 after_none (Err e) = refl
 after_none (Ok qs) = refl
 
-after_more : (ps : List (Data × Data)) (p : Data × Data) (r : Result (List (Data × Data)) JsonFault) → after ps (before (Ok p) r) ≡ after (ps ++ p ∷ []) r
+after_more : (ps : List (Data × Data)) (p : Data × Data) (r : Result (List (Data × Data)) JsonFault) → after ps (prepended (Ok p) r) ≡ after (ps ++ p ∷ []) r
 after_more ps p (Err e) = refl
 after_more ps p (Ok qs) = ap Ok (sym (append_assoc ps (p ∷ []) qs))
 
 -- a pair more is read
 pub seen_more : {K V : Type 0} (key_json : K → Data) (json : V → Data) (L M : List (K × V)) (x : K × V) (all next : Result (List (Data × Data)) JsonFault)
     (a : Result (Data × Data) JsonFault)
-    → M ≡ L ++ x ∷ [] → a ≡ Ok (pair_seen key_json json x) → all ≡ after (seen key_json json L) (before a next) → all ≡ after (seen key_json json M) next
+    → M ≡ L ++ x ∷ [] → a ≡ Ok (pair_seen key_json json x) → all ≡ after (seen key_json json L) (prepended a next) → all ≡ after (seen key_json json M) next
 seen_more key_json json L M x all next a pushed read so_far =
     rw pushed (rw (map-append (pair_seen key_json json) L (x ∷ [])) ((rw read at so_far) ∙ after_more (seen key_json json L) (pair_seen key_json json x) next))

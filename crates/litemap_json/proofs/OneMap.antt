@@ -64,10 +64,10 @@ module _ {K V : Type 0} (cmp : K → K → Ordering) (total : IsTotalOrder cmp) 
   pub one_reading : (key : List ℕ → Option Data) (key_item json_item : Data → Result Data ItemFault) (d : Data) (L M : List (K × V))
       → ReadsAs cmp key key_item json_item key_json json d L → ReadsAs cmp key key_item json_item key_json json d M → Sees L ≡ Sees M
   one_reading key key_item json_item d L M a b =
-      let both : the_ok (Sees a.spelled) ≡ the_ok (Sees b.spelled) = sym a.spells ∙ b.spells in
-      let same : Sees a.spelled ≡ Sees b.spelled = cc in
+      let both : the_ok (Sees a.given) ≡ the_ok (Sees b.given) = sym a.gives ∙ b.gives in
+      let same : Sees a.given ≡ Sees b.given = cc in
       let none = Last-rising cmp [] tt in
-      last_alike [] [] a.spelled b.spelled [] [] L M same refl none none a.last b.last
+      last_alike [] [] a.given b.given [] [] L M same refl none none a.last b.last
 
 -- if a tree tells its key, and another its item, the trees of a list tell the list
 module _ {K V : Type 0} (key_json : K → Data) (json : V → Data) (keys : (x y : K) → key_json x ≡ key_json y → x ≡ y)

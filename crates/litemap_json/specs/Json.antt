@@ -41,10 +41,10 @@ module _ {K V : Type 0} (text : K → Option (List ℕ)) (key_json : K → Data)
 -- ---- reading
 
 -- the first error, or the pair before the others
-abbrev pub before : Result (Data × Data) JsonFault → Result (List (Data × Data)) JsonFault → Result (List (Data × Data)) JsonFault
-before (Err e) r = Err e
-before (Ok p) (Err e) = Err e
-before (Ok p) (Ok L) = Ok (p ∷ L)
+abbrev pub prepended : Result (Data × Data) JsonFault → Result (List (Data × Data)) JsonFault → Result (List (Data × Data)) JsonFault
+prepended (Err e) r = Err e
+prepended (Ok p) (Err e) = Err e
+prepended (Ok p) (Ok L) = Ok (p ∷ L)
 
 -- the pair of a key and an item, or the error of the first that is none, the key's before the item's
 abbrev pub pair_at : ℕ → Result Data ItemFault → Result Data ItemFault → Result (Data × Data) JsonFault
@@ -61,7 +61,7 @@ module _ (key : List ℕ → Option Data) (key_item json_item : Data → Result 
   -- the pairs that the elements of an array spell, the first of which has this index, or the first error
   abbrev pub row_pairs : ℕ → Items → Result (List (Data × Data)) JsonFault
   row_pairs place no_items = Ok []
-  row_pairs place (item d ds) = before (row_at place (two_of d)) (row_pairs (place + 1) ds)
+  row_pairs place (item d ds) = prepended (row_at place (two_of d)) (row_pairs (place + 1) ds)
 
   -- the pair of an object's member, whose name has to be a key's string
   abbrev pub member_at : ℕ → Option Data → Data → Result (Data × Data) JsonFault
@@ -71,7 +71,7 @@ module _ (key : List ℕ → Option Data) (key_item json_item : Data → Result 
   -- the pairs that the members of an object spell, the first of which has this index, or the first error
   abbrev pub member_pairs : ℕ → Members → Result (List (Data × Data)) JsonFault
   member_pairs place no_members = Ok []
-  member_pairs place (member s d ms) = before (member_at place (key s) d) (member_pairs (place + 1) ms)
+  member_pairs place (member s d ms) = prepended (member_at place (key s) d) (member_pairs (place + 1) ms)
 
   -- the pairs that a tree spells, in its order, or the error at the first index that spells none
   abbrev pub pairs : Data → Result (List (Data × Data)) JsonFault

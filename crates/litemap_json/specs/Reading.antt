@@ -20,9 +20,9 @@ module _ {K V : Type 0} (cmp : K → K → Ordering) (key : List ℕ → Option 
     (key_json : K → Data) (json : V → Data) where
   -- the tree d represents pairs, and L has the last one of each key
   pub record ReadsAs (d : Data) (L : List (K × V)) : Type 0 where
-    pub spelled : List (K × V)
-    pub spells : pairs key key_item json_item d ≡ Ok (seen key_json json spelled)
-    pub last : Last cmp spelled L
+    pub given : List (K × V)
+    pub gives : pairs key key_item json_item d ≡ Ok (seen key_json json given)
+    pub last : Last cmp given L
 
 -- what is read from the trees of a pair is that pair
 abbrev pub ReadsBack : {K V : Type 0} → (Data → Result Data ItemFault) → (Data → Result Data ItemFault)

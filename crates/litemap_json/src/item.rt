@@ -51,10 +51,9 @@ pub trait JsonItem {
     fn from_value(alloc: Global, value: &Value) -> Result<Self, ItemFault>
         ensures { Reads Memory json (item (view value.now)) result };
 
-    /// Appends the value to what a writer has, as the text of what `to_value` makes. By default that value is made, written and
-    /// dropped; a type may override this.
+    /// Writes the value as JSON. By default it makes the `Value` of `to_value`, and writes that; override it to make none.
     ///
-    /// If memory runs out, some of the value may be written. The bytes that the writer was made with (`before`) stay in any case.
+    /// If memory runs out, part of the value may be written. The bytes that the writer was made with (`before`) always stay.
     fn write_to(&self, alloc: Global, out: &mut Writer) -> Result<(), AllocError>
         ensures tree { OnOk result (WritesTree (json self.now) out.old.tokens out.new.tokens) }
         ensures before { out.new.before ≡ out.old.before }

@@ -40,7 +40,7 @@ pub fn from_json<K: JsonKey + Drop, V: JsonItem + Drop, S: StoreBulkMut<K, V>>(
 ) -> Result<LiteMap<K, V, S>, JsonFault>
     ensures read { IfOk result
         (λ map. ReadsAs K.cmp K.key K.item V.item K.json V.json (view value.now) map.pairs) }
-    ensures refused { IfErr result
+    ensures error { IfErr result
         (λ e. e ≢ reading.Memory → pairs K.key K.item V.item (view value.now) ≡ Err e) }
     ensures refused_some { IfErr result (λ e. e ≡ reading.Memory → HasElements (view value.now)) }
 {

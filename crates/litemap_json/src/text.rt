@@ -39,7 +39,7 @@ pub fn write_json<K: JsonKey, V: JsonItem, S: Store<K, V>>(
 ) -> Result<String, WriteFault>
     ensures text { IfOk result (λ text. (d : Data) × (tree K.text K.json V.json map.now.pairs ≡ Ok d)
         × IsTextOf d (string_bytes text)) }
-    ensures refused { IfErr result (λ fault. fault ≢ Memory → tree K.text K.json V.json map.now.pairs ≡ Err fault) }
+    ensures error { IfErr result (λ fault. fault ≢ Memory → tree K.text K.json V.json map.now.pairs ≡ Err fault) }
 {
     let Some((first, _)) = map.first() else {
         return Ok(array_text(alloc, map)?);
@@ -80,7 +80,7 @@ fn object_text<K: JsonKey, V: JsonItem, S: Store<K, V>>(
     ensures text { IfOk result (λ made. IfSome made
         (λ text. (d : Data) × (object_with K.text K.json V.json 0 no_members map.now.pairs ≡ Ok d)
         × IsTextOf d (string_bytes text))) }
-    ensures refused { IfErr result
+    ensures error { IfErr result
         (λ fault. fault ≢ Memory → object_with K.text K.json V.json 0 no_members map.now.pairs ≡ Err fault) }
 {
     let mut out = writer(alloc, map.len())?;
@@ -108,7 +108,7 @@ fn by_name<'m, N: Name, K: JsonKey, V: JsonItem, S: Store<K, V>>(
 ) -> Result<VecMap<N, &'m V>, WriteFault>
     ensures named { IfOk result (λ items. object_with K.text K.json V.json 0 no_members map.now.pairs
         ≡ Ok (object (named N.bytes (λ item. V.json item.now) items.pairs))) }
-    ensures refused { IfErr result
+    ensures error { IfErr result
         (λ fault. fault ≢ Memory → object_with K.text K.json V.json 0 no_members map.now.pairs ≡ Err fault) }
 {
     let mut items = Vec::with_capacity(alloc, map.len())?;

@@ -32,7 +32,7 @@ pub fn to_json<K: JsonKey, V: JsonItem, S: Store<K, V>>(
     map: &LiteMap<K, V, S>,
 ) -> Result<Value, WriteFault>
     ensures tree { IfOk result (λ value. tree K.text K.json V.json map.now.pairs ≡ Ok (view value)) }
-    ensures refused { IfErr result (λ fault. fault ≢ Memory → tree K.text K.json V.json map.now.pairs ≡ Err fault) }
+    ensures error { IfErr result (λ fault. fault ≢ Memory → tree K.text K.json V.json map.now.pairs ≡ Err fault) }
     ensures refused_some { OnErr result (map.now.pairs ≢ []) }
     ensures reads_back { IfOk result
         (λ value. ReadsAs K.cmp K.key K.item V.item K.json V.json (view value) map.now.pairs) }
@@ -73,7 +73,7 @@ fn object_of<K: JsonKey, V: JsonItem, S: Store<K, V>>(
     requires { IsFirst K.text K.key K.json map.now.pairs (string_bytes name) item.now }
     ensures tree { IfOk result
         (λ value. object_with K.text K.json V.json 0 no_members map.now.pairs ≡ Ok (view value)) }
-    ensures refused { IfErr result
+    ensures error { IfErr result
         (λ fault. fault ≢ Memory → object_with K.text K.json V.json 0 no_members map.now.pairs ≡ Err fault) }
     ensures reads_back { IfOk result
         (λ value. ReadsAs K.cmp K.key K.item V.item K.json V.json (view value) map.now.pairs) }

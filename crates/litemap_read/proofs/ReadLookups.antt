@@ -7,7 +7,7 @@ use Rattle.std.specs.declared.cmp.Ordering.{Ordering}
 use Rattle.litemap_store.specs.Last.{Last}
 use Rattle.litemap_store.specs.Pairs.{value_at}
 use Rattle.litemap_store.proofs.Callers.LastLookups.{at-Last}
-use Rattle.litemap_read.specs.Source.{IsGathered}
+use Rattle.litemap_store.specs.Bulk.{IsGathered}
 
 module _ {K V : Type 0} {cmp : K → K → Ordering} (Gives : List (K × V) → Type 0) (J M : List (K × V))
     (only : (L : List (K × V)) → Gives L → L ≡ J) (r : IsGathered cmp Gives [] M) where

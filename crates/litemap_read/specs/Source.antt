@@ -2,8 +2,6 @@
 -- the source doesn't. If it gives one, read `gives s L` as 'L is the list of s'.
 use Rattle.std.specs.Prelude.{◌≡◌, ◌↔◌, ◌≤◌, ℕ, ◌+◌, List, [], ◌∷◌, ◌++◌, Result, Ok, Err, Option, Some, None}
 use Rattle.std.specs.Prelude.{IfErr, OnErr, OnOk}
-use Rattle.std.specs.declared.cmp.Ordering.{Ordering}
-use Rattle.litemap_store.specs.Last.{Last}
 use Rattle.litemap_read.specs.ReadFault.{IfSource}
 use Rattle.litemap_read.specs.declared.source.ReadFault.{ReadFault}
 use Rattle.litemap_read.specs.declared.source.ReadFault.TheVariants.{NoRoom}
@@ -12,13 +10,6 @@ module _ {S P : Type 0} (gives : S → List P → Type 0) where
   -- there are pairs such that each list that t can give, s can give after them
   abbrev pub IsLater : S → S → Type 0
   IsLater s t = (front : List P) × ((rest : List P) → gives t rest → gives s (front ++ rest))
-
--- a list is given, and M is the last pairs of the old ones followed by it
-pub record IsGathered {K V : Type 0} (cmp : K → K → Ordering) (Gives : List (K × V) → Type 0)
-    (old M : List (K × V)) : Type 0 where
-  pub given : List (K × V)
-  pub gives : Gives given
-  pub last : Last cmp (old ++ given) M
 
 module _ {S P : Type 0} (gives : S → List P → Type 0) (left : S → ℕ) where
   -- t has the list of s

@@ -20,7 +20,7 @@ pub fn run_calls<K: Ord + Drop, V: Copy, S: StoreBulkMut<K, V>>(
 ) -> Result<Vec<Answer<K, V>>, NoRoom<Vec<Call<K, V>>>>
     ensures run { IfOk result (λ answers. Run K.cmp map.old calls.items answers.items map.new) }
     ensures back { IfErr result (λ refused. refused.back ≡ calls) }
-    ensures unmoved { OnErr result (map.new ≡ map.old) }
+    ensures unchanged { OnErr result (map.new ≡ map.old) }
 {
     let Ok(mut answers) = Vec::with_capacity(alloc, calls.len()) else {
         return Err(NoRoom { back: calls });

@@ -1,12 +1,12 @@
 //! Reading a map from a source.
 ghost use Rattle.std.specs.Prelude.{◌≡◌, ◌≤◌, [], ◌∷◌, ◌++◌, IfErr, IfOk, OnErr, OnOk, vec_len};
 ghost use Rattle.std.specs.Iterator.{IsFiniteIterable};
-ghost use Rattle.litemap_store.specs.Bulk.{GivesSome};
+ghost use Rattle.litemap_store.specs.Bulk.{GivesSome, IsGathered};
 ghost use Rattle.litemap_store.specs.Laws.{Sifted};
 ghost use Rattle.litemap_read.specs.ReadFault.{IfSource};
 ghost use Rattle.litemap_read.specs.Results.{GivesFault, GivesPairs};
 ghost use Rattle.litemap_read.specs.declared.source.ReadFault.TheVariants.{NoRoom};
-ghost use Rattle.litemap_read.specs.Source.{IsAsked, IsLater, IsGathered};
+ghost use Rattle.litemap_read.specs.Source.{IsAsked, IsLater};
 
 use crate::{PairSource, ReadFault};
 use litemap::LiteMap;

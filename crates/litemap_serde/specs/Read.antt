@@ -11,11 +11,11 @@ struct_ends true = seq_ends
 struct_ends false = map_ends
 
 -- the last step read the end
-abbrev pub Ends : {F E M : Type 0} → (F → List ℕ → Event → F → Type 0) → Bool → Deserializer F E M → Type 0
-Ends {F} {E} {M} gives is_seq new = (before : Deserializer F E M) × Gives gives before (struct_ends is_seq) new
+abbrev pub EndsStruct : {F E M : Type 0} → (F → List ℕ → Event → F → Type 0) → Bool → Deserializer F E M → Type 0
+EndsStruct {F} {E} {M} gives is_seq new = (before : Deserializer F E M) × Gives gives before (struct_ends is_seq) new
 
 -- the first step read the beginning of a map or of a sequence, and the last one its end
-abbrev pub IsWhole : {F E M : Type 0} → (F → List ℕ → Event → F → Type 0) → (F → F → Type 0) → Deserializer F E M
+abbrev pub ReadsWhole : {F E M : Type 0} → (F → List ℕ → Event → F → Type 0) → (F → F → Type 0) → Deserializer F E M
     → Deserializer F E M → Type 0
-IsWhole {F} {E} {M} gives stays old new = (is_seq : Bool) × (first : Deserializer F E M)
-    × Begins gives stays old (struct_begins is_seq) first × Ends gives is_seq new
+ReadsWhole {F} {E} {M} gives stays old new = (is_seq : Bool) × (first : Deserializer F E M)
+    × Begins gives stays old (struct_begins is_seq) first × EndsStruct gives is_seq new

@@ -1,7 +1,7 @@
 //! A map as a sequence of pairs, for keys that have no text in a format: a module for `#[serde(with = "..")]`.
 ghost use Rattle.std.specs.Prelude.{OnOk};
 ghost use Rattle.serde.specs.Event.{WritesSeq};
-ghost use Rattle.litemap_serde.specs.Written.{WritesPair};
+ghost use Rattle.litemap_serde.specs.Written.{SendsPair};
 
 pub use crate::read::{deserialize, deserialize_owned};
 use litemap::LiteMap;
@@ -20,7 +20,7 @@ pub fn serialize<K: Serialize + Ord, V: Serialize, S: Store<K, V>, W: Serializer
     out: &mut W,
 ) -> Result<(), W::Error>
     ensures { OnOk result
-        (WritesSeq (WritesPair K.writes V.writes) map.now.pairs (W.written out.old) (W.written out.new)) }
+        (WritesSeq (SendsPair K.writes V.writes) map.now.pairs (W.written out.old) (W.written out.new)) }
 {
     let len = map.len();
     out.begin_seq(Some(len))?;

@@ -1,7 +1,7 @@
 //! A map read from a format.
 ghost use Rattle.std.specs.Prelude.{IfOk, MatchOption, OnOk, ⊤};
 ghost use Rattle.litemap_store.specs.Last.{Last};
-ghost use Rattle.litemap_serde.specs.Read.{Ends, IsWhole};
+ghost use Rattle.litemap_serde.specs.Read.{EndsStruct, ReadsWhole};
 
 use litemap::LiteMap;
 use litemap::store::StoreBulkMut;
@@ -21,7 +21,7 @@ pub fn deserialize<
     S: StoreBulkMut<K, V>,
     F: Format,
 >(alloc: Global, from: &mut Deserializer<'de, '_, F>) -> Result<LiteMap<K, V, S>, F::Error>
-    ensures whole { OnOk result (IsWhole F.gives F.stays from.old from.new) }
+    ensures whole { OnOk result (ReadsWhole F.gives F.stays from.old from.new) }
 {
     read::<Borrowed, K, V, S, F>(alloc, from)
 }
@@ -33,7 +33,7 @@ pub fn deserialize_owned<
     S: StoreBulkMut<K, V>,
     F: Format,
 >(alloc: Global, from: &mut Deserializer<'_, '_, F>) -> Result<LiteMap<K, V, S>, F::Error>
-    ensures whole { OnOk result (IsWhole F.gives F.stays from.old from.new) }
+    ensures whole { OnOk result (ReadsWhole F.gives F.stays from.old from.new) }
 {
     read::<Owned, K, V, S, F>(alloc, from)
 }
@@ -71,7 +71,7 @@ fn read<
     S: StoreBulkMut<K, V>,
     F: Format,
 >(alloc: Global, from: &mut Deserializer<'de, '_, F>) -> Result<LiteMap<K, V, S>, F::Error>
-    ensures whole { OnOk result (IsWhole F.gives F.stays from.old from.new) }
+    ensures whole { OnOk result (ReadsWhole F.gives F.stays from.old from.new) }
 {
     let in_sequence = from.begin_struct()?;
     let mut pairs = Vec::new(alloc);
@@ -94,7 +94,7 @@ fn next_pair<'de, W: ReadBy<'de, K> + ReadBy<'de, V>, K: Drop, V: Drop, F: Forma
     from: &mut Deserializer<'de, '_, F>,
     in_sequence: bool,
 ) -> Result<Option<(K, V)>, F::Error>
-    ensures ended { IfOk result (λ next. MatchOption next (Ends F.gives in_sequence from.new) (λ _. ⊤)) }
+    ensures ended { IfOk result (λ next. MatchOption next (EndsStruct F.gives in_sequence from.new) (λ _. ⊤)) }
 {
     if in_sequence {
         if !from.next_item()? {

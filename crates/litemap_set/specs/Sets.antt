@@ -1,5 +1,6 @@
 -- A set as the list of its keys, in ascending order. Two keys are equal if the order returns Equal; they may be two values.
-use Rattle.std.specs.Prelude.{◌≡◌, ◌⊎◌, ◌+◌, ◌<◌, ◌≤◌, ℕ, Bool, false, ◌&&◌, ◌||◌, List, ◌++◌, Option, Result, IfErr, IfOk, IsTrue, OnErr, OnOk, if◌then◌else◌}
+use Rattle.std.specs.Prelude.{◌≡◌, ◌⊎◌, ◌+◌, ◌<◌, ◌≤◌, ℕ, Bool, false, ◌&&◌, ◌||◌, List, ◌++◌, Option, Result, IfErr, IfOk}
+use Rattle.std.specs.Prelude.{IsTrue, OnErr, OnOk, if◌then◌else◌}
 use Rattle.std.specs.Prelude.{[], ◌∷◌, filter, find, length, map, not, refl, reverse, ⊤}
 pub use Rattle.std.specs.Map.{keys_of}
 use Rattle.std.specs.Bool.{OnFalse}
@@ -86,12 +87,12 @@ pub record InsertsKey {K : Type 0} (cmp : K → K → Ordering) (key : K) (old n
   pub updates : OnOk result ((q : K) → contains cmp new.keys q ≡ (is_eq (cmp key q) || contains cmp old.keys q))
   pub len : IfOk result (λ is_new. length new.keys ≡ length old.keys + (if is_new then 1 else 0))
   -- an equal key stays, and so does all else
-  pub unchanged : IfOk result (λ is_new. OnFalse is_new (new.keys ≡ old.keys))
+  pub present : IfOk result (λ is_new. OnFalse is_new (new.keys ≡ old.keys))
   pub room_kept : IfOk result (λ is_new. OnFalse is_new (new.room ≡ old.room))
   -- it fails only for a new key, at room 0, and then returns it
   pub absent : OnErr result (contains cmp old.keys key ≡ false)
   pub full : OnErr result (old.room ≡ 0)
-  pub refused : OnErr result (new.keys ≡ old.keys)
+  pub unchanged : OnErr result (new.keys ≡ old.keys)
   pub back : IfErr result (λ e. e.back ≡ key)
   pub room : old.room ≤ new.room + 1
 

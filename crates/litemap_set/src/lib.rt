@@ -10,7 +10,8 @@ ghost use Rattle.std.specs.Map.{keys_of};
 ghost use Rattle.std.specs.Map.Iter.{TakesFirst, deref};
 ghost use Rattle.std.specs.Option.{option_copied};
 ghost use Rattle.litemap_store.specs.Bulk.{Gives, GivesSome};
-ghost use Rattle.litemap_set.specs.Sets.{HasLast, IsDifference, IsDisjoint, IsExtendedBy, IsIntersection, IsSubset, IsSymmetricDifference, IsUnion};
+ghost use Rattle.litemap_set.specs.Sets.{HasLast, IsDifference, IsDisjoint, IsExtendedBy, IsIntersection, IsSubset};
+ghost use Rattle.litemap_set.specs.Sets.{IsSymmetricDifference, IsUnion};
 ghost use Rattle.litemap_set.specs.Sets.{InsertsKey, RemovesKey, TestsKeys, contains, key_at};
 ghost use Rattle.litemap_set.specs.Walks.{walk};
 
@@ -217,7 +218,7 @@ impl<K: Ord + Drop> VecSet<K> {
     pub fn append(&mut self, alloc: Global, other: &mut Self) -> Result<(), AllocError>
         ensures union { OnOk result (IsUnion K.cmp self.old.keys other.old.keys self.new.keys) }
         ensures emptied { OnOk result (other.new.keys ≡ []) }
-        ensures refused { OnErr result ((self.new.keys ≡ self.old.keys) × (other.new.keys ≡ other.old.keys)) }
+        ensures unchanged { OnErr result ((self.new.keys ≡ self.old.keys) × (other.new.keys ≡ other.old.keys)) }
     {
         self.map.append(alloc, &mut other.map)
     }
@@ -232,7 +233,7 @@ impl<K: Ord + Drop> VecSet<K> {
         requires { IsFiniteIterable I.into_iter_gives I.IntoIter.can_next I.IntoIter.remaining iter }
         ensures extended { OnOk result
             (IsExtendedBy K.cmp I.into_iter_gives I.IntoIter.next_gives iter self.old.keys self.new.keys) }
-        ensures refused { OnErr result (self.new.keys ≡ self.old.keys) }
+        ensures unchanged { OnErr result (self.new.keys ≡ self.old.keys) }
         ensures refused_some { OnErr result (GivesSome I.into_iter_gives I.IntoIter.next_gives iter) }
     {
         let pairs = with_units(alloc, iter)?;

@@ -26,12 +26,13 @@ pub use Rattle.std.specs.List.{AllAdjacentBelow, AllByRecursion, AllWithin, AllZ
 pub use Rattle.std.specs.Option.{option_map_or, option_or}
 pub use Rattle.std.specs.Ordering.{ordering_index, ordering_reverse}
 pub use denote.Param.Members.{Mut}
-pub use Rattle.litemap_store.specs.{above, AllBelow, Ascends, at, below, BelowAll, Callable, CallableOnEach, CalledOnPair, ComparesFirsts, cut, digits}
-pub use Rattle.litemap_store.specs.{digits-halved, digits-mono, digits-step, digits-zero, Finds, Gives, GivesSome, index_of, IsCountedFor, IsExtended}
-pub use Rattle.litemap_store.specs.{IsGreaterEnd, IsPutIn, IsTaken, IsTakenFirst, Kept, KeptSoFar, key_one_side, key_or, OneSide, place, put, ReturnsEach}
-pub use Rattle.litemap_store.specs.{RisesByAtMost, Rising, set_value, Shape, sub, TakesPair, value_at, value_in, write}
+pub use Rattle.litemap_store.specs.{above, AllBelow, Ascends, at, below, BelowAll, Callable, CallableOnEach, CalledOnPair, cut, digits}
+pub use Rattle.litemap_store.specs.{digits-halved, digits-mono, digits-step, digits-zero, FindsEqual, Gives, GivesSome, index_of, IsCountedFor, IsGathered}
+pub use Rattle.litemap_store.specs.{Kept, key_one_side, key_or, OneSide, place, put, ReturnsEach}
+pub use Rattle.litemap_store.specs.{RisesByAtMost, Rising, set_value, Shape, sub, TakesKeyValue, value_at, value_in, write}
 pub use Rattle.litemap_store.specs.Last.{In, Last, NoneEqual, Rises, StandsLast}
 pub use Rattle.litemap_store.specs.Laws.{HasKey, Sifted}
 pub use Rattle.litemap_store.specs.Merge.{Apart, IsMerged, left, Merge}
 pub use Rattle.litemap_store.specs.Splits.{IsFoundAt, IsMissingAt, Splits}
+pub use Rattle.litemap_store.specs.Steps.{ComparesFirsts, IsTakenFirst, IsPutIn, KeptSoFar, Walks}
 pub use Rattle.litemap_store.specs.declared.count.Count.{Count}

@@ -30,14 +30,15 @@ pub record IsCountedFor {K V : Type 0} (cmp : K → K → Ordering) (old given :
   -- if they ascend: one for each old and two for each new pair
   pub rising : Rising cmp given → RisesByAtMost (length old + 2 * length given) before after
 
-module _ {U T K V : Type 0} (cmp : K → K → Ordering) (becomes : U → T → Type 0) (steps : T → Option (K × V) → T → Type 0) where
-  -- iter yields the pairs `given` and then ends, and new has the last pairs of the old ones followed by these
-  pub record IsExtended (iter : U) (old new : List (K × V)) : Type 0 where
-    pub given : List (K × V)
-    pub gives : Gives becomes steps iter given
-    pub last : Last cmp (old ++ given) new
+-- pairs are given, and new has the last pairs of the old ones followed by these
+pub record IsGathered {K V : Type 0} (cmp : K → K → Ordering) (AreGiven : List (K × V) → Type 0)
+    (old new : List (K × V)) : Type 0 where
+  pub given : List (K × V)
+  pub gives : AreGiven given
+  pub last : Last cmp (old ++ given) new
 
-  -- the same, and how many comparisons are counted at most
+module _ {U T K V : Type 0} (cmp : K → K → Ordering) (becomes : U → T → Type 0) (steps : T → Option (K × V) → T → Type 0) where
+  -- iter yields the pairs, as `IsGathered` says, and how many comparisons are counted at most
   pub record IsExtendedCounted (iter : U) (old new : List (K × V)) (before after : Count) : Type 0 where
     pub given : List (K × V)
     pub gives : Gives becomes steps iter given

@@ -43,7 +43,7 @@ pub record Merges {K V S : Type 0} (cmp : K → K → Ordering) (pairs : S → L
   pub none : IfOk result (λ rest. IsNone rest ↔ (left cmp (pairs before) (pairs other) ≡ []))
   pub left : IfOk result (λ rest. IfSome rest (λ s. pairs s ≡ left cmp (pairs before) (pairs other)))
   -- if it fails, the list stays, and the other one comes back whole
-  pub refused : OnErr result (pairs after ≡ pairs before)
+  pub unchanged : OnErr result (pairs after ≡ pairs before)
   pub back : IfErr result (λ refused. pairs refused.back ≡ pairs other)
 
 -- `other` is merged into `before`, which is then `after`: all three are stores, or maps

@@ -15,7 +15,7 @@ use crate::bulk::merge::merge;
 use crate::growth::{Refused, reserve};
 use crate::into_iter::append_each;
 use crate::sorted::{keep_rising, lies_below};
-use crate::store::{Count, StoreMut};
+use crate::store::{Count, StoreIntoIterator};
 use std::alloc::Global;
 use std::mem;
 
@@ -34,7 +34,7 @@ pub fn append_items<K: Drop, V: Drop, I: IntoIterator<Item = (K, V)>>(
     requires { IsFiniteIterable I.into_iter_gives I.IntoIter.can_next I.IntoIter.remaining iter }
     ensures gathered { OnOk result ((given : _) × (items.new.items ≡ items.old.items ++ given)
         × Gives I.into_iter_gives I.IntoIter.next_gives iter given) }
-    ensures refused { OnErr result (items.new.items ≡ items.old.items) }
+    ensures unchanged { OnErr result (items.new.items ≡ items.old.items) }
     ensures refused_some { OnErr result (GivesSome I.into_iter_gives I.IntoIter.next_gives iter) }
 {
     let len = items.len();
@@ -64,7 +64,7 @@ fn make_room<K, V>(items: &mut Vec<(K, V)>) -> Result<(), Refused>
 }
 
 /// Puts the pairs of a vector in, which is left empty. Of each key the last pair stays.
-pub fn put_pairs<K: Ord + Drop, V: Drop, S: StoreMut<K, V> + Drop>(
+pub fn put_pairs<K: Ord + Drop, V: Drop, S: StoreIntoIterator<K, V> + Drop>(
     alloc: Global,
     store: &mut S,
     pairs: &mut Vec<(K, V)>,
@@ -72,7 +72,7 @@ pub fn put_pairs<K: Ord + Drop, V: Drop, S: StoreMut<K, V> + Drop>(
 ) -> Result<(), Refused>
     requires { Rising K.cmp (S.pairs store.old) }
     ensures last { OnOk result (Last K.cmp (S.pairs store.old ++ pairs.old.items) (S.pairs store.new)) }
-    ensures refused { OnErr result (S.pairs store.new ≡ S.pairs store.old) }
+    ensures unchanged { OnErr result (S.pairs store.new ≡ S.pairs store.old) }
     ensures all_above { Rises K.cmp (S.pairs store.old) pairs.old.items
         → RisesByAtMost (length pairs.old.items) count.old count.new }
     ensures cost { RisesByAtMost (length (S.pairs store.old) + 2 * length pairs.old.items) count.old count.new }

@@ -1,6 +1,7 @@
-//! Calls that take memory of a store or of a vector. If one fails, it returns a `Refused`, which nothing else makes: so a function
-//! that returns one was refused a growth.
-ghost use Rattle.std.specs.Prelude.{◌≡◌, ◌⊎◌, ◌<◌, ◌≤◌, ◌+◌, ◌++◌, [], IfErr, IfOk, IsOk, OnErr, OnOk, drop, length, take, vec_len};
+//! Calls that take memory of a store or of a vector. If one fails, it returns a `Refused`, which nothing else makes: so a
+//! function that returns one was refused a growth.
+ghost use Rattle.std.specs.Prelude.{◌≡◌, ◌⊎◌, ◌<◌, ◌≤◌, ◌+◌, ◌++◌, [], IfErr, IfOk, IsOk, OnErr, OnOk, drop, length, take};
+ghost use Rattle.std.specs.Prelude.{vec_len};
 ghost use Rattle.std.specs.List.Sorted.{IsSortedByClosure, IsStableByClosure};
 
 use crate::store::{StoreIntoIterator, StoreMut};
@@ -50,7 +51,7 @@ pub(crate) fn sort_by<T, F: FnMut(&T, &T) -> Ordering>(
     ensures len { length items.new ≡ length items.old }
     ensures sorted { OnOk result (IsSortedByClosure F.FnMut compare items.new) }
     ensures stable { IsStableByClosure F.FnMut compare items.old items.new }
-    ensures err { OnErr result (items.new ≡ items.old) }
+    ensures unchanged { OnErr result (items.new ≡ items.old) }
 {
     items
         .sort_by(alloc, compare)
@@ -62,7 +63,7 @@ pub(crate) fn split_off<T>(items: &mut Vec<T>, at: usize) -> Result<Vec<T>, Refu
     requires { at ≤ vec_len items.old }
     ensures items { OnOk result (items.new.items ≡ take at items.old.items) }
     ensures tail { IfOk result (λ rest. rest.items ≡ drop at items.old.items) }
-    ensures err { OnErr result (items.new ≡ items.old) }
+    ensures unchanged { OnErr result (items.new ≡ items.old) }
 {
     items.split_off(at).map_err(|_| Refused { seal: () })
 }
@@ -73,7 +74,7 @@ pub(crate) fn extend_start<K: Drop, V: Drop, S: StoreIntoIterator<K, V>>(
     other: S,
 ) -> Result<(), (Refused, S)>
     ensures ok { OnOk result (S.pairs store.new ≡ S.pairs other ++ S.pairs store.old) }
-    ensures refused { OnErr result (S.pairs store.new ≡ S.pairs store.old) }
+    ensures unchanged { OnErr result (S.pairs store.new ≡ S.pairs store.old) }
     ensures back { IfErr result (λ e. S.pairs e.1 ≡ S.pairs other) }
     ensures full { OnErr result ((S.room store.old < length (S.pairs other))
         ⊎ (S.room other < length (S.pairs store.old))) }

@@ -50,7 +50,7 @@ pub trait StoreIntoIterator<K: Drop, V: Drop>: StoreMut<K, V> + Sized {
     /// ```
     fn lm_extend_end(&mut self, other: Self) -> Result<(), NoRoom<Self>>
         ensures ok { OnOk result (Self.pairs self.new ≡ Self.pairs self.old ++ Self.pairs other) }
-        ensures refused { OnErr result (Self.pairs self.new ≡ Self.pairs self.old) }
+        ensures unchanged { OnErr result (Self.pairs self.new ≡ Self.pairs self.old) }
         ensures back { IfErr result (λ refused. Self.pairs refused.back ≡ Self.pairs other) }
         ensures full { OnErr result (Self.room self.old < length (Self.pairs other)) }
     {
@@ -69,7 +69,7 @@ pub trait StoreIntoIterator<K: Drop, V: Drop>: StoreMut<K, V> + Sized {
     /// that can grow in front may do so. The Rust crate inserts pair by pair at the front; its vector has one `splice`.
     fn lm_extend_start(&mut self, mut other: Self) -> Result<(), NoRoom<Self>>
         ensures ok { OnOk result (Self.pairs self.new ≡ Self.pairs other ++ Self.pairs self.old) }
-        ensures refused { OnErr result (Self.pairs self.new ≡ Self.pairs self.old) }
+        ensures unchanged { OnErr result (Self.pairs self.new ≡ Self.pairs self.old) }
         ensures back { IfErr result (λ refused. Self.pairs refused.back ≡ Self.pairs other) }
         ensures full { OnErr result ((Self.room self.old < length (Self.pairs other))
             ⊎ (Self.room other < length (Self.pairs self.old))) }

@@ -22,5 +22,6 @@ mod sorted;
 pub mod split_store;
 pub mod store;
 mod vec_impl;
+mod walk;
 
 pub use query::Query;

@@ -1,7 +1,8 @@
 //! `lm_retain` of stores whose pairs can be swapped.
 ghost use Rattle.std.specs.Prelude.{◌≡◌, ◌+◌, ◌<◌, ◌≤◌, Some, length, slice_get, take, swap};
 ghost use Rattle.std.specs.Map.Iter.{deref_pair};
-ghost use Rattle.litemap_store.specs.{CallableOnEach, CalledOnPair, Kept, KeptSoFar, TakesPair};
+ghost use Rattle.litemap_store.specs.{CallableOnEach, CalledOnPair, Kept, TakesKeyValue};
+ghost use Rattle.litemap_store.specs.Steps.{KeptSoFar};
 
 use crate::store::Store;
 
@@ -77,7 +78,7 @@ fn keep_in_place<K, V, S: SwapStore<K, V>, F: FnMut(&K, &V) -> bool>(
 
 /// Returns whether a closure keeps a pair, by calling it once (own).
 pub fn is_kept<K, V, F: FnMut(&K, &V) -> bool>(f: &mut F, key: &K, value: &V) -> bool
-    requires { TakesPair F.FnMut f.old (key.now, value.now) }
+    requires { TakesKeyValue F.FnMut f.old (key.now, value.now) }
     ensures { CalledOnPair F.FnMut f.old (key.now, value.now) result f.new }
 {
     f(key, value)

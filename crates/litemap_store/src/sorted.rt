@@ -54,7 +54,7 @@ pub(crate) fn keep_rising<K: Ord + Drop, V: Drop>(
     ensures last { OnOk result (Last K.cmp (drop from pairs.old.items) (drop from pairs.new.items)) }
     ensures shorter { (from ≤ vec_len pairs.new) × (vec_len pairs.new ≤ vec_len pairs.old) }
     ensures same { Rising K.cmp (drop from pairs.old.items) → IsOk result × (pairs.new.items ≡ pairs.old.items) }
-    ensures refused { OnErr result (pairs.new.items ≡ pairs.old.items) }
+    ensures unchanged { OnErr result (pairs.new.items ≡ pairs.old.items) }
     ensures cost { RisesByAtMost (vec_len pairs.old - from - 1) count.old count.new }
 {
     let (_, given) = pairs.split_at(from);

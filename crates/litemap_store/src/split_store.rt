@@ -19,8 +19,8 @@ pub fn split_store<K: Drop, V: Drop, S: StoreMut<K, V> + Drop>(
     ensures later { IfOk result (λ later. S.pairs later ≡ drop index (S.pairs store.old)) }
     ensures room { S.keeps_memory → OnOk result (index ≢ 0
         → S.room store.old + length (drop index (S.pairs store.old)) ≤ S.room store.new) }
-    ensures refused { OnErr result (store.new ≡ store.old) }
-    ensures unchanged { index ≡ length (S.pairs store.old) → store.new ≡ store.old }
+    ensures unchanged { OnErr result (store.new ≡ store.old) }
+    ensures unchanged_at_end { index ≡ length (S.pairs store.old) → store.new ≡ store.old }
     ensures whole { index ≡ 0 → index ≢ length (S.pairs store.old) → IfOk result (λ later. later ≡ store.old) }
     ensures succeeds { (index ≡ 0) ⊎ (index ≡ length (S.pairs store.old)) → IsOk result }
 {

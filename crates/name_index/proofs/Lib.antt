@@ -1,8 +1,5 @@
-pub mod KnownParts
-pub mod Placing
-pub mod Prefixing
+pub mod AtIndex
 pub mod Halving
-pub mod Indexing
+pub mod Prefixing
+pub mod Tables
 pub mod Writing
-pub mod Scanning
-pub mod Rises

@@ -1,131 +1,115 @@
--- How the first bytes of ascending names compare with a string, and where this splits the names.
---     head_below, head_begins      what its first bytes say of a name;  side      on which side of the split it lies
---     edge_place, edges_part      what the two edges say
-use Rattle.std.proofs.Common.{◌≡◌, ◌==◌, ◌&&◌, ◌⊎◌, inl, inr, ℕ, zero, suc, ◌+◌, ◌-◌, ◌≤◌, Bool, true, false, not, cond, List, [], ◌∷◌, length, filter}
-use Rattle.std.proofs.Common.{eqb-true, eq-eqb, true≢false, Some, Err, refl, sym, ap, ◌∙◌, subst, arith, Ordering, Less, Equal, Greater}
+-- Where the names that begin with a string end, among those that ascend.
+--     one_by      the order of a search has one side;  cut_at, place_at      what a search says;  edges_part      what two say
+use Rattle.std.proofs.Common.{◌≡◌, ◌==◌, ◌&&◌, ◌||◌, ◌⊎◌, inl, inr, ℕ, zero, suc, ◌-◌, ◌≤◌, Bool, true, false, not, cond, List, [], ◌∷◌, filter}
+use Rattle.std.proofs.Common.{eqb-true, eq-eqb, Some, Result, MatchResult, Ok, Err, refl, sym, ap, ◌∙◌, subst, arith, Ordering, Less, Equal, Greater, is_lt}
+use Rattle.std.proofs.Common.{nat_cmp}
+use Rattle.std.proofs.lemmas.Bool.{and_parts}
 use Rattle.std.proofs.lemmas.Cmp.{ranked, tied_itself}
 use Rattle.std.specs.Cmp.{nat_cmp_total}
-use Rattle.std.specs.Ordering.{is_le, is_lt, nat_cmp, ordering_then}
+use Rattle.std.specs.Ordering.{ordering_then}
 use Rattle.litemap.specs.Within.{IsCut}
-use Rattle.litemap.proofs.Cuts.{before_missing, length-before, sub_between}
+use Rattle.litemap.proofs.Cuts.{before_found, before_missing, sub_between}
 use Rattle.litemap_store.specs.Pairs.{place, sub}
 use Rattle.litemap_store.specs.Queries.{OneSide}
-use Rattle.litemap_store.specs.Search.{Ascends, Finds}
+use Rattle.litemap_store.specs.Splits.{Splits}
 use Rattle.litemap_store.proofs.Lists.Parts.{Less-from_is_lt}
-use Rattle.litemap_store.proofs.Search.Splitting.{Ascends-by_query, Splits-from_Finds}
-use Rattle.name_index.specs.{begins, ArePlaced, head_order, leads_to, text_order}
-use Rattle.name_index.proofs.Placing.{pairs_at}
-use Rattle.name_index.proofs.Scanning.{text_order_total}
+use Rattle.name_index.specs.{begins, order_by, text_order}
+use Rattle.name_index.proofs.AtIndex.{one_side, text_order_total}
 
--- ---- the first bytes of one name
--- if those of a name are not above the string, neither are those of the names below it
-head_le : (text a b : List ℕ) → text_order a b ≡ Less → is_le (head_order b text) ≡ true → is_le (head_order a text) ≡ true
-head_le (t ∷ text) (x ∷ a) [] e h = absurd (cc)
-head_le (t ∷ text) (x ∷ a) (y ∷ b) e h = by (head_le text a b) (nat_cmp x y) refl (nat_cmp y t) refl h
+-- the name is below the string or begins with it
+abbrev passes : List ℕ → List ℕ → Bool
+passes text name = is_lt (text_order name text) || begins name text
+
+-- ---- one name, and two that ascend
+
+-- if a name begins with the string, one below it is below the string or begins with it, too
+before_begins : (text a b : List ℕ) → text_order a b ≡ Less → begins b text ≡ true → passes text a ≡ true
+before_begins [] [] b e h = refl
+before_begins [] (x ∷ a) b e h = refl
+before_begins (t ∷ text) a [] e h = let k : false ≡ true = h in absurd (cc)
+before_begins (t ∷ text) [] (y ∷ b) e h = refl
+before_begins (t ∷ text) (x ∷ a) (y ∷ b) e h = by (before_begins text a b) (nat_cmp x t) refl
   where
-    by : (text_order a b ≡ Less → is_le (head_order b text) ≡ true → is_le (head_order a text) ≡ true) → (o : Ordering) → nat_cmp x y ≡ o → (u : Ordering)
-        → nat_cmp y t ≡ u
-        → is_le (ordering_then (nat_cmp y t) (head_order b text)) ≡ true → is_le (ordering_then (nat_cmp x t) (head_order a text)) ≡ true
-    by rest Less d Less f g = rw (nat_cmp_total.trans x y t d f)
-    by rest Less d Equal f g = rw (ap (nat_cmp x) (sym (ranked y t Equal (sym f))) ∙ d)
-    by rest Equal d Less f g = rw (ap (λ n. nat_cmp n t) (ranked x y Equal (sym d)) ∙ f)
-    by rest Equal d Equal f g =
-        let l : nat_cmp x t ≡ Equal = ap (λ n. nat_cmp n t) (ranked x y Equal (sym d)) ∙ f in
-        rw l (rest (sym (ap (λ o. ordering_then o (text_order a b)) d) ∙ e) (rw f at g))
-    by rest Greater d u f g = let k : Greater ≡ Less = sym (ap (λ o. ordering_then o (text_order a b)) d) ∙ e in absurd (cc)
-    by rest _ d Greater f g = let k : false ≡ true = rw f at g in absurd (cc)
-head_le _ _ b e h = refl
+    tied : t ≡ y
+    tied = eqb-true t y (and_parts (t == y) (begins b text) h).0
 
--- they are below the string exactly if the name is
-pub head_below : (text name : List ℕ) → is_lt (head_order name text) ≡ is_lt (text_order name text)
-head_below [] [] = refl
-head_below [] (x ∷ name) = refl
-head_below (t ∷ text) [] = refl
-head_below (t ∷ text) (x ∷ name) = by (head_below text name) (nat_cmp x t) refl
+    below : ordering_then (nat_cmp x t) (text_order a b) ≡ Less
+    below = ap (λ n. ordering_then (nat_cmp x n) (text_order a b)) tied ∙ e
+
+    by : (text_order a b ≡ Less → begins b text ≡ true → passes text a ≡ true) → (o : Ordering) → nat_cmp x t ≡ o
+        → is_lt (ordering_then (nat_cmp x t) (text_order a text)) || ((t == x) && begins a text) ≡ true
+    by rest Less d = rw d refl
+    by rest Equal d =
+        let s : (t == x) ≡ true = eq-eqb t x (sym (ranked x t Equal (sym d))) in
+        rw (d, s) (rest (rw d at below) (and_parts (t == y) (begins b text) h).1)
+    by rest Greater d = let k : Greater ≡ Less = rw d at below in absurd (cc)
+
+-- a name that begins with the string is not below it
+begins_not_below : (text name : List ℕ) → begins name text ≡ true → is_lt (text_order name text) ≡ false
+begins_not_below [] [] h = refl
+begins_not_below [] (x ∷ name) h = refl
+begins_not_below (t ∷ text) [] h = let k : false ≡ true = h in absurd (cc)
+begins_not_below (t ∷ text) (x ∷ name) h =
+    let p = and_parts (t == x) (begins name text) h in
+    let d : nat_cmp x t ≡ Equal = ap (nat_cmp x) (eqb-true t x p.0) ∙ tied_itself nat_cmp_total x in
+    rw d (begins_not_below text name p.1)
+
+begins_by : (text name : List ℕ) → not (is_lt (text_order name text)) && passes text name ≡ begins name text
+begins_by text name = by (is_lt (text_order name text)) (begins name text) (begins_not_below text name)
   where
-    by : is_lt (head_order name text) ≡ is_lt (text_order name text) → (o : Ordering) → nat_cmp x t ≡ o
-        → is_lt (ordering_then (nat_cmp x t) (head_order name text)) ≡ is_lt (ordering_then (nat_cmp x t) (text_order name text))
-    by rest Less e = rw e refl
-    by rest Equal e = rw e rest
-    by rest Greater e = rw e refl
+    by : (b c : Bool) → (c ≡ true → b ≡ false) → not b && (b || c) ≡ c
+    by false c h = refl
+    by true false h = refl
+    by true true h = let k : true ≡ false = h refl in absurd (cc)
 
-unequal : (x t : ℕ) (o : Ordering) → nat_cmp x t ≡ o → (o ≡ Equal → ⊥) → (t == x) ≡ false
-unequal x t o e n = by (t == x) refl
+passes_before : (text a b : List ℕ) → text_order a b ≡ Less → passes text b ≡ true → passes text a ≡ true
+passes_before text a b l h = by (is_lt (text_order b text)) refl
   where
-    by : (b : Bool) → (t == x) ≡ b → (t == x) ≡ false
-    by false d = d
-    by true d = absurd (n (sym e ∙ ap (nat_cmp x) (eqb-true t x d) ∙ tied_itself nat_cmp_total x))
-
--- they are neither below nor above it exactly if the name begins with it
-pub head_begins : (text name : List ℕ) → not (is_lt (head_order name text)) && is_le (head_order name text) ≡ begins name text
-head_begins (t ∷ text) (x ∷ name) = by (head_begins text name) (nat_cmp x t) refl
-  where
-    by : not (is_lt (head_order name text)) && is_le (head_order name text) ≡ begins name text → (o : Ordering) → nat_cmp x t ≡ o
-        → not (is_lt (ordering_then (nat_cmp x t) (head_order name text))) && is_le (ordering_then (nat_cmp x t) (head_order name text))
-        ≡ (t == x) && begins name text
-    by rest Less e = rw (e, unequal x t Less e (λ d. cc)) refl
-    by rest Equal e = let s : (t == x) ≡ true = eq-eqb t x (sym (ranked x t Equal (sym e))) in rw (e, s) rest
-    by rest Greater e = rw (e, unequal x t Greater e (λ d. cc)) refl
-head_begins _ _ = refl
-
--- ---- names that ascend
-led_before : (after : Bool) (text a b : List ℕ) → text_order a b ≡ Less → leads_to after text b ≡ true → leads_to after text a ≡ true
-led_before false text a b e h =
-    let l : text_order b text ≡ Less = Less-from_is_lt (text_order b text) (sym h ∙ head_below text b) in
-    head_below text a ∙ ap is_lt (text_order_total.trans a b text e l)
-led_before true text a b e h = head_le text a b e h
-
--- on which side a name lies: before, or after
-abbrev pub side : Bool → List ℕ → List ℕ → Ordering
-side after text name = cond (leads_to after text name) Less Greater
+    by : (c : Bool) → is_lt (text_order b text) ≡ c → passes text a ≡ true
+    by true e =
+        let k : is_lt (text_order a text) ≡ true = ap is_lt (text_order_total.trans a b text l (Less-from_is_lt (text_order b text) (sym e))) in
+        rw k refl
+    by false e = before_begins text a b l (rw e at h)
 
 -- of two ascending names the lower one lies before, or the higher one after
-side_one : (after : Bool) → OneSide text_order (λ name text. side after text name)
-side_one after text a b l = by (leads_to after text b) refl
+pub one_by : (past : Bool) → OneSide text_order (order_by past)
+one_by false text a b l = one_side text a b l
+one_by true text a b l = by (passes text b) refl
   where
-    by : (c : Bool) → leads_to after text b ≡ c → (side after text a ≡ Less) ⊎ (side after text b ≡ Greater)
-    by true e = inl (ap (λ d. cond d Less Greater) (led_before after text a b l e))
+    by : (c : Bool) → passes text b ≡ c → (order_by true a text ≡ Less) ⊎ (order_by true b text ≡ Greater)
+    by true e = inl (ap (λ d. cond d Less Greater) (passes_before text a b l e))
     by false e = inr (ap (λ d. cond d Less Greater) e)
+
+-- ---- what searches say
+
+module _ (past : Bool) (text : List ℕ) (L : List (List ℕ × List ℕ)) (n : ℕ) where
+  pub cut_at : (r : Result ℕ ℕ) → Splits (order_by past) L text r → MatchResult r (λ i. n ≡ i) (λ i. n ≡ i)
+      → IsCut (λ p. is_lt (order_by past p.0 text)) L n
+  cut_at (Ok i) s e = rw e (before_found (order_by past) text L i s)
+  cut_at (Err i) s e = rw e (before_missing (order_by past) text L i s)
+
+  pub place_at : (r : Result ℕ ℕ) → Splits (order_by past) L text r → MatchResult r (λ i. n ≡ i) (λ i. n ≡ i) → n ≡ place (order_by past) L text
+  place_at (Ok i) s e = e ∙ s.place
+  place_at (Err i) s e = e ∙ s.place
+
+-- two cuts lie in order
+cuts_ordered : {X : Type 0} (early late : X → Bool) → ((x : X) → early x ≡ true → late x ≡ true) → (L : List X) (a b : ℕ) → IsCut early L a
+    → IsCut late L b → a ≤ b
+cuts_ordered early late h [] a b p r = omega (arith, p)
+cuts_ordered early late h (x ∷ L) zero b p r = omega arith
+cuts_ordered early late h (x ∷ L) (suc a) zero p r = let k : true ≡ false = sym (h x p.0) ∙ r.0 in absurd (cc)
+cuts_ordered early late h (x ∷ L) (suc a) (suc b) p r = let k = cuts_ordered early late h L a b p.1 r.1 in omega (arith, k)
 
 side_is : (b : Bool) → is_lt (cond b Less Greater) ≡ b
 side_is true = refl
 side_is false = refl
 
-module _ {entries offsets : List ℕ} (after : Bool) (text : List ℕ) (placed : ArePlaced entries offsets) where
-  pub known_sides : (length (pairs_at placed) ≡ length offsets) × Ascends (side after text) (pairs_at placed)
-  known_sides = (placed.these.left.len_is, Ascends-by_query (side_one after) placed.these.pairs text placed.these.rises)
-
-  pub cut_sides : (n : ℕ) → Finds (side after text) (pairs_at placed) (Err n) → IsCut (λ p. leads_to after text p.0) placed.these.pairs n
-  cut_sides n f =
-      let same : (λ (p : List ℕ × List ℕ). is_lt (side after text p.0)) ≡ (λ p. leads_to after text p.0) = λ i p. side_is (leads_to after text p.0) i in
-      subst (λ t. IsCut t placed.these.pairs n) same
-      (before_missing (λ name text. side after text name) text placed.these.pairs n
-      (Splits-from_Finds (side_one after) placed.these.pairs text placed.these.rises (Err n) f))
-
--- ---- what the two edges say
-
--- they lie in order
-edges_ordered : (text : List ℕ) (L : List (List ℕ × List ℕ)) (a b : ℕ) → IsCut (λ p. leads_to false text p.0) L a → IsCut (λ p. leads_to true text p.0) L b
-    → a ≤ b
-edges_ordered text [] a b p r = omega (arith, p)
-edges_ordered text (q ∷ L) zero b p r = omega arith
-edges_ordered text (q ∷ L) (suc a) zero p r = absurd (true≢false (sym (lower (head_order q.0 text) p.0) ∙ r.0))
-  where
-    lower : (o : Ordering) → is_lt o ≡ true → is_le o ≡ true
-    lower Less h = refl
-    lower Equal h = absurd (cc)
-    lower Greater h = absurd (cc)
-edges_ordered text (q ∷ L) (suc a) (suc b) p r = let k = edges_ordered text L a b p.1 r.1 in omega (arith, k)
-
-module _ (text : List ℕ) (L : List (List ℕ × List ℕ)) (a b : ℕ) (first : IsCut (λ p. leads_to false text p.0) L a)
-    (last : IsCut (λ p. leads_to true text p.0) L b) where
-  pub edge_place : a ≡ place text_order L text
-  edge_place =
-      sym (length-before (λ p. leads_to false text p.0) L a first) ∙ (λ i. length (filter (λ p. head_below text p.0 i) L))
-
-  pub edges_part : sub L a b ≡ Some (filter (λ p. begins p.0 text) L)
-  edges_part =
-      let o = edges_ordered text L a b first last in
-      let m : b ≡ a + (b - a) = omega (arith, o) in
-      sub_between (λ p. leads_to false text p.0) (λ p. leads_to true text p.0) L a b (b - a) b refl m first last
-      ∙ (λ i. Some (filter (λ p. head_begins text p.0 i) L))
+pub edges_part : (text : List ℕ) (L : List (List ℕ × List ℕ)) (a b : ℕ) → IsCut (λ p. is_lt (order_by false p.0 text)) L a
+    → IsCut (λ p. is_lt (order_by true p.0 text)) L b → sub L a b ≡ Some (filter (λ p. begins p.0 text) L)
+edges_part text L a b first last =
+    let early : List ℕ × List ℕ → Bool = λ p. is_lt (text_order p.0 text) in
+    let late : List ℕ × List ℕ → Bool = λ p. passes text p.0 in
+    let same : (λ (p : List ℕ × List ℕ). is_lt (order_by true p.0 text)) ≡ late = λ i p. side_is (passes text p.0) i in
+    let cut : IsCut late L b = subst (λ t. IsCut t L b) same last in
+    let o = cuts_ordered early late (λ p h. rw h refl) L a b first cut in
+    sub_between early late L a b (b - a) b refl (omega (arith, o)) first cut ∙ (λ i. Some (filter (λ p. begins_by text p.0 i) L))

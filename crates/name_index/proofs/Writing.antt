@@ -9,7 +9,7 @@ use Rattle.litemap.specs.ByBytes.{by_bytes}
 use Rattle.litemap_store.specs.Pairs.{Rising}
 use Rattle.name_table.specs.Positions.{shown}
 use Rattle.name_table.specs.declared.number.TheConstants.{NUMBER_LIMIT}
-use Rattle.name_index.specs.{BeginsAt, IsIndex, IsNumberAt, IsPairAt, IsTextAt, Adds, AddsPairs, AreOffsets, text_order, entries_size, pair_size}
+use Rattle.name_index.specs.{IsIndex, IsNumberAt, IsPairAt, IsTextAt, Adds, AddsPairs, AreOffsets, text_order, entries_size, pair_size}
 use Rattle.name_table.proofs.ReadAgain.{shown_rise}
 
 -- ---- bytes after bytes
@@ -101,18 +101,17 @@ pairs_next old middle new pairs index pair p e a here =
 pub index_written : (old new : List ℕ) (pairs : List (List ℕ × List ℕ)) → AreOffsets old pairs (length pairs) → AddsPairs old new pairs (length pairs)
     → Rising text_order pairs → IsIndex new pairs
 index_written old new pairs p a rises = record {
+  len = length pairs;
   number = number_kept old new (entries_size (take (length pairs) pairs)) 0 (length pairs) a.adds p.number;
-  entries = λ i pair e.
-      let l : i < length pairs = slice_get_within pairs i pair e in
-      let far = entries_size (take i pairs) in
-      let w : length old + far ≡ 4 + 4 * length pairs + far = omega (arith, p.size) in
-      let b : BeginsAt new (length pairs) i (4 + 4 * length pairs + far) = record {
-        far = far;
-        noted = number_kept old new (entries_size (take (length pairs) pairs)) (4 + 4 * i) far a.adds (p.noted i l);
-        at_is = refl;
-      } in
-      (4 + 4 * length pairs + far, b, rw (← w) (a.there i pair l e));
-  rises = rises;
+  entries = record {
+    number = refl;
+    each = λ i pair e.
+        let l : i < length pairs = slice_get_within pairs i pair e in
+        let far = entries_size (take i pairs) in
+        let w : length old + far ≡ 4 + 4 * length pairs + far = omega (arith, p.size) in
+        (far, number_kept old new (entries_size (take (length pairs) pairs)) (4 + 4 * i) far a.adds (p.noted i l), rw (← w) (a.there i pair l e));
+    rises = rises;
+  };
 }
 
 -- ---- a map's pairs, as what they refer to

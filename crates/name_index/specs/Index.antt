@@ -1,10 +1,8 @@
 -- An index of names: the number of its entries, the offset of each, and the entries. A string is the list of its bytes.
-use Rattle.std.specs.Prelude.{◌≡◌, ℕ, ◌+◌, ◌*◌, ◌≤◌, List, length, take, drop, IfErr, IfOk, IsUtf8, Result, Some, slice_get, ⊤}
+use Rattle.std.specs.Prelude.{◌≡◌, ℕ, ◌+◌, ◌*◌, ◌≤◌, List, length, take, drop, IsUtf8}
 use Rattle.std.specs.Int.{from_le_bytes, w32}
 use Rattle.std.specs.List.{sum_by}
-use Rattle.litemap_store.specs.Pairs.{Rising}
-use Rattle.name_index.specs.Tables.{text_order}
-use Rattle.name_index.specs.declared.error.IndexFault.{IndexFault}
+use Rattle.name_index.specs.Names.{AreNames}
 
 -- at an offset stand the four bytes of the number, the lowest first
 pub record IsNumberAt (bytes : List ℕ) (at n : ℕ) : Type 0 where
@@ -21,41 +19,20 @@ pub record IsTextAt (bytes : List ℕ) (at : ℕ) (text : List ℕ) : Type 0 whe
 abbrev pub IsPairAt : List ℕ → ℕ → List ℕ × List ℕ → Type 0
 IsPairAt bytes at pair = IsTextAt bytes at pair.0 × IsTextAt bytes (at + 4 + length pair.0) pair.1
 
--- of so many entries this one begins at the offset `at`: the bytes note how far that is from the first entry
-pub record BeginsAt (bytes : List ℕ) (len index at : ℕ) : Type 0 where
-  pub far : ℕ
-  pub noted : IsNumberAt bytes (4 + 4 * index) far
-  pub at_is : at ≡ 4 + 4 * len + far
-
--- of so many entries this one is the pair
+-- of so many entries this one is the pair: the bytes note how far it begins from the end of the offsets
 abbrev pub IsEntry : List ℕ → ℕ → ℕ → List ℕ × List ℕ → Type 0
-IsEntry bytes len index pair = (at : ℕ) × BeginsAt bytes len index at × IsPairAt bytes at pair
+IsEntry bytes len index pair =
+    (far : ℕ) × IsNumberAt bytes (4 + 4 * index) far × IsPairAt bytes (4 + 4 * len + far) pair
 
 -- the bytes are an index of the pairs, whose keys ascend
 pub record IsIndex (bytes : List ℕ) (pairs : List (List ℕ × List ℕ)) : Type 0 where
-  pub number : IsNumberAt bytes 0 (length pairs)
-  pub entries : (i : ℕ) (pair : List ℕ × List ℕ) → slice_get pairs i ≡ Some pair → IsEntry bytes (length pairs) i pair
-  pub rises : Rising text_order pairs
-
--- the bytes are an index, and P holds of its pairs
-abbrev pub OfIndex : List ℕ → (List (List ℕ × List ℕ) → Type 0) → Type 0
-OfIndex bytes P = (pairs : List (List ℕ × List ℕ)) × IsIndex bytes pairs × P pairs
-
--- if the bytes are an index, P holds of its pairs
-abbrev pub IfIndex : List ℕ → (List (List ℕ × List ℕ) → Type 0) → Type 0
-IfIndex bytes P = (pairs : List (List ℕ × List ℕ)) → IsIndex bytes pairs → P pairs
+  pub len : ℕ
+  pub number : IsNumberAt bytes 0 len
+  pub entries : AreNames (IsEntry bytes len) len pairs
 
 -- the bytes are no index
 abbrev pub NoIndex : List ℕ → Type 0
-NoIndex bytes = IfIndex bytes (λ _. ⊥)
-
--- the bytes are opened: they are an index. Else they are none
-pub record OpensIndex (bytes : List ℕ) (result : Result (List ℕ) IndexFault) : Type 0 where
-  pub same : IfOk result (λ names. names ≡ bytes)
-  pub index : IfOk result (λ _. OfIndex bytes (λ _. ⊤))
-  pub error : IfErr result (λ _. NoIndex bytes)
-
--- ---- what is written for an index
+NoIndex bytes = (pairs : List (List ℕ × List ℕ)) → IsIndex bytes pairs → ⊥
 
 -- how many bytes a key and its value take, with their numbers
 abbrev pub pair_size : List ℕ × List ℕ → ℕ

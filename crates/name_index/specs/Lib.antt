@@ -1,9 +1,9 @@
--- The definitions that the contracts cite. `Tables` is the page to read first.
+-- The definitions that the contracts cite. `Names` is the page to read first.
+pub mod Names
 pub mod Tables
-pub mod Faults
 pub mod Index
 pub mod Steps
+pub use Names.*
 pub use Tables.*
-pub use Faults.*
 pub use Index.*
 pub use Steps.*

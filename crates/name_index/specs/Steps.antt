@@ -1,44 +1,21 @@
 -- What the steps of opening, of lookups and of writing find and leave. Only private contracts and invariants cite these.
-use Rattle.std.specs.Prelude.{◌≡◌, ℕ, ◌+◌, ◌*◌, ◌<◌, ◌≤◌, Bool, true, false, List, [], ◌∷◌, ◌++◌}
-use Rattle.std.specs.Prelude.{length, take, drop, Result, Ok, Err, Some, slice_get}
+use Rattle.std.specs.Prelude.{◌≡◌, ℕ, ◌+◌, ◌*◌, ◌<◌, ◌≤◌, Bool, true, false, List, [], ◌∷◌, ◌++◌, ◌||◌}
+use Rattle.std.specs.Prelude.{length, take, drop, Option, None, Some, slice_get, if◌then◌else◌}
 use Rattle.std.specs.Coded.{Coded-set, coded_ℕ, coded_list, coded×}
-use Rattle.std.specs.Ordering.{is_le, is_lt}
+use Rattle.std.specs.Ordering.{is_lt}
 use Rattle.std.specs.declared.cmp.Ordering.{Ordering}
-use Rattle.std.proofs.Common.{sym, ◌∙◌}
+use Rattle.std.specs.declared.cmp.Ordering.TheVariants.{Less, Greater}
+use Rattle.std.proofs.Common.{refl, sym, ap, ◌∙◌, arith, get_or}
 use Rattle.std.proofs.Math.Logic.{∥∥₁_prop, ∥∥₁_elim}
+use Rattle.std.proofs.lemmas.List.{same_lists}
+use Rattle.std.proofs.lemmas.Option.{slice_get-get_or}
 use mathlib.Core.HLevel.{Σ_prop_path}
-use Rattle.litemap_store.specs.Pairs.{Rising, value_at}
-use Rattle.litemap_store.specs.Splits.{IsFoundAt, IsMissingAt}
-use Rattle.name_table.specs.Parts.{Begins, Number, pair_parts, text_parts}
+use Rattle.name_table.specs.Parts.{Begins, pair_parts, text_parts}
 use Rattle.name_table.proofs.OneReading.{agree_pairs, begins_unique, pair_parts-inj}
-use Rattle.name_index.specs.Index.{BeginsAt, IsEntry, IsNumberAt, IsPairAt, IsTextAt, entries_size}
-use Rattle.name_index.specs.Tables.{text_order}
+use Rattle.name_index.specs.Index.{IsEntry, IsNumberAt, IsPairAt, IsTextAt, entries_size}
+use Rattle.name_index.specs.Names.{AreNames, begins, text_order}
+use Rattle.name_index.specs.Tables.{IsRisingTable}
 use denote.Ref.{Bor}
-
--- ---- the entries that are still to come
-
--- the bytes begin with the pairs, which are so many
-pub record AreLeft (bytes : List ℕ) (len : ℕ) (pairs : List (List ℕ × List ℕ)) : Type 0 where
-  pub after : List ℕ
-  pub spelled : Begins bytes (pair_parts pairs) after
-  pub len_is : length pairs ≡ len
-
--- the pairs, so many, that the bytes begin with
-abbrev pub Left : List ℕ → ℕ → Type 0
-Left bytes len = (pairs : List (List ℕ × List ℕ)) × ∥ AreLeft bytes len pairs ∥₁
-
-pub left_one : (bytes : List ℕ) (len : ℕ) (J K : List (List ℕ × List ℕ)) → AreLeft bytes len J → AreLeft bytes len K → J ≡ K
-left_one bytes len J K a b =
-    pair_parts-inj J K (begins_unique bytes (agree_pairs J K (a.len_is ∙ sym b.len_is)) a.spelled b.spelled).1
-
-pub pairs_set : (J K : List (List ℕ × List ℕ)) → IsProp (J ≡ K)
-pairs_set J K = Coded-set (coded_list (coded× (coded_list coded_ℕ) (coded_list coded_ℕ))) J K
-
--- there is one such list at most
-pub Left-prop : (bytes : List ℕ) (len : ℕ) → IsProp (Left bytes len)
-Left-prop bytes len s t =
-    Σ_prop_path (λ pairs. ∥∥₁_prop)
-    (∥∥₁_elim s.1 (pairs_set s.0 t.0) (λ a. ∥∥₁_elim t.1 (pairs_set s.0 t.0) (λ b. left_one bytes len s.0 t.0 a b)))
 
 -- ---- entries
 
@@ -50,73 +27,101 @@ BeginsText bytes = (text : List ℕ) × (rest : List ℕ) × Begins bytes (text_
 abbrev pub BeginsPair : List ℕ → Type 0
 BeginsPair bytes = (pair : List ℕ × List ℕ) × (rest : List ℕ) × Begins bytes (pair_parts (pair ∷ [])) rest
 
--- the bytes begin with so many pairs, whose keys ascend
-pub record AreEntries (entries : List ℕ) (len : ℕ) : Type 0 where
-  pub pairs : List (List ℕ × List ℕ)
-  pub left : AreLeft entries len pairs
-  pub rises : Rising text_order pairs
+-- the bytes begin with the pair at an index
+abbrev pub BeginsEntry : List (List ℕ × List ℕ) → ℕ → List ℕ → Type 0
+BeginsEntry pairs index bytes =
+    (pair : List ℕ × List ℕ) × (slice_get pairs index ≡ Some pair) × (rest : List ℕ) × Begins bytes (pair_parts (pair ∷ [])) rest
 
--- they do, and P holds of these pairs
-abbrev pub OfEntries : List ℕ → ℕ → (List (List ℕ × List ℕ) → Type 0) → Type 0
-OfEntries entries len P = (these : AreEntries entries len) × P these.pairs
+-- the pair stands at the offset of the index
+abbrev pub IsPlaced : List ℕ → List ℕ → ℕ → List ℕ × List ℕ → Type 0
+IsPlaced bytes offsets index pair = (place : ℕ) × (slice_get offsets index ≡ Some place) × (place ≤ length bytes)
+    × (rest : List ℕ) × Begins (drop place bytes) (pair_parts (pair ∷ [])) rest
 
--- the bytes begin with the number of the entries, which come after it
-pub record IsOpened (bytes entries : List ℕ) (len : ℕ) : Type 0 where
-  pub counted : Begins bytes (Number len ∷ []) entries
-  pub these : AreEntries entries len
+-- the bytes begin with a table whose keys ascend, and its pairs stand at the offsets
+abbrev pub IsIndexed : List ℕ → List ℕ → Type 0
+IsIndexed bytes offsets = (pairs : List (List ℕ × List ℕ))
+    × IsRisingTable bytes pairs × AreNames (IsPlaced bytes offsets) (length offsets) pairs
 
--- the index of the key, with its value, or the index where it would go
-abbrev pub IsScanned : List (List ℕ × List ℕ) → List ℕ → Result (ℕ × Bor (List ℕ)) ℕ → Type 0
-IsScanned pairs key (Ok found) = IsFoundAt text_order pairs key found.0 × (value_at text_order pairs key ≡ Some found.1.now)
-IsScanned pairs key (Err index) = IsMissingAt text_order pairs key index
-
--- ---- entries at offsets
-
--- the bytes are entries, one for each offset, which is where the bytes of its pair and of the later ones begin
-pub record ArePlaced (entries offsets : List ℕ) : Type 0 where
-  pub these : AreEntries entries (length offsets)
-  pub within : (i place : ℕ) → slice_get offsets i ≡ Some place → place ≤ length entries
-  pub there : (i place : ℕ) → slice_get offsets i ≡ Some place
-      → Begins (drop place entries) (pair_parts (drop i these.pairs)) these.left.after
-
--- if they are, P holds of the pairs
-abbrev pub AsPlaced : List ℕ → List ℕ → (List (List ℕ × List ℕ) → Type 0) → Type 0
-AsPlaced entries offsets P = (placed : ArePlaced entries offsets) → P placed.these.pairs
-
--- the key of the pair at an index
-abbrev pub IsKeyAt : List (List ℕ × List ℕ) → ℕ → List ℕ → Type 0
-IsKeyAt pairs index key = (value : List ℕ) × (slice_get pairs index ≡ Some (key, value))
-
--- the bytes begin with the number of the entries, which come after it at the offsets
-pub record IsIndexed (bytes entries offsets : List ℕ) : Type 0 where
-  pub counted : Begins bytes (Number (length offsets) ∷ []) entries
-  pub placed : ArePlaced entries offsets
-
--- ---- how names compare with a string
-
--- how the name compares with the string, as far as the string reaches
-abbrev pub head_order : List ℕ → List ℕ → Ordering
-head_order name text = text_order (take (length text) name) text
-
--- the name comes before those that begin with the string, or is one of them if these are wanted too
-abbrev pub leads_to : Bool → List ℕ → List ℕ → Bool
-leads_to false text name = is_lt (head_order name text)
-leads_to true text name = is_le (head_order name text)
-
--- ---- an index
-
--- the bytes begin with the number of entries, and are long enough for so many offsets
-pub record HasOffsets (bytes : List ℕ) (len : ℕ) : Type 0 where
-  pub number : IsNumberAt bytes 0 len
-  pub fits : 4 + 4 * len ≤ length bytes
-
--- of so many entries this one has the key
-abbrev pub HasKey : List ℕ → ℕ → ℕ → List ℕ → Type 0
-HasKey bytes len index key = (at : ℕ) × BeginsAt bytes len index at × IsTextAt bytes at key
+-- of so many entries this one has the key, which ends before the offset
+abbrev pub HasKey : List ℕ → ℕ → ℕ → List ℕ → ℕ → Type 0
+HasKey bytes len index key after = (far : ℕ) × IsNumberAt bytes (4 + 4 * index) far
+    × IsTextAt bytes (4 + 4 * len + far) key × (after ≡ 4 + 4 * len + far + 4 + length key)
 
 -- there is no such entry
 abbrev pub NoEntry : List ℕ → ℕ → ℕ → Type 0
 NoEntry bytes len index = (pair : List ℕ × List ℕ) → IsEntry bytes len index pair → ⊥
+
+-- so many entries are there, or they are not
+abbrev pub HasNames : (ℕ → List ℕ × List ℕ → Type 0) → ℕ → Type 0
+HasNames At len = (pairs : List (List ℕ × List ℕ)) × AreNames At len pairs
+
+abbrev pub NoNames : (ℕ → List ℕ × List ℕ → Type 0) → ℕ → Type 0
+NoNames At len = (pairs : List (List ℕ × List ℕ)) → AreNames At len pairs → ⊥
+
+-- whether a key is above the last one, if there is one
+abbrev pub comes_after : Option (Bor (List ℕ)) → List ℕ → Bool
+comes_after None key = true
+comes_after (Some last) key = is_lt (text_order last.now key)
+
+-- ---- one list of pairs
+
+-- at an offset stands one pair
+pub placed_one : (bytes offsets : List ℕ) (i : ℕ) (p q : List ℕ × List ℕ)
+    → IsPlaced bytes offsets i p → IsPlaced bytes offsets i q → p ≡ q
+placed_one bytes offsets i p q a b =
+    let e : a.0 ≡ b.0 = cc in
+    let r : Begins (drop b.0 bytes) (pair_parts (p ∷ [])) a.3 = rw (← e) a.4 in
+    let u = begins_unique (drop b.0 bytes) (agree_pairs (p ∷ []) (q ∷ []) refl) r b.4 in
+    let f : p ∷ [] ≡ q ∷ [] = pair_parts-inj (p ∷ []) (q ∷ []) u.1 in
+    cc
+
+pub number_one : (bytes : List ℕ) (at n m : ℕ) → IsNumberAt bytes at n → IsNumberAt bytes at m → n ≡ m
+number_one bytes at n m p q = sym p.value ∙ q.value
+
+pub text_one : (bytes : List ℕ) (at : ℕ) (s t : List ℕ) → IsTextAt bytes at s → IsTextAt bytes at t → s ≡ t
+text_one bytes at s t p q =
+    let e : length s ≡ length t = number_one bytes at (length s) (length t) p.size q.size in
+    sym p.there ∙ ap (λ n. take n (drop (at + 4) bytes)) e ∙ q.there
+
+pub entry_one : (bytes : List ℕ) (len i : ℕ) (p q : List ℕ × List ℕ) → IsEntry bytes len i p → IsEntry bytes len i q → p ≡ q
+entry_one bytes len i p q a b =
+    let e : a.0 ≡ b.0 = number_one bytes (4 + 4 * i) a.0 b.0 a.1 b.1 in
+    let at = 4 + 4 * len + b.0 in
+    let k : p.0 ≡ q.0 = text_one bytes at p.0 q.0 (rw (← e) a.2.0) b.2.0 in
+    let v : p.1 ≡ q.1 = text_one bytes (at + 4 + length q.0) p.1 q.1 (rw (← e, ← k) a.2.1) b.2.1 in
+    λ i. (k i, v i)
+
+module _ (At : ℕ → List ℕ × List ℕ → Type 0) (one : (i : ℕ) (p q : List ℕ × List ℕ) → At i p → At i q → p ≡ q) (len : ℕ) where
+  pub names_one : (J K : List (List ℕ × List ℕ)) → AreNames At len J → AreNames At len K → J ≡ K
+  names_one J K a b =
+      let e : length J ≡ length K = a.number ∙ sym b.number in
+      same_lists J K e (λ k d l.
+      one k (get_or J k d) (get_or K k d) (a.each k (get_or J k d) (slice_get-get_or J k d l))
+      (b.each k (get_or K k d) (slice_get-get_or K k d (omega (arith, e, l)))))
+
+pub pairs_set : (J K : List (List ℕ × List ℕ)) → IsProp (J ≡ K)
+pairs_set J K = Coded-set (coded_list (coded× (coded_list coded_ℕ) (coded_list coded_ℕ))) J K
+
+-- the pairs of so many entries
+abbrev pub Listed : (ℕ → List ℕ × List ℕ → Type 0) → ℕ → Type 0
+Listed At len = (pairs : List (List ℕ × List ℕ)) × ∥ AreNames At len pairs ∥₁
+
+abbrev pub PlacedPairs : List ℕ → List ℕ → Type 0
+PlacedPairs bytes offsets = Listed (IsPlaced bytes offsets) (length offsets)
+
+-- there is one such list at most
+pub Listed-prop : {At : ℕ → List ℕ × List ℕ → Type 0} {len : ℕ} → ((i : ℕ) (p q : List ℕ × List ℕ) → At i p → At i q → p ≡ q)
+    → IsProp (Listed At len)
+Listed-prop {At} {len} one s t =
+    Σ_prop_path (λ pairs. ∥∥₁_prop)
+    (∥∥₁_elim s.1 (pairs_set s.0 t.0) (λ a. ∥∥₁_elim t.1 (pairs_set s.0 t.0) (λ b. names_one At one len s.0 t.0 a b)))
+
+-- ---- a search
+
+-- how a name compares with a string; or whether it is below the string or begins with it
+abbrev pub order_by : Bool → List ℕ → List ℕ → Ordering
+order_by false name text = text_order name text
+order_by true name text = if is_lt (text_order name text) || begins name text then Less else Greater
 
 -- ---- what is written
 

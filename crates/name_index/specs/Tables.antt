@@ -1,50 +1,52 @@
--- Name tables whose keys ascend. A string is the list of its bytes.
-use Rattle.std.specs.Prelude.{◌≡◌, ◌==◌, ℕ, Bool, List, Option, Result, Some, filter, map}
-use Rattle.std.specs.Cmp.Lexicographic.{slice_cmp}
-use Rattle.std.specs.List.{starts_with}
-use Rattle.std.specs.Option.{option_copied}
-use Rattle.std.specs.Ordering.{nat_cmp}
-use Rattle.std.specs.declared.cmp.Ordering.{Ordering}
-use Rattle.litemap_store.specs.Pairs.{Rising, index_of, place, sub, value_at}
+-- Name tables whose keys ascend, and which error other bytes have: that of the first entry that stops an index of them.
+use Rattle.std.specs.Prelude.{◌≡◌, ◌⊎◌, ℕ, ◌<◌, ◌≤◌, List, [], ◌∷◌, ◌++◌, map, ⊤}
 use Rattle.litemap.specs.ByBytes.{by_bytes}
-use Rattle.name_table.specs.Parts.{Begins, IsTable, table_parts}
-use Rattle.name_table.specs.Positions.{shown}
+use Rattle.litemap_store.specs.Pairs.{Rising}
+use Rattle.name_table.specs.Faults.{NextFault, PartFault}
+use Rattle.name_table.specs.Parts.{Begins, IsTable, Number, number_limit, table_parts}
+use Rattle.name_table.specs.Positions.{IsAfter, IsCounted, Remaining, shown}
+use Rattle.name_table.specs.declared.error.NameFault.{NameFault}
+use Rattle.name_index.specs.Names.{text_order}
+use Rattle.name_index.specs.declared.error.NameIndexFault.{NameIndexFault}
+use Rattle.name_index.specs.declared.error.NameIndexFault.TheVariants.{Format, NoRoom, NotAscending, TooFar}
 use denote.Ref.{Bor}
 
--- the order of strings: by their bytes, where a proper prefix is less
-abbrev pub text_order : List ℕ → List ℕ → Ordering
-text_order a b = slice_cmp nat_cmp a b
-
--- the bytes begin with a table of the pairs, whose keys ascend
+-- the bytes begin with a table of the pairs, whose keys ascend. By a law of name tables they begin with no other one
 pub record IsRisingTable (bytes : List ℕ) (pairs : List (List ℕ × List ℕ)) : Type 0 where
   pub rest : List ℕ
   pub table : Begins bytes (table_parts pairs) rest
   pub rises : Rising text_order pairs
 
--- the bytes begin with a table whose keys ascend, and P holds of its pairs: by a law of name tables there is no other one
-abbrev pub OfTable : List ℕ → (List (List ℕ × List ℕ) → Type 0) → Type 0
-OfTable bytes P = (pairs : List (List ℕ × List ℕ)) × IsRisingTable bytes pairs × P pairs
+-- after these pairs one is due, and the error is its own: it can't be read, its key doesn't ascend, it begins too far, or memory
+-- runs out
+abbrev pub NextStops : List (List ℕ × List ℕ) → Remaining → NameIndexFault → Type 0
+NextStops pairs t NoRoom = 0 < t.left
+NextStops pairs t TooFar = (0 < t.left) × (number_limit ≤ t.place)
+NextStops pairs t (Format error) = NextFault t error
+NextStops pairs t (NotAscending at) =
+    (u : Remaining) × (next : List ℕ × List ℕ)
+    × IsAfter t u (next ∷ []) × (at ≡ t.place) × (Rising text_order (pairs ++ next ∷ []) → ⊥)
 
--- the value of the key, if it is there
-abbrev pub Gets : List ℕ → Option (Bor (List ℕ)) → List (List ℕ × List ℕ) → Type 0
-Gets key value pairs = option_copied value ≡ value_at text_order pairs key
+-- some pairs can be read, and their keys ascend. The next one stops
+abbrev pub StopsAt : Remaining → NameIndexFault → Type 0
+StopsAt s error = (t : Remaining) × (pairs : List (List ℕ × List ℕ))
+    × IsAfter s t pairs × Rising text_order pairs × NextStops pairs t error
 
--- the index of the key, or the index where it would go
-abbrev pub FindsIndex : List ℕ → Result ℕ ℕ → List (List ℕ × List ℕ) → Type 0
-FindsIndex key index pairs = index ≡ index_of text_order pairs key
+-- the number of entries can't be read, or what is due after it stops
+abbrev pub IsFault : List ℕ → NameIndexFault → Type 0
+IsFault bytes error = ((f : NameFault) × (error ≡ Format f) × PartFault (Number 0) bytes 0 f)
+    ⊎ ((s : Remaining) × IsCounted bytes s × StopsAt s error)
 
--- the name begins with the string
-abbrev pub begins : List ℕ → List ℕ → Bool
-begins name text = starts_with (λ a b. a == b) name text
+-- the error says that the bytes are no table whose keys ascend
+abbrev pub IsMalformed : NameIndexFault → Type 0
+IsMalformed NoRoom = ⊥
+IsMalformed TooFar = ⊥
+IsMalformed error = ⊤
 
--- the range of the names that begin with the string, after all names that are below it
-pub record IsPrefixRange (text : List ℕ) (start end : ℕ) (pairs : List (List ℕ × List ℕ)) : Type 0 where
-  pub start_is : start ≡ place text_order pairs text
-  pub names : sub pairs start end ≡ Some (filter (λ p. begins p.0 text) pairs)
-
--- bytes that are a table of a map's pairs, as those that are written for it, begin with a table of these pairs, whose keys
--- ascend
+-- bytes that are a table of a map's pairs, as those that are written for it, are a table of these pairs, whose keys ascend, and
+-- of no others, and their error is none of their own
 abbrev pub WrittenIsOpened : Type 0
 WrittenIsOpened = (bytes : List ℕ) (pairs : List (Bor (List ℕ) × Bor (List ℕ)))
     → Rising by_bytes pairs → IsTable bytes (map shown pairs)
-    → OfTable bytes (λ parts. parts ≡ map shown pairs)
+    → ((opened : List (List ℕ × List ℕ)) → IsRisingTable bytes opened → opened ≡ map shown pairs)
+    × ((error : NameIndexFault) → IsFault bytes error → IsMalformed error → ⊥)

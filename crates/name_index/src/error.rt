@@ -1,15 +1,17 @@
-//! Why a name table or an index of names can't be looked up in.
+//! Why bytes can't be looked up in.
 ghost use Rattle.std.specs.Prelude.{◌≡◌};
-ghost use Rattle.name_index.specs.declared.error.NameIndexFault.TheVariants.{NoRoom};
-ghost use Rattle.name_index.specs.declared.error.NameTableFault.TheVariants.{Format};
+ghost use Rattle.name_index.specs.declared.error.NameIndexFault.TheVariants.{Format, NoRoom};
 
 use name_table::NameFault;
 use std::alloc::AllocError;
 use thiserror::Error;
 
-/// Why bytes are no name table whose keys ascend.
+/// Why no `NameIndex` of a name table was made.
 #[derive(Debug, PartialEq, Drop, Error)]
-pub enum NameTableFault {
+pub enum NameIndexFault {
+    /// Memory ran out.
+    #[error("there is not enough memory")]
+    NoRoom,
     /// A number or a string can't be read: the bytes are no name table.
     #[error("{0}")]
     Format(NameFault),
@@ -19,25 +21,8 @@ pub enum NameTableFault {
         /// Where the first such entry begins.
         at: usize,
     },
-}
-
-/// Lets `?` turn an error of the format into `Format`.
-impl From<NameFault> for NameTableFault {
-    ghost from_gives = { λ error result. result ≡ Format error };
-
-    fn from(error: NameFault) -> Self {
-        NameTableFault::Format(error)
-    }
-}
-
-/// Why no `NameIndex` of a table was made.
-#[derive(Debug, PartialEq, Drop, Error)]
-pub enum NameIndexFault {
-    /// Memory ran out.
-    #[error("there is not enough memory")]
-    NoRoom,
-    /// An entry begins 4,294,967,296 bytes or more after the first.
-    #[error("an entry of the name table begins too far after the first")]
+    /// An entry begins at byte 4,294,967,296 or later.
+    #[error("an entry of the name table begins at too high an offset")]
     TooFar,
 }
 
@@ -47,6 +32,15 @@ impl From<AllocError> for NameIndexFault {
 
     fn from(_: AllocError) -> Self {
         NameIndexFault::NoRoom
+    }
+}
+
+/// Lets `?` turn an error of the format into `Format`.
+impl From<NameFault> for NameIndexFault {
+    ghost from_gives = { λ error result. result ≡ Format error };
+
+    fn from(error: NameFault) -> Self {
+        NameIndexFault::Format(error)
     }
 }
 

@@ -1,158 +1,106 @@
-//! A name table with the offset of each entry.
-ghost use Rattle.std.specs.Prelude.{◌≡◌, ◌==◌, ◌*◌, ◌<◌, IfErr, IfOk, OnErr, OnOk, length, map, option_map, slice_get};
-ghost use Rattle.std.specs.Prelude.{slice_range};
-ghost use Rattle.litemap_store.specs.Counts.{RisesByAtMost, digits};
-ghost use Rattle.name_index.specs.{FindsIndex, Gets, IfTooFar, IsFar, IsPrefixRange, OfTable};
+//! A name table with the offset of each entry, and the iterator over them.
+ghost use Rattle.std.specs.Prelude.{◌≡◌, ◌<◌, IfErr, IfOk, OnErr, OnOk, length, map, slice_range};
+ghost use Rattle.std.specs.Iterator.{at_most};
+ghost use Rattle.std.specs.Map.Iter.{TakesFirst};
+ghost use Rattle.litemap_store.specs.Hints.{HintsExactly};
+ghost use Rattle.name_index.specs.{BeginsEntry, IsFault, IsRisingTable, Listed-prop, PlacedPairs, placed_one};
+ghost use Rattle.name_index.specs.declared.error.NameIndexFault.TheVariants.{TooFar};
 ghost use Rattle.name_table.specs.Positions.{shown};
 
 use crate::error::NameIndexFault;
-use crate::name_entries::{NameEntries, map_of};
-use crate::offsets::{offsets_of, pair_of, partition_point, search};
-use crate::table::NameTable;
-use litemap_store::store::Count;
+use crate::names::{Entries, Names};
+use crate::table::{offsets_of, read_valid_pair, read_valid_string};
+use litemap::LiteMap;
 use name_table::NameMap;
 use std::alloc::{AllocError, Global};
+use std::iter::FusedIterator;
 use std::marker::Model;
 use std::ops::Range;
 
-/// A name table whose keys ascend, with the offset of each entry, which takes four bytes.
+/// A name table whose keys ascend, with the offset of each entry, which takes four bytes. It is looked up in its bytes.
 ///
-/// A contract sees it as the bytes, as it does a `NameTable`.
+/// A contract sees it as the list of its pairs, in which a string is the list of its bytes.
 #[derive(Drop)]
 pub struct NameIndex<'a> {
     bytes: &'a [u8],
-    entries: &'a [u8],
     offsets: Vec<u32>,
+    ghost pairs: { PlacedPairs bytes.now offsets.items } by { Listed-prop (placed_one bytes.now offsets.items) },
 }
 
 impl<'a> Model for NameIndex<'a> {
-    ghost use Rattle.std.specs.Prelude.{ℕ, List};
-    ghost use Rattle.name_index.specs.{IsIndexed};
+    ghost use Rattle.std.specs.Prelude.{ℕ, List, length};
+    ghost use Rattle.name_index.specs.{AreNames, IsPlaced};
 
-    ghost Value = { List ℕ };
+    ghost Value = { List (List ℕ × List ℕ) };
 
-    ghost view = { λ t. t.bytes.now };
+    ghost view = { λ t. t.pairs.0 };
 
-    ghost invariant = { λ t. IsIndexed t.bytes.now t.entries.now t.offsets.items };
+    ghost invariant = { λ t. AreNames (IsPlaced t.bytes.now t.offsets.items) (length t.offsets.items) t.pairs.0 };
 }
 
-impl<'a> NameIndex<'a> {
-    /// Makes the index of a table. Its entries are read once, with no comparison.
-    ///
-    /// # Errors
-    ///
-    /// `TooFar` comes if an entry begins 4,294,967,296 bytes or more after the first, and only then. If memory runs out, it is
-    /// `NoRoom`, which doesn't come if the table has no entry.
-    pub fn new(alloc: Global, table: &NameTable<'a>) -> Result<Self, NameIndexFault>
-        ensures bytes { IfOk result (λ index. index ≡ table.now) }
-        ensures refused { OnErr result (OfTable table.now (λ pairs. 0 < length pairs)) }
-        ensures too_far { IfErr result (λ error. IfTooFar error (IsFar table.now)) }
-        ensures near { OnOk result (IsFar table.now → ⊥) }
-    {
-        let (bytes, entries, len) = table.parts();
-        let offsets = offsets_of(alloc, entries, len)?;
-        Ok(NameIndex {
-            bytes,
-            entries,
-            offsets,
-        })
-    }
+impl<'a> Entries<'a> for NameIndex<'a> {
+    ghost pairs = { λ t. t };
 
-    /// Returns the number of entries.
-    pub fn len(&self) -> usize
-        ensures { OfTable self.now (λ pairs. result ≡ length pairs) }
-    {
+    fn number(&self) -> usize {
         self.offsets.len()
     }
 
-    /// Returns whether there is no entry.
-    pub fn is_empty(&self) -> bool
-        ensures { OfTable self.now (λ pairs. result ≡ (length pairs == 0)) }
-    {
-        self.len() == 0
+    fn key_at(&self, index: usize) -> &'a str {
+        read_valid_string(self.bytes_from(index)).0
     }
 
-    /// Returns the value of the key with the same bytes, or `None` if there is none. It makes O(log n) comparisons for n entries.
+    fn entry_at(&self, index: usize) -> (&'a str, &'a str) {
+        read_valid_pair(self.bytes_from(index)).0
+    }
+}
+
+impl<'a> Names<'a> for NameIndex<'a> {}
+
+impl<'a> NameIndex<'a> {
+    /// Makes the index of the name table that the bytes begin with. Bytes after the table are left unread.
     ///
-    /// The value is a slice of the table's bytes, so it may outlive the index. No memory is taken.
-    pub fn get(&self, key: &str) -> Option<&'a str>
-        ensures { OfTable self.now (Gets key.now result) }
+    /// The table is read once, and each key compared with the one before it.
+    ///
+    /// # Errors
+    ///
+    /// The error is that of the first entry that can't be read (`Format`, as `read_names` returns it), whose key isn't above the
+    /// one before it (`NotAscending`), or that begins at byte 4,294,967,296 or later (`TooFar`). If memory runs out, it is
+    /// `NoRoom`, which doesn't come if the table has no entry.
+    pub fn new(alloc: Global, bytes: &'a [u8]) -> Result<Self, NameIndexFault>
+        ensures table { IfOk result (IsRisingTable bytes.now) }
+        ensures error { IfErr result (IsFault bytes.now) }
+        ensures near { OnOk result (IsFault bytes.now TooFar → ⊥) }
     {
-        self.get_counted(key, &mut Count::new())
+        let offsets = offsets_of(alloc, bytes)?;
+        Ok(NameIndex { bytes, offsets })
     }
 
-    /// `get`, counting its comparisons.
-    pub fn get_counted(&self, key: &str, count: &mut Count) -> Option<&'a str>
-        ensures value { OfTable self.now (Gets key.now result) }
-        ensures cost { OfTable self.now (λ pairs. RisesByAtMost (digits (length pairs)) count.old count.new) }
+    // The bytes from the entry at an index on.
+    fn bytes_from(&self, index: usize) -> &'a [u8]
+        requires { index < length self.now }
+        ensures { BeginsEntry self.now index result.now }
     {
         let offsets = self.offsets.as_slice();
-        match search(self.entries, offsets, key, count) {
-            Ok(index) => Some(pair_of(self.entries, offsets, index).1),
-            Err(_) => None,
-        }
-    }
-
-    /// Returns `Ok` with the index of a key, or `Err` with the index where it would go. It costs what `get` does.
-    pub fn find_index(&self, key: &str) -> Result<usize, usize>
-        ensures { OfTable self.now (FindsIndex key.now result) }
-    {
-        self.find_index_counted(key, &mut Count::new())
-    }
-
-    /// `find_index`, counting its comparisons.
-    pub fn find_index_counted(&self, key: &str, count: &mut Count) -> Result<usize, usize>
-        ensures index { OfTable self.now (FindsIndex key.now result) }
-        ensures cost { OfTable self.now (λ pairs. RisesByAtMost (digits (length pairs)) count.old count.new) }
-    {
-        search(self.entries, self.offsets.as_slice(), key, count)
-    }
-
-    /// Returns the entry at an index, or `None` if it is not below the length. No other entry is read.
-    pub fn get_indexed(&self, index: usize) -> Option<(&'a str, &'a str)>
-        ensures { OfTable self.now (λ pairs. option_map shown result ≡ slice_get pairs index) }
-    {
-        if index >= self.offsets.len() {
-            return None;
-        }
-        Some(pair_of(self.entries, self.offsets.as_slice(), index))
-    }
-
-    /// Returns the range of the indices of the names that begin with a string. It starts after all names that are below the
-    /// string, and if no name begins with it, it is empty there. An empty string begins each name.
-    ///
-    /// It makes O(log n) comparisons, each of the string with as many bytes of a name.
-    pub fn prefix_range(&self, prefix: &str) -> Range<usize>
-        ensures range { OfTable self.now (IsPrefixRange prefix.now result.start result.end) }
-    {
-        self.prefix_range_counted(prefix, &mut Count::new())
-    }
-
-    /// `prefix_range`, counting its comparisons.
-    pub fn prefix_range_counted(&self, prefix: &str, count: &mut Count) -> Range<usize>
-        ensures range { OfTable self.now (IsPrefixRange prefix.now result.start result.end) }
-        ensures cost { OfTable self.now (λ pairs. RisesByAtMost (2 * digits (length pairs)) count.old count.new) }
-    {
-        let offsets = self.offsets.as_slice();
-        // The number of the names before those that begin with the prefix, and of both.
-        let start = partition_point(self.entries, offsets, prefix, false, count);
-        let end = partition_point(self.entries, offsets, prefix, true, count);
-        start..end
+        &self.bytes[offsets[index] as usize..]
     }
 
     /// Returns the entries at the indices of a range, in order, and none past the last one. Each is read when the iterator
     /// comes to it, with no comparison.
-    pub fn entries_in(&self, range: Range<usize>) -> NameEntries<'a>
-        ensures { OfTable self.now (λ pairs. result ≡ slice_range pairs range.start range.end) }
+    pub fn entries_in(&self, range: Range<usize>) -> NameEntries<'_, 'a>
+        ensures { result ≡ slice_range self.now range.start range.end }
     {
-        let offsets = self.offsets.as_slice();
-        let end = range.end.min(offsets.len());
-        if range.start < end {
-            let entries = &self.entries[offsets[range.start] as usize..];
-            NameEntries::new(entries, end - range.start)
-        } else {
-            NameEntries::new(self.entries, 0)
+        NameEntries {
+            names: self,
+            next: range.start,
+            end: range.end.min(self.number()),
         }
+    }
+
+    /// Returns an iterator over all entries in order. Each is read when the iterator comes to it, with no comparison.
+    pub fn iter(&self) -> NameEntries<'_, 'a>
+        ensures { result ≡ self.now }
+    {
+        self.entries_in(0..self.number())
     }
 
     /// Makes the map of all entries, whose keys and values are slices of the bytes. Each is read once, moved once, and not
@@ -160,17 +108,14 @@ impl<'a> NameIndex<'a> {
     ///
     /// It fails only if memory runs out. It takes memory for all entries at once, and none if there is no entry.
     pub fn to_map(&self, alloc: Global) -> Result<NameMap<'a>, AllocError>
-        ensures pairs { IfOk result (λ made. OfTable self.now (λ pairs. map shown made.pairs ≡ pairs)) }
-        ensures refused { OnErr result (OfTable self.now (λ pairs. 0 < length pairs)) }
+        ensures pairs { IfOk result (λ made. map shown made.pairs ≡ self.now) }
+        ensures refused_some { OnErr result (0 < length self.now) }
     {
-        map_of(alloc, self.iter())
-    }
-
-    /// Returns an iterator over all entries in order. Each is read when the iterator comes to it, with no comparison.
-    pub fn iter(&self) -> NameEntries<'a>
-        ensures { OfTable self.now (λ pairs. result ≡ pairs) }
-    {
-        NameEntries::new(self.entries, self.offsets.len())
+        let mut pairs = Vec::with_capacity(alloc, self.number())?;
+        for pair in self.iter() {
+            pairs.push(pair)?;
+        }
+        Ok(LiteMap::from_sorted_store_unchecked(pairs))
     }
 }
 
@@ -178,11 +123,62 @@ impl<'a> NameIndex<'a> {
 impl<'t, 'a> IntoIterator for &'t NameIndex<'a> {
     type Item = (&'a str, &'a str);
 
-    type IntoIter = NameEntries<'a>;
+    type IntoIter = NameEntries<'t, 'a>;
 
-    ghost into_iter_gives = { λ t r. OfTable t.now (λ pairs. r ≡ pairs) };
+    ghost into_iter_gives = { λ t r. r ≡ t.now };
 
-    fn into_iter(self) -> NameEntries<'a> {
+    fn into_iter(self) -> NameEntries<'t, 'a> {
         self.iter()
     }
 }
+
+/// An iterator over entries of a `NameIndex`. A contract sees it as the list of those still to come, in which a string is the
+/// list of its bytes.
+#[derive(Drop)]
+pub struct NameEntries<'t, 'a> {
+    names: &'t NameIndex<'a>,
+    next: usize,
+    end: usize,
+}
+
+impl<'t, 'a> Model for NameEntries<'t, 'a> {
+    ghost use Rattle.std.specs.Prelude.{ℕ, ◌≤◌, List, length, slice_range};
+
+    ghost Value = { List (List ℕ × List ℕ) };
+
+    ghost view = { λ s. slice_range s.names.now s.next s.end };
+
+    ghost invariant = { λ s. s.end ≤ length s.names.now };
+}
+
+impl<'t, 'a> Iterator for NameEntries<'t, 'a> {
+    type Item = (&'a str, &'a str);
+
+    ghost next_gives = { TakesFirst shown };
+
+    ghost remaining = { λ s. at_most (length s) };
+
+    fn next(&mut self) -> Option<(&'a str, &'a str)> {
+        if self.next >= self.end {
+            return None;
+        }
+        let pair = self.names.entry_at(self.next);
+        self.next += 1;
+        Some(pair)
+    }
+
+    fn size_hint(&self) -> (usize, Option<usize>)
+        ensures { HintsExactly (length self.now) result }
+    {
+        let len = self.len();
+        (len, Some(len))
+    }
+}
+
+impl<'t, 'a> ExactSizeIterator for NameEntries<'t, 'a> {
+    fn len(&self) -> usize {
+        self.end.saturating_sub(self.next)
+    }
+}
+
+impl<'t, 'a> FusedIterator for NameEntries<'t, 'a> {}

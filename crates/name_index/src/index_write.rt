@@ -1,4 +1,4 @@
-//! Indexes of names written from maps.
+//! Indexes of names written from pairs.
 ghost use Rattle.std.specs.Prelude.{◌≡◌, ◌+◌, ◌≤◌, ◌<◌, Err, IfErr, IfOk, OnOk, length, map};
 ghost use Rattle.litemap.specs.ByBytes.{by_bytes};
 ghost use Rattle.litemap_store.specs.Pairs.{Rising};
@@ -9,30 +9,20 @@ ghost use Rattle.name_table.specs.Positions.{shown};
 ghost use Rattle.name_table.specs.Reads.{IfTooLarge};
 ghost use Rattle.name_table.specs.declared.error.NameWriteFault.TheVariants.{TooLarge};
 
+use name_table::NameWriteFault;
 use name_table::parts::NUMBER_LIMIT;
-use name_table::{NameMap, NameWriteFault};
 use std::alloc::Global;
 
 /// The bytes of the two numbers of an entry: one stands before its key, one before its value.
 const ENTRY_NUMBERS: usize = 8;
 
-/// Writes the index of a map, and returns its bytes.
+/// Writes the index of pairs whose keys strictly ascend, as those of a map's `as_slice` or of a constant table do. Returns its
+/// bytes.
 ///
 /// # Errors
 ///
 /// `TooLarge` comes if the entries take 4,294,967,296 bytes or more, and only then. If memory runs out, it is `NoRoom`.
-pub fn write_index(alloc: Global, names: &NameMap<'_>) -> Result<Vec<u8>, NameWriteFault>
-    ensures index { IfOk result (λ bytes. IsIndex bytes.items (map shown names.now.pairs)) }
-    ensures size { IfOk result (λ bytes. length bytes.items ≡ index_size (map shown names.now.pairs)) }
-    ensures too_large { IfErr result (λ error. IfTooLarge error (number_limit ≤ entries_size (map shown names.now.pairs))) }
-    ensures small { OnOk result (entries_size (map shown names.now.pairs) < number_limit) }
-{
-    write_index_of(alloc, names.as_slice())
-}
-
-/// Writes the index of pairs whose keys strictly ascend, as those of a constant table do, and returns its bytes. Its errors are
-/// those of `write_index`.
-pub fn write_index_of(alloc: Global, names: &[(&str, &str)]) -> Result<Vec<u8>, NameWriteFault>
+pub fn write_index(alloc: Global, names: &[(&str, &str)]) -> Result<Vec<u8>, NameWriteFault>
     requires { Rising by_bytes names.now }
     ensures index { IfOk result (λ bytes. IsIndex bytes.items (map shown names.now)) }
     ensures size { IfOk result (λ bytes. length bytes.items ≡ index_size (map shown names.now)) }
@@ -106,7 +96,7 @@ fn put_number(bytes: &mut Vec<u8>, number: usize) -> Result<(), NameWriteFault>
     ensures number { OnOk result (IsNumberAt bytes.new.items (length bytes.old.items) number) }
     ensures small { OnOk result (number < NUMBER_LIMIT) }
     ensures too_large { IfErr result (λ error. IfTooLarge error (NUMBER_LIMIT ≤ number)) }
-    ensures refused { NUMBER_LIMIT ≤ number → result ≡ Err TooLarge }
+    ensures error { NUMBER_LIMIT ≤ number → result ≡ Err TooLarge }
 {
     if number >= NUMBER_LIMIT {
         return Err(NameWriteFault::TooLarge);

@@ -56,7 +56,7 @@ impl<'a> Cursor<'a> {
     /// Returns the number that the bytes begin with, and the cursor after it. An error has the offset of the number.
     pub fn number(&self) -> Result<(usize, Self), NameFault>
         ensures ok { IfOk result (λ read. IsPast self.now read.1 (Number read.0 ∷ [])) }
-        ensures err { IfErr result (λ error. PartFault (Number 0) self.now.rest self.now.place error) }
+        ensures error { IfErr result (λ error. PartFault (Number 0) self.now.rest self.now.place error) }
     {
         let at = self.place;
         let (number, rest) = number_within(self.rest, MOST_BYTES, at)?;
@@ -72,7 +72,7 @@ impl<'a> Cursor<'a> {
     /// length or of the string.
     pub fn text(&self) -> Result<(&'a str, Self), NameFault>
         ensures ok { IfOk result (λ read. IsPast self.now read.1 (text_parts read.0.now)) }
-        ensures err { IfErr result (λ error. TextFault self.now.rest self.now.place error) }
+        ensures error { IfErr result (λ error. TextFault self.now.rest self.now.place error) }
     {
         let (size, tail) = self.number()?;
         let from = tail.place;

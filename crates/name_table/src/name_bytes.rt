@@ -41,7 +41,7 @@ impl<'a> NameBytes<'a> {
     /// Makes the source of a table's entries. It reads their number, and an error is that number's.
     pub fn new(bytes: &'a [u8]) -> Result<Self, NameFault>
         ensures ok { IfOk result (λ names. IsCounted bytes.now names) }
-        ensures err { IfErr result (λ error. PartFault (Number 0) bytes.now 0 error) }
+        ensures error { IfErr result (λ error. PartFault (Number 0) bytes.now 0 error) }
     {
         let (left, cursor) = Cursor::new(bytes).number()?;
         Ok(NameBytes { cursor, left })

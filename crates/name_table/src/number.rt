@@ -18,7 +18,7 @@ pub const BASE: usize = 128;
 pub fn number_within(bytes: &[u8], room: u8, at: usize) -> Result<(usize, &[u8]), NameFault>
     requires { room ≤ MOST_BYTES }
     ensures ok { IfOk result (λ read. BeginsNumber bytes.now room read.0 read.1.now) }
-    ensures err { IfErr result (λ error. WhyUnread error at room bytes.now) }
+    ensures error { IfErr result (λ error. WhyUnread error at room bytes.now) }
 {
     if room == 0 {
         return Err(NameFault::NumberTooLarge { at });

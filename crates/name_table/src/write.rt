@@ -55,7 +55,7 @@ fn put_string(bytes: &mut Vec<u8>, text: &str) -> Result<(), NameWriteFault>
 fn put_length(bytes: &mut Vec<u8>, size: usize) -> Result<(), NameWriteFault>
     ensures ok { OnOk result (Appends bytes.old.items bytes.new.items (Number size ∷ [])) }
     ensures too_large { IfErr result (λ error. IfTooLarge error (NUMBER_LIMIT ≤ size)) }
-    ensures refused { NUMBER_LIMIT ≤ size → result ≡ Err TooLarge }
+    ensures error { NUMBER_LIMIT ≤ size → result ≡ Err TooLarge }
 {
     if size >= NUMBER_LIMIT {
         return Err(NameWriteFault::TooLarge);

@@ -4,19 +4,20 @@ use Rattle.std.specs.Cmp.Lexicographic.{nat_list_cmp_total}
 use Rattle.litemap_store.specs.Pairs.{Rising}
 use Rattle.litemap_store.proofs.Search.Splitting.{Rising-put}
 use Rattle.litemap_store.proofs.Callers.Lookups.{Rising-cut}
-use Rattle.names_core.specs.Told.{Answers, Does, DoesEach, Nothing, Obeys, ShowsAll, ShowsJson, TextMap, by_bytes}
+use Rattle.names_core.specs.Told.{Replies, Does, DoesEach, Nothing, Obeys, ShowsAll, ShowsJson, TextMap}
+use Rattle.litemap_store.specs.Queries.{bytes_cmp}
 use Rattle.names_core.specs.declared.line.Command.{Command}
 use Rattle.names_core.specs.declared.line.Command.TheVariants.{Del, Find, Get, Put}
 
 -- the strings ascend by their bytes
 abbrev pub TextsRise : List (List ℕ × List ℕ) → Type 0
-TextsRise L = Rising by_bytes L
+TextsRise L = Rising bytes_cmp L
 
 module _ (old next : TextMap) (said text : List ℕ) (rises : TextsRise old.pairs) where
   same_rises : next ≡ old → TextsRise next.pairs
   same_rises e = subst (λ (m : TextMap). TextsRise m.pairs) (sym e) rises
 
-  command_rises : (command : Command) → Answers old command text next → TextsRise next.pairs
+  command_rises : (command : Command) → Replies old command text next → TextsRise next.pairs
   command_rises (Put k v) (told, (puts, room, kept)) = subst TextsRise (sym puts) (Rising-put nat_list_cmp_total old.pairs k.now v.now rises)
   command_rises (Get k) (told, same) = same_rises same
   command_rises (Del k) (told, cuts, kept) = subst TextsRise (sym cuts) (Rising-cut nat_list_cmp_total old.pairs k.now rises)

@@ -8,7 +8,8 @@ use Rattle.litemap_read.specs.declared.calls.Answer.{Answer}
 use Rattle.litemap_read.specs.declared.calls.Call.{Call}
 use Rattle.litemap_read.specs.declared.calls.Call.TheVariants as call
 use Rattle.names_core.specs.Line.{Spells, SpellsAll, SpellsJson}
-use Rattle.names_core.specs.Told.{DoesEach, TextMap, by_bytes, json_text}
+use Rattle.names_core.specs.Told.{DoesEach, TextMap, json_text}
+use Rattle.litemap_store.specs.Queries.{bytes_cmp}
 use Rattle.names_core.specs.declared.line.Command.{Command}
 use Rattle.names_core.specs.declared.line.Command.TheVariants as command
 
@@ -31,7 +32,7 @@ SpellEach (said ∷ more) calls =
 abbrev pub LinesAreARun : Type 0
 LinesAreARun = (start end : TextMap) (said : List (List ℕ)) (text : List ℕ) → DoesEach start said text end →
     (calls : List (Call (List ℕ) (List ℕ))) × (answers : List (Answer (List ℕ) (List ℕ)))
-    × SpellEach said calls × Run by_bytes start calls answers end
+    × SpellEach said calls × Run bytes_cmp start calls answers end
 
 -- wherever lines have led from an empty map, the reply to `json` is the compact text of the map's JSON value, the tree that
 -- `to_json` makes of it

@@ -46,7 +46,7 @@ impl<T> FailAt<T> {
     }
 
     // Counts a call, and returns what it returns if it is the one that fails.
-    fn begin(&mut self) -> Option<io::Result<usize>>
+    fn take_turn(&mut self) -> Option<io::Result<usize>>
         ensures none { IfSome result (λ answer. IfOk answer (λ n. n ≡ 0)) }
         ensures meets { IfSome result (λ answer. Meets self.old.fault answer) }
         ensures due { self.old.calls ≡ self.old.at → IsSome result }
@@ -69,7 +69,7 @@ impl<R: Read> Read for FailAt<R> {
         ensures bytes { ReadConsumes None None result buf.new }
         ensures meets { self.old.calls ≡ self.old.at → Meets self.old.fault result }
     {
-        if let Some(answer) = self.begin() {
+        if let Some(answer) = self.take_turn() {
             return answer;
         }
         let most = self.most.min(buf.len());
@@ -83,7 +83,7 @@ impl<W: Write> Write for FailAt<W> {
         ensures bytes { WriteAppends None None result buf.now }
         ensures meets { self.old.calls ≡ self.old.at → Meets self.old.fault result }
     {
-        if let Some(answer) = self.begin() {
+        if let Some(answer) = self.take_turn() {
             return answer;
         }
         let most = self.most.min(buf.len());
@@ -92,7 +92,7 @@ impl<W: Write> Write for FailAt<W> {
 
     /// Passes the flush on, or returns the error. A flush moves no byte, so `MovesNothing` leaves it as it is.
     fn flush(&mut self) -> io::Result<()> {
-        if let Some(Err(error)) = self.begin() {
+        if let Some(Err(error)) = self.take_turn() {
             return Err(error);
         }
         self.inner.flush()

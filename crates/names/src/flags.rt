@@ -38,7 +38,7 @@ type FlagMap = VecMap<bool, u32>;
 /// in place of any result.
 pub fn rewrite_flags(alloc: Global, bytes: &[u8]) -> Result<String, FlagsFault>
     ensures rewritten { IfOk result (λ text. IsRewritten bytes.now (string_bytes text)) }
-    ensures refused { IfErr result (IsFlagsFault bytes.now) }
+    ensures error { IfErr result (IsFlagsFault bytes.now) }
 {
     let value = read_value(alloc, bytes)?;
     let flags = read_flags(alloc, &value)?;
@@ -47,7 +47,7 @@ pub fn rewrite_flags(alloc: Global, bytes: &[u8]) -> Result<String, FlagsFault>
 
 fn read_value(alloc: Global, bytes: &[u8]) -> Result<Value, FlagsFault>
     ensures read { IfOk result (λ value. IsJsonText bytes.now (view value)) }
-    ensures refused { IfErr result (IsFlagsFault bytes.now) }
+    ensures error { IfErr result (IsFlagsFault bytes.now) }
 {
     match Value::from_slice(alloc, bytes) {
         Ok(value) => Ok(value),
@@ -58,7 +58,7 @@ fn read_value(alloc: Global, bytes: &[u8]) -> Result<Value, FlagsFault>
 
 fn read_flags(alloc: Global, value: &Value) -> Result<FlagMap, FlagsFault>
     ensures read { IfOk result (λ flags. FlagsReadAs (view value.now) flags.pairs) }
-    ensures refused { IfErr result
+    ensures error { IfErr result
         (λ fault. (bytes : _) → IsJsonText bytes (view value.now) → IsFlagsFault bytes fault) }
 {
     match from_json(alloc, value) {
@@ -71,7 +71,7 @@ fn read_flags(alloc: Global, value: &Value) -> Result<FlagMap, FlagsFault>
 fn flags_text(alloc: Global, flags: &FlagMap) -> Result<String, FlagsFault>
     ensures text { IfOk result
         (λ text. (value : Data) × (flags_tree flags.now.pairs ≡ Ok value) × (string_bytes text ≡ compact_text value)) }
-    ensures refused { IfErr result (λ fault. (bytes : _) → IsFlagsFault bytes fault) }
+    ensures error { IfErr result (λ fault. (bytes : _) → IsFlagsFault bytes fault) }
 {
     let Ok(value) = to_json(alloc, flags) else {
         return Err(FlagsFault::Memory);

@@ -5,7 +5,7 @@ use Rattle.std.proofs.lemmas.List.{length-map, map-append}
 use Rattle.litemap_store.specs.Pairs.{above, at, below, cut, index_of, key_or, put, value_at}
 use Rattle.litemap_store.specs.Queries.{by_string}
 use Rattle.names_core.specs.Reply.{pair_bytes}
-use Rattle.names_core.specs.Told.{by_bytes}
+use Rattle.litemap_store.specs.Queries.{bytes_cmp}
 
 module _ {A B : Type 0} (v : A → B) (q : B → Bool) where
   filter-map : (xs : List A) → filter q (map v xs) ≡ map v (filter (λ x. q (v x)) xs)
@@ -22,37 +22,37 @@ module _ {A B : Type 0} (v : A → B) (q : B → Bool) where
       [ true ↦ refl | false ↦ refl ])
 
 module _ (L : List (String Global × String Global)) (k : List ℕ) where
-  below-bytes : below by_bytes (map pair_bytes L) k ≡ map pair_bytes (below by_string L k)
-  below-bytes = filter-map pair_bytes (λ p. is_lt (by_bytes p.0 k)) L
+  below-bytes : below bytes_cmp (map pair_bytes L) k ≡ map pair_bytes (below by_string L k)
+  below-bytes = filter-map pair_bytes (λ p. is_lt (bytes_cmp p.0 k)) L
 
-  above-bytes : above by_bytes (map pair_bytes L) k ≡ map pair_bytes (above by_string L k)
-  above-bytes = filter-map pair_bytes (λ p. is_gt (by_bytes p.0 k)) L
+  above-bytes : above bytes_cmp (map pair_bytes L) k ≡ map pair_bytes (above by_string L k)
+  above-bytes = filter-map pair_bytes (λ p. is_gt (bytes_cmp p.0 k)) L
 
-  pub at-bytes : at by_bytes (map pair_bytes L) k ≡ option_map pair_bytes (at by_string L k)
-  at-bytes = find-map pair_bytes (λ p. is_eq (by_bytes p.0 k)) L
+  pub at-bytes : at bytes_cmp (map pair_bytes L) k ≡ option_map pair_bytes (at by_string L k)
+  at-bytes = find-map pair_bytes (λ p. is_eq (bytes_cmp p.0 k)) L
 
-  pub value-bytes : value_at by_bytes (map pair_bytes L) k ≡ option_map string_bytes (value_at by_string L k)
+  pub value-bytes : value_at bytes_cmp (map pair_bytes L) k ≡ option_map string_bytes (value_at by_string L k)
   value-bytes = rw at-bytes
       (elim (at by_string L k) as (λ o. option_map (λ p. p.1) (option_map pair_bytes o) ≡ option_map string_bytes (option_map (λ p. p.1) o))
       [ None ↦ refl | Some p ↦ refl ])
 
-  pub index-bytes : index_of by_bytes (map pair_bytes L) k ≡ index_of by_string L k
+  pub index-bytes : index_of bytes_cmp (map pair_bytes L) k ≡ index_of by_string L k
   index-bytes =
       rw (at-bytes, below-bytes, length-map (below by_string L k) pair_bytes)
       (elim (at by_string L k) as (λ o. cond (is_some (option_map pair_bytes o)) (Ok (length (below by_string L k))) (Err (length (below by_string L k)))
       ≡ cond (is_some o) (Ok (length (below by_string L k))) (Err (length (below by_string L k)))) [ None ↦ refl | Some p ↦ refl ])
 
-  pub cut-bytes : cut by_bytes (map pair_bytes L) k ≡ map pair_bytes (cut by_string L k)
+  pub cut-bytes : cut bytes_cmp (map pair_bytes L) k ≡ map pair_bytes (cut by_string L k)
   cut-bytes = rw (below-bytes, above-bytes) (sym (map-append pair_bytes (below by_string L k) (above by_string L k)))
 
   -- a key that is there by its bytes is there, and one that is not there by them is not there
-  pub there : IsSome (at by_bytes (map pair_bytes L) k) → IsSome (at by_string L k)
+  pub there : IsSome (at bytes_cmp (map pair_bytes L) k) → IsSome (at by_string L k)
   there h = (elim (at by_string L k) as (λ o. IsSome (option_map pair_bytes o) → IsSome o) [ None ↦ λ h. h | Some p ↦ λ h. h ]) (rw at-bytes at h)
 
-  pub absent : IsNone (at by_bytes (map pair_bytes L) k) → IsNone (at by_string L k)
+  pub absent : IsNone (at bytes_cmp (map pair_bytes L) k) → IsNone (at by_string L k)
   absent h = (elim (at by_string L k) as (λ o. IsNone (option_map pair_bytes o) → IsNone o) [ None ↦ λ h. h | Some p ↦ λ h. h ]) (rw at-bytes at h)
 
-pub put-bytes : (L : List (String Global × String Global)) (k v : String Global) → put by_bytes (map pair_bytes L) (string_bytes k) (string_bytes v)
+pub put-bytes : (L : List (String Global × String Global)) (k v : String Global) → put bytes_cmp (map pair_bytes L) (string_bytes k) (string_bytes v)
     ≡ map pair_bytes (put string_cmp L k v)
 put-bytes L k v =
     rw (below-bytes L (string_bytes k), above-bytes L (string_bytes k), at-bytes L (string_bytes k), map-append)

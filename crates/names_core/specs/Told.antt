@@ -2,28 +2,23 @@
 -- `json` is the text of the map's JSON value is a law of the crate `names`.
 use Rattle.std.specs.Prelude.{◌≡◌, ◌≤◌, ◌+◌, ◌++◌, ℕ, List, [], ◌∷◌, length, Option, Some, None, IsSome, IsNone, Result, Ok, Err}
 use Rattle.std.specs.Prelude.{codes, flat_map}
-use Rattle.std.specs.Ordering.{nat_cmp}
 use Rattle.std.specs.declared.cmp.Ordering.{Ordering}
-use Rattle.std.specs.Cmp.Lexicographic.{slice_cmp}
 use Rattle.std.specs.Fmt.{decimal}
 use Rattle.litemap_store.specs.Contents.{Contents}
 use Rattle.litemap_store.specs.Pairs.{at, cut, index_of, put, value_at}
+use Rattle.litemap_store.specs.Queries.{bytes_cmp}
 use Rattle.json.specs.Print.{quoted}
 use Rattle.names_core.specs.Line.{IsBad, Spells, SpellsAll, SpellsJson, lines_of}
 use Rattle.names_core.specs.declared.line.Command.{Command}
 use Rattle.names_core.specs.declared.line.Command.TheVariants.{Del, Find, Get, Put}
 
 -- the most bytes that a run takes
-abbrev pub most_bytes : ℕ
-most_bytes = 1048576
+abbrev pub most_input : ℕ
+most_input = 1048576
 
 -- a map from strings to strings, which are ordered by their bytes
 abbrev pub TextMap : Type 0
 TextMap = Contents (List ℕ) (List ℕ)
-
--- the order of strings by their bytes
-abbrev pub by_bytes : List ℕ → List ℕ → Ordering
-by_bytes = slice_cmp nat_cmp
 
 -- the text as a line: a line feed ends it
 abbrev pub line : List ℕ → List ℕ
@@ -68,25 +63,25 @@ json_answer L = line (json_text L)
 -- the value is put at the key: the room is lowered by one at most, and stays if the key was there
 abbrev pub Puts : TextMap → List ℕ → List ℕ → TextMap → Type 0
 Puts old key value next =
-    (next.pairs ≡ put by_bytes old.pairs key value) × (old.room ≤ next.room + 1)
-    × (IsSome (at by_bytes old.pairs key) → next.room ≡ old.room)
+    (next.pairs ≡ put bytes_cmp old.pairs key value) × (old.room ≤ next.room + 1)
+    × (IsSome (at bytes_cmp old.pairs key) → next.room ≡ old.room)
 
 -- the command, done on the map `old`, has the text as its reply and leaves the map `next`
-abbrev pub Answers : TextMap → Command → List ℕ → TextMap → Type 0
-Answers old (Put key value) text next =
-    (text ≡ old_text (value_at by_bytes old.pairs key.now)) × Puts old key.now value.now next
-Answers old (Get key) text next = (text ≡ value_text (value_at by_bytes old.pairs key.now)) × (next ≡ old)
-Answers old (Del key) text next =
-    (text ≡ value_text (value_at by_bytes old.pairs key.now)) × (next.pairs ≡ cut by_bytes old.pairs key.now)
-    × (IsNone (at by_bytes old.pairs key.now) → next.room ≡ old.room)
-Answers old (Find key) text next = (text ≡ place_text (index_of by_bytes old.pairs key.now)) × (next ≡ old)
+abbrev pub Replies : TextMap → Command → List ℕ → TextMap → Type 0
+Replies old (Put key value) text next =
+    (text ≡ old_text (value_at bytes_cmp old.pairs key.now)) × Puts old key.now value.now next
+Replies old (Get key) text next = (text ≡ value_text (value_at bytes_cmp old.pairs key.now)) × (next ≡ old)
+Replies old (Del key) text next =
+    (text ≡ value_text (value_at bytes_cmp old.pairs key.now)) × (next.pairs ≡ cut bytes_cmp old.pairs key.now)
+    × (IsNone (at bytes_cmp old.pairs key.now) → next.room ≡ old.room)
+Replies old (Find key) text next = (text ≡ place_text (index_of bytes_cmp old.pairs key.now)) × (next ≡ old)
 
 -- the line, done on the map `old`, writes the text and leaves the map `next`: the table of lines in README, as a definition
 pub data Does (old : TextMap) (said text : List ℕ) (next : TextMap) : Type 0 where
   Nothing : said ≡ [] → text ≡ [] → next ≡ old → Does old said text next
   ShowsAll : SpellsAll said → text ≡ flat_map pair_text old.pairs → next ≡ old → Does old said text next
   ShowsJson : SpellsJson said → text ≡ json_answer old.pairs → next ≡ old → Does old said text next
-  Obeys : (command : Command) → Spells said command → Answers old command text next → Does old said text next
+  Obeys : (command : Command) → Spells said command → Replies old command text next → Does old said text next
 
 -- the lines, done one after another from the map `old`, write the text and leave the map `end`
 abbrev pub DoesEach : TextMap → List (List ℕ) → List ℕ → TextMap → Type 0
@@ -96,8 +91,8 @@ DoesEach old (said ∷ more) text end =
     × Does old said first next × DoesEach next more rest end × (text ≡ first ++ rest)
 
 -- the lines, done one after another from an empty map, write the text and leave the map `end`
-abbrev pub Leaves : List (List ℕ) → List ℕ → TextMap → Type 0
-Leaves said text end = (start : TextMap) × (start.pairs ≡ []) × DoesEach start said text end
+abbrev pub DoesAll : List (List ℕ) → List ℕ → TextMap → Type 0
+DoesAll said text end = (start : TextMap) × (start.pairs ≡ []) × DoesEach start said text end
 
 -- the last line if line n is bad
 abbrev pub bad_line : ℕ → List ℕ
@@ -109,11 +104,11 @@ no_memory = line (codes "no memory")
 
 -- what a run wrote for the bytes that it read, and its status, if no read and no write failed
 pub data Told (bytes out : List ℕ) (status : ℕ) : Type 0 where
-  TooLong : length bytes ≡ most_bytes + 1 → out ≡ line (codes "input too long") → status ≡ 2 → Told bytes out status
-  NotRead : length bytes ≤ most_bytes → out ≡ no_memory → status ≡ 3 → Told bytes out status
-  AllDone : (end : TextMap) → length bytes ≤ most_bytes → Leaves (lines_of bytes) out end → status ≡ 0 → Told bytes out status
-  BadLine : (before later : List (List ℕ)) (bad text : List ℕ) (end : TextMap) → length bytes ≤ most_bytes
-      → lines_of bytes ≡ before ++ (bad ∷ later) → Leaves before text end
+  TooLong : length bytes ≡ most_input + 1 → out ≡ line (codes "input too long") → status ≡ 2 → Told bytes out status
+  NotRead : length bytes ≤ most_input → out ≡ no_memory → status ≡ 3 → Told bytes out status
+  AllDone : (end : TextMap) → length bytes ≤ most_input → DoesAll (lines_of bytes) out end → status ≡ 0 → Told bytes out status
+  BadLine : (before later : List (List ℕ)) (bad text : List ℕ) (end : TextMap) → length bytes ≤ most_input
+      → lines_of bytes ≡ before ++ (bad ∷ later) → DoesAll before text end
       → IsBad bad → out ≡ text ++ bad_line (length before + 1) → status ≡ 2 → Told bytes out status
-  NoMemory : (before later : List (List ℕ)) (text : List ℕ) (end : TextMap) → length bytes ≤ most_bytes
-      → lines_of bytes ≡ before ++ later → Leaves before text end → out ≡ text ++ no_memory → status ≡ 3 → Told bytes out status
+  NoMemory : (before later : List (List ℕ)) (text : List ℕ) (end : TextMap) → length bytes ≤ most_input
+      → lines_of bytes ≡ before ++ later → DoesAll before text end → out ≡ text ++ no_memory → status ≡ 3 → Told bytes out status

@@ -17,13 +17,13 @@ Takes old new text false = Appends old new text
 Takes old new text true = (n : ℕ) × (n < length text) × Appends old new (take n text)
 
 -- the text was written through the watch, or an error cut it short: that is noted, and no call follows it
-pub record Writes {W : Type 0} (contents : W → Option (List ℕ)) (old new : Watch W) (text : List ℕ) (fault : Bool) : Type 0 where
+pub record WritesText {W : Type 0} (contents : W → Option (List ℕ)) (old new : Watch W) (text : List ℕ) (fault : Bool) : Type 0 where
   pub takes : Takes (contents (watched old)) (contents (watched new)) text fault
   pub failed : new.failed ≡ (fault || old.failed)
   pub met : met_fault new ≡ (fault || met_fault old)
   pub nothing_after : NoCallAfterFault old new
 
 -- the text was written, and the status is this one, or an error cut it short, and it is 4
-abbrev pub Ends : {W : Type 0} → (W → Option (List ℕ)) → Watch W → Watch W → List ℕ → ℕ → ℕ → Type 0
-Ends contents old new text status result =
-    ((result ≡ status) × Writes contents old new text false) ⊎ ((result ≡ 4) × Writes contents old new text true)
+abbrev pub EndsRun : {W : Type 0} → (W → Option (List ℕ)) → Watch W → Watch W → List ℕ → ℕ → ℕ → Type 0
+EndsRun contents old new text status result =
+    ((result ≡ status) × WritesText contents old new text false) ⊎ ((result ≡ 4) × WritesText contents old new text true)

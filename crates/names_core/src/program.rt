@@ -1,9 +1,9 @@
 //! A run of the program: it reads the lines, and writes the replies to them.
 ghost use Rattle.std.specs.Prelude.{◌≡◌, ◌≤◌, ◌↔◌, ℕ, List, false, true, length};
 ghost use Rattle.names_core.specs.Run.{IsRun};
-ghost use Rattle.names_core.specs.Told.{Told, most_bytes};
+ghost use Rattle.names_core.specs.Told.{Told, most_input};
 ghost use Rattle.names_core.specs.Watched.{NoCallAfterFault};
-ghost use Rattle.names_core.specs.Writes.{Ends};
+ghost use Rattle.names_core.specs.Writes.{EndsRun};
 
 use crate::input::{InputEnd, read_input};
 use crate::line::first_line;
@@ -53,9 +53,9 @@ where
 fn answer_lines<S, W: Write>(alloc: Global, input: &[u8], writer: &mut Watch<W>) -> u8
 where
     S: StoreConstEmpty<String, String> + StoreMut<String, String> + Drop,
-    requires { length input.now ≤ most_bytes }
+    requires { length input.now ≤ most_input }
     ensures told { (out : List ℕ) × (told : ℕ) × Told input.now out told
-        × Ends W.contents writer.old writer.new out told result }
+        × EndsRun W.contents writer.old writer.new out told result }
     ensures failed { writer.old.failed ≡ false → (result ≡ 4) ↔ (writer.new.failed ≡ true) }
     ensures nothing_after { NoCallAfterFault writer.old writer.new }
 {
@@ -81,7 +81,7 @@ where
 
 // Writes the last line, and returns the status, or that of a failed write.
 fn finish<W: Write>(writer: &mut Watch<W>, text: &[u8], status: u8) -> u8
-    ensures { Ends W.contents writer.old writer.new text.now status result }
+    ensures { EndsRun W.contents writer.old writer.new text.now status result }
 {
     match writer.write_all(text) {
         Ok(()) => status,

@@ -3,7 +3,8 @@ ghost use Rattle.std.specs.Prelude.{◌≡◌, [], IfOk, flat_map, option_copied
 ghost use Rattle.json.specs.Print.{print};
 ghost use Rattle.litemap_store.specs.Pairs.{value_at};
 ghost use Rattle.names_core.specs.Reply.{IsAnswer, names_of};
-ghost use Rattle.names_core.specs.Told.{Answers, Puts, by_bytes, json_answer, old_text, pair_text, value_text};
+ghost use Rattle.litemap_store.specs.Queries.{bytes_cmp};
+ghost use Rattle.names_core.specs.Told.{Puts, Replies, json_answer, old_text, pair_text, value_text};
 
 use crate::line::{Command, parse};
 use json::Writer;
@@ -54,7 +55,7 @@ fn obey<S: StoreMut<String, String>>(
     command: Command<'_>,
 ) -> Result<String, AllocError>
     ensures { IfOk result
-        (λ text. Answers (names_of names.old) command.entry (string_bytes text) (names_of names.new)) }
+        (λ text. Replies (names_of names.old) command.entry (string_bytes text) (names_of names.new)) }
 {
     match command {
         Command::Put(key, value) => put(alloc, names, key, value),
@@ -75,7 +76,7 @@ fn put<S: StoreMut<String, String>>(
     value: &str,
 ) -> Result<String, AllocError>
     ensures { IfOk result
-        (λ text. (string_bytes text ≡ old_text (value_at by_bytes (names_of names.old).pairs key.now))
+        (λ text. (string_bytes text ≡ old_text (value_at bytes_cmp (names_of names.old).pairs key.now))
         × Puts (names_of names.old) key.now value.now (names_of names.new)) }
 {
     let key = String::from_str(alloc, key)?;

@@ -2,7 +2,7 @@
 ghost use Rattle.std.specs.Prelude.{◌≡◌, ◌||◌, ◌&&◌, true, false, is_err, OnOk};
 ghost use Rattle.std.specs.Io.{ReadsAtMost, WritesAtMost};
 ghost use Rattle.std.specs.Io.KnownBytes.{Appends, Keeps, ReadConsumes, WriteAppends};
-ghost use Rattle.names_core.specs.Writes.{Writes, is_write_fault};
+ghost use Rattle.names_core.specs.Writes.{WritesText, is_write_fault};
 
 use std::io::{self, ErrorKind, Read, Write};
 
@@ -121,7 +121,7 @@ impl<W: Write> Write for Watch<W> {
     /// call was made after it.
     fn write_all(&mut self, buf: &[u8]) -> io::Result<()>
         ensures bytes { OnOk result (Appends (W.contents self.old.inner) (W.contents self.new.inner) buf.now) }
-        ensures writes { Writes W.contents self.old self.new buf.now (is_err result) }
+        ensures writes { WritesText W.contents self.old self.new buf.now (is_err result) }
     {
         let mut done = 0;
         while done < buf.len() {

@@ -41,7 +41,7 @@ pub(crate) fn a_map_goes_into_another(alloc: Global) -> Outcome {
     let mut outcome = true;
     for len in LENGTHS {
         let mut map = map_of_tens(alloc, len)?;
-        let mut more: Map = VecMap::from_iter(alloc, [(2, 7), (30, 8)])?;
+        let mut more: Map = VecMap::from_array(alloc, [(30, 8), (2, 6), (2, 7)])?;
         map.append(alloc, &mut more)?;
         more.append(alloc, &mut map)?;
         let found = more.get(&2) == Some(&7) && more.get(&30) == Some(&8);
@@ -92,9 +92,12 @@ pub(crate) fn a_store_comes_out(alloc: Global) -> Outcome {
     let mut map = map_of_tens(alloc, 5)?;
     map.reserve(100)?;
     let had = map.capacity();
+    map.shrink_to(20);
+    let left = map.capacity();
     map.shrink_to_fit();
     let is_small = map.capacity() == 5 && map.as_store().len() == 5;
-    Ok(had >= 105 && is_small && map.into_store().as_slice() == tens(alloc, 5)?.as_slice())
+    let shrinks = had >= 105 && left == 20 && is_small;
+    Ok(shrinks && map.into_store().as_slice() == tens(alloc, 5)?.as_slice())
 }
 
 // A pair at an index goes as from a vector, at each index and at the length.

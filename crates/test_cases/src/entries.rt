@@ -23,6 +23,22 @@ pub(crate) fn ends_have_entries(alloc: Global) -> Outcome {
     Ok(right && left && none.first_entry().is_none() && none.last_entry().is_none())
 }
 
+// A pair is written or inserted, and its entry lends and removes it.
+pub(crate) fn an_entry_is_inserted(alloc: Global) -> Outcome {
+    let mut is_right = true;
+    for key in 0..7u32 {
+        let mut days = days(alloc)?;
+        let len = if days.contains_key(&key) { 3 } else { 4 };
+        let mut entry = days.entry(key).insert_entry("Mon")?;
+        let old = entry.insert("Tue");
+        is_right &= *entry.key() == key && old == "Mon" && *entry.into_mut() == "Tue";
+        is_right &= days.len() == len && days.get(&key) == Some(&"Tue");
+        is_right &= days.entry(key).insert_entry("Wed")?.remove_entry() == (key, "Wed");
+        is_right &= days.len() == len.wrapping_sub(1) && !days.contains_key(&key);
+    }
+    Ok(is_right)
+}
+
 // A vector is made once for its key.
 pub(crate) fn a_vector_is_made_once(alloc: Global) -> Outcome {
     let mut lists: VecMap<u32, Vec<u32>> = LiteMap::new(alloc);

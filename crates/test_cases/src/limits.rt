@@ -25,7 +25,15 @@ fn grows(alloc: Global, made: usize, reserved: usize) -> Outcome {
             && map.reserve(usize::MAX).is_err();
         is_right &= map.insert(key, 0).is_ok();
     }
-    Ok(is_right && map.insert(30, 7) == Err(NoRoom { back: (30, 7) }) && map.len() == LIMIT)
+    is_right &= map.insert(30, 7) == Err(NoRoom { back: (30, 7) });
+    is_right &= match map.entry(31).insert_entry(7) {
+        Err(refused) => {
+            let (entry, value) = refused.back;
+            entry.into_key() == 31 && value == 7
+        }
+        Ok(_) => false,
+    };
+    Ok(is_right && map.len() == LIMIT)
 }
 
 pub(crate) fn a_bounded_store_grows_to_its_limit(alloc: Global) -> Outcome {

@@ -63,7 +63,7 @@ fn main(rt: HostRuntime) -> ExitCode {
     }
 }
 
-fn cases(alloc: Global) -> [(&'static str, Outcome); 54] {
+fn cases(alloc: Global) -> [(&'static str, Outcome); 55] {
     outcomes! { alloc;
         closures::one_of_the_keys_called_equal_is_found,
         closures::a_closure_compares_with_another_type,
@@ -87,6 +87,7 @@ fn cases(alloc: Global) -> [(&'static str, Outcome); 54] {
         ends::the_longest_store_grows_no_more,
         ends::a_count_takes_no_memory,
         entries::ends_have_entries,
+        entries::an_entry_is_inserted,
         entries::a_vector_is_made_once,
         entries::values_are_made_for_absent_keys,
         entries::a_value_may_fail,

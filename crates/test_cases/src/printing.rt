@@ -70,7 +70,7 @@ pub(crate) fn what_long_walks_print(alloc: Global) -> Outcome {
     ])
 }
 
-// Whether a walk of this name prints all these pairs as what is left.
+// Whether `{:?}` of an iterator prints the name of its type and these pairs.
 fn prints_walk<T: Debug>(alloc: Global, walk: &T, name: &str, all: &[(u32, char)]) -> Outcome {
     let rest = format!(in alloc; "iter: SliceIter {{ rest: {all:?} }}, marker: PhantomData<_>")?;
     let text = format!(in alloc; "{name} {{ {rest} }}")?;

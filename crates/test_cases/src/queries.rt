@@ -29,7 +29,7 @@ const ASKED: &[(&str, Wanted)] = &[
     ("c", (None, Err(5))),
 ];
 
-// Whether a key is found by what stands for it: its number and its index.
+// Whether each lookup by the query finds this number and this index.
 fn is_found<K: Ord, Q: Query<K>>(map: &Map<K>, query: Q, (number, index): Wanted) -> bool {
     map.contains_key(query) == number.is_some()
         && map.get(query).copied() == number

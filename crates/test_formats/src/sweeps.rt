@@ -1,26 +1,25 @@
 //! Many cases at once.
 use crate::{Written, indexes, tables, texts};
 use litemap_read::ReadFault;
-use name_index::CheckedNames;
 use name_table::{NameWriteFault, read_names, write_names};
 use std::alloc::{AllocError, Global};
 use std::fmt::Write;
 
 /// How many cases were read, and what came of them.
 #[derive(Drop)]
-pub struct Tally<'a> {
-    // If each case is an index: another one, by whose keys it is looked up.
-    keys: Option<CheckedNames<'a>>,
+pub struct Tally {
+    // Whether each case is an index, or a table.
+    of_indexes: bool,
     // How many cases there are; how many are read, truncated, not UTF-8, too large; for how many two results differ.
     counts: [u64; 6],
     checksum: u64,
 }
 
-impl<'a> Tally<'a> {
+impl Tally {
     /// No case.
-    pub fn new(keys: Option<CheckedNames<'a>>) -> Self {
+    pub fn new(of_indexes: bool) -> Self {
         Tally {
-            keys,
+            of_indexes,
             counts: [0; 6],
             checksum: 0xcbf2_9ce4_8422_2325,
         }
@@ -29,10 +28,9 @@ impl<'a> Tally<'a> {
     // Reads one more case, and adds what is read of it.
     fn add(&mut self, alloc: Global, bytes: &[u8]) -> Written {
         let mut text = String::new(alloc);
-        if let Some(keys) = &self.keys {
+        if self.of_indexes {
             indexes::write_opened(bytes, &mut text)?;
-            let is_one = indexes::is_opened_alike(bytes, keys);
-            self.count(text.as_str(), is_one);
+            self.count(text.as_str(), true);
         } else {
             texts::write_read(alloc, bytes, &mut text)?;
             self.count(text.as_str(), is_read_again(alloc, bytes)?);
@@ -93,7 +91,7 @@ fn is_read_again(alloc: Global, bytes: &[u8]) -> Result<bool, AllocError> {
 }
 
 /// Each proper prefix.
-pub fn prefixes(alloc: Global, bytes: &[u8], tally: &mut Tally<'_>) -> Written {
+pub fn prefixes(alloc: Global, bytes: &[u8], tally: &mut Tally) -> Written {
     for size in 0..bytes.len() {
         tally.add(alloc, &bytes[..size])?;
     }
@@ -101,7 +99,7 @@ pub fn prefixes(alloc: Global, bytes: &[u8], tally: &mut Tally<'_>) -> Written {
 }
 
 /// Each change of one byte.
-pub fn changes(alloc: Global, bytes: &[u8], tally: &mut Tally<'_>) -> Written {
+pub fn changes(alloc: Global, bytes: &[u8], tally: &mut Tally) -> Written {
     for (place, byte) in bytes.iter().enumerate() {
         for value in 0..=255u8 {
             if value != *byte {
@@ -117,7 +115,7 @@ pub fn changes(alloc: Global, bytes: &[u8], tally: &mut Tally<'_>) -> Written {
 }
 
 /// Each string of up to four of these bytes.
-pub fn strings(alloc: Global, bytes: &[u8], tally: &mut Tally<'_>) -> Written {
+pub fn strings(alloc: Global, bytes: &[u8], tally: &mut Tally) -> Written {
     let mut total = 1usize;
     for size in 0..5 {
         for code in 0..total {
@@ -129,13 +127,7 @@ pub fn strings(alloc: Global, bytes: &[u8], tally: &mut Tally<'_>) -> Written {
 }
 
 // The string of a size that is spelled by a number in the base of the bytes, the lowest digit first.
-fn add_string(
-    alloc: Global,
-    bytes: &[u8],
-    size: usize,
-    code: usize,
-    tally: &mut Tally<'_>,
-) -> Written {
+fn add_string(alloc: Global, bytes: &[u8], size: usize, code: usize, tally: &mut Tally) -> Written {
     let base = bytes.len();
     if base == 0 {
         return Ok(());

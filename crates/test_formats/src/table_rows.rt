@@ -7,26 +7,26 @@
 //!   what comes when there is no entry, twice.
 //! - `again BYTES`: what `write_names` writes for the map that is read.
 //! - `name CODE BYTES`: the name of a language, the bytes' or else the program's (`languages`).
-//! - `table BYTES`: each entry of a `NameTable`, found again by its key there and in its `NameIndex`, and met again if both
-//!   are walked.
-//! - `ask KEY BYTES`: what a `NameTable` and its `NameIndex` return for a key.
+//! - `table BYTES`: each entry of a `NameIndex`, found again by its key there and in the index that is written of it, and met
+//!   again in a walk.
+//! - `ask KEY BYTES`: what both return for a key.
 //! - `begin TEXT BYTES`: the indices and the entries of the names that begin with a string, by a `NameIndex`.
-//! - `word WORD BYTES`: the string that a table has for a word, or the word itself, by each of its forms (`words`).
-//! - `many NUMBER -`: what a `NameTable` of so many names and its `NameIndex` return.
-//! - `often NUMBER -`: how many of so many names its indexes find, each looked up by itself.
+//! - `word WORD BYTES`: the string that a table has for a word, or the word itself, by both (`words`).
+//! - `many NUMBER -`: what a `NameIndex` of so many names and the index that is written of them return.
+//! - `often NUMBER -`: how many of so many names both find, each looked up by itself.
 //! - `faults -`: the errors that no other line shows.
 //! - `rewrite BYTES`: what `rewrite_flags` makes of bytes.
 //! - `prefixes BYTES`: what is read of each proper prefix, by kinds.
 //! - `changes BYTES`: the same with each byte changed into each other one.
 //! - `strings BYTES`: the same of every string of up to four of these bytes.
 //!
-//! The last three read each case into a map and by a `NameTable`: the texts of both are in the checksum, which another reader
-//! tells (`table_rows.py`). A map is also written and read again, and a table written as an index, which is looked up as
-//! it lies and read once; a case for which two results differ is `different`.
+//! The last three read each case into a map and by a `NameIndex`: the texts of both are in the checksum, which another reader
+//! tells (`table_rows.py`). A map is also written and read again, and a table written as an index, which is looked up, too; a
+//! case for which two results differ is `different`.
 //!
 //! - `index BYTES`: what `write_index` writes for the map that is read.
-//! - `opened BYTES`: each entry of an index that is read once, found again by its key.
-//! - `look KEY BYTES`: what an index that isn't read before returns for a key.
+//! - `opened BYTES`: each entry of an index, found again by its key.
+//! - `look KEY BYTES`: what an index returns for a key.
 //! - `cuts BYTES`, `damages BYTES`: what is opened of each proper prefix of an index, and with each byte changed, by kinds.
 use crate::json_rows::rewritten;
 use crate::sweeps::{self, Tally};
@@ -35,7 +35,7 @@ use example_formats::languages::language_name;
 use hex::FromHexError;
 use litemap_json::JsonFault;
 use litemap_read::ReadFault;
-use name_index::{IndexedNames, NameIndexFault};
+use name_index::NameIndexFault;
 use name_table::{NameMap, NameWriteFault, read_names, write_names};
 use names::FlagsFault;
 use std::alloc::{AllocError, Global};
@@ -121,13 +121,9 @@ fn write_faults(output: &mut String) -> Written {
     write!(output, "{memory}; {no_json}; {no_flags}")
 }
 
-// Reads many cases, and writes what came of them. Those of an index are looked up by its keys.
+// Reads many cases, and writes what came of them.
 fn sweep(alloc: Global, name: &str, bytes: &[u8], output: &mut String) -> Written {
-    let keys = match name {
-        "cuts" | "damages" => IndexedNames::open_checked(bytes).ok(),
-        _ => None,
-    };
-    let mut tally = Tally::new(keys);
+    let mut tally = Tally::new(matches!(name, "cuts" | "damages"));
     match name {
         "prefixes" | "cuts" => sweeps::prefixes(alloc, bytes, &mut tally)?,
         "changes" | "damages" => sweeps::changes(alloc, bytes, &mut tally)?,

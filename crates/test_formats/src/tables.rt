@@ -1,23 +1,23 @@
 //! What is found in a table that is looked up in its bytes.
 use crate::Written;
-use crate::indexes::{BothWays, index_of};
+use crate::indexes::{index_of, write_all, write_found};
 use crate::texts::write_entry;
 use example_formats::prefixes::beginning;
-use example_formats::words;
+use example_formats::words::translated;
 use litemap_store::store::Count;
-use name_index::{NameIndex, NameIndexFault, NameTable};
-use name_table::NameMap;
+use name_index::{IndexedNames, NameIndex, NameIndexFault, Names};
 use std::alloc::{AllocError, Global};
 use std::fmt::Write;
 
-/// Writes what a table returns for words, as `answer_line` has them, in each of its forms.
+/// Writes what a table returns for words, as `answer_line` has them, and its index, too.
 pub fn write_answer(alloc: Global, words: &[&str], bytes: &[u8], output: &mut String) -> Written {
-    let table = or_fault!(NameTable::new_counted(bytes, &mut Count::new()), output);
+    let made = unless_memory!(NameIndex::new(alloc, bytes), NameIndexFault::NoRoom);
+    let table = or_fault!(made, output);
     let written = index_of(alloc, bytes)?;
-    let Some(forms) = Forms::of(alloc, table, written.as_slice())? else {
+    let Ok(index) = IndexedNames::open(written.as_slice()) else {
         return output.push_str("no index");
     };
-    forms.write(alloc, words, output)
+    Forms { table, index }.write(alloc, words, output)
 }
 
 /// Writes what is found in a table of so many names, for the words `many` or `often`.
@@ -26,28 +26,14 @@ pub fn write_many(alloc: Global, words: &[&str], number: &str, output: &mut Stri
     write_answer(alloc, words, bytes.as_slice(), output)
 }
 
-// A table, and its indexes.
+// A table with the offsets of its entries, and what was written of it as an index.
 #[derive(Drop)]
 struct Forms<'a> {
-    table: NameTable<'a>,
-    index: NameIndex<'a>,
-    both: BothWays<'a>,
+    table: NameIndex<'a>,
+    index: IndexedNames<'a>,
 }
 
 impl<'a> Forms<'a> {
-    // The table with an index beside it, and what was written of it as an index.
-    fn of(
-        alloc: Global,
-        table: NameTable<'a>,
-        written: &'a [u8],
-    ) -> Result<Option<Self>, AllocError> {
-        let index = unless_memory!(NameIndex::new(alloc, &table), NameIndexFault::NoRoom);
-        let (Ok(index), Ok(both)) = (index, BothWays::open(written)) else {
-            return Ok(None);
-        };
-        Ok(Some(Forms { table, index, both }))
-    }
-
     // Writes what they return for words.
     fn write(&self, alloc: Global, words: &[&str], output: &mut String) -> Written {
         match words {
@@ -60,75 +46,57 @@ impl<'a> Forms<'a> {
         }
     }
 
-    // Whether all return the same for a key.
+    // Whether both return the same for a key.
     fn is_one(&self, key: &str) -> bool {
-        self.is_indexed(key) && self.both.is_asked_alike(&self.table, key)
-    }
-
-    // Whether the index returns what the table does for a key.
-    fn is_indexed(&self, key: &str) -> bool {
+        let place = self.table.find_index(key);
         self.index.get(key) == self.table.get(key)
-            && self.index.find_index(key) == self.table.find_index(key)
+            && self.index.find_index(key) == place
+            && self.index.find_index_counted(key, &mut Count::new()) == place
+            && self.table.find_index_counted(key, &mut Count::new()) == place
     }
 
-    // Writes each entry, with a word more if it isn't found again in each form.
+    // Writes each entry, with a word more if both don't have it, or other names begin with it.
     fn write_entries(&self, alloc: Global, output: &mut String) -> Written {
-        write!(output, "table {}:", self.index.len())?;
-        let mut alike = self.is_walked() && self.both.has_entries_of(&self.table);
-        for place in 0..self.table.len() {
-            let (key, value) = self.table.get_indexed(place).unwrap_or(("", ""));
-            write_entry(key, value, output)?;
-            alike &= self.table.find_index(key) == Ok(place) && self.is_indexed(key);
-            alike &= self.is_scanned(key) && self.is_scanned(value);
+        output.push_str("table")?;
+        write_all(&self.table, output)?;
+        let mut alike = self.is_walked();
+        for (key, value) in &self.table {
+            alike &= self.is_one(key) && self.is_scanned(key) && self.is_scanned(value);
         }
-        if !alike || !self.has_maps(alloc)? {
+        let map = self.table.to_map(alloc)?;
+        if !alike || !self.table.iter().eq(map.as_slice().iter().copied()) {
             output.push_str(" otherwise")?;
         }
         Ok(())
     }
 
-    // Whether the table and its index are walked through the entries at the indices, and no others.
+    // Whether both have the entries at the indices that a walk meets, and no others.
     fn is_walked(&self) -> bool {
-        let (mut entries, mut others) = (self.table.iter(), self.index.iter());
-        let mut alike = true;
-        for place in 0..=self.table.len() {
-            let left = self.table.len().saturating_sub(place);
-            alike &= entries.len() == left && others.len() == left;
+        let mut entries = self.table.iter();
+        let number = self.table.len();
+        let mut alike = self.index.len() == number
+            && self.index.is_empty() == self.table.is_empty();
+        for place in 0..=number {
+            alike &= entries.len() == number.saturating_sub(place);
             let entry = self.table.get_indexed(place);
-            alike &= self.index.get_indexed(place) == entry;
-            alike &= entries.next() == entry;
-            alike &= others.next() == entry;
+            alike &= self.index.get_indexed(place) == entry && entries.next() == entry;
         }
         alike
     }
 
-    // Whether the table and its index are turned into maps of the entries.
-    fn has_maps(&self, alloc: Global) -> Result<bool, AllocError> {
-        let is_right = self.is_map(&self.table.to_map(alloc)?);
-        Ok(self.is_map(&self.index.to_map(alloc)?) && is_right)
-    }
-
-    fn is_map(&self, map: &NameMap<'_>) -> bool {
-        self.table.iter().eq(map.as_slice().iter().copied())
-    }
-
-    // Writes what is there at a key, if all return the same.
+    // Writes what is there at a key, if both return the same.
     fn write_asked(&self, key: &str, output: &mut String) -> Written {
         if !self.is_one(key) {
             return output.push_str("another answer");
         }
-        match (self.table.get(key), self.table.find_index(key)) {
-            (Some(value), Ok(index)) => write!(output, "found {index}: {value}"),
-            (None, Err(index)) => write!(output, "none, it would be {index}"),
-            _ => output.push_str("two answers"),
-        }
+        write_found(&self.table, key, output)
     }
 
-    // Writes the indices of the names that begin with a string, each of these entries, and whether a scan finds others.
+    // Writes the indices of the names that begin with a string, each of these entries, and whether a walk finds others.
     fn write_beginning(&self, text: &str, output: &mut String) -> Written {
-        let places = self.index.prefix_range(text);
+        let places = self.table.prefix_range(text);
         write!(output, "{} to {}:", places.start, places.end)?;
-        for (name, value) in self.index.entries_in(places) {
+        for (name, value) in self.table.entries_in(places) {
             write_entry(name, value, output)?;
         }
         if !self.is_scanned(text) {
@@ -137,10 +105,10 @@ impl<'a> Forms<'a> {
         Ok(())
     }
 
-    // Whether the index has the names that begin with a string where a scan of the table has them.
+    // Whether the names that begin with a string are those that a walk of all finds.
     fn is_scanned(&self, text: &str) -> bool {
-        let places = self.index.prefix_range(text);
-        let mut found = beginning(&self.index, text);
+        let places = self.table.prefix_range(text);
+        let mut found = beginning(&self.table, text);
         for (place, (name, value)) in self.table.iter().enumerate() {
             let begins = name.starts_with(text);
             if begins != (places.start <= place && place < places.end)
@@ -155,10 +123,10 @@ impl<'a> Forms<'a> {
         found.next().is_none() && places.end <= self.table.len()
     }
 
-    // Writes the string for a word, or the word itself, if all have the same.
+    // Writes the string for a word, or the word itself, if both have the same.
     fn write_translated(&self, word: &str, output: &mut String) -> Written {
-        let text = words::by_table(&self.table, word);
-        if words::by_places(&self.index, word) != text || !self.both.is_translated(word, text) {
+        let text = translated(&self.table, word);
+        if translated(&self.index, word) != text {
             return output.push_str("another answer");
         }
         output.push_str(text)
@@ -181,18 +149,18 @@ impl<'a> Forms<'a> {
         write!(output, "{number} names: {there} there, {between} between")
     }
 
-    // Writes how many of all names the indexes find.
+    // Writes how many of all names both find.
     fn write_often(&self, output: &mut String) -> Written {
         let mut found = 0u32;
-        for place in 0..self.index.len() {
-            let (key, _) = self.index.get_indexed(place).unwrap_or(("", ""));
-            let there = self.index.find_index(key) == Ok(place) && self.index.get(key).is_some();
-            found = found.wrapping_add(u32::from(there && self.both.is_found(key, place)));
+        for place in 0..self.table.len() {
+            let (key, _) = self.table.get_indexed(place).unwrap_or(("", ""));
+            let there = self.table.get(key).is_some() && self.is_at(key, Ok(place));
+            found = found.wrapping_add(u32::from(there));
         }
         write!(output, "{found} found")
     }
 
-    // Whether a key has this index, or would have it, and all return the same.
+    // Whether a key has this index, or would have it, and both return the same.
     fn is_at(&self, key: &str, place: Result<usize, usize>) -> bool {
         self.table.find_index(key) == place && self.is_one(key)
     }

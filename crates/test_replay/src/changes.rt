@@ -150,8 +150,7 @@ pub fn rename<S: KeepsMemory<Key, Value>>(
 }
 
 // The calls with a closure that is called on each pair. They tell how often. `update` adds to each value a number and how many
-// came before it. `retain` keeps, of the pairs in their order, those whose bit is set in the number, which is turned by one bit
-// after each.
+// came before it. `retain` keeps the pair at index i if bit i % 64 of the number is set.
 fn each<S: StoreBulkMut<Key, Value>>(map: &mut Map<S>, call: &Call<'_>, to: &mut Answer) -> Made {
     let number = call.number(0)?;
     let mut times = 0u64;

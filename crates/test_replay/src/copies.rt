@@ -43,7 +43,7 @@ fn pairs_of<K: Ord + AsRef<Key> + Drop, V: AsRef<Value> + Drop>(
     ))
 }
 
-// The keys become their ranks, which lie in the same order. It writes whether the closure was called once for each, in order.
+// `to_keys_by` with the rank of each key. It writes whether the closure saw each key once, in order.
 fn keyed<S: Store<Key, Value>>(
     map: &Map<S>,
     call: &Call<'_>,

@@ -1,8 +1,8 @@
 //! The calls that lines make.
-use crate::keys::{pair, pairs, text, Key, Order, Pair, Value, CLONED, NO_KEY};
-use litemap::{Entry, LiteMap};
-use std::cmp::Ordering;
-use std::mem;
+use crate::keys::{pair, pairs, text, Code, Key, Order, Pair, Value, CLONED};
+use litemap::Entry::{Occupied, Vacant};
+use litemap::{LiteMap, VacantEntry};
+use std::mem::{replace, take};
 
 /// A map with keys of one type, whose calls are made.
 pub type Map = LiteMap<Key, Value>;
@@ -21,23 +21,19 @@ impl<'w> Given<'w> {
     }
 
     fn key(&self) -> Key {
-        self.key_at(0)
+        Key::new(self.order, self.words[0])
     }
 
-    fn key_at(&self, place: usize) -> Key {
-        Key::new(self.order, self.words[place])
+    fn number(&self, word: usize) -> u64 {
+        self.words[word].parse().expect("a number")
     }
 
-    fn number(&self, place: usize) -> u64 {
-        self.words[place].parse().expect("a number")
+    fn index(&self, word: usize) -> usize {
+        self.number(word) as usize
     }
 
-    fn number_if_any(&self, place: usize) -> Option<u64> {
-        self.words.get(place).map(|_| self.number(place))
-    }
-
-    fn index(&self, place: usize) -> usize {
-        self.number(place) as usize
+    fn value(&self) -> Value {
+        Value::new(self.number(1))
     }
 
     fn pairs(&self) -> impl Iterator<Item = (Key, Value)> + '_ {
@@ -47,118 +43,228 @@ impl<'w> Given<'w> {
             (Key::new(self.order, key), Value::new(value))
         })
     }
+
+    fn map(&self) -> Map {
+        self.pairs().collect()
+    }
+
+    /// Writes the value into one that is lent: what it was.
+    fn replace(&self, slot: &mut Value) -> String {
+        replace(&mut slot.0, self.number(1)).to_string()
+    }
+
+    /// Writes the number of a word, if there is one, into the value that is lent: what it was.
+    fn write(&self, slot: &mut Value, word: usize) -> String {
+        let new = if self.words.len() > word { self.number(word) } else { slot.0 };
+        replace(&mut slot.0, new).to_string()
+    }
 }
 
 /// Makes a call, and returns its result.
 pub fn make(map: &mut Map, name: &str, given: &Given) -> String {
-    look(map, name, given)
-        .or_else(|| find(map, name, given))
-        .or_else(|| walk(map, name, given))
-        .or_else(|| copy(map, name))
-        .or_else(|| compare(map, name, given))
-        .or_else(|| put(map, name, given))
-        .or_else(|| enter(map, name, given))
-        .or_else(|| write(map, name, given))
-        .or_else(|| many(map, name, given))
-        .unwrap_or_else(|| panic!("no call: {name}"))
+    let found = CALLS.iter().find(|(names, _)| names.split(' ').any(|it| it == name));
+    let (_, call) = found.unwrap_or_else(|| panic!("no call: {name}"));
+    call(map, given)
 }
 
-fn or_none(answer: Option<impl ToString>) -> String {
-    answer.map_or("none".to_string(), |answer| answer.to_string())
-}
+/// Names of calls, and what makes them: what they return, as text.
+type Call = (&'static str, fn(&mut Map, &Given) -> String);
 
-fn pair_or_none(found: Option<(&Key, &Value)>) -> String {
-    or_none(found.map(|found| text([pair(found)])))
-}
-
-fn look(map: &Map, name: &str, given: &Given) -> Option<String> {
-    Some(match name {
-        "len" => map.len().to_string(),
-        "is_empty" => map.is_empty().to_string(),
-        "first" => pair_or_none(map.first()),
-        "last" => pair_or_none(map.last()),
-        "get_indexed" => pair_or_none(map.get_indexed(given.index(0))),
-        "as_slice" => text(map.as_slice().iter().map(|(key, value)| pair((key, value)))),
-        "as_sliced" => table(&map.as_sliced()),
-        "get_indexed_range" => {
-            let part = map.get_indexed_range(given.index(0)..given.index(1));
-            or_none(part.map(|part| text(part.iter().map(pair))))
+#[allow(deprecated)]
+const CALLS: &[Call] = &[
+    ("len", |map, _| map.len().to_string()),
+    ("is_empty", |map, _| map.is_empty().to_string()),
+    ("first", |map, _| or_none(map.first().map(one))),
+    ("last", |map, _| or_none(map.last().map(one))),
+    ("get_indexed", |map, given| or_none(map.get_indexed(given.index(0)).map(one))),
+    ("as_slice", |map, _| text(map.as_slice().iter().map(|(key, value)| pair((key, value))))),
+    ("as_sliced", |map, _| table(&map.as_sliced())),
+    ("get_indexed_range", |map, given| {
+        let part = map.get_indexed_range(given.index(0)..given.index(1));
+        or_none(part.map(|part| text(part.iter().map(pair))))
+    }),
+    ("into_tuple_vec", |map, _| text(take(map).into_tuple_vec().into_iter().map(pair))),
+    // Look-ups.
+    ("get get_counted", |map, given| or_none(map.get(&given.key()))),
+    ("get_by", |map, given| or_none(map.get_by(|there| there.cmp(&given.key())))),
+    ("contains_key", |map, given| map.contains_key(&given.key()).to_string()),
+    ("index", |map, given| match map.contains_key(&given.key()) {
+        true => map[&given.key()].to_string(),
+        false => "absent".to_string(),
+    }),
+    ("find_index find_index_counted find_index_by", |map, given| match map.find_index(&given.key()) {
+        Ok(index) => format!("ok {index}"),
+        Err(index) => format!("err {index}"),
+    }),
+    ("iter", |map, given| steps(map.len(), map.iter(), given, pair)),
+    ("keys", |map, given| steps(map.len(), map.keys(), given, of_key)),
+    ("values", |map, given| steps(map.len(), map.values(), given, of_value)),
+    ("into_iter", |map, given| steps(map.len(), take(map).into_iter(), given, pair)),
+    ("for", |map, _| text((&*map).into_iter().map(pair)) + " exact"),
+    ("iter_keys", |map, _| text(map.iter_keys().map(of_key).take(1)) + " exact"),
+    ("iter_values", |map, _| text(map.iter_values().map(of_value).take(1)) + " exact"),
+    // Copies, and comparisons with another map.
+    ("try_clone cloned", |map, _| copied(|| pairs(&map.clone()))),
+    ("to_boxed_keys_values", |map, _| copied(|| pairs::<Box<Key>, Box<Value>>(&map.to_boxed_keys_values()))),
+    ("to_boxed_keys", |map, _| copied(|| pairs::<Box<Key>, Value>(&map.to_boxed_keys()))),
+    ("to_boxed_values", |map, _| copied(|| pairs::<Key, Box<Value>>(&map.to_boxed_values()))),
+    ("to_borrowed_keys_values", |map, _| copied(|| pairs::<&Key, &Value>(&map.to_borrowed_keys_values()))),
+    ("to_borrowed_keys", |map, _| copied(|| pairs::<&Key, Value>(&map.to_borrowed_keys()))),
+    ("to_borrowed_values", |map, _| copied(|| pairs::<Key, &Value>(&map.to_borrowed_values()))),
+    ("eq", |map, given| (*map == given.map()).to_string()),
+    ("cmp", |map, given| format!("{:?}", (*map).cmp(&given.map())).to_lowercase()),
+    ("partial_cmp", |map, given| {
+        let ordering = (*map).partial_cmp(&given.map());
+        or_none(ordering.map(|ordering| format!("{ordering:?}").to_lowercase()))
+    }),
+    ("insert insert_counted", |map, given| or_none(map.insert(given.key(), given.value()))),
+    ("try_insert", |map, given| back(map.try_insert(given.key(), given.value()))),
+    ("try_append", |map, given| back(map.try_append(given.key(), given.value()))),
+    ("try_get_or_insert", |map, given| try_get(map, given, Ok(given.value()), true)),
+    ("try_get_or_fail", |map, given| try_get(map, given, Err(given.value()), true)),
+    ("try_find_or_insert", |map, given| try_get(map, given, Ok(given.value()), false)),
+    ("try_find_or_fail", |map, given| try_get(map, given, Err(given.value()), false)),
+    ("entry", |map, given| match map.entry(given.key()) {
+        Occupied(entry) => format!("occupied {}", entry.key().code),
+        Vacant(entry) => format!("vacant {}", entry.key().code),
+    }),
+    ("entry_get", |map, given| match map.entry(given.key()) {
+        Occupied(entry) => entry.get().to_string(),
+        Vacant(_) => "vacant".to_string(),
+    }),
+    ("entry_remove", |map, given| match map.entry(given.key()) {
+        Occupied(entry) => entry.remove().to_string(),
+        Vacant(_) => "vacant".to_string(),
+    }),
+    ("entry_insert", |map, given| match map.entry(given.key()) {
+        Occupied(mut entry) => entry.insert(given.value()).to_string(),
+        Vacant(entry) => fill(entry, given),
+    }),
+    ("entry_get_mut", |map, given| match map.entry(given.key()) {
+        Occupied(mut entry) => given.replace(entry.get_mut()),
+        Vacant(entry) => fill(entry, given),
+    }),
+    ("entry_into_mut", |map, given| match map.entry(given.key()) {
+        Occupied(entry) => given.replace(entry.into_mut()),
+        Vacant(entry) => fill(entry, given),
+    }),
+    ("or_default", |map, given| given.write(map.entry(given.key()).or_default(), 1)),
+    ("or_insert", |map, given| given.write(map.entry(given.key()).or_insert(given.value()), 2) + " asked 0"),
+    ("or_insert_with", |map, given| {
+        let mut times = 0;
+        let made = || {
+            times += 1;
+            given.value()
+        };
+        let old = given.write(map.entry(given.key()).or_insert_with(made), 2);
+        format!("{old} asked {times}")
+    }),
+    ("and_modify", |map, given| {
+        let mut times = 0;
+        let entry = map.entry(given.key()).and_modify(|there| {
+            times += 1;
+            there.0 += given.number(1);
+        });
+        let old = given.write(entry.or_insert(given.value()), 2);
+        format!("{old} asked {times}")
+    }),
+    // Other changes of one pair or of each.
+    ("get_mut get_mut_by", |map, given| or_none(map.get_mut(&given.key()).map(|slot| given.replace(slot)))),
+    ("get_indexed_mut", |map, given| {
+        let slot = map.iter_mut().nth(given.index(0));
+        or_none(slot.map(|(_, slot)| given.replace(slot)))
+    }),
+    ("index_mut", |map, given| match map.contains_key(&given.key()) {
+        true => given.replace(&mut map[&given.key()]),
+        false => "absent".to_string(),
+    }),
+    ("remove remove_counted remove_by", |map, given| or_none(map.remove(&given.key()))),
+    ("rename rename_counted", |map, given| {
+        let moved = map.remove(&given.key());
+        moved.map(|value| map.insert(Key::new(given.order, given.words[1]), value)).is_some().to_string()
+    }),
+    ("update", |map, given| {
+        for (index, (_, slot)) in map.into_iter().enumerate() {
+            slot.0 += given.number(0) + index as u64;
         }
-        _ => return None,
-    })
+        map.len().to_string()
+    }),
+    ("retain", |map, given| {
+        let mut times = 0;
+        map.retain(|_, _| {
+            times += 1;
+            given.number(0) >> ((times - 1) % 64) & 1 == 1
+        });
+        times.to_string()
+    }),
+    // Changes of the whole, and by lists of pairs.
+    ("new", |map, _| ok(*map = LiteMap::new())),
+    ("with_capacity", |map, given| ok(*map = LiteMap::with_capacity(given.index(0)))),
+    ("clear", |map, _| ok(map.clear())),
+    ("reserve", |map, given| ok(map.reserve(given.index(0)))),
+    ("from_iter collected from_iter_counted from_vec from_vec_counted", |map, given| ok(*map = given.map())),
+    ("extend extended extend_counted extend_from_vec extend_from_vec_counted", |map, given| {
+        ok(map.extend(given.pairs()))
+    }),
+    ("extend_from_litemap extend_from_litemap_counted", |map, given| {
+        let left = map.extend_from_litemap(given.map());
+        or_none(left.map(|left| format!("left {}", text(pairs(&left)))))
+    }),
+    ("extend_with extend_with_counted", |map, given| combine(map, given.map())),
+    ("keep_keys_of", |map, given| {
+        let other = given.map();
+        ok(map.retain(|key, _| other.contains_key(key)))
+    }),
+    ("remove_keys_of", |map, given| {
+        let other = given.map();
+        ok(map.retain(|key, _| !other.contains_key(key)))
+    }),
+    ("is_subset is_subset_counted", |map, given| {
+        let other = given.map();
+        map.iter().all(|(key, _)| other.contains_key(key)).to_string()
+    }),
+];
+
+/// What a call returns that returns nothing.
+fn ok(_: ()) -> String {
+    "ok".to_string()
+}
+
+fn or_none(found: Option<impl ToString>) -> String {
+    found.map_or("none".to_string(), |found| found.to_string())
+}
+
+fn one(found: (&Key, &Value)) -> String {
+    text([pair(found)])
+}
+
+// What iterators of keys and of values yield: no value, and no key.
+fn of_key(key: &Key) -> Pair {
+    (key.code, 0)
+}
+
+fn of_value(value: &Value) -> Pair {
+    (Code::default(), value.0)
 }
 
 /// The results of the calls of a constant table.
 fn table(table: &LiteMap<Key, Value, &[(Key, Value)]>) -> String {
     let (len, is_empty) = (table.const_len(), table.const_is_empty());
-    let answer = format!("{} {len} {is_empty}", text(table.iter().map(pair)));
+    let shown = format!("{} {len} {is_empty}", text(table.iter().map(pair)));
     if is_empty {
-        return answer;
+        return shown;
     }
     let (key, value) = table.const_get_indexed_or_panic(0);
-    format!("{answer} {}", text([pair((key, value))]))
-}
-
-fn find(map: &Map, name: &str, given: &Given) -> Option<String> {
-    Some(match name {
-        "get" | "get_counted" => or_none(map.get(&given.key())),
-        "get_by" => or_none(map.get_by(|there| there.cmp(&given.key()))),
-        "contains_key" => map.contains_key(&given.key()).to_string(),
-        "index" if map.contains_key(&given.key()) => map[&given.key()].to_string(),
-        "index" => "absent".to_string(),
-        "find_index" | "find_index_counted" | "find_index_by" => {
-            match map.find_index(&given.key()) {
-                Ok(index) => format!("ok {index}"),
-                Err(index) => format!("err {index}"),
-            }
-        }
-        _ => return None,
-    })
-}
-
-#[allow(deprecated)]
-fn walk(map: &mut Map, name: &str, given: &Given) -> Option<String> {
-    let len = map.len();
-    let whole = |met: String| format!("{met} exact");
-    Some(match name {
-        "iter" => steps(map.iter(), len, given, pair),
-        "keys" => steps(map.keys(), len, given, key),
-        "values" => steps(map.values(), len, given, value),
-        "into_iter" => steps(mem::take(map).into_iter(), len, given, pair),
-        "for" => whole(text((&*map).into_iter().map(pair))),
-        "iter_keys" => whole(text(map.iter_keys().map(key).take(1))),
-        "iter_values" => whole(text(map.iter_values().map(value).take(1))),
-        _ => return None,
-    })
-}
-
-/// What an iterator of keys yields.
-fn key(key: &Key) -> Pair {
-    (key.code, 0)
-}
-
-/// What an iterator of values yields.
-fn value(value: &Value) -> Pair {
-    (NO_KEY, value.0)
+    format!("{shown} {}", one((key, value)))
 }
 
 /// Goes steps from the front, and then from the back: what is met, and whether each hint tells exactly how many are left.
-fn steps<I: DoubleEndedIterator>(
-    mut rest: I,
-    mut left: usize,
-    given: &Given,
-    pair: impl Fn(I::Item) -> Pair,
-) -> String {
+fn steps<I: DoubleEndedIterator>(mut left: usize, mut rest: I, given: &Given, pair: fn(I::Item) -> Pair) -> String {
     let front = given.index(0);
     let back = given.words.get(1).map_or(0, |_| given.index(1));
-    let mut met = Vec::new();
-    let mut is_exact = true;
+    let (mut met, mut is_exact) = (Vec::new(), true);
     for step in 0..front + back {
-        let item = if step < front {
-            rest.next()
-        } else {
-            rest.next_back()
-        };
+        let item = if step < front { rest.next() } else { rest.next_back() };
         if let Some(item) = item {
             left -= 1;
             met.push(pair(item));
@@ -170,52 +276,14 @@ fn steps<I: DoubleEndedIterator>(
 }
 
 /// Makes another map: its pairs, and how many keys and values were cloned.
-fn copy(map: &Map, name: &str) -> Option<String> {
+fn copied(make: impl FnOnce() -> Vec<Pair>) -> String {
     CLONED.set(0);
-    let made = match name {
-        "try_clone" | "cloned" => pairs(&map.clone()),
-        "to_boxed_keys_values" => pairs::<Box<Key>, Box<Value>>(&map.to_boxed_keys_values()),
-        "to_boxed_keys" => pairs::<Box<Key>, Value>(&map.to_boxed_keys()),
-        "to_boxed_values" => pairs::<Key, Box<Value>>(&map.to_boxed_values()),
-        "to_borrowed_keys_values" => pairs::<&Key, &Value>(&map.to_borrowed_keys_values()),
-        "to_borrowed_keys" => pairs::<&Key, Value>(&map.to_borrowed_keys()),
-        "to_borrowed_values" => pairs::<Key, &Value>(&map.to_borrowed_values()),
-        _ => return None,
-    };
-    Some(format!("{} cloned {}", text(made), CLONED.get()))
+    let made = make();
+    format!("{} cloned {}", text(made), CLONED.get())
 }
 
-fn compare(map: &Map, name: &str, given: &Given) -> Option<String> {
-    let word = |ordering| match ordering {
-        Ordering::Less => "less",
-        Ordering::Equal => "equal",
-        Ordering::Greater => "greater",
-    };
-    let other = || given.pairs().collect::<Map>();
-    Some(match name {
-        "eq" => (*map == other()).to_string(),
-        "cmp" => word(map.cmp(&other())).to_string(),
-        "partial_cmp" => map.partial_cmp(&other()).map_or("none", word).to_string(),
-        _ => return None,
-    })
-}
-
-fn put(map: &mut Map, name: &str, given: &Given) -> Option<String> {
-    let value = || Value::new(given.number(1));
-    let back = |back: Option<(Key, Value)>| match back {
-        None => "placed".to_string(),
-        Some(back) => format!("back {}", text([pair(back)])),
-    };
-    Some(match name {
-        "insert" | "insert_counted" => or_none(map.insert(given.key(), value())),
-        "try_insert" => back(map.try_insert(given.key(), value())),
-        "try_append" => back(map.try_append(given.key(), value())),
-        "try_get_or_insert" => try_get(map, given, Ok(value()), true),
-        "try_get_or_fail" => try_get(map, given, Err(value()), true),
-        "try_find_or_insert" => try_get(map, given, Ok(value()), false),
-        "try_find_or_fail" => try_get(map, given, Err(value()), false),
-        _ => return None,
-    })
+fn back(back: Option<(Key, Value)>) -> String {
+    back.map_or("placed".to_string(), |back| format!("back {}", text([pair(back)])))
 }
 
 /// `try_get_or_insert`, with the value or without it.
@@ -225,178 +293,34 @@ fn try_get(map: &mut Map, given: &Given, made: Result<Value, Value>, with_value:
         times += 1;
         made
     });
-    let answer = match found {
+    let result = match found {
         Ok((index, value)) if with_value => format!("{index} {value}"),
         Ok((index, _)) => index.to_string(),
-        Err(fault) => format!("closure {fault}"),
+        Err(error) => format!("closure {error}"),
     };
-    format!("{answer} asked {times}")
+    format!("{result} asked {times}")
 }
 
-/// Writes a number, if there is one, into the value that is lent: what it was.
-fn written(slot: &mut Value, number: Option<u64>) -> u64 {
-    let old = slot.0;
-    slot.0 = number.unwrap_or(old);
-    old
+/// Inserts the value into a vacant entry, and writes another one, if there is one.
+fn fill(entry: VacantEntry<Key, Value, Vec<(Key, Value)>>, given: &Given) -> String {
+    given.write(entry.insert(given.value()), 2)
 }
 
-fn enter(map: &mut Map, name: &str, given: &Given) -> Option<String> {
-    let heads = ["entry", "or_", "and_modify"];
-    if !heads.iter().any(|head| name.starts_with(head)) {
-        return None;
-    }
-    let entry = map.entry(given.key());
-    let value = || given.number(1);
-    let mut times = 0;
-    let lent = match name {
-        "or_default" => {
-            return Some(written(entry.or_default(), given.number_if_any(1)).to_string())
-        }
-        "or_insert" => entry.or_insert(Value::new(value())),
-        "or_insert_with" => entry.or_insert_with(|| {
-            times += 1;
-            Value::new(value())
-        }),
-        "and_modify" => {
-            let entry = entry.and_modify(|there| {
-                times += 1;
-                there.0 += value();
-            });
-            entry.or_insert(Value::new(value()))
-        }
-        _ => return Some(of_one_kind(entry, name, given)),
-    };
-    let old = written(lent, given.number_if_any(2));
-    Some(format!("{old} asked {times}"))
-}
-
-/// The calls that one kind of entry has; of the other one `insert`, or that it is vacant.
-fn of_one_kind(
-    entry: Entry<'_, Key, Value, Vec<(Key, Value)>>,
-    name: &str,
-    given: &Given,
-) -> String {
-    let value = || given.number(1);
-    match (entry, name) {
-        (Entry::Occupied(entry), "entry") => format!("occupied {}", entry.key().code),
-        (Entry::Occupied(entry), "entry_get") => entry.get().to_string(),
-        (Entry::Occupied(entry), "entry_remove") => entry.remove().to_string(),
-        (Entry::Occupied(mut entry), "entry_insert") => {
-            entry.insert(Value::new(value())).to_string()
-        }
-        (Entry::Occupied(mut entry), "entry_get_mut") => {
-            mem::replace(&mut entry.get_mut().0, value()).to_string()
-        }
-        (Entry::Occupied(entry), _) => mem::replace(&mut entry.into_mut().0, value()).to_string(),
-        (Entry::Vacant(entry), "entry") => format!("vacant {}", entry.key().code),
-        (Entry::Vacant(_), "entry_get" | "entry_remove") => "vacant".to_string(),
-        (Entry::Vacant(entry), _) => {
-            let lent = entry.insert(Value::new(value()));
-            written(lent, given.number_if_any(2)).to_string()
-        }
-    }
-}
-
-fn write(map: &mut Map, name: &str, given: &Given) -> Option<String> {
-    let replace = |slot: &mut Value| mem::replace(&mut slot.0, given.number(1));
-    Some(match name {
-        "get_mut" | "get_mut_by" => or_none(map.get_mut(&given.key()).map(replace)),
-        "get_indexed_mut" => {
-            let slot = map.iter_mut().nth(given.index(0));
-            or_none(slot.map(|(_, slot)| replace(slot)))
-        }
-        "index_mut" if map.contains_key(&given.key()) => {
-            replace(&mut map[&given.key()]).to_string()
-        }
-        "index_mut" => "absent".to_string(),
-        "remove" | "remove_counted" | "remove_by" => or_none(map.remove(&given.key())),
-        "rename" | "rename_counted" => {
-            let moved = map.remove(&given.key());
-            let is_moved = moved.is_some();
-            if let Some(value) = moved {
-                map.insert(given.key_at(1), value);
-            }
-            is_moved.to_string()
-        }
-        "update" => {
-            for (place, (_, slot)) in map.into_iter().enumerate() {
-                slot.0 += given.number(0) + place as u64;
-            }
-            map.len().to_string()
-        }
-        "retain" => {
-            let mut times = 0;
-            let bits = given.number(0);
-            map.retain(|_, _| {
-                times += 1;
-                bits >> ((times - 1) % 64) & 1 == 1
-            });
-            times.to_string()
-        }
-        _ => return None,
-    })
-}
-
-fn many(map: &mut Map, name: &str, given: &Given) -> Option<String> {
-    match name {
-        "new" => *map = LiteMap::new(),
-        "with_capacity" => *map = LiteMap::with_capacity(given.index(0)),
-        "clear" => map.clear(),
-        "reserve" => map.reserve(given.index(0)),
-        "from_iter" | "collected" | "from_iter_counted" | "from_vec" | "from_vec_counted" => {
-            *map = given.pairs().collect()
-        }
-        "extend" | "extended" | "extend_counted" | "extend_from_vec" | "extend_from_vec_counted" => {
-            map.extend(given.pairs())
-        }
-        "extend_from_litemap" | "extend_from_litemap_counted" => {
-            let left = map.extend_from_litemap(given.pairs().collect());
-            return Some(or_none(
-                left.map(|left| format!("left {}", text(pairs(&left)))),
-            ));
-        }
-        "extend_with" | "extend_with_counted" => {
-            return Some(combine(map, given.pairs().collect()))
-        }
-        "keep_keys_of" | "remove_keys_of" => {
-            let other: Map = given.pairs().collect();
-            map.retain(|key, _| other.contains_key(key) == (name == "keep_keys_of"));
-        }
-        "is_subset" | "is_subset_counted" => {
-            let other: Map = given.pairs().collect();
-            return Some(
-                map.iter()
-                    .all(|(key, _)| other.contains_key(key))
-                    .to_string(),
-            );
-        }
-        "into_tuple_vec" => {
-            let vector = mem::take(map).into_tuple_vec();
-            return Some(text(vector.into_iter().map(pair)));
-        }
-        _ => return None,
-    }
-    Some("ok".to_string())
-}
-
-/// Puts the pairs of another map in one by one: a value that is there already becomes three times that, the new one, what the new
-/// key's code leaves by seven, and a thousand for each that was there before. The answer is as of a merge, and how many were there.
+/// Puts the pairs of another map in one by one: a value that is there already becomes three times that, the new one, what the
+/// new key's code leaves by seven, and a thousand for each that was there before. Returns what a merge does, and how many were
+/// there.
 fn combine(map: &mut Map, other: Map) -> String {
     let mut left = Vec::new();
-    for (key, value) in other {
-        let Some(here) = map.get(&key).map(|here| here.0) else {
-            map.insert(key, value);
-            continue;
-        };
-        let more = here.wrapping_mul(3).wrapping_add(key.code.number % 7);
-        let more = more.wrapping_add(1000 * left.len() as u64);
-        let new = value.0.wrapping_add(more);
-        left.push((key.code, here));
-        map.insert(key, Value::new(new));
+    for (key, mut value) in other {
+        if let Some(here) = map.get(&key).map(|here| here.0) {
+            let more = here.wrapping_mul(3).wrapping_add(key.code.number % 7);
+            value.0 = value.0.wrapping_add(more).wrapping_add(1000 * left.len() as u64);
+            left.push((key.code, here));
+        }
+        map.insert(key, value);
     }
-    let asked = left.len();
     if left.is_empty() {
-        return format!("none asked {asked}");
+        return "none asked 0".to_string();
     }
-    format!("left {} asked {asked}", text(left))
+    format!("left {} asked {}", text(left.iter().copied()), left.len())
 }

@@ -10,29 +10,33 @@ thread_local! {
     pub static CLONED: Cell<u64> = const { Cell::new(0) };
 }
 
-/// How keys are written, and their order.
+/// How keys are written, and their order: as numbers, as strings of up to eight bytes by their bytes, or as such strings whose
+/// first letter counts without its case.
 #[derive(Clone, Copy, PartialEq)]
 pub enum Order {
-    /// Numbers.
     Number,
-    /// Strings of up to eight bytes, by their bytes.
     Text,
-    /// Such strings, whose first letter counts without its case.
     Letter,
 }
 
+impl Order {
+    /// The order that a line names. Each run begins with no pairs and no room.
+    pub fn new(words: &str) -> Self {
+        match words {
+            "number 0 0" => Order::Number,
+            "text 0 0" => Order::Text,
+            "letter 0 0" => Order::Letter,
+            _ => panic!("no order: {words}"),
+        }
+    }
+}
+
 /// The number that a key's word stands for: itself, or the bytes of a string, the first one highest.
-#[derive(Clone, Copy, PartialEq)]
+#[derive(Clone, Copy, Default, PartialEq)]
 pub struct Code {
     is_text: bool,
     pub number: u64,
 }
-
-/// The key that is shown for an iterator of values.
-pub const NO_KEY: Code = Code {
-    is_text: false,
-    number: 0,
-};
 
 impl Display for Code {
     fn fmt(&self, f: &mut Formatter) -> fmt::Result {
@@ -89,12 +93,8 @@ impl Key {
         } else {
             word.parse().expect("a number")
         };
-        let rank = match order {
-            Order::Letter => number | 1 << 61,
-            _ => number,
-        };
-        let code = Code { is_text, number };
-        Key { code, rank }
+        let rank = if order == Order::Letter { number | 1 << 61 } else { number };
+        Key { code: Code { is_text, number }, rank }
     }
 }
 
@@ -151,9 +151,7 @@ pub fn pair<K: Borrow<Key>, V: Borrow<Value>>((key, value): (K, V)) -> Pair {
 
 /// The pairs of a map.
 pub fn pairs<K: Borrow<Key>, V: Borrow<Value>>(map: &LiteMap<K, V>) -> Vec<Pair> {
-    map.iter()
-        .map(|(key, value)| pair((key.borrow(), value.borrow())))
-        .collect()
+    map.iter().map(|(key, value)| pair((key.borrow(), value.borrow()))).collect()
 }
 
 /// Pairs as they are written: a few by themselves, and many by their number and a sum.
@@ -168,12 +166,10 @@ pub fn text(pairs: impl IntoIterator<Item = Pair>) -> String {
     }
     let mut sum = 0u64;
     for (code, value) in &pairs {
-        sum = (sum ^ code.number).wrapping_mul(STEP);
-        sum = (sum ^ value).wrapping_mul(STEP);
+        for number in [code.number, *value] {
+            sum = (sum ^ number).wrapping_mul(1_099_511_628_211);
+        }
         sum ^= sum >> 29;
     }
     format!("#{}:{}", pairs.len(), sum % 1_000_000_000)
 }
-
-// The factor of the sum.
-const STEP: u64 = 1_099_511_628_211;

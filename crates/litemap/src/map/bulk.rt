@@ -2,10 +2,12 @@
 ghost use Rattle.std.specs.Prelude.{◌≡◌, ◌<◌, ◌≤◌, ◌+◌, ◌*◌, ◌++◌, [], IfErr, IfOk, IsOk, OnOk, OnErr, length, reverse};
 ghost use Rattle.std.specs.Option.{option_or};
 ghost use Rattle.std.specs.Iterator.{IsFiniteIterable};
-ghost use Rattle.litemap_store.specs.Bulk.{GivesSome, GivesSuch, IsExtended, IsExtendedCounted, IsHandedBack, IsRefusedCounted};
+ghost use Rattle.litemap_store.specs.Bulk.{Gives, GivesSome, GivesSuch, IsExtendedCounted, IsGathered, IsHandedBack};
+ghost use Rattle.litemap_store.specs.Bulk.{IsRefusedCounted};
 ghost use Rattle.litemap_store.specs.Counts.{GoesOn, RisesByAtMost};
 ghost use Rattle.litemap_store.specs.Last.{Last, Rises};
 ghost use Rattle.litemap_store.specs.Pairs.{Rising, value_at};
+ghost use Rattle.litemap.specs.Updates.{Overlays};
 
 use crate::LiteMap;
 use litemap_store::store::{Count, NoRoom, StoreBulkMut, StoreFromIterable};
@@ -28,7 +30,7 @@ impl<K: Ord + Drop, V: Drop, S: StoreFromIterable<K, V>> LiteMap<K, V, S> {
     ) -> Result<Self, AllocError>
         requires { IsFiniteIterable I.into_iter_gives I.IntoIter.can_next I.IntoIter.remaining iter }
         ensures made { IfOk result
-            (λ m. IsExtended K.cmp I.into_iter_gives I.IntoIter.next_gives iter [] m.pairs) }
+            (λ m. IsGathered K.cmp (Gives I.into_iter_gives I.IntoIter.next_gives iter) [] m.pairs) }
         ensures refused_some { S.fails_for_pairs_only
             → OnErr result (GivesSome I.into_iter_gives I.IntoIter.next_gives iter) }
     {
@@ -59,9 +61,9 @@ impl<K: Ord + Drop, V: Drop, S: StoreFromIterable<K, V>> LiteMap<K, V, S> {
 }
 
 /// ```rust
-/// let mut days: Days = LiteMap::from_vec(alloc, [(2, "Tue"), (2, "Tuesday")].to_vec(alloc)?)?;
+/// let mut days: Days = LiteMap::from_array(alloc, [(2, "Tue"), (2, "Tuesday")])?;
 /// days.extend_from_vec(alloc, [(1, "Monday")].to_vec(alloc)?)?;
-/// Ok(days.as_slice() == [(1, "Monday"), (2, "Tuesday")].as_slice())
+/// Ok(days == Days::from_vec(alloc, [(1, "Monday"), (2, "Tuesday")].to_vec(alloc)?)?)
 /// ```
 impl<K: Ord + Drop, V: Drop, S: StoreBulkMut<K, V>> LiteMap<K, V, S> {
     /// Returns a map of the pairs of a vector, or an error if memory runs out (own). The last pair of each key stays, its key
@@ -76,6 +78,13 @@ impl<K: Ord + Drop, V: Drop, S: StoreBulkMut<K, V>> LiteMap<K, V, S> {
         ensures back { IfErr result (λ e. IsHandedBack K.cmp pairs.items e.back.items) }
     {
         Self::from_vec_counted(alloc, pairs, &mut Count::new())
+    }
+
+    /// Returns a map of the pairs of an array, as `from_vec` does of a vector, or an error if memory runs out (own).
+    pub fn from_array<const N: usize>(alloc: Global, pairs: [(K, V); N]) -> Result<Self, AllocError>
+        ensures { IfOk result (λ m. Last K.cmp pairs m.pairs) }
+    {
+        Ok(LiteMap::from_vec(alloc, Vec::from_array(alloc, pairs)?)?)
     }
 
     /// `from_vec`, counting its comparisons: at most one for each pair if they ascend, also if it fails (own).
@@ -119,8 +128,8 @@ impl<K: Ord + Drop, V: Drop, S: StoreBulkMut<K, V>> LiteMap<K, V, S> {
     ) -> Result<(), AllocError>
         requires { IsFiniteIterable I.into_iter_gives I.IntoIter.can_next I.IntoIter.remaining iter }
         ensures extended { OnOk result
-            (IsExtended K.cmp I.into_iter_gives I.IntoIter.next_gives iter self.old.pairs self.new.pairs) }
-        ensures refused { OnErr result (self.new.pairs ≡ self.old.pairs) }
+            (IsGathered K.cmp (Gives I.into_iter_gives I.IntoIter.next_gives iter) self.old.pairs self.new.pairs) }
+        ensures unchanged { OnErr result (self.new.pairs ≡ self.old.pairs) }
         ensures refused_some { S.fails_for_pairs_only
             → OnErr result (GivesSome I.into_iter_gives I.IntoIter.next_gives iter) }
     {
@@ -142,7 +151,7 @@ impl<K: Ord + Drop, V: Drop, S: StoreBulkMut<K, V>> LiteMap<K, V, S> {
             (λ given. Rises K.cmp self.old.pairs given → RisesByAtMost (length given) count.old count.new)) }
         ensures rising { OnOk result (GivesSuch I.into_iter_gives I.IntoIter.next_gives iter (λ given.
             Rising K.cmp given → RisesByAtMost (length self.old.pairs + 2 * length given) count.old count.new)) }
-        ensures refused { OnErr result (self.new.pairs ≡ self.old.pairs) }
+        ensures unchanged { OnErr result (self.new.pairs ≡ self.old.pairs) }
         ensures refused_cost { OnErr result (IsRefusedCounted K.cmp I.into_iter_gives I.IntoIter.next_gives
             iter self.old.pairs count.old count.new) }
         ensures refused_some { S.fails_for_pairs_only
@@ -169,7 +178,9 @@ impl<K: Ord + Drop, V: Drop, S: StoreBulkMut<K, V>> LiteMap<K, V, S> {
         // What a lookup finds: the last new value of the key if there is one, else what it found before.
         ensures found { OnOk result ((key : K) → value_at K.cmp self.new.pairs key
             ≡ option_or (value_at K.cmp (reverse pairs.items) key) (value_at K.cmp self.old.pairs key)) }
-        ensures refused { OnErr result (self.new.pairs ≡ self.old.pairs) }
+        // The same of lookups by anything else than a key.
+        ensures overlays { OnOk result (Overlays K.cmp self.old.pairs (reverse pairs.items) self.new.pairs) }
+        ensures unchanged { OnErr result (self.new.pairs ≡ self.old.pairs) }
         ensures succeeds { Rises K.cmp self.old.pairs pairs.items → length pairs.items ≤ self.old.room → IsOk result }
         ensures back { IfErr result (λ e. IsHandedBack K.cmp pairs.items e.back.items) }
     {
@@ -186,7 +197,8 @@ impl<K: Ord + Drop, V: Drop, S: StoreBulkMut<K, V>> LiteMap<K, V, S> {
         ensures last { OnOk result (Last K.cmp (self.old.pairs ++ pairs.items) self.new.pairs) }
         ensures found { OnOk result ((key : K) → value_at K.cmp self.new.pairs key
             ≡ option_or (value_at K.cmp (reverse pairs.items) key) (value_at K.cmp self.old.pairs key)) }
-        ensures refused { OnErr result (self.new.pairs ≡ self.old.pairs) }
+        ensures overlays { OnOk result (Overlays K.cmp self.old.pairs (reverse pairs.items) self.new.pairs) }
+        ensures unchanged { OnErr result (self.new.pairs ≡ self.old.pairs) }
         ensures succeeds { Rises K.cmp self.old.pairs pairs.items → length pairs.items ≤ self.old.room → IsOk result }
         ensures back { IfErr result (λ e. IsHandedBack K.cmp pairs.items e.back.items) }
         ensures all_above { Rises K.cmp self.old.pairs pairs.items → RisesByAtMost (length pairs.items) count.old count.new }

@@ -1,6 +1,6 @@
 //! Calls that change a map.
 ghost use Rattle.std.specs.Prelude.{◌≡◌, ◌↔◌, ◌+◌, ◌*◌, ◌≤◌, ◌<◌, [], ◌∷◌, ◌++◌, length, slice_get, remove, filter, Bool, Some};
-ghost use Rattle.std.specs.Prelude.{IsNone, IsSome, IsTrue, IsOk, None, Ok, IfOk, OnOk, OnErr, true, false};
+ghost use Rattle.std.specs.Prelude.{IsNone, IsSome, IsTrue, IsOk, None, Ok, IfOk, IfSome, OnOk, OnErr, true, false};
 ghost use Rattle.std.specs.Fn.{FnOnceReturnsAt, FnOnceTakesAt};
 ghost use Rattle.litemap_store.specs.Counts.{RisesByAtMost, digits};
 ghost use Rattle.litemap_store.specs.Pairs.{AllBelow, at, place, put, value_at};
@@ -12,7 +12,7 @@ ghost use Rattle.litemap.specs.FoundBy.{RemovesFound};
 ghost use Rattle.litemap.specs.Retained.{Retains, ReturnsAt};
 ghost use Rattle.std.specs.Borrow.{sem};
 ghost use Rattle.litemap.specs.Lends.{RestsAs};
-ghost use Rattle.litemap.specs.Updates.{Finds, Moves, Places, Updates};
+ghost use Rattle.litemap.specs.Updates.{Finds, Moves, Places, TakesPair, Updates};
 ghost use Rattle.litemap.specs.TryFault.{FailsAs, IfClosure, IsInsertedAt, Shown};
 
 use crate::{LiteMap, TryFault};
@@ -65,12 +65,11 @@ impl<K: Ord + Drop, V, S: StoreMut<K, V>> LiteMap<K, V, S> {
         }
     }
 
-    /// Prefer `try_find_or_insert`, if the map is used afterwards. Returns the index and the value of a key; if the key was absent,
-    /// inserts it first with what `f` returns for it.
+    /// Prefer `try_find_or_insert`, if the map is used afterwards. Returns the index and the value of a key; if the key was
+    /// absent, inserts it first with what `f` returns for it.
     ///
-    /// Errors, comparisons and moves are those of `try_find_or_insert`. If the key was absent, nothing is said of the length
-    /// while the value is borrowed. Only a proof by hand can use the clause `leaves`, which says what the call leaves of the map
-    /// (docs/DECISIONS.md).
+    /// Errors, comparisons and moves are those of `try_find_or_insert`, whose contract says what the map is afterwards. Here only
+    /// the clause `leaves` does, and only a proof by hand can use it (docs/DECISIONS.md).
     ///
     /// ```rust
     /// let mut days = three_days(alloc)?;
@@ -154,8 +153,8 @@ impl<K: Ord + Drop, V, S: StoreMut<K, V>> LiteMap<K, V, S> {
         ensures room { self.old.room ≤ self.new.room + 1 }
         // If nothing is inserted the list stays; if the closure returns an error, so does the room.
         ensures errors { FailsAs F.FnOnce f key self.old.room result }
-        ensures refused { OnErr result (self.new.pairs ≡ self.old.pairs) }
-        ensures unmoved { IfClosure result (λ _. self.new ≡ self.old) }
+        ensures unchanged { OnErr result (self.new.pairs ≡ self.old.pairs) }
+        ensures unchanged_by_closure { IfClosure result (λ _. self.new ≡ self.old) }
     {
         let index = match self.search(&key, &mut Count::new()) {
             Ok(index) => return Ok(index),
@@ -248,6 +247,7 @@ impl<K: Ord + Drop, V, S: StoreMut<K, V>> LiteMap<K, V, S> {
         requires { CallableOnKeys F.FnMut self.old.pairs f }
         ensures found { RemovesFound F.FnMut self.old.pairs f result self.new.pairs }
         ensures unchanged { IsNone result → self.new ≡ self.old }
+        ensures taken { IfSome result (λ v. (key : K) × TakesPair K.cmp (key, v) self.old.pairs self.new.pairs) }
         ensures room { S.keeps_memory → IsSome result → self.old.room < self.new.room }
     {
         match self.find_index_by(f) {
@@ -273,9 +273,7 @@ impl<K: Ord, V, S: StoreMut<K, V>> LiteMap<K, V, S> {
     ///
     /// ```rust
     /// let mut days = three_days(alloc)?;
-    /// let tuesday = days.try_insert(2, "Tuesday")?;
-    /// let friday = days.try_insert(5, "Fri")?;
-    /// Ok(tuesday.is_none() && friday == Some((5, "Fri")))
+    /// Ok(days.try_insert(2, "Tuesday")?.is_none() && days.try_insert(5, "Fri")? == Some((5, "Fri")))
     /// ```
     pub fn try_insert(&mut self, key: K, value: V) -> Result<Option<(K, V)>, NoRoom<(K, V)>>
         ensures adds { AddsIf (IsNone (at K.cmp self.old.pairs key)) (put K.cmp self.old.pairs key value) (key, value)
@@ -298,13 +296,13 @@ impl<K: Ord, V, S: StoreMut<K, V>> LiteMap<K, V, S> {
     ///
     /// ```rust
     /// let mut days = three_days(alloc)?;
-    /// let saturday = days.try_append(6, "Saturday")?;
-    /// let tuesday = days.try_append(2, "Tuesday")?;
-    /// Ok(saturday.is_none() && tuesday == Some((2, "Tuesday")))
+    /// Ok(days.try_append(6, "Saturday")?.is_none() && days.try_append(2, "Tuesday")? == Some((2, "Tuesday")))
     /// ```
     pub fn try_append(&mut self, key: K, value: V) -> Result<Option<(K, V)>, NoRoom<(K, V)>>
-        ensures { AddsIf (AllBelow K.cmp self.old.pairs key) (self.old.pairs ++ (key, value) ∷ []) (key, value)
+        ensures adds { AddsIf (AllBelow K.cmp self.old.pairs key) (self.old.pairs ++ (key, value) ∷ []) (key, value)
             self.old self.new result }
+        ensures updates { IfOk result (λ back. IsNone back
+            → Updates K.cmp key (Some value) self.old.pairs self.new.pairs) }
     {
         if !self.is_above_all(&key) {
             return Ok(Some((key, value)));

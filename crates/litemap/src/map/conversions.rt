@@ -1,7 +1,7 @@
 //! Maps made of the pairs of another one, in the same order. No keys are compared. Those that only borrow pairs take no memory.
 //!
-//! Else room for all pairs is taken first. An empty map takes none, and its conversion never fails. A clone of a key has to compare
-//! `Equal` to it.
+//! Else room for all pairs is taken first. An empty map takes none, and its conversion never fails. A clone of a key has to
+//! compare `Equal` to it.
 ghost use Rattle.std.specs.Prelude.{◌≡◌, ⊤, IfOk};
 ghost use Rattle.std.specs.Fn.{FnReturnsAt};
 ghost use Rattle.std.specs.Option.{option_map};

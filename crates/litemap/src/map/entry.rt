@@ -3,7 +3,8 @@
 //! An entry borrows its map for as long as it lives. A call that consumes the entry and returns a reference passes the borrow on
 //! to that reference. In clauses `self.entry` is the entry as it was passed; `writes_back` says that the map then has the value
 //! last written through a reference.
-ghost use Rattle.std.specs.Prelude.{◌≡◌, ◌↔◌, ◌-◌, ◌<◌, Err, IfErr, IfOk, IfSome, IsNone, IsSome, None, Ok, OnErr, Some, length, unwrap_or};
+ghost use Rattle.std.specs.Prelude.{◌≡◌, ◌↔◌, ◌-◌, ◌<◌, Err, IfErr, IfOk, IfSome, IsNone, IsSome, None, Ok, OnErr, Some, length};
+ghost use Rattle.std.specs.Prelude.{unwrap_or};
 ghost use Rattle.std.specs.Borrow.{sem, MutBor};
 ghost use Rattle.std.specs.Fn.{FnOnceReturnsAt, FnOnceTakesAt};
 ghost use Rattle.litemap_store.specs.Splits.{IsMissingAt};
@@ -41,8 +42,8 @@ pub enum Entry<'a, K: Ord, V, S: Store<K, V>> {
 /// let Entry::Occupied(mut entry) = hours.entry(1) else {
 ///     return Ok(false);
 /// };
-/// *entry.get_mut() = 9;
-/// let is_nine = *entry.key() == 1 && *entry.get() == 9 && *entry.into_mut() == 9;
+/// *entry.get_mut() = 7;
+/// let is_nine = *entry.key() == 1 && *entry.get() == 7 && entry.insert(9) == 7 && *entry.into_mut() == 9;
 /// let (first, last) = (hours.first_entry().map(|it| it.remove_entry()), hours.last_entry().map(|it| it.remove()));
 /// Ok(is_nine && first == Some((1, 9)) && last == Some(10))
 /// ```
@@ -101,8 +102,8 @@ impl<K: Ord + Drop, V, S: StoreMut<K, V>> LiteMap<K, V, S> {
     }
 
     /// Looks up the key that a query finds, and returns its entry; if there is none, returns the entry of the key that `make`
-    /// returns (own). So a key, such as the `String` of a `&str`, is made only if it is absent. It compares as `entry` does, and once
-    /// more as much if a key is made. It takes no memory, and fails only if `make` does.
+    /// returns (own). So a key, such as the `String` of a `&str`, is made only if it is absent. It compares as `entry` does,
+    /// and once more as much if a key is made. It takes no memory, and fails only if `make` does.
     ///
     /// ```rust
     /// let mut counts: VecMap<String, u32> = LiteMap::new(alloc);
@@ -145,8 +146,7 @@ impl<K: Ord, V, S: StoreMut<K, V>> LiteMap<K, V, S> {
     ///
     /// ```rust
     /// let mut days = three_days(alloc)?;
-    /// let first = days.first_entry().map(|entry| entry.remove_entry());
-    /// Ok(first == Some((1, "Monday")) && days.len() == 2)
+    /// Ok(days.first_entry().map(|entry| entry.remove_entry()) == Some((1, "Monday")) && days.len() == 2)
     /// ```
     pub fn first_entry(&mut self) -> Option<OccupiedEntry<'_, K, V, S>>
         ensures there { IsSome result ↔ (0 < length self.old.pairs) }
@@ -168,8 +168,7 @@ impl<K: Ord, V, S: StoreMut<K, V>> LiteMap<K, V, S> {
     ///
     /// ```rust
     /// let mut days = three_days(alloc)?;
-    /// let old = days.last_entry().map(|mut entry| entry.insert("Fri"));
-    /// Ok(old == Some("Friday") && days.last() == Some((&5, &"Fri")))
+    /// Ok(days.last_entry().map(|entry| entry.remove()) == Some("Friday") && days.len() == 2)
     /// ```
     pub fn last_entry(&mut self) -> Option<OccupiedEntry<'_, K, V, S>>
         ensures there { IsSome result ↔ (0 < length self.old.pairs) }
@@ -178,16 +177,13 @@ impl<K: Ord, V, S: StoreMut<K, V>> LiteMap<K, V, S> {
         ensures unchanged { IfSome result (λ o. (entry_map (Occupied o)).now ≡ self.old) }
         ensures* rests { sem 𝓛 (RestsIfEmpty K.row V.row S.row self.entry result) }
     {
-        if self.is_empty() {
-            return None;
-        }
-        let index = self.len() - 1;
+        let index = self.len().checked_sub(1)?;
         Some(OccupiedEntry { map: self, index })
     }
 }
 
 impl<'a, K: Ord, V, S: StoreMut<K, V>> Entry<'a, K, V, S> {
-    ghost use Rattle.litemap.specs.Entries.{EntryFails, IsMadeFor, IsTakenFor};
+    ghost use Rattle.litemap.specs.Entries.{EntryFails, IsGivenBack, IsInserted, IsMadeFor, IsTakenFor};
     ghost use Rattle.std.specs.Map.Calls.{ModifiesValue};
     ghost use Rattle.std.specs.Option.{UnwrapsOrElse};
     ghost use Rattle.litemap.specs.Entries.{EntryLends, EntryRefused, entry_key, entry_map, entry_value};
@@ -325,12 +321,36 @@ impl<'a, K: Ord, V, S: StoreMut<K, V>> Entry<'a, K, V, S> {
         }
     }
 
+    /// Writes the value if the key is present, else inserts it, and returns the entry of the key, which is then present (own). It
+    /// moves pairs as `or_insert` does. If memory runs out, the entry and the value come back in the error.
+    ///
+    /// ```rust
+    /// // days: 1 Monday, 3 Wednesday, 5 Friday
+    /// Ok(days.entry(2).insert_entry("Tue")?.insert("Tuesday") == "Tue" && days.entry(5).insert_entry("Fri")?.remove() == "Fri")
+    /// ```
+    pub fn insert_entry(
+        self,
+        value: V,
+    ) -> Result<OccupiedEntry<'a, K, V, S>, NoRoom<(VacantEntry<'a, K, V, S>, V)>>
+    where
+        V: Drop,
+        ensures inserted { IfOk result (IsInserted self.entry value) }
+        ensures refused { IfErr result (λ e. IsGivenBack self.entry e.back.0 × (e.back.1 ≡ value)) }
+    {
+        match self {
+            Entry::Occupied(mut entry) => {
+                entry.insert(value);
+                Ok(entry)
+            }
+            Entry::Vacant(entry) => entry.insert_entry(value),
+        }
+    }
+
     /// Calls `f` on the value if the key is present, and returns the entry.
     ///
     /// ```rust
     /// // days: 1 Monday, 3 Wednesday, 5 Friday
-    /// let entry = days.entry(5).and_modify(|name| *name = "Fri");
-    /// Ok(*entry.or_insert("")? == "Fri")
+    /// Ok(*days.entry(5).and_modify(|name| *name = "Fri").or_insert("")? == "Fri")
     /// ```
     pub fn and_modify<F: FnOnce(&mut V)>(self, f: F) -> Entry<'a, K, V, S>
         requires { (v : MutBor V) → entry_value self ≡ Some v.now → F.pre f v }
@@ -389,14 +409,6 @@ impl<'a, K: Ord, V, S: StoreMut<K, V>> OccupiedEntry<'a, K, V, S> {
     }
 
     /// Replaces the value, and returns the old one. The key in the map stays.
-    ///
-    /// ```rust
-    /// // days: 1 Monday, 3 Wednesday, 5 Friday
-    /// match days.entry(1) {
-    ///     Entry::Occupied(mut entry) => Ok(entry.insert("Mon") == "Monday"),
-    ///     Entry::Vacant(_) => Ok(false),
-    /// }
-    /// ```
     pub fn insert(&mut self, value: V) -> V
         ensures old { entry_value (Occupied self.old) ≡ Some result }
         ensures written { IsWritten (Occupied self.old) value (Occupied self.new) }
@@ -429,7 +441,8 @@ impl<'a, K: Ord, V, S: StoreMut<K, V>> OccupiedEntry<'a, K, V, S> {
 }
 
 impl<'a, K: Ord, V, S: StoreMut<K, V>> VacantEntry<'a, K, V, S> {
-    ghost use Rattle.litemap.specs.Entries.{EntryFails, EntryLends, EntryRefused, Vacant, entry_key, entry_map};
+    ghost use Rattle.litemap.specs.Entries.{EntryFails, EntryLends, EntryRefused, IsGivenBack, IsInserted, Vacant};
+    ghost use Rattle.litemap.specs.Entries.{entry_key, entry_map};
 
     /// Returns the key that was looked up.
     pub fn key(&self) -> &K
@@ -451,10 +464,10 @@ impl<'a, K: Ord, V, S: StoreMut<K, V>> VacantEntry<'a, K, V, S> {
     ///
     /// ```rust
     /// // days: 1 Monday, 3 Wednesday, 5 Friday
-    /// let Entry::Vacant(entry) = days.entry(4) else {
-    ///     return Ok(false);
-    /// };
-    /// Ok(*entry.key() == 4 && *entry.insert("Thursday")? == "Thursday")
+    /// match days.entry(4) {
+    ///     Entry::Vacant(entry) => Ok(*entry.key() == 4 && *entry.insert("Thursday")? == "Thursday"),
+    ///     Entry::Occupied(_) => Ok(false),
+    /// }
     /// ```
     pub fn insert(self, value: V) -> Result<&'a mut V, NoRoom<(K, V)>>
         ensures* writes_back { sem 𝓛 (EntryLends K.row V.row S.row (Vacant self.entry) result) }
@@ -464,6 +477,26 @@ impl<'a, K: Ord, V, S: StoreMut<K, V>> VacantEntry<'a, K, V, S> {
         let VacantEntry { map, key, index } = self;
         map.insert_at(index, key, value)?;
         Ok(map.value_in_mut(index))
+    }
+
+    // `insert_entry` of the absent key.
+    fn insert_entry(
+        self,
+        value: V,
+    ) -> Result<OccupiedEntry<'a, K, V, S>, NoRoom<(VacantEntry<'a, K, V, S>, V)>>
+        ensures inserted { IfOk result (IsInserted (Vacant self.entry) value) }
+        ensures refused { IfErr result (λ e. IsGivenBack (Vacant self.entry) e.back.0 × (e.back.1 ≡ value)) }
+    {
+        let VacantEntry { map, key, index } = self;
+        match map.insert_at(index, key, value) {
+            Ok(()) => Ok(OccupiedEntry { map, index }),
+            Err(NoRoom { back: (key, value) }) => {
+                let entry = VacantEntry { map, key, index };
+                Err(NoRoom {
+                    back: (entry, value),
+                })
+            }
+        }
     }
 
     // `insert` of what `default` returns.

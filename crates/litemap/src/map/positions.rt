@@ -110,7 +110,7 @@ impl<K: Ord + Drop, V: Drop> LiteMap<K, V, Vec<(K, V)>> {
         requires within { range.end ≤ length self.old.pairs }
         ensures taken { IfOk result (λ v. v.items ≡ slice_range self.old.pairs range.start range.end) }
         ensures left { OnOk result (self.new.pairs ≡ take range.start self.old.pairs ++ drop range.end self.old.pairs) }
-        ensures refused { OnErr result (self.new ≡ self.old) }
+        ensures unchanged { OnErr result (self.new ≡ self.old) }
     {
         let mut taken = Vec::with_capacity(alloc, range.end - range.start)?;
         move_range(&mut self.store, range, &mut taken);

@@ -1,5 +1,6 @@
 //! Calls that remove pairs and return them, keys with their values. A call for one pair takes no memory.
-ghost use Rattle.std.specs.Prelude.{◌≡◌, ◌≢◌, ◌⊎◌, ◌+◌, ◌-◌, ◌++◌, ◌<◌, ◌≤◌, [], IsNone, IsSome, None, Some, IfOk, IsOk, OnErr, OnOk};
+ghost use Rattle.std.specs.Prelude.{◌≡◌, ◌≢◌, ◌⊎◌, ◌+◌, ◌-◌, ◌++◌, ◌<◌, ◌≤◌, [], IsNone, IsSome, None, Some, IfOk, IsOk, OnErr};
+ghost use Rattle.std.specs.Prelude.{OnOk};
 ghost use Rattle.std.specs.Prelude.{Bool, drop, filter, IfSome, length, not, remove, slice_get, take};
 ghost use Rattle.std.specs.Ordering.{is_lt};
 ghost use Rattle.std.specs.declared.ops.Bound.TheVariants.{Included, Unbounded};
@@ -116,8 +117,8 @@ impl<K: Ord + Drop, V: Drop, S: StoreMut<K, V> + Drop> LiteMap<K, V, S> {
         ensures all { IfOk result (λ m. self.new.pairs ++ m.pairs ≡ self.old.pairs) }
         ensures room { S.keeps_memory → IfOk result (λ m. below Q.order self.old.pairs (Q.sought key) ≢ []
             → self.old.room + length m.pairs ≤ self.new.room) }
-        ensures refused { OnErr result (self.new ≡ self.old) }
-        ensures unchanged { within Q.order self.old.pairs (Included (Q.sought key)) Unbounded ≡ [] → self.new ≡ self.old }
+        ensures unchanged { OnErr result (self.new ≡ self.old) }
+        ensures unchanged_at_end { within Q.order self.old.pairs (Included (Q.sought key)) Unbounded ≡ [] → self.new ≡ self.old }
         ensures whole { below Q.order self.old.pairs (Q.sought key) ≡ [] → self.old.pairs ≢ []
             → IfOk result (λ m. m ≡ self.old) }
         ensures succeeds { (below Q.order self.old.pairs (Q.sought key) ≡ [])
@@ -132,8 +133,8 @@ impl<K: Ord + Drop, V: Drop, S: StoreMut<K, V> + Drop> LiteMap<K, V, S> {
 impl<K: Ord + Drop, V: Drop, S: StoreIntoIterator<K, V> + Drop> LiteMap<K, V, S> {
     /// Removes the pairs for which `f` returns true, and returns them as another map, such as one of what has expired (own).
     ///
-    /// `f` is called once on each pair, in order. If it keeps no state, both maps are filtered by it. Before the first call memory
-    /// for all pairs is taken, twice; if it runs out, nothing changes. Each pair moves once, and no keys are compared.
+    /// `f` is called once on each pair, in order. If it keeps no state, both maps are filtered by it. Before the first call
+    /// memory for all pairs is taken, twice; if it runs out, nothing changes. Each pair moves once, and no keys are compared.
     ///
     /// ```rust
     /// let mut hours = opening_hours(alloc)?;
@@ -149,7 +150,10 @@ impl<K: Ord + Drop, V: Drop, S: StoreIntoIterator<K, V> + Drop> LiteMap<K, V, S>
         ensures parted { IfOk result (λ m. Parted F.FnMut f self.old.pairs self.new.pairs m.pairs) }
         ensures filtered { (test : K × V → Bool) → Tests F.FnMut f test → IfOk result (λ m.
             (self.new.pairs ≡ filter (λ p. not (test p)) self.old.pairs) × (m.pairs ≡ filter test self.old.pairs)) }
-        ensures refused { OnErr result (self.new ≡ self.old) }
+        // What lookups find in both.
+        ensures parts { (test : K × V → Bool) → Tests F.FnMut f test → IfOk result (λ m.
+            KeepsPart (λ p. not (test p)) self.old.pairs self.new.pairs × KeepsPart test self.old.pairs m.pairs) }
+        ensures unchanged { OnErr result (self.new ≡ self.old) }
     {
         let stays = S::lm_with_capacity(alloc, self.len())?;
         let mut goes = S::lm_with_capacity(alloc, self.len())?;

@@ -1,5 +1,5 @@
-//! The traits of `std` that a collection has: it is cloned, collected, extended, indexed and taken. Each forwards to a call of the
-//! map. That of `Extend` and of `Clone` is given no allocator, and takes the store's (`StoreAlloc`).
+//! The traits of `std` that a collection has: it is cloned, collected, extended, indexed and taken. Each forwards to a call of
+//! the map. That of `Extend` and of `Clone` is given no allocator, and takes the store's (`StoreAlloc`).
 ghost use Rattle.std.specs.Prelude.{◌≡◌, ◌++◌, [], IsSome, OnErr, Some};
 ghost use Rattle.std.specs.Borrow.{sem};
 ghost use Rattle.std.specs.Iterator.{ExtendsWithItems, IsFiniteIterable};
@@ -58,7 +58,7 @@ impl<K: Ord + Drop, V: Drop, S: StoreBulkMut<K, V> + StoreAlloc<K, V>> Extend<(K
         requires { IsFiniteIterable I.into_iter_gives I.IntoIter.can_next I.IntoIter.remaining iter }
         ensures ran { ExtendsWithItems I.into_iter_gives I.IntoIter.next_gives (λ m items n. Last K.cmp (m.pairs ++ items) n.pairs)
             iter self.old self.new result }
-        ensures refused { OnErr result (self.new.pairs ≡ self.old.pairs) }
+        ensures unchanged { OnErr result (self.new.pairs ≡ self.old.pairs) }
         ensures refused_some { S.fails_for_pairs_only
             → OnErr result (GivesSome I.into_iter_gives I.IntoIter.next_gives iter) }
     {

@@ -3,7 +3,8 @@
 //!
 //! A reference starts at the value in the map, and the map ends with that one value replaced by what the reference holds at its
 //! end.
-ghost use Rattle.std.specs.Prelude.{◌≡◌, ◌+◌, ◌<◌, Bool, List, filter, length, map, ℕ, Ok, Err, OnOk, Some, IfNone, IfSome, IsSome};
+ghost use Rattle.std.specs.Prelude.{◌≡◌, ◌+◌, ◌<◌, Bool, List, filter, length, map, ℕ, Ok, Err, OnOk, Some, IfNone, IfSome};
+ghost use Rattle.std.specs.Prelude.{IsSome};
 ghost use Rattle.std.specs.Borrow.{sem};
 ghost use Rattle.std.specs.Map.{keys_of, values_of};
 ghost use Rattle.std.specs.Option.{option_copied_mut};
@@ -199,7 +200,8 @@ impl<K: Ord, V, S: StoreColumns<K, V>> LiteMap<K, V, S> {
         self.store.lm_columns().1
     }
 
-    /// Returns the values, in the order of their keys, as a mutable slice (own). The map ends with the values that are left there.
+    /// Returns the values, in the order of their keys, as a mutable slice (own). The map ends with the values that are left
+    /// there.
     ///
     /// ```rust
     /// let mut days: ColumnMap<u32, &str> = [(3, "Wednesday"), (1, "Monday")].into_iter().collect(alloc)?;

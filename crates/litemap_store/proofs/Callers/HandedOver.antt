@@ -1,7 +1,7 @@
 -- What is made of pairs that are passed one by one: lemmas for the proofs of callers.
 --     given_by_owned      what an iterator that owns a list yields
 --     rebuilt      no pairs, extended by an ascending list, are that list
-use Rattle.litemap_store.proofs.Names.{[], ◌∙◌, ◌≡◌, ap, Drains, IsExtended, IsTotalOrder, Last, length, List, map-id, None}
+use Rattle.litemap_store.proofs.Names.{[], ◌∙◌, ◌≡◌, ap, Drains, Gives, IsGathered, IsTotalOrder, Last, length, List, map-id, None}
 use Rattle.litemap_store.proofs.Names.{Option, Ordering, Rising, Some, subst, sym, YieldsFirst}
 use Rattle.std.proofs.iter.Yields.{gives_Drains, listed}
 use Rattle.litemap_store.proofs.Last.Pairs.{Last-rising, Last-unique}
@@ -16,7 +16,7 @@ module _ {T X : Type 0} (steps : T → Option X → T → Type 0) (owned : T →
 module _ {U T K V : Type 0} {cmp : K → K → Ordering} (o : IsTotalOrder cmp) (becomes : U → T → Type 0) (steps : T → Option (K × V) → T → Type 0)
     (owned : T → List (K × V)) (first : (s : T) (r : Option (K × V)) (t : T) → steps s r t → YieldsFirst owned s r t)
     (pairs : U → List (K × V)) (shown : (u : U) (t : T) → becomes u t → owned t ≡ pairs u) where
-  pub rebuilt : (u : U) (new : List (K × V)) → Rising cmp (pairs u) → IsExtended cmp becomes steps u [] new → new ≡ pairs u
+  pub rebuilt : (u : U) (new : List (K × V)) → Rising cmp (pairs u) → IsGathered cmp (Gives becomes steps u) [] new → new ≡ pairs u
   rebuilt u new r e =
       let given : e.given ≡ pairs u = given_by_owned steps owned first e.gives.0 e.given e.gives.2 ∙ shown u e.gives.0 e.gives.1 in
       Last-unique cmp o (pairs u) new (pairs u) (subst (λ J. Last cmp J new) given e.last) (Last-rising cmp (pairs u) r)

@@ -5,7 +5,8 @@
 --     takes, takes_next      from `Callable`: the closure may be called on a key of the list; each call uses up one of n
 --     next      the same of `Shape`, and what the closure returns
 use Rattle.litemap_store.proofs.Names.{[], ℕ, ◌+◌, ◌-◌, ◌/◌, ◌<◌, ◌∙◌, ◌∷◌, ◌≡◌, ◌≢◌, ◌≤◌, AllWithin, Any, ap, arith, Ascends, Bool, Bor, Callable, CalledAt}
-use Rattle.litemap_store.proofs.Names.{cases_lt, cond, digits, digits-halved, Equal, Err, false, filter, Finds, get_or_from_slice_get, Greater, inl, inr, is_eq}
+use Rattle.litemap_store.proofs.Names.{cases_lt, cond, digits, digits-halved, Equal, Err, false, filter, FindsEqual, get_or_from_slice_get, Greater, inl, inr}
+use Rattle.litemap_store.proofs.Names.{is_eq}
 use Rattle.litemap_store.proofs.Names.{is_lt, length, Less, List, Mut, Ok, Ordering, ordering_index, refl, Shape, slice_get, slice_get_within, slice_index_or}
 use Rattle.litemap_store.proofs.Names.{Some, subst, suc, sym, TakesAt, true, zero}
 
@@ -74,11 +75,11 @@ module _ {K V : Type 0} (ord : K → Ordering) (l : List (K × V)) where
       ];
     }
 
-  pub Finds-here : (m : ℕ) (k : K) (v : V) → slice_get l m ≡ Some (k, v) → ord k ≡ Equal → Finds ord l (Ok m)
-  Finds-here m k v e is = (slice_get_within l m (k, v) e, λ d. ap (λ p. ord p.0) (get_or_from_slice_get l m (k, v) d e) ∙ is)
+  pub FindsEqual-here : (m : ℕ) (k : K) (v : V) → slice_get l m ≡ Some (k, v) → ord k ≡ Equal → FindsEqual ord l (Ok m)
+  FindsEqual-here m k v e is = (slice_get_within l m (k, v) e, λ d. ap (λ p. ord p.0) (get_or_from_slice_get l m (k, v) d e) ∙ is)
 
-  pub Finds-nowhere : (low high : ℕ) → high ≤ low → low ≤ length l → Narrowed low high → Finds ord l (Err low)
-  Finds-nowhere low high u h n = (
+  pub FindsEqual-nowhere : (low high : ℕ) → high ≤ low → low ≤ length l → Narrowed low high → FindsEqual ord l (Err low)
+  FindsEqual-nowhere low high u h n = (
     λ k d b. elim (cases_lt k low) as (λ _. ord (slice_index_or l k d).0 ≢ Equal) [
       | inl a ↦ (λ e. let u : ord (slice_index_or l k d).0 ≡ Less = n.front k d (omega arith) a in cc)
       | inr a ↦ (λ e. let u : ord (slice_index_or l k d).0 ≡ Greater = n.back k d (omega arith) b in cc)
@@ -93,7 +94,7 @@ module _ {K V : Type 0} (ord : K → Ordering) (l : List (K × V)) where
   -- ord is Equal at the index before hit, or, if hit is 0, it is known of all but the indices from low on that are left
   pub record Seen (hit low left : ℕ) : Type 0 where
     pub open_ : hit ≡ 0 → Narrowed low (low + left)
-    pub closed : 0 < hit → Finds ord l (Ok (hit - 1))
+    pub closed : 0 < hit → FindsEqual ord l (Ok (hit - 1))
 
   -- after a result at the middle
   pub Seen-next : Ascends ord l → (is_small : Bool) (hit low left : ℕ) (k : K) (v : V) (answer : Ordering) → 0 < left
@@ -107,7 +108,7 @@ module _ {K V : Type 0} (ord : K → Ordering) (l : List (K × V)) where
   }
   Seen-next ascends is_small hit low left k v Equal h e seen is = record {
     open_ = λ u. absurd (omega arith);
-    closed = λ u. Finds-here (low + (left - left / 2) - 1) k v e is;
+    closed = λ u. FindsEqual-here (low + (left - left / 2) - 1) k v e is;
   }
   Seen-next ascends true hit low left k v Greater h e seen is = record {
     open_ = λ u. Narrowed-wider low (low + (left - left / 2) - 1) _ _ (omega arith) (omega arith)

@@ -3,7 +3,8 @@
 --     Splits-from_Finds      what such a search finds splits the list
 --     index_of-, there-from_Splits      and is the query's index, at which its pair is;  Rising-put, Rising-remove, ..      what the calls leave ascends
 use Rattle.litemap_store.proofs.Names.{[], ℕ, ◌++◌, ◌<◌, ◌∙◌, ◌∷◌, ◌≡◌, ◌≢◌, ◌≤◌, above, alike_right, AllByRecursion, ap, arith, Ascends, at, below, BelowAll}
-use Rattle.litemap_store.proofs.Names.{Bool, cond, cons_option, Equal, Err, false, filter, Finds, get_or, Greater, IfOk, In, index_of, inl, inr, is_eq, is_gt}
+use Rattle.litemap_store.proofs.Names.{Bool, cond, cons_option, Equal, Err, false, filter, FindsEqual, get_or, Greater, IfOk, In, index_of, inl, inr, is_eq}
+use Rattle.litemap_store.proofs.Names.{is_gt}
 use Rattle.litemap_store.proofs.Names.{is_lt, IsFoundAt, IsTotalOrder, key_or, length, Less, List, None, Ok, OneSide, Ordering, ordering_index}
 use Rattle.litemap_store.proofs.Names.{ordering_reverse, put, recursion_from_All, refl, remove, Result, Rising, set_value, slice_get, Some, Splits, subst, suc}
 use Rattle.litemap_store.proofs.Names.{sym, tied_itself, true, zero}
@@ -175,7 +176,7 @@ module _ {K Q : Type 0} {cmp : K → K → Ordering} {order : K → Q → Orderi
     parted [] q r = refl
     parted (p ∷ L) q r = parted_by p L q (order p.0 q) refl r.0 (parted L q r.1)
 
-    pub Splits-from_Finds : (L : List (K × V)) (q : Q) → Rising cmp L → (r : Result ℕ ℕ) → Finds (λ x. order x q) L r → Splits order L q r
+    pub Splits-from_Finds : (L : List (K × V)) (q : Q) → Rising cmp L → (r : Result ℕ ℕ) → FindsEqual (λ x. order x q) L r → Splits order L q r
     Splits-from_Finds L q r (Ok i) f = found_at L q i r f.0 f.1
     Splits-from_Finds L q r (Err i) f =
         let none = at_none order L q (recursion_from_All (λ (p : K × V). order p.0 q ≢ Equal) L f.0) in

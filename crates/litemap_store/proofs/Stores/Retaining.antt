@@ -5,7 +5,7 @@
 use Rattle.litemap_store.proofs.Names.{[], ℕ, ◌++◌, ◌+◌, ◌<◌, ◌∙◌, ◌∷◌, ◌≡◌, ◌≤◌, AllByRecursion, ap, append-nil, append_assoc, arith, Bool, Bor}
 use Rattle.litemap_store.proofs.Names.{CallableOnEach, CalledOnPair, cases_lt, cond, drop, drop_all, false, get_or, get_or_from_slice_get, inl, inr}
 use Rattle.litemap_store.proofs.Names.{items_where_true, Kept, KeptSoFar, length, Less, List, Mut, Ordering, refl, Rising, slice_get, slice_get_within}
-use Rattle.litemap_store.proofs.Names.{slice_set, Some, subst, suc, swap, swap_is, sym, take, take-set-le, take_more, TakesPair, true, true≢false}
+use Rattle.litemap_store.proofs.Names.{slice_set, Some, subst, suc, swap, swap_is, sym, take, take-set-le, take_more, TakesKeyValue, true, true≢false}
 use Rattle.litemap_store.proofs.Last.KeepLast.{drop-swap, take-swap}
 use Rattle.litemap_store.proofs.Lists.Places.{drop_at}
 
@@ -44,7 +44,7 @@ module _ {F K V : Type 0} (g : Mut F (Bor K × (Bor V × Unit {0})) Bool) where
   Kept-more f p false f' L M c k = (false ∷ k.0, k.1, ap suc k.2, (f', c, k.3), k.4)
 
   -- f may be called on the first pair, and then on the others
-  pub CallableOnEach-first : (f : F) (p : K × V) (L : List (K × V)) → CallableOnEach g f (p ∷ L) → TakesPair g f p
+  pub CallableOnEach-first : (f : F) (p : K × V) (L : List (K × V)) → CallableOnEach g f (p ∷ L) → TakesKeyValue g f p
   CallableOnEach-first f p L c = c.at [] L f p refl refl
 
   pub CallableOnEach-rest : (f : F) (p : K × V) (b : Bool) (f' : F) (L : List (K × V)) → CalledOnPair g f p b f' → CallableOnEach g f (p ∷ L)
@@ -57,7 +57,7 @@ module _ {F K V : Type 0} (g : Mut F (Bor K × (Bor V × Unit {0})) Bool) where
       here : drop i L ≡ p ∷ drop (i + 1) L
       here = drop_at L i p at
 
-      pub KeptSoFar-takes : TakesPair g f p
+      pub KeptSoFar-takes : TakesKeyValue g f p
       KeptSoFar-takes = CallableOnEach-first f p (drop (i + 1) L) (subst (CallableOnEach g f) here now.callable)
 
       -- p is moved to index k, if it stays

@@ -1,7 +1,8 @@
 //! Few new pairs, which stand after those of a vector, are put in one by one where they stand.
 ghost use Rattle.std.specs.Prelude.{◌≡◌, ◌↔◌, ◌<◌, ◌≤◌, ◌+◌, ◌-◌, ◌*◌, IsTrue, drop, length, take, vec_len};
-ghost use Rattle.litemap_store.specs.{IsPutIn, RisesByAtMost, Rising, digits};
+ghost use Rattle.litemap_store.specs.{RisesByAtMost, Rising, digits};
 ghost use Rattle.litemap_store.specs.Last.{Last, Rises};
+ghost use Rattle.litemap_store.specs.Steps.{IsPutIn};
 
 use crate::searches::{binary_digits, search, walk_is_cheaper};
 use crate::sorted::{is_rising, lies_below};
@@ -21,9 +22,9 @@ pub fn is_few(old: usize, given: usize) -> bool
     given <= FEW_PAIRS && !walk_is_cheaper(total, given, binary_digits(total))
 }
 
-/// Puts the pairs from an index on, which are few, among those before, whose keys ascend: of each key the last stays. Unless all
-/// ascend, each goes in by one search, in their order, and displaced pairs gather at the end and are dropped last. It takes no
-/// memory.
+/// Puts the pairs from an index on, which are few, among those before, whose keys ascend: of each key the last stays. If not all
+/// ascend, it inserts pair by pair, one search each. Pairs that they replace are swapped to the end, and dropped last. It takes
+/// no memory.
 pub fn settle_few<K: Ord + Drop, V: Drop>(store: &mut Vec<(K, V)>, from: usize, count: &mut Count)
     requires from { from ≤ vec_len store.old }
     requires rising { Rising K.cmp (take from store.old.items) }

@@ -1,12 +1,12 @@
 //! The bodies of a vector's `lm_extend` and `lm_extend_from_vec`. Few new pairs are put in one by one, where they stand after its
-//! own. A merge reverses its side vector, which becomes the store.
+//! own.
 ghost use Rattle.std.specs.Prelude.{◌≡◌, ◌⊎◌, ◌≤◌, ◌+◌, ◌*◌, ◌++◌, [], IsOk, OnOk, OnErr, drop, length, take, vec_len};
 ghost use Rattle.litemap_store.specs.{IsHandedBack, RisesByAtMost, Rising, vec_room};
 ghost use Rattle.litemap_store.specs.Last.{Last, Rises};
 
 use crate::bulk::few::{is_few, settle_few};
-use crate::bulk::merge::take_down;
-use crate::growth::{Refused, reserve, split_off, sum, with_capacity};
+use crate::bulk::merge::merge;
+use crate::growth::{Refused, reserve, split_off};
 use crate::sorted::{keep_rising, lies_below};
 use crate::store::{Count, SliceStore};
 use std::alloc::Global;
@@ -23,7 +23,7 @@ pub fn settle<K: Ord + Drop, V: Drop>(
     requires from { from ≤ vec_len store.old }
     requires rising { Rising K.cmp (take from store.old.items) }
     ensures last { OnOk result (Last K.cmp store.old.items store.new.items) }
-    ensures refused { OnErr result (store.new.items ≡ take from store.old.items) }
+    ensures unchanged { OnErr result (store.new.items ≡ take from store.old.items) }
     ensures all_above { Rises K.cmp (take from store.old.items) (drop from store.old.items)
         → RisesByAtMost (length (drop from store.old.items)) count.old count.new }
     ensures cost { RisesByAtMost (from + 2 * length (drop from store.old.items)) count.old count.new }
@@ -42,7 +42,7 @@ pub fn settle<K: Ord + Drop, V: Drop>(
         return Ok(());
     }
     match split_off(store, from) {
-        Ok(mut given) => merge_in_vec(alloc, store, &mut given, count),
+        Ok(mut given) => merge(alloc, store, &mut given, count),
         Err(refused) => {
             store.truncate(from);
             Err(refused)
@@ -60,7 +60,7 @@ pub fn put_in_vec<K: Ord + Drop, V: Drop>(
 ) -> Result<(), Refused>
     requires { Rising K.cmp store.old.items }
     ensures last { OnOk result (Last K.cmp (store.old.items ++ pairs.old.items) store.new.items) }
-    ensures refused { OnErr result (store.new.items ≡ store.old.items) }
+    ensures unchanged { OnErr result (store.new.items ≡ store.old.items) }
     ensures all_above { Rises K.cmp store.old.items pairs.old.items
         → RisesByAtMost (length pairs.old.items) count.old count.new }
     ensures cost { RisesByAtMost (length store.old.items + 2 * length pairs.old.items) count.old count.new }
@@ -79,13 +79,13 @@ pub fn put_in_vec<K: Ord + Drop, V: Drop>(
     if lies_below(store, pairs, count) {
         return append_in_vec(store, pairs);
     }
-    merge_in_vec(alloc, store, pairs, count)
+    merge(alloc, store, pairs, count)
 }
 
 // Appends items in one move. If there are none, and the capacity is less than the new ones' number, their vector replaces it.
 fn append_in_vec<K, V>(store: &mut Vec<(K, V)>, items: &mut Vec<(K, V)>) -> Result<(), Refused>
     ensures appended { OnOk result (store.new.items ≡ store.old.items ++ items.old.items) }
-    ensures refused { OnErr result (store.new.items ≡ store.old.items) }
+    ensures unchanged { OnErr result (store.new.items ≡ store.old.items) }
     ensures succeeds { (store.old.items ≡ []) ⊎ (length items.old.items ≤ vec_room store.old) → IsOk result }
     ensures empty { OnOk result (items.new.items ≡ []) }
     ensures back { OnErr result (items.new.items ≡ items.old.items) }
@@ -96,29 +96,5 @@ fn append_in_vec<K, V>(store: &mut Vec<(K, V)>, items: &mut Vec<(K, V)>) -> Resu
     }
     reserve(store, items.len())?;
     store.append(items).unwrap();
-    Ok(())
-}
-
-// Puts pairs in, by at most one comparison for each pair of both. Capacity for all pairs is taken first.
-fn merge_in_vec<K: Ord + Drop, V: Drop>(
-    alloc: Global,
-    store: &mut Vec<(K, V)>,
-    pairs: &mut Vec<(K, V)>,
-    count: &mut Count,
-) -> Result<(), Refused>
-    requires store { Rising K.cmp store.old.items }
-    requires pairs { Rising K.cmp pairs.old.items }
-    ensures last { OnOk result (Last K.cmp (store.old.items ++ pairs.old.items) store.new.items) }
-    ensures refused { OnErr result (store.new.items ≡ store.old.items) }
-    ensures cost { RisesByAtMost (length store.old.items + length pairs.old.items) count.old count.new }
-    ensures empty { OnOk result (pairs.new.items ≡ []) }
-    ensures back { OnErr result (pairs.new.items ≡ pairs.old.items) }
-{
-    let total = sum(store.len(), pairs.len())?;
-    let mut side: Vec<(K, V)> = with_capacity(alloc, total)?;
-    let given = mem::replace(pairs, Vec::new(alloc));
-    take_down(store, given, &mut side, count);
-    side.reverse();
-    *store = side;
     Ok(())
 }

@@ -1,15 +1,21 @@
-use Rattle.std.proofs.Common.{◌∙◌}
+use Rattle.std.proofs.Common.{◌∙◌, ap, option_map, option_or}
+use Rattle.std.proofs.IntoIterSteps.{All-taken}
 use Rattle.std.specs.String.{string_cmp_total}
-use Rattle.litemap_store.proofs.Callers.Extended.{new_wins, old_stays, value_at-collected}
+use Rattle.litemap_store.proofs.Callers.LastLookups.{at-Last, value_at-Last_of_more}
 use Rattle.example_uses.proofs.config.configured.Goals as goal
 
 pub returns-clause-user : goal.returns-clause-user
 returns-clause-user c =
-    let made = c.in_ok-settings.ensures.made in
-    λ name value found. new_wins string_cmp_total _ (λ v it h. h.0) c.args.user _ _ c.in_ok-extend.ensures.extended made.last.rising name value found
+    let e = c.in_ok-extend.ensures.extended in
+    let last = (rw (All-taken e.gives.0 e.given e.gives.2 ∙ e.gives.1.0) at e.last) in
+    λ name value found. value_at-Last_of_more string_cmp_total _ c.args.user.items _ c.in_ok-settings.ensures.made.last.rising last name
+    ∙ ap (λ f. option_or f _) found
 
 pub returns-clause-defaults : goal.returns-clause-defaults
 returns-clause-defaults c =
     let made = c.in_ok-settings.ensures.made in
-    λ name none. old_stays string_cmp_total _ (λ v it h. h.0) c.args.user _ _ c.in_ok-extend.ensures.extended made.last.rising name none
-    ∙ value_at-collected string_cmp_total _ (λ v it h. h.0) c.args.defaults _ made name
+    let e = c.in_ok-extend.ensures.extended in
+    let first = (rw (All-taken made.gives.0 made.given made.gives.2 ∙ made.gives.1.0) at made.last) in
+    let last = (rw (All-taken e.gives.0 e.given e.gives.2 ∙ e.gives.1.0) at e.last) in
+    λ name none. value_at-Last_of_more string_cmp_total _ c.args.user.items _ made.last.rising last name
+    ∙ ap (λ f. option_or f _) none ∙ ap (option_map (λ p. p.1)) (at-Last string_cmp_total c.args.defaults.items _ first name)

@@ -12,8 +12,8 @@ with_error (Err e) s failed made ok err = let p = err_from_is_err_and s failed i
 pub returns-clause-read : goal.returns-clause-read
 returns-clause-read g c =
     with_error c.from_vec.result c.map_err.result c.map_err.ensures.cases c.from_vec.ensures.made
-    (λ map last. record { spelled = c.in_ok-pairs_of.field-0.items; spells = c.in_ok-pairs_of.ensures.read; last = last }) (λ _ _ _. tt)
+    (λ map last. record { given = c.in_ok-pairs_of.field-0.items; gives = c.in_ok-pairs_of.ensures.read; last = last }) (λ _ _ _. tt)
 
-pub returns-clause-refused : goal.returns-clause-refused
-returns-clause-refused g c =
+pub returns-clause-error : goal.returns-clause-error
+returns-clause-error g c =
     with_error c.from_vec.result c.map_err.result c.map_err.ensures.cases c.from_vec.ensures.made (λ _ _. tt) (λ _ _ is known. absurd (known (search rules)))

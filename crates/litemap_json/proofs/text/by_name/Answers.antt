@@ -8,8 +8,8 @@ loop-place-init g c =
     name_none g.N.Name.bytes (λ r. g.V.JsonItem.json r.now) g.K.JsonKey.text g.K.JsonItem.json g.V.JsonItem.json c.args.map.now.pairs _
     c.in_ok-items.ensures.items
 
-pub returns-in_default-clause-refused : goal.returns-in_default-clause-refused
-returns-in_default-clause-refused g c =
+pub returns-in_default-clause-error : goal.returns-in_default-clause-error
+returns-in_default-clause-error g c =
     λ _. made_stop g.K.JsonKey.text g.K.JsonItem.json g.V.JsonItem.json g.N.Name.bytes c.args.map.now.pairs c.loop-place.place _ _ _ _ c.pair_at.ensures
     c.in_ok-name.ensures c.in_default.is c.loop-place.invariant.2
 

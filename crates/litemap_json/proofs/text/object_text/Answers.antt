@@ -9,8 +9,8 @@ loop-place-init g c = (
   rw (c.in_ok-begin_object.ensures.ok, c.in_ok-out.ensures.1) (pairs_none g.K.JsonKey.text g.K.JsonItem.json g.V.JsonItem.json c.args.map.now.pairs _),
 )
 
-pub returns-in_default-clause-refused : goal.returns-in_default-clause-refused
-returns-in_default-clause-refused g c =
+pub returns-in_default-clause-error : goal.returns-in_default-clause-error
+returns-in_default-clause-error g c =
     λ _. made_stop g.K.JsonKey.text g.K.JsonItem.json g.V.JsonItem.json string_bytes c.args.map.now.pairs c.loop-place.place _ _ _ _ c.pair_at.ensures
     c.in_ok-name.ensures.text c.in_default.is c.loop-place.invariant.1.2
 

@@ -5,8 +5,8 @@ use Rattle.litemap_json.proofs.Again.{gathered_none, object_step, object_end}
 use Rattle.litemap_json.proofs.ByPlace.{made_stop}
 use Rattle.litemap_json.proofs.write.object_of.Goals as goal
 
-pub returns-in_default-clause-refused : goal.returns-in_default-clause-refused
-returns-in_default-clause-refused g c =
+pub returns-in_default-clause-error : goal.returns-in_default-clause-error
+returns-in_default-clause-error g c =
     λ _. made_stop g.K.JsonKey.text g.K.JsonItem.json g.V.JsonItem.json string_bytes c.args.map.now.pairs c.loop-place.place _ _ _ _ c.pair_at.ensures
     c.in_ok-name.ensures.text c.in_default.is c.loop-place.invariant.0
 

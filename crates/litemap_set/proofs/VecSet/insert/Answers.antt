@@ -21,11 +21,11 @@ returns-in-Err g c =
       added = tt;
       updates = tt;
       len = tt;
-      unchanged = tt;
+      present = tt;
       room_kept = tt;
       absent = sym (contains-keys g.K.Ord.cmp c.args.key c.self.inside.map.pairs) ∙ ap is_some refused.absent;
       full = refused.refused.full;
-      refused = ap keys_of refused.refused.unchanged;
+      unchanged = ap keys_of refused.refused.unchanged;
       back = ap (λ p. p.0) refused.refused.back;
       room = refused.refused.room;
     })
@@ -43,12 +43,12 @@ returns g c =
       len = rw (added, inserts.put) (
           length-put g.met.K.Ord.total L key tt c.keys_ascend.ensures ∙ ap (λ b. length (keys_of L) + cond (not b) 1 0) (contains-keys g.K.Ord.cmp key L)
           );
-      unchanged = on_false c.is_none.result
+      present = on_false c.is_none.result
           (λ h. rw inserts.put (keys-put g.met.K.Ord.total L key tt c.keys_ascend.ensures (contains-keys g.K.Ord.cmp key L ∙ there h)));
       room_kept = on_false c.is_none.result (λ h. inserts.room_kept (contains-keys g.K.Ord.cmp key L ∙ there h));
       absent = tt;
       full = tt;
-      refused = tt;
+      unchanged = tt;
       back = tt;
       room = inserts.refused.room;
     })

@@ -11,5 +11,5 @@ returns-in-loop-item-clause-refused_some g c =
 pub loop-item-preserved : goal.loop-item-preserved
 loop-item-preserved g c = grind (arith, common_steps)
 
-pub returns-in-loop-item-clause-refused : goal.returns-in-loop-item-clause-refused
-returns-in-loop-item-clause-refused g c = grind (arith, common_steps)
+pub returns-in-loop-item-clause-unchanged : goal.returns-in-loop-item-clause-unchanged
+returns-in-loop-item-clause-unchanged g c = grind (arith, common_steps)

@@ -23,7 +23,7 @@ module _ {K V S : Type 0} (cmp : K → K → Ordering) (o : IsTotalOrder cmp) (p
   joined : Rising cmp (pairs before) → Rising cmp (pairs other) → Rising cmp (pairs before ++ pairs other) → pairs after ≡ pairs before ++ pairs other
       → Merges cmp pairs other before after (Ok None)
   joined r s up is = record
-      { merged = rw is (Merge-after cmp o _ _ r s up); none = (λ _. left-after cmp o _ _ r s up, λ _. refl); left = tt; refused = tt; back = tt }
+      { merged = rw is (Merge-after cmp o _ _ r s up); none = (λ _. left-after cmp o _ _ r s up, λ _. refl); left = tt; unchanged = tt; back = tt }
 
   -- neither is empty
   of_both : (pairs other ≡ [] → ⊥) → (pairs before ≡ [] → ⊥) → (r : Result (Option S) (NoRoom S)) → Merges cmp pairs other before after r
@@ -82,7 +82,7 @@ returns-in-Ok-clause-merged g c =
       none =
           (λ _. left-before g.K.Ord.cmp g.met.K.Ord.total _ _ c.requires.store c.requires.other up, λ _. refl);
       left = tt;
-      refused = tt;
+      unchanged = tt;
       back = tt;
     })
     (λ h r. refl) (λ h r s. refl)
@@ -95,7 +95,7 @@ returns-in-Err-extend_start-clause-merged g c =
       merged = search rules;
       none = search rules;
       left = search rules;
-      refused = search rules;
+      unchanged = search rules;
       back = ap
           (λ e. g.S.Store.pairs e.back) c.refuse-in-Err-extend_start.ensures.error ∙ c.in-Err-extend_start.ensures.back;
     })

@@ -1,6 +1,6 @@
 use Rattle.litemap_store.proofs.Names.{◌+◌, ◌-◌, ◌/◌, ◌∙◌, ◌≡◌, ◌≤◌, ap, arith, cond, digits, digits-halved, is_eq, is_lt, length}
 use Rattle.litemap_store.proofs.Names.{nat_le, refl}
-use Rattle.litemap_store.proofs.Search.Halving.{Seen-next, Finds-nowhere, hit_next, takes, takes_next, next, left_next, left_after}
+use Rattle.litemap_store.proofs.Search.Halving.{Seen-next, FindsEqual-nowhere, hit_next, takes, takes_next, next, left_next, left_after}
 use Rattle.litemap_store.proofs.slice_search.find.Goals as goal
 
 pub ask-order-requires : goal.ask-order-requires
@@ -49,6 +49,6 @@ pub returns-clause-found : goal.returns-clause-found
 returns-clause-found g c =
     let inv = c.loop-left.invariant in
     record {
-      at = λ ord sh. Finds-nowhere ord (g.S.Keys.pairs c.args.keys.now) c.loop-left.low (c.loop-left.low + c.loop-left.left) (omega arith) (omega arith)
+      at = λ ord sh. FindsEqual-nowhere ord (g.S.Keys.pairs c.args.keys.now) c.loop-left.low (c.loop-left.low + c.loop-left.left) (omega arith) (omega arith)
           ((inv.seen ord sh).1.open_ (omega arith));
     }

@@ -32,14 +32,14 @@ keep_last-kept-requires g c =
     c.in_ok-sort_by.ensures.sorted (λ x y. is_lt (g.K.Ord.cmp x.0 y.0)) (ranks_by g.met.K.Ord.total (λ x. x.0))
     (answers_always _ _ _ (λ f a r h called. search rules))
 
-pub returns-in_err-sort_by-clause-refused : goal.returns-in_err-sort_by-clause-refused
-returns-in_err-sort_by-clause-refused g c =
+pub returns-in_err-sort_by-clause-unchanged : goal.returns-in_err-sort_by-clause-unchanged
+returns-in_err-sort_by-clause-unchanged g c =
     let D = c.deref_mut.result.now in
     let A = take c.args.from D in
     let front : length A ≡ c.args.from = grind (arith, common_steps) in
     let whole : c.args.from + length c.sort_by.new.items ≡ c.args.pairs.now.len = grind (arith, common_steps) in
     let same : c.sort_by.new.items ≡ drop c.args.from D =
-    c.in_err-sort_by.ensures.err ∙ take_all (length D - c.args.from) (drop c.args.from D) (grind (arith, length-drop)) in
+    c.in_err-sort_by.ensures.unchanged ∙ take_all (length D - c.args.from) (drop c.args.from D) (grind (arith, length-drop)) in
     always_on_err _ (take-written_tail A c.sort_by.new.items _ _ c.args.from c.args.pairs.now.len front whole ∙ ap (λ S. A ++ S) same
     ∙ take-append-drop c.args.from D ∙ c.deref_mut.ensures.value)
 

@@ -1,4 +1,4 @@
-use Rattle.name_index.proofs.Indexing.{index_unique}
+use Rattle.name_index.proofs.AtIndex.{index_unique}
 use Rattle.name_index.proofs.laws.index_is_one.Goals as goal
 
 pub returns : goal.returns

@@ -22,9 +22,9 @@ returns-clause-ok t c =
     begins_more c.args.bytes.now c.in-Some.rest.now c.in-Some.first.now c.from-low.result c.args.room c.in-Some.ensures.cases.0 c.from-low.ensures
     c.if-room-eq0.false c.in_ok-high.high c.in_ok-high.rest.now c.if-low-lt-BASE.false c.in_ok-high.ensures.ok
 
-pub returns-in_err-high-clause-err : goal.returns-in_err-high-clause-err
-returns-in_err-high-clause-err t c =
+pub returns-in_err-high-clause-error : goal.returns-in_err-high-clause-error
+returns-in_err-high-clause-error t c =
     let p = err_from_is_err_and c.from_residual.result c.from_residual.ensures.1 in
     rw (p.1, p.2)
     (unread_more c.args.bytes.now c.in-Some.rest.now c.in-Some.first.now c.from-low.result c.args.room c.in-Some.ensures.cases.0 c.from-low.ensures
-    c.if-room-eq0.false c.in_err-high.field-0.0 c.args.at c.if-low-lt-BASE.false c.in_err-high.ensures.err)
+    c.if-room-eq0.false c.in_err-high.field-0.0 c.args.at c.if-low-lt-BASE.false c.in_err-high.ensures.error)

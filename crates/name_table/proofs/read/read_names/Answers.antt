@@ -6,7 +6,7 @@ use Rattle.name_table.proofs.read.read_names.Goals as goal
 pub returns-in_err-names-clause-error : goal.returns-in_err-names-clause-error
 returns-in_err-names-clause-error c =
     let p = err_from_is_err_and c.from_residual.result c.from_residual.ensures.1 in
-    rw (p.1, p.2) ([], inl c.in_err-names.ensures.err)
+    rw (p.1, p.2) ([], inl c.in_err-names.ensures.error)
 
 pub returns-in_err-map-clause-error : goal.returns-in_err-map-clause-error
 returns-in_err-map-clause-error c =

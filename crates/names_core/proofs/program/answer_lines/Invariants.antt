@@ -2,8 +2,8 @@
 use Rattle.std.proofs.Common.{◌≡◌, ◌≤◌, ◌+◌, ◌++◌, false, List, ℕ, length}
 use Rattle.names_core.specs.Line.{lines_left, lines_of}
 use Rattle.names_core.specs.Reply.{names_of}
-use Rattle.names_core.specs.Told.{Leaves}
-use Rattle.names_core.specs.Writes.{Writes}
+use Rattle.names_core.specs.Told.{DoesAll}
+use Rattle.names_core.specs.Writes.{WritesText}
 use Rattle.names_core.proofs.program.answer_lines.Given as goal
 
 abbrev pub invariant-loop-rest : goal.invariant-loop-rest
@@ -13,8 +13,8 @@ invariant-loop-rest g l =
       text : List ℕ;
       lines : lines_of l.fn.input ≡ before ++ lines_left l.rest;
       counted : l.done ≡ length before;
-      leaves : Leaves before text (names_of l.names);
-      writes : Writes g.W.Write.contents l.fn.writer l.writer text false;
+      leaves : DoesAll before text (names_of l.names);
+      writes : WritesText g.W.Write.contents l.fn.writer l.writer text false;
       bounded : l.done + length (lines_left l.rest) ≤ length l.fn.input + 1;
     }
 

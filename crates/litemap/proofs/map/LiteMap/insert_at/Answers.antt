@@ -6,7 +6,7 @@ pub invariant_of-self : goal.invariant_of-self
 invariant_of-self g c =
     let pairs = g.S.Store.pairs c.self.inside.store in
     let missing = rw (← c.self.view_is) at c.requires in
-    either_way (Rising g.K.Ord.cmp) c.lm_insert.result _ _ _ c.lm_insert.ensures.ok c.lm_insert.ensures.err
+    either_way (Rising g.K.Ord.cmp) c.lm_insert.result _ _ _ c.lm_insert.ensures.ok c.lm_insert.ensures.unchanged
     (rw (missing_insert g.K.Ord.cmp pairs c.args.key c.args.index missing c.args.value)
     (Rising-put g.met.K.Ord.total pairs c.args.key c.args.value c.self.invariant))
     c.self.invariant

@@ -37,10 +37,10 @@ returns-clause-all g c =
     rw (c.from_sorted_store_unchecked.ensures.pairs, c.in_ok-later.ensures.stays, c.in_ok-later.ensures.later, ← c.self.view_is)
     (take-append-drop c.start_of-index.result _)
 
-pub returns-clause-unchanged : goal.returns-clause-unchanged
-returns-clause-unchanged g c = λ none.
+pub returns-clause-unchanged_at_end : goal.returns-clause-unchanged_at_end
+returns-clause-unchanged_at_end g c = λ none.
     let last = last_cut _ _ _ c.start_of-index.ensures.cut none in
-    rw (c.in_ok-later.ensures.unchanged (last ∙ ap (λ m. length m.pairs) (sym c.self.view_is))) c.self.view_is
+    rw (c.in_ok-later.ensures.unchanged_at_end (last ∙ ap (λ m. length m.pairs) (sym c.self.view_is))) c.self.view_is
 
 pub returns-clause-whole : goal.returns-clause-whole
 returns-clause-whole g c = λ none some.

@@ -168,8 +168,8 @@ try_get_or_insert_spec 𝓤 𝓛 𝓜 𝓡 wired K V S E F LK LV LS LE LF o od e
       put = h-put;
       room = h-room;
       errors = h-errors;
-      refused = h-refused;
-      unmoved = h-unmoved;
+      unchanged = h-refused;
+      unchanged_by_closure = h-unmoved;
     } in
     fsplit ! $ fsplit ! $ move ! (1 ∷ []) $ drop ! $ move ! (1 ∷ []) $ drop ! $ move ! (1 ∷ []) $ split ! $ split ! $
     -- [the new token; the others; the result; the last value; what is kept; the way to end it]

@@ -38,12 +38,12 @@ returns-clause-cost g c =
     let shorter = c.keep_rising.ensures.shorter.1 in
     in_turn (length c.args.pairs.now.items) (length c.args.store.now.items + length c.keep_rising.new.pairs.items) _
     (omega (arith, c.args.pairs.now.ok.0, c.keep_rising.new.pairs.ok.0))
-    (both_ends g (goal.at.returns-clause-cost g c).After-lies_below) c.merge_in_vec.ensures.cost
+    (both_ends g (goal.at.returns-clause-cost g c).After-lies_below) c.merge.ensures.cost
 
 pub returns-clause-last : goal.returns-clause-last
 returns-clause-last g c =
-    on_ok_weaker c.merge_in_vec.result (λ d. Last-join_right g.K.Ord.cmp g.met.K.Ord.total _ _ _ _ c.in_ok-keep_rising.ensures.last d)
-    c.merge_in_vec.ensures.last
+    on_ok_weaker c.merge.result (λ d. Last-join_right g.K.Ord.cmp g.met.K.Ord.total _ _ _ _ c.in_ok-keep_rising.ensures.last d)
+    c.merge.ensures.last
 
 pub returns-clause-all_above : goal.returns-clause-all_above
 returns-clause-all_above g c =

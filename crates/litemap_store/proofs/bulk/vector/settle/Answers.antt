@@ -53,7 +53,7 @@ returns-then-lies_below-clause-cost g c =
 pub returns-in-Ok-clause-cost : goal.returns-in-Ok-clause-cost
 returns-in-Ok-clause-cost g c =
     let old = c.args.store.now in let now = c.keep_rising.new.pairs in
-    let cost = rw (c.in-Ok.ensures.items, c.in-Ok.ensures.tail, c.keep_rising.ensures.before) at c.merge_in_vec.ensures.cost in
+    let cost = rw (c.in-Ok.ensures.items, c.in-Ok.ensures.tail, c.keep_rising.ensures.before) at c.merge.ensures.cost in
     in_turn (length (drop c.args.from old.items)) (length (take c.args.from old.items) + length (drop c.args.from now.items)) _
     (omega (
       arith,
@@ -79,8 +79,8 @@ returns-then-lies_below-clause-last g c =
 
 pub returns-in-Ok-clause-last : goal.returns-in-Ok-clause-last
 returns-in-Ok-clause-last g c =
-    let last = rw (c.in-Ok.ensures.items, c.in-Ok.ensures.tail, c.keep_rising.ensures.before) at c.merge_in_vec.ensures.last in
-    on_ok_weaker c.merge_in_vec.result
+    let last = rw (c.in-Ok.ensures.items, c.in-Ok.ensures.tail, c.keep_rising.ensures.before) at c.merge.ensures.last in
+    on_ok_weaker c.merge.result
     (λ d. Last-after g.K.Ord.cmp c.args.from c.args.store.now.items g.met.K.Ord.total
     (drop c.args.from c.keep_rising.new.pairs.items) _ c.in_default.ensures.last d) last
 

@@ -45,7 +45,7 @@ returns g c =
         merged = all.0;
         none = rw all.1.0 at c.unless_empty.ensures.none;
         left = rw all.1.0 at c.unless_empty.ensures.some;
-        refused = tt;
+        unchanged = tt;
         back =
             tt;
       };

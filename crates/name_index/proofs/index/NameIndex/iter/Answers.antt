@@ -1,8 +1,8 @@
-use Rattle.std.proofs.Common.{◌≡◌, arith, length}
-use Rattle.name_index.proofs.Rises.{of_entries}
+use Rattle.std.proofs.Common.{◌≡◌, ◌-◌, ◌∙◌, ap, arith, length, take}
+use Rattle.std.proofs.Math.Seq.{take-length}
 use Rattle.name_index.proofs.index.NameIndex.iter.Goals as goal
 
 pub returns : goal.returns
 returns c =
-    let n : length c.self.inside.offsets.items ≡ c.len.result = omega (arith, c.len.ensures) in
-    rw (← c.self.view_is) (of_entries _ _ _ (rw (← n) c.self.invariant.counted) c.new.ensures)
+    let e : c.number.result - 0 ≡ length c.args.self.now = omega (arith, c.number.ensures.number) in
+    c.entries_in.ensures ∙ ap (λ n. take n c.args.self.now) e ∙ take-length c.args.self.now

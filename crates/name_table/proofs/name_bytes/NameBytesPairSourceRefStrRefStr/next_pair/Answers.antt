@@ -13,19 +13,19 @@ returns-then-self-eq0-clause-next c =
 pub returns-in_err-key-clause-next : goal.returns-in_err-key-clause-next
 returns-in_err-key-clause-next c =
     let p = err_from_is_err_and c.from_residual.result c.from_residual.ensures.1 in
-    rw (p.1, p.2, ← c.self.view_is) (pairs_from_next _ _ (key_fault _ _ c.if-self-eq0.false c.in_err-key.ensures.err), ((λ L. ((λ h. h), (λ h. h))), refl))
+    rw (p.1, p.2, ← c.self.view_is) (pairs_from_next _ _ (key_fault _ _ c.if-self-eq0.false c.in_err-key.ensures.error), ((λ L. ((λ h. h), (λ h. h))), refl))
 
 pub returns-in_err-key-clause-error : goal.returns-in_err-key-clause-error
 returns-in_err-key-clause-error c =
     let p = err_from_is_err_and c.from_residual.result c.from_residual.ensures.1 in
-    rw (p.1, p.2, ← c.self.view_is) (key_fault _ _ c.if-self-eq0.false c.in_err-key.ensures.err)
+    rw (p.1, p.2, ← c.self.view_is) (key_fault _ _ c.if-self-eq0.false c.in_err-key.ensures.error)
 
 pub returns-in_err-value-clause-next : goal.returns-in_err-value-clause-next
 returns-in_err-value-clause-next c =
     let p = err_from_is_err_and c.from_residual-in_err-value.result c.from_residual-in_err-value.ensures.1 in
     let k = c.in_ok-key.ensures.ok in
     rw (p.1, p.2, ← c.self.view_is) (
-      pairs_from_next _ _ (value_fault _ _ c.in_ok-key.key.now _ _ c.if-self-eq0.false k.spelled k.place c.in_err-value.ensures.err),
+      pairs_from_next _ _ (value_fault _ _ c.in_ok-key.key.now _ _ c.if-self-eq0.false k.spelled k.place c.in_err-value.ensures.error),
       ((λ L. ((λ h. h), (λ h. h))), refl),
     )
 
@@ -33,7 +33,7 @@ pub returns-in_err-value-clause-error : goal.returns-in_err-value-clause-error
 returns-in_err-value-clause-error c =
     let p = err_from_is_err_and c.from_residual-in_err-value.result c.from_residual-in_err-value.ensures.1 in
     let k = c.in_ok-key.ensures.ok in
-    rw (p.1, p.2, ← c.self.view_is) (value_fault _ _ c.in_ok-key.key.now _ _ c.if-self-eq0.false k.spelled k.place c.in_err-value.ensures.err)
+    rw (p.1, p.2, ← c.self.view_is) (value_fault _ _ c.in_ok-key.key.now _ _ c.if-self-eq0.false k.spelled k.place c.in_err-value.ensures.error)
 
 pub returns : goal.returns
 returns c =

@@ -1,0 +1,199 @@
+-- Entries at their indices: the one at an index, one more of them, and whether their keys ascend.
+use Rattle.std.proofs.Common.{◌≡◌, true, false, ℕ, zero, suc, ◌+◌, ◌<◌, List, [], ◌∷◌, ◌++◌, length, get_or, Option, Some, None, slice_get, refl, sym, ap, ◌∙◌}
+use Rattle.std.proofs.Common.{◌-◌, ◌≤◌, drop, min, slice_range, take, subst, arith, length-append, Bor, is_lt, Less, Ok, Err}
+use Rattle.std.proofs.Math.Logic.{∥∥₁_elim}
+use Rattle.std.proofs.lemmas.List.{drop_more, length-drop, length-take, take_min}
+use Rattle.std.proofs.lemmas.Option.{get_or_from_slice_get, slice_get-get_or}
+use Rattle.std.specs.Cmp.{IsTotalOrder}
+use Rattle.std.specs.Iterator.{MakesProgress, at_most}
+use Rattle.std.specs.Cmp.Lexicographic.{on_texts}
+use Rattle.litemap_store.specs.Pairs.{AllBelow, Rising, at, value_at}
+use Rattle.litemap_store.specs.Queries.{OneSide, key_one_side}
+use Rattle.litemap_store.specs.Splits.{Splits}
+use Rattle.litemap_store.proofs.Lists.Ends.{AllBelow-from_last, Rising-push}
+use Rattle.litemap_store.proofs.Lists.Parts.{Less-from_is_lt, Less-from_Rising}
+use Rattle.litemap_store.proofs.Search.Splitting.{there-from_Splits}
+use Rattle.name_index.specs.{AreNames, Listed, comes_after, names_one, pairs_set, text_order, HasKey, IsEntry, IsIndex, IsKeyAt, IsNumberAt, NoEntry, NoIndex}
+use Rattle.name_index.specs.{NoNames, entry_one, number_one, text_one}
+
+pub text_order_total : IsTotalOrder text_order
+text_order_total = on_texts (λ (a : List ℕ). a)
+
+abbrev pub one_side : OneSide text_order text_order
+one_side = key_one_side text_order_total
+
+-- ---- the list that is given
+
+module _ (At : ℕ → List ℕ × List ℕ → Type 0) (one : (i : ℕ) (p q : List ℕ × List ℕ) → At i p → At i q → p ≡ q) (len : ℕ)
+    (s : Listed At len) (J : List (List ℕ × List ℕ)) (a : AreNames At len J) where
+  pub listed_is : s.0 ≡ J
+  listed_is = ∥∥₁_elim s.1 (pairs_set s.0 J) (λ b. names_one At one len s.0 J b a)
+
+  pub listed_holds : AreNames At len s.0
+  listed_holds = rw listed_is a
+
+module _ {At : ℕ → List ℕ × List ℕ → Type 0} {len : ℕ} {pairs : List (List ℕ × List ℕ)} (a : AreNames At len pairs) (i : ℕ) (l : i < len) where
+  -- the entry at an index
+  pub name_at : (pair : List ℕ × List ℕ) × (slice_get pairs i ≡ Some pair) × At i pair
+  name_at =
+      let e = slice_get-get_or pairs i ([], []) (omega (arith, a.number, l)) in
+      (get_or pairs i ([], []), e, a.each i (get_or pairs i ([], [])) e)
+
+  -- an entry that is read there is the one of the list
+  pub name_is : ((i : ℕ) (p q : List ℕ × List ℕ) → At i p → At i q → p ≡ q) → (pair : List ℕ × List ℕ) → At i pair → slice_get pairs i ≡ Some pair
+  name_is one pair h = name_at.1 ∙ ap Some (one i name_at.0 pair name_at.2 h)
+
+-- ---- between two indices
+
+pub slice_next : (L : List (List ℕ × List ℕ)) (a b : ℕ) (p : List ℕ × List ℕ) → a < b → a < length L → slice_get L a ≡ Some p
+    → slice_range L a b ≡ p ∷ slice_range L (a + 1) b
+slice_next L a b p l h e =
+    let n : b - a ≡ suc (b - (a + 1)) = omega (arith, l) in
+    ap (λ n. take n (drop a L)) n ∙ ap (λ M. take (suc (b - (a + 1))) M) (drop_more L a p h)
+    ∙ ap (λ q. q ∷ slice_range L (a + 1) b) (get_or_from_slice_get L a p p e)
+
+pub slice_none : (L : List (List ℕ × List ℕ)) (a b : ℕ) → b ≤ a → slice_range L a b ≡ []
+slice_none L a b h = let e : b - a ≡ 0 = omega (arith, h) in rw e refl
+
+pub slice_clamped : (L : List (List ℕ × List ℕ)) (a b : ℕ) → slice_range L a (min b (length L)) ≡ slice_range L a b
+slice_clamped L a b =
+    let e : min b (length L) - a ≡ min (b - a) (length (drop a L)) = omega (arith, length-drop a L) in
+    ap (λ k. take k (drop a L)) e ∙ take_min (b - a) (drop a L)
+
+pub slice_size : (L : List (List ℕ × List ℕ)) (a b : ℕ) → b ≤ length L → length (slice_range L a b) ≡ b - a
+slice_size L a b h = omega (arith, h, length-take (b - a) (drop a L), length-drop a L)
+
+-- ---- one more
+
+-- the key of the last pair, if there is one
+abbrev pub LastKey : Option (Bor (List ℕ)) → List (List ℕ × List ℕ) → Type 0
+LastKey None pairs = pairs ≡ []
+LastKey (Some key) pairs = (front : List (List ℕ × List ℕ)) × (value : List ℕ) × (pairs ≡ front ++ (key.now, value) ∷ [])
+
+pub last_at : (front : List (List ℕ × List ℕ)) (p : List ℕ × List ℕ) → slice_get (front ++ p ∷ []) (length front) ≡ Some p
+last_at [] p = refl
+last_at (q ∷ front) p = last_at front p
+
+pub is_rising_from : (last : Option (Bor (List ℕ))) (L : List (List ℕ × List ℕ)) (p : List ℕ × List ℕ) → LastKey last L → Rising text_order L
+    → comes_after last p.0 ≡ true → Rising text_order (L ++ p ∷ [])
+is_rising_from None L p e r a = let P : List (List ℕ × List ℕ) → Type 0 = λ M. Rising text_order (M ++ p ∷ []) in subst P (sym e) (tt, tt)
+is_rising_from (Some last) L p e r a =
+    let M = e.0 ++ (last.now, e.1) ∷ [] in
+    let s : Rising text_order M = rw (← e.2) r in
+    let b : AllBelow text_order M p.0 =
+    AllBelow-from_last text_order_total M p.0 (length e.0) (last.now, e.1) s (omega (arith, length-append e.0 ((last.now, e.1) ∷ [])))
+    (last_at e.0 (last.now, e.1)) (Less-from_is_lt (text_order last.now p.0) (sym a)) in
+    rw e.2 (Rising-push text_order M p.0 p.1 s b)
+
+rising_last : (L : List (List ℕ × List ℕ)) (x y : List ℕ × List ℕ) → Rising text_order ((L ++ x ∷ []) ++ y ∷ []) → text_order x.0 y.0 ≡ Less
+rising_last [] x y r = r.0.0
+rising_last (z ∷ L) x y r = rising_last L x y r.1
+
+pub not_rising : (last : Option (Bor (List ℕ))) (L : List (List ℕ × List ℕ)) (p : List ℕ × List ℕ) → LastKey last L → comes_after last p.0 ≡ false
+    → Rising text_order (L ++ p ∷ []) → ⊥
+not_rising None L p e n r = let h : true ≡ false = n in absurd (cc)
+not_rising (Some last) L p e n r = let h : is_lt (text_order last.now p.0) ≡ true = ap is_lt (rising_last e.0 (last.now, e.1) p (rw (← e.2) r)) in absurd (cc)
+
+-- what holds of each element by its index, and of one more
+each_push : {X : Type 0} (P : ℕ → X → Type 0) (L : List X) (x : X) → ((i : ℕ) (y : X) → slice_get L i ≡ Some y → P i y) → P (length L) x
+    → (i : ℕ) (y : X) → slice_get (L ++ x ∷ []) i ≡ Some y → P i y
+each_push P [] x each h zero y e = let s : x ≡ y = cc in subst (λ z. P 0 z) s h
+each_push P [] x each h (suc i) y e = absurd (cc)
+each_push P (z ∷ L) x each h zero y e = each zero y e
+each_push P (z ∷ L) x each h (suc i) y e = each_push (λ j w. P (suc j) w) L x (λ j w f. each (suc j) w f) h i y e
+
+pub names_none : (At : ℕ → List ℕ × List ℕ → Type 0) → AreNames At 0 []
+names_none At = record { number = refl; each = λ i p e. absurd (none i p e); rises = tt }
+  where
+    none : (i : ℕ) (p : List ℕ × List ℕ) → slice_get [] i ≡ Some p → ⊥
+    none zero p e = absurd (cc)
+    none (suc i) p e = absurd (cc)
+
+pub names_push : {At Then : ℕ → List ℕ × List ℕ → Type 0} {len : ℕ} (pairs : List (List ℕ × List ℕ)) (last : Option (Bor (List ℕ))) (pair : List ℕ × List ℕ)
+    → AreNames At len pairs → LastKey last pairs → comes_after last pair.0 ≡ true → ((i : ℕ) (p : List ℕ × List ℕ) → At i p → Then i p) → Then len pair
+    → AreNames Then (len + 1) (pairs ++ pair ∷ [])
+names_push {Then = Then} pairs last pair a l above weaker h = record {
+  number = omega (arith, a.number, length-append pairs (pair ∷ []));
+  each = each_push Then pairs pair (λ i p e. weaker i p (a.each i p e)) (rw a.number h);
+  rises = is_rising_from last pairs pair l a.rises above;
+}
+
+-- ---- what a search finds
+
+pub value_at_split : (pairs : List (List ℕ × List ℕ)) (key : List ℕ) (i : ℕ) (p : List ℕ × List ℕ) → Splits text_order pairs key (Ok i)
+    → slice_get pairs i ≡ Some p → value_at text_order pairs key ≡ Some p.1
+value_at_split pairs key i p s e =
+    let a : at text_order pairs key ≡ Some p = sym (there-from_Splits text_order pairs key (Ok i) s) ∙ e in
+    rw a refl
+
+pub value_at_none : (pairs : List (List ℕ × List ℕ)) (key : List ℕ) (i : ℕ) → Splits text_order pairs key (Err i) → value_at text_order pairs key ≡ None
+value_at_none pairs key i s = rw s.missing refl
+
+-- ---- an iterator over them has one less after each
+
+pub left_goes : {A X : Type 0} (x : A) (y : X) (L M : List X) → L ≡ y ∷ M → MakesProgress (λ _. Unit {0}) (λ l. at_most (length l)) L (Some x) M
+left_goes x y L M e = record { on = λ _. (tt, tt, omega (arith, ap length e)); keeps = tt; rests = λ _. tt }
+
+-- ---- the bytes of an index
+
+module _ {bytes : List ℕ} {len : ℕ} {pairs : List (List ℕ × List ℕ)} (a : AreNames (IsEntry bytes len) len pairs) (index : ℕ) (l : index < len) where
+  -- an entry is there, and a key that is read is its own
+  pub entry_there : NoEntry bytes len index → ⊥
+  entry_there none = let t = name_at a index l in none t.0 t.2
+
+  pub entry_is : (pair : List ℕ × List ℕ) → IsEntry bytes len index pair → slice_get pairs index ≡ Some pair
+  entry_is = name_is a index l (entry_one bytes len)
+
+  pub key_is : (key : List ℕ) (after : ℕ) → HasKey bytes len index key after → IsKeyAt pairs index key
+  key_is key after h =
+      let t = name_at a index l in
+      let e : t.2.0 ≡ h.0 = number_one bytes _ t.2.0 h.0 t.2.1 h.1 in
+      let k : t.0.0 ≡ key = text_one bytes _ t.0.0 key (rw (← e) t.2.2.0) h.2 in
+      (t.0.1, t.1 ∙ ap (λ s. Some (s, t.0.1)) k)
+
+-- if an entry is missing, so are all
+pub missing : {bytes : List ℕ} {len : ℕ} (index : ℕ) → index < len → NoEntry bytes len index → NoNames (IsEntry bytes len) len
+missing index l none pairs a = entry_there a index l none
+
+-- bytes have one number of entries, and one index
+pub no_index : (bytes : List ℕ) (len : ℕ) → IsNumberAt bytes 0 len → NoNames (IsEntry bytes len) len → NoIndex bytes
+no_index bytes len number none pairs x =
+    let e : x.len ≡ len = number_one bytes 0 x.len len x.number number in
+    none pairs (subst (λ n. AreNames (IsEntry bytes n) n pairs) e x.entries)
+
+pub index_unique : (bytes : List ℕ) (J K : List (List ℕ × List ℕ)) → IsIndex bytes J → IsIndex bytes K → J ≡ K
+index_unique bytes J K x y =
+    let e : y.len ≡ x.len = number_one bytes 0 y.len x.len y.number x.number in
+    names_one (IsEntry bytes x.len) (entry_one bytes x.len) x.len J K x.entries (subst (λ n. AreNames (IsEntry bytes n) n K) e y.entries)
+
+-- ---- a check's state
+
+-- the first entries were read, and their keys ascend
+pub record Followed (bytes : List ℕ) (len : ℕ) (last : Option (Bor (List ℕ))) (index : ℕ) : Type 0 where
+  pub pairs : List (List ℕ × List ℕ)
+  pub names : AreNames (IsEntry bytes len) index pairs
+  pub last_is : LastKey last pairs
+
+pub followed_next : (bytes : List ℕ) (len index : ℕ) (last : Option (Bor (List ℕ))) (key value : Bor (List ℕ)) → Followed bytes len last index
+    → IsEntry bytes len index (key.now, value.now) → comes_after last key.now ≡ true → Followed bytes len (Some key) (index + 1)
+followed_next bytes len index last key value f r a = record {
+  pairs = f.pairs ++ (key.now, value.now) ∷ [];
+  names = names_push f.pairs last (key.now, value.now) f.names f.last_is a (λ i p h. h) r;
+  last_is = (f.pairs, value.now, refl);
+}
+
+-- if the next key isn't above the last one, the bytes are no index
+pub falls : (bytes : List ℕ) (len index : ℕ) (last : Option (Bor (List ℕ))) (key value : List ℕ) → index < len → Followed bytes len last index
+    → IsEntry bytes len index (key, value) → comes_after last key ≡ false → NoNames (IsEntry bytes len) len
+falls bytes len index None key value l f r e pairs a = let h : true ≡ false = e in absurd (cc)
+falls bytes len index (Some last) key value l f r e pairs a =
+    let front = f.last_is.0 in
+    let p : List ℕ × List ℕ = (last.now, f.last_is.1) in
+    let size : index ≡ length front + 1 = omega (arith, f.names.number, ap length f.last_is.2, length-append front (p ∷ [])) in
+    let g : slice_get f.pairs (length front) ≡ Some p = rw f.last_is.2 (last_at front p) in
+    let before : index - 1 ≡ length front = omega (arith, size) in
+    let h = entry_is a (length front) (omega (arith, size, l)) p (f.names.each (length front) p g) in
+    let is : text_order last.now key ≡ Less =
+    Less-from_Rising text_order pairs index p (key, value) (omega (arith, size)) a.rises (rw before h) (entry_is a index l (key, value) r) in
+    let k : is_lt (text_order last.now key) ≡ true = ap is_lt is in
+    absurd (cc)

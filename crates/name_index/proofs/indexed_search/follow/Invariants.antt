@@ -1,6 +1,0 @@
-use Rattle.name_index.proofs.Indexing.{Followed}
-use Rattle.name_index.proofs.indexed_search.follow.Given as goal
-
--- the entries so far were read, and their keys ascend
-abbrev pub invariant-loop-index : goal.invariant-loop-index
-invariant-loop-index l = Followed l.bytes l.len l.last l.index l.fn.count l.count
