@@ -40,8 +40,8 @@ pub trait StoreIntoIterator<K: Drop, V: Drop>: StoreMut<K, V> + Sized {
 
     /// Appends the pairs of another store.
     ///
-    /// It reserves capacity first. It fails only if memory runs out and the room is less than the other store's length: then the
-    /// list stays as it was, and the other store comes back whole. Nothing is promised of the room afterwards.
+    /// It reserves capacity first, and fails only if that does and the room is less than the other store's length: then the list
+    /// stays as it was, and the other store comes back whole. Nothing is promised of the room afterwards.
     ///
     /// ```rust
     /// let mut begin = [(1, "Monday")].to_vec(alloc)?;
@@ -64,9 +64,9 @@ pub trait StoreIntoIterator<K: Drop, V: Drop>: StoreMut<K, V> + Sized {
     /// Puts the pairs of another store before the own ones, by appending the own ones to that store. So each own pair moves once,
     /// and each of the other's at most once, if its memory grows.
     ///
-    /// The other store reserves capacity first. It fails only if memory runs out and one of the two has less room than the other
-    /// has pairs: then the list stays, and the other store comes back whole. Nothing is promised of the room afterwards. A store
-    /// that can grow in front may do so. The Rust crate inserts pair by pair at the front; its vector has one `splice`.
+    /// The other store reserves capacity first. It fails only if that does and one of the two has less room than the other has
+    /// pairs: then the list stays, and the other store comes back whole. Nothing is promised of the room afterwards. A store that
+    /// can grow in front may do so. The Rust crate inserts pair by pair at the front; its vector has one `splice`.
     fn lm_extend_start(&mut self, mut other: Self) -> Result<(), NoRoom<Self>>
         ensures ok { OnOk result (Self.pairs self.new ≡ Self.pairs other ++ Self.pairs self.old) }
         ensures unchanged { OnErr result (Self.pairs self.new ≡ Self.pairs self.old) }

@@ -311,8 +311,8 @@ impl<K: Ord, V, S: StoreMut<K, V>> LiteMap<K, V, S> {
         Ok(None)
     }
 
-    /// Reserves capacity for at least `additional` more pairs. It fails only if memory runs out and there was less room, and
-    /// never lowers the room.
+    /// Reserves capacity for at least `additional` more pairs, or returns an error if memory runs out or the store is full. It
+    /// fails only if there was less room, and never lowers the room.
     pub fn reserve(&mut self, additional: usize) -> Result<(), AllocError>
         ensures pairs { self.new.pairs ≡ self.old.pairs }
         ensures room { OnOk result (additional ≤ self.new.room) }

@@ -74,8 +74,8 @@ impl<K: Ord + Drop, V: Drop, S: StoreMut<K, V>> LiteMap<K, V, S> {
 }
 
 impl<K: Ord + Drop, V: Drop> LiteMap<K, V, Vec<(K, V)>> {
-    /// Drops the pairs at the indices of a range, such as that of `index_range` (own). The others stay, and later ones move down
-    /// once.
+    /// Drops the pairs at the indices of a range, such as that of `index_range` (own). The others stay. Each pair from the range on
+    /// moves a constant number of times.
     ///
     /// ```rust
     /// let mut days = three_days(alloc)?;
@@ -92,8 +92,8 @@ impl<K: Ord + Drop, V: Drop> LiteMap<K, V, Vec<(K, V)>> {
         drop(self.store.drain(range));
     }
 
-    /// Removes the pairs at the indices of a range, and returns them, or changes nothing if memory runs out for them (own). They
-    /// move once, as do all later pairs.
+    /// Removes the pairs at the indices of a range, and returns them, or changes nothing if memory runs out for them (own). It
+    /// moves pairs as `remove_range` does, and those that it returns once more.
     ///
     /// ```rust
     /// let mut days = three_days(alloc)?;
