@@ -22,7 +22,7 @@ GROUPS = {
     "Compare and hash": "litemap: map/comparisons",
     "Convert and borrow": "litemap: map/conversions",
     "Tables in constants": "litemap: const_family",
-    "Read from a source": "litemap_read: source vec_source read laws",
+    "Read from a source": "litemap_read: source vec_source read calls laws",
     "JSON": "litemap_json: write text read fault told laws item pairs written",
     "Through serde": "litemap_serde: write read pairs holder",
     "Name tables": "name_table: read write name_bytes cursor error laws",
@@ -32,7 +32,7 @@ GROUPS = {
     "Stores": "litemap_store: store into_iter vec_impl slice_impl slice_iter owned_iter iter_mut count growth no_room retain reserved slice_search merge "
     "split_store; litemap_short: short_store short_iter; litemap_columns: lib column_store column_iter",
     "Laws, for proofs": "litemap_store: laws",
-    "The program": "names_core: program watch; names: laws",
+    "The program": "names_core: program watch input; names: laws",
 }
 # A word that this many groups use is explained once, in docs/API.md. Of the others a call explains those that are so near: 0 are
 # those that its contract names, 1 those of their definitions.
@@ -259,7 +259,7 @@ def index_text():
         text += f"\n### [{group}]({target})\n\n"
         rows = [(f"[{it.title}]({target}#{slug(it.title)})", it.sentence().replace("|", "\\|")) for it in entries]
         text += "| Call | What it does |\n|---|---|\n" * bool(rows) + "".join(f"| {call} | {said} |\n" for call, said in rows)
-        traits = dict.fromkeys(f"`{trait}`" for source in sources_of(group) for _, trait, *_ in IMPLS.get(source, ()))
+        traits = dict.fromkeys(f"`{it}`" for source in sources_of(group) for _, traits, *_ in IMPLS.get(source, ()) for it in traits)
         text += f"\nTraits of others: {', '.join(traits)}.\n" if traits else ""
     text = re.sub(r"\n{3,}", "\n\n", text)
     return f"{text}\n## Words of many groups\n\n" + "".join(told(it, INDEX) for it in OF_MANY) + END

@@ -107,8 +107,8 @@ def library_calls(library):
 
 
 def impls_of(text):
-    """The heads of the impls of others' traits in a source for types that are public, each with the trait's name, its comment, and
-    what it says that the calls of an iterator return."""
+    """The heads of the impls of others' traits in a source for types that are public, each with the trait's name in a list, its
+    comment, and what it says that the calls of an iterator return."""
     for found in re.finditer(r"^(impl\b[^{]*?)\s*\{(\}|\n.*?^\})", text, re.MULTILINE | re.DOTALL):
         head = squeezed(found[1])
         trait = re.match(r"impl(?:<.*?>)? (?:\w+::)?(\w+)(?:<.*>)? for ", re.sub(r"^impl<(?:[^<>]|<[^<>]*>)*>", "impl", head))
@@ -116,7 +116,15 @@ def impls_of(text):
         hidden = subject and re.search(rf"^pub\(crate\) (?:enum|struct) {subject[1]}\b", text, re.MULTILINE)
         if trait and trait[1] not in OWN_TRAITS and not hidden:
             gives = re.findall(r"ghost next\w*_gives = .*;", found[2])
-            yield head, trait[1], said_above(text[: found.start()].splitlines()), gives
+            yield head, [trait[1]], said_above(text[: found.start()].splitlines()), gives
+
+
+def derived_of(text):
+    """The traits that the public types of a source derive, in the same form."""
+    for found in re.finditer(r"((?:^#\[derive.*\n)+)(pub (?:enum|struct) \w+)", text, re.MULTILINE):
+        traits = [it for it in re.findall(r"\b[A-Z]\w+", found[1]) if it != "Drop"]
+        if traits:
+            yield f"#[derive({', '.join(traits)})] {found[2]}", traits, "", []
 
 
 RUST, SPECS, PROOFS = texts("*/src/**/*.rt"), texts("*/specs/**/*.antt"), texts("*/proofs/**/*.antt")
@@ -126,7 +134,7 @@ SOURCES = {it.replace("/src/", "/").removesuffix(".rt"): text for it, text in RU
 FUNCTIONS = {source: [*functions_of(source, text)] for source, text in SOURCES.items()}
 CALLS = {source: calls for library in LIBRARIES for source, calls in library_calls(library)}
 LISTED = [(source, call) for source, calls in CALLS.items() for call in calls]
-IMPLS = {source: [*impls_of(text)] for source, text in SOURCES.items()}
+IMPLS = {source: [*impls_of(text), *derived_of(text)] for source, text in SOURCES.items()}
 # The examples of the libraries, each after its source and the type whose calls it shows: first those above types, then those of
 # calls.
 EXAMPLES = [(source, owner, block) for source, text in SOURCES.items() for owner, block in shown_by_types(text)]

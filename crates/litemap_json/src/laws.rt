@@ -9,8 +9,8 @@ pub fn one_reading<K: JsonKey, V: JsonItem>()
     ensures { OneReading K.cmp K.key K.item V.item K.json V.json }
 {}
 
-/// The maps with string keys that a JSON value is read as can't be told apart by lookups. Looked up in both, a string has items
-/// with the same tree, or none in either. The strings themselves are new values each time they are read, with the same bytes.
+/// In two maps with string keys that one JSON value is read as, each lookup finds items with the same tree, or none in either.
+/// The strings themselves are new values each time they are read, with the same bytes.
 pub fn one_reading_by_string<V: JsonItem>()
     ensures { OneReadingByText ⟦<String as Ord>⟧.cmp ⟦<String as JsonKey>⟧.key ⟦<String as JsonItem>⟧.item V.item
         ⟦<String as JsonItem>⟧.json V.json }
