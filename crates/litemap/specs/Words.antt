@@ -1,4 +1,4 @@
--- All that a caller says of a map, for one import beside that of the operators. The words that are passed on are of a map's
+-- Most of what a caller says of a map, for one import beside that of the operators. The words that are passed on are of a map's
 -- list of pairs, `m.pairs`; those below are of the map `m` itself, under the names that std has for its `BTreeMap`.
 pub use Rattle.std.specs.Prelude.{ℕ, List, [], Option, None, Some, Ok, Err, IsSome, IsNone, IsOk, IsErr, IsTrue}
 pub use Rattle.std.specs.Prelude.{IfSome, IfNone, IfOk, IfErr, OnSome, OnOk, OnErr, MatchOption, MatchResult}
