@@ -209,8 +209,8 @@ impl<K: Ord, V, S: StoreConstEmpty<K, V>> MadeWith<Global> for LiteMap<K, V, S> 
 }
 
 impl<K: Ord, V, S: StoreMut<K, V>> LiteMap<K, V, S> {
-    /// Returns an empty map with capacity for at least `capacity` pairs, or an error if memory runs out. It never fails for a
-    /// capacity of up to the store's `free_room`: 0 over a vector, 1 over a short store.
+    /// Returns an empty map with capacity for at least `capacity` pairs, or an error if memory runs out or the store can't hold so
+    /// many. It never fails for a capacity of up to the store's `free_room`: 0 over a vector, 1 over a short store.
     pub fn with_capacity(alloc: Global, capacity: usize) -> Result<Self, AllocError>
         ensures empty { IfOk result (λ m. m.pairs ≡ []) }
         ensures room { IfOk result (λ m. capacity ≤ m.room) }
@@ -220,7 +220,7 @@ impl<K: Ord, V, S: StoreMut<K, V>> LiteMap<K, V, S> {
         Ok(LiteMap::from_sorted_store_unchecked(store))
     }
 
-    /// Returns a map of clones of the keys and values, or an error if memory runs out. It never fails for an empty map.
+    /// Returns a map of clones of the keys and values, or an error if memory runs out (own). It never fails for an empty map.
     ///
     /// A clone of each key has to compare `Equal` to it; for `String` keys the caller's attribute
     /// `using(litemap::proofs::Texts::text_clones)` shows that. No keys are compared.

@@ -7,12 +7,13 @@ use std::error::Error;
 use std::fmt::{self, Debug, Display, Formatter, Write};
 use std::io;
 
-/// Why `try_get_or_insert` inserted nothing. The Rust crate returns the closure's error alone, and aborts if memory runs out.
+/// Why `try_find_or_insert`, `try_get_or_insert` or `or_try_insert_with` inserted nothing. The Rust crate returns the closure's
+/// error alone, and aborts if memory runs out.
 #[derive(Debug, PartialEq, Drop)]
 pub enum TryFault<K, V, E> {
     /// The closure's error. The key is dropped.
     Closure(E),
-    /// Memory ran out: the key passed in and the value that the closure returned come back.
+    /// Memory ran out, or the store is full: the key passed in and the value that the closure returned come back.
     NoRoom {
         /// The key passed in.
         key: K,

@@ -99,7 +99,7 @@ pub trait JsonKey: JsonItem + Ord {
         ensures one_spelling { IfOk result (λ found. IfSome found (λ k. text k ≡ Some name.now)) };
 
     /// Returns the integer whose decimal digits are the key's string, if the type knows of one. If the first key has one,
-    /// `write_json` compares and writes the names of all such keys without strings. By default it is `None`.
+    /// `write_json` makes no strings for the names of those that 64 bits hold. By default it is `None`.
     fn key_number(&self) -> Option<i128>
         ensures { IfSome result (λ number. text self.now ≡ Some (signed_decimal number)) }
     {

@@ -42,7 +42,7 @@ impl Name for String {
     ghost by_bytes = { refl };
 }
 
-/// A name that takes no memory if it is that of an integer.
+/// A name that takes no memory if it is that of an integer that 64 bits hold.
 #[derive(Drop)]
 pub(crate) enum AnyName {
     /// The decimal digits of an integer.

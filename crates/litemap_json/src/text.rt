@@ -26,8 +26,8 @@ use std::alloc::{AllocError, Global};
 ///
 /// Names that ascend in their byte order, as those of `String` keys do, are written pair by pair, each compared with the one
 /// before. If one doesn't ascend, what was written is dropped, and the names of all keys are gathered and sorted. If the first
-/// key has a `key_number`, as integers have, that is done at once, by the names' digits and with no strings. Sorting takes
-/// O(n log n) comparisons of names. Keys aren't compared. `Memory` may come in place of any result.
+/// key has a `key_number`, as integers have, that is done at once, by the names' digits, with no strings for integers that 64
+/// bits hold. Sorting takes O(n log n) comparisons of names. Keys aren't compared. `Memory` may come in place of any result.
 ///
 /// ```rust
 /// // hours: 1 8, 3 10

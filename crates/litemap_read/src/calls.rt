@@ -42,7 +42,8 @@ pub enum Answer<K, V> {
     Number(usize),
     /// `None` if the pair was inserted, and else the pair.
     Back(Option<(K, V)>),
-    /// Memory ran out. The list is as it was, and the pair that was to be inserted is returned, if there was one.
+    /// Memory ran out, or the store is full. The list is as it was, and the pair that was to be inserted is returned, if there
+    /// was one.
     NoRoom(Option<(K, V)>),
     /// The call is done.
     Done,

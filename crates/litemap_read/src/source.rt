@@ -54,7 +54,7 @@ pub trait PairSource<K, V> {
 /// Why no map was read. The pairs read so far are dropped.
 #[derive(Debug, PartialEq, Drop)]
 pub enum ReadFault<E> {
-    /// Memory ran out.
+    /// Memory ran out, or the store is full.
     NoRoom,
     /// The error of the source.
     Source(E),

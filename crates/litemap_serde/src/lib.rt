@@ -1,5 +1,4 @@
-//! Maps through serde: written to any format, and read from one. All of this crate is own: the Rust crate's map has serde's
-//! traits itself.
+//! Maps through serde: written to any format, and read from one. In the Rust crate the map has serde's traits itself.
 #![tactic(auto)]
 
 mod holder;

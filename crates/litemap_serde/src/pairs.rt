@@ -8,7 +8,8 @@ use litemap::LiteMap;
 use litemap::store::Store;
 use serde::{Serialize, Serializer};
 
-/// Writes a map as a sequence of pairs, each a sequence of a key and its value, in the order of the keys. No keys are compared.
+/// Writes a map as a sequence of pairs, each a sequence of a key and its value, in the order of the keys (own). No keys are
+/// compared.
 ///
 /// ```rust
 /// /// Names of points.

@@ -26,7 +26,7 @@ pub fn deserialize<
     read::<Borrowed, K, V, S, F>(alloc, from)
 }
 
-/// Reads a map as `deserialize` does, and borrows nothing from the input.
+/// Reads a map as `deserialize` does, and borrows nothing from the input (own).
 pub fn deserialize_owned<
     K: DeserializeOwned + Ord,
     V: DeserializeOwned,

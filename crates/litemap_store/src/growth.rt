@@ -14,7 +14,7 @@ pub struct Refused {
     seal: (),
 }
 
-/// `lm_with_capacity` of a store.
+/// `lm_with_capacity` of a store (own).
 pub fn with_capacity<K, V, S: StoreMut<K, V>>(alloc: Global, capacity: usize) -> Result<S, Refused>
     ensures empty { IfOk result (λ s. S.pairs s ≡ []) }
     ensures room { IfOk result (λ s. capacity ≤ S.room s) }
@@ -23,7 +23,7 @@ pub fn with_capacity<K, V, S: StoreMut<K, V>>(alloc: Global, capacity: usize) ->
     S::lm_with_capacity(alloc, capacity).map_err(|_| Refused { seal: () })
 }
 
-/// `lm_reserve` of a store.
+/// `lm_reserve` of a store (own).
 pub fn reserve<K, V, S: StoreMut<K, V>>(store: &mut S, additional: usize) -> Result<(), Refused>
     ensures pairs { S.pairs store.new ≡ S.pairs store.old }
     ensures room { OnOk result (additional ≤ S.room store.new) }

@@ -9,7 +9,7 @@ use crate::store::{NoRoom, Store, StoreMut};
 use std::mem;
 use std::vec::IntoIter;
 
-/// An iterator over the pairs of a store, by value. A contract sees it as the list of those still to come.
+/// An iterator over the pairs of a store, by value (own). A contract sees it as the list of those still to come.
 ///
 /// Its `len` is their number, by the law `count`.
 pub trait PairIntoIter<K, V>: Iterator<Item = (K, V)> + ExactSizeIterator + Drop {

@@ -7,7 +7,7 @@ ghost use Rattle.litemap_store.specs.IterMut.{iter_mut_left, iter_mut_loan};
 
 use std::slice;
 
-/// The pairs that are still to come, each value lent. It has no model, so that a contract can follow the loan.
+/// The pairs that are still to come, each value lent (own). It has no model, so that a contract can follow the loan.
 #[derive(Drop)]
 pub struct IterMut<'a, K, V> {
     keys: slice::Iter<'a, K>,

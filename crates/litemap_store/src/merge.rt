@@ -18,8 +18,8 @@ use std::alloc::Global;
 // A merge inserts pairs one by one if there are fewer than this times the binary digits of both lengths' sum.
 const FEW_PER_DIGIT: usize = 3;
 
-/// Merges a store's pairs into another's. A key that is there stays, and takes the new value. Returns the displaced values, each
-/// with its new key, in order, or `None` if there are none.
+/// Merges a store's pairs into another's (own). A key that is there stays, and takes the new value. Returns the displaced values,
+/// each with its new key, in order, or `None` if there are none.
 ///
 /// It is the body of a map's `extend_from_litemap`, which says what it compares and moves, and when it never fails. On an error
 /// the store keeps its pairs, and the error returns the other store whole.

@@ -7,7 +7,7 @@ ghost use Rattle.litemap_store.specs.{HintsExactly};
 use crate::store::PairIntoIter;
 use std::marker::{Model, PhantomData};
 
-/// An iterator over keys by value. It drops their values. A contract sees the iterator over their pairs.
+/// An iterator over keys by value (own). It drops their values. A contract sees the iterator over their pairs.
 #[derive(Debug, Drop)]
 pub struct IntoKeys<K, V, I> {
     iter: I,
@@ -56,7 +56,7 @@ impl<K, V: Drop, I: PairIntoIter<K, V>> ExactSizeIterator for IntoKeys<K, V, I> 
     }
 }
 
-/// An iterator over values by value. It drops their keys. A contract sees the iterator over their pairs.
+/// An iterator over values by value (own). It drops their keys. A contract sees the iterator over their pairs.
 #[derive(Debug, Drop)]
 pub struct IntoValues<K, V, I> {
     iter: I,

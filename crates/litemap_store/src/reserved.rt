@@ -122,7 +122,7 @@ pub(crate) fn take_from<K: Drop, V: Drop, S: StoreMut<K, V>>(
     }
 }
 
-/// Drops the pairs from an index on, the last one first.
+/// Drops the pairs from an index on, the last one first (own).
 pub fn drop_from<K: Drop, V: Drop, S: StoreMut<K, V>>(store: &mut S, len: usize)
     ensures pairs { S.pairs store.new ≡ take len (S.pairs store.old) }
     ensures room { S.keeps_memory → S.room store.old + length (S.pairs store.old) ≤ S.room store.new + length (S.pairs store.new) }
@@ -133,7 +133,7 @@ pub fn drop_from<K: Drop, V: Drop, S: StoreMut<K, V>>(store: &mut S, len: usize)
     }
 }
 
-/// Moves the items at the indices of a range to the end of a vector that has room for them.
+/// Moves the items at the indices of a range to the end of a vector that has room for them (own).
 pub fn move_range<T: Drop>(items: &mut Vec<T>, range: Range<usize>, taken: &mut Vec<T>)
     requires ascends { range.start ≤ range.end }
     requires within { range.end ≤ vec_len items.old }

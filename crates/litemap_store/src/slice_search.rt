@@ -6,7 +6,7 @@ use crate::count::Count;
 use std::cmp::Ordering;
 use std::mem;
 
-/// The keys of pairs, by their indices. The contract bounds the index, so that no check of it is compiled.
+/// The keys of pairs, by their indices (own). The contract bounds the index, so that no check of it is compiled.
 pub trait Keys<K, V> {
     /// The pairs.
     ghost pairs: { Self → List (K × V) };
@@ -32,7 +32,7 @@ fn choose(is_first: bool, first: usize, second: usize) -> usize
 }
 
 /// Returns `Ok` with the index of a key for which `f` returns `Equal`, or else `Err` with the number of keys for which it returns
-/// `Less`.
+/// `Less` (own).
 ///
 /// Each step calls `f` on the middle key, and leaves at most half of the keys. Comparing a small key costs less than a
 /// mispredicted branch. So for small keys the number of steps depends on the length alone: each step leaves half, which may

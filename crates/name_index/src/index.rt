@@ -63,9 +63,9 @@ impl<'a> NameIndex<'a> {
     ///
     /// # Errors
     ///
-    /// The error is that of the first entry that can't be read (`Format`, as `read_names` returns it), whose key isn't above the
-    /// one before it (`NotAscending`), or that begins at byte 4,294,967,296 or later (`TooFar`). If memory runs out, it is
-    /// `NoRoom`, which doesn't come if the table has no entry.
+    /// The error is that of the number of entries, or of the first entry that can't be read (`Format`, as `read_names` returns
+    /// it), whose key isn't above the one before it (`NotAscending`), or that begins at byte 4,294,967,296 or later (`TooFar`).
+    /// If memory runs out, it is `NoRoom`, which doesn't come if the table has no entry.
     pub fn new(alloc: Global, bytes: &'a [u8]) -> Result<Self, NameIndexFault>
         ensures table { IfOk result (IsRisingTable bytes.now) }
         ensures error { IfErr result (IsFault bytes.now) }

@@ -56,7 +56,8 @@ impl<'a> IndexedNames<'a> {
     /// Opens the index that the bytes are. All entries are read once, and each key is compared with the one before it; no later
     /// call fails.
     ///
-    /// The error is that of the first entry that can't be read, or whose key isn't above the one before it.
+    /// The error is that of the number of entries, or of the first entry that can't be read, or whose key isn't above the one
+    /// before it.
     pub fn open(bytes: &'a [u8]) -> Result<Self, IndexFault>
         ensures index { IfOk result (IsIndex bytes.now) }
         ensures error { IfErr result (λ _. NoIndex bytes.now) }

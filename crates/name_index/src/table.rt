@@ -12,8 +12,8 @@ use name_table::NameBytes;
 use name_table::parts::Cursor;
 use std::alloc::{AllocError, Global};
 
-/// Reads a table, and returns the offset of each entry. The error is that of the first entry that can't be read, whose key isn't
-/// above the one before it, or that begins too far.
+/// Reads a table, and returns the offset of each entry. The error is that of the number of entries, or of the first entry that
+/// can't be read, whose key isn't above the one before it, or that begins too far.
 pub fn offsets_of(alloc: Global, bytes: &[u8]) -> Result<Vec<u32>, NameIndexFault>
     ensures indexed { IfOk result (λ offsets. IsIndexed bytes.now offsets.items) }
     ensures error { IfErr result (IsFault bytes.now) }

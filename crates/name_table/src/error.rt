@@ -35,13 +35,13 @@ pub enum NameFault {
     },
 }
 
-/// Why no name table was written.
+/// Why no name table, or no index of names, was written.
 #[derive(Debug, PartialEq, Drop, Error)]
 pub enum NameWriteFault {
     /// Memory ran out.
     #[error("there is not enough memory")]
     NoRoom,
-    /// No table has such pairs: their number, or the length of a string in bytes, isn't below 4,294,967,296.
+    /// The number of pairs, or the length of a string in bytes, isn't below 4,294,967,296; of an index, the bytes of all entries.
     #[error("a number of the name table is too large")]
     TooLarge,
 }

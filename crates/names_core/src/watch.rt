@@ -15,7 +15,7 @@ use std::io::{self, ErrorKind, Read, Write};
 /// interrupted call fails like any other, and isn't tried again.
 #[derive(Drop)]
 pub struct Watch<T> {
-    /// Whether a call failed. It is false at first, and only a call that fails sets it.
+    /// Whether a call failed. It is false at first, and of the calls through the watch only one that fails sets it.
     pub failed: bool,
     inner: T,
     // Whether a call failed. `failed` is public, so a caller may set it back; nothing sets this back.

@@ -37,7 +37,8 @@ impl<K: Ord + Drop, V: Drop, S: StoreFromIterable<K, V>> LiteMap<K, V, S> {
         Self::from_iter_counted(alloc, iter, &mut Count::new())
     }
 
-    /// `from_iter`, counting its comparisons: at most one for each pair if they ascend, also if it fails (own).
+    /// `from_iter`, counting its comparisons but for those that sort and drop equal keys: at most one for each pair if they
+    /// ascend, also if it fails (own).
     pub fn from_iter_counted<I: IntoIterator<Item = (K, V)>>(
         alloc: Global,
         iter: I,
@@ -71,7 +72,8 @@ impl<K: Ord + Drop, V: Drop, S: StoreBulkMut<K, V>> LiteMap<K, V, S> {
     ///
     /// It compares and keeps what `from_iter` does, but takes the vector itself: nothing is gathered, and over a vector
     /// ascending pairs stay where they are. Its contract speaks of the vector's list. If memory runs out, the error returns the
-    /// pairs, or the last pair of each key in ascending order. It never fails for no pairs, nor for one over a short store.
+    /// pairs, or the last pair of each key in ascending order. It never fails for no pairs, nor for one over a short store;
+    /// over a vector only a sort takes memory.
     pub fn from_vec(alloc: Global, pairs: Vec<(K, V)>) -> Result<Self, NoRoom<Vec<(K, V)>>>
         ensures made { IfOk result (λ m. Last K.cmp pairs.items m.pairs) }
         ensures succeeds { Rising K.cmp pairs.items → length pairs.items ≤ S.free_room → IsOk result }
@@ -87,7 +89,8 @@ impl<K: Ord + Drop, V: Drop, S: StoreBulkMut<K, V>> LiteMap<K, V, S> {
         Ok(LiteMap::from_vec(alloc, Vec::from_array(alloc, pairs)?)?)
     }
 
-    /// `from_vec`, counting its comparisons: at most one for each pair if they ascend, also if it fails (own).
+    /// `from_vec`, counting its comparisons but for those that sort and drop equal keys: at most one for each pair if they
+    /// ascend, also if it fails (own).
     pub fn from_vec_counted(
         alloc: Global,
         mut pairs: Vec<(K, V)>,
@@ -110,11 +113,12 @@ impl<K: Ord + Drop, V: Drop, S: StoreBulkMut<K, V>> LiteMap<K, V, S> {
     ///
     /// If it fails, the map keeps its pairs, and those taken from the iterator are dropped. Over the stores of this library it
     /// never fails for an iterator that yields nothing. It does not use the iterator's size hint. Nothing is promised of the
-    /// room: if a new pair goes between others, a fresh store may replace the map's, and a limit set on the old one is lost.
+    /// room: unless all new keys are above the last one, a fresh store may replace the map's, and a limit set on the old one is
+    /// lost.
     ///
     /// Ascending pairs above the last key are appended, with at most one comparison for each. Other ascending pairs are merged,
     /// with at most one comparison for each old and two for each new pair, and each pair moves a constant number of times. Pairs
-    /// that don't ascend are sorted first, by comparisons that aren't counted.
+    /// that don't ascend are sorted first, by comparisons that aren't counted; up to 16 may be put in one by one instead.
     ///
     /// ```rust
     /// let mut days = three_days(alloc)?;
@@ -136,7 +140,8 @@ impl<K: Ord + Drop, V: Drop, S: StoreBulkMut<K, V>> LiteMap<K, V, S> {
         self.extend_counted(alloc, iter, &mut Count::new())
     }
 
-    /// `extend`, counting its comparisons but for those of the sort; a failed call keeps the bounds, too (own).
+    /// `extend`, counting its comparisons but for those that sort and drop equal keys; a failed call keeps the bounds, too
+    /// (own).
     pub fn extend_counted<I: IntoIterator<Item = (K, V)>>(
         &mut self,
         alloc: Global,
@@ -187,7 +192,8 @@ impl<K: Ord + Drop, V: Drop, S: StoreBulkMut<K, V>> LiteMap<K, V, S> {
         self.extend_from_vec_counted(alloc, pairs, &mut Count::new())
     }
 
-    /// `extend_from_vec`, counting its comparisons but for those of a sort; a failed call keeps the bounds, too (own).
+    /// `extend_from_vec`, counting its comparisons but for those that sort and drop equal keys; a failed call keeps the bounds,
+    /// too (own).
     pub fn extend_from_vec_counted(
         &mut self,
         alloc: Global,

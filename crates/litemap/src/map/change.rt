@@ -129,7 +129,7 @@ impl<K: Ord + Drop, V, S: StoreMut<K, V>> LiteMap<K, V, S> {
     /// # Errors
     ///
     /// `TryFault::Closure` is the error of `f`: nothing changes, and the key is dropped. `TryFault::NoRoom` says that memory
-    /// ran out, and returns the key and the value of `f`: the map keeps its pairs.
+    /// ran out or the store is full, and returns the key and the value of `f`: the map keeps its pairs.
     ///
     /// ```rust
     /// let mut days = three_days(alloc)?;

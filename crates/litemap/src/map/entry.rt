@@ -297,7 +297,7 @@ impl<'a, K: Ord, V, S: StoreMut<K, V>> Entry<'a, K, V, S> {
     /// # Errors
     ///
     /// `TryFault::Closure` is the error of `default`: nothing changes, and the key is dropped. `TryFault::NoRoom` says that
-    /// memory ran out, and returns the key and the value of `default`: the map keeps its pairs.
+    /// memory ran out or the store is full, and returns the key and the value of `default`: the map keeps its pairs.
     ///
     /// ```rust
     /// // days: 1 Monday, 3 Wednesday, 5 Friday

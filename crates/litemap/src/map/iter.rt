@@ -1,5 +1,5 @@
-//! Double-ended iterators over the pairs, the keys or the values of a map. None takes memory. After `None` they return `None`
-//! for good.
+//! Iterators over the pairs, the keys or the values of a map, double-ended unless they are by value. None takes memory. After
+//! `None` they return `None` for good.
 ghost use Rattle.std.specs.Prelude.{◌≡◌, length, Some};
 ghost use Rattle.std.specs.Iterator.{at_most};
 ghost use Rattle.std.specs.Map.{keys_of, values_of};

@@ -74,8 +74,8 @@ impl<K: Ord + Drop, V: Drop, S: StoreMut<K, V>> LiteMap<K, V, S> {
 }
 
 impl<K: Ord + Drop, V: Drop> LiteMap<K, V, Vec<(K, V)>> {
-    /// Drops the pairs at the indices of a range, such as that of `index_range` (own). The others stay. Each pair from the range on
-    /// moves a constant number of times.
+    /// Drops the pairs at the indices of a range, such as that of `index_range` (own). The others stay. If n pairs stand from
+    /// the range on, it makes O(n) moves.
     ///
     /// ```rust
     /// let mut days = three_days(alloc)?;

@@ -1,5 +1,5 @@
-//! The traits of `std` that a collection has: it is cloned, collected, extended, indexed and taken. Each forwards to a call of
-//! the map. That of `Extend` and of `Clone` is given no allocator, and takes the store's (`StoreAlloc`).
+//! The traits of `std` that a collection has: it is cloned, collected, extended, indexed and taken. Each but `Clone` forwards
+//! to a call of the map. `Extend`, `Clone` and `Emptied` are given no allocator, and take the store's (`StoreAlloc`).
 ghost use Rattle.std.specs.Prelude.{◌≡◌, ◌++◌, [], IsSome, OnErr, Some};
 ghost use Rattle.std.specs.Borrow.{sem};
 ghost use Rattle.std.specs.Iterator.{ExtendsWithItems, IsFiniteIterable};
