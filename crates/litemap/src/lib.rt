@@ -16,7 +16,7 @@ pub use map::{
 };
 pub use try_fault::TryFault;
 
-/// A map over one vector of pairs.
+/// A map over one vector of pairs (own).
 ///
 /// ```rust
 /// /// Names of days by their numbers.

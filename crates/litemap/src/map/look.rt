@@ -140,7 +140,8 @@ impl<K: Ord, V, S: Store<K, V>> LiteMap<K, V, S> {
         self.search(key, &mut Count::new()).is_ok()
     }
 
-    /// Returns the value of the pair with an equal key, which has to be there, as the operator `[]` does.
+    /// Returns the value of the pair with an equal key, which has to be there, as the operator `[]` does
+    /// (own).
     pub fn index<Q: Query<K>>(&self, key: Q) -> &V
         requires { IsSome (at Q.order self.now.pairs (Q.sought key)) }
         ensures { Some result.now ≡ value_at Q.order self.now.pairs (Q.sought key) }

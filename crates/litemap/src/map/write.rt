@@ -75,7 +75,8 @@ impl<K: Ord, V, S: StoreMut<K, V>> LiteMap<K, V, S> {
         }
     }
 
-    /// Returns a mutable reference to the value of the pair with an equal key, which has to be there, as the operator `[]` does.
+    /// Returns a mutable reference to the value of the pair with an equal key, which has to be there, as the operator `[]`
+    /// does (own).
     pub fn index_mut<Q: Query<K>>(&mut self, key: Q) -> &mut V
         requires { IsSome (at Q.order self.old.pairs (Q.sought key)) }
         ensures* writes_back { sem 𝓛
