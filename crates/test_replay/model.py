@@ -432,9 +432,9 @@ class Model:
         # it is tested up to the first pair that doesn't ascend
         tested = next((place for place in range(1, len(theirs)) if theirs[place - 1] >= theirs[place]), len(theirs) - 1)
         below = not mine or mine[-1] < min(theirs)
-        # a walk over two lists from their ends, until one of them ends
-        end = 0 if below else max(mine[0], min(theirs))
-        walk = 0 if below else len({key for key in mine + theirs if key >= end})
+        # a walk over two lists from their fronts, until one of them ends
+        end = 0 if below else min(mine[-1], max(theirs))
+        walk = 0 if below else len({key for key in mine + theirs if key <= end})
         merge = tested + (0 if rises else sorting(theirs)) + bool(mine) + walk
         is_few = len(pairs) <= FEW and len(pairs) * digits(total) < total and not (rises and below)
         return max(merge, tested + rises + self.searches(pairs)[0] if is_few else 0)
