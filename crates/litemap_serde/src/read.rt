@@ -12,8 +12,8 @@ use std::alloc::Global;
 /// stays, its key included, and the others are dropped. In the Rust crate it is `Deserialize`.
 ///
 /// The pairs are gathered in a vector, which grows as they come, and made a map by `from_vec`: if the keys ascend, that is one
-/// comparison for each, else a sort. If memory runs out, the error is the format's `no_memory`. A map that is returned was read
-/// from the beginning of a map or a sequence to its end.
+/// comparison for each, else a sort. If memory runs out, the error is the format's `no_memory`. The first step of the
+/// format reads the beginning of a map or a sequence, the last one an end of the same kind.
 pub fn deserialize<
     'de,
     K: Deserialize<'de> + Ord,
