@@ -8,7 +8,7 @@ use std::alloc::Global;
 use std::mem;
 use std::ops::Range;
 
-// The most bytes that move at once: std moves more of them by a loop.
+// The most bytes that move at once.
 const PART_BYTES: usize = 2048;
 
 /// Returns a vector and a store, both empty, each with room for `len` pairs.

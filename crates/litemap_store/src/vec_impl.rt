@@ -95,7 +95,7 @@ impl<K, V> StoreMut<K, V> for Vec<(K, V)> {
     }
 
     fn lm_insert(&mut self, index: usize, key: K, value: V) -> Result<(), NoRoom<(K, V)>> {
-        // One move of all later pairs: `Vec::insert` is compiled to a loop over them.
+        // One move of all later pairs.
         self.lm_push(key, value)?;
         self[index..].rotate_right(1);
         Ok(())
