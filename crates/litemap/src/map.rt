@@ -209,8 +209,8 @@ impl<K: Ord, V, S: StoreConstEmpty<K, V>> MadeWith<Global> for LiteMap<K, V, S> 
 }
 
 impl<K: Ord, V, S: StoreMut<K, V>> LiteMap<K, V, S> {
-    /// Returns an empty map with capacity for at least `capacity` pairs, or an error if memory runs out or the store can't hold so
-    /// many. It never fails for a capacity of up to the store's `free_room`: 0 over a vector, 1 over a short store.
+    /// Returns an empty map with capacity for at least `capacity` pairs, or an error if memory runs out or the store can't hold
+    /// so many. It never fails for a capacity of up to the store's `free_room`: 0 over a vector, 1 over a short store.
     pub fn with_capacity(alloc: Global, capacity: usize) -> Result<Self, AllocError>
         ensures empty { IfOk result (λ m. m.pairs ≡ []) }
         ensures room { IfOk result (λ m. capacity ≤ m.room) }

@@ -1,6 +1,6 @@
 //! A set kept as one sorted vector of keys: a map of the crate `litemap` whose values are `()`. All of this crate is own: the
-//! Rust crate has no such type. A search makes O(log n) comparisons. The calls on two sets, `append` aside, walk both side by side,
-//! with at most one comparison for each key of both, and take no memory.
+//! Rust crate has no such type. A search makes O(log n) comparisons. The calls on two sets, `append` aside, walk both side by
+//! side, with at most one comparison for each key of both, and take no memory.
 #![tactic(auto)]
 
 ghost use Rattle.std.specs.Prelude.{◌≡◌, ◌↔◌, ◌==◌, ◌-◌, [], Bool, IfOk, IsTrue, OnErr, OnOk, filter, length, slice_get};

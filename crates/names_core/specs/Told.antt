@@ -76,7 +76,7 @@ Replies old (Del key) text next =
     × (IsNone (at bytes_cmp old.pairs key.now) → next.room ≡ old.room)
 Replies old (Find key) text next = (text ≡ place_text (index_of bytes_cmp old.pairs key.now)) × (next ≡ old)
 
--- the line, done on the map `old`, writes the text and leaves the map `next`: the table of lines in docs/PROGRAM.md, as a definition
+-- the line, done on the map `old`, writes the text and leaves the map `next`: the table of lines in docs/PROGRAM.md, defined
 pub data Does (old : TextMap) (said text : List ℕ) (next : TextMap) : Type 0 where
   Nothing : said ≡ [] → text ≡ [] → next ≡ old → Does old said text next
   ShowsAll : SpellsAll said → text ≡ flat_map pair_text old.pairs → next ≡ old → Does old said text next
