@@ -2,7 +2,6 @@
 pub mod Lookups
 pub mod LastLookups
 pub mod MergeLookups
-pub mod Extended
 pub mod HandedOver
 pub mod Tallies
 pub mod Every
