@@ -16,7 +16,7 @@ KINDS = {name: runpy.run_path(str(FOLDER / f"{name}_rows.py")) for name in ("jso
 MANY = 200000
 OBJECT = "{" + ",".join(f'"{10**6 + number}":{number}' for number in range(MANY)) + "}"
 ARRAY = "[" + ",".join(f"[{10**6 + number},{number}]" for number in range(MANY)) + "]"
-LONG = [("table often 100000 -", "100000 found")]
+LONG = [("table often 100000 -", "100000 found"), ("table falls 100000 -", "100000 fall")]
 LONG += [(f"{kind} {text}", OBJECT) for kind in ("json u32", "serde i64") for text in (OBJECT, ARRAY)]
 
 

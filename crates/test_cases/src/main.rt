@@ -63,7 +63,7 @@ fn main(rt: HostRuntime) -> ExitCode {
     }
 }
 
-fn cases(alloc: Global) -> [(&'static str, Outcome); 55] {
+fn cases(alloc: Global) -> [(&'static str, Outcome); 56] {
     outcomes! { alloc;
         closures::one_of_the_keys_called_equal_is_found,
         closures::a_closure_compares_with_another_type,
@@ -101,6 +101,7 @@ fn cases(alloc: Global) -> [(&'static str, Outcome); 55] {
         printing::an_error_writes_what_it_is,
         queries::keys_are_asked_by_texts,
         queries::keys_are_asked_by_slices,
+        queries::names_are_asked_in_their_bytes,
         sets::a_set_has_each_key_once,
         sets::strings_are_members,
         sets::keys_are_collected,

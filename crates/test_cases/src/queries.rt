@@ -1,7 +1,10 @@
-//! Keys of each kind looked up by what can stand for them: by a string, by a slice, and by the key itself.
+//! Keys of each kind looked up by what can stand for them: by a string, by a slice, and by the key itself. And names looked up in
+//! their bytes. `bin/planted` counts the comparisons of all.
 use crate::{Outcome, all_right};
 use litemap::store::Count;
 use litemap::{LiteMap, Query, VecMap};
+use name_index::{IndexedNames, NameIndex, Names, write_index};
+use name_table::{NameMap, write_names};
 use std::alloc::{AllocError, Global};
 use std::borrow::CowStr;
 use std::boxed::{BoxedSlice, BoxedStr};
@@ -112,4 +115,52 @@ pub(crate) fn keys_are_asked_by_slices(alloc: Global) -> Outcome {
         are_asked(alloc, |text| Ok(text.as_bytes()), &str::as_bytes),
         are_asked(alloc, boxed, &str::as_bytes),
     ])
+}
+
+// Languages by their codes.
+const NAMES: &[(&str, &str)] = &[
+    ("", "none"),
+    ("af", "Afrikaans"),
+    ("am", "Amharic"),
+    ("ar", "Arabic"),
+    ("be", "Belarusian"),
+    ("bg", "Bulgarian"),
+    ("bn", "Bangla"),
+    ("de", "German"),
+    ("de-AT", "Austrian German"),
+    ("de-CH", "Swiss High German"),
+    ("el", "Greek"),
+    ("en", "English"),
+    ("en-GB", "British English"),
+    ("es", "Spanish"),
+    ("fa", "Persian"),
+    ("fi", "Finnish"),
+    ("fr", "French"),
+    ("\u{e9}", "no code"),
+    ("\u{4e2d}", "no code"),
+];
+
+// Whether each name is found in its bytes, and where those begin whose names begin with it.
+fn are_found<'a, N: Names<'a>>(names: &N) -> bool {
+    let mut is_right = names.len() == NAMES.len();
+    for (index, (name, value)) in NAMES.iter().enumerate() {
+        is_right &= names.get(name) == Some(*value)
+            && names.find_index(name) == Ok(index)
+            && names.prefix_range(name).start == index;
+    }
+    is_right
+}
+
+pub(crate) fn names_are_asked_in_their_bytes(alloc: Global) -> Outcome {
+    let map: NameMap<'_> = LiteMap::from_iter(alloc, NAMES.iter().copied())?;
+    let (table, index) = (write_names(alloc, &map), write_index(alloc, map.as_slice()));
+    let (Ok(table), Ok(index)) = (table, index) else {
+        return Ok(false);
+    };
+    let table = NameIndex::new(alloc, table.as_slice());
+    let index = IndexedNames::open(index.as_slice());
+    let (Ok(table), Ok(index)) = (table, index) else {
+        return Ok(false);
+    };
+    Ok(are_found(&table) && are_found(&index))
 }

@@ -103,11 +103,20 @@ pub(crate) fn a_call_is_one_call(_: Global) -> Outcome {
     Ok(is_right)
 }
 
+// The second call, which is of few bytes or of many.
+const SECONDS: [Call; 5] = [
+    Call::Read(2),
+    Call::Read(5_000),
+    Call::Write(2),
+    Call::Write(5_000),
+    Call::Flush,
+];
+
 pub(crate) fn a_call_after_a_failed_one_is_made(_: Global) -> Outcome {
     let mut is_right = true;
     for fault in &FAULTS {
         for first in [Call::Read(3), Call::Write(3)] {
-            for second in [Call::Read(2), Call::Write(2), Call::Flush] {
+            for second in SECONDS {
                 let made = made_by(&[first, second], usize::MAX, 0, *fault);
                 is_right &= made == [Some(first), Some(second), None];
             }

@@ -14,6 +14,7 @@
 //! - `word WORD BYTES`: the string that a table has for a word, or the word itself, by both (`words`).
 //! - `many NUMBER -`: what a `NameIndex` of so many names and the index that is written of them return.
 //! - `often NUMBER -`: how many of so many names both find, each looked up by itself.
+//! - `falls NUMBER -`: how often both are refused for their second name, out of so many times.
 //! - `faults -`: the errors that no other line shows.
 //! - `rewrite BYTES`: what `rewrite_flags` makes of bytes.
 //! - `prefixes BYTES`: what is read of each proper prefix, by kinds.
@@ -65,6 +66,7 @@ fn write_answer(alloc: Global, words: &[&str], bytes: &[u8], output: &mut String
         }
         ["look", key] => indexes::write_looked(key, bytes, output),
         ["many" | "often", number] => tables::write_many(alloc, words, number, output),
+        ["falls", number] => tables::write_falls(alloc, number, output),
         [name] => write_alone(alloc, name, bytes, output),
         _ => output.push_str("bad line"),
     }

@@ -5,7 +5,7 @@ use crate::texts::write_entry;
 use example_formats::prefixes::beginning;
 use example_formats::words::translated;
 use litemap_store::store::Count;
-use name_index::{IndexedNames, NameIndex, NameIndexFault, Names};
+use name_index::{IndexFault, IndexedNames, NameIndex, NameIndexFault, Names};
 use std::alloc::{AllocError, Global};
 use std::fmt::Write;
 
@@ -24,6 +24,47 @@ pub fn write_answer(alloc: Global, words: &[&str], bytes: &[u8], output: &mut St
 pub fn write_many(alloc: Global, words: &[&str], number: &str, output: &mut String) -> Written {
     let bytes = many(alloc, number.parse::<u32>().unwrap_or(0))?;
     write_answer(alloc, words, bytes.as_slice(), output)
+}
+
+/// Writes how often a table of so many names and its index are refused, for the word `falls`: the second name is below the first
+/// one, and they are opened as many times as they have names.
+pub fn write_falls(alloc: Global, number: &str, output: &mut String) -> Written {
+    let number = number.parse::<u32>().unwrap_or(0);
+    let mut table = many(alloc, number)?;
+    let mut index = index_of(alloc, table.as_slice())?;
+    // Before the first name of the table are its number of names, in three bytes, and the length of the name; before that of the
+    // index four bytes for each offset, and eight more.
+    raise(table.as_mut_slice(), 4);
+    raise(
+        index.as_mut_slice(),
+        (number as usize).wrapping_mul(4).wrapping_add(8),
+    );
+    let mut falls = 0u32;
+    for _ in 0..number {
+        falls = falls.wrapping_add(u32::from(is_refused(
+            alloc,
+            table.as_slice(),
+            index.as_slice(),
+        )?));
+    }
+    write!(output, "{falls} fall")
+}
+
+// Makes the name that begins at an offset greater than those that begin with another digit.
+fn raise(bytes: &mut [u8], at: usize) {
+    if let Some(digit) = bytes.get_mut(at) {
+        *digit = b'9';
+    }
+}
+
+// Whether neither is opened, since the second name is below the first one.
+fn is_refused(alloc: Global, table: &[u8], index: &[u8]) -> Result<bool, AllocError> {
+    let table = unless_memory!(NameIndex::new(alloc, table), NameIndexFault::NoRoom);
+    let index = IndexedNames::open(index);
+    Ok(
+        matches!(table, Err(NameIndexFault::NotAscending { at: 13 }))
+            && matches!(index, Err(IndexFault::NotAscending { index: 1 })),
+    )
 }
 
 // A table with the offsets of its entries, and what was written of it as an index.
