@@ -264,11 +264,13 @@ def long_text(size):
 
 
 def sized_lines():
-    """Tables and indexes of various numbers of names, and strings of various numbers of bytes."""
+    """Tables and indexes of various numbers of names, also with the last name alone below the others, and strings of various
+    numbers of bytes."""
     for count in (12, 24, 33, 65, 129):
         names = [(f"n{number:03}", "v") for number in range(count)]
         yield from product(["read", "table", "again", "index", f"ask n{count - 1:03}"], [written(names)])
         yield "opened", indexed(names)
+        yield from product(["read", "again"], [written([*names[1:], names[0]]), written([*names[:-2], names[-1], names[-2]])])
         yield "again", long_text(count)
 
 

@@ -1,9 +1,9 @@
 -- What any query finds after a merge, by its test of pairs: for the clauses `overlays` and `displaced`.
 use Rattle.litemap.proofs.Common.{◌≡◌, ◌∙◌, ◌∷◌, ◌++◌, [], Bool, true, false, List, Option, None, Some, ap, cond, is_eq, is_some, inl, inr, option_map}
 use Rattle.litemap.proofs.Common.{option_or, refl, reverse, subst, sym}
-use Rattle.litemap.proofs.Common.{Contents, Err, IfOk, Ok, Result, Rising}
+use Rattle.litemap.proofs.Common.{Contents, Err, IfOk, IsSome, Ok, Result, Rising}
 use Rattle.litemap.proofs.Common.{Ordering, IsTotalOrder, Merge, at, key_alike, key_same, left, value_at, value_at-merged, value_at-left}
-use Rattle.std.specs.Prelude.{if◌then◌else◌}
+use Rattle.std.specs.Prelude.{◌↔◌, IsNone, if◌then◌else◌}
 use Rattle.std.proofs.Common.{find}
 use Rattle.litemap_store.specs.Last.{In, Last}
 use Rattle.std.proofs.lemmas.Map.Lookups.{exact_bytes}
@@ -81,3 +81,14 @@ module _ {K V : Type 0} (cmp : K → K → Ordering) (o : IsTotalOrder cmp) wher
   displaced_by A B (Ok (Some s)) e = subst (λ L. Displaces cmp A B L) (sym e) (displaces A B)
   displaced_by A B (Ok None) e = e
   displaced_by A B (Err x) e = e
+
+  pub nothing_common : {E : Type 0} (A B : List (K × V)) (r : Result (Option (Contents K V)) E) → IfOk r (λ rest. IsNone rest ↔ (left cmp A B ≡ []))
+      → IfOk r (λ rest. IsNone rest → (k : K) → IsSome (value_at cmp B k) → value_at cmp A k ≡ None)
+  nothing_common A B (Ok None) e = λ n k. by k (e.0 n) (at cmp B k) (value_at-left cmp o cmp k (key_same o k) (key_alike o k) A B)
+    where
+      by : (k : K) → left cmp A B ≡ [] → (b : Option (K × V)) → value_at cmp (left cmp A B) k ≡ (if is_some b then value_at cmp A k else None)
+          → IsSome (option_map (λ (p : K × V). p.1) b) → value_at cmp A k ≡ None
+      by k nothing (Some p) same there = sym same ∙ ap (λ (M : List (K × V)). value_at cmp M k) nothing
+      by k nothing None same there = cc
+  nothing_common A B (Ok (Some s)) e = λ n. absurd (cc)
+  nothing_common A B (Err x) e = e

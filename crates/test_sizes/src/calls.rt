@@ -103,27 +103,49 @@ pub fn extend<K: Made, V: Made, S: StoreBulkMut<K, V>>(
     Ok(0)
 }
 
-/// A call of the whole map: what goes from the first given key on, whether that key becomes the second one, or 0.
-pub fn whole<K, V, S>(call: &Call<'_>, map: &mut LiteMap<K, V, S>, given: Given<K, V>) -> Number
-where
-    K: Made,
-    V: Made,
-    S: StoreBulkMut<K, V> + KeepsMemory<K, V>,
-{
-    let mut keys = given.into_iter();
-    let (key, new_key) = (keys.next(), keys.next());
-    match (call.name, key, new_key) {
-        ("split_off", Some((key, _)), _) => { Ok(sums::of_map(&map.split_off(call.alloc, &key)?)) }
-        ("rename", Some((key, _)), Some((new_key, _))) => Ok(u64::from(map.rename(&key, new_key))),
-        ("retain", _, _) => {
-            map.retain(|key, _| key.number() < call.first as u64);
-            Ok(0)
-        }
-        _ => {
-            map.reserve(call.first as usize)?;
-            Ok(0)
-        }
+/// Splits the map at the first given key: what goes.
+pub fn split<K: Made, V: Made, S: StoreBulkMut<K, V>>(
+    call: &Call<'_>,
+    map: &mut LiteMap<K, V, S>,
+    given: Given<K, V>,
+) -> Number {
+    match given.as_slice().first() {
+        Some((key, _)) => Ok(sums::of_map(&map.split_off(call.alloc, key)?)),
+        None => Ok(0),
     }
+}
+
+/// Renames the first given key to the second one: whether it was there.
+pub fn rename<K: Made, V: Made, S: StoreBulkMut<K, V> + KeepsMemory<K, V>>(
+    map: &mut LiteMap<K, V, S>,
+    given: Given<K, V>,
+) -> Number {
+    let mut keys = given.into_iter();
+    let Some((key, _)) = keys.next() else {
+        return Ok(0);
+    };
+    match keys.next() {
+        Some((new_key, _)) => Ok(u64::from(map.rename(&key, new_key))),
+        None => Ok(0),
+    }
+}
+
+/// Keeps the keys below the first number of the call.
+pub fn retain<K: Made, V: Made, S: StoreBulkMut<K, V>>(
+    call: &Call<'_>,
+    map: &mut LiteMap<K, V, S>,
+) -> Number {
+    map.retain(|key, _| key.number() < call.first as u64);
+    Ok(0)
+}
+
+/// Reserves room for as many pairs as the first number of the call says.
+pub fn reserve<K: Made, V: Made, S: StoreBulkMut<K, V>>(
+    call: &Call<'_>,
+    map: &mut LiteMap<K, V, S>,
+) -> Number {
+    map.reserve(call.first as usize)?;
+    Ok(0)
 }
 
 /// A call of each of the given pairs: how many it placed or removed.
@@ -151,17 +173,34 @@ fn is_done<K: Made, V: Made, S: StoreBulkMut<K, V>>(
         "insert" => Ok(map.insert(key, value)?.is_none()),
         "try_append" => Ok(map.try_append(key, value)?.is_none()),
         "remove" => Ok(map.remove(&key).is_some()),
-        _ => match map.entry(key) {
-            Entry::Occupied(entry) if call.name == "entry_remove" => {
-                let _ = entry.remove();
-                Ok(true)
-            }
-            Entry::Vacant(entry) if call.name == "entry" => {
-                entry.insert(value)?;
-                Ok(true)
-            }
-            _ => Ok(false),
-        },
+        "entry_remove" => Ok(is_removed(map, key)),
+        _ => is_placed(map, key, value),
+    }
+}
+
+// Whether the pair of a key is there, which its entry removes.
+fn is_removed<K: Made, V: Made, S: StoreBulkMut<K, V>>(map: &mut LiteMap<K, V, S>, key: K) -> bool {
+    match map.entry(key) {
+        Entry::Occupied(entry) => {
+            let _ = entry.remove();
+            true
+        }
+        Entry::Vacant(_entry) => false,
+    }
+}
+
+// Whether the entry of a key is vacant, which places the pair.
+fn is_placed<K: Made, V: Made, S: StoreBulkMut<K, V>>(
+    map: &mut LiteMap<K, V, S>,
+    key: K,
+    value: V,
+) -> Result<bool, AllocError> {
+    match map.entry(key) {
+        Entry::Occupied(_entry) => Ok(false),
+        Entry::Vacant(entry) => {
+            entry.insert(value)?;
+            Ok(true)
+        }
     }
 }
 

@@ -46,13 +46,19 @@ fn look<K: Made, V: Made, S: StoreBulkMut<K, V>>(
 
 // The indices between bounds of each kind.
 fn ranges<K: Made, V: Made, S: StoreBulkMut<K, V>>(map: &LiteMap<K, V, S>, key: &K) -> usize {
-    let bounds = [Bound::Included(key), Bound::Excluded(key), Bound::Unbounded];
     let mut sum = 0usize;
-    for from in &bounds {
-        for to in &bounds {
-            let indices = map.index_range(*from, *to);
-            sum = sum.wrapping_add(indices.start).wrapping_add(indices.end);
-        }
+    for kinds in 0..9u32 {
+        let indices = map.index_range(bound(kinds / 3, key), bound(kinds % 3, key));
+        sum = sum.wrapping_add(indices.start).wrapping_add(indices.end);
     }
     sum
+}
+
+// One of three bounds, by its number.
+fn bound<K>(number: u32, key: &K) -> Bound<&K> {
+    match number {
+        0 => Bound::Included(key),
+        1 => Bound::Excluded(key),
+        _ => Bound::Unbounded,
+    }
 }

@@ -31,7 +31,10 @@ where
         "extend_from_litemap" | "extend_with" => calls::merge(call, map, given),
         "from_iter" | "from_vec" | "from_promised" => calls::renew(call, map, given),
         "extend" | "extend_from_vec" | "promised" => calls::extend(call, map, given),
-        "split_off" | "rename" | "retain" | "reserve" => calls::whole(call, map, given),
+        "split_off" => calls::split(call, map, given),
+        "rename" => calls::rename(map, given),
+        "retain" => calls::retain(call, map),
+        "reserve" => calls::reserve(call, map),
         "insert" | "try_append" | "entry" | "remove" | "entry_remove" => calls::each(
             call, map, given,
         ),

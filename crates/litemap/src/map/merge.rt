@@ -1,6 +1,6 @@
 //! Merges maps, and compares their keys side by side: those that both have, and those that one lacks.
 ghost use Rattle.std.specs.Prelude.{◌≡◌, ◌⊎◌, ◌+◌, ◌*◌, ◌<◌, ◌≤◌, List, MatchOption, None, OnErr, OnOk, Some, [], filter, length};
-ghost use Rattle.std.specs.Prelude.{IfOk, IfSome};
+ghost use Rattle.std.specs.Prelude.{IfOk, IfSome, IsNone};
 ghost use Rattle.std.specs.Prelude.{IsSome, IsTrue, if◌then◌else◌, is_some, not};
 ghost use Rattle.std.specs.List.{list_all};
 ghost use Rattle.std.specs.Option.{option_or};
@@ -55,6 +55,9 @@ impl<K: Ord + Drop, V: Drop, S: StoreIntoIterator<K, V> + Drop> LiteMap<K, V, S>
         ensures overlays { OnOk result (Overlays K.cmp self.old.pairs other.pairs self.new.pairs) }
         // What it finds in what is displaced: the old value if the other map has the key, else nothing.
         ensures displaced { IfOk result (λ rest. IfSome rest (λ old. Displaces K.cmp self.old.pairs other.pairs old.pairs)) }
+        // If nothing is displaced, no key of the other map was here.
+        ensures none_common { IfOk result (λ rest. IsNone rest → (key : K) → IsSome (value_at K.cmp other.pairs key)
+            → value_at K.cmp self.old.pairs key ≡ None) }
     {
         self.extend_from_litemap_counted(alloc, other, &mut Count::new())
     }

@@ -6,8 +6,9 @@ ghost use Rattle.std.specs.Iterator.{ExtendsWithItems, IsFiniteIterable};
 ghost use Rattle.litemap_store.specs.Bulk.{GivesSome};
 ghost use Rattle.litemap_store.specs.Clones.{PairsBecame};
 ghost use Rattle.litemap_store.specs.Last.{Last};
-ghost use Rattle.litemap_store.specs.Pairs.{at, value_at};
+ghost use Rattle.litemap_store.specs.Pairs.{at, value_at, write};
 ghost use Rattle.litemap.specs.Lends.{LendsKey};
+ghost use Rattle.litemap.specs.Updates.{Finds};
 
 use crate::LiteMap;
 use litemap_store::Query;
@@ -85,6 +86,8 @@ impl<K: Ord, V, S: StoreMut<K, V>, Q: Query<K>> IndexMut<Q> for LiteMap<K, V, S>
         ensures* writes_back { sem 𝓛
             (LendsKey K.row V.row S.row K.Ord S.pairs S.room self.entry Q.order (Q.sought key) result) }
         ensures value { Some result.now ≡ value_at Q.order self.old.pairs (Q.sought key) }
+        ensures updates { (v : V) → Finds Q.order (Q.sought key) (Some v) self.old.pairs
+            (write Q.order self.old.pairs (Q.sought key) v) }
     {
         self.index_mut(key)
     }
