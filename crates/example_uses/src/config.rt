@@ -1,7 +1,7 @@
 //! A configuration: settings by their names, where a user's go over the defaults.
 //! Each is a list in which a name may stand more than once: its last value counts. What a user sets wins, and no default is
 //! lost, as the contracts say.
-ghost use Rattle.std.specs.Prelude.{◌≡◌, None, Some, IfErr, IfOk, IfSome, OnOk, OnErr, if◌then◌else◌, is_some, reverse};
+ghost use Rattle.std.specs.Prelude.{◌≡◌, None, Some, IfErr, IfOk, IfSome, IsNone, IsSome, OnOk, OnErr, if◌then◌else◌, is_some, reverse};
 ghost use Rattle.std.specs.Option.{option_or};
 ghost use Rattle.std.specs.String.{string_cmp};
 ghost use Rattle.litemap_store.specs.Pairs.{at, value_at};
@@ -64,6 +64,9 @@ pub fn overlay(
     // What is displaced: the old setting if the user has one, else nothing.
     ensures displaced { IfOk result (λ rest. IfSome rest (λ old. (name : _) → value_at by_string old.pairs name
         ≡ if is_some (at by_string user.pairs name) then value_at by_string settings.old.pairs name else None)) }
+    // If nothing is displaced, the user has no setting that was there.
+    ensures none_common { IfOk result (λ rest. IsNone rest → (name : _) → IsSome (value_at by_string user.pairs name)
+        → value_at by_string settings.old.pairs name ≡ None) }
     ensures unchanged { OnErr result (settings.new.pairs ≡ settings.old.pairs) }
     ensures back { IfErr result (λ refused. refused.back.pairs ≡ user.pairs) }
 {

@@ -1,4 +1,4 @@
--- What any query finds after a merge, by its test of pairs: for the clauses `overlays` and `displaced`.
+-- What any query finds after a merge, by its test of pairs: for the clauses `overlays`, `displaced` and `none_common`.
 use Rattle.litemap.proofs.Common.{◌≡◌, ◌∙◌, ◌∷◌, ◌++◌, [], Bool, true, false, List, Option, None, Some, ap, cond, is_eq, is_some, inl, inr, option_map}
 use Rattle.litemap.proofs.Common.{option_or, refl, reverse, subst, sym}
 use Rattle.litemap.proofs.Common.{Contents, Err, IfOk, IsSome, Ok, Result, Rising}
@@ -7,7 +7,7 @@ use Rattle.std.specs.Prelude.{◌↔◌, IsNone, if◌then◌else◌}
 use Rattle.std.proofs.Common.{find}
 use Rattle.litemap_store.specs.Last.{In, Last}
 use Rattle.std.proofs.lemmas.Map.Lookups.{exact_bytes}
-use Rattle.litemap.specs.Updates.{Displaces, IsKeyTest, Overlays}
+use Rattle.litemap.specs.Updates.{Displaces, IsKeyTest, NoCommon, Overlays}
 use Rattle.litemap_store.proofs.Callers.LastLookups.{value_at-last_of_more}
 use Rattle.litemap_store.proofs.Names.{IfSome}
 
@@ -82,13 +82,20 @@ module _ {K V : Type 0} (cmp : K → K → Ordering) (o : IsTotalOrder cmp) wher
   displaced_by A B (Ok None) e = e
   displaced_by A B (Err x) e = e
 
-  pub nothing_common : {E : Type 0} (A B : List (K × V)) (r : Result (Option (Contents K V)) E) → IfOk r (λ rest. IsNone rest ↔ (left cmp A B ≡ []))
-      → IfOk r (λ rest. IsNone rest → (k : K) → IsSome (value_at cmp B k) → value_at cmp A k ≡ None)
-  nothing_common A B (Ok None) e = λ n k. by k (e.0 n) (at cmp B k) (value_at-left cmp o cmp k (key_same o k) (key_alike o k) A B)
-    where
-      by : (k : K) → left cmp A B ≡ [] → (b : Option (K × V)) → value_at cmp (left cmp A B) k ≡ (if is_some b then value_at cmp A k else None)
-          → IsSome (option_map (λ (p : K × V). p.1) b) → value_at cmp A k ≡ None
-      by k nothing (Some p) same there = sym same ∙ ap (λ (M : List (K × V)). value_at cmp M k) nothing
-      by k nothing None same there = cc
-  nothing_common A B (Ok (Some s)) e = λ n. absurd (cc)
-  nothing_common A B (Err x) e = e
+  unless : {X : Type 0} (f : X → V) (b : Option X) (w : Option V) → None ≡ (if is_some b then w else None) → IsSome (option_map f b) → w ≡ None
+  unless f (Some x) w e there = sym e
+  unless f None w e there = absurd (cc)
+
+  no_common : (A B : List (K × V)) → left cmp A B ≡ [] → NoCommon cmp A B
+  no_common A B e =
+      let d : Displaces cmp A B [] = subst (λ D. Displaces cmp A B D) e (displaces A B) in
+      record {
+        each = λ k. unless (λ (p : K × V). p.1) (at cmp B k) (value_at cmp A k) (d.each k);
+        all = λ test key. unless (λ (p : K × V). p.1) (find test B) (option_map (λ p. p.1) (find test A)) (d.all test key);
+      }
+
+  pub no_common_by : {E : Type 0} (A B : List (K × V)) (r : Result (Option (Contents K V)) E) → IfOk r (λ rest. IsNone rest ↔ (left cmp A B ≡ []))
+      → IfOk r (λ rest. IsNone rest → NoCommon cmp A B)
+  no_common_by A B (Ok None) e = λ n. no_common A B (e.0 n)
+  no_common_by A B (Ok (Some s)) e = λ n. absurd (cc)
+  no_common_by A B (Err x) e = e

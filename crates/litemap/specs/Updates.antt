@@ -50,6 +50,11 @@ pub record Displaces {K V : Type 0} (cmp : K → K → Ordering) (A B D : List (
   pub all : (test : K × V → Bool) → IsKeyTest cmp test
       → option_map (λ p. p.1) (find test D) ≡ (if is_some (find test B) then option_map (λ p. p.1) (find test A) else None)
 
+-- a query that finds something in B finds nothing in A
+pub record NoCommon {K V : Type 0} (cmp : K → K → Ordering) (A B : List (K × V)) : Type 0 where
+  pub each : (k : K) → IsSome (value_at cmp B k) → value_at cmp A k ≡ None
+  pub all : (test : K × V → Bool) → IsKeyTest cmp test → IsSome (option_map (λ p. p.1) (find test B)) → option_map (λ p. p.1) (find test A) ≡ None
+
 -- M is the part of L that passes `keep`: a query whose pairs all pass finds what it found before, one whose pairs all fail
 -- nothing
 pub record KeepsPart {K V : Type 0} (keep : K × V → Bool) (L M : List (K × V)) : Type 0 where

@@ -7,7 +7,7 @@ ghost use Rattle.std.specs.Option.{option_or};
 ghost use Rattle.litemap_store.specs.Counts.{GoesOn, RisesByAtMost, digits};
 ghost use Rattle.litemap_store.specs.Merge.{Apart, Merge};
 ghost use Rattle.litemap_store.specs.Pairs.{Rising, above, at, value_at};
-ghost use Rattle.litemap.specs.Updates.{Displaces, KeepsPart, Overlays};
+ghost use Rattle.litemap.specs.Updates.{Displaces, KeepsPart, NoCommon, Overlays};
 ghost use Rattle.litemap.specs.Changes.{IsMergedInto};
 ghost use Rattle.litemap.specs.Combined.{CallableOnCommon, CallableOnEachOf, Combined, Combines, LeavesOfBoth};
 ghost use Rattle.litemap.specs.Combined.{TakesBoth, combined, found_with};
@@ -56,8 +56,7 @@ impl<K: Ord + Drop, V: Drop, S: StoreIntoIterator<K, V> + Drop> LiteMap<K, V, S>
         // What it finds in what is displaced: the old value if the other map has the key, else nothing.
         ensures displaced { IfOk result (λ rest. IfSome rest (λ old. Displaces K.cmp self.old.pairs other.pairs old.pairs)) }
         // If nothing is displaced, no key of the other map was here.
-        ensures none_common { IfOk result (λ rest. IsNone rest → (key : K) → IsSome (value_at K.cmp other.pairs key)
-            → value_at K.cmp self.old.pairs key ≡ None) }
+        ensures none_common { IfOk result (λ rest. IsNone rest → NoCommon K.cmp self.old.pairs other.pairs) }
     {
         self.extend_from_litemap_counted(alloc, other, &mut Count::new())
     }

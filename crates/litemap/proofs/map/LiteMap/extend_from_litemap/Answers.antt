@@ -1,5 +1,5 @@
 use Rattle.litemap.proofs.Common.{on_ok_weaker, key_alike, key_same, value_at-merged}
-use Rattle.litemap.proofs.MergedTests.{displaced_by, nothing_common, overlays}
+use Rattle.litemap.proofs.MergedTests.{displaced_by, no_common_by, overlays}
 use Rattle.litemap.proofs.map.LiteMap.extend_from_litemap.Goals as goal
 
 pub returns-clause-found : goal.returns-clause-found
@@ -23,5 +23,5 @@ returns-clause-displaced g c =
 
 pub returns-clause-none_common : goal.returns-clause-none_common
 returns-clause-none_common g c =
-    nothing_common g.K.Ord.cmp g.met.K.Ord.total c.args.self.now.pairs c.args.other.pairs c.extend_from_litemap_counted.result
+    no_common_by g.K.Ord.cmp g.met.K.Ord.total c.args.self.now.pairs c.args.other.pairs c.extend_from_litemap_counted.result
     c.extend_from_litemap_counted.ensures.merged.merges.none
