@@ -5,8 +5,9 @@
 //! 1. What a contract sees of it, by an `impl Model`: here the list of its pairs and its room. So no contract and no
 //!    proof above names its fields.
 //! 2. Its traits: `pairs` and `room` read that value, and each call has the trait's contract. `StoreConstEmpty` and
-//!    `StoreMut` are all that the keyed calls of a map need; `StoreBulkMut` is there for `retain` and `extend`,
-//!    `StoreFromIterable` for `from_iter`, `StoreIterable` for `iter`, `StoreIntoIterator` for `into_iter` and merges.
+//!    `StoreMut` are all that the keyed calls of a map need, but for `rename`, which needs `KeepsMemory`; `StoreBulkMut` is
+//!    there for `retain` and `extend`, `StoreFromIterable` for `from_iter`, `StoreIterable` for `iter`, `StoreIntoIterator`
+//!    for `into_iter` and merges.
 //! 3. `with_value`, what it is with another value at an index, and the two laws on it.
 //!
 //! The calls of `LiteMap` are then proved over it, with no proof of theirs to be written.
