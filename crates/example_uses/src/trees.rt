@@ -1,4 +1,5 @@
-//! Callers that were written for std's `BTreeMap`. Their bodies and clauses are as they were: only the two `use` lines differ.
+//! Callers with bodies and clauses as for std's `BTreeMap`, most of them its own tests': only the two `use` lines differ from such
+//! code.
 ghost use Rattle.std.specs.Prelude.{◌≡◌, ◌≢◌, ◌+◌, ◌≤◌, ◌==◌, IfOk, IsTrue, MatchResult, None, OnOk, Some, if◌then◌else◌};
 ghost use Rattle.std.specs.Prelude.{codes, count_by, is_some, option_map, unwrap_or};
 ghost use Rattle.std.specs.Ordering.{nat_cmp};

@@ -3,7 +3,7 @@
 //! Standard input names files, a line each; they lie where the program runs. In a file, empty lines and lines that begin with
 //! `#` are passed over, and the others are:
 //!
-//! - `on STORE ..`: the stores over which the next lines are made, of `vec`, `columns`, `short` and `fixed`;
+//! - `on STORE ..`: the stores over which the next lines are made, of `vec`, `columns`, `short`, `fixed` and `shrinking`;
 //! - `with ORDER LEN ROOM`: the map, or the store, that each of the next lines begins with: the order of its keys, how many
 //!   pairs it has (`2:20`, `4:40` and so on), and for how many more it is made with room;
 //! - `CALL WORD .. = ANSWER | PAIRS | COMPARED`: a call, what it returns, the pairs after it (`same`, if they are as before),
