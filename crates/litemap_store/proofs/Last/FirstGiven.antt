@@ -2,7 +2,9 @@
 --     GivesSome-from_Yields      if any call yielded one, the first did;  GivesSome-from_some      if there is one;  some_refused, GivesSome-from_refused
 -- if appending the pairs fails
 use Rattle.litemap_store.proofs.Names.{[], ℕ, ◌∷◌, ◌≤◌, arith, BelowAll, Err, Gives, GivesSome, IsOk, length, List, Ok, OnErr}
-use Rattle.litemap_store.proofs.Names.{Option, Ordering, Result, Rises, Some, subst, sym, Yields}
+use Rattle.litemap_store.proofs.Names.{IsCountedFor, Option, Ordering, Result, Rises, RisesByAtMost, Some, subst, sym, Yields}
+use Rattle.litemap_store.specs.declared.count.Count.{Count}
+use Rattle.litemap_store.proofs.Stores.Counting.{in_turn}
 use Rattle.litemap_store.proofs.Lists.Membership.{from_each}
 
 module _ {U T X : Type 0} (becomes : U → T → Type 0) (steps : T → Option X → T → Type 0) (iter : U) where
@@ -17,6 +19,11 @@ module _ {U T X : Type 0} (becomes : U → T → Type 0) (steps : T → Option X
 
 pub Rises-none : {K V : Type 0} (cmp : K → K → Ordering) (old : List (K × V)) → Rises cmp old []
 Rises-none {K} {V} cmp old = record { rising = tt; below = from_each (λ (p : K × V). BelowAll {K = K} {V = V} cmp p.0 []) old (λ x i. tt) }
+
+-- a count in which nothing is compared after that
+pub counted_then : {K V : Type 0} {cmp : K → K → Ordering} {old given : List (K × V)} {a b c : Count}
+    → IsCountedFor cmp old given a b → RisesByAtMost 0 b c → IsCountedFor cmp old given a c
+counted_then n none = record { all_above = λ h. in_turn _ 0 _ (omega arith) (n.all_above h) none; rising = λ h. in_turn _ 0 _ (omega arith) (n.rising h) none }
 
 -- pairs for which a call fails are not none
 pub some_refused : {K V R E : Type 0} (cmp : K → K → Ordering) (r : Result R E) (old given : List (K × V)) (room : ℕ)

@@ -6,17 +6,12 @@ use Rattle.litemap.proofs.map.LiteMap.combine_each.Goals as goal
 
 pub combine-requires : goal.combine-requires
 combine-requires g c =
-    let pairs = g.S.Store.pairs c.loop-index.store in
-    let i = c.loop-index.index in
-    let p : g.row.K.Denot × g.row.V.Denot = (c.lm_pair_mut-value.result.0.now, c.lm_pair_mut-value.result.1.now) in
-    let here : drop i pairs ≡ p ∷ drop (i + 1) pairs = drop_at pairs i p c.lm_pair_mut-value.ensures.pair in
-    (subst (CallableOnEachOf g.F.Fn c.args.f.now g.K.Ord.cmp c.args.self.now.pairs) here c.loop-index.invariant.callable).0
+    let here = drop_at (g.S.Store.pairs c.loop-index.store) c.loop-index.index _ c.lm_pair_mut-value.ensures.pair in
+    (rw here at c.loop-index.invariant.callable).0
 
 pub loop-index-preserved : goal.loop-index-preserved
 loop-index-preserved g c =
-    let cmp = g.K.Ord.cmp in
-    let f = c.args.f.now in
-    let there = c.args.self.now.pairs in
+    let cmp = g.K.Ord.cmp in let f = c.args.f.now in let there = c.args.self.now.pairs in
     let store = c.loop-index.store in
     let pairs = g.S.Store.pairs store in
     let i = c.loop-index.index in

@@ -1,4 +1,4 @@
-use Rattle.litemap.proofs.Common.{◌+◌, ◌*◌, ◌∙◌, ap, length, subst, arith, RisesByAtMost, digits, in_turn}
+use Rattle.litemap.proofs.Common.{◌+◌, ◌*◌, ◌∙◌, ap, length, arith, digits, in_turn}
 use Rattle.litemap.proofs.Combining.{callable_each, keys-combined, length-combined}
 use Rattle.litemap.proofs.Writing.{Rising-keys}
 use Rattle.litemap.proofs.map.LiteMap.extend_with_counted.Goals as goal
@@ -17,8 +17,6 @@ returns-clause-cost g c =
     let m = length c.args.other.pairs in
     let same = ap length c.from_sorted_store_unchecked-combined.ensures.pairs
     ∙ length-combined g.F.Fn c.args.f g.K.Ord.cmp c.args.self.now.pairs _ _ c.combine_each.ensures.combined ∙ ap (λ o. length o.pairs) c.other.view_is in
-    let merge = subst (λ x. RisesByAtMost (2 + x * digits (n + x)) c.combine_each.new.count c.extend_from_litemap_counted.new.count) same
-    c.extend_from_litemap_counted.ensures.cost in
-    let searches = subst (λ o. RisesByAtMost (length o.pairs * digits n) c.args.count.now c.combine_each.new.count) c.other.view_is c.combine_each.ensures.cost
-    in
+    let merge = rw same at c.extend_from_litemap_counted.ensures.cost in
+    let searches = rw (ap (λ o. length o.pairs) c.other.view_is) at c.combine_each.ensures.cost in
     in_turn (m * digits n) (2 + m * digits (n + m)) _ (omega arith) searches merge

@@ -1,28 +1,30 @@
-use Rattle.litemap.proofs.Common.{ap, subst, ◌∙◌}
-use Rattle.litemap.specs.Parted.{Parted}
+use Rattle.litemap.proofs.Common.{ap, arith, length}
 use Rattle.litemap.proofs.Parting.{Rising-parted, filter-parted}
 use Rattle.litemap.proofs.Queried.{keeps_part}
 use Rattle.litemap.proofs.map.LiteMap.extract.Goals as goal
 
 pub from_sorted_store_unchecked-requires : goal.from_sorted_store_unchecked-requires
 from_sorted_store_unchecked-requires g c =
-    (Rising-parted g.K.Ord.cmp g.F.FnMut _ _ _ _
-    (subst (λ s. Parted g.F.FnMut c.args.f (g.S.Store.pairs s) (g.S.Store.pairs c.part.new.stays) (g.S.Store.pairs c.part.new.goes))
-    c.replace-all.ensures.value c.part.ensures) c.self.invariant).1
+    (Rising-parted g.K.Ord.cmp g.F.FnMut _ _ _ _ (rw c.replace-all.ensures.value at c.part.ensures) c.self.invariant).1
 
 pub invariant_of-self : goal.invariant_of-self
 invariant_of-self g c =
-    (Rising-parted g.K.Ord.cmp g.F.FnMut _ _ _ _
-    (subst (λ s. Parted g.F.FnMut c.args.f (g.S.Store.pairs s) (g.S.Store.pairs c.part.new.stays) (g.S.Store.pairs c.part.new.goes))
-    c.replace-all.ensures.value c.part.ensures) c.self.invariant).0
+    (Rising-parted g.K.Ord.cmp g.F.FnMut _ _ _ _ (rw c.replace-all.ensures.value at c.part.ensures) c.self.invariant).0
 
 pub returns-clause-filtered : goal.returns-clause-filtered
 returns-clause-filtered g c test tests =
-    rw c.from_sorted_store_unchecked.ensures.pairs
-    (filter-parted g.F.FnMut c.args.f test tests _ _ _
-    (subst (λ L. Parted g.F.FnMut c.args.f L (g.S.Store.pairs c.part.new.stays) (g.S.Store.pairs c.part.new.goes))
-    (ap g.S.Store.pairs c.replace-all.ensures.value ∙ ap (λ m. m.pairs) c.self.view_is) c.part.ensures))
+    rw c.from_sorted_store_unchecked.ensures.pairs (filter-parted g.F.FnMut c.args.f test tests _ _ _
+    (rw (c.replace-all.ensures.value, ap (λ m. m.pairs) c.self.view_is) at c.part.ensures))
 
 pub returns-clause-parts : goal.returns-clause-parts
 returns-clause-parts g c test tests =
     let both = returns-clause-filtered g c test tests in (keeps_part _ _ _ both.0, keeps_part _ _ _ both.1)
+
+pub part-requires-clause-stays : goal.part-requires-clause-stays
+part-requires-clause-stays g c =
+    rw (c.replace-all.ensures.after, c.replace-all.ensures.value)
+    (c.in_ok-stays.ensures.empty, omega (arith, c.in_ok-stays.ensures.room, ap (λ m. length m.pairs) c.self.view_is))
+
+pub part-requires-clause-goes : goal.part-requires-clause-goes
+part-requires-clause-goes g c =
+    rw c.replace-all.ensures.value (c.in_ok-goes.ensures.empty, omega (arith, c.in_ok-goes.ensures.room, ap (λ m. length m.pairs) c.self.view_is))

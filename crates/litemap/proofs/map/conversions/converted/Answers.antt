@@ -1,7 +1,6 @@
-use Rattle.litemap.proofs.Common.{ap, arith, option_map, refl, subst, sym, ◌∙◌, deref_pair, take_all}
+use Rattle.litemap.proofs.Common.{ap, arith, option_map, refl, sym, ◌∙◌, deref_pair, take_all}
 use Rattle.litemap_store.proofs.Lists.Alongside.{alongside-more}
 use Rattle.litemap_store.proofs.Lists.Joined.{In-slice_get}
-use Rattle.litemap_store.specs.Clones.{PairsBecame}
 use Rattle.litemap.proofs.Conversions.{Rising-became}
 use Rattle.litemap.proofs.Places.{is_there}
 use Rattle.litemap.proofs.map.conversions.converted.Goals as goal
@@ -33,12 +32,9 @@ loop-index-preserved g c = record {
 
 pub from_sorted_store_unchecked-requires : goal.from_sorted_store_unchecked-requires
 from_sorted_store_unchecked-requires g c =
-    let pairs = c.args.map.now.pairs in
-    let all = take_all c.loop-index.index pairs (omega (arith, c.loop-index-test.false, c.len-index-end.ensures.len)) in
-    Rising-became g.K.Ord.cmp g.L.Ord.cmp (g.X.Becomes.became c.args.keys.now) (g.Y.Becomes.became c.args.values.now) pairs _ c.requires.rising
-    (subst (λ L. PairsBecame (g.X.Becomes.became c.args.keys.now) (g.Y.Becomes.became c.args.values.now) L (g.B.Store.pairs c.loop-index.made)) all
-    c.loop-index.invariant.became)
-    c.len-index-end.ensures.rising
+    let all = take_all c.loop-index.index c.args.map.now.pairs (omega (arith, c.loop-index-test.false, c.len-index-end.ensures.len)) in
+    Rising-became g.K.Ord.cmp g.L.Ord.cmp (g.X.Becomes.became c.args.keys.now) (g.Y.Becomes.became c.args.values.now) c.args.map.now.pairs _
+    c.requires.rising (rw all at c.loop-index.invariant.became) c.len-index-end.ensures.rising
 
 pub unwrap-requires : goal.unwrap-requires
 unwrap-requires g c = is_there _ _ _ c.loop-index.index c.get_indexed.ensures (omega arith)

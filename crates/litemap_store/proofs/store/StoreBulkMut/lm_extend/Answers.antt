@@ -1,5 +1,5 @@
-use Rattle.litemap_store.proofs.Names.{Gives}
-use Rattle.litemap_store.proofs.Last.FirstGiven.{GivesSome-from_refused}
+use Rattle.litemap_store.proofs.Names.{Gives, inr, IsCountedFor}
+use Rattle.litemap_store.proofs.Last.FirstGiven.{counted_then, GivesSome-from_refused}
 use Rattle.litemap_store.proofs.store.StoreBulkMut.lm_extend.Given.{Over}
 use Rattle.litemap_store.proofs.store.StoreBulkMut.lm_extend.Goals as goal
 use Rattle.litemap_store.proofs.store.StoreBulkMut.lm_extend.Goals.{After-put_pairs}
@@ -25,3 +25,9 @@ returns-clause-refused_some g c _ =
     (GivesSome-from_refused g.K.Ord.cmp g.I.IntoIterator.into_iter_gives g.I.IntoIter.Iterator.next_gives c.args.iter c.put_pairs.result
     (g.Self.Store.pairs c.args.self.now) c.append_items.new.items.items (g.Self.Store.room c.args.self.now)
     (gathered g (goal.at.returns-clause-refused_some g c).After-put_pairs) c.put_pairs.ensures.succeeds)
+
+pub returns-clause-refused_cost : goal.returns-clause-refused_cost
+returns-clause-refused_cost g c =
+    let cost : IsCountedFor g.K.Ord.cmp (g.Self.Store.pairs c.args.self.now) c.append_items.new.items.items c.args.count.now c.put_pairs.new.count =
+    record { all_above = c.put_pairs.ensures.all_above; rising = λ _. c.put_pairs.ensures.cost } in
+    inr (_, gathered g (goal.at.returns-clause-refused_cost g c).After-put_pairs, counted_then cost c.refuse-in-Err-put_pairs.ensures.uncounted)

@@ -1,0 +1,7 @@
+use Rattle.litemap.proofs.map.LiteMap.range_in.Goals as goal
+
+pub returns-clause-pairs : goal.returns-clause-pairs
+returns-clause-pairs g c bounds = rw (c.start_bound.ensures bounds, c.end_bound.ensures bounds) at c.range.ensures.pairs
+
+pub returns-clause-stays : goal.returns-clause-stays
+returns-clause-stays g c bounds = rw (c.start_bound.ensures bounds, c.end_bound.ensures bounds) at c.range.ensures.stays
